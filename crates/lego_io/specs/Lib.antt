@@ -1,0 +1,9 @@
+pub mod Count
+pub mod CountLaws
+pub mod Source
+pub mod Sink
+pub mod ToldLaws
+pub mod MemSource
+pub mod MemSink
+pub mod Lines
+pub mod LinesLaws

@@ -1,0 +1,86 @@
+//! A sink into memory.
+
+ghost use Rattle.std.specs.Prelude.{◌≡◌, ℕ, ◌<◌, ◌≤◌, ◌-◌, ◌↔◌, ◌⊎◌, List, length, take, min, Some, IfOk, OnErr, IsErr, Contains};
+ghost use Rattle.std.specs.Io.KnownBytes.{append_known};
+ghost use Rattle.lego_io.specs.Count.{Rose, NeverFell, raised};
+ghost use Rattle.lego_io.specs.MemSink.{store_of, after_write, after_fault};
+
+use crate::sink::{Sink, WriteFault};
+use std::alloc::{AllocError, Global};
+use std::marker::Model;
+
+/// A sink into memory, with room for so many bytes, whose chosen writes fail.
+#[derive(Debug, Drop)]
+pub struct MemSink {
+    bytes: Vec<u8>,
+    room: usize,
+    calls: u64,
+    fails: Vec<u64>,
+    faults: u64,
+}
+
+impl Model for MemSink {
+    ghost use Rattle.std.specs.Prelude.{◌≤◌, length, vec_capacity};
+    ghost use Rattle.lego_io.specs.MemSink.{Store};
+
+    ghost Value = { Store };
+
+    ghost view = { λ s. record { taken = s.bytes.items; room = s.room; calls = s.calls; fails = s.fails.items; faults = s.faults } };
+
+    ghost invariant = { λ s. (length s.bytes.items ≤ s.room) × (s.room ≤ vec_capacity s.bytes) };
+}
+
+impl MemSink {
+    /// An empty sink that takes `room` bytes. The writes whose numbers, from 1 on, are in `fails` will fail.
+    pub fn new(alloc: Global, room: usize, fails: &[u64]) -> Result<MemSink, AllocError>
+        ensures { IfOk result (λ sink. sink ≡ store_of room fails.now) }
+    {
+        Ok(MemSink {
+            bytes: Vec::with_capacity(alloc, room)?,
+            room,
+            calls: 0,
+            fails: fails.to_vec(alloc)?,
+            faults: 0,
+        })
+    }
+
+    /// The bytes taken.
+    pub fn bytes(&self) -> &[u8]
+        ensures { result.now ≡ self.now.taken }
+    {
+        &self.bytes
+    }
+}
+
+impl Sink for MemSink {
+    ghost contents = { λ s. Some s.taken };
+
+    ghost faults = { λ s. s.faults };
+
+    /// Takes what fits. It fails where it was told to, and where bytes come and no room is left.
+    fn write(&mut self, bytes: &[u8]) -> Result<usize, WriteFault>
+        ensures within { IfOk result (λ n. n ≤ length bytes.now) }
+        ensures some { 0 < length bytes.now → IfOk result (λ n. 0 < n) }
+        ensures front { IfOk result (λ n. Some self.new.taken ≡ append_known (Some self.old.taken) (take n bytes.now)) }
+
+        ensures fault_rose { OnErr result (Rose self.old.faults self.new.faults) }
+        ensures fault_took_nothing { OnErr result (Some self.new.taken ≡ Some self.old.taken) }
+        ensures never_fell { NeverFell self.old.faults self.new.faults }
+
+        // Beyond what each sink ensures: which writes fail, how many bytes another takes, and the state after.
+        ensures fails { IsErr result ↔ (Contains self.old.fails (raised self.old.calls)
+            ⊎ ((0 < length bytes.now) × (self.old.room ≤ length self.old.taken))) }
+        ensures count { IfOk result (λ n. n ≡ min (length bytes.now) (self.old.room - length self.old.taken)) }
+        ensures after_write { IfOk result (λ n. self.new ≡ after_write self.old (take n bytes.now)) }
+        ensures after_fault { OnErr result (self.new ≡ after_fault self.old) }
+    {
+        self.calls = self.calls.saturating_add(1);
+        let count = bytes.len().min(self.room - self.bytes.len());
+        if self.fails.contains(&self.calls) || (count == 0 && !bytes.is_empty()) {
+            self.faults = self.faults.saturating_add(1);
+            return Err(WriteFault);
+        }
+        self.bytes.extend_from_slice(&bytes[..count]).unwrap();
+        Ok(count)
+    }
+}
