@@ -8,6 +8,7 @@ mod mem_sink;
 mod mem_source;
 mod sink;
 mod source;
+mod standard;
 mod transfer;
 
 pub use lines::{LineTooLong, Lines, MOST_LINE};
@@ -15,4 +16,5 @@ pub use mem_sink::MemSink;
 pub use mem_source::MemSource;
 pub use sink::{Sink, WriteFault};
 pub use source::{ReadFault, Source};
+pub use standard::{StdSink, StdSource};
 pub use transfer::{ReadAllFault, read_all, write_all};
