@@ -18,3 +18,6 @@ pub use sink::{Sink, WriteFault};
 pub use source::{ReadFault, Source};
 pub use standard::{StdSink, StdSource};
 pub use transfer::{ReadAllFault, read_all, write_all};
+
+#[cfg(test)]
+mod tests;
