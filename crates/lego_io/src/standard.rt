@@ -1,6 +1,8 @@
 //! Standard input as a source, and standard output as a sink. What they carry is trusted.
 
-ghost use Rattle.std.specs.Prelude.{◌≡◌, ◌≤◌, length, drop, None, IfOk};
+ghost use Rattle.std.specs.Prelude.{◌≡◌, ◌<◌, ◌≤◌, length, drop, None, IfOk, OnErr, vec_len};
+ghost use Rattle.std.specs.Io.KnownBytes.{ReadConsumes};
+ghost use Rattle.lego_io.specs.Count.{Rose, NeverFell};
 
 use crate::sink::{Sink, WriteFault};
 use crate::source::{ReadFault, Source};
@@ -17,6 +19,7 @@ pub struct StdSource<R> {
     reader: R,
     piece: Vec<u8>,
     faults: u64,
+    ghost has_room: { 0 < vec_len piece },
 }
 
 impl<R: Read + Drop> StdSource<R> {
@@ -37,7 +40,17 @@ impl<R: Read + Drop> Source for StdSource<R> {
 
     ghost faults = { λ s. s.faults };
 
-    fn read(&mut self, buf: &mut [u8]) -> Result<usize, ReadFault> {
+    fn read(&mut self, buf: &mut [u8]) -> Result<usize, ReadFault>
+        requires { 0 < length buf.old }
+        ensures within { IfOk result (λ n. n ≤ length buf.old) }
+        ensures behind { IfOk result (λ n. drop n buf.new ≡ drop n buf.old) }
+
+        ensures fault_rose { OnErr result (Rose self.old.faults self.new.faults) }
+        ensures never_fell { NeverFell self.old.faults self.new.faults }
+
+        // Beyond what each source ensures: the bytes are the reader's, where it tells.
+        ensures carried { ReadConsumes (R.remaining self.old.reader) (R.remaining self.new.reader) result buf.new }
+    {
         match read_through(&mut self.reader, &mut self.piece, buf) {
             Ok(count) => Ok(count),
             Err(_) => {
@@ -50,8 +63,10 @@ impl<R: Read + Drop> Source for StdSource<R> {
 
 /// Reads by way of `piece`, so that the buffer keeps its bytes behind those that were read.
 fn read_through<R: Read>(reader: &mut R, piece: &mut [u8], buf: &mut [u8]) -> io::Result<usize>
+    requires { 0 < length piece.old }
     ensures within { IfOk result (λ n. n ≤ length buf.old) }
     ensures behind { IfOk result (λ n. drop n buf.new ≡ drop n buf.old) }
+    ensures carried { ReadConsumes (R.remaining reader.old) (R.remaining reader.new) result buf.new }
 {
     let most = piece.len().min(buf.len());
     let count = reader.read(&mut piece[..most])?;
