@@ -59,20 +59,12 @@ impl Sink for MemSink {
 
     /// Takes what fits. It fails where it was told to, and where bytes come and no room is left.
     fn write(&mut self, bytes: &[u8]) -> Result<usize, WriteFault>
-        ensures within { IfOk result (λ n. n ≤ length bytes.now) }
-        ensures some { 0 < length bytes.now → IfOk result (λ n. 0 < n) }
-        ensures front { IfOk result (λ n. Some self.new.taken ≡ append_known (Some self.old.taken) (take n bytes.now)) }
-
-        ensures fault_rose { OnErr result (Rose self.old.faults self.new.faults) }
-        ensures fault_took_nothing { OnErr result (Some self.new.taken ≡ Some self.old.taken) }
-        ensures never_fell { NeverFell self.old.faults self.new.faults }
-
-        // Beyond what each sink ensures: which writes fail, how many bytes another takes, and the state after.
         ensures fails { IsErr result ↔ (Contains self.old.fails (raised self.old.calls)
             ⊎ ((0 < length bytes.now) × (self.old.room ≤ length self.old.taken))) }
         ensures count { IfOk result (λ n. n ≡ min (length bytes.now) (self.old.room - length self.old.taken)) }
         ensures after_write { IfOk result (λ n. self.new ≡ after_write self.old (take n bytes.now)) }
         ensures after_fault { OnErr result (self.new ≡ after_fault self.old) }
+        ensures never_fell { NeverFell self.old.faults self.new.faults }
     {
         self.calls = self.calls.saturating_add(1);
         let count = bytes.len().min(self.room - self.bytes.len());

@@ -53,20 +53,14 @@ impl Source for MemSource {
     /// Moves as many bytes as there are and as the buffer holds, or fails where it was told to.
     fn read(&mut self, buf: &mut [u8]) -> Result<usize, ReadFault>
         requires { 0 < length buf.old }
-        ensures within { IfOk result (λ n. n ≤ length buf.old) }
-        ensures front { IfOk result (λ n. Some self.old.left ≡ prepend_known (take n buf.new) (Some self.new.left)) }
+        ensures front { IfOk result (λ n. self.old.left ≡ take n buf.new ++ self.new.left) }
         ensures behind { IfOk result (λ n. drop n buf.new ≡ drop n buf.old) }
-        ensures end { IfOk result (λ n. IfSome (Some self.old.left) (λ left. (n ≡ 0) ↔ (left ≡ []))) }
 
-        ensures fault_rose { OnErr result (Rose self.old.faults self.new.faults) }
-        ensures fault_took_nothing { OnErr result (Some self.new.left ≡ Some self.old.left) }
-        ensures never_fell { NeverFell self.old.faults self.new.faults }
-
-        // Beyond what each source ensures: which reads fail, how many bytes another moves, and the state after.
         ensures fails { IsErr result ↔ Contains self.old.fails (raised self.old.calls) }
         ensures count { IfOk result (λ n. n ≡ min (length buf.old) (length self.old.left)) }
         ensures after_read { IfOk result (λ n. self.new ≡ after_read self.old n) }
         ensures after_fault { OnErr result (self.new ≡ after_fault self.old) }
+        ensures never_fell { NeverFell self.old.faults self.new.faults }
     {
         self.calls = self.calls.saturating_add(1);
         if self.fails.contains(&self.calls) {
