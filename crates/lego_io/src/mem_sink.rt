@@ -1,8 +1,7 @@
 //! A sink into memory.
 
-ghost use Rattle.std.specs.Prelude.{◌≡◌, ℕ, ◌<◌, ◌≤◌, ◌-◌, ◌↔◌, ◌⊎◌, List, length, take, min, Some, IfOk, OnErr, IsErr, Contains};
-ghost use Rattle.std.specs.Io.KnownBytes.{append_known};
-ghost use Rattle.lego_io.specs.Count.{Rose, NeverFell, raised};
+ghost use Rattle.std.specs.Prelude.{◌≡◌, ◌<◌, ◌≤◌, ◌-◌, ◌↔◌, ◌⊎◌, length, take, min, Some, IfOk, OnErr, IsErr, Contains};
+ghost use Rattle.lego_io.specs.Count.{NeverFell, raised};
 ghost use Rattle.lego_io.specs.MemSink.{store_of, after_write, after_fault};
 
 use crate::sink::{Sink, WriteFault};

@@ -1,8 +1,7 @@
 //! A source over bytes in memory.
 
-ghost use Rattle.std.specs.Prelude.{◌≡◌, ℕ, ◌<◌, ◌≤◌, ◌↔◌, List, [], ◌++◌, length, take, drop, min, Some, IfSome, IfOk, OnErr, IsErr, Contains};
-ghost use Rattle.std.specs.Io.KnownBytes.{prepend_known};
-ghost use Rattle.lego_io.specs.Count.{Rose, NeverFell, raised};
+ghost use Rattle.std.specs.Prelude.{◌≡◌, ◌<◌, ◌↔◌, ◌++◌, length, take, drop, min, Some, IfOk, OnErr, IsErr, Contains};
+ghost use Rattle.lego_io.specs.Count.{NeverFell, raised};
 ghost use Rattle.lego_io.specs.MemSource.{supply_of, after_read, after_fault};
 
 use crate::source::{ReadFault, Source};
