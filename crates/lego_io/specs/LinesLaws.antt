@@ -1,11 +1,12 @@
 -- What follows about the lines of a text: its lines are known where the text is put together of lines,
 -- and lines without LF and CR that are ended by LF each are read back as they are.
-use Rattle.std.specs.Prelude.{◌≡◌, ◌≢◌, ℕ, suc, ◌-◌, ◌<◌, ◌≤◌, false, List, [], ◌∷◌, ◌++◌, length, slice_index, All, refl}
+use Rattle.std.specs.Prelude.{◌≡◌, ◌≢◌, ℕ, suc, ◌-◌, ◌<◌, ◌≤◌, ◌+◌, Bool, true, false, List, [], ◌∷◌, ◌++◌, length, slice_index, All, refl, if◌then◌else◌}
 use Rattle.std.specs.List.{flat_map, AllByRecursion}
 use Rattle.std.proofs.Common.{inl, inr, ap, ◌∙◌, arith, eqb, append_assoc}
 use Rattle.std.proofs.lemmas.Bool.Decides.{eqb_tells}
+use Rattle.std.proofs.lemmas.List.{length-map}
 use Rattle.std.proofs.lemmas.List.Concat.{flat_map-cons}
-use Rattle.lego_io.specs.Lines.{cut_at_lf, without_cr, lines_of}
+use Rattle.lego_io.specs.Lines.{with_byte, cut_at_lf, without_cr, lines_of}
 
 -- a line that a text can hold as it is: neither LF nor CR is in it
 abbrev pub IsPlain : List ℕ → Type 0
@@ -81,3 +82,24 @@ lines_of-flat_map (line ∷ lines) each =
 -- no byte below the space is in the line
 pub IsPlain-printable : (line : List ℕ) → All (λ byte. 32 ≤ byte) line → IsPlain line
 IsPlain-printable line each k d lt = (let high = each k d lt in omega arith, let high = each k d lt in omega arith)
+
+-- ---- how many
+
+length-with_byte : (byte : ℕ) (lines : List (List ℕ)) → length (with_byte byte lines) ≤ length lines + 1
+length-with_byte byte [] = omega arith
+length-with_byte byte (line ∷ lines) = omega arith
+
+length-cut_first : (byte : ℕ) (text : List ℕ) (ends : Bool) → length (cut_at_lf text) ≤ length text → length (if ends then [] ∷ cut_at_lf text else with_byte byte (cut_at_lf text)) ≤ length (byte ∷ text)
+length-cut_first byte text true below = omega arith
+length-cut_first byte text false below = omega (arith, length-with_byte byte (cut_at_lf text))
+
+length-cut_at_lf : (text : List ℕ) → length (cut_at_lf text) ≤ length text
+unfolding cut_at_lf
+length-cut_at_lf [] = omega arith
+length-cut_at_lf (byte ∷ text) =
+    length-cut_first byte text (eqb byte 10) (length-cut_at_lf text)
+
+-- a text has no more lines than bytes
+pub length-lines_of : (text : List ℕ) → length (lines_of text) ≤ length text
+unfolding lines_of
+length-lines_of text = omega (arith, length-map (cut_at_lf text) without_cr, length-cut_at_lf text)
