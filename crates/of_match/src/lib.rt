@@ -1,0 +1,11 @@
+//! Flow matches of OpenFlow 1.0.0 in their normal form: the twelve fields, the 40 bytes on the wire,
+//! the text of a match, and the keys of flow entries in the order of a table.
+#![tactic(auto)]
+
+mod fields;
+mod flow_match;
+mod key;
+
+pub use fields::Fields;
+pub use flow_match::Match;
+pub use key::Key;
