@@ -1,2 +1,5 @@
 pub mod Fields
+pub mod FieldsLaws
 pub mod Match
+pub mod Text
+pub mod Key

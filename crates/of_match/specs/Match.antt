@@ -4,10 +4,11 @@ use Rattle.std.specs.Prelude.{◌≡◌, ℕ, List}
 use Rattle.of_match.specs.declared.fields.Fields.{Fields}
 use Rattle.of_match.specs.declared.flow_match.Match.{Match}
 use Rattle.of_match.specs.Fields.{fields_of, bytes_of, IsNormal}
+use Rattle.of_match.specs.FieldsLaws.{normal_again}
 
 -- The match of any bytes: those that differ in ignored bits alone give one match.
 unfoldable pub match_of : List ℕ → Match
-match_of bytes = record { bytes = bytes_of (fields_of bytes); normal = ? }
+match_of bytes = record { bytes = bytes_of (fields_of bytes); normal = normal_again bytes }
 
 -- The twelve fields of a match.
 unfoldable pub fields_in : Match → Fields
