@@ -1,6 +1,6 @@
 -- The twelve fields of a match, and the 40 bytes that stand for them on the wire.
 -- OpenFlow 1.0.0, 5.2.3 Flow Match Structures.
-use Rattle.std.specs.Prelude.{◌≡◌, ◌==◌, ℕ, ◌+◌, ◌-◌, ◌*◌, ◌/◌, ◌%◌, ◌^◌, ◌<◌, ◌≤◌, Bool, List, [], ◌∷◌, ◌++◌, length, slice_index, Option, Some, None, nat_le, if◌then◌else◌}
+use Rattle.std.specs.Prelude.{◌≡◌, ◌==◌, ℕ, ◌+◌, ◌-◌, ◌*◌, ◌/◌, ◌%◌, ◌^◌, ◌<◌, ◌≤◌, Bool, List, [], ◌∷◌, ◌++◌, length, slice_index, Option, Some, None, IfSome, nat_le, if◌then◌else◌}
 use Rattle.std.specs.Option.{is_some, unwrap_or}
 use Rattle.std.specs.Int.{w16, w32, to_be_bytes}
 use Rattle.of_match.specs.declared.fields.Fields.{Fields}
@@ -65,19 +65,45 @@ abbrev pub half : Option ℕ → List ℕ
 half o = to_be_bytes w16 (unwrap_or o 0)
 
 abbrev pub address : Option (List ℕ) → List ℕ
-address None = 0 ∷ 0 ∷ 0 ∷ 0 ∷ 0 ∷ 0 ∷ []
-address (Some a) = a
+address o = address_in (unwrap_or o []) 0
 
-abbrev pub network : Option (ℕ × ℕ) → List ℕ
-network None = 0 ∷ 0 ∷ 0 ∷ 0 ∷ []
-network (Some p) = to_be_bytes w32 (p.0 / 2 ^ (32 - p.1) * 2 ^ (32 - p.1))
+-- an address with its ignored bits cleared
+abbrev pub kept : Option (ℕ × ℕ) → ℕ
+kept None = 0
+kept (Some p) = p.0 / 2 ^ (32 - p.1) * 2 ^ (32 - p.1)
 
 unfoldable pub bytes_of : Fields → List ℕ
 bytes_of f =
     to_be_bytes w32 (wildcards_of f) ++ half f.in_port ++ address f.dl_src ++ address f.dl_dst ++ half f.dl_vlan
     ++ (unwrap_or f.dl_vlan_pcp 0 ∷ 0 ∷ []) ++ half f.dl_type ++ (unwrap_or f.nw_tos 0 ∷ unwrap_or f.nw_proto 0 ∷ 0 ∷ 0 ∷ [])
-    ++ network f.nw_src ++ network f.nw_dst ++ half f.tp_src ++ half f.tp_dst
+    ++ to_be_bytes w32 (kept f.nw_src) ++ to_be_bytes w32 (kept f.nw_dst) ++ half f.tp_src ++ half f.tp_dst
 
 -- The 40 bytes of the normal form: what is read from them is written so.
 abbrev pub IsNormal : List ℕ → Type 0
 IsNormal bytes = bytes_of (fields_of bytes) ≡ bytes
+
+-- ---- The fields that a match has: each within its width, and of an address no bit that is ignored.
+
+pub record IsAddress (a : List ℕ) : Type 0 where
+  pub len : length a ≡ 6
+  pub bytes : (i : ℕ) → slice_index a i < 256
+
+pub record IsPrefix (p : ℕ × ℕ) : Type 0 where
+  pub at_least : 1 ≤ p.1
+  pub at_most : p.1 ≤ 32
+  pub fits : p.0 < 2 ^ 32
+  pub clear : p.0 % 2 ^ (32 - p.1) ≡ 0
+
+pub record IsFields (f : Fields) : Type 0 where
+  pub in_port : IfSome f.in_port (λ n. n < 2 ^ 16)
+  pub dl_src : IfSome f.dl_src IsAddress
+  pub dl_dst : IfSome f.dl_dst IsAddress
+  pub dl_vlan : IfSome f.dl_vlan (λ n. n < 2 ^ 16)
+  pub dl_vlan_pcp : IfSome f.dl_vlan_pcp (λ n. n < 2 ^ 8)
+  pub dl_type : IfSome f.dl_type (λ n. n < 2 ^ 16)
+  pub nw_tos : IfSome f.nw_tos (λ n. n < 2 ^ 8)
+  pub nw_proto : IfSome f.nw_proto (λ n. n < 2 ^ 8)
+  pub nw_src : IfSome f.nw_src IsPrefix
+  pub nw_dst : IfSome f.nw_dst IsPrefix
+  pub tp_src : IfSome f.tp_src (λ n. n < 2 ^ 16)
+  pub tp_dst : IfSome f.tp_dst (λ n. n < 2 ^ 16)
