@@ -48,8 +48,7 @@ fields_of bytes =
 -- ---- The bytes written: the normal form, with each ignored bit and each pad 0.
 
 abbrev pub any_bit : {A : Type 0} → Option A → ℕ
-any_bit None = 1
-any_bit (Some _) = 0
+any_bit o = if is_some o then 0 else 1
 
 -- how many low bits of an address are ignored
 abbrev pub ignored_bits : Option (ℕ × ℕ) → ℕ

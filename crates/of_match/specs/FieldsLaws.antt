@@ -179,9 +179,9 @@ prefix_is i x lt fits =
 prefix_within : (i at : ℕ) (bytes : List ℕ) → IfSome (prefix i (word_in bytes at)) IsPrefix
 prefix_within i at bytes = within_unless (ℕ × ℕ) IsPrefix (leb 32 i) _ (λ e. prefix_is i (word_in bytes at) (leb-false 32 i e) (word_in-lt bytes at))
 
-pub IsFields-fields_of : (bytes : List ℕ) → IsFields (fields_of bytes)
+pub fields_within : (bytes : List ℕ) → IsFields (fields_of bytes)
 unfolding fields_of
-IsFields-fields_of bytes = record {
+fields_within bytes = record {
   in_port = half_within _ 0 4 bytes;
   dl_src = address_within _ 2 6 bytes;
   dl_dst = address_within _ 3 12 bytes;
@@ -197,4 +197,4 @@ IsFields-fields_of bytes = record {
 }
 
 pub normal_again : (bytes : List ℕ) → bytes_of (fields_of (bytes_of (fields_of bytes))) ≡ bytes_of (fields_of bytes)
-normal_again bytes = ap bytes_of (fields_of-bytes_of (fields_of bytes) (IsFields-fields_of bytes))
+normal_again bytes = ap bytes_of (fields_of-bytes_of (fields_of bytes) (fields_within bytes))

@@ -1,5 +1,6 @@
 pub mod Fields
 pub mod FieldsLaws
 pub mod Match
+pub mod MatchLaws
 pub mod Text
 pub mod Key

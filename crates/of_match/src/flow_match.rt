@@ -2,9 +2,50 @@
 
 ghost use Rattle.of_match.specs.Fields.{IsNormal};
 
+use crate::codec::{read_fields, write_fields};
+use crate::fields::Fields;
+
 /// A flow match, kept as the 40 bytes of its normal form (OpenFlow 1.0.0, 5.2.3).
+///
+/// Its order is that of the 40 bytes.
 #[derive(Clone, Copy, Debug, PartialEq, Eq, PartialOrd, Ord, Hash)]
 pub struct Match {
     bytes: [u8; 40],
     pub ghost normal: { IsNormal bytes },
+}
+
+impl Match {
+    ghost use Rattle.std.specs.Prelude.{◌≡◌};
+    ghost use Rattle.of_match.specs.Fields.{bytes_of, IsFields};
+    ghost use Rattle.of_match.specs.Match.{match_of, fields_in};
+
+    /// The match that 40 bytes of the wire stand for; any bytes do.
+    ///
+    /// Ignored bits, pads and the wildcard bits above 21 count for nothing.
+    #[tactic(auto, unfolding(crate::specs::Match::match_of))]
+    pub fn decode(bytes: &[u8; 40]) -> Match
+        ensures { result ≡ match_of bytes.now }
+    {
+        Match {
+            bytes: write_fields(read_fields(bytes)),
+        }
+    }
+
+    /// The 40 bytes of the normal form.
+    #[tactic(auto, unfolding(crate::specs::Match::fields_in))]
+    pub fn encode(&self) -> [u8; 40]
+        ensures normal { result ≡ bytes_of (fields_in self.now) }
+        ensures kept { result ≡ self.now.bytes }
+    {
+        self.bytes
+    }
+
+    /// The twelve fields.
+    #[tactic(auto, unfolding(crate::specs::Match::fields_in))]
+    pub fn fields(&self) -> Fields
+        ensures value { result ≡ fields_in self.now }
+        ensures within { IsFields result }
+    {
+        read_fields(&self.bytes)
+    }
 }

@@ -2,6 +2,7 @@
 //! the text of a match, and the keys of flow entries in the order of a table.
 #![tactic(auto)]
 
+mod codec;
 mod fields;
 mod flow_match;
 mod key;
