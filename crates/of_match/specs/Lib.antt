@@ -4,3 +4,4 @@ pub mod Match
 pub mod MatchLaws
 pub mod Text
 pub mod Key
+pub mod KeyLaws
