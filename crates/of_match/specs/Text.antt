@@ -1,5 +1,5 @@
 -- The text of a match, our own choice: `any`, or the fields that are not any, in the order of the 40 bytes, joined by commas.
-use Rattle.std.specs.Prelude.{ℕ, ◌/◌, ◌%◌, ◌^◌, false, List, [], ◌∷◌, ◌++◌, Option, Some, None, nat_lt, if◌then◌else◌, slice_index, codes}
+use Rattle.std.specs.Prelude.{◌==◌, ℕ, ◌/◌, ◌%◌, ◌^◌, false, List, [], ◌∷◌, ◌++◌, Option, Some, None, nat_lt, if◌then◌else◌, slice_index, length, codes}
 use Rattle.std.specs.List.{join_with_byte}
 use Rattle.std.specs.Fmt.{decimal, digit_glyph}
 use Rattle.of_match.specs.declared.fields.Fields.{Fields}
@@ -31,13 +31,21 @@ abbrev pub named : {A : Type 0} → List ℕ → (A → List ℕ) → Option A �
 named name shown None = []
 named name shown (Some value) = (name ++ codes "=" ++ shown value) ∷ []
 
-unfoldable pub named_fields : Fields → List (List ℕ)
-named_fields f =
-    named (codes "in_port") decimal f.in_port ++ named (codes "dl_src") ethernet_text f.dl_src ++ named (codes "dl_dst") ethernet_text f.dl_dst
-    ++ named (codes "dl_vlan") decimal f.dl_vlan ++ named (codes "dl_vlan_pcp") decimal f.dl_vlan_pcp ++ named (codes "dl_type") type_text f.dl_type
-    ++ named (codes "nw_tos") decimal f.nw_tos ++ named (codes "nw_proto") decimal f.nw_proto
-    ++ named (codes "nw_src") network_text f.nw_src ++ named (codes "nw_dst") network_text f.nw_dst
-    ++ named (codes "tp_src") decimal f.tp_src ++ named (codes "tp_dst") decimal f.tp_dst
+unfoldable pub link_fields : Fields → List (List ℕ)
+link_fields f = named (codes "in_port") decimal f.in_port ++ named (codes "dl_src") ethernet_text f.dl_src ++ named (codes "dl_dst") ethernet_text f.dl_dst
+
+unfoldable pub frame_fields : Fields → List (List ℕ)
+frame_fields f = named (codes "dl_vlan") decimal f.dl_vlan ++ named (codes "dl_vlan_pcp") decimal f.dl_vlan_pcp ++ named (codes "dl_type") type_text f.dl_type
+
+unfoldable pub network_fields : Fields → List (List ℕ)
+network_fields f = named (codes "nw_tos") decimal f.nw_tos ++ named (codes "nw_proto") decimal f.nw_proto ++ named (codes "nw_src") network_text f.nw_src ++ named (codes "nw_dst") network_text f.nw_dst
+
+unfoldable pub transport_fields : Fields → List (List ℕ)
+transport_fields f = named (codes "tp_src") decimal f.tp_src ++ named (codes "tp_dst") decimal f.tp_dst
+
+-- the fields that are not any, in the order of the 40 bytes
+abbrev pub named_fields : Fields → List (List ℕ)
+named_fields f = link_fields f ++ frame_fields f ++ network_fields f ++ transport_fields f
 
 abbrev pub or_any : List ℕ → List ℕ
 or_any [] = codes "any"
@@ -45,3 +53,13 @@ or_any (b ∷ text) = b ∷ text
 
 unfoldable pub match_text : Fields → List ℕ
 match_text f = or_any (join_with_byte 44 (named_fields f))
+
+-- ---- A text that is written from left to right.
+
+-- the text so far, with the comma that the next field wants
+abbrev pub with_comma : List ℕ → List ℕ
+with_comma text = if length text == 0 then text else text ++ codes ","
+
+abbrev pub with_fields : List ℕ → List (List ℕ) → List ℕ
+with_fields text [] = text
+with_fields text (part ∷ parts) = with_fields (with_comma text ++ part) parts

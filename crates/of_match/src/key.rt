@@ -4,8 +4,7 @@ ghost use Rattle.std.specs.Prelude.{false};
 ghost use Rattle.std.proofs.Common.{rules};
 ghost use Rattle.std.specs.Cmp.{partial_order_from_own_ties};
 ghost use Rattle.std.specs.Cmp.Rules.{comparing};
-ghost use Rattle.std.specs.Cmp.Lexicographic.{slice_cmp};
-ghost use Rattle.std.specs.Ordering.{is_gt, nat_cmp, on, flip_args, then_cmp, as_partial_cmp};
+ghost use Rattle.std.specs.Ordering.{as_partial_cmp};
 
 use crate::flow_match::Match;
 use std::cmp::Ordering;
@@ -22,7 +21,9 @@ pub struct Key {
 }
 
 impl Ord for Key {
-    ghost cmp = { then_cmp (flip_args (on (λ k. k.priority) nat_cmp)) (on (λ k. k.matching.bytes) (slice_cmp nat_cmp)) };
+    ghost use Rattle.of_match.specs.Key.{key_cmp};
+
+    ghost cmp = { key_cmp };
 
     ghost total = { Prim.search (comparing, rules) };
 
@@ -39,7 +40,9 @@ impl Ord for Key {
 }
 
 impl PartialOrd for Key {
-    ghost partial_cmp = { as_partial_cmp (then_cmp (flip_args (on (λ k. k.priority) nat_cmp)) (on (λ k. k.matching.bytes) (slice_cmp nat_cmp))) };
+    ghost use Rattle.of_match.specs.Key.{key_cmp};
+
+    ghost partial_cmp = { as_partial_cmp key_cmp };
 
     ghost laws = { partial_order_from_own_ties (Prim.search (comparing, rules)) (Prim.search (comparing, rules)) };
 

@@ -6,7 +6,9 @@ mod codec;
 mod fields;
 mod flow_match;
 mod key;
+mod printing;
 
 pub use fields::Fields;
 pub use flow_match::Match;
 pub use key::Key;
+pub use printing::text;
