@@ -38,9 +38,9 @@ digits-same p q m n base e =
     elim (cases_lt m n) [
       | inl lt ↦ rw (below-less m n lt) (below-less (p * base + m) (q * base + n) (omega (arith, ap (λ k. k * base) e)))
       | inr le ↦ elim (cases_lt n m) [
-          | inl gt ↦ rw (above-greater m n gt) (above-greater (p * base + m) (q * base + n) (omega (arith, ap (λ k. k * base) e)))
-          | inr ge ↦ rw (same-equal m n (omega arith)) (same-equal (p * base + m) (q * base + n) (omega (arith, ap (λ k. k * base) e)))
-        ]
+        | inl gt ↦ rw (above-greater m n gt) (above-greater (p * base + m) (q * base + n) (omega (arith, ap (λ k. k * base) e)))
+        | inr ge ↦ rw (same-equal m n (omega arith)) (same-equal (p * base + m) (q * base + n) (omega (arith, ap (λ k. k * base) e)))
+      ]
     ]
 
 -- a number of two digits is ordered by the first digit, then by the second
@@ -49,9 +49,9 @@ digits-cmp p q m n base hm hn =
     elim (cases_lt p q) [
       | inl lt ↦ rw (below-less p q lt) (below-less _ _ (digit-lt p q m n base hm lt))
       | inr le ↦ elim (cases_lt q p) [
-          | inl gt ↦ rw (above-greater p q gt) (above-greater _ _ (digit-lt q p n m base hn gt))
-          | inr ge ↦ let e : p ≡ q = omega arith in rw (same-equal p q e) (digits-same p q m n base e)
-        ]
+        | inl gt ↦ rw (above-greater p q gt) (above-greater _ _ (digit-lt q p n m base hn gt))
+        | inr ge ↦ let e : p ≡ q = omega arith in rw (same-equal p q e) (digits-same p q m n base e)
+      ]
     ]
 
 -- ---- The bytes of a match.
@@ -109,9 +109,9 @@ priority-cmp p q hp hq =
     elim (cases_lt q p) [
       | inl lt ↦ rw (below-less q p lt) (below-less (65535 - p) (65535 - q) (omega arith))
       | inr le ↦ elim (cases_lt p q) [
-          | inl gt ↦ rw (above-greater q p gt) (above-greater (65535 - p) (65535 - q) (omega arith))
-          | inr ge ↦ rw (same-equal q p (omega arith)) (same-equal (65535 - p) (65535 - q) (omega arith))
-        ]
+        | inl gt ↦ rw (above-greater q p gt) (above-greater (65535 - p) (65535 - q) (omega arith))
+        | inr ge ↦ rw (same-equal q p (omega arith)) (same-equal (65535 - p) (65535 - q) (omega arith))
+      ]
     ]
 
 pub place-cmp : (a b : Key) → IsKey a → IsKey b → nat_cmp (place a) (place b) ≡ key_cmp a b

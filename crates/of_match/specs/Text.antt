@@ -1,5 +1,5 @@
 -- The text of a match, our own choice: `any`, or the fields that are not any, in the order of the 40 bytes, joined by commas.
-use Rattle.std.specs.Prelude.{◌==◌, ℕ, ◌/◌, ◌%◌, ◌^◌, false, List, [], ◌∷◌, ◌++◌, Option, Some, None, nat_lt, if◌then◌else◌, slice_index, length, codes}
+use Rattle.std.specs.Prelude.{ℕ, ◌/◌, ◌%◌, ◌^◌, false, List, [], ◌∷◌, ◌++◌, Option, Some, None, nat_lt, if◌then◌else◌, slice_index, codes}
 use Rattle.std.specs.List.{join_with_byte}
 use Rattle.std.specs.Fmt.{decimal, digit_glyph}
 use Rattle.of_match.specs.declared.fields.Fields.{Fields}
@@ -8,11 +8,15 @@ use Rattle.of_match.specs.declared.fields.Fields.{Fields}
 abbrev pub hex_pair : ℕ → List ℕ
 hex_pair b = digit_glyph false (b / 16) ∷ digit_glyph false (b % 16) ∷ []
 
+unfoldable pub front_text : List ℕ → List ℕ
+front_text a = hex_pair (slice_index a 0) ++ codes ":" ++ hex_pair (slice_index a 1) ++ codes ":" ++ hex_pair (slice_index a 2) ++ codes ":"
+
+unfoldable pub back_text : List ℕ → List ℕ
+back_text a = hex_pair (slice_index a 3) ++ codes ":" ++ hex_pair (slice_index a 4) ++ codes ":" ++ hex_pair (slice_index a 5)
+
 -- six bytes, as `02:00:00:00:00:01`
 unfoldable pub ethernet_text : List ℕ → List ℕ
-ethernet_text a =
-    hex_pair (slice_index a 0) ++ codes ":" ++ hex_pair (slice_index a 1) ++ codes ":" ++ hex_pair (slice_index a 2) ++ codes ":"
-    ++ hex_pair (slice_index a 3) ++ codes ":" ++ hex_pair (slice_index a 4) ++ codes ":" ++ hex_pair (slice_index a 5)
+ethernet_text a = front_text a ++ back_text a
 
 -- a type of frames, as `0x0800`
 unfoldable pub type_text : ℕ → List ℕ
@@ -58,7 +62,8 @@ match_text f = or_any (join_with_byte 44 (named_fields f))
 
 -- the text so far, with the comma that the next field wants
 abbrev pub with_comma : List ℕ → List ℕ
-with_comma text = if length text == 0 then text else text ++ codes ","
+with_comma [] = []
+with_comma (b ∷ text) = (b ∷ text) ++ codes ","
 
 abbrev pub with_fields : List ℕ → List (List ℕ) → List ℕ
 with_fields text [] = text

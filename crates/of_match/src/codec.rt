@@ -7,18 +7,28 @@ use crate::fields::Fields;
 
 /// The bits of the wildcards (OpenFlow 1.0.0, 5.2.3, `ofp_flow_wildcards`).
 const IN_PORT: u32 = 0;
+
 const DL_VLAN: u32 = 1;
+
 const DL_SRC: u32 = 2;
+
 const DL_DST: u32 = 3;
+
 const DL_TYPE: u32 = 4;
+
 const NW_PROTO: u32 = 5;
+
 const TP_SRC: u32 = 6;
+
 const TP_DST: u32 = 7;
+
 const DL_VLAN_PCP: u32 = 20;
+
 const NW_TOS: u32 = 21;
 
 /// The first of the six bits that count the ignored bits of an address.
 const NW_SRC: u32 = 8;
+
 const NW_DST: u32 = 14;
 
 fn half_at(bytes: &[u8; 40], at: usize) -> u16
@@ -61,7 +71,11 @@ fn byte_field(bytes: &[u8; 40], wildcards: u32, bit: u32, at: usize) -> Option<u
     requires within { at < 40 }
     ensures { result ≡ field wildcards bit (byte_in bytes.now at) }
 {
-    if is_any(wildcards, bit) { None } else { Some(bytes[at]) }
+    if is_any(wildcards, bit) {
+        None
+    } else {
+        Some(bytes[at])
+    }
 }
 
 fn half_field(bytes: &[u8; 40], wildcards: u32, bit: u32, at: usize) -> Option<u16>
@@ -69,7 +83,11 @@ fn half_field(bytes: &[u8; 40], wildcards: u32, bit: u32, at: usize) -> Option<u
     requires within { at < 39 }
     ensures { result ≡ field wildcards bit (half_in bytes.now at) }
 {
-    if is_any(wildcards, bit) { None } else { Some(half_at(bytes, at)) }
+    if is_any(wildcards, bit) {
+        None
+    } else {
+        Some(half_at(bytes, at))
+    }
 }
 
 fn address_field(bytes: &[u8; 40], wildcards: u32, bit: u32, at: usize) -> Option<[u8; 6]>
@@ -77,7 +95,11 @@ fn address_field(bytes: &[u8; 40], wildcards: u32, bit: u32, at: usize) -> Optio
     requires within { at < 35 }
     ensures { result ≡ field wildcards bit (address_in bytes.now at) }
 {
-    if is_any(wildcards, bit) { None } else { Some(address_at(bytes, at)) }
+    if is_any(wildcards, bit) {
+        None
+    } else {
+        Some(address_at(bytes, at))
+    }
 }
 
 fn prefix_field(bytes: &[u8; 40], wildcards: u32, first_bit: u32, at: usize) -> Option<(u32, u8)>

@@ -4,7 +4,7 @@ ghost use Rattle.std.specs.Prelude.{◌≡◌, ◌++◌, OnOk, IfOk, codes};
 ghost use Rattle.std.specs.String.{string_bytes};
 ghost use Rattle.std.specs.Fmt.{decimal};
 ghost use Rattle.of_match.specs.Match.{fields_in};
-ghost use Rattle.of_match.specs.Text.{ethernet_text, type_text, dotted, network_text, named, link_fields, frame_fields, network_fields, transport_fields, match_text, with_comma, with_fields};
+ghost use Rattle.of_match.specs.Text.{hex_pair, front_text, back_text, ethernet_text, type_text, dotted, network_text, named, link_fields, frame_fields, network_fields, transport_fields, or_any, match_text, with_comma, with_fields};
 
 use crate::fields::Fields;
 use crate::flow_match::Match;
@@ -13,7 +13,11 @@ use std::alloc::{AllocError, Global};
 fn put_comma(out: &mut String) -> Result<(), AllocError>
     ensures { OnOk result (string_bytes out.new ≡ with_comma (string_bytes out.old)) }
 {
-    if out.is_empty() { Ok(()) } else { out.push_str(",") }
+    if out.is_empty() {
+        Ok(())
+    } else {
+        out.push_str(",")
+    }
 }
 
 fn begin(out: &mut String, name: &str) -> Result<(), AllocError>
@@ -48,12 +52,20 @@ fn put_byte(out: &mut String, name: &str, value: Option<u8>) -> Result<(), Alloc
     }
 }
 
+#[tactic(auto, using(std::proofs::lemmas::Fmt::hex_byte))]
+fn put_pair(out: &mut String, byte: u8) -> Result<(), AllocError>
+    ensures { OnOk result (string_bytes out.new ≡ string_bytes out.old ++ hex_pair byte) }
+{
+    write!(out, "{byte:02x}")
+}
+
 #[tactic(auto, unfolding(crate::specs::Text::type_text))]
 fn put_frame_type(out: &mut String, value: u16) -> Result<(), AllocError>
     ensures { OnOk result (string_bytes out.new ≡ string_bytes out.old ++ type_text value) }
 {
-    let [high, low] = value.to_be_bytes();
-    write!(out, "0x{high:02x}{low:02x}")
+    out.push_str("0x")?;
+    put_pair(out, (value / 256) as u8)?;
+    put_pair(out, (value % 256) as u8)
 }
 
 fn put_type(out: &mut String, name: &str, value: Option<u16>) -> Result<(), AllocError>
@@ -68,15 +80,37 @@ fn put_type(out: &mut String, name: &str, value: Option<u16>) -> Result<(), Allo
     }
 }
 
+fn put_pair_colon(out: &mut String, byte: u8) -> Result<(), AllocError>
+    ensures { OnOk result (string_bytes out.new ≡ string_bytes out.old ++ hex_pair byte ++ codes ":") }
+{
+    put_pair(out, byte)?;
+    out.push_str(":")
+}
+
+#[tactic(auto, unfolding(crate::specs::Text::front_text))]
+fn put_front(out: &mut String, a: [u8; 6]) -> Result<(), AllocError>
+    ensures { OnOk result (string_bytes out.new ≡ string_bytes out.old ++ front_text a) }
+{
+    put_pair_colon(out, a[0])?;
+    put_pair_colon(out, a[1])?;
+    put_pair_colon(out, a[2])
+}
+
+#[tactic(auto, unfolding(crate::specs::Text::back_text))]
+fn put_back(out: &mut String, a: [u8; 6]) -> Result<(), AllocError>
+    ensures { OnOk result (string_bytes out.new ≡ string_bytes out.old ++ back_text a) }
+{
+    put_pair_colon(out, a[3])?;
+    put_pair_colon(out, a[4])?;
+    put_pair(out, a[5])
+}
+
 #[tactic(auto, unfolding(crate::specs::Text::ethernet_text))]
 fn put_ethernet(out: &mut String, a: [u8; 6]) -> Result<(), AllocError>
     ensures { OnOk result (string_bytes out.new ≡ string_bytes out.old ++ ethernet_text a) }
 {
-    write!(
-        out,
-        "{:02x}:{:02x}:{:02x}:{:02x}:{:02x}:{:02x}",
-        a[0], a[1], a[2], a[3], a[4], a[5]
-    )
+    put_front(out, a)?;
+    put_back(out, a)
 }
 
 fn put_address(out: &mut String, name: &str, value: Option<[u8; 6]>) -> Result<(), AllocError>
@@ -105,7 +139,11 @@ fn put_prefix(out: &mut String, network: (u32, u8)) -> Result<(), AllocError>
 {
     let (address, len) = network;
     put_dotted(out, address)?;
-    if len < 32 { write!(out, "/{len}") } else { Ok(()) }
+    if len < 32 {
+        write!(out, "/{len}")
+    } else {
+        Ok(())
+    }
 }
 
 fn put_network(out: &mut String, name: &str, value: Option<(u32, u8)>) -> Result<(), AllocError>
@@ -156,6 +194,16 @@ fn put_transport(out: &mut String, f: Fields) -> Result<(), AllocError>
     put_half(out, "tp_dst", f.tp_dst)
 }
 
+fn put_any(out: &mut String) -> Result<(), AllocError>
+    ensures { OnOk result (string_bytes out.new ≡ or_any (string_bytes out.old)) }
+{
+    if out.is_empty() {
+        out.push_str("any")
+    } else {
+        Ok(())
+    }
+}
+
 /// The text of a match: `any`, or its fields that are not any, as `in_port=1,nw_src=10.0.0.0/24`.
 pub fn text(alloc: Global, m: &Match) -> Result<String, AllocError>
     ensures { IfOk result (λ s. string_bytes s ≡ match_text (fields_in m.now)) }
@@ -166,8 +214,6 @@ pub fn text(alloc: Global, m: &Match) -> Result<String, AllocError>
     put_frame(&mut out, f)?;
     put_networks(&mut out, f)?;
     put_transport(&mut out, f)?;
-    if out.is_empty() {
-        out.push_str("any")?;
-    }
+    put_any(&mut out)?;
     Ok(out)
 }
