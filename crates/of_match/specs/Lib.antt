@@ -5,3 +5,5 @@ pub mod MatchLaws
 pub mod Text
 pub mod Key
 pub mod KeyLaws
+pub mod PacketKey
+pub mod Covers

@@ -3,12 +3,16 @@
 #![tactic(auto)]
 
 mod codec;
+mod covering;
 mod fields;
 mod flow_match;
 mod key;
+mod packet_key;
 mod printing;
 
+pub use covering::covers;
 pub use fields::Fields;
 pub use flow_match::Match;
 pub use key::Key;
+pub use packet_key::PacketKey;
 pub use printing::text;
