@@ -7,3 +7,4 @@ pub mod Key
 pub mod KeyLaws
 pub mod PacketKey
 pub mod Covers
+pub mod CoversLaws
