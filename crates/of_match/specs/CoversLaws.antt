@@ -35,18 +35,16 @@ record Four (P Q R S : Type 0) : Type 0 where
   s : S
 
 three-Decides : {P Q R : Type 0} (a b c : Bool) → Decides a P → Decides b Q → Decides c R → Decides (a && b && c) (Three P Q R)
-three-Decides a b c da db dc =
-    (
-      λ e. let ab = and_parts (a && b) c e in let a-b = and_parts a b ab.0 in record { p = da.0 a-b.0; q = db.0 a-b.1; r = dc.0 ab.1 },
-      λ t. and_from (a && b) c (and_from a b (da.1 t.p) (db.1 t.q)) (dc.1 t.r)
-    )
+three-Decides a b c da db dc = (
+  λ e. let ab = and_parts (a && b) c e in let a-b = and_parts a b ab.0 in record { p = da.0 a-b.0; q = db.0 a-b.1; r = dc.0 ab.1 },
+  λ t. and_from (a && b) c (and_from a b (da.1 t.p) (db.1 t.q)) (dc.1 t.r),
+)
 
 four-Decides : {P Q R S : Type 0} (a b c d : Bool) → Decides a P → Decides b Q → Decides c R → Decides d S → Decides (a && b && c && d) (Four P Q R S)
 four-Decides a b c d da db dc dd =
-    let abc = three-Decides a b c da db dc in
-    (
+    let abc = three-Decides a b c da db dc in (
       λ e. let parts = and_parts (a && b && c) d e in let t = abc.0 parts.0 in record { p = t.p; q = t.q; r = t.r; s = dd.0 parts.1 },
-      λ t. and_from (a && b && c) d (abc.1 (record { p = t.p; q = t.q; r = t.r })) (dd.1 t.s)
+      λ t. and_from (a && b && c) d (abc.1 (record { p = t.p; q = t.q; r = t.r })) (dd.1 t.s),
     )
 
 link-Decides : (f : Fields) (k : PacketKey) → Decides (link_agrees f k) (LinkCovers f k)

@@ -1,7 +1,7 @@
 -- The twelve fields of a match, and the 40 bytes that stand for them on the wire.
 -- OpenFlow 1.0.0, 5.2.3 Flow Match Structures.
 use Rattle.std.specs.Prelude.{◌≡◌, ◌==◌, ℕ, ◌+◌, ◌-◌, ◌*◌, ◌/◌, ◌%◌, ◌^◌, ◌<◌, ◌≤◌, Bool, List, [], ◌∷◌, ◌++◌, length, slice_index, Option, Some, None, IfSome, nat_le, if◌then◌else◌}
-use Rattle.std.specs.Option.{is_some, unwrap_or}
+use Rattle.std.specs.Option.{is_some, unwrap_or, option_map}
 use Rattle.std.specs.Int.{w16, w32, to_be_bytes}
 use Rattle.of_match.specs.declared.fields.Fields.{Fields}
 
@@ -106,3 +106,51 @@ pub record IsFields (f : Fields) : Type 0 where
   pub nw_dst : IfSome f.nw_dst IsPrefix
   pub tp_src : IfSome f.tp_src (λ n. n < 2 ^ 16)
   pub tp_dst : IfSome f.tp_dst (λ n. n < 2 ^ 16)
+
+-- ---- Fields as a program may name them: each within its width, and prefixes are 1 to 32 bits long, and their ignored bits are cleared.
+
+pub record IsWithin (f : Fields) : Type 0 where
+  pub in_port : IfSome f.in_port (λ n. n < 2 ^ 16)
+  pub dl_src : IfSome f.dl_src IsAddress
+  pub dl_dst : IfSome f.dl_dst IsAddress
+  pub dl_vlan : IfSome f.dl_vlan (λ n. n < 2 ^ 16)
+  pub dl_vlan_pcp : IfSome f.dl_vlan_pcp (λ n. n < 2 ^ 8)
+  pub dl_type : IfSome f.dl_type (λ n. n < 2 ^ 16)
+  pub nw_tos : IfSome f.nw_tos (λ n. n < 2 ^ 8)
+  pub nw_proto : IfSome f.nw_proto (λ n. n < 2 ^ 8)
+  pub nw_src : IfSome f.nw_src (λ p. p.0 < 2 ^ 32)
+  pub nw_dst : IfSome f.nw_dst (λ p. p.0 < 2 ^ 32)
+  pub tp_src : IfSome f.tp_src (λ n. n < 2 ^ 16)
+  pub tp_dst : IfSome f.tp_dst (λ n. n < 2 ^ 16)
+
+pub record HasPrefixes (f : Fields) : Type 0 where
+  pub nw_src : IfSome f.nw_src (λ p. (1 ≤ p.1) × (p.1 ≤ 32))
+  pub nw_dst : IfSome f.nw_dst (λ p. (1 ≤ p.1) × (p.1 ≤ 32))
+
+abbrev pub cleared : ℕ × ℕ → ℕ × ℕ
+cleared p = (p.0 / 2 ^ (32 - p.1) * 2 ^ (32 - p.1), p.1)
+
+abbrev pub normal_fields : Fields → Fields
+normal_fields f = record f { nw_src = option_map cleared f.nw_src; nw_dst = option_map cleared f.nw_dst }
+
+-- Each field is any.
+abbrev pub any_fields : Fields
+any_fields = record {
+  in_port = None;
+  dl_src = None;
+  dl_dst = None;
+  dl_vlan = None;
+  dl_vlan_pcp = None;
+  dl_type = None;
+  nw_tos = None;
+  nw_proto = None;
+  nw_src = None;
+  nw_dst = None;
+  tp_src = None;
+  tp_dst = None;
+}
+
+-- No bit of the wildcards is set: no field is any, and the prefixes are whole addresses.
+-- OpenFlow 1.0.0, 3.4 Matching.
+abbrev pub is_exact : Fields → Bool
+is_exact f = wildcards_of f == 0

@@ -1,11 +1,12 @@
 -- What was written is read again.
 use Rattle.std.proofs.Common.{◌≡◌, ◌==◌, ℕ, zero, suc, ◌+◌, ◌-◌, ◌*◌, ◌/◌, ◌%◌, ◌^◌, ◌<◌, ◌≤◌, Bool, true, false, List, [], ◌∷◌, ◌++◌, length, leb, cond, Option, Some, None, refl, sym, ap, ◌∙◌, arith}
 use Rattle.std.specs.Prelude.{slice_index, IfSome, unwrap_or}
+use Rattle.std.specs.Option.{option_map}
 use Rattle.of_match.specs.declared.fields.Fields.{Fields}
 use Rattle.std.proofs.lemmas.Bool.{leb-false, lt-leb}
-use Rattle.std.proofs.lemmas.Nat.{shr_split}
+use Rattle.std.proofs.lemmas.Nat.{shr_split, shl-shr}
 use Rattle.std.proofs.Math.Nat.{mul-mod_left}
-use Rattle.of_match.specs.Fields.{byte_in, half_in, word_in, fields_of, bytes_of, field, prefix, any_bit, ignored_bits, wildcards_of, address_in, address, kept, IsFields, IsAddress, IsPrefix}
+use Rattle.of_match.specs.Fields.{byte_in, half_in, word_in, fields_of, bytes_of, field, prefix, any_bit, ignored_bits, wildcards_of, address_in, address, kept, cleared, normal_fields, IsFields, IsAddress, IsPrefix, IsWithin, HasPrefixes}
 
 -- ---- The wildcards word.
 
@@ -91,19 +92,19 @@ address_kept : (o : Option (List ℕ)) → IfSome o IsAddress → IfSome o (λ y
 address_kept None h = tt
 address_kept (Some a) h = address_again a h
 
-cleared : (p : ℕ × ℕ) → IsPrefix p → p.0 / 2 ^ (32 - p.1) * 2 ^ (32 - p.1) ≡ p.0
-cleared p is = omega (arith, shr_split p.0 (32 - p.1), is.clear)
+clear_is : (p : ℕ × ℕ) → IsPrefix p → p.0 / 2 ^ (32 - p.1) * 2 ^ (32 - p.1) ≡ p.0
+clear_is p is = omega (arith, shr_split p.0 (32 - p.1), is.clear)
 
 prefix_again : (o : Option (ℕ × ℕ)) (i x : ℕ) → i ≡ ignored_bits o → IfSome o (λ p. x ≡ p.0) → IfSome o IsPrefix → prefix i x ≡ o
 prefix_again None i x e h is = rw e refl
 prefix_again (Some p) i x e h is =
     let some : leb 32 (32 - p.1) ≡ false = lt-leb 32 (32 - p.1) (omega (arith, is.at_least)) in
     let twice : 32 - (32 - p.1) ≡ p.1 = omega (arith, is.at_most) in
-    rw (e, h, some, cleared p is, twice) refl
+    rw (e, h, some, clear_is p is, twice) refl
 
 word_kept : (o : Option (ℕ × ℕ)) → IfSome o IsPrefix → IfSome o (λ p. 65536 * (256 * (kept o / 16777216 % 256 % 256) + kept o / 65536 % 256 % 256) + (256 * (kept o / 256 % 256 % 256) + kept o % 256 % 256) ≡ p.0)
 word_kept None is = tt
-word_kept (Some p) is = rw (cleared p is) (word_again p.0 is.fits)
+word_kept (Some p) is = rw (clear_is p is) (word_again p.0 is.fits)
 
 wildcards_parts : (f : Fields) → Parts (any_bit f.in_port) (any_bit f.dl_vlan) (any_bit f.dl_src) (any_bit f.dl_dst) (any_bit f.dl_type) (any_bit f.nw_proto) (any_bit f.tp_src) (any_bit f.tp_dst) (ignored_bits f.nw_src) (ignored_bits f.nw_dst) (any_bit f.dl_vlan_pcp) (any_bit f.nw_tos) (wildcards_of f)
 wildcards_parts f = parts _ _ _ _ _ _ _ _ _ _ _ _
@@ -198,3 +199,64 @@ fields_within bytes = record {
 
 pub normal_again : (bytes : List ℕ) → bytes_of (fields_of (bytes_of (fields_of bytes))) ≡ bytes_of (fields_of bytes)
 normal_again bytes = ap bytes_of (fields_of-bytes_of (fields_of bytes) (fields_within bytes))
+
+-- ---- The fields that a program names.
+
+kept-cleared : (o : Option (ℕ × ℕ)) → kept (option_map cleared o) ≡ kept o
+kept-cleared None = refl
+kept-cleared (Some p) = ap (λ n. n * 2 ^ (32 - p.1)) (shl-shr (p.0 / 2 ^ (32 - p.1)) (32 - p.1))
+
+ignored_bits-cleared : (o : Option (ℕ × ℕ)) → ignored_bits (option_map cleared o) ≡ ignored_bits o
+ignored_bits-cleared None = refl
+ignored_bits-cleared (Some p) = refl
+
+-- fields are written as their normal form is
+pub bytes_of-normal_fields : (f : Fields) → bytes_of (normal_fields f) ≡ bytes_of f
+unfolding bytes_of
+bytes_of-normal_fields f = rw (kept-cleared f.nw_src, kept-cleared f.nw_dst, ignored_bits-cleared f.nw_src, ignored_bits-cleared f.nw_dst) refl
+
+cleared_is : (p : ℕ × ℕ) → p.0 < 2 ^ 32 → 1 ≤ p.1 → p.1 ≤ 32 → IsPrefix (cleared p)
+cleared_is p fits some most = record {
+  at_least = some;
+  at_most = most;
+  fits = omega (arith, shr_split p.0 (32 - p.1));
+  clear = mul-mod_left (p.0 / 2 ^ (32 - p.1)) (2 ^ (32 - p.1));
+}
+
+option_cleared_is : (o : Option (ℕ × ℕ)) → IfSome o (λ p. p.0 < 2 ^ 32) → IfSome o (λ p. (1 ≤ p.1) × (p.1 ≤ 32)) → IfSome (option_map cleared o) IsPrefix
+option_cleared_is None fits prefixes = tt
+option_cleared_is (Some p) fits prefixes = cleared_is p fits prefixes.0 prefixes.1
+
+pub normal_fields_are : (f : Fields) → IsWithin f → HasPrefixes f → IsFields (normal_fields f)
+normal_fields_are f w h = record {
+  in_port = w.in_port;
+  dl_src = w.dl_src;
+  dl_dst = w.dl_dst;
+  dl_vlan = w.dl_vlan;
+  dl_vlan_pcp = w.dl_vlan_pcp;
+  dl_type = w.dl_type;
+  nw_tos = w.nw_tos;
+  nw_proto = w.nw_proto;
+  nw_src = option_cleared_is f.nw_src w.nw_src h.nw_src;
+  nw_dst = option_cleared_is f.nw_dst w.nw_dst h.nw_dst;
+  tp_src = w.tp_src;
+  tp_dst = w.tp_dst;
+}
+
+pub fields_of-bytes_of_any : (f : Fields) → IsWithin f → HasPrefixes f → fields_of (bytes_of f) ≡ normal_fields f
+fields_of-bytes_of_any f w h = ap fields_of (sym (bytes_of-normal_fields f)) ∙ fields_of-bytes_of (normal_fields f) (normal_fields_are f w h)
+
+pub bytes_of-normal : (f : Fields) → IsWithin f → HasPrefixes f → bytes_of (fields_of (bytes_of f)) ≡ bytes_of f
+bytes_of-normal f w h = ap bytes_of (fields_of-bytes_of_any f w h) ∙ bytes_of-normal_fields f
+
+cleared-clear : (o : Option (ℕ × ℕ)) → IfSome o IsPrefix → option_map cleared o ≡ o
+cleared-clear None h = refl
+cleared-clear (Some p) h = rw (clear_is p h) refl
+
+-- fields of a match are their own normal form
+pub normal_fields-is : (f : Fields) → IsFields f → normal_fields f ≡ f
+normal_fields-is f is = λ i. record f { nw_src = cleared-clear f.nw_src is.nw_src i; nw_dst = cleared-clear f.nw_dst is.nw_dst i }
+
+pub value_within : (o : Option ℕ) (limit n : ℕ) → n ≡ unwrap_or o 0 → n < limit → IfSome o (λ m. m < limit)
+value_within None limit n e lt = tt
+value_within (Some m) limit n e lt = omega arith

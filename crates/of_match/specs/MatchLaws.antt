@@ -4,8 +4,8 @@ use Rattle.std.proofs.Props.{props}
 use mathlib.Core.HLevel.{is_prop→PathP}
 use Rattle.of_match.specs.declared.fields.Fields.{Fields}
 use Rattle.of_match.specs.declared.flow_match.Match.{Match}
-use Rattle.of_match.specs.Fields.{fields_of, bytes_of, IsNormal, IsFields}
-use Rattle.of_match.specs.FieldsLaws.{fields_of-bytes_of, fields_within}
+use Rattle.of_match.specs.Fields.{fields_of, bytes_of, normal_fields, IsNormal, IsFields, IsWithin, HasPrefixes}
+use Rattle.of_match.specs.FieldsLaws.{fields_of-bytes_of, fields_of-bytes_of_any, fields_within}
 use Rattle.of_match.specs.Match.{match_of, fields_in}
 
 IsNormal-prop : (bytes : List ℕ) → IsProp (IsNormal bytes)
@@ -43,3 +43,7 @@ match_of-same a b e = fields_in-injective (match_of a) (match_of b) (fields_in-m
 -- decoding what was encoded
 pub match_of-bytes_of : (m : Match) → match_of (bytes_of (fields_in m)) ≡ m
 match_of-bytes_of m = fields_in-injective (match_of (bytes_of (fields_in m))) m (fields_in-match_of-bytes_of (fields_in m) (fields_in-within m))
+
+-- the fields of the match that is made of any fields that a program may name
+pub fields_in-match_of-normal : (f : Fields) → IsWithin f → HasPrefixes f → fields_in (match_of (bytes_of f)) ≡ normal_fields f
+fields_in-match_of-normal f w h = fields_in-match_of (bytes_of f) ∙ fields_of-bytes_of_any f w h

@@ -1,7 +1,7 @@
 //! The fields of a match read from 40 bytes, and written as the 40 bytes of the normal form.
 
-ghost use Rattle.std.specs.Prelude.{◌≡◌, ◌==◌, ◌+◌, ◌*◌, ◌/◌, ◌%◌, ◌^◌, ◌<◌, ◌≤◌, if◌then◌else◌};
-ghost use Rattle.of_match.specs.Fields.{byte_in, half_in, word_in, address_in, address, field, prefix, fields_of, ignored_bits, kept, wildcards_of, bytes_of};
+ghost use Rattle.std.specs.Prelude.{IfSome, ◌≡◌, ◌==◌, ◌+◌, ◌*◌, ◌/◌, ◌%◌, ◌^◌, ◌<◌, ◌≤◌, if◌then◌else◌};
+ghost use Rattle.of_match.specs.Fields.{byte_in, half_in, word_in, address_in, address, field, prefix, fields_of, ignored_bits, kept, wildcards_of, bytes_of, IsAddress, IsWithin};
 
 use crate::fields::Fields;
 
@@ -155,7 +155,8 @@ fn ignored(network: Option<(u32, u8)>) -> u32
 }
 
 fn address_or_zero(ethernet: Option<[u8; 6]>) -> [u8; 6]
-    ensures { result ≡ address ethernet }
+    ensures value { result ≡ address ethernet }
+    ensures within { IfSome ethernet IsAddress }
 {
     match ethernet {
         None => [0; 6],
@@ -164,10 +165,12 @@ fn address_or_zero(ethernet: Option<[u8; 6]>) -> [u8; 6]
 }
 
 fn kept_address(network: Option<(u32, u8)>) -> u32
-    ensures { result ≡ kept network }
+    ensures value { result ≡ kept network }
+    ensures within { IfSome network (λ p. p.0 < 2 ^ 32) }
 {
     match network {
-        None | Some((_, 0)) => 0,
+        None => 0,
+        Some((_, 0)) => 0,
         Some((address, len)) => {
             let ignored = 32u32.saturating_sub(u32::from(len));
             address >> ignored << ignored
@@ -175,7 +178,7 @@ fn kept_address(network: Option<(u32, u8)>) -> u32
     }
 }
 
-fn wildcards(f: Fields) -> u32
+pub(crate) fn wildcards(f: Fields) -> u32
     ensures { result ≡ wildcards_of f }
 {
     any_bit(f.in_port.is_some(), IN_PORT)
@@ -194,7 +197,8 @@ fn wildcards(f: Fields) -> u32
 
 #[tactic(auto, unfolding(crate::specs::Fields::bytes_of))]
 pub(crate) fn write_fields(f: Fields) -> [u8; 40]
-    ensures { result ≡ bytes_of f }
+    ensures value { result ≡ bytes_of f }
+    ensures within { IsWithin f }
 {
     let [a, b, c, d] = wildcards(f).to_be_bytes();
     let in_port = f.in_port.unwrap_or(0).to_be_bytes();

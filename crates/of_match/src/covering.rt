@@ -1,7 +1,7 @@
 //! Which packets a match covers.
 
 ghost use Rattle.std.specs.Prelude.{◌≡◌, ◌↔◌, IsTrue};
-ghost use Rattle.of_match.specs.Covers.{Agrees, AgreesOnPrefix, Covers, LinkCovers, FrameCovers, NetworkCovers, FieldsCover};
+ghost use Rattle.of_match.specs.Covers.{Agrees, AgreesOnPrefix, Covers, LinkCovers, FrameCovers, NetworkCovers, FieldsCover, is_covering};
 
 use crate::fields::Fields;
 use crate::flow_match::Match;
@@ -73,10 +73,16 @@ fn network_covers(f: Fields, k: PacketKey) -> bool
         && half_agrees(f.tp_dst, k.tp_dst)
 }
 
+fn fields_cover(f: Fields, k: PacketKey) -> bool
+    ensures { IsTrue result ↔ FieldsCover f k }
+{
+    link_covers(f, k) && frame_covers(f, k) && network_covers(f, k)
+}
+
 /// Whether a packet with these fields is covered by the match (OpenFlow 1.0.0, 3.4 Matching).
 pub fn covers(m: &Match, k: &PacketKey) -> bool
-    ensures { IsTrue result ↔ Covers m.now k.now }
+    ensures covers { IsTrue result ↔ Covers m.now k.now }
+    ensures value { result ≡ is_covering m.now k.now }
 {
-    let f = m.fields();
-    link_covers(f, *k) && frame_covers(f, *k) && network_covers(f, *k)
+    fields_cover(m.fields(), *k)
 }

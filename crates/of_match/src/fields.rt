@@ -30,3 +30,21 @@ pub struct Fields {
     /// The TCP or UDP destination port, or the ICMP code.
     pub tp_dst: Option<u16>,
 }
+
+impl Fields {
+    /// Each field is any.
+    pub const ANY: Fields = Fields {
+        in_port: None,
+        dl_src: None,
+        dl_dst: None,
+        dl_vlan: None,
+        dl_vlan_pcp: None,
+        dl_type: None,
+        nw_tos: None,
+        nw_proto: None,
+        nw_src: None,
+        nw_dst: None,
+        tp_src: None,
+        tp_dst: None,
+    };
+}

@@ -2,7 +2,7 @@
 
 ghost use Rattle.of_match.specs.Fields.{IsNormal};
 
-use crate::codec::{read_fields, write_fields};
+use crate::codec::{read_fields, wildcards, write_fields};
 use crate::fields::Fields;
 
 /// A flow match, kept as the 40 bytes of its normal form (OpenFlow 1.0.0, 5.2.3).
@@ -16,8 +16,30 @@ pub struct Match {
 
 impl Match {
     ghost use Rattle.std.specs.Prelude.{◌≡◌};
-    ghost use Rattle.of_match.specs.Fields.{bytes_of, IsFields};
+    ghost use Rattle.of_match.specs.Fields.{bytes_of, IsFields, HasPrefixes, normal_fields, any_fields, is_exact};
     ghost use Rattle.of_match.specs.Match.{match_of, fields_in};
+
+    /// The match with the given fields, whose prefixes are 1 to 32 bits long.
+    ///
+    /// The bits of an address that its prefix ignores are cleared.
+    #[tactic(auto, unfolding(crate::specs::Match::match_of))]
+    pub fn new(fields: &Fields) -> Match
+        requires { HasPrefixes fields.now }
+        ensures fields { fields_in result ≡ normal_fields fields.now }
+        ensures value { result ≡ match_of (bytes_of fields.now) }
+    {
+        Match {
+            bytes: write_fields(*fields),
+        }
+    }
+
+    /// The match of every packet: each field is any.
+    pub fn any() -> Match
+        ensures fields { fields_in result ≡ any_fields }
+        ensures value { result ≡ match_of (bytes_of any_fields) }
+    {
+        Match::new(&Fields::ANY)
+    }
 
     /// The match that 40 bytes of the wire stand for; any bytes do.
     ///
@@ -47,5 +69,13 @@ impl Match {
         ensures within { IsFields result }
     {
         read_fields(&self.bytes)
+    }
+
+    /// Whether no bit of the wildcards is set (OpenFlow 1.0.0, 3.4): no field is any, and the prefixes
+    /// are whole addresses.
+    pub fn is_exact(&self) -> bool
+        ensures { result ≡ is_exact (fields_in self.now) }
+    {
+        wildcards(self.fields()) == 0
     }
 }

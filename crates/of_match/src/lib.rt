@@ -7,6 +7,7 @@ mod covering;
 mod fields;
 mod flow_match;
 mod key;
+mod laws;
 mod packet_key;
 mod printing;
 
@@ -14,5 +15,9 @@ pub use covering::covers;
 pub use fields::Fields;
 pub use flow_match::Match;
 pub use key::Key;
+pub use laws::{decode_after_encode, fields_of_matches, one_normal_form, places_of_keys};
 pub use packet_key::PacketKey;
 pub use printing::text;
+
+#[cfg(test)]
+mod tests;
