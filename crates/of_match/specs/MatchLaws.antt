@@ -1,5 +1,5 @@
 -- Matches with the same bytes, or the same fields, are one match; what is decoded of a match's bytes is that match.
-use Rattle.std.proofs.Common.{◌≡◌, ℕ, List, refl, sym, ap, ◌∙◌}
+use Rattle.std.proofs.Common.{◌≡◌, ℕ, List, sym, ap, ◌∙◌}
 use Rattle.std.proofs.Props.{props}
 use mathlib.Core.HLevel.{is_prop→PathP}
 use Rattle.of_match.specs.declared.fields.Fields.{Fields}

@@ -1,6 +1,6 @@
 -- The twelve fields of a packet that matches are held against.
 -- OpenFlow 1.0.0, 3.4 Matching.
-use Rattle.std.specs.Prelude.{ℕ, ◌^◌, ◌<◌}
+use Rattle.std.specs.Prelude.{◌^◌, ◌<◌}
 use Rattle.of_match.specs.declared.packet_key.PacketKey.{PacketKey}
 use Rattle.of_match.specs.Fields.{IsAddress}
 

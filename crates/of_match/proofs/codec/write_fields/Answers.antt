@@ -1,4 +1,4 @@
-use Rattle.std.proofs.Common.{◌≡◌, refl}
+use Rattle.std.proofs.Common.{refl}
 use Rattle.of_match.specs.Fields.{bytes_of}
 use Rattle.of_match.specs.FieldsLaws.{value_within}
 use Rattle.of_match.proofs.codec.write_fields.Goals as goal

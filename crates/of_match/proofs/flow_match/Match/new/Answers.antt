@@ -1,4 +1,4 @@
-use Rattle.std.proofs.Common.{◌≡◌, ap, ◌∙◌}
+use Rattle.std.proofs.Common.{ap, ◌∙◌}
 use Rattle.of_match.specs.Fields.{fields_of}
 use Rattle.of_match.specs.FieldsLaws.{bytes_of-normal, fields_of-bytes_of_any}
 use Rattle.of_match.specs.Match.{fields_in}
