@@ -84,7 +84,7 @@ prefix_subsumes-antisym (Some p) (Some q) ho hq t u =
     let len : p.1 ≡ q.1 = omega (arith, leb-true p.1 q.1 pq.0, leb-true q.1 p.1 qp.0) in
     let bits : first_bits p.1 p.0 ≡ first_bits p.1 q.0 = eqb-true (first_bits p.1 p.0) (first_bits p.1 q.0) pq.1 in
     let address : p.0 ≡ q.0 =
-        sym (clear_is p ho) ∙ ap (λ v. v * 2 ^ (32 - p.1)) bits ∙ ap (λ n. q.0 / 2 ^ (32 - n) * 2 ^ (32 - n)) len ∙ clear_is q hq in
+    sym (clear_is p ho) ∙ ap (λ v. v * 2 ^ (32 - p.1)) bits ∙ ap (λ n. q.0 / 2 ^ (32 - n) * 2 ^ (32 - n)) len ∙ clear_is q hq in
     λ i. Some (address i, len i)
 
 pub prefix_overlaps-complete : (o p : Option (ℕ × ℕ)) (x : ℕ) → AgreesOnPrefix o x → AgreesOnPrefix p x → prefix_overlaps o p ≡ true

@@ -273,34 +273,31 @@ unfolding is_subsuming
 is_subsuming-Decides a b =
     let f = fields_in a in
     let g = fields_in b in
-    let hg : IsFields (fields_in b) = fields_in-within b in
-    (
+    let hg : IsFields (fields_in b) = fields_in-within b in (
       λ t k _ c. fields_subsume-sound (fields_in a) (fields_in b) k t c,
       λ s. fields_subsume-complete (fields_in a) (fields_in b) (fields_in-within a) hg
           (s (low_key (fields_in b)) (low_key-is (fields_in b) hg) (low_key-covered (fields_in b)))
-          (s (high_key (fields_in b)) (high_key-is (fields_in b) hg) (high_key-covered (fields_in b) hg))
+          (s (high_key (fields_in b)) (high_key-is (fields_in b) hg) (high_key-covered (fields_in b) hg)),
     )
 
 pub is_overlapping-Decides : (a b : Match) → Decides (is_overlapping a b) (Overlaps a b)
 unfolding is_overlapping
 is_overlapping-Decides a b =
     let m = fields_meet (fields_in a) (fields_in b) in
-    let is : IsFields (fields_meet (fields_in a) (fields_in b)) = fields_meet-within (fields_in a) (fields_in b) (fields_in-within a) (fields_in-within b) in
-    (
+    let is : IsFields (fields_meet (fields_in a) (fields_in b)) = fields_meet-within (fields_in a) (fields_in b) (fields_in-within a) (fields_in-within b) in (
       λ t.
           let both = fields_meet-both (fields_in a) (fields_in b) (low_key m) t (low_key-covered m) in
           (low_key m, (low_key-is m is, both.0, both.1)),
-      λ o. fields_overlap-complete (fields_in a) (fields_in b) o.0 o.1.1 o.1.2
+      λ o. fields_overlap-complete (fields_in a) (fields_in b) o.0 o.1.1 o.1.2,
     )
 
 meet-is : (a b : Match) → is_overlapping a b ≡ true → IsMeet a b (match_of (bytes_of (fields_meet (fields_in a) (fields_in b))))
 unfolding is_overlapping
 meet-is a b t k _ =
     let is : IsFields (fields_meet (fields_in a) (fields_in b)) = fields_meet-within (fields_in a) (fields_in b) (fields_in-within a) (fields_in-within b) in
-    let same = fields_in-match_of-bytes_of (fields_meet (fields_in a) (fields_in b)) is in
-    (
+    let same = fields_in-match_of-bytes_of (fields_meet (fields_in a) (fields_in b)) is in (
       λ c. fields_meet-both (fields_in a) (fields_in b) k t (subst (λ f. FieldsCover f k) same c),
-      λ c. subst (λ f. FieldsCover f k) (sym same) (fields_meet-from (fields_in a) (fields_in b) k c.0 c.1)
+      λ c. subst (λ f. FieldsCover f k) (sym same) (fields_meet-from (fields_in a) (fields_in b) k c.0 c.1),
     )
 
 choice-some : {A : Type 0} (b : Bool) (x : A) → is_some (cond b (Some x) None) ≡ b

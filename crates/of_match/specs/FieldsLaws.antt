@@ -260,3 +260,11 @@ normal_fields-is f is = λ i. record f { nw_src = cleared-clear f.nw_src is.nw_s
 pub value_within : (o : Option ℕ) (limit n : ℕ) → n ≡ unwrap_or o 0 → n < limit → IfSome o (λ m. m < limit)
 value_within None limit n e lt = tt
 value_within (Some m) limit n e lt = omega arith
+
+prefix_len : (o : Option (ℕ × ℕ)) → IfSome o IsPrefix → IfSome o (λ p. (1 ≤ p.1) × (p.1 ≤ 32))
+prefix_len None h = tt
+prefix_len (Some p) h = (h.at_least, h.at_most)
+
+-- what a match has may be named again
+pub HasPrefixes-from : (f : Fields) → IsFields f → HasPrefixes f
+HasPrefixes-from f is = record { nw_src = prefix_len f.nw_src is.nw_src; nw_dst = prefix_len f.nw_dst is.nw_dst }
