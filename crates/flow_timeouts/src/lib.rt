@@ -1,13 +1,12 @@
-// A library with one function.
+//! When a flow entry goes: the deadline that its timeouts set, and what is left of a hard timeout.
+//! Moments are whole seconds.
 #![tactic(auto)]
 
-ghost use Rattle.std.specs.Prelude.{◌≡◌};
-ghost use Rattle.flow_timeouts.specs.Echo.{echo_of};
+mod laws;
+mod timeouts;
 
-// The `ensures` clause is the contract: what `echo` returns is `echo_of` of its argument, a definition
-// in `specs/Echo.antt`, which a caller's clause can cite too.
-pub fn echo(x: usize) -> usize
-    ensures { result ≡ echo_of x }
-{
-    x
-}
+pub use laws::hard_deadline_stays;
+pub use timeouts::{LAST_MOMENT, Reason, deadline, remaining};
+
+#[cfg(test)]
+mod tests;
