@@ -1,5 +1,5 @@
 -- The timeouts of a flow entry. OpenFlow 1.0.0, 3.3 Flow Removal; that a tie counts as hard is our own choice.
-use Rattle.std.specs.Prelude.{◌≡◌, ◌==◌, ℕ, ◌+◌, ◌-◌, nat_le, Option, Some, None, if◌then◌else◌}
+use Rattle.std.specs.Prelude.{◌==◌, ℕ, ◌+◌, ◌-◌, nat_le, Option, Some, None, if◌then◌else◌}
 use Rattle.flow_timeouts.specs.declared.timeouts.Reason.{Reason}
 use Rattle.flow_timeouts.specs.declared.timeouts.Reason.TheVariants.{Idle, Hard}
 

@@ -1,6 +1,6 @@
 -- The relations of matches, field by field.
 -- OpenFlow 1.0.0, 3.4 Matching and 4.6 Flow Table Modification Messages.
-use Rattle.std.specs.Prelude.{◌==◌, ℕ, ◌-◌, ◌/◌, ◌^◌, min, nat_le, Bool, true, false, ◌&&◌, List, Option, Some, None, if◌then◌else◌}
+use Rattle.std.specs.Prelude.{◌==◌, ℕ, ◌-◌, ◌/◌, ◌^◌, min, nat_le, Bool, true, false, ◌&&◌, Option, Some, None, if◌then◌else◌}
 use Rattle.std.specs.Str.{bytes_eq}
 use Rattle.of_match.specs.declared.fields.Fields.{Fields}
 

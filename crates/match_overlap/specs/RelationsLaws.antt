@@ -1,21 +1,21 @@
 -- What the tests of fields say about packet keys, and the algebra of the relations.
-use Rattle.std.proofs.Common.{◌≡◌, ◌≢◌, ◌==◌, ℕ, ◌^◌, ◌<◌, Bool, true, false, ◌&&◌, List, [], ◌∷◌, cond, Option, Some, None, refl, sym, ap, subst, ◌∙◌, arith}
-use Rattle.std.proofs.lemmas.Bool.{and_parts, and_from, cases_Bool}
+use Rattle.std.proofs.Common.{◌≡◌, ◌≢◌, ◌==◌, ℕ, ◌^◌, ◌<◌, Bool, true, false, ◌&&◌, List, [], ◌∷◌, cond, Some, None, refl, sym, subst, arith}
+use Rattle.std.proofs.lemmas.Bool.{and_parts, and_from}
 use Rattle.std.proofs.lemmas.Bool.Decides.{Decides-eqb}
 use Rattle.std.proofs.lemmas.Slice.Eq.{bytes_eq-Decides}
-use Rattle.std.specs.Prelude.{zero, suc, ◌↔◌, IfSome, unwrap_or, slice_index}
+use Rattle.std.specs.Prelude.{zero, suc, IfSome, unwrap_or, slice_index}
 use Rattle.std.specs.Bool.{Decides}
 use Rattle.std.specs.Option.{is_some}
 use Rattle.std.specs.Str.{bytes_eq}
 use Rattle.of_match.specs.declared.fields.Fields.{Fields}
 use Rattle.of_match.specs.declared.flow_match.Match.{Match}
 use Rattle.of_match.specs.declared.packet_key.PacketKey.{PacketKey}
-use Rattle.of_match.specs.Fields.{bytes_of, IsAddress, IsPrefix, IsFields}
+use Rattle.of_match.specs.Fields.{bytes_of, IsAddress, IsFields}
 use Rattle.of_match.specs.Match.{match_of, fields_in}
 use Rattle.of_match.specs.MatchLaws.{fields_in-injective, fields_in-within, fields_in-match_of-bytes_of}
 use Rattle.of_match.specs.PacketKey.{IsPacketKey}
-use Rattle.of_match.specs.Covers.{Agrees, AgreesOnPrefix, LinkCovers, FrameCovers, NetworkCovers, FieldsCover, Covers}
-use Rattle.match_overlap.specs.Fieldwise.{value_subsumes, value_overlaps, value_meet, prefix_subsumes, prefix_overlaps, prefix_meet, link_subsumes, frame_subsumes, network_subsumes, fields_subsume, link_overlaps, frame_overlaps, network_overlaps, fields_overlap, fields_meet}
+use Rattle.of_match.specs.Covers.{AgreesOnPrefix, LinkCovers, FrameCovers, NetworkCovers, FieldsCover, Covers}
+use Rattle.match_overlap.specs.Fieldwise.{value_subsumes, value_overlaps, prefix_subsumes, prefix_overlaps, link_subsumes, frame_subsumes, network_subsumes, fields_subsume, link_overlaps, frame_overlaps, network_overlaps, fields_overlap, fields_meet}
 use Rattle.match_overlap.specs.Relations.{Subsumes, Overlaps, IsMeet, is_subsuming, is_overlapping, meet_of}
 use Rattle.match_overlap.specs.ValueLaws.{taken, unwrap_or-within, value_subsumes-sound, value_subsumes-complete, value_subsumes-antisym, value_overlaps-complete, value_meet-both, value_meet-from, value_meet-within}
 use Rattle.match_overlap.specs.PrefixLaws.{low_address, high_address, low_address-taken, high_address-taken, low_address-within, high_address-within, prefix_subsumes-sound, prefix_subsumes-complete, prefix_subsumes-antisym, prefix_overlaps-complete, prefix_meet-both, prefix_meet-from, prefix_meet-within}

@@ -1,5 +1,5 @@
 -- Keys ascend as their places do, and keys with the same place are one key.
-use Rattle.std.proofs.Common.{◌≡◌, ◌%◌, ℕ, suc, ◌+◌, ◌-◌, ◌*◌, ◌^◌, ◌<◌, ◌≤◌, List, [], ◌∷◌, length, refl, sym, ap, subst, ◌∙◌, arith, inl, inr}
+use Rattle.std.proofs.Common.{◌≡◌, ◌==◌, ◌&&◌, ◌%◌, ℕ, suc, ◌+◌, ◌-◌, ◌*◌, ◌^◌, ◌<◌, ◌≤◌, List, [], ◌∷◌, length, refl, sym, ap, subst, ◌∙◌, arith, inl, inr}
 use Rattle.std.proofs.lemmas.Bool.{cases_lt}
 use Rattle.std.proofs.lemmas.Map.Lookups.{exact_bytes, exact_unsigned}
 use Rattle.std.proofs.Math.Nat.{mul-le-mul_right, pow-suc}
@@ -7,7 +7,10 @@ use Rattle.std.specs.List.{AllByRecursion}
 use Rattle.std.specs.Prelude.{Option, Some, None, IfSome, unwrap_or}
 use Rattle.std.specs.Ordering.{nat_cmp, ordering_then}
 use Rattle.std.specs.Cmp.{nat_cmp_is}
-use Rattle.std.specs.Cmp.Lexicographic.{slice_cmp}
+use Rattle.std.specs.Cmp.Lexicographic.{slice_cmp, pointwise}
+use Rattle.std.specs.Bool.{Decides}
+use Rattle.std.specs.Prelude.{nat_eq}
+use Rattle.std.proofs.lemmas.Bool.Decides.{Decides-like, Decides-and, Decides-eqb}
 use Rattle.std.specs.declared.cmp.Ordering.{Ordering}
 use Rattle.std.specs.declared.cmp.Ordering.TheVariants.{Less, Equal, Greater}
 use Rattle.of_match.specs.declared.fields.Fields.{Fields}
@@ -15,7 +18,7 @@ use Rattle.of_match.specs.declared.flow_match.Match.{Match}
 use Rattle.of_match.specs.declared.key.Key.{Key}
 use Rattle.of_match.specs.Fields.{fields_of, bytes_of, IsFields}
 use Rattle.of_match.specs.FieldsLaws.{fields_within}
-use Rattle.of_match.specs.MatchLaws.{bytes-injective}
+use Rattle.of_match.specs.MatchLaws.{bytes-injective, match_eq-Decides}
 use Rattle.of_match.specs.Key.{key_cmp, number, place, IsKey}
 
 -- ---- The order of numbers in a base.
@@ -140,3 +143,12 @@ key_cmp-equal a b e =
 
 pub place-injective : (a b : Key) → IsKey a → IsKey b → place a ≡ place b → a ≡ b
 place-injective a b ha hb e = key_cmp-equal a b (sym (place-cmp a b ha hb) ∙ same-equal (place a) (place b) e)
+
+key_eq-parts : (a b : Key) → (a.priority ≡ b.priority) × (a.matching ≡ b.matching) → a ≡ b
+key_eq-parts a b e = λ i. record { priority = e.0 i; matching = e.1 i }
+
+-- what `==` of keys answers
+pub key_eq-Decides : (a b : Key) → Decides (a.priority == b.priority && pointwise nat_eq a.matching.bytes b.matching.bytes) (a ≡ b)
+key_eq-Decides a b =
+    Decides-like (a.priority == b.priority && pointwise nat_eq a.matching.bytes b.matching.bytes) (key_eq-parts a b) (λ e. (ap (λ (k : Key). k.priority) e, ap (λ (k : Key). k.matching) e))
+    (Decides-and (a.priority == b.priority) (pointwise nat_eq a.matching.bytes b.matching.bytes) (Decides-eqb a.priority b.priority) (match_eq-Decides a.matching b.matching))

@@ -1,6 +1,3 @@
-use Rattle.std.proofs.Common.{sym, subst}
-use Rattle.std.specs.Prelude.{IfSome}
-use Rattle.match_overlap.specs.Relations.{IsMeet}
 use Rattle.match_overlap.specs.RelationsLaws.{meet_of-is, meet_of-some}
 use Rattle.match_overlap.proofs.relations.meet.Goals as goal
 
