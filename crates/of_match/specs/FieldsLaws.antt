@@ -2,6 +2,7 @@
 use Rattle.std.proofs.Common.{◌≡◌, ◌==◌, ℕ, zero, suc, ◌+◌, ◌-◌, ◌*◌, ◌/◌, ◌%◌, ◌^◌, ◌<◌, ◌≤◌, Bool, true, false, List, [], ◌∷◌, length, leb, cond, Option, Some, None, refl, sym, ap, ◌∙◌, arith}
 use Rattle.std.specs.Prelude.{slice_index, IfSome, unwrap_or}
 use Rattle.std.specs.Option.{option_map}
+use Rattle.std.specs.List.{AllByRecursion}
 use Rattle.of_match.specs.declared.fields.Fields.{Fields}
 use Rattle.std.proofs.lemmas.Bool.{leb-false, lt-leb}
 use Rattle.std.proofs.lemmas.Nat.{shr_split, shl-shr}
@@ -268,3 +269,26 @@ prefix_len (Some p) h = (h.at_least, h.at_most)
 -- what a match has may be named again
 pub HasPrefixes-from : (f : Fields) → IsFields f → HasPrefixes f
 HasPrefixes-from f is = record { nw_src = prefix_len f.nw_src is.nw_src; nw_dst = prefix_len f.nw_dst is.nw_dst }
+
+-- ---- The bytes that are written.
+
+abbrev pub AreBytes : List ℕ → Type 0
+AreBytes bytes = AllByRecursion (λ b. b < 256) bytes
+
+low : (n : ℕ) → n % 256 < 256
+low n = omega arith
+
+byte-lt : (o : Option ℕ) → IfSome o (λ n. n < 2 ^ 8) → unwrap_or o 0 < 256
+byte-lt None h = omega arith
+byte-lt (Some n) h = h
+
+-- the bytes of fields are 40, each below 256
+pub bytes_of-length : (f : Fields) → length (bytes_of f) ≡ 40
+unfolding bytes_of
+bytes_of-length f = refl
+
+pub bytes_of-AreBytes : (f : Fields) → IsFields f → AreBytes (bytes_of f)
+unfolding bytes_of
+bytes_of-AreBytes f is =
+    let z : 0 < 256 = omega arith in
+    (low _, (low _, (low _, (low _, (low _, (low _, (low _, (low _, (low _, (low _, (low _, (low _, (low _, (low _, (low _, (low _, (low _, (low _, (low _, (low _, (byte-lt f.dl_vlan_pcp is.dl_vlan_pcp, (z, (low _, (low _, (byte-lt f.nw_tos is.nw_tos, (byte-lt f.nw_proto is.nw_proto, (z, (z, (low _, (low _, (low _, (low _, (low _, (low _, (low _, (low _, (low _, (low _, (low _, (low _, tt))))))))))))))))))))))))))))))))))))))))

@@ -1,10 +1,8 @@
 -- Keys ascend as their places do, and keys with the same place are one key.
-use Rattle.std.proofs.Common.{◌≡◌, ◌==◌, ◌&&◌, ◌%◌, ℕ, suc, ◌+◌, ◌-◌, ◌*◌, ◌^◌, ◌<◌, ◌≤◌, List, [], ◌∷◌, length, refl, sym, ap, subst, ◌∙◌, arith, inl, inr}
+use Rattle.std.proofs.Common.{◌≡◌, ◌==◌, ◌&&◌, ℕ, suc, ◌+◌, ◌-◌, ◌*◌, ◌^◌, ◌<◌, ◌≤◌, List, [], ◌∷◌, length, refl, sym, ap, subst, ◌∙◌, arith, inl, inr}
 use Rattle.std.proofs.lemmas.Bool.{cases_lt}
 use Rattle.std.proofs.lemmas.Map.Lookups.{exact_bytes, exact_unsigned}
 use Rattle.std.proofs.Math.Nat.{mul-le-mul_right, pow-suc}
-use Rattle.std.specs.List.{AllByRecursion}
-use Rattle.std.specs.Prelude.{Option, Some, None, IfSome, unwrap_or}
 use Rattle.std.specs.Ordering.{nat_cmp, ordering_then}
 use Rattle.std.specs.Cmp.{nat_cmp_is}
 use Rattle.std.specs.Cmp.Lexicographic.{slice_cmp, pointwise}
@@ -13,12 +11,10 @@ use Rattle.std.specs.Prelude.{nat_eq}
 use Rattle.std.proofs.lemmas.Bool.Decides.{Decides-like, Decides-and, Decides-eqb}
 use Rattle.std.specs.declared.cmp.Ordering.{Ordering}
 use Rattle.std.specs.declared.cmp.Ordering.TheVariants.{Less, Equal, Greater}
-use Rattle.of_match.specs.declared.fields.Fields.{Fields}
 use Rattle.of_match.specs.declared.flow_match.Match.{Match}
 use Rattle.of_match.specs.declared.key.Key.{Key}
-use Rattle.of_match.specs.Fields.{fields_of, bytes_of, IsFields}
-use Rattle.of_match.specs.FieldsLaws.{fields_within}
-use Rattle.of_match.specs.MatchLaws.{bytes-injective, match_eq-Decides}
+use Rattle.of_match.specs.FieldsLaws.{AreBytes}
+use Rattle.of_match.specs.MatchLaws.{bytes-injective, match_eq-Decides, match-length, match-AreBytes}
 use Rattle.of_match.specs.Key.{key_cmp, number, place, IsKey}
 
 -- ---- The order of numbers in a base.
@@ -58,9 +54,6 @@ digits-cmp p q m n base hm hn =
 
 -- ---- The bytes of a match.
 
-abbrev AreBytes : List ℕ → Type 0
-AreBytes bytes = AllByRecursion (λ b. b < 256) bytes
-
 number-lt : (bytes : List ℕ) → AreBytes bytes → number bytes < 256 ^ length bytes
 unfolding number
 number-lt [] h = omega arith
@@ -78,30 +71,6 @@ number-cmp (x ∷ xs) (y ∷ ys) e hx hy =
     ap (λ k. nat_cmp (x * 256 ^ length xs + number xs) (y * 256 ^ k + number ys)) (sym same)
     ∙ digits-cmp x y (number xs) (number ys) (256 ^ length xs) (number-lt xs hx.1) (rw same (number-lt ys hy.1))
     ∙ ap (ordering_then (nat_cmp x y)) (number-cmp xs ys same hx.1 hy.1)
-
-low : (n : ℕ) → n % 256 < 256
-low n = omega arith
-
-byte-lt : (o : Option ℕ) → IfSome o (λ n. n < 2 ^ 8) → unwrap_or o 0 < 256
-byte-lt None h = omega arith
-byte-lt (Some n) h = h
-
--- the bytes of fields are 40, each below 256
-bytes_of-length : (f : Fields) → length (bytes_of f) ≡ 40
-unfolding bytes_of
-bytes_of-length f = refl
-
-bytes_of-AreBytes : (f : Fields) → IsFields f → AreBytes (bytes_of f)
-unfolding bytes_of
-bytes_of-AreBytes f is =
-    let z : 0 < 256 = omega arith in
-    (low _, (low _, (low _, (low _, (low _, (low _, (low _, (low _, (low _, (low _, (low _, (low _, (low _, (low _, (low _, (low _, (low _, (low _, (low _, (low _, (byte-lt f.dl_vlan_pcp is.dl_vlan_pcp, (z, (low _, (low _, (byte-lt f.nw_tos is.nw_tos, (byte-lt f.nw_proto is.nw_proto, (z, (z, (low _, (low _, (low _, (low _, (low _, (low _, (low _, (low _, (low _, (low _, (low _, (low _, tt))))))))))))))))))))))))))))))))))))))))
-
-match-length : (m : Match) → length m.bytes ≡ 40
-match-length m = ap length (sym m.normal) ∙ bytes_of-length (fields_of m.bytes)
-
-match-AreBytes : (m : Match) → AreBytes m.bytes
-match-AreBytes m = subst AreBytes m.normal (bytes_of-AreBytes (fields_of m.bytes) (fields_within m.bytes))
 
 match-number-lt : (m : Match) → number m.bytes < 256 ^ 40
 match-number-lt m = subst (λ k. number m.bytes < 256 ^ k) (match-length m) (number-lt m.bytes (match-AreBytes m))

@@ -1,5 +1,5 @@
 -- Matches with the same bytes, or the same fields, are one match; what is decoded of a match's bytes is that match.
-use Rattle.std.proofs.Common.{◌≡◌, ℕ, List, sym, ap, ◌∙◌}
+use Rattle.std.proofs.Common.{◌≡◌, ℕ, List, length, subst, sym, ap, ◌∙◌}
 use Rattle.std.proofs.Props.{props}
 use Rattle.std.proofs.lemmas.Bool.Decides.{Decides-like}
 use Rattle.std.specs.Prelude.{nat_eq}
@@ -9,7 +9,7 @@ use mathlib.Core.HLevel.{is_prop→PathP}
 use Rattle.of_match.specs.declared.fields.Fields.{Fields}
 use Rattle.of_match.specs.declared.flow_match.Match.{Match}
 use Rattle.of_match.specs.Fields.{fields_of, bytes_of, normal_fields, IsNormal, IsFields, IsWithin, HasPrefixes}
-use Rattle.of_match.specs.FieldsLaws.{fields_of-bytes_of, fields_of-bytes_of_any, fields_within}
+use Rattle.of_match.specs.FieldsLaws.{fields_of-bytes_of, fields_of-bytes_of_any, fields_within, AreBytes, bytes_of-length, bytes_of-AreBytes}
 use Rattle.of_match.specs.Match.{match_of, fields_in}
 
 IsNormal-prop : (bytes : List ℕ) → IsProp (IsNormal bytes)
@@ -55,3 +55,10 @@ fields_in-match_of-normal f w h = fields_in-match_of (bytes_of f) ∙ fields_of-
 -- what `==` of matches answers
 pub match_eq-Decides : (m n : Match) → Decides (pointwise nat_eq m.bytes n.bytes) (m ≡ n)
 match_eq-Decides m n = Decides-like (pointwise nat_eq m.bytes n.bytes) (bytes-injective m n) (ap (λ (o : Match). o.bytes)) (bytes_decides m.bytes n.bytes)
+
+-- what a match keeps are 40 bytes
+pub match-length : (m : Match) → length m.bytes ≡ 40
+match-length m = ap length (sym m.normal) ∙ bytes_of-length (fields_of m.bytes)
+
+pub match-AreBytes : (m : Match) → AreBytes m.bytes
+match-AreBytes m = subst AreBytes m.normal (bytes_of-AreBytes (fields_of m.bytes) (fields_within m.bytes))
