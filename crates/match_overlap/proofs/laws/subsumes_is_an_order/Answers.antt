@@ -1,0 +1,5 @@
+use Rattle.match_overlap.specs.RelationsLaws.{Subsumes-refl, Subsumes-trans, Subsumes-antisym}
+use Rattle.match_overlap.proofs.laws.subsumes_is_an_order.Goals as goal
+
+pub returns : goal.returns
+returns c = record { reflexive = Subsumes-refl; transitive = Subsumes-trans; antisymmetric = Subsumes-antisym }

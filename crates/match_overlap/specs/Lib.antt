@@ -1,0 +1,5 @@
+pub mod Fieldwise
+pub mod Relations
+pub mod ValueLaws
+pub mod PrefixLaws
+pub mod RelationsLaws
