@@ -1,0 +1,6 @@
+pub mod Session
+pub mod Words
+pub mod Messages
+pub mod Grammar
+pub mod Reference
+pub mod Report
