@@ -1,0 +1,4 @@
+pub mod Gives
+pub mod View
+pub mod Journal
+pub mod JournalLaws

@@ -1,0 +1,22 @@
+//! The text of an input read as a session, and the plain world in which a session runs: one table,
+//! and a journal of what was asked, changed and answered.
+#![tactic(auto)]
+
+mod addition;
+mod change;
+mod error;
+mod input;
+mod reply;
+mod session;
+mod switch;
+mod words;
+mod world;
+
+#[cfg(test)]
+mod tests;
+
+pub use change::{PlainAct, PlainChange};
+pub use error::SessionError;
+pub use input::{MOST_INPUT, read_session};
+pub use session::{Reply, Session, Switch};
+pub use world::PlainWorld;

@@ -1,0 +1,112 @@
+//! The line that says what the application gives in its turn: `reply app STEP ..`.
+
+ghost use Rattle.std.specs.Prelude.{◌≡◌, ◌≤◌, true, length, map};
+ghost use Rattle.lego_model.specs.Grammar.{turn_of as turn_in, reply_of as reply_in, bounded as bounded_in, are_bounded as are_bounded_in, are_distinct as distinct_in, ending_of as ending_in, has_key_of as has_key_in};
+ghost use Rattle.session_text.specs.Gives.{Gives};
+ghost use Rattle.session_text.specs.View.{view_switch, view_script, view_reply};
+
+use crate::addition::entry_added;
+use crate::error::SessionError;
+use crate::session::{Reply, Script, Switch};
+use crate::words::is;
+use flow_table::PlainEntry;
+use lego_model::Ending;
+use std::alloc::Global;
+
+/// How many messages a turn has at most.
+const MOST_MESSAGES: usize = 999;
+
+/// The turn that the steps spell: messages, and then `done`, `closed` or nothing.
+fn turn_of(alloc: Global, switch: &Switch, steps: &[&[u8]]) -> Result<Script, SessionError>
+    ensures { Gives (view_script switch.now.dpid) result (turn_in (view_switch switch.now) (map (λ w. w.now) steps.now)) }
+{
+    let mut entries = Vec::new(alloc);
+    let mut rest = steps;
+    while let [step, more @ ..] = rest {
+        if let Some(ending) = ending_of(step) {
+            if !more.is_empty() {
+                return Err(SessionError::BadInput);
+            }
+            return Ok(Script { entries, ending });
+        }
+        entries.push(entry_added(alloc, switch, step)?)?;
+        rest = more;
+    }
+    Ok(Script {
+        entries,
+        ending: Ending::Closed,
+    })
+}
+
+/// The end of a turn that a step spells.
+#[tactic(auto, unfolding(lego_model::specs::Grammar::ending_of))]
+fn ending_of(step: &[u8]) -> Option<Ending>
+    ensures { result ≡ ending_in step.now }
+{
+    if is(step, b"done") {
+        Some(Ending::Done)
+    } else if is(step, b"closed") {
+        Some(Ending::Closed)
+    } else {
+        None
+    }
+}
+
+/// Whether one of the entries has the key of this one.
+fn has_key_of(entries: &[PlainEntry], entry: &PlainEntry) -> bool
+    ensures { result ≡ has_key_in entry.now entries.now }
+{
+    entries.iter().any(|other| other.has_key(&entry.key))
+}
+
+/// Whether no two entries have one key.
+fn are_distinct(entries: &[PlainEntry]) -> bool
+    ensures { result ≡ distinct_in entries.now }
+{
+    let mut rest = entries;
+    while let [entry, more @ ..] = rest {
+        if has_key_of(more, entry) {
+            return false;
+        }
+        rest = more;
+    }
+    true
+}
+
+/// The turn that the words of a line spell.
+#[tactic(auto, unfolding(lego_model::specs::Grammar::reply_of))]
+pub fn reply_of(alloc: Global, switch: &Switch, words: &[&[u8]]) -> Result<Reply, SessionError>
+    ensures { Gives (view_reply switch.now.dpid) result (reply_in (view_switch switch.now) (map (λ w. w.now) words.now)) }
+{
+    match words {
+        [first, app, steps @ ..]
+            if is(first, b"reply") && is(app, b"app") && !steps.is_empty() =>
+        {
+            bounded(switch, turn_of(alloc, switch, steps)?)
+        }
+        _ => Err(SessionError::BadInput),
+    }
+}
+
+/// Whether there are at most 999 entries, with different keys, and no more than the switch has room for.
+#[tactic(auto, unfolding(lego_model::specs::Grammar::are_bounded))]
+fn are_bounded(capacity: u32, entries: &[PlainEntry]) -> bool
+    ensures value { result ≡ are_bounded_in capacity entries.now }
+    ensures distinct { result ≡ true → distinct_in entries.now ≡ true }
+    ensures few { result ≡ true → length entries.now ≤ 999 }
+{
+    let count = entries.len();
+    count <= MOST_MESSAGES && count <= capacity as usize && are_distinct(entries)
+}
+
+/// The turn, where its entries are few enough and have different keys.
+#[tactic(auto, using(crate::proofs::Entries::entries_of_additions), unfolding(lego_model::specs::Grammar::bounded))]
+fn bounded(switch: &Switch, script: Script) -> Result<Reply, SessionError>
+    ensures { Gives (view_reply switch.now.dpid) result (bounded_in (view_switch switch.now) (view_script switch.now.dpid script)) }
+{
+    let Script { entries, ending } = script;
+    if !are_bounded(switch.capacity, &entries) {
+        return Err(SessionError::BadInput);
+    }
+    Ok(Reply { entries, ending })
+}

@@ -1,0 +1,112 @@
+use super::*;
+use flow_table::PlainEntry;
+use lego_model::Ending;
+use of_match::{Key, Match};
+use std::test::Fail;
+
+/// One message, which adds the entry `port_1`, and `done`.
+const DONE: &[u8] = b"---\nsession 1\nswitch 1 4 1,2\nreply app m:1:\
+    010e005000000000003820fe0001000000000000000000000000000000000000000000000000000000000000\
+    0000000000000000000000000000000000000064ffffffffffff00000000000800020000 done\njoin 1\n";
+
+/// The same with `closed`.
+const CLOSED: &[u8] = b"---\nsession 1\nswitch 1 4 1,2\nreply app m:1:\
+    010e005000000000003820fe0001000000000000000000000000000000000000000000000000000000000000\
+    0000000000000000000000000000000000000064ffffffffffff00000000000800020000 closed\njoin 1\n";
+
+/// The same as `DONE` with a line behind the join.
+const ONE_LINE_MORE: &[u8] = b"---\nsession 1\nswitch 1 4 1,2\nreply app m:1:\
+    010e005000000000003820fe0001000000000000000000000000000000000000000000000000000000000000\
+    0000000000000000000000000000000000000064ffffffffffff00000000000800020000 done\njoin 1\nat 5\n";
+
+/// The same message twice: the second sets bits that the match ignores, and so has the same key.
+const ONE_KEY_TWICE: &[u8] = b"---\nsession 1\nswitch 1 4 1,2\nreply app m:1:\
+    010e005000000000003820fe0001000000000000000000000000000000000000000000000000000000000000\
+    0000000000000000000000000000000000000064ffffffffffff00000000000800020000 m:1:\
+    010E005000000000FFFFFFFE0001A0A0A0A0A0A0A0A0A0A0A0A0A0A0A0A0A0A0A0A0A0A0A0A0A0A0A0A0A0A0\
+    0000000000000000000000000000000000000064FFFFFFFFFFFF00000000000800010000 done\njoin 1\n";
+
+/// The entry that sends what comes in by port 1 to port 2, at priority 100.
+fn port_1() -> PlainEntry {
+    let mut bytes = [0; 40];
+    bytes[1] = 0x38;
+    bytes[2] = 0x20;
+    bytes[3] = 0xfe;
+    bytes[5] = 1;
+    PlainEntry {
+        key: Key {
+            priority: 100,
+            matching: Match::decode(&bytes),
+        },
+        cookie: 0,
+        output: [0, 0, 0, 8, 0, 2, 0, 0],
+    }
+}
+
+#[test]
+fn reads_sessions(rt: HostRuntime) -> Result<(), Fail> {
+    let alloc = rt.alloc();
+    for (input, ending) in [(DONE, Ending::Done), (CLOSED, Ending::Closed)] {
+        let session = read_session(alloc, input)?.ok_or("no session")?;
+        assert_eq!(rt; session.switch.dpid, 1);
+        assert_eq!(rt; session.switch.capacity, 4);
+        assert!(rt; session.switch.ports.as_slice() == [1, 2].as_slice());
+        assert!(rt; session.joins);
+        let reply = session.reply.ok_or("no reply")?;
+        assert_eq!(rt; reply.ending, ending);
+        assert!(rt; reply.entries.as_slice() == [port_1()].as_slice());
+    }
+    Ok(())
+}
+
+#[test]
+fn takes_just_the_grammar(rt: HostRuntime) -> Result<(), Fail> {
+    let cases: [(&[u8], Result<bool, SessionError>); 21] = [
+        (b"", Err(SessionError::BadInput)),
+        (b"---", Ok(false)),
+        (b"---\n", Ok(false)),
+        (b"---\n\n", Err(SessionError::BadInput)),
+        (b"---\nsession 1\n", Err(SessionError::BadInput)),
+        (b"---\r\nsession 1\r\nswitch 1 4 -\r\n", Ok(true)),
+        (b"---\nsession  1\nswitch 1 4 -\n", Err(SessionError::BadInput)),
+        (b"---\nsession 1\nswitch 18446744073709551615 4096 1,65280", Ok(true)),
+        (b"---\nsession 1\nswitch 18446744073709551616 4096 -", Err(SessionError::BadInput)),
+        (b"---\nsession 1\nswitch 1 4097 -", Err(SessionError::BadInput)),
+        (b"---\nsession 1\nswitch 01 4 -", Err(SessionError::BadInput)),
+        (b"---\nsession 1\nswitch 1 4 2,1", Err(SessionError::BadInput)),
+        (b"---\nsession 1\nswitch 1 4 65281", Err(SessionError::BadInput)),
+        (b"---\nsession 1\nswitch 1 4 1\nreply app done\n", Ok(true)),
+        (b"---\nsession 1\nswitch 1 4 1\nreply app\n", Err(SessionError::BadInput)),
+        (b"---\nsession 1\nswitch 1 4 1\njoin 1\nreply app done\n", Err(SessionError::BadInput)),
+        (b"---\nsession 1\nswitch 1 4 1\njoin 2\n", Err(SessionError::BadInput)),
+        (b"---\nsession 1\nswitch 1 4 1\njoin 1\0\n", Err(SessionError::BadInput)),
+        (DONE, Ok(true)),
+        (ONE_LINE_MORE, Err(SessionError::BadInput)),
+        (ONE_KEY_TWICE, Err(SessionError::BadInput)),
+    ];
+    for (input, want) in cases {
+        let read = read_session(rt.alloc(), input).map(|session| session.is_some());
+        assert_eq!(rt; read, want, "{}", input.escape_ascii());
+    }
+    Ok(())
+}
+
+#[test]
+fn a_world_keeps_a_journal(rt: HostRuntime) -> Result<(), Fail> {
+    let entry = port_1();
+    let mut world = PlainWorld::new(rt.alloc())?;
+    world.asked(1)?;
+    assert!(rt; world.entries().is_empty());
+    world.change(7, PlainChange::Add(entry))?;
+    world.answered(1)?;
+    match world.entries() {
+        [only] => {
+            assert!(rt; *only == entry);
+            let key = only.key;
+            world.change(7, PlainChange::Remove(key))?;
+        }
+        _ => return Err(Fail::from("not one entry")),
+    }
+    assert!(rt; world.entries().is_empty());
+    Ok(())
+}

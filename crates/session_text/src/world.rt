@@ -1,0 +1,133 @@
+//! A plain world: the flow table of one switch, and a journal.
+
+ghost use Rattle.std.specs.Prelude.{◌≡◌, ◌+◌, ◌<◌, ◌≤◌, [], ◌∷◌, ◌++◌, vec_len, vec_capacity, IfOk, OnOk, OnErr, IsOk};
+ghost use Rattle.session_text.specs.Journal.{table_of, CanChange, IsRemoval, LeavesTable};
+
+use crate::change::{PlainAct, PlainChange};
+use flow_table::{PlainEntry, Table};
+use of_match::Key;
+use std::alloc::{AllocError, Global};
+use std::marker::Model;
+
+/// How many entries the table has at most.
+const ROOM: usize = 4_096;
+
+/// The flow table of one switch, with at most 4,096 entries, and a journal of all that was asked, changed
+/// and answered.
+///
+/// The world is seen as its journal: the table is what the changes of the journal make of an empty one.
+#[derive(Debug, Drop)]
+pub struct PlainWorld {
+    table: Table,
+    journal: Vec<PlainAct>,
+}
+
+impl Model for PlainWorld {
+    ghost use Rattle.std.specs.Prelude.{List, vec_len, vec_capacity};
+    ghost use Rattle.session_text.specs.declared.change.PlainAct.{PlainAct};
+    ghost use Rattle.session_text.specs.Journal.{Keeps};
+
+    ghost Value = { List PlainAct };
+
+    ghost view = { λ w. w.journal.items };
+
+    ghost invariant = { λ w. Keeps w.table w.journal.items (vec_len w.journal) (vec_capacity w.journal) };
+}
+
+impl PlainWorld {
+    /// A world whose table and journal are empty.
+    pub fn new(alloc: Global) -> Result<PlainWorld, AllocError>
+        ensures { IfOk result (λ w. w ≡ []) }
+    {
+        Ok(PlainWorld {
+            table: Table::with_room(alloc, ROOM)?,
+            journal: Vec::new(alloc),
+        })
+    }
+
+    /// The entries of the table, in key order.
+    pub fn entries(&self) -> &[PlainEntry]
+        ensures { result.now ≡ table_of self.now }
+    {
+        self.table.entries()
+    }
+
+    /// Notes that the k-th message of a turn, counted from 1, is taken up. Want of memory changes nothing.
+    pub fn asked(&mut self, k: u64) -> Result<(), AllocError>
+        ensures ok { OnOk result (self.new ≡ self.old ++ PlainAct.Asked k ∷ []) }
+        ensures err { OnErr result (self.new ≡ self.old) }
+    {
+        self.note(PlainAct::Asked(k))
+    }
+
+    /// Notes that the k-th message of a turn, counted from 1, is answered. Want of memory changes nothing.
+    pub fn answered(&mut self, k: u64) -> Result<(), AllocError>
+        ensures ok { OnOk result (self.new ≡ self.old ++ PlainAct.Answered k ∷ []) }
+        ensures err { OnErr result (self.new ≡ self.old) }
+    {
+        self.note(PlainAct::Answered(k))
+    }
+
+    /// Changes the table, and notes it as a change of the switch with this datapath id.
+    ///
+    /// An addition needs a new key and a table of fewer than 4,096 entries; it makes room in the journal for
+    /// its removal too. A removal needs the key and cannot fail. Want of memory changes nothing.
+    pub fn change(&mut self, dpid: u64, change: PlainChange) -> Result<(), AllocError>
+        requires { CanChange self.old change }
+        ensures ok { OnOk result (self.new ≡ self.old ++ PlainAct.Changed dpid change ∷ []) }
+        ensures err { OnErr result (self.new ≡ self.old) }
+        ensures removes { IsRemoval change → IsOk result }
+    {
+        match change {
+            PlainChange::Add(entry) => self.add(dpid, entry),
+            PlainChange::Remove(key) => {
+                self.remove(dpid, key);
+                Ok(())
+            }
+        }
+    }
+
+    /// Adds an entry, and makes room in the journal for its removal.
+    fn add(&mut self, dpid: u64, entry: PlainEntry) -> Result<(), AllocError>
+        requires { CanChange self.old (PlainChange.Add entry) }
+        ensures ok { OnOk result (self.new ≡ self.old ++ PlainAct.Changed dpid (PlainChange.Add entry) ∷ []) }
+        ensures err { OnErr result (self.new ≡ self.old) }
+    {
+        self.journal.reserve(self.table.len() + 2)?;
+        self.table.put(entry).unwrap();
+        let act = PlainAct::Changed(dpid, PlainChange::Add(entry));
+        push_in_room(&mut self.journal, act);
+        Ok(())
+    }
+
+    /// Removes the entry of a key. Its place in the journal was made when it was added.
+    fn remove(&mut self, dpid: u64, key: Key)
+        requires { CanChange self.old (PlainChange.Remove key) }
+        ensures { self.new ≡ self.old ++ PlainAct.Changed dpid (PlainChange.Remove key) ∷ [] }
+    {
+        self.table.remove(&key);
+        let act = PlainAct::Changed(dpid, PlainChange::Remove(key));
+        push_in_room(&mut self.journal, act);
+    }
+
+    /// Notes an act that does not move the table.
+    fn note(&mut self, act: PlainAct) -> Result<(), AllocError>
+        requires { LeavesTable act }
+        ensures ok { OnOk result (self.new ≡ self.old ++ act ∷ []) }
+        ensures err { OnErr result (self.new ≡ self.old) }
+    {
+        self.journal.reserve(self.table.len() + 1)?;
+        push_in_room(&mut self.journal, act);
+        Ok(())
+    }
+}
+
+/// Appends an act where there is room for it.
+fn push_in_room(journal: &mut Vec<PlainAct>, act: PlainAct)
+    requires { vec_len journal.old < vec_capacity journal.old }
+    ensures items { journal.new.items ≡ journal.old.items ++ act ∷ [] }
+    ensures len { vec_len journal.new ≡ vec_len journal.old + 1 }
+    ensures capacity { vec_capacity journal.old ≤ vec_capacity journal.new }
+{
+    journal.push(act).unwrap();
+}
