@@ -1,0 +1,4 @@
+pub mod Turn
+pub mod Idle
+pub mod Stops
+pub mod Headline
