@@ -50,10 +50,10 @@ ascends-with_entry (f ∷ fs) e least h le =
     elim (cases_lt (place_of e) (place_of f)) [
       | inl lt ↦ rw (with_entry-before e f fs lt) (le, (omega arith, h.1))
       | inr ge ↦ elim (cases_lt (place_of f) (place_of e)) [
-          | inl gt ↦ rw (with_entry-after e f fs gt) (h.0, ascends-with_entry fs e (place_of f + 1) h.1 (omega arith))
-          | inr eq ↦ let same : place_of e ≡ place_of f = omega arith in
-              rw (with_entry-same e f fs same) (le, ascends-less fs (place_of e + 1) (place_of f + 1) h.1 (omega arith))
-        ]
+        | inl gt ↦ rw (with_entry-after e f fs gt) (h.0, ascends-with_entry fs e (place_of f + 1) h.1 (omega arith))
+        | inr eq ↦ let same : place_of e ≡ place_of f = omega arith in
+            rw (with_entry-same e f fs same) (le, ascends-less fs (place_of e + 1) (place_of f + 1) h.1 (omega arith))
+      ]
     ]
 
 pub IsTable-with_entry : (es : List PlainEntry) (e : PlainEntry) → IsTable es → IsTable (with_entry e es)
@@ -65,9 +65,9 @@ ascends-without_key (f ∷ fs) k least h =
     elim (cases_lt (place_of f) (place k)) [
       | inl lt ↦ rw (without_key-other k f fs (omega arith)) (h.0, ascends-without_key fs k (place_of f + 1) h.1)
       | inr ge ↦ elim (cases_lt (place k) (place_of f)) [
-          | inl gt ↦ rw (without_key-other k f fs (omega arith)) (h.0, ascends-without_key fs k (place_of f + 1) h.1)
-          | inr le ↦ rw (without_key-same k f fs (omega arith)) (ascends-less (without_key k fs) least (place_of f + 1) (ascends-without_key fs k (place_of f + 1) h.1) (omega (arith, h.0)))
-        ]
+        | inl gt ↦ rw (without_key-other k f fs (omega arith)) (h.0, ascends-without_key fs k (place_of f + 1) h.1)
+        | inr le ↦ rw (without_key-same k f fs (omega arith)) (ascends-less (without_key k fs) least (place_of f + 1) (ascends-without_key fs k (place_of f + 1) h.1) (omega (arith, h.0)))
+      ]
     ]
 
 pub IsTable-without_key : (es : List PlainEntry) (k : Key) → IsTable es → IsTable (without_key k es)
@@ -133,9 +133,9 @@ length-with_entry-le (f ∷ fs) e =
     elim (cases_lt (place_of e) (place_of f)) [
       | inl lt ↦ rw (with_entry-before e f fs lt) (omega arith)
       | inr ge ↦ elim (cases_lt (place_of f) (place_of e)) [
-          | inl gt ↦ rw (with_entry-after e f fs gt) (omega (arith, length-with_entry-le fs e))
-          | inr le ↦ let same : place_of e ≡ place_of f = omega arith in rw (with_entry-same e f fs same) (omega arith)
-        ]
+        | inl gt ↦ rw (with_entry-after e f fs gt) (omega (arith, length-with_entry-le fs e))
+        | inr le ↦ let same : place_of e ≡ place_of f = omega arith in rw (with_entry-same e f fs same) (omega arith)
+      ]
     ]
 
 pub length-without_key-le : (es : List PlainEntry) (k : Key) → length (without_key k es) ≤ length es
@@ -178,9 +178,9 @@ entry_at-with_entry-same (f ∷ fs) e =
     elim (cases_lt (place_of e) (place_of f)) [
       | inl lt ↦ rw (with_entry-before e f fs lt) (entry_at-same e.key e (f ∷ fs) refl)
       | inr ge ↦ elim (cases_lt (place_of f) (place_of e)) [
-          | inl gt ↦ rw (with_entry-after e f fs gt) (entry_at-other e.key f (with_entry e fs) (omega arith) ∙ entry_at-with_entry-same fs e)
-          | inr le ↦ let same : place_of e ≡ place_of f = omega arith in rw (with_entry-same e f fs same) (entry_at-same e.key e fs refl)
-        ]
+        | inl gt ↦ rw (with_entry-after e f fs gt) (entry_at-other e.key f (with_entry e fs) (omega arith) ∙ entry_at-with_entry-same fs e)
+        | inr le ↦ let same : place_of e ≡ place_of f = omega arith in rw (with_entry-same e f fs same) (entry_at-same e.key e fs refl)
+      ]
     ]
 
 pub entry_at-with_entry-other : (es : List PlainEntry) (e : PlainEntry) (k : Key) → place_of e ≢ place k → entry_at k (with_entry e es) ≡ entry_at k es
@@ -189,14 +189,14 @@ entry_at-with_entry-other (f ∷ fs) e k other =
     elim (cases_lt (place_of e) (place_of f)) [
       | inl lt ↦ rw (with_entry-before e f fs lt) (entry_at-other k e (f ∷ fs) other)
       | inr ge ↦ elim (cases_lt (place_of f) (place_of e)) [
-          | inl gt ↦ rw (with_entry-after e f fs gt)
-              (elim (cases_eq (place_of f) (place k)) [
-                | inl here ↦ entry_at-same k f (with_entry e fs) here ∙ sym (entry_at-same k f fs here)
-                | inr there ↦ entry_at-other k f (with_entry e fs) there ∙ entry_at-with_entry-other fs e k other ∙ sym (entry_at-other k f fs there)
-              ])
-          | inr le ↦ let same : place_of e ≡ place_of f = omega arith in
-              rw (with_entry-same e f fs same) (entry_at-other k e fs other ∙ sym (entry_at-other k f fs (omega arith)))
-        ]
+        | inl gt ↦ rw (with_entry-after e f fs gt)
+            (elim (cases_eq (place_of f) (place k)) [
+              | inl here ↦ entry_at-same k f (with_entry e fs) here ∙ sym (entry_at-same k f fs here)
+              | inr there ↦ entry_at-other k f (with_entry e fs) there ∙ entry_at-with_entry-other fs e k other ∙ sym (entry_at-other k f fs there)
+            ])
+        | inr le ↦ let same : place_of e ≡ place_of f = omega arith in
+            rw (with_entry-same e f fs same) (entry_at-other k e fs other ∙ sym (entry_at-other k f fs (omega arith)))
+      ]
     ]
 
 -- a key that is not there
@@ -215,9 +215,9 @@ without_key-with_entry (f ∷ fs) e new =
     elim (cases_lt (place_of e) (place_of f)) [
       | inl lt ↦ rw (with_entry-before e f fs lt) (without_key-same e.key e (f ∷ fs) refl ∙ without_key-new (f ∷ fs) e.key new)
       | inr ge ↦ elim (cases_lt (place_of f) (place_of e)) [
-          | inl gt ↦ rw (with_entry-after e f fs gt)
-              (without_key-other e.key f (with_entry e fs) (omega arith)
-              ∙ ap (λ xs. f ∷ xs) (without_key-with_entry fs e (sym (entry_at-other e.key f fs (omega arith)) ∙ new)))
-          | inr le ↦ let found = entry_at-same e.key f fs (omega arith) in absurd cc
-        ]
+        | inl gt ↦ rw (with_entry-after e f fs gt)
+            (without_key-other e.key f (with_entry e fs) (omega arith)
+            ∙ ap (λ xs. f ∷ xs) (without_key-with_entry fs e (sym (entry_at-other e.key f fs (omega arith)) ∙ new)))
+        | inr le ↦ let found = entry_at-same e.key f fs (omega arith) in absurd cc
+      ]
     ]

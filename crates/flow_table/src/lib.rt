@@ -3,7 +3,6 @@
 
 mod entry;
 mod table;
-
 #[cfg(test)]
 mod tests;
 

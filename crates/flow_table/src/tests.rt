@@ -24,7 +24,11 @@ fn key(priority: u16, wildcards: u8, in_port: u8) -> Key {
 
 /// The cookies of the entries, in their order.
 fn cookies(alloc: Global, table: &Table) -> Result<Vec<u64>, AllocError> {
-    table.entries().iter().map(|entry| entry.cookie).collect(alloc)
+    table
+        .entries()
+        .iter()
+        .map(|entry| entry.cookie)
+        .collect(alloc)
 }
 
 #[test]

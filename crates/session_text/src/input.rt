@@ -114,11 +114,7 @@ fn said(
 
 /// The session of a switch, from the lines behind its own.
 #[tactic(auto, unfolding(lego_model::specs::Grammar::scripted))]
-fn scripted(
-    alloc: Global,
-    switch: Switch,
-    lines: &mut Lines<'_>,
-) -> Result<Session, SessionError>
+fn scripted(alloc: Global, switch: Switch, lines: &mut Lines<'_>) -> Result<Session, SessionError>
     ensures { Gives view_session result (scripted_in (view_switch switch) lines.old) }
 {
     match next_line(lines)? {

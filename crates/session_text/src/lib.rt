@@ -9,11 +9,10 @@ mod input;
 mod reply;
 mod session;
 mod switch;
-mod words;
-mod world;
-
 #[cfg(test)]
 mod tests;
+mod words;
+mod world;
 
 pub use change::{PlainAct, PlainChange};
 pub use error::SessionError;

@@ -79,9 +79,7 @@ pub fn reply_of(alloc: Global, switch: &Switch, words: &[&[u8]]) -> Result<Reply
     ensures { Gives (view_reply switch.now.dpid) result (reply_in (view_switch switch.now) (map (λ w. w.now) words.now)) }
 {
     match words {
-        [first, app, steps @ ..]
-            if is(first, b"reply") && is(app, b"app") && !steps.is_empty() =>
-        {
+        [first, app, steps @ ..] if is(first, b"reply") && is(app, b"app") && !steps.is_empty() => {
             bounded(switch, turn_of(alloc, switch, steps)?)
         }
         _ => Err(SessionError::BadInput),

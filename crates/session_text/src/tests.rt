@@ -68,18 +68,51 @@ fn takes_just_the_grammar(rt: HostRuntime) -> Result<(), Fail> {
         (b"---\n\n", Err(SessionError::BadInput)),
         (b"---\nsession 1\n", Err(SessionError::BadInput)),
         (b"---\r\nsession 1\r\nswitch 1 4 -\r\n", Ok(true)),
-        (b"---\nsession  1\nswitch 1 4 -\n", Err(SessionError::BadInput)),
-        (b"---\nsession 1\nswitch 18446744073709551615 4096 1,65280", Ok(true)),
-        (b"---\nsession 1\nswitch 18446744073709551616 4096 -", Err(SessionError::BadInput)),
-        (b"---\nsession 1\nswitch 1 4097 -", Err(SessionError::BadInput)),
-        (b"---\nsession 1\nswitch 01 4 -", Err(SessionError::BadInput)),
-        (b"---\nsession 1\nswitch 1 4 2,1", Err(SessionError::BadInput)),
-        (b"---\nsession 1\nswitch 1 4 65281", Err(SessionError::BadInput)),
+        (
+            b"---\nsession  1\nswitch 1 4 -\n",
+            Err(SessionError::BadInput),
+        ),
+        (
+            b"---\nsession 1\nswitch 18446744073709551615 4096 1,65280",
+            Ok(true),
+        ),
+        (
+            b"---\nsession 1\nswitch 18446744073709551616 4096 -",
+            Err(SessionError::BadInput),
+        ),
+        (
+            b"---\nsession 1\nswitch 1 4097 -",
+            Err(SessionError::BadInput),
+        ),
+        (
+            b"---\nsession 1\nswitch 01 4 -",
+            Err(SessionError::BadInput),
+        ),
+        (
+            b"---\nsession 1\nswitch 1 4 2,1",
+            Err(SessionError::BadInput),
+        ),
+        (
+            b"---\nsession 1\nswitch 1 4 65281",
+            Err(SessionError::BadInput),
+        ),
         (b"---\nsession 1\nswitch 1 4 1\nreply app done\n", Ok(true)),
-        (b"---\nsession 1\nswitch 1 4 1\nreply app\n", Err(SessionError::BadInput)),
-        (b"---\nsession 1\nswitch 1 4 1\njoin 1\nreply app done\n", Err(SessionError::BadInput)),
-        (b"---\nsession 1\nswitch 1 4 1\njoin 2\n", Err(SessionError::BadInput)),
-        (b"---\nsession 1\nswitch 1 4 1\njoin 1\0\n", Err(SessionError::BadInput)),
+        (
+            b"---\nsession 1\nswitch 1 4 1\nreply app\n",
+            Err(SessionError::BadInput),
+        ),
+        (
+            b"---\nsession 1\nswitch 1 4 1\njoin 1\nreply app done\n",
+            Err(SessionError::BadInput),
+        ),
+        (
+            b"---\nsession 1\nswitch 1 4 1\njoin 2\n",
+            Err(SessionError::BadInput),
+        ),
+        (
+            b"---\nsession 1\nswitch 1 4 1\njoin 1\0\n",
+            Err(SessionError::BadInput),
+        ),
         (DONE, Ok(true)),
         (ONE_LINE_MORE, Err(SessionError::BadInput)),
         (ONE_KEY_TWICE, Err(SessionError::BadInput)),

@@ -33,9 +33,9 @@ less_than x y e =
     elim (cases_lt x y) [
       | inl lt ↦ lt
       | inr ge ↦ elim (cases_lt y x) [
-          | inl gt ↦ let other = nat_cmp_is x y Greater gt in absurd cc
-          | inr le ↦ let other = nat_cmp_is x y Equal (omega arith) in absurd cc
-        ]
+        | inl gt ↦ let other = nat_cmp_is x y Greater gt in absurd cc
+        | inr le ↦ let other = nat_cmp_is x y Equal (omega arith) in absurd cc
+      ]
     ]
 
 more_than : (x y : ℕ) → Greater ≡ nat_cmp x y → y < x
@@ -43,9 +43,9 @@ more_than x y e =
     elim (cases_lt y x) [
       | inl gt ↦ gt
       | inr ge ↦ elim (cases_lt x y) [
-          | inl lt ↦ let other = nat_cmp_is x y Less lt in absurd cc
-          | inr le ↦ let other = nat_cmp_is x y Equal (omega arith) in absurd cc
-        ]
+        | inl lt ↦ let other = nat_cmp_is x y Less lt in absurd cc
+        | inr le ↦ let other = nat_cmp_is x y Equal (omega arith) in absurd cc
+      ]
     ]
 
 same_as : (x y : ℕ) → Equal ≡ nat_cmp x y → x ≡ y
@@ -53,9 +53,9 @@ same_as x y e =
     elim (cases_lt x y) [
       | inl lt ↦ let other = nat_cmp_is x y Less lt in absurd cc
       | inr ge ↦ elim (cases_lt y x) [
-          | inl gt ↦ let other = nat_cmp_is x y Greater gt in absurd cc
-          | inr le ↦ omega arith
-        ]
+        | inl gt ↦ let other = nat_cmp_is x y Greater gt in absurd cc
+        | inr le ↦ omega arith
+      ]
     ]
 
 any_default : (es : List PlainEntry) (i : ℕ) (d e : PlainEntry) → i < length es → get_or es i d ≡ get_or es i e
@@ -69,8 +69,7 @@ place_at es i read within is e = ap place_of (any_default es i e read within ∙
 pub loop-low-preserved-in-Less : goal.loop-low-preserved-in-Less
 loop-low-preserved-in-Less c =
     let within : c.loop-low.low + (c.loop-low.high - c.loop-low.low) / 2 < length c.args.entries.now = omega arith in
-    let lt = less_than (place_of c.index-entries-middle.result) (place c.args.key.now) (sym c.in-Less.is ∙ c.compare.ensures) in
-    (
+    let lt = less_than (place_of c.index-entries-middle.result) (place c.args.key.now) (sym c.in-Less.is ∙ c.compare.ensures) in (
       omega arith,
       c.loop-low.invariant.1,
       below_middle _ _ _ _ _ c.requires c.loop-low.invariant.2 within (λ e. omega (arith, place_at _ _ _ within c.index-entries-middle.is e)),
@@ -79,8 +78,7 @@ loop-low-preserved-in-Less c =
 pub loop-low-preserved : goal.loop-low-preserved
 loop-low-preserved c =
     let within : c.loop-low.low + (c.loop-low.high - c.loop-low.low) / 2 < length c.args.entries.now = omega arith in
-    let gt = more_than (place_of c.index-entries-middle.result) (place c.args.key.now) (sym c.in-Greater.is ∙ c.compare.ensures) in
-    (
+    let gt = more_than (place_of c.index-entries-middle.result) (place c.args.key.now) (sym c.in-Greater.is ∙ c.compare.ensures) in (
       omega arith,
       omega arith,
       above_middle _ _ _ _ _ c.requires c.loop-low.invariant.2 within (λ e. omega (arith, place_at _ _ _ within c.index-entries-middle.is e)),

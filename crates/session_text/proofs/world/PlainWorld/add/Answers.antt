@@ -26,8 +26,8 @@ invariant_of-self-2 c =
     let grown = longer c.put.new.self.entries c.self.inside.table.entries (table_of c.args.self.now) c.args.entry put (c.self.invariant.table_is ∙ ap table_of c.self.view_is) c.requires.1 in
     record {
       table_is =
-        put ∙ ap (with_entry c.args.entry) c.self.invariant.table_is ∙ sym (table_of-push c.self.inside.journal.items act)
-        ∙ ap (λ journal. table_of (journal ++ act ∷ [])) (sym c.reserve.ensures.items) ∙ sym (ap table_of c.push_in_room.ensures.items);
+          put ∙ ap (with_entry c.args.entry) c.self.invariant.table_is ∙ sym (table_of-push c.self.inside.journal.items act)
+          ∙ ap (λ journal. table_of (journal ++ act ∷ [])) (sym c.reserve.ensures.items) ∙ sym (ap table_of c.push_in_room.ensures.items);
       most = grown.0;
       table_room = omega (arith, c.self.invariant.table_room, c.put.ensures.room);
       room = omega (arith, c.in_ok-reserve.ensures.ok, grown.1);

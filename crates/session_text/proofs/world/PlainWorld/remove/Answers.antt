@@ -26,8 +26,8 @@ invariant_of-self c =
     let less = shorter c.remove.new.self.entries c.self.inside.table.entries (table_of c.args.self.now) c.args.key c.remove.ensures.entries (c.self.invariant.table_is ∙ ap table_of c.self.view_is) c.requires in
     record {
       table_is =
-        c.remove.ensures.entries ∙ ap (without_key c.args.key) c.self.invariant.table_is ∙ sym (table_of-push c.self.inside.journal.items act)
-        ∙ sym (ap table_of c.push_in_room.ensures.items);
+          c.remove.ensures.entries ∙ ap (without_key c.args.key) c.self.invariant.table_is ∙ sym (table_of-push c.self.inside.journal.items act)
+          ∙ sym (ap table_of c.push_in_room.ensures.items);
       most = omega (arith, c.self.invariant.most, less);
       table_room = omega (arith, c.self.invariant.table_room, c.remove.ensures.room);
       room = omega (arith, c.self.invariant.room, less, c.push_in_room.ensures.len, c.push_in_room.ensures.capacity);
