@@ -1,6 +1,5 @@
 -- The journal of a plain world: what was asked, changed and answered, in order. The table is what its changes make of an empty one.
 use Rattle.std.specs.Prelude.{◌≡◌, ℕ, ◌+◌, ◌<◌, ◌≤◌, List, [], ◌∷◌, ◌++◌, length, fold, map, drop, reverse, None, IsSome}
-use Rattle.of_match.specs.declared.key.Key.{Key}
 use Rattle.flow_table.specs.declared.entry.PlainEntry.{PlainEntry}
 use Rattle.flow_table.specs.Table.{TableState, entry_at, with_entry, without_key}
 use Rattle.lego_model.specs.declared.turn.Addition.{Addition}

@@ -1,4 +1,5 @@
 use super::*;
+use crate::SessionError::BadInput;
 use flow_table::PlainEntry;
 use lego_model::Ending;
 use of_match::{Key, Match};
@@ -62,60 +63,36 @@ fn reads_sessions(rt: HostRuntime) -> Result<(), Fail> {
 #[test]
 fn takes_just_the_grammar(rt: HostRuntime) -> Result<(), Fail> {
     let cases: [(&[u8], Result<bool, SessionError>); 21] = [
-        (b"", Err(SessionError::BadInput)),
+        (b"", Err(BadInput)),
         (b"---", Ok(false)),
         (b"---\n", Ok(false)),
-        (b"---\n\n", Err(SessionError::BadInput)),
-        (b"---\nsession 1\n", Err(SessionError::BadInput)),
+        (b"---\n\n", Err(BadInput)),
+        (b"---\nsession 1\n", Err(BadInput)),
         (b"---\r\nsession 1\r\nswitch 1 4 -\r\n", Ok(true)),
-        (
-            b"---\nsession  1\nswitch 1 4 -\n",
-            Err(SessionError::BadInput),
-        ),
+        (b"---\nsession  1\nswitch 1 4 -\n", Err(BadInput)),
         (
             b"---\nsession 1\nswitch 18446744073709551615 4096 1,65280",
             Ok(true),
         ),
         (
             b"---\nsession 1\nswitch 18446744073709551616 4096 -",
-            Err(SessionError::BadInput),
+            Err(BadInput),
         ),
-        (
-            b"---\nsession 1\nswitch 1 4097 -",
-            Err(SessionError::BadInput),
-        ),
-        (
-            b"---\nsession 1\nswitch 01 4 -",
-            Err(SessionError::BadInput),
-        ),
-        (
-            b"---\nsession 1\nswitch 1 4 2,1",
-            Err(SessionError::BadInput),
-        ),
-        (
-            b"---\nsession 1\nswitch 1 4 65281",
-            Err(SessionError::BadInput),
-        ),
+        (b"---\nsession 1\nswitch 1 4097 -", Err(BadInput)),
+        (b"---\nsession 1\nswitch 01 4 -", Err(BadInput)),
+        (b"---\nsession 1\nswitch 1 4 2,1", Err(BadInput)),
+        (b"---\nsession 1\nswitch 1 4 65281", Err(BadInput)),
         (b"---\nsession 1\nswitch 1 4 1\nreply app done\n", Ok(true)),
-        (
-            b"---\nsession 1\nswitch 1 4 1\nreply app\n",
-            Err(SessionError::BadInput),
-        ),
+        (b"---\nsession 1\nswitch 1 4 1\nreply app\n", Err(BadInput)),
         (
             b"---\nsession 1\nswitch 1 4 1\njoin 1\nreply app done\n",
-            Err(SessionError::BadInput),
+            Err(BadInput),
         ),
-        (
-            b"---\nsession 1\nswitch 1 4 1\njoin 2\n",
-            Err(SessionError::BadInput),
-        ),
-        (
-            b"---\nsession 1\nswitch 1 4 1\njoin 1\0\n",
-            Err(SessionError::BadInput),
-        ),
+        (b"---\nsession 1\nswitch 1 4 1\njoin 2\n", Err(BadInput)),
+        (b"---\nsession 1\nswitch 1 4 1\njoin 1\0\n", Err(BadInput)),
         (DONE, Ok(true)),
-        (ONE_LINE_MORE, Err(SessionError::BadInput)),
-        (ONE_KEY_TWICE, Err(SessionError::BadInput)),
+        (ONE_LINE_MORE, Err(BadInput)),
+        (ONE_KEY_TWICE, Err(BadInput)),
     ];
     for (input, want) in cases {
         let read = read_session(rt.alloc(), input).map(|session| session.is_some());

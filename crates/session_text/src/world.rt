@@ -1,6 +1,7 @@
 //! A plain world: the flow table of one switch, and a journal.
 
 ghost use Rattle.std.specs.Prelude.{◌≡◌, ◌+◌, ◌<◌, ◌≤◌, [], ◌∷◌, ◌++◌, vec_len, vec_capacity, IfOk, OnOk, OnErr, IsOk};
+ghost use Rattle.flow_table.specs.Table.{IsTable};
 ghost use Rattle.session_text.specs.Journal.{table_of, CanChange, IsRemoval, LeavesTable};
 
 use crate::change::{PlainAct, PlainChange};
@@ -47,7 +48,8 @@ impl PlainWorld {
 
     /// The entries of the table, in key order.
     pub fn entries(&self) -> &[PlainEntry]
-        ensures { result.now ≡ table_of self.now }
+        ensures all { result.now ≡ table_of self.now }
+        ensures in_order { IsTable result.now }
     {
         self.table.entries()
     }

@@ -1,4 +1,4 @@
-use Rattle.std.proofs.Common.{◌≡◌, drop, true}
+use Rattle.std.proofs.Common.{◌≡◌, drop}
 use Rattle.lego_model.specs.Words.{value_after}
 use Rattle.session_text.proofs.words.value_of.Given as goal
 

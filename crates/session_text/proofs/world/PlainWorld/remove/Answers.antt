@@ -1,4 +1,4 @@
-use Rattle.std.proofs.Common.{◌≡◌, ◌+◌, ◌≤◌, List, IsSome, subst, sym, ap, ◌∙◌, ◌++◌, ◌∷◌, [], length, arith}
+use Rattle.std.proofs.Common.{◌≡◌, ◌+◌, ◌≤◌, List, IsSome, subst, sym, ap, ◌∙◌, length, arith}
 use Rattle.of_match.specs.declared.key.Key.{Key}
 use Rattle.flow_table.specs.declared.entry.PlainEntry.{PlainEntry}
 use Rattle.flow_table.specs.Table.{entry_at, without_key}
