@@ -1,5 +1,5 @@
 -- Laws of numbers at places: a number that was written is read again, and the bytes of one that was read are those that were there.
-use Rattle.std.proofs.Common.{◌≡◌, ℕ, zero, suc, ◌+◌, ◌*◌, ◌/◌, ◌^◌, ◌<◌, ◌≤◌, List, [], ◌∷◌, ◌++◌, length, take, drop, slice_index, refl, sym, ap, ◌∙◌, arith}
+use Rattle.std.proofs.Common.{◌≡◌, ℕ, zero, suc, ◌+◌, ◌*◌, ◌/◌, ◌^◌, ◌<◌, ◌≤◌, List, [], ◌∷◌, ◌++◌, length, take, drop, refl, sym, ap, ◌∙◌, arith}
 use Rattle.std.specs.Int.{byte_at, bytes_high_first}
 use Rattle.std.proofs.Common.{inl, inr}
 use Rattle.std.proofs.lemmas.Bool.{cases_lt}
@@ -7,11 +7,7 @@ use Rattle.std.proofs.lemmas.List.{append-nil, drop_at, length-take, length-drop
 use Rattle.std.proofs.lemmas.Nat.{mod_below, same_from_place}
 use Rattle.byteorder.specs.Endian.{big_from, big_number}
 use Rattle.byteorder.specs.Numbers.{length-bytes_high_first, big_number-reads_back, big_from-lt, big_from-cons, big_from-take}
-use Rattle.of_types.specs.Fields.{number_at, number_bytes, piece, with_field}
-
--- each is a byte
-abbrev pub IsBytes : List ℕ → Type 0
-IsBytes bytes = (i : ℕ) → slice_index bytes i < 256
+use Rattle.of_types.specs.Fields.{number_at, number_bytes, piece, with_field, IsBytes}
 
 pub length-number_bytes : (n x : ℕ) → length (number_bytes n x) ≡ n
 unfolding number_bytes

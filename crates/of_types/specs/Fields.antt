@@ -1,5 +1,5 @@
 -- Numbers and bytes at places. All numbers of the wire have their highest byte first (OpenFlow 1.0.0, 5).
-use Rattle.std.specs.Prelude.{ℕ, ◌+◌, List, ◌++◌, length, take, drop}
+use Rattle.std.specs.Prelude.{ℕ, ◌+◌, ◌<◌, List, ◌++◌, length, take, drop, slice_index}
 use Rattle.byteorder.specs.Endian.{big_number, big_bytes}
 
 -- the number in the n bytes from place at on
@@ -17,3 +17,7 @@ piece n at bytes = take n (drop at bytes)
 -- the bytes, with a field in the place of those from at on
 abbrev pub with_field : ℕ → List ℕ → List ℕ → List ℕ
 with_field at field bytes = take at bytes ++ (field ++ drop (at + length field) bytes)
+
+-- each is a byte
+abbrev pub IsBytes : List ℕ → Type 0
+IsBytes bytes = (i : ℕ) → slice_index bytes i < 256

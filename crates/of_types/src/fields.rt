@@ -1,7 +1,7 @@
 //! Numbers at places in bytes, the highest byte first.
 
 ghost use Rattle.std.specs.Prelude.{◌≡◌, ℕ, ◌+◌, ◌^◌, ◌<◌, ◌≤◌, List, ◌++◌, length, take};
-ghost use Rattle.of_types.specs.Fields.{number_at, number_bytes, with_field};
+ghost use Rattle.of_types.specs.Fields.{number_at, number_bytes, piece, with_field, IsBytes};
 ghost use Rattle.of_types.specs.Layout.{Field, spelled, AreFields, IsLaidOut};
 
 use byteorder::{BigEndian, ByteOrder};
@@ -60,10 +60,12 @@ pub fn put_u64(bytes: &mut [u8], at: usize, value: u64)
     BigEndian::write_u64(&mut bytes[at..], value);
 }
 
-/// The laws of numbers at places: what is put is got again, whatever stands around it.
+/// The laws of numbers at places: what is put is got again, and what is got is what stands there.
 pub fn laws_of_fields()
-    ensures { (n at x : ℕ) (bytes : List ℕ) → at + n ≤ length bytes → x < 256 ^ n
+    ensures put_is_got { (n at x : ℕ) (bytes : List ℕ) → at + n ≤ length bytes → x < 256 ^ n
         → number_at n at (with_field at (number_bytes n x) bytes) ≡ x }
+    ensures got_is_there { (n at : ℕ) (bytes : List ℕ) → IsBytes bytes → at + n ≤ length bytes
+        → number_bytes n (number_at n at bytes) ≡ piece n at bytes }
 {}
 
 /// The law of layouts: what is spelled is laid out so, whatever stands before and behind it.
