@@ -6,6 +6,14 @@ ghost use Rattle.of_types.specs.Layout.{Field, spelled, AreFields, IsLaidOut};
 
 use byteorder::{BigEndian, ByteOrder};
 
+/// The byte at `at`, which lies within the bytes.
+pub fn get_u8(bytes: &[u8], at: usize) -> u8
+    requires { at < length bytes.now }
+    ensures { result ≡ number_at 1 at bytes.now }
+{
+    bytes[at]
+}
+
 /// The 16 bit number at `at`; the field lies within the bytes.
 #[tactic(auto, unfolding(crate::specs::Fields::number_at))]
 pub fn get_u16(bytes: &[u8], at: usize) -> u16
@@ -33,6 +41,23 @@ pub fn get_u64(bytes: &[u8], at: usize) -> u64
     BigEndian::read_u64(&bytes[at..])
 }
 
+/// The `N` bytes from `at` on; they lie within the bytes.
+pub fn get_array<const N: usize>(bytes: &[u8], at: usize) -> [u8; N]
+    requires { at + N ≤ length bytes.now }
+    ensures { result ≡ piece N at bytes.now }
+{
+    *bytes[at..].first_chunk::<N>().unwrap()
+}
+
+/// Writes the byte at `at`, and nothing else; it lies within the bytes.
+pub fn put_u8(bytes: &mut [u8], at: usize, value: u8)
+    requires { at < length bytes.old }
+    ensures field { bytes.new ≡ with_field at (number_bytes 1 value) bytes.old }
+    ensures front { take (at + 1) bytes.new ≡ take at bytes.old ++ number_bytes 1 value }
+{
+    bytes[at] = value;
+}
+
 /// Writes the 16 bit number at `at`, and nothing else; the field lies within the bytes.
 pub fn put_u16(bytes: &mut [u8], at: usize, value: u16)
     requires { at + 2 ≤ length bytes.old }
@@ -58,6 +83,15 @@ pub fn put_u64(bytes: &mut [u8], at: usize, value: u64)
     ensures front { take (at + 8) bytes.new ≡ take at bytes.old ++ number_bytes 8 value }
 {
     BigEndian::write_u64(&mut bytes[at..], value);
+}
+
+/// Writes the field's bytes from `at` on, and nothing else; they lie within the bytes.
+pub fn put_bytes(bytes: &mut [u8], at: usize, field: &[u8])
+    requires { at + length field.now ≤ length bytes.old }
+    ensures field { bytes.new ≡ with_field at field.now bytes.old }
+    ensures front { take (at + length field.now) bytes.new ≡ take at bytes.old ++ field.now }
+{
+    bytes[at..at + field.len()].copy_from_slice(field);
 }
 
 /// The laws of numbers at places: what is put is got again, and what is got is what stands there.
