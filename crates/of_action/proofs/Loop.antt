@@ -7,7 +7,7 @@ use Rattle.of_action.specs.declared.action.Action.{Action}
 use Rattle.of_action.specs.declared.fault.ActionKind.{ActionKind}
 use Rattle.of_action.specs.declared.fault.ActionFault.{ActionFault}
 use Rattle.of_action.specs.declared.fault.ActionFault.TheVariants.{Bad, NoMemory}
-use Rattle.of_action.specs.Reading.{◌>>=◌, Gives, Tells, length_at, action_of, action_at, actions_from, actions_of}
+use Rattle.of_action.specs.Reading.{◌>>=◌, Fails, Tells, length_at, action_of, action_at, actions_from, actions_of}
 use Rattle.of_action.specs.ReadingLaws.{IsLength-length_at, action_at-ok, actions_from-steps}
 
 -- what was read before, and what is still read from a place on
@@ -61,8 +61,8 @@ is_done front place bytes total le so_far =
     let steps : length bytes - place ≡ 0 = omega arith in
     sym so_far ∙ rw steps (ap (λ (actions : List Action). Ok actions) (append-nil front))
 
-pub gives_end : (front : List Action) (place : ℕ) (bytes : List ℕ) (fault : ActionFault) (total : Result (List Action) ActionFault) → place < length bytes → Gives (Err fault) (action_at place (drop place bytes))
-    → with_front front (read_from place bytes) ≡ total → Gives (Err fault) total
+pub gives_end : (front : List Action) (place : ℕ) (bytes : List ℕ) (fault : ActionFault) (total : Result (List Action) ActionFault) → place < length bytes → Fails fault (action_at place (drop place bytes))
+    → with_front front (read_from place bytes) ≡ total → Fails fault total
 gives_end front place bytes (Bad at kind) total lt is so_far = ends front place bytes (Bad at kind) total lt is so_far
 gives_end front place bytes NoMemory total lt is so_far = tt
 

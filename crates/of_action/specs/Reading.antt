@@ -13,11 +13,14 @@ abbrev pub ◌>>=◌ : {A B F : Type 0} → Result A F → (A → Result B F) �
 (Ok x) >>= f = f x
 (Err e) >>= f = Err e
 
--- What a call gave is what reading gives; where memory ran out, nothing is said.
-abbrev pub Gives : {X : Type 0} → Result X ActionFault → Result X ActionFault → Type 0
-Gives (Ok x) read = read ≡ Ok x
-Gives (Err (Bad place kind)) read = read ≡ Err (Bad place kind)
-Gives (Err NoMemory) read = Unit {0}
+-- What a call gave, seen by view, is what reading gives; where memory ran out, nothing is said.
+abbrev pub Fails : {Y : Type 0} → ActionFault → Result Y ActionFault → Type 0
+Fails (Bad place kind) read = read ≡ Err (Bad place kind)
+Fails NoMemory read = Unit {0}
+
+abbrev pub Gives : {X Y : Type 0} → (X → Y) → Result X ActionFault → Result Y ActionFault → Type 0
+Gives view (Ok x) read = read ≡ Ok (view x)
+Gives view (Err fault) read = Fails fault read
 
 -- A test that makes no value answers as reading does: Ok where it is, and the same fault.
 abbrev pub Tells : {X Y : Type 0} → Result X ActionFault → Result Y ActionFault → Type 0
@@ -43,8 +46,8 @@ unfoldable pub length_at : List ℕ → Result ℕ ActionKind
 length_at bytes =
     if nat_lt (length bytes) 4 then Err BadLen
     else (let len = number_at 2 2 bytes in
-        if nat_lt len 8 || (not (len % 8 == 0) || nat_lt (length bytes) len) then Err BadLen
-        else if_table_has len (table_length (number_at 2 0 bytes) len))
+    if nat_lt len 8 || (not (len % 8 == 0) || nat_lt (length bytes) len) then Err BadLen
+    else if_table_has len (table_length (number_at 2 0 bytes) len))
 
 -- what is known of a length that was read, in so many bytes
 pub record IsLength (kind size len : ℕ) : Type 0 where

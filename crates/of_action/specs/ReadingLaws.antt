@@ -10,16 +10,16 @@ use Rattle.of_action.specs.declared.fault.ActionFault.{ActionFault}
 use Rattle.of_action.specs.Reading.{◌>>=◌, IsLength, table_length, if_table_has, length_at, at_place, action_of, action_at, actions_from, actions_of}
 
 -- a test that did not fail
-guard_ok : {A F : Type 0} (b : Bool) (fault : F) (r : Result A F) (x : A) → cond b (Err fault) r ≡ Ok x → (b ≡ false) × (r ≡ Ok x)
+pub guard_ok : {A F : Type 0} (b : Bool) (fault : F) (r : Result A F) (x : A) → cond b (Err fault) r ≡ Ok x → (b ≡ false) × (r ≡ Ok x)
 guard_ok true fault r x e = absurd cc
 guard_ok false fault r x e = (refl, e)
 
 -- the value of a step that did not fail
-bind_ok : {A B F : Type 0} (r : Result A F) (f : A → Result B F) (y : B) → (r >>= f) ≡ Ok y → (x : A) × (r ≡ Ok x) × (f x ≡ Ok y)
+pub bind_ok : {A B F : Type 0} (r : Result A F) (f : A → Result B F) (y : B) → (r >>= f) ≡ Ok y → (x : A) × (r ≡ Ok x) × (f x ≡ Ok y)
 bind_ok (Ok x) f y e = (x, refl, e)
 bind_ok (Err d) f y e = absurd cc
 
-table_ok : (len n : ℕ) (o : Option ℕ) → if_table_has len o ≡ Ok n → (o ≡ Some len) × (len ≡ n)
+pub table_ok : (len n : ℕ) (o : Option ℕ) → if_table_has len o ≡ Ok n → (o ≡ Some len) × (len ≡ n)
 table_ok len n None e = absurd cc
 table_ok len n (Some m) e = same (eqb m len) refl e
   where

@@ -13,7 +13,7 @@ pub use action::Action;
 pub use fault::{ActionFault, ActionKind};
 pub use list::{ActionList, outputs_to};
 pub use opaque::Opaque;
-pub use reading::{check_list, decode_list};
+pub use reading::{check_list, decode_list, laws_of_lists};
 pub use writing::{encode_list, size};
 
 #[cfg(test)]

@@ -1,14 +1,16 @@
 //! Actions out of bytes.
 
-ghost use Rattle.std.specs.Prelude.{◌≡◌, ◌+◌, ◌-◌, ◌≤◌, length, drop, IfOk};
+ghost use Rattle.std.specs.Prelude.{◌≡◌, ℕ, ◌+◌, ◌≤◌, List, length, drop, IfOk, Ok};
 ghost use Rattle.of_types.specs.Fields.{number_at};
+ghost use Rattle.of_action.specs.declared.action.Action.{Action};
+ghost use Rattle.of_action.specs.Spelling.{list_bytes, AreActions, Spell};
 ghost use Rattle.of_action.specs.Reading.{Gives, Tells, IsLength, table_length, length_at, action_of, action_at, actions_of};
 
 use crate::action::Action;
 use crate::fault::{ActionFault, ActionKind};
 use crate::list::ActionList;
 use crate::opaque::Opaque;
-use of_types::{ByteList, actions, get_array, get_u16, get_u32, get_u8};
+use of_types::{ByteList, actions, get_array, get_u8, get_u16, get_u32};
 use std::alloc::{AllocError, Global};
 
 #[tactic(auto, unfolding(crate::specs::Reading::table_length))]
@@ -76,7 +78,7 @@ fn value_of(alloc: Global, kind: u16, bytes: &[u8]) -> Result<Action, AllocError
 #[tactic(auto, unfolding(crate::specs::Reading::action_at))]
 fn next_action(alloc: Global, bytes: &[u8], place: usize) -> Result<(Action, usize), ActionFault>
     requires { place ≤ length bytes.now }
-    ensures exact { Gives result (action_at place (drop place bytes.now)) }
+    ensures exact { Gives (λ next. next) result (action_at place (drop place bytes.now)) }
     ensures within { IfOk result (λ next. (8 ≤ next.1) × (place + next.1 ≤ length bytes.now)) }
 {
     let rest = &bytes[place..];
@@ -89,10 +91,8 @@ fn next_action(alloc: Global, bytes: &[u8], place: usize) -> Result<(Action, usi
     }
 }
 
-/// The actions that the bytes spell, all of the bytes. `Bad` has the place at which the first action that
-/// is at fault begins, and what is wrong with it.
-pub fn decode_list(alloc: Global, bytes: &[u8]) -> Result<ActionList, ActionFault>
-    ensures { Gives result (actions_of bytes.now) }
+fn list_of(alloc: Global, bytes: &[u8]) -> Result<ActionList, ActionFault>
+    ensures { Gives (λ list. list) result (actions_of bytes.now) }
 {
     let mut actions = Vec::new(alloc);
     let mut place = 0;
@@ -102,6 +102,20 @@ pub fn decode_list(alloc: Global, bytes: &[u8]) -> Result<ActionList, ActionFaul
         place += len;
     }
     Ok(ActionList::from_vec(actions))
+}
+
+/// The actions that the bytes spell, all of the bytes. `Bad` has the place at which the first action that
+/// is at fault begins, and what is wrong with it.
+pub fn decode_list(alloc: Global, bytes: &[u8]) -> Result<ActionList, ActionFault>
+    // The value or the first fault, unless memory runs out.
+    ensures exact { Gives (λ list. list) result (actions_of bytes.now) }
+    // What is read is in the grammar, and the bytes spell it.
+    ensures found { IfOk result (λ list. AreActions list × Spell list bytes.now) }
+    // What is in the grammar is read, unless memory runs out.
+    ensures only { (list : List Action) → AreActions list → Spell list bytes.now
+        → Gives (λ list. list) result (Ok list) }
+{
+    list_of(alloc, bytes)
 }
 
 /// Answers as `decode_list` does, without the actions; takes no memory and never answers `NoMemory`.
@@ -117,3 +131,11 @@ pub fn check_list(bytes: &[u8]) -> Result<(), ActionFault>
     }
     Ok(())
 }
+
+/// The laws of lists: what is written is spelled so and is read again, and bytes spell one list at most.
+pub fn laws_of_lists()
+    ensures written { (list : List Action) → AreActions list → Spell list (list_bytes list) }
+    ensures again { (list : List Action) → AreActions list → actions_of (list_bytes list) ≡ Ok list }
+    ensures one_reading { (list others : List Action) (bytes : List ℕ) → AreActions list → AreActions others
+        → Spell list bytes → Spell others bytes → list ≡ others }
+{}

@@ -1,9 +1,9 @@
 -- Laws of numbers at places: a number that was written is read again, and the bytes of one that was read are those that were there.
-use Rattle.std.proofs.Common.{◌≡◌, ℕ, zero, suc, ◌+◌, ◌*◌, ◌/◌, ◌^◌, ◌<◌, ◌≤◌, List, [], ◌∷◌, ◌++◌, length, take, drop, refl, sym, ap, ◌∙◌, arith}
+use Rattle.std.proofs.Common.{◌≡◌, ℕ, zero, suc, ◌+◌, ◌*◌, ◌/◌, ◌^◌, ◌<◌, ◌≤◌, ◌-◌, List, [], ◌∷◌, ◌++◌, length, take, drop, refl, sym, ap, ◌∙◌, arith}
 use Rattle.std.specs.Int.{byte_at, bytes_high_first}
 use Rattle.std.proofs.Common.{inl, inr}
 use Rattle.std.proofs.lemmas.Bool.{cases_lt}
-use Rattle.std.proofs.lemmas.List.{append-nil, drop_at, length-take, length-drop, get_or-drop, get_or-take, get_or_past, nil_from_length}
+use Rattle.std.proofs.lemmas.List.{append-nil, drop_at, drop-take, length-take, length-drop, get_or-drop, get_or-take, get_or_past, nil_from_length}
 use Rattle.std.proofs.lemmas.Nat.{mod_below, same_from_place}
 use Rattle.byteorder.specs.Endian.{big_from, big_number}
 use Rattle.byteorder.specs.Numbers.{length-bytes_high_first, big_number-reads_back, big_from-lt, big_from-cons, big_from-take}
@@ -48,12 +48,18 @@ same_from_number (suc n) (x ∷ xs) (y ∷ ys) p q h g e =
     let tails : xs ≡ ys = same_from_number n xs ys (omega arith) (omega arith) (λ i. h (suc i)) (λ i. g (suc i)) same.1 in
     rw (same.0, tails) refl
 
-IsBytes-piece : (n at : ℕ) (bytes : List ℕ) → IsBytes bytes → IsBytes (piece n at bytes)
-IsBytes-piece n at bytes h i =
+pub IsBytes-drop : (n : ℕ) (bytes : List ℕ) → IsBytes bytes → IsBytes (drop n bytes)
+IsBytes-drop n bytes h i = rw get_or-drop (h (n + i))
+
+pub IsBytes-take : (n : ℕ) (bytes : List ℕ) → IsBytes bytes → IsBytes (take n bytes)
+IsBytes-take n bytes h i =
     elim (cases_lt i n) [
-      | inl lt ↦ rw (get_or-take n (drop at bytes) i 0 lt, get_or-drop) (h (at + i))
-      | inr le ↦ rw (get_or_past (piece n at bytes) i 0 (omega (arith, length-take n (drop at bytes)))) (omega arith)
+      | inl lt ↦ rw (get_or-take n bytes i 0 lt) (h i)
+      | inr le ↦ rw (get_or_past (take n bytes) i 0 (omega (arith, length-take n bytes))) (omega arith)
     ]
+
+pub IsBytes-piece : (n at : ℕ) (bytes : List ℕ) → IsBytes bytes → IsBytes (piece n at bytes)
+IsBytes-piece n at bytes h = IsBytes-take n (drop at bytes) (IsBytes-drop at bytes h)
 
 pub number_bytes-number_at : (n at : ℕ) (bytes : List ℕ) → IsBytes bytes → at + n ≤ length bytes → number_bytes n (number_at n at bytes) ≡ piece n at bytes
 unfolding number_at number_bytes
@@ -68,3 +74,10 @@ number_bytes-number_at n at bytes h within =
 pub number_at-with_field : (n at x : ℕ) (bytes : List ℕ) → at + n ≤ length bytes → x < 256 ^ n → number_at n at (with_field at (number_bytes n x) bytes) ≡ x
 number_at-with_field n at x bytes within lt =
     number_at-number_bytes n at x (take at bytes) (drop (at + length (number_bytes n x)) bytes) (omega (arith, length-take at bytes)) lt
+
+-- what a front holds
+pub number_at-take : (n at m : ℕ) (bytes : List ℕ) → at + n ≤ m → number_at n at (take m bytes) ≡ number_at n at bytes
+unfolding number_at
+number_at-take n at m bytes within =
+    let parts : m ≡ at + (m - at) = omega arith in
+    rw (parts, drop-take at (m - at) bytes) (big_from-take 0 n (m - at) (drop at bytes) (omega arith))

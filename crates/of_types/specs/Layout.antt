@@ -17,6 +17,13 @@ spelled (number n x ∷ fields) = number_bytes n x ++ spelled fields
 spelled (raw n bytes ∷ fields) = bytes ++ spelled fields
 spelled (pad n ∷ fields) = replicate n 0 ++ spelled fields
 
+-- how many bytes that are
+abbrev pub width : List Field → ℕ
+width [] = 0
+width (number n x ∷ fields) = n + width fields
+width (raw n bytes ∷ fields) = n + width fields
+width (pad n ∷ fields) = n + width fields
+
 -- each number fits its bytes, and all other bytes are as many as the table says
 abbrev pub AreFields : List Field → Type 0
 AreFields [] = Unit {0}

@@ -3,7 +3,7 @@ use Rattle.std.proofs.Common.{◌≡◌, ℕ, ◌+◌, List, [], ◌∷◌, ◌+
 use Rattle.std.proofs.lemmas.List.{drop_at, take_at, length-append, length-replicate}
 use Rattle.of_types.specs.Fields.{number_at, number_bytes, piece}
 use Rattle.of_types.specs.FieldLaws.{length-number_bytes, number_at-number_bytes}
-use Rattle.of_types.specs.Layout.{Field, number, raw, pad, spelled, AreFields, IsLaidOut}
+use Rattle.of_types.specs.Layout.{Field, number, raw, pad, spelled, width, AreFields, IsLaidOut}
 
 regroup : (front field fields rest : List ℕ) → front ++ ((field ++ fields) ++ rest) ≡ (front ++ field) ++ (fields ++ rest)
 regroup front field fields rest = simp append_assoc
@@ -24,3 +24,9 @@ IsLaidOut-spelled at (pad n ∷ fields) front rest len fits =
     let e = regroup front (replicate n 0) (spelled fields) rest in
     let longer : length (front ++ replicate n 0) ≡ at + n = omega (arith, length-append front (replicate n 0), length-replicate {A = ℕ} n 0) in
     rw e (IsLaidOut-spelled (at + n) fields (front ++ replicate n 0) rest longer fits)
+
+pub length-spelled : (fields : List Field) → AreFields fields → length (spelled fields) ≡ width fields
+length-spelled [] fits = refl
+length-spelled (number n x ∷ fields) fits = omega (arith, length-append (number_bytes n x) (spelled fields), length-number_bytes n x, length-spelled fields fits.1)
+length-spelled (raw n bytes ∷ fields) fits = omega (arith, length-append bytes (spelled fields), fits.0, length-spelled fields fits.1)
+length-spelled (pad n ∷ fields) fits = omega (arith, length-append (replicate n 0) (spelled fields), length-replicate {A = ℕ} n 0, length-spelled fields fits)
