@@ -1,5 +1,5 @@
 -- Lengths in two bytes, and a list's bytes one action further.
-use Rattle.std.proofs.Common.{◌≡◌, ℕ, ◌+◌, ◌/◌, ◌%◌, ◌^◌, ◌<◌, List, [], ◌∷◌, ◌++◌, length, get_or, take, refl, ap, ◌∙◌, arith}
+use Rattle.std.proofs.Common.{◌≡◌, ℕ, ◌/◌, ◌%◌, refl, arith}
 use Rattle.of_types.specs.Fields.{number_bytes}
 
 pub low_half : (x : ℕ) → number_bytes 2 (x % 65536) ≡ number_bytes 2 x

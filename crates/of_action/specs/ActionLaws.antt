@@ -1,21 +1,19 @@
 -- Laws of actions: what is written is spelled so, what is spelled is read, and what is read was spelled.
-use Rattle.std.proofs.Common.{◌≡◌, ℕ, zero, suc, ◌+◌, ◌-◌, ◌*◌, ◌^◌, ◌≤◌, ◌<◌, ◌%◌, Bool, true, false, cond, eqb, ltb, leb, ◌||◌, not, List, [], ◌∷◌, ◌++◌, length, take, drop, Option, Some, None, Result, Ok, Err, refl, sym, ap, subst, ◌∙◌, append_assoc, arith, eq-eqb}
+use Rattle.std.proofs.Common.{◌≡◌, ℕ, zero, suc, ◌+◌, ◌≤◌, ◌<◌, ◌%◌, Bool, true, false, cond, eqb, ltb, leb, ◌||◌, not, List, [], ◌∷◌, ◌++◌, length, take, drop, Some, None, Result, Ok, Err, refl, sym, subst, ◌∙◌, arith, eq-eqb}
 use Rattle.std.specs.Prelude.{IfOk}
-use Rattle.std.specs.List.{flat_map, AllByRecursion}
-use Rattle.std.proofs.lemmas.Bool.{eqb-true, eqb-false, ltb-false, le-ltb, or_parts, not-false, cond_both, ne_eqb, lt-leb}
+use Rattle.std.proofs.lemmas.Bool.{eqb-true, eqb-false, le-ltb, or_parts, not-false, cond_both, ne_eqb, lt-leb}
 use Rattle.std.proofs.lemmas.List.{append-nil, take_at, take_all, drop_at, drop_all, length-take, length-drop, length-append, nil_from_length}
-use Rattle.of_types.specs.Fields.{number_at, number_bytes, piece, IsBytes}
-use Rattle.of_types.specs.Layout.{Field, number, raw, pad, spelled, width, AreFields, IsLaidOut}
-use Rattle.of_types.specs.FieldLaws.{IsBytes-take, IsBytes-drop, number_at-lt, number_at-take, length-number_bytes}
+use Rattle.of_types.specs.Fields.{number_at, piece, IsBytes}
+use Rattle.of_types.specs.Layout.{spelled, width, AreFields, IsLaidOut}
+use Rattle.of_types.specs.FieldLaws.{IsBytes-take, IsBytes-drop, number_at-lt, number_at-take}
 use Rattle.of_types.specs.LayoutLaws.{IsLaidOut-spelled, length-spelled}
 use Rattle.of_action.specs.declared.action.Action.{Action}
 use Rattle.of_action.specs.declared.action.Action.TheVariants.{Output, SetVlanVid, SetVlanPcp, StripVlan, SetDlSrc, SetDlDst, SetNwSrc, SetNwDst, SetNwTos, SetTpSrc, SetTpDst, Enqueue, Vendor}
-use Rattle.of_action.specs.declared.fault.ActionKind.{ActionKind}
-use Rattle.of_action.specs.declared.fault.ActionKind.TheVariants.{BadType, BadLen}
+use Rattle.of_action.specs.declared.fault.ActionKind.TheVariants.{BadLen}
 use Rattle.of_action.specs.declared.fault.ActionFault.{ActionFault}
-use Rattle.of_action.specs.Spelling.{kind_of, action_size, body_fields, action_fields, action_bytes, list_bytes, list_size, IsAction, AreActions, Spell}
-use Rattle.of_action.specs.Reading.{◌>>=◌, Gives, IsLength, table_length, if_table_has, length_at, at_place, action_of, action_at, actions_from, actions_of}
-use Rattle.of_action.specs.ReadingLaws.{guard_ok, bind_ok, table_ok, IsLength-length_at, action_at-ok, actions_from-steps}
+use Rattle.of_action.specs.Spelling.{kind_of, action_size, body_fields, action_fields, action_bytes, list_bytes, IsAction, AreActions, Spell}
+use Rattle.of_action.specs.Reading.{◌>>=◌, Gives, table_length, if_table_has, length_at, action_of, action_at, actions_from, actions_of}
+use Rattle.of_action.specs.ReadingLaws.{guard_ok, bind_ok, table_ok, IsLength-length_at, action_at-ok}
 
 -- ---- what is written is spelled so
 

@@ -1,5 +1,5 @@
 -- Laws of reading: what a length that was read fits, and that more steps change nothing.
-use Rattle.std.proofs.Common.{◌≡◌, ℕ, zero, suc, ◌+◌, ◌-◌, ◌≤◌, ◌<◌, ◌%◌, Bool, true, false, cond, eqb, ltb, ◌||◌, not, List, [], ◌∷◌, ◌++◌, length, take, drop, Option, Some, None, Result, Ok, Err, refl, sym, ap, subst, ◌∙◌, inl, inr, arith}
+use Rattle.std.proofs.Common.{◌≡◌, ℕ, zero, suc, ◌+◌, ◌≤◌, ◌%◌, Bool, true, false, cond, eqb, ltb, ◌||◌, not, List, length, take, drop, Option, Some, None, Result, Ok, Err, refl, ap, subst, arith}
 use Rattle.std.proofs.lemmas.Bool.{eqb-true, ltb-false, or_parts}
 use Rattle.std.proofs.lemmas.List.{length-drop}
 use Rattle.of_types.specs.Fields.{number_at}
@@ -7,7 +7,7 @@ use Rattle.of_action.specs.declared.action.Action.{Action}
 use Rattle.of_action.specs.declared.fault.ActionKind.{ActionKind}
 use Rattle.of_action.specs.declared.fault.ActionKind.TheVariants.{BadLen}
 use Rattle.of_action.specs.declared.fault.ActionFault.{ActionFault}
-use Rattle.of_action.specs.Reading.{◌>>=◌, IsLength, table_length, if_table_has, length_at, at_place, action_of, action_at, actions_from, actions_of}
+use Rattle.of_action.specs.Reading.{◌>>=◌, IsLength, table_length, if_table_has, length_at, at_place, action_of, action_at, actions_from}
 
 -- a test that did not fail
 pub guard_ok : {A F : Type 0} (b : Bool) (fault : F) (r : Result A F) (x : A) → cond b (Err fault) r ≡ Ok x → (b ≡ false) × (r ≡ Ok x)
