@@ -1,0 +1,18 @@
+//! Messages of OpenFlow 1.0 as values and as bytes: each is read, with the first fault by one stated
+//! order, and written in its one spelling. Matches are kept in their normal form.
+#![tactic(auto)]
+
+mod bodies;
+mod fault;
+mod kind;
+mod message;
+mod port_list;
+
+pub use bodies::{
+    FeaturesReply, FlowMod, FlowRemoved, PacketIn, PacketOut, PortMod, PortStatus, Stats,
+    SwitchConfig,
+};
+pub use fault::WireFault;
+pub use kind::MessageKind;
+pub use message::{Envelope, Message};
+pub use port_list::PortList;
