@@ -94,6 +94,15 @@ pub fn put_bytes(bytes: &mut [u8], at: usize, field: &[u8])
     bytes[at..at + field.len()].copy_from_slice(field);
 }
 
+/// Writes the `N` bytes from `at` on, and nothing else; they lie within the bytes.
+pub fn put_array<const N: usize>(bytes: &mut [u8], at: usize, field: &[u8; N])
+    requires { at + N ≤ length bytes.old }
+    ensures field { bytes.new ≡ with_field at field.now bytes.old }
+    ensures front { take (at + N) bytes.new ≡ take at bytes.old ++ field.now }
+{
+    put_bytes(bytes, at, field);
+}
+
 /// The laws of numbers at places: what is put is got again, and what is got is what stands there.
 pub fn laws_of_fields()
     ensures put_is_got { (n at x : ℕ) (bytes : List ℕ) → at + n ≤ length bytes → x < 256 ^ n

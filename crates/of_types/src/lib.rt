@@ -16,8 +16,8 @@ pub mod stats;
 pub use byte_list::ByteList;
 pub use errors::OfError;
 pub use fields::{
-    get_array, get_u8, get_u16, get_u32, get_u64, law_of_layouts, laws_of_fields, put_bytes,
-    put_u8, put_u16, put_u32, put_u64,
+    get_array, get_u8, get_u16, get_u32, get_u64, law_of_layouts, laws_of_fields, put_array,
+    put_bytes, put_u8, put_u16, put_u32, put_u64,
 };
 pub use journal::{Act, PortChange, Stimulus, TookWhat, WorldStim};
 pub use port_desc::PortDesc;

@@ -34,7 +34,7 @@ pub struct PacketIn {
 }
 
 /// A flow that is gone (OpenFlow 1.0.0, 5.4.2 Flow Removed Message).
-#[derive(Drop, Debug, Clone, PartialEq, Eq)]
+#[derive(Clone, Copy, Debug, PartialEq, Eq)]
 pub struct FlowRemoved {
     pub matching: Match,
     pub cookie: u64,
@@ -48,7 +48,7 @@ pub struct FlowRemoved {
 }
 
 /// A port that came, went or changed (OpenFlow 1.0.0, 5.4.3 Port Status Message).
-#[derive(Drop, Debug, Clone, PartialEq, Eq)]
+#[derive(Clone, Copy, Debug, PartialEq, Eq)]
 pub struct PortStatus {
     pub reason: u8,
     pub port: PortDesc,

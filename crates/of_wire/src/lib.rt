@@ -7,6 +7,7 @@ mod fault;
 mod kind;
 mod message;
 mod port_list;
+mod writing;
 
 pub use bodies::{
     FeaturesReply, FlowMod, FlowRemoved, PacketIn, PacketOut, PortMod, PortStatus, Stats,
@@ -16,3 +17,4 @@ pub use fault::WireFault;
 pub use kind::MessageKind;
 pub use message::{Envelope, Message};
 pub use port_list::PortList;
+pub use writing::{encode, encode_into, size};

@@ -4,6 +4,7 @@ use crate::bodies::{
     FeaturesReply, FlowMod, FlowRemoved, PacketIn, PacketOut, PortMod, PortStatus, Stats,
     SwitchConfig,
 };
+use crate::kind::MessageKind;
 use of_types::ByteList;
 
 /// A message without its `xid`, one variant for each type of the standard (OpenFlow 1.0.0, 5.1 OpenFlow
@@ -56,4 +57,39 @@ pub enum Message {
 pub struct Envelope {
     pub xid: u32,
     pub message: Message,
+}
+
+impl Message {
+    ghost use Rattle.std.specs.Prelude.{◌≡◌};
+    ghost use Rattle.of_wire.specs.Spelling.{kind_of};
+
+    /// The message's type.
+    pub fn kind(&self) -> MessageKind
+        ensures { result ≡ kind_of self.now }
+    {
+        match self {
+            Message::Hello { .. } => MessageKind::Hello,
+            Message::Error { .. } => MessageKind::Error,
+            Message::EchoRequest { .. } => MessageKind::EchoRequest,
+            Message::EchoReply { .. } => MessageKind::EchoReply,
+            Message::Vendor { .. } => MessageKind::Vendor,
+            Message::FeaturesRequest => MessageKind::FeaturesRequest,
+            Message::FeaturesReply(_) => MessageKind::FeaturesReply,
+            Message::GetConfigRequest => MessageKind::GetConfigRequest,
+            Message::GetConfigReply(_) => MessageKind::GetConfigReply,
+            Message::SetConfig(_) => MessageKind::SetConfig,
+            Message::PacketIn(_) => MessageKind::PacketIn,
+            Message::FlowRemoved(_) => MessageKind::FlowRemoved,
+            Message::PortStatus(_) => MessageKind::PortStatus,
+            Message::PacketOut(_) => MessageKind::PacketOut,
+            Message::FlowMod(_) => MessageKind::FlowMod,
+            Message::PortMod(_) => MessageKind::PortMod,
+            Message::StatsRequest(_) => MessageKind::StatsRequest,
+            Message::StatsReply(_) => MessageKind::StatsReply,
+            Message::BarrierRequest => MessageKind::BarrierRequest,
+            Message::BarrierReply => MessageKind::BarrierReply,
+            Message::QueueGetConfigRequest { .. } => MessageKind::QueueGetConfigRequest,
+            Message::QueueGetConfigReply { .. } => MessageKind::QueueGetConfigReply,
+        }
+    }
 }
