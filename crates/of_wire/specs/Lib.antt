@@ -1,3 +1,4 @@
 pub mod Kinds
 pub mod Faults
 pub mod Spelling
+pub mod Reading

@@ -4,9 +4,11 @@
 
 mod bodies;
 mod fault;
+mod front;
 mod kind;
 mod message;
 mod port_list;
+mod reading;
 mod writing;
 
 pub use bodies::{
