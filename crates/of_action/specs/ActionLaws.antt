@@ -3,6 +3,7 @@ use Rattle.std.proofs.Common.{◌≡◌, ℕ, zero, suc, ◌+◌, ◌≤◌, ◌
 use Rattle.std.specs.Prelude.{IfOk}
 use Rattle.std.proofs.lemmas.Bool.{eqb-true, eqb-false, le-ltb, or_parts, not-false, cond_both, ne_eqb, lt-leb}
 use Rattle.std.proofs.lemmas.List.{append-nil, take_at, take_all, drop_at, drop_all, length-take, length-drop, length-append, nil_from_length}
+use Rattle.std.proofs.lemmas.List.Sums.{sum_by-cons}
 use Rattle.of_types.specs.Fields.{number_at, piece, IsBytes}
 use Rattle.of_types.specs.Layout.{spelled, width, AreFields, IsLaidOut}
 use Rattle.of_types.specs.FieldLaws.{IsBytes-take, IsBytes-drop, number_at-lt, number_at-take}
@@ -11,7 +12,7 @@ use Rattle.of_action.specs.declared.action.Action.{Action}
 use Rattle.of_action.specs.declared.action.Action.TheVariants.{Output, SetVlanVid, SetVlanPcp, StripVlan, SetDlSrc, SetDlDst, SetNwSrc, SetNwDst, SetNwTos, SetTpSrc, SetTpDst, Enqueue, Vendor}
 use Rattle.of_action.specs.declared.fault.ActionKind.TheVariants.{BadLen}
 use Rattle.of_action.specs.declared.fault.ActionFault.{ActionFault}
-use Rattle.of_action.specs.Spelling.{kind_of, action_size, body_fields, action_fields, action_bytes, list_bytes, IsAction, AreActions, Spell}
+use Rattle.of_action.specs.Spelling.{kind_of, action_size, body_fields, action_fields, action_bytes, list_bytes, list_size, IsAction, AreActions, Spell}
 use Rattle.of_action.specs.Reading.{◌>>=◌, Gives, table_length, if_table_has, length_at, action_of, action_at, actions_from, actions_of}
 use Rattle.of_action.specs.ReadingLaws.{guard_ok, bind_ok, table_ok, IsLength-length_at, action_at-ok}
 
@@ -51,6 +52,13 @@ Spell-list_bytes (action ∷ actions) fit =
         subst (λ (b : List ℕ). Spell actions b) (sym rest) (Spell-list_bytes actions fit.1),
       ),
     )
+
+pub length-list_bytes : (actions : List Action) → AreActions actions → length (list_bytes actions) ≡ list_size actions
+length-list_bytes [] fit = refl
+length-list_bytes (action ∷ actions) fit =
+    let first = length-action_bytes action fit.0 in
+    let others = length-list_bytes actions fit.1 in
+    omega (arith, first, others, length-append (action_bytes action) (list_bytes actions), sum_by-cons action_size action actions)
 
 -- ---- what is spelled is read
 

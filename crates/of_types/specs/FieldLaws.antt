@@ -3,7 +3,7 @@ use Rattle.std.proofs.Common.{◌≡◌, ℕ, zero, suc, ◌+◌, ◌*◌, ◌/�
 use Rattle.std.specs.Int.{byte_at, bytes_high_first}
 use Rattle.std.proofs.Common.{inl, inr}
 use Rattle.std.proofs.lemmas.Bool.{cases_lt}
-use Rattle.std.proofs.lemmas.List.{append-nil, drop_at, drop-take, length-take, length-drop, get_or-drop, get_or-take, get_or_past, nil_from_length}
+use Rattle.std.proofs.lemmas.List.{append-nil, drop_at, drop-drop, drop-take, length-take, length-drop, get_or-drop, get_or-take, get_or_past, nil_from_length}
 use Rattle.std.proofs.lemmas.Nat.{mod_below, same_from_place}
 use Rattle.byteorder.specs.Endian.{big_from, big_number}
 use Rattle.byteorder.specs.Numbers.{length-bytes_high_first, big_number-reads_back, big_from-lt, big_from-cons, big_from-take}
@@ -81,3 +81,11 @@ unfolding number_at
 number_at-take n at m bytes within =
     let parts : m ≡ at + (m - at) = omega arith in
     rw (parts, drop-take at (m - at) bytes) (big_from-take 0 n (m - at) (drop at bytes) (omega arith))
+
+-- what a rest holds
+pub number_at-drop : (n at k : ℕ) (bytes : List ℕ) → number_at n at (drop k bytes) ≡ number_at n (k + at) bytes
+unfolding number_at
+number_at-drop n at k bytes = ap (λ (b : List ℕ). big_number n b) (drop-drop at k bytes)
+
+pub piece-drop : (n at k : ℕ) (bytes : List ℕ) → piece n at (drop k bytes) ≡ piece n (k + at) bytes
+piece-drop n at k bytes = ap (λ (b : List ℕ). take n b) (drop-drop at k bytes)

@@ -2,3 +2,5 @@ pub mod Kinds
 pub mod Faults
 pub mod Spelling
 pub mod Reading
+pub mod Grammar
+pub mod SpellingLaws

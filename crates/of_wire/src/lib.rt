@@ -3,6 +3,7 @@
 #![tactic(auto)]
 
 mod bodies;
+mod checking;
 mod fault;
 mod front;
 mod kind;
@@ -15,8 +16,10 @@ pub use bodies::{
     FeaturesReply, FlowMod, FlowRemoved, PacketIn, PacketOut, PortMod, PortStatus, Stats,
     SwitchConfig,
 };
+pub use checking::check;
 pub use fault::WireFault;
 pub use kind::MessageKind;
 pub use message::{Envelope, Message};
 pub use port_list::PortList;
+pub use reading::decode;
 pub use writing::{encode, encode_into, size};
