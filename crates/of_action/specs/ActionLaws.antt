@@ -417,3 +417,9 @@ found_from_gives bytes (Ok actions) fit given =
     let found = AreSpelled-actions_of bytes actions fit given in
     (found.fit, found.spelled_so)
 found_from_gives bytes (Err fault) fit given = tt
+
+pub length-Spell : (actions : List Action) (bytes : List ℕ) → Spell actions bytes → length bytes ≡ list_size actions
+length-Spell [] bytes h = rw h refl
+length-Spell (action ∷ actions) bytes h =
+    let others = length-Spell actions (drop (action_size action) bytes) h.1.1 in
+    omega (arith, others, h.0, length-drop (action_size action) bytes, sum_by-cons action_size action actions)

@@ -3,7 +3,7 @@ use Rattle.std.proofs.Common.{◌≡◌, ℕ, zero, suc, ◌+◌, ◌*◌, ◌/�
 use Rattle.std.specs.Int.{byte_at, bytes_high_first}
 use Rattle.std.proofs.Common.{inl, inr}
 use Rattle.std.proofs.lemmas.Bool.{cases_lt}
-use Rattle.std.proofs.lemmas.List.{append-nil, drop_at, drop-drop, drop-take, length-take, length-drop, get_or-drop, get_or-take, get_or_past, nil_from_length}
+use Rattle.std.proofs.lemmas.List.{append-nil, drop_at, drop-drop, drop-take, take-take, take-append-drop, length-take, length-drop, get_or-drop, get_or-take, get_or_past, nil_from_length}
 use Rattle.std.proofs.lemmas.Nat.{mod_below, same_from_place}
 use Rattle.byteorder.specs.Endian.{big_from, big_number}
 use Rattle.byteorder.specs.Numbers.{length-bytes_high_first, big_number-reads_back, big_from-lt, big_from-cons, big_from-take}
@@ -89,3 +89,14 @@ number_at-drop n at k bytes = ap (λ (b : List ℕ). big_number n b) (drop-drop 
 
 pub piece-drop : (n at k : ℕ) (bytes : List ℕ) → piece n at (drop k bytes) ≡ piece n (k + at) bytes
 piece-drop n at k bytes = ap (λ (b : List ℕ). take n b) (drop-drop at k bytes)
+
+pub length-piece : (n at : ℕ) (bytes : List ℕ) → at + n ≤ length bytes → length (piece n at bytes) ≡ n
+length-piece n at bytes within = omega (arith, length-take n (drop at bytes), length-drop at bytes)
+
+-- two pieces that meet are one
+pub piece-append : (m n at : ℕ) (bytes : List ℕ) → piece m at bytes ++ piece n (at + m) bytes ≡ piece (m + n) at bytes
+piece-append m n at bytes =
+    ap (λ (xs : List ℕ). take m (drop at bytes) ++ take n xs) (sym (drop-drop m at bytes)) ∙ sym (take_parts m n (drop at bytes))
+  where
+    take_parts : (i k : ℕ) (xs : List ℕ) → take (i + k) xs ≡ take i xs ++ take k (drop i xs)
+    take_parts i k xs = sym (take-append-drop i (take (i + k) xs)) ∙ ap (λ (front : List ℕ). front ++ drop i (take (i + k) xs)) (take-take i (i + k) xs (omega arith)) ∙ ap (λ (back : List ℕ). take i xs ++ back) (drop-take i k xs)

@@ -37,3 +37,10 @@ IsLaidOut at [] rest bytes = drop at bytes ≡ rest
 IsLaidOut at (number n x ∷ fields) rest bytes = (number_at n at bytes ≡ x) × IsLaidOut (at + n) fields rest bytes
 IsLaidOut at (raw n xs ∷ fields) rest bytes = (piece n at bytes ≡ xs) × IsLaidOut (at + n) fields rest bytes
 IsLaidOut at (pad n ∷ fields) rest bytes = IsLaidOut (at + n) fields rest bytes
+
+-- each byte says something
+abbrev pub HasNoPads : List Field → Type 0
+HasNoPads [] = Unit {0}
+HasNoPads (number n x ∷ fields) = HasNoPads fields
+HasNoPads (raw n bytes ∷ fields) = HasNoPads fields
+HasNoPads (pad n ∷ fields) = ⊥

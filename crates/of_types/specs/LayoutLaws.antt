@@ -1,9 +1,9 @@
 -- What is spelled by a layout is laid out so.
-use Rattle.std.proofs.Common.{◌≡◌, ℕ, ◌+◌, List, [], ◌∷◌, ◌++◌, length, replicate, refl, append_assoc, arith}
+use Rattle.std.proofs.Common.{◌≡◌, ℕ, ◌+◌, ◌≤◌, List, [], ◌∷◌, ◌++◌, length, replicate, refl, sym, ap, ◌∙◌, append_assoc, arith}
 use Rattle.std.proofs.lemmas.List.{drop_at, take_at, length-append, length-replicate}
-use Rattle.of_types.specs.Fields.{number_at, number_bytes, piece}
-use Rattle.of_types.specs.FieldLaws.{length-number_bytes, number_at-number_bytes}
-use Rattle.of_types.specs.Layout.{Field, number, raw, pad, spelled, width, AreFields, IsLaidOut}
+use Rattle.of_types.specs.Fields.{number_at, number_bytes, piece, IsBytes}
+use Rattle.of_types.specs.FieldLaws.{length-number_bytes, number_at-number_bytes, number_bytes-number_at, piece-append}
+use Rattle.of_types.specs.Layout.{Field, number, raw, pad, spelled, width, AreFields, IsLaidOut, HasNoPads}
 
 regroup : (front field fields rest : List ℕ) → front ++ ((field ++ fields) ++ rest) ≡ (front ++ field) ++ (fields ++ rest)
 regroup front field fields rest = simp append_assoc
@@ -30,3 +30,15 @@ length-spelled [] fits = refl
 length-spelled (number n x ∷ fields) fits = omega (arith, length-append (number_bytes n x) (spelled fields), length-number_bytes n x, length-spelled fields fits.1)
 length-spelled (raw n bytes ∷ fields) fits = omega (arith, length-append bytes (spelled fields), fits.0, length-spelled fields fits.1)
 length-spelled (pad n ∷ fields) fits = omega (arith, length-append (replicate n 0) (spelled fields), length-replicate {A = ℕ} n 0, length-spelled fields fits)
+
+-- bytes that are laid out with no pads are what is spelled
+pub spelled-IsLaidOut : (at : ℕ) (fields : List Field) (rest bytes : List ℕ) → IsBytes bytes → at + width fields ≤ length bytes → HasNoPads fields → IsLaidOut at fields rest bytes → spelled fields ≡ piece (width fields) at bytes
+spelled-IsLaidOut at [] rest bytes fit within none h = refl
+spelled-IsLaidOut at (number n x ∷ fields) rest bytes fit within none h =
+    let here : number_bytes n x ≡ piece n at bytes = ap (number_bytes n) (sym h.0) ∙ number_bytes-number_at n at bytes fit (omega arith) in
+    let others = spelled-IsLaidOut (at + n) fields rest bytes fit (omega arith) none h.1 in
+    ap (λ (xs : List ℕ). xs ++ spelled fields) here ∙ ap (λ (xs : List ℕ). piece n at bytes ++ xs) others ∙ piece-append n (width fields) at bytes
+spelled-IsLaidOut at (raw n xs ∷ fields) rest bytes fit within none h =
+    let others = spelled-IsLaidOut (at + n) fields rest bytes fit (omega arith) none h.1 in
+    ap (λ (ys : List ℕ). ys ++ spelled fields) (sym h.0) ∙ ap (λ (ys : List ℕ). piece n at bytes ++ ys) others ∙ piece-append n (width fields) at bytes
+spelled-IsLaidOut at (pad n ∷ fields) rest bytes fit within none h = absurd none

@@ -4,3 +4,5 @@ pub mod Spelling
 pub mod Reading
 pub mod Grammar
 pub mod SpellingLaws
+pub mod ReadingLaws
+pub mod GrammarLaws
