@@ -7,6 +7,7 @@ use Rattle.of_types.specs.Layout.{width, AreFields, IsLaidOut}
 use Rattle.of_match.specs.declared.flow_match.Match.{Match}
 use Rattle.of_match.specs.Match.{match_of}
 use Rattle.of_action.specs.Spelling.{list_size, AreActions, Spell}
+use Rattle.of_wire.specs.declared.message.Envelope.{Envelope}
 use Rattle.of_wire.specs.declared.message.Message.{Message}
 use Rattle.of_wire.specs.declared.message.Message.TheVariants.{Hello, Error, EchoRequest, EchoReply, Vendor, FeaturesRequest, FeaturesReply, GetConfigRequest, GetConfigReply, SetConfig, PacketIn, FlowRemoved, PortStatus, PacketOut, FlowMod, PortMod, StatsRequest, StatsReply, BarrierRequest, BarrierReply, QueueGetConfigRequest, QueueGetConfigReply}
 use Rattle.of_wire.specs.Spelling.{kind_of, matching_in, match_size, header_fields, port_fields, body_fields, ports_bytes, message_size}
@@ -65,3 +66,6 @@ pub record SpellMessage (xid : ℕ) (message : Message) (bytes : List ℕ) : Typ
   pub matching : SpellMatch (matching_in message) bytes
   pub fields : IsLaidOut (fields_place message) (body_fields message) (drop (tail_place message) bytes) bytes
   pub tail : SpellTail message (drop (tail_place message) bytes)
+
+abbrev pub enveloped : ℕ → Message → Envelope
+enveloped xid message = record { xid = xid; message = message }

@@ -1,5 +1,6 @@
 -- What is read was spelled.
 use Rattle.std.proofs.Common.{◌≡◌, ℕ, zero, suc, ◌+◌, ◌-◌, ◌*◌, ◌/◌, ◌%◌, ◌^◌, ◌≤◌, ◌<◌, Bool, true, false, cond, eqb, ltb, leb, ◌&&◌, List, [], ◌∷◌, ◌++◌, length, take, drop, Option, Some, None, Result, Ok, Err, refl, sym, ap, subst, ◌∙◌, append_assoc, arith, eq-eqb}
+use Rattle.std.specs.Prelude.{IfOk}
 use Rattle.std.specs.List.{AllByRecursion}
 use Rattle.std.proofs.lemmas.Bool.{eqb-true, ltb-false, leb-true, and_parts, cond_both}
 use Rattle.std.proofs.lemmas.List.{drop_all, drop-drop, length-drop, take-append-drop, nil_from_length}
@@ -22,9 +23,10 @@ use Rattle.of_wire.specs.declared.message.Envelope.{Envelope}
 use Rattle.of_wire.specs.declared.message.Message.{Message}
 use Rattle.of_wire.specs.declared.message.Message.TheVariants.{Hello, Error, EchoRequest, EchoReply, Vendor, FeaturesRequest, FeaturesReply, GetConfigRequest, GetConfigReply, SetConfig, PacketIn, FlowRemoved, PortStatus, PacketOut, FlowMod, PortMod, StatsRequest, StatsReply, BarrierRequest, BarrierReply, QueueGetConfigRequest, QueueGetConfigReply}
 use Rattle.of_wire.specs.Kinds.{number_of_kind, kind_of_number}
-use Rattle.of_wire.specs.Spelling.{kind_of, matching_in, match_size, port_fields, body_fields, ports_bytes, message_size}
-use Rattle.of_wire.specs.Reading.{has_length, if_sized, front_of, port_of, ports_of, config_of, flow_removed_of, port_status_of, port_mod_of, stats_of, of_actions, packet_out_of, flow_mod_of, body_of, reading_of}
+use Rattle.of_wire.specs.Spelling.{kind_of, matching_in, match_size, port_fields, body_fields, ports_bytes, message_size, message_bytes}
+use Rattle.of_wire.specs.Reading.{Gives, has_length, if_sized, front_of, port_of, ports_of, config_of, flow_removed_of, port_status_of, port_mod_of, stats_of, of_actions, packet_out_of, flow_mod_of, body_of, reading_of}
 use Rattle.of_wire.specs.Grammar.{IsTail, IsMessage, SpellMatch, SpellTail, fields_place, tail_place, SpellMessage}
+use Rattle.of_wire.specs.ReadingLaws.{reading_of-message_bytes}
 
 -- ---- the front
 
@@ -36,7 +38,7 @@ unfolding kind_of_number
 number_of_kind-kind_of_number number kind =
     let P : Option MessageKind → Type 0 = λ o. o ≡ Some kind → number ≡ number_of_kind kind in
     let at : (n : ℕ) (k : MessageKind) → n ≡ number_of_kind k → eqb number n ≡ true → P (Some k) =
-        λ n k is t e. eqb-true number n t ∙ is ∙ ap number_of_kind (some_is k kind e) in
+    λ n k is t e. eqb-true number n t ∙ is ∙ ap number_of_kind (some_is k kind e) in
     cond_both (eqb number 0) _ _ P (at 0 kinds.Hello refl) (λ n0.
     cond_both (eqb number 1) _ _ P (at 1 kinds.Error refl) (λ n1.
     cond_both (eqb number 2) _ _ P (at 2 kinds.EchoRequest refl) (λ n2.
@@ -314,8 +316,25 @@ port_status_was bytes fit has =
       fields_fit = (number_at-lt 1 8 bytes fit, port_fits (drop 16 bytes) (IsBytes-drop 16 bytes fit) (omega (arith, f.0, length-drop 16 bytes)));
       is_tail = tt;
       matching = tt;
-      fields = (refl, (sym (number_at-drop 2 0 16 bytes), (sym (piece-drop 6 2 16 bytes), (sym (piece-drop 16 8 16 bytes), (sym (number_at-drop 4 24 16 bytes), (sym (number_at-drop 4 28 16 bytes),
-        (sym (number_at-drop 4 32 16 bytes), (sym (number_at-drop 4 36 16 bytes), (sym (number_at-drop 4 40 16 bytes), (sym (number_at-drop 4 44 16 bytes), refl))))))))));
+      fields = (
+        refl,
+        (
+          sym (number_at-drop 2 0 16 bytes),
+          (
+            sym (piece-drop 6 2 16 bytes),
+            (
+              sym (piece-drop 16 8 16 bytes),
+              (
+                sym (number_at-drop 4 24 16 bytes),
+                (
+                  sym (number_at-drop 4 28 16 bytes),
+                  (sym (number_at-drop 4 32 16 bytes), (sym (number_at-drop 4 36 16 bytes), (sym (number_at-drop 4 40 16 bytes), (sym (number_at-drop 4 44 16 bytes), refl)))),
+                ),
+              ),
+            ),
+          ),
+        ),
+      );
       tail = f.1;
     }
 
@@ -441,3 +460,15 @@ IsRead-reading_of bytes envelope fit e =
     let front = IsFront-front_of bytes a.0 a.1 in
     let was = body_was a.0 b.0 bytes fit front.has b.1 in
     subst (λ (x : Envelope). IsRead x bytes) (same_envelope _ envelope b.2) (read_as a.0 b.0 bytes fit front was)
+
+pub found_from_Gives : (bytes : List ℕ) (r : Result Envelope WireFault) → IsBytes bytes → Gives r (reading_of bytes) → IfOk r (λ envelope. IsMessage envelope.message × SpellMessage envelope.xid envelope.message bytes)
+found_from_Gives bytes (Ok envelope) fit given =
+    let read = IsRead-reading_of bytes envelope fit given in
+    (read.message, read.spelled_so)
+found_from_Gives bytes (Err fault) fit given = tt
+
+-- what was read is spelled anew: it is read again as it was
+pub read_again : (bytes : List ℕ) (envelope : Envelope) → IsBytes bytes → reading_of bytes ≡ Ok envelope → reading_of (message_bytes envelope.xid envelope.message) ≡ Ok envelope
+read_again bytes envelope fit e =
+    let read = IsRead-reading_of bytes envelope fit e in
+    reading_of-message_bytes envelope.xid envelope.message read.xid read.message

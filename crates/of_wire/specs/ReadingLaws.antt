@@ -16,13 +16,14 @@ use Rattle.of_wire.specs.declared.kind.MessageKind.TheVariants as kinds
 use Rattle.of_wire.specs.declared.bodies.FeaturesReply.{FeaturesReply as Features}
 use Rattle.of_wire.specs.declared.bodies.PacketOut.{PacketOut as OutPacket}
 use Rattle.of_wire.specs.declared.bodies.FlowMod.{FlowMod as FlowChange}
+use Rattle.of_wire.specs.declared.fault.WireFault.{WireFault}
 use Rattle.of_wire.specs.declared.message.Envelope.{Envelope}
 use Rattle.of_wire.specs.declared.message.Message.{Message}
 use Rattle.of_wire.specs.declared.message.Message.TheVariants.{Hello, Error, EchoRequest, EchoReply, Vendor, FeaturesRequest, FeaturesReply, GetConfigRequest, GetConfigReply, SetConfig, PacketIn, FlowRemoved, PortStatus, PacketOut, FlowMod, PortMod, StatsRequest, StatsReply, BarrierRequest, BarrierReply, QueueGetConfigRequest, QueueGetConfigReply}
 use Rattle.of_wire.specs.Kinds.{number_of_kind, kind_of_number}
 use Rattle.of_wire.specs.Spelling.{kind_of, port_fields, ports_bytes, message_size, message_bytes}
 use Rattle.of_wire.specs.Reading.{has_length, front_of, port_of, ports_of, packet_out_of, flow_mod_of, body_of, reading_of}
-use Rattle.of_wire.specs.Grammar.{IsMessage, SpellMessage}
+use Rattle.of_wire.specs.Grammar.{IsMessage, SpellMessage, enveloped}
 use Rattle.of_wire.specs.SpellingLaws.{SpellMessage-message_bytes}
 
 kind_of_number-number_of_kind : (kind : MessageKind) → kind_of_number (number_of_kind kind) ≡ Some kind
@@ -139,7 +140,7 @@ body_of-spelled xid (EchoRequest payload) bytes is h = rw h.tail refl
 body_of-spelled xid (EchoReply payload) bytes is h = rw h.tail refl
 body_of-spelled xid (Vendor payload) bytes is h = rw h.tail refl
 body_of-spelled xid FeaturesRequest bytes is h = refl
-body_of-spelled xid (FeaturesReply features) bytes is h = 
+body_of-spelled xid (FeaturesReply features) bytes is h =
     let count : (length bytes - 32) / 48 ≡ length features.ports = features_count features bytes h.size in
     let ports = ports_of-ports_bytes features.ports is.tail in
     let f = h.fields in
@@ -148,13 +149,23 @@ body_of-spelled xid GetConfigRequest bytes is h = refl
 body_of-spelled xid (GetConfigReply config) bytes is h = rw (h.fields.0, h.fields.1.0) refl
 body_of-spelled xid (SetConfig config) bytes is h = rw (h.fields.0, h.fields.1.0) refl
 body_of-spelled xid (PacketIn packet) bytes is h = let f = h.fields in rw (f.0, f.1.0, f.1.1.0, f.1.1.1.0, h.tail) refl
-body_of-spelled xid (FlowRemoved flow) bytes is h = 
+body_of-spelled xid (FlowRemoved flow) bytes is h =
     let f = h.fields in
     rw (h.matching, f.0, f.1.0, f.1.1.0, f.1.1.1.0, f.1.1.1.1.0, f.1.1.1.1.1.0, f.1.1.1.1.1.1.0, f.1.1.1.1.1.1.1.0) refl
-body_of-spelled xid (PortStatus status) bytes is h = 
+body_of-spelled xid (PortStatus status) bytes is h =
     let f = h.fields.1 in
-    rw (h.fields.0, number_at-drop 2 0 16 bytes ∙ f.0, piece-drop 6 2 16 bytes ∙ f.1.0, piece-drop 16 8 16 bytes ∙ f.1.1.0, number_at-drop 4 24 16 bytes ∙ f.1.1.1.0, number_at-drop 4 28 16 bytes ∙ f.1.1.1.1.0,
-      number_at-drop 4 32 16 bytes ∙ f.1.1.1.1.1.0, number_at-drop 4 36 16 bytes ∙ f.1.1.1.1.1.1.0, number_at-drop 4 40 16 bytes ∙ f.1.1.1.1.1.1.1.0, number_at-drop 4 44 16 bytes ∙ f.1.1.1.1.1.1.1.1.0) refl
+    rw (
+      h.fields.0,
+      number_at-drop 2 0 16 bytes ∙ f.0,
+      piece-drop 6 2 16 bytes ∙ f.1.0,
+      piece-drop 16 8 16 bytes ∙ f.1.1.0,
+      number_at-drop 4 24 16 bytes ∙ f.1.1.1.0,
+      number_at-drop 4 28 16 bytes ∙ f.1.1.1.1.0,
+      number_at-drop 4 32 16 bytes ∙ f.1.1.1.1.1.0,
+      number_at-drop 4 36 16 bytes ∙ f.1.1.1.1.1.1.0,
+      number_at-drop 4 40 16 bytes ∙ f.1.1.1.1.1.1.1.0,
+      number_at-drop 4 44 16 bytes ∙ f.1.1.1.1.1.1.1.1.0,
+    ) refl
 body_of-spelled xid (PacketOut packet) bytes is h = packet_out_of-spelled xid packet bytes is h
 body_of-spelled xid (FlowMod flow) bytes is h = flow_mod_of-spelled xid flow bytes is h
 body_of-spelled xid (PortMod port) bytes is h = let f = h.fields in rw (f.0, f.1.0, f.1.1.0, f.1.1.1.0, f.1.1.1.1.0) refl
@@ -167,9 +178,6 @@ body_of-spelled xid (QueueGetConfigReply payload) bytes is h = rw h.tail refl
 
 -- ---- the message
 
-abbrev pub enveloped : ℕ → Message → Envelope
-enveloped xid message = record { xid = xid; message = message }
-
 pub reading_of-SpellMessage : (xid : ℕ) (message : Message) (bytes : List ℕ) → IsMessage message → SpellMessage xid message bytes → reading_of bytes ≡ Ok (enveloped xid message)
 unfolding reading_of
 reading_of-SpellMessage xid message bytes is h =
@@ -177,3 +185,13 @@ reading_of-SpellMessage xid message bytes is h =
 
 pub reading_of-message_bytes : (xid : ℕ) (message : Message) → xid < 2 ^ 32 → IsMessage message → reading_of (message_bytes xid message) ≡ Ok (enveloped xid message)
 reading_of-message_bytes xid message small is = reading_of-SpellMessage xid message (message_bytes xid message) is (SpellMessage-message_bytes xid message small is)
+
+abbrev the_envelope : Envelope → Result Envelope WireFault
+the_envelope envelope = Ok envelope
+
+same_envelope : (x y : Envelope) → the_envelope x ≡ the_envelope y → x ≡ y
+same_envelope x y e = cc
+
+pub same_from_SpellMessage : (xid other_xid : ℕ) (message other : Message) (bytes : List ℕ) → IsMessage message → IsMessage other → SpellMessage xid message bytes → SpellMessage other_xid other bytes → enveloped xid message ≡ enveloped other_xid other
+same_from_SpellMessage xid other_xid message other bytes is is' h g =
+    same_envelope _ _ (sym (reading_of-SpellMessage xid message bytes is h) ∙ reading_of-SpellMessage other_xid other bytes is' g)

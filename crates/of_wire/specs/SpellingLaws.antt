@@ -103,9 +103,10 @@ SpellTail-tail_bytes (PacketIn packet) is = refl
 SpellTail-tail_bytes (FlowRemoved flow) is = refl
 SpellTail-tail_bytes (PortStatus status) is = refl
 SpellTail-tail_bytes (PacketOut packet) is =
-    let len = length-list_bytes packet.actions is in
-    (subst (λ (b : List ℕ). Spell packet.actions b) (sym (take_at (list_bytes packet.actions) packet.payload (list_size packet.actions) len)) (Spell-list_bytes packet.actions is),
-      drop_at (list_bytes packet.actions) packet.payload (list_size packet.actions) len)
+    let len = length-list_bytes packet.actions is in (
+      subst (λ (b : List ℕ). Spell packet.actions b) (sym (take_at (list_bytes packet.actions) packet.payload (list_size packet.actions) len)) (Spell-list_bytes packet.actions is),
+      drop_at (list_bytes packet.actions) packet.payload (list_size packet.actions) len,
+    )
 SpellTail-tail_bytes (FlowMod flow) is = Spell-list_bytes flow.actions is
 SpellTail-tail_bytes (PortMod port) is = refl
 SpellTail-tail_bytes (StatsRequest stats) is = refl
@@ -119,8 +120,8 @@ SpellMatch-match_bytes : (matching : Option Match) (front rest : List ℕ) → l
 SpellMatch-match_bytes None front rest len = tt
 SpellMatch-match_bytes (Some matching) front rest len =
     let there : piece 40 8 (front ++ (bytes_of (fields_in matching) ++ rest)) ≡ bytes_of (fields_in matching) =
-        ap (λ (b : List ℕ). take 40 b) (drop_at front (bytes_of (fields_in matching) ++ rest) 8 len)
-        ∙ take_at (bytes_of (fields_in matching)) rest 40 (length-bytes_of (fields_in matching)) in
+    ap (λ (b : List ℕ). take 40 b) (drop_at front (bytes_of (fields_in matching) ++ rest) 8 len)
+    ∙ take_at (bytes_of (fields_in matching)) rest 40 (length-bytes_of (fields_in matching)) in
     ap match_of there ∙ match_of-bytes_of matching
 
 -- ---- the message
@@ -150,12 +151,12 @@ SpellMessage-message_bytes xid message small is =
     let behind_header : drop 8 (h ++ (m ++ (b ++ t))) ≡ m ++ (b ++ t) = drop_at h (m ++ (b ++ t)) 8 h-len in
     let grouped : (h ++ m) ++ (b ++ t) ≡ h ++ (m ++ (b ++ t)) = append_assoc h m (b ++ t) in
     let behind_fields : drop (tail_place message) (h ++ (m ++ (b ++ t))) ≡ t =
-        ap (λ (x : List ℕ). drop (tail_place message) x) (sym grouped ∙ sym (append_assoc (h ++ m) b t)) ∙ drop_at ((h ++ m) ++ b) t (tail_place message) hmb-len in
+    ap (λ (x : List ℕ). drop (tail_place message) x) (sym grouped ∙ sym (append_assoc (h ++ m) b t)) ∙ drop_at ((h ++ m) ++ b) t (tail_place message) hmb-len in
     record {
       size = whole_size message h m b t h-len m-len b-len (length-tail_bytes message is.tail);
       header = subst (λ (rest : List ℕ). IsLaidOut 0 fields rest (h ++ (m ++ (b ++ t)))) (sym behind_header) (IsLaidOut-spelled 0 fields [] (m ++ (b ++ t)) refl fit);
       matching = SpellMatch-match_bytes (matching_in message) h (b ++ t) h-len;
       fields = subst (λ (rest : List ℕ). IsLaidOut (fields_place message) (body_fields message) rest (h ++ (m ++ (b ++ t)))) (sym behind_fields)
-        (subst (λ (bytes : List ℕ). IsLaidOut (fields_place message) (body_fields message) t bytes) grouped (IsLaidOut-spelled (fields_place message) (body_fields message) (h ++ m) t hm-len is.fields));
+          (subst (λ (bytes : List ℕ). IsLaidOut (fields_place message) (body_fields message) t bytes) grouped (IsLaidOut-spelled (fields_place message) (body_fields message) (h ++ m) t hm-len is.fields));
       tail = subst (λ (rest : List ℕ). SpellTail message rest) (sym behind_fields) (SpellTail-tail_bytes message is.tail);
     }

@@ -7,6 +7,7 @@ mod checking;
 mod fault;
 mod front;
 mod kind;
+mod laws;
 mod message;
 mod port_list;
 mod reading;
@@ -19,6 +20,7 @@ pub use bodies::{
 pub use checking::check;
 pub use fault::WireFault;
 pub use kind::MessageKind;
+pub use laws::{decode_after_encode, encode_after_decode, one_reading};
 pub use message::{Envelope, Message};
 pub use port_list::PortList;
 pub use reading::decode;

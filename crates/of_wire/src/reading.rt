@@ -3,6 +3,8 @@
 ghost use Rattle.std.specs.Prelude.{◌≡◌, ℕ, ◌+◌, ◌-◌, ◌*◌, ◌/◌, ◌≤◌, length, drop, IfOk, IsTrue, Ok};
 ghost use Rattle.of_action.specs.Reading.{actions_of};
 ghost use Rattle.of_wire.specs.declared.kind.MessageKind.TheVariants as kinds_of;
+ghost use Rattle.of_wire.specs.declared.message.Message.{Message};
+ghost use Rattle.of_wire.specs.Grammar.{IsMessage, SpellMessage, enveloped};
 ghost use Rattle.of_wire.specs.Reading.{Gives, of_actions, has_length, port_of, ports_of, config_of, flow_removed_of, port_mod_of, stats_of, port_status_of, has_payload_alone, packet_out_of, flow_mod_of, body_of, reading_of};
 
 use crate::bodies::{
@@ -267,14 +269,6 @@ fn body(alloc: Global, kind: MessageKind, bytes: &[u8]) -> Result<Message, WireF
     }
 }
 
-/// The message that the bytes spell, all of the bytes. Where they spell none, the first fault: fewer than
-/// 8 bytes, the version, the type, the length, then the actions, with their place in the list.
-pub fn decode(alloc: Global, bytes: &[u8]) -> Result<Envelope, WireFault>
-    ensures { Gives result (reading_of bytes.now) }
-{
-    envelope(alloc, bytes)
-}
-
 #[tactic(auto, unfolding(crate::specs::Reading::reading_of))]
 fn envelope(alloc: Global, bytes: &[u8]) -> Result<Envelope, WireFault>
     ensures { Gives result (reading_of bytes.now) }
@@ -285,4 +279,19 @@ fn envelope(alloc: Global, bytes: &[u8]) -> Result<Envelope, WireFault>
         xid: get_u32(bytes, 4),
         message,
     })
+}
+
+/// The message that the bytes spell, all of the bytes. Where they spell none, the first fault: fewer than
+/// 8 bytes, the version, the type, the length, then the actions, with their place in the list.
+pub fn decode(alloc: Global, bytes: &[u8]) -> Result<Envelope, WireFault>
+    // The value or the first fault, unless memory runs out.
+    ensures exact { Gives result (reading_of bytes.now) }
+    // What is read is in the grammar, and the bytes spell it.
+    ensures found { IfOk result
+        (λ envelope. IsMessage envelope.message × SpellMessage envelope.xid envelope.message bytes.now) }
+    // What is in the grammar is read, unless memory runs out.
+    ensures only { (xid : ℕ) (message : Message) → IsMessage message → SpellMessage xid message bytes.now
+        → Gives result (Ok (enveloped xid message)) }
+{
+    envelope(alloc, bytes)
 }
