@@ -6,3 +6,4 @@ pub mod Grammar
 pub mod SpellingLaws
 pub mod ReadingLaws
 pub mod GrammarLaws
+pub mod Stats
