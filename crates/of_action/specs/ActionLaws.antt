@@ -1,5 +1,8 @@
 -- Laws of actions: what is written is spelled so, what is spelled is read, and what is read was spelled.
 use Rattle.std.proofs.Common.{◌≡◌, ℕ, zero, suc, ◌+◌, ◌≤◌, ◌<◌, ◌%◌, Bool, true, false, cond, eqb, ltb, leb, ◌||◌, not, List, [], ◌∷◌, ◌++◌, length, take, drop, Some, None, Result, Ok, Err, refl, sym, subst, ◌∙◌, arith, eq-eqb}
+use Rattle.std.proofs.Common.{ap, get_or, inl, inr, ◌-◌}
+use Rattle.std.proofs.lemmas.Bool.{cases_lt}
+use Rattle.std.proofs.lemmas.List.{get_or-take, get_or-drop, get_or-append_right}
 use Rattle.std.specs.Prelude.{IfOk}
 use Rattle.std.proofs.lemmas.Bool.{eqb-true, eqb-false, le-ltb, or_parts, not-false, cond_both, ne_eqb, lt-leb}
 use Rattle.std.proofs.lemmas.List.{append-nil, take_at, take_all, drop_at, drop_all, length-take, length-drop, length-append, nil_from_length}
@@ -7,12 +10,12 @@ use Rattle.std.proofs.lemmas.List.Sums.{sum_by-cons}
 use Rattle.of_types.specs.Fields.{number_at, piece, IsBytes}
 use Rattle.of_types.specs.Layout.{spelled, width, AreFields, IsLaidOut}
 use Rattle.of_types.specs.FieldLaws.{IsBytes-take, IsBytes-drop, number_at-lt, number_at-take}
-use Rattle.of_types.specs.LayoutLaws.{IsLaidOut-spelled, length-spelled}
+use Rattle.of_types.specs.LayoutLaws.{IsLaidOut-spelled, length-spelled, same_but_pads}
 use Rattle.of_action.specs.declared.action.Action.{Action}
 use Rattle.of_action.specs.declared.action.Action.TheVariants.{Output, SetVlanVid, SetVlanPcp, StripVlan, SetDlSrc, SetDlDst, SetNwSrc, SetNwDst, SetNwTos, SetTpSrc, SetTpDst, Enqueue, Vendor}
 use Rattle.of_action.specs.declared.fault.ActionKind.TheVariants.{BadLen}
 use Rattle.of_action.specs.declared.fault.ActionFault.{ActionFault}
-use Rattle.of_action.specs.Spelling.{kind_of, action_size, body_fields, action_fields, action_bytes, list_bytes, list_size, IsAction, AreActions, Spell}
+use Rattle.of_action.specs.Spelling.{kind_of, action_size, body_fields, action_fields, action_bytes, list_bytes, list_size, IsAction, AreActions, Spell, InPads, SameButPads}
 use Rattle.of_action.specs.Reading.{◌>>=◌, Gives, table_length, if_table_has, length_at, action_of, action_at, actions_from, actions_of}
 use Rattle.of_action.specs.ReadingLaws.{guard_ok, bind_ok, table_ok, IsLength-length_at, action_at-ok}
 
@@ -423,3 +426,31 @@ length-Spell [] bytes h = rw h refl
 length-Spell (action ∷ actions) bytes h =
     let others = length-Spell actions (drop (action_size action) bytes) h.1.1 in
     omega (arith, others, h.0, length-drop (action_size action) bytes, sum_by-cons action_size action actions)
+
+-- What is written and bytes that spell the same actions are the same, but in pads.
+pub same_list_but_pads : (actions : List Action) (bytes : List ℕ) (i : ℕ) → AreActions actions → IsBytes bytes → Spell actions bytes → i < length bytes → ¬ InPads actions i → get_or (list_bytes actions) i 0 ≡ get_or bytes i 0
+unfolding action_bytes
+same_list_but_pads [] bytes i fits fit h lt says = absurd (omega (arith, ap length h))
+same_list_but_pads (action ∷ actions) bytes i fits fit h lt says =
+    let size = action_size action in
+    let wide = width-action_fields action in
+    let fields = action_fields action in
+    let front-len : length (spelled fields) ≡ size = length-action_bytes action fits.0 in
+    elim (cases_lt i size) [
+      | inl here ↦ same_but_pads 0 fields [] (list_bytes actions) (take size bytes) [] i refl fits.0.fields (IsBytes-take size bytes fit) (omega (arith, wide, h.0, length-take size bytes)) h.1.0 (omega arith) (omega (arith, wide, here)) (λ p. says (inl p))
+          ∙ get_or-take size bytes i 0 here
+      | inr later ↦
+          let place : size + (i - size) ≡ i = omega (arith, later) in
+          get_or-append_right (spelled fields) (list_bytes actions) size i 0 front-len later
+          ∙ same_list_but_pads actions (drop size bytes) (i - size) fits.1 (IsBytes-drop size bytes fit) h.1.1 (omega (arith, later, length-drop size bytes)) (λ p. says (inr (later, p)))
+          ∙ get_or-drop size bytes (i - size) 0 ∙ ap (λ (k : ℕ). get_or bytes k 0) place
+    ]
+
+-- What was read is written as it was, but in pads.
+pub SameButPads-list_bytes : (bytes : List ℕ) (actions : List Action) → IsBytes bytes → actions_of bytes ≡ Ok actions → SameButPads actions bytes (list_bytes actions)
+SameButPads-list_bytes bytes actions fit e =
+    let found = AreSpelled-actions_of bytes actions fit e in
+    record {
+      size = length-list_bytes actions found.fit ∙ sym (length-Spell actions bytes found.spelled_so);
+      places = λ i lt says. same_list_but_pads actions bytes i found.fit fit found.spelled_so lt says;
+    }

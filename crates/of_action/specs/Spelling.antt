@@ -1,7 +1,7 @@
 -- The one spelling of each action (OpenFlow 1.0.0, 5.2.4 Flow Action Structures): its type, its length, and its body.
-use Rattle.std.specs.Prelude.{◌≡◌, ℕ, ◌+◌, ◌≤◌, ◌%◌, List, [], ◌∷◌, length, take, drop}
+use Rattle.std.specs.Prelude.{◌≡◌, ℕ, ◌+◌, ◌-◌, ◌<◌, ◌≤◌, ◌%◌, ◌⊎◌, List, [], ◌∷◌, length, take, drop, slice_index}
 use Rattle.std.specs.List.{flat_map, sum_by, AllByRecursion}
-use Rattle.of_types.specs.Layout.{Field, number, raw, pad, spelled, AreFields, IsLaidOut}
+use Rattle.of_types.specs.Layout.{Field, number, raw, pad, spelled, AreFields, IsLaidOut, InPad}
 use Rattle.of_action.specs.declared.action.Action.{Action}
 use Rattle.of_action.specs.declared.action.Action.TheVariants.{Output, SetVlanVid, SetVlanPcp, StripVlan, SetDlSrc, SetDlDst, SetNwSrc, SetNwDst, SetNwTos, SetTpSrc, SetTpDst, Enqueue, Vendor}
 
@@ -70,3 +70,13 @@ Spell [] bytes = bytes ≡ []
 Spell (action ∷ actions) bytes =
     (action_size action ≤ length bytes) × (IsLaidOut 0 (action_fields action) [] (take (action_size action) bytes)
     × Spell actions (drop (action_size action) bytes))
+
+-- the place i of a list's bytes lies in a pad
+abbrev pub InPads : List Action → ℕ → Type 0
+InPads [] i = ⊥
+InPads (action ∷ actions) i = InPad 0 (action_fields action) i ⊎ ((action_size action ≤ i) × InPads actions (i - action_size action))
+
+-- bytes that differ in pads of the actions alone
+pub record SameButPads (actions : List Action) (old new : List ℕ) : Type 0 where
+  pub size : length new ≡ length old
+  pub places : (i : ℕ) → i < length old → ¬ InPads actions i → slice_index new i ≡ slice_index old i

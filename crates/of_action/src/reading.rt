@@ -1,9 +1,9 @@
 //! Actions out of bytes.
 
 ghost use Rattle.std.specs.Prelude.{◌≡◌, ℕ, ◌+◌, ◌≤◌, List, length, drop, IfOk, Ok};
-ghost use Rattle.of_types.specs.Fields.{number_at};
+ghost use Rattle.of_types.specs.Fields.{number_at, IsBytes};
 ghost use Rattle.of_action.specs.declared.action.Action.{Action};
-ghost use Rattle.of_action.specs.Spelling.{list_bytes, AreActions, Spell};
+ghost use Rattle.of_action.specs.Spelling.{list_bytes, AreActions, Spell, SameButPads};
 ghost use Rattle.of_action.specs.Reading.{Gives, Tells, IsLength, table_length, length_at, action_of, action_at, actions_of};
 
 use crate::action::Action;
@@ -132,10 +132,13 @@ pub fn check_list(bytes: &[u8]) -> Result<(), ActionFault>
     Ok(())
 }
 
-/// The laws of lists: what is written is spelled so and is read again, and bytes spell one list at most.
+/// The laws of lists: what is written is spelled so and is read again, bytes spell one list at most, and
+/// what was read is written as it was but in pads.
 pub fn laws_of_lists()
     ensures written { (list : List Action) → AreActions list → Spell list (list_bytes list) }
     ensures again { (list : List Action) → AreActions list → actions_of (list_bytes list) ≡ Ok list }
     ensures one_reading { (list others : List Action) (bytes : List ℕ) → AreActions list → AreActions others
         → Spell list bytes → Spell others bytes → list ≡ others }
+    ensures rewritten { (bytes : List ℕ) (list : List Action) → IsBytes bytes → actions_of bytes ≡ Ok list
+        → SameButPads list bytes (list_bytes list) }
 {}

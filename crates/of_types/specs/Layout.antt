@@ -1,5 +1,5 @@
 -- Layouts: fields one after the other, as the tables of OpenFlow 1.0.0, 5 give them.
-use Rattle.std.specs.Prelude.{◌≡◌, ℕ, ◌+◌, ◌<◌, ◌^◌, List, [], ◌∷◌, ◌++◌, length, drop, replicate}
+use Rattle.std.specs.Prelude.{◌≡◌, ℕ, ◌+◌, ◌≤◌, ◌<◌, ◌^◌, ◌⊎◌, List, [], ◌∷◌, ◌++◌, length, drop, replicate}
 use Rattle.of_types.specs.Fields.{number_at, number_bytes, piece}
 
 pub data Field : Type 0 where
@@ -44,3 +44,10 @@ HasNoPads [] = Unit {0}
 HasNoPads (number n x ∷ fields) = HasNoPads fields
 HasNoPads (raw n bytes ∷ fields) = HasNoPads fields
 HasNoPads (pad n ∷ fields) = ⊥
+
+-- the place i lies in a pad
+abbrev pub InPad : ℕ → List Field → ℕ → Type 0
+InPad at [] i = ⊥
+InPad at (number n x ∷ fields) i = InPad (at + n) fields i
+InPad at (raw n bytes ∷ fields) i = InPad (at + n) fields i
+InPad at (pad n ∷ fields) i = ((at ≤ i) × (i < at + n)) ⊎ InPad (at + n) fields i

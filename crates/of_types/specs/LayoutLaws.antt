@@ -1,9 +1,11 @@
 -- What is spelled by a layout is laid out so.
 use Rattle.std.proofs.Common.{◌≡◌, ℕ, ◌+◌, ◌≤◌, List, [], ◌∷◌, ◌++◌, length, replicate, refl, sym, ap, ◌∙◌, append_assoc, arith}
-use Rattle.std.proofs.lemmas.List.{drop_at, take_at, length-append, length-replicate}
+use Rattle.std.proofs.Common.{◌-◌, ◌<◌, get_or, drop, inl, inr}
+use Rattle.std.proofs.lemmas.Bool.{cases_lt}
+use Rattle.std.proofs.lemmas.List.{get_or-take, get_or-drop, get_or-append_right, get_or_append_left, drop_at, take_at, length-append, length-replicate}
 use Rattle.of_types.specs.Fields.{number_at, number_bytes, piece, IsBytes}
 use Rattle.of_types.specs.FieldLaws.{length-number_bytes, number_at-number_bytes, number_bytes-number_at, piece-append}
-use Rattle.of_types.specs.Layout.{Field, number, raw, pad, spelled, width, AreFields, IsLaidOut, HasNoPads}
+use Rattle.of_types.specs.Layout.{Field, number, raw, pad, spelled, width, AreFields, IsLaidOut, HasNoPads, InPad}
 
 regroup : (front field fields rest : List ℕ) → front ++ ((field ++ fields) ++ rest) ≡ (front ++ field) ++ (fields ++ rest)
 regroup front field fields rest = simp append_assoc
@@ -42,3 +44,42 @@ spelled-IsLaidOut at (raw n xs ∷ fields) rest bytes fit within none h =
     let others = spelled-IsLaidOut (at + n) fields rest bytes fit (omega arith) none h.1 in
     ap (λ (ys : List ℕ). ys ++ spelled fields) (sym h.0) ∙ ap (λ (ys : List ℕ). piece n at bytes ++ ys) others ∙ piece-append n (width fields) at bytes
 spelled-IsLaidOut at (pad n ∷ fields) rest bytes fit within none h = absurd none
+
+-- a place within a piece, and one behind it
+piece_at : (n at i : ℕ) (bytes : List ℕ) → at ≤ i → i < at + n → get_or (piece n at bytes) (i - at) 0 ≡ get_or bytes i 0
+piece_at n at i bytes le lt =
+    let there : at + (i - at) ≡ i = omega arith in
+    get_or-take n (drop at bytes) (i - at) 0 (omega arith) ∙ get_or-drop at bytes (i - at) 0 ∙ ap (λ (k : ℕ). get_or bytes k 0) there
+
+written_at : (front field more : List ℕ) (n at i : ℕ) → length front ≡ at → length field ≡ n → at ≤ i → i < at + n → get_or (front ++ (field ++ more)) i 0 ≡ get_or field (i - at) 0
+written_at front field more n at i len size le lt =
+    get_or-append_right front (field ++ more) at i 0 len le ∙ get_or_append_left field more 0 (i - at) (omega (arith, size))
+
+-- What is written and what is laid out so are the same, but in pads.
+pub same_but_pads : (at : ℕ) (fields : List Field) (front rest bytes other : List ℕ) (i : ℕ) → length front ≡ at → AreFields fields → IsBytes bytes → at + width fields ≤ length bytes → IsLaidOut at fields other bytes
+    → at ≤ i → i < at + width fields → ¬ InPad at fields i → get_or (front ++ (spelled fields ++ rest)) i 0 ≡ get_or bytes i 0
+same_but_pads at [] front rest bytes other i len fits fit within h le lt says = absurd (omega arith)
+same_but_pads at (number n x ∷ fields) front rest bytes other i len fits fit within h le lt says =
+    let e = regroup front (number_bytes n x) (spelled fields) rest in
+    let longer : length (front ++ number_bytes n x) ≡ at + n = omega (arith, length-append front (number_bytes n x), length-number_bytes n x) in
+    let same : number_bytes n x ≡ piece n at bytes = ap (number_bytes n) (sym h.0) ∙ number_bytes-number_at n at bytes fit (omega arith) in
+    elim (cases_lt i (at + n)) [
+      | inl here ↦ ap (λ (b : List ℕ). get_or (front ++ b) i 0) (append_assoc (number_bytes n x) (spelled fields) rest)
+          ∙ written_at front (number_bytes n x) (spelled fields ++ rest) n at i len (length-number_bytes n x) le here ∙ ap (λ (b : List ℕ). get_or b (i - at) 0) same ∙ piece_at n at i bytes le here
+      | inr later ↦ ap (λ (b : List ℕ). get_or b i 0) e ∙ same_but_pads (at + n) fields (front ++ number_bytes n x) rest bytes other i longer fits.1 fit (omega arith) h.1 later (omega arith) says
+    ]
+same_but_pads at (raw n xs ∷ fields) front rest bytes other i len fits fit within h le lt says =
+    let e = regroup front xs (spelled fields) rest in
+    let longer : length (front ++ xs) ≡ at + n = omega (arith, length-append front xs, fits.0) in
+    elim (cases_lt i (at + n)) [
+      | inl here ↦ ap (λ (b : List ℕ). get_or (front ++ b) i 0) (append_assoc xs (spelled fields) rest)
+          ∙ written_at front xs (spelled fields ++ rest) n at i len fits.0 le here ∙ ap (λ (b : List ℕ). get_or b (i - at) 0) (sym h.0) ∙ piece_at n at i bytes le here
+      | inr later ↦ ap (λ (b : List ℕ). get_or b i 0) e ∙ same_but_pads (at + n) fields (front ++ xs) rest bytes other i longer fits.1 fit (omega arith) h.1 later (omega arith) says
+    ]
+same_but_pads at (pad n ∷ fields) front rest bytes other i len fits fit within h le lt says =
+    let e = regroup front (replicate n 0) (spelled fields) rest in
+    let longer : length (front ++ replicate n 0) ≡ at + n = omega (arith, length-append front (replicate n 0), length-replicate {A = ℕ} n 0) in
+    elim (cases_lt i (at + n)) [
+      | inl here ↦ absurd (says (inl (le, here)))
+      | inr later ↦ ap (λ (b : List ℕ). get_or b i 0) e ∙ same_but_pads (at + n) fields (front ++ replicate n 0) rest bytes other i longer fits fit (omega arith) h later (omega arith) (λ p. says (inr p))
+    ]

@@ -1,15 +1,15 @@
 -- Which messages the grammar has, and which bytes spell one: those of its spelling, whatever stands in pads and in
 -- the ignored bits of a match (OpenFlow 1.0.0, 5).
-use Rattle.std.specs.Prelude.{◌≡◌, ℕ, ◌+◌, ◌^◌, ◌<◌, ◌≤◌, List, [], length, take, drop, Option, Some, None}
+use Rattle.std.specs.Prelude.{◌≡◌, ℕ, ◌+◌, ◌-◌, ◌^◌, ◌<◌, ◌≤◌, ◌⊎◌, List, [], length, take, drop, slice_index, Option, Some, None}
 use Rattle.std.specs.List.{AllByRecursion}
 use Rattle.of_types.specs.Fields.{piece}
-use Rattle.of_types.specs.Layout.{width, AreFields, IsLaidOut}
+use Rattle.of_types.specs.Layout.{width, AreFields, IsLaidOut, InPad}
 use Rattle.of_match.specs.declared.flow_match.Match.{Match}
 use Rattle.of_match.specs.Match.{match_of}
-use Rattle.of_action.specs.Spelling.{list_size, AreActions, Spell}
+use Rattle.of_action.specs.Spelling.{list_size, AreActions, Spell, InPads}
 use Rattle.of_wire.specs.declared.message.Envelope.{Envelope}
 use Rattle.of_wire.specs.declared.message.Message.{Message}
-use Rattle.of_wire.specs.declared.message.Message.TheVariants.{Hello, Error, EchoRequest, EchoReply, Vendor, FeaturesRequest, FeaturesReply, GetConfigRequest, GetConfigReply, SetConfig, PacketIn, FlowRemoved, PortStatus, PacketOut, FlowMod, PortMod, StatsRequest, StatsReply, BarrierRequest, BarrierReply, QueueGetConfigRequest, QueueGetConfigReply}
+use Rattle.of_wire.specs.declared.message.Message.TheVariants.{Hello, Error, EchoRequest, EchoReply, Vendor, FeaturesReply, PacketIn, PacketOut, FlowMod, StatsRequest, StatsReply, QueueGetConfigRequest, QueueGetConfigReply}
 use Rattle.of_wire.specs.Spelling.{kind_of, matching_in, match_size, header_fields, port_fields, body_fields, ports_bytes, message_size}
 
 -- ---- values
@@ -69,3 +69,24 @@ pub record SpellMessage (xid : ℕ) (message : Message) (bytes : List ℕ) : Typ
 
 abbrev pub enveloped : ℕ → Message → Envelope
 enveloped xid message = record { xid = xid; message = message }
+
+-- ---- what is ignored when bytes are read
+
+-- the place i behind the fields lies in a pad of an action
+abbrev pub InTailPad : Message → ℕ → Type 0
+InTailPad (PacketOut packet) i = InPads packet.actions i
+InTailPad (FlowMod flow) i = InPads flow.actions i
+InTailPad other i = ⊥
+
+-- the place i lies in the match, some of whose bits say nothing, or in a pad
+abbrev pub IsIgnored : Message → ℕ → Type 0
+IsIgnored message i =
+    ((8 ≤ i) × (i < fields_place message)) ⊎ (InPad (fields_place message) (body_fields message) i
+    ⊎ ((tail_place message ≤ i) × InTailPad message (i - tail_place message)))
+
+-- Bytes that spell one match, if any, and differ but there in pads alone.
+pub record SameButIgnored (message : Message) (old new : List ℕ) : Type 0 where
+  pub size : length new ≡ length old
+  pub old_match : SpellMatch (matching_in message) old
+  pub new_match : SpellMatch (matching_in message) new
+  pub places : (i : ℕ) → i < length old → ¬ IsIgnored message i → slice_index new i ≡ slice_index old i

@@ -1,29 +1,28 @@
 -- What is read was spelled.
-use Rattle.std.proofs.Common.{◌≡◌, ℕ, zero, suc, ◌+◌, ◌-◌, ◌*◌, ◌/◌, ◌%◌, ◌^◌, ◌≤◌, ◌<◌, Bool, true, false, cond, eqb, ltb, leb, ◌&&◌, List, [], ◌∷◌, ◌++◌, length, take, drop, Option, Some, None, Result, Ok, Err, refl, sym, ap, subst, ◌∙◌, append_assoc, arith, eq-eqb}
+use Rattle.std.proofs.Common.{◌≡◌, ℕ, zero, suc, ◌+◌, ◌-◌, ◌*◌, ◌/◌, ◌%◌, ◌^◌, ◌≤◌, ◌<◌, Bool, true, false, cond, eqb, ltb, List, [], ◌++◌, length, take, drop, Option, Some, None, Result, Ok, Err, refl, sym, ap, subst, ◌∙◌, arith}
 use Rattle.std.specs.Prelude.{IfOk}
 use Rattle.std.specs.List.{AllByRecursion}
 use Rattle.std.proofs.lemmas.Bool.{eqb-true, ltb-false, leb-true, and_parts, cond_both}
 use Rattle.std.proofs.lemmas.List.{drop_all, drop-drop, length-drop, take-append-drop, nil_from_length}
 use Rattle.of_types.specs.Fields.{number_at, piece, IsBytes}
 use Rattle.of_types.specs.FieldLaws.{IsBytes-drop, IsBytes-piece, number_at-lt, number_at-drop, piece-drop, length-piece}
-use Rattle.of_types.specs.Layout.{Field, spelled, width, AreFields, IsLaidOut}
+use Rattle.of_types.specs.Layout.{spelled, AreFields, IsLaidOut}
 use Rattle.of_types.specs.LayoutLaws.{spelled-IsLaidOut}
-use Rattle.of_types.specs.declared.port_desc.PortDesc.{PortDesc}
 use Rattle.of_action.specs.declared.action.Action.{Action}
 use Rattle.of_action.specs.declared.fault.ActionFault.{ActionFault}
 use Rattle.of_action.specs.Spelling.{list_size, Spell}
-use Rattle.of_action.specs.Reading.{◌>>=◌, actions_of}
+use Rattle.of_action.specs.Reading.{actions_of}
 use Rattle.of_action.specs.ReadingLaws.{bind_ok, guard_ok}
 use Rattle.of_action.specs.ActionLaws.{AreSpelled-actions_of, length-Spell}
 use Rattle.of_wire.specs.declared.kind.MessageKind.{MessageKind}
 use Rattle.of_wire.specs.declared.kind.MessageKind.TheVariants as kinds
 use Rattle.of_wire.specs.declared.fault.WireFault.{WireFault}
-use Rattle.of_wire.specs.declared.fault.WireFault.TheVariants.{BadVersion, BadType, BadLength}
+use Rattle.of_wire.specs.declared.fault.WireFault.TheVariants.{BadVersion, BadLength}
 use Rattle.of_wire.specs.declared.message.Envelope.{Envelope}
 use Rattle.of_wire.specs.declared.message.Message.{Message}
-use Rattle.of_wire.specs.declared.message.Message.TheVariants.{Hello, Error, EchoRequest, EchoReply, Vendor, FeaturesRequest, FeaturesReply, GetConfigRequest, GetConfigReply, SetConfig, PacketIn, FlowRemoved, PortStatus, PacketOut, FlowMod, PortMod, StatsRequest, StatsReply, BarrierRequest, BarrierReply, QueueGetConfigRequest, QueueGetConfigReply}
+use Rattle.of_wire.specs.declared.message.Message.TheVariants.{Hello, Error, EchoRequest, EchoReply, Vendor, FeaturesRequest, GetConfigRequest, GetConfigReply, SetConfig, FlowRemoved, PortStatus, PortMod, StatsRequest, StatsReply, BarrierRequest, BarrierReply, QueueGetConfigRequest, QueueGetConfigReply}
 use Rattle.of_wire.specs.Kinds.{number_of_kind, kind_of_number}
-use Rattle.of_wire.specs.Spelling.{kind_of, matching_in, match_size, port_fields, body_fields, ports_bytes, message_size, message_bytes}
+use Rattle.of_wire.specs.Spelling.{kind_of, matching_in, port_fields, body_fields, ports_bytes, message_size, message_bytes}
 use Rattle.of_wire.specs.Reading.{Gives, has_length, if_sized, front_of, port_of, ports_of, config_of, flow_removed_of, port_status_of, port_mod_of, stats_of, of_actions, packet_out_of, flow_mod_of, body_of, reading_of}
 use Rattle.of_wire.specs.Grammar.{IsTail, IsMessage, SpellMatch, SpellTail, fields_place, tail_place, SpellMessage}
 use Rattle.of_wire.specs.ReadingLaws.{reading_of-message_bytes}

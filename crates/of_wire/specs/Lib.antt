@@ -7,3 +7,4 @@ pub mod SpellingLaws
 pub mod ReadingLaws
 pub mod GrammarLaws
 pub mod Stats
+pub mod RewritingLaws

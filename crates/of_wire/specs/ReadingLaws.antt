@@ -1,15 +1,14 @@
 -- What is spelled is read.
-use Rattle.std.proofs.Common.{◌≡◌, ℕ, zero, suc, ◌+◌, ◌-◌, ◌*◌, ◌/◌, ◌%◌, ◌^◌, ◌≤◌, ◌<◌, Bool, true, false, cond, eqb, ltb, leb, List, [], ◌∷◌, ◌++◌, length, take, drop, Option, Some, None, Result, Ok, Err, refl, sym, ap, subst, ◌∙◌, append_assoc, arith, eq-eqb}
+use Rattle.std.proofs.Common.{◌≡◌, ℕ, ◌+◌, ◌-◌, ◌*◌, ◌/◌, ◌%◌, ◌^◌, ◌≤◌, ◌<◌, true, false, eqb, ltb, List, [], ◌∷◌, ◌++◌, length, drop, Some, Result, Ok, refl, sym, ap, ◌∙◌, arith, eq-eqb}
 use Rattle.std.specs.List.{AllByRecursion}
 use Rattle.std.proofs.lemmas.Bool.{le-leb, le-ltb, and_from}
-use Rattle.std.proofs.lemmas.List.{drop_at, drop-drop, length-append}
+use Rattle.std.proofs.lemmas.List.{drop_at, drop-drop}
 use Rattle.of_types.specs.Fields.{number_at, piece}
 use Rattle.of_types.specs.FieldLaws.{number_at-drop, piece-drop}
-use Rattle.of_types.specs.Layout.{Field, spelled, width, AreFields, IsLaidOut}
+use Rattle.of_types.specs.Layout.{spelled, AreFields}
 use Rattle.of_types.specs.LayoutLaws.{IsLaidOut-spelled, length-spelled}
 use Rattle.of_types.specs.declared.port_desc.PortDesc.{PortDesc}
 use Rattle.of_action.specs.Spelling.{list_size}
-use Rattle.of_action.specs.Reading.{actions_of}
 use Rattle.of_action.specs.ActionLaws.{actions_of-Spell}
 use Rattle.of_wire.specs.declared.kind.MessageKind.{MessageKind}
 use Rattle.of_wire.specs.declared.kind.MessageKind.TheVariants as kinds

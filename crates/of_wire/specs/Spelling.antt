@@ -1,5 +1,5 @@
 -- The one spelling of each message: a header, for some a match, fields, and what follows to the end (OpenFlow 1.0.0, 5).
-use Rattle.std.specs.Prelude.{◌≡◌, ℕ, ◌+◌, ◌*◌, List, [], ◌∷◌, ◌++◌, length, Option, Some, None}
+use Rattle.std.specs.Prelude.{ℕ, ◌+◌, ◌*◌, List, [], ◌∷◌, ◌++◌, length, Option, Some, None}
 use Rattle.std.specs.List.{flat_map}
 use Rattle.of_types.specs.Layout.{Field, number, raw, pad, spelled, width}
 use Rattle.of_types.specs.declared.port_desc.PortDesc.{PortDesc}

@@ -1,9 +1,9 @@
 -- A message's spelling spells it.
-use Rattle.std.proofs.Common.{◌≡◌, ℕ, ◌+◌, ◌*◌, ◌^◌, ◌≤◌, ◌<◌, List, [], ◌∷◌, ◌++◌, length, take, drop, Option, Some, None, refl, sym, ap, subst, ◌∙◌, append_assoc, arith}
+use Rattle.std.proofs.Common.{◌≡◌, ℕ, ◌*◌, ◌^◌, ◌<◌, List, [], ◌∷◌, ◌++◌, length, take, drop, Option, Some, None, refl, sym, ap, subst, ◌∙◌, append_assoc, arith}
 use Rattle.std.specs.List.{AllByRecursion}
 use Rattle.std.proofs.lemmas.List.{take_at, drop_at, length-append}
 use Rattle.of_types.specs.Fields.{piece}
-use Rattle.of_types.specs.Layout.{Field, spelled, width, AreFields, IsLaidOut}
+use Rattle.of_types.specs.Layout.{spelled, width, AreFields, IsLaidOut}
 use Rattle.of_types.specs.LayoutLaws.{IsLaidOut-spelled, length-spelled}
 use Rattle.of_types.specs.declared.port_desc.PortDesc.{PortDesc}
 use Rattle.of_match.specs.declared.fields.Fields.{Fields}
@@ -126,7 +126,7 @@ SpellMatch-match_bytes (Some matching) front rest len =
 
 -- ---- the message
 
-header_fits : (xid : ℕ) (message : Message) → xid < 2 ^ 32 → IsMessage message → AreFields (header_fields (kind_of message) (message_size message) xid)
+pub header_fits : (xid : ℕ) (message : Message) → xid < 2 ^ 32 → IsMessage message → AreFields (header_fields (kind_of message) (message_size message) xid)
 header_fits xid message small is = (omega arith, (number_of_kind-lt (kind_of message), (is.size, (small, tt))))
 
 whole_size : (message : Message) (h m b t : List ℕ) → length h ≡ 8 → length m ≡ match_size (matching_in message) → length b ≡ width (body_fields message) → length t ≡ tail_size message → length (h ++ (m ++ (b ++ t))) ≡ message_size message

@@ -6,7 +6,7 @@ ghost use Rattle.of_wire.specs.declared.message.Envelope.{Envelope};
 ghost use Rattle.of_wire.specs.declared.message.Message.{Message};
 ghost use Rattle.of_wire.specs.Spelling.{message_bytes};
 ghost use Rattle.of_wire.specs.Reading.{reading_of};
-ghost use Rattle.of_wire.specs.Grammar.{IsMessage, SpellMessage, enveloped};
+ghost use Rattle.of_wire.specs.Grammar.{IsMessage, SpellMessage, SameButIgnored, enveloped};
 
 /// What is written of a message of the grammar spells it, and is read again as it, whatever its `xid`.
 pub fn decode_after_encode()
@@ -23,8 +23,11 @@ pub fn one_reading()
         → enveloped xid message ≡ enveloped other_xid other }
 {}
 
-/// What was read and is written anew is read as before.
+/// What was read and is written anew is read as before, and differs from what was read at most in ignored
+/// bits of the match and in pads.
 pub fn encode_after_decode()
-    ensures { (bytes : List ℕ) (envelope : Envelope) → IsBytes bytes → reading_of bytes ≡ Ok envelope
+    ensures again { (bytes : List ℕ) (envelope : Envelope) → IsBytes bytes → reading_of bytes ≡ Ok envelope
         → reading_of (message_bytes envelope.xid envelope.message) ≡ Ok envelope }
+    ensures same { (bytes : List ℕ) (envelope : Envelope) → IsBytes bytes → reading_of bytes ≡ Ok envelope
+        → SameButIgnored envelope.message bytes (message_bytes envelope.xid envelope.message) }
 {}

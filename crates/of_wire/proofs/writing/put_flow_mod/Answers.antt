@@ -1,5 +1,5 @@
 use Rattle.std.proofs.Common.{◌≡◌, ◌+◌, take, append_assoc, arith}
-use Rattle.std.proofs.lemmas.List.{take_all, append-nil}
+use Rattle.std.proofs.lemmas.List.{take_all}
 use Rattle.of_action.specs.Spelling.{list_size}
 use Rattle.of_wire.specs.Spelling.{message_size, body_bytes}
 use Rattle.of_wire.proofs.writing.put_flow_mod.Goals as goal
