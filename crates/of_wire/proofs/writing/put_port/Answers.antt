@@ -1,0 +1,8 @@
+use Rattle.std.proofs.Common.{◌≡◌, take, append_assoc, arith}
+use Rattle.std.proofs.lemmas.List.{take_all, append-nil}
+use Rattle.of_wire.proofs.writing.put_port.Goals as goal
+
+pub returns : goal.returns
+returns c =
+    let whole : take 48 c.put_u32-6.new.bytes ≡ c.put_u32-6.new.bytes = take_all 48 c.put_u32-6.new.bytes (omega arith) in
+    rw (← whole, c.put_u32-6.ensures.front, c.put_u32-5.ensures.front, c.put_u32-4.ensures.front, c.put_u32-3.ensures.front, c.put_u32-2.ensures.front, c.put_u32.ensures.front, c.put_array-2.ensures.front, c.put_array.ensures.front, c.put_u16.ensures.front) (simp (append_assoc, append-nil))
