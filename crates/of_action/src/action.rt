@@ -1,0 +1,34 @@
+//! One action.
+
+use crate::opaque::Opaque;
+
+/// What a switch does to a packet (OpenFlow 1.0.0, 5.2.4 Flow Action Structures).
+#[derive(Drop, Debug, Clone, PartialEq, Eq)]
+pub enum Action {
+    /// Sends it out by the port; to the controller at most `max_len` bytes of it.
+    Output { port: u16, max_len: u16 },
+    /// Sets the number in its VLAN tag.
+    SetVlanVid(u16),
+    /// Sets the priority in its VLAN tag.
+    SetVlanPcp(u8),
+    /// Removes its VLAN tag.
+    StripVlan,
+    /// Sets its Ethernet source address.
+    SetDlSrc([u8; 6]),
+    /// Sets its Ethernet destination address.
+    SetDlDst([u8; 6]),
+    /// Sets its IPv4 source address.
+    SetNwSrc(u32),
+    /// Sets its IPv4 destination address.
+    SetNwDst(u32),
+    /// Sets its IPv4 type of service.
+    SetNwTos(u8),
+    /// Sets its TCP or UDP source port.
+    SetTpSrc(u16),
+    /// Sets its TCP or UDP destination port.
+    SetTpDst(u16),
+    /// Sends it out by a queue of the port.
+    Enqueue { port: u16, queue: u32 },
+    /// Does what a vendor says.
+    Vendor(Opaque),
+}

@@ -1,0 +1,99 @@
+//! A list of actions.
+
+ghost use Rattle.std.specs.Prelude.{◌≡◌, ◌↔◌, ℕ, [], length, IfOk, IsTrue, Contains};
+
+use crate::action::Action;
+use std::alloc::Global;
+use std::cmp::{Eq, PartialEq};
+use std::marker::Model;
+
+/// Actions in the order in which they are done. Contracts see a list.
+#[derive(Drop, Debug, Clone)]
+pub struct ActionList {
+    actions: Vec<Action>,
+}
+
+impl Model for ActionList {
+    ghost use Rattle.std.specs.Prelude.{List};
+    ghost use Rattle.of_action.specs.declared.action.Action.{Action};
+
+    ghost Value = { List Action };
+
+    ghost view = { λ s. s.actions.items };
+}
+
+impl ActionList {
+    /// No actions; takes no memory.
+    pub fn new(alloc: Global) -> ActionList
+        ensures { result ≡ [] }
+    {
+        ActionList {
+            actions: Vec::new(alloc),
+        }
+    }
+
+    /// The actions of a vector, which becomes the list; takes no memory.
+    pub fn from_vec(actions: Vec<Action>) -> ActionList
+        ensures { result ≡ actions.items }
+    {
+        ActionList { actions }
+    }
+
+    /// The vector back; takes no memory.
+    pub fn into_vec(self) -> Vec<Action>
+        ensures { result.items ≡ self }
+    {
+        self.actions
+    }
+
+    /// The actions.
+    pub fn as_slice(&self) -> &[Action]
+        ensures { result.now ≡ self.now }
+    {
+        self.actions.as_slice()
+    }
+
+    /// How many actions there are.
+    pub fn len(&self) -> usize
+        ensures { result ≡ length self.now }
+    {
+        self.actions.len()
+    }
+
+    /// There are no actions.
+    pub fn is_empty(&self) -> bool
+        ensures { IsTrue result ↔ (self.now ≡ []) }
+    {
+        self.actions.is_empty()
+    }
+}
+
+impl PartialEq for ActionList {
+    ghost use Rattle.std.specs.Cmp.Lexicographic.{pointwise, lists_per};
+
+    ghost eq = { λ x y. pointwise ⟦<Action as PartialEq>⟧.eq x y };
+
+    ghost use Rattle.of_action.specs.contracts.action.ActionPartialEq.TheImpl.Laws.{laws-law};
+
+    ghost laws = { lists_per laws-law };
+
+    fn eq(&self, other: &ActionList) -> bool {
+        self.actions == other.actions
+    }
+}
+
+impl Eq for ActionList {
+    ghost use Rattle.std.specs.Cmp.Lexicographic.{lists_equiv};
+    ghost use Rattle.of_action.specs.contracts.action.ActionEq.TheImpl.Laws.{laws-law};
+
+    ghost laws = { lists_equiv laws-law };
+}
+
+/// Some OUTPUT of the list goes to the port. An ENQUEUE is none.
+pub fn outputs_to(list: &ActionList, port: u16) -> bool
+    ensures { IsTrue result ↔ ((max_len : ℕ) × Contains list.now (Action.Output port max_len)) }
+{
+    list.as_slice().iter().any(
+        |action| matches!(action, Action::Output { port: to, .. } if *to == port),
+    )
+}

@@ -1,0 +1,5 @@
+use Rattle.of_types.specs.LayoutLaws.{IsLaidOut-spelled}
+use Rattle.of_types.proofs.fields.law_of_layouts.Goals as goal
+
+pub returns : goal.returns
+returns c = IsLaidOut-spelled

@@ -1,0 +1,14 @@
+use Rattle.std.proofs.Common.{refl, arith, ◌∙◌, ap, take, ◌+◌}
+use Rattle.of_types.specs.Fields.{number_bytes}
+use Rattle.of_types.proofs.Writing.{put_mid-with_field, take-with_field}
+use Rattle.of_types.proofs.fields.put_u64.Goals as goal
+
+pub returns-clause-field : goal.returns-clause-field
+unfolding number_bytes
+returns-clause-field c = put_mid-with_field c.args.at 8 c.args.bytes.now _ (number_bytes 8 c.args.value) refl c.requires c.write_u64.ensures
+
+pub returns-clause-front : goal.returns-clause-front
+unfolding number_bytes
+returns-clause-front c =
+    ap (take (c.args.at + 8)) (put_mid-with_field c.args.at 8 c.args.bytes.now _ (number_bytes 8 c.args.value) refl c.requires c.write_u64.ensures)
+    ∙ take-with_field c.args.at 8 c.args.bytes.now (number_bytes 8 c.args.value) refl (omega arith)
