@@ -1,0 +1,3 @@
+pub mod Ethernet
+pub mod Ipv4
+pub mod PacketFields
