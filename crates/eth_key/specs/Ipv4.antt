@@ -27,9 +27,10 @@ header_in (Some payload) frame = if payload.dl_type == 0x0800 then header_at pay
 abbrev pub ipv4_header : List ℕ → Option Ipv4Header
 ipv4_header frame = header_in (payload_of frame) frame
 
--- the header lies within the frame
+-- a header of 20 to 60 bytes that lies within the frame
 pub record IsWithin (header : Ipv4Header) (frame : List ℕ) : Type 0 where
-  pub fixed : header.start + 20 ≤ header.end
+  pub at_least : header.start + 20 ≤ header.end
+  pub at_most : header.end ≤ header.start + 60
   pub whole : header.end ≤ length frame
 
 abbrev pub protocol : Ipv4Header → List ℕ → ℕ
