@@ -1,5 +1,5 @@
 -- The checksums of a datagram computed anew. Which are, and when, is this project's own choice.
-use Rattle.std.specs.Prelude.{◌==◌, ℕ, ◌+◌, ◌-◌, Bool, not, ◌&&◌, List, [], ◌∷◌, ◌++◌, length, nat_le, if◌then◌else◌}
+use Rattle.std.specs.Prelude.{◌≡◌, ◌≢◌, ◌==◌, ℕ, ◌+◌, ◌-◌, Bool, IsTrue, not, ◌&&◌, List, [], ◌∷◌, ◌++◌, length, nat_le, if◌then◌else◌}
 use Rattle.of_types.specs.Fields.{number_at, number_bytes, piece, with_field}
 use Rattle.eth_key.specs.declared.ipv4.Ipv4Header.{Ipv4Header}
 use Rattle.eth_key.specs.Ipv4.{protocol, is_fragment}
@@ -39,9 +39,12 @@ pseudo_header header frame =
     number_bytes 4 (number_at 4 (header.start + 12) frame) ++ number_bytes 4 (number_at 4 (header.start + 16) frame)
     ++ (0 ∷ protocol header frame ∷ []) ++ number_bytes 2 (datagram_end header frame - header.end)
 
+-- what the checksum is over
+abbrev pub covered : Ipv4Header → List ℕ → List ℕ
+covered header frame = pseudo_header header frame ++ segment header frame
+
 unfoldable pub segment_checksum : Ipv4Header → ℕ → List ℕ → ℕ
-segment_checksum header at frame =
-    checksum (word_sum (pseudo_header header (cleared at frame) ++ segment header (cleared at frame)))
+segment_checksum header at frame = checksum (word_sum (covered header (cleared at frame)))
 
 -- A datagram that is all in the frame, no fragment, and long enough for the field of two bytes.
 unfoldable pub has_field : Ipv4Header → ℕ → List ℕ → Bool
@@ -78,3 +81,10 @@ with_segment_checksum header frame =
 -- The header's first, and then the segment's.
 abbrev pub with_checksums : Ipv4Header → List ℕ → List ℕ
 with_checksums header frame = with_segment_checksum header (with_header_checksum header frame)
+
+-- ---- What a receiver verifies: over bytes that have their checksum among them, the checksum is 0 (RFC 1071, 1).
+
+pub record Verifies (header : Ipv4Header) (frame : List ℕ) : Type 0 where
+  pub ipv4 : checksum (word_sum (header_bytes header frame)) ≡ 0
+  pub tcp : protocol header frame ≡ 6 → IsTrue (has_field header (tcp_checksum_place header) frame) → checksum (word_sum (covered header frame)) ≡ 0
+  pub udp : protocol header frame ≡ 17 → IsTrue (has_field header (udp_checksum_place header) frame) → number_at 2 (udp_checksum_place header) frame ≢ 0 → checksum (word_sum (covered header frame)) ≡ 0

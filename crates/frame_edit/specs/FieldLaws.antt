@@ -1,7 +1,7 @@
 -- Laws of a field that is written at a place: the length stays, and so does all that stands elsewhere.
 use Rattle.std.proofs.Common.{◌≡◌, ℕ, ◌+◌, ◌-◌, ◌<◌, ◌≤◌, List, ◌++◌, length, get_or, take, drop, refl, sym, ap, ◌∙◌, append_assoc, arith}
-use Rattle.std.proofs.lemmas.List.{take_at, drop_at, drop-drop, take-append-drop, length-append, length-take, length-drop, get_or-drop, get_or-take}
-use Rattle.of_types.specs.Fields.{number_at, number_bytes, piece, with_field}
+use Rattle.std.proofs.lemmas.List.{take_at, drop_at, drop-drop, length-append, length-take, length-drop, get_or-drop, get_or-take}
+use Rattle.of_types.specs.Fields.{number_at, number_bytes, with_field}
 use Rattle.of_types.specs.FieldLaws.{number_at-take, length-number_bytes}
 
 pub length-with_field : (at : ℕ) (field bytes : List ℕ) → at + length field ≤ length bytes → length (with_field at field bytes) ≡ length bytes
@@ -31,3 +31,24 @@ with_field-with_field at field other bytes same within =
 pub with_field_again : (at value other : ℕ) (bytes : List ℕ) → at + 2 ≤ length bytes → with_field at (number_bytes 2 value) (with_field at (number_bytes 2 other) bytes) ≡ with_field at (number_bytes 2 value) bytes
 with_field_again at value other bytes within =
     with_field-with_field at (number_bytes 2 value) (number_bytes 2 other) bytes (length-number_bytes 2 value ∙ sym (length-number_bytes 2 other)) (omega (arith, length-number_bytes 2 other))
+
+-- a number that begins behind the field
+pub number_at-with_field_earlier : (n p at : ℕ) (field bytes : List ℕ) → at + length field ≤ p → at + length field ≤ length bytes → number_at n p (with_field at field bytes) ≡ number_at n p bytes
+unfolding number_at
+number_at-with_field_earlier n p at field bytes behind within =
+    let parts : p ≡ (at + length field) + (p - (at + length field)) = omega arith in
+    let past : (xs : List ℕ) → drop p xs ≡ drop (p - (at + length field)) (drop (at + length field) xs) = λ xs. ap (λ (i : ℕ). drop i xs) parts ∙ sym (drop-drop (p - (at + length field)) (at + length field) xs) in
+    ap (number_at n 0) (past (with_field at field bytes) ∙ ap (drop (p - (at + length field))) (drop-with_field at field bytes within) ∙ sym (past bytes))
+
+pub get_or-with_field_later : (i at : ℕ) (field bytes : List ℕ) → i < at → at ≤ length bytes → get_or (with_field at field bytes) i 0 ≡ get_or bytes i 0
+get_or-with_field_later i at field bytes before within =
+    sym (get_or-take at (with_field at field bytes) i 0 before)
+    ∙ ap (λ (xs : List ℕ). get_or xs i 0) (take-with_field at field bytes within)
+    ∙ get_or-take at bytes i 0 before
+
+pub get_or-with_field_earlier : (i at : ℕ) (field bytes : List ℕ) → at + length field ≤ i → at + length field ≤ length bytes → get_or (with_field at field bytes) i 0 ≡ get_or bytes i 0
+get_or-with_field_earlier i at field bytes behind within =
+    let past = at + length field in
+    let parts : past + (i - past) ≡ i = omega arith in
+    let there : (xs : List ℕ) → get_or (drop past xs) (i - past) 0 ≡ get_or xs i 0 = λ xs. get_or-drop past xs (i - past) 0 ∙ ap (λ (k : ℕ). get_or xs k 0) parts in
+    sym (there (with_field at field bytes)) ∙ ap (λ (xs : List ℕ). get_or xs (i - past) 0) (drop-with_field at field bytes within) ∙ there bytes

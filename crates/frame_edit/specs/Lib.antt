@@ -6,3 +6,6 @@ pub mod Edits
 pub mod FieldLaws
 pub mod OutputLaws
 pub mod TagLaws
+pub mod VerifyLaws
+pub mod Written
+pub mod WrittenLaws

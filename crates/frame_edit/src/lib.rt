@@ -6,8 +6,13 @@ mod applying;
 mod checksum;
 mod datagram;
 mod fields;
+mod laws;
 mod outputs;
 mod tag;
 
 pub use applying::{Edited, apply};
+pub use laws::{laws_of_checksums, laws_of_edits};
 pub use outputs::OutList;
+
+#[cfg(test)]
+mod tests;

@@ -1,4 +1,4 @@
-use Rattle.std.proofs.Common.{◌≡◌, ◌++◌, drop, sym, ap, ◌∙◌}
+use Rattle.std.proofs.Common.{sym, ap, ◌∙◌}
 use Rattle.frame_edit.specs.Edits.{outputs}
 use Rattle.frame_edit.specs.OutputLaws.{outputs-drop, outputs-drop_all}
 use Rattle.frame_edit.proofs.applying.apply.Goals as goal
