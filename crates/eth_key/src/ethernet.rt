@@ -5,8 +5,8 @@ ghost use Rattle.eth_key.specs.Ethernet.{is_tagged, is_snap, vlan_of, priority_o
 
 use of_types::{get_u16, get_u32};
 
-/// The bytes of both addresses and the type (IEEE 802.3, 3.1.1).
-const HEADER_LEN: usize = 14;
+/// The bytes of an Ethernet header: both addresses and the type (IEEE 802.3, 3.1.1).
+pub const ETHERNET_LEN: usize = 14;
 
 /// The bytes of the addresses, a VLAN tag and the type.
 const TAGGED_LEN: usize = 18;
@@ -106,7 +106,7 @@ pub fn payload_of(frame: &[u8]) -> Option<Payload>
     ensures value { result ≡ payload_of frame.now }
     ensures within { IfSome result (λ payload. payload.start ≤ length frame.now) }
 {
-    if frame.len() < HEADER_LEN {
+    if frame.len() < ETHERNET_LEN {
         return None;
     }
     let at = if is_tagged(frame) {

@@ -15,12 +15,14 @@ const MIN_HEADER_LEN: usize = 20;
 /// The bits of the flags and the offset that tell a fragment: more fragments, and the offset.
 const FRAGMENT: u16 = 0x3fff;
 
-/// Protocol numbers (RFC 790).
+/// The protocol number of ICMP (RFC 790).
 const ICMP: u8 = 1;
 
-const TCP: u8 = 6;
+/// The protocol number of TCP (RFC 790).
+pub const TCP: u8 = 6;
 
-const UDP: u8 = 17;
+/// The protocol number of UDP (RFC 790).
+pub const UDP: u8 = 17;
 
 /// Where an IPv4 header stands in a frame (RFC 791, 3.1).
 #[derive(Clone, Copy, Debug, PartialEq, Eq)]

@@ -10,6 +10,9 @@ use of_action::{Action, ActionList};
 use of_types::{ByteList, PortNo};
 use std::alloc::{AllocError, Global};
 
+/// The bytes of a VLAN tag, for which a copy of a frame has room.
+const TAG_LEN: usize = 4;
+
 /// What actions make of a frame.
 #[derive(Drop, Debug, Clone)]
 pub struct Edited {
@@ -58,7 +61,8 @@ pub fn apply(alloc: Global, actions: &ActionList, frame: &[u8]) -> Result<Edited
     requires { AreEdits actions.now }
     ensures { IfOk result (λ edited. edited.frames ≡ outputs actions.now frame.now) }
 {
-    let mut current = Vec::from_slice(alloc, frame)?;
+    let mut current = Vec::with_capacity(alloc, frame.len() + TAG_LEN)?;
+    current.extend_from_slice(frame)?;
     let mut frames = Vec::new(alloc);
     for action in actions.as_slice() {
         send(alloc, &mut frames, action, current.as_slice())?;

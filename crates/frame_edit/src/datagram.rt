@@ -5,13 +5,8 @@ ghost use Rattle.eth_key.specs.Ipv4.{IsWithin};
 ghost use Rattle.frame_edit.specs.Datagram.{cleared, has_field, pseudo_header, segment_checksum, datagram_end, with_header_checksum, with_tcp_checksum, with_udp_checksum, with_segment_checksum, with_checksums};
 
 use crate::checksum::{checksum, word_sum};
-use eth_key::{Ipv4Header, is_fragment, protocol};
+use eth_key::{Ipv4Header, TCP, UDP, is_fragment, protocol};
 use of_types::{get_u16, get_u32, put_u16};
-
-/// Protocol numbers (RFC 790).
-const TCP: u8 = 6;
-
-const UDP: u8 = 17;
 
 /// The place of the checksum in an IPv4 header (RFC 791, 3.1).
 const HEADER_CHECKSUM: usize = 10;

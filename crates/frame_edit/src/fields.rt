@@ -5,18 +5,15 @@ ghost use Rattle.eth_key.specs.Ipv4.{IsWithin};
 ghost use Rattle.frame_edit.specs.Edits.{rewritten, with_address, with_network_address, with_port, with_service};
 
 use crate::datagram::renew_checksums;
-use eth_key::{Ipv4Header, has_ports, ipv4_header};
+use eth_key::{ETHERNET_LEN, Ipv4Header, has_ports, ipv4_header};
 use of_types::{get_u8, get_u16, get_u32, put_bytes, put_u8, put_u16, put_u32};
-
-/// The bytes of both Ethernet addresses and the type.
-const HEADER_LEN: usize = 14;
 
 #[tactic(auto, unfolding(crate::specs::Edits::with_address))]
 pub(crate) fn set_address(frame: &mut [u8], at: usize, address: &[u8; 6])
     requires { at ≤ 6 }
     ensures { frame.new ≡ with_address at address.now frame.old }
 {
-    if frame.len() >= HEADER_LEN {
+    if frame.len() >= ETHERNET_LEN {
         put_bytes(frame, at, address);
     }
 }

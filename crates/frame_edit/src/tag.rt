@@ -3,12 +3,9 @@
 ghost use Rattle.std.specs.Prelude.{◌≡◌, ◌≤◌, OnOk, vec_len};
 ghost use Rattle.frame_edit.specs.Edits.{tagged, with_control, with_identifier, with_priority, without_tag};
 
-use eth_key::is_tagged;
+use eth_key::{ETHERNET_LEN, is_tagged};
 use of_types::{get_u16, put_u16};
 use std::alloc::AllocError;
-
-/// The bytes of both addresses and the type: a shorter frame gets no tag.
-const HEADER_LEN: usize = 14;
 
 /// The place of the tag, behind the addresses.
 const TAG: usize = 12;
@@ -40,7 +37,7 @@ pub(crate) fn set_identifier(frame: &mut Vec<u8>, vid: u16) -> Result<(), AllocE
             CONTROL,
             control / 4096 * 4096 + vid % 4096,
         );
-    } else if frame.len() >= HEADER_LEN {
+    } else if frame.len() >= ETHERNET_LEN {
         insert_tag(frame, vid % 4096)?;
     }
     Ok(())
@@ -54,7 +51,7 @@ pub(crate) fn set_priority(frame: &mut Vec<u8>, pcp: u8) -> Result<(), AllocErro
     if is_tagged(frame.as_slice()) {
         let control = get_u16(frame.as_slice(), CONTROL);
         put_u16(frame.as_mut_slice(), CONTROL, high + control % 8192);
-    } else if frame.len() >= HEADER_LEN {
+    } else if frame.len() >= ETHERNET_LEN {
         insert_tag(frame, high)?;
     }
     Ok(())
