@@ -65,7 +65,7 @@ fn with_header(alloc: Global, kind: u8, size: u16) -> Result<Vec<u8>, AllocError
 const OUTPUT: [u8; 8] = [0, 0, 0, 8, 0, 2, 0, 0];
 
 /// A FLOW_MOD that adds an entry with one OUTPUT action.
-fn flow_mod(alloc: Global) -> Result<Vec<u8>, AllocError> {
+pub fn flow_mod(alloc: Global) -> Result<Vec<u8>, AllocError> {
     let mut bytes = Vec::with_capacity(alloc, 80)?;
     bytes.extend_from_slice(&[1, 14, 0, 80, 0, 0, 0, 7])?;
     bytes.extend_from_slice(&[0, 0x38, 0x20, 0xfe, 0, 1])?;

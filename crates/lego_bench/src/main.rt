@@ -1,47 +1,79 @@
 //! The loops that `bench/` measures. Safety alone is proved here, and no library stands on this crate.
 //!
-//! The words are an operation, a corpus and a number of rounds: `decode small 100`. What is written is
-//! how many messages and bytes the rounds went over.
+//! The words are an operation, what it goes over and a number of rounds: `decode small 100`. What is
+//! written is how many messages or frames the rounds went over, and their bytes.
 #![tactic(auto)]
 
 mod corpus;
+mod frames;
+mod stream;
 mod wire;
 
 use crate::corpus::Corpus;
+use crate::frames::{FrameOperation, FrameSize};
+use crate::stream::Piece;
 use crate::wire::{Operation, Work};
-use std::alloc::AllocError;
+use std::alloc::{AllocError, Global};
 use std::process::ExitCode;
 use std::{env, io};
 
-/// The operation, the corpus and the rounds that the words name.
-fn command(rt: &HostRuntime) -> io::Result<Option<(Operation, Corpus, u64)>> {
+/// A loop.
+#[derive(Clone, Copy, Debug, PartialEq, Eq)]
+enum Loop {
+    /// Over messages.
+    Messages(Operation, Corpus),
+    /// Over a frame.
+    Frames(FrameOperation, FrameSize),
+    /// Over a stream that comes in pieces.
+    Stream(Piece),
+}
+
+impl Loop {
+    /// The loop of these names.
+    fn from_words(operation: &str, over: &str) -> Option<Loop> {
+        if operation == "cut" {
+            return Piece::from_word(over).map(Loop::Stream);
+        }
+        if let Some(operation) = FrameOperation::from_word(operation) {
+            return FrameSize::from_word(over).map(|size| Loop::Frames(operation, size));
+        }
+        let operation = Operation::from_word(operation)?;
+        Corpus::from_word(over).map(|corpus| Loop::Messages(operation, corpus))
+    }
+
+    /// Goes through it as often as there are rounds.
+    fn run(self, alloc: Global, rounds: u64) -> Result<Work, AllocError> {
+        match self {
+            Loop::Messages(operation, corpus) => {
+                let messages = corpus.messages(alloc)?;
+                wire::run(alloc, operation, &messages, rounds)
+            }
+            Loop::Frames(operation, size) => frames::run(alloc, operation, size, rounds),
+            Loop::Stream(piece) => stream::run(alloc, piece, rounds),
+        }
+    }
+}
+
+/// The loop and the rounds that the words name.
+fn command(rt: &HostRuntime) -> io::Result<Option<(Loop, u64)>> {
     let words: Vec<String> = env::args(rt)?.skip(1).collect(rt.alloc())?;
-    let [operation, corpus, rounds] = words.as_slice() else {
+    let [operation, over, rounds] = words.as_slice() else {
         return Ok(None);
     };
-    let (Some(operation), Some(corpus)) = (
-        Operation::from_word(operation.as_str()),
-        Corpus::from_word(corpus.as_str()),
-    ) else {
+    let Ok(rounds) = rounds.as_str().parse::<u64>() else {
         return Ok(None);
     };
-    Ok(
-        rounds
-            .as_str()
-            .parse::<u64>()
-            .ok()
-            .map(|rounds| (operation, corpus, rounds)),
-    )
+    Ok(Loop::from_words(operation.as_str(), over.as_str()).map(|named| (named, rounds)))
 }
 
 fn main(rt: HostRuntime) -> io::Result<ExitCode> {
-    let Some((operation, corpus, rounds)) = command(&rt)? else {
+    let Some((named, rounds)) = command(&rt)? else {
         println!(rt; "usage: lego_bench decode|check|encode small|large|actions ROUNDS")?;
+        println!(rt; "       lego_bench key|edit 64|1500 ROUNDS")?;
+        println!(rt; "       lego_bench cut 1|64|65536 ROUNDS")?;
         return Ok(ExitCode::from(2));
     };
-    let messages = corpus.messages(rt.alloc())?;
-    let work = wire::run(rt.alloc(), operation, &messages, rounds)?;
-    let Work { messages, bytes } = work;
+    let Work { messages, bytes } = named.run(rt.alloc(), rounds)?;
     println!(rt; "messages {messages} bytes {bytes}")?;
     Ok(ExitCode::SUCCESS)
 }

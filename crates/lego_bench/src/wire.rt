@@ -27,7 +27,7 @@ impl Operation {
 }
 
 /// What a loop went over.
-#[derive(Clone, Copy, Debug, PartialEq, Eq)]
+#[derive(Clone, Copy, Debug, Default, PartialEq, Eq)]
 pub struct Work {
     /// How many messages, up to the type's greatest value.
     pub messages: u64,
@@ -37,7 +37,7 @@ pub struct Work {
 
 impl Work {
     /// One message more, of this many bytes.
-    fn add(&mut self, bytes: usize) {
+    pub fn add(&mut self, bytes: usize) {
         self.messages = self.messages.saturating_add(1);
         self.bytes = self.bytes.saturating_add(bytes as u64);
     }
@@ -61,10 +61,7 @@ pub fn run(
     messages: &[Vec<u8>],
     rounds: u64,
 ) -> Result<Work, AllocError> {
-    let mut work = Work {
-        messages: 0,
-        bytes: 0,
-    };
+    let mut work = Work::default();
     let envelopes = values(alloc, messages)?;
     for _ in 0..rounds {
         match operation {

@@ -1,0 +1,53 @@
+#!/usr/bin/env python3
+"""How fast packet keys are read and frames are edited, and how fast a stream is cut into messages.
+
+bench/frames.py [PROGRAM]: PROGRAM is the built lego_bench. Prints, for frames of 64 and of 1,500 bytes,
+keys and edits a second (an edit writes the network destination and the destination port, with both
+checksums, and sends the frame out); and, for a stream of 64 MiB in pieces of 1, 64 and 65,536 bytes, the
+seconds, MiB a second, and the seconds of two streams over those of one, which is about 2 where the work
+is linear.
+"""
+
+import os
+import subprocess
+import sys
+import time
+
+HERE = os.path.dirname(os.path.abspath(__file__))
+PROGRAM = os.path.join(HERE, "..", "crates", "lego_bench", "out", "lego_bench")
+ROUNDS = {"key": 20_000_000, "edit": 1_000_000}
+
+
+def timed(program, operation, over, rounds):
+    start = time.monotonic()
+    done = subprocess.run([program, operation, over, str(rounds)], stdout=subprocess.PIPE, check=True)
+    out = done.stdout.split()
+    return time.monotonic() - start, int(out[1]), int(out[3])
+
+
+def busy(program, operation, over, rounds):
+    """Seconds, frames and bytes, the start of the program left out; the best of three."""
+    runs = []
+    for _ in range(3):
+        idle = timed(program, operation, over, 0)[0]
+        seconds, frames, size = timed(program, operation, over, rounds)
+        runs.append((max(seconds - idle, 1e-6), frames, size))
+    return min(runs)
+
+
+def main():
+    program = sys.argv[1] if len(sys.argv) > 1 else PROGRAM
+    for operation in ("key", "edit"):
+        for size in ("64", "1500"):
+            seconds, frames, octets = busy(program, operation, size, ROUNDS[operation])
+            print("%-5s %6s bytes %14.0f frames/s %10.1f MiB/s" % (
+                operation, size, frames / seconds, octets / 2**20 / seconds))
+    for piece in ("1", "64", "65536"):
+        one, messages, octets = busy(program, "cut", piece, 1)
+        two = busy(program, "cut", piece, 2)[0]
+        print("%-5s %6s bytes %8.2f s %10.1f MiB/s  %d messages, two streams %.2f times one" % (
+            "cut", piece, one, octets / 2**20 / one, messages, two / one))
+    return 0
+
+
+sys.exit(main())
