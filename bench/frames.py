@@ -3,9 +3,9 @@
 
 bench/frames.py [PROGRAM]: PROGRAM is the built lego_bench. Prints, for frames of 64 and of 1,500 bytes,
 keys and edits a second (an edit writes the network destination and the destination port, with both
-checksums, and sends the frame out); and, for a stream of 64 MiB in pieces of 1, 64 and 65,536 bytes, the
-seconds, MiB a second, and the seconds of two streams over those of one, which is about 2 where the work
-is linear.
+checksums, and sends the frame out); and, for one stream that comes in pieces of 1, 64 and 65,536 bytes,
+the seconds for each 64 MiB, MiB a second, and how much longer twice as long a stream takes, which is
+about 2 where the work is linear.
 """
 
 import os
@@ -16,6 +16,7 @@ import time
 HERE = os.path.dirname(os.path.abspath(__file__))
 PROGRAM = os.path.join(HERE, "..", "crates", "lego_bench", "out", "lego_bench")
 ROUNDS = {"key": 20_000_000, "edit": 1_000_000}
+MEBIBYTES = {"1": 64, "64": 640, "65536": 1280}
 
 
 def timed(program, operation, over, rounds):
@@ -42,11 +43,11 @@ def main():
             seconds, frames, octets = busy(program, operation, size, ROUNDS[operation])
             print("%-5s %6s bytes %14.0f frames/s %10.1f MiB/s" % (
                 operation, size, frames / seconds, octets / 2**20 / seconds))
-    for piece in ("1", "64", "65536"):
-        one, messages, octets = busy(program, "cut", piece, 1)
-        two = busy(program, "cut", piece, 2)[0]
-        print("%-5s %6s bytes %8.2f s %10.1f MiB/s  %d messages, two streams %.2f times one" % (
-            "cut", piece, one, octets / 2**20 / one, messages, two / one))
+    for piece, length in MEBIBYTES.items():
+        one, _, octets = busy(program, "cut", piece, length)
+        two = busy(program, "cut", piece, 2 * length)[0]
+        print("%-5s %6s bytes %8.3f s for 64 MiB %10.1f MiB/s, twice the stream %.2f times as long" % (
+            "cut", piece, one * 64 / length, octets / 2**20 / one, two / one))
     return 0
 
 

@@ -5,8 +5,8 @@ use crate::wire::Work;
 use of_stream::{CutFault, Cutter};
 use std::alloc::{AllocError, Global};
 
-/// The bytes in a stream, up to a message: 64 MiB.
-const STREAM: usize = 64 << 20;
+/// The bytes that one round adds to the stream, up to a message: 1 MiB.
+const ROUND: usize = 1 << 20;
 
 /// The size of the pieces in which a stream comes.
 #[derive(Clone, Copy, Debug, PartialEq, Eq)]
@@ -40,32 +40,32 @@ impl Piece {
     }
 }
 
-/// FLOW_MODs of 80 bytes, 64 MiB of them.
-fn stream(alloc: Global) -> Result<Vec<u8>, AllocError> {
+/// FLOW_MODs of 80 bytes, 1 MiB of them.
+fn flow_mods(alloc: Global) -> Result<Vec<u8>, AllocError> {
     let message = flow_mod(alloc)?;
-    let mut bytes = Vec::with_capacity(alloc, STREAM)?;
-    for _ in 0..STREAM / 80 {
+    let mut bytes = Vec::with_capacity(alloc, ROUND)?;
+    for _ in 0..ROUND / 80 {
         bytes.extend_from_slice(&message)?;
     }
     Ok(bytes)
 }
 
-/// Cuts the stream into messages, as often as there are rounds.
+/// Cuts one stream, of as many MiB as there are rounds, into messages.
 pub fn run(alloc: Global, piece: Piece, rounds: u64) -> Result<Work, AllocError> {
-    let bytes = stream(alloc)?;
+    let bytes = flow_mods(alloc)?;
+    let mut cutter = Cutter::new(alloc)?;
     let mut work = Work::default();
     for _ in 0..rounds {
-        cut(alloc, &bytes, piece.bytes(), &mut work)?;
+        cut(&mut cutter, &bytes, piece.bytes(), &mut work)?;
     }
     Ok(work)
 }
 
-/// Cuts one stream that comes in pieces of this size.
-fn cut(alloc: Global, bytes: &[u8], size: usize, work: &mut Work) -> Result<(), AllocError> {
-    let mut cutter = Cutter::new(alloc)?;
+/// Cuts bytes that come in pieces of this size.
+fn cut(cutter: &mut Cutter, bytes: &[u8], size: usize, work: &mut Work) -> Result<(), AllocError> {
     for piece in bytes.chunks(size.max(1)) {
         cutter.feed(piece)?;
-        take(&mut cutter, work)?;
+        take(cutter, work)?;
     }
     Ok(())
 }
