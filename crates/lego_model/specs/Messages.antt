@@ -1,10 +1,15 @@
 -- The one message that an application may send so far: a FLOW_MOD that adds an entry with one output.
 -- OpenFlow 1.0.0, 5.3.3 Modify State Messages, and 5.2.4 Flow Action Structures.
-use Rattle.std.specs.Prelude.{◌==◌, ℕ, Bool, ◌&&◌, List, [], ◌∷◌, Result, Ok, take, drop, if◌then◌else◌}
-use Rattle.std.specs.Str.{bytes_eq}
+use Rattle.std.specs.Prelude.{◌==◌, ℕ, Bool, false, ◌&&◌, List, [], ◌∷◌, Result, Ok, Err, take, drop, if◌then◌else◌}
 use Rattle.std.specs.List.{list_any}
-use Rattle.std.specs.Int.{w16, w64, from_be_bytes}
-use Rattle.of_match.specs.Match.{match_of}
+use Rattle.of_action.specs.declared.action.Action.{Action}
+use Rattle.of_action.specs.declared.action.Action.TheVariants.{Output}
+use Rattle.of_wire.specs.declared.bodies.FlowMod.{FlowMod as Modification}
+use Rattle.of_wire.specs.declared.message.Message.{Message}
+use Rattle.of_wire.specs.declared.message.Message.TheVariants.{FlowMod}
+use Rattle.of_wire.specs.declared.message.Envelope.{Envelope}
+use Rattle.of_wire.specs.declared.fault.WireFault.{WireFault}
+use Rattle.of_wire.specs.Reading.{reading_of}
 use Rattle.flow_table.specs.declared.entry.PlainEntry.{PlainEntry}
 use Rattle.lego_model.specs.Words.{Refusal, refused}
 
@@ -12,48 +17,33 @@ use Rattle.lego_model.specs.Words.{Refusal, refused}
 abbrev pub plain_size : ℕ
 plain_size = 80
 
--- so many bytes from a place on
-abbrev pub bytes_at : ℕ → ℕ → List ℕ → List ℕ
-bytes_at at size bytes = take size (drop at bytes)
+-- command ADD, no idle or hard timeout, no buffered packet, no flags
+unfoldable pub adds_for_good : Modification → Bool
+adds_for_good flow = flow.command == 0 && (flow.idle == 0 && (flow.hard == 0 && (flow.buffer_id == 0xffffffff && flow.flags == 0)))
 
--- version 1, type FLOW_MOD, length 80
-abbrev pub plain_head : List ℕ
-plain_head = 1 ∷ 14 ∷ 0 ∷ 80 ∷ []
+-- one OUTPUT, to one of these ports
+abbrev pub send_to : List ℕ → List Action → Bool
+send_to ports [] = false
+send_to ports (Output port max_len ∷ []) = list_any (λ p. p == port) ports
+send_to ports (action ∷ actions) = false
 
--- command ADD, and no idle or hard timeout
-abbrev pub add_forever : List ℕ
-add_forever = 0 ∷ 0 ∷ 0 ∷ 0 ∷ 0 ∷ 0 ∷ []
-
--- no buffered packet
-abbrev pub no_buffer : List ℕ
-no_buffer = 255 ∷ 255 ∷ 255 ∷ 255 ∷ []
-
--- no flags, then the head of an OUTPUT action: type 0, length 8
-abbrev pub one_output : List ℕ
-one_output = 0 ∷ 0 ∷ 0 ∷ 0 ∷ 0 ∷ 8 ∷ []
-
--- the port of the OUTPUT action
-unfoldable pub output_port : List ℕ → ℕ
-output_port bytes = from_be_bytes w16 (bytes_at 76 2 bytes)
-
--- the fixed bytes before the priority, and those behind it
-unfoldable pub begins_plain : List ℕ → Bool
-begins_plain bytes = bytes_eq (bytes_at 0 4 bytes) plain_head && bytes_eq (bytes_at 56 6 bytes) add_forever
-
-unfoldable pub ends_plain : List ℕ → Bool
-ends_plain bytes = bytes_eq (bytes_at 64 4 bytes) no_buffer && bytes_eq (bytes_at 70 6 bytes) one_output
-
-unfoldable pub is_plain_add : List ℕ → List ℕ → Bool
-is_plain_add ports bytes = begins_plain bytes && ends_plain bytes && list_any (λ port. port == output_port bytes) ports
-
--- priority at 62, match at 8, cookie at 48, action at 72
-unfoldable pub entry_of : List ℕ → PlainEntry
-entry_of bytes = record {
-  key = record { priority = from_be_bytes w16 (bytes_at 62 2 bytes); matching = match_of (bytes_at 8 40 bytes) };
-  cookie = from_be_bytes w64 (bytes_at 48 8 bytes);
-  output = bytes_at 72 8 bytes;
+-- the entry that a message adds, with its action as it was sent
+unfoldable pub entry_of : List ℕ → Modification → PlainEntry
+entry_of bytes flow = record {
+  key = record { priority = flow.priority; matching = flow.matching };
+  cookie = flow.cookie;
+  output = take 8 (drop 72 bytes);
 }
+
+abbrev pub addition_by : List ℕ → List ℕ → Message → Result PlainEntry Refusal
+addition_by ports bytes (FlowMod flow) = if adds_for_good flow && send_to ports flow.actions then Ok (entry_of bytes flow) else refused
+addition_by ports bytes other = refused
+
+-- bytes that spell no message are refused
+abbrev pub addition_read : List ℕ → List ℕ → Result Envelope WireFault → Result PlainEntry Refusal
+addition_read ports bytes (Ok envelope) = addition_by ports bytes envelope.message
+addition_read ports bytes (Err fault) = refused
 
 -- the entry that a message adds, at a switch with these ports
 unfoldable pub plain_add : List ℕ → List ℕ → Result PlainEntry Refusal
-plain_add ports bytes = if is_plain_add ports bytes then Ok (entry_of bytes) else refused
+plain_add ports bytes = addition_read ports bytes (reading_of bytes)

@@ -2,8 +2,7 @@
 
 ghost use Rattle.std.specs.Prelude.{◌≡◌, ◌+◌, ◌≤◌, map};
 ghost use Rattle.lego_model.specs.Words.{hex_bytes};
-ghost use Rattle.std.specs.Int.{w16, from_be_bytes};
-ghost use Rattle.lego_model.specs.Messages.{bytes_at, begins_plain as begins_plain_in, ends_plain as ends_plain_in, output_port as output_port_in, is_plain_add as is_plain_add_in, entry_of as entry_in, plain_add as plain_add_in};
+ghost use Rattle.lego_model.specs.Messages.{adds_for_good as adds_for_good_in, send_to as send_to_in, entry_of as entry_in, addition_by as addition_in_message, plain_add as plain_add_in};
 ghost use Rattle.lego_model.specs.Grammar.{addition_in, addition_of as addition_at};
 ghost use Rattle.session_text.specs.Gives.{Gives};
 ghost use Rattle.session_text.specs.View.{view_switch, addition};
@@ -12,7 +11,10 @@ use crate::error::SessionError;
 use crate::session::Switch;
 use crate::words::{is, number, split};
 use flow_table::PlainEntry;
-use of_match::{Key, Match};
+use of_action::{Action, ActionList};
+use of_match::Key;
+use of_types::flows::NO_BUFFER;
+use of_wire::{FlowMod, Message, WireFault, decode};
 use std::alloc::Global;
 
 /// The size of a FLOW_MOD with one OUTPUT action, in bytes (OpenFlow 1.0.0, 5.3.3 Modify State Messages).
@@ -30,112 +32,88 @@ fn message_of(word: &[u8]) -> Result<[u8; 80], SessionError>
     }
 }
 
-/// The big-endian number of two bytes from a place on.
-fn number_at(bytes: &[u8; 80], at: usize) -> u16
-    requires { at + 2 ≤ 80 }
-    ensures { result ≡ from_be_bytes w16 (bytes_at at 2 bytes.now) }
+/// Whether a FLOW_MOD adds an entry for good: command ADD, neither timeout, no buffered packet and no flags.
+#[tactic(auto, unfolding(lego_model::specs::Messages::adds_for_good))]
+fn adds_for_good(flow: &FlowMod) -> bool
+    ensures { result ≡ adds_for_good_in flow.now }
 {
-    u16::from_be_bytes([bytes[at], bytes[at + 1]])
+    flow.command == 0
+        && flow.idle == 0
+        && flow.hard == 0
+        && flow.buffer_id == NO_BUFFER
+        && flow.flags == 0
 }
 
-/// Whether a message begins as a FLOW_MOD (version 1, type 14, 80 bytes) that adds an entry for good
-/// (command ADD, and no idle or hard timeout).
-#[tactic(auto, unfolding(lego_model::specs::Messages::begins_plain))]
-fn begins_plain(bytes: &[u8; 80]) -> bool
-    ensures { result ≡ begins_plain_in bytes.now }
+/// Whether actions are one OUTPUT, to one of the ports.
+fn send_to(ports: &[u16], actions: &ActionList) -> bool
+    ensures { result ≡ send_to_in ports.now actions.now }
 {
-    bytes[0..4] == [1, 14, 0, 80] && bytes[56..62] == [0; 6]
-}
-
-/// Whether a FLOW_MOD ends as one without a buffer and flags and with one OUTPUT action (type 0, 8 bytes).
-#[tactic(auto, unfolding(lego_model::specs::Messages::ends_plain))]
-fn ends_plain(bytes: &[u8; 80]) -> bool
-    ensures { result ≡ ends_plain_in bytes.now }
-{
-    bytes[64..68] == [0xff; 4] && bytes[70..76] == [0, 0, 0, 0, 0, 8]
-}
-
-/// The port of the OUTPUT action.
-#[tactic(auto, unfolding(lego_model::specs::Messages::output_port))]
-fn output_port(bytes: &[u8; 80]) -> u16
-    ensures { result ≡ output_port_in bytes.now }
-{
-    number_at(bytes, 76)
-}
-
-/// Whether a message adds an entry for good, without flags or buffer, that sends to one of the ports.
-#[tactic(auto, unfolding(lego_model::specs::Messages::is_plain_add))]
-fn is_plain_add(ports: &[u16], bytes: &[u8; 80]) -> bool
-    ensures { result ≡ is_plain_add_in ports.now bytes.now }
-{
-    begins_plain(bytes) && ends_plain(bytes) && ports.contains(&output_port(bytes))
-}
-
-/// Priority and match of the entry that a message adds.
-#[tactic(auto, unfolding(lego_model::specs::Messages::entry_of))]
-fn key_of(bytes: &[u8; 80]) -> Key
-    ensures { result ≡ (entry_in bytes.now).key }
-{
-    let mut matching = [0; 40];
-    matching.copy_from_slice(&bytes[8..48]);
-    Key {
-        priority: number_at(bytes, 62),
-        matching: Match::decode(&matching),
+    match actions.as_slice() {
+        [Action::Output { port, .. }] => ports.contains(port),
+        _ => false,
     }
 }
 
-/// The cookie of the entry that a message adds.
+/// The entry that a message adds, with its action as it was sent.
 #[tactic(auto, unfolding(lego_model::specs::Messages::entry_of))]
-fn cookie_of(bytes: &[u8; 80]) -> u64
-    ensures { result ≡ (entry_in bytes.now).cookie }
-{
-    let mut cookie = [0; 8];
-    cookie.copy_from_slice(&bytes[48..56]);
-    u64::from_be_bytes(cookie)
-}
-
-/// The one action of the entry that a message adds.
-#[tactic(auto, unfolding(lego_model::specs::Messages::entry_of))]
-fn output_of(bytes: &[u8; 80]) -> [u8; 8]
-    ensures { result ≡ (entry_in bytes.now).output }
+fn entry_of(bytes: &[u8; 80], flow: &FlowMod) -> PlainEntry
+    ensures { result ≡ entry_in bytes.now flow.now }
 {
     let mut output = [0; 8];
     output.copy_from_slice(&bytes[72..80]);
-    output
-}
-
-/// The entry that a message adds.
-#[tactic(auto, unfolding(lego_model::specs::Messages::entry_of))]
-fn entry_of(bytes: &[u8; 80]) -> PlainEntry
-    ensures { result ≡ entry_in bytes.now }
-{
     PlainEntry {
-        key: key_of(bytes),
-        cookie: cookie_of(bytes),
-        output: output_of(bytes),
+        key: Key {
+            priority: flow.priority,
+            matching: flow.matching,
+        },
+        cookie: flow.cookie,
+        output,
     }
 }
 
 /// The entry that a message adds at a switch with these ports.
+fn addition_by(
+    ports: &[u16],
+    bytes: &[u8; 80],
+    message: &Message,
+) -> Result<PlainEntry, SessionError>
+    ensures { Gives (λ e. e) result (addition_in_message ports.now bytes.now message.now) }
+{
+    let Message::FlowMod(flow) = message else {
+        return Err(SessionError::BadInput);
+    };
+    if adds_for_good(flow) && send_to(ports, &flow.actions) {
+        Ok(entry_of(bytes, flow))
+    } else {
+        Err(SessionError::BadInput)
+    }
+}
+
+/// The entry that the bytes of a message add at a switch with these ports.
 #[tactic(auto, unfolding(lego_model::specs::Messages::plain_add))]
-fn plain_add(ports: &[u16], bytes: &[u8; 80]) -> Result<PlainEntry, SessionError>
+fn plain_add(alloc: Global, ports: &[u16], bytes: &[u8; 80]) -> Result<PlainEntry, SessionError>
     ensures { Gives (λ e. e) result (plain_add_in ports.now bytes.now) }
 {
-    if !is_plain_add(ports, bytes) {
-        return Err(SessionError::BadInput);
+    match decode(alloc, bytes) {
+        Ok(envelope) => addition_by(ports, bytes, &envelope.message),
+        Err(WireFault::NoMemory) => Err(SessionError::NoMemory),
+        Err(_) => Err(SessionError::BadInput),
     }
-    Ok(entry_of(bytes))
 }
 
 /// The entry that the parts of a step add.
-fn entry_of_parts(switch: &Switch, parts: &[&[u8]]) -> Result<PlainEntry, SessionError>
+fn entry_of_parts(
+    alloc: Global,
+    switch: &Switch,
+    parts: &[&[u8]],
+) -> Result<PlainEntry, SessionError>
     ensures { Gives (addition switch.now.dpid) result (addition_in (view_switch switch.now) (map (λ p. p.now) parts.now)) }
 {
     match parts {
         [first, dpid, hex] if is(first, b"m") => {
             let _dpid = number(dpid, switch.dpid, switch.dpid)?;
             let bytes = message_of(hex)?;
-            plain_add(&switch.ports, &bytes)
+            plain_add(alloc, &switch.ports, &bytes)
         }
         _ => Err(SessionError::BadInput),
     }
@@ -147,5 +125,5 @@ pub fn entry_added(alloc: Global, switch: &Switch, step: &[u8]) -> Result<PlainE
     ensures { Gives (addition switch.now.dpid) result (addition_at (view_switch switch.now) step.now) }
 {
     let parts = split(alloc, step, b':')?;
-    entry_of_parts(switch, &parts)
+    entry_of_parts(alloc, switch, &parts)
 }
