@@ -1,11 +1,15 @@
 -- Laws of replies in parts: rows are split in one way, and joining what was split gives them in order.
-use Rattle.std.proofs.Common.{◌≡◌, ℕ, zero, suc, ◌+◌, ◌%◌, ◌<◌, ◌≤◌, List, [], ◌∷◌, ◌++◌, length, take, drop, get_or, sym, ap, subst, ◌∙◌, inl, inr, arith}
-use Rattle.std.specs.Prelude.{◌↔◌}
+use Rattle.std.proofs.Common.{◌≡◌, ℕ, zero, suc, ◌+◌, ◌%◌, ◌<◌, ◌≤◌, List, [], ◌∷◌, ◌++◌, length, take, drop, get_or, refl, sym, ap, subst, ◌∙◌, inl, inr, arith}
+use Rattle.std.specs.Prelude.{◌↔◌, map, Ok}
 use Rattle.std.specs.List.{concat}
 use Rattle.std.proofs.lemmas.Bool.{cases_lt}
 use Rattle.std.proofs.lemmas.List.{append-nil, take-append-drop, take_more, take-take, get_or_default, length-append}
 use Rattle.std.proofs.lemmas.List.Folds.{concat-append}
-use Rattle.of_stats.specs.Parts.{Part, room, IsFull, AreParts, part_at, IsWhole, IsFirstBad, joined}
+use Rattle.of_stats.specs.declared.flow_row.FlowRow.{FlowRow}
+use Rattle.of_stats.specs.Flows.{row_bytes, rows_bytes, AreRows}
+use Rattle.of_stats.specs.Reading.{rows_of}
+use Rattle.of_stats.specs.FlowLaws.{rows_of-rows_bytes}
+use Rattle.of_stats.specs.Parts.{Part, room, IsFull, AreParts, part_at, IsWhole, joined}
 
 -- ---- lengths
 
@@ -102,16 +106,13 @@ joined_split kind rows (part ∷ []) are = append-nil part.2 ∙ ap (λ (p : Par
 joined_split kind rows (part ∷ next ∷ parts) are =
     ap (λ (p : Part). p.2 ++ joined (next ∷ parts)) are.2 ∙ ap (λ (xs : List ℕ). concat (take are.0 rows) ++ xs) (joined_split kind (drop are.0 rows) (next ∷ parts) are.3) ∙ concat-take_drop are.0 rows
 
--- ---- the first part that is at fault
+concat-map : (rows : List FlowRow) → concat (map row_bytes rows) ≡ rows_bytes rows
+concat-map [] = refl
+concat-map (row ∷ rows) = ap (λ (xs : List ℕ). row_bytes row ++ xs) (concat-map rows)
 
-pub whole_not_bad : (place : ℕ) (parts : List Part) → IsWhole parts → IsFirstBad place parts → ⊥
-whole_not_bad place parts whole bad = bad.here (whole.each place (omega (arith, whole.some, bad.within)))
-
-pub one_bad : (a b : ℕ) (parts : List Part) → IsFirstBad a parts → IsFirstBad b parts → a ≡ b
-one_bad a b parts bad bad' = elim (cases_lt a b) [
-  | inl lt ↦ absurd (bad.here (bad'.before a lt))
-  | inr le ↦ elim (cases_lt b a) [ inl lt ↦ absurd (bad'.here (bad.before b lt)) | inr ge ↦ omega arith ]
-]
+pub flows_again : (kind : ℕ) (rows : List FlowRow) (parts : List Part) → AreRows rows → AreParts kind (map row_bytes rows) parts → rows_of (joined parts) ≡ Ok rows
+flows_again kind rows parts fit are =
+    ap rows_of (joined_split kind (map row_bytes rows) parts are ∙ concat-map rows) ∙ rows_of-rows_bytes rows fit
 
 -- ---- one part more
 

@@ -1,7 +1,10 @@
 //! Replies in parts.
 
-ghost use Rattle.std.specs.Prelude.{◌≡◌, ◌≤◌, ◌<◌, ◌+◌, ◌↔◌, ℕ, List, [], length, take, All, IfOk, IsErrOf, IsTrue, MatchOption};
+ghost use Rattle.std.specs.Prelude.{◌≡◌, ◌≤◌, ◌<◌, ◌+◌, ◌↔◌, ℕ, List, [], length, map, take, Ok, All, IfOk, IsErrOf, IsTrue, MatchOption};
 ghost use Rattle.std.specs.List.{concat};
+ghost use Rattle.of_stats.specs.declared.flow_row.FlowRow.{FlowRow};
+ghost use Rattle.of_stats.specs.Flows.{row_bytes, AreRows};
+ghost use Rattle.of_stats.specs.Reading.{rows_of};
 ghost use Rattle.of_stats.specs.Parts.{Part, room, IsFull, AreParts, IsInPlace, IsWhole, IsFirstBad, joined};
 
 use crate::fault::StatsFault;
@@ -115,11 +118,14 @@ pub fn split_reply(
     }
 }
 
-/// Joining what was split gives the rows in order, and rows are split in one way.
+/// Joining what was split gives the rows in order, and rows are split in one way. So rows of flows that were
+/// written, split and joined are read again.
 pub fn laws_of_parts()
     ensures whole { (kind : ℕ) (rows : List (List ℕ)) (parts : List Part) → AreParts kind rows parts → IsWhole parts }
     ensures rows { (kind : ℕ) (rows : List (List ℕ)) (parts : List Part) → AreParts kind rows parts
         → joined parts ≡ concat rows }
     ensures one_split { (kind : ℕ) (rows : List (List ℕ)) (parts others : List Part) → AreParts kind rows parts
         → AreParts kind rows others → parts ≡ others }
+    ensures flows { (kind : ℕ) (rows : List FlowRow) (parts : List Part) → AreRows rows
+        → AreParts kind (map row_bytes rows) parts → rows_of (joined parts) ≡ Ok rows }
 {}

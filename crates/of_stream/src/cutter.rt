@@ -45,7 +45,7 @@ fn front_of(held: &[u8]) -> Front
 /// Cuts a stream into frames. Contracts see the bytes held: those that were fed and that no frame
 /// handed out has.
 ///
-/// Each byte is copied once when it is fed and once when it is handed out.
+/// The time to feed and to hand out is linear in the bytes, however small or large the pieces.
 #[derive(Drop)]
 pub struct Cutter {
     buffer: BytesMut,
@@ -86,7 +86,7 @@ impl Cutter {
         self.buffer.extend_from_slice(bytes)
     }
 
-    /// Hands out the next frame of the stream, once it is whole.
+    /// Hands out the next frame of the stream, once it is whole. `NoMemory` comes only where it is whole.
     pub fn next(&mut self) -> Result<Option<ByteList>, CutFault>
         ensures frame { IfOk result (λ next. IfSome next (λ frame.
             IsFrame frame × (self.old ≡ frame ++ self.new))) }
