@@ -371,6 +371,33 @@ fn address_resolution(rt: HostRuntime) {
     }
 }
 
+#[test]
+fn ports_of_entry(rt: HostRuntime) {
+    let request = [
+        0xff, 0xff, 0xff, 0xff, 0xff, 0xff, 0x02, 0x00, 0x00, 0x00, 0x00, 0x01, 0x08, 0x06, 0x00,
+        0x01, 0x08, 0x00, 0x06, 0x04, 0x00, 0x01, 0x02, 0x00, 0x00, 0x00, 0x00, 0x01, 0x0a, 0x00,
+        0x00, 0x01, 0x00, 0x00, 0x00, 0x00, 0x00, 0x00, 0x0a, 0x00, 0x00, 0x02,
+    ];
+    let by_port_1 = PacketKey {
+        in_port: 1,
+        dl_src: [2, 0, 0, 0, 0, 1],
+        dl_dst: [0xff; 6],
+        dl_type: 0x0806,
+        nw_proto: 1,
+        nw_src: 0x0a00_0001,
+        nw_dst: 0x0a00_0002,
+        ..LINK
+    };
+    assert_eq!(rt; key_of(1, &request), by_port_1);
+    let nothing_by_port_3 = PacketKey {
+        in_port: 3,
+        dl_src: [0; 6],
+        dl_dst: [0; 6],
+        ..LINK
+    };
+    assert_eq!(rt; key_of(3, &[]), nothing_by_port_3);
+}
+
 /// The fields of the first `len` bytes of `LAYERS`: the layers begin at 14, 18, 42 and 46 bytes.
 fn layers_within(len: usize) -> PacketKey {
     let tagged = PacketKey {
