@@ -1,2 +1,6 @@
+pub mod Errors
 pub mod Table
-pub mod TableLaws
+pub mod Change
+pub mod Hit
+pub mod Expiry
+pub mod Rows

@@ -1,50 +1,75 @@
--- A flow table (OpenFlow 1.0.0, 3.1 Flow Table): its entries, in key order. The order of the list is our own choice.
-use Rattle.std.specs.Prelude.{◌≡◌, ◌==◌, ℕ, ◌+◌, ◌<◌, ◌≤◌, List, [], ◌∷◌, length, slice_index_or, Option, Some, None, Result, Ok, Err, filter, not, nat_lt, if◌then◌else◌}
+-- A flow table (OpenFlow 1.0.0, 3.1 Flow Table): its entries, and which number the next new one gets. The order of the list
+-- and the numbers are our own choice.
+use Rattle.std.specs.Prelude.{◌≡◌, ◌==◌, ℕ, ◌+◌, ◌<◌, ◌≤◌, Bool, List, [], ◌∷◌, length, slice_index_or, slice_get, Option, Some, None, Result, Ok, Err, All, filter, not, nat_lt, if◌then◌else◌}
 use Rattle.of_match.specs.declared.key.Key.{Key}
 use Rattle.of_match.specs.Key.{place}
-use Rattle.flow_table.specs.declared.entry.PlainEntry.{PlainEntry}
+use Rattle.flow_table.specs.declared.entry.Entry.{Entry}
 
 -- where an entry stands in key order
-abbrev pub place_of : PlainEntry → ℕ
+abbrev pub place_of : Entry → ℕ
 place_of e = place e.key
 
 -- strictly ascending, from a place on
-abbrev pub AscendsFrom : ℕ → List PlainEntry → Type 0
+abbrev pub AscendsFrom : ℕ → List Entry → Type 0
 AscendsFrom least [] = Unit {0}
 AscendsFrom least (e ∷ es) = (least ≤ place_of e) × AscendsFrom (place_of e + 1) es
 
 -- no two entries have one key, and they stand in key order
-abbrev pub IsTable : List PlainEntry → Type 0
+abbrev pub IsTable : List Entry → Type 0
 IsTable es = AscendsFrom 0 es
 
--- a table as calls see it: its entries, and how many it can hold before it takes memory again
+-- a table as calls see it: its entries, and the number that the next new one gets
 pub record TableState : Type 0 where
-  pub entries : List PlainEntry
-  pub room : ℕ
+  pub entries : List Entry
+  pub next : ℕ
+
+-- a table at first
+abbrev pub empty_table : TableState
+empty_table = record { entries = []; next = 0 }
+
+-- whether an entry is that of a key
+abbrev pub has_key : Key → Entry → Bool
+has_key k e = place_of e == place k
 
 -- the entry of a key
-abbrev pub entry_at : Key → List PlainEntry → Option PlainEntry
+abbrev pub entry_at : Key → List Entry → Option Entry
 entry_at k [] = None
-entry_at k (e ∷ es) = if place_of e == place k then Some e else entry_at k es
+entry_at k (e ∷ es) = if has_key k e then Some e else entry_at k es
 
 -- the table with this entry, in place of one with its key
-abbrev pub with_entry : PlainEntry → List PlainEntry → List PlainEntry
+abbrev pub with_entry : Entry → List Entry → List Entry
 with_entry e [] = e ∷ []
 with_entry e (f ∷ fs) =
     if nat_lt (place_of e) (place_of f) then e ∷ f ∷ fs
     else if place_of e == place_of f then e ∷ fs
     else f ∷ with_entry e fs
 
--- the table without the entry of this key
-abbrev pub without_key : Key → List PlainEntry → List PlainEntry
-without_key k es = filter (λ e. not (place_of e == place k)) es
+-- ---- Moments, in seconds; the last one is our own choice.
+
+abbrev pub last_moment : ℕ
+last_moment = 4294967295
+
+-- no entry was put in or used after this moment
+pub record IsMoment (now : ℕ) (es : List Entry) : Type 0 where
+  pub within : now ≤ last_moment
+  pub installed : All (λ e. e.installed ≤ now) es
+  pub used : All (λ e. e.used ≤ now) es
+
+-- ---- Positions
+
+-- where an entry that was looked for stands, counted from 0
+abbrev pub IsPositionOf : Option Entry → List Entry → Option ℕ → Type 0
+IsPositionOf None es None = Unit {0}
+IsPositionOf (Some e) es (Some i) = slice_get es i ≡ Some e
+IsPositionOf None es (Some i) = ⊥
+IsPositionOf (Some e) es None = ⊥
 
 -- the entries before the i-th stand below a place, and those from the j-th on above it
-pub record Parts (place i j : ℕ) (es : List PlainEntry) : Type 0 where
-  pub below : (k : ℕ) (e : PlainEntry) → k < i → place_of (slice_index_or es k e) < place
-  pub above : (k : ℕ) (e : PlainEntry) → j ≤ k → k < length es → place < place_of (slice_index_or es k e)
+pub record Parts (place i j : ℕ) (es : List Entry) : Type 0 where
+  pub below : (k : ℕ) (e : Entry) → k < i → place_of (slice_index_or es k e) < place
+  pub above : (k : ℕ) (e : Entry) → j ≤ k → k < length es → place < place_of (slice_index_or es k e)
 
 -- where the entry at a place stands, or where it would stand
-abbrev pub IsPlaceOf : ℕ → List PlainEntry → Result ℕ ℕ → Type 0
-IsPlaceOf place es (Ok i) = (i < length es) × ((e : PlainEntry) → place_of (slice_index_or es i e) ≡ place)
+abbrev pub IsPlaceOf : ℕ → List Entry → Result ℕ ℕ → Type 0
+IsPlaceOf place es (Ok i) = (i < length es) × ((e : Entry) → place_of (slice_index_or es i e) ≡ place)
 IsPlaceOf place es (Err i) = (i ≤ length es) × Parts place i i es

@@ -1,10 +1,15 @@
-//! Flow tables of OpenFlow 1.0.0: the entries of a switch, in key order, each key once.
+//! Flow tables of OpenFlow 1.0.0: the entries of a switch, in key order, each key once; what FLOW_MODs,
+//! packets and time make of them. The definitions of a switch stand here too.
 #![tactic(auto)]
 
 mod entry;
+mod fault;
+mod notice;
 mod table;
-#[cfg(test)]
-mod tests;
+mod view;
 
-pub use entry::PlainEntry;
+pub use entry::Entry;
+pub use fault::ChangeFault;
+pub use notice::{Notice, NoticeList};
 pub use table::Table;
+pub use view::{TableView, ViewList, ViewRow};

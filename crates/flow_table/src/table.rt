@@ -1,43 +1,85 @@
 //! A flow table.
 
-ghost use Rattle.std.specs.Prelude.{◌≡◌, ◌↔◌, ◌≤◌, [], length, vec_capacity, None, IsTrue, IfOk, OnOk, OnErr};
-ghost use Rattle.of_match.specs.Key.{place};
-ghost use Rattle.flow_table.specs.Table.{IsTable, IsPlaceOf, entry_at, with_entry, without_key};
+ghost use Rattle.std.specs.Prelude.{◌≡◌, ◌↔◌, ◌<◌, ◌-◌, ◌^◌, [], length, slice_get, Some, IsTrue, IfOk, OnOk, OnErr};
+ghost use Rattle.flow_table.specs.Table.{IsTable, IsMoment, IsPositionOf, empty_table};
+ghost use Rattle.flow_table.specs.Change.{Answers, refusal, changed, notices_of};
+ghost use Rattle.flow_table.specs.Hit.{best, hit, with_counts};
+ghost use Rattle.flow_table.specs.Expiry.{expire, expiry_notices};
+ghost use Rattle.flow_table.specs.Rows.{positions};
 
-use crate::entry::PlainEntry;
-use of_match::Key;
+use crate::entry::Entry;
+use crate::fault::ChangeFault;
+use crate::notice::NoticeList;
+use of_match::{Match, PacketKey};
+use of_types::PortNo;
+use of_wire::FlowMod;
 use std::alloc::{AllocError, Global};
-use std::cmp::Ordering;
 use std::marker::Model;
 
-/// The entries of a switch in key order, each key once (OpenFlow 1.0.0, 3.1 Flow Table).
+/// The flow table of a switch: its entries in key order, each key once (OpenFlow 1.0.0, 3.1 Flow Table).
 ///
-/// Key order is priority descending, then the 40 bytes of the match ascending.
+/// Key order is priority descending, then the 40 bytes of the match ascending. Each new entry gets the next
+/// serial. Moments are in seconds and at most 4,294,967,295; a call that is given one needs that no entry was
+/// put in or used after it. After a refusal and want of memory the table is as before.
 #[derive(Debug, Drop)]
 pub struct Table {
-    entries: Vec<PlainEntry>,
+    alloc: Global,
+    entries: Vec<Entry>,
+    next: u64,
 }
 
 impl Model for Table {
-    ghost use Rattle.std.specs.Prelude.{vec_capacity};
     ghost use Rattle.flow_table.specs.Table.{IsTable, TableState};
 
     ghost Value = { TableState };
 
-    ghost view = { λ t. record { entries = t.entries.items; room = vec_capacity t.entries } };
+    ghost view = { λ t. record { entries = t.entries.items; next = t.next } };
 
     ghost invariant = { λ t. IsTable t.entries.items };
 }
 
 impl Table {
-    /// An empty table with room for this many entries: so many are put in without memory.
-    pub fn with_room(alloc: Global, room: usize) -> Result<Table, AllocError>
-        ensures empty { IfOk result (λ t. t.entries ≡ []) }
-        ensures room { IfOk result (λ t. room ≤ t.room) }
+    /// An empty table.
+    pub fn new(alloc: Global) -> Result<Table, AllocError>
+        ensures { IfOk result (λ t. t ≡ empty_table) }
     {
         Ok(Table {
-            entries: Vec::with_capacity(alloc, room)?,
+            alloc,
+            entries: Vec::new(alloc),
+            next: 0,
         })
+    }
+
+    /// Changes the table as a FLOW_MOD says, in a switch whose table takes `cap` entries (OpenFlow 1.0.0, 4.6
+    /// Flow Table Modification Messages), and gives the notices of removed entries, in key order.
+    ///
+    /// Buffer, EMERG and which actions the switch knows are not looked at. `Refused` is the first of
+    /// BAD_COMMAND, OVERLAP and ALL_TABLES_FULL that stands against the change.
+    pub fn change(&mut self, m: &FlowMod, now: u64, cap: u32) -> Result<NoticeList, ChangeFault>
+        requires now { IsMoment now self.old.entries }
+        requires serials { self.old.next < 2 ^ 64 - 1 }
+        ensures answer { Answers result (refusal cap m.now self.old.entries) (notices_of now m.now self.old.entries) }
+        ensures ok { OnOk result (self.new ≡ changed now m.now self.old) }
+        ensures err { OnErr result (self.new ≡ self.old) }
+    {
+        loop {}
+    }
+
+    /// Where the entry stands that a packet with these fields hits (OpenFlow 1.0.0, 3.4 Matching): of those that
+    /// cover it the one of greatest rank, and among equals the least key. `None` exactly where none covers it.
+    pub fn lookup(&self, k: &PacketKey) -> Option<usize>
+        ensures { IsPositionOf (best k.now self.now.entries) self.now.entries result }
+    {
+        loop {}
+    }
+
+    /// Counts a packet of `len` bytes at the entry that it hits, and says where that entry stands.
+    pub fn hit(&mut self, k: &PacketKey, len: u32, now: u64) -> Option<usize>
+        ensures found { IsPositionOf (best k.now self.old.entries) self.old.entries result }
+        ensures entries { self.new.entries ≡ hit k.now len now self.old.entries }
+        ensures next { self.new.next ≡ self.old.next }
+    {
+        loop {}
     }
 
     /// How many entries there are.
@@ -54,76 +96,46 @@ impl Table {
         self.entries.is_empty()
     }
 
+    /// The i-th entry in key order, counted from 0.
+    pub fn at(&self, i: usize) -> &Entry
+        requires { i < length self.now.entries }
+        ensures { slice_get self.now.entries i ≡ Some result.now }
+    {
+        &self.entries[i]
+    }
+
     /// The entries, in key order.
-    pub fn entries(&self) -> &[PlainEntry]
+    pub fn entries(&self) -> &[Entry]
         ensures all { result.now ≡ self.now.entries }
         ensures in_order { IsTable self.now.entries }
     {
         &self.entries
     }
 
-    /// Puts an entry in, in place of one with its key. Where memory runs out the entries stay; that is
-    /// only at a new key and without room.
-    pub fn put(&mut self, entry: PlainEntry) -> Result<(), AllocError>
-        ensures ok { OnOk result (self.new.entries ≡ with_entry entry self.old.entries) }
-        ensures err { OnErr result (self.new.entries ≡ self.old.entries) }
-        ensures room { self.old.room ≤ self.new.room }
-        ensures full { OnErr result (self.old.room ≤ length self.old.entries) }
-        ensures new { OnErr result (entry_at entry.key self.old.entries ≡ None) }
+    /// Removes each entry whose deadline is at the moment or before it (OpenFlow 1.0.0, 3.3 Flow Removal), and
+    /// gives the notices of those that ask for one, in order of deadlines, then of keys.
+    pub fn expire(&mut self, now: u64) -> Result<NoticeList, AllocError>
+        requires { IsMoment now self.old.entries }
+        ensures notices { IfOk result (λ notices. notices ≡ expiry_notices now self.old.entries) }
+        ensures ok { OnOk result (self.new ≡ expire now self.old) }
+        ensures err { OnErr result (self.new ≡ self.old) }
     {
-        put_entry(&mut self.entries, entry)
+        loop {}
     }
 
-    /// Takes the entry of a key out; where there is none, nothing changes.
-    pub fn remove(&mut self, key: &Key)
-        ensures entries { self.new.entries ≡ without_key key.now self.old.entries }
-        ensures room { self.new.room ≡ self.old.room }
+    /// Where the entries stand whose match `m` subsumes and which, unless `out_port` is NONE, have an OUTPUT to
+    /// it; ascending.
+    pub fn select(&self, m: &Match, out_port: PortNo) -> Result<Vec<usize>, AllocError>
+        ensures { IfOk result (λ places. places.items ≡ positions m.now out_port self.now.entries) }
     {
-        remove_key(&mut self.entries, key);
+        loop {}
     }
-}
 
-/// Puts an entry in at its place.
-fn put_entry(entries: &mut Vec<PlainEntry>, entry: PlainEntry) -> Result<(), AllocError>
-    requires { IsTable entries.old.items }
-    ensures ok { OnOk result (entries.new.items ≡ with_entry entry entries.old.items) }
-    ensures err { OnErr result (entries.new.items ≡ entries.old.items) }
-    ensures room { vec_capacity entries.old ≤ vec_capacity entries.new }
-    ensures full { OnErr result (vec_capacity entries.old ≤ length entries.old.items) }
-    ensures new { OnErr result (entry_at entry.key entries.old.items ≡ None) }
-{
-    match position(entries, &entry.key) {
-        Ok(at) => entries[at] = entry,
-        Err(at) => entries.insert(at, entry)?,
+    /// Adds so many packets and bytes to each entry of a priority, modulo 2^64.
+    pub fn add_counts(&mut self, priority: u16, packets: u64, bytes: u64)
+        ensures entries { self.new.entries ≡ with_counts priority packets bytes self.old.entries }
+        ensures next { self.new.next ≡ self.old.next }
+    {
+        loop {}
     }
-    Ok(())
-}
-
-/// Takes the entry of a key out.
-fn remove_key(entries: &mut Vec<PlainEntry>, key: &Key)
-    requires { IsTable entries.old.items }
-    ensures entries { entries.new.items ≡ without_key key.now entries.old.items }
-    ensures room { vec_capacity entries.new ≡ vec_capacity entries.old }
-{
-    if let Ok(at) = position(entries, key) {
-        entries.remove(at);
-    }
-}
-
-/// Where the entry of a key stands, or where it would stand.
-fn position(entries: &[PlainEntry], key: &Key) -> Result<usize, usize>
-    requires { IsTable entries.now }
-    ensures { IsPlaceOf (place key.now) entries.now result }
-{
-    let mut low = 0;
-    let mut high = entries.len();
-    while low < high {
-        let middle = low + (high - low) / 2;
-        match entries[middle].compare(key) {
-            Ordering::Less => low = middle + 1,
-            Ordering::Equal => return Ok(middle),
-            Ordering::Greater => high = middle,
-        }
-    }
-    Err(low)
 }

@@ -1,0 +1,110 @@
+//! What an application's owner sees of a table.
+
+ghost use Rattle.std.specs.Prelude.{◌≡◌, ◌↔◌, [], length, IsTrue};
+
+use of_action::ActionList;
+use of_match::Key;
+use of_types::Dpid;
+use std::alloc::Global;
+use std::cmp::{Eq, PartialEq};
+use std::marker::Model;
+
+/// A flow entry as it was asked for: without counters and moments. Timeouts are in seconds.
+#[derive(Drop, Debug, Clone, PartialEq, Eq)]
+pub struct ViewRow {
+    pub key: Key,
+    pub actions: ActionList,
+    pub cookie: u64,
+    pub idle: u16,
+    pub hard: u16,
+    pub flags: u16,
+}
+
+/// Rows in key order, each key once. Contracts see a list.
+#[derive(Drop, Debug, Clone)]
+pub struct ViewList {
+    rows: Vec<ViewRow>,
+}
+
+/// The table of one switch as applications see it.
+#[derive(Drop, Debug, Clone, PartialEq, Eq)]
+pub struct TableView {
+    pub dpid: Dpid,
+    pub rows: ViewList,
+}
+
+impl Model for ViewList {
+    ghost use Rattle.std.specs.Prelude.{List};
+    ghost use Rattle.flow_table.specs.declared.view.ViewRow.{ViewRow};
+
+    ghost Value = { List ViewRow };
+
+    ghost view = { λ s. s.rows.items };
+}
+
+impl ViewList {
+    /// No rows; takes no memory.
+    pub fn new(alloc: Global) -> ViewList
+        ensures { result ≡ [] }
+    {
+        ViewList {
+            rows: Vec::new(alloc),
+        }
+    }
+
+    /// The rows of a vector, which becomes the list; takes no memory.
+    pub fn from_vec(rows: Vec<ViewRow>) -> ViewList
+        ensures { result ≡ rows.items }
+    {
+        ViewList { rows }
+    }
+
+    /// The vector back; takes no memory.
+    pub fn into_vec(self) -> Vec<ViewRow>
+        ensures { result.items ≡ self }
+    {
+        self.rows
+    }
+
+    /// The rows.
+    pub fn as_slice(&self) -> &[ViewRow]
+        ensures { result.now ≡ self.now }
+    {
+        self.rows.as_slice()
+    }
+
+    /// How many rows there are.
+    pub fn len(&self) -> usize
+        ensures { result ≡ length self.now }
+    {
+        self.rows.len()
+    }
+
+    /// There are no rows.
+    pub fn is_empty(&self) -> bool
+        ensures { IsTrue result ↔ (self.now ≡ []) }
+    {
+        self.rows.is_empty()
+    }
+}
+
+impl PartialEq for ViewList {
+    ghost use Rattle.std.specs.Cmp.Lexicographic.{pointwise, lists_per};
+
+    ghost eq = { λ x y. pointwise ⟦<ViewRow as PartialEq>⟧.eq x y };
+
+    ghost use Rattle.flow_table.specs.contracts.view.ViewRowPartialEq.TheImpl.Laws.{laws-law};
+
+    ghost laws = { lists_per laws-law };
+
+    fn eq(&self, other: &ViewList) -> bool {
+        self.rows == other.rows
+    }
+}
+
+impl Eq for ViewList {
+    ghost use Rattle.std.specs.Cmp.Lexicographic.{lists_equiv};
+    ghost use Rattle.flow_table.specs.contracts.view.ViewRowEq.TheImpl.Laws.{laws-law};
+
+    ghost laws = { lists_equiv laws-law };
+}
