@@ -2,6 +2,8 @@
 //! packets and time make of them. The definitions of a switch stand here too.
 #![tactic(auto)]
 
+mod changing;
+mod describing;
 mod entry;
 mod fault;
 mod notice;

@@ -1,17 +1,19 @@
 //! A flow table.
 
-ghost use Rattle.std.specs.Prelude.{◌≡◌, ◌↔◌, ◌<◌, ◌-◌, ◌^◌, [], length, slice_get, Some, IsTrue, IfOk, OnOk, OnErr};
+ghost use Rattle.std.specs.Prelude.{◌≡◌, ◌↔◌, ◌<◌, ◌+◌, ◌-◌, ◌^◌, [], length, slice_get, Some, IsTrue, IsOk, IfOk, OnOk, OnErr, if◌then◌else◌};
 ghost use Rattle.flow_table.specs.Table.{IsTable, IsMoment, IsPositionOf, empty_table};
-ghost use Rattle.flow_table.specs.Change.{Answers, refusal, changed, notices_of};
+ghost use Rattle.flow_table.specs.Change.{Answers, is_delete, adds, refusal, changed, entries_after, notices_of};
 ghost use Rattle.flow_table.specs.Hit.{best, hit, with_counts};
 ghost use Rattle.flow_table.specs.Expiry.{expire, expiry_notices};
 ghost use Rattle.flow_table.specs.Rows.{positions};
 
+use crate::changing::{add, delete, modify};
+use crate::describing::{find_refusal, is_adding};
 use crate::entry::Entry;
 use crate::fault::ChangeFault;
 use crate::notice::NoticeList;
 use of_match::{Match, PacketKey};
-use of_types::PortNo;
+use of_types::{PortNo, flows};
 use of_wire::FlowMod;
 use std::alloc::{AllocError, Global};
 use std::marker::Model;
@@ -54,15 +56,17 @@ impl Table {
     /// Flow Table Modification Messages), and gives the notices of removed entries, in key order.
     ///
     /// Buffer, EMERG and which actions the switch knows are not looked at. `Refused` is the first of
-    /// BAD_COMMAND, OVERLAP and ALL_TABLES_FULL that stands against the change.
+    /// BAD_COMMAND, OVERLAP and ALL_TABLES_FULL that stands against the change. A DELETE that gives no notice
+    /// takes no memory.
     pub fn change(&mut self, m: &FlowMod, now: u64, cap: u32) -> Result<NoticeList, ChangeFault>
         requires now { IsMoment now self.old.entries }
         requires serials { self.old.next < 2 ^ 64 - 1 }
         ensures answer { Answers result (refusal cap m.now self.old.entries) (notices_of now m.now self.old.entries) }
         ensures ok { OnOk result (self.new ≡ changed now m.now self.old) }
         ensures err { OnErr result (self.new ≡ self.old) }
+        ensures quiet { IsTrue (is_delete m.now) → notices_of now m.now self.old.entries ≡ [] → IsOk result }
     {
-        loop {}
+        change_entries(self.alloc, &mut self.entries, &mut self.next, m, now, cap)
     }
 
     /// Where the entry stands that a packet with these fields hits (OpenFlow 1.0.0, 3.4 Matching): of those that
@@ -137,5 +141,40 @@ impl Table {
         ensures next { self.new.next ≡ self.old.next }
     {
         loop {}
+    }
+}
+
+/// Changes entries of which the next new one gets the serial `next`.
+fn change_entries(
+    alloc: Global,
+    entries: &mut Vec<Entry>,
+    next: &mut u64,
+    m: &FlowMod,
+    now: u64,
+    cap: u32,
+) -> Result<NoticeList, ChangeFault>
+    requires in_order { IsTable entries.old.items }
+    requires now { IsMoment now entries.old.items }
+    requires serials { next.old < 2 ^ 64 - 1 }
+    ensures answer { Answers result (refusal cap m.now entries.old.items) (notices_of now m.now entries.old.items) }
+    ensures ok { OnOk result (entries.new.items ≡ entries_after now next.old m.now entries.old.items) }
+    ensures next { OnOk result (next.new ≡ (if adds m.now entries.old.items then next.old + 1 else next.old)) }
+    ensures err { OnErr result (entries.new.items ≡ entries.old.items) }
+    ensures next_err { OnErr result (next.new ≡ next.old) }
+    ensures quiet { IsTrue (is_delete m.now) → notices_of now m.now entries.old.items ≡ [] → IsOk result }
+{
+    let adding = is_adding(m, entries);
+    if let Some(error) = find_refusal(m, entries, cap, adding) {
+        return Err(ChangeFault::Refused(error));
+    }
+    if adding {
+        add(entries, m, now, *next)?;
+        *next += 1;
+        Ok(NoticeList::new(alloc))
+    } else if m.command == flows::MODIFY || m.command == flows::MODIFY_STRICT {
+        modify(alloc, entries, m)?;
+        Ok(NoticeList::new(alloc))
+    } else {
+        Ok(delete(alloc, entries, m, now)?)
     }
 }
