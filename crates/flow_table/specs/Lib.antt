@@ -4,5 +4,6 @@ pub mod TableLaws
 pub mod Change
 pub mod ChangeLaws
 pub mod Hit
+pub mod HitLaws
 pub mod Expiry
 pub mod Rows

@@ -5,8 +5,11 @@
 mod changing;
 mod describing;
 mod entry;
+mod expiring;
 mod fault;
+mod hitting;
 mod notice;
+mod selecting;
 mod table;
 mod view;
 
