@@ -6,4 +6,5 @@ pub mod ChangeLaws
 pub mod Hit
 pub mod HitLaws
 pub mod Expiry
+pub mod ExpiryLaws
 pub mod Rows

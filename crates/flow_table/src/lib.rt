@@ -2,6 +2,7 @@
 //! packets and time make of them. The definitions of a switch stand here too.
 #![tactic(auto)]
 
+mod copying;
 mod changing;
 mod describing;
 mod entry;
