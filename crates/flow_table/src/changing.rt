@@ -142,13 +142,12 @@ fn is_told(m: &FlowMod, entry: &Entry) -> bool
 
 /// The notice of an entry that a DELETE removes at a moment.
 fn notice_of(entry: &Entry, now: u64) -> Result<Notice, AllocError>
-    requires { entry.now.installed ≤ now }
     ensures { IfOk result (λ n. n ≡ notice 2 now entry.now) }
 {
     Ok(Notice {
         removed: entry.clone()?,
         reason: flows::DELETED,
-        duration: now - entry.installed,
+        duration: now.saturating_sub(entry.installed),
     })
 }
 
@@ -159,7 +158,6 @@ fn notices_among(
     m: &FlowMod,
     now: u64,
 ) -> Result<Vec<Notice>, AllocError>
-    requires { All (λ e. e.installed ≤ now) entries.now }
     ensures ok { IfOk result (λ ns. ns.items ≡ map (notice 2 now) (filter (tells m.now) entries.now)) }
     ensures quiet { OnErr result (filter (tells m.now) entries.now ≢ []) }
 {
@@ -176,7 +174,6 @@ fn notices_among(
 fn candidates<'a>(entries: &'a [Entry], m: &FlowMod) -> &'a [Entry]
     requires { IsTable entries.now }
     ensures kept { filter (tells m.now) result.now ≡ filter (tells m.now) entries.now }
-    ensures among { (P : Entry → Type 0) → All P entries.now → All P result.now }
 {
     if m.command != flows::DELETE_STRICT {
         return entries;
@@ -215,7 +212,6 @@ pub(crate) fn delete(
     now: u64,
 ) -> Result<NoticeList, AllocError>
     requires in_order { IsTable entries.old.items }
-    requires installed { All (λ e. e.installed ≤ now) entries.old.items }
     ensures notices { IfOk result (λ ns. ns ≡ map (notice 2 now) (filter (tells m.now) entries.old.items)) }
     ensures ok { OnOk result (entries.new.items ≡ filter (λ e. not (deletes m.now e)) entries.old.items) }
     ensures err { OnErr result (entries.new.items ≡ entries.old.items) }

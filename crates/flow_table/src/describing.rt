@@ -5,6 +5,7 @@ ghost use Rattle.std.specs.List.{list_any};
 ghost use Rattle.of_match.specs.Key.{place};
 ghost use Rattle.match_overlap.specs.Relations.{is_overlapping};
 ghost use Rattle.flow_table.specs.Table.{IsTable, IsPlaceOf, has_key};
+ghost use Rattle.flow_table.specs.ChangeLaws.{clashes_with};
 ghost use Rattle.flow_table.specs.Change.{key_in, is_output_to, describes, sends_to, deletes, adds, clashes, is_full, refusal, asks_notice};
 
 use crate::entry::Entry;
@@ -69,16 +70,19 @@ fn is_output(port: PortNo, action: &Action) -> bool
     matches!(action, Action::Output { port: to, .. } if *to == port)
 }
 
+/// Whether some OUTPUT of the actions goes to a port.
+fn has_output(port: PortNo, actions: &[Action]) -> bool
+    ensures { result ≡ list_any (is_output_to port) actions.now }
+{
+    actions.iter().any(|action| is_output(port, action))
+}
+
 /// Whether `out_port` is NONE or some OUTPUT of the actions goes to it.
 #[tactic(auto, unfolding(crate::specs::Change::sends_to))]
 pub(crate) fn sends(out_port: PortNo, actions: &ActionList) -> bool
     ensures { result ≡ sends_to out_port actions.now }
 {
-    out_port == ports::NONE
-        || actions
-            .as_slice()
-            .iter()
-            .any(|action| is_output(out_port, action))
+    out_port == ports::NONE || has_output(out_port, actions.as_slice())
 }
 
 /// Whether a DELETE removes the entry.
@@ -117,22 +121,28 @@ pub(crate) fn is_adding(m: &FlowMod, entries: &[Entry]) -> bool
         || (m.command == flows::MODIFY || m.command == flows::MODIFY_STRICT) && !is_met(m, entries)
 }
 
+/// Whether the entry has the priority of a key, another match, and some packet in common with it.
+fn is_overlap(key: &Key, entry: &Entry) -> bool
+    ensures { result ≡ clashes_with key.now entry.now }
+{
+    entry.key.priority == key.priority
+        && !entry.has_key(key)
+        && overlaps(&entry.key.matching, &key.matching)
+}
+
+/// Whether some entry overlaps one of a key.
+fn has_overlap(entries: &[Entry], key: &Key) -> bool
+    ensures { result ≡ list_any (clashes_with key.now) entries.now }
+{
+    entries.iter().any(|entry| is_overlap(key, entry))
+}
+
 /// Whether another entry of the priority overlaps, and that was to be checked.
 #[tactic(auto, unfolding(crate::specs::Change::clashes))]
 pub(crate) fn is_clashing(m: &FlowMod, entries: &[Entry]) -> bool
     ensures { result ≡ clashes m.now entries.now }
 {
-    let key = key_of(m);
-    m.flags / 2 % 2 == 1 && entries.iter().any(|entry| is_overlap(&key, entry))
-}
-
-/// Whether the entry has the priority of a key, another match, and some packet in common with it.
-fn is_overlap(key: &Key, entry: &Entry) -> bool
-    ensures { result ≡ (entry.now.key.priority == key.now.priority && (not (has_key key.now entry.now) && is_overlapping entry.now.key.matching key.now.matching)) }
-{
-    entry.key.priority == key.priority
-        && !entry.has_key(key)
-        && overlaps(&entry.key.matching, &key.matching)
+    m.flags / 2 % 2 == 1 && has_overlap(entries, &key_of(m))
 }
 
 /// Whether a new key has no place in a table of `cap` entries.

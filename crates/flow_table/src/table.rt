@@ -154,7 +154,6 @@ fn change_entries(
     cap: u32,
 ) -> Result<NoticeList, ChangeFault>
     requires in_order { IsTable entries.old.items }
-    requires now { IsMoment now entries.old.items }
     requires serials { next.old < 2 ^ 64 - 1 }
     ensures answer { Answers result (refusal cap m.now entries.old.items) (notices_of now m.now entries.old.items) }
     ensures ok { OnOk result (entries.new.items ≡ entries_after now next.old m.now entries.old.items) }

@@ -1,8 +1,8 @@
-use Rattle.std.proofs.Common.{◌≡◌, ℕ, List, None, Result, Ok, Err, OnErr, set, sym, ◌∙◌, subst}
+use Rattle.std.proofs.Common.{◌≡◌, ℕ, List, Ok, Err, set, sym, ◌∙◌, subst}
 use Rattle.std.specs.List.{insert}
 use Rattle.flow_table.specs.declared.entry.Entry.{Entry}
-use Rattle.flow_table.specs.Table.{place_of, IsTable, IsPlaceOf, entry_at, with_entry}
-use Rattle.flow_table.specs.TableLaws.{with_entry-found, with_entry-absent, entry_at-absent}
+use Rattle.flow_table.specs.Table.{place_of, IsTable, IsPlaceOf, with_entry}
+use Rattle.flow_table.specs.TableLaws.{with_entry-found, with_entry-absent}
 use Rattle.flow_table.proofs.changing.put.Goals as goal
 
 found : (es seen : List Entry) (e : Entry) (at : ℕ) → seen ≡ es → IsTable es → IsPlaceOf (place_of e) seen (Ok at) → set es at e ≡ with_entry e es
@@ -15,22 +15,9 @@ absent es seen e at same place =
     let here : IsPlaceOf (place_of e) es (Err at) = subst (λ (xs : List Entry). IsPlaceOf (place_of e) xs (Err at)) same place in
     sym (with_entry-absent es e at here.0 here.1)
 
-new : (es seen : List Entry) (e : Entry) (at : ℕ) → seen ≡ es → IsPlaceOf (place_of e) seen (Err at) → entry_at e.key es ≡ None
-new es seen e at same place =
-    let here : IsPlaceOf (place_of e) es (Err at) = subst (λ (xs : List Entry). IsPlaceOf (place_of e) xs (Err at)) same place in
-    entry_at-absent es e.key at here.1
-
-on_err : {T E P : Type 0} (r : Result T E) → P → OnErr r P
-on_err (Ok x) p = tt
-on_err (Err x) p = p
-
 pub returns-in-Ok-clause-ok : goal.returns-in-Ok-clause-ok
 returns-in-Ok-clause-ok c = found _ c.deref.result.now c.args.entry c.in-Ok.at c.deref.ensures.value c.requires c.in-Ok.ensures
 
 pub returns-in_ok-insert-in-Err-clause-ok : goal.returns-in_ok-insert-in-Err-clause-ok
 returns-in_ok-insert-in-Err-clause-ok c =
     c.in_ok-insert-in-Err.ensures.items ∙ absent _ c.deref.result.now c.args.entry c.in-Err.at c.deref.ensures.value c.in-Err.ensures
-
-pub returns-in_err-insert-in-Err-clause-new : goal.returns-in_err-insert-in-Err-clause-new
-returns-in_err-insert-in-Err-clause-new c =
-    on_err c.from_residual.result (new _ c.deref.result.now c.args.entry c.in-Err.at c.deref.ensures.value c.in-Err.ensures)
