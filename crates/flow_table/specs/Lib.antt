@@ -8,3 +8,5 @@ pub mod HitLaws
 pub mod Expiry
 pub mod ExpiryLaws
 pub mod Rows
+pub mod RowsLaws
+pub mod MomentLaws
