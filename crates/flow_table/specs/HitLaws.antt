@@ -1,5 +1,5 @@
 -- What follows about hits and counts: the entry that is hit stands in the table, and keys and order stay.
-use Rattle.std.proofs.Common.{◌≡◌, ◌==◌, ◌⊎◌, ℕ, zero, suc, ◌+◌, ◌<◌, Bool, true, false, List, [], ◌∷◌, length, get_or, set, map, nat_lt, Option, Some, None, refl, sym, ap, ◌∙◌, arith, inl, inr}
+use Rattle.std.proofs.Common.{◌≡◌, ◌==◌, ◌⊎◌, ℕ, zero, suc, ◌+◌, ◌<◌, true, false, List, [], ◌∷◌, length, get_or, set, map, nat_lt, Option, Some, None, refl, sym, ap, ◌∙◌, arith, inl, inr}
 use Rattle.std.proofs.lemmas.Bool.{cases_Bool}
 use Rattle.std.proofs.lemmas.List.{get_or_default}
 use Rattle.std.specs.List.{Contains}
@@ -8,9 +8,9 @@ use Rattle.of_match.specs.declared.key.Key.{Key}
 use Rattle.of_match.specs.declared.packet_key.PacketKey.{PacketKey}
 use Rattle.of_match.specs.Key.{place}
 use Rattle.flow_table.specs.declared.entry.Entry.{Entry}
-use Rattle.flow_table.specs.Table.{place_of, AscendsFrom, IsTable, IsPositionOf, with_entry}
+use Rattle.flow_table.specs.Table.{place_of, AscendsFrom, IsTable}
 use Rattle.flow_table.specs.TableLaws.{with_entry-found}
-use Rattle.flow_table.specs.Hit.{rank, best, better, counted, hit, hit_by, with_more, with_counts}
+use Rattle.flow_table.specs.Hit.{rank, best, better, counted, hit, with_counts}
 
 -- ---- Entries with the same keys
 
@@ -88,9 +88,9 @@ keys-hit k len now es is =
     elim (cases_Option (best k es)) [
       | inl none ↦ ap keys (hit-none k len now es none)
       | inr (e, found) ↦
-        let (i, within, here) = Contains-best k es e found in
-        let c : Entry = counted len now e in
-        ap keys (hit-set k len now es i e is found within here) ∙ keys-set es i c (ap (λ x. x.key) (get_or_default es i c e within ∙ here))
+          let (i, within, here) = Contains-best k es e found in
+          let c : Entry = counted len now e in
+          ap keys (hit-set k len now es i e is found within here) ∙ keys-set es i c (ap (λ x. x.key) (get_or_default es i c e within ∙ here))
     ]
 
 pub IsTable-hit : (k : PacketKey) (len now : ℕ) (es : List Entry) → IsTable es → IsTable (hit k len now es)

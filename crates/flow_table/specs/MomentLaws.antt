@@ -1,5 +1,5 @@
 -- What follows about moments: after each call no entry was put in or used after the moment of that call, nor after a later one.
-use Rattle.std.proofs.Common.{◌≡◌, ℕ, ◌+◌, ◌≤◌, Bool, true, false, not, List, [], ◌∷◌, All, map, filter, Option, Some, None, refl, sym, ap, ◌∙◌, arith, inl, inr}
+use Rattle.std.proofs.Common.{◌≡◌, ℕ, ◌≤◌, Bool, not, List, [], ◌∷◌, All, map, filter, Option, Some, None, refl, arith, inl, inr}
 use Rattle.std.proofs.lemmas.Bool.{cases_Bool, cases_lt}
 use Rattle.std.proofs.lemmas.List.Elements.{All-nil, All-cons, All-head, All-tail, All-weaker, All-filter, All-map, All-contains}
 use Rattle.of_match.specs.declared.packet_key.PacketKey.{PacketKey}
@@ -7,7 +7,7 @@ use Rattle.of_wire.specs.declared.bodies.FlowMod.{FlowMod}
 use Rattle.flow_table.specs.declared.entry.Entry.{Entry}
 use Rattle.flow_table.specs.Table.{TableState, IsMoment, last_moment, place_of, with_entry}
 use Rattle.flow_table.specs.TableLaws.{with_entry-before, with_entry-same, with_entry-after}
-use Rattle.flow_table.specs.Change.{adds, is_modify, describes, deletes, modified, new_entry, entries_after, refusal, changed, change, unless_refused}
+use Rattle.flow_table.specs.Change.{adds, is_modify, deletes, modified, new_entry, entries_after, refusal, changed, change, unless_refused}
 use Rattle.flow_table.specs.Hit.{best, counted, hit, hit_by, with_more, with_counts}
 use Rattle.flow_table.specs.HitLaws.{Contains-best}
 use Rattle.flow_table.specs.Expiry.{is_due, expire}

@@ -20,7 +20,12 @@ fn is_selected(entry: &Entry, m: &Match, out_port: PortNo) -> bool
 
 /// Where the selected entries stand; ascending.
 #[tactic(auto, unfolding(crate::specs::Rows::positions))]
-pub(crate) fn select(alloc: Global, entries: &[Entry], m: &Match, out_port: PortNo) -> Result<Vec<usize>, AllocError>
+pub(crate) fn select(
+    alloc: Global,
+    entries: &[Entry],
+    m: &Match,
+    out_port: PortNo,
+) -> Result<Vec<usize>, AllocError>
     ensures { IfOk result (λ places. places.items ≡ positions m.now out_port entries.now) }
 {
     let mut places = Vec::new(alloc);

@@ -1,4 +1,4 @@
-use Rattle.std.proofs.Common.{ℕ, List, ◌≤◌, ◌∙◌, sym, ◌≡◌, ◌<◌, ◌++◌, length, map, take, drop, append-nil, arith, rules}
+use Rattle.std.proofs.Common.{ℕ, List, ◌≤◌, ◌∙◌, sym, ◌≡◌, ◌++◌, length, map, take, drop, append-nil}
 use Rattle.std.proofs.Math.ListN.{drop_of_length-le}
 use Rattle.std.proofs.lemmas.List.{take_all}
 use Rattle.std.proofs.lemmas.List.Edits.{map_over_more}

@@ -1,4 +1,4 @@
-use Rattle.std.proofs.Common.{rules, ◌≡◌, ◌+◌, ◌<◌, nat_lt, drop, drop-cons, add-one, length, get_or, Option, Some, None, ℕ, Bool, true, false, List, refl, sym, ap, subst, ◌∙◌, arith, cond, slice_get, lit<}
+use Rattle.std.proofs.Common.{rules, ◌≡◌, ◌+◌, ◌<◌, nat_lt, drop, drop-cons, add-one, length, get_or, Option, Some, None, ℕ, true, false, List, refl, sym, ap, subst, ◌∙◌, cond}
 use Rattle.std.proofs.lemmas.Option.{slice_get_within, get_or_from_slice_get, slice_get_read}
 use Rattle.of_match.specs.Covers.{is_covering}
 use Rattle.of_match.specs.declared.packet_key.PacketKey.{PacketKey}

@@ -1,4 +1,3 @@
-use Rattle.std.proofs.Common.{◌≡◌, drop, length, List, refl}
 use Rattle.std.proofs.Math.Seq.{drop-length}
 use Rattle.flow_table.specs.Hit.{best}
 use Rattle.flow_table.proofs.hitting.lookup.Goals as goal
