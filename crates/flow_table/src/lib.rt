@@ -3,6 +3,7 @@
 #![tactic(auto)]
 
 mod changing;
+mod copying;
 mod describing;
 mod entry;
 mod fault;
