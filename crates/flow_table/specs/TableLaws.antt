@@ -304,3 +304,22 @@ map-found test g p (f ∷ fs) least zero x only h within read same passes =
 map-found test g p (f ∷ fs) least (suc i) x only h within read same passes =
     let here : (if test f then g f else f) ≡ f = cond-false (test f) (g f) f (before-fails test p f fs least i only h (omega arith) same) in
     rw here (ap (λ xs. f ∷ xs) (map-found test g p fs (place_of f + 1) i x only h.1 (omega arith) read same passes))
+
+-- what passes is kept
+pub filter-some : (test : Entry → Bool) (es : List Entry) (i : ℕ) (x : Entry) → i < length es → x ≡ get_or es i x → test x ≡ true → filter test es ≢ []
+filter-some test [] i x within read passes = absurd (omega arith)
+filter-some test (f ∷ fs) zero x within read passes =
+    let here : test f ≡ true = ap test (sym read) ∙ passes in
+    let kept = filter-takes test f fs here in
+    λ none. absurd cc
+filter-some test (f ∷ fs) (suc i) x within read passes =
+    let more : filter test fs ≢ [] = filter-some test fs i x (omega arith) read passes in
+    elim (cases_Bool (test f)) [
+      | inl here ↦ let kept = filter-takes test f fs here in λ none. absurd cc
+      | inr fails ↦ let left = filter-skips test f fs fails in λ none. more (sym left ∙ none)
+    ]
+
+-- a list with a place has an entry, which stands for what a read gives past the end
+pub an_entry : (es : List Entry) (i : ℕ) → i < length es → Entry
+an_entry [] i within = absurd (omega arith)
+an_entry (f ∷ fs) i within = f

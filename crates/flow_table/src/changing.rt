@@ -1,13 +1,14 @@
 //! What a FLOW_MOD that is not refused does to the entries.
 
-ghost use Rattle.std.specs.Prelude.{◌≡◌, ◌≢◌, ◌≤◌, ◌<◌, ◌+◌, [], All, not, IfOk, OnOk, OnErr, map, filter, drop, length, slice_set, slice_index_or};
-ghost use Rattle.std.specs.List.{count_by};
+ghost use Rattle.std.specs.Prelude.{◌≡◌, ◌≢◌, ◌≤◌, ◌<◌, ◌+◌, ◌-◌, ◌^◌, [], All, not, IsTrue, IfOk, OnOk, OnErr, if◌then◌else◌, map, filter, drop, length, slice_set, slice_index_or};
+ghost use Rattle.std.specs.List.{count_by, remove};
 ghost use Rattle.flow_table.specs.declared.entry.Entry.{Entry};
 ghost use Rattle.flow_table.specs.Table.{IsTable, with_entry};
-ghost use Rattle.flow_table.specs.Change.{deletes, modified, new_entry, notice};
+ghost use Rattle.flow_table.specs.Change.{is_delete, adds, deletes, modified, new_entry, notice, entries_after, notices_of};
 ghost use Rattle.flow_table.specs.ChangeLaws.{means, tells};
 
-use crate::describing::{asks, is_deleted, is_described, key_of, position, sends};
+use crate::copying::{copy_actions, copy_entry};
+use crate::describing::{asks, is_deleted, is_described, is_modifying, key_of, position};
 use crate::entry::Entry;
 use crate::notice::{Notice, NoticeList};
 use of_action::ActionList;
@@ -17,12 +18,12 @@ use std::alloc::{AllocError, Global};
 
 /// The entry that a FLOW_MOD puts in at a moment.
 #[tactic(auto, unfolding(crate::specs::Change::new_entry))]
-fn entry_of(m: &FlowMod, now: u64, serial: u64) -> Result<Entry, AllocError>
+fn entry_of(alloc: Global, m: &FlowMod, now: u64, serial: u64) -> Result<Entry, AllocError>
     ensures { IfOk result (λ e. e ≡ new_entry now serial m.now) }
 {
     Ok(Entry {
         key: key_of(m),
-        actions: m.actions.clone()?,
+        actions: copy_actions(alloc, &m.actions)?,
         cookie: m.cookie,
         idle: m.idle,
         hard: m.hard,
@@ -50,6 +51,7 @@ fn put(entries: &mut Vec<Entry>, entry: Entry) -> Result<(), AllocError>
 
 /// Puts the entry of a FLOW_MOD in.
 pub(crate) fn add(
+    alloc: Global,
     entries: &mut Vec<Entry>,
     m: &FlowMod,
     now: u64,
@@ -59,7 +61,7 @@ pub(crate) fn add(
     ensures ok { OnOk result (entries.new.items ≡ with_entry (new_entry now serial m.now) entries.old.items) }
     ensures err { OnErr result (entries.new.items ≡ entries.old.items) }
 {
-    let entry = entry_of(m, now, serial)?;
+    let entry = entry_of(alloc, m, now, serial)?;
     put(entries, entry)
 }
 
@@ -71,7 +73,7 @@ fn copies(alloc: Global, entries: &[Entry], m: &FlowMod) -> Result<Vec<ActionLis
     let mut copies = Vec::new(alloc);
     for entry in entries {
         if is_described(m, entry) {
-            copies.push(m.actions.clone()?)?;
+            copies.push(copy_actions(alloc, &m.actions)?)?;
         }
     }
     Ok(copies)
@@ -106,14 +108,14 @@ fn replace_actions(entries: &mut Vec<Entry>, m: &FlowMod, copies: Vec<ActionList
 }
 
 /// Gives the entry with the key of a FLOW_MOD its actions.
-fn modify_one(entries: &mut Vec<Entry>, m: &FlowMod) -> Result<(), AllocError>
+fn modify_one(alloc: Global, entries: &mut Vec<Entry>, m: &FlowMod) -> Result<(), AllocError>
     requires in_order { IsTable entries.old.items }
     requires strict { m.now.command ≡ 2 }
     ensures ok { OnOk result (entries.new.items ≡ map (modified m.now) entries.old.items) }
     ensures err { OnErr result (entries.new.items ≡ entries.old.items) }
 {
     if let Ok(at) = position(entries, &key_of(m)) {
-        entries[at].actions = m.actions.clone()?;
+        entries[at].actions = copy_actions(alloc, &m.actions)?;
     }
     Ok(())
 }
@@ -125,7 +127,7 @@ pub(crate) fn modify(alloc: Global, entries: &mut Vec<Entry>, m: &FlowMod) -> Re
     ensures err { OnErr result (entries.new.items ≡ entries.old.items) }
 {
     if m.command == flows::MODIFY_STRICT {
-        modify_one(entries, m)
+        modify_one(alloc, entries, m)
     } else {
         let copies = copies(alloc, entries, m)?;
         replace_actions(entries, m, copies);
@@ -141,11 +143,11 @@ fn is_told(m: &FlowMod, entry: &Entry) -> bool
 }
 
 /// The notice of an entry that a DELETE removes at a moment.
-fn notice_of(entry: &Entry, now: u64) -> Result<Notice, AllocError>
+fn notice_of(alloc: Global, entry: &Entry, now: u64) -> Result<Notice, AllocError>
     ensures { IfOk result (λ n. n ≡ notice 2 now entry.now) }
 {
     Ok(Notice {
-        removed: entry.clone()?,
+        removed: copy_entry(alloc, entry)?,
         reason: flows::DELETED,
         duration: now.saturating_sub(entry.installed),
     })
@@ -164,7 +166,7 @@ fn notices_among(
     let mut notices = Vec::new(alloc);
     for entry in entries {
         if is_told(m, entry) {
-            notices.push(notice_of(entry, now)?)?;
+            notices.push(notice_of(alloc, entry, now)?)?;
         }
     }
     Ok(notices)
@@ -184,16 +186,25 @@ fn candidates<'a>(entries: &'a [Entry], m: &FlowMod) -> &'a [Entry]
     }
 }
 
+/// Removes an entry if a DELETE means it.
+fn remove_at(entries: &mut Vec<Entry>, at: usize, m: &FlowMod)
+    requires { at < length entries.old.items }
+    ensures { (e : Entry) → entries.new.items ≡ (if deletes m.now (slice_index_or entries.old.items at e) then remove entries.old.items at else entries.old.items) }
+{
+    if is_deleted(m, &entries[at]) {
+        entries.remove(at);
+    }
+}
+
 /// Removes the entry with the key of a DELETE_STRICT, unless it sends to another port.
 fn delete_one(entries: &mut Vec<Entry>, m: &FlowMod)
     requires in_order { IsTable entries.old.items }
     requires strict { m.now.command ≡ 4 }
     ensures { entries.new.items ≡ filter (λ e. not (deletes m.now e)) entries.old.items }
 {
-    if let Ok(at) = position(entries, &key_of(m))
-        && is_deleted(m, &entries[at])
-    {
-        entries.remove(at);
+    match position(entries, &key_of(m)) {
+        Ok(at) => remove_at(entries, at, m),
+        Err(_) => {}
     }
 }
 
@@ -224,4 +235,37 @@ pub(crate) fn delete(
         delete_all(entries, m);
     }
     Ok(NoticeList::from_vec(notices))
+}
+
+/// Does what a FLOW_MOD of a known command asks for; `adding` says whether it puts an entry in, whose serial
+/// is then `next`.
+pub(crate) fn apply(
+    alloc: Global,
+    entries: &mut Vec<Entry>,
+    next: &mut u64,
+    m: &FlowMod,
+    now: u64,
+    adding: bool,
+) -> Result<NoticeList, AllocError>
+    requires in_order { IsTable entries.old.items }
+    requires adding { adding ≡ adds m.now entries.old.items }
+    requires known { m.now.command ≤ 4 }
+    requires serials { next.old < 2 ^ 64 - 1 }
+    ensures notices { IfOk result (λ ns. ns ≡ notices_of now m.now entries.old.items) }
+    ensures ok { OnOk result (entries.new.items ≡ entries_after now next.old m.now entries.old.items) }
+    ensures next { OnOk result (next.new ≡ (if adds m.now entries.old.items then next.old + 1 else next.old)) }
+    ensures err { OnErr result (entries.new.items ≡ entries.old.items) }
+    ensures next_err { OnErr result (next.new ≡ next.old) }
+    ensures quiet { OnErr result (IsTrue (is_delete m.now) → notices_of now m.now entries.old.items ≢ []) }
+{
+    if adding {
+        add(alloc, entries, m, now, *next)?;
+        *next += 1;
+        Ok(NoticeList::new(alloc))
+    } else if is_modifying(m) {
+        modify(alloc, entries, m)?;
+        Ok(NoticeList::new(alloc))
+    } else {
+        delete(alloc, entries, m, now)
+    }
 }

@@ -1,12 +1,12 @@
 //! Which entries of a table a FLOW_MOD means, and what stands against it.
 
-ghost use Rattle.std.specs.Prelude.{◌≡◌, ◌==◌, ◌&&◌, not};
+ghost use Rattle.std.specs.Prelude.{◌≡◌, ◌==◌, ◌≤◌, IfNone};
 ghost use Rattle.std.specs.List.{list_any};
 ghost use Rattle.of_match.specs.Key.{place};
 ghost use Rattle.match_overlap.specs.Relations.{is_overlapping};
 ghost use Rattle.flow_table.specs.Table.{IsTable, IsPlaceOf, has_key};
 ghost use Rattle.flow_table.specs.ChangeLaws.{clashes_with};
-ghost use Rattle.flow_table.specs.Change.{key_in, is_output_to, describes, sends_to, deletes, adds, clashes, is_full, refusal, asks_notice};
+ghost use Rattle.flow_table.specs.Change.{key_in, is_modify, is_output_to, describes, sends_to, deletes, adds, clashes, is_full, refusal, asks_notice};
 
 use crate::entry::Entry;
 use match_overlap::{overlaps, subsumes};
@@ -111,14 +111,20 @@ fn is_met(m: &FlowMod, entries: &[Entry]) -> bool
     }
 }
 
+/// Whether the command is one of the two of MODIFY.
+pub(crate) fn is_modifying(m: &FlowMod) -> bool
+    ensures { result ≡ is_modify m.now }
+{
+    m.command == flows::MODIFY || m.command == flows::MODIFY_STRICT
+}
+
 /// Whether the FLOW_MOD puts an entry in: an ADD, or a MODIFY that meets no entry.
 #[tactic(auto, unfolding(crate::specs::Change::adds))]
 pub(crate) fn is_adding(m: &FlowMod, entries: &[Entry]) -> bool
     requires { IsTable entries.now }
     ensures { result ≡ adds m.now entries.now }
 {
-    m.command == flows::ADD
-        || (m.command == flows::MODIFY || m.command == flows::MODIFY_STRICT) && !is_met(m, entries)
+    m.command == flows::ADD || is_modifying(m) && !is_met(m, entries)
 }
 
 /// Whether the entry has the priority of a key, another match, and some packet in common with it.
@@ -165,7 +171,8 @@ pub(crate) fn find_refusal(
 ) -> Option<OfError>
     requires in_order { IsTable entries.now }
     requires adding { adding ≡ adds m.now entries.now }
-    ensures { result ≡ refusal cap m.now entries.now }
+    ensures value { result ≡ refusal cap m.now entries.now }
+    ensures known { IfNone result (m.now.command ≤ 4) }
 {
     if flows::DELETE_STRICT < m.command {
         Some(errors::FLOW_BAD_COMMAND)

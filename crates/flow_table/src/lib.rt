@@ -4,6 +4,7 @@
 
 mod copying;
 mod changing;
+mod copying;
 mod describing;
 mod entry;
 mod expiring;

@@ -1,19 +1,19 @@
 //! A flow table.
 
-ghost use Rattle.std.specs.Prelude.{◌≡◌, ◌↔◌, ◌<◌, ◌+◌, ◌-◌, ◌^◌, [], length, slice_get, Some, IsTrue, IsOk, IfOk, OnOk, OnErr, if◌then◌else◌};
+ghost use Rattle.std.specs.Prelude.{◌≡◌, ◌≢◌, ◌↔◌, ◌<◌, ◌+◌, ◌-◌, ◌^◌, [], length, slice_get, Some, IsTrue, IsOk, IfOk, OnOk, OnErr, if◌then◌else◌};
 ghost use Rattle.flow_table.specs.Table.{IsTable, IsMoment, IsPositionOf, empty_table};
 ghost use Rattle.flow_table.specs.Change.{Answers, is_delete, adds, refusal, changed, entries_after, notices_of};
 ghost use Rattle.flow_table.specs.Hit.{best, hit, with_counts};
 ghost use Rattle.flow_table.specs.Expiry.{expire, expiry_notices};
 ghost use Rattle.flow_table.specs.Rows.{positions};
 
-use crate::changing::{add, delete, modify};
+use crate::changing::apply;
 use crate::describing::{find_refusal, is_adding};
 use crate::entry::Entry;
 use crate::fault::ChangeFault;
 use crate::notice::NoticeList;
 use of_match::{Match, PacketKey};
-use of_types::{PortNo, flows};
+use of_types::PortNo;
 use of_wire::FlowMod;
 use std::alloc::{AllocError, Global};
 use std::marker::Model;
@@ -160,20 +160,11 @@ fn change_entries(
     ensures next { OnOk result (next.new ≡ (if adds m.now entries.old.items then next.old + 1 else next.old)) }
     ensures err { OnErr result (entries.new.items ≡ entries.old.items) }
     ensures next_err { OnErr result (next.new ≡ next.old) }
-    ensures quiet { IsTrue (is_delete m.now) → notices_of now m.now entries.old.items ≡ [] → IsOk result }
+    ensures quiet { OnErr result (IsTrue (is_delete m.now) → notices_of now m.now entries.old.items ≢ []) }
 {
     let adding = is_adding(m, entries);
     if let Some(error) = find_refusal(m, entries, cap, adding) {
         return Err(ChangeFault::Refused(error));
     }
-    if adding {
-        add(entries, m, now, *next)?;
-        *next += 1;
-        Ok(NoticeList::new(alloc))
-    } else if m.command == flows::MODIFY || m.command == flows::MODIFY_STRICT {
-        modify(alloc, entries, m)?;
-        Ok(NoticeList::new(alloc))
-    } else {
-        Ok(delete(alloc, entries, m, now)?)
-    }
+    Ok(apply(alloc, entries, next, m, now, adding)?)
 }
