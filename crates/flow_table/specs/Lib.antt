@@ -10,3 +10,5 @@ pub mod ExpiryLaws
 pub mod Rows
 pub mod RowsLaws
 pub mod MomentLaws
+pub mod Run
+pub mod RunLaws

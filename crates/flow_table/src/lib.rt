@@ -2,6 +2,7 @@
 //! packets and time make of them. The definitions of a switch stand here too.
 #![tactic(auto)]
 
+mod calls;
 mod changing;
 mod copying;
 mod describing;
@@ -14,6 +15,7 @@ mod selecting;
 mod table;
 mod view;
 
+pub use calls::{TableAnswer, TableCall, run};
 pub use entry::Entry;
 pub use fault::ChangeFault;
 pub use notice::{Notice, NoticeList};
