@@ -2,12 +2,16 @@
 //! packets and time make of them. The definitions of a switch stand here too.
 #![tactic(auto)]
 
+mod copying;
 mod changing;
 mod copying;
 mod describing;
 mod entry;
+mod expiring;
 mod fault;
+mod hitting;
 mod notice;
+mod selecting;
 mod table;
 mod view;
 
