@@ -10,3 +10,8 @@ pub mod ExpiryLaws
 pub mod Rows
 pub mod RowsLaws
 pub mod MomentLaws
+pub mod Switch
+pub mod Refusals
+pub mod Frames
+pub mod Statistics
+pub mod Step
