@@ -107,6 +107,19 @@ app_body-spelled Undo is = refl
 app_body-spelled (Done stop checkpoint) is = done_spelled stop checkpoint
 app_body-spelled Ready is = refl
 
+app_fit : (frame : AppFrame) → IsAppFrame frame → AreFields (app_fields frame)
+app_fit (Message dpid bytes) is = (is.0, tt)
+app_fit Save is = tt
+app_fit Keep is = tt
+app_fit Undo is = tt
+app_fit (Done stop checkpoint) is = (bit-lt stop, (bit-lt (is_some checkpoint), tt))
+app_fit Ready is = tt
+
+-- the length of a body is that of its fields and of what follows
+pub length_app_body : (frame : AppFrame) → IsAppFrame frame → length (app_body_bytes frame) ≡ width (app_fields frame) + length (app_tail frame)
+unfolding app_body_bytes
+length_app_body frame is = length_body (app_fields frame) (app_tail frame) (app_fit frame is)
+
 -- what a body that was read says
 pub record WasApp (kind : AppKind) (frame : AppFrame) (body : List ℕ) : Type 0 where
   pub kind_is : app_kind frame ≡ kind

@@ -1,5 +1,5 @@
 -- The frames of both directions: which there are, and what is read at the front of the bytes that have come (our own choice).
-use Rattle.std.specs.Prelude.{◌≡◌, ℕ, ◌+◌, ◌^◌, ◌<◌, ◌≤◌, List, length, Option, Some, None}
+use Rattle.std.specs.Prelude.{◌≡◌, ℕ, ◌+◌, ◌^◌, ◌<◌, ◌≤◌, List, length, take, Option, Some, None}
 use Rattle.of_types.specs.Layout.{width}
 use Rattle.app_frames.specs.declared.frame.AppFrame.{AppFrame}
 use Rattle.app_frames.specs.declared.frame.AppFrame.TheVariants.{Message, Done}
@@ -10,7 +10,7 @@ use Rattle.app_frames.specs.declared.frame.Answer.TheVariants.{Error, Statistics
 use Rattle.app_frames.specs.Kinds.{app_kind_of, host_kind_of}
 use Rattle.app_frames.specs.Reading.{Reading, frame_of, IsPartial}
 use Rattle.app_frames.specs.Bodies.{app_body, host_body}
-use Rattle.app_frames.specs.Spelling.{host_fields, host_tail}
+use Rattle.app_frames.specs.Spelling.{app_bytes, host_fields, host_tail, host_bytes}
 
 -- ---- from an application
 
@@ -38,6 +38,12 @@ AppNumbers other = Unit {0}
 abbrev pub IsAppFrame : AppFrame → Type 0
 IsAppFrame frame = AppNumbers frame × AppFits frame
 
+-- a frame, and how many bytes of those that have come spell it
+pub record IsAppAtFront (frame : AppFrame) (size : ℕ) (bytes : List ℕ) : Type 0 where
+  pub is : IsAppFrame frame
+  pub spelled_so : app_bytes frame ≡ take size bytes
+  pub size_is : length (app_bytes frame) ≡ size
+
 -- ---- from the host
 
 unfoldable pub host_reading : List ℕ → Reading (HostFrame × ℕ)
@@ -63,3 +69,9 @@ HostNumbers (Answer answer) = AnswerNumbers answer
 
 abbrev pub IsHostFrame : HostFrame → Type 0
 IsHostFrame frame = HostNumbers frame × HostFits frame
+
+-- a frame, and how many bytes of those that have come spell it
+pub record IsHostAtFront (frame : HostFrame) (size : ℕ) (bytes : List ℕ) : Type 0 where
+  pub is : IsHostFrame frame
+  pub spelled_so : host_bytes frame ≡ take size bytes
+  pub size_is : length (host_bytes frame) ≡ size

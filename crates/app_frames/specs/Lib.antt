@@ -6,4 +6,5 @@ pub mod Frames
 pub mod KindLaws
 pub mod ReadingLaws
 pub mod BodyLaws
-pub mod FrameLaws
+pub mod AppLaws
+pub mod HostLaws

@@ -1,13 +1,15 @@
 -- Laws of reading a frame, whatever its kinds and bodies: what is decided stays, what a front is, and when a frame is yet to come.
 use Rattle.std.proofs.Common.{◌≡◌, ℕ, zero, suc, ◌+◌, ◌-◌, ◌^◌, ◌<◌, ◌≤◌, Bool, true, false, cond, eqb, ltb, List, [], ◌∷◌, ◌++◌, length, take, drop, Option, Some, None, Result, Ok, Err, refl, sym, ap, subst, ◌∙◌, append_assoc, arith, inl, inr}
-use Rattle.std.specs.Prelude.{◌⊎◌, ◌↔◌, IsSome}
+use Rattle.std.specs.Prelude.{◌⊎◌, ◌↔◌, IsSome, IfOk, IfSome}
 use Rattle.std.proofs.lemmas.Bool.{eqb-true, ne_eqb, ltb-true, ltb-false, lt-ltb, le-ltb, cases_lt}
 use Rattle.std.proofs.lemmas.List.{take_at, drop_at, take-append-le, length-append, length-drop, drop-append-le}
 use Rattle.of_types.specs.Fields.{number_at, number_bytes, piece, IsBytes}
 use Rattle.of_types.specs.FieldLaws.{number_at-take, number_at-number_bytes, number_bytes-number_at, length-number_bytes, length-piece, piece-append}
 use Rattle.app_frames.specs.declared.fault.FrameFault.{FrameFault}
 use Rattle.app_frames.specs.declared.fault.FrameFault.TheVariants.{TooLong, BadKind, BadBody}
-use Rattle.app_frames.specs.Reading.{Reading, ◌>>=◌, is_above, length_of, known, kind_at, whole_at, front_of, by_table, frame_of, IsWithin, IsBegun, IsPartial}
+use Rattle.app_frames.specs.declared.fault.AppFrameError.{AppFrameError}
+use Rattle.app_frames.specs.declared.fault.AppFrameError.TheVariants.{Refused, NoMemory}
+use Rattle.app_frames.specs.Reading.{Reading, IsWhole, Gives, ◌>>=◌, is_above, length_of, known, kind_at, whole_at, front_of, by_table, frame_of, IsWithin, IsBegun, IsPartial}
 use Rattle.app_frames.specs.Spelling.{framed}
 
 -- ---- steps
@@ -339,6 +341,46 @@ frame_before {K} {X} most kind_of body_of bytes more frame size e short = at (fr
         let there : frame_of most kind_of body_of (bytes ++ more) ≡ Err fault = frame_of_stays most kind_of body_of bytes more (λ none. absurd cc) ∙ is in
         absurd cc
 
+-- ---- without a greatest length none is too long
+
+abbrev the_fault : {X : Type 0} → FrameFault → Reading X
+the_fault fault = Err fault
+
+same_fault : {X : Type 0} (x y : FrameFault) → the_fault {X = X} x ≡ the_fault {X = X} y → x ≡ y
+same_fault x y e = cc
+
+abbrev NotTooLong : {X : Type 0} → Reading X → Type 0
+NotTooLong r = r ≡ Err TooLong → ⊥
+
+bind_not_too_long : {X Y : Type 0} (r : Reading X) (f : X → Reading Y) → NotTooLong r → ((x : X) → NotTooLong (f x)) → NotTooLong (r >>= f)
+bind_not_too_long (Ok (Some x)) f not later = later x
+bind_not_too_long (Ok None) f not later = λ e. absurd cc
+bind_not_too_long {X = X} (Err fault) f not later = λ e. not (ap (λ (x : FrameFault). the_fault {X = X} x) (same_fault fault TooLong e))
+
+pub never_too_long : {K X : Type 0} (kind_of : ℕ → Option K) (body_of : K → List ℕ → Option X) (bytes : List ℕ) → frame_of None kind_of body_of bytes ≡ Err TooLong → ⊥
+unfolding frame_of front_of length_of kind_at whole_at
+never_too_long {K} {X} kind_of body_of bytes =
+    bind_not_too_long (front_of None kind_of bytes) (λ front. by_table (body_of front.0 (piece (front.1 - 5) 5 bytes)) >>= λ frame. found {X = X × ℕ} (frame, front.1))
+    (bind_not_too_long (length_of None bytes) (λ said. kind_at kind_of bytes >>= λ kind. whole_at (4 + said) bytes >>= λ size. found {X = K × ℕ} (kind, size)) (length_is (ltb (length bytes) 4) (eqb (number_at 4 0 bytes) 0)) (λ said.
+    bind_not_too_long (kind_at kind_of bytes) (λ kind. whole_at (4 + said) bytes >>= λ size. found {X = K × ℕ} (kind, size)) (kind_is (ltb (length bytes) 5) (kind_of (number_at 1 4 bytes))) (λ kind.
+    bind_not_too_long (whole_at (4 + said) bytes) (λ size. found {X = K × ℕ} (kind, size)) (whole_is (ltb (length bytes) (4 + said)) (4 + said)) (λ size e. absurd cc))))
+    (λ front. bind_not_too_long (by_table (body_of front.0 (piece (front.1 - 5) 5 bytes))) (λ frame. found {X = X × ℕ} (frame, front.1)) (body_is (body_of front.0 (piece (front.1 - 5) 5 bytes))) (λ frame e. absurd cc))
+  where
+    length_is : (few none : Bool) → NotTooLong (cond few (Ok None) (cond none (Err BadKind) (found (number_at 4 0 bytes))))
+    length_is true none = λ e. absurd cc
+    length_is false true = λ e. absurd cc
+    length_is false false = λ e. absurd cc
+    kind_is : (few : Bool) (o : Option K) → NotTooLong (cond few (Ok None) (known o))
+    kind_is true o = λ e. absurd cc
+    kind_is false None = λ e. absurd cc
+    kind_is false (Some kind) = λ e. absurd cc
+    whole_is : (few : Bool) (size : ℕ) → NotTooLong (cond few (Ok None) (found size))
+    whole_is true size = λ e. absurd cc
+    whole_is false size = λ e. absurd cc
+    body_is : (o : Option X) → NotTooLong (by_table o)
+    body_is None = λ e. absurd cc
+    body_is (Some x) = λ e. absurd cc
+
 -- ---- the front of what is spelled
 
 pub length-framed : (number : ℕ) (body : List ℕ) → length (framed number body) ≡ 5 + length body
@@ -383,3 +425,15 @@ framed_from most kind_of kind size bytes fit is =
     let second : number_bytes 1 (number_at 1 4 bytes) ≡ piece 1 4 bytes = number_bytes-number_at 1 4 bytes fit (omega (arith, is.said, is.some, is.whole)) in
     let all : 4 + (1 + (size - 5)) ≡ size = omega (arith, is.said, is.some) in
     rw (first, second, piece-append 1 (size - 5) 4 bytes, piece-append 4 (1 + (size - 5)) 0 bytes, all) refl
+
+-- ---- what a call gave
+
+pub none_from_Gives : {X : Type 0} (result : Result (Option X) AppFrameError) (read : Reading X) → Gives result read → (result ≡ Ok None) ↔ (read ≡ Ok None)
+none_from_Gives (Ok x) read gives = (λ e. gives ∙ (let same : x ≡ None = cc in ap (λ (o : Option _). Ok o) same), λ e. let both = sym gives ∙ e in (let same : x ≡ None = cc in ap (λ (o : Option _). Ok o) same))
+none_from_Gives (Err (Refused fault)) read gives = (λ e. absurd cc, λ e. absurd cc)
+none_from_Gives (Err NoMemory) read gives = (λ e. absurd cc, λ e. absurd (subst IsWhole e gives))
+
+pub found_from_Gives : {X : Type 0} (result : Result (Option X) AppFrameError) (read : Reading X) (P : X → Type 0) → Gives result read → ((x : X) → read ≡ Ok (Some x) → P x) → IfOk result (λ next. IfSome next P)
+found_from_Gives (Ok (Some x)) read P gives all = all x gives
+found_from_Gives (Ok None) read P gives all = tt
+found_from_Gives (Err error) read P gives all = tt

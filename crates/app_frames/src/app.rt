@@ -4,10 +4,11 @@ ghost use Rattle.std.specs.Prelude.{◌≡◌, ℕ, ◌≤◌, ◌↔◌, List, 
 ghost use Rattle.app_frames.specs.declared.kind.AppKind.TheVariants as kinds_of;
 ghost use Rattle.of_types.specs.Fields.{number_bytes};
 ghost use Rattle.app_frames.specs.Kinds.{number_of_app};
+ghost use Rattle.app_frames.specs.declared.frame.AppFrame.{AppFrame};
 ghost use Rattle.app_frames.specs.Reading.{Gives};
 ghost use Rattle.app_frames.specs.Bodies.{GivesBody, message_of, bare, flag_of, checkpoint_of, done_of, app_body};
 ghost use Rattle.app_frames.specs.Spelling.{framed, bit, app_bytes};
-ghost use Rattle.app_frames.specs.Frames.{app_reading, IsAppPartial, AppFits, IsAppFrame};
+ghost use Rattle.app_frames.specs.Frames.{app_reading, IsAppPartial, AppFits, IsAppFrame, IsAppAtFront};
 
 use crate::fault::{AppFrameError, FrameFault};
 use crate::frame::AppFrame;
@@ -97,12 +98,9 @@ fn frame(alloc: Global, kind: AppKind, body: &[u8]) -> Result<AppFrame, AppFrame
     }
 }
 
-/// The frame at the front of the bytes that an application has given so far, and how many bytes it takes.
-///
-/// `None` while it is yet to come. Bytes are refused by the first of these tests: a length above
-/// 1,048,579; a length of 0, or a kind other than 1 to 6; a body that the kind does not have.
+/// The frame at the front, and how many bytes it takes.
 #[tactic(auto, unfolding(crate::specs::Frames::app_reading, crate::specs::Reading::frame_of))]
-pub fn decode_app(
+fn front_frame(
     alloc: Global,
     bytes: &[u8],
 ) -> Result<Option<(AppFrame, usize)>, AppFrameError>
@@ -113,6 +111,27 @@ pub fn decode_app(
     };
     let frame = frame(alloc, kind, &bytes[HEAD..size])?;
     Ok(Some((frame, size)))
+}
+
+/// The frame at the front of the bytes that an application has given so far, and how many bytes it takes.
+///
+/// `None` while it is yet to come. Bytes are refused by the first of these tests: a length above
+/// 1,048,579; a length of 0, or a kind other than 1 to 6; a body that the kind does not have.
+pub fn decode_app(
+    alloc: Global,
+    bytes: &[u8],
+) -> Result<Option<(AppFrame, usize)>, AppFrameError>
+    // The frame, that it is yet to come, or the first fault. Memory runs out only where the frame is whole.
+    ensures exact { Gives result (app_reading bytes.now) }
+    // `None` exactly where the frame is yet to come.
+    ensures none { (result ≡ Ok None) ↔ IsAppPartial bytes.now }
+    // What is read is in the grammar, and the bytes spell it.
+    ensures found { IfOk result (λ next. IfSome next (λ found. IsAppAtFront found.0 found.1 bytes.now)) }
+    // What is in the grammar and spelled is read, unless memory runs out.
+    ensures only { (frame : AppFrame) (more : List ℕ) → IsAppFrame frame → bytes.now ≡ app_bytes frame ++ more
+        → Gives result (Ok (Some (frame, length (app_bytes frame)))) }
+{
+    front_frame(alloc, bytes)
 }
 
 #[tactic(auto, unfolding(crate::specs::Spelling::app_body_bytes, crate::specs::Spelling::app_bytes))]

@@ -4,10 +4,11 @@ ghost use Rattle.std.specs.Prelude.{◌≡◌, ℕ, ◌+◌, ◌^◌, ◌<◌, �
 ghost use Rattle.of_types.specs.Fields.{number_bytes};
 ghost use Rattle.app_frames.specs.declared.kind.HostKind.TheVariants as kinds_of;
 ghost use Rattle.app_frames.specs.Kinds.{number_of_host, number_of_event};
+ghost use Rattle.app_frames.specs.declared.frame.HostFrame.{HostFrame};
 ghost use Rattle.app_frames.specs.Reading.{Gives};
 ghost use Rattle.app_frames.specs.Bodies.{GivesBody, bare, event_with, event_of, answer_with, answer_of, host_body};
 ghost use Rattle.app_frames.specs.Spelling.{framed, host_bytes};
-ghost use Rattle.app_frames.specs.Frames.{host_reading, IsHostPartial, HostFits, IsHostFrame};
+ghost use Rattle.app_frames.specs.Frames.{host_reading, IsHostPartial, HostFits, IsHostFrame, IsHostAtFront};
 
 use crate::fault::{AppFrameError, FrameFault};
 use crate::frame::{Answer, Event, EventKind, HostFrame};
@@ -94,12 +95,9 @@ fn frame(alloc: Global, kind: HostKind, body: &[u8]) -> Result<HostFrame, AppFra
     }
 }
 
-/// The frame at the front of the bytes that the host has given so far, and how many bytes it takes.
-///
-/// `None` while it is yet to come. Bytes are refused by the first of these tests: a length of 0, or a
-/// kind other than 1 to 3; a body that the kind does not have.
+/// The frame at the front, and how many bytes it takes.
 #[tactic(auto, unfolding(crate::specs::Frames::host_reading, crate::specs::Reading::frame_of))]
-pub fn decode_host(
+fn front_frame(
     alloc: Global,
     bytes: &[u8],
 ) -> Result<Option<(HostFrame, usize)>, AppFrameError>
@@ -110,6 +108,27 @@ pub fn decode_host(
     };
     let frame = frame(alloc, kind, &bytes[HEAD..size])?;
     Ok(Some((frame, size)))
+}
+
+/// The frame at the front of the bytes that the host has given so far, and how many bytes it takes.
+///
+/// `None` while it is yet to come. Bytes are refused by the first of these tests: a length of 0, or a
+/// kind other than 1 to 3; a body that the kind does not have.
+pub fn decode_host(
+    alloc: Global,
+    bytes: &[u8],
+) -> Result<Option<(HostFrame, usize)>, AppFrameError>
+    // The frame, that it is yet to come, or the first fault. Memory runs out only where the frame is whole.
+    ensures exact { Gives result (host_reading bytes.now) }
+    // `None` exactly where the frame is yet to come.
+    ensures none { (result ≡ Ok None) ↔ IsHostPartial bytes.now }
+    // What is read is in the grammar, and the bytes spell it.
+    ensures found { IfOk result (λ next. IfSome next (λ found. IsHostAtFront found.0 found.1 bytes.now)) }
+    // What is in the grammar and spelled is read, unless memory runs out.
+    ensures only { (frame : HostFrame) (more : List ℕ) → IsHostFrame frame → bytes.now ≡ host_bytes frame ++ more
+        → Gives result (Ok (Some (frame, length (host_bytes frame)))) }
+{
+    front_frame(alloc, bytes)
 }
 
 /// What stands before an event's own body.
