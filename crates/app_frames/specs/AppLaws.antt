@@ -97,6 +97,8 @@ app_one frame other more rest is is' e =
     let here : AppFrame × ℕ = (frame, length (app_bytes frame)) in
     let there : AppFrame × ℕ = (other, length (app_bytes other)) in
     let same = same_found here there (sym (app_reading-app_bytes frame more is) ∙ ap app_reading e ∙ app_reading-app_bytes other rest is') in
-    let frames : frame ≡ other = ap (λ (f : AppFrame × ℕ). f.0) same in
-    (frames, sym (drop_at (app_bytes frame) more (length (app_bytes frame)) refl) ∙ ap (λ (xs : List ℕ). drop (length (app_bytes frame)) xs) e
-    ∙ ap (λ (f : AppFrame). drop (length (app_bytes f)) (app_bytes other ++ rest)) frames ∙ drop_at (app_bytes other) rest (length (app_bytes other)) refl)
+    let frames : frame ≡ other = ap (λ (f : AppFrame × ℕ). f.0) same in (
+      frames,
+      sym (drop_at (app_bytes frame) more (length (app_bytes frame)) refl) ∙ ap (λ (xs : List ℕ). drop (length (app_bytes frame)) xs) e
+          ∙ ap (λ (f : AppFrame). drop (length (app_bytes f)) (app_bytes other ++ rest)) frames ∙ drop_at (app_bytes other) rest (length (app_bytes other)) refl,
+    )

@@ -88,6 +88,8 @@ host_one frame other more rest is is' e =
     let here : HostFrame × ℕ = (frame, length (host_bytes frame)) in
     let there : HostFrame × ℕ = (other, length (host_bytes other)) in
     let same = same_found here there (sym (host_reading-host_bytes frame more is) ∙ ap host_reading e ∙ host_reading-host_bytes other rest is') in
-    let frames : frame ≡ other = ap (λ (f : HostFrame × ℕ). f.0) same in
-    (frames, sym (drop_at (host_bytes frame) more (length (host_bytes frame)) refl) ∙ ap (λ (xs : List ℕ). drop (length (host_bytes frame)) xs) e
-    ∙ ap (λ (f : HostFrame). drop (length (host_bytes f)) (host_bytes other ++ rest)) frames ∙ drop_at (host_bytes other) rest (length (host_bytes other)) refl)
+    let frames : frame ≡ other = ap (λ (f : HostFrame × ℕ). f.0) same in (
+      frames,
+      sym (drop_at (host_bytes frame) more (length (host_bytes frame)) refl) ∙ ap (λ (xs : List ℕ). drop (length (host_bytes frame)) xs) e
+          ∙ ap (λ (f : HostFrame). drop (length (host_bytes f)) (host_bytes other ++ rest)) frames ∙ drop_at (host_bytes other) rest (length (host_bytes other)) refl,
+    )

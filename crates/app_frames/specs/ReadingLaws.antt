@@ -220,6 +220,7 @@ partial_from {K} most kind_of bytes e four =
               record { some = some; within = within; kind = λ five. is_some_from (kind_of (number_at 1 4 bytes)) kind is; more = omega (arith, lt, same) }
           | inr a ↦ let h = a.2 in absurd cc
         ]
+
     then_kind : (said : ℕ) → number_at 4 0 bytes ≡ said → 0 < number_at 4 0 bytes → IsWithin most (number_at 4 0 bytes)
         → (kind_at kind_of bytes >>= λ kind. whole_at (4 + said) bytes >>= λ size. found {X = K × ℕ} (kind, size)) ≡ Ok None → IsBegun most kind_of bytes
     then_kind said same some within e =
@@ -370,13 +371,16 @@ never_too_long {K} {X} kind_of body_of bytes =
     length_is true none = λ e. absurd cc
     length_is false true = λ e. absurd cc
     length_is false false = λ e. absurd cc
+
     kind_is : (few : Bool) (o : Option K) → NotTooLong (cond few (Ok None) (known o))
     kind_is true o = λ e. absurd cc
     kind_is false None = λ e. absurd cc
     kind_is false (Some kind) = λ e. absurd cc
+
     whole_is : (few : Bool) (size : ℕ) → NotTooLong (cond few (Ok None) (found size))
     whole_is true size = λ e. absurd cc
     whole_is false size = λ e. absurd cc
+
     body_is : (o : Option X) → NotTooLong (by_table o)
     body_is None = λ e. absurd cc
     body_is (Some x) = λ e. absurd cc

@@ -36,7 +36,11 @@ fn message(alloc: Global, body: &[u8]) -> Result<AppFrame, AppFrameError>
 fn alone(frame: AppFrame, body: &[u8]) -> Result<AppFrame, AppFrameError>
     ensures { GivesBody result (bare frame body.now) }
 {
-    if body.is_empty() { Ok(frame) } else { Err(BAD_BODY) }
+    if body.is_empty() {
+        Ok(frame)
+    } else {
+        Err(BAD_BODY)
+    }
 }
 
 /// A byte that is 0 or 1.
@@ -100,10 +104,7 @@ fn frame(alloc: Global, kind: AppKind, body: &[u8]) -> Result<AppFrame, AppFrame
 
 /// The frame at the front, and how many bytes it takes.
 #[tactic(auto, unfolding(crate::specs::Frames::app_reading, crate::specs::Reading::frame_of))]
-fn front_frame(
-    alloc: Global,
-    bytes: &[u8],
-) -> Result<Option<(AppFrame, usize)>, AppFrameError>
+fn front_frame(alloc: Global, bytes: &[u8]) -> Result<Option<(AppFrame, usize)>, AppFrameError>
     ensures { Gives result (app_reading bytes.now) }
 {
     let Some((kind, size)) = app_front(bytes)? else {
@@ -117,10 +118,7 @@ fn front_frame(
 ///
 /// `None` while it is yet to come. Bytes are refused by the first of these tests: a length above
 /// 1,048,579; a length of 0, or a kind other than 1 to 6; a body that the kind does not have.
-pub fn decode_app(
-    alloc: Global,
-    bytes: &[u8],
-) -> Result<Option<(AppFrame, usize)>, AppFrameError>
+pub fn decode_app(alloc: Global, bytes: &[u8]) -> Result<Option<(AppFrame, usize)>, AppFrameError>
     // The frame, that it is yet to come, or the first fault. Memory runs out only where the frame is whole.
     ensures exact { Gives result (app_reading bytes.now) }
     // `None` exactly where the frame is yet to come.
@@ -165,9 +163,7 @@ fn put_done(
 {
     let kind = AppKind::Done.number();
     match checkpoint {
-        Some(checkpoint) => {
-            frame_around(alloc, kind, &flags(stop, true), checkpoint.as_slice())
-        }
+        Some(checkpoint) => { frame_around(alloc, kind, &flags(stop, true), checkpoint.as_slice()) }
         None => frame_around(alloc, kind, &flags(stop, false), &[]),
     }
 }

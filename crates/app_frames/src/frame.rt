@@ -1,5 +1,8 @@
 //! Frames of both directions.
 
+ghost use Rattle.std.specs.Prelude.{◌≡◌, ◌↔◌, IsTrue};
+ghost use Rattle.app_frames.specs.Frames.{AppFits, HostFits};
+
 use of_types::{ByteList, OfError};
 
 /// What an application tells the host.
@@ -71,4 +74,37 @@ pub enum EventKind {
     FlowRemoved,
     PortStatus,
     SwitchError,
+}
+
+/// How many bytes a frame of the host can have behind its length: as many as four bytes say.
+const ROOM: usize = 0xffff_ffff;
+
+impl AppFrame {
+    /// The frame can be written: a message has 8 to 65,535 bytes, a checkpoint at most 1,048,576.
+    pub fn fits(&self) -> bool
+        ensures { IsTrue result ↔ AppFits self.now }
+    {
+        match self {
+            AppFrame::Message(_, bytes) => (8..=65_535).contains(&bytes.len()),
+            AppFrame::Done {
+                checkpoint: Some(checkpoint),
+                ..
+            } => checkpoint.len() <= 1_048_576,
+            _ => true,
+        }
+    }
+}
+
+impl HostFrame {
+    /// The frame can be written: four bytes can say its length.
+    pub fn fits(&self) -> bool
+        ensures { IsTrue result ↔ HostFits self.now }
+    {
+        match self {
+            HostFrame::Restore(checkpoint) => checkpoint.len() <= ROOM - 1,
+            HostFrame::Event { event, .. } => event.body.len() <= ROOM - 26,
+            HostFrame::Answer(Answer::Statistics(_, body)) => body.len() <= ROOM - 4,
+            HostFrame::Answer(_) => true,
+        }
+    }
 }

@@ -50,7 +50,11 @@ fn event(alloc: Global, body: &[u8]) -> Result<HostFrame, AppFrameError>
 fn alone(answer: Answer, rest: &[u8]) -> Result<Answer, AppFrameError>
     ensures { GivesBody result (bare answer rest.now) }
 {
-    if rest.is_empty() { Ok(answer) } else { Err(BAD_BODY) }
+    if rest.is_empty() {
+        Ok(answer)
+    } else {
+        Err(BAD_BODY)
+    }
 }
 
 /// The answer of a code and what stands behind it.
@@ -97,10 +101,7 @@ fn frame(alloc: Global, kind: HostKind, body: &[u8]) -> Result<HostFrame, AppFra
 
 /// The frame at the front, and how many bytes it takes.
 #[tactic(auto, unfolding(crate::specs::Frames::host_reading, crate::specs::Reading::frame_of))]
-fn front_frame(
-    alloc: Global,
-    bytes: &[u8],
-) -> Result<Option<(HostFrame, usize)>, AppFrameError>
+fn front_frame(alloc: Global, bytes: &[u8]) -> Result<Option<(HostFrame, usize)>, AppFrameError>
     ensures { Gives result (host_reading bytes.now) }
 {
     let Some((kind, size)) = host_front(bytes)? else {
@@ -114,10 +115,7 @@ fn front_frame(
 ///
 /// `None` while it is yet to come. Bytes are refused by the first of these tests: a length of 0, or a
 /// kind other than 1 to 3; a body that the kind does not have.
-pub fn decode_host(
-    alloc: Global,
-    bytes: &[u8],
-) -> Result<Option<(HostFrame, usize)>, AppFrameError>
+pub fn decode_host(alloc: Global, bytes: &[u8]) -> Result<Option<(HostFrame, usize)>, AppFrameError>
     // The frame, that it is yet to come, or the first fault. Memory runs out only where the frame is whole.
     ensures exact { Gives result (host_reading bytes.now) }
     // `None` exactly where the frame is yet to come.
@@ -145,17 +143,17 @@ fn event_head(number: u64, moment: u64, kind: EventKind, dpid: u64) -> [u8; 25]
 }
 
 #[tactic(auto, unfolding(crate::specs::Spelling::host_body_bytes, crate::specs::Spelling::host_bytes))]
-fn put_event(
-    alloc: Global,
-    number: u64,
-    moment: u64,
-    event: &Event,
-) -> Result<ByteList, AllocError>
+fn put_event(alloc: Global, number: u64, moment: u64, event: &Event) -> Result<ByteList, AllocError>
     requires { HostFits (HostFrame.Event number moment event.now) }
     ensures { IfOk result (λ list. list ≡ host_bytes (HostFrame.Event number moment event.now)) }
 {
     let fields = event_head(number, moment, event.kind, event.dpid);
-    frame_around(alloc, HostKind::Event.number(), &fields, event.body.as_slice())
+    frame_around(
+        alloc,
+        HostKind::Event.number(),
+        &fields,
+        event.body.as_slice(),
+    )
 }
 
 /// An answer that is its code.
@@ -210,7 +208,12 @@ pub fn encode_host(alloc: Global, frame: &HostFrame) -> Result<ByteList, AllocEr
 {
     match frame {
         HostFrame::Restore(checkpoint) => {
-            frame_around(alloc, HostKind::Restore.number(), &[], checkpoint.as_slice())
+            frame_around(
+                alloc,
+                HostKind::Restore.number(),
+                &[],
+                checkpoint.as_slice(),
+            )
         }
         HostFrame::Event {
             number,
