@@ -1,26 +1,22 @@
 -- Laws of the frames of applications: what is written is read again, what is read is spelled so, and what is decided
 -- stays, whatever follows.
-use Rattle.std.proofs.Common.{◌≡◌, ℕ, ◌+◌, ◌-◌, ◌^◌, ◌<◌, ◌≤◌, List, ◌++◌, length, take, drop, Option, Some, None, Result, Ok, Err, refl, sym, ap, subst, ◌∙◌, arith, inl, inr}
-use Rattle.std.specs.Prelude.{◌↔◌, IfOk, IfSome, is_some}
-use Rattle.std.proofs.lemmas.List.{length-append, length-take-le, drop_at}
+use Rattle.std.proofs.Common.{◌≡◌, ℕ, ◌+◌, ◌-◌, ◌<◌, ◌≤◌, List, ◌++◌, length, take, drop, Some, None, Ok, Err, refl, sym, ap, ◌∙◌, arith, inl, inr}
+use Rattle.std.specs.Prelude.{◌↔◌}
+use Rattle.std.proofs.lemmas.List.{length-take-le, drop_at}
 use Rattle.std.proofs.lemmas.Bool.{cases_lt}
 use Rattle.of_types.specs.Fields.{number_at, piece, IsBytes}
-use Rattle.of_types.specs.FieldLaws.{number_at-lt, IsBytes-piece, length-piece}
+use Rattle.of_types.specs.FieldLaws.{IsBytes-piece, length-piece}
 use Rattle.of_types.specs.Layout.{width}
 use Rattle.app_frames.specs.declared.fault.FrameFault.{FrameFault}
-use Rattle.app_frames.specs.declared.fault.FrameFault.TheVariants.{TooLong}
-use Rattle.app_frames.specs.declared.fault.AppFrameError.{AppFrameError}
 use Rattle.app_frames.specs.declared.frame.AppFrame.{AppFrame}
 use Rattle.app_frames.specs.declared.frame.AppFrame.TheVariants.{Message, Save, Keep, Undo, Done, Ready}
-use Rattle.app_frames.specs.declared.frame.HostFrame.{HostFrame}
-use Rattle.app_frames.specs.Kinds.{number_of_app, app_kind_of, number_of_host, host_kind_of}
-use Rattle.app_frames.specs.KindLaws.{number_of_app-lt, app_kind_of-number_of_app, number_of_app-app_kind_of, number_of_host-lt, host_kind_of-number_of_host, number_of_host-host_kind_of}
-use Rattle.app_frames.specs.Reading.{Reading, Gives, frame_of}
-use Rattle.app_frames.specs.ReadingLaws.{Stays, found, same_found, IsFront, IsRead, read_from, read_is, frame_of_stays, frame_none, frame_before, IsFront-framed, length-framed, piece-framed, framed_from, never_too_long}
-use Rattle.app_frames.specs.Bodies.{app_body, host_body}
-use Rattle.app_frames.specs.BodyLaws.{app_body-spelled, length_app_body, was_app, host_body-spelled, length_host_body, was_host}
-use Rattle.app_frames.specs.Spelling.{framed, app_kind, app_fields, app_tail, app_body_bytes, app_bytes, host_kind, host_fields, host_tail, host_body_bytes, host_bytes}
-use Rattle.app_frames.specs.Frames.{longest, app_reading, IsAppPartial, AppFits, AppNumbers, IsAppFrame, IsAppAtFront, host_reading, IsHostPartial, HostFits, HostNumbers, IsHostFrame, IsHostAtFront}
+use Rattle.app_frames.specs.Kinds.{number_of_app, app_kind_of}
+use Rattle.app_frames.specs.KindLaws.{number_of_app-lt, app_kind_of-number_of_app, number_of_app-app_kind_of}
+use Rattle.app_frames.specs.ReadingLaws.{same_found, read_from, read_is, frame_of_stays, frame_none, frame_before, IsFront-framed, length-framed, piece-framed, framed_from}
+use Rattle.app_frames.specs.Bodies.{app_body}
+use Rattle.app_frames.specs.BodyLaws.{app_body-spelled, length_app_body, was_app}
+use Rattle.app_frames.specs.Spelling.{framed, app_kind, app_fields, app_tail, app_body_bytes, app_bytes}
+use Rattle.app_frames.specs.Frames.{longest, app_reading, IsAppPartial, IsAppFrame, IsAppAtFront}
 
 -- no body is longer than the table lets it be
 app_body_fits : (frame : AppFrame) → IsAppFrame frame → length (app_body_bytes frame) ≤ 1048578

@@ -1,7 +1,6 @@
 -- Bodies by kind; None where the table has no such body (our own choice). All numbers have their highest byte first.
-use Rattle.std.specs.Prelude.{◌≡◌, ℕ, ◌==◌, ◌&&◌, nat_lt, nat_le, if◌then◌else◌, Bool, true, false, List, [], ◌∷◌, length, drop, Option, Some, None, Result, Ok, Err, IsSome, option_map}
+use Rattle.std.specs.Prelude.{◌≡◌, ℕ, ◌==◌, ◌&&◌, nat_lt, nat_le, if◌then◌else◌, Bool, true, false, List, length, drop, Option, Some, None, Result, Ok, Err, IsSome, option_map}
 use Rattle.of_types.specs.Fields.{number_at}
-use Rattle.of_types.specs.declared.errors.OfError.{OfError}
 use Rattle.app_frames.specs.declared.fault.FrameFault.TheVariants.{BadBody}
 use Rattle.app_frames.specs.declared.fault.AppFrameError.{AppFrameError}
 use Rattle.app_frames.specs.declared.fault.AppFrameError.TheVariants.{Refused, NoMemory}

@@ -1,5 +1,5 @@
 -- Laws of bodies: what is spelled is read, and what is read is spelled so.
-use Rattle.std.proofs.Common.{◌≡◌, ℕ, zero, suc, ◌+◌, ◌-◌, ◌^◌, ◌<◌, ◌≤◌, Bool, true, false, cond, eqb, ltb, leb, ◌&&◌, List, [], ◌∷◌, ◌++◌, length, take, drop, Option, Some, None, refl, sym, ap, subst, ◌∙◌, append_assoc, arith}
+use Rattle.std.proofs.Common.{◌≡◌, ℕ, zero, suc, ◌+◌, ◌<◌, ◌≤◌, Bool, true, false, cond, eqb, ltb, leb, ◌&&◌, List, [], ◌∷◌, ◌++◌, length, drop, Option, Some, None, refl, sym, ap, subst, ◌∙◌, append_assoc, arith}
 use Rattle.std.specs.Prelude.{is_some, option_map}
 use Rattle.std.proofs.lemmas.Bool.{eqb-true, ltb-false, leb-true, le-ltb, le-leb, ne_eqb, and_parts, cond_both}
 use Rattle.std.proofs.lemmas.List.{take-append-drop, length-append, length-drop, append-nil, nil_from_length, drop-drop}
@@ -17,7 +17,6 @@ use Rattle.app_frames.specs.declared.frame.HostFrame.{HostFrame}
 use Rattle.app_frames.specs.declared.frame.HostFrame.TheVariants.{Restore, Event, Answer}
 use Rattle.app_frames.specs.declared.frame.Answer.{Answer as AnswerValue}
 use Rattle.app_frames.specs.declared.frame.Answer.TheVariants.{Fine, Error, Statistics, Unknown}
-use Rattle.app_frames.specs.declared.frame.EventKind.{EventKind}
 use Rattle.app_frames.specs.declared.frame.Event.{Event as EventValue}
 use Rattle.app_frames.specs.Kinds.{number_of_event, event_kind_of}
 use Rattle.app_frames.specs.KindLaws.{number_of_event-lt, event_kind_of-number_of_event, number_of_event-event_kind_of}

@@ -1,5 +1,5 @@
 -- A kind has its own number, and a number its own kind.
-use Rattle.std.proofs.Common.{◌≡◌, ℕ, ◌<◌, Bool, true, eqb, Option, Some, refl, ap, ◌∙◌, arith}
+use Rattle.std.proofs.Common.{◌≡◌, ℕ, ◌<◌, true, eqb, Option, Some, refl, ap, ◌∙◌, arith}
 use Rattle.std.proofs.lemmas.Bool.{eqb-true, cond_both}
 use Rattle.app_frames.specs.declared.kind.AppKind.{AppKind}
 use Rattle.app_frames.specs.declared.kind.AppKind.TheVariants as app

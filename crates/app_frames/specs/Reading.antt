@@ -2,7 +2,7 @@
 -- come, or its first fault (our own choice).
 --
 --     length u32 (of kind and body) | kind u8 | body
-use Rattle.std.specs.Prelude.{◌≡◌, ℕ, ◌+◌, ◌-◌, ◌<◌, ◌≤◌, ◌==◌, nat_lt, if◌then◌else◌, Bool, true, false, List, length, Option, Some, None, Result, Ok, Err, IsSome}
+use Rattle.std.specs.Prelude.{◌≡◌, ℕ, ◌+◌, ◌-◌, ◌<◌, ◌≤◌, ◌==◌, nat_lt, if◌then◌else◌, Bool, false, List, length, Option, Some, None, Result, Ok, Err, IsSome}
 use Rattle.of_types.specs.Fields.{number_at, piece}
 use Rattle.app_frames.specs.declared.fault.FrameFault.{FrameFault}
 use Rattle.app_frames.specs.declared.fault.FrameFault.TheVariants.{TooLong, BadKind, BadBody}

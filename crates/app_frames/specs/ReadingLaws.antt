@@ -1,12 +1,12 @@
 -- Laws of reading a frame, whatever its kinds and bodies: what is decided stays, what a front is, and when a frame is yet to come.
-use Rattle.std.proofs.Common.{◌≡◌, ℕ, zero, suc, ◌+◌, ◌-◌, ◌^◌, ◌<◌, ◌≤◌, Bool, true, false, cond, eqb, ltb, List, [], ◌∷◌, ◌++◌, length, take, drop, Option, Some, None, Result, Ok, Err, refl, sym, ap, subst, ◌∙◌, append_assoc, arith, inl, inr}
+use Rattle.std.proofs.Common.{◌≡◌, ℕ, zero, suc, ◌+◌, ◌-◌, ◌^◌, ◌<◌, ◌≤◌, Bool, true, false, cond, eqb, ltb, List, [], ◌++◌, length, take, drop, Option, Some, None, Result, Ok, Err, refl, sym, ap, subst, ◌∙◌, append_assoc, arith, inl, inr}
 use Rattle.std.specs.Prelude.{◌⊎◌, ◌↔◌, IsSome, IfOk, IfSome}
-use Rattle.std.proofs.lemmas.Bool.{eqb-true, ne_eqb, ltb-true, ltb-false, lt-ltb, le-ltb, cases_lt}
+use Rattle.std.proofs.lemmas.Bool.{ne_eqb, ltb-true, ltb-false, lt-ltb, le-ltb, cases_lt}
 use Rattle.std.proofs.lemmas.List.{take_at, drop_at, take-append-le, length-append, length-drop, drop-append-le}
 use Rattle.of_types.specs.Fields.{number_at, number_bytes, piece, IsBytes}
 use Rattle.of_types.specs.FieldLaws.{number_at-take, number_at-number_bytes, number_bytes-number_at, length-number_bytes, length-piece, piece-append}
 use Rattle.app_frames.specs.declared.fault.FrameFault.{FrameFault}
-use Rattle.app_frames.specs.declared.fault.FrameFault.TheVariants.{TooLong, BadKind, BadBody}
+use Rattle.app_frames.specs.declared.fault.FrameFault.TheVariants.{TooLong, BadKind}
 use Rattle.app_frames.specs.declared.fault.AppFrameError.{AppFrameError}
 use Rattle.app_frames.specs.declared.fault.AppFrameError.TheVariants.{Refused, NoMemory}
 use Rattle.app_frames.specs.Reading.{Reading, IsWhole, Gives, ◌>>=◌, is_above, length_of, known, kind_at, whole_at, front_of, by_table, frame_of, IsWithin, IsBegun, IsPartial}

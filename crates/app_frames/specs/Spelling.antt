@@ -1,5 +1,5 @@
 -- The one spelling of each frame (our own choice). All numbers have their highest byte first.
-use Rattle.std.specs.Prelude.{ℕ, ◌+◌, if◌then◌else◌, Bool, List, [], ◌∷◌, ◌++◌, length, Option, Some, None, is_some}
+use Rattle.std.specs.Prelude.{ℕ, ◌+◌, if◌then◌else◌, Bool, List, [], ◌∷◌, ◌++◌, length, Some, is_some}
 use Rattle.of_types.specs.Fields.{number_bytes}
 use Rattle.of_types.specs.Layout.{Field, number, spelled}
 use Rattle.app_frames.specs.declared.kind.AppKind.{AppKind}

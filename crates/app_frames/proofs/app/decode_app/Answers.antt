@@ -1,4 +1,4 @@
-use Rattle.std.proofs.Common.{List, ℕ, length, ◌++◌, Ok, Some, ap, sym, subst, ◌∙◌, arith}
+use Rattle.std.proofs.Common.{ap, subst, ◌∙◌, arith}
 use Rattle.app_frames.specs.Reading.{Gives}
 use Rattle.app_frames.specs.ReadingLaws.{none_from_Gives, found_from_Gives}
 use Rattle.app_frames.specs.Frames.{app_reading, IsAppAtFront}
