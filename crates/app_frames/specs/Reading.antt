@@ -84,7 +84,7 @@ frame_of most kind_of body_of bytes = do
 
 -- ---- what is yet to come
 
--- no length is above the greatest, where there is one
+-- not above the greatest length, where there is one
 abbrev pub IsWithin : Option ℕ → ℕ → Type 0
 IsWithin None said = Unit {0}
 IsWithin (Some most) said = said ≤ most

@@ -10,15 +10,12 @@ ghost use Rattle.app_frames.specs.Bodies.{GivesBody, message_of, bare, flag_of, 
 ghost use Rattle.app_frames.specs.Spelling.{framed, bit, app_bytes};
 ghost use Rattle.app_frames.specs.Frames.{app_reading, IsAppPartial, AppFits, IsAppFrame, IsAppAtFront};
 
-use crate::fault::{AppFrameError, FrameFault};
+use crate::fault::{AppFrameError, BAD_BODY};
 use crate::frame::AppFrame;
 use crate::front::{HEAD, app_front, frame_around};
 use crate::kind::AppKind;
 use of_types::{ByteList, get_u8, get_u64, put_u8, put_u64};
 use std::alloc::{AllocError, Global};
-
-/// The refusal of a body that its kind does not have.
-const BAD_BODY: AppFrameError = AppFrameError::Refused(FrameFault::BadBody);
 
 /// A message of 8 to 65,535 bytes behind the switch's datapath id.
 #[tactic(auto, unfolding(crate::specs::Bodies::message_of))]

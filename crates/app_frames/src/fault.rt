@@ -25,6 +25,9 @@ pub enum AppFrameError {
     NoMemory,
 }
 
+/// The refusal of a body that its kind does not have.
+pub(crate) const BAD_BODY: AppFrameError = AppFrameError::Refused(FrameFault::BadBody);
+
 impl From<AllocError> for AppFrameError {
     ghost from_gives = { λ _ e. e ≡ NoMemory };
 

@@ -120,7 +120,7 @@ pub(crate) fn host_front(bytes: &[u8]) -> Result<Option<(HostKind, usize)>, Fram
     Ok(Some((kind, size)))
 }
 
-/// The length of a body and its kind, and the kind.
+/// The length and the kind in front of a body of so many bytes.
 fn head(kind: u8, body_len: usize) -> [u8; 5]
     requires { 1 + body_len < 2 ^ 32 }
     ensures { result ≡ number_bytes 4 (1 + body_len) ++ number_bytes 1 kind }

@@ -10,15 +10,12 @@ ghost use Rattle.app_frames.specs.Bodies.{GivesBody, bare, event_with, event_of,
 ghost use Rattle.app_frames.specs.Spelling.{framed, host_bytes};
 ghost use Rattle.app_frames.specs.Frames.{host_reading, IsHostPartial, HostFits, IsHostFrame, IsHostAtFront};
 
-use crate::fault::{AppFrameError, FrameFault};
+use crate::fault::{AppFrameError, BAD_BODY};
 use crate::frame::{Answer, Event, EventKind, HostFrame};
 use crate::front::{HEAD, frame_around, host_front};
 use crate::kind::HostKind;
 use of_types::{ByteList, OfError, get_u8, get_u16, get_u64, put_u8, put_u16, put_u64};
 use std::alloc::{AllocError, Global};
-
-/// The refusal of a body that its kind does not have.
-const BAD_BODY: AppFrameError = AppFrameError::Refused(FrameFault::BadBody);
 
 /// The bytes of an event's numbers, kind and datapath id.
 const EVENT: usize = 25;
