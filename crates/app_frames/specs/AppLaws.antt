@@ -12,7 +12,7 @@ use Rattle.app_frames.specs.declared.frame.AppFrame.{AppFrame}
 use Rattle.app_frames.specs.declared.frame.AppFrame.TheVariants.{Message, Save, Keep, Undo, Done, Ready}
 use Rattle.app_frames.specs.Kinds.{number_of_app, app_kind_of}
 use Rattle.app_frames.specs.KindLaws.{number_of_app-lt, app_kind_of-number_of_app, number_of_app-app_kind_of}
-use Rattle.app_frames.specs.ReadingLaws.{same_found, read_from, read_is, frame_of_stays, frame_none, frame_before, IsFront-framed, length-framed, piece-framed, framed_from}
+use Rattle.app_frames.specs.ReadingLaws.{same_found, read_from, read_is, frame_of_stays, frame_none, frame_before, frame_alone, IsFront-framed, length-framed, piece-framed, framed_from}
 use Rattle.app_frames.specs.Bodies.{app_body}
 use Rattle.app_frames.specs.BodyLaws.{app_body-spelled, length_app_body, was_app}
 use Rattle.app_frames.specs.Spelling.{framed, app_kind, app_fields, app_tail, app_body_bytes, app_bytes}
@@ -31,6 +31,7 @@ app_body_fits frame is = omega (arith, length_app_body frame is, within frame is
     within (Done stop (Some checkpoint)) is = omega (arith, is.1)
     within Ready is = omega arith
 
+-- What is written is read again, whatever follows.
 pub app_reading-app_bytes : (frame : AppFrame) (more : List ℕ) → IsAppFrame frame → app_reading (app_bytes frame ++ more) ≡ Ok (Some (frame, length (app_bytes frame)))
 unfolding app_reading app_bytes
 app_reading-app_bytes frame more is =
@@ -40,6 +41,7 @@ app_reading-app_bytes frame more is =
     let read = read_is (Some longest) app_kind_of app_body (framed (number_of_app kind) body ++ more) kind frame (5 + length body) front (ap (app_body kind) (piece-framed (number_of_app kind) body more) ∙ app_body-spelled frame is) in
     read ∙ ap (λ (size : ℕ). Ok (Some (frame, size))) (sym (length-framed (number_of_app kind) body))
 
+-- What is read is in the grammar, and the bytes spell it.
 pub app_at_front : (bytes : List ℕ) (frame : AppFrame) (size : ℕ) → IsBytes bytes → app_reading bytes ≡ Ok (Some (frame, size)) → IsAppAtFront frame size bytes
 unfolding app_reading app_bytes
 app_at_front bytes frame size fit e =
@@ -69,6 +71,11 @@ app_whole_stays bytes more frame size e = app_stays bytes more (λ none. absurd 
 
 pub app_fault_stays : (bytes more : List ℕ) (fault : FrameFault) → app_reading bytes ≡ Err fault → app_reading (bytes ++ more) ≡ Err fault
 app_fault_stays bytes more fault e = app_stays bytes more (λ none. absurd cc) ∙ e
+
+-- A whole frame needs no more than its own bytes.
+pub app_alone : (bytes : List ℕ) (frame : AppFrame) (size : ℕ) → app_reading bytes ≡ Ok (Some (frame, size)) → app_reading (take size bytes) ≡ Ok (Some (frame, size))
+unfolding app_reading
+app_alone bytes frame size e = frame_alone (Some longest) app_kind_of app_body bytes frame size e
 
 -- None exactly where the frame is yet to come
 pub app_none : (bytes : List ℕ) → (app_reading bytes ≡ Ok None) ↔ IsAppPartial bytes

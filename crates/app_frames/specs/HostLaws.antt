@@ -10,7 +10,7 @@ use Rattle.app_frames.specs.declared.fault.FrameFault.TheVariants.{TooLong}
 use Rattle.app_frames.specs.declared.frame.HostFrame.{HostFrame}
 use Rattle.app_frames.specs.Kinds.{number_of_host, host_kind_of}
 use Rattle.app_frames.specs.KindLaws.{number_of_host-lt, host_kind_of-number_of_host, number_of_host-host_kind_of}
-use Rattle.app_frames.specs.ReadingLaws.{same_found, read_from, read_is, frame_of_stays, frame_none, frame_before, IsFront-framed, length-framed, piece-framed, framed_from, never_too_long}
+use Rattle.app_frames.specs.ReadingLaws.{same_found, read_from, read_is, frame_of_stays, frame_none, frame_before, frame_alone, IsFront-framed, length-framed, piece-framed, framed_from, never_too_long}
 use Rattle.app_frames.specs.Bodies.{host_body}
 use Rattle.app_frames.specs.BodyLaws.{host_body-spelled, length_host_body, was_host}
 use Rattle.app_frames.specs.Spelling.{framed, host_kind, host_body_bytes, host_bytes}
@@ -20,6 +20,7 @@ use Rattle.app_frames.specs.Frames.{host_reading, IsHostPartial, HostFits, IsHos
 host_body_fits : (frame : HostFrame) → IsHostFrame frame → 1 + length (host_body_bytes frame) < 2 ^ 32
 host_body_fits frame is = omega (arith, length_host_body frame is.0, is.1)
 
+-- What is written is read again, whatever follows.
 pub host_reading-host_bytes : (frame : HostFrame) (more : List ℕ) → IsHostFrame frame → host_reading (host_bytes frame ++ more) ≡ Ok (Some (frame, length (host_bytes frame)))
 unfolding host_reading host_bytes
 host_reading-host_bytes frame more is =
@@ -29,6 +30,7 @@ host_reading-host_bytes frame more is =
     let read = read_is None host_kind_of host_body (framed (number_of_host kind) body ++ more) kind frame (5 + length body) front (ap (host_body kind) (piece-framed (number_of_host kind) body more) ∙ host_body-spelled frame is) in
     read ∙ ap (λ (size : ℕ). Ok (Some (frame, size))) (sym (length-framed (number_of_host kind) body))
 
+-- What is read is in the grammar, and the bytes spell it.
 pub host_at_front : (bytes : List ℕ) (frame : HostFrame) (size : ℕ) → IsBytes bytes → host_reading bytes ≡ Ok (Some (frame, size)) → IsHostAtFront frame size bytes
 unfolding host_reading host_bytes
 host_at_front bytes frame size fit e =
@@ -60,6 +62,11 @@ host_whole_stays bytes more frame size e = host_stays bytes more (λ none. absur
 
 pub host_fault_stays : (bytes more : List ℕ) (fault : FrameFault) → host_reading bytes ≡ Err fault → host_reading (bytes ++ more) ≡ Err fault
 host_fault_stays bytes more fault e = host_stays bytes more (λ none. absurd cc) ∙ e
+
+-- A whole frame needs no more than its own bytes.
+pub host_alone : (bytes : List ℕ) (frame : HostFrame) (size : ℕ) → host_reading bytes ≡ Ok (Some (frame, size)) → host_reading (take size bytes) ≡ Ok (Some (frame, size))
+unfolding host_reading
+host_alone bytes frame size e = frame_alone None host_kind_of host_body bytes frame size e
 
 -- None exactly where the frame is yet to come
 pub host_none : (bytes : List ℕ) → (host_reading bytes ≡ Ok None) ↔ IsHostPartial bytes

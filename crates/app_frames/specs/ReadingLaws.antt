@@ -2,7 +2,7 @@
 use Rattle.std.proofs.Common.{◌≡◌, ℕ, zero, suc, ◌+◌, ◌-◌, ◌^◌, ◌<◌, ◌≤◌, Bool, true, false, cond, eqb, ltb, List, [], ◌++◌, length, take, drop, Option, Some, None, Result, Ok, Err, refl, sym, ap, subst, ◌∙◌, append_assoc, arith, inl, inr}
 use Rattle.std.specs.Prelude.{◌⊎◌, ◌↔◌, IsSome, IfOk, IfSome}
 use Rattle.std.proofs.lemmas.Bool.{ne_eqb, ltb-true, ltb-false, lt-ltb, le-ltb, cases_lt}
-use Rattle.std.proofs.lemmas.List.{take_at, drop_at, take-append-le, length-append, length-drop, drop-append-le}
+use Rattle.std.proofs.lemmas.List.{take_at, drop_at, take-append-le, length-append, length-drop, drop-append-le, length-take-le, take-append-drop}
 use Rattle.of_types.specs.Fields.{number_at, number_bytes, piece, IsBytes}
 use Rattle.of_types.specs.FieldLaws.{number_at-take, number_at-number_bytes, number_bytes-number_at, length-number_bytes, length-piece, piece-append}
 use Rattle.app_frames.specs.declared.fault.FrameFault.{FrameFault}
@@ -341,6 +341,17 @@ frame_before {K} {X} most kind_of body_of bytes more frame size e short = at (fr
     at (Err fault) is =
         let there : frame_of most kind_of body_of (bytes ++ more) ≡ Err fault = frame_of_stays most kind_of body_of bytes more (λ none. absurd cc) ∙ is in
         absurd cc
+
+-- A whole frame needs no more than its own bytes.
+pub frame_alone : {K X : Type 0} (most : Option ℕ) (kind_of : ℕ → Option K) (body_of : K → List ℕ → Option X) (bytes : List ℕ) (frame : X) (size : ℕ) → frame_of most kind_of body_of bytes ≡ Ok (Some (frame, size)) → frame_of most kind_of body_of (take size bytes) ≡ Ok (Some (frame, size))
+frame_alone most kind_of body_of bytes frame size e =
+    let front = (read_from most kind_of body_of bytes frame size e).front in
+    let len = length-take-le size bytes front.whole in
+    let said = number_at-take 4 0 size bytes (omega (arith, front.said)) in
+    let decided : ¬ (frame_of most kind_of body_of (take size bytes) ≡ Ok None) = λ none.
+    let begun = (frame_none most kind_of body_of (take size bytes)).0 none (omega (arith, len, front.said)) in
+    omega (arith, begun.more, said, len, front.said) in
+    sym (frame_of_stays most kind_of body_of (take size bytes) (drop size bytes) decided) ∙ ap (λ (b : List ℕ). frame_of most kind_of body_of b) (take-append-drop size bytes) ∙ e
 
 -- ---- without a greatest length none is too long
 

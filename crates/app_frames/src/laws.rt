@@ -1,6 +1,6 @@
 //! Laws of frames, each the contract of a function that does nothing.
 
-ghost use Rattle.std.specs.Prelude.{◌≡◌, ℕ, ◌<◌, ◌≤◌, ◌↔◌, List, ◌++◌, length, Ok, Err, Some, None};
+ghost use Rattle.std.specs.Prelude.{◌≡◌, ℕ, ◌<◌, ◌≤◌, ◌↔◌, List, ◌++◌, length, take, Ok, Err, Some, None};
 ghost use Rattle.of_types.specs.Fields.{IsBytes};
 ghost use Rattle.app_frames.specs.declared.fault.FrameFault.{FrameFault};
 ghost use Rattle.app_frames.specs.declared.frame.AppFrame.{AppFrame};
@@ -22,7 +22,9 @@ pub fn laws_of_app_frames()
     ensures size { (bytes : List ℕ) (frame : AppFrame) (size : ℕ) → app_reading bytes ≡ Ok (Some (frame, size))
         → (5 ≤ size) × (size ≤ 1048583) × (size ≤ length bytes) }
 
-    // A whole frame and a fault stay, whatever follows.
+    // A whole frame needs no more than its own bytes; it and a fault stay, whatever follows.
+    ensures alone { (bytes : List ℕ) (frame : AppFrame) (size : ℕ) → app_reading bytes ≡ Ok (Some (frame, size))
+        → app_reading (take size bytes) ≡ Ok (Some (frame, size)) }
     ensures whole_stays { (bytes more : List ℕ) (frame : AppFrame) (size : ℕ)
         → app_reading bytes ≡ Ok (Some (frame, size)) → app_reading (bytes ++ more) ≡ Ok (Some (frame, size)) }
     ensures fault_stays { (bytes more : List ℕ) (fault : FrameFault)
@@ -49,7 +51,9 @@ pub fn laws_of_host_frames()
     ensures size { (bytes : List ℕ) (frame : HostFrame) (size : ℕ) → host_reading bytes ≡ Ok (Some (frame, size))
         → (5 ≤ size) × (size ≤ length bytes) }
 
-    // A whole frame and a fault stay, whatever follows; no length is too long.
+    // A whole frame needs no more than its own bytes; it and a fault stay, whatever follows. No length is too long.
+    ensures alone { (bytes : List ℕ) (frame : HostFrame) (size : ℕ) → host_reading bytes ≡ Ok (Some (frame, size))
+        → host_reading (take size bytes) ≡ Ok (Some (frame, size)) }
     ensures whole_stays { (bytes more : List ℕ) (frame : HostFrame) (size : ℕ)
         → host_reading bytes ≡ Ok (Some (frame, size)) → host_reading (bytes ++ more) ≡ Ok (Some (frame, size)) }
     ensures fault_stays { (bytes more : List ℕ) (fault : FrameFault)

@@ -1,4 +1,4 @@
-use Rattle.app_frames.specs.AppLaws.{app_reading-app_bytes, app_one, app_at_front, app_size, app_whole_stays, app_fault_stays, app_none, app_before, app_ends}
+use Rattle.app_frames.specs.AppLaws.{app_reading-app_bytes, app_one, app_at_front, app_size, app_alone, app_whole_stays, app_fault_stays, app_none, app_before, app_ends}
 use Rattle.app_frames.proofs.laws.laws_of_app_frames.Goals as goal
 
 pub returns-clause-again : goal.returns-clause-again
@@ -12,6 +12,9 @@ returns-clause-spelled c = app_at_front
 
 pub returns-clause-size : goal.returns-clause-size
 returns-clause-size c = app_size
+
+pub returns-clause-alone : goal.returns-clause-alone
+returns-clause-alone c = app_alone
 
 pub returns-clause-whole_stays : goal.returns-clause-whole_stays
 returns-clause-whole_stays c = app_whole_stays
