@@ -4,12 +4,14 @@
 
 mod entry;
 mod fault;
+mod judge;
 mod notice;
 mod table;
 mod view;
 
 pub use entry::Entry;
 pub use fault::ChangeFault;
+pub use judge::{AllowAll, Judge};
 pub use notice::{Notice, NoticeList};
 pub use table::Table;
 pub use view::{TableView, ViewList, ViewRow};
