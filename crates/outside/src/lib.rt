@@ -1,13 +1,20 @@
-// A library with one function.
+//! The outside of the controller: the one object that stands for the switches and the applications, and the
+//! history that it tells. It brings the judge of a turn's tables along.
 #![tactic(auto)]
 
-ghost use Rattle.std.specs.Prelude.{◌≡◌};
-ghost use Rattle.outside.specs.Echo.{echo_of};
+mod call;
+mod counting;
+mod faults;
+mod item;
+mod mute;
+mod step;
+mod world;
 
-// The `ensures` clause is the contract: what `echo` returns is `echo_of` of its argument, a definition
-// in `specs/Echo.antt`, which a caller's clause can cite too.
-pub fn echo(x: usize) -> usize
-    ensures { result ≡ echo_of x }
-{
-    x
-}
+pub use call::{CallKind, FailCall};
+pub use counting::Counting;
+pub use faults::{GiveFault, LinkFault, NextFault, OpenFault, Short, StartFault};
+pub use flow_table::{AllowAll, Judge};
+pub use item::{Item, Taken};
+pub use mute::Mute;
+pub use step::WorldStep;
+pub use world::World;
