@@ -4,3 +4,8 @@ pub mod Change
 pub mod Hit
 pub mod Expiry
 pub mod Rows
+pub mod Switch
+pub mod Refusals
+pub mod Frames
+pub mod Statistics
+pub mod Step
