@@ -1,10 +1,10 @@
 -- What is seen of the outside of a controller: what it was given, its history, and its counts. All of this is our own choice.
-use Rattle.std.specs.Prelude.{◌≡◌, ℕ, ◌==◌, Bool, List, Option, Some, None, if◌then◌else◌, IsTrue}
+use Rattle.std.specs.Prelude.{◌≡◌, ℕ, ◌==◌, Bool, List, ◌++◌, Option, Some, None, if◌then◌else◌, IsTrue}
 use Rattle.std.specs.List.{list_any, filter_map}
 use Rattle.of_types.specs.declared.journal.Act.{Act}
 use Rattle.of_types.specs.declared.journal.Act.TheVariants.{Got}
 use Rattle.of_types.specs.declared.journal.WorldStim.{WorldStim}
-use Rattle.lego_io.specs.Count.{raised, NeverFell}
+use Rattle.lego_io.specs.Count.{raised, Rose, NeverFell}
 use Rattle.flow_table.specs.Switch.{Declared}
 use Rattle.outside.specs.declared.call.FailCall.{FailCall}
 use Rattle.outside.specs.declared.step.WorldStep.{WorldStep}
@@ -105,3 +105,20 @@ with_short_of d c = record c { shorts = raised c.shorts; shorts_of = raised_at d
 
 abbrev pub with_link_fault : ℕ → Counts → Counts
 with_link_fault d c = record c { link_faults = raised_at d c.link_faults }
+
+-- ---- Later
+
+-- a history that goes on from another one
+abbrev pub Longer : List WorldStep → List WorldStep → Type 0
+Longer old new = (steps : List WorldStep) × (new ≡ old ++ steps)
+
+-- What is seen after some calls: what the world was given stays, no count fell, and the history of a world that tells goes on.
+pub record Continues {Own : Type 0} (Tells : Type 0) (old new : Seen Own) : Type 0 where
+  pub given : new.given ≡ old.given
+  pub none_fell : NoneFell old.counts new.counts
+  pub told : Tells → Longer old.history new.history
+
+-- Nothing failed on the switch: neither its link nor the memory of a call of it.
+pub record LinkHeld (d : ℕ) (old new : Counts) : Type 0 where
+  pub no_fault : ¬ Rose (old.link_faults d) (new.link_faults d)
+  pub no_short : ¬ Rose (old.shorts_of d) (new.shorts_of d)
