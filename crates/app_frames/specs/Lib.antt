@@ -1,0 +1,9 @@
+pub mod Kinds
+pub mod Reading
+pub mod Bodies
+pub mod Spelling
+pub mod Frames
+pub mod KindLaws
+pub mod ReadingLaws
+pub mod BodyLaws
+pub mod FrameLaws
