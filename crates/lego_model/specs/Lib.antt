@@ -4,3 +4,7 @@ pub mod Messages
 pub mod Grammar
 pub mod Reference
 pub mod Report
+pub mod SessionWords
+pub mod SessionSteps
+pub mod SessionLines
+pub mod SessionText
