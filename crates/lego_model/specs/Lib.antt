@@ -8,3 +8,5 @@ pub mod SessionWords
 pub mod SessionSteps
 pub mod SessionLines
 pub mod SessionText
+pub mod Journal
+pub mod JournalLaws
