@@ -4,3 +4,9 @@ pub mod Change
 pub mod Hit
 pub mod Expiry
 pub mod Rows
+pub mod Undone
+pub mod Switch
+pub mod Refusals
+pub mod Frames
+pub mod Statistics
+pub mod Step

@@ -10,3 +10,4 @@ pub mod SessionLines
 pub mod SessionText
 pub mod Journal
 pub mod JournalLaws
+pub mod Answers
