@@ -10,6 +10,7 @@ pub mod ExpiryLaws
 pub mod Rows
 pub mod RowsLaws
 pub mod MomentLaws
+pub mod Undone
 pub mod Switch
 pub mod Refusals
 pub mod Frames
