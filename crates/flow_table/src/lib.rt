@@ -2,7 +2,6 @@
 //! packets and time make of them. The definitions of a switch stand here too.
 #![tactic(auto)]
 
-mod copying;
 mod changing;
 mod copying;
 mod describing;
