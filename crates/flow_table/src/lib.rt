@@ -19,3 +19,6 @@ pub use fault::ChangeFault;
 pub use notice::{Notice, NoticeList};
 pub use table::Table;
 pub use view::{TableView, ViewList, ViewRow};
+
+#[cfg(test)]
+mod tests;
