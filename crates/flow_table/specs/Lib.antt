@@ -1,6 +1,12 @@
 pub mod Errors
 pub mod Table
+pub mod TableLaws
 pub mod Change
+pub mod ChangeLaws
 pub mod Hit
+pub mod HitLaws
 pub mod Expiry
+pub mod ExpiryLaws
 pub mod Rows
+pub mod RowsLaws
+pub mod MomentLaws
