@@ -16,7 +16,7 @@ pub use counting::Counting;
 pub use faults::{GiveFault, LinkFault, NextFault, OpenFault, Short, StartFault};
 pub use flow_table::{AllowAll, Judge};
 pub use item::{Item, Taken};
-pub use laws::{conforming_before, later_calls, longer_history};
+pub use laws::{conforming_before, later_calls, longer_history, sent_moves_one, taken_moves_none};
 pub use mute::Mute;
 pub use step::WorldStep;
 pub use world::World;
