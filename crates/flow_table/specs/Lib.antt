@@ -12,3 +12,9 @@ pub mod RowsLaws
 pub mod MomentLaws
 pub mod Run
 pub mod RunLaws
+pub mod Undone
+pub mod Switch
+pub mod Refusals
+pub mod Frames
+pub mod Statistics
+pub mod Step

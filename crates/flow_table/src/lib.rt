@@ -10,6 +10,7 @@ mod entry;
 mod expiring;
 mod fault;
 mod hitting;
+mod judge;
 mod notice;
 mod selecting;
 mod table;
@@ -18,6 +19,10 @@ mod view;
 pub use calls::{TableAnswer, TableCall, run};
 pub use entry::Entry;
 pub use fault::ChangeFault;
+pub use judge::{AllowAll, Judge};
 pub use notice::{Notice, NoticeList};
 pub use table::Table;
 pub use view::{TableView, ViewList, ViewRow};
+
+#[cfg(test)]
+mod tests;

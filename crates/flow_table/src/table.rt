@@ -10,8 +10,11 @@ ghost use Rattle.flow_table.specs.Rows.{positions};
 use crate::changing::apply;
 use crate::describing::{find_refusal, is_adding};
 use crate::entry::Entry;
+use crate::expiring::expire;
 use crate::fault::ChangeFault;
+use crate::hitting::{add_counts, hit, lookup};
 use crate::notice::NoticeList;
+use crate::selecting::select;
 use of_match::{Match, PacketKey};
 use of_types::PortNo;
 use of_wire::FlowMod;
@@ -74,7 +77,7 @@ impl Table {
     pub fn lookup(&self, k: &PacketKey) -> Option<usize>
         ensures { IsPositionOf (best k.now self.now.entries) self.now.entries result }
     {
-        loop {}
+        lookup(&self.entries, k)
     }
 
     /// Counts a packet of `len` bytes at the entry that it hits, and says where that entry stands.
@@ -83,7 +86,7 @@ impl Table {
         ensures entries { self.new.entries ≡ hit k.now len now self.old.entries }
         ensures next { self.new.next ≡ self.old.next }
     {
-        loop {}
+        hit(&mut self.entries, k, len, now)
     }
 
     /// How many entries there are.
@@ -124,7 +127,7 @@ impl Table {
         ensures ok { OnOk result (self.new ≡ expire now self.old) }
         ensures err { OnErr result (self.new ≡ self.old) }
     {
-        loop {}
+        expire(self.alloc, &mut self.entries, now)
     }
 
     /// Where the entries stand whose match `m` subsumes and which, unless `out_port` is NONE, have an OUTPUT to
@@ -132,7 +135,7 @@ impl Table {
     pub fn select(&self, m: &Match, out_port: PortNo) -> Result<Vec<usize>, AllocError>
         ensures { IfOk result (λ places. places.items ≡ positions m.now out_port self.now.entries) }
     {
-        loop {}
+        select(self.alloc, &self.entries, m, out_port)
     }
 
     /// Adds so many packets and bytes to each entry of a priority, modulo 2^64.
@@ -140,7 +143,7 @@ impl Table {
         ensures entries { self.new.entries ≡ with_counts priority packets bytes self.old.entries }
         ensures next { self.new.next ≡ self.old.next }
     {
-        loop {}
+        add_counts(&mut self.entries, priority, packets, bytes)
     }
 }
 
