@@ -6,7 +6,7 @@ ghost use Rattle.of_wire.specs.Reading.{reading_of};
 ghost use Rattle.outside.specs.declared.step.WorldStep.{WorldStep};
 ghost use Rattle.outside.specs.declared.step.WorldStep.TheVariants.{Acted};
 ghost use Rattle.outside.specs.Seen.{Seen, Counts, NoneFell, Continues, LinkHeld, journal};
-ghost use Rattle.outside.specs.State.{State, after_step, after_steps, state, switch_of, waits_of, switch_told, message_sends};
+ghost use Rattle.outside.specs.State.{State, after_step, after_steps, state, switch_of, waits_of, switch_told, message_sends, but_marks};
 ghost use Rattle.outside.specs.Conforming.{MaySteps, Conforming};
 
 use crate::world::World;
@@ -55,4 +55,9 @@ pub fn taken_moves_none()
         → switch_of e (after_step (Acted (Got d bytes)) s) ≡ switch_of e s }
     ensures others_wait { (d e : ℕ) (bytes : List ℕ) (s : State) → e ≢ d
         → waits_of e (after_step (Acted (Got d bytes)) s) ≡ waits_of e s }
+{}
+
+/// No step looks at the marks, but to append to them.
+pub fn marks_steer_nothing()
+    ensures { (step : WorldStep) (s : State) → but_marks (after_step step s) ≡ but_marks (after_step step (but_marks s)) }
 {}
