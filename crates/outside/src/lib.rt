@@ -18,8 +18,8 @@ pub use faults::{GiveFault, LinkFault, NextFault, OpenFault, Short, StartFault};
 pub use flow_table::{AllowAll, Judge};
 pub use item::{Item, Taken};
 pub use laws::{
-    conforming_before, later_calls, longer_history, marks_steer_nothing, sent_moves_one,
-    taken_moves_none,
+    conforming_before, later_calls, longer_history, marks_steer_nothing, receives_the_next,
+    sent_moves_one, taken_moves_none,
 };
 pub use mute::Mute;
 pub use step::WorldStep;
