@@ -278,3 +278,7 @@ after_steps (step ∷ steps) s = after_steps steps (after_step step s)
 -- the state that a world is in, as its history tells
 unfoldable pub state : {Own : Type 0} → Seen Own → State
 state seen = after_steps seen.history (at_first seen.given)
+
+-- the state but for its marks, which no step looks at but to append to them
+abbrev pub but_marks : State → State
+but_marks s = record s { marks = [] }

@@ -1,10 +1,14 @@
 -- Laws of the state that a history leaves, and of a world that keeps its word.
 use Rattle.std.specs.Prelude.{◌≡◌, List, [], ◌∷◌, ◌++◌, refl}
 use Rattle.std.proofs.Common.{sym, ap, ◌∙◌, subst}
+use Rattle.of_types.specs.declared.journal.Act.{Act}
+use Rattle.of_types.specs.declared.journal.Act.TheVariants.{Stim, Started, Gave, Gone, Took, Ended, Sent, Got}
+use Rattle.of_types.specs.declared.journal.WorldStim.TheVariants.{Join, Leave, At, Of}
 use Rattle.flow_table.specs.Switch.{Declared}
 use Rattle.outside.specs.declared.step.WorldStep.{WorldStep}
+use Rattle.outside.specs.declared.step.WorldStep.TheVariants.{Acted, From, Joined, Left, Moment, Idle, End, Opened, NotOpened, NextFailed, SendFailed, RecvFailed}
 use Rattle.outside.specs.Seen.{Given, Seen, Continues}
-use Rattle.outside.specs.State.{State, at_first, after_step, after_steps, state}
+use Rattle.outside.specs.State.{State, at_first, switch_of, after_stim, after_act, after_step, after_steps, state, but_marks}
 use Rattle.outside.specs.Conforming.{MaySteps, AreDeclaredFrom, Conforming}
 
 -- ---- A longer history
@@ -71,3 +75,34 @@ Conforming-append old new steps same longer keeps may =
 pub Conforming-before : {Own : Type 0} {Tells : Type 0} {old new : Seen Own} → Tells → Continues Tells old new → Conforming new → Conforming old
 Conforming-before {old = old} {new = new} told later keeps =
     Conforming-front old new (later.told told).0 later.given (later.told told).1 keeps
+
+-- ---- Marks steer nothing
+
+act_but_marks : (act : Act) (s : State) → but_marks (after_act act s) ≡ but_marks (after_act act (but_marks s))
+unfolding after_act after_stim switch_of
+act_but_marks (Stim (Join d)) s = refl
+act_but_marks (Stim (Leave d)) s = refl
+act_but_marks (Stim (At t)) s = refl
+act_but_marks (Stim (Of d x)) s = refl
+act_but_marks (Started app ok) s = refl
+act_but_marks (Gave app bytes) s = refl
+act_but_marks (Gone app bytes) s = refl
+act_but_marks (Took app what) s = refl
+act_but_marks (Ended app) s = refl
+act_but_marks (Sent d bytes) s = refl
+act_but_marks (Got d bytes) s = refl
+
+pub but_marks-step : (step : WorldStep) (s : State) → but_marks (after_step step s) ≡ but_marks (after_step step (but_marks s))
+unfolding after_step
+but_marks-step (Acted act) s = act_but_marks act s
+but_marks-step (From d bytes) s = refl
+but_marks-step (Joined d bytes) s = refl
+but_marks-step (Left d) s = refl
+but_marks-step (Moment t) s = refl
+but_marks-step Idle s = refl
+but_marks-step End s = refl
+but_marks-step Opened s = refl
+but_marks-step NotOpened s = refl
+but_marks-step NextFailed s = refl
+but_marks-step (SendFailed d) s = refl
+but_marks-step (RecvFailed d) s = refl

@@ -1,12 +1,13 @@
 //! Laws of histories, each the contract of a function that does nothing.
 
-ghost use Rattle.std.specs.Prelude.{◌≡◌, ◌≢◌, ℕ, List, ◌++◌, drop};
+ghost use Rattle.std.specs.Prelude.{◌≡◌, ◌≢◌, ℕ, List, ◌++◌, take, drop, Ok, Some, IsOk, slice_get};
 ghost use Rattle.of_types.specs.declared.journal.Act.TheVariants.{Sent, Got};
 ghost use Rattle.of_wire.specs.Reading.{reading_of};
 ghost use Rattle.outside.specs.declared.step.WorldStep.{WorldStep};
 ghost use Rattle.outside.specs.declared.step.WorldStep.TheVariants.{Acted};
 ghost use Rattle.outside.specs.Seen.{Seen, Counts, NoneFell, Continues, LinkHeld, journal};
-ghost use Rattle.outside.specs.State.{State, after_step, after_steps, state, switch_of, waits_of, switch_told, message_sends};
+ghost use Rattle.outside.specs.State.{State, after_step, after_steps, state, switch_of, waits_of, switch_told, message_sends, but_marks};
+ghost use Rattle.outside.specs.Calls.{Receives};
 ghost use Rattle.outside.specs.Conforming.{MaySteps, Conforming};
 
 use crate::world::World;
@@ -55,4 +56,18 @@ pub fn taken_moves_none()
         → switch_of e (after_step (Acted (Got d bytes)) s) ≡ switch_of e s }
     ensures others_wait { (d e : ℕ) (bytes : List ℕ) (s : State) → e ≢ d
         → waits_of e (after_step (Acted (Got d bytes)) s) ≡ waits_of e s }
+{}
+
+/// No step looks at the marks, but to append to them.
+pub fn marks_steer_nothing()
+    ensures { (step : WorldStep) (s : State) → but_marks (after_step step s) ≡ but_marks (after_step step (but_marks s)) }
+{}
+
+/// In a world that keeps its word, the message that `recv` takes is the oldest one that waits and is read by
+/// `of_wire`; it moves the state as the step that it is.
+pub fn receives_the_next<W: World>()
+    ensures next { (d : ℕ) (old new : Seen W.Own) (buf : List ℕ) (n : ℕ) → W.Tells → Receives W.Tells d old new (Ok n) buf
+        → Conforming new → (slice_get (waits_of d (state old)) 0 ≡ Some (take n buf)) × IsOk (reading_of (take n buf)) }
+    ensures moves { (d : ℕ) (old new : Seen W.Own) (buf : List ℕ) (n : ℕ) → W.Tells → Receives W.Tells d old new (Ok n) buf
+        → state new ≡ after_step (Acted (Got d (take n buf))) (state old) }
 {}

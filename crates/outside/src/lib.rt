@@ -7,6 +7,7 @@ mod counting;
 mod faults;
 mod item;
 mod laws;
+mod lent;
 mod mute;
 mod step;
 mod world;
@@ -16,7 +17,10 @@ pub use counting::Counting;
 pub use faults::{GiveFault, LinkFault, NextFault, OpenFault, Short, StartFault};
 pub use flow_table::{AllowAll, Judge};
 pub use item::{Item, Taken};
-pub use laws::{conforming_before, later_calls, longer_history, sent_moves_one, taken_moves_none};
+pub use laws::{
+    conforming_before, later_calls, longer_history, marks_steer_nothing, receives_the_next,
+    sent_moves_one, taken_moves_none,
+};
 pub use mute::Mute;
 pub use step::WorldStep;
 pub use world::World;

@@ -1,0 +1,5 @@
+use Rattle.outside.specs.StateLaws.{but_marks-step}
+use Rattle.outside.proofs.laws.marks_steer_nothing.Goals as goal
+
+pub returns : goal.returns
+returns c = but_marks-step

@@ -1,0 +1,49 @@
+//! A world that is lent.
+
+ghost use Rattle.std.specs.Prelude.{ℕ, ◌<◌, ◌≤◌, length, IsOk};
+ghost use Rattle.of_wire.specs.Reading.{reading_of};
+ghost use Rattle.outside.specs.Seen.{Seen};
+
+use crate::faults::{GiveFault, LinkFault, NextFault, OpenFault, Short, StartFault};
+use crate::item::{Item, Taken};
+use crate::world::World;
+
+impl<W: World> World for &mut W {
+    ghost Tells = { W.Tells };
+
+    ghost Own = { W.Own };
+
+    ghost seen = { λ world. W.seen world.now };
+
+    fn open(&mut self, port: u16) -> Result<(), OpenFault> {
+        (**self).open(port)
+    }
+
+    fn next(&mut self, buf: &mut [u8]) -> Result<Item, NextFault> {
+        (**self).next(buf)
+    }
+
+    fn start(&mut self, app: u32, words: &[String]) -> Result<(), StartFault> {
+        (**self).start(app, words)
+    }
+
+    fn give(&mut self, app: u32, bytes: &[u8]) -> Result<(), GiveFault> {
+        (**self).give(app, bytes)
+    }
+
+    fn take(&mut self, app: u32, buf: &mut [u8]) -> Result<Taken, Short> {
+        (**self).take(app, buf)
+    }
+
+    fn end(&mut self, app: u32) {
+        (**self).end(app);
+    }
+
+    fn send(&mut self, dpid: u64, frame: &[u8]) -> Result<(), LinkFault> {
+        (**self).send(dpid, frame)
+    }
+
+    fn recv(&mut self, dpid: u64, buf: &mut [u8]) -> Result<usize, LinkFault> {
+        (**self).recv(dpid, buf)
+    }
+}
