@@ -1,10 +1,13 @@
 -- What a reader of the code answers is what a definition of the session text reads.
 use Rattle.std.specs.Prelude.{◌≡◌, ℕ, Bool, not, ◌&&◌, nat_le, length, ◌++◌, ◌∷◌, [], List, Result, Ok, Err}
+use Rattle.lego_model.specs.declared.session.SessionFault.{SessionFault}
 use Rattle.lego_model.specs.declared.session.SessionKind.{SessionKind}
 use Rattle.lego_model.specs.declared.session.SessionKind.TheVariants.{Range}
 use Rattle.lego_model.specs.SessionWords.{◌>>=◌, unless, ascends, a_number}
 use Rattle.session_text.specs.declared.text_fault.LineFault.{LineFault}
 use Rattle.session_text.specs.declared.text_fault.LineFault.TheVariants.{Kind, NoMemory}
+use Rattle.session_text.specs.declared.text_fault.SessionTextError.{SessionTextError}
+use Rattle.session_text.specs.declared.text_fault.SessionTextError.TheVariants as text
 
 abbrev pub Fails : {Y : Type 0} → LineFault → Result Y SessionKind → Type 0
 Fails NoMemory read = Unit {0}
@@ -14,6 +17,15 @@ Fails (Kind kind) read = read ≡ Err kind
 abbrev pub Gives : {X Y : Type 0} → (X → Y) → Result X LineFault → Result Y SessionKind → Type 0
 Gives view (Ok x) read = read ≡ Ok (view x)
 Gives view (Err fault) read = Fails fault read
+
+-- the same for a whole text
+abbrev pub TextFails : {Y : Type 0} → SessionTextError → Result Y SessionFault → Type 0
+TextFails text.NoMemory read = Unit {0}
+TextFails (text.Bad fault) read = read ≡ Err fault
+
+abbrev pub TextGives : {X Y : Type 0} → (X → Y) → Result X SessionTextError → Result Y SessionFault → Type 0
+TextGives view (Ok x) read = read ≡ Ok (view x)
+TextGives view (Err fault) read = TextFails fault read
 
 -- what was read so far, before what is read of the rest
 abbrev pub with_front : {X : Type 0} → List X → Result (List X) SessionKind → Result (List X) SessionKind
