@@ -1,6 +1,6 @@
 -- Which entry a packet hits, and what it counts (OpenFlow 1.0.0, 3.4 Matching). Among entries of equal rank the least key is
 -- taken, and counters are modulo 2^64; both are our own choice.
-use Rattle.std.specs.Prelude.{◌==◌, ℕ, ◌+◌, ◌%◌, ◌^◌, Bool, nat_lt, List, [], ◌∷◌, map, Option, Some, None, if◌then◌else◌}
+use Rattle.std.specs.Prelude.{◌==◌, ℕ, ◌+◌, ◌%◌, ◌^◌, nat_lt, List, [], ◌∷◌, map, Option, Some, None, if◌then◌else◌}
 use Rattle.of_match.specs.Fields.{is_exact}
 use Rattle.of_match.specs.Match.{fields_in}
 use Rattle.of_match.specs.Covers.{is_covering}

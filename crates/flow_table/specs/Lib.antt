@@ -1,11 +1,17 @@
 pub mod Errors
 pub mod Table
+pub mod TableLaws
 pub mod Change
+pub mod ChangeLaws
 pub mod Hit
+pub mod HitLaws
 pub mod Expiry
+pub mod ExpiryLaws
 pub mod Rows
 pub mod Switch
 pub mod Refusals
 pub mod Frames
 pub mod Statistics
 pub mod Step
+pub mod RowsLaws
+pub mod MomentLaws

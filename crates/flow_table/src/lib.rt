@@ -2,9 +2,15 @@
 //! packets and time make of them. The definitions of a switch stand here too.
 #![tactic(auto)]
 
+mod changing;
+mod copying;
+mod describing;
 mod entry;
+mod expiring;
 mod fault;
+mod hitting;
 mod notice;
+mod selecting;
 mod table;
 mod view;
 
@@ -13,3 +19,6 @@ pub use fault::ChangeFault;
 pub use notice::{Notice, NoticeList};
 pub use table::Table;
 pub use view::{TableView, ViewList, ViewRow};
+
+#[cfg(test)]
+mod tests;

@@ -1,15 +1,20 @@
 //! A flow table.
 
-ghost use Rattle.std.specs.Prelude.{◌≡◌, ◌↔◌, ◌<◌, ◌-◌, ◌^◌, [], length, slice_get, Some, IsTrue, IfOk, OnOk, OnErr};
+ghost use Rattle.std.specs.Prelude.{◌≡◌, ◌≢◌, ◌↔◌, ◌<◌, ◌+◌, ◌-◌, ◌^◌, [], length, slice_get, Some, IsTrue, IsOk, IfOk, OnOk, OnErr, if◌then◌else◌};
 ghost use Rattle.flow_table.specs.Table.{IsTable, IsMoment, IsPositionOf, empty_table};
-ghost use Rattle.flow_table.specs.Change.{Answers, refusal, changed, notices_of};
+ghost use Rattle.flow_table.specs.Change.{Answers, is_delete, adds, refusal, changed, entries_after, notices_of};
 ghost use Rattle.flow_table.specs.Hit.{best, hit, with_counts};
 ghost use Rattle.flow_table.specs.Expiry.{expire, expiry_notices};
 ghost use Rattle.flow_table.specs.Rows.{positions};
 
+use crate::changing::apply;
+use crate::describing::{find_refusal, is_adding};
 use crate::entry::Entry;
+use crate::expiring::expire;
 use crate::fault::ChangeFault;
+use crate::hitting::{add_counts, hit, lookup};
 use crate::notice::NoticeList;
+use crate::selecting::select;
 use of_match::{Match, PacketKey};
 use of_types::PortNo;
 use of_wire::FlowMod;
@@ -54,15 +59,17 @@ impl Table {
     /// Flow Table Modification Messages), and gives the notices of removed entries, in key order.
     ///
     /// Buffer, EMERG and which actions the switch knows are not looked at. `Refused` is the first of
-    /// BAD_COMMAND, OVERLAP and ALL_TABLES_FULL that stands against the change.
+    /// BAD_COMMAND, OVERLAP and ALL_TABLES_FULL that stands against the change. A DELETE that gives no notice
+    /// takes no memory.
     pub fn change(&mut self, m: &FlowMod, now: u64, cap: u32) -> Result<NoticeList, ChangeFault>
         requires now { IsMoment now self.old.entries }
         requires serials { self.old.next < 2 ^ 64 - 1 }
         ensures answer { Answers result (refusal cap m.now self.old.entries) (notices_of now m.now self.old.entries) }
         ensures ok { OnOk result (self.new ≡ changed now m.now self.old) }
         ensures err { OnErr result (self.new ≡ self.old) }
+        ensures quiet { IsTrue (is_delete m.now) → notices_of now m.now self.old.entries ≡ [] → IsOk result }
     {
-        loop {}
+        change_entries(self.alloc, &mut self.entries, &mut self.next, m, now, cap)
     }
 
     /// Where the entry stands that a packet with these fields hits (OpenFlow 1.0.0, 3.4 Matching): of those that
@@ -70,7 +77,7 @@ impl Table {
     pub fn lookup(&self, k: &PacketKey) -> Option<usize>
         ensures { IsPositionOf (best k.now self.now.entries) self.now.entries result }
     {
-        loop {}
+        lookup(&self.entries, k)
     }
 
     /// Counts a packet of `len` bytes at the entry that it hits, and says where that entry stands.
@@ -79,7 +86,7 @@ impl Table {
         ensures entries { self.new.entries ≡ hit k.now len now self.old.entries }
         ensures next { self.new.next ≡ self.old.next }
     {
-        loop {}
+        hit(&mut self.entries, k, len, now)
     }
 
     /// How many entries there are.
@@ -120,7 +127,7 @@ impl Table {
         ensures ok { OnOk result (self.new ≡ expire now self.old) }
         ensures err { OnErr result (self.new ≡ self.old) }
     {
-        loop {}
+        expire(self.alloc, &mut self.entries, now)
     }
 
     /// Where the entries stand whose match `m` subsumes and which, unless `out_port` is NONE, have an OUTPUT to
@@ -128,7 +135,7 @@ impl Table {
     pub fn select(&self, m: &Match, out_port: PortNo) -> Result<Vec<usize>, AllocError>
         ensures { IfOk result (λ places. places.items ≡ positions m.now out_port self.now.entries) }
     {
-        loop {}
+        select(self.alloc, &self.entries, m, out_port)
     }
 
     /// Adds so many packets and bytes to each entry of a priority, modulo 2^64.
@@ -136,6 +143,31 @@ impl Table {
         ensures entries { self.new.entries ≡ with_counts priority packets bytes self.old.entries }
         ensures next { self.new.next ≡ self.old.next }
     {
-        loop {}
+        add_counts(&mut self.entries, priority, packets, bytes)
     }
+}
+
+/// Changes entries of which the next new one gets the serial `next`.
+fn change_entries(
+    alloc: Global,
+    entries: &mut Vec<Entry>,
+    next: &mut u64,
+    m: &FlowMod,
+    now: u64,
+    cap: u32,
+) -> Result<NoticeList, ChangeFault>
+    requires in_order { IsTable entries.old.items }
+    requires serials { next.old < 2 ^ 64 - 1 }
+    ensures answer { Answers result (refusal cap m.now entries.old.items) (notices_of now m.now entries.old.items) }
+    ensures ok { OnOk result (entries.new.items ≡ entries_after now next.old m.now entries.old.items) }
+    ensures next { OnOk result (next.new ≡ (if adds m.now entries.old.items then next.old + 1 else next.old)) }
+    ensures err { OnErr result (entries.new.items ≡ entries.old.items) }
+    ensures next_err { OnErr result (next.new ≡ next.old) }
+    ensures quiet { OnErr result (IsTrue (is_delete m.now) → notices_of now m.now entries.old.items ≢ []) }
+{
+    let adding = is_adding(m, entries);
+    if let Some(error) = find_refusal(m, entries, cap, adding) {
+        return Err(ChangeFault::Refused(error));
+    }
+    Ok(apply(alloc, entries, next, m, now, adding)?)
 }

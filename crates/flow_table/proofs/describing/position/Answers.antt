@@ -1,0 +1,91 @@
+use Rattle.std.proofs.Common.{◌≡◌, ℕ, zero, suc, [], ◌∷◌, refl, ◌+◌, ◌-◌, ◌/◌, ◌<◌, List, length, get_or, sym, ap, ◌∙◌, arith, inl, inr}
+use Rattle.std.proofs.lemmas.Bool.{cases_lt}
+use Rattle.std.specs.Cmp.{nat_cmp_is}
+use Rattle.std.specs.Ordering.{nat_cmp}
+use Rattle.std.specs.declared.cmp.Ordering.TheVariants.{Less, Equal, Greater}
+use Rattle.of_match.specs.Key.{place}
+use Rattle.flow_table.specs.declared.entry.Entry.{Entry}
+use Rattle.flow_table.specs.Table.{place_of, IsTable, Parts}
+use Rattle.flow_table.specs.TableLaws.{place-rises}
+use Rattle.flow_table.proofs.describing.position.Goals as goal
+
+-- where the entry in the middle stands below, all up to it do
+below_middle : (es : List Entry) (p low high middle : ℕ) → IsTable es → Parts p low high es → middle < length es → ((e : Entry) → place_of (get_or es middle e) < p) → Parts p (middle + 1) high es
+below_middle es p low high middle is parts within below = record {
+  below = λ k e lt. elim (cases_lt k middle) [
+    | inl before ↦ omega (arith, place-rises es 0 k middle e is before within, below e)
+    | inr after ↦ let same : k ≡ middle = omega arith in omega (arith, ap (λ j. place_of (get_or es j e)) same, below e)
+  ];
+  above = parts.above;
+}
+
+above_middle : (es : List Entry) (p low high middle : ℕ) → IsTable es → Parts p low high es → middle < length es → ((e : Entry) → p < place_of (get_or es middle e)) → Parts p low middle es
+above_middle es p low high middle is parts within above = record {
+  below = parts.below;
+  above = λ k e le lt. elim (cases_lt middle k) [
+    | inl after ↦ omega (arith, place-rises es 0 middle k e is after lt, above e)
+    | inr before ↦ let same : k ≡ middle = omega arith in omega (arith, ap (λ j. place_of (get_or es j e)) same, above e)
+  ];
+}
+
+less_than : (x y : ℕ) → Less ≡ nat_cmp x y → x < y
+less_than x y e =
+    elim (cases_lt x y) [
+      | inl lt ↦ lt
+      | inr ge ↦ elim (cases_lt y x) [
+        | inl gt ↦ let other = nat_cmp_is x y Greater gt in absurd cc
+        | inr le ↦ let other = nat_cmp_is x y Equal (omega arith) in absurd cc
+      ]
+    ]
+
+more_than : (x y : ℕ) → Greater ≡ nat_cmp x y → y < x
+more_than x y e =
+    elim (cases_lt y x) [
+      | inl gt ↦ gt
+      | inr ge ↦ elim (cases_lt x y) [
+        | inl lt ↦ let other = nat_cmp_is x y Less lt in absurd cc
+        | inr le ↦ let other = nat_cmp_is x y Equal (omega arith) in absurd cc
+      ]
+    ]
+
+same_as : (x y : ℕ) → Equal ≡ nat_cmp x y → x ≡ y
+same_as x y e =
+    elim (cases_lt x y) [
+      | inl lt ↦ let other = nat_cmp_is x y Less lt in absurd cc
+      | inr ge ↦ elim (cases_lt y x) [
+        | inl gt ↦ let other = nat_cmp_is x y Greater gt in absurd cc
+        | inr le ↦ omega arith
+      ]
+    ]
+
+any_default : (es : List Entry) (i : ℕ) (d e : Entry) → i < length es → get_or es i d ≡ get_or es i e
+any_default [] i d e within = absurd (omega arith)
+any_default (f ∷ fs) zero d e within = refl
+any_default (f ∷ fs) (suc i) d e within = any_default fs i d e (omega arith)
+
+place_at : (es : List Entry) (i : ℕ) (read : Entry) → i < length es → read ≡ get_or es i read → (e : Entry) → place_of (get_or es i e) ≡ place_of read
+place_at es i read within is e = ap place_of (any_default es i e read within ∙ sym is)
+
+pub loop-low-preserved-in-Less : goal.loop-low-preserved-in-Less
+loop-low-preserved-in-Less c =
+    let within : c.loop-low.low + (c.loop-low.high - c.loop-low.low) / 2 < length c.args.entries.now = omega arith in
+    let lt = less_than (place_of c.index-entries-middle.result) (place c.args.key.now) (sym c.in-Less.is ∙ c.compare.ensures) in (
+      omega arith,
+      c.loop-low.invariant.1,
+      below_middle _ _ _ _ _ c.requires c.loop-low.invariant.2 within (λ e. omega (arith, place_at _ _ _ within c.index-entries-middle.is e)),
+    )
+
+pub loop-low-preserved : goal.loop-low-preserved
+loop-low-preserved c =
+    let within : c.loop-low.low + (c.loop-low.high - c.loop-low.low) / 2 < length c.args.entries.now = omega arith in
+    let gt = more_than (place_of c.index-entries-middle.result) (place c.args.key.now) (sym c.in-Greater.is ∙ c.compare.ensures) in (
+      omega arith,
+      omega arith,
+      above_middle _ _ _ _ _ c.requires c.loop-low.invariant.2 within (λ e. omega (arith, place_at _ _ _ within c.index-entries-middle.is e)),
+    )
+
+pub returns-in-Equal : goal.returns-in-Equal
+returns-in-Equal c =
+    let within : c.loop-low.low + (c.loop-low.high - c.loop-low.low) / 2 < length c.args.entries.now = omega arith in
+    let same = same_as (place_of c.index-entries-middle.result) (place c.args.key.now) (sym c.in-Equal.is ∙ c.compare.ensures) in
+    (within, λ e. place_at _ _ _ within c.index-entries-middle.is e ∙ same)

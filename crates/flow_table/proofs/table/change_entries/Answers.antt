@@ -1,0 +1,10 @@
+use Rattle.std.proofs.Common.{◌≡◌, None, sym, ◌∙◌}
+use Rattle.flow_table.specs.ChangeLaws.{refusal-delete}
+use Rattle.flow_table.proofs.table.change_entries.Goals as goal
+
+pub returns-in-Some-clause-quiet : goal.returns-in-Some-clause-quiet
+returns-in-Some-clause-quiet c = λ deletes none.
+    let free = refusal-delete c.args.cap c.args.m.now c.args.entries.now.items deletes in
+    let refused = c.in-Some.ensures.value in
+    let same = c.deref-2.ensures.value in
+    cc
