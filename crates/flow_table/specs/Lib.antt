@@ -8,10 +8,11 @@ pub mod HitLaws
 pub mod Expiry
 pub mod ExpiryLaws
 pub mod Rows
+pub mod RowsLaws
+pub mod MomentLaws
+pub mod Undone
 pub mod Switch
 pub mod Refusals
 pub mod Frames
 pub mod Statistics
 pub mod Step
-pub mod RowsLaws
-pub mod MomentLaws

@@ -9,6 +9,7 @@ mod entry;
 mod expiring;
 mod fault;
 mod hitting;
+mod judge;
 mod notice;
 mod selecting;
 mod table;
@@ -16,6 +17,7 @@ mod view;
 
 pub use entry::Entry;
 pub use fault::ChangeFault;
+pub use judge::{AllowAll, Judge};
 pub use notice::{Notice, NoticeList};
 pub use table::Table;
 pub use view::{TableView, ViewList, ViewRow};

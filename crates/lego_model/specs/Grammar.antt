@@ -2,8 +2,9 @@
 use Rattle.std.specs.Prelude.{◌==◌, ℕ, Bool, true, false, not, ◌&&◌, List, [], ◌∷◌, length, Option, Some, None, Result, Ok, nat_le, nat_lt, if◌then◌else◌, codes, map}
 use Rattle.std.specs.List.{slice_split, list_any}
 use Rattle.lego_io.specs.Lines.{lines_of}
-use Rattle.flow_table.specs.Table.{place_of}
-use Rattle.flow_table.specs.declared.entry.PlainEntry.{PlainEntry}
+use Rattle.of_match.specs.Key.{place}
+use Rattle.of_wire.specs.declared.bodies.FlowMod.{FlowMod}
+use Rattle.flow_table.specs.Change.{key_in}
 use Rattle.lego_model.specs.declared.turn.Addition.{Addition}
 use Rattle.lego_model.specs.declared.turn.Ending.{Ending}
 use Rattle.lego_model.specs.declared.turn.Ending.TheVariants.{Done, Closed}
@@ -57,8 +58,8 @@ addition_in s (first ∷ dpid ∷ hex ∷ []) =
     if is_word (codes "m") first then (do
       d ← number s.dpid s.dpid dpid
       bytes ← hex_bytes plain_size hex
-      e ← plain_add s.ports bytes
-      Ok (record { dpid = s.dpid; entry = e }))
+      flow ← plain_add s.ports bytes
+      Ok (record { dpid = s.dpid; flow = flow }))
     else refused
 addition_in s (first ∷ dpid ∷ hex ∷ next ∷ more) = refused
 
@@ -87,22 +88,22 @@ turn_of s [] = Ok (record { additions = []; ending = Closed })
 turn_of s (step ∷ steps) =
     step_or_end (ending_of step) (addition_of s step >>= λ a. turn_of s steps >>= λ r. Ok (after a r)) (λ ending. ends ending steps)
 
-abbrev pub entries_of : List Addition → List PlainEntry
-entries_of additions = map (λ a. a.entry) additions
+abbrev pub flows_of : List Addition → List FlowMod
+flows_of additions = map (λ a. a.flow) additions
 
-abbrev pub has_key_of : PlainEntry → List PlainEntry → Bool
-has_key_of e others = list_any (λ other. place_of other == place_of e) others
+abbrev pub has_key_of : FlowMod → List FlowMod → Bool
+has_key_of flow others = list_any (λ other. place (key_in other) == place (key_in flow)) others
 
-abbrev pub are_distinct : List PlainEntry → Bool
+abbrev pub are_distinct : List FlowMod → Bool
 are_distinct [] = true
-are_distinct (e ∷ more) = not (has_key_of e more) && are_distinct more
+are_distinct (flow ∷ more) = not (has_key_of flow more) && are_distinct more
 
 -- at most 999 entries, with different keys, and no more than there is room for
-unfoldable pub are_bounded : ℕ → List PlainEntry → Bool
-are_bounded capacity es = nat_le (length es) 999 && nat_le (length es) capacity && are_distinct es
+unfoldable pub are_bounded : ℕ → List FlowMod → Bool
+are_bounded capacity flows = nat_le (length flows) 999 && nat_le (length flows) capacity && are_distinct flows
 
 unfoldable pub bounded : Switch → Reply → Result Reply Refusal
-bounded s r = if are_bounded s.capacity (entries_of r.additions) then Ok r else refused
+bounded s r = if are_bounded s.capacity (flows_of r.additions) then Ok r else refused
 
 unfoldable pub reply_of : Switch → List (List ℕ) → Result Reply Refusal
 reply_of s [] = refused

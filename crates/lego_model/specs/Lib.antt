@@ -4,3 +4,10 @@ pub mod Messages
 pub mod Grammar
 pub mod Reference
 pub mod Report
+pub mod SessionWords
+pub mod SessionSteps
+pub mod SessionLines
+pub mod SessionText
+pub mod Journal
+pub mod JournalLaws
+pub mod Answers

@@ -1,6 +1,6 @@
 -- The one message that an application may send so far: a FLOW_MOD that adds an entry with one output.
 -- OpenFlow 1.0.0, 5.3.3 Modify State Messages, and 5.2.4 Flow Action Structures.
-use Rattle.std.specs.Prelude.{◌==◌, ℕ, Bool, false, ◌&&◌, List, [], ◌∷◌, Result, Ok, Err, take, drop, if◌then◌else◌}
+use Rattle.std.specs.Prelude.{◌==◌, ℕ, Bool, false, ◌&&◌, List, [], ◌∷◌, Result, Ok, Err, if◌then◌else◌}
 use Rattle.std.specs.List.{list_any}
 use Rattle.of_action.specs.declared.action.Action.{Action}
 use Rattle.of_action.specs.declared.action.Action.TheVariants.{Output}
@@ -10,7 +10,6 @@ use Rattle.of_wire.specs.declared.message.Message.TheVariants.{FlowMod}
 use Rattle.of_wire.specs.declared.message.Envelope.{Envelope}
 use Rattle.of_wire.specs.declared.fault.WireFault.{WireFault}
 use Rattle.of_wire.specs.Reading.{reading_of}
-use Rattle.flow_table.specs.declared.entry.PlainEntry.{PlainEntry}
 use Rattle.lego_model.specs.Words.{Refusal, refused}
 
 -- a message of 80 bytes: 72 and one action of 8
@@ -27,23 +26,15 @@ send_to ports [] = false
 send_to ports (Output port max_len ∷ []) = list_any (λ p. p == port) ports
 send_to ports (action ∷ actions) = false
 
--- the entry that a message adds, with its action as it was sent
-unfoldable pub entry_of : List ℕ → Modification → PlainEntry
-entry_of bytes flow = record {
-  key = record { priority = flow.priority; matching = flow.matching };
-  cookie = flow.cookie;
-  output = take 8 (drop 72 bytes);
-}
-
-abbrev pub addition_by : List ℕ → List ℕ → Message → Result PlainEntry Refusal
-addition_by ports bytes (FlowMod flow) = if adds_for_good flow && send_to ports flow.actions then Ok (entry_of bytes flow) else refused
-addition_by ports bytes other = refused
+abbrev pub addition_by : List ℕ → Message → Result Modification Refusal
+addition_by ports (FlowMod flow) = if adds_for_good flow && send_to ports flow.actions then Ok flow else refused
+addition_by ports other = refused
 
 -- bytes that spell no message are refused
-abbrev pub addition_read : List ℕ → List ℕ → Result Envelope WireFault → Result PlainEntry Refusal
-addition_read ports bytes (Ok envelope) = addition_by ports bytes envelope.message
-addition_read ports bytes (Err fault) = refused
+abbrev pub addition_read : List ℕ → Result Envelope WireFault → Result Modification Refusal
+addition_read ports (Ok envelope) = addition_by ports envelope.message
+addition_read ports (Err fault) = refused
 
--- the entry that a message adds, at a switch with these ports
-unfoldable pub plain_add : List ℕ → List ℕ → Result PlainEntry Refusal
-plain_add ports bytes = addition_read ports bytes (reading_of bytes)
+-- the FLOW_MOD that bytes spell, where it adds an entry that sends to one of these ports
+unfoldable pub plain_add : List ℕ → List ℕ → Result Modification Refusal
+plain_add ports bytes = addition_read ports (reading_of bytes)

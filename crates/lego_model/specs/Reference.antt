@@ -1,7 +1,7 @@
 -- The reference controller: it runs a session over whole tables, and never sees a turn that failed.
 use Rattle.std.specs.Prelude.{◌==◌, ℕ, ◌+◌, List, [], ◌∷◌, ◌++◌, fold, map, drop, if◌then◌else◌}
-use Rattle.flow_table.specs.declared.entry.PlainEntry.{PlainEntry}
-use Rattle.flow_table.specs.Table.{with_entry}
+use Rattle.flow_table.specs.Table.{TableState, empty_table}
+use Rattle.flow_table.specs.Change.{changed}
 use Rattle.lego_model.specs.declared.turn.Addition.{Addition}
 use Rattle.lego_model.specs.declared.turn.Ending.{Ending}
 use Rattle.lego_model.specs.declared.turn.Ending.TheVariants.{Done, Closed}
@@ -9,7 +9,7 @@ use Rattle.lego_model.specs.Session.{Reply, Stimulus, Join, Session}
 
 -- the flow tables of the switches that are joined, by datapath id
 abbrev pub Tables : Type 0
-Tables = List (ℕ × List PlainEntry)
+Tables = List (ℕ × TableState)
 
 -- what the application is told
 pub data Event : Type 0 where
@@ -34,8 +34,9 @@ pub record State : Type 0 where
 
 -- ---- A turn
 
+-- at moment 0
 abbrev pub add : Tables → Addition → Tables
-add tables a = map (λ t. if t.0 == a.dpid then (t.0, with_entry a.entry t.1) else t) tables
+add tables a = map (λ t. if t.0 == a.dpid then (t.0, changed 0 a.flow t.1) else t) tables
 
 -- a turn that completes leaves what it added, and one that fails leaves nothing
 abbrev pub turn : Tables → Reply → Ending → Tables
@@ -82,7 +83,7 @@ settle s = fold dispatch (record s { queue = [] }) s.queue
 
 -- a switch joins with an empty table
 unfoldable pub stimulate : State → Stimulus → State
-stimulate s (Join dpid) = record s { tables = s.tables ++ (dpid, []) ∷ []; queue = s.queue ++ Joined dpid ∷ [] }
+stimulate s (Join dpid) = record s { tables = s.tables ++ (dpid, empty_table) ∷ []; queue = s.queue ++ Joined dpid ∷ [] }
 
 -- the application is started
 abbrev pub start : Session → State

@@ -6,7 +6,10 @@ use Rattle.hex.specs.Hex.{encode_lower}
 use Rattle.of_match.specs.declared.key.Key.{Key}
 use Rattle.of_match.specs.Match.{fields_in}
 use Rattle.of_match.specs.Text.{match_text}
-use Rattle.flow_table.specs.declared.entry.PlainEntry.{PlainEntry}
+use Rattle.of_action.specs.declared.action.Action.{Action}
+use Rattle.of_action.specs.Spelling.{list_bytes}
+use Rattle.flow_table.specs.declared.entry.Entry.{Entry}
+use Rattle.flow_table.specs.Table.{TableState}
 use Rattle.lego_model.specs.declared.turn.Ending.{Ending}
 use Rattle.lego_model.specs.declared.turn.Ending.TheVariants.{Done, Closed}
 use Rattle.lego_model.specs.Session.{Session}
@@ -41,17 +44,21 @@ flow_head k = codes "flow " ++ decimal k.priority ++ codes " " ++ match_text (fi
 unfoldable pub cookie_text : ℕ → List ℕ
 cookie_text cookie = codes " cookie=" ++ decimal cookie
 
--- what each entry has so far: no timeouts, no flags, and nothing counted
-unfoldable pub nothing_counted : List ℕ
-nothing_counted = codes " idle=0 hard=0 flags=0 packets=0 bytes=0 age=0"
+-- ` idle=I hard=H flags=F`
+unfoldable pub terms_text : Entry → List ℕ
+terms_text e = codes " idle=" ++ decimal e.idle ++ codes " hard=" ++ decimal e.hard ++ codes " flags=" ++ decimal e.flags
+
+-- ` packets=P bytes=B age=0`, at moment 0
+unfoldable pub counts_text : Entry → List ℕ
+counts_text e = codes " packets=" ++ decimal e.packets ++ codes " bytes=" ++ decimal e.bytes ++ codes " age=0"
 
 -- ` actions=HEX`
-unfoldable pub actions_text : List ℕ → List ℕ
-actions_text output = codes " actions=" ++ encode_lower output
+unfoldable pub actions_text : List Action → List ℕ
+actions_text actions = codes " actions=" ++ encode_lower (list_bytes actions)
 
--- `flow PRIORITY MATCH cookie=C idle=0 hard=0 flags=0 packets=0 bytes=0 age=0 actions=HEX`
-unfoldable pub flow_line : PlainEntry → List ℕ
-flow_line e = line_of (flow_head e.key ++ cookie_text e.cookie ++ nothing_counted ++ actions_text e.output)
+-- `flow PRIORITY MATCH cookie=C idle=I hard=H flags=F packets=P bytes=B age=0 actions=HEX`
+unfoldable pub flow_line : Entry → List ℕ
+flow_line e = line_of (flow_head e.key ++ cookie_text e.cookie ++ terms_text e ++ counts_text e ++ actions_text e.actions)
 
 -- `app app alive done D failed F`
 unfoldable pub app_line : ℕ → ℕ → List ℕ
@@ -67,8 +74,8 @@ happened_text (Dispatched number event) = event_line number event
 happened_text (Ended ending) = turn_line ending
 
 -- a joined switch and its flow entries, in key order
-unfoldable pub table_text : ℕ × List PlainEntry → List ℕ
-table_text t = switch_line t.0 (length t.1) ++ flat_map flow_line t.1
+unfoldable pub table_text : ℕ × TableState → List ℕ
+table_text t = switch_line t.0 (length t.1.entries) ++ flat_map flow_line t.1.entries
 
 -- what happened, then the tables, the application and the end
 unfoldable pub state_text : State → List ℕ

@@ -3,6 +3,8 @@
 //! above are proved against these words.
 #![tactic(auto)]
 
+mod session;
 mod turn;
 
+pub use session::{Session, SessionFault, SessionKind};
 pub use turn::{Addition, Ending};

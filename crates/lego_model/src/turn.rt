@@ -1,12 +1,12 @@
-use flow_table::PlainEntry;
+use of_wire::FlowMod;
 
-/// One message of a turn: a flow entry to be added to one switch.
-#[derive(Clone, Copy, Debug, PartialEq, Eq)]
+/// One message of a turn: a FLOW_MOD that adds an entry to one switch.
+#[derive(Drop, Debug, Clone, PartialEq, Eq)]
 pub struct Addition {
     /// The datapath id of the switch (OpenFlow 1.0.0, 5.3.1 Handshake).
     pub dpid: u64,
-    /// The entry that the switch is to have.
-    pub entry: PlainEntry,
+    /// What the switch is sent (OpenFlow 1.0.0, 5.3.3 Modify State Messages).
+    pub flow: FlowMod,
 }
 
 /// How a turn of the application ends.

@@ -1,6 +1,6 @@
 -- A session without where it lies in memory.
 use Rattle.std.specs.Prelude.{ℕ, Bool, true, false, List, [], ◌∷◌, map, Option, Some, None}
-use Rattle.flow_table.specs.declared.entry.PlainEntry.{PlainEntry}
+use Rattle.of_wire.specs.declared.bodies.FlowMod.{FlowMod}
 use Rattle.lego_model.specs.declared.turn.Addition.{Addition}
 use Rattle.lego_model.specs.Session as model
 use Rattle.session_text.specs.declared.session.Switch.{Switch}
@@ -11,15 +11,15 @@ use Rattle.session_text.specs.declared.session.Session.{Session}
 abbrev pub view_switch : Switch → model.Switch
 view_switch s = record { dpid = s.dpid; capacity = s.capacity; ports = s.ports.items }
 
--- an entry that is added to a switch
-abbrev pub addition : ℕ → PlainEntry → Addition
-addition dpid e = record { dpid = dpid; entry = e }
+-- a FLOW_MOD to a switch
+abbrev pub addition : ℕ → FlowMod → Addition
+addition dpid flow = record { dpid = dpid; flow = flow }
 
 abbrev pub view_script : ℕ → Script → model.Reply
-view_script dpid r = record { additions = map (addition dpid) r.entries.items; ending = r.ending }
+view_script dpid r = record { additions = map (addition dpid) r.flows.items; ending = r.ending }
 
 abbrev pub view_reply : ℕ → Reply → model.Reply
-view_reply dpid r = record { additions = map (addition dpid) r.entries.items; ending = r.ending }
+view_reply dpid r = record { additions = map (addition dpid) r.flows.items; ending = r.ending }
 
 -- none or one
 abbrev pub as_list : {A B : Type 0} → (A → B) → Option A → List B

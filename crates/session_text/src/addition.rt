@@ -1,8 +1,8 @@
 //! A message of a turn: `m:DPID:HEX`, where HEX spells a FLOW_MOD that adds one entry.
 
-ghost use Rattle.std.specs.Prelude.{◌≡◌, ◌+◌, ◌≤◌, map};
+ghost use Rattle.std.specs.Prelude.{◌≡◌, true, map, IfOk};
 ghost use Rattle.lego_model.specs.Words.{hex_bytes};
-ghost use Rattle.lego_model.specs.Messages.{adds_for_good as adds_for_good_in, send_to as send_to_in, entry_of as entry_in, addition_by as addition_in_message, plain_add as plain_add_in};
+ghost use Rattle.lego_model.specs.Messages.{adds_for_good as adds_for_good_in, send_to as send_to_in, addition_by as addition_in_message, plain_add as plain_add_in};
 ghost use Rattle.lego_model.specs.Grammar.{addition_in, addition_of as addition_at};
 ghost use Rattle.session_text.specs.Gives.{Gives};
 ghost use Rattle.session_text.specs.View.{view_switch, addition};
@@ -10,9 +10,7 @@ ghost use Rattle.session_text.specs.View.{view_switch, addition};
 use crate::error::SessionError;
 use crate::session::Switch;
 use crate::words::{is, number, split};
-use flow_table::PlainEntry;
 use of_action::{Action, ActionList};
-use of_match::Key;
 use of_types::flows::NO_BUFFER;
 use of_wire::{FlowMod, Message, WireFault, decode};
 use std::alloc::Global;
@@ -54,60 +52,38 @@ fn send_to(ports: &[u16], actions: &ActionList) -> bool
     }
 }
 
-/// The entry that a message adds, with its action as it was sent.
-#[tactic(auto, unfolding(lego_model::specs::Messages::entry_of))]
-fn entry_of(bytes: &[u8; 80], flow: &FlowMod) -> PlainEntry
-    ensures { result ≡ entry_in bytes.now flow.now }
-{
-    let mut output = [0; 8];
-    output.copy_from_slice(&bytes[72..80]);
-    PlainEntry {
-        key: Key {
-            priority: flow.priority,
-            matching: flow.matching,
-        },
-        cookie: flow.cookie,
-        output,
-    }
-}
-
-/// The entry that a message adds at a switch with these ports.
-fn addition_by(
-    ports: &[u16],
-    bytes: &[u8; 80],
-    message: &Message,
-) -> Result<PlainEntry, SessionError>
-    ensures { Gives (λ e. e) result (addition_in_message ports.now bytes.now message.now) }
+/// The FLOW_MOD of a message that adds an entry at a switch with these ports.
+fn addition_by(ports: &[u16], message: Message) -> Result<FlowMod, SessionError>
+    ensures value { Gives (λ flow. flow) result (addition_in_message ports.now message) }
+    ensures for_good { IfOk result (λ flow. adds_for_good_in flow ≡ true) }
 {
     let Message::FlowMod(flow) = message else {
         return Err(SessionError::BadInput);
     };
-    if adds_for_good(flow) && send_to(ports, &flow.actions) {
-        Ok(entry_of(bytes, flow))
+    if adds_for_good(&flow) && send_to(ports, &flow.actions) {
+        Ok(flow)
     } else {
         Err(SessionError::BadInput)
     }
 }
 
-/// The entry that the bytes of a message add at a switch with these ports.
+/// The FLOW_MOD that bytes spell, where it adds an entry at a switch with these ports.
 #[tactic(auto, unfolding(lego_model::specs::Messages::plain_add))]
-fn plain_add(alloc: Global, ports: &[u16], bytes: &[u8; 80]) -> Result<PlainEntry, SessionError>
-    ensures { Gives (λ e. e) result (plain_add_in ports.now bytes.now) }
+fn plain_add(alloc: Global, ports: &[u16], bytes: &[u8; 80]) -> Result<FlowMod, SessionError>
+    ensures value { Gives (λ flow. flow) result (plain_add_in ports.now bytes.now) }
+    ensures for_good { IfOk result (λ flow. adds_for_good_in flow ≡ true) }
 {
     match decode(alloc, bytes) {
-        Ok(envelope) => addition_by(ports, bytes, &envelope.message),
+        Ok(envelope) => addition_by(ports, envelope.message),
         Err(WireFault::NoMemory) => Err(SessionError::NoMemory),
         Err(_) => Err(SessionError::BadInput),
     }
 }
 
-/// The entry that the parts of a step add.
-fn entry_of_parts(
-    alloc: Global,
-    switch: &Switch,
-    parts: &[&[u8]],
-) -> Result<PlainEntry, SessionError>
-    ensures { Gives (addition switch.now.dpid) result (addition_in (view_switch switch.now) (map (λ p. p.now) parts.now)) }
+/// The FLOW_MOD that the parts of a step spell.
+fn flow_of_parts(alloc: Global, switch: &Switch, parts: &[&[u8]]) -> Result<FlowMod, SessionError>
+    ensures value { Gives (addition switch.now.dpid) result (addition_in (view_switch switch.now) (map (λ p. p.now) parts.now)) }
+    ensures for_good { IfOk result (λ flow. adds_for_good_in flow ≡ true) }
 {
     match parts {
         [first, dpid, hex] if is(first, b"m") => {
@@ -119,11 +95,12 @@ fn entry_of_parts(
     }
 }
 
-/// The entry that a step adds: `m:DPID:HEX`, of that switch.
+/// The FLOW_MOD of a step, which adds an entry: `m:DPID:HEX`, of that switch.
 #[tactic(auto, unfolding(lego_model::specs::Grammar::addition_of))]
-pub fn entry_added(alloc: Global, switch: &Switch, step: &[u8]) -> Result<PlainEntry, SessionError>
-    ensures { Gives (addition switch.now.dpid) result (addition_at (view_switch switch.now) step.now) }
+pub fn flow_added(alloc: Global, switch: &Switch, step: &[u8]) -> Result<FlowMod, SessionError>
+    ensures value { Gives (addition switch.now.dpid) result (addition_at (view_switch switch.now) step.now) }
+    ensures for_good { IfOk result (λ flow. adds_for_good_in flow ≡ true) }
 {
     let parts = split(alloc, step, b':')?;
-    entry_of_parts(alloc, switch, &parts)
+    flow_of_parts(alloc, switch, &parts)
 }

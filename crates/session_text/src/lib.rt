@@ -14,7 +14,7 @@ mod tests;
 mod words;
 mod world;
 
-pub use change::{PlainAct, PlainChange};
+pub use change::{PlainAct, PlainChange, key_of};
 pub use error::SessionError;
 pub use input::{MOST_INPUT, read_session};
 pub use session::{Reply, Session, Switch};

@@ -1,16 +1,18 @@
 //! The line that says what the application gives in its turn: `reply app STEP ..`.
 
-ghost use Rattle.std.specs.Prelude.{◌≡◌, ◌≤◌, true, length, map};
+ghost use Rattle.std.specs.Prelude.{◌≡◌, ◌==◌, ◌≤◌, true, length, map};
+ghost use Rattle.of_match.specs.Key.{place};
+ghost use Rattle.flow_table.specs.Change.{key_in};
 ghost use Rattle.lego_model.specs.Grammar.{turn_of as turn_in, reply_of as reply_in, bounded as bounded_in, are_bounded as are_bounded_in, are_distinct as distinct_in, ending_of as ending_in, has_key_of as has_key_in};
 ghost use Rattle.session_text.specs.Gives.{Gives};
 ghost use Rattle.session_text.specs.View.{view_switch, view_script, view_reply};
 
-use crate::addition::entry_added;
+use crate::addition::flow_added;
 use crate::error::SessionError;
 use crate::session::{Reply, Script, Switch};
 use crate::words::is;
-use flow_table::PlainEntry;
 use lego_model::Ending;
+use of_wire::FlowMod;
 use std::alloc::Global;
 
 /// How many messages a turn has at most.
@@ -20,20 +22,20 @@ const MOST_MESSAGES: usize = 999;
 fn turn_of(alloc: Global, switch: &Switch, steps: &[&[u8]]) -> Result<Script, SessionError>
     ensures { Gives (view_script switch.now.dpid) result (turn_in (view_switch switch.now) (map (λ w. w.now) steps.now)) }
 {
-    let mut entries = Vec::new(alloc);
+    let mut flows = Vec::new(alloc);
     let mut rest = steps;
     while let [step, more @ ..] = rest {
         if let Some(ending) = ending_of(step) {
             if !more.is_empty() {
                 return Err(SessionError::BadInput);
             }
-            return Ok(Script { entries, ending });
+            return Ok(Script { flows, ending });
         }
-        entries.push(entry_added(alloc, switch, step)?)?;
+        flows.push(flow_added(alloc, switch, step)?)?;
         rest = more;
     }
     Ok(Script {
-        entries,
+        flows,
         ending: Ending::Closed,
     })
 }
@@ -52,20 +54,27 @@ fn ending_of(step: &[u8]) -> Option<Ending>
     }
 }
 
-/// Whether one of the entries has the key of this one.
-fn has_key_of(entries: &[PlainEntry], entry: &PlainEntry) -> bool
-    ensures { result ≡ has_key_in entry.now entries.now }
+/// Whether two FLOW_MODs name one key.
+fn have_one_key(one: &FlowMod, other: &FlowMod) -> bool
+    ensures { result ≡ (place (key_in one.now) == place (key_in other.now)) }
 {
-    entries.iter().any(|other| other.has_key(&entry.key))
+    one.priority == other.priority && one.matching == other.matching
 }
 
-/// Whether no two entries have one key.
-fn are_distinct(entries: &[PlainEntry]) -> bool
-    ensures { result ≡ distinct_in entries.now }
+/// Whether one of the FLOW_MODs has the key of this one.
+fn has_key_of(flows: &[FlowMod], flow: &FlowMod) -> bool
+    ensures { result ≡ has_key_in flow.now flows.now }
 {
-    let mut rest = entries;
-    while let [entry, more @ ..] = rest {
-        if has_key_of(more, entry) {
+    flows.iter().any(|other| have_one_key(other, flow))
+}
+
+/// Whether no two FLOW_MODs have one key.
+fn are_distinct(flows: &[FlowMod]) -> bool
+    ensures { result ≡ distinct_in flows.now }
+{
+    let mut rest = flows;
+    while let [flow, more @ ..] = rest {
+        if has_key_of(more, flow) {
             return false;
         }
         rest = more;
@@ -86,25 +95,25 @@ pub fn reply_of(alloc: Global, switch: &Switch, words: &[&[u8]]) -> Result<Reply
     }
 }
 
-/// Whether there are at most 999 entries, with different keys, and no more than the switch has room for.
+/// Whether there are at most 999 FLOW_MODs, with different keys, and no more than the switch has room for.
 #[tactic(auto, unfolding(lego_model::specs::Grammar::are_bounded))]
-fn are_bounded(capacity: u32, entries: &[PlainEntry]) -> bool
-    ensures value { result ≡ are_bounded_in capacity entries.now }
-    ensures distinct { result ≡ true → distinct_in entries.now ≡ true }
-    ensures few { result ≡ true → length entries.now ≤ 999 }
+fn are_bounded(capacity: u32, flows: &[FlowMod]) -> bool
+    ensures value { result ≡ are_bounded_in capacity flows.now }
+    ensures distinct { result ≡ true → distinct_in flows.now ≡ true }
+    ensures few { result ≡ true → length flows.now ≤ 999 }
 {
-    let count = entries.len();
-    count <= MOST_MESSAGES && count <= capacity as usize && are_distinct(entries)
+    let count = flows.len();
+    count <= MOST_MESSAGES && count <= capacity as usize && are_distinct(flows)
 }
 
-/// The turn, where its entries are few enough and have different keys.
-#[tactic(auto, using(crate::proofs::Entries::entries_of_additions), unfolding(lego_model::specs::Grammar::bounded))]
+/// The turn, where its FLOW_MODs are few enough and have different keys.
+#[tactic(auto, using(crate::proofs::Flows::flows_of_additions), unfolding(lego_model::specs::Grammar::bounded))]
 fn bounded(switch: &Switch, script: Script) -> Result<Reply, SessionError>
     ensures { Gives (view_reply switch.now.dpid) result (bounded_in (view_switch switch.now) (view_script switch.now.dpid script)) }
 {
-    let Script { entries, ending } = script;
-    if !are_bounded(switch.capacity, &entries) {
+    let Script { flows, ending } = script;
+    if !are_bounded(switch.capacity, &flows) {
         return Err(SessionError::BadInput);
     }
-    Ok(Reply { entries, ending })
+    Ok(Reply { flows, ending })
 }

@@ -1,10 +1,12 @@
 //! A session as it was read.
 
 ghost use Rattle.std.specs.Prelude.{◌≡◌, ◌≤◌, true, vec_len};
+ghost use Rattle.std.specs.List.{AllPass};
+ghost use Rattle.lego_model.specs.Messages.{adds_for_good};
 ghost use Rattle.lego_model.specs.Grammar.{are_distinct};
 
-use flow_table::PlainEntry;
 use lego_model::Ending;
+use of_wire::FlowMod;
 
 /// A switch that a session declares.
 #[derive(Debug, Drop)]
@@ -20,21 +22,23 @@ pub struct Switch {
 /// The steps of a turn, as they are written.
 #[derive(Debug, Drop)]
 pub struct Script {
-    /// The entries that the application adds to the switch, in order.
-    pub entries: Vec<PlainEntry>,
+    /// The FLOW_MODs by which the application adds entries to the switch, in order.
+    pub flows: Vec<FlowMod>,
     /// How the turn ends.
     pub ending: Ending,
+    pub ghost for_good: { AllPass adds_for_good flows.items },
 }
 
 /// What the application gives in one turn: at most 999 entries with different keys.
 #[derive(Debug, Drop)]
 pub struct Reply {
-    /// The entries that it adds to the switch, in order.
-    pub entries: Vec<PlainEntry>,
+    /// The FLOW_MODs by which it adds entries to the switch, in order.
+    pub flows: Vec<FlowMod>,
     /// How it ends.
     pub ending: Ending,
-    pub ghost distinct: { are_distinct entries.items ≡ true },
-    pub ghost few: { vec_len entries ≤ 999 },
+    pub ghost for_good: { AllPass adds_for_good flows.items },
+    pub ghost distinct: { are_distinct flows.items ≡ true },
+    pub ghost few: { vec_len flows ≤ 999 },
 }
 
 /// A session: one switch, at most one scripted turn of the application, and whether the switch joins.

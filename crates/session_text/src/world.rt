@@ -1,17 +1,19 @@
 //! A plain world: the flow table of one switch, and a journal.
 
-ghost use Rattle.std.specs.Prelude.{◌≡◌, ◌+◌, ◌<◌, ◌≤◌, [], ◌∷◌, ◌++◌, vec_len, vec_capacity, IfOk, OnOk, OnErr, IsOk};
-ghost use Rattle.flow_table.specs.Table.{IsTable};
+ghost use Rattle.std.specs.Prelude.{◌≡◌, ◌+◌, ◌-◌, ◌<◌, ◌≤◌, ◌^◌, [], ◌∷◌, ◌++◌, vec_len, vec_capacity, None, IsTrue, IfOk, OnOk, OnErr, IsOk};
+ghost use Rattle.flow_table.specs.Table.{IsTable, IsMoment};
+ghost use Rattle.flow_table.specs.Change.{is_delete, refusal, changed, notices_of};
 ghost use Rattle.session_text.specs.Journal.{table_of, CanChange, IsRemoval, LeavesTable};
 
-use crate::change::{PlainAct, PlainChange};
-use flow_table::{PlainEntry, Table};
+use crate::change::{PlainAct, PlainChange, removal_of};
+use flow_table::{ChangeFault, Entry, Table};
 use of_match::Key;
+use of_wire::FlowMod;
 use std::alloc::{AllocError, Global};
 use std::marker::Model;
 
 /// How many entries the table has at most.
-const ROOM: usize = 4_096;
+const ROOM: u32 = 4_096;
 
 /// The flow table of one switch, with at most 4,096 entries, and a journal of all that was asked, changed
 /// and answered.
@@ -19,6 +21,7 @@ const ROOM: usize = 4_096;
 /// The world is seen as its journal: the table is what the changes of the journal make of an empty one.
 #[derive(Debug, Drop)]
 pub struct PlainWorld {
+    alloc: Global,
     table: Table,
     journal: Vec<PlainAct>,
 }
@@ -41,13 +44,14 @@ impl PlainWorld {
         ensures { IfOk result (λ w. w ≡ []) }
     {
         Ok(PlainWorld {
-            table: Table::with_room(alloc, ROOM)?,
+            alloc,
+            table: Table::new(alloc)?,
             journal: Vec::new(alloc),
         })
     }
 
     /// The entries of the table, in key order.
-    pub fn entries(&self) -> &[PlainEntry]
+    pub fn entries(&self) -> &[Entry]
         ensures all { result.now ≡ table_of self.now }
         ensures in_order { IsTable result.now }
     {
@@ -72,8 +76,8 @@ impl PlainWorld {
 
     /// Changes the table, and notes it as a change of the switch with this datapath id.
     ///
-    /// An addition needs a new key and a table of fewer than 4,096 entries; it makes room in the journal for
-    /// its removal too. A removal needs the key and cannot fail. Want of memory changes nothing.
+    /// An addition is a FLOW_MOD that adds an entry for good; it needs a new key and a table of fewer than
+    /// 4,096 entries, and makes room in the journal for its removal too. A removal needs the key and cannot fail. Want of memory changes nothing.
     pub fn change(&mut self, dpid: u64, change: PlainChange) -> Result<(), AllocError>
         requires { CanChange self.old change }
         ensures ok { OnOk result (self.new ≡ self.old ++ PlainAct.Changed dpid change ∷ []) }
@@ -81,7 +85,7 @@ impl PlainWorld {
         ensures removes { IsRemoval change → IsOk result }
     {
         match change {
-            PlainChange::Add(entry) => self.add(dpid, entry),
+            PlainChange::Add(flow) => self.add(dpid, flow),
             PlainChange::Remove(key) => {
                 self.remove(dpid, key);
                 Ok(())
@@ -90,14 +94,14 @@ impl PlainWorld {
     }
 
     /// Adds an entry, and makes room in the journal for its removal.
-    fn add(&mut self, dpid: u64, entry: PlainEntry) -> Result<(), AllocError>
-        requires { CanChange self.old (PlainChange.Add entry) }
-        ensures ok { OnOk result (self.new ≡ self.old ++ PlainAct.Changed dpid (PlainChange.Add entry) ∷ []) }
+    fn add(&mut self, dpid: u64, flow: FlowMod) -> Result<(), AllocError>
+        requires { CanChange self.old (PlainChange.Add flow) }
+        ensures ok { OnOk result (self.new ≡ self.old ++ PlainAct.Changed dpid (PlainChange.Add flow) ∷ []) }
         ensures err { OnErr result (self.new ≡ self.old) }
     {
         self.journal.reserve(self.table.len() + 2)?;
-        self.table.put(entry).unwrap();
-        let act = PlainAct::Changed(dpid, PlainChange::Add(entry));
+        change_at_first(&mut self.table, &flow)?;
+        let act = PlainAct::Changed(dpid, PlainChange::Add(flow));
         push_in_room(&mut self.journal, act);
         Ok(())
     }
@@ -107,7 +111,8 @@ impl PlainWorld {
         requires { CanChange self.old (PlainChange.Remove key) }
         ensures { self.new ≡ self.old ++ PlainAct.Changed dpid (PlainChange.Remove key) ∷ [] }
     {
-        self.table.remove(&key);
+        let flow = removal_of(self.alloc, key);
+        change_at_first(&mut self.table, &flow).unwrap();
         let act = PlainAct::Changed(dpid, PlainChange::Remove(key));
         push_in_room(&mut self.journal, act);
     }
@@ -121,6 +126,22 @@ impl PlainWorld {
         self.journal.reserve(self.table.len() + 1)?;
         push_in_room(&mut self.journal, act);
         Ok(())
+    }
+}
+
+/// Changes a table at moment 0 by a FLOW_MOD against which nothing stands.
+fn change_at_first(table: &mut Table, flow: &FlowMod) -> Result<(), AllocError>
+    requires moment { IsMoment 0 table.old.entries }
+    requires serials { table.old.next < 2 ^ 64 - 1 }
+    requires taken { refusal 4096 flow.now table.old.entries ≡ None }
+    ensures ok { OnOk result (table.new ≡ changed 0 flow.now table.old) }
+    ensures err { OnErr result (table.new ≡ table.old) }
+    ensures quiet { IsTrue (is_delete flow.now) → notices_of 0 flow.now table.old.entries ≡ [] → IsOk result }
+{
+    match table.change(flow, 0, ROOM) {
+        Ok(_) => Ok(()),
+        Err(ChangeFault::NoMemory) => Err(AllocError),
+        Err(ChangeFault::Refused(_)) => unreachable!(),
     }
 }
 

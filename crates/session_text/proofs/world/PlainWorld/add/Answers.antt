@@ -1,34 +1,53 @@
-use Rattle.std.proofs.Common.{◌≡◌, ◌+◌, ◌<◌, ◌≤◌, List, Result, Ok, Err, OnOk, sym, ap, ◌∙◌, ◌++◌, ◌∷◌, [], length, arith}
-use Rattle.flow_table.specs.declared.entry.PlainEntry.{PlainEntry}
-use Rattle.flow_table.specs.Table.{with_entry}
-use Rattle.flow_table.specs.TableLaws.{length-with_entry-le}
+use Rattle.std.proofs.Common.{◌≡◌, ◌+◌, ◌<◌, ◌≤◌, true, sym, ap, ◌∙◌, ◌++◌, ◌∷◌, [], length, arith}
+use Rattle.std.specs.List.{AllByRecursion}
+use Rattle.of_wire.specs.declared.bodies.FlowMod.{FlowMod}
+use Rattle.flow_table.specs.Table.{TableState}
+use Rattle.flow_table.specs.Change.{changed}
+use Rattle.lego_model.specs.Messages.{adds_for_good}
 use Rattle.session_text.specs.declared.change.PlainChange.TheVariants.{Add}
 use Rattle.session_text.specs.declared.change.PlainAct.TheVariants.{Changed}
-use Rattle.session_text.specs.Journal.{table_of, most_entries}
-use Rattle.session_text.specs.JournalLaws.{table_of-push}
+use Rattle.session_text.specs.Journal.{state_of, most_entries, IsPlain}
+use Rattle.session_text.specs.JournalLaws.{state_of-push}
+use Rattle.session_text.specs.PlainLaws.{changed-add, refusal-add, length-add-le, plain-add, moment-plain}
 use Rattle.session_text.proofs.world.PlainWorld.add.Goals as goal
 
-longer : (new old now : List PlainEntry) (e : PlainEntry) → new ≡ with_entry e old → old ≡ now → length now < most_entries → (length new ≤ most_entries) × (length new ≤ length old + 1)
-longer new old now e put same few =
-    let len = ap length put in
-    let here = ap length same in
-    let more = length-with_entry-le old e in
-    (omega arith, omega arith)
+few : (t s : TableState) → t ≡ s → length s.entries < most_entries → length t.entries < most_entries
+few t s same less = rw same less
 
-from_ok : {T E P : Type 0} (r : Result T E) (x : T) → OnOk r P → r ≡ Ok x → P
-from_ok (Ok y) x p is = p
-from_ok (Err e) x p is = absurd cc
+record Grown (new old : TableState) : Type 0 where
+  plain : AllByRecursion IsPlain new.entries
+  longer : length new.entries ≤ length old.entries + 1
+  next : new.next ≡ old.next + 1
+
+grown : (new old : TableState) (flow : FlowMod) → adds_for_good flow ≡ true → AllByRecursion IsPlain old.entries → new ≡ changed 0 flow old → Grown new old
+grown new old flow good plain is = record {
+  plain = rw is (plain-add old flow good plain);
+  longer = rw is (length-add-le old flow good);
+  next = ap (λ t. t.next) (is ∙ changed-add old flow good);
+}
+
+pub change_at_first-requires : goal.change_at_first-requires
+change_at_first-requires c =
+    let same = c.self.invariant.table_is ∙ ap state_of c.self.view_is in
+    record {
+      moment = moment-plain c.self.inside.table.entries c.self.invariant.plain;
+      serials = omega (arith, c.self.invariant.numbered, c.self.inside.journal.small, c.self.inside.journal.ok.1);
+      taken = refusal-add c.self.inside.table.entries c.args.flow c.requires.0.0 (few c.self.inside.table (state_of c.args.self.now) same c.requires.1);
+    }
 
 pub invariant_of-self-2 : goal.invariant_of-self-2
 invariant_of-self-2 c =
-    let act = Changed c.args.dpid (Add c.args.entry) in
-    let put = from_ok c.put.result _ c.put.ensures.ok c.unwrap.ensures in
-    let grown = longer c.put.new.self.entries c.self.inside.table.entries (table_of c.args.self.now) c.args.entry put (c.self.invariant.table_is ∙ ap table_of c.self.view_is) c.requires.1 in
+    let act = Changed c.args.dpid (Add c.args.flow) in
+    let same = c.self.invariant.table_is ∙ ap state_of c.self.view_is in
+    let less = few c.self.inside.table (state_of c.args.self.now) same c.requires.1 in
+    let is = c.in_ok-change_at_first.ensures.ok in
+    let more = grown c.change_at_first.new.table c.self.inside.table c.args.flow c.requires.0.0 c.self.invariant.plain is in
     record {
       table_is =
-          put ∙ ap (with_entry c.args.entry) c.self.invariant.table_is ∙ sym (table_of-push c.self.inside.journal.items act)
-          ∙ ap (λ journal. table_of (journal ++ act ∷ [])) (sym c.reserve.ensures.items) ∙ sym (ap table_of c.push_in_room.ensures.items);
-      most = grown.0;
-      table_room = omega (arith, c.self.invariant.table_room, c.put.ensures.room);
-      room = omega (arith, c.in_ok-reserve.ensures.ok, grown.1);
+          is ∙ ap (changed 0 c.args.flow) c.self.invariant.table_is ∙ sym (state_of-push c.self.inside.journal.items act)
+          ∙ ap (λ journal. state_of (journal ++ act ∷ [])) (sym c.reserve.ensures.items) ∙ sym (ap state_of c.push_in_room.ensures.items);
+      plain = more.plain;
+      most = omega (arith, more.longer, less);
+      numbered = omega (arith, c.self.invariant.numbered, more.next, c.reserve.ensures.len, c.push_in_room.ensures.len);
+      room = omega (arith, c.in_ok-reserve.ensures.ok, more.longer, c.push_in_room.ensures.len, c.push_in_room.ensures.capacity);
     }

@@ -1,34 +1,70 @@
-use Rattle.std.proofs.Common.{◌≡◌, ◌+◌, ◌≤◌, List, IsSome, subst, sym, ap, ◌∙◌, length, arith}
+use Rattle.std.proofs.Common.{◌≡◌, ◌+◌, ◌≤◌, IsSome, [], Result, Ok, Err, OnOk, refl, sym, ap, ◌∙◌, length, arith}
+use Rattle.std.specs.Bool.{IsTrue}
+use Rattle.std.specs.Result.{IsOk}
+use Rattle.std.specs.List.{AllByRecursion}
 use Rattle.of_match.specs.declared.key.Key.{Key}
-use Rattle.flow_table.specs.declared.entry.PlainEntry.{PlainEntry}
-use Rattle.flow_table.specs.Table.{entry_at, without_key}
-use Rattle.flow_table.specs.TableLaws.{length-without_key-lt}
+use Rattle.of_wire.specs.declared.bodies.FlowMod.{FlowMod}
+use Rattle.flow_table.specs.Table.{TableState, entry_at}
+use Rattle.flow_table.specs.Change.{is_delete, notices_of, changed}
 use Rattle.session_text.specs.declared.change.PlainChange.TheVariants.{Remove}
 use Rattle.session_text.specs.declared.change.PlainAct.TheVariants.{Changed}
-use Rattle.session_text.specs.Journal.{table_of}
-use Rattle.session_text.specs.JournalLaws.{table_of-push}
+use Rattle.session_text.specs.Journal.{state_of, removal_of, IsPlain}
+use Rattle.session_text.specs.JournalLaws.{state_of-push}
+use Rattle.session_text.specs.PlainLaws.{changed-remove, refusal-remove, length-there, length-remove-lt, plain-remove, moment-plain, quiet-remove}
 use Rattle.session_text.proofs.world.PlainWorld.remove.Goals as goal
 
-shorter : (new old now : List PlainEntry) (k : Key) → new ≡ without_key k old → old ≡ now → IsSome (entry_at k now) → length new + 1 ≤ length old
-shorter new old now k removed same there =
-    let len = ap length removed in
-    let here = subst (λ (es : List PlainEntry). IsSome (entry_at k es)) (sym same) there in
-    omega (arith, length-without_key-lt old k here)
+record Shrunk (new old : TableState) : Type 0 where
+  plain : AllByRecursion IsPlain new.entries
+  shorter : length new.entries + 1 ≤ length old.entries
+  next : new.next ≡ old.next
+
+shrunk : (new old now : TableState) (k : Key) → AllByRecursion IsPlain old.entries → new ≡ changed 0 (removal_of k) old → old ≡ now → IsSome (entry_at k now.entries) → Shrunk new old
+shrunk new old now k plain is same there = record {
+  plain = rw is (plain-remove old k plain);
+  shorter = rw is (length-remove-lt old k (rw same there));
+  next = ap (λ t. t.next) (is ∙ changed-remove old k);
+}
+
+some : (old now : TableState) (k : Key) → old ≡ now → IsSome (entry_at k now.entries) → 1 ≤ length old.entries
+some old now k same there = rw same (length-there now.entries k there)
+
+-- a removal that asks for no notice succeeds
+removed : {T E : Type 0} (r : Result T E) (new old : TableState) (m : FlowMod) (k : Key) → m ≡ removal_of k → AllByRecursion IsPlain old.entries → (IsTrue (is_delete m) → notices_of 0 m old.entries ≡ [] → IsOk r) → IsOk r
+unfolding removal_of
+removed r new old m k is plain quiet = quiet (rw is refl) (rw is (quiet-remove old.entries k plain))
+
+from_ok : {T E P : Type 0} (r : Result T E) (x : T) → OnOk r P → r ≡ Ok x → P
+from_ok (Ok y) x p is = p
+from_ok (Err e) x p is = absurd cc
+
+pub change_at_first-requires : goal.change_at_first-requires
+change_at_first-requires c = record {
+  moment = moment-plain c.self.inside.table.entries c.self.invariant.plain;
+  serials = omega (arith, c.self.invariant.numbered, c.self.inside.journal.small, c.self.inside.journal.ok.1);
+  taken = rw c.removal_of-flow.ensures (refusal-remove 4096 c.self.inside.table.entries c.args.key);
+}
+
+pub unwrap-requires : goal.unwrap-requires
+unwrap-requires c =
+    removed c.change_at_first.result c.change_at_first.new.table c.self.inside.table c.removal_of-flow.result c.args.key c.removal_of-flow.ensures c.self.invariant.plain c.change_at_first.ensures.quiet
 
 pub push_in_room-requires : goal.push_in_room-requires
 push_in_room-requires c =
-    let less = shorter c.remove.new.self.entries c.self.inside.table.entries (table_of c.args.self.now) c.args.key c.remove.ensures.entries (c.self.invariant.table_is ∙ ap table_of c.self.view_is) c.requires in
-    omega (arith, c.self.invariant.room, less)
+    let same = c.self.invariant.table_is ∙ ap state_of c.self.view_is in
+    omega (arith, c.self.invariant.room, some c.self.inside.table (state_of c.args.self.now) c.args.key same c.requires)
 
 pub invariant_of-self : goal.invariant_of-self
 invariant_of-self c =
     let act = Changed c.args.dpid (Remove c.args.key) in
-    let less = shorter c.remove.new.self.entries c.self.inside.table.entries (table_of c.args.self.now) c.args.key c.remove.ensures.entries (c.self.invariant.table_is ∙ ap table_of c.self.view_is) c.requires in
+    let same = c.self.invariant.table_is ∙ ap state_of c.self.view_is in
+    let is = from_ok c.change_at_first.result _ c.change_at_first.ensures.ok c.unwrap.ensures ∙ ap (λ m. changed 0 m c.self.inside.table) c.removal_of-flow.ensures in
+    let less = shrunk c.change_at_first.new.table c.self.inside.table (state_of c.args.self.now) c.args.key c.self.invariant.plain is same c.requires in
     record {
       table_is =
-          c.remove.ensures.entries ∙ ap (without_key c.args.key) c.self.invariant.table_is ∙ sym (table_of-push c.self.inside.journal.items act)
-          ∙ sym (ap table_of c.push_in_room.ensures.items);
-      most = omega (arith, c.self.invariant.most, less);
-      table_room = omega (arith, c.self.invariant.table_room, c.remove.ensures.room);
-      room = omega (arith, c.self.invariant.room, less, c.push_in_room.ensures.len, c.push_in_room.ensures.capacity);
+          is ∙ ap (changed 0 (removal_of c.args.key)) c.self.invariant.table_is ∙ sym (state_of-push c.self.inside.journal.items act)
+          ∙ sym (ap state_of c.push_in_room.ensures.items);
+      plain = less.plain;
+      most = omega (arith, c.self.invariant.most, less.shorter);
+      numbered = omega (arith, c.self.invariant.numbered, less.next, c.push_in_room.ensures.len);
+      room = omega (arith, c.self.invariant.room, less.shorter, c.push_in_room.ensures.len, c.push_in_room.ensures.capacity);
     }

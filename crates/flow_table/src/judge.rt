@@ -1,0 +1,31 @@
+//! Who says whether a turn's changes may stand.
+
+ghost use Rattle.std.specs.Prelude.{◌≡◌, List, Bool, true};
+ghost use Rattle.flow_table.specs.declared.view.TableView.{TableView};
+
+use crate::view::TableView;
+
+/// Says of the tables of the joined switches, as applications see them, by switch number ascending, whether
+/// they may stand.
+pub trait Judge {
+    // Which tables it lets stand.
+    ghost accepts: { Self → List TableView → Bool };
+
+    /// Whether these tables may stand.
+    fn allows(&self, tables: &[TableView]) -> bool
+        ensures { result ≡ accepts self.now tables.now };
+}
+
+/// The judge that lets all tables stand.
+#[derive(Clone, Copy, Debug, PartialEq, Eq)]
+pub struct AllowAll;
+
+impl Judge for AllowAll {
+    ghost accepts = { λ _ _. true };
+
+    fn allows(&self, _tables: &[TableView]) -> bool
+        ensures { result ≡ true }
+    {
+        true
+    }
+}

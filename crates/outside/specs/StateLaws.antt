@@ -1,0 +1,73 @@
+-- Laws of the state that a history leaves, and of a world that keeps its word.
+use Rattle.std.specs.Prelude.{◌≡◌, List, [], ◌∷◌, ◌++◌, refl}
+use Rattle.std.proofs.Common.{sym, ap, ◌∙◌, subst}
+use Rattle.flow_table.specs.Switch.{Declared}
+use Rattle.outside.specs.declared.step.WorldStep.{WorldStep}
+use Rattle.outside.specs.Seen.{Given, Seen, Continues}
+use Rattle.outside.specs.State.{State, at_first, after_step, after_steps, state}
+use Rattle.outside.specs.Conforming.{MaySteps, AreDeclaredFrom, Conforming}
+
+-- ---- A longer history
+
+pub after_steps-append : (xs ys : List WorldStep) (s : State) → after_steps (xs ++ ys) s ≡ after_steps ys (after_steps xs s)
+after_steps-append [] ys s = refl
+after_steps-append (x ∷ xs) ys s = after_steps-append xs ys (after_step x s)
+
+-- the state that calls leave which appended these steps
+pub state-append : {Own : Type 0} (old new : Seen Own) (steps : List WorldStep) → new.given ≡ old.given → new.history ≡ old.history ++ steps → state new ≡ after_steps steps (state old)
+unfolding state
+state-append old new steps same longer =
+    ap (λ (xs : List WorldStep). after_steps xs (at_first new.given)) longer
+    ∙ ap (λ (g : Given _). after_steps (old.history ++ steps) (at_first g)) same
+    ∙ after_steps-append old.history steps (at_first old.given)
+
+-- ---- Steps that a world may make, one after the other
+
+pub MaySteps-front : (declared : List Declared) (xs ys : List WorldStep) (s : State) → MaySteps declared (xs ++ ys) s → MaySteps declared xs s
+MaySteps-front declared [] ys s may = tt
+MaySteps-front declared (x ∷ xs) ys s may = (may.0, MaySteps-front declared xs ys (after_step x s) may.1)
+
+pub MaySteps-rest : (declared : List Declared) (xs ys : List WorldStep) (s : State) → MaySteps declared (xs ++ ys) s → MaySteps declared ys (after_steps xs s)
+MaySteps-rest declared [] ys s may = may
+MaySteps-rest declared (x ∷ xs) ys s may = MaySteps-rest declared xs ys (after_step x s) may.1
+
+pub MaySteps-append : (declared : List Declared) (xs ys : List WorldStep) (s : State) → MaySteps declared xs s → MaySteps declared ys (after_steps xs s) → MaySteps declared (xs ++ ys) s
+MaySteps-append declared [] ys s front rest = rest
+MaySteps-append declared (x ∷ xs) ys s front rest = (front.0, MaySteps-append declared xs ys (after_step x s) front.1 rest)
+
+-- ---- A world that keeps its word
+
+-- The steps that were appended to what was seen: what was seen before keeps its word, and they may come then.
+pub Conforming-front : {Own : Type 0} (old new : Seen Own) (steps : List WorldStep) → new.given ≡ old.given → new.history ≡ old.history ++ steps → Conforming new → Conforming old
+Conforming-front old new steps same longer keeps =
+    let may : MaySteps new.given.declared (old.history ++ steps) (at_first new.given) =
+    subst (λ (xs : List WorldStep). MaySteps new.given.declared xs (at_first new.given)) longer keeps.steps in
+    record {
+      declared = subst (λ (g : Given _). AreDeclaredFrom 1 g.declared) same keeps.declared;
+      steps = subst (λ (g : Given _). MaySteps g.declared old.history (at_first g)) same (MaySteps-front new.given.declared old.history steps (at_first new.given) may);
+    }
+
+pub Conforming-rest : {Own : Type 0} (old new : Seen Own) (steps : List WorldStep) → new.given ≡ old.given → new.history ≡ old.history ++ steps → Conforming new → MaySteps old.given.declared steps (state old)
+unfolding state
+Conforming-rest old new steps same longer keeps =
+    let may : MaySteps new.given.declared (old.history ++ steps) (at_first new.given) =
+    subst (λ (xs : List WorldStep). MaySteps new.given.declared xs (at_first new.given)) longer keeps.steps in
+    MaySteps-rest old.given.declared old.history steps (at_first old.given) (subst (λ (g : Given _). MaySteps g.declared (old.history ++ steps) (at_first g)) same may)
+
+-- What was seen may go on by steps that may come.
+pub Conforming-append : {Own : Type 0} (old new : Seen Own) (steps : List WorldStep) → new.given ≡ old.given → new.history ≡ old.history ++ steps → Conforming old → MaySteps old.given.declared steps (state old) → Conforming new
+unfolding state
+Conforming-append old new steps same longer keeps may =
+    let all : MaySteps old.given.declared (old.history ++ steps) (at_first old.given) =
+    MaySteps-append old.given.declared old.history steps (at_first old.given) keeps.steps may in
+    let given_so : MaySteps new.given.declared (old.history ++ steps) (at_first new.given) =
+    subst (λ (g : Given _). MaySteps g.declared (old.history ++ steps) (at_first g)) (sym same) all in
+    record {
+      declared = subst (λ (g : Given _). AreDeclaredFrom 1 g.declared) (sym same) keeps.declared;
+      steps = subst (λ (xs : List WorldStep). MaySteps new.given.declared xs (at_first new.given)) (sym longer) given_so;
+    }
+
+-- Whoever keeps its word later kept it before.
+pub Conforming-before : {Own : Type 0} {Tells : Type 0} {old new : Seen Own} → Tells → Continues Tells old new → Conforming new → Conforming old
+Conforming-before {old = old} {new = new} told later keeps =
+    Conforming-front old new (later.told told).0 later.given (later.told told).1 keeps

@@ -1,0 +1,58 @@
+//! Laws of histories, each the contract of a function that does nothing.
+
+ghost use Rattle.std.specs.Prelude.{◌≡◌, ◌≢◌, ℕ, List, ◌++◌, drop};
+ghost use Rattle.of_types.specs.declared.journal.Act.TheVariants.{Sent, Got};
+ghost use Rattle.of_wire.specs.Reading.{reading_of};
+ghost use Rattle.outside.specs.declared.step.WorldStep.{WorldStep};
+ghost use Rattle.outside.specs.declared.step.WorldStep.TheVariants.{Acted};
+ghost use Rattle.outside.specs.Seen.{Seen, Counts, NoneFell, Continues, LinkHeld, journal};
+ghost use Rattle.outside.specs.State.{State, after_step, after_steps, state, switch_of, waits_of, switch_told, message_sends};
+ghost use Rattle.outside.specs.Conforming.{MaySteps, Conforming};
+
+use crate::world::World;
+
+/// A history that goes on: its journal and its state are those of the front, with the rest behind.
+pub fn longer_history()
+    ensures journal { (xs ys : List WorldStep) → journal (xs ++ ys) ≡ journal xs ++ journal ys }
+    ensures state { (xs ys : List WorldStep) (s : State) → after_steps (xs ++ ys) s ≡ after_steps ys (after_steps xs s) }
+{}
+
+/// Whoever keeps its word at the end of a history kept it at the end of each front of it, and what comes behind
+/// the front may come then.
+pub fn conforming_before<W: World>()
+    ensures front { (old new : Seen W.Own) (steps : List WorldStep) → new.given ≡ old.given
+        → new.history ≡ old.history ++ steps → Conforming new → Conforming old }
+    ensures rest { (old new : Seen W.Own) (steps : List WorldStep) → new.given ≡ old.given
+        → new.history ≡ old.history ++ steps → Conforming new → MaySteps old.given.declared steps (state old) }
+{}
+
+/// Calls after calls: what later calls leave is later, and where nothing failed on a switch over both, nothing
+/// failed over either.
+pub fn later_calls<W: World>()
+    ensures continues { (a b c : Seen W.Own) → Continues W.Tells a b → Continues W.Tells b c → Continues W.Tells a c }
+    ensures first { (d : ℕ) (a b c : Counts) → NoneFell a b → NoneFell b c → LinkHeld d a c → LinkHeld d a b }
+    ensures second { (d : ℕ) (a b c : Counts) → NoneFell a b → NoneFell b c → LinkHeld d a c → LinkHeld d b c }
+{}
+
+/// A message that is sent to a switch moves that one alone, and what it sends then waits behind what waited.
+pub fn sent_moves_one()
+    ensures moved { (d : ℕ) (bytes : List ℕ) (s : State) → switch_of d (after_step (Acted (Sent d bytes)) s)
+        ≡ switch_told (reading_of bytes) (switch_of d s) }
+    ensures waits { (d : ℕ) (bytes : List ℕ) (s : State) → waits_of d (after_step (Acted (Sent d bytes)) s)
+        ≡ waits_of d s ++ message_sends (reading_of bytes) (switch_of d s) }
+    ensures others { (d e : ℕ) (bytes : List ℕ) (s : State) → e ≢ d
+        → switch_of e (after_step (Acted (Sent d bytes)) s) ≡ switch_of e s }
+    ensures others_wait { (d e : ℕ) (bytes : List ℕ) (s : State) → e ≢ d
+        → waits_of e (after_step (Acted (Sent d bytes)) s) ≡ waits_of e s }
+{}
+
+/// A message that is taken from a switch waits no more, and no switch moves.
+pub fn taken_moves_none()
+    ensures waits { (d : ℕ) (bytes : List ℕ) (s : State) → waits_of d (after_step (Acted (Got d bytes)) s)
+        ≡ drop 1 (waits_of d s) }
+    ensures stays { (d : ℕ) (bytes : List ℕ) (s : State) → switch_of d (after_step (Acted (Got d bytes)) s) ≡ switch_of d s }
+    ensures others { (d e : ℕ) (bytes : List ℕ) (s : State) → e ≢ d
+        → switch_of e (after_step (Acted (Got d bytes)) s) ≡ switch_of e s }
+    ensures others_wait { (d e : ℕ) (bytes : List ℕ) (s : State) → e ≢ d
+        → waits_of e (after_step (Acted (Got d bytes)) s) ≡ waits_of e s }
+{}

@@ -1,0 +1,22 @@
+//! The outside of the controller: the one object that stands for the switches and the applications, and the
+//! history that it tells. It brings the judge of a turn's tables along.
+#![tactic(auto)]
+
+mod call;
+mod counting;
+mod faults;
+mod item;
+mod laws;
+mod mute;
+mod step;
+mod world;
+
+pub use call::{CallKind, FailCall};
+pub use counting::Counting;
+pub use faults::{GiveFault, LinkFault, NextFault, OpenFault, Short, StartFault};
+pub use flow_table::{AllowAll, Judge};
+pub use item::{Item, Taken};
+pub use laws::{conforming_before, later_calls, longer_history, sent_moves_one, taken_moves_none};
+pub use mute::Mute;
+pub use step::WorldStep;
+pub use world::World;

@@ -1,0 +1,34 @@
+//! The steps of a history.
+
+use of_types::{Act, ByteList};
+
+/// One step of what happened between the engine and a world: an act of the journal, an item told, or a call that
+/// failed. A call that answered `Short` is no step. A `u64` is a switch's number, in `Moment` seconds from the
+/// start.
+#[derive(Drop, Debug, Clone, PartialEq, Eq)]
+pub enum WorldStep {
+    /// An act of the journal. A `Got` here came by `recv`, and a `Stim` stands where `next` began it.
+    Acted(Act),
+    /// `next` told this message of the switch; the journal has it as `Got`.
+    From(u64, ByteList),
+    /// `next` told that the switch joined, with its FEATURES_REPLY.
+    Joined(u64, ByteList),
+    /// `next` told that the switch left.
+    Left(u64),
+    /// `next` told the moment.
+    Moment(u64),
+    /// `next` told that nothing waits now.
+    Idle,
+    /// `next` told that nothing comes any more.
+    End,
+    /// `open` opened the world.
+    Opened,
+    /// `open` answered `Shut`.
+    NotOpened,
+    /// `next` answered `Failed`.
+    NextFailed,
+    /// `send` to the switch answered `Failed`.
+    SendFailed(u64),
+    /// `recv` from the switch answered `Failed`.
+    RecvFailed(u64),
+}

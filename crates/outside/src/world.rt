@@ -1,0 +1,58 @@
+//! The one object that stands for the switches and the applications.
+
+ghost use Rattle.std.specs.Prelude.{ℕ, ◌<◌, ◌≤◌, length, IsOk};
+ghost use Rattle.of_wire.specs.Reading.{reading_of};
+ghost use Rattle.outside.specs.Seen.{Seen};
+ghost use Rattle.outside.specs.Calls.{most_message, Opens, Nexts, Starts, Gives, Takes, Ends, Sends, Receives};
+
+use crate::faults::{GiveFault, LinkFault, NextFault, OpenFault, Short, StartFault};
+use crate::item::{Item, Taken};
+
+/// The switches and the applications, so that one history orders all that happens between them and the engine.
+/// Applications are named by their index, switches by their number.
+pub trait World {
+    // Whether it tells its history: nothing is of this type where it tells nothing, one value where it tells.
+    ghost Tells: { Type 0 };
+
+    // What else it was given and never changes, as the scripts of applications.
+    ghost Own: { Type 0 };
+
+    // What is seen of it.
+    ghost seen: { Self → Seen Own };
+
+    /// Opens the world, with its switches' connections at this port.
+    fn open(&mut self, port: u16) -> Result<(), OpenFault>
+        ensures { Opens Tells (seen self.old) (seen self.new) result };
+
+    /// What comes next. Where that has bytes, they stand in the front of the buffer.
+    fn next(&mut self, buf: &mut [u8]) -> Result<Item, NextFault>
+        requires { most_message ≤ length buf.old }
+        ensures { Nexts Tells (seen self.old) (seen self.new) result buf.new };
+
+    /// Starts the application by these words.
+    fn start(&mut self, app: u32, words: &[String]) -> Result<(), StartFault>
+        ensures { Starts Tells app (seen self.old) (seen self.new) result };
+
+    /// Gives the bytes to the application.
+    fn give(&mut self, app: u32, bytes: &[u8]) -> Result<(), GiveFault>
+        ensures { Gives Tells app bytes.now (seen self.old) (seen self.new) result };
+
+    /// Takes bytes from the application into the front of the buffer.
+    fn take(&mut self, app: u32, buf: &mut [u8]) -> Result<Taken, Short>
+        requires { 0 < length buf.old }
+        ensures { Takes Tells app (seen self.old) (seen self.new) result buf.new };
+
+    /// Ends the application, if it was started. It takes no memory.
+    fn end(&mut self, app: u32)
+        ensures { Ends Tells app (seen self.old) (seen self.new) };
+
+    /// Sends one message to the switch.
+    fn send(&mut self, dpid: u64, frame: &[u8]) -> Result<(), LinkFault>
+        requires { IsOk (reading_of frame.now) }
+        ensures { Sends Tells dpid frame.now (seen self.old) (seen self.new) result };
+
+    /// Takes one whole message from the switch into the front of the buffer, and answers how many bytes it has.
+    fn recv(&mut self, dpid: u64, buf: &mut [u8]) -> Result<usize, LinkFault>
+        requires { most_message ≤ length buf.old }
+        ensures { Receives Tells dpid (seen self.old) (seen self.new) result buf.new };
+}

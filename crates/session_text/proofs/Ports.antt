@@ -1,0 +1,19 @@
+-- Ports read one by one, and as a whole.
+use Rattle.std.proofs.Common.{◌≡◌, ℕ, Bool, true, false, not, ◌&&◌, List, [], ◌∷◌, length, Result, Ok, Err, nat_le, refl, ap, arith}
+use Rattle.std.specs.List.{list_all}
+use Rattle.lego_model.specs.declared.session.SessionKind.{SessionKind}
+use Rattle.lego_model.specs.declared.session.SessionKind.TheVariants.{Range}
+use Rattle.lego_model.specs.Words.{is_numeral, value_after}
+use Rattle.lego_model.specs.SessionWords.{◌>>=◌, unless, a_number, is_port, are_ports, values_of, ascends}
+use Rattle.session_text.specs.TextGives.{numbers, ports_read}
+
+-- numerals are read where each is a port's number
+numbers_of_numerals : (pieces : List (List ℕ)) → list_all is_numeral pieces ≡ true
+    → numbers 1 65280 pieces ≡ unless (not (list_all is_port (values_of pieces))) Range (Ok (values_of pieces))
+unfolding a_number
+numbers_of_numerals [] all = refl
+numbers_of_numerals (piece ∷ pieces) all = grind (arith, numbers_of_numerals pieces)
+
+pub ports_of_numerals : (pieces : List (List ℕ)) → list_all is_numeral pieces ≡ true
+    → ports_read pieces ≡ unless (not (are_ports (values_of pieces))) Range (Ok (values_of pieces))
+ports_of_numerals pieces all = let read = numbers_of_numerals pieces all in grind arith

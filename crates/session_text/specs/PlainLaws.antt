@@ -1,0 +1,165 @@
+-- What follows about FLOW_MODs that add an entry for good, and about those that remove it again.
+use Rattle.std.proofs.Common.{◌≡◌, ◌≢◌, ◌==◌, ℕ, ◌+◌, ◌<◌, ◌≤◌, Bool, true, false, not, ◌&&◌, nat_le, nat_lt, List, [], ◌∷◌, length, map, filter, Some, None, IsSome, refl, sym, ap, ◌∙◌, arith, inl, inr}
+use Rattle.std.specs.List.{AllByRecursion, list_any}
+use Rattle.std.proofs.lemmas.Bool.{cases_lt, cases_eq, eqb-true}
+use Rattle.std.proofs.lemmas.Bool.Decides.{nat_tests}
+use Rattle.std.proofs.lemmas.List.Elements.{All-from_recursion}
+use Rattle.std.specs.Option.{is_some}
+use Rattle.of_match.specs.declared.key.Key.{Key}
+use Rattle.of_match.specs.Key.{place}
+use Rattle.of_wire.specs.declared.bodies.FlowMod.{FlowMod}
+use Rattle.flow_table.specs.declared.entry.Entry.{Entry}
+use Rattle.flow_table.specs.Table.{TableState, IsMoment, place_of, has_key, entry_at, with_entry}
+use Rattle.flow_table.specs.Change.{key_in, asks_notice, describes, sends_to, deletes, adds, clashes, is_full, refusal, new_entry, entries_after, serial_after, notice, notices_of, changed}
+use Rattle.lego_model.specs.Messages.{adds_for_good}
+use Rattle.session_text.specs.Journal.{removal_of, IsPlain, IsNew}
+use Rattle.session_text.specs.EntryLaws.{without_key, with_entry-before, with_entry-same, with_entry-after, without_key-same, without_key-other, length-with_entry-le, length-without_key-lt, entry_at-with_entry-same, entry_at-with_entry-other, without_key-with_entry}
+
+-- ---- What such a FLOW_MOD says.
+
+first_true : (a b : Bool) → a && b ≡ true → a ≡ true
+first_true true b h = refl
+first_true false b h = absurd cc
+
+second_true : (a b : Bool) → a && b ≡ true → b ≡ true
+second_true true b h = h
+second_true false b h = absurd cc
+
+and_false : (a : Bool) → a && false ≡ false
+and_false true = refl
+and_false false = refl
+
+and_true : (a : Bool) → a && true ≡ a
+and_true true = refl
+and_true false = refl
+
+command_is : (flow : FlowMod) → adds_for_good flow ≡ true → flow.command ≡ 0
+unfolding adds_for_good
+command_is flow good = eqb-true _ _ (first_true _ _ good)
+
+flags_are : (flow : FlowMod) → adds_for_good flow ≡ true → flow.flags ≡ 0
+unfolding adds_for_good
+flags_are flow good =
+    let timeless = second_true (flow.idle == 0) _ (second_true (flow.command == 0) _ good) in
+    eqb-true _ _ (second_true (flow.buffer_id == 0xffffffff) _ (second_true (flow.hard == 0) _ timeless))
+
+-- ---- An entry that is added.
+
+-- the entry at moment 0
+abbrev pub plain_entry : ℕ → FlowMod → Entry
+plain_entry serial flow = new_entry 0 serial flow
+
+pub changed-add : (t : TableState) (flow : FlowMod) → adds_for_good flow ≡ true → changed 0 flow t ≡ record { entries = with_entry (plain_entry t.next flow) t.entries; next = t.next + 1 }
+unfolding changed entries_after adds
+changed-add t flow good = rw (command_is flow good) refl
+
+-- nothing stands against it
+pub refusal-add : (es : List Entry) (flow : FlowMod) → adds_for_good flow ≡ true → length es < 4096 → refusal 4096 flow es ≡ None
+unfolding refusal adds clashes is_full
+refusal-add es flow good few =
+    let room : nat_le 4096 (length es) ≡ false = grind (arith, nat_tests) in
+    rw (command_is flow good, flags_are flow good, room, and_false (not (list_any (has_key (key_in flow)) es))) refl
+
+key_of-entry : (serial : ℕ) (flow : FlowMod) → (plain_entry serial flow).key ≡ key_in flow
+unfolding new_entry
+key_of-entry serial flow = refl
+
+-- the entries grow by one at most
+pub length-add-le : (t : TableState) (flow : FlowMod) → adds_for_good flow ≡ true → length (changed 0 flow t).entries ≤ length t.entries + 1
+length-add-le t flow good = rw (changed-add t flow good) (length-with_entry-le t.entries (plain_entry t.next flow))
+
+-- the entry is there
+pub entry_at-add-same : (t : TableState) (flow : FlowMod) → adds_for_good flow ≡ true → IsSome (entry_at (key_in flow) (changed 0 flow t).entries)
+entry_at-add-same t flow good =
+    let e = plain_entry t.next flow in
+    rw (changed-add t flow good, sym (key_of-entry t.next flow), entry_at-with_entry-same t.entries e) refl
+
+-- and what stands at another key stays
+pub entry_at-add-other : (t : TableState) (flow : FlowMod) (k : Key) → adds_for_good flow ≡ true → place (key_in flow) ≢ place k → entry_at k (changed 0 flow t).entries ≡ entry_at k t.entries
+entry_at-add-other t flow k good other =
+    let e = plain_entry t.next flow in
+    let differ : place_of e ≢ place k = rw (key_of-entry t.next flow) other in
+    ap (λ s. entry_at k s.entries) (changed-add t flow good) ∙ entry_at-with_entry-other t.entries e k differ
+
+-- ---- An entry that is removed.
+
+kept_alike : (k : Key) (es : List Entry) → filter (λ e. not (deletes (removal_of k) e)) es ≡ without_key k es
+unfolding removal_of describes sends_to
+kept_alike k [] = refl
+kept_alike k (e ∷ es) = rw (and_true (place e.key == place k), kept_alike k es) refl
+
+pub changed-remove : (t : TableState) (k : Key) → changed 0 (removal_of k) t ≡ record { entries = without_key k t.entries; next = t.next }
+unfolding changed entries_after adds removal_of
+changed-remove t k = ap (λ es. record { entries = es; next = t.next }) (kept_alike k t.entries)
+
+pub refusal-remove : (cap : ℕ) (es : List Entry) (k : Key) → refusal cap (removal_of k) es ≡ None
+unfolding refusal adds removal_of
+refusal-remove cap es k = refl
+
+none_asks : (m : FlowMod) (es : List Entry) → AllByRecursion IsPlain es → filter (λ e. deletes m e && asks_notice e.flags) es ≡ []
+none_asks m [] plain = refl
+none_asks m (e ∷ es) plain = rw (plain.0.flags, and_false (deletes m e)) (none_asks m es plain.1)
+
+-- no notice is asked for
+pub quiet-remove : (es : List Entry) (k : Key) → AllByRecursion IsPlain es → notices_of 0 (removal_of k) es ≡ []
+unfolding notices_of removal_of
+quiet-remove es k plain = ap (map (notice 2 0)) (none_asks (removal_of k) es plain)
+
+-- the entry that was added under a new key is taken out, and no other
+pub remove-add : (t s : TableState) (flow : FlowMod) → IsNew t.entries flow → s.entries ≡ (changed 0 flow t).entries → (changed 0 (removal_of (key_in flow)) s).entries ≡ t.entries
+unfolding new_entry
+remove-add t s flow new is =
+    let e = plain_entry t.next flow in
+    let added : s.entries ≡ with_entry e t.entries = is ∙ ap (λ x. x.entries) (changed-add t flow new.0) in
+    ap (λ x. x.entries) (changed-remove s (key_in flow)) ∙ ap (without_key (key_in flow)) added ∙ without_key-with_entry t.entries e new.1
+
+-- what is there is one at least
+pub length-there : (es : List Entry) (k : Key) → IsSome (entry_at k es) → 1 ≤ length es
+length-there es k there = omega (arith, length-without_key-lt es k there)
+
+pub length-remove-lt : (t : TableState) (k : Key) → IsSome (entry_at k t.entries) → length (changed 0 (removal_of k) t).entries + 1 ≤ length t.entries
+length-remove-lt t k there = rw (changed-remove t k) (length-without_key-lt t.entries k there)
+
+-- ---- Tables of such entries.
+
+plain-entry : (serial : ℕ) (flow : FlowMod) → adds_for_good flow ≡ true → IsPlain (plain_entry serial flow)
+unfolding new_entry
+plain-entry serial flow good = record { installed = refl; used = refl; flags = rw (flags_are flow good) refl }
+
+plain-with_entry : (es : List Entry) (e : Entry) → IsPlain e → AllByRecursion IsPlain es → AllByRecursion IsPlain (with_entry e es)
+plain-with_entry [] e new plain = (new, tt)
+plain-with_entry (f ∷ fs) e new plain =
+    elim (cases_lt (place_of e) (place_of f)) [
+      | inl lt ↦ rw (with_entry-before e f fs lt) (new, plain)
+      | inr ge ↦ elim (cases_lt (place_of f) (place_of e)) [
+        | inl gt ↦ rw (with_entry-after e f fs gt) (plain.0, plain-with_entry fs e new plain.1)
+        | inr le ↦ let same : place_of e ≡ place_of f = omega arith in rw (with_entry-same e f fs same) (new, plain.1)
+      ]
+    ]
+
+plain-without_key : (es : List Entry) (k : Key) → AllByRecursion IsPlain es → AllByRecursion IsPlain (without_key k es)
+plain-without_key [] k plain = tt
+plain-without_key (f ∷ fs) k plain =
+    elim (cases_eq (place_of f) (place k)) [
+      | inl same ↦ rw (without_key-same k f fs same) (plain-without_key fs k plain.1)
+      | inr other ↦ rw (without_key-other k f fs other) (plain.0, plain-without_key fs k plain.1)
+    ]
+
+all_weaker : (P : Entry → Type 0) → ((e : Entry) → IsPlain e → P e) → (es : List Entry) → AllByRecursion IsPlain es → AllByRecursion P es
+all_weaker P weaker [] plain = tt
+all_weaker P weaker (e ∷ es) plain = (weaker e plain.0, all_weaker P weaker es plain.1)
+
+pub plain-add : (t : TableState) (flow : FlowMod) → adds_for_good flow ≡ true → AllByRecursion IsPlain t.entries → AllByRecursion IsPlain (changed 0 flow t).entries
+plain-add t flow good plain =
+    let e = plain_entry t.next flow in
+    rw (changed-add t flow good) (plain-with_entry t.entries e (plain-entry t.next flow good) plain)
+
+pub plain-remove : (t : TableState) (k : Key) → AllByRecursion IsPlain t.entries → AllByRecursion IsPlain (changed 0 (removal_of k) t).entries
+plain-remove t k plain = rw (changed-remove t k) (plain-without_key t.entries k plain)
+
+pub moment-plain : (es : List Entry) → AllByRecursion IsPlain es → IsMoment 0 es
+moment-plain es plain = record {
+  within = omega arith;
+  installed = All-from_recursion _ es (all_weaker (λ e. e.installed ≤ 0) (λ e p. omega (arith, p.installed)) es plain);
+  used = All-from_recursion _ es (all_weaker (λ e. e.used ≤ 0) (λ e p. omega (arith, p.used)) es plain);
+}

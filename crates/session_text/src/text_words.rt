@@ -1,0 +1,209 @@
+//! The words of a session text, each with its first fault.
+
+ghost use Rattle.std.specs.Prelude.{◌≡◌, ◌==◌, ◌≤◌, ◌^◌, ◌%◌, ◌*◌, ◌&&◌, not, ℕ, List, IfOk, MatchOption, map, true, false, length, string_bytes};
+ghost use Rattle.std.specs.Char.{is_ascii_digit};
+ghost use Rattle.std.specs.List.{list_all};
+ghost use Rattle.lego_model.specs.Words.{is_numeral as is_numeral_in, leads_with_zero as zero_leads, value_after};
+ghost use Rattle.lego_model.specs.SessionWords.{a_number as a_number_in, is_sized, some_bytes as some_bytes_in, ascends as ascends_in, listed_ports as listed_ports_in, some_ports as some_ports_in, place_among, an_app as an_app_in, before, behind, has_mark};
+ghost use Rattle.session_text.specs.TextGives.{Gives, numbers as numbers_in, ordered, ports_read};
+
+use crate::text_fault::LineFault;
+use crate::words::{is, split};
+use lego_model::SessionKind;
+use std::alloc::Global;
+
+/// How many ports a switch has at most.
+const MOST_PORTS: usize = 64;
+
+/// The greatest number of a physical port (OpenFlow 1.0.0, 5.2.1 Port Structures; we stop at 0xff00).
+const LAST_PORT: u64 = 65_280;
+
+/// Whether a word of two digits or more begins with `0`.
+fn leads_with_zero(word: &[u8]) -> bool
+    ensures { result ≡ zero_leads word.now }
+{
+    matches!(word, [b'0', _, ..])
+}
+
+/// Whether each byte is a digit.
+fn all_digits(word: &[u8]) -> bool
+    ensures { result ≡ list_all is_ascii_digit word.now }
+{
+    word.iter().all(|byte| byte.is_ascii_digit())
+}
+
+/// Whether a word is a decimal number, without a leading zero but for `0` itself.
+#[tactic(auto, unfolding(lego_model::specs::Words::is_numeral))]
+fn is_numeral(word: &[u8]) -> bool
+    ensures value { result ≡ is_numeral_in word.now }
+    ensures digits { result ≡ true → list_all is_ascii_digit word.now ≡ true }
+{
+    !word.is_empty() && !leads_with_zero(word) && all_digits(word)
+}
+
+/// The number that digits spell, or `None` where it does not fit 64 bits.
+fn value_of(digits: &[u8]) -> Option<u64>
+    requires { list_all is_ascii_digit digits.now ≡ true }
+    ensures { MatchOption result (2 ^ 64 ≤ value_after 0 digits.now) (λ value. value ≡ value_after 0 digits.now) }
+{
+    let mut value: u64 = 0;
+    for digit in digits {
+        value = value
+            .checked_mul(10)?
+            .checked_add(u64::from(*digit - b'0'))?;
+    }
+    Some(value)
+}
+
+/// The number that a word spells, from `least` to `most`. A number has any length; what is beyond is out of
+/// range, and what is no number is told first.
+#[tactic(auto, unfolding(lego_model::specs::SessionWords::a_number))]
+pub fn a_number(word: &[u8], least: u64, most: u64) -> Result<u64, LineFault>
+    ensures value { Gives (λ n. n) result (a_number_in least most word.now) }
+    ensures within { IfOk result (λ n. (least ≤ n) × (n ≤ most)) }
+{
+    if !is_numeral(word) {
+        return Err(LineFault::Kind(SessionKind::Number));
+    }
+    match value_of(word) {
+        Some(value) if least <= value && value <= most => Ok(value),
+        _ => Err(LineFault::Kind(SessionKind::Range)),
+    }
+}
+
+/// Whether the number of digits is even, and so half of it, the number of bytes, is known and not one from
+/// `least` to `most`.
+fn has_wrong_size(word: &[u8], least: usize, most: usize) -> bool
+    ensures { result ≡ (length word.now % 2 == 0 && not (is_sized least most (length word.now))) }
+{
+    let size = word.len() / 2;
+    word.len() % 2 == 0 && (size < least || most < size)
+}
+
+/// The bytes that hexadecimal digits of either case spell, from `least` to `most` of them and at least one.
+/// Where the number of digits is even, the number of bytes is tested first.
+#[tactic(auto, using(crate::proofs::Sizes::sized), unfolding(lego_model::specs::SessionWords::some_bytes))]
+pub fn some_bytes(
+    alloc: Global,
+    word: &[u8],
+    least: usize,
+    most: usize,
+) -> Result<Vec<u8>, LineFault>
+    ensures value { Gives (λ v. v.items) result (some_bytes_in least most word.now) }
+    ensures within { IfOk result (λ v. (least ≤ length v.items) × (length v.items ≤ most)) }
+{
+    if has_wrong_size(word, least, most) {
+        return Err(LineFault::Kind(SessionKind::Range));
+    }
+    if word.is_empty() {
+        return Err(LineFault::Kind(SessionKind::Hex));
+    }
+    match hex::decode(alloc, word) {
+        Ok(bytes) => Ok(bytes),
+        Err(hex::FromHexError::OutOfMemory) => Err(LineFault::NoMemory),
+        Err(_) => Err(LineFault::Kind(SessionKind::Hex)),
+    }
+}
+
+/// Whether each word is a decimal number.
+fn are_numerals(words: &[&[u8]]) -> bool
+    ensures { result ≡ list_all is_numeral_in (map (λ w. w.now) words.now) }
+{
+    for word in words {
+        if !is_numeral(word) {
+            return false;
+        }
+    }
+    true
+}
+
+/// Port numbers, each a word of its own.
+fn port_numbers(alloc: Global, words: &[&[u8]]) -> Result<Vec<u16>, LineFault>
+    ensures { Gives (λ v. v.items) result (numbers_in 1 65280 (map (λ w. w.now) words.now)) }
+{
+    let mut ports = Vec::new(alloc);
+    for word in words {
+        ports.push(a_number(word, 1, LAST_PORT)? as u16)?;
+    }
+    Ok(ports)
+}
+
+/// Whether each number is below the next.
+fn ascends(ports: &[u16]) -> bool
+    ensures { result ≡ ascends_in ports.now }
+{
+    for at in 1..ports.len() {
+        if ports[at] <= ports[at - 1] {
+            return false;
+        }
+    }
+    true
+}
+
+/// The ports, where they ascend and are at most 64.
+fn in_order(ports: Vec<u16>) -> Result<Vec<u16>, LineFault>
+    ensures { Gives (λ v. v.items) result (ordered ports.items) }
+{
+    if ascends(&ports) && ports.len() <= MOST_PORTS {
+        Ok(ports)
+    } else {
+        Err(LineFault::Kind(SessionKind::Range))
+    }
+}
+
+/// The ports that the pieces of a word list, each a number.
+fn ports_listed(alloc: Global, pieces: &[&[u8]]) -> Result<Vec<u16>, LineFault>
+    ensures { Gives (λ v. v.items) result (ports_read (map (λ w. w.now) pieces.now)) }
+{
+    in_order(port_numbers(alloc, pieces)?)
+}
+
+/// The ports that the pieces of a word list.
+#[tactic(auto, using(crate::proofs::Ports::ports_of_numerals), unfolding(lego_model::specs::SessionWords::listed_ports))]
+fn listed_ports(alloc: Global, pieces: &[&[u8]]) -> Result<Vec<u16>, LineFault>
+    ensures { Gives (λ v. v.items) result (listed_ports_in (map (λ w. w.now) pieces.now)) }
+{
+    if are_numerals(pieces) {
+        ports_listed(alloc, pieces)
+    } else {
+        Err(LineFault::Kind(SessionKind::Number))
+    }
+}
+
+/// The ports that a word lists: `-`, or at most 64 ascending numbers from 1 to 65,280 joined by `,`.
+#[tactic(auto, unfolding(lego_model::specs::SessionWords::some_ports))]
+pub fn some_ports(alloc: Global, word: &[u8]) -> Result<Vec<u16>, LineFault>
+    ensures { Gives (λ v. v.items) result (some_ports_in word.now) }
+{
+    if is(word, b"-") {
+        return Ok(Vec::new(alloc));
+    }
+    let pieces = split(alloc, word, b',')?;
+    listed_ports(alloc, &pieces)
+}
+
+/// The place of an application among the names. A place that does not fit 32 bits is want of memory.
+#[tactic(auto, unfolding(lego_model::specs::SessionWords::an_app))]
+pub fn an_app(names: &[String], word: &[u8]) -> Result<u32, LineFault>
+    ensures { Gives (λ n. n) result (an_app_in (map (λ s. string_bytes s) names.now) word.now) }
+{
+    for (place, name) in names.iter().enumerate() {
+        if is(word, name.as_bytes()) {
+            return u32::try_from(place).map_err(|_| LineFault::NoMemory);
+        }
+    }
+    Err(LineFault::Kind(SessionKind::App))
+}
+
+/// What stands before and behind the first such byte.
+pub fn cut_at(word: &[u8], mark: u8) -> Option<(&[u8], &[u8])>
+    ensures { MatchOption result (has_mark mark word.now ≡ false)
+        (λ parts. (has_mark mark word.now ≡ true) × (parts.0.now ≡ before mark word.now) × (parts.1.now ≡ behind mark word.now)) }
+{
+    for at in 0..word.len() {
+        if word[at] == mark {
+            return Some((&word[..at], &word[at + 1..]));
+        }
+    }
+    None
+}
