@@ -1,6 +1,6 @@
 -- Which messages a simulated switch refuses, and by which error (OpenFlow 1.0.0, 5.4.4 Error Message). The names of the errors are
 -- the standard's. Which error answers which message, and that the first refusal is the one that is answered, is our own choice.
-use Rattle.std.specs.Prelude.{◌==◌, ℕ, ◌/◌, ◌%◌, Bool, true, false, not, ◌||◌, List, [], ◌∷◌, length, Option, Some, None, nat_lt, if◌then◌else◌}
+use Rattle.std.specs.Prelude.{◌==◌, ℕ, ◌/◌, ◌%◌, Bool, true, false, not, ◌&&◌, ◌||◌, List, [], ◌∷◌, length, Option, Some, None, nat_lt, if◌then◌else◌}
 use Rattle.std.specs.Str.{bytes_eq}
 use Rattle.of_types.specs.declared.errors.OfError.{OfError}
 use Rattle.of_action.specs.declared.action.Action.{Action}
@@ -29,25 +29,23 @@ no_buffer = 0xffffffff
 -- ---- Actions (5.2.4 Flow Action Structures)
 
 -- An OUTPUT may go to a number that was a port since the switch joined, so that an entry of a port that is gone can be added
--- again, and to IN_PORT, FLOOD, ALL and CONTROLLER.
-unfoldable pub is_flow_output : SwitchState → ℕ → Bool
-is_flow_output s port =
-    was_port port s.had || port == in_port_number || port == flood_number || port == all_number || port == controller_number
+-- again, and to IN_PORT, FLOOD, ALL and CONTROLLER; in a PACKET_OUT also to TABLE (5.3.6 Send Packet Message).
+unfoldable pub is_output : Bool → List ℕ → ℕ → Bool
+is_output takes_table had port =
+    was_port port had || port == in_port_number || port == flood_number || port == all_number || port == controller_number
+    || (takes_table && port == table_number)
 
--- in a PACKET_OUT also to TABLE (5.3.6 Send Packet Message)
-unfoldable pub is_packet_output : SwitchState → ℕ → Bool
-is_packet_output s port = port == table_number || is_flow_output s port
-
-abbrev pub action_refusal : (ℕ → Bool) → Action → Option OfError
-action_refusal is_output (Output port max_len) = if is_output port then None else Some bad_out_port
-action_refusal is_output (Enqueue port queue) = Some action_bad_type
-action_refusal is_output (VendorAction body) = Some action_bad_vendor
-action_refusal is_output other = None
+abbrev pub action_refusal : Bool → List ℕ → Action → Option OfError
+action_refusal takes_table had (Output port max_len) = if is_output takes_table had port then None else Some bad_out_port
+action_refusal takes_table had (Enqueue port queue) = Some action_bad_type
+action_refusal takes_table had (VendorAction body) = Some action_bad_vendor
+action_refusal takes_table had other = None
 
 -- the refusal of the first action that is refused
-unfoldable pub actions_refusal : (ℕ → Bool) → List Action → Option OfError
-actions_refusal is_output [] = None
-actions_refusal is_output (action ∷ actions) = or_else (action_refusal is_output action) (actions_refusal is_output actions)
+unfoldable pub actions_refusal : Bool → List ℕ → List Action → Option OfError
+actions_refusal takes_table had [] = None
+actions_refusal takes_table had (action ∷ actions) =
+    or_else (action_refusal takes_table had action) (actions_refusal takes_table had actions)
 
 -- ---- FLOW_MOD (5.3.3 Modify State Messages)
 
@@ -61,23 +59,27 @@ abbrev pub most_action_bytes : ℕ
 most_action_bytes = 65432
 
 -- what stands against an addition or a modification beside the table: a buffer, too many bytes of actions, an action
-unfoldable pub actions_of_flow_refusal : SwitchState → FlowModBody → Option OfError
-actions_of_flow_refusal s m =
+unfoldable pub flow_actions_refusal : List ℕ → FlowModBody → Option OfError
+flow_actions_refusal had m =
     if not (m.buffer_id == no_buffer) then Some buffer_unknown
     else if nat_lt most_action_bytes (list_size m.actions) then Some bad_len
-    else actions_refusal (is_flow_output s) m.actions
+    else actions_refusal false had m.actions
 
-unfoldable pub flow_mod_refusal : SwitchState → FlowModBody → Option OfError
-flow_mod_refusal s m =
+-- what stands against a FLOW_MOD beside the table
+unfoldable pub flow_refusal : List ℕ → FlowModBody → Option OfError
+flow_refusal had m =
     if is_emergency m.flags then Some flow_eperm
     else if nat_lt 4 m.command then Some bad_command
     else if is_delete m then None
-    else or_else (actions_of_flow_refusal s m) (refusal s.declared.cap m s.table.entries)
+    else flow_actions_refusal had m
+
+abbrev pub flow_mod_refusal : SwitchState → FlowModBody → Option OfError
+flow_mod_refusal s m = or_else (flow_refusal s.had m) (refusal s.declared.cap m s.table.entries)
 
 -- ---- PACKET_OUT (5.3.6 Send Packet Message): the switch has no buffers
 
-unfoldable pub packet_out_refusal : SwitchState → PacketOutBody → Option OfError
-packet_out_refusal s m = if not (m.buffer_id == no_buffer) then Some buffer_unknown else actions_refusal (is_packet_output s) m.actions
+unfoldable pub packet_out_refusal : List ℕ → PacketOutBody → Option OfError
+packet_out_refusal had m = if not (m.buffer_id == no_buffer) then Some buffer_unknown else actions_refusal true had m.actions
 
 -- ---- PORT_MOD (5.3.3 Modify State Messages: Port Modification Message)
 
@@ -85,7 +87,7 @@ abbrev pub port_refusal : ℕ → List ℕ → Option PortState → Option OfErr
 port_refusal dpid address None = Some bad_port
 port_refusal dpid address (Some p) = if bytes_eq address (hw_addr dpid p.number) then None else Some bad_hw_addr
 
-unfoldable pub port_mod_refusal : SwitchState → PortModBody → Option OfError
+abbrev pub port_mod_refusal : SwitchState → PortModBody → Option OfError
 port_mod_refusal s m = port_refusal s.declared.dpid m.hw_addr (port_at m.port_no s.ports)
 
 -- ---- SET_CONFIG (5.3.2 Switch Configuration): fragments are not handled
@@ -109,7 +111,7 @@ stats_refusal m =
 
 unfoldable pub message_refusal : SwitchState → Message → Option OfError
 message_refusal s (FlowMod m) = flow_mod_refusal s m
-message_refusal s (PacketOut m) = packet_out_refusal s m
+message_refusal s (PacketOut m) = packet_out_refusal s.had m
 message_refusal s (PortMod m) = port_mod_refusal s m
 message_refusal s (SetConfig c) = config_refusal c
 message_refusal s (StatsRequest m) = stats_refusal m

@@ -1,0 +1,4 @@
+pub mod Words
+pub mod PartLaws
+pub mod SumLaws
+pub mod RowLaws
