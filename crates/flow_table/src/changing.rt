@@ -256,6 +256,7 @@ pub(crate) fn apply(
     ensures next { OnOk result (next.new ≡ (if adds m.now entries.old.items then next.old + 1 else next.old)) }
     ensures err { OnErr result (entries.new.items ≡ entries.old.items) }
     ensures next_err { OnErr result (next.new ≡ next.old) }
+    ensures rise { next.new ≤ next.old + 1 }
     ensures quiet { OnErr result (IsTrue (is_delete m.now) → notices_of now m.now entries.old.items ≢ []) }
 {
     if adding {

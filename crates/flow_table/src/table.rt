@@ -1,6 +1,6 @@
 //! A flow table.
 
-ghost use Rattle.std.specs.Prelude.{◌≡◌, ◌≢◌, ◌↔◌, ◌<◌, ◌+◌, ◌-◌, ◌^◌, [], length, slice_get, Some, IsTrue, IsOk, IfOk, OnOk, OnErr, if◌then◌else◌};
+ghost use Rattle.std.specs.Prelude.{◌≡◌, ◌≢◌, ◌↔◌, ◌<◌, ◌≤◌, ◌+◌, ◌-◌, ◌^◌, [], length, slice_get, Some, IsTrue, IsOk, IfOk, OnOk, OnErr, if◌then◌else◌};
 ghost use Rattle.flow_table.specs.Table.{IsTable, IsMoment, IsPositionOf, empty_table};
 ghost use Rattle.flow_table.specs.Change.{Answers, is_delete, adds, refusal, changed, entries_after, notices_of};
 ghost use Rattle.flow_table.specs.Hit.{best, hit, with_counts};
@@ -24,8 +24,8 @@ use std::marker::Model;
 /// The flow table of a switch: its entries in key order, each key once (OpenFlow 1.0.0, 3.1 Flow Table).
 ///
 /// Key order is priority descending, then the 40 bytes of the match ascending. Each new entry gets the next
-/// serial. Moments are in seconds and at most 4,294,967,295; a call that is given one needs that no entry was
-/// put in or used after it. After a refusal and want of memory the table is as before.
+/// serial. Moments are in seconds and at most 4,294,967,295; `expire` needs that no entry was put in or used
+/// after the moment. After a refusal and want of memory the table is as before.
 #[derive(Debug, Drop)]
 pub struct Table {
     alloc: Global,
@@ -62,11 +62,11 @@ impl Table {
     /// BAD_COMMAND, OVERLAP and ALL_TABLES_FULL that stands against the change. A DELETE that gives no notice
     /// takes no memory.
     pub fn change(&mut self, m: &FlowMod, now: u64, cap: u32) -> Result<NoticeList, ChangeFault>
-        requires now { IsMoment now self.old.entries }
         requires serials { self.old.next < 2 ^ 64 - 1 }
         ensures answer { Answers result (refusal cap m.now self.old.entries) (notices_of now m.now self.old.entries) }
         ensures ok { OnOk result (self.new ≡ changed now m.now self.old) }
         ensures err { OnErr result (self.new ≡ self.old) }
+        ensures rise { self.new.next ≤ self.old.next + 1 }
         ensures quiet { IsTrue (is_delete m.now) → notices_of now m.now self.old.entries ≡ [] → IsOk result }
     {
         change_entries(self.alloc, &mut self.entries, &mut self.next, m, now, cap)
@@ -163,6 +163,7 @@ fn change_entries(
     ensures next { OnOk result (next.new ≡ (if adds m.now entries.old.items then next.old + 1 else next.old)) }
     ensures err { OnErr result (entries.new.items ≡ entries.old.items) }
     ensures next_err { OnErr result (next.new ≡ next.old) }
+    ensures rise { next.new ≤ next.old + 1 }
     ensures quiet { OnErr result (IsTrue (is_delete m.now) → notices_of now m.now entries.old.items ≢ []) }
 {
     let adding = is_adding(m, entries);

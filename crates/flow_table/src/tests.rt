@@ -1,7 +1,9 @@
+ghost use Rattle.std.specs.Prelude.{◌<◌, ◌≤◌, ◌+◌, ◌-◌, ◌^◌};
+
 use super::*;
 use of_action::{Action, ActionList};
 use of_match::Match;
-use of_types::{errors, flows, ports};
+use of_types::{OfError, errors, flows, ports};
 use of_wire::FlowMod;
 use std::alloc::{AllocError, Global};
 use std::test::Fail;
@@ -83,92 +85,112 @@ fn told(alloc: Global, notices: &NoticeList) -> Result<Vec<[u64; 3]>, AllocError
     Ok(all)
 }
 
+/// Whether a FLOW_MOD is refused for this error, in a table of one entry.
+fn refuses(table: &mut Table, m: &FlowMod, error: OfError) -> bool
+    requires { table.old.next < 2 ^ 64 - 1 }
+    ensures { table.new.next ≤ table.old.next + 1 }
+{
+    table.change(m, 0, 1) == Err(ChangeFault::Refused(error))
+}
+
 #[test]
 fn refusals_of_a_full_table(rt: HostRuntime) -> Result<(), Fail> {
     let alloc = rt.alloc();
     let mut table = Table::new(alloc)?;
-    table
-        .change(&flow_mod(alloc, flows::ADD, (5, PORT_1), 0, 1)?, 0, 1)
-        .expect(&rt, "place for one entry");
-    let refused = [
-        (
-            flow_mod(alloc, flows::ADD, (5, PORT_2), 2, 2)?,
-            errors::FLOW_TABLES_FULL,
-        ),
-        (
-            flow_mod(alloc, flows::ADD, (5, ANY), 2, 2)?,
-            errors::FLOW_OVERLAP,
-        ),
-        (
-            flow_mod(alloc, 5, (5, PORT_1), 0, 2)?,
-            errors::FLOW_BAD_COMMAND,
-        ),
-    ];
-    for (m, error) in &refused {
-        assert!(rt; table.change(m, 0, 1) == Err(ChangeFault::Refused(*error)));
-        assert!(rt; rows(alloc, &table)?.as_slice() == [[5, 1, 1, 0, 0, 0, 0]].as_slice());
-    }
-    let notices = table
-        .change(&flow_mod(alloc, flows::ADD, (5, PORT_1), 1, 3)?, 4, 1)
-        .expect(&rt, "a place that is there");
+    let first = flow_mod(alloc, flows::ADD, (5, PORT_1), 0, 1)?;
+    let apart = flow_mod(alloc, flows::ADD, (5, PORT_2), 2, 2)?;
+    let wider = flow_mod(alloc, flows::ADD, (5, ANY), 2, 2)?;
+    let unknown = flow_mod(alloc, 5, (5, PORT_1), 0, 2)?;
+    let again = flow_mod(alloc, flows::ADD, (5, PORT_1), 1, 3)?;
+    assert!(rt; table.change(&first, 0, 1).is_ok());
+    assert!(rt; refuses(&mut table, &apart, errors::FLOW_TABLES_FULL));
+    assert!(rt; refuses(&mut table, &wider, errors::FLOW_OVERLAP));
+    assert!(rt; refuses(&mut table, &unknown, errors::FLOW_BAD_COMMAND));
+    assert!(rt; rows(alloc, &table)?.as_slice() == [[5, 1, 1, 0, 0, 0, 0]].as_slice());
+    let notices = table.change(&again, 4, 1).expect(&rt, "memory");
     assert!(rt; notices.is_empty());
     assert!(rt; rows(alloc, &table)?.as_slice() == [[5, 3, 3, 1, 4, 0, 1]].as_slice());
     Ok(())
 }
 
+/// Counts 7 packets at each entry of priority 10, changes the table and says whether it then has these rows
+/// and gave no notice.
+fn becomes(
+    alloc: Global,
+    table: &mut Table,
+    now: u64,
+    m: &FlowMod,
+    wants: &[[u64; 7]],
+) -> Result<bool, AllocError>
+    requires { table.old.next < 2 ^ 64 - 1 }
+    ensures { table.new.next ≤ table.old.next + 1 }
+{
+    table.add_counts(10, 7, 70);
+    let quiet = match table.change(m, now, 9) {
+        Ok(notices) => notices.is_empty(),
+        Err(_) => false,
+    };
+    Ok(quiet && rows(alloc, table)?.as_slice() == wants)
+}
+
 #[test]
-fn five_commands(rt: HostRuntime) -> Result<(), Fail> {
+fn four_commands(rt: HostRuntime) -> Result<(), Fail> {
     let alloc = rt.alloc();
     let mut table = Table::new(alloc)?;
-    // A command, a key, flags, a cookie that is the port of the action, and the table after it; every step is
-    // a second later, and before each every entry of priority 10 counts 7 packets.
-    let steps: [(u16, (u16, (u8, u8)), u16, u16, &[[u64; 7]]); 6] = [
-        (flows::ADD, (10, PORT_1), 3, 1, &[[10, 1, 1, 1, 0, 0, 0]]),
-        (flows::MODIFY, (0, ANY), 0, 2, &[[10, 1, 2, 1, 0, 7, 0]]),
-        (
-            flows::MODIFY_STRICT,
-            (11, PORT_1),
-            1,
+    let add = flow_mod(alloc, flows::ADD, (10, PORT_1), 3, 1)?;
+    assert!(rt; becomes(alloc, &mut table, 0, &add, &[[10, 1, 1, 1, 0, 0, 0]])?);
+    let modify = flow_mod(alloc, flows::MODIFY, (0, ANY), 0, 2)?;
+    assert!(rt; becomes(alloc, &mut table, 1, &modify, &[[10, 1, 2, 1, 0, 7, 0]])?);
+    let strict = flow_mod(alloc, flows::MODIFY_STRICT, (11, PORT_1), 1, 3)?;
+    assert!(rt;
+        becomes(
+            alloc,
+            &mut table,
+            2,
+            &strict,
+            &[[11, 3, 3, 1, 2, 0, 1], [10, 1, 2, 1, 0, 14, 0]]
+        )?
+    );
+    let again = flow_mod(alloc, flows::ADD, (10, PORT_1), 1, 4)?;
+    assert!(rt;
+        becomes(
+            alloc,
+            &mut table,
             3,
-            &[[11, 3, 3, 1, 2, 0, 1], [10, 1, 2, 1, 0, 14, 0]],
-        ),
-        (
-            flows::ADD,
-            (10, PORT_1),
-            1,
+            &again,
+            &[[11, 3, 3, 1, 2, 0, 1], [10, 4, 4, 1, 3, 0, 2]]
+        )?
+    );
+    let other = flow_mod(alloc, flows::DELETE_STRICT, (10, ANY), 0, 0)?;
+    assert!(rt;
+        becomes(
+            alloc,
+            &mut table,
             4,
-            &[[11, 3, 3, 1, 2, 0, 1], [10, 4, 4, 1, 3, 0, 2]],
-        ),
-        (
-            flows::MODIFY_STRICT,
-            (10, PORT_1),
-            0,
-            5,
-            &[[11, 3, 3, 1, 2, 0, 1], [10, 4, 5, 1, 3, 7, 2]],
-        ),
-        (
-            flows::DELETE_STRICT,
-            (10, ANY),
-            0,
-            0,
-            &[[11, 3, 3, 1, 2, 0, 1], [10, 4, 5, 1, 3, 14, 2]],
-        ),
-    ];
-    for ((command, key, flags, cookie, wants), now) in steps.iter().zip(0u64..) {
-        table.add_counts(10, 7, 70);
-        let notices = table
-            .change(&flow_mod(alloc, *command, *key, *flags, *cookie)?, now, 9)
-            .expect(&rt, "no refusal");
-        assert!(rt; notices.is_empty());
-        assert!(rt; rows(alloc, &table)?.as_slice() == *wants);
-    }
+            &other,
+            &[[11, 3, 3, 1, 2, 0, 1], [10, 4, 4, 1, 3, 7, 2]]
+        )?
+    );
+    Ok(())
+}
+
+#[test]
+fn notices_of_a_delete(rt: HostRuntime) -> Result<(), Fail> {
+    let alloc = rt.alloc();
+    let mut table = Table::new(alloc)?;
+    let low = flow_mod(alloc, flows::ADD, (10, PORT_1), 1, 1)?;
+    let high = flow_mod(alloc, flows::ADD, (11, PORT_1), 1, 2)?;
+    let silent = flow_mod(alloc, flows::ADD, (12, PORT_1), 0, 3)?;
+    assert!(rt; table.change(&low, 0, 9).is_ok());
+    assert!(rt; table.change(&high, 1, 9).is_ok());
+    assert!(rt; table.change(&silent, 2, 9).is_ok());
     let mut delete = flow_mod(alloc, flows::DELETE, (0, ANY), 0, 0)?;
     delete.out_port = 3;
-    let first = table.change(&delete, 8, 9).expect(&rt, "no refusal");
-    assert!(rt; told(alloc, &first)?.as_slice() == [[3, 2, 6]].as_slice());
+    let none = table.change(&delete, 8, 9).expect(&rt, "memory");
+    assert!(rt; none.is_empty());
     delete.out_port = ports::NONE;
-    let second = table.change(&delete, 9, 9).expect(&rt, "no refusal");
-    assert!(rt; told(alloc, &second)?.as_slice() == [[4, 2, 6]].as_slice());
+    let both = table.change(&delete, 9, 9).expect(&rt, "memory");
+    assert!(rt; told(alloc, &both)?.as_slice() == [[2, 2, 8], [1, 2, 9]].as_slice());
     assert!(rt; table.is_empty());
     Ok(())
 }
