@@ -1,5 +1,5 @@
 -- What a list of calls makes of a flow table: each call as its definition says, one after another.
-use Rattle.std.specs.Prelude.{◌≡◌, ℕ, ◌+◌, ◌-◌, ◌^◌, ◌<◌, ◌≤◌, List, [], ◌∷◌, length, Option, Some, None}
+use Rattle.std.specs.Prelude.{◌≡◌, ℕ, ◌≤◌, List, [], ◌∷◌, Option, Some, None}
 use Rattle.of_types.specs.declared.errors.OfError.{OfError}
 use Rattle.of_wire.specs.declared.bodies.FlowMod.{FlowMod}
 use Rattle.flow_table.specs.declared.notice.Notice.{Notice}
@@ -63,9 +63,8 @@ abbrev pub MomentsFrom : ℕ → List TableCall → Type 0
 MomentsFrom last [] = Unit {0}
 MomentsFrom last (c ∷ cs) = (last ≤ moment_after last c) × (moment_after last c ≤ last_moment) × MomentsFrom (moment_after last c) cs
 
--- from a moment on at which the table may be called, moments do not go back, and serials suffice
+-- from a moment on at which the table may be called, moments do not go back
 pub record IsPlan (cs : List TableCall) (t : TableState) : Type 0 where
   pub start : ℕ
   pub before : IsMoment start t.entries
   pub moments : MomentsFrom start cs
-  pub serials : t.next + length cs < 2 ^ 64

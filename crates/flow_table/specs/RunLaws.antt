@@ -1,5 +1,5 @@
 -- What follows about lists of calls: each of a plan may be made, and one more call after others.
-use Rattle.std.proofs.Common.{◌≡◌, ℕ, ◌+◌, ◌-◌, ◌^◌, ◌<◌, ◌≤◌, Bool, true, false, List, [], ◌∷◌, ◌++◌, length, Option, Some, None, refl, sym, ap, ◌∙◌, arith, inl, inr}
+use Rattle.std.proofs.Common.{◌≡◌, ℕ, ◌+◌, ◌-◌, ◌^◌, ◌<◌, ◌≤◌, Bool, true, false, List, [], ◌∷◌, ◌++◌, All, Option, Some, None, refl, sym, ap, ◌∙◌, arith, inl, inr}
 use Rattle.std.proofs.lemmas.Bool.{cases_Bool}
 use Rattle.of_types.specs.declared.errors.OfError.{OfError}
 use Rattle.of_wire.specs.declared.bodies.FlowMod.{FlowMod}
@@ -19,12 +19,12 @@ IsAllowed (Hit k len now) t = Unit {0}
 IsAllowed (Expire now) t = IsMoment now t.entries
 IsAllowed (AddCounts priority packets bytes) t = Unit {0}
 
-pub IsAllowed-first : (c : TableCall) (cs : List TableCall) (t : TableState) → IsPlan (c ∷ cs) t → IsAllowed c t
+pub IsAllowed-first : (c : TableCall) (cs : List TableCall) (t : TableState) → IsPlan (c ∷ cs) t → t.next < 2 ^ 64 - 1 → IsAllowed c t
 unfolding IsAllowed
-IsAllowed-first (Change m now cap) cs t p = (IsMoment-later p.start now t.entries p.before p.moments.0 p.moments.1, omega (arith, p.serials))
-IsAllowed-first (Hit k len now) cs t p = tt
-IsAllowed-first (Expire now) cs t p = IsMoment-later p.start now t.entries p.before p.moments.0 p.moments.1
-IsAllowed-first (AddCounts priority packets bytes) cs t p = tt
+IsAllowed-first (Change m now cap) cs t p serials = (IsMoment-later p.start now t.entries p.before p.moments.0 p.moments.1, serials)
+IsAllowed-first (Hit k len now) cs t p serials = tt
+IsAllowed-first (Expire now) cs t p serials = IsMoment-later p.start now t.entries p.before p.moments.0 p.moments.1
+IsAllowed-first (AddCounts priority packets bytes) cs t p serials = tt
 
 IsMoment-after_call : (c : TableCall) (t : TableState) (start : ℕ) → IsMoment start t.entries → start ≤ moment_after start c → moment_after start c ≤ last_moment → IsMoment (moment_after start c) (after_call c t).entries
 unfolding after_call
@@ -58,8 +58,20 @@ IsPlan-rest c cs t p = record {
   start = moment_after p.start c;
   before = IsMoment-after_call c t p.start p.before p.moments.0 p.moments.1;
   moments = p.moments.2;
-  serials = omega (arith, next-after_call c t, p.serials);
 }
+
+MomentsFrom-earlier : (cs : List TableCall) (early late : ℕ) → early ≤ late → MomentsFrom late cs → MomentsFrom early cs
+MomentsFrom-earlier [] early late le h = tt
+MomentsFrom-earlier (Change m now cap ∷ cs) early late le h = (omega (arith, h.0), h.1, h.2)
+MomentsFrom-earlier (Hit k len now ∷ cs) early late le h = (omega (arith, h.0), h.1, h.2)
+MomentsFrom-earlier (Expire now ∷ cs) early late le h = (omega (arith, h.0), h.1, h.2)
+MomentsFrom-earlier (AddCounts priority packets bytes ∷ cs) early late le h = (omega arith, omega (arith, h.1), MomentsFrom-earlier cs early late le h.2)
+
+-- the plan may start at the last moment at which an entry was put in or used
+pub IsPlan-at : (cs : List TableCall) (t : TableState) (latest : ℕ) → IsPlan cs t → ((n : ℕ) → All (λ e. e.installed ≤ n) t.entries → All (λ e. e.used ≤ n) t.entries → latest ≤ n) → (latest ≤ last_moment) × MomentsFrom latest cs
+IsPlan-at cs t latest p least =
+    let le = least p.start p.before.installed p.before.used in
+    (omega (arith, p.before.within), MomentsFrom-earlier cs latest p.start le p.moments)
 
 -- ---- One more call
 

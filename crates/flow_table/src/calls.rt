@@ -1,14 +1,16 @@
 //! A list of calls on one table.
 
-ghost use Rattle.std.specs.Prelude.{◌≡◌, ℕ, ◌-◌, ◌^◌, ◌<◌, take, IfOk, OnOk, OnErr};
+ghost use Rattle.std.specs.Prelude.{◌≡◌, ◌↔◌, ℕ, ◌+◌, ◌-◌, ◌^◌, ◌<◌, ◌≤◌, length, take, All, IsTrue, IfOk, OnOk, OnErr};
 ghost use Rattle.flow_table.specs.Table.{IsMoment};
 ghost use Rattle.flow_table.specs.Change.{change, refusal, notices_of};
-ghost use Rattle.flow_table.specs.Run.{IsChangeAnswer, IsAnswer, AreAnswers, IsPlan, after_call, after_calls};
+ghost use Rattle.flow_table.specs.Run.{IsChangeAnswer, IsAnswer, AreAnswers, IsPlan, MomentsFrom, moment_after, after_call, after_calls};
 ghost use Rattle.flow_table.specs.RunLaws.{IsAllowed};
 
+use crate::entry::Entry;
 use crate::fault::ChangeFault;
 use crate::notice::NoticeList;
 use crate::table::Table;
+use flow_timeouts::LAST_MOMENT;
 use of_match::PacketKey;
 use of_types::OfError;
 use of_wire::FlowMod;
@@ -95,7 +97,55 @@ fn make(table: &mut Table, call: &TableCall) -> Result<TableAnswer, AllocError>
     }
 }
 
-/// Makes calls one after another, and gives their answers. Their moments may not go back.
+/// The last moment at which an entry was put in or used; 0 in an empty table.
+fn latest(entries: &[Entry]) -> u64
+    ensures installed { All (λ e. e.installed ≤ result) entries.now }
+    ensures used { All (λ e. e.used ≤ result) entries.now }
+    ensures least { (n : ℕ) → All (λ e. e.installed ≤ n) entries.now → All (λ e. e.used ≤ n) entries.now → result ≤ n }
+{
+    let mut last = 0u64;
+    for entry in entries {
+        last = last.max(entry.installed).max(entry.used);
+    }
+    last
+}
+
+/// When a call is made, after one at an earlier moment.
+fn moment(call: &TableCall, last: u64) -> u64
+    ensures { result ≡ moment_after last call.now }
+{
+    match call {
+        TableCall::Change { now, .. } | TableCall::Hit { now, .. } | TableCall::Expire { now } =>
+            *now,
+        TableCall::AddCounts { .. } => last,
+    }
+}
+
+/// Whether the moments of calls do not go back from one on, and none is after the last one.
+fn rises(calls: &[TableCall], from: u64) -> bool
+    ensures { IsTrue result ↔ MomentsFrom from calls.now }
+{
+    let mut last = from;
+    for call in calls {
+        let next = moment(call, last);
+        if next < last || LAST_MOMENT < next {
+            return false;
+        }
+        last = next;
+    }
+    true
+}
+
+/// Whether the moments of calls do not go back, and none is before an entry of the table was put in or used.
+pub fn is_plan(table: &Table, calls: &[TableCall]) -> bool
+    ensures { IsTrue result ↔ IsPlan calls.now table.now }
+{
+    let start = latest(table.entries());
+    start <= LAST_MOMENT && rises(calls, start)
+}
+
+/// Makes calls one after another, and gives their answers. Their moments may not go back, which [`is_plan`]
+/// tells.
 ///
 /// Each answer and the table in the end are those of the definitions, call by call. Where memory is wanting,
 /// the table is as the first so many of the calls left it.
@@ -104,7 +154,8 @@ pub fn run(
     table: &mut Table,
     calls: &[TableCall],
 ) -> Result<Vec<TableAnswer>, AllocError>
-    requires { IsPlan calls.now table.old }
+    requires plan { IsPlan calls.now table.old }
+    requires serials { table.old.next + length calls.now < 2 ^ 64 }
     ensures answers { IfOk result (λ answers. AreAnswers calls.now table.old answers.items) }
     ensures ok { OnOk result (table.new ≡ after_calls calls.now table.old) }
     ensures err { OnErr result ((k : ℕ) × (table.new ≡ after_calls (take k calls.now) table.old)) }

@@ -16,7 +16,7 @@ mod selecting;
 mod table;
 mod view;
 
-pub use calls::{TableAnswer, TableCall, run};
+pub use calls::{TableAnswer, TableCall, is_plan, run};
 pub use entry::Entry;
 pub use fault::ChangeFault;
 pub use judge::{AllowAll, Judge};
