@@ -1,6 +1,5 @@
 pub mod Gives
 pub mod View
 pub mod Journal
-pub mod EntryLaws
 pub mod PlainLaws
 pub mod JournalLaws

@@ -10,10 +10,10 @@ use Rattle.of_match.specs.Key.{place}
 use Rattle.of_wire.specs.declared.bodies.FlowMod.{FlowMod}
 use Rattle.flow_table.specs.declared.entry.Entry.{Entry}
 use Rattle.flow_table.specs.Table.{TableState, IsMoment, place_of, has_key, entry_at, with_entry}
+use Rattle.flow_table.specs.TableLaws.{with_entry-before, with_entry-same, with_entry-after, length-with_entry-le, entry_at-same, entry_at-other, entry_at-with_entry-same, entry_at-with_entry-other, length-filter-le}
 use Rattle.flow_table.specs.Change.{key_in, asks_notice, describes, sends_to, deletes, adds, clashes, is_full, refusal, new_entry, entries_after, serial_after, notice, notices_of, changed}
 use Rattle.lego_model.specs.Messages.{adds_for_good}
 use Rattle.session_text.specs.Journal.{removal_of, IsPlain, IsNew}
-use Rattle.session_text.specs.EntryLaws.{without_key, with_entry-before, with_entry-same, with_entry-after, without_key-same, without_key-other, length-with_entry-le, length-without_key-lt, entry_at-with_entry-same, entry_at-with_entry-other, without_key-with_entry}
 
 -- ---- What such a FLOW_MOD says.
 
@@ -82,6 +82,48 @@ entry_at-add-other t flow k good other =
     ap (λ s. entry_at k s.entries) (changed-add t flow good) ∙ entry_at-with_entry-other t.entries e k differ
 
 -- ---- An entry that is removed.
+
+-- the entries without that of a key
+abbrev pub without_key : Key → List Entry → List Entry
+without_key k es = filter (λ e. not (has_key k e)) es
+
+without_key-same : (k : Key) (f : Entry) (fs : List Entry) → place_of f ≡ place k → without_key k (f ∷ fs) ≡ without_key k fs
+without_key-same k f fs same = grind (arith, nat_tests)
+
+without_key-other : (k : Key) (f : Entry) (fs : List Entry) → place_of f ≢ place k → without_key k (f ∷ fs) ≡ f ∷ without_key k fs
+without_key-other k f fs other = grind (arith, nat_tests)
+
+-- a key that is there is taken out
+length-without_key-lt : (es : List Entry) (k : Key) → IsSome (entry_at k es) → length (without_key k es) + 1 ≤ length es
+length-without_key-lt [] k there = absurd cc
+length-without_key-lt (f ∷ fs) k there =
+    elim (cases_eq (place_of f) (place k)) [
+      | inl same ↦ rw (without_key-same k f fs same) (omega (arith, length-filter-le (λ e. not (has_key k e)) fs))
+      | inr other ↦ rw (without_key-other k f fs other) (omega (arith, length-without_key-lt fs k (rw (entry_at-other k f fs other) at there)))
+    ]
+
+-- a key that is not there
+without_key-new : (es : List Entry) (k : Key) → entry_at k es ≡ None → without_key k es ≡ es
+without_key-new [] k new = refl
+without_key-new (f ∷ fs) k new =
+    elim (cases_eq (place_of f) (place k)) [
+      | inl same ↦ let found = entry_at-same k f fs same in absurd cc
+      | inr other ↦ without_key-other k f fs other ∙ ap (λ xs. f ∷ xs) (without_key-new fs k (sym (entry_at-other k f fs other) ∙ new))
+    ]
+
+-- taking out what was put in under a new key gives the table back
+without_key-with_entry : (es : List Entry) (e : Entry) → entry_at e.key es ≡ None → without_key e.key (with_entry e es) ≡ es
+without_key-with_entry [] e new = without_key-same e.key e [] refl
+without_key-with_entry (f ∷ fs) e new =
+    elim (cases_lt (place_of e) (place_of f)) [
+      | inl lt ↦ rw (with_entry-before e f fs lt) (without_key-same e.key e (f ∷ fs) refl ∙ without_key-new (f ∷ fs) e.key new)
+      | inr ge ↦ elim (cases_lt (place_of f) (place_of e)) [
+        | inl gt ↦ rw (with_entry-after e f fs gt)
+            (without_key-other e.key f (with_entry e fs) (omega arith)
+            ∙ ap (λ xs. f ∷ xs) (without_key-with_entry fs e (sym (entry_at-other e.key f fs (omega arith)) ∙ new)))
+        | inr le ↦ let found = entry_at-same e.key f fs (omega arith) in absurd cc
+      ]
+    ]
 
 kept_alike : (k : Key) (es : List Entry) → filter (λ e. not (deletes (removal_of k) e)) es ≡ without_key k es
 unfolding removal_of describes sends_to
