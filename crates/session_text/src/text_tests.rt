@@ -255,45 +255,34 @@ fn the_whole_text(rt: HostRuntime) -> Result<(), Fail> {
     Ok(())
 }
 
-/// The line `session 1` and so many copies of a piece, between a front and a back.
-fn many(
-    alloc: Global,
-    front: &[u8],
-    count: usize,
-    piece: &[u8],
-    back: &[u8],
-) -> Result<Vec<u8>, Fail> {
-    let mut text = Vec::from_slice(alloc, b"session 1\n")?;
-    text.extend_from_slice(front)?;
-    for _ in 0..count {
-        text.extend_from_slice(piece)?;
-    }
+/// So many bytes, and what stands behind them.
+fn repeated(alloc: Global, byte: u8, count: usize, back: &[u8]) -> Result<Vec<u8>, Fail> {
+    let mut text = vec![in alloc; byte; count]?;
     text.extend_from_slice(back)?;
     Ok(text)
 }
 
 #[test]
-fn limits(rt: HostRuntime) -> Result<(), Fail> {
+fn long_lines(rt: HostRuntime) -> Result<(), Fail> {
     let alloc = rt.alloc();
-    let switch: &[u8] = b"switch 1 8 -\n";
-    let raw: &[u8] = b"switch 1 8 -\nraw 1 ";
-    let at: &[u8] = b"at 1\n";
-    let cases: [(&[u8], usize, &[u8], &[u8], Option<(u64, SessionKind)>); 10] = [
-        (b"#", 4_194_303, b"x", b"\r\n", None),
-        (b"#", 4_194_304, b"x", b"\r\n", Some((6, Long))),
-        (b"", 4_194_305, b"\xff", b"", Some((6, Long))),
-        (b"", 4_194_304, b"\xff", b"", Some((6, Text))),
-        (raw, 65_535, b"00", b"\n", None),
-        (raw, 65_536, b"00", b"\n", Some((7, Range))),
-        (switch, 1_000_000, at, b"", None),
-        (switch, 1_000_000, at, b"join x\n", Some((1_000_007, Range))),
-        (switch, 1_000_000, at, b"port x x x\n", Some((1_000_007, Word))),
-        (switch, 1_000_000, at, b"# c\nfault link 1 1\n", None),
-    ];
-    for (front, count, piece, back, wanted) in cases {
-        let text = many(alloc, front, count, piece, back)?;
-        assert!(rt; fault_of(alloc, &text)? == wanted);
-    }
+    let most = 4_194_304;
+    let whole = repeated(alloc, b'#', most, b"\r\nsession 1\r\n")?;
+    assert!(rt; fault_of(alloc, &whole)?.is_none());
+    let long = repeated(alloc, b'#', most + 1, b"\r\nsession 1\r\n")?;
+    assert!(rt; fault_of(alloc, &long)? == Some((5, Long)));
+    let no_text = repeated(alloc, 0xff, most + 1, b"")?;
+    assert!(rt; fault_of(alloc, &no_text)? == Some((5, Long)));
+    Ok(())
+}
+
+#[test]
+fn long_messages(rt: HostRuntime) -> Result<(), Fail> {
+    let alloc = rt.alloc();
+    let mut text = Vec::from_slice(alloc, b"session 1\nswitch 1 8 -\nraw 1 ")?;
+    text.extend_from_slice(&repeated(alloc, b'0', 131_070, b"")?)?;
+    assert!(rt; fault_of(alloc, &text)?.is_none());
+    text.extend_from_slice(b"00")?;
+    assert!(rt; fault_of(alloc, &text)? == Some((7, Range)));
     Ok(())
 }
 

@@ -5,6 +5,7 @@ ghost use Rattle.std.specs.List.{list_all};
 ghost use Rattle.lego_model.specs.Words.{most_line, words_of as words_in};
 ghost use Rattle.lego_model.specs.SessionLines.{line_of as line_in};
 ghost use Rattle.lego_model.specs.SessionText.{at_first as at_first_in, is_skipped as is_skipped_in, is_printable, is_opening as is_opening_in, going_on, plain_line as plain_line_in, next_line as next_line_in, in_line, lines_from, session_text};
+ghost use Rattle.lego_model.specs.SessionFacts.{IsSession, IsOf};
 ghost use Rattle.session_text.specs.TextGives.{Gives, TextGives};
 ghost use Rattle.session_text.specs.SessionView.{view_session, view_so_far, view_progress};
 ghost use Rattle.session_text.specs.declared.text_fault.SessionTextError.TheVariants.{Bad};
@@ -177,10 +178,24 @@ fn all_lines(
 }
 
 /// The session that a text spells, or its first fault.
+#[tactic(auto, using(crate::proofs::LineCount::length_of_lines), unfolding(lego_model::specs::SessionText::session_text))]
+fn read_text(
+    alloc: Global,
+    names: &[String],
+    first: u64,
+    text: &[u8],
+) -> Result<Session, SessionTextError>
+    requires { first < 2 ^ 63 }
+    ensures { TextGives view_session result (session_text (map (λ s. string_bytes s) names.now) first text.now) }
+{
+    let progress = all_lines(alloc, names, first, &mut Lines::new(text))?;
+    Ok(progress.so_far.session)
+}
+
+/// The session that a text spells, or its first fault.
 ///
 /// The lines are counted from `first_line`, the number that the text's first line has in the whole input. An
 /// application is named in the text as in `names`, and in the session by its place among them.
-#[tactic(auto, using(crate::proofs::LineCount::length_of_lines), unfolding(lego_model::specs::SessionText::session_text))]
 pub fn parse_session(
     alloc: Global,
     text: &[u8],
@@ -188,8 +203,12 @@ pub fn parse_session(
     names: &[String],
 ) -> Result<Session, SessionTextError>
     requires { first_line < 2 ^ 63 }
-    ensures { TextGives view_session result (session_text (map (λ s. string_bytes s) names.now) first_line text.now) }
+    // The session or the first fault, unless memory runs out.
+    ensures exact { TextGives view_session result (session_text (map (λ s. string_bytes s) names.now) first_line text.now) }
+    // The session keeps the limits, and each stimulus is for a declared switch.
+    ensures sound { IfOk result (λ session. IsSession (view_session session)) }
+    // Each application of the session is one of the names.
+    ensures named { IfOk result (λ session. IsOf (length names.now) (view_session session)) }
 {
-    let progress = all_lines(alloc, names, first_line, &mut Lines::new(text))?;
-    Ok(progress.so_far.session)
+    read_text(alloc, names, first_line, text)
 }
