@@ -1,7 +1,9 @@
 -- What the reference controller reports, computed for the sessions that can be read so far.
 use Rattle.std.proofs.Common.{◌≡◌, ℕ, ◌==◌, true, false, cond, List, [], ◌∷◌, ◌++◌, fold, map, Option, Some, None, refl, sym, ap, ◌∙◌, append_assoc, append-nil, eq-eqb}
-use Rattle.flow_table.specs.declared.entry.PlainEntry.{PlainEntry}
-use Rattle.flow_table.specs.Table.{with_entry}
+use Rattle.of_wire.specs.declared.bodies.FlowMod.{FlowMod}
+use Rattle.flow_table.specs.declared.entry.Entry.{Entry}
+use Rattle.flow_table.specs.Table.{TableState, empty_table}
+use Rattle.flow_table.specs.Change.{changed}
 use Rattle.lego_model.specs.declared.turn.Ending.{Ending}
 use Rattle.lego_model.specs.declared.turn.Ending.TheVariants.{Done, Closed}
 use Rattle.lego_model.specs.Session as model
@@ -16,22 +18,17 @@ use Rattle.legosdn.specs.Headline.{TablesAgree}
 use Rattle.legosdn.specs.Idle.{idle_text}
 
 -- what is added to one switch
-add-one : (dpid : ℕ) (table es : List PlainEntry) → fold add ((dpid, table) ∷ []) (map (addition dpid) es) ≡ (dpid, added table es) ∷ []
-add-one dpid table [] = refl
-add-one dpid table (e ∷ es) =
+add-one : (dpid : ℕ) (t : TableState) (flows : List FlowMod) → fold add ((dpid, t) ∷ []) (map (addition dpid) flows) ≡ (dpid, added t flows) ∷ []
+add-one dpid t [] = refl
+add-one dpid t (flow ∷ flows) =
     let here : dpid == dpid ≡ true = eq-eqb dpid dpid refl in
-    ap (λ b. fold add (cond b (dpid, with_entry e table) (dpid, table) ∷ []) (map (addition dpid) es)) here ∙ add-one dpid (with_entry e table) es
-
--- a turn of one switch leaves one table
-turn-one : (dpid : ℕ) (es : List PlainEntry) (ending : Ending) → turn ((dpid, []) ∷ []) (record { additions = map (addition dpid) es; ending = ending }) ending ≡ (dpid, left_by ending es) ∷ []
-turn-one dpid es Done = add-one dpid [] es
-turn-one dpid es Closed = refl
+    ap (λ b. fold add (cond b (dpid, changed 0 flow t) (dpid, t) ∷ []) (map (addition dpid) flows)) here ∙ add-one dpid (changed 0 flow t) flows
 
 -- the report of a turn of one switch
-report-turn : (switches : List model.Switch) (dpid : ℕ) (es : List PlainEntry) (ending : Ending) → report (record { switches = switches; replies = record { additions = map (addition dpid) es; ending = ending } ∷ []; stimuli = model.Join dpid ∷ [] }) ≡ start_line ++ joined_by dpid ending (left_by ending es)
+report-turn : (switches : List model.Switch) (dpid : ℕ) (flows : List FlowMod) (ending : Ending) → report (record { switches = switches; replies = record { additions = map (addition dpid) flows; ending = ending } ∷ []; stimuli = model.Join dpid ∷ [] }) ≡ start_line ++ joined_by dpid ending (left_by ending flows)
 unfolding report state_text reference stimulate settle dispatch table_text joined_by
-report-turn switches dpid es Done = simp (add-one, append_assoc, append-nil)
-report-turn switches dpid es Closed = simp (append_assoc, append-nil)
+report-turn switches dpid flows Done = simp (add-one, append_assoc, append-nil)
+report-turn switches dpid flows Closed = simp (append_assoc, append-nil)
 
 -- the report where nothing is scripted
 report-none : (switches : List model.Switch) (dpid : ℕ) → report (record { switches = switches; replies = []; stimuli = model.Join dpid ∷ [] }) ≡ start_line ++ joined_by dpid Done []
@@ -40,7 +37,7 @@ report-none switches dpid = simp (append_assoc, append-nil)
 
 report-reply : (switches : List model.Switch) (dpid : ℕ) (reply : Option Reply) → report (record { switches = switches; replies = as_list (view_reply dpid) reply; stimuli = model.Join dpid ∷ [] }) ≡ start_line ++ joined_text dpid reply
 report-reply switches dpid None = report-none switches dpid
-report-reply switches dpid (Some r) = report-turn switches dpid r.entries.items r.ending
+report-reply switches dpid (Some r) = report-turn switches dpid r.flows.items r.ending
 
 pub report-joins : (s : Session) → s.joins ≡ true → report (view_session s) ≡ start_line ++ joined_text s.switch.dpid s.reply
 report-joins s joins =
@@ -77,10 +74,10 @@ acts-nothing = refl
 
 -- ---- The tables of a session.
 
-agree-turn : (switches : List model.Switch) (dpid : ℕ) (es : List PlainEntry) (ending : Ending) (journal : Journal) → table_of journal ≡ left_by ending es → TablesAgree (record { switches = switches; replies = record { additions = map (addition dpid) es; ending = ending } ∷ []; stimuli = model.Join dpid ∷ [] }) journal
+agree-turn : (switches : List model.Switch) (dpid : ℕ) (flows : List FlowMod) (ending : Ending) (journal : Journal) → table_of journal ≡ left_by ending flows → TablesAgree (record { switches = switches; replies = record { additions = map (addition dpid) flows; ending = ending } ∷ []; stimuli = model.Join dpid ∷ [] }) journal
 unfolding reference stimulate settle dispatch
-agree-turn switches dpid es Done journal table = rw (add-one dpid [] es) (sym table, tt)
-agree-turn switches dpid es Closed journal table = (sym table, tt)
+agree-turn switches dpid flows Done journal table = rw (add-one dpid empty_table flows) (sym table, tt)
+agree-turn switches dpid flows Closed journal table = (sym table, tt)
 
 agree-none : (switches : List model.Switch) (dpid : ℕ) (journal : Journal) → table_of journal ≡ [] → TablesAgree (record { switches = switches; replies = []; stimuli = model.Join dpid ∷ [] }) journal
 unfolding reference stimulate settle dispatch
@@ -88,7 +85,7 @@ agree-none switches dpid journal table = (sym table, tt)
 
 agree-reply : (switches : List model.Switch) (dpid : ℕ) (reply : Option Reply) (journal : Journal) → table_of journal ≡ turn_table reply → TablesAgree (record { switches = switches; replies = as_list (view_reply dpid) reply; stimuli = model.Join dpid ∷ [] }) journal
 agree-reply switches dpid None journal table = agree-none switches dpid journal table
-agree-reply switches dpid (Some r) journal table = agree-turn switches dpid r.entries.items r.ending journal table
+agree-reply switches dpid (Some r) journal table = agree-turn switches dpid r.flows.items r.ending journal table
 
 pub tables-joins : (s : Session) (journal : Journal) → s.joins ≡ true → table_of journal ≡ turn_table s.reply → TablesAgree (view_session s) journal
 tables-joins s journal joins table =

@@ -19,9 +19,9 @@ is_command [] = false
 is_command (word ∷ []) = bytes_eq word (codes "replay")
 is_command (word ∷ next ∷ more) = false
 
--- the table of each joined switch is the one that the journal leaves
+-- the entries of each joined switch are those that the journal leaves
 abbrev pub TablesAgree : Session → Journal → Type 0
-TablesAgree session journal = AllByRecursion (λ t. t.1 ≡ table_of journal) (reference session).tables
+TablesAgree session journal = AllByRecursion (λ t. t.1.entries ≡ table_of journal) (reference session).tables
 
 -- a turn that was cut off left nothing, and one that had ended left all of its change
 abbrev pub LeavesNoHalf : Session → Journal → Type 0

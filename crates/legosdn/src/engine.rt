@@ -2,11 +2,11 @@
 
 ghost use Rattle.std.specs.Prelude.{◌≡◌, ◌⊎◌, ◌++◌, ◌∷◌, ◌<◌, ◌≤◌, [], length, map, true, false, None, IsSome, IfOk, OnOk, OnErr, string_bytes};
 ghost use Rattle.std.specs.List.{flat_map};
-ghost use Rattle.flow_table.specs.Table.{entry_at, without_key};
+ghost use Rattle.flow_table.specs.Table.{empty_table, entry_at};
 ghost use Rattle.lego_model.specs.Reference.{completions, failures};
 ghost use Rattle.lego_model.specs.Report.{turn_line, switch_line, flow_line, app_line, end_line, report as report_in};
 ghost use Rattle.session_text.specs.View.{addition, view_session, view_input};
-ghost use Rattle.session_text.specs.Journal.{table_of, exchange as exchange_in, removals, undone, added, AreNew, turn_journal, journal_of};
+ghost use Rattle.session_text.specs.Journal.{state_of, table_of, change_table, exchange as exchange_in, removals, undone, added, IsNew, AreNew, turn_journal, journal_of};
 ghost use Rattle.legosdn.specs.Headline.{TablesAgree, LeavesNoHalf};
 ghost use Rattle.legosdn.specs.Idle.{idle_text};
 ghost use Rattle.legosdn.specs.Turn.{Played, turn_reply, turn_ending, turn_table, left_by, restart_text, joined_text};
@@ -14,10 +14,11 @@ ghost use Rattle.legosdn.specs.Turn.{Played, turn_reply, turn_ending, turn_table
 use crate::report::{
     push_app, push_end, push_event, push_flows, push_start, push_switch, push_turn,
 };
-use flow_table::PlainEntry;
+use flow_table::Entry;
 use lego_model::Ending;
 use of_match::Key;
-use session_text::{PlainAct, PlainChange, PlainWorld, Reply, Session};
+use of_wire::FlowMod;
+use session_text::{PlainAct, PlainChange, PlainWorld, Reply, Session, key_of};
 use std::alloc::{AllocError, Global};
 
 /// Takes the entry of a key out of the table again.
@@ -30,22 +31,29 @@ fn take_out(world: &mut PlainWorld, dpid: u64, key: Key)
 
 /// Takes up the k-th message of a turn, which adds an entry, and answers it. Where memory runs out the
 /// table is as before.
-fn exchange(world: &mut PlainWorld, k: u64, dpid: u64, entry: PlainEntry) -> Result<(), AllocError>
-    requires new { entry_at entry.key (table_of world.old) ≡ None }
+fn exchange(
+    alloc: Global,
+    world: &mut PlainWorld,
+    k: u64,
+    dpid: u64,
+    flow: &FlowMod,
+) -> Result<(), AllocError>
+    requires new { IsNew (table_of world.old) flow.now }
     requires room { length (table_of world.old) < 4096 }
-    ensures ok { OnOk result (world.new ≡ world.old ++ exchange_in k (addition dpid entry)) }
+    ensures ok { OnOk result (world.new ≡ world.old ++ exchange_in k (addition dpid flow.now)) }
     ensures err { OnErr result (table_of world.new ≡ table_of world.old) }
 {
+    let addition = PlainChange::adding(alloc, flow)?;
     world.asked(k)?;
-    world.change(dpid, PlainChange::Add(entry))?;
-    answer(world, k, dpid, entry.key)
+    world.change(dpid, addition)?;
+    answer(world, k, dpid, key_of(flow))
 }
 
 /// Answers the k-th message, which added the entry of a key. Where memory runs out the entry is taken out.
 fn answer(world: &mut PlainWorld, k: u64, dpid: u64, key: Key) -> Result<(), AllocError>
     requires { IsSome (entry_at key (table_of world.old)) }
     ensures ok { OnOk result (world.new ≡ world.old ++ PlainAct.Answered k ∷ []) }
-    ensures err { OnErr result (table_of world.new ≡ without_key key (table_of world.old)) }
+    ensures err { OnErr result (state_of world.new ≡ change_table (state_of world.old) (PlainChange.Remove key)) }
 {
     match world.answered(k) {
         Ok(()) => Ok(()),
@@ -57,30 +65,35 @@ fn answer(world: &mut PlainWorld, k: u64, dpid: u64, key: Key) -> Result<(), All
 }
 
 /// Undoes a turn's messages, the newest first.
-fn undo(world: &mut PlainWorld, dpid: u64, entries: &[PlainEntry])
-    requires table { table_of world.old ≡ added [] entries.now }
-    requires new { AreNew [] entries.now }
-    ensures acts { world.new ≡ world.old ++ removals (map (addition dpid) entries.now) }
+fn undo(world: &mut PlainWorld, dpid: u64, flows: &[FlowMod])
+    requires table { table_of world.old ≡ (added empty_table flows.now).entries }
+    requires new { AreNew empty_table flows.now }
+    ensures acts { world.new ≡ world.old ++ removals (map (addition dpid) flows.now) }
     ensures table { table_of world.new ≡ [] }
 {
-    let mut left = entries.len();
+    let mut left = flows.len();
     while left > 0 {
         left -= 1;
-        take_out(world, dpid, entries[left].key);
+        take_out(world, dpid, key_of(&flows[left]));
     }
 }
 
-/// Plays the messages of a turn, each of which adds one of the entries. Where memory runs out they are undone.
-fn play(world: &mut PlainWorld, dpid: u64, entries: &[PlainEntry]) -> Result<(), AllocError>
+/// Plays the messages of a turn, each of which adds one entry. Where memory runs out they are undone.
+fn play(
+    alloc: Global,
+    world: &mut PlainWorld,
+    dpid: u64,
+    flows: &[FlowMod],
+) -> Result<(), AllocError>
     requires fresh { world.old ≡ [] }
-    requires new { AreNew [] entries.now }
-    requires few { length entries.now ≤ 999 }
-    ensures ok { OnOk result (Played world.new dpid entries.now) }
+    requires new { AreNew empty_table flows.now }
+    requires few { length flows.now ≤ 999 }
+    ensures ok { OnOk result (Played world.new dpid flows.now) }
     ensures err { OnErr result (table_of world.new ≡ []) }
 {
-    for (i, entry) in entries.iter().enumerate() {
-        if let Err(fault) = exchange(world, i as u64 + 1, dpid, *entry) {
-            undo(world, dpid, &entries[..i]);
+    for (i, flow) in flows.iter().enumerate() {
+        if let Err(fault) = exchange(alloc, world, i as u64 + 1, dpid, flow) {
+            undo(world, dpid, &flows[..i]);
             return Err(fault);
         }
     }
@@ -89,7 +102,12 @@ fn play(world: &mut PlainWorld, dpid: u64, entries: &[PlainEntry]) -> Result<(),
 
 /// The application's turn at the event that the switch joined. Where nothing is scripted it does nothing
 /// and is done. A turn that fails leaves nothing behind.
-fn turn(world: &mut PlainWorld, dpid: u64, reply: &Option<Reply>) -> Result<Ending, AllocError>
+fn turn(
+    alloc: Global,
+    world: &mut PlainWorld,
+    dpid: u64,
+    reply: &Option<Reply>,
+) -> Result<Ending, AllocError>
     requires { world.old ≡ [] }
     ensures ending { IfOk result (λ ending. ending ≡ turn_ending reply.now) }
     ensures acts { OnOk result (world.new ≡ turn_journal (turn_reply dpid reply.now)) }
@@ -99,7 +117,7 @@ fn turn(world: &mut PlainWorld, dpid: u64, reply: &Option<Reply>) -> Result<Endi
     match reply {
         None => Ok(Ending::Done),
         Some(reply) => {
-            play(world, dpid, &reply.entries)?;
+            play(alloc, world, dpid, &reply.flows)?;
             finish(world, dpid, reply);
             Ok(reply.ending)
         }
@@ -108,13 +126,13 @@ fn turn(world: &mut PlainWorld, dpid: u64, reply: &Option<Reply>) -> Result<Endi
 
 /// Ends a turn whose messages were played: one that failed is undone.
 fn finish(world: &mut PlainWorld, dpid: u64, reply: &Reply)
-    requires { Played world.old dpid reply.now.entries.items }
-    ensures acts { world.new ≡ world.old ++ undone reply.now.ending (map (addition dpid) reply.now.entries.items) }
-    ensures table { table_of world.new ≡ left_by reply.now.ending reply.now.entries.items }
+    requires { Played world.old dpid reply.now.flows.items }
+    ensures acts { world.new ≡ world.old ++ undone reply.now.ending (map (addition dpid) reply.now.flows.items) }
+    ensures table { table_of world.new ≡ left_by reply.now.ending reply.now.flows.items }
 {
     match reply.ending {
         Ending::Done => {}
-        Ending::Closed => undo(world, dpid, &reply.entries),
+        Ending::Closed => undo(world, dpid, &reply.flows),
     }
 }
 
@@ -144,7 +162,7 @@ fn push_table(
     alloc: Global,
     report: &mut String,
     dpid: u64,
-    entries: &[PlainEntry],
+    entries: &[Entry],
 ) -> Result<(), AllocError>
     ensures { OnOk result (string_bytes report.new ≡ string_bytes report.old ++ (switch_line dpid (length entries.now) ++ flat_map flow_line entries.now)) }
 {
@@ -168,7 +186,7 @@ fn run_join(
     ensures err { OnErr result ((table_of world.new ≡ []) ⊎ (table_of world.new ≡ turn_table reply.now)) }
 {
     push_event(report, 1, dpid)?;
-    let ending = turn(world, dpid, reply)?;
+    let ending = turn(alloc, world, dpid, reply)?;
     push_ending(report, ending)?;
     push_table(alloc, report, dpid, world.entries())?;
     push_counts(report, ending)?;

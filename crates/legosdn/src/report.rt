@@ -1,12 +1,14 @@
 //! The lines of the report.
 
-ghost use Rattle.std.specs.Prelude.{◌≡◌, ◌++◌, OnOk, string_bytes};
+ghost use Rattle.std.specs.Prelude.{◌≡◌, ◌++◌, IfOk, OnOk, string_bytes};
 ghost use Rattle.std.specs.List.{flat_map};
+ghost use Rattle.of_action.specs.Spelling.{list_bytes};
 ghost use Rattle.lego_model.specs.Reference.{Joined};
-ghost use Rattle.lego_model.specs.Report.{start_line, event_line, turn_line, switch_line, flow_line, flow_head, cookie_text, nothing_counted, actions_text, app_line, end_line};
+ghost use Rattle.lego_model.specs.Report.{start_line, event_line, turn_line, switch_line, flow_line, flow_head, cookie_text, terms_text, counts_text, actions_text, app_line, end_line};
 
-use flow_table::PlainEntry;
+use flow_table::Entry;
 use lego_model::Ending;
+use of_action::{ActionList, encode_list, size};
 use of_match::{Key, text};
 use std::alloc::{AllocError, Global};
 
@@ -61,15 +63,16 @@ pub fn push_end(report: &mut String, events: u64) -> Result<(), AllocError>
     writeln!(report, "end 0 events {events}")
 }
 
-/// `flow PRIORITY MATCH cookie=C idle=0 hard=0 flags=0 packets=0 bytes=0 age=0 actions=HEX`: an entry.
+/// `flow PRIORITY MATCH cookie=C idle=I hard=H flags=F packets=P bytes=B age=0 actions=HEX`: an entry.
 #[tactic(auto, unfolding(lego_model::specs::Report::flow_line, lego_model::specs::Report::line_of))]
-pub fn push_flow(alloc: Global, report: &mut String, entry: &PlainEntry) -> Result<(), AllocError>
+pub fn push_flow(alloc: Global, report: &mut String, entry: &Entry) -> Result<(), AllocError>
     ensures { OnOk result (string_bytes report.new ≡ string_bytes report.old ++ flow_line entry.now) }
 {
     push_key(alloc, report, &entry.key)?;
     push_cookie(report, entry.cookie)?;
-    push_nothing_counted(report)?;
-    push_actions(alloc, report, entry.output)?;
+    push_terms(report, entry)?;
+    push_counts(report, entry)?;
+    push_actions(alloc, report, &entry.actions)?;
     report.push_str("\n")
 }
 
@@ -81,22 +84,46 @@ fn push_cookie(report: &mut String, cookie: u64) -> Result<(), AllocError>
     write!(report, " cookie={cookie}")
 }
 
-/// The timeouts, flags and counts of an entry, which are all 0.
-#[tactic(auto, unfolding(lego_model::specs::Report::nothing_counted))]
-fn push_nothing_counted(report: &mut String) -> Result<(), AllocError>
-    ensures { OnOk result (string_bytes report.new ≡ string_bytes report.old ++ nothing_counted) }
+/// ` idle=I hard=H flags=F`: the timeouts and flags of an entry.
+#[tactic(auto, unfolding(lego_model::specs::Report::terms_text))]
+fn push_terms(report: &mut String, entry: &Entry) -> Result<(), AllocError>
+    ensures { OnOk result (string_bytes report.new ≡ string_bytes report.old ++ terms_text entry.now) }
 {
-    report.push_str(" idle=0 hard=0 flags=0 packets=0 bytes=0 age=0")
+    let (idle, hard, flags) = (entry.idle, entry.hard, entry.flags);
+    write!(report, " idle={idle} hard={hard} flags={flags}")
+}
+
+/// ` packets=P bytes=B age=0`: what an entry counted, at moment 0.
+#[tactic(auto, unfolding(lego_model::specs::Report::counts_text))]
+fn push_counts(report: &mut String, entry: &Entry) -> Result<(), AllocError>
+    ensures { OnOk result (string_bytes report.new ≡ string_bytes report.old ++ counts_text entry.now) }
+{
+    let (packets, bytes) = (entry.packets, entry.bytes);
+    write!(report, " packets={packets} bytes={bytes} age=0")
+}
+
+/// The bytes of actions.
+fn spelling(alloc: Global, actions: &ActionList) -> Result<Vec<u8>, AllocError>
+    ensures { IfOk result (λ bytes. bytes.items ≡ list_bytes actions.now) }
+{
+    let mut bytes = vec![in alloc; 0; size(actions)]?;
+    encode_list(actions, &mut bytes);
+    Ok(bytes)
 }
 
 /// ` actions=HEX`: the actions of an entry.
 #[tactic(auto, unfolding(lego_model::specs::Report::actions_text))]
-fn push_actions(alloc: Global, report: &mut String, output: [u8; 8]) -> Result<(), AllocError>
-    ensures { OnOk result (string_bytes report.new ≡ string_bytes report.old ++ actions_text output) }
+fn push_actions(
+    alloc: Global,
+    report: &mut String,
+    actions: &ActionList,
+) -> Result<(), AllocError>
+    ensures { OnOk result (string_bytes report.new ≡ string_bytes report.old ++ actions_text actions.now) }
 {
-    let actions = hex::encode(alloc, output.as_slice())?;
+    let bytes = spelling(alloc, actions)?;
+    let digits = hex::encode(alloc, bytes.as_slice())?;
     report.push_str(" actions=")?;
-    report.push_str(&actions)
+    report.push_str(&digits)
 }
 
 /// `flow PRIORITY MATCH`: the priority and the match of an entry.
@@ -112,7 +139,7 @@ fn push_key(alloc: Global, report: &mut String, key: &Key) -> Result<(), AllocEr
 pub fn push_flows(
     alloc: Global,
     report: &mut String,
-    entries: &[PlainEntry],
+    entries: &[Entry],
 ) -> Result<(), AllocError>
     ensures { OnOk result (string_bytes report.new ≡ string_bytes report.old ++ flat_map flow_line entries.now) }
 {

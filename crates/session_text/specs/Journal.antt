@@ -76,17 +76,15 @@ LeavesTable (Asked k) = Unit {0}
 LeavesTable (Changed dpid c) = ⊥
 LeavesTable (Answered k) = Unit {0}
 
--- an entry that was put in at moment 0, never used since, and gives no notice when it goes
-pub record IsPlain (e : Entry) : Type 0 where
-  pub installed : e.installed ≡ 0
-  pub used : e.used ≡ 0
-  pub flags : e.flags ≡ 0
+-- an entry that gives no notice when it goes
+abbrev pub IsQuiet : Entry → Type 0
+IsQuiet e = e.flags ≡ 0
 
--- what a world keeps: its table is that of its journal, each new entry is an act, and the journal has room to take
--- each entry out again
+-- what a world keeps: its table is that of its journal, no removal gives a notice, each serial is that of an act, and
+-- the journal has room to take each entry out again
 pub record Keeps (table : TableState) (journal : Journal) (len capacity : ℕ) : Type 0 where
   pub table_is : table ≡ state_of journal
-  pub plain : AllByRecursion IsPlain table.entries
+  pub quiet : AllByRecursion IsQuiet table.entries
   pub most : length table.entries ≤ most_entries
   pub numbered : table.next ≤ len
   pub room : len + length table.entries ≤ capacity

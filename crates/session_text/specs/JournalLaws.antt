@@ -89,7 +89,7 @@ all_new-add (next ∷ flows) t flow good other new =
       | inl same ↦ let is = eq-eqb (place (key_in next)) (place (key_in flow)) same in absurd (grind (arith, nat_tests))
       | inr differ ↦ (
         (new.0.0, entry_at-add-other t flow (key_in next) good (λ h. differ (sym h)) ∙ new.0.1),
-        all_new-add flows t flow good (grind (arith, nat_tests)) new.1
+        all_new-add flows t flow good (grind (arith, nat_tests)) new.1,
       )
     ]
 

@@ -3,17 +3,16 @@ use Rattle.std.proofs.Common.{◌≡◌, ◌≢◌, ◌==◌, ℕ, ◌+◌, ◌<
 use Rattle.std.specs.List.{AllByRecursion, list_any}
 use Rattle.std.proofs.lemmas.Bool.{cases_lt, cases_eq, eqb-true}
 use Rattle.std.proofs.lemmas.Bool.Decides.{nat_tests}
-use Rattle.std.proofs.lemmas.List.Elements.{All-from_recursion}
 use Rattle.std.specs.Option.{is_some}
 use Rattle.of_match.specs.declared.key.Key.{Key}
 use Rattle.of_match.specs.Key.{place}
 use Rattle.of_wire.specs.declared.bodies.FlowMod.{FlowMod}
 use Rattle.flow_table.specs.declared.entry.Entry.{Entry}
-use Rattle.flow_table.specs.Table.{TableState, IsMoment, place_of, has_key, entry_at, with_entry}
+use Rattle.flow_table.specs.Table.{TableState, place_of, has_key, entry_at, with_entry}
 use Rattle.flow_table.specs.TableLaws.{with_entry-before, with_entry-same, with_entry-after, length-with_entry-le, entry_at-same, entry_at-other, entry_at-with_entry-same, entry_at-with_entry-other, length-filter-le}
 use Rattle.flow_table.specs.Change.{key_in, asks_notice, describes, sends_to, deletes, adds, clashes, is_full, refusal, new_entry, entries_after, serial_after, notice, notices_of, changed}
 use Rattle.lego_model.specs.Messages.{adds_for_good}
-use Rattle.session_text.specs.Journal.{removal_of, IsPlain, IsNew}
+use Rattle.session_text.specs.Journal.{removal_of, IsQuiet, IsNew}
 
 -- ---- What such a FLOW_MOD says.
 
@@ -138,14 +137,14 @@ pub refusal-remove : (cap : ℕ) (es : List Entry) (k : Key) → refusal cap (re
 unfolding refusal adds removal_of
 refusal-remove cap es k = refl
 
-none_asks : (m : FlowMod) (es : List Entry) → AllByRecursion IsPlain es → filter (λ e. deletes m e && asks_notice e.flags) es ≡ []
-none_asks m [] plain = refl
-none_asks m (e ∷ es) plain = rw (plain.0.flags, and_false (deletes m e)) (none_asks m es plain.1)
+none_asks : (m : FlowMod) (es : List Entry) → AllByRecursion IsQuiet es → filter (λ e. deletes m e && asks_notice e.flags) es ≡ []
+none_asks m [] quiet = refl
+none_asks m (e ∷ es) quiet = rw (quiet.0, and_false (deletes m e)) (none_asks m es quiet.1)
 
 -- no notice is asked for
-pub quiet-remove : (es : List Entry) (k : Key) → AllByRecursion IsPlain es → notices_of 0 (removal_of k) es ≡ []
+pub notices_of-remove : (es : List Entry) (k : Key) → AllByRecursion IsQuiet es → notices_of 0 (removal_of k) es ≡ []
 unfolding notices_of removal_of
-quiet-remove es k plain = ap (map (notice 2 0)) (none_asks (removal_of k) es plain)
+notices_of-remove es k quiet = ap (map (notice 2 0)) (none_asks (removal_of k) es quiet)
 
 -- the entry that was added under a new key is taken out, and no other
 pub remove-add : (t s : TableState) (flow : FlowMod) → IsNew t.entries flow → s.entries ≡ (changed 0 flow t).entries → (changed 0 (removal_of (key_in flow)) s).entries ≡ t.entries
@@ -164,44 +163,33 @@ length-remove-lt t k there = rw (changed-remove t k) (length-without_key-lt t.en
 
 -- ---- Tables of such entries.
 
-plain-entry : (serial : ℕ) (flow : FlowMod) → adds_for_good flow ≡ true → IsPlain (plain_entry serial flow)
+flags-entry : (serial : ℕ) (flow : FlowMod) → adds_for_good flow ≡ true → IsQuiet (plain_entry serial flow)
 unfolding new_entry
-plain-entry serial flow good = record { installed = refl; used = refl; flags = rw (flags_are flow good) refl }
+flags-entry serial flow good = rw (flags_are flow good) refl
 
-plain-with_entry : (es : List Entry) (e : Entry) → IsPlain e → AllByRecursion IsPlain es → AllByRecursion IsPlain (with_entry e es)
-plain-with_entry [] e new plain = (new, tt)
-plain-with_entry (f ∷ fs) e new plain =
+quiet-with_entry : (es : List Entry) (e : Entry) → IsQuiet e → AllByRecursion IsQuiet es → AllByRecursion IsQuiet (with_entry e es)
+quiet-with_entry [] e new quiet = (new, tt)
+quiet-with_entry (f ∷ fs) e new quiet =
     elim (cases_lt (place_of e) (place_of f)) [
-      | inl lt ↦ rw (with_entry-before e f fs lt) (new, plain)
+      | inl lt ↦ rw (with_entry-before e f fs lt) (new, quiet)
       | inr ge ↦ elim (cases_lt (place_of f) (place_of e)) [
-        | inl gt ↦ rw (with_entry-after e f fs gt) (plain.0, plain-with_entry fs e new plain.1)
-        | inr le ↦ let same : place_of e ≡ place_of f = omega arith in rw (with_entry-same e f fs same) (new, plain.1)
+        | inl gt ↦ rw (with_entry-after e f fs gt) (quiet.0, quiet-with_entry fs e new quiet.1)
+        | inr le ↦ let same : place_of e ≡ place_of f = omega arith in rw (with_entry-same e f fs same) (new, quiet.1)
       ]
     ]
 
-plain-without_key : (es : List Entry) (k : Key) → AllByRecursion IsPlain es → AllByRecursion IsPlain (without_key k es)
-plain-without_key [] k plain = tt
-plain-without_key (f ∷ fs) k plain =
+quiet-without_key : (es : List Entry) (k : Key) → AllByRecursion IsQuiet es → AllByRecursion IsQuiet (without_key k es)
+quiet-without_key [] k quiet = tt
+quiet-without_key (f ∷ fs) k quiet =
     elim (cases_eq (place_of f) (place k)) [
-      | inl same ↦ rw (without_key-same k f fs same) (plain-without_key fs k plain.1)
-      | inr other ↦ rw (without_key-other k f fs other) (plain.0, plain-without_key fs k plain.1)
+      | inl same ↦ rw (without_key-same k f fs same) (quiet-without_key fs k quiet.1)
+      | inr other ↦ rw (without_key-other k f fs other) (quiet.0, quiet-without_key fs k quiet.1)
     ]
 
-all_weaker : (P : Entry → Type 0) → ((e : Entry) → IsPlain e → P e) → (es : List Entry) → AllByRecursion IsPlain es → AllByRecursion P es
-all_weaker P weaker [] plain = tt
-all_weaker P weaker (e ∷ es) plain = (weaker e plain.0, all_weaker P weaker es plain.1)
-
-pub plain-add : (t : TableState) (flow : FlowMod) → adds_for_good flow ≡ true → AllByRecursion IsPlain t.entries → AllByRecursion IsPlain (changed 0 flow t).entries
-plain-add t flow good plain =
+pub quiet-add : (t : TableState) (flow : FlowMod) → adds_for_good flow ≡ true → AllByRecursion IsQuiet t.entries → AllByRecursion IsQuiet (changed 0 flow t).entries
+quiet-add t flow good quiet =
     let e = plain_entry t.next flow in
-    rw (changed-add t flow good) (plain-with_entry t.entries e (plain-entry t.next flow good) plain)
+    rw (changed-add t flow good) (quiet-with_entry t.entries e (flags-entry t.next flow good) quiet)
 
-pub plain-remove : (t : TableState) (k : Key) → AllByRecursion IsPlain t.entries → AllByRecursion IsPlain (changed 0 (removal_of k) t).entries
-plain-remove t k plain = rw (changed-remove t k) (plain-without_key t.entries k plain)
-
-pub moment-plain : (es : List Entry) → AllByRecursion IsPlain es → IsMoment 0 es
-moment-plain es plain = record {
-  within = omega arith;
-  installed = All-from_recursion _ es (all_weaker (λ e. e.installed ≤ 0) (λ e p. omega (arith, p.installed)) es plain);
-  used = All-from_recursion _ es (all_weaker (λ e. e.used ≤ 0) (λ e p. omega (arith, p.used)) es plain);
-}
+pub quiet-remove : (t : TableState) (k : Key) → AllByRecursion IsQuiet t.entries → AllByRecursion IsQuiet (changed 0 (removal_of k) t).entries
+quiet-remove t k quiet = rw (changed-remove t k) (quiet-without_key t.entries k quiet)

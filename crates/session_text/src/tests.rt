@@ -1,11 +1,13 @@
 use super::*;
 use crate::SessionError::BadInput;
-use flow_table::PlainEntry;
 use lego_model::Ending;
-use of_match::{Key, Match};
+use of_action::{Action, ActionList};
+use of_match::Match;
+use of_wire::FlowMod;
+use std::alloc::{AllocError, Global};
 use std::test::Fail;
 
-/// One message, which adds the entry `port_1`, and `done`.
+/// One message, `port_1`, and `done`.
 const DONE: &[u8] = b"---\nsession 1\nswitch 1 4 1,2\nreply app m:1:\
     010e005000000000003820fe0001000000000000000000000000000000000000000000000000000000000000\
     0000000000000000000000000000000000000064ffffffffffff00000000000800020000 done\njoin 1\n";
@@ -27,21 +29,31 @@ const ONE_KEY_TWICE: &[u8] = b"---\nsession 1\nswitch 1 4 1,2\nreply app m:1:\
     010E005000000000FFFFFFFE0001A0A0A0A0A0A0A0A0A0A0A0A0A0A0A0A0A0A0A0A0A0A0A0A0A0A0A0A0A0A0\
     0000000000000000000000000000000000000064FFFFFFFFFFFF00000000000800010000 done\njoin 1\n";
 
-/// The entry that sends what comes in by port 1 to port 2, at priority 100.
-fn port_1() -> PlainEntry {
+/// The FLOW_MOD that adds an entry which sends what comes in by port 1 to port 2, at priority 100.
+fn port_1(alloc: Global) -> Result<FlowMod, AllocError> {
     let mut bytes = [0; 40];
     bytes[1] = 0x38;
     bytes[2] = 0x20;
     bytes[3] = 0xfe;
     bytes[5] = 1;
-    PlainEntry {
-        key: Key {
-            priority: 100,
-            matching: Match::decode(&bytes),
-        },
+    let output = Action::Output {
+        port: 2,
+        max_len: 0,
+    };
+    let mut actions = Vec::new(alloc);
+    actions.push(output)?;
+    Ok(FlowMod {
+        matching: Match::decode(&bytes),
         cookie: 0,
-        output: [0, 0, 0, 8, 0, 2, 0, 0],
-    }
+        command: 0,
+        idle: 0,
+        hard: 0,
+        priority: 100,
+        buffer_id: 0xffff_ffff,
+        out_port: 0xffff,
+        flags: 0,
+        actions: ActionList::from_vec(actions),
+    })
 }
 
 #[test]
@@ -55,7 +67,7 @@ fn reads_sessions(rt: HostRuntime) -> Result<(), Fail> {
         assert!(rt; session.joins);
         let reply = session.reply.ok_or("no reply")?;
         assert_eq!(rt; reply.ending, ending);
-        assert!(rt; reply.entries.as_slice() == [port_1()].as_slice());
+        assert!(rt; reply.flows.as_slice() == [port_1(alloc)?].as_slice());
     }
     Ok(())
 }
@@ -103,15 +115,15 @@ fn takes_just_the_grammar(rt: HostRuntime) -> Result<(), Fail> {
 
 #[test]
 fn a_world_keeps_a_journal(rt: HostRuntime) -> Result<(), Fail> {
-    let entry = port_1();
+    let flow = port_1(rt.alloc())?;
     let mut world = PlainWorld::new(rt.alloc())?;
     world.asked(1)?;
     assert!(rt; world.entries().is_empty());
-    world.change(7, PlainChange::Add(entry))?;
+    world.change(7, PlainChange::adding(rt.alloc(), &flow)?)?;
     world.answered(1)?;
     match world.entries() {
         [only] => {
-            assert!(rt; *only == entry);
+            assert!(rt; only.actions == flow.actions);
             let key = only.key;
             world.change(7, PlainChange::Remove(key))?;
         }

@@ -1,7 +1,7 @@
 //! A plain world: the flow table of one switch, and a journal.
 
 ghost use Rattle.std.specs.Prelude.{◌≡◌, ◌+◌, ◌-◌, ◌<◌, ◌≤◌, ◌^◌, [], ◌∷◌, ◌++◌, vec_len, vec_capacity, None, IsTrue, IfOk, OnOk, OnErr, IsOk};
-ghost use Rattle.flow_table.specs.Table.{IsTable, IsMoment};
+ghost use Rattle.flow_table.specs.Table.{IsTable};
 ghost use Rattle.flow_table.specs.Change.{is_delete, refusal, changed, notices_of};
 ghost use Rattle.session_text.specs.Journal.{table_of, CanChange, IsRemoval, LeavesTable};
 
@@ -131,7 +131,6 @@ impl PlainWorld {
 
 /// Changes a table at moment 0 by a FLOW_MOD against which nothing stands.
 fn change_at_first(table: &mut Table, flow: &FlowMod) -> Result<(), AllocError>
-    requires moment { IsMoment 0 table.old.entries }
     requires serials { table.old.next < 2 ^ 64 - 1 }
     requires taken { refusal 4096 flow.now table.old.entries ≡ None }
     ensures ok { OnOk result (table.new ≡ changed 0 flow.now table.old) }

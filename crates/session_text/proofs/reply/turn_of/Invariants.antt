@@ -10,7 +10,7 @@ abbrev pub invariant-loop-rest : goal.invariant-loop-rest
 invariant-loop-rest l =
     record {
       so_far : after_all (map (addition l.switch.dpid) l.flows.items) (turn_of (view_switch l.switch) (map (λ w. w.now) l.rest)) ≡ turn_of (view_switch l.switch) (map (λ w. w.now) l.steps);
-      for_good : AllPass adds_for_good l.flows.items
+      for_good : AllPass adds_for_good l.flows.items;
     }
 
 abbrev pub decreases-loop-rest : goal.decreases-loop-rest

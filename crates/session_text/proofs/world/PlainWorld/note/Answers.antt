@@ -10,7 +10,7 @@ invariant_of-self-2 c =
       table_is =
           c.self.invariant.table_is ∙ sym (state_of-leaves before c.args.act c.requires)
           ∙ ap (λ journal. state_of (journal ++ c.args.act ∷ [])) (sym c.reserve.ensures.items) ∙ sym (ap state_of c.push_in_room.ensures.items);
-      plain = c.self.invariant.plain;
+      quiet = c.self.invariant.quiet;
       most = c.self.invariant.most;
       numbered = omega (arith, c.self.invariant.numbered, c.reserve.ensures.len, c.push_in_room.ensures.len);
       room = omega (arith, c.in_ok-reserve.ensures.ok);
