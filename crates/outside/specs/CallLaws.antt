@@ -1,17 +1,20 @@
 -- What a call that succeeds leaves of the state of a world that tells, and what it was in a world that keeps its word.
-use Rattle.std.specs.Prelude.{◌≡◌, ℕ, true, List, [], ◌∷◌, ◌++◌, take, Some, Ok, IsOk, slice_get}
+use Rattle.std.specs.Prelude.{◌≡◌, ℕ, true, false, refl, List, [], ◌∷◌, ◌++◌, take, Some, Ok, IsOk, slice_get}
 use Rattle.std.proofs.Common.{◌∙◌}
 use Rattle.of_types.specs.declared.journal.Act.TheVariants.{Started, Gave, Took, Sent, Got}
 use Rattle.of_types.specs.declared.journal.TookWhat.TheVariants as took
 use Rattle.of_wire.specs.Reading.{reading_of}
 use Rattle.outside.specs.declared.item.Item.{Item}
 use Rattle.outside.specs.declared.item.Taken.TheVariants as gave
-use Rattle.outside.specs.declared.step.WorldStep.TheVariants.{Acted}
+use Rattle.flow_table.specs.Switch.{Declared}
+use Rattle.outside.specs.declared.item.Item.TheVariants as items
+use Rattle.outside.specs.declared.step.WorldStep.{WorldStep}
+use Rattle.outside.specs.declared.step.WorldStep.TheVariants.{Acted, From, Joined, Left, Moment}
 use Rattle.outside.specs.Seen.{Seen}
-use Rattle.outside.specs.State.{after_step, after_steps, state, waits_of, is_running}
+use Rattle.outside.specs.State.{State, after_step, after_steps, state, waits_of, is_running, upcoming}
 use Rattle.outside.specs.StateLaws.{after_steps-append, state-append, Conforming-rest}
-use Rattle.outside.specs.Calls.{Nexts, Starts, Gives, Takes, Ends, Sends, Receives, stim_steps, item_step, next_steps, start_steps, give_steps, take_steps, end_steps, send_steps, receive_steps}
-use Rattle.outside.specs.Conforming.{MayStep, MayAct, MaySteps, Conforming}
+use Rattle.outside.specs.Calls.{IsIdle, Nexts, Starts, Gives, Takes, Ends, Sends, Receives, stim_steps, item_step, next_steps, start_steps, give_steps, take_steps, end_steps, send_steps, receive_steps}
+use Rattle.outside.specs.Conforming.{IsNext, MayStep, MayAct, MaySteps, Conforming}
 
 -- ---- The state after a call that succeeded
 
@@ -60,3 +63,20 @@ pub Nexts-conforming : {Own Tells : Type 0} {old new : Seen Own} {buf : List ℕ
 unfolding next_steps
 Nexts-conforming {old = old} {new = new} {buf = buf} item told call keeps =
     Conforming-rest old new (stim_steps (call.told told).begun ++ item_step item buf ∷ []) call.given (call.told told).history keeps
+
+-- Where nothing is upcoming and no stimulus is begun, the only item that may come without one is End, after the last stimulus.
+nothing_next : (step : WorldStep) (s : State) → upcoming s ≡ [] → IsNext step s → ⊥
+nothing_next step s none next = let h = rw none at next in cc
+
+no_idle : (s : State) → s.begun ≡ false → IsIdle s → ⊥
+no_idle s rests idle = cc (idle.0, rests)
+
+pub MayStep-at_rest : (declared : List Declared) (item : Item) (buf : List ℕ) (s : State) → s.begun ≡ false → upcoming s ≡ [] → MayStep declared (item_step item buf) s
+    → (item ≡ items.End) × (s.to_come ≡ [])
+unfolding MayStep item_step
+MayStep-at_rest declared (items.From d n) buf s rests none may = absurd (nothing_next (From d (take n buf)) s none may.0)
+MayStep-at_rest declared (items.Joined d n) buf s rests none may = absurd (nothing_next (Joined d (take n buf)) s none may)
+MayStep-at_rest declared (items.Left d) buf s rests none may = absurd (nothing_next (Left d) s none may)
+MayStep-at_rest declared (items.Moment t) buf s rests none may = absurd (nothing_next (Moment t) s none may)
+MayStep-at_rest declared items.Idle buf s rests none may = absurd (no_idle s rests may)
+MayStep-at_rest declared items.End buf s rests none may = (refl, may.1)

@@ -1,15 +1,18 @@
 //! Laws of histories, each the contract of a function that does nothing.
 
-ghost use Rattle.std.specs.Prelude.{◌≡◌, ◌≢◌, ℕ, List, ◌++◌, take, drop, Ok, Some, IsOk, slice_get};
+ghost use Rattle.std.specs.Prelude.{◌≡◌, ◌≢◌, ℕ, false, List, [], ◌++◌, take, drop, Ok, Some, IsOk, slice_get};
 ghost use Rattle.of_types.specs.declared.journal.Act.TheVariants.{Sent, Got};
 ghost use Rattle.of_wire.specs.Reading.{reading_of};
+ghost use Rattle.flow_table.specs.Switch.{Declared};
+ghost use Rattle.outside.specs.declared.item.Item.{Item};
 ghost use Rattle.outside.specs.declared.step.WorldStep.{WorldStep};
 ghost use Rattle.outside.specs.declared.step.WorldStep.TheVariants.{Acted};
 ghost use Rattle.outside.specs.Seen.{Seen, Counts, NoneFell, Continues, LinkHeld, journal};
-ghost use Rattle.outside.specs.State.{State, after_step, after_steps, state, switch_of, waits_of, switch_told, message_sends, but_marks};
-ghost use Rattle.outside.specs.Calls.{Receives};
-ghost use Rattle.outside.specs.Conforming.{MaySteps, Conforming};
+ghost use Rattle.outside.specs.State.{State, after_step, after_steps, state, switch_of, waits_of, upcoming, switch_told, message_sends, but_marks};
+ghost use Rattle.outside.specs.Calls.{Receives, item_step};
+ghost use Rattle.outside.specs.Conforming.{MayStep, MaySteps, Conforming};
 
+use crate::item::Item;
 use crate::world::World;
 
 /// A history that goes on: its journal and its state are those of the front, with the rest behind.
@@ -70,4 +73,11 @@ pub fn receives_the_next<W: World>()
         → Conforming new → (slice_get (waits_of d (state old)) 0 ≡ Some (take n buf)) × IsOk (reading_of (take n buf)) }
     ensures moves { (d : ℕ) (old new : Seen W.Own) (buf : List ℕ) (n : ℕ) → W.Tells → Receives W.Tells d old new (Ok n) buf
         → state new ≡ after_step (Acted (Got d (take n buf))) (state old) }
+{}
+
+/// Where nothing is upcoming and no stimulus is begun, the only item that may come without one is `End`, after
+/// the last stimulus.
+pub fn rests_until_a_stimulus()
+    ensures { (declared : List Declared) (item : Item) (buf : List ℕ) (s : State) → s.begun ≡ false → upcoming s ≡ []
+        → MayStep declared (item_step item buf) s → (item ≡ Item.End) × (s.to_come ≡ []) }
 {}

@@ -19,8 +19,11 @@ pub use flow_table::{AllowAll, Judge};
 pub use item::{Item, Taken};
 pub use laws::{
     conforming_before, later_calls, longer_history, marks_steer_nothing, receives_the_next,
-    sent_moves_one, taken_moves_none,
+    rests_until_a_stimulus, sent_moves_one, taken_moves_none,
 };
 pub use mute::Mute;
 pub use step::WorldStep;
 pub use world::World;
+
+#[cfg(test)]
+mod tests;

@@ -1,9 +1,8 @@
 //! A world in which nothing happens.
 
-ghost use Rattle.std.specs.Prelude.{◌≡◌, ℕ, ◌<◌, ◌≤◌, length, IsOk};
+ghost use Rattle.std.specs.Prelude.{◌≡◌, ℕ};
 ghost use Rattle.lego_io.specs.Count.{Rose, NeverFell};
-ghost use Rattle.of_wire.specs.Reading.{reading_of};
-ghost use Rattle.outside.specs.Seen.{Seen};
+ghost use Rattle.outside.specs.Calls.{Opens, Nexts, Starts, Gives, Takes, Sends, Receives};
 ghost use Rattle.outside.specs.Mute.{mute_seen};
 
 use crate::faults::{GiveFault, LinkFault, NextFault, OpenFault, Short, StartFault};
@@ -41,39 +40,60 @@ impl World for Mute {
 
     ghost seen = { λ s. mute_seen s.faults };
 
-    fn open(&mut self, _port: u16) -> Result<(), OpenFault> {
+    fn open(&mut self, _port: u16) -> Result<(), OpenFault>
+        ensures seen { Opens ⊥ (mute_seen self.old.faults) (mute_seen self.new.faults) result }
+        ensures fails { result ≡ Err OpenFault.Shut }
+    {
         self.raise();
         Err(OpenFault::Shut)
     }
 
-    fn next(&mut self, _buf: &mut [u8]) -> Result<Item, NextFault> {
+    fn next(&mut self, _buf: &mut [u8]) -> Result<Item, NextFault>
+        ensures seen { Nexts ⊥ (mute_seen self.old.faults) (mute_seen self.new.faults) result _buf.new }
+        ensures fails { result ≡ Err NextFault.Failed }
+    {
         self.raise();
         Err(NextFault::Failed)
     }
 
-    fn start(&mut self, _app: u32, _words: &[String]) -> Result<(), StartFault> {
+    fn start(&mut self, _app: u32, _words: &[String]) -> Result<(), StartFault>
+        ensures seen { Starts ⊥ _app (mute_seen self.old.faults) (mute_seen self.new.faults) result }
+        ensures fails { result ≡ Err StartFault.NotStarted }
+    {
         self.raise();
         Err(StartFault::NotStarted)
     }
 
-    fn give(&mut self, _app: u32, _bytes: &[u8]) -> Result<(), GiveFault> {
+    fn give(&mut self, _app: u32, _bytes: &[u8]) -> Result<(), GiveFault>
+        ensures seen { Gives ⊥ _app _bytes.now (mute_seen self.old.faults) (mute_seen self.new.faults) result }
+        ensures fails { result ≡ Err GiveFault.Gone }
+    {
         self.raise();
         Err(GiveFault::Gone)
     }
 
-    fn take(&mut self, _app: u32, _buf: &mut [u8]) -> Result<Taken, Short> {
+    fn take(&mut self, _app: u32, _buf: &mut [u8]) -> Result<Taken, Short>
+        ensures seen { Takes ⊥ _app (mute_seen self.old.faults) (mute_seen self.new.faults) result _buf.new }
+        ensures fails { result ≡ Ok Taken.Silent }
+    {
         self.raise();
         Ok(Taken::Silent)
     }
 
     fn end(&mut self, _app: u32) {}
 
-    fn send(&mut self, _dpid: u64, _frame: &[u8]) -> Result<(), LinkFault> {
+    fn send(&mut self, _dpid: u64, _frame: &[u8]) -> Result<(), LinkFault>
+        ensures seen { Sends ⊥ _dpid _frame.now (mute_seen self.old.faults) (mute_seen self.new.faults) result }
+        ensures fails { result ≡ Err LinkFault.Failed }
+    {
         self.raise();
         Err(LinkFault::Failed)
     }
 
-    fn recv(&mut self, _dpid: u64, _buf: &mut [u8]) -> Result<usize, LinkFault> {
+    fn recv(&mut self, _dpid: u64, _buf: &mut [u8]) -> Result<usize, LinkFault>
+        ensures seen { Receives ⊥ _dpid (mute_seen self.old.faults) (mute_seen self.new.faults) result _buf.new }
+        ensures fails { result ≡ Err LinkFault.Failed }
+    {
         self.raise();
         Err(LinkFault::Failed)
     }
