@@ -87,6 +87,15 @@ fn told(alloc: Global, notices: &NoticeList) -> Result<Vec<[u64; 3]>, AllocError
     Ok(all)
 }
 
+/// The kind and code of a refusal.
+fn code(alloc: Global, fault: ChangeFault) -> Result<Vec<[u64; 3]>, AllocError> {
+    let mut all = Vec::new(alloc);
+    if let ChangeFault::Refused(error) = fault {
+        all.push([u64::from(error.kind), u64::from(error.code), 0])?;
+    }
+    Ok(all)
+}
+
 /// What a table of `cap` entries answers to a change at a moment: the notices, or the error in place of one.
 fn answer(
     alloc: Global,
@@ -100,10 +109,7 @@ fn answer(
 {
     match table.change(m, now, cap) {
         Ok(notices) => told(alloc, &notices),
-        Err(ChangeFault::Refused(error)) => {
-            Vec::from_array(alloc, [[u64::from(error.kind), u64::from(error.code), 0]])
-        }
-        Err(ChangeFault::NoMemory) => Vec::from_array(alloc, [[0, 0, 0]]),
+        Err(fault) => code(alloc, fault),
     }
 }
 
@@ -113,7 +119,8 @@ fn gives(
     alloc: Global,
     table: &mut Table,
     m: FlowMod,
-    (now, cap): (u64, u32),
+    now: u64,
+    cap: u32,
     answers: &[[u64; 3]],
     entries: &[[u64; 7]],
 ) -> Result<bool, AllocError>
@@ -130,14 +137,15 @@ fn refusals_of_a_full_table(rt: HostRuntime) -> Result<(), Fail> {
     let alloc = rt.alloc();
     let mut table = Table::new(alloc)?;
     let m = flow_mod(alloc, flows::ADD, (5, PORT_1), 0, 1)?;
-    assert!(rt; gives(alloc, &mut table, m, (0, 1), &[], &[[5, 1, 1, 0, 0, 0, 0]])?);
+    assert!(rt; gives(alloc, &mut table, m, 0, 1, &[], &[[5, 1, 1, 0, 0, 0, 0]])?);
     let m = flow_mod(alloc, flows::ADD, (5, PORT_2), 2, 2)?;
     assert!(rt;
         gives(
             alloc,
             &mut table,
             m,
-            (1, 1),
+            1,
+            1,
             &[[3, 0, 0]],
             &[[5, 1, 1, 0, 0, 0, 0]]
         )?
@@ -148,7 +156,8 @@ fn refusals_of_a_full_table(rt: HostRuntime) -> Result<(), Fail> {
             alloc,
             &mut table,
             m,
-            (2, 1),
+            2,
+            1,
             &[[3, 1, 0]],
             &[[5, 1, 1, 0, 0, 0, 0]]
         )?
@@ -159,13 +168,14 @@ fn refusals_of_a_full_table(rt: HostRuntime) -> Result<(), Fail> {
             alloc,
             &mut table,
             m,
-            (3, 1),
+            3,
+            1,
             &[[3, 4, 0]],
             &[[5, 1, 1, 0, 0, 0, 0]]
         )?
     );
     let m = flow_mod(alloc, flows::ADD, (5, PORT_1), 1, 3)?;
-    assert!(rt; gives(alloc, &mut table, m, (4, 1), &[], &[[5, 3, 3, 1, 4, 0, 1]])?);
+    assert!(rt; gives(alloc, &mut table, m, 4, 1, &[], &[[5, 3, 3, 1, 4, 0, 1]])?);
     Ok(())
 }
 
@@ -174,16 +184,17 @@ fn modify_and_delete(rt: HostRuntime) -> Result<(), Fail> {
     let alloc = rt.alloc();
     let mut table = Table::new(alloc)?;
     let m = flow_mod(alloc, flows::ADD, (10, PORT_1), 3, 1)?;
-    assert!(rt; gives(alloc, &mut table, m, (0, 9), &[], &[[10, 1, 1, 1, 0, 0, 0]])?);
+    assert!(rt; gives(alloc, &mut table, m, 0, 9, &[], &[[10, 1, 1, 1, 0, 0, 0]])?);
     let m = flow_mod(alloc, flows::MODIFY, (0, ANY), 0, 2)?;
-    assert!(rt; gives(alloc, &mut table, m, (1, 9), &[], &[[10, 1, 2, 1, 0, 7, 0]])?);
+    assert!(rt; gives(alloc, &mut table, m, 1, 9, &[], &[[10, 1, 2, 1, 0, 7, 0]])?);
     let m = flow_mod(alloc, flows::MODIFY_STRICT, (11, PORT_1), 1, 3)?;
     assert!(rt;
         gives(
             alloc,
             &mut table,
             m,
-            (2, 9),
+            2,
+            9,
             &[],
             &[[11, 3, 3, 1, 2, 0, 1], [10, 1, 2, 1, 0, 14, 0]]
         )?
@@ -195,12 +206,13 @@ fn modify_and_delete(rt: HostRuntime) -> Result<(), Fail> {
             alloc,
             &mut table,
             m,
-            (3, 9),
+            3,
+            9,
             &[],
             &[[11, 3, 3, 1, 2, 0, 1], [10, 1, 2, 1, 0, 21, 0]]
         )?
     );
     let m = flow_mod(alloc, flows::DELETE, (0, ANY), 0, 0)?;
-    assert!(rt; gives(alloc, &mut table, m, (9, 9), &[[3, 2, 7], [1, 2, 9]], &[])?);
+    assert!(rt; gives(alloc, &mut table, m, 9, 9, &[[3, 2, 7], [1, 2, 9]], &[])?);
     Ok(())
 }
