@@ -3,7 +3,7 @@ ghost use Rattle.std.specs.Prelude.{◌<◌, ◌≤◌, ◌+◌, ◌-◌, ◌^�
 use super::*;
 use of_action::{Action, ActionList};
 use of_match::Match;
-use of_types::{OfError, errors, flows, ports};
+use of_types::{flows, ports};
 use of_wire::FlowMod;
 use std::alloc::{AllocError, Global};
 use std::test::Fail;
@@ -87,112 +87,132 @@ fn told(alloc: Global, notices: &NoticeList) -> Result<Vec<[u64; 3]>, AllocError
     Ok(all)
 }
 
-/// Whether a FLOW_MOD is refused for this error, in a table of one entry.
-fn refuses(table: &mut Table, m: &FlowMod, error: OfError) -> bool
+/// The kind and code of a refusal.
+fn code(alloc: Global, fault: ChangeFault) -> Result<Vec<[u64; 3]>, AllocError> {
+    let mut all = Vec::new(alloc);
+    if let ChangeFault::Refused(error) = fault {
+        all.push([u64::from(error.kind), u64::from(error.code), 0])?;
+    }
+    Ok(all)
+}
+
+/// What a table of `cap` entries answers to a change at a moment: the notices, or the error in place of one.
+fn answer(
+    alloc: Global,
+    table: &mut Table,
+    m: &FlowMod,
+    now: u64,
+    cap: u32,
+) -> Result<Vec<[u64; 3]>, AllocError>
     requires { table.old.next < 2 ^ 64 - 1 }
     ensures { table.new.next ≤ table.old.next + 1 }
 {
-    table.change(m, 0, 1) == Err(ChangeFault::Refused(error))
+    match table.change(m, now, cap) {
+        Ok(notices) => told(alloc, &notices),
+        Err(fault) => code(alloc, fault),
+    }
+}
+
+/// Counts 7 packets at each entry of priority 10, makes the change, and says whether the answer and then the
+/// rows are these.
+fn gives(
+    alloc: Global,
+    table: &mut Table,
+    m: FlowMod,
+    now: u64,
+    cap: u32,
+    answers: &[[u64; 3]],
+    entries: &[[u64; 7]],
+) -> Result<bool, AllocError>
+    requires { table.old.next < 2 ^ 64 - 1 }
+    ensures { table.new.next ≤ table.old.next + 1 }
+{
+    table.add_counts(10, 7, 70);
+    let first = answer(alloc, table, &m, now, cap)?;
+    Ok(first.as_slice() == answers && rows(alloc, table)?.as_slice() == entries)
 }
 
 #[test]
 fn refusals_of_a_full_table(rt: HostRuntime) -> Result<(), Fail> {
     let alloc = rt.alloc();
     let mut table = Table::new(alloc)?;
-    let first = flow_mod(alloc, flows::ADD, (5, PORT_1), 0, 1)?;
-    let apart = flow_mod(alloc, flows::ADD, (5, PORT_2), 2, 2)?;
-    let wider = flow_mod(alloc, flows::ADD, (5, ANY), 2, 2)?;
-    let unknown = flow_mod(alloc, 5, (5, PORT_1), 0, 2)?;
-    let again = flow_mod(alloc, flows::ADD, (5, PORT_1), 1, 3)?;
-    assert!(rt; table.change(&first, 0, 1).is_ok());
-    assert!(rt; refuses(&mut table, &apart, errors::FLOW_TABLES_FULL));
-    assert!(rt; refuses(&mut table, &wider, errors::FLOW_OVERLAP));
-    assert!(rt; refuses(&mut table, &unknown, errors::FLOW_BAD_COMMAND));
-    assert!(rt; rows(alloc, &table)?.as_slice() == [[5, 1, 1, 0, 0, 0, 0]].as_slice());
-    let notices = table.change(&again, 4, 1).expect(&rt, "memory");
-    assert!(rt; notices.is_empty());
-    assert!(rt; rows(alloc, &table)?.as_slice() == [[5, 3, 3, 1, 4, 0, 1]].as_slice());
+    let m = flow_mod(alloc, flows::ADD, (5, PORT_1), 0, 1)?;
+    assert!(rt; gives(alloc, &mut table, m, 0, 1, &[], &[[5, 1, 1, 0, 0, 0, 0]])?);
+    let m = flow_mod(alloc, flows::ADD, (5, PORT_2), 2, 2)?;
+    assert!(rt;
+        gives(
+            alloc,
+            &mut table,
+            m,
+            1,
+            1,
+            &[[3, 0, 0]],
+            &[[5, 1, 1, 0, 0, 0, 0]]
+        )?
+    );
+    let m = flow_mod(alloc, flows::ADD, (5, ANY), 2, 2)?;
+    assert!(rt;
+        gives(
+            alloc,
+            &mut table,
+            m,
+            2,
+            1,
+            &[[3, 1, 0]],
+            &[[5, 1, 1, 0, 0, 0, 0]]
+        )?
+    );
+    let m = flow_mod(alloc, 5, (5, PORT_1), 0, 2)?;
+    assert!(rt;
+        gives(
+            alloc,
+            &mut table,
+            m,
+            3,
+            1,
+            &[[3, 4, 0]],
+            &[[5, 1, 1, 0, 0, 0, 0]]
+        )?
+    );
+    let m = flow_mod(alloc, flows::ADD, (5, PORT_1), 1, 3)?;
+    assert!(rt; gives(alloc, &mut table, m, 4, 1, &[], &[[5, 3, 3, 1, 4, 0, 1]])?);
     Ok(())
 }
 
-/// Counts 7 packets at each entry of priority 10, changes the table and says whether it then has these rows
-/// and gave no notice.
-fn becomes(
-    alloc: Global,
-    table: &mut Table,
-    now: u64,
-    m: &FlowMod,
-    wants: &[[u64; 7]],
-) -> Result<bool, AllocError>
-    requires { table.old.next < 2 ^ 64 - 1 }
-    ensures { table.new.next ≤ table.old.next + 1 }
-{
-    table.add_counts(10, 7, 70);
-    let quiet = match table.change(m, now, 9) {
-        Ok(notices) => notices.is_empty(),
-        Err(_) => false,
-    };
-    Ok(quiet && rows(alloc, table)?.as_slice() == wants)
-}
-
 #[test]
-fn four_commands(rt: HostRuntime) -> Result<(), Fail> {
+fn modify_and_delete(rt: HostRuntime) -> Result<(), Fail> {
     let alloc = rt.alloc();
     let mut table = Table::new(alloc)?;
-    let add = flow_mod(alloc, flows::ADD, (10, PORT_1), 3, 1)?;
-    assert!(rt; becomes(alloc, &mut table, 0, &add, &[[10, 1, 1, 1, 0, 0, 0]])?);
-    let modify = flow_mod(alloc, flows::MODIFY, (0, ANY), 0, 2)?;
-    assert!(rt; becomes(alloc, &mut table, 1, &modify, &[[10, 1, 2, 1, 0, 7, 0]])?);
-    let strict = flow_mod(alloc, flows::MODIFY_STRICT, (11, PORT_1), 1, 3)?;
+    let m = flow_mod(alloc, flows::ADD, (10, PORT_1), 3, 1)?;
+    assert!(rt; gives(alloc, &mut table, m, 0, 9, &[], &[[10, 1, 1, 1, 0, 0, 0]])?);
+    let m = flow_mod(alloc, flows::MODIFY, (0, ANY), 0, 2)?;
+    assert!(rt; gives(alloc, &mut table, m, 1, 9, &[], &[[10, 1, 2, 1, 0, 7, 0]])?);
+    let m = flow_mod(alloc, flows::MODIFY_STRICT, (11, PORT_1), 1, 3)?;
     assert!(rt;
-        becomes(
+        gives(
             alloc,
             &mut table,
+            m,
             2,
-            &strict,
+            9,
+            &[],
             &[[11, 3, 3, 1, 2, 0, 1], [10, 1, 2, 1, 0, 14, 0]]
         )?
     );
-    let again = flow_mod(alloc, flows::ADD, (10, PORT_1), 1, 4)?;
+    let mut m = flow_mod(alloc, flows::DELETE_STRICT, (11, PORT_1), 0, 0)?;
+    m.out_port = 2;
     assert!(rt;
-        becomes(
+        gives(
             alloc,
             &mut table,
+            m,
             3,
-            &again,
-            &[[11, 3, 3, 1, 2, 0, 1], [10, 4, 4, 1, 3, 0, 2]]
+            9,
+            &[],
+            &[[11, 3, 3, 1, 2, 0, 1], [10, 1, 2, 1, 0, 21, 0]]
         )?
     );
-    let other = flow_mod(alloc, flows::DELETE_STRICT, (10, ANY), 0, 0)?;
-    assert!(rt;
-        becomes(
-            alloc,
-            &mut table,
-            4,
-            &other,
-            &[[11, 3, 3, 1, 2, 0, 1], [10, 4, 4, 1, 3, 7, 2]]
-        )?
-    );
-    Ok(())
-}
-
-#[test]
-fn notices_of_a_delete(rt: HostRuntime) -> Result<(), Fail> {
-    let alloc = rt.alloc();
-    let mut table = Table::new(alloc)?;
-    let low = flow_mod(alloc, flows::ADD, (10, PORT_1), 1, 1)?;
-    let high = flow_mod(alloc, flows::ADD, (11, PORT_1), 1, 2)?;
-    let silent = flow_mod(alloc, flows::ADD, (12, PORT_1), 0, 3)?;
-    assert!(rt; table.change(&low, 0, 9).is_ok());
-    assert!(rt; table.change(&high, 1, 9).is_ok());
-    assert!(rt; table.change(&silent, 2, 9).is_ok());
-    let mut delete = flow_mod(alloc, flows::DELETE, (0, ANY), 0, 0)?;
-    delete.out_port = 3;
-    let none = table.change(&delete, 8, 9).expect(&rt, "memory");
-    assert!(rt; none.is_empty());
-    delete.out_port = ports::NONE;
-    let both = table.change(&delete, 9, 9).expect(&rt, "memory");
-    assert!(rt; told(alloc, &both)?.as_slice() == [[2, 2, 8], [1, 2, 9]].as_slice());
-    assert!(rt; table.is_empty());
+    let m = flow_mod(alloc, flows::DELETE, (0, ANY), 0, 0)?;
+    assert!(rt; gives(alloc, &mut table, m, 9, 9, &[[3, 2, 7], [1, 2, 9]], &[])?);
     Ok(())
 }
