@@ -11,3 +11,6 @@ pub mod SessionText
 pub mod Journal
 pub mod JournalLaws
 pub mod Answers
+pub mod SessionFacts
+pub mod SessionWordLaws
+pub mod SessionTextLaws

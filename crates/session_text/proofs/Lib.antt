@@ -1,1 +1,6 @@
 pub mod Flows
+pub mod Sizes
+pub mod Ports
+pub mod Cuts
+pub mod LineCount
+pub mod Sound

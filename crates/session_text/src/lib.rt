@@ -11,6 +11,14 @@ mod session;
 mod switch;
 #[cfg(test)]
 mod tests;
+mod text_fault;
+mod text_lines;
+mod text_so_far;
+mod text_steps;
+#[cfg(test)]
+mod text_tests;
+mod text_words;
+mod whole_text;
 mod words;
 mod world;
 
@@ -18,4 +26,6 @@ pub use change::{PlainAct, PlainChange, key_of};
 pub use error::SessionError;
 pub use input::{MOST_INPUT, read_session};
 pub use session::{Reply, Session, Switch};
+pub use text_fault::SessionTextError;
+pub use whole_text::parse_session;
 pub use world::PlainWorld;
