@@ -1,5 +1,5 @@
 -- What every session that was read keeps. This text form is our own.
-use Rattle.std.specs.Prelude.{◌≡◌, ◌≢◌, ◌==◌, ℕ, ◌<◌, ◌≤◌, Bool, true, List, [], ◌∷◌, length, All}
+use Rattle.std.specs.Prelude.{◌≡◌, ◌≢◌, ◌==◌, ℕ, ◌<◌, ◌≤◌, true, List, [], ◌∷◌, length, All}
 use Rattle.std.specs.List.{AllPairs, list_any}
 use Rattle.of_types.specs.Fields.{IsBytes}
 use Rattle.of_types.specs.declared.journal.Stimulus.{Stimulus}

@@ -1,10 +1,9 @@
 -- The lines of a session text, each as what it adds to the session so far, or its first fault: first `word` for the line as a
 -- whole, then each word from left to right, last the order of moments. This text form is our own.
-use Rattle.std.specs.Prelude.{◌==◌, ℕ, Bool, true, false, not, ◌&&◌, ◌||◌, List, [], ◌∷◌, ◌++◌, length, Option, Some, None, Result, Ok, Err, nat_le, nat_lt, if◌then◌else◌, codes}
+use Rattle.std.specs.Prelude.{◌==◌, ℕ, Bool, true, false, not, ◌||◌, List, [], ◌∷◌, ◌++◌, length, Option, Some, None, Result, Ok, Err, nat_le, nat_lt, if◌then◌else◌, codes}
 use Rattle.std.specs.List.{list_any}
 use Rattle.of_types.specs.declared.journal.PortChange.{PortChange}
 use Rattle.of_types.specs.declared.journal.PortChange.TheVariants.{Up, Down, Add, Delete}
-use Rattle.of_types.specs.declared.journal.Stimulus.{Stimulus}
 use Rattle.of_types.specs.declared.journal.Stimulus.TheVariants.{Frame, Port, Counts, Raw as RawBytes}
 use Rattle.of_types.specs.declared.journal.WorldStim.{WorldStim}
 use Rattle.of_types.specs.declared.journal.WorldStim.TheVariants.{Join, Leave, At, Of}

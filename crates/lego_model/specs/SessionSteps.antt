@@ -4,7 +4,7 @@
 --   x:HEX                             bytes that need not be a frame
 --   done, stop, done:HEX, stop:HEX    a Done frame, with a checkpoint of at most 1,048,576 bytes; nothing follows
 --   closed, silent                    no more bytes; nothing follows
-use Rattle.std.specs.Prelude.{◌==◌, ℕ, Bool, true, false, not, ◌&&◌, ◌||◌, List, [], ◌∷◌, Option, Some, None, Result, Ok, Err, if◌then◌else◌, codes}
+use Rattle.std.specs.Prelude.{ℕ, Bool, true, false, not, ◌&&◌, ◌||◌, List, [], ◌∷◌, Some, None, Result, Ok, Err, if◌then◌else◌, codes}
 use Rattle.app_frames.specs.declared.frame.AppFrame.{AppFrame}
 use Rattle.app_frames.specs.declared.frame.AppFrame.TheVariants as frame
 use Rattle.app_frames.specs.declared.script.ScriptStep.{ScriptStep}

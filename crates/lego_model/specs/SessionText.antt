@@ -1,6 +1,6 @@
 -- The text of a session: lines, of which the empty ones and those that begin with `#` are passed over. The first of the others
 -- is `session 1`. This text form is our own.
-use Rattle.std.specs.Prelude.{◌==◌, ℕ, ◌+◌, Bool, true, false, not, ◌&&◌, ◌||◌, List, [], ◌∷◌, length, Result, Ok, Err, nat_le, nat_lt, if◌then◌else◌, codes}
+use Rattle.std.specs.Prelude.{◌==◌, ℕ, ◌+◌, Bool, true, false, not, ◌&&◌, List, [], ◌∷◌, length, Result, Ok, Err, nat_le, nat_lt, if◌then◌else◌, codes}
 use Rattle.std.specs.List.{list_all}
 use Rattle.lego_io.specs.Lines.{lines_of}
 use Rattle.lego_model.specs.declared.session.SessionKind.{SessionKind}

@@ -1,15 +1,13 @@
 -- Laws of the session text: what every session that was read keeps.
-use Rattle.std.proofs.Common.{◌≡◌, ◌≢◌, ◌==◌, ℕ, zero, suc, ◌+◌, ◌<◌, ◌≤◌, Bool, true, false, if◌then◌else◌, not, ◌&&◌, ◌||◌, List, [], ◌∷◌, ◌++◌, length, All, nat_le, nat_lt, Option, Some, None, Result, Ok, Err, refl, sym, ap, subst, ◌∙◌, arith, codes}
+use Rattle.std.proofs.Common.{◌≡◌, ◌≢◌, ◌==◌, ℕ, ◌+◌, ◌<◌, ◌≤◌, Bool, true, false, if◌then◌else◌, not, ◌||◌, List, [], ◌∷◌, ◌++◌, length, All, nat_le, nat_lt, Option, Some, None, Result, Ok, Err, refl, sym, ap, subst, ◌∙◌, arith, codes}
 use Rattle.std.specs.List.{AllPairs, list_any, list_all}
 use Rattle.std.proofs.lemmas.List.{length-append}
 use Rattle.std.proofs.lemmas.List.Elements.{All-weaker}
 use Rattle.std.proofs.lemmas.List.{append-nil}
 use Rattle.std.proofs.lemmas.List.Folds.{list_any-append}
 use Rattle.std.proofs.lemmas.List.Quantifiers.{all_pairs_push}
-use Rattle.of_types.specs.declared.journal.PortChange.{PortChange}
 use Rattle.of_types.specs.declared.journal.WorldStim.{WorldStim}
 use Rattle.of_types.specs.declared.journal.WorldStim.TheVariants.{Join, Leave, At, Of}
-use Rattle.of_types.specs.declared.journal.Stimulus.TheVariants.{Frame, Port, Counts, Raw as RawBytes}
 use Rattle.of_wire.specs.Reading.{reading_of}
 use Rattle.app_frames.specs.declared.script.ScriptStep.{ScriptStep}
 use Rattle.app_frames.specs.declared.script.StartScript.{StartScript}
@@ -18,12 +16,11 @@ use Rattle.lego_model.specs.declared.session.SessionFault.{SessionFault}
 use Rattle.lego_model.specs.declared.session.SessionKind.{SessionKind}
 use Rattle.lego_model.specs.declared.session.SessionKind.TheVariants.{Long, Text, Word, Range, Order, Raw}
 use Rattle.lego_model.specs.Words.{is_word, most_line, words_of}
-use Rattle.lego_model.specs.SessionWords.{◌>>=◌, unless, a_number, last_number, some_bytes, are_ports, some_ports, an_app}
+use Rattle.lego_model.specs.SessionWords.{◌>>=◌, a_number, last_number, some_bytes, are_ports, some_ports, an_app}
 use Rattle.lego_model.specs.SessionSteps.{are_steps, steps_of}
-
-use Rattle.lego_model.specs.SessionLines.{SessionValue, no_session, SoFar, is_declared, a_switch, a_new_switch, with_switch, with_start, with_reply, with_fault, with_stimulus, most_stimuli, one_more, if_known, start_word, change_word, may_be_raw, switch_line, start_line, reply_line, fault_line, join_line, leave_line, at_line, frame_line, port_line, count_line, raw_line, line_of_two, line_of_three, line_of_four, line_of_five, fixed_line, is_reply, reply_words, line_of}
+use Rattle.lego_model.specs.SessionLines.{SessionValue, SoFar, is_declared, a_switch, a_new_switch, with_switch, with_start, with_reply, with_fault, with_stimulus, most_stimuli, one_more, if_known, start_word, change_word, may_be_raw, switch_line, start_line, reply_line, fault_line, join_line, leave_line, at_line, frame_line, port_line, count_line, raw_line, line_of_two, line_of_three, line_of_four, line_of_five, fixed_line, is_reply, reply_words, line_of}
 use Rattle.lego_model.specs.SessionText.{Progress, at_first, is_skipped, is_printable, going_on, is_opening, plain_line, next_line, in_line, lines_from, session_text, ◌>>=◌ as ◌|>>=|◌}
-use Rattle.lego_model.specs.SessionFacts.{IsPort, IsSwitch, IsKnown, IsSized, MayHappen, IsStimulus, IsFault, moments, last_moment, IsSession, IsOf}
+use Rattle.lego_model.specs.SessionFacts.{IsPort, IsSwitch, IsKnown, IsStimulus, IsFault, moments, last_moment, IsSession, IsOf}
 use Rattle.lego_model.specs.SessionWordLaws.{bind_ok, unless_ok, ok_is, not_false, number_ok, bytes_ok, none, no_pairs, all_cons, all_more, ports_ok, ascending, each_port, switch_ok, new_switch_ok, app_ok, steps_ok}
 
 -- what is kept while lines are read, with so many applications
@@ -194,19 +191,19 @@ stimulus_keeps : (count : ℕ) (s : SoFar) (w : WorldStim) → Kept count s → 
     → IsStimulus s.session.switches w → moments (w ∷ []) ≡ [] → Kept count (with_stimulus s w)
 stimulus_keeps count s w kept few is none_named =
     let named = sym (same_moments s.session.stimuli w none_named) in record {
-  session = record {
-    switches = kept.session.switches;
-    few_switches = kept.session.few_switches;
-    different = kept.session.different;
-    faults = kept.session.faults;
-    replies = kept.session.replies;
-    stimuli = all_more (IsStimulus s.session.switches) s.session.stimuli w kept.session.stimuli is;
-    few_stimuli = few_more s.session.stimuli w few;
-    moments_rise = subst (AllPairs (λ (moment later : ℕ). moment ≤ later)) named kept.session.moments_rise;
-  };
-  apps = record { starts = kept.apps.starts; replies = kept.apps.replies };
-  until_now = subst (All (λ (moment : ℕ). moment ≤ s.moment)) named kept.until_now;
-}
+      session = record {
+        switches = kept.session.switches;
+        few_switches = kept.session.few_switches;
+        different = kept.session.different;
+        faults = kept.session.faults;
+        replies = kept.session.replies;
+        stimuli = all_more (IsStimulus s.session.switches) s.session.stimuli w kept.session.stimuli is;
+        few_stimuli = few_more s.session.stimuli w few;
+        moments_rise = subst (AllPairs (λ (moment later : ℕ). moment ≤ later)) named kept.session.moments_rise;
+      };
+      apps = record { starts = kept.apps.starts; replies = kept.apps.replies };
+      until_now = subst (All (λ (moment : ℕ). moment ≤ s.moment)) named kept.until_now;
+    }
 
 at_keeps : (count : ℕ) (s : SoFar) (now : ℕ) → Kept count s → nat_le most_stimuli (length s.session.stimuli) ≡ false → now ≤ last_moment → s.moment ≤ now
     → Kept count (record (with_stimulus s (At now)) { moment = now })
@@ -214,19 +211,19 @@ at_keeps count s now kept few within later =
     let named = sym (moments-append s.session.stimuli (At now)) in
     let before = All-weaker (λ moment. moment ≤ s.moment) (λ moment. moment ≤ now) (λ moment below. omega arith) (moments s.session.stimuli) kept.until_now in
     record {
-  session = record {
-    switches = kept.session.switches;
-    few_switches = kept.session.few_switches;
-    different = kept.session.different;
-    faults = kept.session.faults;
-    replies = kept.session.replies;
-    stimuli = all_more (IsStimulus s.session.switches) s.session.stimuli (At now) kept.session.stimuli within;
-    few_stimuli = few_more s.session.stimuli (At now) few;
-    moments_rise = subst (AllPairs (λ (moment later : ℕ). moment ≤ later)) named (all_pairs_push (λ (moment later : ℕ). moment ≤ later) (moments s.session.stimuli) now kept.session.moments_rise before);
-  };
-  apps = record { starts = kept.apps.starts; replies = kept.apps.replies };
-  until_now = subst (All (λ (moment : ℕ). moment ≤ now)) named (all_more (λ (moment : ℕ). moment ≤ now) (moments s.session.stimuli) now before (omega arith));
-}
+      session = record {
+        switches = kept.session.switches;
+        few_switches = kept.session.few_switches;
+        different = kept.session.different;
+        faults = kept.session.faults;
+        replies = kept.session.replies;
+        stimuli = all_more (IsStimulus s.session.switches) s.session.stimuli (At now) kept.session.stimuli within;
+        few_stimuli = few_more s.session.stimuli (At now) few;
+        moments_rise = subst (AllPairs (λ (moment later : ℕ). moment ≤ later)) named (all_pairs_push (λ (moment later : ℕ). moment ≤ later) (moments s.session.stimuli) now kept.session.moments_rise before);
+      };
+      apps = record { starts = kept.apps.starts; replies = kept.apps.replies };
+      until_now = subst (All (λ (moment : ℕ). moment ≤ now)) named (all_more (λ (moment : ℕ). moment ≤ now) (moments s.session.stimuli) now before (omega arith));
+    }
 
 -- a stimulus that is no moment
 abbrev IsPlain : List (ℕ × ℕ × List ℕ) → WorldStim → Type 0
@@ -271,16 +268,16 @@ frame_line_keeps count s t dpid port hex kept e = one_keeps count s t _ kept (λ
     let p = bind_ok (a_number 0 65535 port) _ _ d.2 in
     let bytes = bind_ok (some_bytes 14 9216 hex) _ _ p.2 in
     subst (IsPlain s.session.switches) (ok_is _ _ _ refl bytes.2)
-        ((switch_ok s dpid d.0 d.1, ((number_ok 0 65535 port p.0 p.1).1, (bytes_ok 14 9216 hex bytes.0 bytes.1).0)), refl)) e
+    ((switch_ok s dpid d.0 d.1, ((number_ok 0 65535 port p.0 p.1).1, (bytes_ok 14 9216 hex bytes.0 bytes.1).0)), refl)) e
 
 port_line_keeps : (count : ℕ) (s t : SoFar) (dpid port word : List ℕ) → Kept count s → port_line s dpid port word ≡ Ok t → Kept count t
 unfolding port_line
 port_line_keeps count s t dpid port word kept e =
     let change = known_ok (change_word word) _ _ e in
     one_keeps count s t _ kept (λ w read.
-        let d = bind_ok (a_switch s dpid) _ _ read in
-        let p = bind_ok (a_number 1 65280 port) _ _ d.2 in
-        subst (IsPlain s.session.switches) (ok_is _ _ _ refl p.2) ((switch_ok s dpid d.0 d.1, number_ok 1 65280 port p.0 p.1), refl)) change.1
+    let d = bind_ok (a_switch s dpid) _ _ read in
+    let p = bind_ok (a_number 1 65280 port) _ _ d.2 in
+    subst (IsPlain s.session.switches) (ok_is _ _ _ refl p.2) ((switch_ok s dpid d.0 d.1, number_ok 1 65280 port p.0 p.1), refl)) change.1
 
 count_line_keeps : (n : ℕ) (s t : SoFar) (dpid priority packets bytes : List ℕ) → Kept n s → count_line s dpid priority packets bytes ≡ Ok t → Kept n t
 unfolding count_line
@@ -289,9 +286,17 @@ count_line_keeps n s t dpid priority packets bytes kept e = one_keeps n s t _ ke
     let p = bind_ok (a_number 0 65535 priority) _ _ d.2 in
     let more_packets = bind_ok (a_number 0 last_number packets) _ _ p.2 in
     let more_bytes = bind_ok (a_number 0 last_number bytes) _ _ more_packets.2 in
-    subst (IsPlain s.session.switches) (ok_is _ _ _ refl more_bytes.2)
-        ((switch_ok s dpid d.0 d.1, ((number_ok 0 65535 priority p.0 p.1).1, (number_ok 0 last_number packets more_packets.0 more_packets.1).1,
-            (number_ok 0 last_number bytes more_bytes.0 more_bytes.1).1)), refl)) e
+    subst (IsPlain s.session.switches) (ok_is _ _ _ refl more_bytes.2) (
+      (
+        switch_ok s dpid d.0 d.1,
+        (
+          (number_ok 0 65535 priority p.0 p.1).1,
+          (number_ok 0 last_number packets more_packets.0 more_packets.1).1,
+          (number_ok 0 last_number bytes more_bytes.0 more_bytes.1).1,
+        ),
+      ),
+      refl,
+    )) e
 
 raw_line_keeps : (count : ℕ) (s t : SoFar) (dpid hex : List ℕ) → Kept count s → raw_line s dpid hex ≡ Ok t → Kept count t
 unfolding raw_line
@@ -301,7 +306,7 @@ raw_line_keeps count s t dpid hex kept e = one_keeps count s t _ kept (λ w read
     let may = unless_ok (not (may_be_raw (reading_of bytes.0))) Raw _ _ bytes.2 in
     let sized = bytes_ok 0 65535 hex bytes.0 bytes.1 in
     subst (IsPlain s.session.switches) (ok_is _ _ _ refl may.1)
-        ((switch_ok s dpid d.0 d.1, ((sized.1, sized.0.1, sized.0.2), not_false _ may.0)), refl)) e
+    ((switch_ok s dpid d.0 d.1, ((sized.1, sized.0.1, sized.0.2), not_false _ may.0)), refl)) e
 
 -- ---- A line by its words
 
@@ -386,9 +391,9 @@ unfolding next_line
 next_line_keeps names p q line kept e =
     let short = unless_ok (nat_lt most_line (length line)) Long _ _ e in
     either (is_skipped line) _ _ q
-        (λ e. subst (λ (q : Progress). Kept (length names) q.so_far) (ok_is _ _ _ refl e) kept)
-        (λ e. plain_line_keeps names p q line kept (unless_ok (not (list_all is_printable line)) Text _ _ e).1)
-        short.1
+    (λ e. subst (λ (q : Progress). Kept (length names) q.so_far) (ok_is _ _ _ refl e) kept)
+    (λ e. plain_line_keeps names p q line kept (unless_ok (not (list_all is_printable line)) Text _ _ e).1)
+    short.1
 
 lines_keep : (names : List (List ℕ)) (n : ℕ) (p q : Progress) (lines : List (List ℕ)) → Kept (length names) p.so_far → lines_from names n p lines ≡ Ok q → Kept (length names) q.so_far
 lines_keep names n p q [] kept e = subst (λ (q : Progress). Kept (length names) q.so_far) (ok_is _ _ _ refl e) kept

@@ -1,25 +1,18 @@
 -- Laws of the words of a session text: what each of them that was read keeps.
-use Rattle.std.proofs.Common.{◌≡◌, ◌≢◌, ◌==◌, ℕ, zero, suc, ◌+◌, ◌*◌, ◌%◌, ◌<◌, ◌≤◌, Bool, true, false, cond, if◌then◌else◌, not, ◌&&◌, ◌||◌, List, [], ◌∷◌, ◌++◌, length, get_or, All, nat_le, nat_lt, Option, Some, None, Result, Ok, Err, refl, sym, ap, subst, ◌∙◌, arith, codes}
-use Rattle.std.specs.List.{AllPairs, list_any, list_all, slice_split}
-use Rattle.std.proofs.lemmas.List.{length-append}
+use Rattle.std.proofs.Common.{◌≡◌, ◌==◌, ℕ, zero, suc, ◌+◌, ◌*◌, ◌%◌, ◌<◌, ◌≤◌, Bool, true, false, if◌then◌else◌, not, ◌&&◌, ◌||◌, List, [], ◌∷◌, ◌++◌, length, get_or, All, nat_lt, Result, Ok, Err, refl, sym, ap, subst, ◌∙◌, arith, codes}
+use Rattle.std.specs.List.{AllPairs, list_all, slice_split}
 use Rattle.std.proofs.lemmas.List.Elements.{All-append, All-weaker}
-use Rattle.std.proofs.lemmas.List.Folds.{list_any-append}
 use Rattle.std.proofs.lemmas.List.Kept.{AllPairs-cons}
-use Rattle.std.proofs.lemmas.List.Quantifiers.{all_pairs_push}
 use Rattle.hex.specs.Hex.{decode_of}
 use Rattle.hex.proofs.HexLemmas.{decode_of-ok}
-use Rattle.of_types.specs.Fields.{IsBytes}
-use Rattle.of_types.specs.declared.journal.WorldStim.{WorldStim}
-use Rattle.of_types.specs.declared.journal.WorldStim.TheVariants.{Join, Leave, At, Of}
-use Rattle.of_types.specs.declared.journal.Stimulus.TheVariants.{Frame, Port, Counts, Raw}
 use Rattle.lego_model.specs.declared.session.SessionKind.{SessionKind}
-use Rattle.lego_model.specs.declared.session.SessionKind.TheVariants.{Number, Range, Hex, Switch}
+use Rattle.lego_model.specs.declared.session.SessionKind.TheVariants.{Number, Range, Switch}
 use Rattle.lego_model.specs.Words.{is_word, is_numeral, value_after}
 use Rattle.lego_model.specs.SessionWords.{◌>>=◌, unless, a_number, last_number, digits_read, is_sized, some_bytes, ascends, is_port, are_ports, values_of, listed_ports, some_ports, place_among, an_app}
 use Rattle.app_frames.specs.declared.script.ScriptStep.{ScriptStep}
 use Rattle.lego_model.specs.SessionSteps.{step_of, steps_of}
-use Rattle.lego_model.specs.SessionLines.{SessionValue, SoFar, is_declared, a_switch, a_new_switch}
-use Rattle.lego_model.specs.SessionFacts.{IsPort, IsSwitch, IsKnown, IsSized}
+use Rattle.lego_model.specs.SessionLines.{SoFar, is_declared, a_switch, a_new_switch}
+use Rattle.lego_model.specs.SessionFacts.{IsPort, IsKnown, IsSized}
 
 -- ---- Steps of reading
 

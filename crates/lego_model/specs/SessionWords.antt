@@ -1,11 +1,11 @@
 -- The words of a session line. For one word the kinds of fault are tested in the order number, range, hex, switch, app, raw.
 -- This text form is our own.
-use Rattle.std.specs.Prelude.{◌==◌, ℕ, ◌+◌, ◌*◌, ◌/◌, ◌%◌, Bool, true, false, not, ◌&&◌, ◌||◌, List, [], ◌∷◌, length, Option, Some, None, Result, Ok, Err, nat_le, nat_lt, if◌then◌else◌, codes}
+use Rattle.std.specs.Prelude.{◌==◌, ℕ, ◌+◌, ◌*◌, ◌%◌, Bool, true, not, ◌&&◌, ◌||◌, List, [], ◌∷◌, length, Result, Ok, Err, nat_le, nat_lt, if◌then◌else◌, codes}
 use Rattle.std.specs.List.{list_any, list_all, slice_split}
 use Rattle.hex.specs.Hex.{decode_of}
 use Rattle.hex.specs.declared.error.FromHexError.{FromHexError}
 use Rattle.lego_model.specs.declared.session.SessionKind.{SessionKind}
-use Rattle.lego_model.specs.declared.session.SessionKind.TheVariants.{Word, Number, Range, Hex, Switch, App}
+use Rattle.lego_model.specs.declared.session.SessionKind.TheVariants.{Number, Range, Hex, App}
 use Rattle.lego_model.specs.Words.{is_word, is_numeral, value_after}
 
 -- the first of several results that is a fault stops the rest

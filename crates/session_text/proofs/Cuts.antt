@@ -1,5 +1,5 @@
 -- A word without a mark.
-use Rattle.std.proofs.Common.{◌≡◌, ◌==◌, ℕ, Bool, true, false, List, [], ◌∷◌, refl, ap, arith}
+use Rattle.std.proofs.Common.{◌≡◌, ℕ, false, List, [], ◌∷◌, refl, arith}
 use Rattle.lego_model.specs.SessionWords.{before, behind, has_mark}
 
 -- all of it stands before, and nothing behind

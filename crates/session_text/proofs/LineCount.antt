@@ -1,5 +1,5 @@
 -- How many lines a text has.
-use Rattle.std.proofs.Common.{◌≡◌, ◌==◌, ℕ, ◌+◌, ◌≤◌, Bool, true, false, List, [], ◌∷◌, length, map, refl, sym, ap, ◌∙◌, arith}
+use Rattle.std.proofs.Common.{ℕ, ◌+◌, ◌≤◌, List, [], ◌∷◌, length, arith}
 use Rattle.std.proofs.lemmas.List.{length-map}
 use Rattle.lego_io.specs.Lines.{with_byte, cut_at_lf, without_cr, lines_of}
 

@@ -1,10 +1,9 @@
 -- Ports read one by one, and as a whole.
-use Rattle.std.proofs.Common.{◌≡◌, ℕ, Bool, true, false, not, ◌&&◌, List, [], ◌∷◌, length, Result, Ok, Err, nat_le, refl, ap, arith}
+use Rattle.std.proofs.Common.{◌≡◌, ℕ, true, not, List, [], ◌∷◌, Ok, refl, arith}
 use Rattle.std.specs.List.{list_all}
-use Rattle.lego_model.specs.declared.session.SessionKind.{SessionKind}
 use Rattle.lego_model.specs.declared.session.SessionKind.TheVariants.{Range}
-use Rattle.lego_model.specs.Words.{is_numeral, value_after}
-use Rattle.lego_model.specs.SessionWords.{◌>>=◌, unless, a_number, is_port, are_ports, values_of, ascends}
+use Rattle.lego_model.specs.Words.{is_numeral}
+use Rattle.lego_model.specs.SessionWords.{unless, a_number, is_port, are_ports, values_of}
 use Rattle.session_text.specs.TextGives.{numbers, ports_read}
 
 -- numerals are read where each is a port's number

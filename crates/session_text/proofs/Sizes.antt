@@ -1,5 +1,5 @@
 -- The number of bytes that were read of hexadecimal digits.
-use Rattle.std.proofs.Common.{◌≡◌, ◌==◌, ℕ, ◌*◌, ◌%◌, ◌≤◌, Bool, true, false, not, ◌&&◌, List, length, Ok, arith}
+use Rattle.std.proofs.Common.{◌≡◌, ◌==◌, ℕ, ◌*◌, ◌%◌, ◌≤◌, false, not, ◌&&◌, List, length, Ok, arith}
 use Rattle.hex.specs.Hex.{decode_of}
 use Rattle.hex.proofs.HexLemmas.{decode_of-ok}
 use Rattle.lego_model.specs.SessionWords.{is_sized}

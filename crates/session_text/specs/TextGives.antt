@@ -1,5 +1,5 @@
 -- What a reader of the code answers is what a definition of the session text reads.
-use Rattle.std.specs.Prelude.{◌≡◌, ℕ, Bool, not, ◌&&◌, nat_le, length, ◌++◌, ◌∷◌, [], List, Result, Ok, Err}
+use Rattle.std.specs.Prelude.{◌≡◌, ℕ, not, ◌&&◌, nat_le, length, ◌++◌, ◌∷◌, [], List, Result, Ok, Err}
 use Rattle.lego_model.specs.declared.session.SessionFault.{SessionFault}
 use Rattle.lego_model.specs.declared.session.SessionKind.{SessionKind}
 use Rattle.lego_model.specs.declared.session.SessionKind.TheVariants.{Range}

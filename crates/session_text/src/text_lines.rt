@@ -91,12 +91,7 @@ fn start_word(word: &[u8]) -> Option<StartScript>
 
 /// `start APP WORD`.
 #[tactic(auto, unfolding(lego_model::specs::SessionLines::start_line))]
-fn start_line(
-    names: &[String],
-    so_far: SoFar,
-    app: &[u8],
-    word: &[u8],
-) -> Result<SoFar, LineFault>
+fn start_line(names: &[String], so_far: SoFar, app: &[u8], word: &[u8]) -> Result<SoFar, LineFault>
     ensures { Gives view_so_far result (lines.start_line (map (λ s. string_bytes s) names.now) (view_so_far so_far) app.now word.now) }
 {
     let Some(ending) = start_word(word) else {
@@ -134,12 +129,7 @@ fn reply_line(
 
 /// `fault link DPID N`.
 #[tactic(auto, unfolding(lego_model::specs::SessionLines::fault_line))]
-fn fault_line(
-    so_far: SoFar,
-    link: &[u8],
-    dpid: &[u8],
-    count: &[u8],
-) -> Result<SoFar, LineFault>
+fn fault_line(so_far: SoFar, link: &[u8], dpid: &[u8], count: &[u8]) -> Result<SoFar, LineFault>
     ensures { Gives view_so_far result (lines.fault_line (view_so_far so_far) link.now dpid.now count.now) }
 {
     if !is(link, b"link") {
@@ -237,12 +227,7 @@ fn change_word(word: &[u8]) -> Option<PortChange>
 
 /// `port DPID PORT up`, or `down`, `add`, `delete`.
 #[tactic(auto, unfolding(lego_model::specs::SessionLines::port_line))]
-fn port_line(
-    so_far: SoFar,
-    dpid: &[u8],
-    port: &[u8],
-    word: &[u8],
-) -> Result<SoFar, LineFault>
+fn port_line(so_far: SoFar, dpid: &[u8], port: &[u8], word: &[u8]) -> Result<SoFar, LineFault>
     ensures { Gives view_so_far result (lines.port_line (view_so_far so_far) dpid.now port.now word.now) }
 {
     let Some(change) = change_word(word) else {
@@ -309,12 +294,7 @@ fn may_be_raw(alloc: Global, bytes: &[u8]) -> Result<bool, LineFault>
 
 /// `raw DPID HEX`.
 #[tactic(auto, unfolding(lego_model::specs::SessionLines::raw_line))]
-fn raw_line(
-    alloc: Global,
-    so_far: SoFar,
-    dpid: &[u8],
-    hex: &[u8],
-) -> Result<SoFar, LineFault>
+fn raw_line(alloc: Global, so_far: SoFar, dpid: &[u8], hex: &[u8]) -> Result<SoFar, LineFault>
     ensures { Gives view_so_far result (lines.raw_line (view_so_far so_far) dpid.now hex.now) }
 {
     if has_most_stimuli(&so_far) {

@@ -2,6 +2,7 @@
 
 ghost use Rattle.std.specs.Prelude.{◌≡◌, ◌==◌, Ok, nat_le, length, map};
 ghost use Rattle.std.specs.List.{list_any};
+ghost use Rattle.lego_model.specs.SessionWords.{a_number as a_number_in, last_number};
 ghost use Rattle.lego_model.specs.SessionLines.{most_stimuli, no_session, is_declared as is_declared_in, a_switch as a_switch_in, a_new_switch as a_new_switch_in, with_switch as with_switch_in, with_start as with_start_in, with_reply as with_reply_in, with_fault as with_fault_in, with_stimulus as with_stimulus_in};
 ghost use Rattle.session_text.specs.TextGives.{Gives};
 ghost use Rattle.session_text.specs.SessionView.{view_so_far, view_declared};
@@ -62,12 +63,19 @@ fn is_declared(so_far: &SoFar, dpid: Dpid) -> bool
     is_among(&so_far.session.switches, dpid)
 }
 
+/// A word that is a switch's number, declared or not.
+fn a_dpid(word: &[u8]) -> Result<Dpid, LineFault>
+    ensures { Gives (λ n. n) result (a_number_in 1 last_number word.now) }
+{
+    a_number(word, 1, u64::MAX)
+}
+
 /// The number of a switch that is declared above.
 #[tactic(auto, unfolding(lego_model::specs::SessionLines::a_switch))]
 pub fn a_switch(so_far: &SoFar, word: &[u8]) -> Result<Dpid, LineFault>
     ensures { Gives (λ n. n) result (a_switch_in (view_so_far so_far.now) word.now) }
 {
-    let dpid = a_number(word, 1, u64::MAX)?;
+    let dpid = a_dpid(word)?;
     if !is_declared(so_far, dpid) {
         return Err(LineFault::Kind(SessionKind::Switch));
     }
@@ -79,7 +87,7 @@ pub fn a_switch(so_far: &SoFar, word: &[u8]) -> Result<Dpid, LineFault>
 pub fn a_new_switch(so_far: &SoFar, word: &[u8]) -> Result<Dpid, LineFault>
     ensures { Gives (λ n. n) result (a_new_switch_in (view_so_far so_far.now) word.now) }
 {
-    let dpid = a_number(word, 1, u64::MAX)?;
+    let dpid = a_dpid(word)?;
     if is_declared(so_far, dpid) {
         return Err(LineFault::Kind(SessionKind::Switch));
     }

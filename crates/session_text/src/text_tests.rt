@@ -108,7 +108,10 @@ fn numbers_and_their_ranges(rt: HostRuntime) -> Result<(), Fail> {
             (b"join ", Some(Number)),
             (b"join 0", Some(Range)),
             (b"join 18446744073709551616", Some(Range)),
-            (b"join 100000000000000000000000000000000000000000", Some(Range)),
+            (
+                b"join 100000000000000000000000000000000000000000",
+                Some(Range),
+            ),
             (b"join 18446744073709551615", Some(Switch)),
             (b"join 2", Some(Switch)),
             (b"leave 2", Some(Switch)),
@@ -124,7 +127,10 @@ fn numbers_and_their_ranges(rt: HostRuntime) -> Result<(), Fail> {
             (b"port 1 0 up", Some(Range)),
             (b"port 1 65280 delete", None),
             (b"port 1 65281 down", Some(Range)),
-            (b"count 1 65535 18446744073709551615 18446744073709551615", None),
+            (
+                b"count 1 65535 18446744073709551615 18446744073709551615",
+                None,
+            ),
             (b"count 1 65536 0 0", Some(Range)),
             (b"count 1 0 18446744073709551616 x", Some(Range)),
             (b"count 1 0 0 x", Some(Number)),
@@ -331,7 +337,9 @@ fn reads_every_kind_of_line(rt: HostRuntime) -> Result<(), Fail> {
         }
         _ => return Err(Fail::from("not two switches")),
     }
-    assert!(rt; session.starts.as_slice() == [(0, StartScript::Ready), (0, StartScript::Garbled)].as_slice());
+    assert!(rt;
+        session.starts.as_slice() == [(0, StartScript::Ready), (0, StartScript::Garbled)].as_slice()
+    );
     assert!(rt; session.faults.as_slice() == [(7, 3)].as_slice());
     // The frames: their length, kind and body.
     let steps = [
@@ -358,7 +366,13 @@ fn reads_every_kind_of_line(rt: HostRuntime) -> Result<(), Fail> {
     let stimuli = [
         WorldStim::Join(7),
         WorldStim::At(10),
-        WorldStim::Of(7, Stimulus::Frame { port: 2, bytes: frame }),
+        WorldStim::Of(
+            7,
+            Stimulus::Frame {
+                port: 2,
+                bytes: frame,
+            },
+        ),
         WorldStim::Of(7, Stimulus::Port { port, change }),
         WorldStim::Of(
             7,

@@ -141,10 +141,7 @@ fn numbered_line(
 }
 
 /// The next line, which has this number; one that is too long is a fault.
-fn next_line<'a>(
-    lines: &mut Lines<'a>,
-    number: u64,
-) -> Result<Option<&'a [u8]>, SessionTextError>
+fn next_line<'a>(lines: &mut Lines<'a>, number: u64) -> Result<Option<&'a [u8]>, SessionTextError>
     ensures none { IfOk result (λ next. IfNone next (lines.old ≡ [])) }
     ensures some { IfOk result (λ next. IfSome next (λ line. (lines.old ≡ line.now ∷ lines.new) × (length line.now ≤ most_line))) }
     ensures long { IfErr result (λ e. (e ≡ Bad (record { line = number; kind = Long })) × ((line : List ℕ) × (lines.old ≡ line ∷ lines.new) × (most_line < length line))) }

@@ -1,4 +1,4 @@
-use Rattle.std.proofs.Common.{◌≡◌, ℕ, ◌<◌, Bool, true, List, ◌∷◌, length, nat_lt, Err, refl, sym, ap, ◌∙◌, arith}
+use Rattle.std.proofs.Common.{◌≡◌, ℕ, ◌<◌, true, List, ◌∷◌, length, nat_lt, Err, refl, sym, ap, ◌∙◌, arith}
 use Rattle.std.proofs.lemmas.Result.{err_from_is_err_and}
 use Rattle.lego_model.specs.declared.session.SessionKind.TheVariants.{Long}
 use Rattle.lego_model.specs.Words.{most_line}
@@ -16,4 +16,4 @@ returns-in_err-line c =
     let found = c.in_err-line.ensures.long in
     let p = err_from_is_err_and c.from_residual.result c.from_residual.ensures.1 in
     rw (p.1, p.2, found.0)
-        (sym c.loop-progress.invariant.same ∙ ap (lines_from _ _ _) found.1.1 ∙ too_long _ _ _ found.1.0 _ found.1.2)
+    (sym c.loop-progress.invariant.same ∙ ap (lines_from _ _ _) found.1.1 ∙ too_long _ _ _ found.1.0 _ found.1.2)
