@@ -1,5 +1,5 @@
 -- What follows while a turn's messages are played and undone.
-use Rattle.std.proofs.Common.{Result, Ok, Err, zero, suc, append-nil, append_assoc, Some, IsSome, ◌≡◌, ℕ, ◌+◌, ◌<◌, ◌≤◌, List, [], ◌∷◌, ◌++◌, length, get_or, map, take, drop, None, refl, sym, ap, ◌∙◌, arith, length-take-le}
+use Rattle.std.proofs.Common.{Result, Ok, Err, zero, suc, append-nil, append_assoc, IsSome, ◌≡◌, ℕ, ◌+◌, ◌<◌, ◌≤◌, List, [], ◌∷◌, ◌++◌, length, get_or, map, take, drop, sym, ap, ◌∙◌, arith, length-take-le}
 use Rattle.std.specs.Result.{OnErr}
 use Rattle.std.proofs.Math.Seq.{drop-length, take-length}
 use Rattle.std.proofs.lemmas.List.{at_drop_more, take_more, map-append, length-map}

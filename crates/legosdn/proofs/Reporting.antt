@@ -1,13 +1,12 @@
 -- What the reference controller reports, computed for the sessions that can be read so far.
 use Rattle.std.proofs.Common.{◌≡◌, ℕ, ◌==◌, true, false, cond, List, [], ◌∷◌, ◌++◌, fold, map, Option, Some, None, refl, sym, ap, ◌∙◌, append_assoc, append-nil, eq-eqb}
 use Rattle.of_wire.specs.declared.bodies.FlowMod.{FlowMod}
-use Rattle.flow_table.specs.declared.entry.Entry.{Entry}
 use Rattle.flow_table.specs.Table.{TableState, empty_table}
 use Rattle.flow_table.specs.Change.{changed}
 use Rattle.lego_model.specs.declared.turn.Ending.{Ending}
 use Rattle.lego_model.specs.declared.turn.Ending.TheVariants.{Done, Closed}
 use Rattle.lego_model.specs.Session as model
-use Rattle.lego_model.specs.Reference.{add, turn, reference, stimulate, settle, dispatch}
+use Rattle.lego_model.specs.Reference.{add, reference, stimulate, settle, dispatch}
 use Rattle.lego_model.specs.Report.{report, state_text, table_text, start_line}
 use Rattle.session_text.specs.View.{addition, as_list, joining, view_switch, view_reply, view_session, view_input}
 use Rattle.session_text.specs.Journal.{Journal, table_of, added, journal_of, turn_journal, turns_journal}

@@ -113,11 +113,7 @@ fn spelling(alloc: Global, actions: &ActionList) -> Result<Vec<u8>, AllocError>
 
 /// ` actions=HEX`: the actions of an entry.
 #[tactic(auto, unfolding(lego_model::specs::Report::actions_text))]
-fn push_actions(
-    alloc: Global,
-    report: &mut String,
-    actions: &ActionList,
-) -> Result<(), AllocError>
+fn push_actions(alloc: Global, report: &mut String, actions: &ActionList) -> Result<(), AllocError>
     ensures { OnOk result (string_bytes report.new ≡ string_bytes report.old ++ actions_text actions.now) }
 {
     let bytes = spelling(alloc, actions)?;
@@ -136,11 +132,7 @@ fn push_key(alloc: Global, report: &mut String, key: &Key) -> Result<(), AllocEr
 }
 
 /// The lines of entries, in order.
-pub fn push_flows(
-    alloc: Global,
-    report: &mut String,
-    entries: &[Entry],
-) -> Result<(), AllocError>
+pub fn push_flows(alloc: Global, report: &mut String, entries: &[Entry]) -> Result<(), AllocError>
     ensures { OnOk result (string_bytes report.new ≡ string_bytes report.old ++ flat_map flow_line entries.now) }
 {
     for entry in entries {

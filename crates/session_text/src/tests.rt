@@ -1,3 +1,6 @@
+ghost use Rattle.std.specs.Prelude.{◌≡◌, true, IfOk};
+ghost use Rattle.lego_model.specs.Messages.{adds_for_good};
+
 use super::*;
 use crate::SessionError::BadInput;
 use lego_model::Ending;
@@ -30,7 +33,10 @@ const ONE_KEY_TWICE: &[u8] = b"---\nsession 1\nswitch 1 4 1,2\nreply app m:1:\
     0000000000000000000000000000000000000064FFFFFFFFFFFF00000000000800010000 done\njoin 1\n";
 
 /// The FLOW_MOD that adds an entry which sends what comes in by port 1 to port 2, at priority 100.
-fn port_1(alloc: Global) -> Result<FlowMod, AllocError> {
+#[tactic(auto, unfolding(lego_model::specs::Messages::adds_for_good))]
+fn port_1(alloc: Global) -> Result<FlowMod, AllocError>
+    ensures { IfOk result (λ flow. adds_for_good flow ≡ true) }
+{
     let mut bytes = [0; 40];
     bytes[1] = 0x38;
     bytes[2] = 0x20;
@@ -115,15 +121,15 @@ fn takes_just_the_grammar(rt: HostRuntime) -> Result<(), Fail> {
 
 #[test]
 fn a_world_keeps_a_journal(rt: HostRuntime) -> Result<(), Fail> {
-    let flow = port_1(rt.alloc())?;
-    let mut world = PlainWorld::new(rt.alloc())?;
+    let alloc = rt.alloc();
+    let mut world = PlainWorld::new(alloc)?;
     world.asked(1)?;
     assert!(rt; world.entries().is_empty());
-    world.change(7, PlainChange::adding(rt.alloc(), &flow)?)?;
+    world.change(7, PlainChange::Add(port_1(alloc)?))?;
     world.answered(1)?;
     match world.entries() {
         [only] => {
-            assert!(rt; only.actions == flow.actions);
+            assert!(rt; only.actions == port_1(alloc)?.actions);
             let key = only.key;
             world.change(7, PlainChange::Remove(key))?;
         }
