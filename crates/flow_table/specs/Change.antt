@@ -142,3 +142,8 @@ abbrev pub Answers : Result (List Notice) ChangeFault → Option OfError → Lis
 Answers (Ok notices) refusal expected = (refusal ≡ None) × (notices ≡ expected)
 Answers (Err (Refused e)) refusal expected = refusal ≡ Some e
 Answers (Err NoMemory) refusal expected = Unit {0}
+
+-- Why a call did not change the table: the first refusal, or want of memory.
+abbrev pub IsCause : Option OfError → ChangeFault → Type 0
+IsCause refusal (Refused e) = refusal ≡ Some e
+IsCause refusal NoMemory = Unit {0}

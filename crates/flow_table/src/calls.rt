@@ -144,6 +144,13 @@ pub fn is_plan(table: &Table, calls: &[TableCall]) -> bool
     start <= LAST_MOMENT && rises(calls, start)
 }
 
+/// Whether a moment is within the last one, and no entry was put in or used after it.
+pub(crate) fn is_moment(entries: &[Entry], now: u64) -> bool
+    ensures { IsTrue result → IsMoment now entries.now }
+{
+    now <= LAST_MOMENT && latest(entries) <= now
+}
+
 /// Makes calls one after another, and gives their answers. Their moments may not go back, which [`is_plan`]
 /// tells.
 ///

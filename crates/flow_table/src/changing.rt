@@ -18,7 +18,12 @@ use std::alloc::{AllocError, Global};
 
 /// The entry that a FLOW_MOD puts in at a moment.
 #[tactic(auto, unfolding(crate::specs::Change::new_entry))]
-fn entry_of(alloc: Global, m: &FlowMod, now: u64, serial: u64) -> Result<Entry, AllocError>
+pub(crate) fn entry_of(
+    alloc: Global,
+    m: &FlowMod,
+    now: u64,
+    serial: u64,
+) -> Result<Entry, AllocError>
     ensures { IfOk result (λ e. e ≡ new_entry now serial m.now) }
 {
     Ok(Entry {
@@ -136,14 +141,14 @@ pub(crate) fn modify(alloc: Global, entries: &mut Vec<Entry>, m: &FlowMod) -> Re
 }
 
 /// Whether the entry goes by a DELETE and asks for a notice.
-fn is_told(m: &FlowMod, entry: &Entry) -> bool
+pub(crate) fn is_told(m: &FlowMod, entry: &Entry) -> bool
     ensures { result ≡ tells m.now entry.now }
 {
     is_deleted(m, entry) && asks(entry.flags)
 }
 
 /// The notice of an entry that a DELETE removes at a moment.
-fn notice_of(alloc: Global, entry: &Entry, now: u64) -> Result<Notice, AllocError>
+pub(crate) fn notice_of(alloc: Global, entry: &Entry, now: u64) -> Result<Notice, AllocError>
     ensures { IfOk result (λ n. n ≡ notice 2 now entry.now) }
 {
     Ok(Notice {

@@ -22,7 +22,7 @@ fn rank(entry: &Entry) -> u32
 }
 
 /// Whether the first entry has the greater rank.
-fn outranks(a: &Entry, b: &Entry) -> bool
+pub(crate) fn outranks(a: &Entry, b: &Entry) -> bool
     ensures { result ≡ nat_lt (rank b.now) (rank a.now) }
 {
     rank(b) < rank(a)
@@ -57,7 +57,7 @@ pub(crate) fn lookup(entries: &[Entry], k: &PacketKey) -> Option<usize>
 }
 
 /// Counts one packet of `len` bytes.
-fn count(entry: &mut Entry, len: u32, now: u64)
+pub(crate) fn count(entry: &mut Entry, len: u32, now: u64)
     ensures { entry.new ≡ counted len now entry.old }
 {
     entry.packets = entry.packets.wrapping_add(1);

@@ -12,6 +12,7 @@ mod fault;
 mod hitting;
 mod judge;
 mod notice;
+pub mod plain;
 mod selecting;
 mod table;
 mod view;

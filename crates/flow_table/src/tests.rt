@@ -8,6 +8,7 @@ use of_wire::FlowMod;
 use std::alloc::{AllocError, Global};
 use std::test::Fail;
 
+mod drawn;
 mod hits;
 
 /// Matches by their last wildcard byte and `in_port`: of any packet, and of packets of port 1 or 2.

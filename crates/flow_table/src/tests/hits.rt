@@ -6,7 +6,7 @@ use std::alloc::{AllocError, Global};
 use std::test::Fail;
 
 /// A packet of that port, with 0 in every other field.
-fn packet(in_port: u16) -> PacketKey {
+pub(super) fn packet(in_port: u16) -> PacketKey {
     PacketKey {
         in_port,
         dl_src: [0; 6],
@@ -24,7 +24,7 @@ fn packet(in_port: u16) -> PacketKey {
 }
 
 /// The match of the packets of that port with 0 in every other field.
-fn exact(in_port: u8) -> Match {
+pub(super) fn exact(in_port: u8) -> Match {
     let mut bytes = [0; 40];
     bytes[5] = in_port;
     Match::decode(&bytes)
