@@ -4,11 +4,13 @@
 //! written is how many messages or frames the rounds went over, and their bytes.
 #![tactic(auto)]
 
+mod application;
 mod corpus;
 mod frames;
 mod stream;
 mod wire;
 
+use crate::application::Said;
 use crate::corpus::Corpus;
 use crate::frames::{FrameOperation, FrameSize};
 use crate::stream::Piece;
@@ -26,6 +28,8 @@ enum Loop {
     Frames(FrameOperation, FrameSize),
     /// Over a stream that comes in pieces.
     Stream(Piece),
+    /// Over a frame of an application.
+    Application(Said),
 }
 
 impl Loop {
@@ -33,6 +37,9 @@ impl Loop {
     fn from_words(operation: &str, over: &str) -> Option<Loop> {
         if operation == "cut" {
             return Piece::from_word(over).map(Loop::Stream);
+        }
+        if operation == "hear" {
+            return Said::from_word(over).map(Loop::Application);
         }
         if let Some(operation) = FrameOperation::from_word(operation) {
             return FrameSize::from_word(over).map(|size| Loop::Frames(operation, size));
@@ -50,6 +57,7 @@ impl Loop {
             }
             Loop::Frames(operation, size) => frames::run(alloc, operation, size, rounds),
             Loop::Stream(piece) => stream::run(alloc, piece, rounds),
+            Loop::Application(said) => application::run(alloc, said, rounds),
         }
     }
 }
@@ -71,6 +79,7 @@ fn main(rt: HostRuntime) -> io::Result<ExitCode> {
         println!(rt; "usage: lego_bench decode|check|encode small|large|actions ROUNDS")?;
         println!(rt; "       lego_bench key|edit 64|1500 ROUNDS")?;
         println!(rt; "       lego_bench cut 1|64|65536 ROUNDS")?;
+        println!(rt; "       lego_bench hear save|message|64k|1m|part ROUNDS")?;
         return Ok(ExitCode::from(2));
     };
     let Work { messages, bytes } = named.run(rt.alloc(), rounds)?;

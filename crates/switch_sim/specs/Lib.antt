@@ -1,4 +1,0 @@
-pub mod Words
-pub mod PartLaws
-pub mod SumLaws
-pub mod RowLaws
