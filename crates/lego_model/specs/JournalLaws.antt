@@ -23,7 +23,7 @@ released-append first next = filter_map-append released_in first next
 
 -- a further attempt to start stands behind those before it
 pub in_attempts-started : (acts : List Act) (app : ℕ) (stands : Bool) (more : List Act)
-  → in_attempts (acts ++ Started app stands ∷ more)
+    → in_attempts (acts ++ Started app stands ∷ more)
     ≡ ((in_attempts acts).0, (in_attempts acts).1 ++ record { stands = stands; acts = (in_attempts more).0 } ∷ (in_attempts more).1)
 in_attempts-started [] app stands more = refl
 in_attempts-started (Started a s ∷ acts) app stands more = rw (in_attempts-started acts app stands more) refl
@@ -41,14 +41,14 @@ unfolding attempts
 attempts-other app journal act other =
     let gone : filter (is_of app) (act ∷ []) ≡ [] = rw other refl in
     let same : filter (is_of app) (journal ++ act ∷ []) ≡ filter (is_of app) journal =
-      filter-append (is_of app) journal (act ∷ []) ∙ ap (λ (acts : List Act). filter (is_of app) journal ++ acts) gone ∙ append-nil (filter (is_of app) journal) in
+    filter-append (is_of app) journal (act ∷ []) ∙ ap (λ (acts : List Act). filter (is_of app) journal ++ acts) gone ∙ append-nil (filter (is_of app) journal) in
     ap (λ (acts : List Act). (in_attempts acts).1) same
 
 -- ---- Turns
 
 -- a further Event stands behind those before it
 pub in_turns-gave : (acts : List Act) (app : ℕ) (frame : List ℕ) (more : List Act) → is_event frame ≡ true
-  → in_turns (acts ++ Gave app frame ∷ more)
+    → in_turns (acts ++ Gave app frame ∷ more)
     ≡ ((in_turns acts).0, (in_turns acts).1 ++ record { given = true; acts = (in_turns more).0 } ∷ (in_turns more).1)
 in_turns-gave [] app frame more event = rw event refl
 in_turns-gave (Started a s ∷ acts) app frame more event = rw (in_turns-gave acts app frame more event) refl
