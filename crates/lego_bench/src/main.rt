@@ -1,19 +1,21 @@
 //! The loops that `bench/` measures. Safety alone is proved here, and no library stands on this crate.
 //!
 //! The words are an operation, what it goes over and a number of rounds: `decode small 100`. What is
-//! written is how many messages or frames the rounds went over, and their bytes.
+//! written is how many messages, frames or entries the rounds went over, and their bytes.
 #![tactic(auto)]
 
 mod application;
 mod corpus;
 mod frames;
 mod stream;
+mod table;
 mod wire;
 
 use crate::application::Said;
 use crate::corpus::Corpus;
 use crate::frames::{FrameOperation, FrameSize};
 use crate::stream::Piece;
+use crate::table::{TableOperation, TableSize};
 use crate::wire::{Operation, Work};
 use std::alloc::{AllocError, Global};
 use std::process::ExitCode;
@@ -30,6 +32,8 @@ enum Loop {
     Stream(Piece),
     /// Over a frame of an application.
     Application(Said),
+    /// Over the entries of a table.
+    Table(TableOperation, TableSize),
 }
 
 impl Loop {
@@ -43,6 +47,9 @@ impl Loop {
         }
         if let Some(operation) = FrameOperation::from_word(operation) {
             return FrameSize::from_word(over).map(|size| Loop::Frames(operation, size));
+        }
+        if let Some(operation) = TableOperation::from_word(operation) {
+            return TableSize::from_word(over).map(|size| Loop::Table(operation, size));
         }
         let operation = Operation::from_word(operation)?;
         Corpus::from_word(over).map(|corpus| Loop::Messages(operation, corpus))
@@ -58,6 +65,7 @@ impl Loop {
             Loop::Frames(operation, size) => frames::run(alloc, operation, size, rounds),
             Loop::Stream(piece) => stream::run(alloc, piece, rounds),
             Loop::Application(said) => application::run(alloc, said, rounds),
+            Loop::Table(operation, size) => table::run(alloc, operation, size, rounds),
         }
     }
 }
@@ -80,6 +88,9 @@ fn main(rt: HostRuntime) -> io::Result<ExitCode> {
         println!(rt; "       lego_bench key|edit 64|1500 ROUNDS")?;
         println!(rt; "       lego_bench cut 1|64|65536 ROUNDS")?;
         println!(rt; "       lego_bench hear save|message|64k|1m|part ROUNDS")?;
+        println!(rt;
+            "       lego_bench change|lookup|hit|expire|fill|delete 100|1000|4096 ROUNDS"
+        )?;
         return Ok(ExitCode::from(2));
     };
     let Work { messages, bytes } = named.run(rt.alloc(), rounds)?;
