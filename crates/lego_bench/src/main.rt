@@ -8,6 +8,7 @@ mod application;
 mod corpus;
 mod frames;
 mod stream;
+mod switch;
 mod table;
 mod wire;
 
@@ -15,6 +16,7 @@ use crate::application::Said;
 use crate::corpus::Corpus;
 use crate::frames::{FrameOperation, FrameSize};
 use crate::stream::Piece;
+use crate::switch::Entries;
 use crate::table::{TableOperation, TableSize};
 use crate::wire::{Operation, Work};
 use std::alloc::{AllocError, Global};
@@ -34,6 +36,8 @@ enum Loop {
     Application(Said),
     /// Over the entries of a table.
     Table(TableOperation, TableSize),
+    /// Over frames that arrive at a switch.
+    Switch(Entries),
 }
 
 impl Loop {
@@ -41,6 +45,9 @@ impl Loop {
     fn from_words(operation: &str, over: &str) -> Option<Loop> {
         if operation == "cut" {
             return Piece::from_word(over).map(Loop::Stream);
+        }
+        if operation == "forward" {
+            return Entries::from_word(over).map(Loop::Switch);
         }
         if operation == "hear" {
             return Said::from_word(over).map(Loop::Application);
@@ -66,6 +73,7 @@ impl Loop {
             Loop::Stream(piece) => stream::run(alloc, piece, rounds),
             Loop::Application(said) => application::run(alloc, said, rounds),
             Loop::Table(operation, size) => table::run(alloc, operation, size, rounds),
+            Loop::Switch(entries) => switch::run(alloc, entries, rounds),
         }
     }
 }
@@ -87,6 +95,7 @@ fn main(rt: HostRuntime) -> io::Result<ExitCode> {
         println!(rt; "usage: lego_bench decode|check|encode small|large|actions ROUNDS")?;
         println!(rt; "       lego_bench key|edit 64|1500 ROUNDS")?;
         println!(rt; "       lego_bench cut 1|64|65536 ROUNDS")?;
+        println!(rt; "       lego_bench forward 10|1000|4096 ROUNDS")?;
         println!(rt; "       lego_bench hear save|message|64k|1m|part ROUNDS")?;
         println!(rt;
             "       lego_bench change|lookup|hit|expire|fill|delete 100|1000|4096 ROUNDS"

@@ -60,7 +60,7 @@ impl TableSize {
 }
 
 /// A FLOW_MOD of the packets of one port, or of all; its entry goes after a minute.
-fn flow(alloc: Global, command: u16, in_port: Option<u16>) -> Result<FlowMod, AllocError> {
+pub fn flow(alloc: Global, command: u16, in_port: Option<u16>) -> Result<FlowMod, AllocError> {
     let mut bytes = [0u8; 40];
     bytes[1] = 0x38;
     bytes[2] = 0x20;

@@ -1,0 +1,9 @@
+use Rattle.std.proofs.Common.{length, ap, arith, length-append, codes}
+use Rattle.std.proofs.lemmas.Fmt.{length-decimal-le}
+use Rattle.std.specs.Fmt.{decimal}
+use Rattle.switch_sim.proofs.port.name.Goals as goal
+
+pub padded_name-requires : goal.padded_name-requires
+padded_name-requires c =
+    let digits = length-decimal-le 5 c.args.number (omega arith) (omega arith) (omega arith) in
+    rw (c.as_bytes.ensures.value, c.in_ok-text.ensures) (omega (arith, digits))

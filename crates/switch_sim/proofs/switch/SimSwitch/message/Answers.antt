@@ -1,0 +1,5 @@
+use Rattle.switch_sim.specs.SerialLaws.{next_message_result}
+use Rattle.switch_sim.proofs.switch.SimSwitch.message.Goals as goal
+
+pub returns-clause-serials : goal.returns-clause-serials
+returns-clause-serials c = next_message_result c.respond.result c.args.m.now c.args.self.now c.respond.new.self c.respond.ensures.ok c.respond.ensures.err

@@ -1,0 +1,15 @@
+pub mod Words
+pub mod PartLaws
+pub mod SumLaws
+pub mod RowLaws
+pub mod Sound
+pub mod SoundLaws
+pub mod NoticeLaws
+pub mod StepLaws
+pub mod EditLaws
+pub mod LookLaws
+pub mod Plan
+pub mod PlanLaws
+pub mod Possible
+pub mod PortLaws
+pub mod SerialLaws

@@ -1,0 +1,98 @@
+//! A list of whole messages.
+
+ghost use Rattle.std.specs.Prelude.{◌≡◌, ◌↔◌, [], ◌∷◌, length, IsTrue, IfOk};
+
+use of_types::ByteList;
+use std::alloc::{AllocError, Global};
+use std::cmp::{Eq, PartialEq};
+use std::marker::Model;
+
+/// Messages as bytes, each with its header, in the order in which they are sent. Contracts see a list of lists of
+/// bytes.
+#[derive(Drop, Debug, Clone)]
+pub struct MessageList {
+    messages: Vec<ByteList>,
+}
+
+impl Model for MessageList {
+    ghost use Rattle.std.specs.Prelude.{List, ℕ};
+
+    ghost Value = { List (List ℕ) };
+
+    ghost view = { λ s. s.messages.items };
+}
+
+impl MessageList {
+    /// No messages; takes no memory.
+    pub fn new(alloc: Global) -> MessageList
+        ensures { result ≡ [] }
+    {
+        MessageList {
+            messages: Vec::new(alloc),
+        }
+    }
+
+    /// One message.
+    pub(crate) fn one(alloc: Global, message: ByteList) -> Result<MessageList, AllocError>
+        ensures { IfOk result (λ list. list ≡ message ∷ []) }
+    {
+        let mut messages = Vec::new(alloc);
+        messages.push(message)?;
+        Ok(MessageList { messages })
+    }
+
+    /// The messages of a vector, which becomes the list; takes no memory.
+    pub fn from_vec(messages: Vec<ByteList>) -> MessageList
+        ensures { result ≡ messages.items }
+    {
+        MessageList { messages }
+    }
+
+    /// The vector back; takes no memory.
+    pub fn into_vec(self) -> Vec<ByteList>
+        ensures { result.items ≡ self }
+    {
+        self.messages
+    }
+
+    /// The messages.
+    pub fn as_slice(&self) -> &[ByteList]
+        ensures { result.now ≡ self.now }
+    {
+        self.messages.as_slice()
+    }
+
+    /// How many messages there are.
+    pub fn len(&self) -> usize
+        ensures { result ≡ length self.now }
+    {
+        self.messages.len()
+    }
+
+    /// There are no messages.
+    pub fn is_empty(&self) -> bool
+        ensures { IsTrue result ↔ (self.now ≡ []) }
+    {
+        self.messages.is_empty()
+    }
+}
+
+impl PartialEq for MessageList {
+    ghost use Rattle.std.specs.Cmp.Lexicographic.{pointwise, lists_per};
+    ghost use Rattle.of_types.specs.contracts.byte_list.ByteListPartialEq.TheImpl.Laws.{laws-law};
+
+    ghost eq = { λ x y. pointwise ⟦<ByteList as PartialEq>⟧.eq x y };
+
+    ghost laws = { lists_per laws-law };
+
+    fn eq(&self, other: &MessageList) -> bool {
+        self.messages == other.messages
+    }
+}
+
+impl Eq for MessageList {
+    ghost use Rattle.std.specs.Cmp.Lexicographic.{lists_equiv};
+    ghost use Rattle.of_types.specs.contracts.byte_list.ByteListEq.TheImpl.Laws.{laws-law};
+
+    ghost laws = { lists_equiv laws-law };
+}

@@ -1,0 +1,188 @@
+//! Messages that a switch sends.
+
+ghost use Rattle.std.specs.Prelude.{◌≡◌, ◌≤◌, ◌<◌, ◌^◌, length, take, map, IfOk};
+ghost use Rattle.of_types.specs.declared.port_desc.PortDesc.{PortDesc};
+ghost use Rattle.of_wire.specs.Spelling.{message_bytes, message_size};
+ghost use Rattle.flow_table.specs.Switch.{port_desc};
+ghost use Rattle.flow_table.specs.Frames.{packet_in};
+ghost use Rattle.flow_table.specs.Step.{flow_removed, error_bytes, port_status};
+
+use crate::port::Port;
+use flow_table::Notice;
+use of_types::{ByteList, OfError, PortDesc, PortNo, flows};
+use of_wire::{
+    FeaturesReply, FlowRemoved, Message, PacketIn, PortList, PortStatus, SwitchConfig, encode,
+};
+use std::alloc::{AllocError, Global};
+
+/// The most bytes of a frame that a PACKET_IN can carry.
+pub(crate) const MOST_FRAME: usize = 65_517;
+
+/// A PACKET_IN of a whole frame, in no buffer (OpenFlow 1.0.0, 5.4.1 Packet-In Message).
+#[tactic(auto, unfolding(flow_table::specs::Frames::packet_in, of_wire::specs::Spelling::message_size))]
+pub(crate) fn packet_in(
+    alloc: Global,
+    reason: u8,
+    in_port: PortNo,
+    frame: &[u8],
+) -> Result<ByteList, AllocError>
+    requires { length frame.now ≤ MOST_FRAME }
+    ensures { IfOk result (λ bytes. bytes ≡ packet_in reason in_port frame.now) }
+{
+    let packet = PacketIn {
+        buffer_id: flows::NO_BUFFER,
+        total_len: frame.len() as u16,
+        in_port,
+        reason,
+        payload: ByteList::from_slice(alloc, frame)?,
+    };
+    encode(alloc, 0, &Message::PacketIn(packet))
+}
+
+/// The first 64 bytes.
+fn front(bytes: &[u8]) -> &[u8]
+    ensures front { result.now ≡ take 64 bytes.now }
+    ensures len { length result.now ≤ 64 }
+{
+    if bytes.len() <= 64 {
+        bytes
+    } else {
+        &bytes[..64]
+    }
+}
+
+/// The ERROR that answers a message: it has its `xid` and its first 64 bytes (OpenFlow 1.0.0, 5.4.4 Error Message).
+#[tactic(auto, unfolding(flow_table::specs::Step::error_bytes, of_wire::specs::Spelling::message_size))]
+pub(crate) fn error(
+    alloc: Global,
+    xid: u32,
+    message: &Message,
+    error: OfError,
+) -> Result<ByteList, AllocError>
+    requires { message_size message.now ≤ 65535 }
+    ensures { IfOk result (λ bytes. bytes ≡ error_bytes xid message.now error) }
+{
+    let request = encode(alloc, xid, message)?;
+    let payload = ByteList::from_slice(alloc, front(request.as_slice()))?;
+    encode_error(alloc, xid, error, payload)
+}
+
+#[tactic(auto, unfolding(of_wire::specs::Spelling::message_size))]
+fn encode_error(
+    alloc: Global,
+    xid: u32,
+    error: OfError,
+    payload: ByteList,
+) -> Result<ByteList, AllocError>
+    requires { length payload ≤ 64 }
+    ensures { IfOk result (λ bytes. bytes ≡ message_bytes xid (Message.Error error.kind error.code payload)) }
+{
+    encode(
+        alloc,
+        xid,
+        &Message::Error {
+            kind: error.kind,
+            code: error.code,
+            payload,
+        },
+    )
+}
+
+/// What a FLOW_REMOVED says of an entry that went (OpenFlow 1.0.0, 5.4.2 Flow Removed Message).
+pub(crate) fn flow_removed(notice: &Notice) -> FlowRemoved
+    requires { notice.now.duration < 2 ^ 32 }
+    ensures { result ≡ flow_removed notice.now }
+{
+    FlowRemoved {
+        matching: notice.removed.key.matching,
+        cookie: notice.removed.cookie,
+        priority: notice.removed.key.priority,
+        reason: notice.reason,
+        duration_sec: notice.duration as u32,
+        duration_nsec: 0,
+        idle_timeout: notice.removed.idle,
+        packet_count: notice.removed.packets,
+        byte_count: notice.removed.bytes,
+    }
+}
+
+/// A PORT_STATUS with the port's description (OpenFlow 1.0.0, 5.4.3 Port Status Message).
+#[tactic(auto, unfolding(flow_table::specs::Step::port_status, of_wire::specs::Spelling::message_size))]
+pub(crate) fn port_status(
+    alloc: Global,
+    reason: u8,
+    dpid: u64,
+    port: &Port,
+) -> Result<ByteList, AllocError>
+    ensures { IfOk result (λ bytes. bytes ≡ port_status reason dpid port.now) }
+{
+    let port = port.describe(alloc, dpid)?;
+    encode(alloc, 0, &Message::PortStatus(PortStatus { reason, port }))
+}
+
+/// The descriptions of ports.
+fn describe_all(alloc: Global, dpid: u64, ports: &[Port]) -> Result<PortList, AllocError>
+    ensures { IfOk result (λ list. list ≡ map (port_desc dpid) ports.now) }
+{
+    let mut descriptions = Vec::new(alloc);
+    for port in ports {
+        descriptions.push(port.describe(alloc, dpid)?)?;
+    }
+    Ok(PortList::from_vec(descriptions))
+}
+
+/// The FEATURES_REPLY of a switch with at most 64 ports (OpenFlow 1.0.0, 5.3.1 Handshake).
+#[tactic(auto, unfolding(of_wire::specs::Spelling::message_size))]
+pub(crate) fn features(
+    alloc: Global,
+    xid: u32,
+    dpid: u64,
+    ports: &[Port],
+) -> Result<ByteList, AllocError>
+    requires { length ports.now ≤ 64 }
+    ensures { IfOk result (λ bytes. bytes ≡ message_bytes xid (Message.FeaturesReply (record {
+      dpid = dpid;
+      n_buffers = 0;
+      n_tables = 1;
+      capabilities = 0x87;
+      actions = 0x7ff;
+      ports = map (port_desc dpid) ports.now;
+    }))) }
+{
+    let ports = describe_all(alloc, dpid, ports)?;
+    let features = FeaturesReply {
+        dpid,
+        n_buffers: 0,
+        n_tables: 1,
+        capabilities: 0x87,
+        actions: 0x7ff,
+        ports,
+    };
+    encode(alloc, xid, &Message::FeaturesReply(features))
+}
+
+/// The BARRIER_REPLY (OpenFlow 1.0.0, 5.3.7 Barrier Message).
+#[tactic(auto, unfolding(of_wire::specs::Spelling::message_size))]
+pub(crate) fn barrier(alloc: Global, xid: u32) -> Result<ByteList, AllocError>
+    ensures { IfOk result (λ bytes. bytes ≡ message_bytes xid Message.BarrierReply) }
+{
+    encode(alloc, xid, &Message::BarrierReply)
+}
+
+/// The ECHO_REPLY with the request's data (OpenFlow 1.0.0, 5.5.3 Echo Reply).
+#[tactic(auto, unfolding(of_wire::specs::Spelling::message_size))]
+pub(crate) fn echo(alloc: Global, xid: u32, payload: &ByteList) -> Result<ByteList, AllocError>
+    requires { message_size (Message.EchoRequest payload.now) ≤ 65535 }
+    ensures { IfOk result (λ bytes. bytes ≡ message_bytes xid (Message.EchoReply payload.now)) }
+{
+    let payload = payload.clone()?;
+    encode(alloc, xid, &Message::EchoReply { payload })
+}
+
+/// The GET_CONFIG_REPLY (OpenFlow 1.0.0, 5.3.2 Switch Configuration).
+#[tactic(auto, unfolding(of_wire::specs::Spelling::message_size))]
+pub(crate) fn config(alloc: Global, xid: u32, config: SwitchConfig) -> Result<ByteList, AllocError>
+    ensures { IfOk result (λ bytes. bytes ≡ message_bytes xid (Message.GetConfigReply config)) }
+{
+    encode(alloc, xid, &Message::GetConfigReply(config))
+}

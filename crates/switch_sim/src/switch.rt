@@ -1,0 +1,116 @@
+//! The simulated switch.
+
+ghost use Rattle.std.specs.Prelude.{◌≡◌, ◌≤◌, length, map, IfOk};
+ghost use Rattle.flow_table.specs.Switch.{joined_at, new_port};
+
+use crate::port::Port;
+use flow_table::Table;
+use of_types::{Dpid, PortNo};
+use of_wire::SwitchConfig;
+use std::alloc::{AllocError, Global};
+use std::marker::Model;
+
+/// A switch of OpenFlow 1.0.0 that has joined at moment 0, with an empty table. Contracts see its state
+/// (`SwitchState`), and what it sends as a function of that.
+#[derive(Debug, Drop)]
+pub struct SimSwitch {
+    pub(crate) alloc: Global,
+    pub(crate) dpid: Dpid,
+    pub(crate) cap: u32,
+    pub(crate) declared: Vec<PortNo>,
+    pub(crate) moment: u64,
+    pub(crate) table: Table,
+    pub(crate) ports: Vec<Port>,
+    pub(crate) had: Vec<PortNo>,
+    pub(crate) config: SwitchConfig,
+    pub(crate) lookups: u64,
+    pub(crate) matched: u64,
+}
+
+impl Model for SimSwitch {
+    ghost use Rattle.flow_table.specs.Switch.{SwitchState};
+    ghost use Rattle.switch_sim.specs.Sound.{IsSound};
+
+    ghost Value = { SwitchState };
+
+    ghost view = { λ s. record {
+      declared = record { dpid = s.dpid; cap = s.cap; ports = s.declared.items };
+      moment = s.moment;
+      table = s.table;
+      ports = s.ports.items;
+      had = s.had.items;
+      config = s.config;
+      lookups = s.lookups;
+      matched = s.matched;
+    } };
+
+    ghost invariant = { λ s. IsSound s.cap s.moment s.table.entries s.ports.items };
+}
+
+fn new_ports(alloc: Global, numbers: &[PortNo]) -> Result<Vec<Port>, AllocError>
+    ensures { IfOk result (λ ports. ports.items ≡ map new_port numbers.now) }
+{
+    let mut ports = Vec::new(alloc);
+    for number in numbers {
+        ports.push(Port::new(*number))?;
+    }
+    Ok(ports)
+}
+
+fn copy_numbers(alloc: Global, numbers: &[PortNo]) -> Result<Vec<PortNo>, AllocError>
+    ensures { IfOk result (λ copy. copy.items ≡ numbers.now) }
+{
+    Vec::from_slice(alloc, numbers)
+}
+
+impl SimSwitch {
+    /// A switch that has just joined at moment 0: with an empty table that takes `cap` entries, and its ports, at most
+    /// 64, with a link each.
+    pub fn new(
+        alloc: Global,
+        dpid: Dpid,
+        cap: u32,
+        ports: &[PortNo],
+    ) -> Result<SimSwitch, AllocError>
+        requires { length ports.now ≤ 64 }
+        ensures { IfOk result (λ s. s ≡ joined_at 0 (record { dpid = dpid; cap = cap; ports = ports.now })) }
+    {
+        Ok(SimSwitch {
+            alloc,
+            dpid,
+            cap,
+            declared: copy_numbers(alloc, ports)?,
+            moment: 0,
+            table: Table::new(alloc)?,
+            ports: new_ports(alloc, ports)?,
+            had: copy_numbers(alloc, ports)?,
+            config: SwitchConfig {
+                flags: 0,
+                miss_send_len: 128,
+            },
+            lookups: 0,
+            matched: 0,
+        })
+    }
+
+    /// The number with which it was made; takes no memory.
+    pub fn dpid(&self) -> Dpid
+        ensures { result ≡ self.now.declared.dpid }
+    {
+        self.dpid
+    }
+
+    /// How many entries its table takes; takes no memory.
+    pub fn cap(&self) -> u32
+        ensures { result ≡ self.now.declared.cap }
+    {
+        self.cap
+    }
+
+    /// The ports with which it was made; takes no memory.
+    pub fn declared(&self) -> &[PortNo]
+        ensures { result.now ≡ self.now.declared.ports }
+    {
+        &self.declared
+    }
+}
