@@ -9,6 +9,9 @@ use std::alloc::Global;
 use std::process::Abort;
 use std::test::Fail;
 
+/// The number of no buffer.
+const NONE: u32 = 0xffff_ffff;
+
 /// A broadcast frame of an unknown type.
 const FRAME: [u8; 14] = [
     0xff, 0xff, 0xff, 0xff, 0xff, 0xff, 2, 0, 0, 0, 0, 1, 0x88, 0xb5,
@@ -148,23 +151,26 @@ fn flow(
 }
 
 #[test]
-fn refusals(rt: HostRuntime) -> Result<(), Fail> {
-    let none = 0xffff_ffff;
+fn refusals_of_flows(rt: HostRuntime) -> Result<(), Fail> {
     let alloc = rt.alloc();
     let mut switch = SimSwitch::new(alloc, 1, 2, &[1, 2])?;
     refuses(&rt, &mut switch, &flow(&rt, alloc, 4, 5, 0, 9), 3, 2);
     refuses(&rt, &mut switch, &flow(&rt, alloc, 0, 5, 0, 9), 3, 4);
     refuses(&rt, &mut switch, &flow(&rt, alloc, 0, 0, 0, 9), 1, 8);
-    refuses(&rt, &mut switch, &flow(&rt, alloc, 0, 0, none, 9), 2, 4);
+    refuses(&rt, &mut switch, &flow(&rt, alloc, 0, 0, NONE, 9), 2, 4);
     refuses(
         &rt,
         &mut switch,
-        &flow(&rt, alloc, 0, 0, none, 0xfff9),
+        &flow(&rt, alloc, 0, 0, NONE, 0xfff9),
         2,
         4,
     );
-    assert!(rt; send(&rt, &mut switch, 1, &flow(&rt, alloc, 0, 3, 0, 9)).is_empty());
-    refuses(&rt, &mut switch, &packet(&rt, alloc, 9), 2, 4);
+    Ok(())
+}
+
+#[test]
+fn refusals_of_settings(rt: HostRuntime) -> Result<(), Fail> {
+    let mut switch = SimSwitch::new(rt.alloc(), 1, 2, &[1, 2])?;
     let config = SwitchConfig {
         flags: 1,
         miss_send_len: 0,
@@ -172,11 +178,19 @@ fn refusals(rt: HostRuntime) -> Result<(), Fail> {
     refuses(&rt, &mut switch, &Message::SetConfig(config), 1, 5);
     refuses(&rt, &mut switch, &port_mod(3, 2), 4, 0);
     refuses(&rt, &mut switch, &port_mod(2, 1), 4, 1);
+    refuses(&rt, &mut switch, &Message::BarrierReply, 1, 1);
+    Ok(())
+}
+
+#[test]
+fn refusals_of_requests(rt: HostRuntime) -> Result<(), Fail> {
+    let alloc = rt.alloc();
+    let mut switch = SimSwitch::new(alloc, 1, 2, &[1, 2])?;
+    refuses(&rt, &mut switch, &packet(&rt, alloc, 9), 2, 4);
     refuses(&rt, &mut switch, &asked(&rt, alloc, 5, &[]), 1, 2);
     refuses(&rt, &mut switch, &asked(&rt, alloc, 4, &[]), 1, 6);
     let payload = ByteList::from_slice(alloc, &[0, 0, 0x23, 0x20])?;
     refuses(&rt, &mut switch, &Message::Vendor { payload }, 1, 3);
-    refuses(&rt, &mut switch, &Message::BarrierReply, 1, 1);
     Ok(())
 }
 
@@ -200,67 +214,117 @@ fn sent_and_dropped(switch: &SimSwitch) -> [(u64, u64); 3] {
     counts
 }
 
+/// The frame goes out without a message.
+fn puts_out(rt: &impl Abort, alloc: Global, switch: &mut SimSwitch, to: u16)
+    requires { switch.old.table.next < 5000 }
+    ensures { switch.new.table.next ≤ switch.old.table.next + 1 }
+{
+    let m = packet(rt, alloc, to);
+    let sent = send(rt, switch, 1, &m);
+    assert!(rt; sent.is_empty());
+}
+
+/// The change sends so many messages.
+fn changes(rt: &impl Abort, switch: &mut SimSwitch, port: u16, to: PortChange, count: usize)
+    ensures { switch.new.table.next ≡ switch.old.table.next }
+{
+    let sent = change(rt, switch, port, to);
+    assert_eq!(rt; sent.len(), count);
+}
+
 #[test]
-fn outputs(rt: HostRuntime) -> Result<(), Fail> {
+fn outputs_to_ports(rt: HostRuntime) -> Result<(), Fail> {
     let alloc = rt.alloc();
     let mut switch = SimSwitch::new(alloc, 1, 2, &[1, 2, 3])?;
-    // A port, the port of entry, IN_PORT, ALL, and a port that is not there any more.
-    assert!(rt; send(&rt, &mut switch, 1, &packet(&rt, alloc, 2)).is_empty());
-    assert!(rt; send(&rt, &mut switch, 1, &packet(&rt, alloc, 1)).is_empty());
-    assert!(rt; send(&rt, &mut switch, 1, &packet(&rt, alloc, 0xfff8)).is_empty());
-    assert!(rt; send(&rt, &mut switch, 1, &packet(&rt, alloc, 0xfffc)).is_empty());
+    // A port, the port of entry by its number and as IN_PORT, and ALL.
+    puts_out(&rt, alloc, &mut switch, 2);
+    puts_out(&rt, alloc, &mut switch, 1);
+    puts_out(&rt, alloc, &mut switch, 0xfff8);
+    puts_out(&rt, alloc, &mut switch, 0xfffc);
     assert!(rt; sent_and_dropped(&switch) == [(1, 0), (2, 0), (1, 0)]);
-    // FLOOD without port 3, which then has no link and drops what ALL puts out.
+    Ok(())
+}
+
+#[test]
+fn outputs_past_ports(rt: HostRuntime) -> Result<(), Fail> {
+    let alloc = rt.alloc();
+    let mut switch = SimSwitch::new(alloc, 1, 2, &[1, 2, 3])?;
+    // FLOOD leaves out port 3, which then has no link and drops what ALL puts out.
     assert!(rt; send(&rt, &mut switch, 1, &port_mod(3, 3)).is_empty());
-    assert!(rt; send(&rt, &mut switch, 1, &packet(&rt, alloc, 0xfffb)).is_empty());
-    assert_eq!(rt; change(&rt, &mut switch, 3, PortChange::Down).len(), 1);
-    assert!(rt; change(&rt, &mut switch, 3, PortChange::Down).is_empty());
-    assert!(rt; send(&rt, &mut switch, 1, &packet(&rt, alloc, 0xfffc)).is_empty());
-    assert!(rt; sent_and_dropped(&switch) == [(1, 0), (4, 0), (1, 1)]);
-    // CONTROLLER, and TABLE where nothing covers the frame.
-    let to_controller = send(&rt, &mut switch, 1, &packet(&rt, alloc, 0xfffd));
+    puts_out(&rt, alloc, &mut switch, 0xfffb);
+    changes(&rt, &mut switch, 3, PortChange::Down, 1);
+    changes(&rt, &mut switch, 3, PortChange::Down, 0);
+    puts_out(&rt, alloc, &mut switch, 0xfffc);
+    assert!(rt; sent_and_dropped(&switch) == [(0, 0), (2, 0), (0, 1)]);
+    Ok(())
+}
+
+#[test]
+fn outputs_to_a_port_that_went(rt: HostRuntime) -> Result<(), Fail> {
+    let alloc = rt.alloc();
+    let mut switch = SimSwitch::new(alloc, 1, 2, &[1, 2, 3])?;
+    changes(&rt, &mut switch, 2, PortChange::Delete, 1);
+    puts_out(&rt, alloc, &mut switch, 2);
+    changes(&rt, &mut switch, 2, PortChange::Add, 1);
+    assert!(rt; sent_and_dropped(&switch) == [(0, 0), (0, 0), (0, 0)]);
+    Ok(())
+}
+
+/// The bytes of a PACKET_IN from its in_port to its reason.
+fn in_port_and_reason(sent: &MessageList) -> Option<[u8; 3]> {
+    let bytes = sent.as_slice().first()?.as_slice();
+    Some([*bytes.get(14)?, *bytes.get(15)?, *bytes.get(16)?])
+}
+
+#[test]
+fn outputs_to_the_controller(rt: HostRuntime) -> Result<(), Fail> {
+    let alloc = rt.alloc();
+    let mut switch = SimSwitch::new(alloc, 1, 2, &[1])?;
+    // CONTROLLER, and TABLE where nothing covers the frame: only the reason differs.
+    let acted = send(&rt, &mut switch, 1, &packet(&rt, alloc, 0xfffd));
     let missed = send(&rt, &mut switch, 1, &packet(&rt, alloc, 0xfff9));
-    assert_eq!(rt; to_controller.len(), 1);
+    assert_eq!(rt; acted.len(), 1);
     assert_eq!(rt; missed.len(), 1);
-    assert_eq!(rt; to_controller.as_slice()[0].len(), 32);
-    assert!(rt; to_controller.as_slice()[0] != missed.as_slice()[0]);
+    assert!(rt; in_port_and_reason(&acted) == Some([0, 1, 1]));
+    assert!(rt; in_port_and_reason(&missed) == Some([0, 1, 0]));
     assert_eq!(rt; switch.lookups, 1);
     assert_eq!(rt; switch.matched, 0);
-    assert_eq!(rt; change(&rt, &mut switch, 2, PortChange::Delete).len(), 1);
-    assert!(rt; send(&rt, &mut switch, 1, &packet(&rt, alloc, 2)).is_empty());
-    assert_eq!(rt; change(&rt, &mut switch, 2, PortChange::Add).len(), 1);
-    assert!(rt; sent_and_dropped(&switch) == [(1, 0), (0, 0), (1, 1)]);
     Ok(())
+}
+
+/// Adds one flow for each of so many ports of entry.
+fn fill(rt: &impl Abort, alloc: Global, switch: &mut SimSwitch, count: u16)
+    requires few { count ≤ 4096 }
+    requires serials { switch.old.table.next ≡ 0 }
+    ensures { switch.new.table.next ≤ count }
+{
+    for k in 0..count {
+        let m = Message::FlowMod(add(rt, alloc, k, 1, 1));
+        let sent = send(rt, switch, 1, &m);
+        assert!(rt; sent.is_empty());
+    }
+}
+
+/// A request for all flows of all tables.
+fn query() -> [u8; 44] {
+    let mut query = [0u8; 44];
+    query[1..4].copy_from_slice(&[0x38, 0x20, 0xff]);
+    query[40] = 0xff;
+    query[42..].copy_from_slice(&[0xff, 0xff]);
+    query
 }
 
 #[test]
 fn statistics_in_parts(rt: HostRuntime) -> Result<(), Fail> {
     let alloc = rt.alloc();
     let mut switch = SimSwitch::new(alloc, 1, 4096, &[1])?;
-    for k in 0..4096 {
-        let m = Message::FlowMod(add(&rt, alloc, k, 1, 1));
-        assert!(rt; send(&rt, &mut switch, 1, &m).is_empty());
-    }
-    let mut query = [0u8; 44];
-    query[1] = 0x38;
-    query[2] = 0x20;
-    query[3] = 0xff;
-    query[40] = 0xff;
-    query[42] = 0xff;
-    query[43] = 0xff;
+    fill(&rt, alloc, &mut switch, 4096);
     // 682 rows of 96 bytes fit a part.
-    let parts = send(&rt, &mut switch, 3, &asked(&rt, alloc, 1, &query));
+    let parts = send(&rt, &mut switch, 3, &asked(&rt, alloc, 1, &query()));
     assert_eq!(rt; parts.len(), 7);
     assert_eq!(rt; parts.as_slice()[5].len(), 65_484);
     assert_eq!(rt; parts.as_slice()[5].as_slice()[11], 1);
     assert_eq!(rt; parts.as_slice()[6].len(), 396);
     assert_eq!(rt; parts.as_slice()[6].as_slice()[11], 0);
-    let sum = send(&rt, &mut switch, 3, &asked(&rt, alloc, 2, &query));
-    assert_eq!(rt; sum.len(), 1);
-    assert_eq!(rt; sum.as_slice()[0].len(), 36);
-    assert_eq!(rt;
-        &sum.as_slice()[0].as_slice()[28..32],
-        [0, 0, 16, 0].as_slice()
-    );
     Ok(())
 }
