@@ -1,7 +1,7 @@
 ghost use Rattle.std.specs.Prelude.{◌≡◌, ◌+◌, ◌<◌, ◌≤◌};
 
 use super::*;
-use of_action::{Action, ActionList};
+use of_action::{Action, ActionList, Opaque};
 use of_match::{Fields, Match};
 use of_types::{ByteList, PortChange, Stimulus};
 use of_wire::{FlowMod, Message, PacketOut, PortMod, Stats, SwitchConfig, size};
@@ -289,6 +289,138 @@ fn outputs_to_the_controller(rt: HostRuntime) -> Result<(), Fail> {
     assert!(rt; in_port_and_reason(&missed) == Some([0, 1, 0]));
     assert_eq!(rt; switch.lookups, 1);
     assert_eq!(rt; switch.matched, 0);
+    Ok(())
+}
+
+/// A message sets a bit of a port's config, or clears it.
+fn sets(rt: &impl Abort, switch: &mut SimSwitch, port: u8, mask: u32, config: u32)
+    requires { switch.old.table.next < 5000 }
+    ensures { switch.new.table.next ≤ switch.old.table.next + 1 }
+{
+    let m = Message::PortMod(PortMod {
+        port_no: u16::from(port),
+        hw_addr: [2, 0, 0, 1, 0, port],
+        config,
+        mask,
+        advertise: 0,
+    });
+    assert!(rt; send(rt, switch, 1, &m).is_empty());
+}
+
+#[test]
+fn bits_of_a_port_of_exit(rt: HostRuntime) -> Result<(), Fail> {
+    let alloc = rt.alloc();
+    let mut switch = SimSwitch::new(alloc, 1, 2, &[1, 2, 3])?;
+    // PORT_DOWN and NO_FWD drop what goes out by the port; NO_STP is not kept.
+    sets(&rt, &mut switch, 2, 0x01, 0x01);
+    sets(&rt, &mut switch, 3, 0x20, 0x20);
+    puts_out(&rt, alloc, &mut switch, 0xfffc);
+    sets(&rt, &mut switch, 2, 0x03, 0x02);
+    puts_out(&rt, alloc, &mut switch, 0xfffc);
+    assert!(rt; sent_and_dropped(&switch) == [(0, 0), (1, 1), (0, 2)]);
+    Ok(())
+}
+
+#[test]
+fn bits_of_a_port_of_entry(rt: HostRuntime) -> Result<(), Fail> {
+    let alloc = rt.alloc();
+    let mut switch = SimSwitch::new(alloc, 1, 2, &[1, 2])?;
+    // NO_RECV and PORT_DOWN drop what comes in; NO_PACKET_IN keeps a miss from the controller.
+    sets(&rt, &mut switch, 1, 0x04, 0x04);
+    assert!(rt; arrive(&rt, alloc, &mut switch, 1).is_empty());
+    sets(&rt, &mut switch, 1, 0x05, 0x01);
+    assert!(rt; arrive(&rt, alloc, &mut switch, 1).is_empty());
+    assert_eq!(rt; switch.lookups, 0);
+    sets(&rt, &mut switch, 1, 0x41, 0x40);
+    assert!(rt; arrive(&rt, alloc, &mut switch, 1).is_empty());
+    assert_eq!(rt; switch.lookups, 1);
+    // Where there is no port, nothing comes in.
+    assert!(rt; arrive(&rt, alloc, &mut switch, 9).is_empty());
+    assert_eq!(rt; switch.lookups, 1);
+    Ok(())
+}
+
+/// An ADD of all flows of a port of entry, with one action.
+fn acting(rt: &impl Abort, alloc: Global, action: Action) -> Message {
+    let mut m = add(rt, alloc, 1, 5, 1);
+    let mut actions = Vec::new(alloc);
+    assert!(rt; actions.push(action).is_ok());
+    m.actions = ActionList::from_vec(actions);
+    Message::FlowMod(m)
+}
+
+#[test]
+fn refusals_of_actions(rt: HostRuntime) -> Result<(), Fail> {
+    let alloc = rt.alloc();
+    let mut switch = SimSwitch::new(alloc, 1, 2, &[1, 2])?;
+    let queue = Action::Enqueue { port: 1, queue: 0 };
+    refuses(&rt, &mut switch, &acting(&rt, alloc, queue), 2, 0);
+    let vendor = Action::Vendor(Opaque::from_list(ByteList::new(alloc)));
+    refuses(&rt, &mut switch, &acting(&rt, alloc, vendor), 2, 2);
+    Ok(())
+}
+
+#[test]
+fn refusals_of_the_table(rt: HostRuntime) -> Result<(), Fail> {
+    let alloc = rt.alloc();
+    let mut switch = SimSwitch::new(alloc, 1, 1, &[1, 2])?;
+    assert!(rt;
+        send(
+            &rt,
+            &mut switch,
+            1,
+            &Message::FlowMod(add(&rt, alloc, 1, 5, 2))
+        )
+        .is_empty()
+    );
+    let mut any = add(&rt, alloc, 1, 5, 2);
+    any.matching = Match::any();
+    any.flags = 2;
+    refuses(&rt, &mut switch, &Message::FlowMod(any), 3, 1);
+    refuses(
+        &rt,
+        &mut switch,
+        &Message::FlowMod(add(&rt, alloc, 2, 5, 2)),
+        3,
+        0,
+    );
+    Ok(())
+}
+
+/// The message is answered by these bytes alone.
+fn answers(rt: &impl Abort, switch: &mut SimSwitch, m: &Message, want: &[u8])
+    requires { switch.old.table.next < 5000 }
+    ensures { switch.new.table.next ≤ switch.old.table.next + 1 }
+{
+    let sent = send(rt, switch, 9, m);
+    assert_eq!(rt; sent.len(), 1);
+    assert_eq!(rt; sent.as_slice()[0].as_slice(), want);
+}
+
+#[test]
+fn replies(rt: HostRuntime) -> Result<(), Fail> {
+    let alloc = rt.alloc();
+    let mut switch = SimSwitch::new(alloc, 1, 1, &[])?;
+    let payload = ByteList::from_slice(alloc, &[7, 8])?;
+    answers(
+        &rt,
+        &mut switch,
+        &Message::EchoRequest { payload },
+        &[1, 3, 0, 10, 0, 0, 0, 9, 7, 8],
+    );
+    answers(
+        &rt,
+        &mut switch,
+        &Message::GetConfigRequest,
+        &[1, 8, 0, 12, 0, 0, 0, 9, 0, 0, 0, 128],
+    );
+    let features = [
+        1, 6, 0, 32, 0, 0, 0, 9, 0, 0, 0, 0, 0, 0, 0, 1, 0, 0, 0, 0, 1, 0, 0, 0, 0, 0, 0, 0x87, 0,
+        0, 7, 0xff,
+    ];
+    answers(&rt, &mut switch, &Message::FeaturesRequest, &features);
+    let payload = ByteList::new(alloc);
+    assert!(rt; send(&rt, &mut switch, 9, &Message::Hello { payload }).is_empty());
     Ok(())
 }
 
