@@ -53,22 +53,22 @@ fn filled(alloc: Global, entries: u16) -> Result<SimSwitch, AllocError> {
     Ok(switch)
 }
 
-/// A frame of 64 bytes that arrives at the second port.
-fn frame(alloc: Global) -> Result<ByteList, AllocError> {
-    ByteList::from_slice(alloc, &[2; 64])
+/// A frame of 64 bytes arrives at the second port.
+fn arrive(alloc: Global, switch: &mut SimSwitch, frame: &[u8; 64]) -> Result<(), AllocError> {
+    let bytes = ByteList::from_slice(alloc, frame)?;
+    if bytes.len() == 64 {
+        switch.stimulus(&Stimulus::Frame { port: 2, bytes })?;
+    }
+    Ok(())
 }
 
 /// Lets a frame arrive in each round; it hits one entry, whose output goes out.
 pub fn run(alloc: Global, entries: Entries, rounds: u64) -> Result<Work, AllocError> {
     let mut switch = filled(alloc, entries.0)?;
-    let bytes = frame(alloc)?;
+    let frame = [2; 64];
     let mut work = Work::default();
-    if bytes.len() != 64 {
-        return Ok(work);
-    }
-    let arrival = Stimulus::Frame { port: 2, bytes };
     for _ in 0..rounds {
-        switch.stimulus(&arrival)?;
+        arrive(alloc, &mut switch, &frame)?;
         work.add(64);
     }
     Ok(work)
