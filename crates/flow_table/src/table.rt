@@ -10,7 +10,7 @@ ghost use Rattle.flow_table.specs.Rows.{positions};
 use crate::changing::apply;
 use crate::describing::{find_refusal, is_adding};
 use crate::entry::Entry;
-use crate::expiring::expire;
+use crate::expiring::{drop_due, due, expire};
 use crate::fault::ChangeFault;
 use crate::hitting::{add_counts, hit, lookup};
 use crate::notice::NoticeList;
@@ -128,6 +128,23 @@ impl Table {
         ensures err { OnErr result (self.new ≡ self.old) }
     {
         expire(self.alloc, &mut self.entries, now)
+    }
+
+    /// The notices that `expire` gives at this moment; the table stays.
+    pub fn due(&self, now: u64) -> Result<NoticeList, AllocError>
+        requires { IsMoment now self.now.entries }
+        ensures { IfOk result (λ notices. notices ≡ expiry_notices now self.now.entries) }
+    {
+        due(self.alloc, &self.entries, now)
+    }
+
+    /// Removes what `expire` removes at this moment, without notices; takes no memory.
+    #[tactic(auto, unfolding(crate::specs::Expiry::expire))]
+    pub fn remove_due(&mut self, now: u64)
+        requires { IsMoment now self.old.entries }
+        ensures { self.new ≡ expire now self.old }
+    {
+        drop_due(&mut self.entries, now);
     }
 
     /// Where the entries stand whose match `m` subsumes and which, unless `out_port` is NONE, have an OUTPUT to
