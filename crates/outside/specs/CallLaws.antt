@@ -1,7 +1,7 @@
 -- What a call that succeeds leaves of the state of a world that tells, and what it was in a world that keeps its word.
-use Rattle.std.specs.Prelude.{◌≡◌, ℕ, true, false, refl, List, [], ◌∷◌, ◌++◌, take, Some, Ok, IsOk, slice_get}
+use Rattle.std.specs.Prelude.{◌≡◌, ℕ, true, false, refl, List, [], ◌∷◌, ◌++◌, length, take, Some, Ok, IsOk, slice_get}
 use Rattle.std.proofs.Common.{◌∙◌}
-use Rattle.of_types.specs.declared.journal.Act.TheVariants.{Started, Gave, Took, Sent, Got}
+use Rattle.of_types.specs.declared.journal.Act.TheVariants.{Started, Gave, Sent, Got}
 use Rattle.of_types.specs.declared.journal.TookWhat.TheVariants as took
 use Rattle.of_wire.specs.Reading.{reading_of}
 use Rattle.outside.specs.declared.item.Item.{Item}
@@ -9,7 +9,7 @@ use Rattle.outside.specs.declared.item.Taken.TheVariants as gave
 use Rattle.flow_table.specs.Switch.{Declared}
 use Rattle.outside.specs.declared.item.Item.TheVariants as items
 use Rattle.outside.specs.declared.step.WorldStep.{WorldStep}
-use Rattle.outside.specs.declared.step.WorldStep.TheVariants.{Acted, From, Joined, Left, Moment}
+use Rattle.outside.specs.declared.step.WorldStep.TheVariants.{Acted, TookInto, From, Joined, Left, Moment}
 use Rattle.outside.specs.Seen.{Seen}
 use Rattle.outside.specs.State.{State, after_step, after_steps, state, waits_of, is_running, upcoming}
 use Rattle.outside.specs.StateLaws.{after_steps-append, state-append, Conforming-rest}
@@ -33,9 +33,9 @@ pub Gives-state : {Own T Tells : Type 0} {app : ℕ} {bytes : List ℕ} {old new
 unfolding give_steps
 Gives-state {app = app} {bytes = bytes} {old = old} {new = new} x told call = state-append old new (Acted (Gave app bytes) ∷ []) call.given (call.told told).history
 
-pub Takes-state : {Own Tells : Type 0} {app : ℕ} {old new : Seen Own} {buf : List ℕ} (n : ℕ) → Tells → Takes Tells app old new (Ok (gave.Some n)) buf → state new ≡ after_step (Acted (Took app (took.Bytes (take n buf)))) (state old)
+pub Takes-state : {Own Tells : Type 0} {app : ℕ} {old new : Seen Own} {buf : List ℕ} (n : ℕ) → Tells → Takes Tells app old new (Ok (gave.Some n)) buf → state new ≡ after_step (TookInto app (took.Bytes (take n buf)) (length buf)) (state old)
 unfolding take_steps
-Takes-state {app = app} {old = old} {new = new} {buf = buf} n told call = state-append old new (Acted (Took app (took.Bytes (take n buf))) ∷ []) call.given (call.told told).history
+Takes-state {app = app} {old = old} {new = new} {buf = buf} n told call = state-append old new (TookInto app (took.Bytes (take n buf)) (length buf) ∷ []) call.given (call.told told).history
 
 pub Ends-state : {Own Tells : Type 0} {app : ℕ} {old new : Seen Own} → Tells → Ends Tells app old new → state new ≡ after_steps (end_steps app (is_running app (state old))) (state old)
 Ends-state {app = app} {old = old} {new = new} told call = state-append old new (end_steps app (is_running app (state old))) call.given (call.told told).history

@@ -5,7 +5,7 @@
 use Rattle.std.specs.Prelude.{◌≡◌, ℕ, ◌≤◌, ◌↔◌, Bool, true, false, not, List, [], ◌∷◌, ◌++◌, length, take, Option, Some, None, Result, Ok, Err, IsTrue, IsErr, IsOkAnd, IsErrOf, IfOk, IfSome, slice_get}
 use Rattle.lego_io.specs.Count.{raised, Rose}
 use Rattle.of_types.specs.Fields.{number_at}
-use Rattle.of_types.specs.declared.journal.Act.TheVariants.{Stim, Started, Gave, Gone, Took, Ended, Sent, Got}
+use Rattle.of_types.specs.declared.journal.Act.TheVariants.{Stim, Started, Gave, Gone, Ended, Sent, Got}
 use Rattle.of_types.specs.declared.journal.TookWhat.TheVariants as took
 use Rattle.of_types.specs.declared.journal.WorldStim.{WorldStim}
 use Rattle.of_wire.specs.declared.message.Message.{Message}
@@ -27,7 +27,7 @@ use Rattle.outside.specs.declared.item.Item.TheVariants as items
 use Rattle.outside.specs.declared.item.Taken.{Taken}
 use Rattle.outside.specs.declared.item.Taken.TheVariants as gave
 use Rattle.outside.specs.declared.step.WorldStep.{WorldStep}
-use Rattle.outside.specs.declared.step.WorldStep.TheVariants.{Acted, From, Joined, Left, Moment, Idle, End, Opened, NotOpened, NextFailed, SendFailed, RecvFailed}
+use Rattle.outside.specs.declared.step.WorldStep.TheVariants.{Acted, TookInto, From, Joined, Left, Moment, Idle, End, Opened, NotOpened, NextFailed, SendFailed, RecvFailed}
 use Rattle.outside.specs.Seen.{Counts, Seen, NoneFell, AreCounts, with_stray, with_short, with_short_of, with_link_fault}
 use Rattle.outside.specs.State.{State, after_steps, state, is_running, is_joined, has_waiting, upcoming}
 
@@ -194,9 +194,9 @@ pub record Gives {Own T : Type 0} (Tells : Type 0) (app : ℕ) (bytes : List ℕ
 -- ---- take
 
 unfoldable pub take_steps : ℕ → Result Taken Short → List ℕ → List WorldStep
-take_steps app (Ok (gave.Some n)) buf = Acted (Took app (took.Bytes (take n buf))) ∷ []
-take_steps app (Ok gave.Closed) buf = Acted (Took app took.Closed) ∷ []
-take_steps app (Ok gave.Silent) buf = Acted (Took app took.Silent) ∷ []
+take_steps app (Ok (gave.Some n)) buf = TookInto app (took.Bytes (take n buf)) (length buf) ∷ []
+take_steps app (Ok gave.Closed) buf = TookInto app took.Closed (length buf) ∷ []
+take_steps app (Ok gave.Silent) buf = TookInto app took.Silent (length buf) ∷ []
 take_steps app (Err short) buf = []
 
 unfoldable pub take_counts : Result Taken Short → Counts → Counts

@@ -15,7 +15,7 @@ use Rattle.of_wire.specs.Reading.{reading_of}
 use Rattle.of_wire.specs.Spelling.{kind_of}
 use Rattle.flow_table.specs.Switch.{Declared}
 use Rattle.outside.specs.declared.step.WorldStep.{WorldStep}
-use Rattle.outside.specs.declared.step.WorldStep.TheVariants.{Acted, From, Joined, Left, Moment, Idle, End, Opened, NotOpened, NextFailed, SendFailed, RecvFailed}
+use Rattle.outside.specs.declared.step.WorldStep.TheVariants.{Acted, TookInto, From, Joined, Left, Moment, Idle, End, Opened, NotOpened, NextFailed, SendFailed, RecvFailed}
 use Rattle.outside.specs.Seen.{Seen, is_declared}
 use Rattle.outside.specs.State.{State, at_first, after_stim, after_step, waits_of, is_joined, has_waiting, link_fails, upcoming}
 use Rattle.outside.specs.Calls.{IsIdle, IsOver}
@@ -83,6 +83,7 @@ MayAct declared (Got d bytes) s = (slice_get (waits_of d s) 0 ≡ Some bytes) ×
 -- A link call fails where it is to, after such a failure, or where it is out of place.
 unfoldable pub MayStep : List Declared → WorldStep → State → Type 0
 MayStep declared (Acted act) s = MayAct declared act s
+MayStep declared (TookInto app what room) s = Unit {0}
 MayStep declared (From d bytes) s = IsNext (From d bytes) s × IsOk (reading_of bytes)
 MayStep declared (Joined d bytes) s = IsNext (Joined d bytes) s
 MayStep declared (Left d) s = IsNext (Left d) s

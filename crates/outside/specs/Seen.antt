@@ -2,13 +2,13 @@
 use Rattle.std.specs.Prelude.{◌≡◌, ℕ, ◌==◌, Bool, List, ◌++◌, Option, Some, None, if◌then◌else◌, IsTrue}
 use Rattle.std.specs.List.{list_any, filter_map}
 use Rattle.of_types.specs.declared.journal.Act.{Act}
-use Rattle.of_types.specs.declared.journal.Act.TheVariants.{Got}
+use Rattle.of_types.specs.declared.journal.Act.TheVariants.{Took, Got}
 use Rattle.of_types.specs.declared.journal.WorldStim.{WorldStim}
 use Rattle.lego_io.specs.Count.{raised, Rose, NeverFell}
 use Rattle.flow_table.specs.Switch.{Declared}
 use Rattle.outside.specs.declared.call.FailCall.{FailCall}
 use Rattle.outside.specs.declared.step.WorldStep.{WorldStep}
-use Rattle.outside.specs.declared.step.WorldStep.TheVariants.{Acted, From, Joined, Left, Moment, Idle, End, Opened, NotOpened, NextFailed, SendFailed, RecvFailed}
+use Rattle.outside.specs.declared.step.WorldStep.TheVariants.{Acted, TookInto, From, Joined, Left, Moment, Idle, End, Opened, NotOpened, NextFailed, SendFailed, RecvFailed}
 
 -- ---- What is seen
 
@@ -42,6 +42,7 @@ pub record Seen (Own : Type 0) : Type 0 where
 -- the act of a step; items other than messages, and failed calls, are none
 abbrev pub act_of : WorldStep → Option Act
 act_of (Acted act) = Some act
+act_of (TookInto app what room) = Some (Took app what)
 act_of (From d bytes) = Some (Got d bytes)
 act_of (Joined d bytes) = None
 act_of (Left d) = None

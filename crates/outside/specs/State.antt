@@ -19,7 +19,7 @@ use Rattle.outside.specs.declared.call.CallKind.{CallKind}
 use Rattle.outside.specs.declared.call.CallKind.TheVariants as kinds
 use Rattle.outside.specs.declared.call.FailCall.{FailCall}
 use Rattle.outside.specs.declared.step.WorldStep.{WorldStep}
-use Rattle.outside.specs.declared.step.WorldStep.TheVariants.{Acted, From, Joined, Left, Moment, Idle, End, Opened, NotOpened, NextFailed, SendFailed, RecvFailed}
+use Rattle.outside.specs.declared.step.WorldStep.TheVariants.{Acted, TookInto, From, Joined, Left, Moment, Idle, End, Opened, NotOpened, NextFailed, SendFailed, RecvFailed}
 use Rattle.outside.specs.Seen.{Given, Seen}
 
 -- ---- The state
@@ -259,6 +259,7 @@ after_act (Got d bytes) s = record s { links = with_link d link_got s.links }
 
 unfoldable pub after_step : WorldStep → State → State
 after_step (Acted act) s = after_act act s
+after_step (TookInto app what room) s = s
 after_step (From d bytes) s = record s { links = with_link d link_told s.links }
 after_step (Joined d bytes) s = record s { due = drop 1 s.due }
 after_step (Left d) s = record s { due = drop 1 s.due }

@@ -6,7 +6,7 @@ use Rattle.of_types.specs.declared.journal.Act.TheVariants.{Stim, Started, Gave,
 use Rattle.of_types.specs.declared.journal.WorldStim.TheVariants.{Join, Leave, At, Of}
 use Rattle.flow_table.specs.Switch.{Declared}
 use Rattle.outside.specs.declared.step.WorldStep.{WorldStep}
-use Rattle.outside.specs.declared.step.WorldStep.TheVariants.{Acted, From, Joined, Left, Moment, Idle, End, Opened, NotOpened, NextFailed, SendFailed, RecvFailed}
+use Rattle.outside.specs.declared.step.WorldStep.TheVariants.{Acted, TookInto, From, Joined, Left, Moment, Idle, End, Opened, NotOpened, NextFailed, SendFailed, RecvFailed}
 use Rattle.outside.specs.Seen.{Given, Seen, Continues}
 use Rattle.outside.specs.State.{State, at_first, switch_of, after_stim, after_act, after_step, after_steps, state, but_marks}
 use Rattle.outside.specs.Conforming.{MaySteps, AreDeclaredFrom, Conforming}
@@ -95,6 +95,7 @@ act_but_marks (Got d bytes) s = refl
 pub but_marks-step : (step : WorldStep) (s : State) → but_marks (after_step step s) ≡ but_marks (after_step step (but_marks s))
 unfolding after_step
 but_marks-step (Acted act) s = act_but_marks act s
+but_marks-step (TookInto app what room) s = refl
 but_marks-step (From d bytes) s = refl
 but_marks-step (Joined d bytes) s = refl
 but_marks-step (Left d) s = refl

@@ -1,14 +1,16 @@
 //! The steps of a history.
 
-use of_types::{Act, ByteList};
+use of_types::{Act, ByteList, TookWhat};
 
 /// One step of what happened between the engine and a world: an act of the journal, an item told, or a call that
 /// failed. A call that answered `Short` is no step. A `u64` is a switch's number, in `Moment` seconds from the
 /// start.
 #[derive(Drop, Debug, Clone, PartialEq, Eq)]
 pub enum WorldStep {
-    /// An act of the journal. A `Got` here came by `recv`, and a `Stim` stands where `next` began it.
+    /// An act of the journal, but a `Took`. A `Got` here came by `recv`, and a `Stim` stands where `next` began it.
     Acted(Act),
+    /// `take` from the application answered this, into a buffer of so many bytes; the journal has it as `Took`.
+    TookInto(u32, TookWhat, usize),
     /// `next` told this message of the switch; the journal has it as `Got`.
     From(u64, ByteList),
     /// `next` told that the switch joined, with its FEATURES_REPLY.

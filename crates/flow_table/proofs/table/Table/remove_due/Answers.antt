@@ -8,7 +8,7 @@ becomes : (new : List Entry) (now : ℕ) (t : TableState) → new ≡ filter (λ
 unfolding expire
 becomes new now t entries = rw entries refl
 
-pub returns-clause : goal.returns-clause
-returns-clause c =
+pub returns : goal.returns
+returns c =
     rw (← c.self.view_is)
     (becomes _ c.args.now (record { entries = c.self.inside.entries.items; next = c.self.inside.next }) c.drop_due.ensures.removed)
