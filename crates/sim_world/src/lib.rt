@@ -1,0 +1,5 @@
+//! A simulated world.
+#![tactic(auto)]
+
+mod history;
+mod tally;
