@@ -1,0 +1,5 @@
+pub mod Told
+pub mod Scripts
+pub mod ScriptLaws
+pub mod Lives
+pub mod LifeLaws

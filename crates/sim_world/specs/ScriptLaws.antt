@@ -1,0 +1,2 @@
+-- Laws of what applications do.
+use Rattle.std.specs.Prelude.{◌≡◌, ℕ, refl}
