@@ -1,2 +1,7 @@
 pub mod Tally
 pub mod Room
+pub mod Told
+pub mod Scripts
+pub mod World
+
+pub mod WorldLaws

@@ -1,0 +1,150 @@
+-- A simulated world as data, and what holds of it: its history is one that its switches, its scripts and the calls that are told to
+-- fail make. All of this is our own choice.
+use Rattle.std.specs.Prelude.{◌≡◌, ◌==◌, ℕ, ◌+◌, ◌≤◌, Bool, true, false, not, ◌&&◌, ◌||◌, List, [], ◌∷◌, ◌++◌, length, map, Result, Ok, Err, is_ok, if◌then◌else◌}
+use Rattle.std.specs.List.{list_all}
+use Rattle.of_types.specs.declared.journal.Act.{Act}
+use Rattle.of_types.specs.declared.journal.Act.TheVariants.{Stim, Started, Gave, Gone, Took, Ended, Sent, Got}
+use Rattle.of_types.specs.declared.journal.Stimulus.{Stimulus}
+use Rattle.of_types.specs.declared.journal.Stimulus.TheVariants.{Raw}
+use Rattle.of_types.specs.declared.journal.WorldStim.{WorldStim}
+use Rattle.of_types.specs.declared.journal.WorldStim.TheVariants.{Of}
+use Rattle.of_wire.specs.Reading.{reading_of}
+use Rattle.outside.specs.declared.call.CallKind.TheVariants as kinds
+use Rattle.outside.specs.declared.call.FailCall.{FailCall}
+use Rattle.outside.specs.declared.step.WorldStep.{WorldStep}
+use Rattle.outside.specs.declared.step.WorldStep.TheVariants.{Acted, TookInto, From, Joined, Left, Moment, Idle, End, Opened, NotOpened, NextFailed, SendFailed, RecvFailed}
+use Rattle.flow_table.specs.Switch.{Declared}
+use Rattle.outside.specs.Seen.{Given, Seen}
+use Rattle.outside.specs.State.{State, at_first, after_step, after_steps, state, but_marks, moment_after, link_fails, is_running}
+use Rattle.outside.specs.Conforming.{AreDeclaredFrom, IsWorldStim, MaySteps}
+use Rattle.sim_world.specs.Tally.{TallyState, CountsFor, counts_of}
+use Rattle.sim_world.specs.Told.{is_told}
+use Rattle.sim_world.specs.Scripts.{Scripts, Life, fresh, life_through, KeepsScripts}
+
+-- ---- As data
+
+-- What a world was given, its history and for how many more steps there is room, its counts, the state that it is in (but for marks,
+-- which it does not keep), and the life of each application.
+pub record WorldData : Type 0 where
+  pub scripts : Scripts
+  pub stimuli : List WorldStim
+  pub fails : List FailCall
+  pub history : List WorldStep
+  pub room : ℕ
+  pub tally : TallyState
+  pub state : State
+  pub lives : List (ℕ × Life)
+
+unfoldable pub declared_in : State → List Declared
+declared_in s = map (λ l. l.declared) s.links
+
+unfoldable pub given_of : WorldData → Given Scripts
+given_of w = record { declared = declared_in w.state; stimuli = w.stimuli; fails = w.fails; own = w.scripts }
+
+-- what is seen of it
+unfoldable pub seen_of : WorldData → Seen Scripts
+seen_of w = record { given = given_of w; history = w.history; counts = counts_of w.tally }
+
+abbrev pub life_in : ℕ → List (ℕ × Life) → Life
+life_in app [] = fresh
+life_in app (x ∷ xs) = if x.0 == app then x.1 else life_in app xs
+
+-- ---- Bytes that no switch sends of its own accord but as a stimulus says
+
+abbrev pub is_refused_stimulus : Stimulus → Bool
+is_refused_stimulus (Raw bytes) = not (is_ok (reading_of bytes))
+is_refused_stimulus other = false
+
+abbrev pub is_refused_raw : WorldStim → Bool
+is_refused_raw (Of d x) = is_refused_stimulus x
+is_refused_raw other = false
+
+abbrev pub begins_refused : WorldStep → Bool
+begins_refused (Acted (Stim x)) = is_refused_raw x
+begins_refused other = false
+
+-- no stimulus was begun that sends bytes which are no message
+unfoldable pub IsReadable : List WorldStep → Bool
+IsReadable history = list_all (λ step. not (begins_refused step)) history
+
+-- ---- Calls that are told to fail
+
+-- an answer of `next`
+abbrev pub is_next_answer : WorldStep → Bool
+is_next_answer (From d bytes) = true
+is_next_answer (Joined d bytes) = true
+is_next_answer (Left d) = true
+is_next_answer (Moment t) = true
+is_next_answer Idle = true
+is_next_answer End = true
+is_next_answer NextFailed = true
+is_next_answer other = false
+
+abbrev pub counted_next : WorldStep → ℕ → ℕ
+counted_next step n = if is_next_answer step then n + 1 else n
+
+abbrev pub nexts_through : List WorldStep → ℕ → ℕ
+nexts_through [] n = n
+nexts_through (step ∷ steps) n = nexts_through steps (counted_next step n)
+
+abbrev pub IsActAsTold : List FailCall → Act → State → Type 0
+IsActAsTold fails (Sent d bytes) s = link_fails d s ≡ false
+IsActAsTold fails (Got d bytes) s = link_fails d s ≡ false
+IsActAsTold fails other s = Unit {0}
+
+abbrev pub next_told : List FailCall → ℕ → Bool
+next_told fails n = is_told kinds.Next 0 (n + 1) fails
+
+-- A step fails exactly where it is told to or out of place; how many answers of `next` came before it stands beside.
+unfoldable pub IsAsTold : List FailCall → ℕ → WorldStep → State → Type 0
+IsAsTold fails n (Acted act) s = IsActAsTold fails act s
+IsAsTold fails n (TookInto app what room) s = Unit {0}
+IsAsTold fails n Opened s = (s.opened || is_told kinds.Open 0 1 fails) ≡ false
+IsAsTold fails n NotOpened s = (s.opened || is_told kinds.Open 0 1 fails) ≡ true
+IsAsTold fails n NextFailed s = next_told fails n ≡ true
+IsAsTold fails n (SendFailed d) s = Unit {0}
+IsAsTold fails n (RecvFailed d) s = Unit {0}
+IsAsTold fails n item s = next_told fails n ≡ false
+
+abbrev pub AreAsTold : List FailCall → ℕ → List WorldStep → State → Type 0
+AreAsTold fails n [] s = Unit {0}
+AreAsTold fails n (step ∷ steps) s = IsAsTold fails n step s × AreAsTold fails (counted_next step n) steps (after_step step s)
+
+-- ---- Stimuli that can come
+
+-- each of a declared switch and within its limits, and moments do not go back
+abbrev pub CanCome : List Declared → ℕ → List WorldStim → Type 0
+CanCome declared moment [] = Unit {0}
+CanCome declared moment (x ∷ xs) = IsWorldStim declared moment x × CanCome declared (moment_after x moment) xs
+
+-- ---- The history
+
+-- What a history keeps: switches keep their word unless raw bytes were refused, applications keep to their scripts, and what fails is
+-- what is told to.
+pub record IsHistory (given : Given Scripts) (history : List WorldStep) : Type 0 where
+  pub word : IsReadable history ≡ true → MaySteps given.declared history (at_first given)
+  pub scripts : KeepsScripts given.own given.fails history
+  pub told : AreAsTold given.fails 0 history (at_first given)
+
+-- ---- What holds of a world
+
+pub record Stands (w : WorldData) : Type 0 where
+  pub declared : AreDeclaredFrom 1 (declared_in w.state)
+  pub state : but_marks (state (seen_of w)) ≡ w.state
+  pub lives : (app : ℕ) → life_in app w.lives ≡ life_through w.scripts w.fails app w.history fresh
+  pub history : IsHistory (given_of w) w.history
+  pub room : length w.state.running ≤ w.room
+  pub tally : CountsFor (declared_in w.state) w.tally
+  pub can_come : CanCome (declared_in w.state) w.state.moment w.state.to_come
+
+-- What a call does: what was given stays, the history goes on by these steps, and counts become those. Room is left for the ends that
+-- were promised.
+pub record Moves (old new : WorldData) (steps : List WorldStep) (counted : TallyState) : Type 0 where
+  pub scripts : new.scripts ≡ old.scripts
+  pub stimuli : new.stimuli ≡ old.stimuli
+  pub fails : new.fails ≡ old.fails
+  pub history : new.history ≡ old.history ++ steps
+  pub room : length new.state.running ≤ new.room
+  pub tally : new.tally ≡ counted
+  pub state : new.state ≡ but_marks (after_steps steps old.state)
+  pub lives : (app : ℕ) → life_in app new.lives ≡ life_through old.scripts old.fails app steps (life_in app old.lives)
