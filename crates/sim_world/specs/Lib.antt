@@ -5,3 +5,4 @@ pub mod Scripts
 pub mod World
 
 pub mod WorldLaws
+pub mod TallyLaws

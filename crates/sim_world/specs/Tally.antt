@@ -1,6 +1,6 @@
 -- The counts of a simulated world as data. How often a link failed, and a call of it wanted memory, is kept for each declared switch;
 -- for any other number each such call is out of place or wants memory too, and their counts stand for it.
-use Rattle.std.specs.Prelude.{◌≡◌, ◌==◌, ℕ, Bool, List, [], ◌∷◌, map, if◌then◌else◌}
+use Rattle.std.specs.Prelude.{◌≡◌, ◌==◌, ℕ, ◌-◌, ◌^◌, ◌≤◌, Bool, List, [], ◌∷◌, map, All, if◌then◌else◌}
 use Rattle.std.specs.List.{list_any}
 use Rattle.lego_io.specs.Count.{raised}
 use Rattle.flow_table.specs.Switch.{Declared}
@@ -65,9 +65,24 @@ tally_fault_of d t = record t { links = counts_at d one_fault t.links }
 
 -- ---- Switches
 
+abbrev pub last_count : ℕ
+last_count = 2 ^ 64 - 1
+
+-- each count fits into 64 bits
+pub record IsTally (t : TallyState) : Type 0 where
+  pub shuts : t.shuts ≤ last_count
+  pub next_faults : t.next_faults ≤ last_count
+  pub starts_failed : t.starts_failed ≤ last_count
+  pub closings : t.closings ≤ last_count
+  pub silences : t.silences ≤ last_count
+  pub shorts : t.shorts ≤ last_count
+  pub strays : t.strays ≤ last_count
+  pub links : All (λ l. (l.faults ≤ last_count) × (l.shorts ≤ last_count)) t.links
+
 -- it counts for these switches
-abbrev pub CountsFor : List Declared → TallyState → Type 0
-CountsFor declared t = (d : ℕ) → list_any (λ l. l.dpid == d) t.links ≡ is_declared d declared
+pub record CountsFor (declared : List Declared) (t : TallyState) : Type 0 where
+  pub switches : (d : ℕ) → list_any (λ l. l.dpid == d) t.links ≡ is_declared d declared
+  pub within : IsTally t
 
 abbrev pub no_counts : TallyState
 no_counts = record { shuts = 0; next_faults = 0; starts_failed = 0; closings = 0; silences = 0; shorts = 0; strays = 0; links = [] }
