@@ -6,3 +6,5 @@ pub mod World
 
 pub mod WorldLaws
 pub mod TallyLaws
+pub mod Doing
+pub mod DoingLaws

@@ -1,10 +1,11 @@
 -- Laws of the counts of a simulated world: what each change of the tally makes of the counts that are seen.
-use Rattle.std.specs.Prelude.{◌≡◌, ◌==◌, ℕ, ◌+◌, ◌-◌, ◌^◌, ◌≤◌, Bool, true, false, ◌||◌, List, [], ◌∷◌, map, All, refl, if◌then◌else◌, IsTrue}
+use Rattle.std.specs.Prelude.{◌≡◌, ◌==◌, ℕ, ◌+◌, ◌-◌, ◌^◌, ◌≤◌, ◌<◌, Bool, true, false, ◌||◌, List, [], ◌∷◌, map, All, refl, if◌then◌else◌, IsTrue}
 use Rattle.std.specs.List.{list_any}
 use Rattle.std.proofs.Common.{sym, ap, ◌∙◌, arith}
-use Rattle.std.proofs.lemmas.Bool.{eqb-true, false≢true}
+use Rattle.std.proofs.lemmas.Bool.{eqb-true, eq-eqb, false≢true, true≢false}
 use Rattle.std.proofs.lemmas.List.Elements.{All-head, All-tail, All-nil, All-cons}
 use Rattle.lego_io.specs.Count.{raised, Rose, NeverFell}
+use Rattle.lego_io.specs.CountLaws.{Rose-raised}
 use Rattle.flow_table.specs.Switch.{Declared}
 use Rattle.outside.specs.Seen.{Counts, NoneFell, AreCounts, is_declared, raised_at, with_stray, with_short, with_short_of, with_link_fault}
 use Rattle.sim_world.specs.Tally.{last_count, LinkCounts, TallyState, IsTally, count_at, counts_of, counts_at, one_fault, one_short, tally_stray, tally_short, tally_short_of, tally_fault_of, CountsFor}
@@ -361,3 +362,56 @@ counted-fault_of declared stray d t for = record {
     };
   };
 }
+
+-- ---- Each fault comes with its own count
+
+absent_later : (here later : Bool) → (here || later) ≡ false → (here ≡ false) × (later ≡ false)
+absent_later true later none = absurd (true≢false none)
+absent_later false later none = (refl, none)
+
+count-absent : (count : LinkCounts → ℕ) (e other : ℕ) (ls : List LinkCounts) → list_any (λ l. l.dpid == e) ls ≡ false → count_at count other e ls ≡ other
+count-absent count e other [] none = refl
+count-absent count e other (l ∷ ls) none =
+    let apart = absent_later (l.dpid == e) _ none in
+    rw apart.0 (count-absent count e other ls apart.1)
+
+one_in : (count : LinkCounts → ℕ) (d other : ℕ) (l : LinkCounts) (ls : List LinkCounts) → count l ≤ last_count → count_at count other d ls ≤ last_count → (here : Bool)
+    → (if here then count l else count_at count other d ls) ≤ last_count
+one_in count d other l ls is later true = is
+one_in count d other l ls is later false = later
+
+count-within : (count : LinkCounts → ℕ) → ((l : LinkCounts) → IsWithin l → count l ≤ last_count) → (d other : ℕ) → other ≤ last_count → (ls : List LinkCounts) → All IsWithin ls → count_at count other d ls ≤ last_count
+count-within count each d other is [] all = is
+count-within count each d other is (l ∷ ls) all =
+    one_in count d other l ls (each l (All-head IsWithin l ls all)) (count-within count each d other is ls (All-tail IsWithin l ls all)) (l.dpid == d)
+
+rose_one : (n : ℕ) → n ≤ last_count → Rose n (raised n)
+rose_one n within = Rose-raised n (omega (arith, within))
+
+rose_there : (count : LinkCounts → ℕ) (change : LinkCounts → LinkCounts) → KeepsNumber change → ((l : LinkCounts) → count (change l) ≡ raised (count l)) → ((l : LinkCounts) → IsWithin l → count l ≤ last_count)
+    → (d before other : ℕ) (ls : List LinkCounts) → before ≤ last_count → All IsWithin ls → (there : Bool) → list_any (λ l. l.dpid == d) ls ≡ there → (there ≡ false → Rose before other)
+    → Rose (count_at count before d ls) (count_at count other d (counts_at d change ls))
+rose_there count change keeps rises each d before other ls within all true is rose =
+    let risen : count_at count other d (counts_at d change ls) ≡ raised (count_at count before d ls) =
+    count-raised count change keeps rises d d other before ls is ∙ ap (λ (b : Bool). if b then raised (count_at count before d ls) else count_at count before d ls) (eq-eqb d d refl) in
+    rw risen (rose_one (count_at count before d ls) (count-within count each d before within ls all))
+rose_there count change keeps rises each d before other ls within all false is rose =
+    rw (count-absent count d before ls is, count-absent count d other (counts_at d change ls) (any-kept d d change keeps ls ∙ is)) (rose refl)
+
+-- A link that failed is counted for its switch; for a switch that is not declared the call is out of place, and that is counted.
+pub rose-fault_of : (declared : List Declared) (stray : Bool) (d : ℕ) (t : TallyState) → CountsFor declared t → (is_declared d declared ≡ false → stray ≡ true)
+    → Rose ((counts_of t).link_faults d) ((counts_of (tally_stray stray (tally_fault_of d t))).link_faults d)
+unfolding counts_of
+rose-fault_of declared stray d t for out =
+    rose_there (λ l. l.faults) one_fault (λ l. refl) (λ l. refl) (λ l is. is.0) d t.strays _ t.links for.within.strays for.within.links _ refl
+      (λ none. rw (out (sym (for.switches d) ∙ none)) (rose_one t.strays for.within.strays))
+
+pub rose-short_of : (declared : List Declared) (stray : Bool) (d : ℕ) (t : TallyState) → CountsFor declared t
+    → Rose ((counts_of t).shorts_of d) ((counts_of (tally_stray stray (tally_short_of d t))).shorts_of d)
+unfolding counts_of
+rose-short_of declared stray d t for =
+    rose_there (λ l. l.shorts) one_short (λ l. refl) (λ l. refl) (λ l is. is.1) d t.shorts _ t.links for.within.shorts for.within.links _ refl
+      (λ none. rose_one t.shorts for.within.shorts)
+
+pub rose-raised : (n : ℕ) → n ≤ last_count → Rose n (raised n)
+rose-raised n within = rose_one n within

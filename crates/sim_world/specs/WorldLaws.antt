@@ -282,7 +282,7 @@ pub IsReadable-front : (xs ys : List WorldStep) → IsReadable (xs ++ ys) ≡ tr
 unfolding IsReadable
 IsReadable-front xs ys all = readable_front xs ys all
 
-declared_but : (s : State) → declared_in (but_marks s) ≡ declared_in s
+pub declared_but : (s : State) → declared_in (but_marks s) ≡ declared_in s
 unfolding declared_in
 declared_but s = refl
 
