@@ -18,17 +18,18 @@ use Rattle.outside.specs.Seen.{Given, Seen}
 use Rattle.outside.specs.State.{State, at_first, after_step, after_steps, state, but_marks, moment_after, link_fails, is_running}
 use Rattle.outside.specs.Conforming.{AreDeclaredFrom, IsWorldStim, MaySteps}
 use Rattle.sim_world.specs.Tally.{TallyState, CountsFor, counts_of}
-use Rattle.sim_world.specs.Told.{is_told}
+use Rattle.sim_world.specs.Told.{is_told, without_links}
 use Rattle.sim_world.specs.Scripts.{Scripts, Life, fresh, life_through, KeepsScripts}
 
 -- ---- As data
 
--- What a world was given, its history and for how many more steps there is room, its counts, the state that it is in (but for marks,
+-- What a world was given (the calls that are to fail also without those of links), its history and for how many more steps there is room, its counts, the state that it is in (but for marks,
 -- which it does not keep), and the life of each application.
 pub record WorldData : Type 0 where
   pub scripts : Scripts
   pub stimuli : List WorldStim
   pub fails : List FailCall
+  pub told : List FailCall
   pub history : List WorldStep
   pub room : ℕ
   pub tally : TallyState
@@ -123,15 +124,16 @@ CanCome declared moment (x ∷ xs) = IsWorldStim declared moment x × CanCome de
 -- what is told to.
 pub record IsHistory (given : Given Scripts) (history : List WorldStep) : Type 0 where
   pub word : IsReadable history ≡ true → MaySteps given.declared history (at_first given)
-  pub scripts : KeepsScripts given.own given.fails history
-  pub told : AreAsTold given.fails 0 history (at_first given)
+  pub scripts : KeepsScripts given.own (without_links given.fails) history
+  pub told : AreAsTold (without_links given.fails) 0 history (at_first given)
 
 -- ---- What holds of a world
 
 pub record Stands (w : WorldData) : Type 0 where
   pub declared : AreDeclaredFrom 1 (declared_in w.state)
   pub state : but_marks (state (seen_of w)) ≡ w.state
-  pub lives : (app : ℕ) → life_in app w.lives ≡ life_through w.scripts w.fails app w.history fresh
+  pub lives : (app : ℕ) → life_in app w.lives ≡ life_through w.scripts w.told app w.history fresh
+  pub told : w.told ≡ without_links w.fails
   pub history : IsHistory (given_of w) w.history
   pub room : length w.state.running ≤ w.room
   pub tally : CountsFor (declared_in w.state) w.tally
@@ -143,8 +145,9 @@ pub record Moves (old new : WorldData) (steps : List WorldStep) (counted : Tally
   pub scripts : new.scripts ≡ old.scripts
   pub stimuli : new.stimuli ≡ old.stimuli
   pub fails : new.fails ≡ old.fails
+  pub told : new.told ≡ old.told
   pub history : new.history ≡ old.history ++ steps
   pub room : length new.state.running ≤ new.room
   pub tally : new.tally ≡ counted
   pub state : new.state ≡ but_marks (after_steps steps old.state)
-  pub lives : (app : ℕ) → life_in app new.lives ≡ life_through old.scripts old.fails app steps (life_in app old.lives)
+  pub lives : (app : ℕ) → life_in app new.lives ≡ life_through old.scripts old.told app steps (life_in app old.lives)

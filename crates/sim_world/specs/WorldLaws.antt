@@ -18,6 +18,7 @@ use Rattle.outside.specs.StateLaws.{after_steps-append, MaySteps-append, but_mar
 use Rattle.outside.specs.LinkLaws.{KeepsDeclared}
 use Rattle.outside.specs.Conforming.{IsNext, MayBegin, MayAct, MayStep, MaySteps}
 use Rattle.sim_world.specs.Tally.{TallyState, CountsFor}
+use Rattle.sim_world.specs.Told.{without_links}
 use Rattle.sim_world.specs.Scripts.{Scripts, Life, fresh, all_fresh, life_after, life_through, lives_after, IsScriptedAct, IsScripted, AreScripted, KeepsScripts}
 use Rattle.sim_world.specs.World.{WorldData, declared_in, given_of, seen_of, life_in, begins_refused, IsReadable, IsActAsTold, IsAsTold, AreAsTold, counted_next, nexts_through, CanCome, IsHistory, Stands, Moves}
 
@@ -267,8 +268,8 @@ life_through-append own fails app (x ∷ xs) ys l = life_through-append own fail
 -- What steps may come in a world, so that it stands afterwards.
 pub record MayMove (old : WorldData) (steps : List WorldStep) : Type 0 where
   pub word : IsReadable (old.history ++ steps) ≡ true → MaySteps (declared_in old.state) steps old.state
-  pub scripts : AreScripted old.scripts old.fails steps (λ app. life_in app old.lives)
-  pub told : AreAsTold old.fails (nexts_through old.history 0) steps old.state
+  pub scripts : AreScripted old.scripts old.told steps (λ app. life_in app old.lives)
+  pub told : AreAsTold old.told (nexts_through old.history 0) steps old.state
 
 both_front : (b whole front : Bool) → (whole ≡ true → front ≡ true) → (b && whole) ≡ true → (b && front) ≡ true
 both_front true whole front rest is = rest is
@@ -287,17 +288,17 @@ unfolding declared_in
 declared_but s = refl
 
 IsHistory-more : (given : Given Scripts) (history steps : List WorldStep) (s : State) (lives : ℕ → Life) → but_marks (after_steps history (at_first given)) ≡ s
-    → ((app : ℕ) → lives app ≡ life_through given.own given.fails app history fresh) → IsHistory given history
+    → ((app : ℕ) → lives app ≡ life_through given.own (without_links given.fails) app history fresh) → IsHistory given history
     → (IsReadable (history ++ steps) ≡ true → MaySteps given.declared steps s)
-    → AreScripted given.own given.fails steps lives → AreAsTold given.fails (nexts_through history 0) steps s → IsHistory given (history ++ steps)
+    → AreScripted given.own (without_links given.fails) steps lives → AreAsTold (without_links given.fails) (nexts_through history 0) steps s → IsHistory given (history ++ steps)
 unfolding KeepsScripts
 IsHistory-more given history steps s lives is same before may scripts told =
     let now : but_marks s ≡ but_marks (after_steps history (at_first given)) = ap but_marks (sym is) in
     record {
       word = λ readable. MaySteps-append given.declared history steps (at_first given) (before.word (IsReadable-front history steps readable))
           (MaySteps-same given.declared steps s (after_steps history (at_first given)) now (may readable));
-      scripts = AreScripted-append given.own given.fails history steps all_fresh before.scripts (AreScripted-same given.own given.fails steps lives _ same scripts);
-      told = AreAsTold-append given.fails 0 history steps (at_first given) before.told (AreAsTold-same given.fails (nexts_through history 0) steps s _ now told);
+      scripts = AreScripted-append given.own (without_links given.fails) history steps all_fresh before.scripts (AreScripted-same given.own (without_links given.fails) steps lives _ same scripts);
+      told = AreAsTold-append (without_links given.fails) 0 history steps (at_first given) before.told (AreAsTold-same (without_links given.fails) (nexts_through history 0) steps s _ now told);
     }
 
 -- A call that does what steps say, where they may come, leaves a world that stands.
@@ -309,7 +310,7 @@ Stands-moves old new steps counted stands moves may counts come =
     ap declared_in moves.state ∙ declared_but (after_steps steps old.state) ∙ declared-stays steps old.state in
     let given : given_of new ≡ given_of old = rw (declared, moves.scripts, moves.stimuli, moves.fails) refl in
     let history : IsHistory (given_of old) (old.history ++ steps) =
-    IsHistory-more (given_of old) old.history steps old.state (λ app. life_in app old.lives) stands.state stands.lives stands.history may.word may.scripts may.told in
+    IsHistory-more (given_of old) old.history steps old.state (λ app. life_in app old.lives) stands.state (λ app. rw (← stands.told) (stands.lives app)) stands.history may.word (rw (← stands.told) may.scripts) (rw (← stands.told) may.told) in
     record {
       declared = rw declared stands.declared;
       state =
@@ -319,9 +320,10 @@ Stands-moves old new steps counted stands moves may counts come =
         ∙ after_steps-but_marks steps (after_steps old.history (at_first (given_of old)))
         ∙ ap (λ (x : State). but_marks (after_steps steps x)) stands.state
         ∙ sym moves.state;
-      lives = λ app. moves.lives app ∙ ap (life_through old.scripts old.fails app steps) (stands.lives app)
-          ∙ sym (life_through-append old.scripts old.fails app old.history steps fresh)
-          ∙ rw (moves.scripts, moves.fails, moves.history) refl;
+      lives = λ app. moves.lives app ∙ ap (life_through old.scripts old.told app steps) (stands.lives app)
+          ∙ sym (life_through-append old.scripts old.told app old.history steps fresh)
+          ∙ rw (moves.scripts, moves.told, moves.history) refl;
+      told = rw (moves.told, moves.fails) stands.told;
       history = subst (λ (h : List WorldStep). IsHistory (given_of new) h) (sym moves.history) (subst (λ (g : Given Scripts). IsHistory g (old.history ++ steps)) (sym given) history);
       room = moves.room;
       tally = rw (declared, moves.tally) counts;
