@@ -2,6 +2,7 @@ pub mod Tally
 pub mod Room
 pub mod Told
 pub mod Scripts
+pub mod Lives
 pub mod World
 
 pub mod WorldLaws

@@ -329,3 +329,24 @@ Stands-moves old new steps counted stands moves may counts come =
       tally = rw (declared, moves.tally) counts;
       can_come = rw declared come;
     }
+
+-- One call behind another.
+pub Moves-both : (old mid new : WorldData) (xs ys : List WorldStep) (t u : TallyState) → Moves old mid xs t → Moves mid new ys u → Moves old new (xs ++ ys) u
+Moves-both old mid new xs ys t u first second = record {
+  scripts = second.scripts ∙ first.scripts;
+  stimuli = second.stimuli ∙ first.stimuli;
+  fails = second.fails ∙ first.fails;
+  told = second.told ∙ first.told;
+  history = second.history ∙ ap (λ (h : List WorldStep). h ++ ys) first.history ∙ append_assoc old.history xs ys;
+  room = second.room;
+  tally = second.tally;
+  state =
+    second.state
+    ∙ ap (λ (s : State). but_marks (after_steps ys s)) first.state
+    ∙ sym (after_steps-but_marks ys (after_steps xs old.state))
+    ∙ ap but_marks (sym (after_steps-append xs ys old.state));
+  lives = λ app.
+    second.lives app
+    ∙ rw (first.scripts, first.told) (ap (life_through old.scripts old.told app ys) (first.lives app))
+    ∙ sym (life_through-append old.scripts old.told app xs ys (life_in app old.lives));
+}

@@ -2,4 +2,8 @@
 #![tactic(auto)]
 
 mod history;
+mod links;
+mod lives;
+mod parts;
 mod tally;
+mod told;

@@ -1,0 +1,134 @@
+//! The parts of a simulated world, and what each step does to them.
+
+ghost use Rattle.std.specs.Prelude.{◌≡◌, ◌+◌, ◌≤◌, [], ◌∷◌, length, IsTrue};
+ghost use Rattle.lego_io.specs.Count.{raised};
+ghost use Rattle.outside.specs.declared.step.WorldStep.TheVariants.{Opened, NotOpened};
+ghost use Rattle.sim_world.specs.Tally.{tally_stray, tally_short};
+ghost use Rattle.outside.specs.Calls.{open_steps};
+ghost use Rattle.sim_world.specs.World.{Moves, AreAsTold, nexts_through};
+ghost use Rattle.sim_world.specs.Doing.{DoesOpen};
+
+use crate::history::History;
+use crate::links::Links;
+use crate::lives::Lives;
+use crate::tally::Tally;
+use crate::told::Told;
+use of_types::WorldStim;
+use outside::{CallKind, FailCall, OpenFault, WorldStep};
+use std::collections::VecDeque;
+use std::marker::Model;
+
+/// What a simulated world holds. Contracts see it as data.
+#[derive(Debug, Drop)]
+pub(crate) struct Parts {
+    pub(crate) lives: Lives,
+    pub(crate) stimuli: Vec<WorldStim>,
+    pub(crate) fails: Vec<FailCall>,
+    pub(crate) told: Told,
+    pub(crate) history: History,
+    pub(crate) tally: Tally,
+    pub(crate) opened: bool,
+    pub(crate) running: Vec<u32>,
+    pub(crate) moment: u64,
+    pub(crate) begun_stimuli: usize,
+    pub(crate) links: Links,
+    pub(crate) due: VecDeque<WorldStep>,
+    pub(crate) begun: bool,
+    pub(crate) nexts: u64,
+    pub(crate) calls: u64,
+}
+
+impl Model for Parts {
+    ghost use Rattle.std.specs.Prelude.{[], drop};
+    ghost use Rattle.sim_world.specs.World.{WorldData};
+
+    ghost Value = { WorldData };
+
+    ghost view = { λ w. record {
+      scripts = w.lives.own;
+      stimuli = w.stimuli.items;
+      fails = w.fails.items;
+      told = w.told;
+      history = w.history.steps;
+      room = w.history.room;
+      tally = w.tally;
+      state = record {
+        opened = w.opened;
+        running = w.running.items;
+        moment = w.moment;
+        to_come = drop w.begun_stimuli w.stimuli.items;
+        links = w.links;
+        due = w.due.items;
+        begun = w.begun;
+        marks = [];
+      };
+      lives = w.lives.lives;
+    } };
+}
+
+impl Parts {
+    /// Counts a call that can want memory, and makes room for so many steps and for the ends that are promised; answers
+    /// whether there is memory.
+    fn is_ready(&mut self, more: usize) -> bool
+        requires promised { length self.old.state.running ≤ self.old.room }
+        requires few { more ≤ 2 }
+        ensures same { self.new ≡ record self.old { room = self.new.room } }
+        ensures promised { length self.new.state.running ≤ self.new.room }
+        ensures room { IsTrue result → length self.new.state.running + more ≤ self.new.room }
+    {
+        self.calls = self.calls.saturating_add(1);
+        let is_told = self.told.is_told(CallKind::Short, 0, self.calls);
+        !is_told && self.history.reserve(self.running.len() + more).is_ok()
+    }
+
+    /// A call wants memory, and is out of place or not.
+    fn want_memory(&mut self, stray: bool)
+        requires { length self.old.state.running ≤ self.old.room }
+        ensures { Moves self.old self.new [] (tally_stray stray (tally_short self.old.tally)) }
+    {
+        self.tally.raise_shorts();
+        self.tally.raise_strays(stray);
+    }
+
+    /// `open` opens the world.
+    #[tactic(auto, unfolding(outside::specs::State::after_step, crate::specs::Scripts::life_after))]
+    fn open_up(&mut self)
+        requires { length self.old.state.running + 1 ≤ self.old.room }
+        ensures { Moves self.old self.new (Opened ∷ []) (tally_stray self.old.state.opened self.old.tally) }
+    {
+        self.history.push(WorldStep::Opened);
+        self.tally.raise_strays(self.opened);
+        self.opened = true;
+    }
+
+    /// `open` stays shut.
+    #[tactic(auto, unfolding(outside::specs::State::after_step, crate::specs::Scripts::life_after))]
+    fn stay_shut(&mut self)
+        requires { length self.old.state.running + 1 ≤ self.old.room }
+        ensures { Moves self.old self.new (NotOpened ∷ []) (tally_stray self.old.state.opened (record self.old.tally { shuts = raised self.old.tally.shuts })) }
+    {
+        self.history.push(WorldStep::NotOpened);
+        self.tally.raise_shuts();
+        self.tally.raise_strays(self.opened);
+        self.opened = true;
+    }
+
+    /// Opens the world.
+    #[tactic(auto, unfolding(outside::specs::Calls::open_steps, crate::specs::World::IsAsTold))]
+    pub(crate) fn open(&mut self) -> Result<(), OpenFault>
+        requires { length self.old.state.running ≤ self.old.room }
+        ensures does { DoesOpen self.old self.new result }
+        ensures told { AreAsTold self.old.told (nexts_through self.old.history 0) (open_steps result) self.old.state }
+    {
+        if !self.is_ready(1) {
+            self.want_memory(self.opened);
+            return Err(OpenFault::Short);
+        }
+        if self.opened || self.told.is_told(CallKind::Open, 0, 1) {
+            self.stay_shut();
+            return Err(OpenFault::Shut);
+        }
+        self.open_up();
+        Ok(())
+    }
+}
