@@ -3,3 +3,4 @@ pub mod Scripts
 pub mod ScriptLaws
 pub mod Lives
 pub mod LifeLaws
+pub mod CellLaws

@@ -112,8 +112,20 @@ is_known app s = has_life app s.lives
 unfoldable pub named_life : List (ℕ × List ScriptStep) → LifeCell → ℕ × Life
 named_life replies c = (c.app, life_of_cell replies c)
 
--- the first cell of an application
-abbrev pub IsFirst : ℕ → ℕ → List (ℕ × Life) → Type 0
+abbrev pub named_lives : List (ℕ × List ScriptStep) → List LifeCell → List (ℕ × Life)
+named_lives replies cells = map (named_life replies) cells
+
+abbrev pub has_cell : ℕ → List LifeCell → Bool
+has_cell app [] = false
+has_cell app (c ∷ cs) = if c.app == app then true else has_cell app cs
+
+-- the place of the first cell of an application
+abbrev pub IsFirst : ℕ → ℕ → List LifeCell → Type 0
 IsFirst app i [] = ⊥
-IsFirst app zero (x ∷ xs) = x.0 ≡ app
-IsFirst app (suc i) (x ∷ xs) = (x.0 ≢ app) × IsFirst app i xs
+IsFirst app zero (c ∷ cs) = c.app ≡ app
+IsFirst app (suc i) (c ∷ cs) = (c.app ≢ app) × IsFirst app i cs
+
+-- One life changed, and no other.
+pub record Moved (app : ℕ) (change : Life → Life) (old new : List (ℕ × Life)) : Type 0 where
+  pub lives : (a : ℕ) → life_in a new ≡ if app == a then change (life_in a old) else life_in a old
+  pub known : (a : ℕ) → has_life a new ≡ has_life a old

@@ -1,6 +1,6 @@
 //! The life of one application, kept as places in the lines that it was given.
 
-ghost use Rattle.std.specs.Prelude.{◌≡◌, ℕ, ◌+◌, ◌-◌, ◌<◌, ◌≤◌, ◌^◌, ◌||◌, not, true, false, List, length, take, drop, min, IsTrue, is_some};
+ghost use Rattle.std.specs.Prelude.{◌≡◌, ℕ, ◌+◌, ◌-◌, ◌<◌, ◌≤◌, ◌^◌, ◌&&◌, ◌||◌, not, true, false, List, length, take, drop, min, IsTrue, is_some};
 ghost use Rattle.outside.specs.Calls.{IsTakenIn};
 ghost use Rattle.outside.specs.State.{event_number};
 ghost use Rattle.outside.specs.declared.call.FailCall.{FailCall};
@@ -163,7 +163,7 @@ fn is_refused(start: StartScript) -> bool
 
 impl LifeCell {
     /// The life of an application before anything happened to it; takes no memory.
-    #[tactic(auto, unfolding(crate::specs::Lives::life_of_cell, crate::specs::Scripts::fresh))]
+    #[tactic(auto, unfolding(crate::specs::Lives::life_of_cell, crate::specs::Lives::from_place, crate::specs::Lives::steps_given, crate::specs::Scripts::fresh,))]
     pub(crate) fn fresh(app: u32) -> LifeCell
         ensures app { result.app ≡ app }
         ensures life { (replies : List (ℕ × List ScriptStep)) → life_of_cell replies result ≡ fresh }
@@ -238,6 +238,31 @@ impl LifeCell {
         self.at = FIRST;
     }
 
+    /// Its next start comes to a line that says that it is refused.
+    fn comes_to_refusal(&self, lines: &ScriptLines, told: &Told) -> bool
+        requires cell { IsCellOf lines.now self.now }
+        requires few { self.now.start_calls < 2 ^ 64 - 1 }
+        ensures { let life = life_of_cell lines.now.replies self.now in
+            result ≡ (start_reached told.now self.now.app life && is_refused (next_start lines.now self.now.app life)) }
+    {
+        self.is_start_reached(lines, told) && self.is_next_refused(lines)
+    }
+
+    /// A start of it that failed, and came to its line.
+    fn refused(&mut self, lines: &ScriptLines)
+        requires cell { IsCellOf lines.now self.old }
+        requires few { self.old.start_calls < 2 ^ 64 - 1 }
+        ensures app { self.new.app ≡ self.old.app }
+        ensures life { let life = life_of_cell lines.now.replies self.old in
+            life_of_cell lines.now.replies self.new ≡ record life { starts = life.starts + 1; start_calls = life.start_calls + 1 } }
+        ensures cell { IsCellOf lines.now self.new }
+    {
+        let (_, next) = lines.next_start(self.app, self.next_start);
+        self.starts += 1;
+        self.start_calls += 1;
+        self.next_start = next;
+    }
+
     /// A start of it that failed: its line is taken where the call came to it.
     fn not_started(&mut self, lines: &ScriptLines, told: &Told)
         requires cell { IsCellOf lines.now self.old }
@@ -247,11 +272,11 @@ impl LifeCell {
             ≡ after_start lines.now told.now self.old.app false (life_of_cell lines.now.replies self.old) }
         ensures cell { IsCellOf lines.now self.new }
     {
-        if self.is_start_reached(lines, told) && self.is_next_refused(lines) {
-            self.next_start = lines.next_start(self.app, self.next_start).1;
-            self.starts += 1;
+        if self.comes_to_refusal(lines, told) {
+            self.refused(lines);
+        } else {
+            self.start_calls += 1;
         }
-        self.start_calls += 1;
     }
 
     /// A start of it.
@@ -315,7 +340,7 @@ impl LifeCell {
     /// It was gone before it was given bytes.
     #[tactic(auto, unfolding(crate::specs::Lives::life_of_cell, crate::specs::Scripts::after_gone))]
     pub(crate) fn gone(&mut self)
-        requires few { self.old.give_calls < 2 ^ 64 - 1 }
+        requires { self.old.give_calls < 2 ^ 64 - 1 }
         ensures app { self.new.app ≡ self.old.app }
         ensures life { (replies : List (ℕ × List ScriptStep)) → life_of_cell replies self.new ≡ after_gone (life_of_cell replies self.old) }
         ensures cell { (own : Scripts) → IsCellOf own self.old → IsCellOf own self.new }
@@ -392,7 +417,7 @@ impl LifeCell {
     }
 
     /// It is ended.
-    #[tactic(auto, unfolding(crate::specs::Lives::life_of_cell, crate::specs::Scripts::after_end))]
+    #[tactic(auto, unfolding(crate::specs::Lives::life_of_cell, crate::specs::Lives::from_place, crate::specs::Lives::steps_given, crate::specs::Scripts::after_end,))]
     pub(crate) fn end(&mut self)
         ensures app { self.new.app ≡ self.old.app }
         ensures life { (replies : List (ℕ × List ScriptStep)) → life_of_cell replies self.new ≡ after_end (life_of_cell replies self.old) }
@@ -400,5 +425,6 @@ impl LifeCell {
     {
         self.running = false;
         self.giving = Giving::Nothing;
+        self.at = FIRST;
     }
 }

@@ -74,6 +74,29 @@ fn find_line<A>(lines: &[(u32, A)], app: u32, from: usize) -> Option<usize>
     None
 }
 
+/// How the next start of an application ends, not before the line `from`, and the line behind it.
+fn start_from(starts: &[(u32, StartScript)], app: u32, from: usize) -> (StartScript, usize)
+    ensures start { result.0 ≡ start_or_ready (slice_get (lines_of app (drop from starts.now)) 0) }
+    ensures next { Follows app from result.1 starts.now }
+{
+    match find_line(starts, app, from) {
+        Some(i) => (starts[i].1, i + 1),
+        None => (StartScript::Ready, starts.len()),
+    }
+}
+
+/// What an application gives in its next turn, not before the line `from`, and the line behind it.
+fn turn_from(replies: &[(u32, Script)], app: u32, from: usize) -> (Giving, usize)
+    ensures steps { steps_given replies.now result.0 ≡ turn_or_plain (slice_get (lines_of app (drop from replies.now)) 0) }
+    ensures within { IsGivingIn replies.now result.0 }
+    ensures next { Follows app from result.1 replies.now }
+{
+    match find_line(replies, app, from) {
+        Some(i) => (Giving::Reply(i), i + 1),
+        None => (Giving::Plain, replies.len()),
+    }
+}
+
 impl ScriptLines {
     /// No lines.
     #[tactic(auto, unfolding(crate::specs::Scripts::ready_bytes, crate::specs::Scripts::garbled_bytes, crate::specs::Scripts::done_bytes,))]
@@ -139,26 +162,18 @@ impl ScriptLines {
 
     /// How the next start of an application ends, not before the line `from`, and the line behind it.
     pub(crate) fn next_start(&self, app: u32, from: usize) -> (StartScript, usize)
-        requires { from ≤ length self.now.starts }
         ensures start { result.0 ≡ start_or_ready (slice_get (lines_of app (drop from self.now.starts)) 0) }
         ensures next { Follows app from result.1 self.now.starts }
     {
-        match find_line(&self.starts, app, from) {
-            Some(i) => (self.starts[i].1, i + 1),
-            None => (StartScript::Ready, self.starts.len()),
-        }
+        start_from(&self.starts, app, from)
     }
 
     /// What an application gives in its next turn, not before the line `from`, and the line behind it.
     pub(crate) fn next_turn(&self, app: u32, from: usize) -> (Giving, usize)
-        requires { from ≤ length self.now.replies }
         ensures steps { steps_given self.now.replies result.0 ≡ turn_or_plain (slice_get (lines_of app (drop from self.now.replies)) 0) }
         ensures within { IsGivingIn self.now.replies result.0 }
         ensures next { Follows app from result.1 self.now.replies }
     {
-        match find_line(&self.replies, app, from) {
-            Some(i) => (Giving::Reply(i), i + 1),
-            None => (Giving::Plain, self.replies.len()),
-        }
+        turn_from(&self.replies, app, from)
     }
 }

@@ -73,10 +73,5 @@ fn tells(fail: &FailCall, kind: CallKind, of: u64, number: u64) -> bool
 fn any_tells(fails: &[FailCall], kind: CallKind, of: u64, number: u64) -> bool
     ensures { result ≡ list_any (tells kind of number) fails.now }
 {
-    for fail in fails {
-        if tells(fail, kind, of, number) {
-            return true;
-        }
-    }
-    false
+    fails.iter().any(|fail| tells(fail, kind, of, number))
 }
