@@ -2,9 +2,10 @@ pub mod Tally
 pub mod Room
 pub mod Told
 pub mod Scripts
+pub mod ScriptLaws
 pub mod Lives
+pub mod LifeLaws
 pub mod World
-
 pub mod WorldLaws
 pub mod TallyLaws
 pub mod Doing

@@ -2,8 +2,10 @@
 #![tactic(auto)]
 
 mod history;
+mod life;
 mod links;
 mod lives;
 mod parts;
+mod scripts;
 mod tally;
 mod told;

@@ -1,21 +1,303 @@
-//! Stub.
+//! The lives of all applications.
 
+ghost use Rattle.std.specs.Prelude.{◌≡◌, ℕ, ◌+◌, ◌-◌, ◌<◌, ◌≤◌, ◌^◌, [], ◌∷◌, ◌++◌, true, false, List, length, All, IsTrue, is_some, IfOk, OnOk, OnErr, IfSome, IfNone};
+ghost use Rattle.of_types.specs.declared.journal.Act.TheVariants.{Started, Gave, Gone, Ended};
+ghost use Rattle.app_frames.specs.declared.script.ScriptStep.{ScriptStep};
+ghost use Rattle.outside.specs.Calls.{IsTakenIn};
+ghost use Rattle.outside.specs.State.{event_number};
+ghost use Rattle.outside.specs.declared.call.FailCall.{FailCall};
+ghost use Rattle.outside.specs.declared.step.WorldStep.TheVariants.{Acted, TookInto};
+ghost use Rattle.sim_world.specs.Scripts.{Scripts, will_start, will_give, next_taken, after_start, after_gave, after_gone, after_take, after_end, life_after};
+ghost use Rattle.sim_world.specs.Lives.{IsCellOf, IsFirst, Moved, took_of, life_in, has_cell, named_lives, life_of, is_known};
+
+use crate::life::LifeCell;
+use crate::scripts::ScriptLines;
+use crate::told::Told;
 use app_frames::{Script, StartScript};
+use outside::Taken;
 use std::alloc::{AllocError, Global};
 use std::marker::Model;
 
+/// The lives of all applications, and the lines that say what they do: how their starts end, and what they give in
+/// their turns. Contracts see the lines, and the lives of those applications that were spoken of. Applications are
+/// named by their index.
 #[derive(Drop, Debug)]
-pub(crate) struct Cell { pub app: u32, pub running: bool }
-#[derive(Drop, Debug)]
-pub(crate) struct Lives {
-    starts: Vec<(u32, StartScript)>,
-    replies: Vec<(u32, Script)>,
-    cells: Vec<Cell>,
+pub struct Lives {
+    lines: ScriptLines,
+    cells: Vec<LifeCell>,
 }
+
 impl Model for Lives {
-    ghost use Rattle.std.specs.Prelude.{map};
-    ghost use Rattle.sim_world.specs.Scripts.{fresh};
-    ghost use Rattle.sim_world.specs.Lives.{Playing};
+    ghost use Rattle.std.specs.Prelude.{All};
+    ghost use Rattle.sim_world.specs.Lives.{Playing, IsCellOf, named_lives};
+
     ghost Value = { Playing };
-    ghost view = { λ s. record { own = record { starts = s.starts.items; replies = s.replies.items }; lives = map (λ c. (c.app, fresh)) s.cells.items } };
+
+    ghost view = { λ s. record { own = s.lines; lives = named_lives s.lines.replies s.cells.items } };
+
+    ghost invariant = { λ s. All (IsCellOf s.lines) s.cells.items };
+}
+
+/// Where the life of an application stands.
+fn find(cells: &[LifeCell], app: u32) -> Option<usize>
+    ensures some { IfSome result (λ i. IsFirst app i cells.now) }
+    ensures within { IfSome result (λ i. i < length cells.now) }
+    ensures none { IfNone result (has_cell app cells.now ≡ false) }
+{
+    for i in 0..cells.len() {
+        if cells[i].app == app {
+            return Some(i);
+        }
+    }
+    None
+}
+
+/// Where the life of an application stands that was spoken of.
+fn place(cells: &[LifeCell], app: u32) -> usize
+    requires { has_cell app cells.now ≡ true }
+    ensures first { IsFirst app result cells.now }
+    ensures within { result < length cells.now }
+{
+    find(cells, app).unwrap()
+}
+
+/// A start of an application that was spoken of.
+fn start_in(cells: &mut [LifeCell], lines: &ScriptLines, told: &Told, app: u32, ok: bool)
+    requires cells { All (IsCellOf lines.now) cells.old }
+    requires known { has_cell app cells.old ≡ true }
+    requires few { (life_in app (named_lives lines.now.replies cells.old)).start_calls < 2 ^ 64 - 1 }
+    ensures cells { All (IsCellOf lines.now) cells.new }
+    ensures moved { Moved app (after_start lines.now told.now app ok) (named_lives lines.now.replies cells.old)
+        (named_lives lines.now.replies cells.new) }
+{
+    let i = place(cells, app);
+    cells[i].start(lines, told, ok);
+}
+
+/// Bytes were given to an application that was spoken of.
+fn gave_in(cells: &mut [LifeCell], lines: &ScriptLines, app: u32, bytes: &[u8])
+    requires cells { All (IsCellOf lines.now) cells.old }
+    requires known { has_cell app cells.old ≡ true }
+    requires few { (life_in app (named_lives lines.now.replies cells.old)).give_calls < 2 ^ 64 - 1 }
+    ensures cells { All (IsCellOf lines.now) cells.new }
+    ensures moved { Moved app (after_gave lines.now app (is_some (event_number bytes.now)))
+        (named_lives lines.now.replies cells.old) (named_lives lines.now.replies cells.new) }
+{
+    let i = place(cells, app);
+    cells[i].gave(lines, bytes);
+}
+
+/// An application that was spoken of was gone before it was given bytes.
+fn gone_in(cells: &mut [LifeCell], lines: &ScriptLines, app: u32)
+    requires cells { All (IsCellOf lines.now) cells.old }
+    requires known { has_cell app cells.old ≡ true }
+    requires few { (life_in app (named_lives lines.now.replies cells.old)).give_calls < 2 ^ 64 - 1 }
+    ensures cells { All (IsCellOf lines.now) cells.new }
+    ensures moved { Moved app after_gone (named_lives lines.now.replies cells.old)
+        (named_lives lines.now.replies cells.new) }
+{
+    let i = place(cells, app);
+    cells[i].gone();
+}
+
+/// A take from an application that was spoken of.
+fn take_in(
+    cells: &mut [LifeCell],
+    lines: &ScriptLines,
+    told: &Told,
+    app: u32,
+    buf: &mut [u8],
+) -> Taken
+    requires cells { All (IsCellOf lines.now) cells.old }
+    requires known { has_cell app cells.old ≡ true }
+    requires few { (life_in app (named_lives lines.now.replies cells.old)).take_calls < 2 ^ 64 - 1 }
+    requires room { 0 < length buf.old }
+    ensures cells { All (IsCellOf lines.now) cells.new }
+    ensures moved { Moved app (after_take told.now app (took_of result buf.new)) (named_lives lines.now.replies cells.old)
+        (named_lives lines.now.replies cells.new) }
+    ensures what { took_of result buf.new
+        ≡ next_taken told.now app (length buf.old) (life_in app (named_lives lines.now.replies cells.old)) }
+    ensures taken { IsTakenIn result buf.new }
+{
+    let i = place(cells, app);
+    cells[i].take(lines, told, buf)
+}
+
+/// The end of an application, if it was spoken of.
+fn end_in(cells: &mut [LifeCell], lines: &ScriptLines, app: u32)
+    requires cells { All (IsCellOf lines.now) cells.old }
+    ensures cells { All (IsCellOf lines.now) cells.new }
+    ensures moved { Moved app after_end (named_lives lines.now.replies cells.old)
+        (named_lives lines.now.replies cells.new) }
+{
+    if let Some(i) = find(cells, app) {
+        cells[i].end();
+    }
+}
+
+/// Whether an application was started and not ended.
+fn is_running_in(cells: &[LifeCell], app: u32) -> bool
+    ensures { (replies : List (ℕ × List ScriptStep)) → result ≡ (life_in app (named_lives replies cells.now)).running }
+{
+    match find(cells, app) {
+        Some(i) => cells[i].running,
+        None => false,
+    }
+}
+
+/// Whether the next start of an application that was spoken of succeeds.
+fn will_start_in(cells: &[LifeCell], lines: &ScriptLines, told: &Told, app: u32) -> bool
+    requires cells { All (IsCellOf lines.now) cells.now }
+    requires known { has_cell app cells.now ≡ true }
+    requires few { (life_in app (named_lives lines.now.replies cells.now)).start_calls < 2 ^ 64 - 1 }
+    ensures { result ≡ will_start lines.now told.now app (life_in app (named_lives lines.now.replies cells.now)) }
+{
+    cells[place(cells, app)].will_start(lines, told)
+}
+
+/// Whether an application that was spoken of takes what it is given next.
+fn will_give_in(cells: &[LifeCell], lines: &ScriptLines, told: &Told, app: u32) -> bool
+    requires known { has_cell app cells.now ≡ true }
+    requires few { (life_in app (named_lives lines.now.replies cells.now)).give_calls < 2 ^ 64 - 1 }
+    ensures { result ≡ will_give told.now app (life_in app (named_lives lines.now.replies cells.now)) }
+{
+    cells[place(cells, app)].will_give(told)
+}
+
+impl Lives {
+    /// No lines and no lives.
+    pub fn new(alloc: Global) -> Result<Lives, AllocError>
+        ensures { IfOk result (λ s. s ≡ record { own = record { starts = []; replies = [] }; lives = [] }) }
+    {
+        Ok(Lives {
+            lines: ScriptLines::new(alloc)?,
+            cells: Vec::new(alloc),
+        })
+    }
+
+    /// One line more: how the next start of the application ends. No application was spoken of yet. Want of memory
+    /// changes nothing.
+    pub fn add_start(&mut self, app: u32, start: StartScript) -> Result<(), AllocError>
+        requires { self.old.lives ≡ [] }
+        ensures ok { OnOk result (self.new ≡ record self.old {
+          own = record self.old.own { starts = self.old.own.starts ++ (app, start) ∷ [] };
+        }) }
+        ensures err { OnErr result (self.new ≡ self.old) }
+    {
+        self.lines.add_start(app, start)
+    }
+
+    /// One line more: what the application gives in its next turn. No application was spoken of yet. Want of memory
+    /// changes nothing.
+    pub fn add_reply(&mut self, app: u32, reply: Script) -> Result<(), AllocError>
+        requires { self.old.lives ≡ [] }
+        ensures ok { OnOk result (self.new ≡ record self.old {
+          own = record self.old.own { replies = self.old.own.replies ++ (app, reply) ∷ [] };
+        }) }
+        ensures err { OnErr result (self.new ≡ self.old) }
+    {
+        self.lines.add_reply(app, reply)
+    }
+
+    /// Makes room for the life of an application, so that all calls below take no memory. No life moves. Want of
+    /// memory changes nothing.
+    pub fn ensure(&mut self, app: u32) -> Result<(), AllocError>
+        ensures own { self.new.own ≡ self.old.own }
+        ensures known { OnOk result (IsTrue (is_known app self.new)) }
+        ensures kept { (a : ℕ) → IsTrue (is_known a self.old) → IsTrue (is_known a self.new) }
+        ensures lives { (a : ℕ) → life_of a self.new ≡ life_of a self.old }
+        ensures err { OnErr result (self.new ≡ self.old) }
+    {
+        if find(&self.cells, app).is_none() {
+            self.cells.push(LifeCell::fresh(app))?;
+        }
+        Ok(())
+    }
+
+    /// Whether the application was started and not ended; takes no memory.
+    pub fn is_running(&self, app: u32) -> bool
+        ensures { result ≡ (life_of app self.now).running }
+    {
+        is_running_in(&self.cells, app)
+    }
+
+    /// Whether the next start of the application succeeds; takes no memory. There is room for its life.
+    pub fn will_start(&self, told: &Told, app: u32) -> bool
+        requires known { IsTrue (is_known app self.now) }
+        requires few { (life_of app self.now).start_calls < 2 ^ 64 - 1 }
+        ensures { result ≡ will_start self.now.own told.now app (life_of app self.now) }
+    {
+        will_start_in(&self.cells, &self.lines, told, app)
+    }
+
+    /// A start of the application, and whether it succeeded; takes no memory. There is room for its life.
+    pub fn start(&mut self, told: &Told, app: u32, ok: bool)
+        requires known { IsTrue (is_known app self.old) }
+        requires few { (life_of app self.old).start_calls < 2 ^ 64 - 1 }
+        ensures own { self.new.own ≡ self.old.own }
+        ensures known { (a : ℕ) → is_known a self.new ≡ is_known a self.old }
+        ensures lives { (a : ℕ) → life_of a self.new
+            ≡ life_after self.old.own told.now a (Acted (Started app ok)) (life_of a self.old) }
+    {
+        start_in(&mut self.cells, &self.lines, told, app, ok);
+    }
+
+    /// Whether the application takes what it is given next; takes no memory. There is room for its life.
+    pub fn will_give(&self, told: &Told, app: u32) -> bool
+        requires known { IsTrue (is_known app self.now) }
+        requires few { (life_of app self.now).give_calls < 2 ^ 64 - 1 }
+        ensures { result ≡ will_give told.now app (life_of app self.now) }
+    {
+        will_give_in(&self.cells, &self.lines, told, app)
+    }
+
+    /// The application was given the bytes; takes no memory. There is room for its life.
+    pub fn gave(&mut self, app: u32, bytes: &[u8])
+        requires known { IsTrue (is_known app self.old) }
+        requires few { (life_of app self.old).give_calls < 2 ^ 64 - 1 }
+        ensures own { self.new.own ≡ self.old.own }
+        ensures known { (a : ℕ) → is_known a self.new ≡ is_known a self.old }
+        ensures lives { (fails : List FailCall) (a : ℕ) → life_of a self.new
+            ≡ life_after self.old.own fails a (Acted (Gave app bytes.now)) (life_of a self.old) }
+    {
+        gave_in(&mut self.cells, &self.lines, app, bytes);
+    }
+
+    /// The application was gone before it was given bytes; takes no memory. There is room for its life.
+    pub fn gone(&mut self, app: u32)
+        requires known { IsTrue (is_known app self.old) }
+        requires few { (life_of app self.old).give_calls < 2 ^ 64 - 1 }
+        ensures own { self.new.own ≡ self.old.own }
+        ensures known { (a : ℕ) → is_known a self.new ≡ is_known a self.old }
+        ensures lives { (fails : List FailCall) (bytes : List ℕ) (a : ℕ) → life_of a self.new
+            ≡ life_after self.old.own fails a (Acted (Gone app bytes)) (life_of a self.old) }
+    {
+        gone_in(&mut self.cells, &self.lines, app);
+    }
+
+    /// Takes what comes next from the application into the front of the buffer; takes no memory. There is room for its
+    /// life.
+    pub fn take(&mut self, told: &Told, app: u32, buf: &mut [u8]) -> Taken
+        requires known { IsTrue (is_known app self.old) }
+        requires few { (life_of app self.old).take_calls < 2 ^ 64 - 1 }
+        requires room { 0 < length buf.old }
+        ensures own { self.new.own ≡ self.old.own }
+        ensures known { (a : ℕ) → is_known a self.new ≡ is_known a self.old }
+        ensures lives { (a : ℕ) → life_of a self.new
+            ≡ life_after self.old.own told.now a (TookInto app (took_of result buf.new) (length buf.old)) (life_of a self.old) }
+        ensures what { took_of result buf.new ≡ next_taken told.now app (length buf.old) (life_of app self.old) }
+        ensures taken { IsTakenIn result buf.new }
+    {
+        take_in(&mut self.cells, &self.lines, told, app, buf)
+    }
+
+    /// The application was ended; takes no memory. One that was not spoken of stays so.
+    pub fn end(&mut self, app: u32)
+        ensures own { self.new.own ≡ self.old.own }
+        ensures known { (a : ℕ) → is_known a self.new ≡ is_known a self.old }
+        ensures lives { (fails : List FailCall) (a : ℕ) → life_of a self.new
+            ≡ life_after self.old.own fails a (Acted (Ended app)) (life_of a self.old) }
+    {
+        end_in(&mut self.cells, &self.lines, app);
+    }
 }

@@ -1,0 +1,14 @@
+use Rattle.std.proofs.Common.{◌≡◌, ℕ, ◌+◌, ◌-◌, ◌^◌, ◌<◌, sym, ap, subst, ◌∙◌, refl, arith, length, get_or}
+use Rattle.sim_world.specs.Scripts.{Life, after_start, after_gave, after_gone, after_take, after_end, next_taken, will_start, will_give}
+use Rattle.of_types.specs.declared.journal.TookWhat.{TookWhat}
+use Rattle.sim_world.specs.Lives.{took_of, life_of_cell}
+use Rattle.sim_world.specs.CellLaws.{first_start_calls, first_give_calls, first_take_calls, first_running, first_is, Moved-cell, Moved-unknown, has_life-cell, unknown_is_fresh}
+use Rattle.sim_world.specs.Scripts.{fresh}
+use Rattle.sim_world.proofs.lives.is_running_in.Goals as goal
+
+pub returns-in-Some : goal.returns-in-Some
+returns-in-Some c = λ replies. sym (first_running replies c.args.app c.in-Some.i c.args.cells.now _ c.in-Some.ensures.some)
+
+pub returns-in-None : goal.returns-in-None
+unfolding fresh
+returns-in-None c = λ replies. sym (ap (λ (l : Life). l.running) (unknown_is_fresh c.args.app _ (has_life-cell replies c.args.app c.args.cells.now ∙ c.in-None.ensures.none)))

@@ -1,0 +1,179 @@
+//! The lines of all applications: how their starts end, and what they give in their turns.
+
+ghost use Rattle.std.specs.Prelude.{◌≡◌, ◌+◌, ◌<◌, ◌≤◌, [], ◌∷◌, ◌++◌, length, drop, slice_get, IfOk, OnOk, OnErr};
+ghost use Rattle.sim_world.specs.Scripts.{lines_of, steps_of_start, plain_turn, start_or_ready, turn_or_plain, ready_bytes, garbled_bytes, done_bytes};
+ghost use Rattle.sim_world.specs.Lives.{IsGivingIn, IsNextLine, Follows, steps_given};
+
+use crate::life::Giving;
+use app_frames::{Script, ScriptStep, StartScript};
+use of_types::ByteList;
+use std::alloc::{AllocError, Global};
+use std::marker::Model;
+
+/// The frame Ready.
+const READY: [u8; 5] = [0, 0, 0, 1, 6];
+
+/// A frame of a kind that there is not.
+const GARBLED: [u8; 5] = [0, 0, 0, 1, 9];
+
+/// The frame Done, without stop and checkpoint.
+const DONE: [u8; 7] = [0, 0, 0, 3, 5, 0, 0];
+
+/// The lines of all applications in the order given, each with the application's index, and the scripts of what is
+/// given where no line says it. Contracts see the lines.
+#[derive(Drop, Debug)]
+pub(crate) struct ScriptLines {
+    starts: Vec<(u32, StartScript)>,
+    replies: Vec<(u32, Script)>,
+    nothing: Script,
+    ready: Script,
+    closed: Script,
+    silent: Script,
+    garbled: Script,
+    plain: Script,
+}
+
+impl Model for ScriptLines {
+    ghost use Rattle.sim_world.specs.Scripts.{Scripts, AreFixed};
+
+    ghost Value = { Scripts };
+
+    ghost view = { λ s. record { starts = s.starts.items; replies = s.replies.items } };
+
+    ghost invariant = { λ s. AreFixed s.nothing s.ready s.closed s.silent s.garbled s.plain };
+}
+
+/// A script of one step.
+fn script_of(alloc: Global, step: ScriptStep) -> Result<Script, AllocError>
+    ensures { IfOk result (λ s. s ≡ step ∷ []) }
+{
+    let mut steps = Vec::new(alloc);
+    steps.push(step)?;
+    Ok(Script::from_vec(steps))
+}
+
+/// A script of one step of bytes.
+fn script_of_bytes(alloc: Global, bytes: &[u8]) -> Result<Script, AllocError>
+    ensures { IfOk result (λ s. s ≡ ScriptStep.Bytes bytes.now ∷ []) }
+{
+    script_of(
+        alloc,
+        ScriptStep::Bytes(ByteList::from_slice(alloc, bytes)?),
+    )
+}
+
+/// Where the next line of an application stands, not before `from`.
+fn find_line<A>(lines: &[(u32, A)], app: u32, from: usize) -> Option<usize>
+    ensures { IsNextLine app from lines.now result }
+{
+    for i in from..lines.len() {
+        if lines[i].0 == app {
+            return Some(i);
+        }
+    }
+    None
+}
+
+/// How the next start of an application ends, not before the line `from`, and the line behind it.
+fn start_from(starts: &[(u32, StartScript)], app: u32, from: usize) -> (StartScript, usize)
+    ensures start { result.0 ≡ start_or_ready (slice_get (lines_of app (drop from starts.now)) 0) }
+    ensures next { Follows app from result.1 starts.now }
+{
+    match find_line(starts, app, from) {
+        Some(i) => (starts[i].1, i + 1),
+        None => (StartScript::Ready, starts.len()),
+    }
+}
+
+/// What an application gives in its next turn, not before the line `from`, and the line behind it.
+fn turn_from(replies: &[(u32, Script)], app: u32, from: usize) -> (Giving, usize)
+    ensures steps { steps_given replies.now result.0 ≡ turn_or_plain (slice_get (lines_of app (drop from replies.now)) 0) }
+    ensures within { IsGivingIn replies.now result.0 }
+    ensures next { Follows app from result.1 replies.now }
+{
+    match find_line(replies, app, from) {
+        Some(i) => (Giving::Reply(i), i + 1),
+        None => (Giving::Plain, replies.len()),
+    }
+}
+
+impl ScriptLines {
+    /// No lines.
+    #[tactic(auto, unfolding(crate::specs::Scripts::ready_bytes, crate::specs::Scripts::garbled_bytes, crate::specs::Scripts::done_bytes,))]
+    pub(crate) fn new(alloc: Global) -> Result<ScriptLines, AllocError>
+        ensures { IfOk result (λ s. s ≡ record { starts = []; replies = [] }) }
+    {
+        Ok(ScriptLines {
+            starts: Vec::new(alloc),
+            replies: Vec::new(alloc),
+            nothing: Script::new(alloc),
+            ready: script_of_bytes(alloc, &READY)?,
+            closed: script_of(alloc, ScriptStep::Closed)?,
+            silent: script_of(alloc, ScriptStep::Silent)?,
+            garbled: script_of_bytes(alloc, &GARBLED)?,
+            plain: script_of_bytes(alloc, &DONE)?,
+        })
+    }
+
+    /// One start more. Want of memory changes nothing.
+    pub(crate) fn add_start(&mut self, app: u32, start: StartScript) -> Result<(), AllocError>
+        ensures ok { OnOk result (self.new ≡ record self.old { starts = self.old.starts ++ (app, start) ∷ [] }) }
+        ensures err { OnErr result (self.new ≡ self.old) }
+    {
+        self.starts.push((app, start))?;
+        Ok(())
+    }
+
+    /// One turn more. Want of memory changes nothing.
+    pub(crate) fn add_reply(&mut self, app: u32, reply: Script) -> Result<(), AllocError>
+        ensures ok { OnOk result (self.new ≡ record self.old { replies = self.old.replies ++ (app, reply) ∷ [] }) }
+        ensures err { OnErr result (self.new ≡ self.old) }
+    {
+        self.replies.push((app, reply))?;
+        Ok(())
+    }
+
+    /// The steps that are being given.
+    #[tactic(auto, unfolding(crate::specs::Lives::steps_given, crate::specs::Scripts::steps_of_start))]
+    pub(crate) fn steps(&self, giving: Giving) -> &[ScriptStep]
+        requires { IsGivingIn self.now.replies giving }
+        ensures { result.now ≡ steps_given self.now.replies giving }
+    {
+        match giving {
+            Giving::Nothing => self.nothing.as_slice(),
+            Giving::Start(start) => self.start_steps(start),
+            Giving::Reply(i) => self.replies[i].1.as_slice(),
+            Giving::Plain => self.plain.as_slice(),
+        }
+    }
+
+    #[tactic(auto, unfolding(crate::specs::Scripts::steps_of_start))]
+    fn start_steps(&self, start: StartScript) -> &[ScriptStep]
+        ensures { result.now ≡ steps_of_start start }
+    {
+        match start {
+            StartScript::Ready => self.ready.as_slice(),
+            StartScript::Refused => self.nothing.as_slice(),
+            StartScript::Closed => self.closed.as_slice(),
+            StartScript::Silent => self.silent.as_slice(),
+            StartScript::Garbled => self.garbled.as_slice(),
+        }
+    }
+
+    /// How the next start of an application ends, not before the line `from`, and the line behind it.
+    pub(crate) fn next_start(&self, app: u32, from: usize) -> (StartScript, usize)
+        ensures start { result.0 ≡ start_or_ready (slice_get (lines_of app (drop from self.now.starts)) 0) }
+        ensures next { Follows app from result.1 self.now.starts }
+    {
+        start_from(&self.starts, app, from)
+    }
+
+    /// What an application gives in its next turn, not before the line `from`, and the line behind it.
+    pub(crate) fn next_turn(&self, app: u32, from: usize) -> (Giving, usize)
+        ensures steps { steps_given self.now.replies result.0 ≡ turn_or_plain (slice_get (lines_of app (drop from self.now.replies)) 0) }
+        ensures within { IsGivingIn self.now.replies result.0 }
+        ensures next { Follows app from result.1 self.now.replies }
+    {
+        turn_from(&self.replies, app, from)
+    }
+}
