@@ -5,6 +5,7 @@ pub mod Scripts
 pub mod ScriptLaws
 pub mod Lives
 pub mod LifeLaws
+pub mod CellLaws
 pub mod World
 pub mod WorldLaws
 pub mod TallyLaws

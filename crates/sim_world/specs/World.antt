@@ -20,6 +20,7 @@ use Rattle.outside.specs.Conforming.{AreDeclaredFrom, IsWorldStim, MaySteps}
 use Rattle.sim_world.specs.Tally.{TallyState, CountsFor, counts_of}
 use Rattle.sim_world.specs.Told.{is_told, without_links}
 use Rattle.sim_world.specs.Scripts.{Scripts, Life, fresh, life_through, KeepsScripts}
+use Rattle.sim_world.specs.Lives.{life_in}
 
 -- ---- As data
 
@@ -45,10 +46,6 @@ given_of w = record { declared = declared_in w.state; stimuli = w.stimuli; fails
 -- what is seen of it
 unfoldable pub seen_of : WorldData → Seen Scripts
 seen_of w = record { given = given_of w; history = w.history; counts = counts_of w.tally }
-
-abbrev pub life_in : ℕ → List (ℕ × Life) → Life
-life_in app [] = fresh
-life_in app (x ∷ xs) = if x.0 == app then x.1 else life_in app xs
 
 -- ---- Bytes that no switch sends of its own accord but as a stimulus says
 

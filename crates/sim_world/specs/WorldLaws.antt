@@ -19,8 +19,9 @@ use Rattle.outside.specs.LinkLaws.{KeepsDeclared}
 use Rattle.outside.specs.Conforming.{IsNext, MayBegin, MayAct, MayStep, MaySteps}
 use Rattle.sim_world.specs.Tally.{TallyState, CountsFor}
 use Rattle.sim_world.specs.Told.{without_links}
+use Rattle.sim_world.specs.Lives.{life_in}
 use Rattle.sim_world.specs.Scripts.{Scripts, Life, fresh, all_fresh, life_after, life_through, lives_after, IsScriptedAct, IsScripted, AreScripted, KeepsScripts}
-use Rattle.sim_world.specs.World.{WorldData, declared_in, given_of, seen_of, life_in, begins_refused, IsReadable, IsActAsTold, IsAsTold, AreAsTold, counted_next, nexts_through, CanCome, IsHistory, Stands, Moves}
+use Rattle.sim_world.specs.World.{WorldData, declared_in, given_of, seen_of, begins_refused, IsReadable, IsActAsTold, IsAsTold, AreAsTold, counted_next, nexts_through, CanCome, IsHistory, Stands, Moves}
 
 -- ---- Marks steer nothing
 

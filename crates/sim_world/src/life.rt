@@ -147,6 +147,29 @@ fn take_next(steps: &[ScriptStep], at: Place, buf: &mut [u8]) -> (Taken, Place)
     take_first(steps, pass(steps, at), buf)
 }
 
+/// How many bytes are taken at a place where the step has a byte left.
+#[tactic(auto, unfolding(crate::specs::Lives::from_place))]
+fn len_first(steps: &[ScriptStep], at: Place, room: usize) -> usize
+    requires { begins_empty (from_place at steps.now) ≡ false }
+    ensures { result ≡ length (taken_bytes (first_given room (from_place at steps.now))) }
+{
+    if at.step >= steps.len() {
+        return 0;
+    }
+    match &steps[at.step] {
+        ScriptStep::Bytes(bytes) => room.min(bytes.len() - at.offset),
+        _ => 0,
+    }
+}
+
+/// How many bytes are taken from a place on.
+#[tactic(auto, unfolding(crate::specs::Scripts::given_of))]
+fn len_next(steps: &[ScriptStep], at: Place, room: usize) -> usize
+    ensures { result ≡ length (taken_bytes (given_of room (from_place at steps.now))) }
+{
+    len_first(steps, pass(steps, at), room)
+}
+
 /// The bytes are a frame that tells an event.
 #[tactic(auto, unfolding(outside::specs::State::event_number))]
 fn is_event(bytes: &[u8]) -> bool
@@ -389,6 +412,32 @@ impl LifeCell {
         let (taken, at) = take_next(lines.steps(self.giving), self.at, buf);
         self.at = at;
         taken
+    }
+
+    /// How many bytes it gives next, and counts no call.
+    #[tactic(auto, unfolding(crate::specs::Lives::life_of_cell))]
+    fn len_left(&self, lines: &ScriptLines, room: usize) -> usize
+        requires { IsCellOf lines.now self.now }
+        ensures { result ≡ length (taken_bytes (given_of room (life_of_cell lines.now.replies self.now).left)) }
+    {
+        len_next(lines.steps(self.giving), self.at, room)
+    }
+
+    /// How many bytes the next take from it gives.
+    pub(crate) fn next_len(&self, lines: &ScriptLines, told: &Told, room: usize) -> usize
+        requires cell { IsCellOf lines.now self.now }
+        requires few { self.now.take_calls < 2 ^ 64 - 1 }
+        ensures { result ≡ length (taken_bytes (next_taken told.now self.now.app room (life_of_cell lines.now.replies self.now))) }
+    {
+        let closed = self.is_closed(told);
+        let silent = self.is_silent(told);
+        if closed {
+            0
+        } else if silent {
+            0
+        } else {
+            self.len_left(lines, room)
+        }
     }
 
     /// A take from it, into the front of the buffer.

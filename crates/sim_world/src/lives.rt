@@ -7,7 +7,7 @@ ghost use Rattle.outside.specs.Calls.{IsTakenIn};
 ghost use Rattle.outside.specs.State.{event_number};
 ghost use Rattle.outside.specs.declared.call.FailCall.{FailCall};
 ghost use Rattle.outside.specs.declared.step.WorldStep.TheVariants.{Acted, TookInto};
-ghost use Rattle.sim_world.specs.Scripts.{Scripts, will_start, will_give, next_taken, after_start, after_gave, after_gone, after_take, after_end, life_after};
+ghost use Rattle.sim_world.specs.Scripts.{Scripts, will_start, will_give, next_taken, taken_bytes, after_start, after_gave, after_gone, after_take, after_end, life_after};
 ghost use Rattle.sim_world.specs.Lives.{IsCellOf, IsFirst, Moved, took_of, life_in, has_cell, named_lives, life_of, is_known};
 
 use crate::life::LifeCell;
@@ -164,6 +164,22 @@ fn will_give_in(cells: &[LifeCell], lines: &ScriptLines, told: &Told, app: u32) 
     cells[place(cells, app)].will_give(told)
 }
 
+/// How many bytes the next take from an application that was spoken of gives.
+fn next_len_in(
+    cells: &[LifeCell],
+    lines: &ScriptLines,
+    told: &Told,
+    app: u32,
+    room: usize,
+) -> usize
+    requires cells { All (IsCellOf lines.now) cells.now }
+    requires known { has_cell app cells.now ≡ true }
+    requires few { (life_in app (named_lives lines.now.replies cells.now)).take_calls < 2 ^ 64 - 1 }
+    ensures { result ≡ length (taken_bytes (next_taken told.now app room (life_in app (named_lives lines.now.replies cells.now)))) }
+{
+    cells[place(cells, app)].next_len(lines, told, room)
+}
+
 impl Lives {
     /// No lines and no lives.
     pub fn new(alloc: Global) -> Result<Lives, AllocError>
@@ -273,6 +289,16 @@ impl Lives {
             ≡ life_after self.old.own fails a (Acted (Gone app bytes)) (life_of a self.old) }
     {
         gone_in(&mut self.cells, &self.lines, app);
+    }
+
+    /// How many bytes the next take from the application gives into so much room; takes no memory. There is room for
+    /// its life.
+    pub fn next_len(&self, told: &Told, app: u32, room: usize) -> usize
+        requires known { IsTrue (is_known app self.now) }
+        requires few { (life_of app self.now).take_calls < 2 ^ 64 - 1 }
+        ensures { result ≡ length (taken_bytes (next_taken told.now app room (life_of app self.now))) }
+    {
+        next_len_in(&self.cells, &self.lines, told, app, room)
     }
 
     /// Takes what comes next from the application into the front of the buffer; takes no memory. There is room for its
