@@ -1,0 +1,10 @@
+pub mod LookupLaws
+pub mod Removal
+pub mod RemovalLaws
+pub mod Serials
+pub mod SerialsLaws
+pub mod AddedLaws
+pub mod Log
+pub mod LogLaws
+pub mod Stands
+pub mod StandingLaws
