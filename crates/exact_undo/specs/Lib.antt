@@ -8,3 +8,6 @@ pub mod Log
 pub mod LogLaws
 pub mod Stands
 pub mod StandingLaws
+pub mod StandsLaws
+pub mod Playing
+pub mod PlayingLaws

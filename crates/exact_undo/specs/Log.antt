@@ -8,7 +8,7 @@ use Rattle.of_action.specs.declared.action.Action.{Action}
 use Rattle.of_wire.specs.declared.bodies.FlowMod.{FlowMod}
 use Rattle.flow_table.specs.declared.entry.Entry.{Entry}
 use Rattle.flow_table.specs.Table.{TableState, place_of, has_key, entry_at, with_entry}
-use Rattle.flow_table.specs.Change.{key_in, is_modify, describes, deletes, adds}
+use Rattle.flow_table.specs.Change.{key_in, is_modify, describes, deletes, adds, refusal, unless_refused}
 use Rattle.exact_undo.specs.Removal.{without}
 
 -- ---- What undoes a change of one entry
@@ -35,6 +35,10 @@ logged m es =
     if adds m es then logged_addition (key_in m) (entry_at (key_in m) es)
     else if is_modify m then map old_actions (filter (λ e. describes m e.key) es)
     else map PutBack (filter (deletes m) es)
+
+-- what a change logs: a refused one nothing
+unfoldable pub logged_by : ℕ → FlowMod → List Entry → List Inverse
+logged_by cap m es = unless_refused (refusal cap m es) [] (logged m es)
 
 -- ---- Playing it backwards
 

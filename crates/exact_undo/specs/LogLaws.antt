@@ -35,6 +35,10 @@ merge-assoc (Acted actions) (Acted later) Absent = refl
 merge-assoc (Acted actions) (Acted later) (Gone e) = refl
 merge-assoc (Acted actions) (Acted later) (Acted last) = refl
 
+pub image_of-one : (k : Key) (x : Inverse) → image_of k (x ∷ []) ≡ image_at k x
+unfolding image_of
+image_of-one k x = merge-untouched (image_at k x)
+
 pub image_of-append : (k : Key) (older newer : List Inverse) → image_of k (older ++ newer) ≡ merge (image_of k older) (image_of k newer)
 unfolding image_of
 image_of-append k [] newer = refl
@@ -69,10 +73,10 @@ unfolding undo
 undo-append now [] newer t = refl
 undo-append now (x ∷ older) newer t = ap (undo_one now x) (undo-append now older newer t)
 
-place-give_actions : (k : Key) (actions : List Action) (e : Entry) → place_of (give_actions k actions e) ≡ place_of e
+pub place-give_actions : (k : Key) (actions : List Action) (e : Entry) → place_of (give_actions k actions e) ≡ place_of e
 place-give_actions k actions e = elim (cases_Bool (has_key k e)) [ inl has ↦ rw has refl | inr other ↦ rw other refl ]
 
-serial-give_actions : (k : Key) (actions : List Action) (e : Entry) → (give_actions k actions e).serial ≡ e.serial
+pub serial-give_actions : (k : Key) (actions : List Action) (e : Entry) → (give_actions k actions e).serial ≡ e.serial
 serial-give_actions k actions e = elim (cases_Bool (has_key k e)) [ inl has ↦ rw has refl | inr other ↦ rw other refl ]
 
 pub IsSerialed-undo_one : (now : ℕ) (x : Inverse) (t : TableState) → IsSerialed t → IsSerialed (undo_one now x t)

@@ -1,0 +1,54 @@
+//! Laws of logs and of undo, each the contract of a function that does nothing.
+
+ghost use Rattle.std.specs.Prelude.{◌≡◌, ℕ, List, [], ◌∷◌, ◌++◌, map, Option, Some};
+ghost use Rattle.std.specs.Option.{option_map};
+ghost use Rattle.of_match.specs.declared.key.Key.{Key};
+ghost use Rattle.of_types.specs.declared.errors.OfError.{OfError};
+ghost use Rattle.of_wire.specs.declared.bodies.FlowMod.{FlowMod};
+ghost use Rattle.flow_table.specs.declared.entry.Entry.{Entry};
+ghost use Rattle.flow_table.specs.Table.{TableState, entry_at};
+ghost use Rattle.flow_table.specs.Change.{refusal, changed, change};
+ghost use Rattle.flow_table.specs.Undone.{undone};
+ghost use Rattle.exact_undo.specs.Serials.{IsSerialed};
+ghost use Rattle.exact_undo.specs.Log.{Inverse, Image, logged, logged_by, undo, merge, image_of, given_back, seen};
+ghost use Rattle.exact_undo.specs.Stands.{Stands};
+
+/// What a longer log says of a key is the older image and the newer one in one, and playing them one after the
+/// other is playing both in one.
+pub fn longer_logs()
+    ensures image { (k : Key) (older newer : List Inverse)
+        → image_of k (older ++ newer) ≡ merge (image_of k older) (image_of k newer) }
+    ensures given { (now : ℕ) (older newer : Image) (o : Option Entry)
+        → given_back now (merge older newer) o ≡ given_back now older (given_back now newer o) }
+    ensures undo { (now : ℕ) (older newer : List Inverse) (t : TableState)
+        → undo now (older ++ newer) t ≡ undo now older (undo now newer t) }
+{}
+
+/// A log that is played backwards gives at each key what its image there gives back, but for the serial.
+pub fn undo_is_by_key()
+    ensures image { (now : ℕ) (k : Key) (log : List Inverse) (t : TableState) → IsSerialed t
+        → option_map seen (entry_at k (undo now log t).entries)
+        ≡ option_map seen (given_back now (image_of k log) (entry_at k t.entries)) }
+    ensures serials { (now : ℕ) (log : List Inverse) (t : TableState) → IsSerialed t → IsSerialed (undo now log t) }
+{}
+
+/// Since a table nothing was logged; or one change more, whatever its command, flags and answer; or the newest part
+/// of the log was undone: then the log still holds what was changed since that table.
+pub fn logs_stand()
+    ensures nothing { (now : ℕ) (t : TableState) → IsSerialed t → Stands now t [] t }
+    ensures changed { (now : ℕ) (earlier : TableState) (log : List Inverse) (m : FlowMod) (t : TableState)
+        → Stands now earlier log t → Stands now earlier (log ++ logged m t.entries) (changed now m t) }
+    ensures change { (cap now : ℕ) (earlier : TableState) (log : List Inverse) (m : FlowMod) (t : TableState)
+        → Stands now earlier log t → Stands now earlier (log ++ logged_by cap m t.entries) (change cap now m t) }
+    ensures refused { (cap now : ℕ) (m : FlowMod) (t : TableState) (e : OfError) → refusal cap m t.entries ≡ Some e
+        → (change cap now m t ≡ t) × (logged_by cap m t.entries ≡ []) }
+    ensures undone { (now : ℕ) (earlier : TableState) (log newer : List Inverse) (t : TableState)
+        → Stands now earlier (log ++ newer) t → Stands now earlier log (undo now newer t) }
+{}
+
+/// Exact undo: the log since an earlier table, played backwards, gives that table back but for serials, each entry
+/// used when it was, and now where it had been removed meanwhile.
+pub fn undo_restores()
+    ensures { (now : ℕ) (earlier : TableState) (log : List Inverse) (t : TableState) → Stands now earlier log t
+        → map seen (undo now log t).entries ≡ map seen (undone earlier t now).entries }
+{}
