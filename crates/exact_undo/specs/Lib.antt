@@ -11,3 +11,6 @@ pub mod StandingLaws
 pub mod StandsLaws
 pub mod Playing
 pub mod PlayingLaws
+pub mod Same
+pub mod SameLaws
+pub mod RestoredLaws

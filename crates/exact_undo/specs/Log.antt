@@ -11,6 +11,10 @@ use Rattle.flow_table.specs.Table.{TableState, place_of, has_key, entry_at, with
 use Rattle.flow_table.specs.Change.{key_in, is_modify, describes, deletes, adds, refusal, unless_refused}
 use Rattle.exact_undo.specs.Removal.{without}
 
+-- an entry but for its serial, which no message shows
+abbrev pub seen : Entry → Entry
+seen e = record e { serial = 0 }
+
 -- ---- What undoes a change of one entry
 
 pub data Inverse : Type 0 where
@@ -21,20 +25,23 @@ pub data Inverse : Type 0 where
   -- of an entry whose actions were changed: it has the old ones again
   GiveActions : Key → List Action → Inverse
 
--- Under ADD, and under a MODIFY that meets no entry, the key is new or its entry is replaced.
-abbrev pub logged_addition : Key → Option Entry → List Inverse
-logged_addition k None = Remove k ∷ []
-logged_addition k (Some e) = PutBack e ∷ []
+abbrev pub old_entry : Entry → Inverse
+old_entry e = PutBack (seen e)
 
 abbrev pub old_actions : Entry → Inverse
 old_actions e = GiveActions e.key e.actions
+
+-- Under ADD, and under a MODIFY that meets no entry, the key is new or its entry is replaced.
+abbrev pub logged_addition : Key → Option Entry → List Inverse
+logged_addition k None = Remove k ∷ []
+logged_addition k (Some e) = old_entry e ∷ []
 
 -- what a change that is not refused logs about the entries before it
 unfoldable pub logged : FlowMod → List Entry → List Inverse
 logged m es =
     if adds m es then logged_addition (key_in m) (entry_at (key_in m) es)
     else if is_modify m then map old_actions (filter (λ e. describes m e.key) es)
-    else map PutBack (filter (deletes m) es)
+    else map old_entry (filter (deletes m) es)
 
 -- what a change logs: a refused one nothing
 unfoldable pub logged_by : ℕ → FlowMod → List Entry → List Inverse
@@ -100,7 +107,3 @@ given_back now Untouched o = o
 given_back now Absent o = None
 given_back now (Gone e) o = Some (record e { used = now })
 given_back now (Acted actions) o = option_map (with_actions actions) o
-
--- an entry but for its serial
-abbrev pub seen : Entry → Entry
-seen e = record e { serial = 0 }

@@ -21,7 +21,7 @@ use Rattle.exact_undo.specs.LookupLaws.{cases_Option, entry_at-same_place, entry
 use Rattle.exact_undo.specs.RemovalLaws.{removal-refusal, removal-changed}
 use Rattle.exact_undo.specs.Serials.{IsSerialed}
 use Rattle.exact_undo.specs.SerialsLaws.{IsSerialed-changed}
-use Rattle.exact_undo.specs.Log.{Inverse, Remove, PutBack, GiveActions, Image, Untouched, Absent, Gone, Acted, logged_addition, old_actions, logged, logged_by, with_actions, give_actions, back, undo_one, undo, image_of, given_back, seen}
+use Rattle.exact_undo.specs.Log.{Inverse, Remove, PutBack, GiveActions, Image, Untouched, Absent, Gone, Acted, logged_addition, old_entry, old_actions, logged, logged_by, with_actions, give_actions, back, undo_one, undo, image_of, given_back, seen}
 use Rattle.exact_undo.specs.LogLaws.{undo-append, undo-image, place-give_actions, IsSerialed-undo}
 use Rattle.exact_undo.specs.StandingLaws.{Changes, stays, comes, gives_way, goes, acts}
 use Rattle.exact_undo.specs.StandsLaws.{Changes-changed}
@@ -288,16 +288,16 @@ can-gives cap now (d ∷ ds) t fits stand = (
   let long = length-gives now (d ∷ ds) t in omega arith,
 )
 
-length-back : (now : ℕ) (d : Entry) (t : TableState) → length (undo_one now (PutBack d) t).entries ≤ length t.entries + 1
+length-back : (now : ℕ) (d : Entry) (t : TableState) → length (undo_one now (old_entry d) t).entries ≤ length t.entries + 1
 unfolding undo_one
-length-back now d t = length-with_entry-le t.entries (back now t.next d)
+length-back now d t = length-with_entry-le t.entries (back now t.next (seen d))
 
-length-puts : (now : ℕ) (ds : List Entry) (t : TableState) → length (undo now (map PutBack ds) t).entries ≤ length t.entries + length ds
+length-puts : (now : ℕ) (ds : List Entry) (t : TableState) → length (undo now (map old_entry ds) t).entries ≤ length t.entries + length ds
 unfolding undo
 length-puts now [] t = omega arith
-length-puts now (d ∷ ds) t = omega (arith, length-back now d (undo now (map PutBack ds) t), length-puts now ds t)
+length-puts now (d ∷ ds) t = omega (arith, length-back now d (undo now (map old_entry ds) t), length-puts now ds t)
 
-can-puts : (cap now : ℕ) (ds : List Entry) (t : TableState) → length t.entries + length ds ≤ cap → CanPlay cap now (map PutBack ds) t
+can-puts : (cap now : ℕ) (ds : List Entry) (t : TableState) → length t.entries + length ds ≤ cap → CanPlay cap now (map old_entry ds) t
 can-puts cap now [] t fits = omega arith
 can-puts cap now (d ∷ ds) t fits = (
   can-puts cap now ds t (omega arith),
@@ -364,7 +364,7 @@ logged-modify : (m : FlowMod) (es : List Entry) → adds m es ≡ false → is_m
 unfolding logged
 logged-modify m es keeps modifies = rw (keeps, modifies) refl
 
-logged-delete : (m : FlowMod) (es : List Entry) → adds m es ≡ false → is_modify m ≡ false → logged m es ≡ map PutBack (filter (deletes m) es)
+logged-delete : (m : FlowMod) (es : List Entry) → adds m es ≡ false → is_modify m ≡ false → logged m es ≡ map old_entry (filter (deletes m) es)
 unfolding logged
 logged-delete m es keeps removes = rw (keeps, removes) refl
 

@@ -58,7 +58,7 @@ anew-restored : (now : ℕ) (earlier present : Option Entry) → option_map (ane
 anew-restored now None present = refl
 anew-restored now (Some f) present = refl
 
-anew-given : (now : ℕ) (i : Image) (e : Entry) → option_map (anew now) (option_map seen (given_back now i (Some e))) ≡ option_map seen (given_back now i (Some (anew now e)))
+anew-given : (now : ℕ) (i : Image) (e : Entry) → option_map (anew now) (option_map seen (given_back now i (Some e))) ≡ option_map seen (given_back now i (Some (anew now (seen e))))
 anew-given now Untouched e = refl
 anew-given now Absent e = refl
 anew-given now (Gone f) e = refl
@@ -70,8 +70,8 @@ anew-given now (Acted actions) e = refl
 pub data Changes (serial : ℕ) : Image → Option Entry → Option Entry → Type 0 where
   stays : (o p : Option Entry) → p ≡ o → Changes serial Untouched o p
   comes : (e : Entry) (o p : Option Entry) → o ≡ None → p ≡ Some e → e.serial ≡ serial → Changes serial Absent o p
-  gives_way : (e f : Entry) (o p : Option Entry) → o ≡ Some e → p ≡ Some f → f.serial ≡ serial → Changes serial (Gone e) o p
-  goes : (e : Entry) (o p : Option Entry) → o ≡ Some e → p ≡ None → Changes serial (Gone e) o p
+  gives_way : (e f : Entry) (o p : Option Entry) → o ≡ Some e → p ≡ Some f → f.serial ≡ serial → Changes serial (Gone (seen e)) o p
+  goes : (e : Entry) (o p : Option Entry) → o ≡ Some e → p ≡ None → Changes serial (Gone (seen e)) o p
   acts : (e : Entry) (actions : List Action) (o p : Option Entry) → o ≡ Some e → p ≡ Some (with_actions actions e) → Changes serial (Acted e.actions) o p
 
 some_is : (e f : Entry) → Some e ≡ Some f → e ≡ f
@@ -96,10 +96,10 @@ module _ (now next serial : ℕ) (earlier : Option Entry) (i : Image) (later : n
     older = not_older (Some e) (is_younger e fresh);
   }
 
-  after_goes : (e : Entry) (present : Option Entry) → IsYounger next present → Standing now next earlier i (Some e) → Standing now next earlier (merge i (Gone e)) present
+  after_goes : (e : Entry) (present : Option Entry) → IsYounger next present → Standing now next earlier i (Some e) → Standing now next earlier (merge i (Gone (seen e))) present
   after_goes e present young h = record {
     effect =
-        ap (option_map seen) (given_back-merge now i (Gone e) present) ∙ sym (anew-given now i e)
+        ap (option_map seen) (given_back-merge now i (Gone (seen e)) present) ∙ sym (anew-given now i e)
         ∙ ap (option_map (anew now)) h.effect ∙ anew-restored now earlier (Some e)
         ∙ sym (restored-younger now next earlier present below young);
     younger = λ _. young;

@@ -16,7 +16,7 @@ use Rattle.flow_table.specs.Undone.{used_or, restored, undone}
 use Rattle.exact_undo.specs.LookupLaws.{cases_Option, entry_at-same_place, entry_at-place, table_from_lookups}
 use Rattle.exact_undo.specs.Serials.{IsSerialed}
 use Rattle.exact_undo.specs.SerialsLaws.{IsSerialed-changed, used_or-stands, used_or-gone}
-use Rattle.exact_undo.specs.Log.{Inverse, PutBack, Image, Untouched, Absent, Gone, Acted, logged_addition, old_actions, logged, logged_by, undo_one, undo, image_at, merge, image_of, seen}
+use Rattle.exact_undo.specs.Log.{Inverse, Image, Untouched, Absent, Gone, Acted, logged_addition, old_entry, old_actions, logged, logged_by, undo_one, undo, image_at, merge, image_of, seen}
 use Rattle.exact_undo.specs.LogLaws.{merge-untouched, image_of-one, image_of-append, Undoes-one, undo-image, IsSerialed-undo_one, IsSerialed-undo, next-undo_one}
 use Rattle.exact_undo.specs.Stands.{used_at, restored_at, Stands}
 use Rattle.exact_undo.specs.StandingLaws.{Changes, stays, comes, gives_way, goes, acts, Standing-changes, Standing-undoes}
@@ -44,7 +44,7 @@ Stands-nothing now t h = record {
 
 abbrev addition_image : Option Entry → Image
 addition_image None = Absent
-addition_image (Some e) = Gone e
+addition_image (Some e) = Gone (seen e)
 
 addition-same : (k l : Key) (o : Option Entry) → ((e : Entry) → o ≡ Some e → place_of e ≡ place l) → place l ≡ place k → image_of k (logged_addition l o) ≡ addition_image o
 unfolding image_of image_at
@@ -84,9 +84,9 @@ each_from k g h is test (f ∷ fs) least up =
           ])
     ]
 
-image-put_back : (k : Key) (e : Entry) → image_at k (PutBack e) ≡ (if has_key k e then Gone e else Untouched)
+image-old_entry : (k : Key) (e : Entry) → image_at k (old_entry e) ≡ (if has_key k e then Gone (seen e) else Untouched)
 unfolding image_at
-image-put_back k e = refl
+image-old_entry k e = refl
 
 image-old_actions : (k : Key) (e : Entry) → image_at k (old_actions e) ≡ (if has_key k e then Acted e.actions else Untouched)
 unfolding image_at
@@ -128,7 +128,7 @@ changes-modify now k m t up keeps modifies =
     rw (entries_after-modify now t.next m es keeps modifies, keeps, modifies, image)
     (modify_at m t.next (entry_at k es) (entry_at k (map (modified m) es)) (entry_at-map (modified m) (place_of-modified m) es k))
 
-delete_at : (m : FlowMod) (serial : ℕ) (o p : Option Entry) → p ≡ if_passes (λ e. not (deletes m e)) o → Changes serial (image_if Gone (if_passes (deletes m) o)) o p
+delete_at : (m : FlowMod) (serial : ℕ) (o p : Option Entry) → p ≡ if_passes (λ e. not (deletes m e)) o → Changes serial (image_if (λ e. Gone (seen e)) (if_passes (deletes m) o)) o p
 delete_at m serial None p is = stays None p is
 delete_at m serial (Some e) p is =
     elim (cases_Bool (deletes m e)) [
@@ -140,7 +140,7 @@ changes-delete : (now : ℕ) (k : Key) (m : FlowMod) (t : TableState) → IsTabl
 unfolding logged changed
 changes-delete now k m t up keeps removes =
     let es : List Entry = t.entries in
-    let image = each_from k PutBack Gone (image-put_back k) (deletes m) es 0 up in
+    let image = each_from k old_entry (λ e. Gone (seen e)) (image-old_entry k) (deletes m) es 0 up in
     rw (entries_after-delete now t.next m es keeps removes, keeps, removes, image)
     (delete_at m t.next (entry_at k es) (entry_at k (filter (λ e. not (deletes m e)) es)) (entry_at-filter (λ e. not (deletes m e)) es k up))
 
@@ -220,7 +220,7 @@ stands_there now earlier log t k l e g h was found same =
     let at = h.was.differ k l e f was had (sym (is ∙ same)) in
     entry_at-same_place t.entries k l at ∙ found
 
-used_by_key : (now : ℕ) (earlier : TableState) (log : List Inverse) (t : TableState) (k : Key) (e : Entry) → Stands now earlier log t → entry_at k earlier.entries ≡ Some e → used_or now e.serial t.entries ≡ used_at now e.serial (entry_at k t.entries)
+pub used_by_key : (now : ℕ) (earlier : TableState) (log : List Inverse) (t : TableState) (k : Key) (e : Entry) → Stands now earlier log t → entry_at k earlier.entries ≡ Some e → used_or now e.serial t.entries ≡ used_at now e.serial (entry_at k t.entries)
 used_by_key now earlier log t k e h was =
     elim (cases_Option (entry_at k t.entries)) [
       | inl none ↦ rw none (used_or-gone now e.serial t.entries h.is.table

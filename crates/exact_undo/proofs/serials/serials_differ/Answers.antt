@@ -1,4 +1,5 @@
 use Rattle.exact_undo.specs.SerialsLaws.{IsSerialed-empty, IsSerialed-changed, IsSerialed-change, IsSerialed-expire, IsSerialed-hit, IsSerialed-with_counts}
+use Rattle.exact_undo.specs.RestoredLaws.{IsSerialed-undone}
 use Rattle.exact_undo.proofs.serials.serials_differ.Goals as goal
 
 pub returns-clause-empty : goal.returns-clause-empty
@@ -18,3 +19,6 @@ returns-clause-hit c = IsSerialed-hit
 
 pub returns-clause-counts : goal.returns-clause-counts
 returns-clause-counts c = IsSerialed-with_counts
+
+pub returns-clause-undone : goal.returns-clause-undone
+returns-clause-undone c = IsSerialed-undone
