@@ -14,3 +14,4 @@ pub mod PlayingLaws
 pub mod Same
 pub mod SameLaws
 pub mod RestoredLaws
+pub mod InFlightLaws

@@ -62,7 +62,7 @@ length_from (e ∷ es) (f ∷ fs) least h i same =
 pub length-same_keys : (es fs : List Entry) → IsTable es → IsTable fs → SameKeys es fs → length es ≡ length fs
 length-same_keys es fs h i same = length_from es fs 0 h i same
 
-some_map : (g : Entry → Entry) (o : Option Entry) → is_some (option_map g o) ≡ is_some o
+pub some_map : (g : Entry → Entry) (o : Option Entry) → is_some (option_map g o) ≡ is_some o
 some_map g None = refl
 some_map g (Some e) = refl
 
@@ -277,10 +277,10 @@ keys-gives now l [] t = refl
 keys-gives now l (d ∷ ds) t = keys-one now d.key l d.actions (undo now (map old_actions ds) t) ∙ keys-gives now l ds t
 
 -- an entry's key stands in a table
-abbrev StandsIn : TableState → Entry → Type 0
+abbrev pub StandsIn : TableState → Entry → Type 0
 StandsIn t d = is_some (entry_at d.key t.entries) ≡ true
 
-can-gives : (cap now : ℕ) (ds : List Entry) (t : TableState) → length t.entries ≤ cap → All (StandsIn t) ds → CanPlay cap now (map old_actions ds) t
+pub can-gives : (cap now : ℕ) (ds : List Entry) (t : TableState) → length t.entries ≤ cap → All (StandsIn t) ds → CanPlay cap now (map old_actions ds) t
 can-gives cap now [] t fits stand = fits
 can-gives cap now (d ∷ ds) t fits stand = (
   can-gives cap now ds t fits (All-tail (StandsIn t) d ds stand),
@@ -305,7 +305,7 @@ can-puts cap now (d ∷ ds) t fits = (
   let long = length-puts now (d ∷ ds) t in omega arith,
 )
 
-can-addition : (cap now : ℕ) (k : Key) (o : Option Entry) (t : TableState) → length t.entries ≤ cap → length (undo now (logged_addition k o) t).entries ≤ cap → CanPlay cap now (logged_addition k o) t
+pub can-addition : (cap now : ℕ) (k : Key) (o : Option Entry) (t : TableState) → length t.entries ≤ cap → length (undo now (logged_addition k o) t).entries ≤ cap → CanPlay cap now (logged_addition k o) t
 can-addition cap now k None t fits before = (fits, tt, before)
 can-addition cap now k (Some e) t fits before = (fits, tt, before)
 
@@ -339,7 +339,7 @@ room-cases cap m es room =
     not-false-true true is = refl
     not-false-true false is = sym is
 
-keys-replaced : (es : List Entry) (e : Entry) → is_some (entry_at e.key es) ≡ true → SameKeys (with_entry e es) es
+pub keys-replaced : (es : List Entry) (e : Entry) → is_some (entry_at e.key es) ≡ true → SameKeys (with_entry e es) es
 keys-replaced es e some k =
     elim (cases_eq (place_of e) (place k)) [
       | inl same ↦
@@ -388,6 +388,10 @@ can-logged-addition cap now m t h fits taken puts =
     let same = length-same_keys (undo now (logged m es) u).entries es (IsSerialed-undo now (logged m es) u (IsSerialed-changed now m t h)).table h.table (SameKeys-logged now m t h) in
     let long : length (undo now l u).entries ≡ length es = ap (λ log. length (undo now log u).entries) (sym is) ∙ same in
     rw is (can-addition cap now (key_in m) (entry_at (key_in m) es) u after (omega arith))
+
+pub stand-itself : (t : TableState) → IsTable t.entries → All (StandsIn t) t.entries
+stand-itself t is =
+    All-weaker (Contains t.entries) (StandsIn t) (λ d among. ap is_some (entry_at-contains t.entries d is among)) t.entries (All-contains_itself t.entries)
 
 stands_after : (now : ℕ) (m : FlowMod) (t : TableState) → IsTable t.entries → (changed now m t).entries ≡ map (modified m) t.entries → All (StandsIn (changed now m t)) t.entries
 stands_after now m t is after =

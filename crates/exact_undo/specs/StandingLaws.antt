@@ -96,7 +96,7 @@ module _ (now next serial : ℕ) (earlier : Option Entry) (i : Image) (later : n
     older = not_older (Some e) (is_younger e fresh);
   }
 
-  after_goes : (e : Entry) (present : Option Entry) → IsYounger next present → Standing now next earlier i (Some e) → Standing now next earlier (merge i (Gone (seen e))) present
+  pub after_goes : (e : Entry) (present : Option Entry) → IsYounger next present → Standing now next earlier i (Some e) → Standing now next earlier (merge i (Gone (seen e))) present
   after_goes e present young h = record {
     effect =
         ap (option_map seen) (given_back-merge now i (Gone (seen e)) present) ∙ sym (anew-given now i e)
@@ -137,7 +137,7 @@ module _ (now next serial : ℕ) (earlier : Option Entry) (i : Image) (later : n
     older = not_older None none_younger;
   }
 
-  before_puts : (e : Entry) (o : Option Entry) → Standing now next earlier (merge i (Gone e)) o → Standing now next earlier i (Some (back now serial e))
+  pub before_puts : (e : Entry) (o : Option Entry) → Standing now next earlier (merge i (Gone e)) o → Standing now next earlier i (Some (back now serial e))
   before_puts e o h =
       let b : Entry = back now serial e in
       let young = is_younger b refl in

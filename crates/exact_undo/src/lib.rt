@@ -13,4 +13,4 @@ pub use adding::{additions_are_kept, removal_is_exact, removals_restore};
 pub use playing::{logs_can_be_played, messages_play, no_inverse_is_refused};
 pub use same::{same_changes, same_events, undo_agrees};
 pub use serials::{serials_differ, used_is_by_serial};
-pub use undoing::{logs_stand, longer_logs, undo_is_by_key, undo_restores};
+pub use undoing::{change_in_flight, logs_stand, longer_logs, undo_is_by_key, undo_restores};

@@ -1,6 +1,6 @@
 //! Laws of logs and of undo, each the contract of a function that does nothing.
 
-ghost use Rattle.std.specs.Prelude.{◌≡◌, ℕ, List, [], ◌∷◌, ◌++◌, map, Option, Some};
+ghost use Rattle.std.specs.Prelude.{◌≡◌, ◌⊎◌, ℕ, true, List, [], ◌∷◌, ◌++◌, map, Option, Some};
 ghost use Rattle.std.specs.Option.{option_map};
 ghost use Rattle.of_match.specs.declared.key.Key.{Key};
 ghost use Rattle.of_types.specs.declared.errors.OfError.{OfError};
@@ -8,10 +8,12 @@ ghost use Rattle.of_wire.specs.declared.bodies.FlowMod.{FlowMod};
 ghost use Rattle.flow_table.specs.declared.entry.Entry.{Entry};
 ghost use Rattle.flow_table.specs.Table.{TableState, entry_at};
 ghost use Rattle.flow_table.specs.Change.{refusal, changed, change};
-ghost use Rattle.flow_table.specs.Undone.{undone};
+ghost use Rattle.flow_table.specs.Undone.{undone, used_or};
 ghost use Rattle.exact_undo.specs.Serials.{IsSerialed};
 ghost use Rattle.exact_undo.specs.Log.{Inverse, Image, logged, logged_by, undo, merge, image_of, given_back, seen};
-ghost use Rattle.exact_undo.specs.Stands.{Stands};
+ghost use Rattle.exact_undo.specs.Playing.{CanPlay};
+ghost use Rattle.exact_undo.specs.Same.{SameButSerials};
+ghost use Rattle.exact_undo.specs.Stands.{Stands, is_gone};
 
 /// What a longer log says of a key is the older image and the newer one in one, and playing them one after the
 /// other is playing both in one.
@@ -50,5 +52,23 @@ pub fn logs_stand()
 /// used when it was, and now where it had been removed meanwhile.
 pub fn undo_restores()
     ensures { (now : ℕ) (earlier : TableState) (log : List Inverse) (t : TableState) → Stands now earlier log t
-        → map seen (undo now log t).entries ≡ map seen (undone earlier t now).entries }
+        → SameButSerials (undo now log t).entries (undone earlier t now).entries }
+{}
+
+/// A change that was logged and did not happen, as where its answer is lost: undone all the same, it leaves the log
+/// before it as it was, and no inverse is refused; earlier entries are used as without it, or now where the change
+/// would have removed them.
+pub fn change_in_flight()
+    ensures stands { (now : ℕ) (earlier : TableState) (log : List Inverse) (m : FlowMod) (t : TableState)
+        → Stands now earlier log t → Stands now earlier log (undo now (logged m t.entries) t) }
+    ensures restored { (now : ℕ) (earlier : TableState) (log : List Inverse) (m : FlowMod) (t : TableState)
+        → Stands now earlier log t → SameButSerials (undo now (log ++ logged m t.entries) t).entries
+        (undone earlier (undo now (logged m t.entries) t) now).entries }
+    ensures used { (now : ℕ) (earlier : TableState) (log : List Inverse) (m : FlowMod) (t : TableState) (k : Key) (e : Entry)
+        → Stands now earlier log t → entry_at k earlier.entries ≡ Some e
+        → (used_or now e.serial (undo now (logged m t.entries) t).entries ≡ used_or now e.serial t.entries)
+        ⊎ ((is_gone (image_of k (logged m t.entries)) ≡ true)
+        × (used_or now e.serial (undo now (logged m t.entries) t).entries ≡ now)) }
+    ensures played { (cap now : ℕ) (log : List Inverse) (m : FlowMod) (t : TableState) → IsSerialed t → CanPlay cap now log t
+        → CanPlay cap now (log ++ logged m t.entries) t }
 {}
