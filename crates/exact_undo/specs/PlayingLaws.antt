@@ -1,6 +1,6 @@
 -- What follows about logs that can be played: no inverse is refused, and each change keeps it so.
-use Rattle.std.proofs.Common.{◌≡◌, ◌≢◌, ◌==◌, ℕ, ◌+◌, ◌%◌, ◌<◌, ◌≤◌, Bool, true, false, not, nat_lt, nat_le, List, [], ◌∷◌, ◌++◌, length, map, filter, All, Option, Some, None, IsSome, refl, sym, ap, ap₂, ◌∙◌, ◌⊎◌, arith, inl, inr}
-use Rattle.std.proofs.lemmas.Bool.{cases_lt, cases_eq, cases_Bool, and_right, and_cases, lt-leb, leb-false}
+use Rattle.std.proofs.Common.{◌≡◌, ◌≢◌, ◌==◌, ℕ, ◌+◌, ◌-◌, ◌%◌, ◌<◌, ◌≤◌, Bool, true, false, not, nat_lt, nat_le, List, [], ◌∷◌, ◌++◌, length, map, filter, All, Option, Some, None, IsSome, refl, sym, ap, ap₂, ◌∙◌, ◌⊎◌, arith, inl, inr}
+use Rattle.std.proofs.lemmas.Bool.{ne_eqb, cases_lt, cases_eq, cases_Bool, and_right, and_cases, lt-leb, leb-false}
 use Rattle.std.proofs.lemmas.List.{append-nil, length-map}
 use Rattle.std.proofs.lemmas.List.Elements.{All-head, All-tail, All-weaker, All-filter, All-contains_itself}
 use Rattle.std.proofs.lemmas.List.Filters.{length-filter_both}
@@ -15,8 +15,10 @@ use Rattle.flow_table.specs.declared.entry.Entry.{Entry}
 use Rattle.flow_table.specs.Table.{TableState, place_of, has_key, entry_at, AscendsFrom, IsTable, with_entry}
 use Rattle.flow_table.specs.TableLaws.{IsTable-with_entry, with_entry-before, with_entry-after, length-with_entry-le, entry_at-same, entry_at-other, entry_at-below, entry_at-map, entry_at-with_entry-same, entry_at-with_entry-other}
 use Rattle.flow_table.specs.Errors.{bad_command, overlap, all_tables_full}
-use Rattle.flow_table.specs.Change.{key_in, is_strict, is_modify, describes, deletes, adds, checks_overlap, clashes, is_full, modified, new_entry, refusal, entries_after, changed, change}
-use Rattle.flow_table.specs.ChangeLaws.{means, describes-strict, list_any-strict, place_of-modified, entries_after-adds, entries_after-modify, entries_after-delete}
+use Rattle.flow_table.specs.Change.{key_in, is_strict, is_modify, describes, deletes, adds, checks_overlap, clashes, is_full, modified, new_entry, refusal, notices_of, entries_after, changed, change}
+use Rattle.flow_timeouts.specs.Timeouts.{end_of, first_end, deadline_of, remaining_of}
+use Rattle.flow_table.specs.Expiry.{deadline}
+use Rattle.flow_table.specs.ChangeLaws.{notices_of-kept, means, describes-strict, list_any-strict, place_of-modified, entries_after-adds, entries_after-modify, entries_after-delete}
 use Rattle.exact_undo.specs.LookupLaws.{cases_Option, entry_at-same_place, entry_at-contains}
 use Rattle.exact_undo.specs.RemovalLaws.{removal-refusal, removal-changed}
 use Rattle.exact_undo.specs.Serials.{IsSerialed}
@@ -250,6 +252,29 @@ addition-plays now e m t plays =
 pub new_entry-back : (now serial : ℕ) (e : Entry) (m : FlowMod) → key_in m ≡ e.key → m.actions ≡ e.actions → m.cookie ≡ e.cookie → m.idle ≡ e.idle → new_entry now serial m ≡ record (back now serial e) { hard = m.hard; flags = m.flags % 2; installed = now; packets = 0; bytes = 0 }
 unfolding new_entry
 new_entry-back now serial e m key actions cookie idle = rw (key, actions, cookie, idle) refl
+
+-- what is left of a timeout, from now on
+hard-kept : (installed now hard : ℕ) → installed ≤ now → (hard ≢ 0 → now - installed < hard) → end_of now (remaining_of hard (now - installed)) ≡ end_of installed hard
+hard-kept installed now hard le left =
+    elim (cases_eq hard 0) [
+      | inl none ↦ rw none refl
+      | inr some ↦
+          let lt = left some in
+          rw (ne_eqb hard 0 some, ne_eqb (hard - (now - installed)) 0 (omega arith)) (ap Some (omega arith))
+    ]
+
+-- with what is left of its hard timeout it goes when it would have gone, its idle time begun anew
+pub deadline-back : (now serial : ℕ) (e : Entry) (m : FlowMod) → e.installed ≤ now → (e.hard ≢ 0 → now - e.installed < e.hard) → m.idle ≡ e.idle → m.hard ≡ remaining_of e.hard (now - e.installed) → deadline (new_entry now serial m) ≡ deadline (back now serial e)
+unfolding new_entry deadline_of
+deadline-back now serial e m le left idle hard =
+    rw (idle, hard) (ap (λ o. first_end o (end_of now e.idle)) (hard-kept e.installed now e.hard le left))
+
+-- neither an ADD nor a MODIFY tells
+pub quiet-addition : (now : ℕ) (e : Entry) (m : FlowMod) (es : List Entry) → Plays (PutBack e) m → notices_of now m es ≡ []
+quiet-addition now e m es plays = notices_of-kept now m es (rw plays.command refl)
+
+pub quiet-modification : (now : ℕ) (k : Key) (actions : List Action) (m : FlowMod) (es : List Entry) → Plays (GiveActions k actions) m → notices_of now m es ≡ []
+quiet-modification now k actions m es plays = notices_of-kept now m es (rw plays.command refl)
 
 pub CanPlay-nothing : (cap now : ℕ) (t : TableState) → length t.entries ≤ cap → CanPlay cap now [] t
 CanPlay-nothing cap now t fits = fits

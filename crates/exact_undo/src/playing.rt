@@ -1,12 +1,14 @@
 //! Laws of the messages that play a log backwards, each the contract of a function that does nothing.
 
-ghost use Rattle.std.specs.Prelude.{◌≡◌, ℕ, ◌+◌, ◌%◌, ◌≤◌, List, [], ◌∷◌, ◌++◌, length, None, IsSome};
+ghost use Rattle.std.specs.Prelude.{◌≡◌, ◌≢◌, ℕ, ◌+◌, ◌-◌, ◌%◌, ◌<◌, ◌≤◌, List, [], ◌∷◌, ◌++◌, length, None, IsSome};
 ghost use Rattle.of_match.specs.declared.key.Key.{Key};
 ghost use Rattle.of_action.specs.declared.action.Action.{Action};
 ghost use Rattle.of_wire.specs.declared.bodies.FlowMod.{FlowMod};
 ghost use Rattle.flow_table.specs.declared.entry.Entry.{Entry};
 ghost use Rattle.flow_table.specs.Table.{TableState, entry_at, with_entry};
-ghost use Rattle.flow_table.specs.Change.{key_in, new_entry, refusal, changed, change};
+ghost use Rattle.flow_table.specs.Change.{key_in, new_entry, refusal, changed, change, notices_of};
+ghost use Rattle.flow_table.specs.Expiry.{deadline};
+ghost use Rattle.flow_timeouts.specs.Timeouts.{remaining_of};
 ghost use Rattle.exact_undo.specs.Serials.{IsSerialed};
 ghost use Rattle.exact_undo.specs.Log.{Inverse, Remove, PutBack, GiveActions, back, logged, logged_by, undo_one, undo};
 ghost use Rattle.exact_undo.specs.Playing.{Plays, CanPlay, SameKeys};
@@ -32,7 +34,8 @@ pub fn no_inverse_is_refused()
         → CanPlay cap now (x ∷ log) t → Plays x m → refusal cap m (undo now log t).entries ≡ None }
 {}
 
-/// What the messages do. The ADD of an entry gives it but for flags, hard timeout, age and counters.
+/// What the messages do. The ADD of an entry gives it but for flags, hard timeout, age and counters; with what is
+/// left of the hard timeout it goes when the old one would have gone, its idle time begun anew. Only a removal tells.
 pub fn messages_play()
     ensures removal { (now : ℕ) (k : Key) (m : FlowMod) (t : TableState) → Plays (Remove k) m
         → changed now m t ≡ undo_one now (Remove k) t }
@@ -45,4 +48,11 @@ pub fn messages_play()
         → m.cookie ≡ e.cookie → m.idle ≡ e.idle
         → new_entry now serial m
         ≡ record (back now serial e) { hard = m.hard; flags = m.flags % 2; installed = now; packets = 0; bytes = 0 } }
+    ensures deadline { (now serial : ℕ) (e : Entry) (m : FlowMod) → e.installed ≤ now
+        → (e.hard ≢ 0 → now - e.installed < e.hard) → m.idle ≡ e.idle → m.hard ≡ remaining_of e.hard (now - e.installed)
+        → deadline (new_entry now serial m) ≡ deadline (back now serial e) }
+    ensures quiet_addition { (now : ℕ) (e : Entry) (m : FlowMod) (es : List Entry) → Plays (PutBack e) m
+        → notices_of now m es ≡ [] }
+    ensures quiet_actions { (now : ℕ) (k : Key) (actions : List Action) (m : FlowMod) (es : List Entry)
+        → Plays (GiveActions k actions) m → notices_of now m es ≡ [] }
 {}
