@@ -15,3 +15,5 @@ pub mod Same
 pub mod SameLaws
 pub mod RestoredLaws
 pub mod InFlightLaws
+pub mod Corrected
+pub mod CorrectedLaws

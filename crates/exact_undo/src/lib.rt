@@ -4,12 +4,14 @@
 #![tactic(auto)]
 
 mod adding;
+mod corrected;
 mod playing;
 mod same;
 mod serials;
 mod undoing;
 
 pub use adding::{additions_are_kept, removal_is_exact, removals_restore};
+pub use corrected::{changes_are_shown, inverses_are_shown, same_is_asked};
 pub use playing::{logs_can_be_played, messages_play, no_inverse_is_refused};
 pub use same::{same_changes, same_events, undo_agrees};
 pub use serials::{serials_differ, used_is_by_serial};
