@@ -188,6 +188,10 @@ pub refused-stays : (cap now : ℕ) (m : FlowMod) (t : TableState) (e : OfError)
 unfolding change logged_by
 refused-stays cap now m t e refused = (rw refused refl, rw refused refl)
 
+-- what a log says of each key is all that counts, as where one inverse for each key is kept
+pub Stands-images : (now : ℕ) (earlier : TableState) (log other : List Inverse) (t : TableState) → ((k : Key) → image_of k other ≡ image_of k log) → Stands now earlier log t → Stands now earlier other t
+Stands-images now earlier log other t same h = record { was = h.was; is = h.is; later = h.later; keys = λ k. rw (same k) (h.keys k) }
+
 -- ---- Undo of a newer part
 
 pub Stands-undone_one : (now : ℕ) (earlier : TableState) (log : List Inverse) (x : Inverse) (t : TableState) → Stands now earlier (log ++ x ∷ []) t → Stands now earlier log (undo_one now x t)

@@ -35,7 +35,8 @@ pub fn undo_is_by_key()
 {}
 
 /// Since a table nothing was logged; or one change more, whatever its command, flags and answer; or the newest part
-/// of the log was undone: then the log still holds what was changed since that table.
+/// of the log was undone: then the log still holds what was changed since that table. So does each log that says the
+/// same of each key, as one with an inverse for each key.
 pub fn logs_stand()
     ensures nothing { (now : ℕ) (t : TableState) → IsSerialed t → Stands now t [] t }
     ensures changed { (now : ℕ) (earlier : TableState) (log : List Inverse) (m : FlowMod) (t : TableState)
@@ -46,6 +47,8 @@ pub fn logs_stand()
         → (change cap now m t ≡ t) × (logged_by cap m t.entries ≡ []) }
     ensures undone { (now : ℕ) (earlier : TableState) (log newer : List Inverse) (t : TableState)
         → Stands now earlier (log ++ newer) t → Stands now earlier log (undo now newer t) }
+    ensures images { (now : ℕ) (earlier : TableState) (log other : List Inverse) (t : TableState)
+        → ((k : Key) → image_of k other ≡ image_of k log) → Stands now earlier log t → Stands now earlier other t }
 {}
 
 /// Exact undo: the log since an earlier table, played backwards, gives that table back but for serials, each entry

@@ -1,4 +1,4 @@
-use Rattle.exact_undo.specs.StandsLaws.{Stands-nothing, Stands-changed, Stands-change, refused-stays, Stands-undone}
+use Rattle.exact_undo.specs.StandsLaws.{Stands-nothing, Stands-changed, Stands-change, refused-stays, Stands-undone, Stands-images}
 use Rattle.exact_undo.proofs.undoing.logs_stand.Goals as goal
 
 pub returns-clause-nothing : goal.returns-clause-nothing
@@ -15,3 +15,6 @@ returns-clause-refused c = refused-stays
 
 pub returns-clause-undone : goal.returns-clause-undone
 returns-clause-undone c = Stands-undone
+
+pub returns-clause-images : goal.returns-clause-images
+returns-clause-images c = Stands-images
