@@ -1,8 +1,10 @@
 //! The parts of a simulated world, and what each step does to them.
 
-ghost use Rattle.std.specs.Prelude.{◌≡◌, ◌+◌, ◌≤◌, [], ◌∷◌, length, IsTrue};
+ghost use Rattle.std.specs.Prelude.{◌≡◌, ℕ, ◌+◌, ◌-◌, ◌^◌, ◌≤◌, ◌<◌, [], ◌∷◌, true, length, IsTrue, OnOk, OnErr};
 ghost use Rattle.lego_io.specs.Count.{raised};
-ghost use Rattle.outside.specs.declared.step.WorldStep.TheVariants.{Opened, NotOpened};
+ghost use Rattle.of_types.specs.declared.journal.Act.TheVariants.{Started};
+ghost use Rattle.outside.specs.declared.step.WorldStep.TheVariants.{Acted, Opened, NotOpened};
+ghost use Rattle.sim_world.specs.Lives.{life_in, has_life};
 ghost use Rattle.sim_world.specs.Tally.{tally_stray, tally_short};
 ghost use Rattle.outside.specs.Calls.{open_steps};
 ghost use Rattle.sim_world.specs.World.{Moves, AreAsTold, nexts_through};
@@ -13,8 +15,9 @@ use crate::links::Links;
 use crate::lives::Lives;
 use crate::tally::Tally;
 use crate::told::Told;
-use of_types::WorldStim;
+use of_types::{Act, WorldStim};
 use outside::{CallKind, FailCall, OpenFault, WorldStep};
+use std::alloc::AllocError;
 use std::collections::VecDeque;
 use std::marker::Model;
 
@@ -129,6 +132,35 @@ impl Parts {
             return Err(OpenFault::Shut);
         }
         self.open_up();
+        Ok(())
+    }
+
+    /// Makes ready for a call of an application that can want memory.
+    fn is_ready_for(&mut self, app: u32, more: usize) -> bool
+        requires promised { length self.old.state.running ≤ self.old.room }
+        requires few { more ≤ 2 }
+        ensures same { self.new ≡ record self.old { room = self.new.room; lives = self.new.lives } }
+        ensures lives { (a : ℕ) → life_in a self.new.lives ≡ life_in a self.old.lives }
+        ensures promised { length self.new.state.running ≤ self.new.room }
+        ensures room { IsTrue result → length self.new.state.running + more ≤ self.new.room }
+        ensures known { IsTrue result → IsTrue (has_life app self.new.lives) }
+    {
+        self.is_ready(more) && self.lives.ensure(app).is_ok()
+    }
+
+    /// An application was started, where there is memory to note it.
+    #[tactic(auto, unfolding(outside::specs::State::after_step, outside::specs::State::after_act))]
+    fn started(&mut self, app: u32) -> Result<(), AllocError>
+        requires room { length self.old.state.running + 2 ≤ self.old.room }
+        requires known { IsTrue (has_life app self.old.lives) }
+        requires few { (life_in app self.old.lives).start_calls < 2 ^ 64 - 1 }
+        ensures ok { OnOk result (Moves self.old self.new (Acted (Started app true) ∷ []) self.old.tally) }
+        ensures err { OnErr result (self.new ≡ self.old) }
+    {
+        self.running.push(app)?;
+        self.lives.start(&self.told, app, true);
+        self.history
+            .push(WorldStep::Acted(Act::Started(app, true)));
         Ok(())
     }
 }
