@@ -1,8 +1,8 @@
 //! The parts of a simulated world, and what each step does to them.
 
-ghost use Rattle.std.specs.Prelude.{◌≡◌, ℕ, ◌+◌, ◌-◌, ◌^◌, ◌≤◌, ◌<◌, [], ◌∷◌, true, length, IsTrue, OnOk, OnErr};
+ghost use Rattle.std.specs.Prelude.{◌≡◌, ℕ, ◌+◌, ◌-◌, ◌^◌, ◌≤◌, ◌<◌, ◌==◌, [], ◌∷◌, true, false, not, filter, length, IsTrue, OnOk, OnErr};
 ghost use Rattle.lego_io.specs.Count.{raised};
-ghost use Rattle.of_types.specs.declared.journal.Act.TheVariants.{Started};
+ghost use Rattle.of_types.specs.declared.journal.Act.TheVariants.{Started, Gave, Gone, Ended};
 ghost use Rattle.outside.specs.declared.step.WorldStep.TheVariants.{Acted, Opened, NotOpened};
 ghost use Rattle.sim_world.specs.Lives.{life_in, has_life};
 ghost use Rattle.sim_world.specs.Tally.{tally_stray, tally_short};
@@ -15,7 +15,7 @@ use crate::links::Links;
 use crate::lives::Lives;
 use crate::tally::Tally;
 use crate::told::Told;
-use of_types::{Act, WorldStim};
+use of_types::{Act, ByteList, WorldStim};
 use outside::{CallKind, FailCall, OpenFault, WorldStep};
 use std::alloc::AllocError;
 use std::collections::VecDeque;
@@ -136,6 +136,7 @@ impl Parts {
     }
 
     /// Makes ready for a call of an application that can want memory.
+    #[tactic(auto, unfolding(crate::specs::Lives::life_of, crate::specs::Lives::is_known))]
     fn is_ready_for(&mut self, app: u32, more: usize) -> bool
         requires promised { length self.old.state.running ≤ self.old.room }
         requires few { more ≤ 2 }
@@ -149,7 +150,7 @@ impl Parts {
     }
 
     /// An application was started, where there is memory to note it.
-    #[tactic(auto, unfolding(outside::specs::State::after_step, outside::specs::State::after_act))]
+    #[tactic(auto, unfolding(outside::specs::State::after_step, outside::specs::State::after_act, crate::specs::Lives::life_of, crate::specs::Lives::is_known))]
     fn started(&mut self, app: u32) -> Result<(), AllocError>
         requires room { length self.old.state.running + 2 ≤ self.old.room }
         requires known { IsTrue (has_life app self.old.lives) }
@@ -162,5 +163,57 @@ impl Parts {
         self.history
             .push(WorldStep::Acted(Act::Started(app, true)));
         Ok(())
+    }
+
+    /// An application was not started.
+    #[tactic(auto, unfolding(outside::specs::State::after_step, outside::specs::State::after_act, crate::specs::Lives::life_of, crate::specs::Lives::is_known))]
+    fn not_started(&mut self, app: u32, stray: bool)
+        requires room { length self.old.state.running + 1 ≤ self.old.room }
+        requires known { IsTrue (has_life app self.old.lives) }
+        requires few { (life_in app self.old.lives).start_calls < 2 ^ 64 - 1 }
+        ensures { Moves self.old self.new (Acted (Started app false) ∷ []) (tally_stray stray (record self.old.tally { starts_failed = raised self.old.tally.starts_failed })) }
+    {
+        self.lives.start(&self.told, app, false);
+        self.history
+            .push(WorldStep::Acted(Act::Started(app, false)));
+        self.tally.raise_starts_failed();
+        self.tally.raise_strays(stray);
+    }
+
+    /// An application was given bytes.
+    #[tactic(auto, unfolding(outside::specs::State::after_step, outside::specs::State::after_act, crate::specs::Lives::life_of, crate::specs::Lives::is_known))]
+    fn gave(&mut self, app: u32, bytes: ByteList)
+        requires room { length self.old.state.running + 1 ≤ self.old.room }
+        requires known { IsTrue (has_life app self.old.lives) }
+        requires few { (life_in app self.old.lives).give_calls < 2 ^ 64 - 1 }
+        ensures { Moves self.old self.new (Acted (Gave app bytes) ∷ []) self.old.tally }
+    {
+        self.lives.gave(app, bytes.as_slice());
+        self.history.push(WorldStep::Acted(Act::Gave(app, bytes)));
+    }
+
+    /// An application was gone before it was given bytes.
+    #[tactic(auto, unfolding(outside::specs::State::after_step, outside::specs::State::after_act, crate::specs::Lives::life_of, crate::specs::Lives::is_known))]
+    fn gone(&mut self, app: u32, bytes: ByteList, stray: bool)
+        requires room { length self.old.state.running + 1 ≤ self.old.room }
+        requires known { IsTrue (has_life app self.old.lives) }
+        requires few { (life_in app self.old.lives).give_calls < 2 ^ 64 - 1 }
+        ensures { Moves self.old self.new (Acted (Gone app bytes) ∷ []) (tally_stray stray (record self.old.tally { closings = raised self.old.tally.closings })) }
+    {
+        self.lives.gone(app);
+        self.history.push(WorldStep::Acted(Act::Gone(app, bytes)));
+        self.tally.raise_closings();
+        self.tally.raise_strays(stray);
+    }
+
+    /// An application was ended.
+    #[tactic(auto, unfolding(outside::specs::State::after_step, outside::specs::State::after_act, crate::specs::Lives::life_of, crate::specs::Lives::is_known))]
+    fn ended(&mut self, app: u32)
+        requires { length (filter (λ a. not (a == app)) self.old.state.running) + 1 ≤ self.old.room }
+        ensures { Moves self.old self.new (Acted (Ended app) ∷ []) self.old.tally }
+    {
+        self.lives.end(app);
+        self.running.retain(|running| *running != app);
+        self.history.push(WorldStep::Acted(Act::Ended(app)));
     }
 }
