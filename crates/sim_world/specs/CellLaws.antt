@@ -7,10 +7,11 @@ use Rattle.app_frames.specs.declared.script.ScriptStep.{ScriptStep}
 use Rattle.sim_world.specs.declared.life.LifeCell.{LifeCell}
 use Rattle.of_types.specs.declared.journal.Act.TheVariants.{Started, Gave, Gone, Ended}
 use Rattle.of_types.specs.declared.journal.TookWhat.{TookWhat}
+use Rattle.outside.specs.declared.step.WorldStep.{WorldStep}
 use Rattle.outside.specs.declared.step.WorldStep.TheVariants.{Acted, TookInto}
 use Rattle.outside.specs.State.{event_number}
-use Rattle.sim_world.specs.Scripts.{Scripts, Life, fresh, after_start, after_gave, after_gone, after_take, after_end, life_after}
-use Rattle.sim_world.specs.Lives.{life_of_cell, IsCellOf, life_in, has_life, named_life, named_lives, has_cell, IsFirst, Moved}
+use Rattle.sim_world.specs.Scripts.{Scripts, Life, fresh, after_start, after_gave, after_gone, after_take, after_end, life_after, will_start}
+use Rattle.sim_world.specs.Lives.{life_of_cell, IsCellOf, life_in, has_life, named_life, named_lives, has_cell, IsFirst, Moved, Playing, life_of, is_known}
 
 -- ---- Looking for a cell
 
@@ -184,3 +185,31 @@ Moved-unknown app lives unknown = record {
   lives = λ a. unchanged (app == a) app a lives (eqb-true app a) (unknown_is_fresh app lives unknown);
   known = λ a. refl;
 }
+
+-- ---- Lives as they are seen, and the cells behind them
+
+pub seen_life : (a : ℕ) (s : Playing) (lines : Scripts) (cells items : List LifeCell) → ◌≡◌ {A = Playing} (record { own = lines; lives = named_lives lines.replies cells }) s → items ≡ cells → life_in a (named_lives lines.replies items) ≡ life_of a s
+unfolding life_of
+seen_life a s lines cells items view same = ap (λ (xs : List LifeCell). life_in a (named_lives lines.replies xs)) same ∙ ap (life_of a) view
+
+pub seen_known : (a : ℕ) (s : Playing) (lines : Scripts) (cells items : List LifeCell) → ◌≡◌ {A = Playing} (record { own = lines; lives = named_lives lines.replies cells }) s → items ≡ cells → has_life a (named_lives lines.replies items) ≡ is_known a s
+unfolding is_known
+seen_known a s lines cells items view same = ap (λ (xs : List LifeCell). has_life a (named_lives lines.replies xs)) same ∙ ap (is_known a) view
+
+pub seen_cell : (a : ℕ) (s : Playing) (lines : Scripts) (cells items : List LifeCell) → ◌≡◌ {A = Playing} (record { own = lines; lives = named_lives lines.replies cells }) s → items ≡ cells → is_known a s ≡ true → has_cell a items ≡ true
+seen_cell a s lines cells items view same known = sym (has_life-cell lines.replies a items) ∙ seen_known a s lines cells items view same ∙ known
+
+pub seen_steps : (s : Playing) (lines : Scripts) (cells items : List LifeCell) (new : List (ℕ × Life)) (fails : List FailCall) (step : WorldStep) → ◌≡◌ {A = Playing} (record { own = lines; lives = named_lives lines.replies cells }) s → items ≡ cells
+    → ((a : ℕ) → life_in a new ≡ life_after lines fails a step (life_in a (named_lives lines.replies items))) → (a : ℕ) → life_in a new ≡ life_after s.own fails a step (life_of a s)
+unfolding life_of
+seen_steps s lines cells items new fails step view same moved a =
+    moved a
+    ∙ ap (λ (xs : List LifeCell). life_after lines fails a step (life_in a (named_lives lines.replies xs))) same
+    ∙ ap (λ (p : Playing). life_after p.own fails a step (life_of a p)) view
+
+pub seen_start : (s : Playing) (lines : Scripts) (cells items : List LifeCell) (fails : List FailCall) (app : ℕ) → ◌≡◌ {A = Playing} (record { own = lines; lives = named_lives lines.replies cells }) s → items ≡ cells
+    → will_start lines fails app (life_in app (named_lives lines.replies items)) ≡ will_start s.own fails app (life_of app s)
+unfolding life_of
+seen_start s lines cells items fails app view same =
+    ap (λ (xs : List LifeCell). will_start lines fails app (life_in app (named_lives lines.replies xs))) same
+    ∙ ap (λ (p : Playing). will_start p.own fails app (life_of app p)) view

@@ -1,6 +1,6 @@
 //! The lives of all applications.
 
-ghost use Rattle.std.specs.Prelude.{◌≡◌, ℕ, ◌+◌, ◌-◌, ◌<◌, ◌≤◌, ◌^◌, [], ◌∷◌, ◌++◌, true, false, List, length, All, IsTrue, is_some, IfOk, OnOk, OnErr, IfSome, IfNone};
+ghost use Rattle.std.specs.Prelude.{◌≡◌, ℕ, ◌+◌, ◌-◌, ◌<◌, ◌≤◌, ◌^◌, [], ◌∷◌, ◌++◌, true, false, List, length, All, is_some, IfOk, OnOk, OnErr, IfSome, IfNone};
 ghost use Rattle.of_types.specs.declared.journal.Act.TheVariants.{Started, Gave, Gone, Ended};
 ghost use Rattle.app_frames.specs.declared.script.ScriptStep.{ScriptStep};
 ghost use Rattle.outside.specs.Calls.{IsTakenIn};
@@ -219,8 +219,8 @@ impl Lives {
     /// memory changes nothing.
     pub fn ensure(&mut self, app: u32) -> Result<(), AllocError>
         ensures own { self.new.own ≡ self.old.own }
-        ensures known { OnOk result (IsTrue (is_known app self.new)) }
-        ensures kept { (a : ℕ) → IsTrue (is_known a self.old) → IsTrue (is_known a self.new) }
+        ensures known { OnOk result (is_known app self.new ≡ true) }
+        ensures kept { (a : ℕ) → is_known a self.old ≡ true → is_known a self.new ≡ true }
         ensures lives { (a : ℕ) → life_of a self.new ≡ life_of a self.old }
         ensures err { OnErr result (self.new ≡ self.old) }
     {
@@ -239,7 +239,7 @@ impl Lives {
 
     /// Whether the next start of the application succeeds; takes no memory. There is room for its life.
     pub fn will_start(&self, told: &Told, app: u32) -> bool
-        requires known { IsTrue (is_known app self.now) }
+        requires known { is_known app self.now ≡ true }
         requires few { (life_of app self.now).start_calls < 2 ^ 64 - 1 }
         ensures { result ≡ will_start self.now.own told.now app (life_of app self.now) }
     {
@@ -248,7 +248,7 @@ impl Lives {
 
     /// A start of the application, and whether it succeeded; takes no memory. There is room for its life.
     pub fn start(&mut self, told: &Told, app: u32, ok: bool)
-        requires known { IsTrue (is_known app self.old) }
+        requires known { is_known app self.old ≡ true }
         requires few { (life_of app self.old).start_calls < 2 ^ 64 - 1 }
         ensures own { self.new.own ≡ self.old.own }
         ensures known { (a : ℕ) → is_known a self.new ≡ is_known a self.old }
@@ -260,7 +260,7 @@ impl Lives {
 
     /// Whether the application takes what it is given next; takes no memory. There is room for its life.
     pub fn will_give(&self, told: &Told, app: u32) -> bool
-        requires known { IsTrue (is_known app self.now) }
+        requires known { is_known app self.now ≡ true }
         requires few { (life_of app self.now).give_calls < 2 ^ 64 - 1 }
         ensures { result ≡ will_give told.now app (life_of app self.now) }
     {
@@ -269,7 +269,7 @@ impl Lives {
 
     /// The application was given the bytes; takes no memory. There is room for its life.
     pub fn gave(&mut self, app: u32, bytes: &[u8])
-        requires known { IsTrue (is_known app self.old) }
+        requires known { is_known app self.old ≡ true }
         requires few { (life_of app self.old).give_calls < 2 ^ 64 - 1 }
         ensures own { self.new.own ≡ self.old.own }
         ensures known { (a : ℕ) → is_known a self.new ≡ is_known a self.old }
@@ -281,7 +281,7 @@ impl Lives {
 
     /// The application was gone before it was given bytes; takes no memory. There is room for its life.
     pub fn gone(&mut self, app: u32)
-        requires known { IsTrue (is_known app self.old) }
+        requires known { is_known app self.old ≡ true }
         requires few { (life_of app self.old).give_calls < 2 ^ 64 - 1 }
         ensures own { self.new.own ≡ self.old.own }
         ensures known { (a : ℕ) → is_known a self.new ≡ is_known a self.old }
@@ -304,7 +304,7 @@ impl Lives {
     /// Takes what comes next from the application into the front of the buffer; takes no memory. There is room for its
     /// life.
     pub fn take(&mut self, told: &Told, app: u32, buf: &mut [u8]) -> Taken
-        requires known { IsTrue (is_known app self.old) }
+        requires known { is_known app self.old ≡ true }
         requires few { (life_of app self.old).take_calls < 2 ^ 64 - 1 }
         requires room { 0 < length buf.old }
         ensures own { self.new.own ≡ self.old.own }

@@ -1,0 +1,16 @@
+use Rattle.std.proofs.Common.{◌≡◌, ℕ, ◌+◌, ◌-◌, ◌^◌, ◌<◌, sym, ap, subst, ◌∙◌, refl, arith, length, get_or}
+use Rattle.of_types.specs.declared.journal.Act.TheVariants.{Started, Gave, Gone, Ended}
+use Rattle.outside.specs.declared.step.WorldStep.TheVariants.{Acted, TookInto}
+use Rattle.sim_world.specs.Scripts.{Life, next_taken, will_start, will_give}
+use Rattle.sim_world.specs.Lives.{life_of, is_known, took_of}
+use Rattle.sim_world.specs.CellLaws.{seen_life, seen_known, seen_cell, seen_steps, lives-started, lives-gave, lives-gone, lives-taken, lives-ended}
+use Rattle.sim_world.proofs.lives.Lives.will_give.Goals as goal
+
+pub will_give_in-requires-clause-known : goal.will_give_in-requires-clause-known
+will_give_in-requires-clause-known c = seen_cell c.args.app c.args.self.now c.self.inside.lines c.self.inside.cells.items _ c.self.view_is c.deref.ensures.value c.requires.known
+
+pub will_give_in-requires-clause-few : goal.will_give_in-requires-clause-few
+will_give_in-requires-clause-few c = subst (λ (l : Life). l.give_calls < 2 ^ 64 - 1) (sym (seen_life c.args.app c.args.self.now c.self.inside.lines c.self.inside.cells.items _ c.self.view_is c.deref.ensures.value)) c.requires.few
+
+pub returns : goal.returns
+returns c = c.will_give_in.ensures ∙ ap (will_give c.args.told.now c.args.app) (seen_life c.args.app c.args.self.now c.self.inside.lines c.self.inside.cells.items _ c.self.view_is c.deref.ensures.value)
