@@ -294,7 +294,7 @@ impl Lives {
     /// How many bytes the next take from the application gives into so much room; takes no memory. There is room for
     /// its life.
     pub fn next_len(&self, told: &Told, app: u32, room: usize) -> usize
-        requires known { IsTrue (is_known app self.now) }
+        requires known { is_known app self.now ≡ true }
         requires few { (life_of app self.now).take_calls < 2 ^ 64 - 1 }
         ensures { result ≡ length (taken_bytes (next_taken told.now app room (life_of app self.now))) }
     {
