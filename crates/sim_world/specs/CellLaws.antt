@@ -131,6 +131,24 @@ Moved-cell replies app i cells d new change first same life =
 
 -- ---- A cell more
 
+pub first_known : (app i : ℕ) (cells : List LifeCell) → IsFirst app i cells → has_cell app cells ≡ true
+first_known app i [] first = absurd first
+first_known app zero (c ∷ cs) first = ap (λ (b : Bool). if b then true else has_cell app cs) (eq-eqb c.app app first)
+first_known app (suc i) (c ∷ cs) first = ap (λ (b : Bool). if b then true else has_cell app cs) (ne_eqb c.app app first.0) ∙ first_known app i cs first.1
+
+named_lives-push : (replies : List (ℕ × List ScriptStep)) (cells : List LifeCell) (cell : LifeCell) → named_lives replies (cells ++ cell ∷ []) ≡ named_lives replies cells ++ (cell.app, life_of_cell replies cell) ∷ []
+unfolding named_life
+named_lives-push replies [] cell = refl
+named_lives-push replies (c ∷ cs) cell = ap (λ (xs : List (ℕ × Life)). (c.app, life_of_cell replies c) ∷ xs) (named_lives-push replies cs cell)
+
+-- a fresh cell is one fresh life more
+pub pushed : (replies : List (ℕ × List ScriptStep)) (cells new : List LifeCell) (cell : LifeCell) (app : ℕ) → new ≡ cells ++ cell ∷ [] → cell.app ≡ app → life_of_cell replies cell ≡ fresh → named_lives replies new ≡ named_lives replies cells ++ (app, fresh) ∷ []
+pushed replies cells new cell app is named life =
+    ap (named_lives replies) is
+    ∙ named_lives-push replies cells cell
+    ∙ ap (λ (a : ℕ). named_lives replies cells ++ (a, life_of_cell replies cell) ∷ []) named
+    ∙ ap (λ (l : Life). named_lives replies cells ++ (app, l) ∷ []) life
+
 pub life_in-fresh : (a app : ℕ) (lives : List (ℕ × Life)) → life_in a (lives ++ (app, fresh) ∷ []) ≡ life_in a lives
 life_in-fresh a app [] = elim (app == a) as (λ (b : Bool). (if b then fresh else fresh) ≡ fresh) [ true ↦ refl | false ↦ refl ]
 life_in-fresh a app (x ∷ xs) = ap (λ (l : Life). if x.0 == a then x.1 else l) (life_in-fresh a app xs)

@@ -224,10 +224,13 @@ impl Lives {
         ensures lives { (a : ℕ) → life_of a self.new ≡ life_of a self.old }
         ensures err { OnErr result (self.new ≡ self.old) }
     {
-        if find(&self.cells, app).is_none() {
-            self.cells.push(LifeCell::fresh(app))?;
+        match find(&self.cells, app) {
+            Some(_) => Ok(()),
+            None => {
+                self.cells.push(LifeCell::fresh(app))?;
+                Ok(())
+            }
         }
-        Ok(())
     }
 
     /// Whether the application was started and not ended; takes no memory.
