@@ -69,6 +69,13 @@ impl Model for Parts {
     } };
 }
 
+/// Takes an application out.
+fn remove(running: &mut Vec<u32>, app: u32)
+    ensures { running.new.items ≡ filter (λ a. not (a == app)) running.old.items }
+{
+    running.retain(|running| *running != app);
+}
+
 impl Parts {
     /// Counts a call that can want memory, and makes room for so many steps and for the ends that are promised; answers
     /// whether there is memory.
@@ -213,7 +220,7 @@ impl Parts {
         ensures { Moves self.old self.new (Acted (Ended app) ∷ []) self.old.tally }
     {
         self.lives.end(app);
-        self.running.retain(|running| *running != app);
+        remove(&mut self.running, app);
         self.history.push(WorldStep::Acted(Act::Ended(app)));
     }
 }
