@@ -1,5 +1,5 @@
 -- What each call of a simulated world does, over the world as data: which steps it appends, and what it counts.
-use Rattle.std.specs.Prelude.{◌≡◌, ℕ, Bool, true, false, not, List, [], ◌∷◌, Option, Some, Result, Ok, Err, IsErr, IfOk, IfSome, IsTrue, slice_get, ◌↔◌}
+use Rattle.std.specs.Prelude.{◌≡◌, ℕ, ◌-◌, ◌^◌, ◌<◌, ◌≤◌, length, Bool, true, false, not, List, [], ◌∷◌, Option, Some, Result, Ok, Err, IsErr, IfOk, IfSome, IsTrue, slice_get, ◌↔◌}
 use Rattle.lego_io.specs.Count.{raised}
 use Rattle.of_types.specs.declared.journal.WorldStim.{WorldStim}
 use Rattle.outside.specs.declared.faults.Short.{Short}
@@ -20,6 +20,8 @@ use Rattle.outside.specs.declared.item.Taken.TheVariants as gave
 use Rattle.outside.specs.State.{after_steps, is_running, is_joined, has_waiting}
 use Rattle.outside.specs.Calls.{open_steps, next_steps, stim_steps, start_steps, give_steps, take_steps, end_steps, send_steps, receive_steps, can_receive, IsItemIn, IsTakenIn, IsMessageIn, IsIdle, IsOver}
 use Rattle.sim_world.specs.Tally.{TallyState, tally_stray, tally_short, tally_short_of, tally_fault_of}
+use Rattle.sim_world.specs.Scripts.{Life}
+use Rattle.sim_world.specs.Lives.{life_in}
 use Rattle.sim_world.specs.World.{WorldData, Moves}
 
 -- ---- Counts by answers
@@ -54,6 +56,19 @@ abbrev pub link_tally : {T : Type 0} → ℕ → Result T LinkFault → TallySta
 link_tally d (Ok x) t = t
 link_tally d (Err linking.Failed) t = tally_fault_of d t
 link_tally d (Err linking.Short) t = tally_short_of d t
+
+-- ---- What calls of applications need: lists of those that run agree, and one more call can be counted.
+
+pub record AppsStand (w : WorldData) : Type 0 where
+  pub promised : length w.state.running ≤ w.room
+  pub alike : (app : ℕ) → is_running app w.state ≡ (life_in app w.lives).running
+  pub starts : (app : ℕ) → (life_in app w.lives).start_calls < 2 ^ 64 - 1
+  pub gives : (app : ℕ) → (life_in app w.lives).give_calls < 2 ^ 64 - 1
+  pub takes : (app : ℕ) → (life_in app w.lives).take_calls < 2 ^ 64 - 1
+
+-- the lives at hand
+abbrev pub lives_of : WorldData → ℕ → Life
+lives_of w app = life_in app w.lives
 
 -- ---- Calls
 

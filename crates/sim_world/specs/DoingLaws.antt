@@ -1,5 +1,5 @@
 -- What each call of a simulated world does is what such a call of any world does.
-use Rattle.std.specs.Prelude.{◌≡◌, ◌==◌, ℕ, Bool, true, false, not, ◌||◌, List, [], ◌∷◌, map, if◌then◌else◌, Option, Some, None, Result, Ok, Err, IsErr, IsErrOf, IfOk, IfSome, IsTrue, refl, slice_get, ◌↔◌}
+use Rattle.std.specs.Prelude.{◌≡◌, ◌==◌, ℕ, Bool, true, false, not, ◌||◌, ◌&&◌, List, [], ◌∷◌, map, if◌then◌else◌, Option, Some, None, Result, Ok, Err, IsErr, IsErrOf, IfOk, IfSome, IsTrue, refl, slice_get, ◌↔◌}
 use Rattle.std.specs.List.{list_any}
 use Rattle.std.proofs.Common.{sym, ap, ◌∙◌, subst}
 use Rattle.std.proofs.lemmas.Bool.{true≢false, false≢true}
@@ -23,7 +23,8 @@ use Rattle.outside.specs.declared.step.WorldStep.{WorldStep}
 use Rattle.outside.specs.Seen.{Given, Seen, Counts, NoneFell, AreCounts, is_declared, with_stray, with_short, with_short_of, with_link_fault}
 use Rattle.outside.specs.State.{Link, State, state, but_marks, after_steps, is_running, is_joined, has_waiting, link_of, switch_of, waits_of, upcoming}
 use Rattle.outside.specs.Calls.{Opens, Nexts, Starts, Gives, Takes, Ends, Sends, Receives, open_steps, open_counts, next_counts, start_counts, give_counts, take_counts, link_counts, end_steps, stim_steps, can_receive, IsIdle, IsOver}
-use Rattle.sim_world.specs.Scripts.{Scripts}
+use Rattle.outside.specs.declared.call.FailCall.{FailCall}
+use Rattle.sim_world.specs.Scripts.{Scripts, Life, will_start, will_give}
 use Rattle.sim_world.specs.Tally.{TallyState, CountsFor, counts_of, tally_stray, tally_short, tally_short_of, tally_fault_of}
 use Rattle.sim_world.specs.TallyLaws.{Counted, counts-none, counts-shut, counts-next_fault, counts-start_failed, counts-closing, counts-silence, counts-short, counts-short_of, counts-fault_of, counted-none, counted-shut, counted-next_fault, counted-start_failed, counted-closing, counted-silence, counted-short, counted-short_of, counted-fault_of, rose-raised, rose-fault_of, rose-short_of}
 use Rattle.sim_world.specs.World.{WorldData, declared_in, given_of, seen_of, Stands, Moves}
@@ -387,3 +388,21 @@ Receives-by d old new result buf stands does =
         out_of_place = λ is. does.out_of_place (rw (← waits) is);
       };
     }
+
+-- ---- A call that succeeds is in place
+
+in_place : (b rest : Bool) → (b && rest) ≡ true → b ≡ true
+in_place true rest is = refl
+in_place false rest is = is
+
+out_place : (b : Bool) → not b ≡ true → b ≡ false
+out_place true is = sym is
+out_place false is = refl
+
+pub started_in_place : (own : Scripts) (fails : List FailCall) (app : ℕ) (l : Life) → will_start own fails app l ≡ true → l.running ≡ false
+unfolding will_start
+started_in_place own fails app l will = out_place l.running (in_place (not l.running) _ (in_place _ _ will))
+
+pub given_in_place : (fails : List FailCall) (app : ℕ) (l : Life) → will_give fails app l ≡ true → l.running ≡ true
+unfolding will_give
+given_in_place fails app l will = in_place l.running _ will

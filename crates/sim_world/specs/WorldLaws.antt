@@ -332,8 +332,8 @@ Stands-moves old new steps counted stands moves may counts come =
     }
 
 -- One call behind another.
-pub Moves-both : (old mid new : WorldData) (xs ys : List WorldStep) (t u : TallyState) → Moves old mid xs t → Moves mid new ys u → Moves old new (xs ++ ys) u
-Moves-both old mid new xs ys t u first second = record {
+pub Moves_both : (old mid new : WorldData) (xs ys : List WorldStep) (t u : TallyState) → Moves old mid xs t → Moves mid new ys u → Moves old new (xs ++ ys) u
+Moves_both old mid new xs ys t u first second = record {
   scripts = second.scripts ∙ first.scripts;
   stimuli = second.stimuli ∙ first.stimuli;
   fails = second.fails ∙ first.fails;
@@ -350,4 +350,20 @@ Moves-both old mid new xs ys t u first second = record {
     second.lives app
     ∙ rw (first.scripts, first.told) (ap (life_through old.scripts old.told app ys) (first.lives app))
     ∙ sym (life_through-append old.scripts old.told app xs ys (life_in app old.lives));
+}
+
+-- A call behind one that made room and took applications down, with no life moved.
+pub Moves_ready : (old mid new : WorldData) (steps : List WorldStep) (t : TallyState) → mid ≡ record old { room = mid.room; lives = mid.lives } → ((app : ℕ) → life_in app mid.lives ≡ life_in app old.lives) → Moves mid new steps t → Moves old new steps t
+Moves_ready old mid new steps t same lives moves = record {
+  scripts = moves.scripts ∙ ap (λ (w : WorldData). w.scripts) same;
+  stimuli = moves.stimuli ∙ ap (λ (w : WorldData). w.stimuli) same;
+  fails = moves.fails ∙ ap (λ (w : WorldData). w.fails) same;
+  told = moves.told ∙ ap (λ (w : WorldData). w.told) same;
+  history = moves.history ∙ ap (λ (w : WorldData). w.history ++ steps) same;
+  room = moves.room;
+  tally = moves.tally;
+  state = moves.state ∙ ap (λ (w : WorldData). but_marks (after_steps steps w.state)) same;
+  lives = λ app. moves.lives app
+      ∙ ap (λ (w : WorldData). life_through w.scripts w.told app steps (life_in app mid.lives)) same
+      ∙ ap (life_through old.scripts old.told app steps) (lives app);
 }

@@ -1,6 +1,7 @@
 //! A simulated world.
 #![tactic(auto)]
 
+mod app_calls;
 mod history;
 mod life;
 mod links;

@@ -1,6 +1,6 @@
 //! The parts of a simulated world, and what each step does to them.
 
-ghost use Rattle.std.specs.Prelude.{◌≡◌, ℕ, ◌+◌, ◌-◌, ◌^◌, ◌≤◌, ◌<◌, ◌==◌, [], ◌∷◌, true, false, not, filter, length, IsTrue, OnOk, OnErr};
+ghost use Rattle.std.specs.Prelude.{◌≡◌, ℕ, ◌+◌, ◌-◌, ◌^◌, ◌≤◌, ◌<◌, ◌==◌, [], ◌∷◌, ◌++◌, true, false, not, filter, length, IsTrue, OnOk, OnErr};
 ghost use Rattle.lego_io.specs.Count.{raised};
 ghost use Rattle.of_types.specs.declared.journal.Act.TheVariants.{Started, Gave, Gone, Ended};
 ghost use Rattle.outside.specs.declared.step.WorldStep.TheVariants.{Acted, Opened, NotOpened};
@@ -17,13 +17,14 @@ use crate::tally::Tally;
 use crate::told::Told;
 use of_types::{Act, ByteList, WorldStim};
 use outside::{CallKind, FailCall, OpenFault, WorldStep};
-use std::alloc::AllocError;
+use std::alloc::{AllocError, Global};
 use std::collections::VecDeque;
 use std::marker::Model;
 
 /// What a simulated world holds. Contracts see it as data.
 #[derive(Debug, Drop)]
 pub(crate) struct Parts {
+    pub(crate) alloc: Global,
     pub(crate) lives: Lives,
     pub(crate) stimuli: Vec<WorldStim>,
     pub(crate) fails: Vec<FailCall>,
@@ -79,7 +80,7 @@ fn remove(running: &mut Vec<u32>, app: u32)
 impl Parts {
     /// Counts a call that can want memory, and makes room for so many steps and for the ends that are promised; answers
     /// whether there is memory.
-    fn is_ready(&mut self, more: usize) -> bool
+    pub(crate) fn is_ready(&mut self, more: usize) -> bool
         requires promised { length self.old.state.running ≤ self.old.room }
         requires few { more ≤ 2 }
         ensures same { self.new ≡ record self.old { room = self.new.room } }
@@ -92,7 +93,7 @@ impl Parts {
     }
 
     /// A call wants memory, and is out of place or not.
-    fn want_memory(&mut self, stray: bool)
+    pub(crate) fn want_memory(&mut self, stray: bool)
         requires { length self.old.state.running ≤ self.old.room }
         ensures { Moves self.old self.new [] (tally_stray stray (tally_short self.old.tally)) }
     {
@@ -144,7 +145,7 @@ impl Parts {
 
     /// Makes ready for a call of an application that can want memory.
     #[tactic(auto, unfolding(crate::specs::Lives::life_of, crate::specs::Lives::is_known))]
-    fn is_ready_for(&mut self, app: u32, more: usize) -> bool
+    pub(crate) fn is_ready_for(&mut self, app: u32, more: usize) -> bool
         requires promised { length self.old.state.running ≤ self.old.room }
         requires few { more ≤ 2 }
         ensures same { self.new ≡ record self.old { room = self.new.room; lives = self.new.lives } }
@@ -158,7 +159,7 @@ impl Parts {
 
     /// An application was started, where there is memory to note it.
     #[tactic(auto, unfolding(outside::specs::State::after_step, outside::specs::State::after_act, crate::specs::Lives::life_of, crate::specs::Lives::is_known))]
-    fn started(&mut self, app: u32) -> Result<(), AllocError>
+    pub(crate) fn started(&mut self, app: u32) -> Result<(), AllocError>
         requires room { length self.old.state.running + 2 ≤ self.old.room }
         requires known { IsTrue (has_life app self.old.lives) }
         requires few { (life_in app self.old.lives).start_calls < 2 ^ 64 - 1 }
@@ -174,7 +175,7 @@ impl Parts {
 
     /// An application was not started.
     #[tactic(auto, unfolding(outside::specs::State::after_step, outside::specs::State::after_act, crate::specs::Lives::life_of, crate::specs::Lives::is_known))]
-    fn not_started(&mut self, app: u32, stray: bool)
+    pub(crate) fn not_started(&mut self, app: u32, stray: bool)
         requires room { length self.old.state.running + 1 ≤ self.old.room }
         requires known { IsTrue (has_life app self.old.lives) }
         requires few { (life_in app self.old.lives).start_calls < 2 ^ 64 - 1 }
@@ -189,7 +190,7 @@ impl Parts {
 
     /// An application was given bytes.
     #[tactic(auto, unfolding(outside::specs::State::after_step, outside::specs::State::after_act, crate::specs::Lives::life_of, crate::specs::Lives::is_known))]
-    fn gave(&mut self, app: u32, bytes: ByteList)
+    pub(crate) fn gave(&mut self, app: u32, bytes: ByteList)
         requires room { length self.old.state.running + 1 ≤ self.old.room }
         requires known { IsTrue (has_life app self.old.lives) }
         requires few { (life_in app self.old.lives).give_calls < 2 ^ 64 - 1 }
@@ -201,7 +202,7 @@ impl Parts {
 
     /// An application was gone before it was given bytes.
     #[tactic(auto, unfolding(outside::specs::State::after_step, outside::specs::State::after_act, crate::specs::Lives::life_of, crate::specs::Lives::is_known))]
-    fn gone(&mut self, app: u32, bytes: ByteList, stray: bool)
+    pub(crate) fn gone(&mut self, app: u32, bytes: ByteList, stray: bool)
         requires room { length self.old.state.running + 1 ≤ self.old.room }
         requires known { IsTrue (has_life app self.old.lives) }
         requires few { (life_in app self.old.lives).give_calls < 2 ^ 64 - 1 }
@@ -215,7 +216,7 @@ impl Parts {
 
     /// An application was ended.
     #[tactic(auto, unfolding(outside::specs::State::after_step, outside::specs::State::after_act, crate::specs::Lives::life_of, crate::specs::Lives::is_known))]
-    fn ended(&mut self, app: u32)
+    pub(crate) fn ended(&mut self, app: u32)
         requires { length (filter (λ a. not (a == app)) self.old.state.running) + 1 ≤ self.old.room }
         ensures { Moves self.old self.new (Acted (Ended app) ∷ []) self.old.tally }
     {
