@@ -1,6 +1,5 @@
 -- Laws of what applications do.
-use Rattle.std.proofs.Common.{◌≡◌, ℕ, ◌+◌, Bool, true, false, not, ◌||◌, ◌&&◌, List, [], ◌∷◌, ◌++◌, refl, sym, ap, ◌∙◌, ◌≤◌, ◌<◌, ◌==◌, if◌then◌else◌, is_some, length, Option, Some, None, arith, subst, inl, inr, ◌⊎◌}
-use Rattle.std.specs.List.{list_any, filter}
+use Rattle.std.proofs.Common.{◌≡◌, ℕ, ◌+◌, Bool, true, false, not, ◌||◌, ◌&&◌, List, [], ◌∷◌, ◌++◌, refl, sym, ap, ◌∙◌, ◌≤◌, ◌==◌, if◌then◌else◌, is_some, length, Option, Some, None, arith, subst, inl, inr, ◌⊎◌}
 use Rattle.std.proofs.lemmas.Bool.{eq-eqb, ne_eqb, eqb-true, eqb-false}
 use Rattle.std.proofs.lemmas.Map.Views.{any-filter_same}
 use Rattle.of_types.specs.declared.journal.Act.{Act}
@@ -11,12 +10,13 @@ use Rattle.outside.specs.declared.call.CallKind.TheVariants as kinds
 use Rattle.outside.specs.declared.call.FailCall.{FailCall}
 use Rattle.outside.specs.declared.step.WorldStep.{WorldStep}
 use Rattle.outside.specs.declared.step.WorldStep.TheVariants.{Acted, TookInto, From, Joined, Left, Moment, Idle, End, Opened, NotOpened, NextFailed, SendFailed, RecvFailed}
-use Rattle.outside.specs.State.{State, is_running, event_number, after_stim, after_act, after_step, after_steps}
+use Rattle.outside.specs.Seen.{Seen}
+use Rattle.outside.specs.State.{State, at_first, state, is_running, event_number, after_stim, after_act, after_step, after_steps}
 use Rattle.app_frames.specs.declared.frame.AppFrame.TheVariants.{Done, Ready}
 use Rattle.app_frames.specs.Spelling.{app_bytes, app_body_bytes, framed}
 use Rattle.of_types.specs.Fields.{number_bytes}
-use Rattle.sim_world.specs.Told.{is_told, TellSame}
-use Rattle.sim_world.specs.Scripts.{fresh, ready_bytes, done_bytes, next_start, is_refused, start_told, start_reached, will_start, will_give, after_start, after_gave, after_gone, after_end, life_after_act, life_after, life_through, IsScripted, lives_after, AreScripted, all_fresh, KeepsScripts, Scripts, Life, closed_told, silent_told, take_fault, next_taken, given_of, left_of, taken_bytes, after_take, left_unless, fault_or}
+use Rattle.sim_world.specs.Told.{TellSame}
+use Rattle.sim_world.specs.Scripts.{fresh, ready_bytes, done_bytes, next_start, is_refused, start_reached, will_start, will_give, after_start, after_gave, after_gone, after_end, life_after_act, life_after, life_through, lives_after, AreScripted, all_fresh, KeepsScripts, Scripts, Life, closed_told, silent_told, take_fault, next_taken, given_of, left_of, taken_bytes, after_take, left_unless, fault_or}
 
 -- ---- What a take does
 
@@ -213,6 +213,11 @@ running-step own fails app (RecvFailed d) l s same = same
 pub running-through : (own : Scripts) (fails : List FailCall) (app : ℕ) (steps : List WorldStep) (l : Life) (s : State) → l.running ≡ is_running app s → (life_through own fails app steps l).running ≡ is_running app (after_steps steps s)
 running-through own fails app [] l s same = same
 running-through own fails app (x ∷ xs) l s same = running-through own fails app xs (life_after own fails app x l) (after_step x s) (running-step own fails app x l s same)
+
+-- an application runs in its life where it runs in the state of the world
+pub running-state : (seen : Seen Scripts) (app : ℕ) → (life_through seen.given.own seen.given.fails app seen.history fresh).running ≡ is_running app (state seen)
+unfolding state at_first fresh
+running-state seen app = running-through seen.given.own seen.given.fails app seen.history fresh (at_first seen.given) refl
 
 -- ---- Counts of calls
 
