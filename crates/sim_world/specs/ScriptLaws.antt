@@ -1,5 +1,5 @@
 -- Laws of what applications do.
-use Rattle.std.proofs.Common.{◌≡◌, ℕ, ◌+◌, Bool, true, false, not, ◌||◌, ◌&&◌, List, [], ◌∷◌, ◌++◌, refl, sym, ap, ◌∙◌, ◌≤◌, ◌==◌, if◌then◌else◌, is_some, length, Option, Some, None, arith, subst, inl, inr, ◌⊎◌}
+use Rattle.std.proofs.Common.{◌≡◌, ℕ, ◌+◌, Bool, true, false, not, ◌||◌, ◌&&◌, List, [], ◌∷◌, ◌++◌, refl, sym, ap, ◌∙◌, ◌==◌, if◌then◌else◌, is_some, length, Option, Some, None, arith, subst, inl, inr, ◌⊎◌}
 use Rattle.std.proofs.lemmas.Bool.{eq-eqb, ne_eqb, eqb-true, eqb-false}
 use Rattle.std.proofs.lemmas.Map.Views.{any-filter_same}
 use Rattle.of_types.specs.declared.journal.Act.{Act}
@@ -16,7 +16,7 @@ use Rattle.app_frames.specs.declared.frame.AppFrame.TheVariants.{Done, Ready}
 use Rattle.app_frames.specs.Spelling.{app_bytes, app_body_bytes, framed}
 use Rattle.of_types.specs.Fields.{number_bytes}
 use Rattle.sim_world.specs.Told.{TellSame}
-use Rattle.sim_world.specs.Scripts.{fresh, ready_bytes, done_bytes, next_start, is_refused, start_reached, will_start, will_give, after_start, after_gave, after_gone, after_end, life_after_act, life_after, life_through, lives_after, AreScripted, all_fresh, KeepsScripts, Scripts, Life, closed_told, silent_told, take_fault, next_taken, given_of, left_of, taken_bytes, after_take, left_unless, fault_or}
+use Rattle.sim_world.specs.Scripts.{fresh, ready_bytes, done_bytes, next_start, is_refused, start_reached, will_start, will_give, after_start, after_gave, after_gone, after_end, life_after_act, life_after, life_through, lives_after, lives_through, AreScripted, all_fresh, KeepsScripts, FewCalls, Scripts, Life, closed_told, silent_told, take_fault, next_taken, given_of, left_of, taken_bytes, after_take, left_unless, fault_or}
 
 -- ---- What a take does
 
@@ -114,10 +114,6 @@ same-life_after own fails others app (RecvFailed d) l same = refl
 pub life_through-append : (own : Scripts) (fails : List FailCall) (app : ℕ) (xs ys : List WorldStep) (l : Life) → life_through own fails app (xs ++ ys) l ≡ life_through own fails app ys (life_through own fails app xs l)
 life_through-append own fails app [] ys l = refl
 life_through-append own fails app (x ∷ xs) ys l = life_through-append own fails app xs ys (life_after own fails app x l)
-
--- the lives after a history
-abbrev pub lives_through : Scripts → List FailCall → List WorldStep → (ℕ → Life) → ℕ → Life
-lives_through own fails steps lives app = life_through own fails app steps (lives app)
 
 pub AreScripted-front : (own : Scripts) (fails : List FailCall) (xs ys : List WorldStep) (lives : ℕ → Life) → AreScripted own fails (xs ++ ys) lives → AreScripted own fails xs lives
 AreScripted-front own fails [] ys lives all = tt
@@ -220,12 +216,6 @@ unfolding state at_first fresh
 running-state seen app = running-through seen.given.own seen.given.fails app seen.history fresh (at_first seen.given) refl
 
 -- ---- Counts of calls
-
--- there were at most so many calls of each kind
-pub record FewCalls (n : ℕ) (l : Life) : Type 0 where
-  pub starts : l.start_calls ≤ n
-  pub gives : l.give_calls ≤ n
-  pub takes : l.take_calls ≤ n
 
 few_kept : (n : ℕ) (l : Life) → FewCalls n l → FewCalls (n + 1) l
 few_kept n l few = let a = few.starts in let b = few.gives in let c = few.takes in record { starts = omega arith; gives = omega arith; takes = omega arith }
