@@ -1,7 +1,6 @@
 -- Laws of the cells that lives are kept in.
-use Rattle.std.proofs.Common.{◌≡◌, ◌≢◌, ℕ, zero, suc, ◌+◌, ◌<◌, ◌≤◌, Bool, true, false, List, [], ◌∷◌, ◌++◌, map, length, get_or, set, refl, sym, ap, subst, ◌∙◌, arith, ◌==◌, if◌then◌else◌, is_some}
+use Rattle.std.proofs.Common.{◌≡◌, ◌≢◌, ℕ, zero, suc, ◌<◌, Bool, true, false, List, [], ◌∷◌, ◌++◌, length, get_or, set, refl, sym, ap, ◌∙◌, arith, ◌==◌, if◌then◌else◌, is_some}
 use Rattle.std.proofs.lemmas.Bool.{eq-eqb, ne_eqb, eqb-true}
-use Rattle.std.specs.List.{All}
 use Rattle.outside.specs.declared.call.FailCall.{FailCall}
 use Rattle.app_frames.specs.declared.script.ScriptStep.{ScriptStep}
 use Rattle.sim_world.specs.declared.life.LifeCell.{LifeCell}
@@ -11,7 +10,7 @@ use Rattle.outside.specs.declared.step.WorldStep.{WorldStep}
 use Rattle.outside.specs.declared.step.WorldStep.TheVariants.{Acted, TookInto}
 use Rattle.outside.specs.State.{event_number}
 use Rattle.sim_world.specs.Scripts.{Scripts, Life, fresh, after_start, after_gave, after_gone, after_take, after_end, life_after, will_start}
-use Rattle.sim_world.specs.Lives.{life_of_cell, IsCellOf, life_in, has_life, named_life, named_lives, has_cell, IsFirst, Moved, Playing, life_of, is_known}
+use Rattle.sim_world.specs.Lives.{life_of_cell, life_in, has_life, named_life, named_lives, has_cell, IsFirst, Moved, Playing, life_of, is_known}
 
 -- ---- Looking for a cell
 

@@ -17,7 +17,7 @@ use Rattle.outside.specs.declared.item.Item.{Item}
 use Rattle.outside.specs.declared.item.Item.TheVariants as items
 use Rattle.outside.specs.declared.item.Taken.{Taken}
 use Rattle.outside.specs.declared.item.Taken.TheVariants as gave
-use Rattle.outside.specs.State.{after_steps, is_running, is_joined, has_waiting}
+use Rattle.outside.specs.State.{but_marks, after_steps, is_running, is_joined, has_waiting}
 use Rattle.outside.specs.Calls.{open_steps, next_steps, stim_steps, start_steps, give_steps, take_steps, end_steps, send_steps, receive_steps, can_receive, IsItemIn, IsTakenIn, IsMessageIn, IsIdle, IsOver}
 use Rattle.sim_world.specs.Tally.{TallyState, tally_stray, tally_short, tally_short_of, tally_fault_of}
 use Rattle.sim_world.specs.Scripts.{Life}
@@ -60,6 +60,7 @@ link_tally d (Err linking.Short) t = tally_short_of d t
 -- ---- What calls of applications need: lists of those that run agree, and one more call can be counted.
 
 pub record AppsStand (w : WorldData) : Type 0 where
+  pub plain : but_marks w.state ≡ w.state
   pub promised : length w.state.running ≤ w.room
   pub alike : (app : ℕ) → is_running app w.state ≡ (life_in app w.lives).running
   pub starts : (app : ℕ) → (life_in app w.lives).start_calls < 2 ^ 64 - 1

@@ -1,7 +1,10 @@
 -- What each call of a simulated world does is what such a call of any world does.
-use Rattle.std.specs.Prelude.{◌≡◌, ◌==◌, ℕ, Bool, true, false, not, ◌||◌, ◌&&◌, List, [], ◌∷◌, map, if◌then◌else◌, Option, Some, None, Result, Ok, Err, IsErr, IsErrOf, IfOk, IfSome, IsTrue, refl, slice_get, ◌↔◌}
+use Rattle.std.specs.Prelude.{◌≡◌, ◌==◌, ℕ, ◌+◌, ◌≤◌, filter, length, Bool, true, false, not, ◌||◌, ◌&&◌, List, [], ◌∷◌, map, if◌then◌else◌, Option, Some, None, Result, Ok, Err, IsErr, IsErrOf, IfOk, IfSome, IsTrue, refl, slice_get, ◌↔◌}
 use Rattle.std.specs.List.{list_any}
-use Rattle.std.proofs.Common.{sym, ap, ◌∙◌, subst}
+use Rattle.std.proofs.Common.{sym, ap, ◌∙◌, subst, arith}
+use Rattle.std.proofs.lemmas.List.{append-nil}
+use Rattle.of_types.specs.declared.journal.TookWhat.{TookWhat}
+use Rattle.of_types.specs.declared.journal.TookWhat.TheVariants as took
 use Rattle.std.proofs.lemmas.Bool.{true≢false, false≢true}
 use Rattle.lego_io.specs.Count.{raised, Rose}
 use Rattle.flow_table.specs.Switch.{Declared}
@@ -24,7 +27,8 @@ use Rattle.outside.specs.Seen.{Given, Seen, Counts, NoneFell, AreCounts, is_decl
 use Rattle.outside.specs.State.{Link, State, state, but_marks, after_steps, is_running, is_joined, has_waiting, link_of, switch_of, waits_of, upcoming}
 use Rattle.outside.specs.Calls.{Opens, Nexts, Starts, Gives, Takes, Ends, Sends, Receives, open_steps, open_counts, next_counts, start_counts, give_counts, take_counts, link_counts, end_steps, stim_steps, can_receive, IsIdle, IsOver}
 use Rattle.outside.specs.declared.call.FailCall.{FailCall}
-use Rattle.sim_world.specs.Scripts.{Scripts, Life, will_start, will_give}
+use Rattle.sim_world.specs.Scripts.{Scripts, Life, will_start, will_give, next_taken, take_fault}
+use Rattle.sim_world.specs.Lives.{took_of}
 use Rattle.sim_world.specs.Tally.{TallyState, CountsFor, counts_of, tally_stray, tally_short, tally_short_of, tally_fault_of}
 use Rattle.sim_world.specs.TallyLaws.{Counted, counts-none, counts-shut, counts-next_fault, counts-start_failed, counts-closing, counts-silence, counts-short, counts-short_of, counts-fault_of, counted-none, counted-shut, counted-next_fault, counted-start_failed, counted-closing, counted-silence, counted-short, counted-short_of, counted-fault_of, rose-raised, rose-fault_of, rose-short_of}
 use Rattle.sim_world.specs.World.{WorldData, declared_in, given_of, seen_of, Stands, Moves}
@@ -406,3 +410,57 @@ started_in_place own fails app l will = out_place l.running (in_place (not l.run
 pub given_in_place : (fails : List FailCall) (app : ℕ) (l : Life) → will_give fails app l ≡ true → l.running ≡ true
 unfolding will_give
 given_in_place fails app l will = in_place l.running _ will
+
+-- ---- A take, and an end
+
+is_closed : TookWhat → Bool
+is_closed took.Closed = true
+is_closed other = false
+
+out_takes : (fails : List FailCall) (app room : ℕ) (l : Life) → l.running ≡ false → next_taken fails app room l ≡ took.Closed
+unfolding next_taken take_fault
+out_takes fails app room l out = rw out refl
+
+closed_by : (taken : Taken) (buf : List ℕ) → took_of taken buf ≡ took.Closed → taken ≡ gave.Closed
+unfolding is_closed
+closed_by (gave.Some n) buf is = absurd (false≢true (ap is_closed is))
+closed_by gave.Closed buf is = refl
+closed_by gave.Silent buf is = absurd (false≢true (ap is_closed is))
+
+-- an application that does not run has closed its end
+pub taken_out_of_place : (fails : List FailCall) (app room : ℕ) (l : Life) (taken : Taken) (buf : List ℕ) → took_of taken buf ≡ next_taken fails app room l → l.running ≡ false → taken ≡ gave.Closed
+taken_out_of_place fails app room l taken buf what out = closed_by taken buf (what ∙ out_takes fails app room l out)
+
+kept_one : (b : Bool) (x : ℕ) (xs : List ℕ) → length (if not b then x ∷ xs else xs) ≤ length xs + 1
+kept_one true x xs = omega arith
+kept_one false x xs = omega arith
+
+pub fewer_or_same : (app : ℕ) (running : List ℕ) → length (filter (λ a. not (a == app)) running) ≤ length running
+fewer_or_same app [] = omega arith
+fewer_or_same app (a ∷ running) =
+    omega (arith, kept_one (a == app) a (filter (λ a. not (a == app)) running), fewer_or_same app running)
+
+fewer_one : (app a : ℕ) (running : List ℕ) → (here : Bool) → (here || list_any (λ a. a == app) running) ≡ true
+    → (list_any (λ a. a == app) running ≡ true → length (filter (λ a. not (a == app)) running) + 1 ≤ length running)
+    → length (if not here then a ∷ filter (λ a. not (a == app)) running else filter (λ a. not (a == app)) running) + 1 ≤ length (a ∷ running)
+fewer_one app a running true runs later = omega (arith, fewer_or_same app running)
+fewer_one app a running false runs later = omega (arith, later runs)
+
+-- the end of an application that runs takes one away
+pub fewer_run : (app : ℕ) (running : List ℕ) → list_any (λ a. a == app) running ≡ true → length (filter (λ a. not (a == app)) running) + 1 ≤ length running
+fewer_run app [] runs = absurd (false≢true runs)
+fewer_run app (a ∷ running) runs = fewer_one app a running (a == app) runs (fewer_run app running)
+
+-- where nothing is done nothing moves
+pub Moves_none : (w : WorldData) → w.state ≡ but_marks w.state → length w.state.running ≤ w.room → Moves w w [] w.tally
+Moves_none w plain promised = record {
+  scripts = refl;
+  stimuli = refl;
+  fails = refl;
+  told = refl;
+  history = sym (append-nil w.history);
+  room = promised;
+  tally = refl;
+  state = plain;
+  lives = λ app. refl;
+}

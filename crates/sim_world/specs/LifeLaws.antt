@@ -1,6 +1,6 @@
 -- Laws of how lives are kept: places in steps, and places in lines.
-use Rattle.std.proofs.Common.{◌≡◌, ℕ, zero, suc, ◌+◌, ◌<◌, ◌≤◌, Bool, true, false, cond, List, [], ◌∷◌, map, length, take, drop, get_or, leb, refl, sym, ap, subst, ◌∙◌, arith, inl, inr, Option, Some, None, slice_get, ◌==◌, if◌then◌else◌, is_some, add-one, ◌≢◌, nat_lt, ◌&&◌}
-use Rattle.std.proofs.Math.Seq.{drop-nil, drop-cons}
+use Rattle.std.proofs.Common.{◌≡◌, ℕ, zero, suc, ◌+◌, ◌<◌, ◌≤◌, Bool, true, false, cond, List, [], ◌∷◌, map, length, drop, get_or, leb, refl, sym, ap, ◌∙◌, arith, Some, None, slice_get, ◌==◌, if◌then◌else◌, is_some, add-one, ◌≢◌, nat_lt, ◌&&◌, Ok}
+use Rattle.std.proofs.Math.Seq.{drop-nil}
 use Rattle.std.proofs.Math.ListN.{drop_of_length-le}
 use Rattle.std.proofs.Math.Dec.{leb-zero, leb-suc-zero, leb-suc-suc}
 use Rattle.std.proofs.lemmas.Option.{slice_get-get_or, slice_get_within}
@@ -9,7 +9,11 @@ use Rattle.std.proofs.lemmas.Bool.{eq-eqb, ne_eqb}
 use Rattle.of_types.specs.Fields.{number_at}
 use Rattle.app_frames.specs.declared.script.ScriptStep.{ScriptStep}
 use Rattle.app_frames.specs.declared.script.ScriptStep.TheVariants.{Bytes, Closed, Silent}
+use Rattle.outside.specs.Calls.{take_steps}
 use Rattle.outside.specs.State.{event_number}
+use Rattle.outside.specs.declared.item.Taken.{Taken}
+use Rattle.outside.specs.declared.item.Taken.TheVariants as gave
+use Rattle.outside.specs.declared.step.WorldStep.TheVariants.{TookInto}
 use Rattle.sim_world.specs.declared.life.Place.{Place}
 use Rattle.app_frames.specs.declared.script.StartScript.{StartScript}
 use Rattle.outside.specs.declared.call.FailCall.{FailCall}
@@ -17,7 +21,7 @@ use Rattle.sim_world.specs.declared.life.Giving.{Giving}
 use Rattle.sim_world.specs.declared.life.Giving.TheVariants.{Start}
 use Rattle.sim_world.specs.declared.life.LifeCell.{LifeCell}
 use Rattle.sim_world.specs.Scripts.{Scripts, Life, passed, lines_of, start_or_ready, turn_or_plain, steps_of_start, next_start, next_turn, after_start, after_gave, start_reached, is_refused}
-use Rattle.sim_world.specs.Lives.{cut, from_place, begins_empty, steps_given, IsGivingIn, IsNextLine, Follows, life_of_cell, IsCellOf}
+use Rattle.sim_world.specs.Lives.{cut, from_place, begins_empty, steps_given, IsGivingIn, IsNextLine, Follows, life_of_cell, IsCellOf, took_of}
 
 -- ---- Elements and rests
 
@@ -231,3 +235,12 @@ life-turn own c giving next same =
 pub after_gave-other : (own : Scripts) (app : ℕ) (event : Bool) (l : Life) → event ≡ false → after_gave own app event l ≡ record l { give_calls = l.give_calls + 1 }
 unfolding after_gave
 after_gave-other own app event l other = rw other refl
+
+-- ---- Takes
+
+-- what a take that answers appends to the history
+pub take_steps-took : (app : ℕ) (what : Taken) (buf : List ℕ) → take_steps app (Ok what) buf ≡ TookInto app (took_of what buf) (length buf) ∷ []
+unfolding take_steps
+take_steps-took app (gave.Some n) buf = refl
+take_steps-took app gave.Closed buf = refl
+take_steps-took app gave.Silent buf = refl

@@ -1,9 +1,9 @@
 -- What applications are given to do, and how much of it they have done. All of this is our own choice.
-use Rattle.std.specs.Prelude.{◌≡◌, ℕ, ◌+◌, ◌==◌, Bool, true, false, not, ◌&&◌, ◌||◌, List, [], ◌∷◌, map, length, take, drop, Option, Some, None, if◌then◌else◌, slice_get}
+use Rattle.std.specs.Prelude.{◌≡◌, ℕ, ◌+◌, ◌≤◌, ◌==◌, Bool, true, false, not, ◌&&◌, ◌||◌, List, [], ◌∷◌, map, length, take, drop, Option, Some, None, if◌then◌else◌, slice_get}
 use Rattle.std.specs.List.{filter}
 use Rattle.std.specs.Option.{is_some}
 use Rattle.of_types.specs.declared.journal.Act.{Act}
-use Rattle.of_types.specs.declared.journal.Act.TheVariants.{Stim, Started, Gave, Gone, Took, Ended, Sent, Got}
+use Rattle.of_types.specs.declared.journal.Act.TheVariants.{Started, Gave, Gone, Took, Ended}
 use Rattle.of_types.specs.declared.journal.TookWhat.{TookWhat}
 use Rattle.of_types.specs.declared.journal.TookWhat.TheVariants as took
 use Rattle.app_frames.specs.declared.script.ScriptStep.{ScriptStep}
@@ -229,6 +229,16 @@ life_after own fails app other l = l
 abbrev pub life_through : Scripts → List FailCall → ℕ → List WorldStep → Life → Life
 life_through own fails app [] l = l
 life_through own fails app (step ∷ steps) l = life_through own fails app steps (life_after own fails app step l)
+
+-- what it makes of all of them
+abbrev pub lives_through : Scripts → List FailCall → List WorldStep → (ℕ → Life) → ℕ → Life
+lives_through own fails steps lives app = life_through own fails app steps (lives app)
+
+-- there were at most so many calls of each kind
+pub record FewCalls (n : ℕ) (l : Life) : Type 0 where
+  pub starts : l.start_calls ≤ n
+  pub gives : l.give_calls ≤ n
+  pub takes : l.take_calls ≤ n
 
 -- ---- A history that keeps to the scripts
 

@@ -2,6 +2,7 @@
 
 ghost use Rattle.std.specs.Prelude.{◌≡◌, ℕ, ◌+◌, ◌-◌, ◌^◌, ◌≤◌, ◌<◌, [], ◌∷◌, true, false, not, length, Result};
 ghost use Rattle.outside.specs.State.{is_running};
+ghost use Rattle.outside.specs.declared.step.WorldStep.TheVariants.{TookInto};
 ghost use Rattle.outside.specs.Calls.{start_steps, give_steps, take_steps, end_steps, IsTakenIn};
 ghost use Rattle.sim_world.specs.Lives.{has_life, took_of};
 ghost use Rattle.sim_world.specs.Tally.{tally_stray};
@@ -115,16 +116,15 @@ impl Parts {
     }
 
     /// Takes from an application; `copy` is as long as what comes.
-    #[tactic(auto, unfolding(outside::specs::State::after_step, outside::specs::Calls::take_steps, crate::specs::Scripts::IsScripted, crate::specs::Lives::life_of, crate::specs::Lives::is_known))]
+    #[tactic(auto, unfolding(outside::specs::State::after_step, crate::specs::Lives::life_of, crate::specs::Lives::is_known))]
     fn take_with(&mut self, app: u32, buf: &mut [u8], copy: Vec<u8>, stray: bool) -> Taken
         requires promised { length self.old.state.running + 1 ≤ self.old.room }
         requires known { has_life app self.old.lives ≡ true }
         requires few { (lives_of self.old app).take_calls < 2 ^ 64 - 1 }
         requires room { 0 < length buf.old }
         requires len { length copy.items ≡ length (taken_bytes (next_taken self.old.told app (length buf.old) (lives_of self.old app))) }
-        ensures moves { Moves self.old self.new (take_steps app (Result.Ok result) buf.new) (tally_stray stray (take_tally (Result.Ok result) self.old.tally)) }
+        ensures moves { Moves self.old self.new (TookInto app (took_of result buf.new) (length buf.new) ∷ []) (tally_stray stray (take_tally (Result.Ok result) self.old.tally)) }
         ensures taken { IsTakenIn result buf.new }
-        ensures scripted { AreScripted self.old.scripts self.old.told (take_steps app (Result.Ok result) buf.new) (lives_of self.old) }
         ensures what { took_of result buf.new ≡ next_taken self.old.told app (length buf.old) (lives_of self.old app) }
     {
         let taken = self.lives.take(&self.told, app, buf);
@@ -157,7 +157,7 @@ impl Parts {
     }
 
     /// Ends an application, if it was started.
-    #[tactic(auto, unfolding(outside::specs::Calls::end_steps, crate::specs::Scripts::IsScripted))]
+    #[tactic(auto, using(crate::specs::DoingLaws::fewer_run, crate::specs::DoingLaws::Moves_none), unfolding(outside::specs::Calls::end_steps, crate::specs::Scripts::IsScripted))]
     pub(crate) fn end(&mut self, app: u32)
         requires { AppsStand self.old }
         ensures moves { Moves self.old self.new (end_steps app (is_running app self.old.state)) self.old.tally }

@@ -1,4 +1,4 @@
-use Rattle.std.proofs.Common.{sym, ◌∙◌, ap}
+use Rattle.std.proofs.Common.{sym, ◌∙◌}
 use Rattle.sim_world.specs.LifeLaws.{passed-next}
 use Rattle.sim_world.proofs.life.pass.Goals as goal
 

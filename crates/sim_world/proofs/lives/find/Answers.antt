@@ -1,4 +1,4 @@
-use Rattle.std.proofs.Common.{◌≡◌, ℕ, ◌+◌, ◌-◌, ◌^◌, ◌<◌, sym, ap, subst, ◌∙◌, refl, arith, length, get_or}
+use Rattle.std.proofs.Common.{arith}
 use Rattle.sim_world.specs.CellLaws.{first_cell, no_cell}
 use Rattle.sim_world.proofs.lives.find.Goals as goal
 

@@ -1,8 +1,6 @@
-use Rattle.std.proofs.Common.{◌≡◌, ℕ, ◌+◌, ◌-◌, ◌^◌, ◌<◌, sym, ap, subst, ◌∙◌, refl, arith, length, get_or}
-use Rattle.sim_world.specs.Scripts.{Life, after_start, after_gave, after_gone, after_take, after_end, next_taken, will_start, will_give}
-use Rattle.of_types.specs.declared.journal.TookWhat.{TookWhat}
-use Rattle.sim_world.specs.Lives.{took_of, life_of_cell}
-use Rattle.sim_world.specs.CellLaws.{first_start_calls, first_give_calls, first_take_calls, first_running, first_is, Moved-cell, Moved-unknown, has_life-cell, unknown_is_fresh}
+use Rattle.std.proofs.Common.{ℕ, ◌-◌, ◌^◌, ◌<◌, subst}
+use Rattle.sim_world.specs.Scripts.{after_gone}
+use Rattle.sim_world.specs.CellLaws.{first_give_calls, Moved-cell}
 use Rattle.sim_world.proofs.lives.gone_in.Goals as goal
 
 pub gone-requires : goal.gone-requires

@@ -1,8 +1,7 @@
-use Rattle.std.proofs.Common.{◌≡◌, ℕ, ◌+◌, ◌-◌, ◌^◌, ◌<◌, sym, ap, subst, ◌∙◌, refl, arith, length, get_or}
-use Rattle.sim_world.specs.Scripts.{Life, after_start, after_gave, after_gone, after_take, after_end, next_taken, will_start, will_give}
-use Rattle.of_types.specs.declared.journal.TookWhat.{TookWhat}
-use Rattle.sim_world.specs.Lives.{took_of, life_of_cell}
-use Rattle.sim_world.specs.CellLaws.{first_start_calls, first_give_calls, first_take_calls, first_running, first_is, Moved-cell, Moved-unknown, has_life-cell, unknown_is_fresh}
+use Rattle.std.proofs.Common.{ℕ, ◌-◌, ◌^◌, ◌<◌, subst, ◌∙◌, length}
+use Rattle.sim_world.specs.Scripts.{Life, after_take, next_taken}
+use Rattle.sim_world.specs.Lives.{took_of}
+use Rattle.sim_world.specs.CellLaws.{first_take_calls, first_is, Moved-cell}
 use Rattle.sim_world.proofs.lives.take_in.Goals as goal
 
 pub take-requires-clause-few : goal.take-requires-clause-few

@@ -1,4 +1,4 @@
-use Rattle.std.proofs.Common.{◌≡◌, ℕ, ◌+◌, sym, ap, ◌∙◌, refl, arith, length, get_or}
+use Rattle.std.proofs.Common.{◌∙◌, arith, get_or}
 use Rattle.std.proofs.lemmas.Option.{slice_get-get_or}
 use Rattle.sim_world.specs.LifeLaws.{lines_of-same, lines_of-other, lines_of-end}
 use Rattle.sim_world.proofs.scripts.find_line.Goals as goal

@@ -1,4 +1,4 @@
-use Rattle.std.proofs.Common.{◌≡◌, ℕ, ◌+◌, sym, ap, ◌∙◌, refl, arith, length, get_or}
+use Rattle.std.proofs.Common.{sym, ap, get_or}
 use Rattle.std.proofs.lemmas.Option.{slice_get-get_or, slice_get_within}
 use Rattle.app_frames.specs.declared.script.StartScript.TheVariants.{Ready}
 use Rattle.sim_world.specs.Scripts.{start_or_ready}

@@ -1,4 +1,4 @@
-use Rattle.std.proofs.Common.{◌≡◌, ℕ, ◌+◌, sym, ap, ◌∙◌, refl, arith, length}
+use Rattle.std.proofs.Common.{◌∙◌}
 use Rattle.sim_world.specs.LifeLaws.{next_turn-cell, life-turn, IsCellOf-turn}
 use Rattle.sim_world.proofs.life.LifeCell.begin_turn.Goals as goal
 

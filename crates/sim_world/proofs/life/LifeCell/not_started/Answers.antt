@@ -1,4 +1,4 @@
-use Rattle.std.proofs.Common.{◌≡◌, ℕ, ◌+◌, sym, ap, ◌∙◌, refl, arith, length, get_or}
+use Rattle.std.proofs.Common.{sym, ◌∙◌}
 use Rattle.sim_world.specs.Lives.{life_of_cell}
 use Rattle.sim_world.specs.LifeLaws.{after_start-refused, after_start-missed}
 use Rattle.sim_world.proofs.life.LifeCell.not_started.Goals as goal

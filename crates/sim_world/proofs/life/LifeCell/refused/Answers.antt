@@ -1,4 +1,4 @@
-use Rattle.std.proofs.Common.{◌≡◌, ℕ, ◌+◌, sym, ap, ◌∙◌, refl, arith, length, get_or}
+use Rattle.std.proofs.Common.{refl}
 use Rattle.sim_world.specs.Lives.{life_of_cell}
 use Rattle.sim_world.specs.LifeLaws.{IsCellOf-start}
 use Rattle.sim_world.proofs.life.LifeCell.refused.Goals as goal

@@ -1,4 +1,4 @@
-use Rattle.std.proofs.Common.{◌≡◌, ℕ, ◌+◌, sym, ap, ◌∙◌, refl, arith, length}
+use Rattle.std.proofs.Common.{◌∙◌}
 use Rattle.sim_world.specs.LifeLaws.{next_start-cell, life-started, IsCellOf-start}
 use Rattle.sim_world.proofs.life.LifeCell.started.Goals as goal
 

@@ -1,7 +1,5 @@
-use Rattle.std.proofs.Common.{◌≡◌, ℕ, ◌+◌, Bool, true, false, not, ◌||◌, refl, sym, ap, ◌∙◌, length}
-use Rattle.sim_world.specs.Told.{is_told}
-use Rattle.sim_world.specs.Scripts.{Life, next_taken, take_fault, after_take, given_of, left_of}
-use Rattle.sim_world.specs.Lives.{life_of_cell, took_of}
+use Rattle.std.proofs.Common.{sym, ◌∙◌}
+use Rattle.sim_world.specs.Lives.{life_of_cell}
 use Rattle.sim_world.specs.ScriptLaws.{fault-closed, fault-silent, fault-none, taken-fault, taken-left, kept-fault, kept-left}
 use Rattle.sim_world.proofs.life.LifeCell.take.Goals as goal
 

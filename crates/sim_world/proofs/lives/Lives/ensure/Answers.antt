@@ -1,7 +1,6 @@
-use Rattle.std.proofs.Common.{◌≡◌, ℕ, List, refl, sym, ap, ◌∙◌}
-use Rattle.std.proofs.lemmas.List.Elements.{All-push}
+use Rattle.std.proofs.Common.{refl, sym, ap, ◌∙◌}
 use Rattle.sim_world.specs.Scripts.{fresh}
-use Rattle.sim_world.specs.Lives.{IsCellOf, life_in, has_life, life_of, is_known}
+use Rattle.sim_world.specs.Lives.{life_in, has_life, life_of, is_known}
 use Rattle.sim_world.specs.CellLaws.{pushed, has_life-new, has_life-kept, has_life-cell, first_known, life_in-fresh, seen_life, seen_known}
 use Rattle.sim_world.proofs.lives.Lives.ensure.Goals as goal
 

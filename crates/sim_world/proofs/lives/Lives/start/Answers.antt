@@ -1,11 +1,11 @@
-use Rattle.std.proofs.Common.{◌≡◌, ℕ, ◌+◌, ◌-◌, ◌^◌, ◌<◌, sym, ap, subst, ◌∙◌, refl, arith, length, get_or, List}
-use Rattle.of_types.specs.declared.journal.Act.TheVariants.{Started, Gave, Gone, Ended}
-use Rattle.outside.specs.declared.step.WorldStep.TheVariants.{Acted, TookInto}
-use Rattle.sim_world.specs.Scripts.{Life, next_taken, will_start, will_give}
+use Rattle.std.proofs.Common.{◌-◌, ◌^◌, ◌<◌, sym, ap, subst, ◌∙◌, arith, List}
+use Rattle.of_types.specs.declared.journal.Act.TheVariants.{Started}
+use Rattle.outside.specs.declared.step.WorldStep.TheVariants.{Acted}
+use Rattle.sim_world.specs.Scripts.{Life}
 use Rattle.std.proofs.lemmas.List.{with_items_is}
 use Rattle.sim_world.specs.declared.life.LifeCell.{LifeCell}
-use Rattle.sim_world.specs.Lives.{life_of, is_known, took_of, life_in, has_life, named_lives}
-use Rattle.sim_world.specs.CellLaws.{seen_life, seen_known, seen_cell, seen_steps, lives-started, lives-gave, lives-gone, lives-taken, lives-ended}
+use Rattle.sim_world.specs.Lives.{life_of, is_known, life_in, has_life, named_lives}
+use Rattle.sim_world.specs.CellLaws.{seen_life, seen_known, seen_cell, seen_steps, lives-started}
 use Rattle.sim_world.proofs.lives.Lives.start.Goals as goal
 
 pub start_in-requires-clause-known : goal.start_in-requires-clause-known

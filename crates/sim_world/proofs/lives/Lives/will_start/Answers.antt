@@ -1,9 +1,7 @@
-use Rattle.std.proofs.Common.{◌≡◌, ℕ, ◌+◌, ◌-◌, ◌^◌, ◌<◌, sym, ap, subst, ◌∙◌, refl, arith, length, get_or}
-use Rattle.of_types.specs.declared.journal.Act.TheVariants.{Started, Gave, Gone, Ended}
-use Rattle.outside.specs.declared.step.WorldStep.TheVariants.{Acted, TookInto}
-use Rattle.sim_world.specs.Scripts.{Life, next_taken, will_start, will_give}
-use Rattle.sim_world.specs.Lives.{life_of, is_known, took_of}
-use Rattle.sim_world.specs.CellLaws.{seen_life, seen_known, seen_cell, seen_start, lives-started, lives-gave, lives-gone, lives-taken, lives-ended}
+use Rattle.std.proofs.Common.{◌-◌, ◌^◌, ◌<◌, sym, subst, ◌∙◌}
+use Rattle.sim_world.specs.Scripts.{Life}
+use Rattle.sim_world.specs.Lives.{life_of}
+use Rattle.sim_world.specs.CellLaws.{seen_life, seen_cell, seen_start}
 use Rattle.sim_world.proofs.lives.Lives.will_start.Goals as goal
 
 pub will_start_in-requires-clause-known : goal.will_start_in-requires-clause-known
