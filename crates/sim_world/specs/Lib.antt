@@ -1,0 +1,2 @@
+pub mod LinkWaits
+pub mod Links

@@ -1,0 +1,8 @@
+//! The simulated world's switches: each with its link and what waits of it, and all of them by their numbers.
+#![tactic(auto)]
+
+mod fail_numbers;
+mod waits;
+
+pub use fail_numbers::FailNumbers;
+pub use waits::Waits;
