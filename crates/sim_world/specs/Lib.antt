@@ -1,2 +1,1 @@
 pub mod LinkWaits
-pub mod Links

@@ -16,7 +16,8 @@ pub struct FailNumbers {
 }
 
 impl Model for FailNumbers {
-    ghost use Rattle.std.specs.Prelude.{◌≡◌, ℕ, List, nat_cmp};
+    ghost use Rattle.std.specs.Prelude.{◌≡◌, ℕ, List};
+    ghost use Rattle.std.specs.Ordering.{nat_cmp};
     ghost use Rattle.std.specs.BTreeSet.{contains};
     ghost use Rattle.sim_world.specs.LinkWaits.{is_number};
 
@@ -53,6 +54,6 @@ impl FailNumbers {
     pub fn contains(&self, number: u64) -> bool
         ensures { result ≡ is_number number self.now }
     {
-        self.set.contains(number)
+        self.set.contains(&number)
     }
 }
