@@ -1,1 +1,3 @@
 pub mod LinkWaits
+pub mod Links
+pub mod LinksLaws
