@@ -2,7 +2,9 @@
 #![tactic(auto)]
 
 mod fail_numbers;
+mod link;
 mod waits;
 
 pub use fail_numbers::FailNumbers;
+pub use link::SimLink;
 pub use waits::Waits;
