@@ -74,6 +74,7 @@ put_declared least l (m ∷ ms) from small none are =
     apart_of : (b : Bool) → (if b then Some m else link_of l.declared.dpid ms) ≡ None → b ≡ false
     apart_of true none = cc
     apart_of false none = refl
+
     cond_false : (m.declared.dpid == l.declared.dpid) ≡ false → link_of l.declared.dpid (m ∷ ms) ≡ None → link_of l.declared.dpid ms ≡ None
     cond_false apart none = sym (cond-false (m.declared.dpid == l.declared.dpid) (Some m) (link_of l.declared.dpid ms) apart) ∙ none
 
