@@ -1,3 +1,4 @@
 pub mod LinkWaits
 pub mod Links
+pub mod LinkLaws
 pub mod LinksLaws

@@ -1,13 +1,12 @@
 -- The switches of a simulated world as they are held, and what holds of each. All of this is our own choice.
-use Rattle.std.specs.Prelude.{◌≡◌, ◌≢◌, ◌==◌, ℕ, ◌+◌, ◌-◌, ◌^◌, ◌<◌, ◌≤◌, Bool, not, nat_lt, List, [], ◌∷◌, ◌++◌, length, map, Option, Some, None, IfSome, All, IsOk, is_some, slice_index_or, if◌then◌else◌}
-use Rattle.std.specs.List.{flat_map, sum_by}
-use Rattle.of_types.specs.declared.journal.Stimulus.{Stimulus}
+use Rattle.std.specs.Prelude.{◌≡◌, ◌≢◌, ℕ, ◌-◌, ◌^◌, ◌<◌, ◌≤◌, nat_lt, List, [], ◌∷◌, length, map, Option, Some, None, IfSome, All, IsOk, is_some, slice_index_or, if◌then◌else◌}
+use Rattle.std.specs.List.{flat_map}
 use Rattle.of_types.specs.declared.journal.Stimulus.TheVariants.{Advance}
 use Rattle.of_wire.specs.Reading.{reading_of}
 use Rattle.flow_table.specs.Switch.{Declared, SwitchState, joined_at, features_reply}
 use Rattle.outside.specs.declared.step.WorldStep.{WorldStep}
 use Rattle.outside.specs.declared.step.WorldStep.TheVariants.{From}
-use Rattle.outside.specs.State.{Link, link_of, stimulus_sends}
+use Rattle.outside.specs.State.{Link, stimulus_sends}
 use Rattle.outside.specs.Conforming.{AreDeclaredFrom}
 use Rattle.sim_world.specs.LinkWaits.{AreShort}
 

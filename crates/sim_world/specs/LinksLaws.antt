@@ -1,6 +1,6 @@
 -- Laws of the switches of a simulated world, all together: what one change, or the same of all, keeps of what holds of each.
-use Rattle.std.specs.Prelude.{◌≡◌, ◌≢◌, ◌==◌, ℕ, ◌+◌, ◌*◌, ◌<◌, ◌≤◌, Bool, true, false, nat_lt, List, [], ◌∷◌, ◌++◌, length, map, Option, Some, None, IfSome, All, slice_get, slice_index_or, slice_set, if◌then◌else◌, refl}
-use Rattle.std.specs.List.{AllByRecursion, flat_map}
+use Rattle.std.specs.Prelude.{◌≡◌, ◌≢◌, ◌==◌, ℕ, ◌+◌, ◌*◌, ◌<◌, ◌≤◌, Bool, true, false, nat_lt, List, [], ◌∷◌, ◌++◌, length, map, Option, Some, None, IfSome, slice_get, slice_index_or, slice_set, if◌then◌else◌, refl}
+use Rattle.std.specs.List.{AllByRecursion}
 use Rattle.std.specs.Option.{is_some}
 use Rattle.std.proofs.Common.{zero, suc, sym, ap, ◌∙◌, subst, arith, length-append}
 use Rattle.std.proofs.lemmas.Bool.{eq-eqb, eqb-false, ne_eqb, ltb-true, ltb-false, cond_both, cond-false}
@@ -11,7 +11,7 @@ use Rattle.of_types.specs.declared.journal.WorldStim.TheVariants.{Join, Leave, A
 use Rattle.flow_table.specs.Switch.{Declared}
 use Rattle.outside.specs.declared.step.WorldStep.{WorldStep}
 use Rattle.outside.specs.declared.step.WorldStep.TheVariants.{From}
-use Rattle.outside.specs.State.{Link, State, link_of, with_link, links_after, join_due, due_of, is_joined, switch_of, after_stim, upcoming}
+use Rattle.outside.specs.State.{Link, State, link_of, with_link, links_after, join_due, due_of, is_joined, after_stim, upcoming}
 use Rattle.outside.specs.LinkLaws.{KeepsDeclared}
 use Rattle.outside.specs.Conforming.{AreDeclaredFrom}
 use Rattle.sim_world.specs.Links.{Held, links_in, waiting_in, declared_in, insert_link, AreLinks, HasPlace, HasNoPlace, WaitsFirst, NoneWaits}
@@ -110,6 +110,11 @@ links_in-changed d change (g ∷ gs) (suc place) h x has changed =
 
 pub links_in-kept : (held : List Held) (place : ℕ) (h x : Held) → h.link ≡ (slice_index_or held place x).link → links_in (slice_set held place h) ≡ links_in held
 links_in-kept held place h x kept = map-set_same (λ (g : Held). g.link) held place h x kept
+
+pub declared_in-set : (held : List Held) (place : ℕ) (h x : Held) → h.link.declared ≡ (slice_index_or held place x).link.declared → declared_in (links_in (slice_set held place h)) ≡ declared_in (links_in held)
+declared_in-set [] place h x same = refl
+declared_in-set (g ∷ gs) zero h x same = ap (λ (d : Declared). d ∷ declared_in (links_in gs)) same
+declared_in-set (g ∷ gs) (suc place) h x same = ap (λ (ds : List Declared). g.link.declared ∷ ds) (declared_in-set gs place h x same)
 
 pub link_of-held : (d : ℕ) (held : List Held) (place : ℕ) (x : Held) → HasPlace d held place → link_of d (links_in held) ≡ Some (slice_index_or held place x).link
 link_of-held d [] place x has = absurd (omega (arith, has.within))

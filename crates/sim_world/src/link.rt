@@ -7,6 +7,7 @@ ghost use Rattle.of_wire.specs.Reading.{reading_of};
 ghost use Rattle.of_wire.specs.Spelling.{message_size};
 ghost use Rattle.flow_table.specs.Step.{after_stimulus};
 ghost use Rattle.flow_table.specs.Switch.{Declared};
+ghost use Rattle.switch_sim.specs.Readable.{IsNotRaw};
 ghost use Rattle.outside.specs.Calls.{IsFeaturesOf};
 ghost use Rattle.outside.specs.Conforming.{IsStimulus};
 ghost use Rattle.outside.specs.State.{is_empty, is_failing, link_at_first, link_joined, link_left, link_stimulated, link_sent, link_got, link_told, link_failed, stimulus_sends, switch_told, message_sends};
@@ -15,9 +16,11 @@ ghost use Rattle.sim_world.specs.Links.{IsDeclaredAs, StandsBy, SerialsBelow, Ar
 
 use crate::fail_numbers::FailNumbers;
 use crate::waits::Waits;
-use of_types::{Dpid, PortNo};
+use of_types::{ByteList, Dpid, PortNo, Stimulus};
+use of_wire::{Envelope, decode};
 use std::alloc::{AllocError, Global};
 use std::marker::Model;
+use std::mem;
 use switch_sim::{MessageList, SimSwitch};
 
 /// A switch that is declared, with its link: the switch while it is joined, what it sent and was not taken yet, and which
@@ -61,6 +64,85 @@ impl Model for SimLink {
         × IsDeclaredAs (record { dpid = s.dpid; cap = s.cap; ports = s.ports.items }) s.switch };
 }
 
+/// Reads a frame that spells a message.
+fn read(alloc: Global, frame: &[u8]) -> Result<Envelope, AllocError>
+    requires { IsOk (reading_of frame.now) }
+    ensures read { IfOk result (λ e. reading_of frame.now ≡ Ok e) }
+    ensures size { IfOk result (λ e. message_size e.message ≤ 65535) }
+{
+    match decode(alloc, frame) {
+        Ok(envelope) => Ok(envelope),
+        Err(_) => Err(AllocError),
+    }
+}
+
+/// Sends a frame to the switch, where it is joined, and gives what that sends.
+fn tell(
+    alloc: Global,
+    switch: &mut Option<SimSwitch>,
+    frame: &[u8],
+) -> Result<MessageList, AllocError>
+    requires frame { IsOk (reading_of frame.now) }
+    requires serials { SerialsBelow (2 ^ 64 - 1) switch.old }
+    ensures sent { IfOk result (λ list. list ≡ message_sends (reading_of frame.now) switch.old) }
+    ensures readable { IfOk result AreReadable }
+    ensures short { IfOk result AreShort }
+    ensures ok { OnOk result (switch.new ≡ switch_told (reading_of frame.now) switch.old) }
+    ensures err { OnErr result (switch.new ≡ switch.old) }
+{
+    let envelope = read(alloc, frame)?;
+    match switch {
+        None => Ok(MessageList::new(alloc)),
+        Some(switch) => switch.message(envelope.xid, &envelope.message),
+    }
+}
+
+/// Lets something happen to the switch, where it is joined, and gives what that sends.
+fn happen(
+    alloc: Global,
+    switch: &mut Option<SimSwitch>,
+    x: &Stimulus,
+) -> Result<MessageList, AllocError>
+    requires { IsStimulus x.now }
+    ensures sent { IfOk result (λ list. list ≡ stimulus_sends x.now switch.old) }
+    ensures readable { IsNotRaw x.now → IfOk result AreReadable }
+    ensures short { IfOk result AreShort }
+    ensures few { (d : Declared) → IsDeclaredAs d switch.old → d.cap ≤ 4096 → IfOk result (λ list. length list ≤ 8192) }
+    ensures ok { OnOk result (switch.new ≡ option_map (after_stimulus x.now) switch.old) }
+    ensures err { OnErr result (switch.new ≡ switch.old) }
+{
+    match switch {
+        None => Ok(MessageList::new(alloc)),
+        Some(switch) => switch.stimulus(x),
+    }
+}
+
+/// What the switch sends, where it is joined, when the moment moves on.
+fn due_at(alloc: Global, switch: &Option<SimSwitch>, moment: u64) -> Result<MessageList, AllocError>
+    requires after { StandsBy moment switch.now }
+    requires within { moment ≤ 4294967295 }
+    ensures sent { IfOk result (λ list. list ≡ stimulus_sends (Advance moment) switch.now) }
+    ensures readable { IfOk result AreReadable }
+    ensures short { IfOk result AreShort }
+    ensures few { (d : Declared) → IsDeclaredAs d switch.now → IfOk result (λ list. length list ≤ d.cap) }
+{
+    match switch {
+        None => Ok(MessageList::new(alloc)),
+        Some(switch) => switch.due(moment),
+    }
+}
+
+/// Moves the switch on to a moment, where it is joined.
+fn pass_to(switch: &mut Option<SimSwitch>, moment: u64)
+    requires after { StandsBy moment switch.old }
+    requires within { moment ≤ 4294967295 }
+    ensures { switch.new ≡ option_map (after_stimulus (Advance moment)) switch.old }
+{
+    if let Some(switch) = switch {
+        switch.pass(moment);
+    }
+}
+
 impl SimLink {
     /// A switch that is out: its number, how many entries its table takes, and its ports, at most 64. No call of its link
     /// is to fail.
@@ -86,6 +168,7 @@ impl SimLink {
     pub fn fail_at(&mut self, number: u64) -> Result<(), AllocError>
         ensures ok { OnOk result (self.new.link ≡ record self.old.link { fails = self.old.link.fails ++ number ∷ [] }) }
         ensures err { OnErr result (self.new.link ≡ self.old.link) }
+        ensures declared { self.new.link.declared ≡ self.old.link.declared }
     {
         self.fails.add(number)
     }
@@ -119,13 +202,96 @@ impl SimLink {
         self.failed || self.fails.contains(self.calls + 1)
     }
 
+    /// The switch joins at a moment, in seconds and at most 4,294,967,295, where it is out; gives its FEATURES_REPLY then.
+    /// After want of memory it is as before.
+    #[tactic(auto, unfolding(outside::specs::State::link_joined))]
+    pub fn join(&mut self, moment: u64) -> Result<Option<ByteList>, AllocError>
+        requires { moment ≤ 4294967295 }
+        ensures told { IfOk result (λ features. features ≡ features_at_join moment self.old.link) }
+        ensures own { IfOk result (λ features. IfSome features (IsFeaturesOf self.old.link.declared.dpid)) }
+        ensures short { IfOk result (λ features. IfSome features (λ bytes. length bytes ≤ 65535)) }
+        ensures ok { OnOk result (self.new.link ≡ link_joined moment self.old.link) }
+        ensures err { OnErr result (self.new.link ≡ self.old.link) }
+        ensures declared { self.new.link.declared ≡ self.old.link.declared }
+    {
+        if self.switch.is_some() {
+            return Ok(None);
+        }
+        let switch = SimSwitch::joined(self.alloc, moment, self.dpid, self.cap, &self.ports)?;
+        let features = switch.features()?;
+        self.switch = Some(switch);
+        self.failed = false;
+        Ok(Some(features))
+    }
+
     /// The switch leaves, with all that it held; takes no memory.
     #[tactic(auto, unfolding(outside::specs::State::link_left))]
     pub fn leave(&mut self)
-        ensures { self.new.link ≡ link_left self.old.link }
+        ensures left { self.new.link ≡ link_left self.old.link }
+        ensures declared { self.new.link.declared ≡ self.old.link.declared }
     {
         self.switch = None;
         self.waits.clear();
+    }
+
+    /// Something happens to the switch, where it is joined. After want of memory it is as before.
+    #[tactic(auto, unfolding(outside::specs::State::link_stimulated))]
+    pub fn stimulate(&mut self, x: &Stimulus) -> Result<(), AllocError>
+        requires { IsStimulus x.now }
+        ensures ok { OnOk result (self.new.link ≡ link_stimulated x.now self.old.link) }
+        ensures few { self.old.link.declared.cap ≤ 4096 → OnOk result (length self.new.link.waits ≤ length self.old.link.waits + 8192) }
+        ensures readable { IsNotRaw x.now → AreReadable self.old.link.waits → AreReadable self.new.link.waits }
+        ensures err { OnErr result (self.new.link ≡ self.old.link) }
+        ensures declared { self.new.link.declared ≡ self.old.link.declared }
+    {
+        self.waits.reserve_batch()?;
+        let sent = happen(self.alloc, &mut self.switch, x)?;
+        self.waits.push_batch(sent);
+        Ok(())
+    }
+
+    /// Makes ready for a moment, in seconds, not before the last and at most 4,294,967,295. The link stays.
+    pub fn prepare(&mut self, moment: u64) -> Result<(), AllocError>
+        requires after { StandsBy moment self.old.link.switch }
+        requires within { moment ≤ 4294967295 }
+        ensures same { self.new.link ≡ self.old.link }
+        ensures ready { OnOk result (IsReady moment self.new) }
+        ensures declared { self.new.link.declared ≡ self.old.link.declared }
+    {
+        self.waits.reserve_batch()?;
+        self.due = due_at(self.alloc, &self.switch, moment)?;
+        Ok(())
+    }
+
+    /// The moment moves on to the one for which the link was made ready; takes no memory.
+    #[tactic(auto, unfolding(outside::specs::State::link_stimulated))]
+    pub fn pass(&mut self, moment: u64)
+        requires after { StandsBy moment self.old.link.switch }
+        requires within { moment ≤ 4294967295 }
+        requires ready { IsReady moment self.old }
+        ensures passed { self.new.link ≡ link_stimulated (Advance moment) self.old.link }
+        ensures declared { self.new.link.declared ≡ self.old.link.declared }
+    {
+        let due = mem::replace(&mut self.due, MessageList::new(self.alloc));
+        pass_to(&mut self.switch, moment);
+        self.waits.push_batch(due);
+    }
+
+    /// A frame that spells a message is sent to the switch by a call of its link. After want of memory all is as before.
+    #[tactic(auto, unfolding(outside::specs::State::link_sent))]
+    pub fn send(&mut self, frame: &[u8]) -> Result<(), AllocError>
+        requires frame { IsOk (reading_of frame.now) }
+        requires may { MayCall self.old.link }
+        ensures ok { OnOk result (self.new.link ≡ link_sent frame.now self.old.link) }
+        ensures readable { AreReadable self.old.link.waits → AreReadable self.new.link.waits }
+        ensures err { OnErr result (self.new.link ≡ self.old.link) }
+        ensures declared { self.new.link.declared ≡ self.old.link.declared }
+    {
+        self.waits.reserve_batch()?;
+        let sent = tell(self.alloc, &mut self.switch, frame)?;
+        self.waits.push_batch(sent);
+        self.calls += 1;
+        Ok(())
     }
 
     /// Takes the oldest message that waits, by a call of its link, into the front of the buffer, and answers its length;
@@ -138,6 +304,7 @@ impl SimLink {
         ensures len { IfSome result (λ n. n ≤ 65535) }
         ensures some { IfSome result (λ n. self.new.link ≡ link_got self.old.link) }
         ensures none { IfNone result ((self.old.link.waits ≡ []) × (self.new.link ≡ self.old.link)) }
+        ensures declared { self.new.link.declared ≡ self.old.link.declared }
     {
         let len = self.waits.take_into(buf)?;
         self.calls += 1;
@@ -153,6 +320,7 @@ impl SimLink {
         ensures len { IfSome result (λ n. n ≤ 65535) }
         ensures some { IfSome result (λ n. self.new.link ≡ link_told self.old.link) }
         ensures none { IfNone result ((self.old.link.waits ≡ []) × (self.new.link ≡ self.old.link)) }
+        ensures declared { self.new.link.declared ≡ self.old.link.declared }
     {
         self.waits.take_into(buf)
     }
@@ -161,7 +329,8 @@ impl SimLink {
     #[tactic(auto, unfolding(outside::specs::State::link_failed))]
     pub fn fail(&mut self)
         requires { self.old.link.calls < 2 ^ 64 - 1 }
-        ensures { self.new.link ≡ link_failed self.old.link }
+        ensures failed { self.new.link ≡ link_failed self.old.link }
+        ensures declared { self.new.link.declared ≡ self.old.link.declared }
     {
         self.failed = self.is_failing();
         self.calls += 1;
