@@ -1,5 +1,5 @@
 -- The switches of a simulated world as they are held, and what holds of each. All of this is our own choice.
-use Rattle.std.specs.Prelude.{◌≡◌, ◌≢◌, ℕ, ◌-◌, ◌^◌, ◌<◌, ◌≤◌, nat_lt, List, [], ◌∷◌, length, map, Option, Some, None, IfSome, All, IsOk, is_some, slice_index_or, if◌then◌else◌}
+use Rattle.std.specs.Prelude.{◌≡◌, ◌≢◌, ℕ, ◌-◌, ◌^◌, ◌<◌, ◌≤◌, nat_lt, List, [], ◌∷◌, ◌++◌, length, map, Option, Some, None, IfSome, All, IsOk, is_some, slice_index_or, if◌then◌else◌}
 use Rattle.std.specs.List.{flat_map}
 use Rattle.of_types.specs.declared.journal.Stimulus.TheVariants.{Advance}
 use Rattle.of_wire.specs.Reading.{reading_of}
@@ -62,6 +62,7 @@ pub record IsReady (moment : ℕ) (h : Held) : Type 0 where
   pub room : 0 < h.room
   pub due : h.due ≡ stimulus_sends (Advance moment) h.link.switch
   pub short : AreShort h.due
+  pub readable : AreReadable h.due
   pub few : length h.due ≤ h.link.declared.cap
 
 -- ---- What calls tell
@@ -69,6 +70,14 @@ pub record IsReady (moment : ℕ) (h : Held) : Type 0 where
 -- the FEATURES_REPLY that is told of a switch that joins, where it is out
 abbrev pub features_at_join : ℕ → Link → Option (List ℕ)
 features_at_join moment l = if is_some l.switch then None else Some (features_reply 0 (joined_at moment l.declared))
+
+abbrev pub features_of_join : ℕ → Option Link → Option (List ℕ)
+features_of_join moment None = None
+features_of_join moment (Some l) = features_at_join moment l
+
+-- one call more is to fail
+abbrev pub fails_at : ℕ → Link → Link
+fails_at number l = record l { fails = l.fails ++ number ∷ [] }
 
 -- ---- All links
 
@@ -98,6 +107,10 @@ pub record HasPlace (d : ℕ) (held : List Held) (place : ℕ) : Type 0 where
 -- no switch of the number is held
 abbrev pub HasNoPlace : ℕ → List Held → Type 0
 HasNoPlace d held = (k : ℕ) (h : Held) → k < length held → (slice_index_or held k h).link.declared.dpid ≢ d
+
+-- all are made ready for the moment
+abbrev pub AreReady : ℕ → List Held → Type 0
+AreReady moment held = (k : ℕ) (h : Held) → k < length held → IsReady moment (slice_index_or held k h)
 
 abbrev pub IsPlaceOf : ℕ → List Held → Option ℕ → Type 0
 IsPlaceOf d held None = HasNoPlace d held

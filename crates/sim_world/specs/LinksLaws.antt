@@ -1,20 +1,23 @@
 -- Laws of the switches of a simulated world, all together: what one change, or the same of all, keeps of what holds of each.
-use Rattle.std.specs.Prelude.{◌≡◌, ◌≢◌, ◌==◌, ℕ, ◌+◌, ◌*◌, ◌<◌, ◌≤◌, Bool, true, false, nat_lt, List, [], ◌∷◌, ◌++◌, length, map, Option, Some, None, IfSome, slice_get, slice_index_or, slice_set, if◌then◌else◌, refl}
+use Rattle.std.specs.Prelude.{◌≡◌, ◌≢◌, ◌==◌, ℕ, ◌+◌, ◌*◌, ◌<◌, ◌≤◌, Bool, true, false, nat_lt, List, [], ◌∷◌, ◌++◌, length, map, Option, Some, None, IfSome, slice_get, slice_index_or, slice_set, if◌then◌else◌, refl, Result, Ok, Err, IsOk, OnOk, OnErr}
 use Rattle.std.specs.List.{AllByRecursion}
 use Rattle.std.specs.Option.{is_some}
 use Rattle.std.proofs.Common.{zero, suc, sym, ap, ◌∙◌, subst, arith, length-append}
 use Rattle.std.proofs.lemmas.Bool.{eq-eqb, eqb-false, ne_eqb, ltb-true, ltb-false, cond_both, cond-false}
 use Rattle.std.proofs.Math.Seq.{map-set_same}
 use Rattle.std.proofs.lemmas.List.{length-map}
+use Rattle.std.proofs.lemmas.List.Elements.{All-append}
+use Rattle.of_types.specs.declared.journal.Stimulus.TheVariants.{Advance}
 use Rattle.of_types.specs.declared.journal.WorldStim.{WorldStim}
 use Rattle.of_types.specs.declared.journal.WorldStim.TheVariants.{Join, Leave, At, Of}
+use Rattle.of_wire.specs.Reading.{reading_of}
 use Rattle.flow_table.specs.Switch.{Declared}
 use Rattle.outside.specs.declared.step.WorldStep.{WorldStep}
 use Rattle.outside.specs.declared.step.WorldStep.TheVariants.{From}
-use Rattle.outside.specs.State.{Link, State, link_of, with_link, links_after, join_due, due_of, is_joined, after_stim, upcoming}
+use Rattle.outside.specs.State.{Link, State, link_of, with_link, links_after, join_due, due_of, stimulus_sends, link_stimulated, is_joined, after_stim, upcoming}
 use Rattle.outside.specs.LinkLaws.{KeepsDeclared}
 use Rattle.outside.specs.Conforming.{AreDeclaredFrom}
-use Rattle.sim_world.specs.Links.{Held, links_in, waiting_in, declared_in, insert_link, AreLinks, HasPlace, HasNoPlace, WaitsFirst, NoneWaits}
+use Rattle.sim_world.specs.Links.{Held, links_in, waiting_in, declared_in, insert_link, AreLinks, HasPlace, HasNoPlace, WaitsFirst, NoneWaits, IsReady, AreReady, AreReadable}
 
 -- ---- What holds of each
 
@@ -138,6 +141,17 @@ with_link-not_held d change (g ∷ gs) none =
     let apart : (g.link.declared.dpid == d) ≡ false = ne_eqb g.link.declared.dpid d (none 0 g (omega arith)) in
     rw apart (ap (λ (ls : List Link). g.link ∷ ls) (with_link-not_held d change gs (λ k h less. none (suc k) h (omega arith))))
 
+-- what holds of each holds with one changed, where it goes on to hold of that
+pub All-set : (P : Link → Type 0) (held : List Held) (place : ℕ) (h x : Held) → place < length held → (P (slice_index_or held place x).link → P h.link) → AllByRecursion P (links_in held) → AllByRecursion P (links_in (slice_set held place h))
+All-set P [] place h x within changes all = tt
+All-set P (g ∷ gs) zero h x within changes all = (changes all.0, all.1)
+All-set P (g ∷ gs) (suc place) h x within changes all = (all.0, All-set P gs place h x (omega arith) changes all.1)
+
+pub cap_at : (least : ℕ) (held : List Held) (place : ℕ) (x : Held) → AreDeclaredFrom least (declared_in (links_in held)) → place < length held → (slice_index_or held place x).link.declared.cap ≤ 4096
+cap_at least [] place x are within = absurd (omega arith)
+cap_at least (g ∷ gs) zero x are within = are.1
+cap_at least (g ∷ gs) (suc place) x are within = cap_at (g.link.declared.dpid + 1) gs place x are.2 (omega arith)
+
 -- where the numbers ascend, each switch is found at its place
 least_at : (least : ℕ) (held : List Held) (place : ℕ) (x : Held) → AreDeclaredFrom least (declared_in (links_in held)) → place < length held → least ≤ (slice_index_or held place x).link.declared.dpid
 least_at least [] place x are within = absurd (omega arith)
@@ -156,6 +170,39 @@ HasPlace-ascending least (g ∷ gs) (suc place) x are within =
     let rest = HasPlace-ascending (g.link.declared.dpid + 1) gs place x are.2 (omega arith) in
     let apart : g.link.declared.dpid ≢ d = λ same. absurd (omega (arith, same, least_at (g.link.declared.dpid + 1) gs place x are.2 (omega arith))) in
     record { within = within; here = rest.here; first = first_more d g gs place apart rest }
+
+-- ---- All, one after the other
+
+-- one more has what those before it have
+pub below_set : (P : ℕ → Held → Type 0) (held : List Held) (i : ℕ) (new : Held) → i < length held → ((k : ℕ) (h : Held) → k < i → P k (slice_index_or held k h)) → P i new
+    → (k : ℕ) (h : Held) → k < i + 1 → P k (slice_index_or (slice_set held i new) k h)
+below_set P [] i new within below here k h less = absurd (omega arith)
+below_set P (g ∷ gs) zero new within below here zero h less = here
+below_set P (g ∷ gs) zero new within below here (suc k) h less = absurd (omega arith)
+below_set P (g ∷ gs) (suc i) new within below here zero h less = below 0 h (omega arith)
+below_set P (g ∷ gs) (suc i) new within below here (suc k) h less =
+    below_set (λ j m. P (suc j) m) gs i new (omega arith) (λ j m j_less. below (suc j) m (omega arith)) here k h (omega arith)
+
+-- the others behind it stay
+pub above_set : (held : List Held) (i : ℕ) (new : Held) (k : ℕ) (h : Held) → i + 1 ≤ k → slice_index_or (slice_set held i new) k h ≡ slice_index_or held k h
+above_set [] i new k h more = refl
+above_set (g ∷ gs) zero new zero h more = absurd (omega arith)
+above_set (g ∷ gs) zero new (suc k) h more = refl
+above_set (g ∷ gs) (suc i) new zero h more = absurd (omega arith)
+above_set (g ∷ gs) (suc i) new (suc k) h more = above_set gs i new k h (omega arith)
+
+pub links_in-mapped : (change : Link → Link) (old new : List Held) → length new ≡ length old → ((k : ℕ) (h g : Held) → k < length old → (slice_index_or new k h).link ≡ change (slice_index_or old k g).link)
+    → links_in new ≡ map change (links_in old)
+links_in-mapped change [] [] same changed = refl
+links_in-mapped change [] (n ∷ ns) same changed = absurd (omega arith)
+links_in-mapped change (o ∷ os) [] same changed = absurd (omega arith)
+links_in-mapped change (o ∷ os) (n ∷ ns) same changed =
+    rw (changed 0 o o (omega arith), links_in-mapped change os ns (omega arith) (λ k h g less. changed (suc k) h g (omega arith))) refl
+
+pub All-at : (P : Link → Type 0) (held : List Held) (place : ℕ) (x : Held) → place < length held → AllByRecursion P (links_in held) → P (slice_index_or held place x).link
+All-at P [] place x within all = absurd (omega arith)
+All-at P (g ∷ gs) zero x within all = all.0
+All-at P (g ∷ gs) (suc place) x within all = All-at P gs place x (omega arith) all.1
 
 -- ---- What waits
 
@@ -191,10 +238,48 @@ few-with_link d n change (l ∷ ls) few = few_at (l.declared.dpid == d) (few-wit
     few_at true rest few = omega (arith, few, length-waiting_in (change l) ls, length-waiting_in l ls)
     few_at false rest few = omega (arith, rest few, length-waiting_in l (with_link d change ls), length-waiting_in l ls)
 
+pub few-set : (n : ℕ) (held : List Held) (place : ℕ) (h x : Held) → place < length held → length h.link.waits ≤ length (slice_index_or held place x).link.waits + n
+    → length (waiting_in (links_in (slice_set held place h))) ≤ length (waiting_in (links_in held)) + n
+few-set n [] place h x within few = absurd (omega arith)
+few-set n (g ∷ gs) zero h x within few = omega (arith, few, length-waiting_in h.link (links_in gs), length-waiting_in g.link (links_in gs))
+few-set n (g ∷ gs) (suc place) h x within few =
+    omega (arith, few-set n gs place h x (omega arith) few, length-waiting_in g.link (links_in gs), length-waiting_in g.link (links_in (slice_set gs place h)))
+
+-- as many more as a call that answered says, and none after want of memory
+pub few_after : {T E : Type 0} (r : Result T E) (n : ℕ) (old new : Link) → OnOk r (length new.waits ≤ length old.waits + n) → OnErr r (new ≡ old) → length new.waits ≤ length old.waits + n
+few_after (Ok x) n old new few same = few
+few_after (Err e) n old new few same = omega (arith, ap (λ (l : Link). length l.waits) same)
+
 pub few-map : (change : Link → Link) (ls : List Link) → AllByRecursion (λ l. length (change l).waits ≤ length l.waits + 4096) ls
     → length (waiting_in (map change ls)) ≤ length (waiting_in ls) + 4096 * length ls
 few-map change [] few = omega arith
 few-map change (l ∷ ls) few = omega (arith, few.0, few-map change ls few.1, length-waiting_in (change l) (map change ls), length-waiting_in l ls)
+
+few_ready : (moment : ℕ) (h : Held) → IsReady moment h → h.link.declared.cap ≤ 4096 → length (link_stimulated (Advance moment) h.link).waits ≤ length h.link.waits + 4096
+unfolding link_stimulated
+few_ready moment h ready small =
+    omega (arith, ready.few, small, ap length ready.due, length-append h.link.waits (stimulus_sends (Advance moment) h.link.switch))
+
+all_few : (moment least : ℕ) (held : List Held) → AreReady moment held → AreDeclaredFrom least (declared_in (links_in held)) → AllByRecursion (λ l. length (link_stimulated (Advance moment) l).waits ≤ length l.waits + 4096) (links_in held)
+all_few moment least [] ready are = tt
+all_few moment least (g ∷ gs) ready are =
+    (few_ready moment g (ready 0 g (omega arith)) are.1, all_few moment (g.link.declared.dpid + 1) gs (λ k h less. ready (suc k) h (omega arith)) are.2)
+
+-- When the moment moves on, each of 64 switches sends as many messages at most as its table has entries.
+pub few_passed : (moment : ℕ) (held : List Held) → AreReady moment held → AreLinks (links_in held) → length (waiting_in (map (link_stimulated (Advance moment)) (links_in held))) ≤ length (waiting_in (links_in held)) + 262144
+few_passed moment held ready links =
+    omega (arith, few-map (link_stimulated (Advance moment)) (links_in held) (all_few moment 1 held ready links.declared), links.few)
+
+readable_ready : (moment : ℕ) (h : Held) → IsReady moment h → AreReadable h.link.waits → AreReadable (link_stimulated (Advance moment) h.link).waits
+unfolding link_stimulated
+readable_ready moment h ready old =
+    All-append (λ bytes. IsOk (reading_of bytes)) h.link.waits (stimulus_sends (Advance moment) h.link.switch) old (subst AreReadable ready.due ready.readable)
+
+-- What is sent then can be read.
+pub readable_passed : (moment : ℕ) (held : List Held) → AreReady moment held → AllByRecursion (λ l. AreReadable l.waits) (links_in held) → AllByRecursion (λ l. AreReadable l.waits) (map (link_stimulated (Advance moment)) (links_in held))
+readable_passed moment [] ready all = tt
+readable_passed moment (g ∷ gs) ready all =
+    (readable_ready moment g (ready 0 g (omega arith)) all.0, readable_passed moment gs (λ k h less. ready (suc k) h (omega arith)) all.1)
 
 one_due : (x : WorldStim) (s : State) → length (due_of x s) ≤ 1
 one_due (Join d) s = one_join (link_of d s.links)

@@ -3,8 +3,10 @@
 
 mod fail_numbers;
 mod link;
+mod links;
 mod waits;
 
 pub use fail_numbers::FailNumbers;
 pub use link::SimLink;
+pub use links::Links;
 pub use waits::Waits;

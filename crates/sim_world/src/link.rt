@@ -12,7 +12,7 @@ ghost use Rattle.outside.specs.Calls.{IsFeaturesOf};
 ghost use Rattle.outside.specs.Conforming.{IsStimulus};
 ghost use Rattle.outside.specs.State.{is_empty, is_failing, link_at_first, link_joined, link_left, link_stimulated, link_sent, link_got, link_told, link_failed, stimulus_sends, switch_told, message_sends};
 ghost use Rattle.sim_world.specs.LinkWaits.{AreShort};
-ghost use Rattle.sim_world.specs.Links.{IsDeclaredAs, StandsBy, SerialsBelow, AreReadable, MayCall, IsReady, features_at_join};
+ghost use Rattle.sim_world.specs.Links.{IsDeclaredAs, StandsBy, SerialsBelow, AreReadable, MayCall, IsReady, fails_at, features_at_join};
 
 use crate::fail_numbers::FailNumbers;
 use crate::waits::Waits;
@@ -166,7 +166,7 @@ impl SimLink {
 
     /// The call of its link with this number, counted from 1, is to fail.
     pub fn fail_at(&mut self, number: u64) -> Result<(), AllocError>
-        ensures ok { OnOk result (self.new.link ≡ record self.old.link { fails = self.old.link.fails ++ number ∷ [] }) }
+        ensures ok { OnOk result (self.new.link ≡ fails_at number self.old.link) }
         ensures err { OnErr result (self.new.link ≡ self.old.link) }
         ensures declared { self.new.link.declared ≡ self.old.link.declared }
     {
