@@ -1,12 +1,15 @@
 -- The switches of a simulated world as they are held, and what holds of each. All of this is our own choice.
 use Rattle.std.specs.Prelude.{◌≡◌, ◌≢◌, ℕ, ◌-◌, ◌^◌, ◌<◌, ◌≤◌, nat_lt, List, [], ◌∷◌, ◌++◌, length, map, Option, Some, None, IfSome, All, IsOk, is_some, slice_index_or, if◌then◌else◌}
 use Rattle.std.specs.List.{flat_map}
-use Rattle.of_types.specs.declared.journal.Stimulus.TheVariants.{Advance}
+use Rattle.of_types.specs.declared.journal.Stimulus.{Stimulus}
+use Rattle.of_types.specs.declared.journal.Stimulus.TheVariants.{Advance, Raw}
+use Rattle.of_types.specs.declared.journal.WorldStim.{WorldStim}
+use Rattle.of_types.specs.declared.journal.WorldStim.TheVariants.{Of, Join, Leave, At}
 use Rattle.of_wire.specs.Reading.{reading_of}
 use Rattle.flow_table.specs.Switch.{Declared, SwitchState, joined_at, features_reply}
 use Rattle.outside.specs.declared.step.WorldStep.{WorldStep}
-use Rattle.outside.specs.declared.step.WorldStep.TheVariants.{From}
-use Rattle.outside.specs.State.{Link, stimulus_sends}
+use Rattle.outside.specs.declared.step.WorldStep.TheVariants.{From, Left, Moment}
+use Rattle.outside.specs.State.{Link, stimulus_sends, join_due, switch_in, link_of}
 use Rattle.outside.specs.Conforming.{AreDeclaredFrom}
 use Rattle.sim_world.specs.LinkWaits.{AreShort}
 
@@ -52,6 +55,15 @@ pub record Stands (moment most : ℕ) (l : Link) : Type 0 where
   pub serials : SerialsWithin most l.switch
   pub calls : l.calls ≤ most
 
+-- Bytes that a switch sends of its own can be read.
+abbrev pub IsReadableIfRaw : Stimulus → Type 0
+IsReadableIfRaw (Raw bytes) = IsOk (reading_of bytes)
+IsReadableIfRaw other = Unit {0}
+
+abbrev pub HasReadableRaw : WorldStim → Type 0
+HasReadableRaw (Of d x) = IsReadableIfRaw x
+HasReadableRaw other = Unit {0}
+
 -- One more call can be counted, and one more serial be given.
 pub record MayCall (l : Link) : Type 0 where
   pub calls : l.calls < 2 ^ 64 - 1
@@ -88,6 +100,13 @@ waiting_in ls = flat_map (λ l. map (From l.declared.dpid) l.waits) ls
 abbrev pub declared_in : List Link → List Declared
 declared_in ls = map (λ l. l.declared) ls
 
+-- the items that a stimulus makes beside messages
+abbrev pub due_in : WorldStim → ℕ → List Link → List WorldStep
+due_in (Join d) moment ls = join_due d moment (link_of d ls)
+due_in (Leave d) moment ls = if is_some (switch_in (link_of d ls)) then Left d ∷ [] else []
+due_in (At t) moment ls = Moment t ∷ []
+due_in (Of d x) moment ls = []
+
 -- by number, strictly ascending, and at most 64
 pub record AreLinks (ls : List Link) : Type 0 where
   pub declared : AreDeclaredFrom 1 (declared_in ls)
@@ -97,6 +116,10 @@ pub record AreLinks (ls : List Link) : Type 0 where
 abbrev pub insert_link : Link → List Link → List Link
 insert_link l [] = l ∷ []
 insert_link l (m ∷ ms) = if nat_lt l.declared.dpid m.declared.dpid then l ∷ m ∷ ms else m ∷ insert_link l ms
+
+abbrev pub insert_held : Held → List Held → List Held
+insert_held h [] = h ∷ []
+insert_held h (g ∷ gs) = if nat_lt h.link.declared.dpid g.link.declared.dpid then h ∷ g ∷ gs else g ∷ insert_held h gs
 
 -- the switch of a number is held at a place, and at none before it
 pub record HasPlace (d : ℕ) (held : List Held) (place : ℕ) : Type 0 where

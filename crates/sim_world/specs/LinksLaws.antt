@@ -1,23 +1,26 @@
 -- Laws of the switches of a simulated world, all together: what one change, or the same of all, keeps of what holds of each.
-use Rattle.std.specs.Prelude.{◌≡◌, ◌≢◌, ◌==◌, ℕ, ◌+◌, ◌*◌, ◌<◌, ◌≤◌, Bool, true, false, nat_lt, List, [], ◌∷◌, ◌++◌, length, map, Option, Some, None, IfSome, slice_get, slice_index_or, slice_set, if◌then◌else◌, refl, Result, Ok, Err, IsOk, OnOk, OnErr}
+use Rattle.std.specs.Prelude.{◌≡◌, ◌≢◌, ◌==◌, ℕ, ◌+◌, ◌*◌, ◌<◌, ◌≤◌, Bool, true, false, nat_lt, List, [], ◌∷◌, ◌++◌, length, map, Option, Some, None, IfSome, slice_get, slice_index_or, slice_set, if◌then◌else◌, refl, Result, Ok, Err, IsOk, OnOk, OnErr, ◌||◌}
 use Rattle.std.specs.List.{AllByRecursion}
-use Rattle.std.specs.Option.{is_some}
+use Rattle.std.specs.Option.{is_some, option_map, option_to_list}
 use Rattle.std.proofs.Common.{zero, suc, sym, ap, ◌∙◌, subst, arith, length-append}
 use Rattle.std.proofs.lemmas.Bool.{eq-eqb, eqb-false, ne_eqb, ltb-true, ltb-false, cond_both, cond-false}
 use Rattle.std.proofs.Math.Seq.{map-set_same}
 use Rattle.std.proofs.lemmas.List.{length-map}
-use Rattle.std.proofs.lemmas.List.Elements.{All-append}
+use Rattle.std.proofs.lemmas.List.Elements.{All-append, All-nil}
+use Rattle.of_types.specs.declared.journal.Stimulus.{Stimulus}
 use Rattle.of_types.specs.declared.journal.Stimulus.TheVariants.{Advance}
 use Rattle.of_types.specs.declared.journal.WorldStim.{WorldStim}
 use Rattle.of_types.specs.declared.journal.WorldStim.TheVariants.{Join, Leave, At, Of}
 use Rattle.of_wire.specs.Reading.{reading_of}
-use Rattle.flow_table.specs.Switch.{Declared}
+use Rattle.flow_table.specs.Switch.{Declared, joined_at, features_reply}
 use Rattle.outside.specs.declared.step.WorldStep.{WorldStep}
-use Rattle.outside.specs.declared.step.WorldStep.TheVariants.{From}
-use Rattle.outside.specs.State.{Link, State, link_of, with_link, links_after, join_due, due_of, stimulus_sends, link_stimulated, is_joined, after_stim, upcoming}
+use Rattle.outside.specs.declared.step.WorldStep.TheVariants.{From, Joined}
+use Rattle.outside.specs.State.{Link, State, link_of, with_link, links_after, join_due, due_of, stimulus_sends, link_stimulated, is_joined, after_stim, upcoming, link_joined, link_left, switch_of}
+use Rattle.outside.specs.Seen.{is_declared}
 use Rattle.outside.specs.LinkLaws.{KeepsDeclared}
 use Rattle.outside.specs.Conforming.{AreDeclaredFrom}
-use Rattle.sim_world.specs.Links.{Held, links_in, waiting_in, declared_in, insert_link, AreLinks, HasPlace, HasNoPlace, WaitsFirst, NoneWaits, IsReady, AreReady, AreReadable}
+use Rattle.sim_world.specs.LinkLaws.{StandsBy-later}
+use Rattle.sim_world.specs.Links.{Held, links_in, waiting_in, declared_in, insert_link, AreLinks, HasPlace, HasNoPlace, WaitsFirst, NoneWaits, IsReady, AreReady, AreReadable, insert_held, features_of_join, due_in, StandsAt, StandsBy}
 
 -- ---- What holds of each
 
@@ -52,6 +55,10 @@ declared_in-with_link d change keeps (l ∷ ls) =
 pub declared_in-map : (change : Link → Link) → KeepsDeclared change → (ls : List Link) → declared_in (map change ls) ≡ declared_in ls
 declared_in-map change keeps [] = refl
 declared_in-map change keeps (l ∷ ls) = rw (keeps l, declared_in-map change keeps ls) refl
+
+pub keeps_stimulated : (x : Stimulus) → KeepsDeclared (link_stimulated x)
+unfolding link_stimulated
+keeps_stimulated x l = refl
 
 -- who has the same declarations is in order where the other is
 pub AreLinks-same : (old new : List Link) → declared_in new ≡ declared_in old → AreLinks old → AreLinks new
@@ -92,6 +99,12 @@ AreLinks-insert l ls from small none room are = record {
   declared = put_declared 1 l ls from small none are.declared;
   few = omega (arith, length-insert_link l ls);
 }
+
+-- both ends of a call that puts one more
+pub AreLinks-inserted : {T E : Type 0} (r : Result T E) (l : Link) (old new : List Link) → OnOk r (new ≡ insert_link l old) → OnErr r (new ≡ old)
+    → 1 ≤ l.declared.dpid → l.declared.cap ≤ 4096 → link_of l.declared.dpid old ≡ None → length old < 64 → AreLinks old → AreLinks new
+AreLinks-inserted (Ok x) l old new put kept from small none room are = subst AreLinks (sym put) (AreLinks-insert l old from small none room are)
+AreLinks-inserted (Err e) l old new put kept from small none room are = subst AreLinks (sym kept) are
 
 -- ---- Places
 
@@ -170,6 +183,25 @@ HasPlace-ascending least (g ∷ gs) (suc place) x are within =
     let rest = HasPlace-ascending (g.link.declared.dpid + 1) gs place x are.2 (omega arith) in
     let apart : g.link.declared.dpid ≢ d = λ same. absurd (omega (arith, same, least_at (g.link.declared.dpid + 1) gs place x are.2 (omega arith))) in
     record { within = within; here = rest.here; first = first_more d g gs place apart rest }
+
+pub links_in-insert : (h : Held) (held : List Held) → links_in (insert_held h held) ≡ insert_link h.link (links_in held)
+links_in-insert h [] = refl
+links_in-insert h (g ∷ gs) =
+    insert_at (nat_lt h.link.declared.dpid g.link.declared.dpid) (links_in-insert h gs)
+  where
+    insert_at : (b : Bool) → links_in (insert_held h gs) ≡ insert_link h.link (links_in gs)
+        → links_in (if b then h ∷ g ∷ gs else g ∷ insert_held h gs) ≡ (if b then h.link ∷ g.link ∷ links_in gs else g.link ∷ insert_link h.link (links_in gs))
+    insert_at true rest = refl
+    insert_at false rest = ap (λ (ls : List Link). g.link ∷ ls) rest
+
+-- a switch is declared where it is held
+pub is_declared-link_of : (d : ℕ) (ls : List Link) → is_declared d (declared_in ls) ≡ is_some (link_of d ls)
+is_declared-link_of d [] = refl
+is_declared-link_of d (l ∷ ls) = declared_at (l.declared.dpid == d) (is_declared-link_of d ls)
+  where
+    declared_at : (b : Bool) → is_declared d (declared_in ls) ≡ is_some (link_of d ls) → (b || is_declared d (declared_in ls)) ≡ is_some (if b then Some l else link_of d ls)
+    declared_at true rest = refl
+    declared_at false rest = rest
 
 -- ---- All, one after the other
 
@@ -281,6 +313,15 @@ readable_passed moment [] ready all = tt
 readable_passed moment (g ∷ gs) ready all =
     (readable_ready moment g (ready 0 g (omega arith)) all.0, readable_passed moment gs (λ k h less. ready (suc k) h (omega arith)) all.1)
 
+-- What is due of a switch that joins, as its answer tells it.
+pub join_due-features : (d moment : ℕ) (o : Option Link) → join_due d moment o ≡ option_to_list (option_map (Joined d) (features_of_join moment o))
+join_due-features d moment None = refl
+join_due-features d moment (Some l) = due_at (is_some l.switch)
+  where
+    due_at : (b : Bool) → (if b then [] else Joined d (features_reply 0 (joined_at moment l.declared)) ∷ []) ≡ option_to_list (option_map (Joined d) (if b then None else Some (features_reply 0 (joined_at moment l.declared))))
+    due_at true = refl
+    due_at false = refl
+
 one_due : (x : WorldStim) (s : State) → length (due_of x s) ≤ 1
 one_due (Join d) s = one_join (link_of d s.links)
   where
@@ -297,3 +338,41 @@ pub few_upcoming : (x : WorldStim) (s : State) → length (waiting_in (links_aft
 unfolding upcoming after_stim
 few_upcoming x s few =
     omega (arith, few, one_due x s, length-append s.due (waiting_in s.links), length-append (s.due ++ due_of x s) (waiting_in (links_after x s.moment s.links)), length-append s.due (due_of x s))
+
+-- ---- A stimulus
+
+pub due_of-links : (x : WorldStim) (s : State) → due_of x s ≡ due_in x s.moment s.links
+unfolding switch_of
+due_of-links (Join d) s = refl
+due_of-links (Leave d) s = refl
+due_of-links (At t) s = refl
+due_of-links (Of d x) s = refl
+
+pub few_joined : (d moment : ℕ) (ls : List Link) → length (waiting_in (with_link d (link_joined moment) ls)) ≤ length (waiting_in ls) + 262144
+unfolding link_joined
+few_joined d moment ls = few-with_link d 262144 (link_joined moment) ls (as_many (link_of d ls))
+  where
+    as_many : (o : Option Link) → IfSome o (λ l. length (link_joined moment l).waits ≤ length l.waits + 262144)
+    as_many None = tt
+    as_many (Some l) = omega arith
+
+pub few_left : (d : ℕ) (ls : List Link) → length (waiting_in (with_link d link_left ls)) ≤ length (waiting_in ls) + 262144
+unfolding link_left
+few_left d ls = few-with_link d 262144 link_left ls (none_waits (link_of d ls))
+  where
+    none_waits : (o : Option Link) → IfSome o (λ l. length (link_left l).waits ≤ length l.waits + 262144)
+    none_waits None = tt
+    none_waits (Some l) = omega arith
+
+pub readable_joined : (d moment : ℕ) (ls : List Link) → AllByRecursion (λ l. AreReadable l.waits) ls → AllByRecursion (λ l. AreReadable l.waits) (with_link d (link_joined moment) ls)
+unfolding link_joined
+readable_joined d moment ls all = All-with_link (λ (l : Link). AreReadable l.waits) (λ (l : Link). AreReadable l.waits) d (link_joined moment) (λ l read. read) (λ l read. read) ls all
+
+pub readable_left : (d : ℕ) (ls : List Link) → AllByRecursion (λ l. AreReadable l.waits) ls → AllByRecursion (λ l. AreReadable l.waits) (with_link d link_left ls)
+unfolding link_left
+readable_left d ls all =
+    All-with_link (λ (l : Link). AreReadable l.waits) (λ (l : Link). AreReadable l.waits) d link_left (λ l read. read) (λ l read. All-nil (λ bytes. IsOk (reading_of bytes))) ls all
+
+pub StandsBy-all : (moment t : ℕ) (ls : List Link) → moment ≤ t → AllByRecursion (λ l. StandsAt moment l.switch) ls → AllByRecursion (λ l. StandsBy t l.switch) ls
+StandsBy-all moment t [] le all = tt
+StandsBy-all moment t (l ∷ ls) le all = (StandsBy-later moment t l.switch le all.0, StandsBy-all moment t ls le all.1)

@@ -7,12 +7,11 @@ ghost use Rattle.of_wire.specs.Reading.{reading_of};
 ghost use Rattle.of_wire.specs.Spelling.{message_size};
 ghost use Rattle.flow_table.specs.Step.{after_stimulus};
 ghost use Rattle.flow_table.specs.Switch.{Declared};
-ghost use Rattle.switch_sim.specs.Readable.{IsNotRaw};
 ghost use Rattle.outside.specs.Calls.{IsFeaturesOf};
 ghost use Rattle.outside.specs.Conforming.{IsStimulus};
 ghost use Rattle.outside.specs.State.{is_empty, is_failing, link_at_first, link_joined, link_left, link_stimulated, link_sent, link_got, link_told, link_failed, stimulus_sends, switch_told, message_sends};
 ghost use Rattle.sim_world.specs.LinkWaits.{AreShort};
-ghost use Rattle.sim_world.specs.Links.{IsDeclaredAs, StandsBy, SerialsBelow, AreReadable, MayCall, IsReady, fails_at, features_at_join};
+ghost use Rattle.sim_world.specs.Links.{IsDeclaredAs, StandsBy, SerialsBelow, AreReadable, IsReadableIfRaw, MayCall, IsReady, fails_at, features_at_join};
 
 use crate::fail_numbers::FailNumbers;
 use crate::waits::Waits;
@@ -105,7 +104,7 @@ fn happen(
 ) -> Result<MessageList, AllocError>
     requires { IsStimulus x.now }
     ensures sent { IfOk result (λ list. list ≡ stimulus_sends x.now switch.old) }
-    ensures readable { IsNotRaw x.now → IfOk result AreReadable }
+    ensures readable { IsReadableIfRaw x.now → IfOk result AreReadable }
     ensures short { IfOk result AreShort }
     ensures few { (d : Declared) → IsDeclaredAs d switch.old → d.cap ≤ 4096 → IfOk result (λ list. length list ≤ 8192) }
     ensures ok { OnOk result (switch.new ≡ option_map (after_stimulus x.now) switch.old) }
@@ -240,7 +239,7 @@ impl SimLink {
         requires { IsStimulus x.now }
         ensures ok { OnOk result (self.new.link ≡ link_stimulated x.now self.old.link) }
         ensures few { self.old.link.declared.cap ≤ 4096 → OnOk result (length self.new.link.waits ≤ length self.old.link.waits + 8192) }
-        ensures readable { IsNotRaw x.now → AreReadable self.old.link.waits → AreReadable self.new.link.waits }
+        ensures readable { IsReadableIfRaw x.now → AreReadable self.old.link.waits → AreReadable self.new.link.waits }
         ensures err { OnErr result (self.new.link ≡ self.old.link) }
         ensures declared { self.new.link.declared ≡ self.old.link.declared }
     {
