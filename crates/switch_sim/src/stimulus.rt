@@ -1,10 +1,10 @@
 //! What happens to a switch beside messages.
 
-ghost use Rattle.std.specs.Prelude.{◌≡◌, ◌==◌, ◌≤◌, ◌<◌, ◌∷◌, [], true, false, not, map, filter, length, if◌then◌else◌, All, IsOk, IfOk, OnOk, OnErr};
+ghost use Rattle.std.specs.Prelude.{◌≡◌, ◌==◌, ◌≤◌, ◌<◌, ◌∷◌, [], true, false, not, length, if◌then◌else◌, All, IsOk, IfOk, OnOk, OnErr};
 ghost use Rattle.std.specs.List.{insert};
 ghost use Rattle.of_wire.specs.Reading.{reading_of};
 ghost use Rattle.flow_table.specs.Hit.{with_counts};
-ghost use Rattle.flow_table.specs.Switch.{PortState, port_at, with_port, with_number, insert_port, new_port};
+ghost use Rattle.flow_table.specs.Switch.{PortState, port_at, with_number, insert_port};
 ghost use Rattle.flow_table.specs.Step.{set_link, ports_after_link, sent_by_link, can_add, without_port, sent_by_deletion, port_status, after_port_change, sent_by_port_change, after_stimulus, sent_by_stimulus};
 ghost use Rattle.switch_sim.specs.Possible.{IsPossible};
 ghost use Rattle.switch_sim.specs.Readable.{AreReadable, AreShort, IsNotRaw, IsShortIfRaw};
