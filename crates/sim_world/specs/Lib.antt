@@ -1,3 +1,7 @@
+pub mod LinkWaits
+pub mod Links
+pub mod LinkLaws
+pub mod LinksLaws
 pub mod Tally
 pub mod Room
 pub mod Told

@@ -2,8 +2,10 @@
 #![tactic(auto)]
 
 mod app_calls;
+mod fail_numbers;
 mod history;
 mod life;
+mod link;
 mod links;
 mod lives;
 mod parts;
@@ -11,5 +13,6 @@ mod script_laws;
 mod scripts;
 mod tally;
 mod told;
+mod waits;
 
 pub use script_laws::{links_move_no_life, lives_of_a_history, longer_scripted_history};
