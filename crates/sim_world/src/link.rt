@@ -293,35 +293,33 @@ impl SimLink {
         Ok(())
     }
 
-    /// Takes the oldest message that waits, by a call of its link, into the front of the buffer, and answers its length;
-    /// takes no memory. The buffer has at least 65,535 bytes. Where none waits, nothing is counted.
+    /// Takes the oldest message that waits, by a call of its link; takes no memory. Where none waits, nothing is
+    /// counted.
     #[tactic(auto, unfolding(outside::specs::State::link_got))]
-    pub fn got(&mut self, buf: &mut [u8]) -> Option<usize>
-        requires buf { 65535 ≤ length buf.old }
-        requires may { MayCall self.old.link }
-        ensures message { IfSome result (λ n. slice_get self.old.link.waits 0 ≡ Some (take n buf.new)) }
-        ensures len { IfSome result (λ n. n ≤ 65535) }
-        ensures some { IfSome result (λ n. self.new.link ≡ link_got self.old.link) }
+    pub fn got(&mut self) -> Option<ByteList>
+        requires { MayCall self.old.link }
+        ensures message { IfSome result (λ message. slice_get self.old.link.waits 0 ≡ Some message) }
+        ensures len { IfSome result (λ message. length message ≤ 65535) }
+        ensures some { IfSome result (λ message. self.new.link ≡ link_got self.old.link) }
         ensures none { IfNone result ((self.old.link.waits ≡ []) × (self.new.link ≡ self.old.link)) }
         ensures declared { self.new.link.declared ≡ self.old.link.declared }
     {
-        let len = self.waits.take_into(buf)?;
+        let message = self.waits.take()?;
         self.calls += 1;
-        Some(len)
+        Some(message)
     }
 
-    /// Takes the oldest message that waits as an item that is told, into the front of the buffer, and answers its length;
-    /// takes no memory. The buffer has at least 65,535 bytes.
+    /// Takes the oldest message that waits as an item that is told; takes no memory.
     #[tactic(auto, unfolding(outside::specs::State::link_told))]
-    pub fn told(&mut self, buf: &mut [u8]) -> Option<usize>
-        requires { 65535 ≤ length buf.old }
-        ensures message { IfSome result (λ n. slice_get self.old.link.waits 0 ≡ Some (take n buf.new)) }
-        ensures len { IfSome result (λ n. n ≤ 65535) }
-        ensures some { IfSome result (λ n. self.new.link ≡ link_told self.old.link) }
+    pub fn told(&mut self) -> Option<ByteList>
+        ensures message { IfSome result (λ message. slice_get self.old.link.waits 0 ≡ Some message) }
+        ensures len { IfSome result (λ message. length message ≤ 65535) }
+        ensures some { IfSome result (λ message. self.new.link ≡ link_told self.old.link) }
         ensures none { IfNone result ((self.old.link.waits ≡ []) × (self.new.link ≡ self.old.link)) }
         ensures declared { self.new.link.declared ≡ self.old.link.declared }
     {
-        self.waits.take_into(buf)
+        let message = self.waits.take()?;
+        Some(message)
     }
 
     /// A call of its link failed; takes no memory.

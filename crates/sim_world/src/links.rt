@@ -109,32 +109,30 @@ fn fail(links: &mut [SimLink], dpid: Dpid)
     }
 }
 
-fn got(links: &mut [SimLink], dpid: Dpid, buf: &mut [u8]) -> Option<usize>
-    requires buf { 65535 ≤ length buf.old }
-    requires may { IfSome (link_of dpid (links_in links.old)) MayCall }
-    ensures message { IfSome result (λ n. slice_get (waits_in (link_of dpid (links_in links.old))) 0 ≡ Some (take n buf.new)) }
-    ensures len { IfSome result (λ n. n ≤ 65535) }
-    ensures some { IfSome result (λ n. links_in links.new ≡ with_link dpid link_got (links_in links.old)) }
+fn got(links: &mut [SimLink], dpid: Dpid) -> Option<ByteList>
+    requires { IfSome (link_of dpid (links_in links.old)) MayCall }
+    ensures message { IfSome result (λ message. slice_get (waits_in (link_of dpid (links_in links.old))) 0 ≡ Some message) }
+    ensures len { IfSome result (λ message. length message ≤ 65535) }
+    ensures some { IfSome result (λ message. links_in links.new ≡ with_link dpid link_got (links_in links.old)) }
     ensures none { IfNone result ((waits_in (link_of dpid (links_in links.old)) ≡ []) × (links_in links.new ≡ links_in links.old)) }
     ensures declared { declared_in (links_in links.new) ≡ declared_in (links_in links.old) }
 {
     let place = place_of(links, dpid)?;
-    links[place].got(buf)
+    links[place].got()
 }
 
-fn told(links: &mut [SimLink], buf: &mut [u8]) -> Option<(Dpid, usize)>
-    requires buf { 65535 ≤ length buf.old }
-    requires order { AreDeclaredFrom 1 (declared_in (links_in links.old)) }
-    ensures item { IfSome result (λ told. slice_get (waiting_in (links_in links.old)) 0 ≡ Some (From told.0 (take told.1 buf.new))) }
-    ensures len { IfSome result (λ told. told.1 ≤ 65535) }
+fn told(links: &mut [SimLink]) -> Option<(Dpid, ByteList)>
+    requires { AreDeclaredFrom 1 (declared_in (links_in links.old)) }
+    ensures item { IfSome result (λ told. slice_get (waiting_in (links_in links.old)) 0 ≡ Some (From told.0 told.1)) }
+    ensures len { IfSome result (λ told. length told.1 ≤ 65535) }
     ensures some { IfSome result (λ told. links_in links.new ≡ with_link told.0 link_told (links_in links.old)) }
     ensures none { IfNone result ((waiting_in (links_in links.old) ≡ []) × (links_in links.new ≡ links_in links.old)) }
     ensures declared { declared_in (links_in links.new) ≡ declared_in (links_in links.old) }
 {
     let place = first_waiting(links)?;
     let dpid = links[place].dpid();
-    let len = links[place].told(buf)?;
-    Some((dpid, len))
+    let message = links[place].told()?;
+    Some((dpid, message))
 }
 
 fn fail_at(links: &mut [SimLink], dpid: Dpid, number: u64) -> Result<(), AllocError>
@@ -343,29 +341,26 @@ impl Links {
         send(&mut self.links, dpid, frame)
     }
 
-    /// Takes the switch's oldest message that waits, by a call of its link, into the front of the buffer, and answers its
-    /// length; takes no memory. The buffer has at least 65,535 bytes. Where none waits, nothing is counted.
-    pub fn got(&mut self, dpid: Dpid, buf: &mut [u8]) -> Option<usize>
-        requires buf { 65535 ≤ length buf.old }
-        requires may { IfSome (link_of dpid self.old) MayCall }
-        ensures message { IfSome result (λ n. slice_get (waits_in (link_of dpid self.old)) 0 ≡ Some (take n buf.new)) }
-        ensures len { IfSome result (λ n. n ≤ 65535) }
-        ensures some { IfSome result (λ n. self.new ≡ with_link dpid link_got self.old) }
+    /// Takes the oldest message of the switch that waits, by a call of its link; takes no memory. Where none waits,
+    /// nothing is counted.
+    pub fn got(&mut self, dpid: Dpid) -> Option<ByteList>
+        requires { IfSome (link_of dpid self.old) MayCall }
+        ensures message { IfSome result (λ message. slice_get (waits_in (link_of dpid self.old)) 0 ≡ Some message) }
+        ensures len { IfSome result (λ message. length message ≤ 65535) }
+        ensures some { IfSome result (λ message. self.new ≡ with_link dpid link_got self.old) }
         ensures none { IfNone result ((waits_in (link_of dpid self.old) ≡ []) × (self.new ≡ self.old)) }
     {
-        got(&mut self.links, dpid, buf)
+        got(&mut self.links, dpid)
     }
 
-    /// Takes the oldest message of the switch with the lowest number of which one waits, as an item that is told, into the
-    /// front of the buffer, and answers the switch and the length; takes no memory. The buffer has at least 65,535 bytes.
-    pub fn told(&mut self, buf: &mut [u8]) -> Option<(Dpid, usize)>
-        requires { 65535 ≤ length buf.old }
-        ensures item { IfSome result (λ told. slice_get (waiting_in self.old) 0 ≡ Some (From told.0 (take told.1 buf.new))) }
-        ensures len { IfSome result (λ told. told.1 ≤ 65535) }
+    /// Takes the message that is told next, with its switch: the oldest one of the lowest number; takes no memory.
+    pub fn told(&mut self) -> Option<(Dpid, ByteList)>
+        ensures item { IfSome result (λ told. slice_get (waiting_in self.old) 0 ≡ Some (From told.0 told.1)) }
+        ensures len { IfSome result (λ told. length told.1 ≤ 65535) }
         ensures some { IfSome result (λ told. self.new ≡ with_link told.0 link_told self.old) }
         ensures none { IfNone result ((waiting_in self.old ≡ []) × (self.new ≡ self.old)) }
     {
-        told(&mut self.links, buf)
+        told(&mut self.links)
     }
 
     /// The switch joins at a moment, in seconds and at most 4,294,967,295, where it is out; gives its FEATURES_REPLY then,

@@ -64,7 +64,7 @@ fn take_next(
 }
 
 /// Copies a message to the front of a buffer that is at least as long, and answers its length.
-fn copy_to_front(message: &[u8], buf: &mut [u8]) -> usize
+pub(crate) fn copy_to_front(message: &[u8], buf: &mut [u8]) -> usize
     requires { length message.now ≤ length buf.old }
     ensures count { result ≡ length message.now }
     ensures front { take result buf.new ≡ message.now }
@@ -111,16 +111,14 @@ impl Waits {
         }
     }
 
-    /// Takes the oldest message out, copies it to the front of the buffer and answers its length; takes no memory.
-    /// The buffer has at least 65,535 bytes.
-    pub fn take_into(&mut self, buf: &mut [u8]) -> Option<usize>
-        requires { 65535 ≤ length buf.old }
-        ensures some { IfSome result (λ n. self.old.messages ≡ take n buf.new ∷ self.new.messages) }
-        ensures len { IfSome result (λ n. n ≤ 65535) }
+    /// Takes the oldest message out; takes no memory.
+    pub fn take(&mut self) -> Option<ByteList>
+        ensures some { IfSome result (λ message. self.old.messages ≡ message ∷ self.new.messages) }
+        ensures len { IfSome result (λ message. length message ≤ 65535) }
         ensures none { IfNone result ((self.old.messages ≡ []) × (self.new.messages ≡ [])) }
     {
         let message = take_next(&mut self.current, &mut self.later)?;
-        Some(copy_to_front(message.as_slice(), buf))
+        Some(message)
     }
 
     /// Lets all messages go; takes no memory.

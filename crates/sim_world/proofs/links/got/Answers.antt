@@ -11,17 +11,17 @@ pub returns-in_err-place-clause-none : goal.returns-in_err-place-clause-none
 returns-in_err-place-clause-none c =
     rw c.from_residual.ensures (at_none (λ (o : Option Link). waits_in o ≡ []) c.args.dpid c.args.links.now c.in_err-place.ensures refl, refl)
 
-pub got-requires-clause-may : goal.got-requires-clause-may
-got-requires-clause-may c =
-    from_place (λ (o : Option Link). IfSome o MayCall) c.args.dpid c.args.links.now c.in_ok-place.place c.index-links-place.result c.in_ok-place.ensures c.requires.may
+pub got-requires : goal.got-requires
+got-requires c =
+    from_place (λ (o : Option Link). IfSome o MayCall) c.args.dpid c.args.links.now c.in_ok-place.place c.index-links-place.result c.in_ok-place.ensures c.requires
 
 pub returns-clause-message : goal.returns-clause-message
 returns-clause-message c =
-    if_some c.got.result (λ n found. at_place (λ (o : Option Link). slice_get (waits_in o) 0 ≡ Some (take n c.got.new.buf)) c.args.dpid c.args.links.now c.in_ok-place.place c.index-links-place.result c.in_ok-place.ensures found) c.got.ensures.message
+    if_some c.got.result (λ m found. at_place (λ (o : Option Link). slice_get (waits_in o) 0 ≡ Some m) c.args.dpid c.args.links.now c.in_ok-place.place c.index-links-place.result c.in_ok-place.ensures found) c.got.ensures.message
 
 pub returns-clause-some : goal.returns-clause-some
 returns-clause-some c =
-    if_some c.got.result (λ n changed. links_in-changed c.args.dpid link_got c.args.links.now c.in_ok-place.place c.got.new.self c.index-links-place.result c.in_ok-place.ensures changed) c.got.ensures.some
+    if_some c.got.result (λ m changed. links_in-changed c.args.dpid link_got c.args.links.now c.in_ok-place.place c.got.new.self c.index-links-place.result c.in_ok-place.ensures changed) c.got.ensures.some
 
 pub returns-clause-none : goal.returns-clause-none
 returns-clause-none c =

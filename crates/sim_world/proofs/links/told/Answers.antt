@@ -16,19 +16,19 @@ returns-clause-item c =
     let place = c.in_ok-place.place in
     let x = c.index-links-place.result in
     let y = c.index-links-place-2.result in
-    let has = HasPlace-ascending 1 held place x c.requires.order c.in_ok-place.ensures.within in
+    let has = HasPlace-ascending 1 held place x c.requires c.in_ok-place.ensures.within in
     let own = has.here y ∙ sym c.dpid-dpid.ensures in
-    subst (λ d. slice_get (waiting_in (links_in held)) 0 ≡ Some (From d (take c.in_ok-len.len c.told.new.buf))) own
-    (waiting_in-first held place y (take c.in_ok-len.len c.told.new.buf) c.in_ok-place.ensures c.in_ok-len.ensures.message)
+    subst (λ d. slice_get (waiting_in (links_in held)) 0 ≡ Some (From d c.in_ok-message.message)) own
+    (waiting_in-first held place y c.in_ok-message.message c.in_ok-place.ensures c.in_ok-message.ensures.message)
 
 pub returns-clause-some : goal.returns-clause-some
 returns-clause-some c =
     let held = c.args.links.now in
     let place = c.in_ok-place.place in
     let x = c.index-links-place.result in
-    let has = HasPlace-ascending 1 held place x c.requires.order c.in_ok-place.ensures.within in
+    let has = HasPlace-ascending 1 held place x c.requires c.in_ok-place.ensures.within in
     let own = c.dpid-dpid.ensures in
-    links_in-changed c.dpid-dpid.result link_told held place c.told.new.self c.index-links-place-2.result (subst (λ d. HasPlace d held place) (sym own) has) c.in_ok-len.ensures.some
+    links_in-changed c.dpid-dpid.result link_told held place c.told.new.self c.index-links-place-2.result (subst (λ d. HasPlace d held place) (sym own) has) c.in_ok-message.ensures.some
 
 pub returns-clause-declared : goal.returns-clause-declared
 returns-clause-declared c = declared_in-set c.args.links.now c.in_ok-place.place c.told.new.self c.index-links-place-2.result c.told.ensures.declared

@@ -1,5 +1,5 @@
 use Rattle.sim_world.proofs.Batches.{AreWaits-taken}
-use Rattle.sim_world.proofs.waits.Waits.take_into.Goals as goal
+use Rattle.sim_world.proofs.waits.Waits.take.Goals as goal
 
 pub invariant_of-self-2 : goal.invariant_of-self-2
 invariant_of-self-2 c =
