@@ -2,6 +2,7 @@ pub mod LinkWaits
 pub mod Links
 pub mod LinkLaws
 pub mod LinksLaws
+pub mod LinkStepLaws
 pub mod Tally
 pub mod Room
 pub mod Told

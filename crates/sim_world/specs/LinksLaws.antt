@@ -15,12 +15,12 @@ use Rattle.of_wire.specs.Reading.{reading_of}
 use Rattle.flow_table.specs.Switch.{Declared, joined_at, features_reply}
 use Rattle.outside.specs.declared.step.WorldStep.{WorldStep}
 use Rattle.outside.specs.declared.step.WorldStep.TheVariants.{From, Joined}
-use Rattle.outside.specs.State.{Link, State, link_of, with_link, links_after, join_due, due_of, stimulus_sends, link_stimulated, is_joined, after_stim, upcoming, link_joined, link_left, switch_of}
+use Rattle.outside.specs.State.{Link, State, link_of, with_link, links_after, join_due, due_of, stimulus_sends, link_stimulated, is_joined, after_stim, upcoming, link_joined, link_left, switch_of, waits_in}
 use Rattle.outside.specs.Seen.{is_declared}
 use Rattle.outside.specs.LinkLaws.{KeepsDeclared}
 use Rattle.outside.specs.Conforming.{AreDeclaredFrom}
 use Rattle.sim_world.specs.LinkLaws.{StandsBy-later}
-use Rattle.sim_world.specs.Links.{Held, links_in, waiting_in, declared_in, insert_link, AreLinks, HasPlace, HasNoPlace, WaitsFirst, NoneWaits, IsReady, AreReady, AreReadable, insert_held, features_of_join, due_in, StandsAt, StandsBy}
+use Rattle.sim_world.specs.Links.{Held, links_in, waiting_in, declared_in, insert_link, AreLinks, HasPlace, HasNoPlace, WaitsFirst, NoneWaits, IsReady, AreReady, AreReadable, insert_held, features_of_join, due_in, StandsAt, StandsBy, IsPlaceOf}
 
 -- ---- What holds of each
 
@@ -203,6 +203,11 @@ is_declared-link_of d (l ∷ ls) = declared_at (l.declared.dpid == d) (is_declar
     declared_at true rest = refl
     declared_at false rest = rest
 
+pub is_declared-place : (d : ℕ) (held : List Held) (place : Option ℕ) → IsPlaceOf d held place → is_some place ≡ is_declared d (declared_in (links_in held))
+is_declared-place d held None none = sym (is_declared-link_of d (links_in held) ∙ ap is_some (link_of-not_held d held none))
+is_declared-place d [] (Some place) has = absurd (omega (arith, has.within))
+is_declared-place d (g ∷ gs) (Some place) has = sym (is_declared-link_of d (links_in (g ∷ gs)) ∙ ap is_some (link_of-held d (g ∷ gs) place g has))
+
 -- ---- All, one after the other
 
 -- one more has what those before it have
@@ -253,6 +258,20 @@ waiting_in-first (g ∷ gs) (suc place) x message waits found =
 pub waiting_in-none : (held : List Held) → NoneWaits held → waiting_in (links_in held) ≡ []
 waiting_in-none [] none = refl
 waiting_in-none (g ∷ gs) none = rw (none 0 g (omega arith)) (waiting_in-none gs (λ k h less. none (suc k) h (omega arith)))
+
+-- what waits of the switch at the first place of which a message waits comes first of all
+pub waiting_next : (held : List Held) (place : ℕ) (x : Held) (d : ℕ) → AreDeclaredFrom 1 (declared_in (links_in held)) → WaitsFirst held place → d ≡ (slice_index_or held place x).link.declared.dpid
+    → (message : List ℕ) → slice_get (waits_in (link_of d (links_in held))) 0 ≡ Some message → slice_get (waiting_in (links_in held)) 0 ≡ Some (From d message)
+waiting_next held place x d are waits same message found =
+    let own = link_of-held d held place x (subst (λ (e : ℕ). HasPlace e held place) (sym same) (HasPlace-ascending 1 held place x are waits.within)) in
+    subst (λ (e : ℕ). slice_get (waiting_in (links_in held)) 0 ≡ Some (From e message)) (sym same)
+    (waiting_in-first held place x message waits (subst (λ (o : Option Link). slice_get (waits_in o) 0 ≡ Some message) own found))
+
+pub waits_at_first : (held : List Held) (place : ℕ) (x : Held) (d : ℕ) → AreDeclaredFrom 1 (declared_in (links_in held)) → WaitsFirst held place → d ≡ (slice_index_or held place x).link.declared.dpid
+    → waits_in (link_of d (links_in held)) ≢ []
+waits_at_first held place x d are waits same none =
+    let own = link_of-held d held place x (subst (λ (e : ℕ). HasPlace e held place) (sym same) (HasPlace-ascending 1 held place x are waits.within)) in
+    waits.here x (subst (λ (o : Option Link). waits_in o ≡ []) own none)
 
 -- ---- How much waits
 

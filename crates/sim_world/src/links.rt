@@ -1,6 +1,6 @@
 //! The switches of a simulated world.
 
-ghost use Rattle.std.specs.Prelude.{◌≡◌, ℕ, ◌+◌, ◌-◌, ◌^◌, ◌<◌, ◌≤◌, ◌++◌, ◌∷◌, [], not, length, map, take, is_some, slice_get, slice_index_or, IsOk, IfNone, IfOk, IfSome, OnOk, OnErr, if◌then◌else◌};
+ghost use Rattle.std.specs.Prelude.{◌≡◌, ◌≢◌, List, ℕ, ◌+◌, ◌-◌, ◌^◌, ◌<◌, ◌≤◌, ◌++◌, ◌∷◌, [], not, length, map, take, is_some, slice_get, slice_index_or, IsOk, IfNone, IfOk, IfSome, OnOk, OnErr, if◌then◌else◌};
 ghost use Rattle.std.specs.List.{AllByRecursion, insert};
 ghost use Rattle.std.specs.Option.{option_to_list};
 ghost use Rattle.of_types.specs.declared.journal.Stimulus.TheVariants.{Advance};
@@ -60,6 +60,23 @@ fn first_waiting(links: &[SimLink]) -> Option<usize>
         }
     }
     None
+}
+
+/// The first switch of which a message waits.
+fn waiting_switch(links: &[SimLink]) -> Option<Dpid>
+    requires { AreDeclaredFrom 1 (declared_in (links_in links.now)) }
+    ensures none { IfNone result (waiting_in (links_in links.now) ≡ []) }
+    ensures some { IfSome result (λ dpid. waits_in (link_of dpid (links_in links.now)) ≢ []) }
+    ensures next { IfSome result (λ dpid. (message : List ℕ) → slice_get (waits_in (link_of dpid (links_in links.now))) 0 ≡ Some message → slice_get (waiting_in (links_in links.now)) 0 ≡ Some (From dpid message)) }
+{
+    let place = first_waiting(links)?;
+    Some(links[place].dpid())
+}
+
+fn is_held(links: &[SimLink], dpid: Dpid) -> bool
+    ensures { result ≡ is_declared dpid (declared_in (links_in links.now)) }
+{
+    place_of(links, dpid).is_some()
 }
 
 fn is_joined(links: &[SimLink], dpid: Dpid) -> bool
@@ -304,6 +321,23 @@ impl Links {
         ensures { result ≡ not (is_empty (waits_in (link_of dpid self.now))) }
     {
         has_waiting(&self.links, dpid)
+    }
+
+    /// The switch with the lowest number of which a message waits.
+    pub fn first_waiting(&self) -> Option<Dpid>
+        ensures none { IfNone result (waiting_in self.now ≡ []) }
+        ensures some { IfSome result (λ dpid. waits_in (link_of dpid self.now) ≢ []) }
+        ensures next { IfSome result (λ dpid. (message : List ℕ) → slice_get (waits_in (link_of dpid self.now)) 0 ≡ Some message → slice_get (waiting_in self.now) 0 ≡ Some (From dpid message)) }
+    {
+        let _links = &self.links;
+        waiting_switch(&self.links)
+    }
+
+    /// A switch of this number is declared.
+    pub fn is_declared(&self, dpid: Dpid) -> bool
+        ensures { result ≡ is_declared dpid (declared_in self.now) }
+    {
+        is_held(&self.links, dpid)
     }
 
     /// The next call of the switch's link fails.
