@@ -17,8 +17,9 @@ use Rattle.outside.specs.declared.item.Item.{Item}
 use Rattle.outside.specs.declared.item.Item.TheVariants as items
 use Rattle.outside.specs.declared.item.Taken.{Taken}
 use Rattle.outside.specs.declared.item.Taken.TheVariants as gave
-use Rattle.outside.specs.State.{but_marks, after_steps, is_running, is_joined, has_waiting}
+use Rattle.outside.specs.State.{but_marks, after_steps, is_running, is_joined, has_waiting, link_of}
 use Rattle.outside.specs.Calls.{open_steps, next_steps, stim_steps, start_steps, give_steps, take_steps, end_steps, send_steps, receive_steps, can_receive, IsItemIn, IsTakenIn, IsMessageIn, IsIdle, IsOver}
+use Rattle.sim_world.specs.Links.{MayCall}
 use Rattle.sim_world.specs.Tally.{TallyState, tally_stray, tally_short, tally_short_of, tally_fault_of}
 use Rattle.sim_world.specs.Scripts.{Life}
 use Rattle.sim_world.specs.Lives.{life_in}
@@ -70,6 +71,12 @@ pub record AppsStand (w : WorldData) : Type 0 where
 -- the lives at hand
 abbrev pub lives_of : WorldData → ℕ → Life
 lives_of w app = life_in app w.lives
+
+-- ---- What calls of links need: one more call of each link can be counted.
+
+pub record LinksStand (w : WorldData) : Type 0 where
+  pub promised : length w.state.running ≤ w.room
+  pub may_call : (d : ℕ) → IfSome (link_of d w.state.links) MayCall
 
 -- ---- Calls
 

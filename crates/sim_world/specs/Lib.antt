@@ -16,3 +16,4 @@ pub mod WorldLaws
 pub mod TallyLaws
 pub mod Doing
 pub mod DoingLaws
+pub mod SwitchCallLaws

@@ -6,6 +6,7 @@ mod fail_numbers;
 mod history;
 mod life;
 mod link;
+mod link_calls;
 mod links;
 mod lives;
 mod parts;
