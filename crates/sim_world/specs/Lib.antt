@@ -17,3 +17,4 @@ pub mod TallyLaws
 pub mod Doing
 pub mod DoingLaws
 pub mod SwitchCallLaws
+pub mod NextLaws
