@@ -3,7 +3,7 @@
 ghost use Rattle.std.specs.List.{AllByRecursion};
 ghost use Rattle.std.specs.Option.{option_to_list};
 ghost use Rattle.std.specs.VecDeque.{deque_len, deque_capacity};
-ghost use Rattle.std.specs.Prelude.{◌≡◌, ℕ, ◌+◌, ◌-◌, ◌^◌, ◌≤◌, ◌<◌, ◌++◌, [], ◌∷◌, All, length, take, drop, false, true, IfOk, IfSome, OnOk, OnErr, IsOk, Some, slice_get};
+ghost use Rattle.std.specs.Prelude.{◌≡◌, ℕ, ◌+◌, ◌-◌, ◌^◌, ◌≤◌, ◌<◌, ◌++◌, [], ◌∷◌, All, length, take, drop, false, true, IfOk, IfSome, IfNone, OnOk, OnErr, IsOk, Some, slice_get};
 ghost use Rattle.of_types.specs.declared.journal.Act.TheVariants.{Stim};
 ghost use Rattle.of_types.specs.declared.journal.WorldStim.{WorldStim};
 ghost use Rattle.outside.specs.declared.step.WorldStep.TheVariants.{Acted, Idle, End, NextFailed};
@@ -12,6 +12,7 @@ ghost use Rattle.outside.specs.Calls.{item_step, next_steps, IsItemIn, IsIdle, I
 ghost use Rattle.outside.specs.Conforming.{IsWorldStim, IsNext};
 ghost use Rattle.lego_io.specs.Count.{raised};
 ghost use Rattle.sim_world.specs.Links.{IsDue, HasReadableRaw, StandsAt, waiting_in};
+ghost use Rattle.sim_world.specs.NextLaws.{IsMessage};
 ghost use Rattle.sim_world.specs.LinkStepLaws.{AllReadable};
 ghost use Rattle.sim_world.specs.World.{Moves, declared_in};
 
@@ -147,6 +148,47 @@ impl Parts {
         self.begun = true;
         self.history.push(WorldStep::Acted(Act::Stim(x)));
         Ok(())
+    }
+
+    /// Tells what is due, if anything is.
+    #[tactic(auto, using(crate::specs::NextLaws::due_moves, crate::specs::NextLaws::due_lives, crate::specs::NextLaws::due_counts, crate::specs::NextLaws::first_due))]
+    fn tell_due(&mut self, buf: &mut [u8]) -> Option<Item>
+        requires room { length self.old.state.running + 1 ≤ self.old.room }
+        requires few { self.old.nexts < 2 ^ 64 - 1 }
+        requires due { All IsDue self.old.state.due }
+        requires buf { 65535 ≤ length buf.old }
+        ensures moves { IfSome result (λ item. Moves self.old self.new (item_step item buf.new ∷ []) self.old.tally) }
+        ensures due { IfSome result (λ item. IsDue (item_step item buf.new)) }
+        ensures first { IfSome result (λ item. slice_get self.old.state.due 0 ≡ Some (item_step item buf.new)) }
+        ensures within { IfSome result (λ item. IsItemIn (Unit {0}) item buf.new) }
+        ensures links { IfSome result (λ item. self.new.state.links ≡ self.old.state.links) }
+        ensures none { IfNone result ((self.old.state.due ≡ []) × (self.new ≡ self.old)) }
+    {
+        let step = self.due.pop_front()?;
+        let item = item_of(&step, buf);
+        self.history.push(step);
+        self.nexts += 1;
+        Some(item)
+    }
+
+    /// Tells the message that waits and comes next, if any waits.
+    #[tactic(auto, using(crate::specs::SwitchCallLaws::told_stay_readable), unfolding(outside::specs::State::after_step, outside::specs::Calls::item_step, crate::specs::Scripts::life_after))]
+    fn tell_message(&mut self, buf: &mut [u8]) -> Option<Item>
+        requires room { length self.old.state.running + 1 ≤ self.old.room }
+        requires few { self.old.nexts < 2 ^ 64 - 1 }
+        requires buf { 65535 ≤ length buf.old }
+        ensures moves { IfSome result (λ item. Moves self.old self.new (item_step item buf.new ∷ []) self.old.tally) }
+        ensures next { IfSome result (λ item. slice_get (waiting_in self.old.state.links) 0 ≡ Some (item_step item buf.new)) }
+        ensures message { IfSome result (λ item. IsMessage item) }
+        ensures within { IfSome result (λ item. IsItemIn (Unit {0}) item buf.new) }
+        ensures readable { AllReadable self.old.state.links → AllReadable self.new.state.links }
+        ensures none { IfNone result ((waiting_in self.old.state.links ≡ []) × (self.new ≡ self.old)) }
+    {
+        let (dpid, message) = self.links.told()?;
+        let len = copy_to_front(message.as_slice(), buf);
+        self.history.push(WorldStep::From(dpid, message));
+        self.nexts += 1;
+        Some(Item::From(dpid, len))
     }
 }
 
