@@ -18,3 +18,4 @@ pub mod Doing
 pub mod DoingLaws
 pub mod SwitchCallLaws
 pub mod NextLaws
+pub mod TellLaws

@@ -13,6 +13,7 @@ ghost use Rattle.outside.specs.Conforming.{IsWorldStim, IsNext};
 ghost use Rattle.lego_io.specs.Count.{raised};
 ghost use Rattle.sim_world.specs.Links.{IsDue, HasReadableRaw, StandsAt, waiting_in};
 ghost use Rattle.sim_world.specs.NextLaws.{IsMessage};
+ghost use Rattle.sim_world.specs.Doing.{Tells};
 ghost use Rattle.sim_world.specs.LinkStepLaws.{AllReadable};
 ghost use Rattle.sim_world.specs.World.{Moves, declared_in};
 
@@ -116,7 +117,8 @@ impl Parts {
     fn tell_idle(&mut self)
         requires room { length self.old.state.running + 1 ≤ self.old.room }
         requires few { self.old.nexts < 2 ^ 64 - 1 }
-        ensures { Moves self.old self.new (Idle ∷ []) self.old.tally }
+        ensures moves { Moves self.old self.new (Idle ∷ []) self.old.tally }
+        ensures links { self.new.state.links ≡ self.old.state.links }
     {
         self.history.push(WorldStep::Idle);
         self.nexts += 1;
@@ -189,6 +191,26 @@ impl Parts {
         self.history.push(WorldStep::From(dpid, message));
         self.nexts += 1;
         Some(Item::From(dpid, len))
+    }
+
+    /// Tells what comes next of the stimulus that is begun.
+    #[tactic(auto, using(crate::specs::TellLaws::Tells_by_due, crate::specs::TellLaws::Tells_by_message, crate::specs::TellLaws::Tells_by_idle))]
+    fn tell(&mut self, buf: &mut [u8]) -> Item
+        requires begun { self.old.state.begun ≡ true }
+        requires room { length self.old.state.running + 1 ≤ self.old.room }
+        requires few { self.old.nexts < 2 ^ 64 - 1 }
+        requires due { All IsDue self.old.state.due }
+        requires buf { 65535 ≤ length buf.old }
+        ensures { Tells self.old self.new result buf.new }
+    {
+        if let Some(item) = self.tell_due(buf) {
+            return item;
+        }
+        if let Some(item) = self.tell_message(buf) {
+            return item;
+        }
+        self.tell_idle();
+        Item::Idle
     }
 }
 
