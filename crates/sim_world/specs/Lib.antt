@@ -19,3 +19,4 @@ pub mod DoingLaws
 pub mod SwitchCallLaws
 pub mod NextLaws
 pub mod TellLaws
+pub mod NextCallLaws
