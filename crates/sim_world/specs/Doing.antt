@@ -18,7 +18,7 @@ use Rattle.outside.specs.declared.item.Item.{Item}
 use Rattle.outside.specs.declared.item.Item.TheVariants as items
 use Rattle.outside.specs.declared.item.Taken.{Taken}
 use Rattle.outside.specs.declared.item.Taken.TheVariants as gave
-use Rattle.outside.specs.State.{but_marks, after_steps, is_running, is_joined, has_waiting, link_of}
+use Rattle.outside.specs.State.{but_marks, after_stim, after_steps, is_running, is_joined, has_waiting, link_of}
 use Rattle.outside.specs.Conforming.{MayStep, MaySteps}
 use Rattle.outside.specs.Calls.{item_step, open_steps, next_steps, stim_steps, start_steps, give_steps, take_steps, end_steps, send_steps, receive_steps, can_receive, IsItemIn, IsTakenIn, IsMessageIn, IsIdle, IsOver}
 use Rattle.sim_world.specs.Links.{IsDue, StandsAt, HasReadableRaw, MayCall}
@@ -122,6 +122,7 @@ pub record DoesNext (old new : WorldData) (result : Result Item NextFault) (buf 
   pub word : HasReadable begun → AllReadable old.state.links → MaySteps (declared_in old.state) (next_steps begun result buf) old.state
   pub told : AreAsTold old.told old.nexts (next_steps begun result buf) old.state
   pub readable : HasReadable begun → AllReadable old.state.links → AllReadable new.state.links
+  pub due : IfSome begun (λ x. All IsDue (after_stim x old.state).due)
 
 pub record DoesStart {T : Type 0} (app : ℕ) (old new : WorldData) (result : Result T StartFault) : Type 0 where
   pub moves : Moves old new (start_steps app result) (tally_stray (is_running app old.state) (start_tally result old.tally))

@@ -20,3 +20,5 @@ pub mod SwitchCallLaws
 pub mod NextLaws
 pub mod TellLaws
 pub mod NextCallLaws
+pub mod Keeping
+pub mod KeepingLaws

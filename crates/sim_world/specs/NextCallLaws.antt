@@ -43,6 +43,7 @@ Next_short old new buf moves = record {
   over = tt;
   word = λ raw all. tt;
   told = tt;
+  due = tt;
   readable = λ raw all. subst AllReadable (sym (links_same old new _ moves)) all;
 }
 
@@ -57,6 +58,7 @@ Next_failed old new buf told moves = record {
   over = tt;
   word = λ raw all. (tt, tt);
   told = (told, tt);
+  due = tt;
   readable = λ raw all. subst AllReadable (sym (ap (λ (s : State). s.links) moves.state)) all;
 }
 
@@ -73,6 +75,7 @@ Next_told old new item buf untold tells = record {
   over = tells.over;
   word = λ raw all. (tells.may all, tt);
   told = (tells.told untold, tt);
+  due = tt;
   readable = λ raw all. tells.readable all;
 }
 
@@ -97,6 +100,7 @@ Next_end old new buf untold rests none moves = record {
   over = (λ is. (rests, none), λ over. refl);
   word = λ raw all. ((rests, none), tt);
   told = (untold, tt);
+  due = tt;
   readable = λ raw all. subst AllReadable (sym (ap (λ (s : State). s.links) moves.state)) all;
 }
 
@@ -117,6 +121,10 @@ stim_links : (x : WorldStim) (s : State) → (after_step (Acted (Stim x)) s).lin
 unfolding after_step after_act after_stim
 stim_links x s = refl
 
+stim_due : (x : WorldStim) (s : State) → (after_step (Acted (Stim x)) s).due ≡ (after_stim x s).due
+unfolding after_step after_act
+stim_due x s = refl
+
 untold_stim : (fails : List FailCall) (n : ℕ) (x : WorldStim) (s : State) → IsAsTold fails n (Acted (Stim x)) s
 unfolding IsAsTold
 untold_stim fails n x s = tt
@@ -124,9 +132,9 @@ untold_stim fails n x s = tt
 pub Next_begun : (old mid new : WorldData) (x : WorldStim) (item : Item) (buf : List ℕ) → next_told old.told old.nexts ≡ false → old.state.begun ≡ false → slice_get old.state.to_come 0 ≡ Some x
     → CanCome (declared_in old.state) old.state.moment old.state.to_come → Moves old mid (Acted (Stim x) ∷ []) old.tally
     → length (waiting_in mid.state.links) ≤ length (waiting_in old.state.links) + 262144
-    → (HasReadableRaw x → AllReadable old.state.links → AllReadable mid.state.links) → Tells mid new item buf → DoesNext old new (Ok item) buf
+    → (HasReadableRaw x → AllReadable old.state.links → AllReadable mid.state.links) → All IsDue mid.state.due → Tells mid new item buf → DoesNext old new (Ok item) buf
 unfolding next_steps after_step after_act MayStep MayAct
-Next_begun old mid new x item buf untold rests next come begins few read tells =
+Next_begun old mid new x item buf untold rests next come begins few read due tells =
     let after = after_step (Acted (Stim x)) old.state in
     let same : but_marks mid.state ≡ but_marks after = ap but_marks begins.state in
     let links : mid.state.links ≡ after.links = ap (λ (s : State). s.links) begins.state in
@@ -155,6 +163,7 @@ Next_begun old mid new x item buf untold rests next come begins few read tells =
       );
       told = (untold_stim old.told old.nexts x old.state, AreAsTold-same old.told old.nexts (item_step item buf ∷ []) mid.state after same (told_here, tt));
       readable = λ raw all. tells.readable (read raw all);
+      due = subst (All IsDue) (ap (λ (s : State). s.due) begins.state ∙ stim_due x old.state) due;
     }
 
 -- ---- Where room was made before
