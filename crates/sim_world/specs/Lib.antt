@@ -22,3 +22,4 @@ pub mod TellLaws
 pub mod NextCallLaws
 pub mod Keeping
 pub mod KeepingLaws
+pub mod StandingLaws

@@ -16,5 +16,7 @@ mod scripts;
 mod tally;
 mod told;
 mod waits;
+mod world;
 
+pub use world::SimWorld;
 pub use script_laws::{links_move_no_life, lives_of_a_history, longer_scripted_history};
