@@ -13,6 +13,8 @@ pub mod LifeLaws
 pub mod CellLaws
 pub mod World
 pub mod WorldLaws
+pub mod Building
+pub mod BuildingLaws
 pub mod TallyLaws
 pub mod Doing
 pub mod DoingLaws

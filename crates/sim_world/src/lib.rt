@@ -2,6 +2,7 @@
 #![tactic(auto)]
 
 mod app_calls;
+mod builders;
 mod fail_numbers;
 mod history;
 mod life;
