@@ -18,12 +18,14 @@ use Rattle.outside.specs.declared.item.Item.TheVariants as items
 use Rattle.outside.specs.declared.item.Taken.{Taken}
 use Rattle.outside.specs.declared.item.Taken.TheVariants as gave
 use Rattle.outside.specs.State.{but_marks, after_steps, is_running, is_joined, has_waiting, link_of}
-use Rattle.outside.specs.Calls.{open_steps, next_steps, stim_steps, start_steps, give_steps, take_steps, end_steps, send_steps, receive_steps, can_receive, IsItemIn, IsTakenIn, IsMessageIn, IsIdle, IsOver}
+use Rattle.outside.specs.Conforming.{MayStep}
+use Rattle.outside.specs.Calls.{item_step, open_steps, next_steps, stim_steps, start_steps, give_steps, take_steps, end_steps, send_steps, receive_steps, can_receive, IsItemIn, IsTakenIn, IsMessageIn, IsIdle, IsOver}
 use Rattle.sim_world.specs.Links.{MayCall}
 use Rattle.sim_world.specs.Tally.{TallyState, tally_stray, tally_short, tally_short_of, tally_fault_of}
 use Rattle.sim_world.specs.Scripts.{Life}
 use Rattle.sim_world.specs.Lives.{life_in}
-use Rattle.sim_world.specs.World.{WorldData, Moves}
+use Rattle.sim_world.specs.World.{WorldData, Moves, IsAsTold, next_told, declared_in}
+use Rattle.sim_world.specs.LinkStepLaws.{AllReadable}
 
 -- ---- Counts by answers
 
@@ -71,6 +73,17 @@ pub record AppsStand (w : WorldData) : Type 0 where
 -- the lives at hand
 abbrev pub lives_of : WorldData → ℕ → Life
 lives_of w app = life_in app w.lives
+
+-- ---- What is told in a state in which a stimulus is begun
+
+pub record Tells (old new : WorldData) (item : Item) (buf : List ℕ) : Type 0 where
+  pub moves : Moves old new (item_step item buf ∷ []) old.tally
+  pub within : IsItemIn (Unit {0}) item buf
+  pub idle : (item ≡ items.Idle) ↔ IsIdle old.state
+  pub over : (item ≡ items.End) ↔ IsOver old.state
+  pub may : AllReadable old.state.links → MayStep (declared_in old.state) (item_step item buf) old.state
+  pub told : next_told old.told old.nexts ≡ false → IsAsTold old.told old.nexts (item_step item buf) old.state
+  pub readable : AllReadable old.state.links → AllReadable new.state.links
 
 -- ---- What calls of links need: one more call of each link can be counted.
 

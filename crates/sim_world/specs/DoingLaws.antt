@@ -459,6 +459,7 @@ Moves_none w plain promised = record {
   fails = refl;
   told = refl;
   history = sym (append-nil w.history);
+  nexts = refl;
   room = promised;
   tally = refl;
   state = plain;

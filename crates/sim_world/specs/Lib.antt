@@ -19,3 +19,5 @@ pub mod TallyLaws
 pub mod Doing
 pub mod DoingLaws
 pub mod SwitchCallLaws
+pub mod NextLaws
+pub mod TellLaws

@@ -8,9 +8,10 @@ use Rattle.of_types.specs.declared.journal.WorldStim.TheVariants.{Of, Join, Leav
 use Rattle.of_wire.specs.Reading.{reading_of}
 use Rattle.flow_table.specs.Switch.{Declared, SwitchState, joined_at, features_reply}
 use Rattle.outside.specs.declared.step.WorldStep.{WorldStep}
-use Rattle.outside.specs.declared.step.WorldStep.TheVariants.{From, Left, Moment}
+use Rattle.outside.specs.declared.step.WorldStep.TheVariants.{From, Joined, Left, Moment}
 use Rattle.outside.specs.State.{Link, stimulus_sends, join_due, switch_in, link_of}
 use Rattle.outside.specs.Conforming.{AreDeclaredFrom}
+use Rattle.outside.specs.Calls.{IsFeaturesOf}
 use Rattle.sim_world.specs.LinkWaits.{AreShort}
 
 -- ---- As they are held
@@ -106,6 +107,13 @@ due_in (Join d) moment ls = join_due d moment (link_of d ls)
 due_in (Leave d) moment ls = if is_some (switch_in (link_of d ls)) then Left d ∷ [] else []
 due_in (At t) moment ls = Moment t ∷ []
 due_in (Of d x) moment ls = []
+
+-- What can be due beside messages: a switch that joined, with its FEATURES_REPLY, one that left, and a moment.
+unfoldable pub IsDue : WorldStep → Type 0
+IsDue (Joined d bytes) = (length bytes ≤ 65535) × IsFeaturesOf d bytes
+IsDue (Left d) = Unit {0}
+IsDue (Moment t) = Unit {0}
+IsDue other = ⊥
 
 -- by number, strictly ascending, and at most 64
 pub record AreLinks (ls : List Link) : Type 0 where

@@ -33,6 +33,7 @@ pub record WorldData : Type 0 where
   pub told : List FailCall
   pub history : List WorldStep
   pub room : ℕ
+  pub nexts : ℕ
   pub tally : TallyState
   pub state : State
   pub lives : List (ℕ × Life)
@@ -131,6 +132,7 @@ pub record Stands (w : WorldData) : Type 0 where
   pub state : but_marks (state (seen_of w)) ≡ w.state
   pub lives : (app : ℕ) → life_in app w.lives ≡ life_through w.scripts w.told app w.history fresh
   pub told : w.told ≡ without_links w.fails
+  pub nexts : w.nexts ≡ nexts_through w.history 0
   pub history : IsHistory (given_of w) w.history
   pub room : length w.state.running ≤ w.room
   pub tally : CountsFor (declared_in w.state) w.tally
@@ -144,6 +146,7 @@ pub record Moves (old new : WorldData) (steps : List WorldStep) (counted : Tally
   pub fails : new.fails ≡ old.fails
   pub told : new.told ≡ old.told
   pub history : new.history ≡ old.history ++ steps
+  pub nexts : new.nexts ≡ nexts_through steps old.nexts
   pub room : length new.state.running ≤ new.room
   pub tally : new.tally ≡ counted
   pub state : new.state ≡ but_marks (after_steps steps old.state)

@@ -161,6 +161,10 @@ AreAsTold-same fails n (step ∷ steps) s t same told =
     (subst (λ (x : Type 0). x) here told.0,
      AreAsTold-same fails (counted_next step n) steps (after_step step s) (after_step step t) (after_same step s t same) told.1)
 
+pub nexts_through-append : (xs ys : List WorldStep) (n : ℕ) → nexts_through (xs ++ ys) n ≡ nexts_through ys (nexts_through xs n)
+nexts_through-append [] ys n = refl
+nexts_through-append (x ∷ xs) ys n = nexts_through-append xs ys (counted_next x n)
+
 pub AreAsTold-append : (fails : List FailCall) (n : ℕ) (xs ys : List WorldStep) (s : State) → AreAsTold fails n xs s → AreAsTold fails (nexts_through xs n) ys (after_steps xs s) → AreAsTold fails n (xs ++ ys) s
 AreAsTold-append fails n [] ys s front rest = rest
 AreAsTold-append fails n (x ∷ xs) ys s front rest = (front.0, AreAsTold-append fails (counted_next x n) xs ys (after_step x s) front.1 rest)
@@ -270,7 +274,7 @@ life_through-append own fails app (x ∷ xs) ys l = life_through-append own fail
 pub record MayMove (old : WorldData) (steps : List WorldStep) : Type 0 where
   pub word : IsReadable (old.history ++ steps) ≡ true → MaySteps (declared_in old.state) steps old.state
   pub scripts : AreScripted old.scripts old.told steps (λ app. life_in app old.lives)
-  pub told : AreAsTold old.told (nexts_through old.history 0) steps old.state
+  pub told : AreAsTold old.told old.nexts steps old.state
 
 both_front : (b whole front : Bool) → (whole ≡ true → front ≡ true) → (b && whole) ≡ true → (b && front) ≡ true
 both_front true whole front rest is = rest is
@@ -311,7 +315,7 @@ Stands-moves old new steps counted stands moves may counts come =
     ap declared_in moves.state ∙ declared_but (after_steps steps old.state) ∙ declared-stays steps old.state in
     let given : given_of new ≡ given_of old = rw (declared, moves.scripts, moves.stimuli, moves.fails) refl in
     let history : IsHistory (given_of old) (old.history ++ steps) =
-    IsHistory-more (given_of old) old.history steps old.state (λ app. life_in app old.lives) stands.state (λ app. rw (← stands.told) (stands.lives app)) stands.history may.word (rw (← stands.told) may.scripts) (rw (← stands.told) may.told) in
+    IsHistory-more (given_of old) old.history steps old.state (λ app. life_in app old.lives) stands.state (λ app. rw (← stands.told) (stands.lives app)) stands.history may.word (rw (← stands.told) may.scripts) (rw (← stands.told, ← stands.nexts) may.told) in
     record {
       declared = rw declared stands.declared;
       state =
@@ -325,6 +329,7 @@ Stands-moves old new steps counted stands moves may counts come =
           ∙ sym (life_through-append old.scripts old.told app old.history steps fresh)
           ∙ rw (moves.scripts, moves.told, moves.history) refl;
       told = rw (moves.told, moves.fails) stands.told;
+      nexts = moves.nexts ∙ ap (nexts_through steps) stands.nexts ∙ sym (nexts_through-append old.history steps 0) ∙ ap (λ (h : List WorldStep). nexts_through h 0) (sym moves.history);
       history = subst (λ (h : List WorldStep). IsHistory (given_of new) h) (sym moves.history) (subst (λ (g : Given Scripts). IsHistory g (old.history ++ steps)) (sym given) history);
       room = moves.room;
       tally = rw (declared, moves.tally) counts;
@@ -339,6 +344,7 @@ Moves_both old mid new xs ys t u first second = record {
   fails = second.fails ∙ first.fails;
   told = second.told ∙ first.told;
   history = second.history ∙ ap (λ (h : List WorldStep). h ++ ys) first.history ∙ append_assoc old.history xs ys;
+  nexts = second.nexts ∙ ap (nexts_through ys) first.nexts ∙ sym (nexts_through-append xs ys old.nexts);
   room = second.room;
   tally = second.tally;
   state =
@@ -360,6 +366,7 @@ Moves_ready old mid new steps t same lives moves = record {
   fails = moves.fails ∙ ap (λ (w : WorldData). w.fails) same;
   told = moves.told ∙ ap (λ (w : WorldData). w.told) same;
   history = moves.history ∙ ap (λ (w : WorldData). w.history ++ steps) same;
+  nexts = moves.nexts ∙ ap (λ (w : WorldData). nexts_through steps w.nexts) same;
   room = moves.room;
   tally = moves.tally;
   state = moves.state ∙ ap (λ (w : WorldData). but_marks (after_steps steps w.state)) same;

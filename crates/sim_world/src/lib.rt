@@ -10,6 +10,7 @@ mod link;
 mod link_calls;
 mod links;
 mod lives;
+mod next_call;
 mod parts;
 mod script_laws;
 mod scripts;

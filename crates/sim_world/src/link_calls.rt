@@ -10,7 +10,7 @@ ghost use Rattle.outside.specs.Conforming.{MaySteps};
 ghost use Rattle.sim_world.specs.Tally.{tally_stray, tally_short_of, tally_fault_of};
 ghost use Rattle.sim_world.specs.Links.{AreReadable, MayCall};
 ghost use Rattle.sim_world.specs.LinkStepLaws.{AllReadable};
-ghost use Rattle.sim_world.specs.World.{Moves, AreAsTold, nexts_through, declared_in};
+ghost use Rattle.sim_world.specs.World.{Moves, AreAsTold, declared_in};
 ghost use Rattle.sim_world.specs.Doing.{LinksStand, DoesSend, DoesReceive};
 
 use crate::parts::Parts;
@@ -105,7 +105,7 @@ impl Parts {
         requires stands { LinksStand self.old }
         ensures does { DoesSend dpid frame.now self.old self.new result }
         ensures word { MaySteps (declared_in self.old.state) (send_steps dpid frame.now result) self.old.state }
-        ensures told { AreAsTold self.old.told (nexts_through self.old.history 0) (send_steps dpid frame.now result) self.old.state }
+        ensures told { AreAsTold self.old.told self.old.nexts (send_steps dpid frame.now result) self.old.state }
         ensures readable { AllReadable self.old.state.links → AllReadable self.new.state.links }
     {
         let stray = self.is_out(dpid);
@@ -156,7 +156,7 @@ impl Parts {
         requires buf { 65535 ≤ length buf.old }
         ensures does { DoesReceive dpid self.old self.new result buf.new }
         ensures word { AllReadable self.old.state.links → MaySteps (declared_in self.old.state) (receive_steps dpid result buf.new) self.old.state }
-        ensures told { AreAsTold self.old.told (nexts_through self.old.history 0) (receive_steps dpid result buf.new) self.old.state }
+        ensures told { AreAsTold self.old.told self.old.nexts (receive_steps dpid result buf.new) self.old.state }
         ensures readable { AllReadable self.old.state.links → AllReadable self.new.state.links }
     {
         let stray = self.none_waits(dpid);

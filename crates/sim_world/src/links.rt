@@ -10,7 +10,7 @@ ghost use Rattle.outside.specs.Conforming.{AreDeclaredFrom, IsStimulus, IsWorldS
 ghost use Rattle.outside.specs.Calls.{IsFeaturesOf};
 ghost use Rattle.outside.specs.Seen.{is_declared};
 ghost use Rattle.outside.specs.State.{is_empty, fails_in, join_due, links_after, link_of, switch_in, waits_in, with_link, link_joined, link_left, link_stimulated, link_sent, link_got, link_told, link_failed};
-ghost use Rattle.sim_world.specs.Links.{links_in, declared_in, waiting_in, insert_link, fails_at, features_of_join, AreReadable, IsReadableIfRaw, HasReadableRaw, StandsAt, due_in, AreLinks, AreReady, insert_held, Held, StandsBy, MayCall, IsPlaceOf, IsFirstWaiting};
+ghost use Rattle.sim_world.specs.Links.{links_in, declared_in, waiting_in, insert_link, fails_at, features_of_join, IsDue, AreReadable, IsReadableIfRaw, HasReadableRaw, StandsAt, due_in, AreLinks, AreReady, insert_held, Held, StandsBy, MayCall, IsPlaceOf, IsFirstWaiting};
 
 use crate::link::SimLink;
 use of_types::{ByteList, Dpid, Stimulus, WorldStim};
@@ -442,9 +442,11 @@ impl Links {
     }
 
     /// The switch joins, and what that makes due.
+    #[tactic(auto, unfolding(crate::specs::Links::IsDue))]
     fn begin_join(&mut self, dpid: Dpid, moment: u64) -> Result<Option<WorldStep>, AllocError>
         requires { moment ≤ 4294967295 }
         ensures due { IfOk result (λ step. join_due dpid moment (link_of dpid self.old) ≡ option_to_list step) }
+        ensures fits { IfOk result (λ step. IfSome step IsDue) }
         ensures ok { OnOk result (self.new ≡ with_link dpid (link_joined moment) self.old) }
         ensures err { OnErr result (self.new ≡ self.old) }
     {
@@ -455,8 +457,10 @@ impl Links {
     }
 
     /// The switch leaves, and what that makes due.
+    #[tactic(auto, unfolding(crate::specs::Links::IsDue))]
     fn begin_leave(&mut self, dpid: Dpid) -> Option<WorldStep>
         ensures due { (if is_some (switch_in (link_of dpid self.old)) then Left dpid ∷ [] else []) ≡ option_to_list result }
+        ensures fits { IfSome result IsDue }
         ensures left { self.new ≡ with_link dpid link_left self.old }
     {
         let was_joined = self.is_joined(dpid);
@@ -472,12 +476,13 @@ impl Links {
     /// After want of memory all is as before.
     ///
     /// The stimulus is of a declared switch, and a moment is not before the last and at most 4,294,967,295 seconds.
-    #[tactic(auto, unfolding(outside::specs::Conforming::IsWorldStim))]
+    #[tactic(auto, unfolding(outside::specs::Conforming::IsWorldStim, crate::specs::Links::IsDue))]
     pub fn begin(&mut self, x: &WorldStim, moment: u64) -> Result<Option<WorldStep>, AllocError>
         requires stimulus { IsWorldStim (declared_in self.old) moment x.now }
         requires stand { AllByRecursion (λ l. StandsAt moment l.switch) self.old }
         requires within { moment ≤ 4294967295 }
         ensures due { IfOk result (λ step. due_in x.now moment self.old ≡ option_to_list step) }
+        ensures fits { IfOk result (λ step. IfSome step IsDue) }
         ensures ok { OnOk result (self.new ≡ links_after x.now moment self.old) }
         ensures err { OnErr result (self.new ≡ self.old) }
         ensures few { length (waiting_in self.new) ≤ length (waiting_in self.old) + 262144 }

@@ -7,7 +7,7 @@ ghost use Rattle.outside.specs.declared.step.WorldStep.TheVariants.{Acted, Opene
 ghost use Rattle.sim_world.specs.Lives.{life_in, has_life};
 ghost use Rattle.sim_world.specs.Tally.{tally_stray, tally_short};
 ghost use Rattle.outside.specs.Calls.{open_steps};
-ghost use Rattle.sim_world.specs.World.{Moves, AreAsTold, nexts_through};
+ghost use Rattle.sim_world.specs.World.{Moves, AreAsTold};
 ghost use Rattle.sim_world.specs.Doing.{DoesOpen};
 
 use crate::history::History;
@@ -55,6 +55,7 @@ impl Model for Parts {
       told = w.told;
       history = w.history.steps;
       room = w.history.room;
+      nexts = w.nexts;
       tally = w.tally;
       state = record {
         opened = w.opened;
@@ -129,7 +130,7 @@ impl Parts {
     pub(crate) fn open(&mut self) -> Result<(), OpenFault>
         requires { length self.old.state.running ≤ self.old.room }
         ensures does { DoesOpen self.old self.new result }
-        ensures told { AreAsTold self.old.told (nexts_through self.old.history 0) (open_steps result) self.old.state }
+        ensures told { AreAsTold self.old.told self.old.nexts (open_steps result) self.old.state }
     {
         if !self.is_ready(1) {
             self.want_memory(self.opened);

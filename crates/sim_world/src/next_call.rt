@@ -1,0 +1,235 @@
+//! What comes next in a simulated world.
+
+ghost use Rattle.std.specs.List.{AllByRecursion};
+ghost use Rattle.std.specs.Option.{option_to_list};
+ghost use Rattle.std.specs.VecDeque.{deque_len, deque_capacity};
+ghost use Rattle.std.specs.Prelude.{◌≡◌, ℕ, ◌+◌, ◌-◌, ◌^◌, ◌≤◌, ◌<◌, ◌++◌, [], ◌∷◌, All, length, take, drop, false, true, IfOk, IfSome, IfNone, OnOk, OnErr, IsOk, Some, slice_get};
+ghost use Rattle.of_types.specs.declared.journal.Act.TheVariants.{Stim};
+ghost use Rattle.of_types.specs.declared.journal.WorldStim.{WorldStim};
+ghost use Rattle.outside.specs.declared.step.WorldStep.TheVariants.{Acted, Idle, End, NextFailed};
+ghost use Rattle.outside.specs.State.{upcoming, moment_after};
+ghost use Rattle.outside.specs.Calls.{item_step, next_steps, IsItemIn, IsIdle, IsOver};
+ghost use Rattle.outside.specs.Conforming.{IsWorldStim, IsNext};
+ghost use Rattle.lego_io.specs.Count.{raised};
+ghost use Rattle.sim_world.specs.Links.{IsDue, HasReadableRaw, StandsAt, waiting_in};
+ghost use Rattle.sim_world.specs.NextLaws.{IsMessage};
+ghost use Rattle.sim_world.specs.Doing.{Tells};
+ghost use Rattle.sim_world.specs.LinkStepLaws.{AllReadable};
+ghost use Rattle.sim_world.specs.World.{Moves, declared_in};
+
+use crate::parts::Parts;
+use crate::waits::copy_to_front;
+use of_types::{Act, ByteList, Stimulus, WorldStim};
+use outside::{Item, WorldStep};
+use std::alloc::{AllocError, Global};
+use std::collections::VecDeque;
+
+/// A copy of what happens to a switch.
+fn copy_stimulus(alloc: Global, x: &Stimulus) -> Result<Stimulus, AllocError>
+    ensures { IfOk result (λ copy. copy ≡ x.now) }
+{
+    Ok(match x {
+        Stimulus::Frame { port, bytes } => Stimulus::Frame {
+            port: *port,
+            bytes: ByteList::from_slice(alloc, bytes.as_slice())?,
+        },
+        Stimulus::Advance(moment) => Stimulus::Advance(*moment),
+        Stimulus::Port { port, change } => Stimulus::Port {
+            port: *port,
+            change: *change,
+        },
+        Stimulus::Counts {
+            priority,
+            packets,
+            bytes,
+        } => Stimulus::Counts {
+            priority: *priority,
+            packets: *packets,
+            bytes: *bytes,
+        },
+        Stimulus::Raw(bytes) => Stimulus::Raw(ByteList::from_slice(alloc, bytes.as_slice())?),
+    })
+}
+
+/// A copy of what happens.
+fn copy_stim(alloc: Global, x: &WorldStim) -> Result<WorldStim, AllocError>
+    ensures { IfOk result (λ copy. copy ≡ x.now) }
+{
+    Ok(match x {
+        WorldStim::Join(dpid) => WorldStim::Join(*dpid),
+        WorldStim::Leave(dpid) => WorldStim::Leave(*dpid),
+        WorldStim::At(moment) => WorldStim::At(*moment),
+        WorldStim::Of(dpid, x) => WorldStim::Of(*dpid, copy_stimulus(alloc, x)?),
+    })
+}
+
+/// The item that tells a step that is due, with its bytes in the front of the buffer.
+#[tactic(auto, unfolding(outside::specs::Calls::item_step, crate::specs::Links::IsDue))]
+fn item_of(step: &WorldStep, buf: &mut [u8]) -> Item
+    requires due { IsDue step.now }
+    requires buf { 65535 ≤ length buf.old }
+    ensures step { item_step result buf.new ≡ step.now }
+    ensures item { IsItemIn (Unit {0}) result buf.new }
+{
+    match step {
+        WorldStep::Joined(dpid, bytes) => Item::Joined(*dpid, copy_to_front(bytes.as_slice(), buf)),
+        WorldStep::Left(dpid) => Item::Left(*dpid),
+        WorldStep::Moment(moment) => Item::Moment(*moment),
+        WorldStep::Acted(_)
+        | WorldStep::TookInto(..)
+        | WorldStep::From(..)
+        | WorldStep::Idle
+        | WorldStep::End
+        | WorldStep::Opened
+        | WorldStep::NotOpened
+        | WorldStep::NextFailed
+        | WorldStep::SendFailed(_)
+        | WorldStep::RecvFailed(_) => Item::Idle,
+    }
+}
+
+impl Parts {
+    /// `next` failed.
+    #[tactic(auto, unfolding(outside::specs::State::after_step, crate::specs::Scripts::life_after))]
+    fn next_failed(&mut self)
+        requires room { length self.old.state.running + 1 ≤ self.old.room }
+        requires few { self.old.nexts < 2 ^ 64 - 1 }
+        ensures { Moves self.old self.new (NextFailed ∷ []) (record self.old.tally { next_faults = raised self.old.tally.next_faults }) }
+    {
+        self.history.push(WorldStep::NextFailed);
+        self.nexts += 1;
+        self.tally.raise_next_faults();
+    }
+
+    /// `next` tells the end.
+    #[tactic(auto, unfolding(outside::specs::State::after_step, crate::specs::Scripts::life_after))]
+    fn tell_end(&mut self)
+        requires room { length self.old.state.running + 1 ≤ self.old.room }
+        requires few { self.old.nexts < 2 ^ 64 - 1 }
+        ensures { Moves self.old self.new (End ∷ []) self.old.tally }
+    {
+        self.history.push(WorldStep::End);
+        self.nexts += 1;
+    }
+
+    /// `next` tells that nothing waits.
+    #[tactic(auto, unfolding(outside::specs::State::after_step, crate::specs::Scripts::life_after))]
+    fn tell_idle(&mut self)
+        requires room { length self.old.state.running + 1 ≤ self.old.room }
+        requires few { self.old.nexts < 2 ^ 64 - 1 }
+        ensures moves { Moves self.old self.new (Idle ∷ []) self.old.tally }
+        ensures links { self.new.state.links ≡ self.old.state.links }
+    {
+        self.history.push(WorldStep::Idle);
+        self.nexts += 1;
+        self.begun = false;
+    }
+
+    /// A stimulus begins, the next of those to come; a copy of it goes into the history. After want of memory all is as
+    /// before.
+    #[tactic(auto, using(crate::specs::NextLaws::due_is, crate::specs::NextLaws::one_fewer, crate::specs::NextLaws::all_due, crate::specs::NextLaws::next_within), unfolding(crate::specs::World::declared_in, outside::specs::State::after_step, outside::specs::State::after_act, outside::specs::State::after_stim, crate::specs::Scripts::life_after))]
+    fn begin_with(&mut self, x: WorldStim) -> Result<(), AllocError>
+        requires next { slice_get self.old.state.to_come 0 ≡ Some x }
+        requires room { length self.old.state.running + 2 ≤ self.old.room }
+        requires stimulus { IsWorldStim (declared_in self.old.state) self.old.state.moment x }
+        requires stand { AllByRecursion (λ l. StandsAt self.old.state.moment l.switch) self.old.state.links }
+        requires within { self.old.state.moment ≤ 4294967295 }
+        requires due { All IsDue self.old.state.due }
+        ensures ok { OnOk result (Moves self.old self.new (Acted (Stim x) ∷ []) self.old.tally) }
+        ensures room { OnOk result (length self.new.state.running + 1 ≤ self.new.room) }
+        ensures few { OnOk result (length (waiting_in self.new.state.links) ≤ length (waiting_in self.old.state.links) + 262144) }
+        ensures due { OnOk result (All IsDue self.new.state.due) }
+        ensures readable { OnOk result (HasReadableRaw x → AllReadable self.old.state.links → AllReadable self.new.state.links) }
+        ensures err { OnErr result (self.new ≡ self.old) }
+    {
+        self.due.reserve(1)?;
+        let due = self.links.begin(&x, self.moment)?;
+        push_due(&mut self.due, due);
+        self.moment = moment_after(&x, self.moment);
+        self.begun_stimuli += 1;
+        self.begun = true;
+        self.history.push(WorldStep::Acted(Act::Stim(x)));
+        Ok(())
+    }
+
+    /// Tells what is due, if anything is.
+    #[tactic(auto, using(crate::specs::NextLaws::due_moves, crate::specs::NextLaws::due_lives, crate::specs::NextLaws::due_counts, crate::specs::NextLaws::first_due))]
+    fn tell_due(&mut self, buf: &mut [u8]) -> Option<Item>
+        requires room { length self.old.state.running + 1 ≤ self.old.room }
+        requires few { self.old.nexts < 2 ^ 64 - 1 }
+        requires due { All IsDue self.old.state.due }
+        requires buf { 65535 ≤ length buf.old }
+        ensures moves { IfSome result (λ item. Moves self.old self.new (item_step item buf.new ∷ []) self.old.tally) }
+        ensures due { IfSome result (λ item. IsDue (item_step item buf.new)) }
+        ensures first { IfSome result (λ item. slice_get self.old.state.due 0 ≡ Some (item_step item buf.new)) }
+        ensures within { IfSome result (λ item. IsItemIn (Unit {0}) item buf.new) }
+        ensures links { IfSome result (λ item. self.new.state.links ≡ self.old.state.links) }
+        ensures none { IfNone result ((self.old.state.due ≡ []) × (self.new ≡ self.old)) }
+    {
+        let step = self.due.pop_front()?;
+        let item = item_of(&step, buf);
+        self.history.push(step);
+        self.nexts += 1;
+        Some(item)
+    }
+
+    /// Tells the message that waits and comes next, if any waits.
+    #[tactic(auto, using(crate::specs::SwitchCallLaws::told_stay_readable), unfolding(outside::specs::State::after_step, outside::specs::Calls::item_step, crate::specs::Scripts::life_after))]
+    fn tell_message(&mut self, buf: &mut [u8]) -> Option<Item>
+        requires room { length self.old.state.running + 1 ≤ self.old.room }
+        requires few { self.old.nexts < 2 ^ 64 - 1 }
+        requires buf { 65535 ≤ length buf.old }
+        ensures moves { IfSome result (λ item. Moves self.old self.new (item_step item buf.new ∷ []) self.old.tally) }
+        ensures next { IfSome result (λ item. slice_get (waiting_in self.old.state.links) 0 ≡ Some (item_step item buf.new)) }
+        ensures message { IfSome result (λ item. IsMessage item) }
+        ensures within { IfSome result (λ item. IsItemIn (Unit {0}) item buf.new) }
+        ensures readable { AllReadable self.old.state.links → AllReadable self.new.state.links }
+        ensures none { IfNone result ((waiting_in self.old.state.links ≡ []) × (self.new ≡ self.old)) }
+    {
+        let (dpid, message) = self.links.told()?;
+        let len = copy_to_front(message.as_slice(), buf);
+        self.history.push(WorldStep::From(dpid, message));
+        self.nexts += 1;
+        Some(Item::From(dpid, len))
+    }
+
+    /// Tells what comes next of the stimulus that is begun.
+    #[tactic(auto, using(crate::specs::TellLaws::Tells_by_due, crate::specs::TellLaws::Tells_by_message, crate::specs::TellLaws::Tells_by_idle))]
+    fn tell(&mut self, buf: &mut [u8]) -> Item
+        requires begun { self.old.state.begun ≡ true }
+        requires room { length self.old.state.running + 1 ≤ self.old.room }
+        requires few { self.old.nexts < 2 ^ 64 - 1 }
+        requires due { All IsDue self.old.state.due }
+        requires buf { 65535 ≤ length buf.old }
+        ensures { Tells self.old self.new result buf.new }
+    {
+        if let Some(item) = self.tell_due(buf) {
+            return item;
+        }
+        if let Some(item) = self.tell_message(buf) {
+            return item;
+        }
+        self.tell_idle();
+        Item::Idle
+    }
+}
+
+/// Puts what is due behind the rest; there is room for it.
+fn push_due(all: &mut VecDeque<WorldStep>, due: Option<WorldStep>)
+    requires { deque_len all.old < deque_capacity all.old }
+    ensures { all.new.items ≡ all.old.items ++ option_to_list due }
+{
+    if let Some(step) = due {
+        all.push_back_reserved(step);
+    }
+}
+
+/// The moment when a stimulus has begun.
+fn moment_after(x: &WorldStim, moment: u64) -> u64
+    ensures { result ≡ moment_after x.now moment }
+{
+    match x {
+        WorldStim::At(next) => *next,
+        _ => moment,
+    }
+}
