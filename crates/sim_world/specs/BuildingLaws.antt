@@ -29,7 +29,7 @@ use Rattle.sim_world.specs.Tally.{last_count, LinkCounts, TallyState, IsTally, C
 use Rattle.sim_world.specs.Told.{without_links, without_links-link, without_links-other}
 use Rattle.sim_world.specs.Scripts.{Scripts, Life, fresh, life_through, KeepsScripts}
 use Rattle.sim_world.specs.Lives.{Playing, life_in}
-use Rattle.sim_world.specs.World.{WorldData, declared_in, given_of, seen_of, IsHistory, Stands, CanCome}
+use Rattle.sim_world.specs.World.{WorldData, declared_in, given_of, seen_of, nexts_through, IsHistory, Stands, CanCome}
 use Rattle.sim_world.specs.Doing.{AppsStand, LinksStand}
 use Rattle.sim_world.specs.Building.{Gets, nothing_given, insert_declared, with_switch, with_stimulus, with_fail, with_start, with_reply, last_moment_from, last_moment_of, MayBeGiven, AreZero, IsNew}
 
@@ -318,6 +318,7 @@ pub record HoldsNothing (w : WorldData) : Type 0 where
   pub fails : w.fails ≡ []
   pub told : w.told ≡ []
   pub history : w.history ≡ []
+  pub nexts : w.nexts ≡ 0
   pub tally : w.tally ≡ no_counts
   pub lives : w.lives ≡ []
   pub state : w.state ≡ record w.state { opened = false; moment = 0; begun = false; marks = [] }
@@ -337,6 +338,7 @@ pub IsNew-nothing : (w : WorldData) → HoldsNothing w → IsNew w
 unfolding without_links declared_in
 IsNew-nothing w is = record {
   history = is.history;
+  nexts = is.nexts;
   lives = is.lives;
   told = is.told ∙ ap without_links (sym is.fails);
   state = state_of_none w is ∙ sym first_of_none ∙ ap at_first (sym (given-nothing w is));
@@ -398,6 +400,7 @@ pub Gets-switch : (d : Declared) (w : WorldData) → IsNew w → Gets (with_swit
 Gets-switch d w is = record {
   still = record {
     history = is.history;
+    nexts = is.nexts;
     lives = is.lives;
     told = is.told;
     state =
@@ -420,6 +423,7 @@ unfolding given_of declared_in at_first
 Gets-stimulus x w is = record {
   still = record {
     history = is.history;
+    nexts = is.nexts;
     lives = is.lives;
     told = is.told;
     state = ap (λ (s : State). record s { to_come = w.stimuli ++ x ∷ [] }) is.state;
@@ -438,6 +442,7 @@ unfolding given_of declared_in at_first
 Gets-scripts own change w changed is = record {
   still = record {
     history = is.history;
+    nexts = is.nexts;
     lives = is.lives;
     told = is.told;
     state = is.state;
@@ -491,6 +496,7 @@ pub Gets-link_fail : (f : FailCall) (w : WorldData) → is_link_call f.kind ≡ 
 Gets-link_fail f w link are is = record {
   still = record {
     history = is.history;
+    nexts = is.nexts;
     lives = is.lives;
     told = is.told ∙ sym (without_links-link w.fails f link);
     state = ap (fail_state f) is.state ∙ fail_first (given_of w) f link are ∙ ap at_first (sym (fail_given f w));
@@ -505,6 +511,7 @@ unfolding given_of
 Gets-other_fail f w apart is = record {
   still = record {
     history = is.history;
+    nexts = is.nexts;
     lives = is.lives;
     told = ap (λ (fs : List FailCall). fs ++ f ∷ []) is.told ∙ sym (without_links-other w.fails f apart);
     state = is.state ∙ other_first (given_of w) f apart;
@@ -563,6 +570,7 @@ Stands-new w is may = record {
       ap (λ (ls : List (ℕ × Life)). life_in app ls) is.lives
       ∙ ap (λ (h : List WorldStep). life_through w.scripts w.told app h fresh) (sym is.history);
   told = is.told;
+  nexts = is.nexts ∙ sym (ap (λ (h : List WorldStep). nexts_through h 0) is.history);
   history = subst (λ (h : List WorldStep). IsHistory (given_of w) h) (sym is.history) (nothing_done (given_of w));
   room = omega (arith, ap (λ (s : State). length s.running) is.state, ap (λ (apps : List ℕ). length apps) (first_running (given_of w)));
   tally = is.tally;
