@@ -1,5 +1,6 @@
 -- What each call of a simulated world does, over the world as data: which steps it appends, and what it counts.
-use Rattle.std.specs.Prelude.{◌≡◌, ℕ, ◌-◌, ◌^◌, ◌<◌, ◌≤◌, length, Bool, true, false, not, List, [], ◌∷◌, Option, Some, Result, Ok, Err, IsErr, IfOk, IfSome, IsTrue, slice_get, ◌↔◌}
+use Rattle.std.specs.Prelude.{◌≡◌, ℕ, ◌-◌, ◌^◌, ◌<◌, ◌≤◌, length, All, Bool, true, false, not, List, [], ◌∷◌, Option, Some, Result, Ok, Err, IsErr, IfOk, IfSome, IsTrue, slice_get, ◌↔◌}
+use Rattle.std.specs.List.{AllByRecursion}
 use Rattle.lego_io.specs.Count.{raised}
 use Rattle.of_types.specs.declared.journal.WorldStim.{WorldStim}
 use Rattle.outside.specs.declared.faults.Short.{Short}
@@ -17,14 +18,14 @@ use Rattle.outside.specs.declared.item.Item.{Item}
 use Rattle.outside.specs.declared.item.Item.TheVariants as items
 use Rattle.outside.specs.declared.item.Taken.{Taken}
 use Rattle.outside.specs.declared.item.Taken.TheVariants as gave
-use Rattle.outside.specs.State.{but_marks, after_steps, is_running, is_joined, has_waiting, link_of}
-use Rattle.outside.specs.Conforming.{MayStep}
+use Rattle.outside.specs.State.{but_marks, after_stim, after_steps, is_running, is_joined, has_waiting, link_of}
+use Rattle.outside.specs.Conforming.{MayStep, MaySteps}
 use Rattle.outside.specs.Calls.{item_step, open_steps, next_steps, stim_steps, start_steps, give_steps, take_steps, end_steps, send_steps, receive_steps, can_receive, IsItemIn, IsTakenIn, IsMessageIn, IsIdle, IsOver}
-use Rattle.sim_world.specs.Links.{MayCall}
+use Rattle.sim_world.specs.Links.{IsDue, StandsAt, HasReadableRaw, MayCall}
 use Rattle.sim_world.specs.Tally.{TallyState, tally_stray, tally_short, tally_short_of, tally_fault_of}
 use Rattle.sim_world.specs.Scripts.{Life}
 use Rattle.sim_world.specs.Lives.{life_in}
-use Rattle.sim_world.specs.World.{WorldData, Moves, IsAsTold, next_told, declared_in}
+use Rattle.sim_world.specs.World.{WorldData, Moves, IsAsTold, AreAsTold, next_told, declared_in, CanCome}
 use Rattle.sim_world.specs.LinkStepLaws.{AllReadable}
 
 -- ---- Counts by answers
@@ -74,6 +75,20 @@ pub record AppsStand (w : WorldData) : Type 0 where
 abbrev pub lives_of : WorldData → ℕ → Life
 lives_of w app = life_in app w.lives
 
+-- ---- What `next` needs: what is due can be told, switches stand at the moment, and the stimuli to come can come.
+
+pub record NextStands (w : WorldData) : Type 0 where
+  pub promised : length w.state.running ≤ w.room
+  pub few : w.nexts < 2 ^ 64 - 1
+  pub due : All IsDue w.state.due
+  pub standing : AllByRecursion (λ l. StandsAt w.state.moment l.switch) w.state.links
+  pub within : w.state.moment ≤ 4294967295
+  pub can_come : CanCome (declared_in w.state) w.state.moment w.state.to_come
+
+-- the stimulus that is begun, if one is, sends no bytes that are refused
+abbrev pub HasReadable : Option WorldStim → Type 0
+HasReadable begun = IfSome begun HasReadableRaw
+
 -- ---- What is told in a state in which a stimulus is begun
 
 pub record Tells (old new : WorldData) (item : Item) (buf : List ℕ) : Type 0 where
@@ -104,6 +119,10 @@ pub record DoesNext (old new : WorldData) (result : Result Item NextFault) (buf 
   pub item : IfOk result (λ item. IsItemIn (Unit {0}) item buf)
   pub idle : IfOk result (λ item. (item ≡ items.Idle) ↔ IsIdle (after_steps (stim_steps begun) old.state))
   pub over : IfOk result (λ item. (item ≡ items.End) ↔ IsOver (after_steps (stim_steps begun) old.state))
+  pub word : HasReadable begun → AllReadable old.state.links → MaySteps (declared_in old.state) (next_steps begun result buf) old.state
+  pub told : AreAsTold old.told old.nexts (next_steps begun result buf) old.state
+  pub readable : HasReadable begun → AllReadable old.state.links → AllReadable new.state.links
+  pub due : IfSome begun (λ x. All IsDue (after_stim x old.state).due)
 
 pub record DoesStart {T : Type 0} (app : ℕ) (old new : WorldData) (result : Result T StartFault) : Type 0 where
   pub moves : Moves old new (start_steps app result) (tally_stray (is_running app old.state) (start_tally result old.tally))

@@ -50,7 +50,7 @@ seen_given old new same = same
 
 -- ---- open
 
-open_counted : {T : Type 0} (declared : List Declared) (stray : Bool) (result : Result T OpenFault) (t : TallyState) → CountsFor declared t → Counted declared t (tally_stray stray (open_tally result t))
+pub open_counted : {T : Type 0} (declared : List Declared) (stray : Bool) (result : Result T OpenFault) (t : TallyState) → CountsFor declared t → Counted declared t (tally_stray stray (open_tally result t))
 open_counted declared stray (Ok x) t for = counted-none declared stray t for
 open_counted declared stray (Err opening.Shut) t for = counted-shut declared stray t for
 open_counted declared stray (Err opening.Short) t for = counted-short declared stray t for
@@ -93,7 +93,7 @@ Opens-by old new result stands does =
 
 -- ---- next
 
-next_counted : (declared : List Declared) (result : Result Item NextFault) (t : TallyState) → CountsFor declared t → Counted declared t (next_tally result t)
+pub next_counted : (declared : List Declared) (result : Result Item NextFault) (t : TallyState) → CountsFor declared t → Counted declared t (next_tally result t)
 next_counted declared (Ok item) t for = counted-none declared false t for
 next_counted declared (Err coming.Failed) t for = counted-next_fault declared t for
 next_counted declared (Err coming.Short) t for = counted-short declared false t for
@@ -150,7 +150,7 @@ Nexts-by old new result buf stands does =
 
 -- ---- start
 
-start_counted : {T : Type 0} (declared : List Declared) (stray : Bool) (result : Result T StartFault) (t : TallyState) → CountsFor declared t → Counted declared t (tally_stray stray (start_tally result t))
+pub start_counted : {T : Type 0} (declared : List Declared) (stray : Bool) (result : Result T StartFault) (t : TallyState) → CountsFor declared t → Counted declared t (tally_stray stray (start_tally result t))
 start_counted declared stray (Ok x) t for = counted-none declared stray t for
 start_counted declared stray (Err starting.NotStarted) t for = counted-start_failed declared stray t for
 start_counted declared stray (Err starting.Short) t for = counted-short declared stray t for
@@ -193,7 +193,7 @@ Starts-by app old new result stands does =
 
 -- ---- give
 
-give_counted : {T : Type 0} (declared : List Declared) (stray : Bool) (result : Result T GiveFault) (t : TallyState) → CountsFor declared t → Counted declared t (tally_stray stray (give_tally result t))
+pub give_counted : {T : Type 0} (declared : List Declared) (stray : Bool) (result : Result T GiveFault) (t : TallyState) → CountsFor declared t → Counted declared t (tally_stray stray (give_tally result t))
 give_counted declared stray (Ok x) t for = counted-none declared stray t for
 give_counted declared stray (Err giving.Gone) t for = counted-closing declared stray t for
 give_counted declared stray (Err giving.Short) t for = counted-short declared stray t for
@@ -236,7 +236,7 @@ Gives-by app bytes old new result stands does =
 
 -- ---- take
 
-take_counted : (declared : List Declared) (stray : Bool) (result : Result Taken Short) (t : TallyState) → CountsFor declared t → Counted declared t (tally_stray stray (take_tally result t))
+pub take_counted : (declared : List Declared) (stray : Bool) (result : Result Taken Short) (t : TallyState) → CountsFor declared t → Counted declared t (tally_stray stray (take_tally result t))
 take_counted declared stray (Ok (gave.Some n)) t for = counted-none declared stray t for
 take_counted declared stray (Ok gave.Closed) t for = counted-closing declared stray t for
 take_counted declared stray (Ok gave.Silent) t for = counted-silence declared stray t for
@@ -305,7 +305,7 @@ Ends-by app old new stands moves =
 
 -- ---- link
 
-link_counted : {T : Type 0} (declared : List Declared) (stray : Bool) (d : ℕ) (result : Result T LinkFault) (t : TallyState) → CountsFor declared t → Counted declared t (tally_stray stray (link_tally d result t))
+pub link_counted : {T : Type 0} (declared : List Declared) (stray : Bool) (d : ℕ) (result : Result T LinkFault) (t : TallyState) → CountsFor declared t → Counted declared t (tally_stray stray (link_tally d result t))
 link_counted declared stray d (Ok x) t for = counted-none declared stray t for
 link_counted declared stray d (Err linking.Failed) t for = counted-fault_of declared stray d t for
 link_counted declared stray d (Err linking.Short) t for = counted-short_of declared stray d t for

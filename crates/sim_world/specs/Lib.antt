@@ -21,3 +21,6 @@ pub mod DoingLaws
 pub mod SwitchCallLaws
 pub mod NextLaws
 pub mod TellLaws
+pub mod NextCallLaws
+pub mod Keeping
+pub mod KeepingLaws

@@ -307,10 +307,10 @@ IsHistory-more given history steps s lives is same before may scripts told =
     }
 
 -- A call that does what steps say, where they may come, leaves a world that stands.
-pub Stands-moves : (old new : WorldData) (steps : List WorldStep) (counted : TallyState) → Stands old → Moves old new steps counted → MayMove old steps
+pub Stands_moves : (old new : WorldData) (steps : List WorldStep) (counted : TallyState) → Stands old → Moves old new steps counted → MayMove old steps
     → CountsFor (declared_in old.state) counted → CanCome (declared_in old.state) new.state.moment new.state.to_come → Stands new
 unfolding given_of seen_of state
-Stands-moves old new steps counted stands moves may counts come =
+Stands_moves old new steps counted stands moves may counts come =
     let declared : declared_in new.state ≡ declared_in old.state =
     ap declared_in moves.state ∙ declared_but (after_steps steps old.state) ∙ declared-stays steps old.state in
     let given : given_of new ≡ given_of old = rw (declared, moves.scripts, moves.stimuli, moves.fails) refl in

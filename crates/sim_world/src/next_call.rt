@@ -13,14 +13,14 @@ ghost use Rattle.outside.specs.Conforming.{IsWorldStim, IsNext};
 ghost use Rattle.lego_io.specs.Count.{raised};
 ghost use Rattle.sim_world.specs.Links.{IsDue, HasReadableRaw, StandsAt, waiting_in};
 ghost use Rattle.sim_world.specs.NextLaws.{IsMessage};
-ghost use Rattle.sim_world.specs.Doing.{Tells};
+ghost use Rattle.sim_world.specs.Doing.{Tells, NextStands, DoesNext};
 ghost use Rattle.sim_world.specs.LinkStepLaws.{AllReadable};
-ghost use Rattle.sim_world.specs.World.{Moves, declared_in};
+ghost use Rattle.sim_world.specs.World.{Moves, declared_in, next_told};
 
 use crate::parts::Parts;
 use crate::waits::copy_to_front;
 use of_types::{Act, ByteList, Stimulus, WorldStim};
-use outside::{Item, WorldStep};
+use outside::{CallKind, Item, NextFault, WorldStep};
 use std::alloc::{AllocError, Global};
 use std::collections::VecDeque;
 
@@ -140,6 +140,8 @@ impl Parts {
         ensures few { OnOk result (length (waiting_in self.new.state.links) ≤ length (waiting_in self.old.state.links) + 262144) }
         ensures due { OnOk result (All IsDue self.new.state.due) }
         ensures readable { OnOk result (HasReadableRaw x → AllReadable self.old.state.links → AllReadable self.new.state.links) }
+        ensures begun { OnOk result (self.new.state.begun ≡ true) }
+        ensures nexts { OnOk result (self.new.nexts ≡ self.old.nexts) }
         ensures err { OnErr result (self.new ≡ self.old) }
     {
         self.due.reserve(1)?;
@@ -211,6 +213,87 @@ impl Parts {
         }
         self.tell_idle();
         Item::Idle
+    }
+
+    /// A copy of the next stimulus to come, if one is.
+    fn next_stimulus(&self) -> Result<Option<WorldStim>, AllocError>
+        ensures none { IfOk result (λ next. IfNone next (self.now.state.to_come ≡ [])) }
+        ensures some { IfOk result (λ next. IfSome next (λ x. slice_get self.now.state.to_come 0 ≡ Some x)) }
+    {
+        match self.stimuli.get(self.begun_stimuli) {
+            None => Ok(None),
+            Some(x) => Ok(Some(copy_stim(self.alloc, x)?)),
+        }
+    }
+
+    /// The next answer of `next` is told to fail.
+    fn is_next_told(&self) -> bool
+        requires { self.now.nexts < 2 ^ 64 - 1 }
+        ensures { result ≡ next_told self.now.told self.now.nexts }
+    {
+        self.told.is_told(CallKind::Next, 0, self.nexts + 1)
+    }
+
+    /// Begins a stimulus and tells what comes first of it, or wants memory.
+    #[tactic(auto, using(crate::specs::NextCallLaws::Next_begun, crate::specs::NextCallLaws::Next_short, crate::specs::NextCallLaws::can_come_next))]
+    fn begin_and_tell(&mut self, x: WorldStim, buf: &mut [u8]) -> Result<Item, NextFault>
+        requires stands { NextStands self.old }
+        requires told { next_told self.old.told self.old.nexts ≡ false }
+        requires rests { self.old.state.begun ≡ false }
+        requires next { slice_get self.old.state.to_come 0 ≡ Some x }
+        requires room { length self.old.state.running + 2 ≤ self.old.room }
+        requires buf { 65535 ≤ length buf.old }
+        ensures { DoesNext self.old self.new result buf.new }
+    {
+        match self.begin_with(x) {
+            Ok(()) => Ok(self.tell(buf)),
+            Err(_) => {
+                self.want_memory(false);
+                Err(NextFault::Short)
+            }
+        }
+    }
+
+    /// What comes next, where there is room for two steps.
+    #[tactic(auto, using(crate::specs::NextCallLaws::Next_failed, crate::specs::NextCallLaws::Next_told, crate::specs::NextCallLaws::Next_end, crate::specs::NextCallLaws::Next_short))]
+    fn next_in_room(&mut self, buf: &mut [u8]) -> Result<Item, NextFault>
+        requires stands { NextStands self.old }
+        requires room { length self.old.state.running + 2 ≤ self.old.room }
+        requires buf { 65535 ≤ length buf.old }
+        ensures { DoesNext self.old self.new result buf.new }
+    {
+        if self.is_next_told() {
+            self.next_failed();
+            return Err(NextFault::Failed);
+        }
+        if self.begun {
+            return Ok(self.tell(buf));
+        }
+        match self.next_stimulus() {
+            Ok(Some(x)) => self.begin_and_tell(x, buf),
+            Ok(None) => {
+                self.tell_end();
+                Ok(Item::End)
+            }
+            Err(_) => {
+                self.want_memory(false);
+                Err(NextFault::Short)
+            }
+        }
+    }
+
+    /// What comes next.
+    #[tactic(auto, using(crate::specs::NextCallLaws::NextStands_ready, crate::specs::NextCallLaws::Next_short_ready))]
+    pub(crate) fn next(&mut self, buf: &mut [u8]) -> Result<Item, NextFault>
+        requires stands { NextStands self.old }
+        requires buf { 65535 ≤ length buf.old }
+        ensures { DoesNext self.old self.new result buf.new }
+    {
+        if !self.is_ready(2) {
+            self.want_memory(false);
+            return Err(NextFault::Short);
+        }
+        self.next_in_room(buf)
     }
 }
 

@@ -1,0 +1,338 @@
+-- Each call of a simulated world keeps what it keeps.
+use Rattle.std.specs.Prelude.{◌≡◌, ℕ, ◌+◌, ◌-◌, ◌^◌, ◌<◌, ◌≤◌, Bool, true, false, not, ◌||◌, is_some, List, [], ◌∷◌, ◌++◌, length, drop, take, Option, None, Some, Result, Ok, Err, All, IfSome, slice_get, refl}
+use Rattle.std.specs.List.{AllByRecursion, list_all}
+use Rattle.std.proofs.Common.{sym, ap, ◌∙◌, subst, arith}
+use Rattle.std.proofs.lemmas.Bool.{false≢true}
+use Rattle.std.proofs.lemmas.List.Elements.{All-head, All-tail, All-nil}
+use Rattle.std.proofs.lemmas.List.{length-append, append-nil}
+use Rattle.of_types.specs.declared.journal.Act.{Act}
+use Rattle.of_types.specs.declared.journal.Act.TheVariants.{Stim, Started, Gave, Gone, Took, Ended, Sent, Got}
+use Rattle.of_types.specs.declared.journal.WorldStim.{WorldStim}
+use Rattle.of_types.specs.declared.journal.WorldStim.TheVariants.{Join, Leave, At, Of}
+use Rattle.of_types.specs.declared.journal.Stimulus.{Stimulus}
+use Rattle.of_types.specs.declared.journal.Stimulus.TheVariants.{Raw}
+use Rattle.flow_table.specs.Switch.{Declared}
+use Rattle.outside.specs.declared.faults.Short.{Short}
+use Rattle.outside.specs.declared.faults.OpenFault.{OpenFault}
+use Rattle.outside.specs.declared.faults.OpenFault.TheVariants as opening
+use Rattle.outside.specs.declared.faults.NextFault.{NextFault}
+use Rattle.outside.specs.declared.faults.NextFault.TheVariants as coming
+use Rattle.outside.specs.declared.faults.StartFault.{StartFault}
+use Rattle.outside.specs.declared.faults.StartFault.TheVariants as starting
+use Rattle.outside.specs.declared.faults.GiveFault.{GiveFault}
+use Rattle.outside.specs.declared.faults.GiveFault.TheVariants as giving
+use Rattle.outside.specs.declared.faults.LinkFault.{LinkFault}
+use Rattle.outside.specs.declared.faults.LinkFault.TheVariants as linking
+use Rattle.outside.specs.declared.item.Item.{Item}
+use Rattle.outside.specs.declared.item.Item.TheVariants as items
+use Rattle.outside.specs.declared.item.Taken.{Taken}
+use Rattle.outside.specs.declared.item.Taken.TheVariants as gave
+use Rattle.outside.specs.declared.step.WorldStep.{WorldStep}
+use Rattle.outside.specs.declared.step.WorldStep.TheVariants.{Acted, TookInto, From, Joined, Left, Moment, Idle, End, Opened, NotOpened, NextFailed, SendFailed, RecvFailed}
+use Rattle.outside.specs.declared.call.FailCall.{FailCall}
+use Rattle.outside.specs.State.{Link, State, but_marks, after_step, after_steps, after_act, after_stim, moment_after, links_after, with_link, link_sent, link_got, link_failed, link_told, is_running, is_joined}
+use Rattle.outside.specs.Calls.{open_steps, next_steps, stim_steps, item_step, start_steps, give_steps, take_steps, end_steps, send_steps, receive_steps, can_receive}
+use Rattle.outside.specs.Conforming.{IsWorldStim, MayStep, MayAct, MaySteps}
+use Rattle.sim_world.specs.Tally.{TallyState, CountsFor, tally_stray}
+use Rattle.sim_world.specs.TallyLaws.{Counted}
+use Rattle.sim_world.specs.Scripts.{Scripts, Life, IsScripted, AreScripted}
+use Rattle.sim_world.specs.Lives.{life_in}
+use Rattle.sim_world.specs.Links.{IsDue, HasReadableRaw}
+use Rattle.sim_world.specs.LinkLaws.{Stands-more}
+use Rattle.sim_world.specs.LinkStepLaws.{AreStanding, AllReadable, AreStanding-begun, AreStanding-sent, AreStanding-got, AreStanding-failed, AreStanding-told}
+use Rattle.sim_world.specs.World.{WorldData, Moves, Stands, IsAsTold, AreAsTold, IsReadable, begins_refused, declared_in, CanCome}
+use Rattle.sim_world.specs.WorldLaws.{MayMove, Stands_moves, IsReadable-front}
+use Rattle.sim_world.specs.Doing.{DoesOpen, DoesNext, DoesStart, DoesGive, DoesTake, DoesSend, DoesReceive, HasReadable, open_tally, next_tally, start_tally, give_tally, take_tally, link_tally}
+use Rattle.sim_world.specs.DoingLaws.{open_counted, next_counted, start_counted, give_counted, take_counted, link_counted}
+use Rattle.sim_world.specs.Keeping.{Keeps}
+
+-- ---- The number of steps grows
+
+pub standing_more : (moment most more : ℕ) (ls : List Link) → most ≤ more → AreStanding moment most ls → AreStanding moment more ls
+standing_more moment most more [] le are = tt
+standing_more moment most more (l ∷ ls) le are = (Stands-more moment most more l le are.0, standing_more moment most more ls le are.1)
+
+-- ---- Steps that leave switches, what is due, the moment and the stimuli to come
+
+pub record Around (s t : State) : Type 0 where
+  pub links : t.links ≡ s.links
+  pub due : t.due ≡ s.due
+  pub moment : t.moment ≡ s.moment
+  pub to_come : t.to_come ≡ s.to_come
+
+abbrev pub IsQuietAct : Act → Type 0
+IsQuietAct (Started app ok) = Unit {0}
+IsQuietAct (Gave app bytes) = Unit {0}
+IsQuietAct (Gone app bytes) = Unit {0}
+IsQuietAct (Ended app) = Unit {0}
+IsQuietAct other = ⊥
+
+abbrev pub IsQuiet : WorldStep → Type 0
+IsQuiet (Acted act) = IsQuietAct act
+IsQuiet (TookInto app what room) = Unit {0}
+IsQuiet Opened = Unit {0}
+IsQuiet NotOpened = Unit {0}
+IsQuiet other = ⊥
+
+quiet_act : (act : Act) (s : State) → IsQuietAct act → Around s (after_act act s)
+unfolding after_act
+quiet_act (Started app ok) s is = record { links = refl; due = refl; moment = refl; to_come = refl }
+quiet_act (Gave app bytes) s is = record { links = refl; due = refl; moment = refl; to_come = refl }
+quiet_act (Gone app bytes) s is = record { links = refl; due = refl; moment = refl; to_come = refl }
+quiet_act (Ended app) s is = record { links = refl; due = refl; moment = refl; to_come = refl }
+quiet_act other s is = absurd is
+
+quiet_step : (step : WorldStep) (s : State) → IsQuiet step → Around s (after_step step s)
+unfolding after_step
+quiet_step (Acted act) s is = quiet_act act s is
+quiet_step (TookInto app what room) s is = record { links = refl; due = refl; moment = refl; to_come = refl }
+quiet_step Opened s is = record { links = refl; due = refl; moment = refl; to_come = refl }
+quiet_step NotOpened s is = record { links = refl; due = refl; moment = refl; to_come = refl }
+quiet_step other s is = absurd is
+
+quiet_steps : (steps : List WorldStep) (s : State) → AllByRecursion IsQuiet steps → Around s (after_steps steps s)
+quiet_steps [] s all = record { links = refl; due = refl; moment = refl; to_come = refl }
+quiet_steps (step ∷ steps) s all =
+    let first = quiet_step step s all.0 in
+    let rest = quiet_steps steps (after_step step s) all.1 in
+    record {
+      links = rest.links ∙ first.links;
+      due = rest.due ∙ first.due;
+      moment = rest.moment ∙ first.moment;
+      to_come = rest.to_come ∙ first.to_come;
+    }
+
+quiet_may_act : (declared : List Declared) (act : Act) (s : State) → IsQuietAct act → MayAct declared act s
+unfolding MayAct
+quiet_may_act declared (Started app ok) s is = tt
+quiet_may_act declared (Gave app bytes) s is = tt
+quiet_may_act declared (Gone app bytes) s is = tt
+quiet_may_act declared (Ended app) s is = tt
+quiet_may_act declared other s is = absurd is
+
+quiet_may : (declared : List Declared) (step : WorldStep) (s : State) → IsQuiet step → MayStep declared step s
+unfolding MayStep
+quiet_may declared (Acted act) s is = quiet_may_act declared act s is
+quiet_may declared (TookInto app what room) s is = tt
+quiet_may declared Opened s is = tt
+quiet_may declared NotOpened s is = tt
+quiet_may declared other s is = absurd is
+
+quiet_may_steps : (declared : List Declared) (steps : List WorldStep) (s : State) → AllByRecursion IsQuiet steps → MaySteps declared steps s
+quiet_may_steps declared [] s all = tt
+quiet_may_steps declared (step ∷ steps) s all = (quiet_may declared step s all.0, quiet_may_steps declared steps (after_step step s) all.1)
+
+-- ---- A call whose steps are such
+
+length_more : (xs ys : List WorldStep) → length (xs ++ ys) ≡ length xs + length ys
+length_more xs ys = length-append xs ys
+
+pub keeps_quiet : (old new : WorldData) (steps : List WorldStep) (counted : TallyState) → Keeps old → Moves old new steps counted → AllByRecursion IsQuiet steps
+    → AreScripted old.scripts old.told steps (λ app. life_in app old.lives) → AreAsTold old.told old.nexts steps old.state → CountsFor (declared_in old.state) counted → Keeps new
+keeps_quiet old new steps counted keeps moves quiet scripts told counts =
+    let around = quiet_steps steps old.state quiet in
+    let links : new.state.links ≡ old.state.links = ap (λ (s : State). s.links) moves.state ∙ around.links in
+    let due : new.state.due ≡ old.state.due = ap (λ (s : State). s.due) moves.state ∙ around.due in
+    let moment : new.state.moment ≡ old.state.moment = ap (λ (s : State). s.moment) moves.state ∙ around.moment in
+    let to_come : new.state.to_come ≡ old.state.to_come = ap (λ (s : State). s.to_come) moves.state ∙ around.to_come in
+    record {
+      stands = Stands_moves old new steps counted keeps.stands moves
+          (record { word = λ readable. quiet_may_steps (declared_in old.state) steps old.state quiet; scripts = scripts; told = told })
+          counts (rw (moment, to_come) keeps.stands.can_come);
+      standing = rw (links, moment, moves.history, length_more old.history steps)
+          (standing_more old.state.moment (length old.history) (length old.history + length steps) old.state.links (omega arith) keeps.standing);
+      within = rw moment keeps.within;
+      due = rw due keeps.due;
+      readable = λ readable. subst AllReadable (sym links) (keeps.readable (IsReadable-front old.history steps (rw (← moves.history) readable)));
+    }
+
+-- ---- Each call
+
+open_quiet : {T : Type 0} (result : Result T OpenFault) → AllByRecursion IsQuiet (open_steps result)
+unfolding open_steps
+open_quiet (Ok x) = (tt, tt)
+open_quiet (Err opening.Shut) = (tt, tt)
+open_quiet (Err opening.Short) = tt
+
+open_scripted : {T : Type 0} (own : Scripts) (fails : List FailCall) (result : Result T OpenFault) (lives : ℕ → Life) → AreScripted own fails (open_steps result) lives
+unfolding open_steps IsScripted
+open_scripted own fails (Ok x) lives = (tt, tt)
+open_scripted own fails (Err opening.Shut) lives = (tt, tt)
+open_scripted own fails (Err opening.Short) lives = tt
+
+pub keeps_open : {T : Type 0} (old new : WorldData) (result : Result T OpenFault) → Keeps old → DoesOpen old new result → AreAsTold old.told old.nexts (open_steps result) old.state → Keeps new
+keeps_open old new result keeps does told =
+    keeps_quiet old new (open_steps result) _ keeps does.moves (open_quiet result) (open_scripted old.scripts old.told result _) told
+      (open_counted (declared_in old.state) old.state.opened result old.tally keeps.stands.tally).for
+
+start_quiet : {T : Type 0} (app : ℕ) (result : Result T StartFault) → AllByRecursion IsQuiet (start_steps app result)
+unfolding start_steps
+start_quiet app (Ok x) = (tt, tt)
+start_quiet app (Err starting.NotStarted) = (tt, tt)
+start_quiet app (Err starting.Short) = tt
+
+start_told : {T : Type 0} (fails : List FailCall) (n app : ℕ) (result : Result T StartFault) (s : State) → AreAsTold fails n (start_steps app result) s
+unfolding start_steps IsAsTold
+start_told fails n app (Ok x) s = (tt, tt)
+start_told fails n app (Err starting.NotStarted) s = (tt, tt)
+start_told fails n app (Err starting.Short) s = tt
+
+pub keeps_start : {T : Type 0} (app : ℕ) (old new : WorldData) (result : Result T StartFault) → Keeps old → DoesStart app old new result → AreScripted old.scripts old.told (start_steps app result) (λ a. life_in a old.lives) → Keeps new
+keeps_start app old new result keeps does scripted =
+    keeps_quiet old new (start_steps app result) _ keeps does.moves (start_quiet app result) scripted (start_told old.told old.nexts app result old.state)
+      (start_counted (declared_in old.state) (is_running app old.state) result old.tally keeps.stands.tally).for
+
+give_quiet : {T : Type 0} (app : ℕ) (bytes : List ℕ) (result : Result T GiveFault) → AllByRecursion IsQuiet (give_steps app bytes result)
+unfolding give_steps
+give_quiet app bytes (Ok x) = (tt, tt)
+give_quiet app bytes (Err giving.Gone) = (tt, tt)
+give_quiet app bytes (Err giving.Short) = tt
+
+give_told : {T : Type 0} (fails : List FailCall) (n app : ℕ) (bytes : List ℕ) (result : Result T GiveFault) (s : State) → AreAsTold fails n (give_steps app bytes result) s
+unfolding give_steps IsAsTold
+give_told fails n app bytes (Ok x) s = (tt, tt)
+give_told fails n app bytes (Err giving.Gone) s = (tt, tt)
+give_told fails n app bytes (Err giving.Short) s = tt
+
+pub keeps_give : {T : Type 0} (app : ℕ) (bytes : List ℕ) (old new : WorldData) (result : Result T GiveFault) → Keeps old → DoesGive app bytes old new result
+    → AreScripted old.scripts old.told (give_steps app bytes result) (λ a. life_in a old.lives) → Keeps new
+keeps_give app bytes old new result keeps does scripted =
+    keeps_quiet old new (give_steps app bytes result) _ keeps does.moves (give_quiet app bytes result) scripted (give_told old.told old.nexts app bytes result old.state)
+      (give_counted (declared_in old.state) (not (is_running app old.state)) result old.tally keeps.stands.tally).for
+
+take_quiet : (app : ℕ) (result : Result Taken Short) (buf : List ℕ) → AllByRecursion IsQuiet (take_steps app result buf)
+unfolding take_steps
+take_quiet app (Ok (gave.Some n)) buf = (tt, tt)
+take_quiet app (Ok gave.Closed) buf = (tt, tt)
+take_quiet app (Ok gave.Silent) buf = (tt, tt)
+take_quiet app (Err short) buf = tt
+
+take_told : (fails : List FailCall) (n app : ℕ) (result : Result Taken Short) (buf : List ℕ) (s : State) → AreAsTold fails n (take_steps app result buf) s
+unfolding take_steps IsAsTold
+take_told fails n app (Ok (gave.Some m)) buf s = (tt, tt)
+take_told fails n app (Ok gave.Closed) buf s = (tt, tt)
+take_told fails n app (Ok gave.Silent) buf s = (tt, tt)
+take_told fails n app (Err short) buf s = tt
+
+pub keeps_take : (app : ℕ) (old new : WorldData) (result : Result Taken Short) (buf : List ℕ) → Keeps old → DoesTake app old new result buf
+    → AreScripted old.scripts old.told (take_steps app result buf) (λ a. life_in a old.lives) → Keeps new
+keeps_take app old new result buf keeps does scripted =
+    keeps_quiet old new (take_steps app result buf) _ keeps does.moves (take_quiet app result buf) scripted (take_told old.told old.nexts app result buf old.state)
+      (take_counted (declared_in old.state) (not (is_running app old.state)) result old.tally keeps.stands.tally).for
+
+end_quiet : (app : ℕ) (runs : Bool) → AllByRecursion IsQuiet (end_steps app runs)
+unfolding end_steps
+end_quiet app true = (tt, tt)
+end_quiet app false = tt
+
+end_told : (fails : List FailCall) (n app : ℕ) (runs : Bool) (s : State) → AreAsTold fails n (end_steps app runs) s
+unfolding end_steps IsAsTold
+end_told fails n app true s = (tt, tt)
+end_told fails n app false s = tt
+
+pub keeps_end : (app : ℕ) (old new : WorldData) → Keeps old → Moves old new (end_steps app (is_running app old.state)) old.tally
+    → AreScripted old.scripts old.told (end_steps app (is_running app old.state)) (λ a. life_in a old.lives) → Keeps new
+keeps_end app old new keeps moves scripted =
+    keeps_quiet old new (end_steps app (is_running app old.state)) old.tally keeps moves (end_quiet app (is_running app old.state)) scripted
+      (end_told old.told old.nexts app (is_running app old.state) old.state) keeps.stands.tally
+
+-- ---- Calls of links
+
+-- What a call keeps of the state: where switches stand, and all else but the switches.
+record LinkedBy (most : ℕ) (s t : State) : Type 0 where
+  standing : AreStanding s.moment most t.links
+  due : t.due ≡ s.due
+  moment : t.moment ≡ s.moment
+  to_come : t.to_come ≡ s.to_come
+
+keeps_linked : (old new : WorldData) (steps : List WorldStep) (counted : TallyState) → Keeps old → Moves old new steps counted → LinkedBy (length (old.history ++ steps)) old.state (after_steps steps old.state)
+    → (IsReadable (old.history ++ steps) ≡ true → MaySteps (declared_in old.state) steps old.state) → ((readable : IsReadable (old.history ++ steps) ≡ true) → AllReadable new.state.links)
+    → AreScripted old.scripts old.told steps (λ app. life_in app old.lives) → AreAsTold old.told old.nexts steps old.state → CountsFor (declared_in old.state) counted → Keeps new
+keeps_linked old new steps counted keeps moves linked word readable scripts told counts =
+    let links : new.state.links ≡ (after_steps steps old.state).links = ap (λ (s : State). s.links) moves.state in
+    let due : new.state.due ≡ old.state.due = ap (λ (s : State). s.due) moves.state ∙ linked.due in
+    let moment : new.state.moment ≡ old.state.moment = ap (λ (s : State). s.moment) moves.state ∙ linked.moment in
+    let to_come : new.state.to_come ≡ old.state.to_come = ap (λ (s : State). s.to_come) moves.state ∙ linked.to_come in
+    record {
+      stands = Stands_moves old new steps counted keeps.stands moves (record { word = word; scripts = scripts; told = told }) counts (rw (moment, to_come) keeps.stands.can_come);
+      standing = rw (links, moment, moves.history) linked.standing;
+      within = rw moment keeps.within;
+      due = rw due keeps.due;
+      readable = λ is. readable (rw (← moves.history) is);
+    }
+
+one_more : (history : List WorldStep) (step : WorldStep) → length (history ++ step ∷ []) ≡ length history + 1
+one_more history step = length-append history (step ∷ [])
+
+send_linked : {T : Type 0} (d : ℕ) (frame : List ℕ) (result : Result T LinkFault) (history : List WorldStep) (s : State) → AreStanding s.moment (length history) s.links
+    → LinkedBy (length (history ++ send_steps d frame result)) s (after_steps (send_steps d frame result) s)
+unfolding send_steps after_step after_act
+send_linked d frame (Ok x) history s standing = record {
+  standing = rw (one_more history (Acted (Sent d frame))) (AreStanding-sent d frame s.moment (length history) s.links standing);
+  due = refl;
+  moment = refl;
+  to_come = refl;
+}
+send_linked d frame (Err linking.Failed) history s standing = record {
+  standing = rw (one_more history (SendFailed d)) (AreStanding-failed d s.moment (length history) s.links standing);
+  due = refl;
+  moment = refl;
+  to_come = refl;
+}
+send_linked d frame (Err linking.Short) history s standing = record {
+  standing = rw (append-nil history) standing;
+  due = refl;
+  moment = refl;
+  to_come = refl;
+}
+
+send_scripted : {T : Type 0} (own : Scripts) (fails : List FailCall) (d : ℕ) (frame : List ℕ) (result : Result T LinkFault) (lives : ℕ → Life) → AreScripted own fails (send_steps d frame result) lives
+unfolding send_steps IsScripted
+send_scripted own fails d frame (Ok x) lives = (tt, tt)
+send_scripted own fails d frame (Err linking.Failed) lives = (tt, tt)
+send_scripted own fails d frame (Err linking.Short) lives = tt
+
+pub keeps_send : {T : Type 0} (d : ℕ) (frame : List ℕ) (old new : WorldData) (result : Result T LinkFault) → Keeps old → DoesSend d frame old new result
+    → MaySteps (declared_in old.state) (send_steps d frame result) old.state → AreAsTold old.told old.nexts (send_steps d frame result) old.state
+    → (AllReadable old.state.links → AllReadable new.state.links) → Keeps new
+keeps_send d frame old new result keeps does word told readable =
+    keeps_linked old new (send_steps d frame result) _ keeps does.moves (send_linked d frame result old.history old.state keeps.standing)
+      (λ is. word) (λ is. readable (keeps.readable (IsReadable-front old.history _ is))) (send_scripted old.scripts old.told d frame result _) told
+      (link_counted (declared_in old.state) (not (is_joined d old.state)) d result old.tally keeps.stands.tally).for
+
+receive_linked : (d : ℕ) (result : Result ℕ LinkFault) (buf : List ℕ) (history : List WorldStep) (s : State) → AreStanding s.moment (length history) s.links
+    → LinkedBy (length (history ++ receive_steps d result buf)) s (after_steps (receive_steps d result buf) s)
+unfolding receive_steps after_step after_act
+receive_linked d (Ok n) buf history s standing = record {
+  standing = rw (one_more history (Acted (Got d (take n buf)))) (AreStanding-got d s.moment (length history) s.links standing);
+  due = refl;
+  moment = refl;
+  to_come = refl;
+}
+receive_linked d (Err linking.Failed) buf history s standing = record {
+  standing = rw (one_more history (RecvFailed d)) (AreStanding-failed d s.moment (length history) s.links standing);
+  due = refl;
+  moment = refl;
+  to_come = refl;
+}
+receive_linked d (Err linking.Short) buf history s standing = record {
+  standing = rw (append-nil history) standing;
+  due = refl;
+  moment = refl;
+  to_come = refl;
+}
+
+receive_scripted : (own : Scripts) (fails : List FailCall) (d : ℕ) (result : Result ℕ LinkFault) (buf : List ℕ) (lives : ℕ → Life) → AreScripted own fails (receive_steps d result buf) lives
+unfolding receive_steps IsScripted
+receive_scripted own fails d (Ok n) buf lives = (tt, tt)
+receive_scripted own fails d (Err linking.Failed) buf lives = (tt, tt)
+receive_scripted own fails d (Err linking.Short) buf lives = tt
+
+pub keeps_recv : (d : ℕ) (old new : WorldData) (result : Result ℕ LinkFault) (buf : List ℕ) → Keeps old → DoesReceive d old new result buf
+    → (AllReadable old.state.links → MaySteps (declared_in old.state) (receive_steps d result buf) old.state) → AreAsTold old.told old.nexts (receive_steps d result buf) old.state
+    → (AllReadable old.state.links → AllReadable new.state.links) → Keeps new
+keeps_recv d old new result buf keeps does word told readable =
+    keeps_linked old new (receive_steps d result buf) _ keeps does.moves (receive_linked d result buf old.history old.state keeps.standing)
+      (λ is. word (keeps.readable (IsReadable-front old.history _ is))) (λ is. readable (keeps.readable (IsReadable-front old.history _ is)))
+      (receive_scripted old.scripts old.told d result buf _) told
+      (link_counted (declared_in old.state) (not (can_receive d old.state)) d result old.tally keeps.stands.tally).for
