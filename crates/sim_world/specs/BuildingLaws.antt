@@ -1,7 +1,7 @@
 -- Laws of what a simulated world is given: what one thing more makes of a world in which nothing happened yet, and that such a world
 -- stands.
-use Rattle.std.specs.Prelude.{◌≡◌, ◌==◌, ℕ, ◌+◌, ◌-◌, ◌^◌, ◌<◌, ◌≤◌, Bool, true, false, not, ◌&&◌, ◌||◌, nat_lt, List, [], ◌∷◌, ◌++◌, map, take, All, Option, Some, None, length, IfSome, IsTrue, IsOk, refl, if◌then◌else◌, cond}
-use Rattle.std.specs.List.{list_any, filter, AllByRecursion}
+use Rattle.std.specs.Prelude.{◌≡◌, ◌==◌, ℕ, ◌+◌, ◌-◌, ◌<◌, ◌≤◌, Bool, true, false, ◌&&◌, ◌||◌, nat_lt, List, [], ◌∷◌, ◌++◌, map, take, All, Option, Some, None, length, IsTrue, IsOk, OnOk, OnErr, Result, Ok, Err, refl, if◌then◌else◌, cond}
+use Rattle.std.specs.List.{list_any, filter}
 use Rattle.std.specs.Option.{is_some}
 use Rattle.std.proofs.Common.{sym, ap, ◌∙◌, subst, arith, length-append}
 use Rattle.std.proofs.lemmas.Bool.{eqb-true, eqb-false, eq-eqb, ne_eqb, cond_both, ltb-true, ltb-false, true≢false, false≢true}
@@ -10,7 +10,6 @@ use Rattle.std.proofs.Math.Seq.{take-append_seam}
 use Rattle.std.proofs.lemmas.List.Elements.{All-append, All-nil, All-cons, filter-append}
 use Rattle.std.proofs.lemmas.List.Folds.{list_any-append}
 use Rattle.std.proofs.Math.Bool.{or-false}
-use Rattle.of_types.specs.declared.journal.Stimulus.{Stimulus}
 use Rattle.of_types.specs.declared.journal.WorldStim.{WorldStim}
 use Rattle.of_types.specs.declared.journal.WorldStim.TheVariants.{Join, Leave, At, Of}
 use Rattle.app_frames.specs.declared.script.ScriptStep.{ScriptStep}
@@ -18,11 +17,11 @@ use Rattle.app_frames.specs.declared.script.StartScript.{StartScript}
 use Rattle.flow_table.specs.Switch.{Declared}
 use Rattle.outside.specs.declared.call.FailCall.{FailCall}
 use Rattle.outside.specs.Seen.{Given, is_declared}
-use Rattle.outside.specs.State.{Link, State, at_first, state, but_marks, after_steps, is_link_call, fails_of, link_at_first, link_of, with_link, moment_after, is_running}
-use Rattle.outside.specs.Conforming.{AreDeclaredFrom, IsStimulus, IsWorldStim, MaySteps}
+use Rattle.outside.specs.State.{Link, State, at_first, state, but_marks, after_steps, is_link_call, fails_of, link_at_first, link_of, with_link, moment_after}
+use Rattle.outside.specs.Conforming.{AreDeclaredFrom, IsWorldStim}
 use Rattle.of_wire.specs.Reading.{reading_of}
 use Rattle.outside.specs.declared.step.WorldStep.{WorldStep}
-use Rattle.sim_world.specs.Links.{fails_at, insert_link}
+use Rattle.sim_world.specs.Links.{IsDue, fails_at, insert_link}
 use Rattle.sim_world.specs.LinksLaws.{declared_in-with_link, is_declared-link_of}
 use Rattle.sim_world.specs.LinkStepLaws.{AreStanding, AllReadable, AreStanding-may_call}
 use Rattle.sim_world.specs.Tally.{last_count, LinkCounts, TallyState, IsTally, CountsFor, counts_of, count_at, none_of, no_counts}
@@ -31,6 +30,7 @@ use Rattle.sim_world.specs.Scripts.{Scripts, Life, fresh, life_through, KeepsScr
 use Rattle.sim_world.specs.Lives.{Playing, life_in}
 use Rattle.sim_world.specs.World.{WorldData, declared_in, given_of, seen_of, nexts_through, IsHistory, Stands, CanCome}
 use Rattle.sim_world.specs.Doing.{AppsStand, LinksStand}
+use Rattle.sim_world.specs.Keeping.{Keeps}
 use Rattle.sim_world.specs.Building.{Gets, nothing_given, insert_declared, with_switch, with_stimulus, with_fail, with_start, with_reply, last_moment_from, last_moment_of, MayBeGiven, AreZero, IsNew}
 
 -- ---- One switch more
@@ -115,6 +115,9 @@ CanCome-more ds moment [] x can is = (is, tt)
 CanCome-more ds moment (y ∷ ys) x can is = (can.0, CanCome-more ds (moment_after y moment) ys x can.1 is)
 
 -- ---- What may be given, with one thing more
+
+pub MayBeGiven-nothing : MayBeGiven nothing_given
+MayBeGiven-nothing = record { declared = tt; stimuli = tt }
 
 pub MayBeGiven-switch : (given : Given Scripts) (d : Declared) → MayBeGiven given → 1 ≤ d.dpid → d.cap ≤ 4096 → is_declared d.dpid given.declared ≡ false → MayBeGiven (with_switch d given)
 MayBeGiven-switch given d may from small absent = record {
@@ -645,3 +648,27 @@ LinksStand-new w is = record {
   promised = omega (arith, ap (λ (s : State). length s.running) is.state, ap (λ (apps : List ℕ). length apps) (first_running (given_of w)));
   may_call = λ d. AreStanding-may_call 0 0 d w.state.links (omega arith) (AreStanding-new w is 0 0);
 }
+
+first_due : (g : Given Scripts) → (at_first g).due ≡ []
+unfolding at_first
+first_due g = refl
+
+-- a world in which nothing happened yet keeps what each world keeps
+pub Keeps-new : (w : WorldData) → IsNew w → MayBeGiven (given_of w) → Keeps w
+Keeps-new w is may = record {
+  stands = Stands-new w is may;
+  standing = AreStanding-new w is w.state.moment (length w.history);
+  within = omega (arith, ap (λ (s : State). s.moment) is.state, first_moment (given_of w));
+  due = subst (All IsDue) (sym (ap (λ (s : State). s.due) is.state ∙ first_due (given_of w))) (All-nil IsDue);
+  readable = λ readable. AllReadable-new w is;
+}
+
+-- ---- Both ends of a call that gives one thing more
+
+-- What holds of each world in which nothing happened and that was given what may be given, holds at both ends.
+pub built : {T E : Type 0} (P : WorldData → Type 0) (r : Result T E) (change : Given Scripts → Given Scripts) (now old new : WorldData) → old ≡ now
+    → ((w : WorldData) → IsNew w → MayBeGiven (given_of w) → P w) → P old → MayBeGiven (change (given_of now))
+    → OnOk r (Gets change old new) → OnErr r (new ≡ old) → P new
+built P (Ok x) change now old new same holds before may gets kept =
+    holds new gets.still (subst MayBeGiven (ap (λ (w : WorldData). change (given_of w)) (sym same) ∙ sym gets.given) may)
+built P (Err e) change now old new same holds before may gets kept = subst P (sym kept) before

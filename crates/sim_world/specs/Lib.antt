@@ -13,8 +13,6 @@ pub mod LifeLaws
 pub mod CellLaws
 pub mod World
 pub mod WorldLaws
-pub mod Building
-pub mod BuildingLaws
 pub mod TallyLaws
 pub mod Doing
 pub mod DoingLaws
@@ -24,3 +22,5 @@ pub mod TellLaws
 pub mod NextCallLaws
 pub mod Keeping
 pub mod KeepingLaws
+pub mod Building
+pub mod BuildingLaws

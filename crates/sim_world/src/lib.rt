@@ -4,6 +4,7 @@
 mod app_calls;
 mod builders;
 mod fail_numbers;
+mod giving;
 mod history;
 mod life;
 mod link;
@@ -17,5 +18,7 @@ mod scripts;
 mod tally;
 mod told;
 mod waits;
+mod world;
 
 pub use script_laws::{links_move_no_life, lives_of_a_history, longer_scripted_history};
+pub use world::SimWorld;
