@@ -23,3 +23,5 @@ pub mod NextCallLaws
 pub mod Keeping
 pub mod KeepingLaws
 pub mod StandingLaws
+pub mod Building
+pub mod BuildingLaws

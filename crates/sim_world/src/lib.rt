@@ -2,7 +2,9 @@
 #![tactic(auto)]
 
 mod app_calls;
+mod builders;
 mod fail_numbers;
+mod giving;
 mod history;
 mod life;
 mod link;
@@ -18,5 +20,5 @@ mod told;
 mod waits;
 mod world;
 
-pub use world::SimWorld;
 pub use script_laws::{links_move_no_life, lives_of_a_history, longer_scripted_history};
+pub use world::SimWorld;

@@ -1,6 +1,6 @@
 //! How often each fault came.
 
-ghost use Rattle.std.specs.Prelude.{◌≡◌, ◌==◌, [], ◌∷◌, ◌++◌, OnOk, OnErr, if◌then◌else◌};
+ghost use Rattle.std.specs.Prelude.{◌≡◌, ◌==◌, ◌-◌, [], ◌∷◌, ◌++◌, take, length, OnOk, OnErr, if◌then◌else◌};
 ghost use Rattle.lego_io.specs.Count.{raised};
 ghost use Rattle.sim_world.specs.Tally.{counts_at, one_fault, one_short, tally_stray, tally_short, tally_short_of, tally_fault_of, no_counts, none_of};
 
@@ -125,6 +125,13 @@ impl Tally {
             shorts: 0,
         })?;
         Ok(())
+    }
+
+    /// Without the switch that was added last; takes no memory.
+    pub(crate) fn remove_last(&mut self)
+        ensures { self.new ≡ record self.old { links = take (length self.old.links - 1) self.old.links } }
+    {
+        let _ = self.links.pop();
     }
 
     /// The world stayed shut.
