@@ -9,6 +9,9 @@ pub mod SessionSteps
 pub mod SessionLines
 pub mod SessionText
 pub mod Journal
+pub mod Turns
+pub mod Places
+pub mod Controller
 pub mod JournalLaws
 pub mod Answers
 pub mod SessionFacts

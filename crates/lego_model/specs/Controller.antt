@@ -1,0 +1,333 @@
+-- The reference controller: it runs stimuli over whole switches, gives each event to the applications that are alive, and never sees a
+-- turn that failed. It has no inverse message, no cache, and sends nothing for the purpose of undoing. Events are made of what switches
+-- send (OpenFlow 1.0.0, 5.4 Asynchronous Messages); all else is our own choice.
+use Rattle.std.specs.Prelude.{◌≡◌, ◌==◌, ℕ, zero, suc, ◌+◌, ◌-◌, ◌/◌, ◌%◌, ◌&&◌, Bool, true, false, not, List, [], ◌∷◌, ◌++◌, length, map, filter, filter_map, fold, drop, take, Option, Some, None, Result, Ok, Err, is_some, if◌then◌else◌, slice_get}
+use Rattle.std.specs.List.{flat_map, list_any}
+use Rattle.std.specs.Option.{option_map}
+use Rattle.of_types.specs.declared.port_desc.PortDesc.{PortDesc}
+use Rattle.of_types.specs.declared.journal.Stimulus.{Stimulus}
+use Rattle.of_types.specs.declared.journal.Stimulus.TheVariants.{Advance}
+use Rattle.of_types.specs.declared.journal.WorldStim.{WorldStim}
+use Rattle.of_types.specs.declared.journal.WorldStim.TheVariants.{Join, Leave, At, Of}
+use Rattle.of_wire.specs.declared.message.Message.{Message}
+use Rattle.of_wire.specs.declared.message.Message.TheVariants.{Error, PacketIn, FlowRemoved, PortStatus}
+use Rattle.of_wire.specs.declared.message.Envelope.{Envelope}
+use Rattle.of_wire.specs.declared.fault.WireFault.{WireFault}
+use Rattle.of_wire.specs.Reading.{reading_of}
+use Rattle.of_wire.specs.Spelling.{message_bytes, ports_bytes}
+use Rattle.flow_table.specs.Switch.{Declared, SwitchState, joined_at, features_reply, port_desc}
+use Rattle.flow_table.specs.Step.{after_stimulus, sent_by_stimulus}
+use Rattle.app_frames.specs.declared.frame.Event.{Event}
+use Rattle.app_frames.specs.declared.frame.EventKind.{EventKind}
+use Rattle.app_frames.specs.declared.frame.EventKind.TheVariants as events
+use Rattle.app_frames.specs.declared.frame.HostFrame.TheVariants as host
+use Rattle.app_frames.specs.declared.frame.Answer.{Answer}
+use Rattle.app_frames.specs.declared.cause.Cause.{Cause}
+use Rattle.app_frames.specs.declared.cause.Tried.{Tried}
+use Rattle.app_frames.specs.declared.cause.Tried.TheVariants as tried
+use Rattle.app_frames.specs.Spelling.{host_bytes}
+use Rattle.lego_model.specs.Journal.{Reply, Start, Untold}
+use Rattle.lego_model.specs.Turns.{Outcome, Completed, Failed, Played, Table, turn_of, outcome_of}
+use Rattle.lego_model.specs.Places.{Place, switch_at, with_place, answer, undone_places}
+
+-- ---- Events
+
+-- the known ports of a switch, as they stand, by number
+abbrev pub ports_of : SwitchState → List PortDesc
+ports_of s = map (port_desc s.declared.dpid) s.ports
+
+abbrev pub two_bytes : ℕ → List ℕ
+two_bytes n = n / 256 ∷ n % 256 ∷ []
+
+abbrev pub event_of_message : ℕ → Message → Option Event
+event_of_message dpid (PacketIn m) = Some (record { kind = events.PacketIn; dpid = dpid; body = message_bytes 0 (PacketIn m) })
+event_of_message dpid (FlowRemoved m) = if m.reason == 2 then None else Some (record { kind = events.FlowRemoved; dpid = dpid; body = message_bytes 0 (FlowRemoved m) })
+event_of_message dpid (PortStatus m) = Some (record { kind = events.PortStatus; dpid = dpid; body = message_bytes 0 (PortStatus m) })
+event_of_message dpid (Error kind code payload) = Some (record { kind = events.SwitchError; dpid = dpid; body = two_bytes kind ++ two_bytes code })
+event_of_message dpid other = None
+
+abbrev pub event_of_read : ℕ → Result Envelope WireFault → Option Event
+event_of_read dpid (Ok e) = event_of_message dpid e.message
+event_of_read dpid (Err fault) = None
+
+-- the events that messages of a switch become, in order
+unfoldable pub events_of : ℕ → List (List ℕ) → List Event
+events_of dpid messages = filter_map (λ bytes. event_of_read dpid (reading_of bytes)) messages
+
+abbrev pub join_event : SwitchState → Event
+join_event s = record { kind = events.Join; dpid = s.declared.dpid; body = features_reply 0 s }
+
+abbrev pub leave_event : SwitchState → Event
+leave_event s = record { kind = events.Leave; dpid = s.declared.dpid; body = ports_bytes (ports_of s) }
+
+-- ---- What happens, and what events that makes
+
+abbrev pub or_joined : ℕ → Declared → Option SwitchState → SwitchState
+or_joined moment d None = joined_at moment d
+or_joined moment d (Some s) = s
+
+abbrev pub left_of : Option SwitchState → List Event
+left_of None = []
+left_of (Some s) = leave_event s ∷ []
+
+abbrev pub sent_events : Stimulus → ℕ → Option SwitchState → List Event
+sent_events x dpid None = []
+sent_events x dpid (Some s) = events_of dpid (sent_by_stimulus x s)
+
+abbrev pub moment_after : WorldStim → ℕ → ℕ
+moment_after (At t) moment = t
+moment_after other moment = moment
+
+abbrev pub is_event : ℕ → Option ℕ → Bool
+is_event n None = false
+is_event n (Some m) = m == n
+
+abbrev pub joined : ℕ → Place → Place
+joined moment p = record p { switch = Some (or_joined moment p.declared p.switch) }
+
+abbrev pub out : Place → Place
+out p = record p { switch = None }
+
+abbrev pub events_at_join : ℕ → ℕ → Place → List Event
+events_at_join dpid moment p = if p.declared.dpid == dpid && not (is_some p.switch) then join_event (joined_at moment p.declared) ∷ [] else []
+
+abbrev pub events_at_leave : ℕ → Place → List Event
+events_at_leave dpid p = if p.declared.dpid == dpid then left_of p.switch else []
+
+-- something happens to a switch, where it is joined
+abbrev pub stimulated : Stimulus → Place → Place
+stimulated x p = record p { switch = option_map (after_stimulus x) p.switch }
+
+abbrev pub events_at : Stimulus → Place → List Event
+events_at x p = sent_events x p.declared.dpid p.switch
+
+abbrev pub at_place : ℕ → (Place → Place) → Place → Place
+at_place d change p = if p.declared.dpid == d then change p else p
+
+unfoldable pub places_after : WorldStim → ℕ → List Place → List Place
+places_after (Join d) moment ps = map (at_place d (joined moment)) ps
+places_after (Leave d) moment ps = map (at_place d out) ps
+places_after (At t) moment ps = map (stimulated (Advance t)) ps
+places_after (Of d x) moment ps = map (at_place d (stimulated x)) ps
+
+-- the events that a stimulus makes, of the switches with lower numbers first
+unfoldable pub events_after : WorldStim → ℕ → List Place → List Event
+events_after (Join d) moment ps = flat_map (events_at_join d moment) ps
+events_after (Leave d) moment ps = flat_map (events_at_leave d) ps
+events_after (At t) moment ps = flat_map (events_at (Advance t)) ps
+events_after (Of d x) moment ps = flat_map (λ p. if p.declared.dpid == d then events_at x p else []) ps
+
+-- ---- Applications
+
+-- An application: whether it is alive; its budget of frames in a turn; the bytes that were taken and not read; the frames that it was
+-- given; how its next starts end, and what it gives in its next turns; how many turns completed and how many failed.
+pub record App : Type 0 where
+  pub alive : Bool
+  pub budget : ℕ
+  pub rest : List ℕ
+  pub inputs : List (List ℕ)
+  pub starts : List Start
+  pub replies : List Reply
+  pub done : ℕ
+  pub failed : ℕ
+
+-- where nothing more is said of a start it is ready, and where nothing more is said of a turn it is done
+abbrev pub next_outcome : List Start → Tried × List ℕ
+next_outcome [] = (tried.Ready, [])
+next_outcome (start ∷ starts) = outcome_of start
+
+abbrev pub plain_reply : Reply
+plain_reply = record { given = true; pieces = []; answers = None; end = Untold }
+
+abbrev pub next_reply : List Reply → Reply
+next_reply [] = plain_reply
+next_reply (reply ∷ replies) = reply
+
+-- an application that was started is given its checkpoint, where it could be
+abbrev pub was_restored : List Start → Bool
+was_restored [] = true
+was_restored (start ∷ starts) = start.stands && start.restored
+
+abbrev pub restore_frame : List ℕ
+restore_frame = host_bytes (host.Restore [])
+
+abbrev pub is_ready : Tried → Bool
+is_ready tried.Ready = true
+is_ready other = false
+
+-- at most so many attempts; where all fail it is gone
+unfoldable pub started : ℕ → App → App × List Tried
+started zero a = (record a { alive = false; rest = [] }, [])
+started (suc n) a =
+    let outcome = next_outcome a.starts in
+    let tried = record a {
+      alive = true;
+      rest = outcome.1;
+      inputs = a.inputs ++ (if was_restored a.starts then restore_frame ∷ [] else []);
+      starts = drop 1 a.starts;
+    } in
+    if is_ready outcome.0 then (tried, outcome.0 ∷ []) else (let later = started n tried in (later.0, outcome.0 ∷ later.1))
+
+abbrev pub attempts : ℕ
+attempts = 3
+
+-- ---- The run
+
+-- what is said of it, in order; an application is named by its index
+pub data Line : Type 0 where
+  Started : ℕ → Tried → Line
+  IsGone : ℕ → Line
+  Dispatched : ℕ → Event → Line
+  Ended : ℕ → Outcome → Line
+
+-- where switches are looked at: before a stimulus, and before the event of a number is first given
+pub record Quiet : Type 0 where
+  pub event : Option ℕ
+  pub switches : List (Option SwitchState)
+
+pub record Run : Type 0 where
+  pub moment : ℕ
+  pub places : List Place
+  pub queue : List Event
+  pub events : ℕ
+  pub apps : List App
+  pub lines : List Line
+  pub quiets : List Quiet
+
+abbrev pub quiet_of : Option ℕ → List Place → Quiet
+quiet_of event ps = record { event = event; switches = map (λ p. p.switch) ps }
+
+-- ---- A turn
+
+-- the frames of an application are played on the switches; the judge sees what is joined
+abbrev pub table_of : (List Place → Bool) → Table (List Place)
+table_of allows = record { answer = answer; allows = allows }
+
+abbrev pub answer_frame : Answer → List ℕ
+answer_frame a = host_bytes (host.Answer a)
+
+abbrev pub event_frame : ℕ → ℕ → Event → List ℕ
+event_frame number moment event = host_bytes (host.Event number moment event)
+
+-- the frames that it is given: the event, where it could be, and its answers
+abbrev pub given_in : Bool → List ℕ → List Answer → List (List ℕ)
+given_in true frame answers = frame ∷ map answer_frame answers
+given_in false frame answers = []
+
+-- An application after its turn: completed, or failed, with its restart.
+abbrev pub after_outcome : Outcome → App → App × List Tried
+after_outcome (Completed stop checkpoint rest) a = (record a { rest = rest; done = a.done + 1 }, [])
+after_outcome (Failed cause) a = started attempts (record a { rest = []; failed = a.failed + 1 })
+
+-- A turn that completed leaves what it did, and one that failed what an undo gives back.
+abbrev pub places_by : Outcome → List Place → List Place → List Place
+places_by (Completed stop checkpoint rest) before after = after
+places_by (Failed cause) before after = undone_places before after
+
+abbrev pub gone_line : ℕ → Bool → List Line
+gone_line i true = []
+gone_line i false = IsGone i ∷ []
+
+abbrev pub restart_lines : ℕ → Outcome → App × List Tried → List Line
+restart_lines i (Completed stop checkpoint rest) a = []
+restart_lines i (Failed cause) a = map (Started i) a.1 ++ gone_line i a.0.alive
+
+-- what a turn leaves: the switches, the application with the attempts to start it again, and how it ended
+pub record Turned : Type 0 where
+  pub places : List Place
+  pub app : App × List Tried
+  pub outcome : Outcome
+  pub given : Bool
+
+unfoldable pub turn : (List Place → Bool) → ℕ → ℕ → Event → List Place → App → Turned
+turn allows number moment event ps a =
+    let reply = next_reply a.replies in
+    let played = turn_of (table_of allows) a.budget a.rest reply ps in
+    record {
+      places = places_by played.outcome ps played.state;
+      app = after_outcome played.outcome (record a { replies = drop 1 a.replies; inputs = a.inputs ++ given_in reply.given (event_frame number moment event) played.answers });
+      outcome = played.outcome;
+      given = reply.given;
+    }
+
+abbrev pub says_stop : Outcome → Bool
+says_stop (Completed stop checkpoint rest) = stop
+says_stop (Failed cause) = false
+
+-- ---- Dispatch
+
+abbrev pub is_marked : ℕ → List Quiet → Bool
+is_marked n quiets = list_any (λ q. is_event n q.event) quiets
+
+-- the switches are looked at before an event is first given
+abbrev pub marked : Bool → ℕ → List Place → List Quiet → List Quiet
+marked given n ps quiets = if given && not (is_marked n quiets) then quiets ++ quiet_of (Some n) ps ∷ [] else quiets
+
+-- The applications from an index on that are alive have their turns, until one that completed says stop.
+unfoldable pub given_to : (List Place → Bool) → Event → ℕ → List App → Run → List App × Run
+given_to allows event i [] run = ([], run)
+given_to allows event i (a ∷ more) run =
+    if a.alive then
+      (let turned = turn allows run.events run.moment event run.places a in
+       let next = record run {
+         places = turned.places;
+         lines = run.lines ++ Ended i turned.outcome ∷ restart_lines i turned.outcome turned.app;
+         quiets = marked turned.given run.events run.places run.quiets;
+       } in
+       if says_stop turned.outcome then (turned.app.0 ∷ more, next)
+       else (let rest = given_to allows event (i + 1) more next in (turned.app.0 ∷ rest.0, rest.1)))
+    else (let rest = given_to allows event (i + 1) more run in (a ∷ rest.0, rest.1))
+
+-- an event takes the next number
+unfoldable pub dispatch : (List Place → Bool) → Event → Run → Run
+dispatch allows event run =
+    let numbered = record run { events = run.events + 1; lines = run.lines ++ Dispatched (run.events + 1) event ∷ [] } in
+    let done = given_to allows event 0 numbered.apps numbered in
+    record done.1 { apps = done.0 }
+
+-- the events of the queue, first in first out, up to so many
+abbrev pub settle_first : (List Place → Bool) → ℕ → List Event → Run → Run
+settle_first allows zero queue run = record run { queue = queue }
+settle_first allows (suc n) [] run = record run { queue = [] }
+settle_first allows (suc n) (event ∷ queue) run = settle_first allows n queue (dispatch allows event run)
+
+abbrev pub per_batch : ℕ
+per_batch = 1000
+
+unfoldable pub settle : (List Place → Bool) → Run → Run
+settle allows run = settle_first allows per_batch run.queue run
+
+-- ---- The whole
+
+unfoldable pub happen : WorldStim → Run → Run
+happen x run = record run {
+  moment = moment_after x run.moment;
+  places = places_after x run.moment run.places;
+  queue = run.queue ++ events_after x run.moment run.places;
+  quiets = run.quiets ++ quiet_of None run.places ∷ [];
+}
+
+-- every application is started, in order
+unfoldable pub start_all : ℕ → List App → List App × List Line
+start_all i [] = ([], [])
+start_all i (a ∷ more) =
+    let first = started attempts a in
+    let rest = start_all (i + 1) more in
+    (first.0 ∷ rest.0, map (Started i) first.1 ++ gone_line i first.0.alive ++ rest.1)
+
+abbrev pub at_first : List Declared → List App → Run
+at_first declared apps =
+    let begun = start_all 0 apps in
+    record {
+      moment = 0;
+      places = map (λ d. record { declared = d; switch = None }) declared;
+      queue = [];
+      events = 0;
+      apps = begun.0;
+      lines = begun.1;
+      quiets = [];
+    }
+
+-- after each stimulus its events are dispatched, and after the last one what is left, as far as one batch goes
+unfoldable pub reference : (List Place → Bool) → List Declared → List App → List WorldStim → Run
+reference allows declared apps stimuli = settle allows (fold (λ run x. settle allows (happen x run)) (at_first declared apps) stimuli)
