@@ -54,13 +54,17 @@ fn buffer(alloc: Global) -> Result<Vec<u8>, AllocError>
 }
 
 /// What the calls answer in a world in which this call fails.
-fn answers_with(alloc: Global, fails: Option<(CallKind, u64, u64)>) -> Result<[bool; 10], AllocError> {
+fn answers_with(
+    alloc: Global,
+    fails: Option<(CallKind, u64, u64)>,
+) -> Result<[bool; 10], AllocError> {
     let mut buf = buffer(alloc)?;
     let mut world = small_world(alloc, fails)?;
     Ok(answers(&mut world, &mut buf))
 }
 
 const YES: bool = true;
+
 const NO: bool = false;
 
 #[test]
