@@ -74,9 +74,9 @@ unfolding counts_of
 open_short declared stray result t for is =
     subst (λ r. Rose (counts_of t).shorts (counts_of (tally_stray stray (open_tally r t))).shorts) (sym is) (rose-raised t.shorts for.within.shorts)
 
-pub Opens-by : {T : Type 0} (old new : WorldData) (result : Result T OpenFault) → Stands old → DoesOpen old new result → Opens (Unit {0}) (seen_of old) (seen_of new) result
+pub Opens_by : {T : Type 0} (old new : WorldData) (result : Result T OpenFault) → Stands old → DoesOpen old new result → Opens (Unit {0}) (seen_of old) (seen_of new) result
 unfolding seen_of given_of
-Opens-by old new result stands does =
+Opens_by old new result stands does =
     let d = declared_in old.state in
     let stray : (state (seen_of old)).opened ≡ old.state.opened = ap (λ (s : State). s.opened) stands.state in
     record {
@@ -127,9 +127,9 @@ over_same : (steps : List WorldStep) (s t : State) → but_marks s ≡ but_marks
 over_same steps s t same =
     ap (λ (x : State). IsOver x) (after_steps-but_marks steps s ∙ ap (λ (x : State). but_marks (after_steps steps x)) same ∙ sym (after_steps-but_marks steps t))
 
-pub Nexts-by : (old new : WorldData) (result : Result Item NextFault) (buf : List ℕ) → Stands old → DoesNext old new result buf → Nexts (Unit {0}) (seen_of old) (seen_of new) result buf
+pub Nexts_by : (old new : WorldData) (result : Result Item NextFault) (buf : List ℕ) → Stands old → DoesNext old new result buf → Nexts (Unit {0}) (seen_of old) (seen_of new) result buf
 unfolding seen_of given_of
-Nexts-by old new result buf stands does =
+Nexts_by old new result buf stands does =
     let d = declared_in old.state in
     let same : but_marks (state (seen_of old)) ≡ but_marks old.state = ap but_marks stands.state in
     record {
@@ -174,9 +174,9 @@ unfolding counts_of
 start_short declared stray result t for is =
     subst (λ r. Rose ((counts_of t).shorts) ((counts_of (tally_stray stray (start_tally r t))).shorts)) (sym is) (rose-raised t.shorts for.within.shorts)
 
-pub Starts-by : {T : Type 0} (app : ℕ) (old new : WorldData) (result : Result T StartFault) → Stands old → DoesStart app old new result → Starts (Unit {0}) app (seen_of old) (seen_of new) result
+pub Starts_by : {T : Type 0} (app : ℕ) (old new : WorldData) (result : Result T StartFault) → Stands old → DoesStart app old new result → Starts (Unit {0}) app (seen_of old) (seen_of new) result
 unfolding seen_of given_of
-Starts-by app old new result stands does =
+Starts_by app old new result stands does =
     let d = declared_in old.state in
     let runs : is_running app (state (seen_of old)) ≡ is_running app old.state = ap (λ (s : State). is_running app s) stands.state in
     record {
@@ -217,9 +217,9 @@ unfolding counts_of
 give_short declared stray result t for is =
     subst (λ r. Rose ((counts_of t).shorts) ((counts_of (tally_stray stray (give_tally r t))).shorts)) (sym is) (rose-raised t.shorts for.within.shorts)
 
-pub Gives-by : {T : Type 0} (app : ℕ) (bytes : List ℕ) (old new : WorldData) (result : Result T GiveFault) → Stands old → DoesGive app bytes old new result → Gives (Unit {0}) app bytes (seen_of old) (seen_of new) result
+pub Gives_by : {T : Type 0} (app : ℕ) (bytes : List ℕ) (old new : WorldData) (result : Result T GiveFault) → Stands old → DoesGive app bytes old new result → Gives (Unit {0}) app bytes (seen_of old) (seen_of new) result
 unfolding seen_of given_of
-Gives-by app bytes old new result stands does =
+Gives_by app bytes old new result stands does =
     let d = declared_in old.state in
     let runs : is_running app (state (seen_of old)) ≡ is_running app old.state = ap (λ (s : State). is_running app s) stands.state in
     record {
@@ -268,9 +268,9 @@ unfolding counts_of
 take_short declared stray (Ok what) t for is = absurd (false≢true is)
 take_short declared stray (Err short) t for is = rose-raised t.shorts for.within.shorts
 
-pub Takes-by : (app : ℕ) (old new : WorldData) (result : Result Taken Short) (buf : List ℕ) → Stands old → DoesTake app old new result buf → Takes (Unit {0}) app (seen_of old) (seen_of new) result buf
+pub Takes_by : (app : ℕ) (old new : WorldData) (result : Result Taken Short) (buf : List ℕ) → Stands old → DoesTake app old new result buf → Takes (Unit {0}) app (seen_of old) (seen_of new) result buf
 unfolding seen_of given_of
-Takes-by app old new result buf stands does =
+Takes_by app old new result buf stands does =
     let d = declared_in old.state in
     let runs : is_running app (state (seen_of old)) ≡ is_running app old.state = ap (λ (s : State). is_running app s) stands.state in
     record {
@@ -289,9 +289,9 @@ Takes-by app old new result buf stands does =
 
 -- ---- end
 
-pub Ends-by : (app : ℕ) (old new : WorldData) → Stands old → Moves old new (end_steps app (is_running app old.state)) old.tally → Ends (Unit {0}) app (seen_of old) (seen_of new)
+pub Ends_by : (app : ℕ) (old new : WorldData) → Stands old → Moves old new (end_steps app (is_running app old.state)) old.tally → Ends (Unit {0}) app (seen_of old) (seen_of new)
 unfolding seen_of given_of
-Ends-by app old new stands moves =
+Ends_by app old new stands moves =
     let d = declared_in old.state in
     let runs : is_running app (state (seen_of old)) ≡ is_running app old.state = ap (λ (s : State). is_running app s) stands.state in
     record {
@@ -354,9 +354,9 @@ none_is_stray : (d : ℕ) (s : State) → is_declared d (declared_in s) ≡ fals
 unfolding declared_in waits_of
 none_is_stray d s none = rw (undeclared d s.links none) refl
 
-pub Sends-by : {T : Type 0} (d : ℕ) (frame : List ℕ) (old new : WorldData) (result : Result T LinkFault) → Stands old → DoesSend d frame old new result → Sends (Unit {0}) d frame (seen_of old) (seen_of new) result
+pub Sends_by : {T : Type 0} (d : ℕ) (frame : List ℕ) (old new : WorldData) (result : Result T LinkFault) → Stands old → DoesSend d frame old new result → Sends (Unit {0}) d frame (seen_of old) (seen_of new) result
 unfolding seen_of given_of switch_of
-Sends-by d frame old new result stands does =
+Sends_by d frame old new result stands does =
     let ds = declared_in old.state in
     let stray = not (is_joined d old.state) in
     let joined : is_joined d (state (seen_of old)) ≡ is_joined d old.state = ap (λ (s : State). is_joined d s) stands.state in
@@ -373,9 +373,9 @@ Sends-by d frame old new result stands does =
       };
     }
 
-pub Receives-by : (d : ℕ) (old new : WorldData) (result : Result ℕ LinkFault) (buf : List ℕ) → Stands old → DoesReceive d old new result buf → Receives (Unit {0}) d (seen_of old) (seen_of new) result buf
+pub Receives_by : (d : ℕ) (old new : WorldData) (result : Result ℕ LinkFault) (buf : List ℕ) → Stands old → DoesReceive d old new result buf → Receives (Unit {0}) d (seen_of old) (seen_of new) result buf
 unfolding seen_of given_of waits_of
-Receives-by d old new result buf stands does =
+Receives_by d old new result buf stands does =
     let ds = declared_in old.state in
     let stray = not (can_receive d old.state) in
     let waits : can_receive d (state (seen_of old)) ≡ can_receive d old.state = ap (λ (s : State). can_receive d s) stands.state in

@@ -1,5 +1,5 @@
 -- Each call of a simulated world keeps what it keeps.
-use Rattle.std.specs.Prelude.{◌≡◌, ℕ, ◌+◌, ◌-◌, ◌^◌, ◌<◌, ◌≤◌, Bool, true, false, not, ◌||◌, is_some, List, [], ◌∷◌, ◌++◌, length, drop, take, Option, None, Some, Result, Ok, Err, All, IfSome, slice_get, refl}
+use Rattle.std.specs.Prelude.{◌≡◌, ℕ, ◌+◌, ◌-◌, ◌^◌, ◌<◌, ◌≤◌, Bool, true, false, not, ◌||◌, ◌&&◌, is_ok, is_some, List, [], ◌∷◌, ◌++◌, length, drop, take, Option, None, Some, Result, Ok, Err, All, IfSome, slice_get, refl}
 use Rattle.std.specs.List.{AllByRecursion, list_all}
 use Rattle.std.proofs.Common.{sym, ap, ◌∙◌, subst, arith}
 use Rattle.std.proofs.lemmas.Bool.{false≢true}
@@ -10,7 +10,7 @@ use Rattle.of_types.specs.declared.journal.Act.TheVariants.{Stim, Started, Gave,
 use Rattle.of_types.specs.declared.journal.WorldStim.{WorldStim}
 use Rattle.of_types.specs.declared.journal.WorldStim.TheVariants.{Join, Leave, At, Of}
 use Rattle.of_types.specs.declared.journal.Stimulus.{Stimulus}
-use Rattle.of_types.specs.declared.journal.Stimulus.TheVariants.{Raw}
+use Rattle.of_types.specs.declared.journal.Stimulus.TheVariants.{Frame, Advance, Port, Counts, Raw}
 use Rattle.flow_table.specs.Switch.{Declared}
 use Rattle.outside.specs.declared.faults.Short.{Short}
 use Rattle.outside.specs.declared.faults.OpenFault.{OpenFault}
@@ -37,10 +37,12 @@ use Rattle.sim_world.specs.Tally.{TallyState, CountsFor, tally_stray}
 use Rattle.sim_world.specs.TallyLaws.{Counted}
 use Rattle.sim_world.specs.Scripts.{Scripts, Life, IsScripted, AreScripted}
 use Rattle.sim_world.specs.Lives.{life_in}
-use Rattle.sim_world.specs.Links.{IsDue, HasReadableRaw}
+use Rattle.sim_world.specs.Links.{IsDue, HasReadableRaw, IsReadableIfRaw}
+use Rattle.sim_world.specs.NextCallLaws.{can_come_next}
+use Rattle.of_wire.specs.Reading.{reading_of}
 use Rattle.sim_world.specs.LinkLaws.{Stands-more}
 use Rattle.sim_world.specs.LinkStepLaws.{AreStanding, AllReadable, AreStanding-begun, AreStanding-sent, AreStanding-got, AreStanding-failed, AreStanding-told}
-use Rattle.sim_world.specs.World.{WorldData, Moves, Stands, IsAsTold, AreAsTold, IsReadable, begins_refused, declared_in, CanCome}
+use Rattle.sim_world.specs.World.{WorldData, Moves, Stands, IsAsTold, AreAsTold, IsReadable, is_refused_stimulus, is_refused_raw, begins_refused, declared_in, CanCome}
 use Rattle.sim_world.specs.WorldLaws.{MayMove, Stands_moves, IsReadable-front}
 use Rattle.sim_world.specs.Doing.{DoesOpen, DoesNext, DoesStart, DoesGive, DoesTake, DoesSend, DoesReceive, HasReadable, open_tally, next_tally, start_tally, give_tally, take_tally, link_tally}
 use Rattle.sim_world.specs.DoingLaws.{open_counted, next_counted, start_counted, give_counted, take_counted, link_counted}
@@ -72,6 +74,7 @@ IsQuiet (Acted act) = IsQuietAct act
 IsQuiet (TookInto app what room) = Unit {0}
 IsQuiet Opened = Unit {0}
 IsQuiet NotOpened = Unit {0}
+IsQuiet NextFailed = Unit {0}
 IsQuiet other = ⊥
 
 quiet_act : (act : Act) (s : State) → IsQuietAct act → Around s (after_act act s)
@@ -88,6 +91,7 @@ quiet_step (Acted act) s is = quiet_act act s is
 quiet_step (TookInto app what room) s is = record { links = refl; due = refl; moment = refl; to_come = refl }
 quiet_step Opened s is = record { links = refl; due = refl; moment = refl; to_come = refl }
 quiet_step NotOpened s is = record { links = refl; due = refl; moment = refl; to_come = refl }
+quiet_step NextFailed s is = record { links = refl; due = refl; moment = refl; to_come = refl }
 quiet_step other s is = absurd is
 
 quiet_steps : (steps : List WorldStep) (s : State) → AllByRecursion IsQuiet steps → Around s (after_steps steps s)
@@ -116,6 +120,7 @@ quiet_may declared (Acted act) s is = quiet_may_act declared act s is
 quiet_may declared (TookInto app what room) s is = tt
 quiet_may declared Opened s is = tt
 quiet_may declared NotOpened s is = tt
+quiet_may declared NextFailed s is = tt
 quiet_may declared other s is = absurd is
 
 quiet_may_steps : (declared : List Declared) (steps : List WorldStep) (s : State) → AllByRecursion IsQuiet steps → MaySteps declared steps s
@@ -336,3 +341,171 @@ keeps_recv d old new result buf keeps does word told readable =
       (λ is. word (keeps.readable (IsReadable-front old.history _ is))) (λ is. readable (keeps.readable (IsReadable-front old.history _ is)))
       (receive_scripted old.scripts old.told d result buf _) told
       (link_counted (declared_in old.state) (not (can_receive d old.state)) d result old.tally keeps.stands.tally).for
+
+-- ---- next: an item that is told
+
+due_less : (due : List WorldStep) → All IsDue due → All IsDue (drop 1 due)
+due_less [] all = all
+due_less (step ∷ due) all = All-tail IsDue step due all
+
+-- What telling an item leaves.
+record ToldBy (most : ℕ) (s t : State) : Type 0 where
+  standing : AreStanding s.moment most t.links
+  due : All IsDue t.due
+  moment : t.moment ≡ s.moment
+  to_come : t.to_come ≡ s.to_come
+
+told_by : (item : Item) (buf : List ℕ) (most : ℕ) (s : State) → AreStanding s.moment most s.links → All IsDue s.due → ToldBy most s (after_step (item_step item buf) s)
+unfolding item_step after_step
+told_by (items.From d n) buf most s standing due = record { standing = AreStanding-told d s.moment most s.links standing; due = due; moment = refl; to_come = refl }
+told_by (items.Joined d n) buf most s standing due = record { standing = standing; due = due_less s.due due; moment = refl; to_come = refl }
+told_by (items.Left d) buf most s standing due = record { standing = standing; due = due_less s.due due; moment = refl; to_come = refl }
+told_by (items.Moment t) buf most s standing due = record { standing = standing; due = due_less s.due due; moment = refl; to_come = refl }
+told_by items.Idle buf most s standing due = record { standing = standing; due = due; moment = refl; to_come = refl }
+told_by items.End buf most s standing due = record { standing = standing; due = due; moment = refl; to_come = refl }
+
+item_scripted : (own : Scripts) (fails : List FailCall) (item : Item) (buf : List ℕ) (lives : ℕ → Life) → IsScripted own fails (item_step item buf) lives
+unfolding item_step IsScripted
+item_scripted own fails (items.From d n) buf lives = tt
+item_scripted own fails (items.Joined d n) buf lives = tt
+item_scripted own fails (items.Left d) buf lives = tt
+item_scripted own fails (items.Moment t) buf lives = tt
+item_scripted own fails items.Idle buf lives = tt
+item_scripted own fails items.End buf lives = tt
+
+stim_scripted : (own : Scripts) (fails : List FailCall) (x : WorldStim) (lives : ℕ → Life) → IsScripted own fails (Acted (Stim x)) lives
+unfolding IsScripted
+stim_scripted own fails x lives = tt
+
+-- ---- next: a stimulus that begins
+
+within_after : (declared : List Declared) (x : WorldStim) (moment : ℕ) → IsWorldStim declared moment x → moment ≤ 4294967295 → moment_after x moment ≤ 4294967295
+unfolding IsWorldStim
+within_after declared (Join d) moment is within = within
+within_after declared (Leave d) moment is within = within
+within_after declared (At t) moment is within = is.1
+within_after declared (Of d x) moment is within = within
+
+come_after : (declared : List Declared) (moment : ℕ) (xs : List WorldStim) (x : WorldStim) → CanCome declared moment xs → slice_get xs 0 ≡ Some x → CanCome declared (moment_after x moment) (drop 1 xs)
+come_after declared moment [] x come is = absurd (false≢true (ap is_some is))
+come_after declared moment (y ∷ xs) x come is = subst (λ (o : Option WorldStim). IfSome o (λ z. CanCome declared (moment_after z moment) xs)) is come.1
+
+-- What beginning a stimulus leaves.
+record BegunBy (declared : List Declared) (most : ℕ) (t : State) : Type 0 where
+  standing : AreStanding t.moment most t.links
+  due : All IsDue t.due
+  within : t.moment ≤ 4294967295
+  can_come : CanCome declared t.moment t.to_come
+
+begun_by : (declared : List Declared) (x : WorldStim) (most : ℕ) (s : State) → AreStanding s.moment most s.links → s.moment ≤ 4294967295 → CanCome declared s.moment s.to_come → slice_get s.to_come 0 ≡ Some x
+    → All IsDue (after_stim x s).due → BegunBy declared most (after_step (Acted (Stim x)) s)
+unfolding after_step after_act after_stim
+begun_by declared x most s standing within come next due =
+    let is = can_come_next declared s.moment s.to_come x come next in
+    record {
+      standing = AreStanding-begun declared x s.moment most s.links is standing;
+      due = due;
+      within = within_after declared x s.moment is within;
+      can_come = come_after declared s.moment s.to_come x come next;
+    }
+
+-- ---- next: whether refused bytes were sent
+
+second_true : (b rest : Bool) → (b && rest) ≡ true → rest ≡ true
+second_true true rest is = is
+second_true false rest is = absurd (false≢true is)
+
+not_refused : (b : Bool) → not (not b) ≡ true → b ≡ true
+not_refused true is = refl
+not_refused false is = is
+
+failed_scripted : (own : Scripts) (fails : List FailCall) (lives : ℕ → Life) → IsScripted own fails NextFailed lives
+unfolding IsScripted
+failed_scripted own fails lives = tt
+
+rest_of : (p : WorldStep → Bool) (xs ys : List WorldStep) → list_all p (xs ++ ys) ≡ true → list_all p ys ≡ true
+rest_of p [] ys all = all
+rest_of p (x ∷ xs) ys all = rest_of p xs ys (second_true (p x) _ all)
+
+raw_read : (x : Stimulus) → not (is_refused_stimulus x) ≡ true → IsReadableIfRaw x
+raw_read (Raw bytes) is = not_refused (is_ok (reading_of bytes)) is
+raw_read (Frame port bytes) is = tt
+raw_read (Advance t) is = tt
+raw_read (Port port change) is = tt
+raw_read (Counts priority packets bytes) is = tt
+
+stim_read : (x : WorldStim) → not (is_refused_raw x) ≡ true → HasReadableRaw x
+stim_read (Of d x) is = raw_read x is
+stim_read (Join d) is = tt
+stim_read (Leave d) is = tt
+stim_read (At t) is = tt
+
+first_true : (b rest : Bool) → (b && rest) ≡ true → b ≡ true
+first_true true rest is = refl
+first_true false rest is = is
+
+begun_read : (history : List WorldStep) (x : WorldStim) (steps : List WorldStep) → IsReadable (history ++ Acted (Stim x) ∷ steps) ≡ true → HasReadableRaw x
+unfolding IsReadable
+begun_read history x steps is = stim_read x (first_true (not (is_refused_raw x)) _ (rest_of (λ step. not (begins_refused step)) history (Acted (Stim x) ∷ steps) is))
+
+-- ---- next
+
+keeps_item : (old new : WorldData) (begun : Option WorldStim) (item : Item) (buf : List ℕ) → Keeps old → IfSome begun (λ x. slice_get old.state.to_come 0 ≡ Some x)
+    → Moves old new (stim_steps begun ++ item_step item buf ∷ []) old.tally
+    → (HasReadable begun → AllReadable old.state.links → MaySteps (declared_in old.state) (stim_steps begun ++ item_step item buf ∷ []) old.state)
+    → AreAsTold old.told old.nexts (stim_steps begun ++ item_step item buf ∷ []) old.state
+    → (HasReadable begun → AllReadable old.state.links → AllReadable new.state.links) → IfSome begun (λ x. All IsDue (after_stim x old.state).due) → Keeps new
+keeps_item old new None item buf keeps to_come moves word told readable due =
+    let most = length (old.history ++ item_step item buf ∷ []) in
+    let standing = standing_more old.state.moment (length old.history) most old.state.links (omega (arith, one_more old.history (item_step item buf))) keeps.standing in
+    let by = told_by item buf most old.state standing keeps.due in
+    let moment : new.state.moment ≡ old.state.moment = ap (λ (s : State). s.moment) moves.state ∙ by.moment in
+    let come : new.state.to_come ≡ old.state.to_come = ap (λ (s : State). s.to_come) moves.state ∙ by.to_come in
+    record {
+      stands = Stands_moves old new (item_step item buf ∷ []) old.tally keeps.stands moves
+          (record {
+            word = λ is. word tt (keeps.readable (IsReadable-front old.history _ is));
+            scripts = (item_scripted old.scripts old.told item buf _, tt);
+            told = told;
+          }) keeps.stands.tally (rw (moment, come) keeps.stands.can_come);
+      standing = rw (ap (λ (s : State). s.links) moves.state, moment, moves.history) by.standing;
+      within = rw moment keeps.within;
+      due = subst (All IsDue) (sym (ap (λ (s : State). s.due) moves.state)) by.due;
+      readable = λ is.
+        let all : IsReadable (old.history ++ item_step item buf ∷ []) ≡ true = rw (← moves.history) is in
+        readable tt (keeps.readable (IsReadable-front old.history _ all));
+    }
+keeps_item old new (Some x) item buf keeps to_come moves word told readable due =
+    let steps = Acted (Stim x) ∷ item_step item buf ∷ [] in
+    let most = length (old.history ++ steps) in
+    let longer : length (old.history ++ steps) ≡ length old.history + 2 = length-append old.history steps in
+    let standing = standing_more old.state.moment (length old.history) most old.state.links (omega (arith, longer)) keeps.standing in
+    let begun = begun_by (declared_in old.state) x most old.state standing keeps.within keeps.stands.can_come to_come due in
+    let after = after_step (Acted (Stim x)) old.state in
+    let by = told_by item buf most after begun.standing begun.due in
+    let moment : new.state.moment ≡ after.moment = ap (λ (s : State). s.moment) moves.state ∙ by.moment in
+    let come : new.state.to_come ≡ after.to_come = ap (λ (s : State). s.to_come) moves.state ∙ by.to_come in
+    record {
+      stands = Stands_moves old new steps old.tally keeps.stands moves
+          (record {
+            word = λ is. word (begun_read old.history x (item_step item buf ∷ []) is) (keeps.readable (IsReadable-front old.history _ is));
+            scripts = (stim_scripted old.scripts old.told x _, (item_scripted old.scripts old.told item buf _, tt));
+            told = told;
+          }) keeps.stands.tally (rw (moment, come) begun.can_come);
+      standing = rw (ap (λ (s : State). s.links) moves.state, moment, moves.history) by.standing;
+      within = rw moment begun.within;
+      due = subst (All IsDue) (sym (ap (λ (s : State). s.due) moves.state)) by.due;
+      readable = λ is.
+        let all : IsReadable (old.history ++ steps) ≡ true = rw (← moves.history) is in
+        readable (begun_read old.history x (item_step item buf ∷ []) all) (keeps.readable (IsReadable-front old.history _ all));
+    }
+
+pub keeps_next : (old new : WorldData) (result : Result Item NextFault) (buf : List ℕ) → Keeps old → DoesNext old new result buf → Keeps new
+unfolding next_steps
+keeps_next old new (Ok item) buf keeps does =
+    keeps_item old new does.begun item buf keeps does.to_come does.moves does.word does.told does.readable does.due
+keeps_next old new (Err coming.Failed) buf keeps does =
+    keeps_quiet old new (NextFailed ∷ []) _ keeps does.moves (tt, tt) (failed_scripted old.scripts old.told _, tt) does.told
+      (next_counted (declared_in old.state) (Err coming.Failed) old.tally keeps.stands.tally).for
+keeps_next old new (Err coming.Short) buf keeps does =
+    keeps_quiet old new [] _ keeps does.moves tt tt tt (next_counted (declared_in old.state) (Err coming.Short) old.tally keeps.stands.tally).for

@@ -22,5 +22,6 @@ pub mod TellLaws
 pub mod NextCallLaws
 pub mod Keeping
 pub mod KeepingLaws
+pub mod StandingLaws
 pub mod Building
 pub mod BuildingLaws

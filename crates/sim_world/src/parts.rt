@@ -79,6 +79,13 @@ fn remove(running: &mut Vec<u32>, app: u32)
 }
 
 impl Parts {
+    /// Finds that there are few steps.
+    pub(crate) fn are_few(&self)
+        ensures { length self.now.history < 2 ^ 63 }
+    {
+        let _steps = self.history.steps();
+    }
+
     /// Counts a call that can want memory, and makes room for so many steps and for the ends that are promised; answers
     /// whether there is memory.
     pub(crate) fn is_ready(&mut self, more: usize) -> bool

@@ -1,9 +1,23 @@
 //! A simulated world.
 
+ghost use Rattle.std.specs.Prelude.{◌≡◌, ℕ, ◌<◌, ◌≤◌, true, length, IsOk};
+ghost use Rattle.of_wire.specs.Reading.{reading_of};
+ghost use Rattle.outside.specs.Conforming.{Conforming};
+ghost use Rattle.sim_world.specs.Told.{without_links};
+ghost use Rattle.sim_world.specs.Scripts.{KeepsScripts};
+ghost use Rattle.sim_world.specs.World.{IsReadable, AreAsTold, seen_of, given_of};
+ghost use Rattle.outside.specs.State.{at_first};
+
 use crate::parts::Parts;
+use outside::{
+    GiveFault, Item, LinkFault, NextFault, OpenFault, Short, StartFault, Taken, World,
+};
 use std::marker::Model;
 
-/// A world of simulated switches and scripted applications. Contracts see it as data.
+/// A world of simulated switches and scripted applications, in which stimuli happen and calls fail as told.
+///
+/// It tells its history, and keeps its word: see `keeps_word`. Contracts see it as data (`WorldData`), and by the
+/// trait `World` as what is seen of it.
 #[derive(Debug, Drop)]
 pub struct SimWorld {
     pub(crate) parts: Parts,
@@ -11,7 +25,6 @@ pub struct SimWorld {
 
 impl Model for SimWorld {
     ghost use Rattle.sim_world.specs.World.{WorldData};
-
     ghost use Rattle.sim_world.specs.Keeping.{Keeps};
 
     ghost Value = { WorldData };
@@ -19,4 +32,77 @@ impl Model for SimWorld {
     ghost view = { λ w. w.parts };
 
     ghost invariant = { λ w. Keeps w.parts };
+}
+
+impl SimWorld {
+    /// Finds that the world keeps its word: unless a stimulus sent bytes that are no message it conforms to what a
+    /// world of switches may do; applications do what their scripts say; and calls fail where they are told to or
+    /// out of place, and nowhere else.
+    #[tactic(auto, using(crate::specs::StandingLaws::conforms, crate::specs::StandingLaws::scripts_kept, crate::specs::StandingLaws::told_kept))]
+    pub fn keeps_word(&self)
+        ensures word { IsReadable self.now.history ≡ true → Conforming (seen_of self.now) }
+        ensures scripts { KeepsScripts self.now.scripts (without_links self.now.fails) self.now.history }
+        ensures told { AreAsTold (without_links self.now.fails) 0 self.now.history (at_first (given_of self.now)) }
+    {
+        let _parts = &self.parts;
+    }
+}
+
+impl World for SimWorld {
+    ghost use Rattle.sim_world.specs.Scripts.{Scripts};
+    ghost use Rattle.sim_world.specs.World.{seen_of};
+
+    ghost Tells = { Unit {0} };
+
+    ghost Own = { Scripts };
+
+    ghost seen = { λ w. seen_of w };
+
+    #[tactic(auto, using(crate::specs::StandingLaws::links_stand, crate::specs::DoingLaws::Opens_by, crate::specs::KeepingLaws::keeps_open))]
+    fn open(&mut self, _port: u16) -> Result<(), OpenFault> {
+        self.parts.are_few();
+        self.parts.open()
+    }
+
+    #[tactic(auto, using(crate::specs::StandingLaws::next_stands, crate::specs::DoingLaws::Nexts_by, crate::specs::KeepingLaws::keeps_next))]
+    fn next(&mut self, buf: &mut [u8]) -> Result<Item, NextFault> {
+        self.parts.are_few();
+        self.parts.next(buf)
+    }
+
+    #[tactic(auto, using(crate::specs::StandingLaws::apps_stand, crate::specs::DoingLaws::Starts_by, crate::specs::KeepingLaws::keeps_start))]
+    fn start(&mut self, app: u32, _words: &[String]) -> Result<(), StartFault> {
+        self.parts.are_few();
+        self.parts.start(app)
+    }
+
+    #[tactic(auto, using(crate::specs::StandingLaws::apps_stand, crate::specs::DoingLaws::Gives_by, crate::specs::KeepingLaws::keeps_give))]
+    fn give(&mut self, app: u32, bytes: &[u8]) -> Result<(), GiveFault> {
+        self.parts.are_few();
+        self.parts.give(app, bytes)
+    }
+
+    #[tactic(auto, using(crate::specs::StandingLaws::apps_stand, crate::specs::DoingLaws::Takes_by, crate::specs::KeepingLaws::keeps_take))]
+    fn take(&mut self, app: u32, buf: &mut [u8]) -> Result<Taken, Short> {
+        self.parts.are_few();
+        self.parts.take(app, buf)
+    }
+
+    #[tactic(auto, using(crate::specs::StandingLaws::apps_stand, crate::specs::DoingLaws::Ends_by, crate::specs::KeepingLaws::keeps_end))]
+    fn end(&mut self, app: u32) {
+        self.parts.are_few();
+        self.parts.end(app);
+    }
+
+    #[tactic(auto, using(crate::specs::StandingLaws::links_stand, crate::specs::DoingLaws::Sends_by, crate::specs::KeepingLaws::keeps_send))]
+    fn send(&mut self, dpid: u64, frame: &[u8]) -> Result<(), LinkFault> {
+        self.parts.are_few();
+        self.parts.send(dpid, frame)
+    }
+
+    #[tactic(auto, using(crate::specs::StandingLaws::links_stand, crate::specs::DoingLaws::Receives_by, crate::specs::KeepingLaws::keeps_recv))]
+    fn recv(&mut self, dpid: u64, buf: &mut [u8]) -> Result<usize, LinkFault> {
+        self.parts.are_few();
+        self.parts.recv(dpid, buf)
+    }
 }
