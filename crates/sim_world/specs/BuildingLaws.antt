@@ -31,7 +31,7 @@ use Rattle.sim_world.specs.Lives.{Playing, life_in}
 use Rattle.sim_world.specs.World.{WorldData, declared_in, given_of, seen_of, nexts_through, IsHistory, Stands, CanCome}
 use Rattle.sim_world.specs.Doing.{AppsStand, LinksStand}
 use Rattle.sim_world.specs.Keeping.{Keeps}
-use Rattle.sim_world.specs.Building.{Gets, nothing_given, insert_declared, with_switch, with_stimulus, with_fail, with_start, with_reply, last_moment_from, last_moment_of, MayBeGiven, AreZero, IsNew}
+use Rattle.sim_world.specs.Building.{Begins, Gets, nothing_given, insert_declared, with_switch, with_stimulus, with_fail, with_start, with_reply, last_moment_from, last_moment_of, MayBeGiven, AreZero, IsNew}
 
 -- ---- One switch more
 
@@ -679,3 +679,22 @@ pub built : {T E : Type 0} (P : WorldData → Type 0) (r : Result T E) (change :
 built P (Ok x) change now old new same holds before may gets kept =
     holds new gets.still (subst MayBeGiven (ap (λ (w : WorldData). change (given_of w)) (sym same) ∙ sym gets.given) may)
 built P (Err e) change now old new same holds before may gets kept = subst P (sym kept) before
+
+-- ---- What is seen
+
+pub Begins-new : (w : WorldData) → IsNew w → Begins (given_of w) (seen_of w)
+unfolding seen_of
+Begins-new w is = record { all = refl; history = is.history; counts = is.counts }
+
+pub Begins-given : (w : WorldData) (given : Given Scripts) → IsNew w → given_of w ≡ given → Begins given (seen_of w)
+Begins-given w given is same = subst (λ (g : Given Scripts). Begins g (seen_of w)) same (Begins-new w is)
+
+seen_given : (w : WorldData) → (seen_of w).given ≡ given_of w
+unfolding seen_of
+seen_given w = refl
+
+-- where a call gave one thing more
+pub begins : {T E : Type 0} (r : Result T E) (change : Given Scripts → Given Scripts) (now old new : WorldData) → old ≡ now → OnOk r (Gets change old new) → OnOk r (Begins (change (seen_of now).given) (seen_of new))
+begins (Ok x) change now old new same gets =
+    Begins-given new _ gets.still (gets.given ∙ ap (λ (w : WorldData). change (given_of w)) same ∙ ap change (sym (seen_given now)))
+begins (Err e) change now old new same gets = tt
