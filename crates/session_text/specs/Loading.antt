@@ -8,8 +8,8 @@ use Rattle.outside.specs.declared.call.CallKind.TheVariants as kinds
 use Rattle.outside.specs.declared.call.FailCall.{FailCall}
 use Rattle.outside.specs.Seen.{Given}
 use Rattle.sim_world.specs.Scripts.{Scripts}
-use Rattle.sim_world.specs.World.{WorldData, given_of}
-use Rattle.sim_world.specs.Building.{insert_declared}
+use Rattle.sim_world.specs.World.{WorldData, seen_of}
+use Rattle.sim_world.specs.Building.{insert_declared, Begins}
 use Rattle.lego_model.specs.declared.session.SessionFault.{SessionFault}
 use Rattle.lego_model.specs.SessionLines.{SessionValue}
 use Rattle.session_text.specs.declared.text_fault.SessionTextError.{SessionTextError}
@@ -63,5 +63,5 @@ LoadFails text.NoMemory old new read = Unit {0}
 LoadFails (text.Bad fault) old new read = (read ≡ Err fault) × (new ≡ old)
 
 abbrev pub Loads : {T : Type 0} → Result T SessionTextError → WorldData → WorldData → Result SessionValue SessionFault → Type 0
-Loads (Ok x) old new read = (s : SessionValue) × (read ≡ Ok s) × (given_of new ≡ given_by s)
+Loads (Ok x) old new read = (s : SessionValue) × (read ≡ Ok s) × Begins (given_by s) (seen_of new)
 Loads (Err fault) old new read = LoadFails fault old new read

@@ -64,17 +64,18 @@ all_absent declared d ds differ absent = λ i e less. absent_still declared d (s
 may_declare : (declared : List Declared) (ds : List (ℕ × ℕ × List ℕ)) → All IsSwitch ds → AllPairs DiffersFrom ds → All (λ e. is_declared e.0 declared ≡ false) ds → length declared + length ds ≤ 64 → MayDeclare declared ds
 may_declare declared [] are differ absent few = tt
 may_declare declared (d ∷ ds) are differ absent few =
-    let is : IsSwitch d = All-head IsSwitch d ds are in
-    (record {
-      number = is.numbered.0;
-      cap = is.roomy.1;
-      ports = is.few_ports;
-      absent = All-head (λ e. is_declared e.0 declared ≡ false) d ds absent;
-      few = omega (arith, few);
-    },
-     may_declare (insert_declared (declared_of d) declared) ds (All-tail IsSwitch d ds are) (others_differ d ds differ)
-       (all_absent declared d ds (first_differs d ds differ) (All-tail (λ e. is_declared e.0 declared ≡ false) d ds absent))
-       (omega (arith, few, length-insert_declared (declared_of d) declared)))
+    let is : IsSwitch d = All-head IsSwitch d ds are in (
+      record {
+        number = is.numbered.0;
+        cap = is.roomy.1;
+        ports = is.few_ports;
+        absent = All-head (λ e. is_declared e.0 declared ≡ false) d ds absent;
+        few = omega (arith, few);
+      },
+      may_declare (insert_declared (declared_of d) declared) ds (All-tail IsSwitch d ds are) (others_differ d ds differ)
+          (all_absent declared d ds (first_differs d ds differ) (All-tail (λ e. is_declared e.0 declared ≡ false) d ds absent))
+          (omega (arith, few, length-insert_declared (declared_of d) declared)),
+    )
 
 pub MayDeclare-session : (s : SessionValue) → IsSession s → MayDeclare [] s.switches
 MayDeclare-session s is = may_declare [] s.switches is.switches is.different (λ i e less. refl) (omega (arith, is.few_switches))
@@ -143,11 +144,12 @@ can_come ds moment (Join n ∷ xs) are rise after =
     (known_declared n ds (All-head (IsStimulus ds) (Join n) xs are), can_come ds moment xs (All-tail (IsStimulus ds) (Join n) xs are) rise after)
 can_come ds moment (Leave n ∷ xs) are rise after =
     (known_declared n ds (All-head (IsStimulus ds) (Leave n) xs are), can_come ds moment xs (All-tail (IsStimulus ds) (Leave n) xs are) rise after)
-can_come ds moment (At t ∷ xs) are rise after =
-    ((All-head (NotBefore moment) t (moments xs) after, All-head (IsStimulus ds) (At t) xs are),
-     can_come ds t xs (All-tail (IsStimulus ds) (At t) xs are)
-       (λ i j e less within. rise (suc i) (suc j) e (omega arith) (omega arith))
-       (λ i e less. rise zero (suc i) e (omega arith) (omega arith)))
+can_come ds moment (At t ∷ xs) are rise after = (
+  (All-head (NotBefore moment) t (moments xs) after, All-head (IsStimulus ds) (At t) xs are),
+  can_come ds t xs (All-tail (IsStimulus ds) (At t) xs are)
+      (λ i j e less within. rise (suc i) (suc j) e (omega arith) (omega arith))
+      (λ i e less. rise zero (suc i) e (omega arith) (omega arith)),
+)
 can_come ds moment (Of n x ∷ xs) are rise after =
     let is = All-head (IsStimulus ds) (Of n x) xs are in
     ((known_declared n ds is.0, stimulus_of x is.1), can_come ds moment xs (All-tail (IsStimulus ds) (Of n x) xs are) rise after)

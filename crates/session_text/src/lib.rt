@@ -7,6 +7,8 @@ mod change;
 mod error;
 mod input;
 mod loading;
+#[cfg(test)]
+mod loading_tests;
 mod reply;
 mod session;
 mod switch;

@@ -3,8 +3,8 @@
 ghost use Rattle.std.specs.Prelude.{◌≡◌, ◌^◌, ◌<◌, map, string_bytes, OnOk, OnErr};
 ghost use Rattle.lego_model.specs.SessionFacts.{IsSession};
 ghost use Rattle.lego_model.specs.SessionText.{session_text};
-ghost use Rattle.sim_world.specs.World.{given_of, CanCome};
-ghost use Rattle.sim_world.specs.Building.{nothing_given, last_moment_of, IsNew};
+ghost use Rattle.sim_world.specs.World.{given_of, seen_of, CanCome};
+ghost use Rattle.sim_world.specs.Building.{nothing_given, last_moment_of, IsNew, Begins};
 ghost use Rattle.session_text.specs.SessionView.{view_session, view_declared};
 ghost use Rattle.session_text.specs.Loading.{given_by, with_switches, with_faults, with_starts, with_replies, with_stimuli, Loads};
 ghost use Rattle.session_text.specs.LoadingLaws.{MayDeclare};
@@ -19,10 +19,7 @@ use sim_world::SimWorld;
 use std::alloc::{AllocError, Global};
 
 /// Declares switches, in this order.
-fn give_switches(
-    sim: &mut SimWorld,
-    switches: &[(Dpid, u32, Vec<u16>)],
-) -> Result<(), AllocError>
+fn give_switches(sim: &mut SimWorld, switches: &[(Dpid, u32, Vec<u16>)]) -> Result<(), AllocError>
     requires new { IsNew sim.old }
     requires may { MayDeclare (given_of sim.old).declared (map view_declared switches.now) }
     ensures new { IsNew sim.new }
@@ -89,7 +86,7 @@ fn give_session(sim: &mut SimWorld, session: Session) -> Result<(), AllocError>
     requires nothing { given_of sim.old ≡ nothing_given }
     requires session { IsSession (view_session session) }
     ensures new { IsNew sim.new }
-    ensures given { OnOk result (given_of sim.new ≡ given_by (view_session session)) }
+    ensures seen { OnOk result (Begins (given_by (view_session session)) (seen_of sim.new)) }
 {
     give_switches(sim, &session.switches)?;
     give_faults(sim, &session.faults)?;
