@@ -1,5 +1,5 @@
 -- What follows about a journal that goes on.
-use Rattle.std.proofs.Common.{◌≡◌, ◌==◌, ℕ, zero, suc, ◌+◌, ◌<◌, ◌≤◌, Bool, true, false, not, ◌&&◌, List, [], ◌∷◌, ◌++◌, length, get_or, take, fold, map, reverse, None, IsSome, refl, sym, ap, ◌∙◌, arith, inl, inr, eq-eqb}
+use Rattle.std.proofs.Common.{◌≡◌, ℕ, zero, suc, ◌+◌, ◌<◌, ◌≤◌, Bool, true, false, not, ◌&&◌, List, [], ◌∷◌, ◌++◌, length, get_or, take, fold, map, reverse, refl, sym, ap, ◌∙◌, arith, inl, inr, eq-eqb}
 use Rattle.std.specs.List.{AllByRecursion, AllPass}
 use Rattle.std.proofs.lemmas.Bool.{cases_eq}
 use Rattle.std.proofs.lemmas.Bool.Decides.{nat_tests}
@@ -9,7 +9,7 @@ use Rattle.std.proofs.lemmas.List.Sums.{fold_push, fold-append}
 use Rattle.of_match.specs.Key.{place}
 use Rattle.of_wire.specs.declared.bodies.FlowMod.{FlowMod}
 use Rattle.flow_table.specs.declared.entry.Entry.{Entry}
-use Rattle.flow_table.specs.Table.{TableState, empty_table, entry_at}
+use Rattle.flow_table.specs.Table.{TableState, empty_table}
 use Rattle.flow_table.specs.Change.{changed, key_in}
 use Rattle.lego_model.specs.declared.turn.Addition.{Addition}
 use Rattle.lego_model.specs.Messages.{adds_for_good}

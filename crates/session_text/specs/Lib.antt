@@ -5,3 +5,5 @@ pub mod PlainLaws
 pub mod JournalLaws
 pub mod TextGives
 pub mod SessionView
+pub mod Loading
+pub mod LoadingLaws

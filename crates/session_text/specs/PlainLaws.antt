@@ -1,16 +1,15 @@
 -- What follows about FLOW_MODs that add an entry for good, and about those that remove it again.
-use Rattle.std.proofs.Common.{◌≡◌, ◌≢◌, ◌==◌, ℕ, ◌+◌, ◌<◌, ◌≤◌, Bool, true, false, not, ◌&&◌, nat_le, nat_lt, List, [], ◌∷◌, length, map, filter, Some, None, IsSome, refl, sym, ap, ◌∙◌, arith, inl, inr}
+use Rattle.std.proofs.Common.{◌≡◌, ◌≢◌, ◌==◌, ℕ, ◌+◌, ◌<◌, ◌≤◌, Bool, true, false, not, ◌&&◌, nat_le, List, [], ◌∷◌, length, map, filter, None, IsSome, refl, sym, ap, ◌∙◌, arith, inl, inr}
 use Rattle.std.specs.List.{AllByRecursion, list_any}
 use Rattle.std.proofs.lemmas.Bool.{cases_lt, cases_eq, eqb-true}
 use Rattle.std.proofs.lemmas.Bool.Decides.{nat_tests}
-use Rattle.std.specs.Option.{is_some}
 use Rattle.of_match.specs.declared.key.Key.{Key}
 use Rattle.of_match.specs.Key.{place}
 use Rattle.of_wire.specs.declared.bodies.FlowMod.{FlowMod}
 use Rattle.flow_table.specs.declared.entry.Entry.{Entry}
 use Rattle.flow_table.specs.Table.{TableState, place_of, has_key, entry_at, with_entry}
 use Rattle.flow_table.specs.TableLaws.{with_entry-before, with_entry-same, with_entry-after, length-with_entry-le, entry_at-same, entry_at-other, entry_at-with_entry-same, entry_at-with_entry-other, length-filter-le}
-use Rattle.flow_table.specs.Change.{key_in, asks_notice, describes, sends_to, deletes, adds, clashes, is_full, refusal, new_entry, entries_after, serial_after, notice, notices_of, changed}
+use Rattle.flow_table.specs.Change.{key_in, asks_notice, describes, sends_to, deletes, adds, clashes, is_full, refusal, new_entry, entries_after, notice, notices_of, changed}
 use Rattle.lego_model.specs.Messages.{adds_for_good}
 use Rattle.session_text.specs.Journal.{removal_of, IsQuiet, IsNew}
 

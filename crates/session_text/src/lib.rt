@@ -6,6 +6,9 @@ mod addition;
 mod change;
 mod error;
 mod input;
+mod loading;
+#[cfg(test)]
+mod loading_tests;
 mod reply;
 mod session;
 mod switch;
@@ -25,6 +28,7 @@ mod world;
 pub use change::{PlainAct, PlainChange, key_of};
 pub use error::SessionError;
 pub use input::{MOST_INPUT, read_session};
+pub use loading::load_session;
 pub use session::{Reply, Session, Switch};
 pub use text_fault::SessionTextError;
 pub use whole_text::parse_session;

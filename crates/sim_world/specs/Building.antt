@@ -5,7 +5,7 @@ use Rattle.app_frames.specs.declared.script.ScriptStep.{ScriptStep}
 use Rattle.app_frames.specs.declared.script.StartScript.{StartScript}
 use Rattle.flow_table.specs.Switch.{Declared}
 use Rattle.outside.specs.declared.call.FailCall.{FailCall}
-use Rattle.outside.specs.Seen.{Given, Counts}
+use Rattle.outside.specs.Seen.{Given, Seen, Counts}
 use Rattle.outside.specs.State.{at_first, moment_after}
 use Rattle.outside.specs.Conforming.{AreDeclaredFrom}
 use Rattle.sim_world.specs.Tally.{CountsFor, counts_of}
@@ -86,3 +86,9 @@ pub record IsNew (w : WorldData) : Type 0 where
 pub record Gets (change : Given Scripts → Given Scripts) (old new : WorldData) : Type 0 where
   pub still : IsNew new
   pub given : given_of new ≡ change (given_of old)
+
+-- What is seen of a world that was given this, and in which nothing happened yet.
+pub record Begins (given : Given Scripts) (seen : Seen Scripts) : Type 0 where
+  pub all : seen.given ≡ given
+  pub history : seen.history ≡ []
+  pub counts : AreZero seen.counts

@@ -3,7 +3,7 @@
 use Rattle.std.specs.Prelude.{◌≡◌, ◌==◌, ℕ, ◌+◌, ◌-◌, ◌<◌, ◌≤◌, Bool, true, false, ◌&&◌, ◌||◌, nat_lt, List, [], ◌∷◌, ◌++◌, map, take, All, Option, Some, None, length, IsTrue, IsOk, OnOk, OnErr, Result, Ok, Err, refl, if◌then◌else◌, cond}
 use Rattle.std.specs.List.{list_any, filter}
 use Rattle.std.specs.Option.{is_some}
-use Rattle.std.proofs.Common.{sym, ap, ◌∙◌, subst, arith, length-append}
+use Rattle.std.proofs.Common.{suc, sym, ap, ◌∙◌, subst, arith, length-append}
 use Rattle.std.proofs.lemmas.Bool.{eqb-true, eqb-false, eq-eqb, ne_eqb, cond_both, ltb-true, ltb-false, true≢false, false≢true}
 use Rattle.std.proofs.lemmas.List.{append-nil, map-append, length-map}
 use Rattle.std.proofs.Math.Seq.{take-append_seam}
@@ -31,7 +31,7 @@ use Rattle.sim_world.specs.Lives.{Playing, life_in}
 use Rattle.sim_world.specs.World.{WorldData, declared_in, given_of, seen_of, nexts_through, IsHistory, Stands, CanCome}
 use Rattle.sim_world.specs.Doing.{AppsStand, LinksStand}
 use Rattle.sim_world.specs.Keeping.{Keeps}
-use Rattle.sim_world.specs.Building.{Gets, nothing_given, insert_declared, with_switch, with_stimulus, with_fail, with_start, with_reply, last_moment_from, last_moment_of, MayBeGiven, AreZero, IsNew}
+use Rattle.sim_world.specs.Building.{Begins, Gets, nothing_given, insert_declared, with_switch, with_stimulus, with_fail, with_start, with_reply, last_moment_from, last_moment_of, MayBeGiven, AreZero, IsNew}
 
 -- ---- One switch more
 
@@ -57,7 +57,8 @@ links-insert_declared fails d (e ∷ es) = insert_at (nat_lt d.dpid e.dpid) (lin
     insert_at true rest = refl
     insert_at false rest = ap (λ (ls : List Link). link_at_first fails e ∷ ls) rest
 
-is_declared-insert : (n : ℕ) (d : Declared) (ds : List Declared) → is_declared n (insert_declared d ds) ≡ (is_declared n ds || d.dpid == n)
+-- who is declared with one more, and how many
+pub is_declared-insert : (n : ℕ) (d : Declared) (ds : List Declared) → is_declared n (insert_declared d ds) ≡ (is_declared n ds || d.dpid == n)
 is_declared-insert n d [] = or-false (d.dpid == n)
 is_declared-insert n d (e ∷ es) = insert_at (nat_lt d.dpid e.dpid) (is_declared-insert n d es)
   where
@@ -75,6 +76,12 @@ is_declared-insert n d (e ∷ es) = insert_at (nat_lt d.dpid e.dpid) (is_declare
         → is_declared n (if b then d ∷ e ∷ es else e ∷ insert_declared d es) ≡ ((e.dpid == n || is_declared n es) || d.dpid == n)
     insert_at true rest = turned (d.dpid == n) (e.dpid == n || is_declared n es)
     insert_at false rest = ap (λ (b : Bool). e.dpid == n || b) rest ∙ further (e.dpid == n) (is_declared n es) (d.dpid == n)
+
+pub length-insert_declared : (d : Declared) (ds : List Declared) → length (insert_declared d ds) ≡ length ds + 1
+length-insert_declared d [] = refl
+length-insert_declared d (e ∷ es) =
+    cond_both (nat_lt d.dpid e.dpid) (d ∷ e ∷ es) (e ∷ insert_declared d es) (λ (xs : List Declared). length xs ≡ suc (length es) + 1)
+    (λ _. omega arith) (λ _. omega (arith, length-insert_declared d es))
 
 AreDeclaredFrom-insert : (least : ℕ) (d : Declared) (ds : List Declared) → least ≤ d.dpid → d.cap ≤ 4096 → is_declared d.dpid ds ≡ false → AreDeclaredFrom least ds → AreDeclaredFrom least (insert_declared d ds)
 AreDeclaredFrom-insert least d [] from small absent are = (from, small, tt)
@@ -672,3 +679,22 @@ pub built : {T E : Type 0} (P : WorldData → Type 0) (r : Result T E) (change :
 built P (Ok x) change now old new same holds before may gets kept =
     holds new gets.still (subst MayBeGiven (ap (λ (w : WorldData). change (given_of w)) (sym same) ∙ sym gets.given) may)
 built P (Err e) change now old new same holds before may gets kept = subst P (sym kept) before
+
+-- ---- What is seen
+
+pub Begins-new : (w : WorldData) → IsNew w → Begins (given_of w) (seen_of w)
+unfolding seen_of
+Begins-new w is = record { all = refl; history = is.history; counts = is.counts }
+
+pub Begins-given : (w : WorldData) (given : Given Scripts) → IsNew w → given_of w ≡ given → Begins given (seen_of w)
+Begins-given w given is same = subst (λ (g : Given Scripts). Begins g (seen_of w)) same (Begins-new w is)
+
+seen_given : (w : WorldData) → (seen_of w).given ≡ given_of w
+unfolding seen_of
+seen_given w = refl
+
+-- where a call gave one thing more
+pub begins : {T E : Type 0} (r : Result T E) (change : Given Scripts → Given Scripts) (now old new : WorldData) → old ≡ now → OnOk r (Gets change old new) → OnOk r (Begins (change (seen_of now).given) (seen_of new))
+begins (Ok x) change now old new same gets =
+    Begins-given new _ gets.still (gets.given ∙ ap (λ (w : WorldData). change (given_of w)) same ∙ ap change (sym (seen_given now)))
+begins (Err e) change now old new same gets = tt

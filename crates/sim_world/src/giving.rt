@@ -3,8 +3,8 @@
 ghost use Rattle.std.specs.Prelude.{◌≡◌, ◌<◌, ◌≤◌, false, length, IfOk, OnOk, OnErr};
 ghost use Rattle.outside.specs.Conforming.{IsWorldStim};
 ghost use Rattle.outside.specs.Seen.{is_declared};
-ghost use Rattle.sim_world.specs.World.{given_of};
-ghost use Rattle.sim_world.specs.Building.{nothing_given, last_moment_of, with_switch, with_stimulus, with_fail, with_start, with_reply, IsNew, Gets};
+ghost use Rattle.sim_world.specs.World.{given_of, seen_of};
+ghost use Rattle.sim_world.specs.Building.{nothing_given, last_moment_of, with_switch, with_stimulus, with_fail, with_start, with_reply, IsNew, Gets, Begins};
 
 use crate::parts::Parts;
 use crate::world::SimWorld;
@@ -18,6 +18,7 @@ impl SimWorld {
     pub fn new(alloc: Global) -> Result<SimWorld, AllocError>
         ensures new { IfOk result IsNew }
         ensures given { IfOk result (λ w. given_of w ≡ nothing_given) }
+        ensures seen { IfOk result (λ w. Begins nothing_given (seen_of w)) }
     {
         Ok(SimWorld {
             parts: Parts::new(alloc)?,
@@ -34,6 +35,7 @@ impl SimWorld {
         requires ports { length ports.now ≤ 64 }
         requires few { length (given_of self.old).declared < 64 }
         ensures ok { OnOk result (Gets (with_switch (record { dpid = dpid; cap = cap; ports = ports.now })) self.old self.new) }
+        ensures seen { OnOk result (Begins (with_switch (record { dpid = dpid; cap = cap; ports = ports.now }) (seen_of self.old).given) (seen_of self.new)) }
         ensures err { OnErr result (self.new ≡ self.old) }
     {
         self.parts.add_switch(dpid, cap, ports)
@@ -45,6 +47,7 @@ impl SimWorld {
         requires new { IsNew self.old }
         requires stimulus { IsWorldStim (given_of self.old).declared (last_moment_of (given_of self.old).stimuli) x }
         ensures ok { OnOk result (Gets (with_stimulus x) self.old self.new) }
+        ensures seen { OnOk result (Begins (with_stimulus x (seen_of self.old).given) (seen_of self.new)) }
         ensures err { OnErr result (self.new ≡ self.old) }
     {
         self.parts.add_stimulus(x)
@@ -54,6 +57,7 @@ impl SimWorld {
     pub fn add_reply(&mut self, app: u32, reply: Script) -> Result<(), AllocError>
         requires new { IsNew self.old }
         ensures ok { OnOk result (Gets (with_reply app reply) self.old self.new) }
+        ensures seen { OnOk result (Begins (with_reply app reply (seen_of self.old).given) (seen_of self.new)) }
         ensures err { OnErr result (self.new ≡ self.old) }
     {
         self.parts.add_reply(app, reply)
@@ -63,6 +67,7 @@ impl SimWorld {
     pub fn add_start(&mut self, app: u32, start: StartScript) -> Result<(), AllocError>
         requires new { IsNew self.old }
         ensures ok { OnOk result (Gets (with_start app start) self.old self.new) }
+        ensures seen { OnOk result (Begins (with_start app start (seen_of self.old).given) (seen_of self.new)) }
         ensures err { OnErr result (self.new ≡ self.old) }
     {
         self.parts.add_start(app, start)
@@ -73,6 +78,7 @@ impl SimWorld {
     pub fn fail_call(&mut self, kind: CallKind, of: u64, number: u64) -> Result<(), AllocError>
         requires new { IsNew self.old }
         ensures ok { OnOk result (Gets (with_fail (record { kind = kind; of = of; number = number })) self.old self.new) }
+        ensures seen { OnOk result (Begins (with_fail (record { kind = kind; of = of; number = number }) (seen_of self.old).given) (seen_of self.new)) }
         ensures err { OnErr result (self.new ≡ self.old) }
     {
         self.parts.fail_call(kind, of, number)

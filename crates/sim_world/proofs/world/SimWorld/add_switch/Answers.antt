@@ -3,7 +3,7 @@ use Rattle.flow_table.specs.Switch.{Declared}
 use Rattle.sim_world.specs.World.{Stands, given_of}
 use Rattle.sim_world.specs.Keeping.{Keeps}
 use Rattle.sim_world.specs.Building.{with_switch}
-use Rattle.sim_world.specs.BuildingLaws.{Keeps-new, MayBeGiven-stands, MayBeGiven-switch, built}
+use Rattle.sim_world.specs.BuildingLaws.{Keeps-new, MayBeGiven-stands, MayBeGiven-switch, built, begins}
 use Rattle.sim_world.proofs.world.SimWorld.add_switch.Goals as goal
 
 pub invariant_of-self : goal.invariant_of-self
@@ -14,3 +14,8 @@ invariant_of-self c =
     built Keeps c.add_switch.result (with_switch d) now c.self.inside.parts c.add_switch.new.self c.self.view_is Keeps-new c.self.invariant
     (MayBeGiven-switch (given_of now) d may c.requires.number c.requires.cap c.requires.absent)
     c.add_switch.ensures.ok c.add_switch.ensures.err
+
+pub returns-clause-seen : goal.returns-clause-seen
+returns-clause-seen c =
+    let d : Declared = record { dpid = c.args.dpid; cap = c.args.cap; ports = c.args.ports.now } in
+    begins c.add_switch.result (with_switch d) c.args.self.now c.self.inside.parts c.add_switch.new.self c.self.view_is c.add_switch.ensures.ok

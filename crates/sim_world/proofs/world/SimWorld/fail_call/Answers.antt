@@ -3,7 +3,7 @@ use Rattle.outside.specs.declared.call.FailCall.{FailCall}
 use Rattle.sim_world.specs.World.{Stands, given_of}
 use Rattle.sim_world.specs.Keeping.{Keeps}
 use Rattle.sim_world.specs.Building.{with_fail}
-use Rattle.sim_world.specs.BuildingLaws.{Keeps-new, MayBeGiven-stands, MayBeGiven-fail, built}
+use Rattle.sim_world.specs.BuildingLaws.{Keeps-new, MayBeGiven-stands, MayBeGiven-fail, built, begins}
 use Rattle.sim_world.proofs.world.SimWorld.fail_call.Goals as goal
 
 pub invariant_of-self : goal.invariant_of-self
@@ -14,3 +14,8 @@ invariant_of-self c =
     built Keeps c.fail_call.result (with_fail fail) now c.self.inside.parts c.fail_call.new.self c.self.view_is Keeps-new c.self.invariant
     (MayBeGiven-fail (given_of now) fail may)
     c.fail_call.ensures.ok c.fail_call.ensures.err
+
+pub returns-clause-seen : goal.returns-clause-seen
+returns-clause-seen c =
+    let fail : FailCall = record { kind = c.args.kind; of = c.args.of; number = c.args.number } in
+    begins c.fail_call.result (with_fail fail) c.args.self.now c.self.inside.parts c.fail_call.new.self c.self.view_is c.fail_call.ensures.ok
