@@ -268,14 +268,14 @@ unfoldable pub given_to : (List Place → Bool) → Event → ℕ → List App �
 given_to allows event i [] run = ([], run)
 given_to allows event i (a ∷ more) run =
     if a.alive then
-      (let turned = turn allows run.events run.moment event run.places a in
-       let next = record run {
-         places = turned.places;
-         lines = run.lines ++ Ended i turned.outcome ∷ restart_lines i turned.outcome turned.app;
-         quiets = marked turned.given run.events run.places run.quiets;
-       } in
-       if says_stop turned.outcome then (turned.app.0 ∷ more, next)
-       else (let rest = given_to allows event (i + 1) more next in (turned.app.0 ∷ rest.0, rest.1)))
+    (let turned = turn allows run.events run.moment event run.places a in
+    let next = record run {
+      places = turned.places;
+      lines = run.lines ++ Ended i turned.outcome ∷ restart_lines i turned.outcome turned.app;
+      quiets = marked turned.given run.events run.places run.quiets;
+    } in
+    if says_stop turned.outcome then (turned.app.0 ∷ more, next)
+    else (let rest = given_to allows event (i + 1) more next in (turned.app.0 ∷ rest.0, rest.1)))
     else (let rest = given_to allows event (i + 1) more run in (a ∷ rest.0, rest.1))
 
 -- an event takes the next number
