@@ -1,7 +1,7 @@
 #!/usr/bin/env python3
-"""Time and peak memory of reading a session text: bench/session.py [PROGRAM WORD ..]
+"""Time and peak memory of reading a session text into a simulated world: bench/session.py [PROGRAM WORD ..]
 
-The program reads a session text from standard input and prints a line of what it found. Prints a line for
+The program reads a session text from standard input into a simulated world, and prints a line of what it found. Prints a line for
 each input: its name, its size in bytes, seconds, the peak of memory in MiB, and the program's line.
 """
 
@@ -21,19 +21,19 @@ SWITCHES = b"session 1\n" + b"".join(b"switch %d 1 -\n" % dpid for dpid in range
 
 def inputs():
     """Names, inputs and the line that each has to give."""
-    yield "100,000 moments", HEAD + b"at 1\n" * 100_000, "1 switches, 0 replies, 100000 stimuli"
-    yield "1,000,000 moments", HEAD + b"at 1\n" * 1_000_000, "1 switches, 0 replies, 1000000 stimuli"
+    yield "100,000 moments", HEAD + b"at 1\n" * 100_000, "session"
+    yield "1,000,000 moments", HEAD + b"at 1\n" * 1_000_000, "session"
     yield "one moment more", HEAD + b"at 1\n" * 1_000_001, "line 1000004"
-    yield "1,000,000 frames, 64 switches", SWITCHES + b"frame 64 1 0102030405060708090a0b0c0d0e\n" * 1_000_000, "64 switches, 0 replies, 1000000 stimuli"
-    yield "1,000,000 raw messages", HEAD + b"raw 1 0100000800000002\n" * 1_000_000, "1 switches, 0 replies, 1000000 stimuli"
-    yield "64 MiB of line ends", b"\n" * 67_108_864, "0 switches, 0 replies, 0 stimuli"
-    yield "64 MiB of comments of 4 MiB", (b"#" * 4_194_303 + b"\n") * 16, "0 switches, 0 replies, 0 stimuli"
+    yield "1,000,000 frames, 64 switches", SWITCHES + b"frame 64 1 0102030405060708090a0b0c0d0e\n" * 1_000_000, "session"
+    yield "1,000,000 raw messages", HEAD + b"raw 1 0100000800000002\n" * 1_000_000, "session"
+    yield "64 MiB of line ends", b"\n" * 67_108_864, "session"
+    yield "64 MiB of comments of 4 MiB", (b"#" * 4_194_303 + b"\n") * 16, "session"
     yield "4 MiB of spaces in a line", b"session 1\n" + b" " * 4_194_304, "line 3"
     yield "4 MiB of digits in a number", HEAD + b"at " + b"9" * 4_194_301, "line 4"
     yield "700,000 ports", b"session 1\nswitch 1 1 " + b",".join(b"%d" % (i % 65280 + 1) for i in range(700_000)), "line 3"
-    yield "800,000 steps", b"session 1\nreply app" + b" x:00" * 800_000, "0 switches, 1 replies, 0 stimuli"
-    yield "12,800,000 steps in 16 lines", b"session 1\n" + (b"reply app" + b" x:00" * 800_000 + b"\n") * 16, "0 switches, 16 replies, 0 stimuli"
-    yield "64 MiB of digits in 16 steps", b"session 1\n" + (b"reply app x:" + b"0a" * 2_097_000 + b"\n") * 16, "0 switches, 16 replies, 0 stimuli"
+    yield "800,000 steps", b"session 1\nreply app" + b" x:00" * 800_000, "session"
+    yield "12,800,000 steps in 16 lines", b"session 1\n" + (b"reply app" + b" x:00" * 800_000 + b"\n") * 16, "session"
+    yield "64 MiB of digits in 16 steps", b"session 1\n" + (b"reply app x:" + b"0a" * 2_097_000 + b"\n") * 16, "session"
 
 
 def one(path, program):

@@ -7,6 +7,7 @@
 mod application;
 mod corpus;
 mod frames;
+mod session;
 mod stream;
 mod switch;
 mod table;
@@ -15,6 +16,7 @@ mod wire;
 use crate::application::Said;
 use crate::corpus::Corpus;
 use crate::frames::{FrameOperation, FrameSize};
+use crate::session::Found;
 use crate::stream::Piece;
 use crate::switch::Entries;
 use crate::table::{TableOperation, TableSize};
@@ -90,12 +92,35 @@ fn command(rt: &HostRuntime) -> io::Result<Option<(Loop, u64)>> {
     Ok(Loop::from_words(operation.as_str(), over.as_str()).map(|named| (named, rounds)))
 }
 
+/// Whether the one word is that of a session text.
+fn is_session(rt: &HostRuntime) -> io::Result<bool> {
+    let words: Vec<String> = env::args(rt)?.skip(1).collect(rt.alloc())?;
+    let [word] = words.as_slice() else {
+        return Ok(false);
+    };
+    Ok(word.as_str() == "session")
+}
+
+/// Reads a session text, and writes what it found.
+fn session(rt: &HostRuntime) -> io::Result<ExitCode> {
+    match session::read(rt)? {
+        Found::Session => println!(rt; "session")?,
+        Found::Fault(line) => println!(rt; "line {line}")?,
+        Found::NoText => println!(rt; "no text")?,
+    }
+    Ok(ExitCode::SUCCESS)
+}
+
 fn main(rt: HostRuntime) -> io::Result<ExitCode> {
+    if is_session(&rt)? {
+        return session(&rt);
+    }
     let Some((named, rounds)) = command(&rt)? else {
         println!(rt; "usage: lego_bench decode|check|encode small|large|actions ROUNDS")?;
         println!(rt; "       lego_bench key|edit 64|1500 ROUNDS")?;
         println!(rt; "       lego_bench cut 1|64|65536 ROUNDS")?;
         println!(rt; "       lego_bench forward 10|1000|4096 ROUNDS")?;
+        println!(rt; "       lego_bench session")?;
         println!(rt; "       lego_bench hear save|message|64k|1m|part ROUNDS")?;
         println!(rt;
             "       lego_bench change|lookup|hit|expire|fill|delete 100|1000|4096 ROUNDS"
