@@ -1,5 +1,5 @@
 -- What each call of a simulated world does, over the world as data: which steps it appends, and what it counts.
-use Rattle.std.specs.Prelude.{◌≡◌, ℕ, ◌-◌, ◌^◌, ◌<◌, ◌≤◌, length, All, Bool, true, false, not, List, [], ◌∷◌, Option, Some, Result, Ok, Err, IsErr, IfOk, IfSome, IsTrue, slice_get, ◌↔◌}
+use Rattle.std.specs.Prelude.{◌≡◌, ℕ, ◌-◌, ◌^◌, ◌<◌, ◌≤◌, length, All, false, not, List, [], ◌∷◌, Option, Some, Result, Ok, Err, IsErr, IfOk, IfSome, IsTrue, slice_get, ◌↔◌}
 use Rattle.std.specs.List.{AllByRecursion}
 use Rattle.lego_io.specs.Count.{raised}
 use Rattle.of_types.specs.declared.journal.WorldStim.{WorldStim}
@@ -18,9 +18,9 @@ use Rattle.outside.specs.declared.item.Item.{Item}
 use Rattle.outside.specs.declared.item.Item.TheVariants as items
 use Rattle.outside.specs.declared.item.Taken.{Taken}
 use Rattle.outside.specs.declared.item.Taken.TheVariants as gave
-use Rattle.outside.specs.State.{but_marks, after_stim, after_steps, is_running, is_joined, has_waiting, link_of}
+use Rattle.outside.specs.State.{but_marks, after_stim, after_steps, is_running, is_joined, link_of}
 use Rattle.outside.specs.Conforming.{MayStep, MaySteps}
-use Rattle.outside.specs.Calls.{item_step, open_steps, next_steps, stim_steps, start_steps, give_steps, take_steps, end_steps, send_steps, receive_steps, can_receive, IsItemIn, IsTakenIn, IsMessageIn, IsIdle, IsOver}
+use Rattle.outside.specs.Calls.{item_step, open_steps, next_steps, stim_steps, start_steps, give_steps, take_steps, send_steps, receive_steps, can_receive, IsItemIn, IsTakenIn, IsMessageIn, IsIdle, IsOver}
 use Rattle.sim_world.specs.Links.{IsDue, StandsAt, HasReadableRaw, MayCall}
 use Rattle.sim_world.specs.Tally.{TallyState, tally_stray, tally_short, tally_short_of, tally_fault_of}
 use Rattle.sim_world.specs.Scripts.{Life}

@@ -1,12 +1,12 @@
 -- What each call of a simulated world does is what such a call of any world does.
-use Rattle.std.specs.Prelude.{◌≡◌, ◌==◌, ℕ, ◌+◌, ◌≤◌, filter, length, Bool, true, false, not, ◌||◌, ◌&&◌, List, [], ◌∷◌, map, if◌then◌else◌, Option, Some, None, Result, Ok, Err, IsErr, IsErrOf, IfOk, IfSome, IsTrue, refl, slice_get, ◌↔◌}
+use Rattle.std.specs.Prelude.{◌≡◌, ◌==◌, ℕ, ◌+◌, ◌≤◌, filter, length, Bool, true, false, not, ◌||◌, ◌&&◌, List, [], ◌∷◌, map, if◌then◌else◌, None, Result, Ok, Err, IsErr, IsErrOf, refl}
 use Rattle.std.specs.List.{list_any}
 use Rattle.std.proofs.Common.{sym, ap, ◌∙◌, subst, arith}
 use Rattle.std.proofs.lemmas.List.{append-nil}
 use Rattle.of_types.specs.declared.journal.TookWhat.{TookWhat}
 use Rattle.of_types.specs.declared.journal.TookWhat.TheVariants as took
 use Rattle.std.proofs.lemmas.Bool.{true≢false, false≢true}
-use Rattle.lego_io.specs.Count.{raised, Rose}
+use Rattle.lego_io.specs.Count.{Rose}
 use Rattle.flow_table.specs.Switch.{Declared}
 use Rattle.outside.specs.declared.faults.Short.{Short}
 use Rattle.outside.specs.declared.faults.OpenFault.{OpenFault}
@@ -23,13 +23,13 @@ use Rattle.outside.specs.declared.item.Item.{Item}
 use Rattle.outside.specs.declared.item.Taken.{Taken}
 use Rattle.outside.specs.declared.item.Taken.TheVariants as gave
 use Rattle.outside.specs.declared.step.WorldStep.{WorldStep}
-use Rattle.outside.specs.Seen.{Given, Seen, Counts, NoneFell, AreCounts, is_declared, with_stray, with_short, with_short_of, with_link_fault}
-use Rattle.outside.specs.State.{Link, State, state, but_marks, after_steps, is_running, is_joined, has_waiting, link_of, switch_of, waits_of, upcoming}
-use Rattle.outside.specs.Calls.{Opens, Nexts, Starts, Gives, Takes, Ends, Sends, Receives, open_steps, open_counts, next_counts, start_counts, give_counts, take_counts, link_counts, end_steps, stim_steps, can_receive, IsIdle, IsOver}
+use Rattle.outside.specs.Seen.{AreCounts, is_declared, with_stray}
+use Rattle.outside.specs.State.{Link, State, state, but_marks, after_steps, is_running, is_joined, link_of, switch_of, waits_of, upcoming}
+use Rattle.outside.specs.Calls.{Opens, Nexts, Starts, Gives, Takes, Ends, Sends, Receives, open_counts, next_counts, start_counts, give_counts, take_counts, link_counts, end_steps, stim_steps, can_receive, IsIdle, IsOver}
 use Rattle.outside.specs.declared.call.FailCall.{FailCall}
 use Rattle.sim_world.specs.Scripts.{Scripts, Life, will_start, will_give, next_taken, take_fault}
 use Rattle.sim_world.specs.Lives.{took_of}
-use Rattle.sim_world.specs.Tally.{TallyState, CountsFor, counts_of, tally_stray, tally_short, tally_short_of, tally_fault_of}
+use Rattle.sim_world.specs.Tally.{TallyState, CountsFor, counts_of, tally_stray}
 use Rattle.sim_world.specs.TallyLaws.{Counted, counts-none, counts-shut, counts-next_fault, counts-start_failed, counts-closing, counts-silence, counts-short, counts-short_of, counts-fault_of, counted-none, counted-shut, counted-next_fault, counted-start_failed, counted-closing, counted-silence, counted-short, counted-short_of, counted-fault_of, rose-raised, rose-fault_of, rose-short_of}
 use Rattle.sim_world.specs.World.{WorldData, declared_in, given_of, seen_of, Stands, Moves}
 use Rattle.sim_world.specs.WorldLaws.{declared_but, declared-stays, after_steps-but_marks}

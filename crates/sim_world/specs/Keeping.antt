@@ -1,5 +1,5 @@
 -- What a simulated world keeps over all calls.
-use Rattle.std.specs.Prelude.{◌≡◌, ℕ, ◌≤◌, true, List, length, All}
+use Rattle.std.specs.Prelude.{◌≡◌, ◌≤◌, true, length, All}
 use Rattle.sim_world.specs.Links.{IsDue}
 use Rattle.sim_world.specs.LinkStepLaws.{AreStanding, AllReadable}
 use Rattle.sim_world.specs.World.{WorldData, Stands, IsReadable}

@@ -1,12 +1,12 @@
 -- Each call of a simulated world keeps what it keeps.
-use Rattle.std.specs.Prelude.{◌≡◌, ℕ, ◌+◌, ◌-◌, ◌^◌, ◌<◌, ◌≤◌, Bool, true, false, not, ◌||◌, ◌&&◌, is_ok, is_some, List, [], ◌∷◌, ◌++◌, length, drop, take, Option, None, Some, Result, Ok, Err, All, IfSome, slice_get, refl}
+use Rattle.std.specs.Prelude.{◌≡◌, ℕ, ◌+◌, ◌≤◌, Bool, true, false, not, ◌&&◌, is_ok, is_some, List, [], ◌∷◌, ◌++◌, length, drop, take, Option, None, Some, Result, Ok, Err, All, IfSome, slice_get, refl}
 use Rattle.std.specs.List.{AllByRecursion, list_all}
 use Rattle.std.proofs.Common.{sym, ap, ◌∙◌, subst, arith}
 use Rattle.std.proofs.lemmas.Bool.{false≢true}
-use Rattle.std.proofs.lemmas.List.Elements.{All-head, All-tail, All-nil}
+use Rattle.std.proofs.lemmas.List.Elements.{All-tail}
 use Rattle.std.proofs.lemmas.List.{length-append, append-nil}
 use Rattle.of_types.specs.declared.journal.Act.{Act}
-use Rattle.of_types.specs.declared.journal.Act.TheVariants.{Stim, Started, Gave, Gone, Took, Ended, Sent, Got}
+use Rattle.of_types.specs.declared.journal.Act.TheVariants.{Stim, Started, Gave, Gone, Ended, Sent, Got}
 use Rattle.of_types.specs.declared.journal.WorldStim.{WorldStim}
 use Rattle.of_types.specs.declared.journal.WorldStim.TheVariants.{Join, Leave, At, Of}
 use Rattle.of_types.specs.declared.journal.Stimulus.{Stimulus}
@@ -28,13 +28,12 @@ use Rattle.outside.specs.declared.item.Item.TheVariants as items
 use Rattle.outside.specs.declared.item.Taken.{Taken}
 use Rattle.outside.specs.declared.item.Taken.TheVariants as gave
 use Rattle.outside.specs.declared.step.WorldStep.{WorldStep}
-use Rattle.outside.specs.declared.step.WorldStep.TheVariants.{Acted, TookInto, From, Joined, Left, Moment, Idle, End, Opened, NotOpened, NextFailed, SendFailed, RecvFailed}
+use Rattle.outside.specs.declared.step.WorldStep.TheVariants.{Acted, TookInto, Opened, NotOpened, NextFailed, SendFailed, RecvFailed}
 use Rattle.outside.specs.declared.call.FailCall.{FailCall}
-use Rattle.outside.specs.State.{Link, State, but_marks, after_step, after_steps, after_act, after_stim, moment_after, links_after, with_link, link_sent, link_got, link_failed, link_told, is_running, is_joined}
+use Rattle.outside.specs.State.{Link, State, after_step, after_steps, after_act, after_stim, moment_after, is_running, is_joined}
 use Rattle.outside.specs.Calls.{open_steps, next_steps, stim_steps, item_step, start_steps, give_steps, take_steps, end_steps, send_steps, receive_steps, can_receive}
 use Rattle.outside.specs.Conforming.{IsWorldStim, MayStep, MayAct, MaySteps}
-use Rattle.sim_world.specs.Tally.{TallyState, CountsFor, tally_stray}
-use Rattle.sim_world.specs.TallyLaws.{Counted}
+use Rattle.sim_world.specs.Tally.{TallyState, CountsFor}
 use Rattle.sim_world.specs.Scripts.{Scripts, Life, IsScripted, AreScripted}
 use Rattle.sim_world.specs.Lives.{life_in}
 use Rattle.sim_world.specs.Links.{IsDue, HasReadableRaw, IsReadableIfRaw}
@@ -42,9 +41,9 @@ use Rattle.sim_world.specs.NextCallLaws.{can_come_next}
 use Rattle.of_wire.specs.Reading.{reading_of}
 use Rattle.sim_world.specs.LinkLaws.{Stands-more}
 use Rattle.sim_world.specs.LinkStepLaws.{AreStanding, AllReadable, AreStanding-begun, AreStanding-sent, AreStanding-got, AreStanding-failed, AreStanding-told}
-use Rattle.sim_world.specs.World.{WorldData, Moves, Stands, IsAsTold, AreAsTold, IsReadable, is_refused_stimulus, is_refused_raw, begins_refused, declared_in, CanCome}
-use Rattle.sim_world.specs.WorldLaws.{MayMove, Stands_moves, IsReadable-front}
-use Rattle.sim_world.specs.Doing.{DoesOpen, DoesNext, DoesStart, DoesGive, DoesTake, DoesSend, DoesReceive, HasReadable, open_tally, next_tally, start_tally, give_tally, take_tally, link_tally}
+use Rattle.sim_world.specs.World.{WorldData, Moves, IsAsTold, AreAsTold, IsReadable, is_refused_stimulus, is_refused_raw, begins_refused, declared_in, CanCome}
+use Rattle.sim_world.specs.WorldLaws.{Stands_moves, IsReadable-front}
+use Rattle.sim_world.specs.Doing.{DoesOpen, DoesNext, DoesStart, DoesGive, DoesTake, DoesSend, DoesReceive, HasReadable}
 use Rattle.sim_world.specs.DoingLaws.{open_counted, next_counted, start_counted, give_counted, take_counted, link_counted}
 use Rattle.sim_world.specs.Keeping.{Keeps}
 
@@ -168,7 +167,7 @@ open_scripted own fails (Err opening.Short) lives = tt
 pub keeps_open : {T : Type 0} (old new : WorldData) (result : Result T OpenFault) → Keeps old → DoesOpen old new result → AreAsTold old.told old.nexts (open_steps result) old.state → Keeps new
 keeps_open old new result keeps does told =
     keeps_quiet old new (open_steps result) _ keeps does.moves (open_quiet result) (open_scripted old.scripts old.told result _) told
-      (open_counted (declared_in old.state) old.state.opened result old.tally keeps.stands.tally).for
+    (open_counted (declared_in old.state) old.state.opened result old.tally keeps.stands.tally).for
 
 start_quiet : {T : Type 0} (app : ℕ) (result : Result T StartFault) → AllByRecursion IsQuiet (start_steps app result)
 unfolding start_steps
@@ -185,7 +184,7 @@ start_told fails n app (Err starting.Short) s = tt
 pub keeps_start : {T : Type 0} (app : ℕ) (old new : WorldData) (result : Result T StartFault) → Keeps old → DoesStart app old new result → AreScripted old.scripts old.told (start_steps app result) (λ a. life_in a old.lives) → Keeps new
 keeps_start app old new result keeps does scripted =
     keeps_quiet old new (start_steps app result) _ keeps does.moves (start_quiet app result) scripted (start_told old.told old.nexts app result old.state)
-      (start_counted (declared_in old.state) (is_running app old.state) result old.tally keeps.stands.tally).for
+    (start_counted (declared_in old.state) (is_running app old.state) result old.tally keeps.stands.tally).for
 
 give_quiet : {T : Type 0} (app : ℕ) (bytes : List ℕ) (result : Result T GiveFault) → AllByRecursion IsQuiet (give_steps app bytes result)
 unfolding give_steps
@@ -203,7 +202,7 @@ pub keeps_give : {T : Type 0} (app : ℕ) (bytes : List ℕ) (old new : WorldDat
     → AreScripted old.scripts old.told (give_steps app bytes result) (λ a. life_in a old.lives) → Keeps new
 keeps_give app bytes old new result keeps does scripted =
     keeps_quiet old new (give_steps app bytes result) _ keeps does.moves (give_quiet app bytes result) scripted (give_told old.told old.nexts app bytes result old.state)
-      (give_counted (declared_in old.state) (not (is_running app old.state)) result old.tally keeps.stands.tally).for
+    (give_counted (declared_in old.state) (not (is_running app old.state)) result old.tally keeps.stands.tally).for
 
 take_quiet : (app : ℕ) (result : Result Taken Short) (buf : List ℕ) → AllByRecursion IsQuiet (take_steps app result buf)
 unfolding take_steps
@@ -223,7 +222,7 @@ pub keeps_take : (app : ℕ) (old new : WorldData) (result : Result Taken Short)
     → AreScripted old.scripts old.told (take_steps app result buf) (λ a. life_in a old.lives) → Keeps new
 keeps_take app old new result buf keeps does scripted =
     keeps_quiet old new (take_steps app result buf) _ keeps does.moves (take_quiet app result buf) scripted (take_told old.told old.nexts app result buf old.state)
-      (take_counted (declared_in old.state) (not (is_running app old.state)) result old.tally keeps.stands.tally).for
+    (take_counted (declared_in old.state) (not (is_running app old.state)) result old.tally keeps.stands.tally).for
 
 end_quiet : (app : ℕ) (runs : Bool) → AllByRecursion IsQuiet (end_steps app runs)
 unfolding end_steps
@@ -239,7 +238,7 @@ pub keeps_end : (app : ℕ) (old new : WorldData) → Keeps old → Moves old ne
     → AreScripted old.scripts old.told (end_steps app (is_running app old.state)) (λ a. life_in a old.lives) → Keeps new
 keeps_end app old new keeps moves scripted =
     keeps_quiet old new (end_steps app (is_running app old.state)) old.tally keeps moves (end_quiet app (is_running app old.state)) scripted
-      (end_told old.told old.nexts app (is_running app old.state) old.state) keeps.stands.tally
+    (end_told old.told old.nexts app (is_running app old.state) old.state) keeps.stands.tally
 
 -- ---- Calls of links
 
@@ -302,8 +301,8 @@ pub keeps_send : {T : Type 0} (d : ℕ) (frame : List ℕ) (old new : WorldData)
     → (AllReadable old.state.links → AllReadable new.state.links) → Keeps new
 keeps_send d frame old new result keeps does word told readable =
     keeps_linked old new (send_steps d frame result) _ keeps does.moves (send_linked d frame result old.history old.state keeps.standing)
-      (λ is. word) (λ is. readable (keeps.readable (IsReadable-front old.history _ is))) (send_scripted old.scripts old.told d frame result _) told
-      (link_counted (declared_in old.state) (not (is_joined d old.state)) d result old.tally keeps.stands.tally).for
+    (λ is. word) (λ is. readable (keeps.readable (IsReadable-front old.history _ is))) (send_scripted old.scripts old.told d frame result _) told
+    (link_counted (declared_in old.state) (not (is_joined d old.state)) d result old.tally keeps.stands.tally).for
 
 receive_linked : (d : ℕ) (result : Result ℕ LinkFault) (buf : List ℕ) (history : List WorldStep) (s : State) → AreStanding s.moment (length history) s.links
     → LinkedBy (length (history ++ receive_steps d result buf)) s (after_steps (receive_steps d result buf) s)
@@ -338,9 +337,9 @@ pub keeps_recv : (d : ℕ) (old new : WorldData) (result : Result ℕ LinkFault)
     → (AllReadable old.state.links → AllReadable new.state.links) → Keeps new
 keeps_recv d old new result buf keeps does word told readable =
     keeps_linked old new (receive_steps d result buf) _ keeps does.moves (receive_linked d result buf old.history old.state keeps.standing)
-      (λ is. word (keeps.readable (IsReadable-front old.history _ is))) (λ is. readable (keeps.readable (IsReadable-front old.history _ is)))
-      (receive_scripted old.scripts old.told d result buf _) told
-      (link_counted (declared_in old.state) (not (can_receive d old.state)) d result old.tally keeps.stands.tally).for
+    (λ is. word (keeps.readable (IsReadable-front old.history _ is))) (λ is. readable (keeps.readable (IsReadable-front old.history _ is)))
+    (receive_scripted old.scripts old.told d result buf _) told
+    (link_counted (declared_in old.state) (not (can_receive d old.state)) d result old.tally keeps.stands.tally).for
 
 -- ---- next: an item that is told
 
@@ -472,8 +471,8 @@ keeps_item old new None item buf keeps to_come moves word told readable due =
       within = rw moment keeps.within;
       due = subst (All IsDue) (sym (ap (λ (s : State). s.due) moves.state)) by.due;
       readable = λ is.
-        let all : IsReadable (old.history ++ item_step item buf ∷ []) ≡ true = rw (← moves.history) is in
-        readable tt (keeps.readable (IsReadable-front old.history _ all));
+          let all : IsReadable (old.history ++ item_step item buf ∷ []) ≡ true = rw (← moves.history) is in
+          readable tt (keeps.readable (IsReadable-front old.history _ all));
     }
 keeps_item old new (Some x) item buf keeps to_come moves word told readable due =
     let steps = Acted (Stim x) ∷ item_step item buf ∷ [] in
@@ -496,8 +495,8 @@ keeps_item old new (Some x) item buf keeps to_come moves word told readable due 
       within = rw moment begun.within;
       due = subst (All IsDue) (sym (ap (λ (s : State). s.due) moves.state)) by.due;
       readable = λ is.
-        let all : IsReadable (old.history ++ steps) ≡ true = rw (← moves.history) is in
-        readable (begun_read old.history x (item_step item buf ∷ []) all) (keeps.readable (IsReadable-front old.history _ all));
+          let all : IsReadable (old.history ++ steps) ≡ true = rw (← moves.history) is in
+          readable (begun_read old.history x (item_step item buf ∷ []) all) (keeps.readable (IsReadable-front old.history _ all));
     }
 
 pub keeps_next : (old new : WorldData) (result : Result Item NextFault) (buf : List ℕ) → Keeps old → DoesNext old new result buf → Keeps new
@@ -506,6 +505,6 @@ keeps_next old new (Ok item) buf keeps does =
     keeps_item old new does.begun item buf keeps does.to_come does.moves does.word does.told does.readable does.due
 keeps_next old new (Err coming.Failed) buf keeps does =
     keeps_quiet old new (NextFailed ∷ []) _ keeps does.moves (tt, tt) (failed_scripted old.scripts old.told _, tt) does.told
-      (next_counted (declared_in old.state) (Err coming.Failed) old.tally keeps.stands.tally).for
+    (next_counted (declared_in old.state) (Err coming.Failed) old.tally keeps.stands.tally).for
 keeps_next old new (Err coming.Short) buf keeps does =
     keeps_quiet old new [] _ keeps does.moves tt tt tt (next_counted (declared_in old.state) (Err coming.Short) old.tally keeps.stands.tally).for

@@ -1,5 +1,5 @@
 -- Laws of a whole call of `next`, one for each way in which it ends.
-use Rattle.std.specs.Prelude.{◌≡◌, ℕ, ◌+◌, ◌-◌, ◌^◌, ◌<◌, ◌≤◌, ◌↔◌, All, Bool, true, false, is_some, List, [], ◌∷◌, ◌++◌, length, Option, None, Some, Ok, Err, IfSome, slice_get, refl}
+use Rattle.std.specs.Prelude.{◌≡◌, ℕ, ◌+◌, ◌-◌, ◌^◌, ◌<◌, ◌≤◌, ◌↔◌, All, Bool, true, false, is_some, List, [], ◌∷◌, length, Option, None, Some, Ok, Err, IfSome, slice_get, refl}
 use Rattle.std.specs.List.{AllByRecursion}
 use Rattle.std.proofs.Common.{sym, ap, ◌∙◌, subst}
 use Rattle.std.proofs.lemmas.Bool.{false≢true}
@@ -11,19 +11,17 @@ use Rattle.outside.specs.declared.call.FailCall.{FailCall}
 use Rattle.outside.specs.declared.faults.NextFault.TheVariants as coming
 use Rattle.outside.specs.declared.item.Item.{Item}
 use Rattle.outside.specs.declared.item.Item.TheVariants as items
-use Rattle.outside.specs.declared.step.WorldStep.{WorldStep}
 use Rattle.outside.specs.declared.step.WorldStep.TheVariants.{Acted, NextFailed, End}
-use Rattle.outside.specs.State.{Link, State, but_marks, after_step, after_steps, after_act, after_stim, upcoming, links_after}
-use Rattle.outside.specs.Calls.{item_step, next_steps, stim_steps, IsIdle, IsOver, IsItemIn}
-use Rattle.outside.specs.Conforming.{IsWorldStim, MayBegin, MayStep, MayAct, MaySteps}
+use Rattle.outside.specs.State.{Link, State, but_marks, after_step, after_act, after_stim, upcoming, links_after}
+use Rattle.outside.specs.Calls.{item_step, next_steps, IsIdle, IsOver}
+use Rattle.outside.specs.Conforming.{IsWorldStim, MayStep, MayAct}
 use Rattle.sim_world.specs.Tally.{tally_short}
 use Rattle.sim_world.specs.Links.{IsDue, StandsAt, HasReadableRaw, waiting_in}
 use Rattle.sim_world.specs.LinksLaws.{few_upcoming}
 use Rattle.sim_world.specs.LinkStepLaws.{AllReadable}
-use Rattle.sim_world.specs.World.{WorldData, Moves, IsAsTold, AreAsTold, declared_in, next_told, CanCome}
+use Rattle.sim_world.specs.World.{WorldData, Moves, IsAsTold, declared_in, next_told, CanCome}
 use Rattle.sim_world.specs.WorldLaws.{Moves_both, Moves_ready, MaySteps-same, AreAsTold-same, declared_but, declared-stays}
-use Rattle.sim_world.specs.NextLaws.{not_over}
-use Rattle.sim_world.specs.Doing.{Tells, NextStands, DoesNext, HasReadable}
+use Rattle.sim_world.specs.Doing.{Tells, NextStands, DoesNext}
 use Rattle.sim_world.specs.Lives.{life_in}
 
 -- the links where no step is made
@@ -140,8 +138,8 @@ Next_begun old mid new x item buf untold rests next come begins few read due tel
     let links : mid.state.links ≡ after.links = ap (λ (s : State). s.links) begins.state in
     let told_here : IsAsTold old.told old.nexts (item_step item buf) mid.state =
     subst (λ (n : ℕ). IsAsTold old.told n (item_step item buf) mid.state) begins.nexts
-      (subst (λ fails. IsAsTold fails mid.nexts (item_step item buf) mid.state) begins.told
-        (tells.told (rw (begins.told, begins.nexts) untold))) in
+    (subst (λ fails. IsAsTold fails mid.nexts (item_step item buf) mid.state) begins.told
+    (tells.told (rw (begins.told, begins.nexts) untold))) in
     let declared : declared_in mid.state ≡ declared_in old.state = ap declared_in begins.state ∙ declared_but after ∙ declared-stays (Acted (Stim x) ∷ []) old.state in
     record {
       begun = Some x;
@@ -159,7 +157,7 @@ Next_begun old mid new x item buf untold rests next come begins few read due tel
           few = few_upcoming x old.state (subst (λ (ls : List Link). length (waiting_in ls) ≤ length (waiting_in old.state.links) + 262144) (links ∙ stim_links x old.state) few);
         },
         MaySteps-same (declared_in old.state) (item_step item buf ∷ []) mid.state after same
-          (subst (λ (ds : List Declared). MayStep ds (item_step item buf) mid.state) declared (tells.may (read raw all)), tt),
+            (subst (λ (ds : List Declared). MayStep ds (item_step item buf) mid.state) declared (tells.may (read raw all)), tt),
       );
       told = (untold_stim old.told old.nexts x old.state, AreAsTold-same old.told old.nexts (item_step item buf ∷ []) mid.state after same (told_here, tt));
       readable = λ raw all. tells.readable (read raw all);
@@ -181,5 +179,5 @@ NextStands_ready old mid same promised stands = record {
 pub Next_short_ready : (old mid new : WorldData) (buf : List ℕ) → mid ≡ record old { room = mid.room } → Moves mid new [] (tally_short mid.tally) → DoesNext old new (Err coming.Short) buf
 Next_short_ready old mid new buf same moves =
     Next_short old new buf
-      (subst (λ t. Moves old new [] t) (ap (λ (w : WorldData). tally_short w.tally) same)
-        (Moves_ready old mid new [] _ (same ∙ ap (λ xs. record old { room = mid.room; lives = xs }) (sym (ap (λ (w : WorldData). w.lives) same))) (λ app. ap (λ (w : WorldData). life_in app w.lives) same) moves))
+    (subst (λ t. Moves old new [] t) (ap (λ (w : WorldData). tally_short w.tally) same)
+    (Moves_ready old mid new [] _ (same ∙ ap (λ xs. record old { room = mid.room; lives = xs }) (sym (ap (λ (w : WorldData). w.lives) same))) (λ app. ap (λ (w : WorldData). life_in app w.lives) same) moves))

@@ -1,7 +1,7 @@
 -- Laws of what comes next in a simulated world.
-use Rattle.std.specs.Prelude.{◌≡◌, ℕ, ◌+◌, ◌<◌, ◌≤◌, ◌↔◌, Bool, true, false, is_some, List, [], ◌∷◌, ◌++◌, length, drop, Option, None, Some, All, IfSome, slice_get, refl}
+use Rattle.std.specs.Prelude.{◌≡◌, ℕ, ◌+◌, ◌<◌, ◌↔◌, Bool, true, false, is_some, List, [], ◌∷◌, ◌++◌, length, drop, Option, None, Some, All, IfSome, slice_get, refl}
 use Rattle.std.specs.Option.{option_to_list}
-use Rattle.std.proofs.Common.{sym, ap, ◌∙◌, subst, arith, drop-drop}
+use Rattle.std.proofs.Common.{sym, ap, ◌∙◌, arith, drop-drop}
 use Rattle.std.proofs.lemmas.Option.{slice_get_within}
 use Rattle.std.proofs.lemmas.Bool.{false≢true}
 use Rattle.std.proofs.lemmas.List.{length-drop}

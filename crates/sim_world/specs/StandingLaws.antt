@@ -1,15 +1,13 @@
 -- What the calls of a simulated world need follows from what it keeps.
-use Rattle.std.specs.Prelude.{◌≡◌, ℕ, ◌+◌, ◌-◌, ◌^◌, ◌<◌, ◌≤◌, Bool, true, false, List, [], ◌∷◌, length, IfSome, refl, if◌then◌else◌}
+use Rattle.std.specs.Prelude.{◌≡◌, ℕ, ◌+◌, ◌^◌, ◌<◌, ◌≤◌, Bool, true, false, List, [], ◌∷◌, length, refl, if◌then◌else◌}
 use Rattle.std.proofs.Common.{sym, ap, ◌∙◌, subst, arith}
 use Rattle.outside.specs.declared.step.WorldStep.{WorldStep}
-use Rattle.outside.specs.Seen.{Given}
-use Rattle.outside.specs.State.{Link, State, state, but_marks, is_running, link_of, at_first, after_steps}
+use Rattle.outside.specs.State.{state, but_marks, is_running, at_first}
 use Rattle.outside.specs.Conforming.{Conforming}
-use Rattle.sim_world.specs.Scripts.{Scripts, Life, fresh, life_through, FewCalls, KeepsScripts}
+use Rattle.sim_world.specs.Scripts.{Life, fresh, FewCalls, KeepsScripts}
 use Rattle.sim_world.specs.Told.{without_links}
 use Rattle.sim_world.specs.ScriptLaws.{running-through, FewCalls-history}
 use Rattle.sim_world.specs.Lives.{life_in}
-use Rattle.sim_world.specs.Links.{MayCall}
 use Rattle.sim_world.specs.LinkStepLaws.{AreStanding-stands, AreStanding-may_call}
 use Rattle.sim_world.specs.World.{WorldData, Stands, IsReadable, AreAsTold, given_of, seen_of, nexts_through, counted_next, is_next_answer}
 use Rattle.sim_world.specs.Doing.{AppsStand, LinksStand, NextStands}

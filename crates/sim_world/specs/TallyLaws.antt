@@ -1,14 +1,14 @@
 -- Laws of the counts of a simulated world: what each change of the tally makes of the counts that are seen.
-use Rattle.std.specs.Prelude.{◌≡◌, ◌==◌, ℕ, ◌+◌, ◌-◌, ◌^◌, ◌≤◌, ◌<◌, Bool, true, false, ◌||◌, List, [], ◌∷◌, map, All, refl, if◌then◌else◌, IsTrue}
+use Rattle.std.specs.Prelude.{◌≡◌, ◌==◌, ℕ, ◌-◌, ◌^◌, ◌≤◌, Bool, true, false, ◌||◌, List, [], ◌∷◌, All, refl, if◌then◌else◌}
 use Rattle.std.specs.List.{list_any}
 use Rattle.std.proofs.Common.{sym, ap, ◌∙◌, arith}
 use Rattle.std.proofs.lemmas.Bool.{eqb-true, eq-eqb, false≢true, true≢false}
 use Rattle.std.proofs.lemmas.List.Elements.{All-head, All-tail, All-nil, All-cons}
-use Rattle.lego_io.specs.Count.{raised, Rose, NeverFell}
+use Rattle.lego_io.specs.Count.{raised, Rose}
 use Rattle.lego_io.specs.CountLaws.{Rose-raised}
 use Rattle.flow_table.specs.Switch.{Declared}
-use Rattle.outside.specs.Seen.{Counts, NoneFell, AreCounts, is_declared, raised_at, with_stray, with_short, with_short_of, with_link_fault}
-use Rattle.sim_world.specs.Tally.{last_count, LinkCounts, TallyState, IsTally, count_at, counts_of, counts_at, one_fault, one_short, tally_stray, tally_short, tally_short_of, tally_fault_of, CountsFor}
+use Rattle.outside.specs.Seen.{Counts, NoneFell, AreCounts, is_declared, with_stray, with_short, with_short_of, with_link_fault}
+use Rattle.sim_world.specs.Tally.{last_count, LinkCounts, TallyState, count_at, counts_of, counts_at, one_fault, one_short, tally_stray, tally_short, tally_short_of, tally_fault_of, CountsFor}
 
 -- ---- One switch's counts
 
@@ -26,7 +26,7 @@ one_raised : (count : LinkCounts → ℕ) (change : LinkCounts → LinkCounts) �
     → (here ≡ false → count_at count other e (counts_at d change ls) ≡ (if e == d then raised (count_at count before e ls) else count_at count before e ls))
     → (it : Bool) → (l.dpid == d) ≡ it
     → (if (if it then change l else l).dpid == e then count (if it then change l else l) else count_at count other e (counts_at d change ls))
-      ≡ (if e == d then raised (if here then count l else count_at count before e ls) else (if here then count l else count_at count before e ls))
+    ≡ (if e == d then raised (if here then count l else count_at count before e ls) else (if here then count l else count_at count before e ls))
 one_raised count change keeps rises d e other before l ls true is rest true it =
     let same : (e == d) ≡ true = rw (← eqb-true l.dpid e is) it in
     let still : ((change l).dpid == e) ≡ true = ap (λ n. n == e) (keeps l) ∙ is in
@@ -47,8 +47,8 @@ count-raised : (count : LinkCounts → ℕ) (change : LinkCounts → LinkCounts)
 count-raised count change keeps rises d e other before [] there = absurd (false≢true there)
 count-raised count change keeps rises d e other before (l ∷ ls) there =
     one_raised count change keeps rises d e other before l ls (l.dpid == e) refl
-      (λ elsewhere. count-raised count change keeps rises d e other before ls (found_later (l.dpid == e) _ there elsewhere))
-      (l.dpid == d) refl
+    (λ elsewhere. count-raised count change keeps rises d e other before ls (found_later (l.dpid == e) _ there elsewhere))
+    (l.dpid == d) refl
 
 -- a count that does not change, whichever switch's counts do
 one_kept : (count : LinkCounts → ℕ) (change : LinkCounts → LinkCounts) → KeepsNumber change → ((l : LinkCounts) → count (change l) ≡ count l) → (e other before : ℕ) (l : LinkCounts) (ls rest : List LinkCounts)
@@ -56,7 +56,7 @@ one_kept : (count : LinkCounts → ℕ) (change : LinkCounts → LinkCounts) →
     → (here ≡ false → count_at count other e rest ≡ count_at count before e ls)
     → (it : Bool)
     → (if (if it then change l else l).dpid == e then count (if it then change l else l) else count_at count other e rest)
-      ≡ (if here then count l else count_at count before e ls)
+    ≡ (if here then count l else count_at count before e ls)
 one_kept count change keeps same e other before l ls rest true is later true = rw (ap (λ n. n == e) (keeps l) ∙ is) (same l)
 one_kept count change keeps same e other before l ls rest true is later false = rw is refl
 one_kept count change keeps same e other before l ls rest false is later true = rw (ap (λ n. n == e) (keeps l) ∙ is) (later refl)
@@ -68,8 +68,8 @@ count-kept : (count : LinkCounts → ℕ) (change : LinkCounts → LinkCounts) �
 count-kept count change keeps same d e other before [] there = absurd (false≢true there)
 count-kept count change keeps same d e other before (l ∷ ls) there =
     one_kept count change keeps same e other before l ls (counts_at d change ls) (l.dpid == e) refl
-      (λ elsewhere. count-kept count change keeps same d e other before ls (found_later (l.dpid == e) _ there elsewhere))
-      (l.dpid == d)
+    (λ elsewhere. count-kept count change keeps same d e other before ls (found_later (l.dpid == e) _ there elsewhere))
+    (l.dpid == d)
 
 -- a count that is looked up does not depend on what stands for a switch that is not there, where it is
 one_same : (count : LinkCounts → ℕ) (e other before : ℕ) (l : LinkCounts) (ls : List LinkCounts) → (here : Bool)
@@ -98,7 +98,7 @@ one_grows : (count : LinkCounts → ℕ) (change : LinkCounts → LinkCounts) �
     → count l ≤ count (change l) → count_at count before e ls ≤ count_at count other e rest
     → (here : Bool) → (l.dpid == e) ≡ here → (it : Bool)
     → (if here then count l else count_at count before e ls)
-      ≤ (if (if it then change l else l).dpid == e then count (if it then change l else l) else count_at count other e rest)
+    ≤ (if (if it then change l else l).dpid == e then count (if it then change l else l) else count_at count other e rest)
 one_grows count change keeps e before other l ls rest grows later true is true = rw (ap (λ n. n == e) (keeps l) ∙ is) grows
 one_grows count change keeps e before other l ls rest grows later true is false = rw is (omega arith)
 one_grows count change keeps e before other l ls rest grows later false is true = rw (ap (λ n. n == e) (keeps l) ∙ is) later
@@ -255,37 +255,37 @@ whole declared stray t u for links strays shuts next_faults starts_failed closin
 pub counted-none : (declared : List Declared) (stray : Bool) (t : TallyState) → CountsFor declared t → Counted declared t (tally_stray stray t)
 counted-none declared stray t for =
     whole declared stray t _ for refl refl (omega arith) (omega arith) (omega arith) (omega arith) (omega arith) (omega arith)
-      for.within.shuts for.within.next_faults for.within.starts_failed for.within.closings for.within.silences for.within.shorts
+    for.within.shuts for.within.next_faults for.within.starts_failed for.within.closings for.within.silences for.within.shorts
 
 pub counted-shut : (declared : List Declared) (stray : Bool) (t : TallyState) → CountsFor declared t → Counted declared t (tally_stray stray (record t { shuts = raised t.shuts }))
 counted-shut declared stray t for =
     whole declared stray t _ for refl refl (raised-grows t.shuts for.within.shuts) (omega arith) (omega arith) (omega arith) (omega arith) (omega arith)
-      (raised-within t.shuts) for.within.next_faults for.within.starts_failed for.within.closings for.within.silences for.within.shorts
+    (raised-within t.shuts) for.within.next_faults for.within.starts_failed for.within.closings for.within.silences for.within.shorts
 
 pub counted-next_fault : (declared : List Declared) (t : TallyState) → CountsFor declared t → Counted declared t (record t { next_faults = raised t.next_faults })
 counted-next_fault declared t for =
     whole declared false t _ for refl refl (omega arith) (raised-grows t.next_faults for.within.next_faults) (omega arith) (omega arith) (omega arith) (omega arith)
-      for.within.shuts (raised-within t.next_faults) for.within.starts_failed for.within.closings for.within.silences for.within.shorts
+    for.within.shuts (raised-within t.next_faults) for.within.starts_failed for.within.closings for.within.silences for.within.shorts
 
 pub counted-start_failed : (declared : List Declared) (stray : Bool) (t : TallyState) → CountsFor declared t → Counted declared t (tally_stray stray (record t { starts_failed = raised t.starts_failed }))
 counted-start_failed declared stray t for =
     whole declared stray t _ for refl refl (omega arith) (omega arith) (raised-grows t.starts_failed for.within.starts_failed) (omega arith) (omega arith) (omega arith)
-      for.within.shuts for.within.next_faults (raised-within t.starts_failed) for.within.closings for.within.silences for.within.shorts
+    for.within.shuts for.within.next_faults (raised-within t.starts_failed) for.within.closings for.within.silences for.within.shorts
 
 pub counted-closing : (declared : List Declared) (stray : Bool) (t : TallyState) → CountsFor declared t → Counted declared t (tally_stray stray (record t { closings = raised t.closings }))
 counted-closing declared stray t for =
     whole declared stray t _ for refl refl (omega arith) (omega arith) (omega arith) (raised-grows t.closings for.within.closings) (omega arith) (omega arith)
-      for.within.shuts for.within.next_faults for.within.starts_failed (raised-within t.closings) for.within.silences for.within.shorts
+    for.within.shuts for.within.next_faults for.within.starts_failed (raised-within t.closings) for.within.silences for.within.shorts
 
 pub counted-silence : (declared : List Declared) (stray : Bool) (t : TallyState) → CountsFor declared t → Counted declared t (tally_stray stray (record t { silences = raised t.silences }))
 counted-silence declared stray t for =
     whole declared stray t _ for refl refl (omega arith) (omega arith) (omega arith) (omega arith) (raised-grows t.silences for.within.silences) (omega arith)
-      for.within.shuts for.within.next_faults for.within.starts_failed for.within.closings (raised-within t.silences) for.within.shorts
+    for.within.shuts for.within.next_faults for.within.starts_failed for.within.closings (raised-within t.silences) for.within.shorts
 
 pub counted-short : (declared : List Declared) (stray : Bool) (t : TallyState) → CountsFor declared t → Counted declared t (tally_stray stray (tally_short t))
 counted-short declared stray t for =
     whole declared stray t _ for refl refl (omega arith) (omega arith) (omega arith) (omega arith) (omega arith) (raised-grows t.shorts for.within.shorts)
-      for.within.shuts for.within.next_faults for.within.starts_failed for.within.closings for.within.silences (raised-within t.shorts)
+    for.within.shuts for.within.next_faults for.within.starts_failed for.within.closings for.within.silences (raised-within t.shorts)
 
 -- where a count of one switch rises
 one_number : (d e : ℕ) (change : LinkCounts → LinkCounts) → KeepsNumber change → (l : LinkCounts) (it : Bool) → ((if it then change l else l).dpid == e) ≡ (l.dpid == e)
@@ -404,14 +404,14 @@ pub rose-fault_of : (declared : List Declared) (stray : Bool) (d : ℕ) (t : Tal
 unfolding counts_of
 rose-fault_of declared stray d t for out =
     rose_there (λ l. l.faults) one_fault (λ l. refl) (λ l. refl) (λ l is. is.0) d t.strays _ t.links for.within.strays for.within.links _ refl
-      (λ none. rw (out (sym (for.switches d) ∙ none)) (rose_one t.strays for.within.strays))
+    (λ none. rw (out (sym (for.switches d) ∙ none)) (rose_one t.strays for.within.strays))
 
 pub rose-short_of : (declared : List Declared) (stray : Bool) (d : ℕ) (t : TallyState) → CountsFor declared t
     → Rose ((counts_of t).shorts_of d) ((counts_of (tally_stray stray (tally_short_of d t))).shorts_of d)
 unfolding counts_of
 rose-short_of declared stray d t for =
     rose_there (λ l. l.shorts) one_short (λ l. refl) (λ l. refl) (λ l is. is.1) d t.shorts _ t.links for.within.shorts for.within.links _ refl
-      (λ none. rose_one t.shorts for.within.shorts)
+    (λ none. rose_one t.shorts for.within.shorts)
 
 pub rose-raised : (n : ℕ) → n ≤ last_count → Rose n (raised n)
 rose-raised n within = rose_one n within

@@ -1,7 +1,6 @@
 -- Laws of what is told in a state in which a stimulus is begun, and of a whole call of `next`.
-use Rattle.std.specs.Prelude.{◌≡◌, ℕ, ◌+◌, ◌≤◌, ◌<◌, ◌↔◌, Bool, true, false, is_some, List, [], ◌∷◌, ◌++◌, map, length, Option, None, Some, Ok, Err, All, IsOk, IfSome, slice_get, refl}
-use Rattle.std.specs.List.{AllByRecursion, flat_map}
-use Rattle.std.proofs.Common.{sym, ap, ◌∙◌, subst}
+use Rattle.std.specs.Prelude.{◌≡◌, ℕ, true, false, is_some, List, [], ◌∷◌, map, Option, Some, All, IsOk, IfSome, slice_get, refl}
+use Rattle.std.proofs.Common.{ap, subst}
 use Rattle.std.proofs.lemmas.Bool.{false≢true}
 use Rattle.std.proofs.lemmas.List.Elements.{All-head, All-tail, All-nil, All-cons, All-append}
 use Rattle.of_wire.specs.Reading.{reading_of}
@@ -10,7 +9,7 @@ use Rattle.outside.specs.declared.item.Item.TheVariants as items
 use Rattle.outside.specs.declared.step.WorldStep.{WorldStep}
 use Rattle.outside.specs.declared.step.WorldStep.TheVariants.{From, Idle}
 use Rattle.outside.specs.State.{Link, State, upcoming}
-use Rattle.outside.specs.Calls.{item_step, IsIdle, IsOver, IsItemIn}
+use Rattle.outside.specs.Calls.{item_step, IsItemIn}
 use Rattle.outside.specs.Conforming.{MayStep}
 use Rattle.sim_world.specs.Links.{IsDue, AreReadable, waiting_in}
 use Rattle.sim_world.specs.LinkStepLaws.{AllReadable}
@@ -28,7 +27,7 @@ waits_read : (d : ℕ) (waits : List (List ℕ)) → AreReadable waits → All I
 waits_read d [] all = All-nil IsRead
 waits_read d (bytes ∷ waits) all =
     All-cons IsRead (From d bytes) (map (From d) waits) (All-head (λ b. IsOk (reading_of b)) bytes waits all)
-      (waits_read d waits (All-tail (λ b. IsOk (reading_of b)) bytes waits all))
+    (waits_read d waits (All-tail (λ b. IsOk (reading_of b)) bytes waits all))
 
 all_read : (ls : List Link) → AllReadable ls → All IsRead (waiting_in ls)
 all_read [] all = All-nil IsRead

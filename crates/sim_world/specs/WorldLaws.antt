@@ -1,6 +1,6 @@
 -- Laws of a simulated world: that the marks of quiescent points steer nothing, that what was declared stays, and that a call which does
 -- what a step says leaves a world that stands.
-use Rattle.std.specs.Prelude.{◌≡◌, ◌==◌, ℕ, ◌+◌, ◌<◌, ◌≤◌, Bool, true, false, not, ◌&&◌, ◌||◌, List, [], ◌∷◌, ◌++◌, length, map, refl, if◌then◌else◌}
+use Rattle.std.specs.Prelude.{◌≡◌, ◌==◌, ℕ, Bool, true, false, not, ◌&&◌, List, [], ◌∷◌, ◌++◌, map, refl, if◌then◌else◌}
 use Rattle.std.specs.List.{list_all}
 use Rattle.std.proofs.Common.{sym, ap, ◌∙◌, subst, append_assoc}
 use Rattle.of_types.specs.declared.journal.Act.{Act}
@@ -12,11 +12,11 @@ use Rattle.flow_table.specs.Switch.{Declared}
 use Rattle.outside.specs.declared.call.FailCall.{FailCall}
 use Rattle.outside.specs.declared.step.WorldStep.{WorldStep}
 use Rattle.outside.specs.declared.step.WorldStep.TheVariants.{Acted, TookInto, From, Joined, Left, Moment, Idle, End, Opened, NotOpened, NextFailed, SendFailed, RecvFailed}
-use Rattle.outside.specs.Seen.{Given, Seen}
-use Rattle.outside.specs.State.{Link, State, at_first, with_link, link_joined, link_left, link_stimulated, link_sent, link_got, link_told, link_failed, links_after, after_stim, after_act, after_step, after_steps, state, but_marks, switch_of, waits_of, upcoming, link_fails}
+use Rattle.outside.specs.Seen.{Given}
+use Rattle.outside.specs.State.{Link, State, at_first, with_link, link_joined, link_left, link_stimulated, link_sent, link_got, link_told, link_failed, after_stim, after_act, after_step, after_steps, state, but_marks, switch_of, waits_of, upcoming, link_fails}
 use Rattle.outside.specs.StateLaws.{after_steps-append, MaySteps-append, but_marks-step}
 use Rattle.outside.specs.LinkLaws.{KeepsDeclared}
-use Rattle.outside.specs.Conforming.{IsNext, MayBegin, MayAct, MayStep, MaySteps}
+use Rattle.outside.specs.Conforming.{MayBegin, MayAct, MayStep, MaySteps}
 use Rattle.sim_world.specs.Tally.{TallyState, CountsFor}
 use Rattle.sim_world.specs.Told.{without_links}
 use Rattle.sim_world.specs.Lives.{life_in}
@@ -120,9 +120,10 @@ after_same step s t same =
 -- Steps may come in a state exactly where they may in one that differs in marks alone.
 pub MaySteps-same : (declared : List Declared) (steps : List WorldStep) (s t : State) → but_marks s ≡ but_marks t → MaySteps declared steps s → MaySteps declared steps t
 MaySteps-same declared [] s t same may = tt
-MaySteps-same declared (step ∷ steps) s t same may =
-    (step_with declared step t (subst (λ (x : State). MayStep declared step x) same (step_but declared step s may.0)),
-     MaySteps-same declared steps (after_step step s) (after_step step t) (after_same step s t same) may.1)
+MaySteps-same declared (step ∷ steps) s t same may = (
+  step_with declared step t (subst (λ (x : State). MayStep declared step x) same (step_but declared step s may.0)),
+  MaySteps-same declared steps (after_step step s) (after_step step t) (after_same step s t same) may.1,
+)
 
 -- ---- Calls that are told to fail
 
@@ -157,9 +158,10 @@ pub AreAsTold-same : (fails : List FailCall) (n : ℕ) (steps : List WorldStep) 
 AreAsTold-same fails n [] s t same told = tt
 AreAsTold-same fails n (step ∷ steps) s t same told =
     let here : IsAsTold fails n step s ≡ IsAsTold fails n step t =
-    told_same fails n step s ∙ ap (IsAsTold fails n step) same ∙ sym (told_same fails n step t) in
-    (subst (λ (x : Type 0). x) here told.0,
-     AreAsTold-same fails (counted_next step n) steps (after_step step s) (after_step step t) (after_same step s t same) told.1)
+    told_same fails n step s ∙ ap (IsAsTold fails n step) same ∙ sym (told_same fails n step t) in (
+      subst (λ (x : Type 0). x) here told.0,
+      AreAsTold-same fails (counted_next step n) steps (after_step step s) (after_step step t) (after_same step s t same) told.1,
+    )
 
 pub nexts_through-append : (xs ys : List WorldStep) (n : ℕ) → nexts_through (xs ++ ys) n ≡ nexts_through ys (nexts_through xs n)
 nexts_through-append [] ys n = refl
@@ -252,9 +254,10 @@ scripted_same own fails (RecvFailed d) lives others same is = is
 
 AreScripted-same : (own : Scripts) (fails : List FailCall) (steps : List WorldStep) (lives others : ℕ → Life) → ((app : ℕ) → lives app ≡ others app) → AreScripted own fails steps lives → AreScripted own fails steps others
 AreScripted-same own fails [] lives others same are = tt
-AreScripted-same own fails (step ∷ steps) lives others same are =
-    (scripted_same own fails step lives others same are.0,
-     AreScripted-same own fails steps (lives_after own fails step lives) (lives_after own fails step others) (λ app. ap (life_after own fails app step) (same app)) are.1)
+AreScripted-same own fails (step ∷ steps) lives others same are = (
+  scripted_same own fails step lives others same are.0,
+  AreScripted-same own fails steps (lives_after own fails step lives) (lives_after own fails step others) (λ app. ap (life_after own fails app step) (same app)) are.1,
+)
 
 -- the lives that steps leave
 abbrev lives_through : Scripts → List FailCall → List WorldStep → (ℕ → Life) → ℕ → Life
@@ -319,12 +322,12 @@ Stands_moves old new steps counted stands moves may counts come =
     record {
       declared = rw declared stands.declared;
       state =
-        ap (λ (g : Given Scripts). but_marks (after_steps new.history (at_first g))) given
-        ∙ ap (λ (h : List WorldStep). but_marks (after_steps h (at_first (given_of old)))) moves.history
-        ∙ ap but_marks (after_steps-append old.history steps (at_first (given_of old)))
-        ∙ after_steps-but_marks steps (after_steps old.history (at_first (given_of old)))
-        ∙ ap (λ (x : State). but_marks (after_steps steps x)) stands.state
-        ∙ sym moves.state;
+          ap (λ (g : Given Scripts). but_marks (after_steps new.history (at_first g))) given
+          ∙ ap (λ (h : List WorldStep). but_marks (after_steps h (at_first (given_of old)))) moves.history
+          ∙ ap but_marks (after_steps-append old.history steps (at_first (given_of old)))
+          ∙ after_steps-but_marks steps (after_steps old.history (at_first (given_of old)))
+          ∙ ap (λ (x : State). but_marks (after_steps steps x)) stands.state
+          ∙ sym moves.state;
       lives = λ app. moves.lives app ∙ ap (life_through old.scripts old.told app steps) (stands.lives app)
           ∙ sym (life_through-append old.scripts old.told app old.history steps fresh)
           ∙ rw (moves.scripts, moves.told, moves.history) refl;
@@ -348,14 +351,14 @@ Moves_both old mid new xs ys t u first second = record {
   room = second.room;
   tally = second.tally;
   state =
-    second.state
-    ∙ ap (λ (s : State). but_marks (after_steps ys s)) first.state
-    ∙ sym (after_steps-but_marks ys (after_steps xs old.state))
-    ∙ ap but_marks (sym (after_steps-append xs ys old.state));
+      second.state
+      ∙ ap (λ (s : State). but_marks (after_steps ys s)) first.state
+      ∙ sym (after_steps-but_marks ys (after_steps xs old.state))
+      ∙ ap but_marks (sym (after_steps-append xs ys old.state));
   lives = λ app.
-    second.lives app
-    ∙ rw (first.scripts, first.told) (ap (life_through old.scripts old.told app ys) (first.lives app))
-    ∙ sym (life_through-append old.scripts old.told app xs ys (life_in app old.lives));
+      second.lives app
+      ∙ rw (first.scripts, first.told) (ap (life_through old.scripts old.told app ys) (first.lives app))
+      ∙ sym (life_through-append old.scripts old.told app xs ys (life_in app old.lives));
 }
 
 -- A call behind one that made room and took applications down, with no life moved.

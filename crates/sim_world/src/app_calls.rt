@@ -129,8 +129,7 @@ impl Parts {
     {
         let taken = self.lives.take(&self.told, app, buf);
         let what = what_of(taken, copy, buf);
-        self.history
-            .push(WorldStep::TookInto(app, what, buf.len()));
+        self.history.push(WorldStep::TookInto(app, what, buf.len()));
         self.count_take(taken, stray);
         taken
     }

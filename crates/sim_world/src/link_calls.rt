@@ -144,8 +144,7 @@ impl Parts {
     {
         let message = self.links.got(dpid)?;
         let len = copy_to_front(message.as_slice(), buf);
-        self.history
-            .push(WorldStep::Acted(Act::Got(dpid, message)));
+        self.history.push(WorldStep::Acted(Act::Got(dpid, message)));
         Some(len)
     }
 

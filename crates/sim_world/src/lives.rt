@@ -165,13 +165,7 @@ fn will_give_in(cells: &[LifeCell], lines: &ScriptLines, told: &Told, app: u32) 
 }
 
 /// How many bytes the next take from an application that was spoken of gives.
-fn next_len_in(
-    cells: &[LifeCell],
-    lines: &ScriptLines,
-    told: &Told,
-    app: u32,
-    room: usize,
-) -> usize
+fn next_len_in(cells: &[LifeCell], lines: &ScriptLines, told: &Told, app: u32, room: usize) -> usize
     requires cells { All (IsCellOf lines.now) cells.now }
     requires known { has_cell app cells.now ≡ true }
     requires few { (life_in app (named_lives lines.now.replies cells.now)).take_calls < 2 ^ 64 - 1 }

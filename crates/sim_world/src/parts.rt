@@ -176,8 +176,7 @@ impl Parts {
     {
         self.running.push(app)?;
         self.lives.start(&self.told, app, true);
-        self.history
-            .push(WorldStep::Acted(Act::Started(app, true)));
+        self.history.push(WorldStep::Acted(Act::Started(app, true)));
         Ok(())
     }
 

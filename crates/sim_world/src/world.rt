@@ -9,9 +9,7 @@ ghost use Rattle.sim_world.specs.World.{IsReadable, AreAsTold, seen_of, given_of
 ghost use Rattle.outside.specs.State.{at_first};
 
 use crate::parts::Parts;
-use outside::{
-    GiveFault, Item, LinkFault, NextFault, OpenFault, Short, StartFault, Taken, World,
-};
+use outside::{GiveFault, Item, LinkFault, NextFault, OpenFault, Short, StartFault, Taken, World};
 use std::marker::Model;
 
 /// A world of simulated switches and scripted applications, in which stimuli happen and calls fail as told.

@@ -1,4 +1,4 @@
-use Rattle.std.proofs.Common.{◌≡◌, [], take, Some, IfSome, refl}
+use Rattle.std.proofs.Common.{◌≡◌, [], Some, IfSome, refl}
 use Rattle.std.specs.Prelude.{slice_get}
 use Rattle.outside.specs.State.{Link, waits_in, link_got}
 use Rattle.sim_world.specs.Links.{MayCall}

@@ -1,4 +1,4 @@
-use Rattle.std.proofs.Common.{◌≡◌, take, Some, refl, sym, ◌∙◌, subst}
+use Rattle.std.proofs.Common.{◌≡◌, Some, refl, sym, ◌∙◌, subst}
 use Rattle.outside.specs.declared.step.WorldStep.TheVariants.{From}
 use Rattle.sim_world.specs.Links.{HasPlace}
 use Rattle.std.specs.Prelude.{slice_get}

@@ -1,4 +1,4 @@
-use Rattle.std.proofs.Common.{◌≡◌, length, sym, ap, ◌∙◌}
+use Rattle.std.proofs.Common.{length, sym, ap, ◌∙◌}
 use Rattle.of_types.specs.declared.journal.TookWhat.{TookWhat}
 use Rattle.sim_world.specs.Scripts.{taken_bytes}
 use Rattle.sim_world.specs.Lives.{life_of_cell}

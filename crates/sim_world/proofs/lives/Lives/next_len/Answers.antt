@@ -1,6 +1,5 @@
-use Rattle.std.proofs.Common.{◌≡◌, ℕ, ◌+◌, ◌-◌, ◌^◌, ◌<◌, length, sym, ap, subst, ◌∙◌}
+use Rattle.std.proofs.Common.{◌-◌, ◌^◌, ◌<◌, length, sym, ap, subst, ◌∙◌}
 use Rattle.sim_world.specs.Scripts.{Life, next_taken, taken_bytes}
-use Rattle.sim_world.specs.Lives.{life_of, is_known}
 use Rattle.sim_world.specs.CellLaws.{seen_life, seen_cell}
 use Rattle.sim_world.proofs.lives.Lives.next_len.Goals as goal
 

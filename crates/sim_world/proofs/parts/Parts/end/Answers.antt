@@ -1,4 +1,4 @@
-use Rattle.std.proofs.Common.{◌≡◌, ◌+◌, ◌≤◌, false, sym, ◌∙◌, arith}
+use Rattle.std.proofs.Common.{◌≡◌, false, sym, ◌∙◌, arith}
 use Rattle.outside.specs.State.{is_running}
 use Rattle.outside.specs.Calls.{end_steps}
 use Rattle.sim_world.specs.DoingLaws.{fewer_run, Moves_none}

@@ -2,8 +2,7 @@ use Rattle.std.proofs.Common.{◌≡◌, ℕ, Bool, not, [], ◌∷◌, length, 
 use Rattle.outside.specs.State.{is_running}
 use Rattle.outside.specs.declared.step.WorldStep.TheVariants.{TookInto}
 use Rattle.sim_world.specs.Tally.{TallyState, tally_stray}
-use Rattle.outside.specs.Calls.{take_steps}
-use Rattle.sim_world.specs.Scripts.{Life, next_taken, IsScripted}
+use Rattle.sim_world.specs.Scripts.{next_taken, IsScripted}
 use Rattle.sim_world.specs.Lives.{took_of}
 use Rattle.sim_world.specs.World.{WorldData, Moves}
 use Rattle.sim_world.specs.WorldLaws.{Moves_ready}

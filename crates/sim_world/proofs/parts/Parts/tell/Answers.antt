@@ -12,7 +12,7 @@ returns c =
     let same = second.1 ∙ first.1 in
     let new = c.tell_idle.new.self in
     Tells_by_idle c.args.self.now new c.tell_message.new.buf c.requires.begun
-      (subst (λ (w : WorldData). Moves w new (Idle ∷ []) w.tally) same c.tell_idle.ensures.moves)
-      first.0
-      (subst (λ (w : WorldData). waiting_in w.state.links ≡ []) first.1 second.0)
-      (c.tell_idle.ensures.links ∙ ap (λ (w : WorldData). w.state.links) same)
+    (subst (λ (w : WorldData). Moves w new (Idle ∷ []) w.tally) same c.tell_idle.ensures.moves)
+    first.0
+    (subst (λ (w : WorldData). waiting_in w.state.links ≡ []) first.1 second.0)
+    (c.tell_idle.ensures.links ∙ ap (λ (w : WorldData). w.state.links) same)
