@@ -1,0 +1,20 @@
+use Rattle.std.proofs.Common.{◌≡◌, ◌∷◌, ◌++◌, [], List, refl, sym, ap, ◌∙◌, ℕ, arith}
+use Rattle.of_types.specs.declared.journal.Act.TheVariants.{Got}
+use Rattle.of_wire.specs.Reading.{reading_of}
+use Rattle.outside.specs.Calls.{receive_steps}
+use Rattle.outside.specs.declared.step.WorldStep.{WorldStep}
+use Rattle.outside.specs.declared.step.WorldStep.TheVariants.{Acted}
+use Rattle.net_txn.proofs.wait.receive.Goals as goal
+
+pub returns-in-Ok-check-clause-told : goal.returns-in-Ok-check-clause-told
+unfolding receive_steps
+returns-in-Ok-check-clause-told g c = λ told. (c.in-Ok.ensures.told told).history
+
+pub returns-in_ok-bytes-in-Err-clause-cause : goal.returns-in_ok-bytes-in-Err-clause-cause
+unfolding receive_steps
+returns-in_ok-bytes-in-Err-clause-cause g c = (
+  refl,
+  rw (c.in_ok-bytes-in-Err.ensures, c.in-Err.ensures) refl,
+  λ told.
+      ([], rw c.in_ok-bytes-in-Err.ensures (c.in-Ok.ensures.told told).history),
+)

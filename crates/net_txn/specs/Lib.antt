@@ -1,0 +1,4 @@
+pub mod Causes
+pub mod CauseLaws
+pub mod Waits
+pub mod WaitLaws
