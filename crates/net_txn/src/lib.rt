@@ -3,7 +3,9 @@
 
 mod fault;
 mod heard;
+mod host;
 mod queue;
+mod rows;
 mod wait;
 
 pub use fault::TxnFault;
