@@ -1,3 +1,4 @@
 pub mod Sizes
 pub mod Echo
 pub mod RowTests
+pub mod Places

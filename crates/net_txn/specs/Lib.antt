@@ -3,3 +3,5 @@ pub mod CauseLaws
 pub mod Waits
 pub mod WaitLaws
 pub mod Host
+pub mod Views
+pub mod ViewLaws

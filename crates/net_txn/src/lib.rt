@@ -6,6 +6,7 @@ mod heard;
 mod host;
 mod queue;
 mod rows;
+mod views;
 mod wait;
 
 pub use fault::TxnFault;

@@ -1,12 +1,14 @@
 //! The rows of a view: which of them a FLOW_MOD means, and where one has its place.
 
-ghost use Rattle.std.specs.Prelude.{◌≡◌, ◌==◌, ◌&&◌, not};
+ghost use Rattle.std.specs.Prelude.{◌≡◌, ◌≢◌, ◌==◌, ◌<◌, ◌&&◌, true, false, not, nat_lt, length, slice_index_or, OnOk, OnErr};
 ghost use Rattle.std.specs.List.{list_any};
 ghost use Rattle.std.specs.Ordering.{nat_cmp};
 ghost use Rattle.of_match.specs.Key.{place};
 ghost use Rattle.match_overlap.specs.Relations.{is_overlapping};
+ghost use Rattle.flow_table.specs.declared.view.ViewRow.{ViewRow};
 ghost use Rattle.flow_table.specs.Change.{is_modify, key_in, is_output_to, describes, sends_to};
 ghost use Rattle.lego_model.specs.Answers.{rows_of_view, would_clash, would_touch};
+ghost use Rattle.net_txn.specs.Views.{with_row, IsRowPlace};
 
 use flow_table::ViewRow;
 use match_overlap::{overlaps, subsumes};
@@ -14,6 +16,7 @@ use of_action::{Action, ActionList};
 use of_match::Key;
 use of_types::{PortNo, flows, ports};
 use of_wire::FlowMod;
+use std::alloc::AllocError;
 use std::cmp::Ordering;
 
 /// How a key stands to another one in key order.
@@ -146,5 +149,48 @@ pub(crate) fn would_touch(m: &FlowMod, rows: &[ViewRow]) -> bool
         has_described(m, rows)
     } else {
         has_deleted(m, rows)
+    }
+}
+
+/// Whether a key stands before another one in key order.
+fn is_before(a: &Key, b: &Key) -> bool
+    ensures { result ≡ nat_lt (place a.now) (place b.now) }
+{
+    compare(a, b) == Ordering::Less
+}
+
+/// Where the row of a key has its place.
+fn place_of(rows: &[ViewRow], key: &Key) -> usize
+    ensures { IsRowPlace (place key.now) rows.now result }
+{
+    for (i, row) in rows.iter().enumerate() {
+        if !is_before(&row.key, key) {
+            return i;
+        }
+    }
+    rows.len()
+}
+
+/// Whether the row of a key stands there.
+fn stands_at(rows: &[ViewRow], at: usize, key: &Key) -> bool
+    ensures within { result ≡ true → at < length rows.now }
+    ensures same { (r : ViewRow) → result ≡ true → place key.now ≡ place (slice_index_or rows.now at r).key }
+    ensures other { (r : ViewRow) → result ≡ false → at < length rows.now → place key.now ≢ place (slice_index_or rows.now at r).key }
+{
+    at < rows.len() && is_same(key, &rows[at].key)
+}
+
+/// Puts a row in its place, in place of one with its key.
+pub(crate) fn put_row(rows: &mut Vec<ViewRow>, row: ViewRow) -> Result<(), AllocError>
+    ensures ok { OnOk result (rows.new.items ≡ with_row row rows.old.items) }
+    ensures err { OnErr result (rows.new.items ≡ rows.old.items) }
+{
+    let at = place_of(rows, &row.key);
+    if stands_at(rows, at, &row.key) {
+        rows[at] = row;
+        Ok(())
+    } else {
+        rows.insert(at, row)?;
+        Ok(())
     }
 }
