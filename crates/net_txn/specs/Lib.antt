@@ -5,3 +5,6 @@ pub mod WaitLaws
 pub mod Host
 pub mod Views
 pub mod ViewLaws
+pub mod Net
+pub mod SentLaws
+pub mod Changes

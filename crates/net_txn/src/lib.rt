@@ -1,13 +1,22 @@
 //! Changes to the flow tables of switches, so that each stands behind a barrier before it is answered, and can be undone.
 #![tactic(auto)]
 
+mod ask;
+mod change;
 mod fault;
 mod heard;
 mod host;
+mod logged;
+mod net;
+mod ports;
+mod prepared;
 mod queue;
 mod rows;
 mod views;
 mod wait;
 
 pub use fault::TxnFault;
+pub use logged::Logged;
+pub use net::Net;
+pub use ports::KnownPorts;
 pub use queue::{EventQueue, MessageQueue};
