@@ -8,3 +8,4 @@ pub mod ViewLaws
 pub mod Net
 pub mod SentLaws
 pub mod Changes
+pub mod ChangeLaws

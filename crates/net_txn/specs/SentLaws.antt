@@ -13,9 +13,9 @@ pub IsMessage-as_sent : (m : Change) → IsMessage (FlowMod m) → IsMessage (as
 unfolding message_size
 IsMessage-as_sent m is = record {
   fields =
-    let f = is.fields in
-    let flags = f.1.1.1.1.1.1.1.0 in
-    (f.0, (f.1.0, (f.1.1.0, (f.1.1.1.0, (f.1.1.1.1.0, (omega arith, (f.1.1.1.1.1.1.0, (omega (arith, flags), tt))))))));
+      let f = is.fields in
+      let flags = f.1.1.1.1.1.1.1.0 in
+      (f.0, (f.1.0, (f.1.1.0, (f.1.1.1.0, (f.1.1.1.1.0, (omega arith, (f.1.1.1.1.1.1.0, (omega (arith, flags), tt))))))));
   tail = is.tail;
   size = is.size;
 }

@@ -58,4 +58,4 @@ with_added None rows = rows
 with_added (Some row) rows = with_row row rows
 
 unfoldable pub rows_after : FlowMod → List ViewRow → List ViewRow
-rows_after m rows = with_added (row_added m) rows
+rows_after m = with_added (row_added m)

@@ -198,3 +198,8 @@ heard_one {Tells = Tells} a {old = old} {mid = mid} {new = new} kept kept1 answe
   told = λ t. told t ∙ ap (λ (s : List WorldStep). s ++ steps_by a.dpid (heard a bytes) bytes) (got t) ∙ append_assoc old.history (Acted (Got a.dpid bytes) ∷ []) (steps_by a.dpid (heard a bytes) bytes);
 }
 heard_one a kept kept1 answer answer1 (Err f) bytes first second read got ends kept_so answer_so told = tt
+
+pub waits_kept : {Own : Type 0} {Tells : Type 0} {a : Awaited} {front : List WorldStep} {old new : Seen Own} {kept kept1 : List (ℕ × List ℕ)} {answer : Option Refusal} → Waits Tells a front old new kept kept1 answer → KeptMore a.dpid kept kept1
+waits_kept {a = a} {kept = kept} w =
+    let more = kept_of_more a w.got in
+    (more.0, w.hears.kept_so ∙ ap (λ (s : List (ℕ × List ℕ)). kept ++ s) more.1)

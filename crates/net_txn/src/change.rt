@@ -34,7 +34,12 @@ fn push_logged(log: &mut Vec<Logged>, entry: Option<Logged>) -> Result<(), Alloc
 
 impl Net {
     /// Sends a change that the switch must judge, and takes its answer.
-    fn make<W: World>(&mut self, world: &mut W, dpid: Dpid, flow: FlowMod) -> Result<Answer, TxnFault>
+    fn make<W: World>(
+        &mut self,
+        world: &mut W,
+        dpid: Dpid,
+        flow: FlowMod,
+    ) -> Result<Answer, TxnFault>
         requires { IsMessage (messages.FlowMod flow) }
         ensures result { MatchResult result (Asked W.Tells dpid flow (W.seen world.old) (W.seen world.new) self.old self.new)
             (λ f. Stopped dpid flow (W.seen world.old) (W.seen world.new) self.old self.new) }
@@ -45,11 +50,7 @@ impl Net {
     {
         let awaited = await_from(dpid, self.xid);
         self.xid = following(awaited.barrier);
-        let Prepared {
-            frame,
-            row,
-            logged,
-        } = prepare(self.alloc, dpid, awaited.first, flow)?;
+        let Prepared { frame, row, logged } = prepare(self.alloc, dpid, awaited.first, flow)?;
         make_room(self.alloc, &mut self.views, dpid)?;
         let before = self.log.len();
         push_logged(&mut self.log, logged)?;
@@ -75,7 +76,12 @@ impl Net {
 
     /// Answers one message of an application for a switch: by the host's own tests, else by the switch behind a
     /// barrier.
-    pub(crate) fn change<W: World>(&mut self, world: &mut W, dpid: Dpid, bytes: &[u8]) -> Result<Answer, TxnFault>
+    pub(crate) fn change<W: World>(
+        &mut self,
+        world: &mut W,
+        dpid: Dpid,
+        bytes: &[u8],
+    ) -> Result<Answer, TxnFault>
         ensures { Changes W.Tells dpid bytes.now (W.seen world.old) (W.seen world.new) self.old self.new result }
     {
         let Some(view) = find(&self.views, dpid) else {

@@ -105,7 +105,12 @@ fn frame_of(alloc: Global, xid: Xid, m: FlowMod) -> Result<ByteList, AllocError>
 }
 
 /// All that a change takes memory for before it is sent.
-pub(crate) fn prepare(alloc: Global, dpid: Dpid, xid: Xid, m: FlowMod) -> Result<Prepared, AllocError>
+pub(crate) fn prepare(
+    alloc: Global,
+    dpid: Dpid,
+    xid: Xid,
+    m: FlowMod,
+) -> Result<Prepared, AllocError>
     requires { IsMessage (messages.FlowMod m) }
     ensures frame { IfOk result (λ p. p.frame ≡ message_bytes xid (as_sent (messages.FlowMod m))) }
     ensures read { IfOk result (λ p. IsOk (reading_of p.frame)) }
@@ -115,9 +120,5 @@ pub(crate) fn prepare(alloc: Global, dpid: Dpid, xid: Xid, m: FlowMod) -> Result
     let row = added(alloc, &m)?;
     let logged = undone(alloc, dpid, &m)?;
     let frame = frame_of(alloc, xid, m)?;
-    Ok(Prepared {
-        frame,
-        row,
-        logged,
-    })
+    Ok(Prepared { frame, row, logged })
 }

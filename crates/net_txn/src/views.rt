@@ -55,7 +55,11 @@ fn put(alloc: Global, rows: &mut ViewList, row: ViewRow) -> Result<(), AllocErro
 }
 
 /// Makes room for one row more in the view of a switch.
-pub(crate) fn make_room(alloc: Global, views: &mut Vec<TableView>, dpid: Dpid) -> Result<(), AllocError>
+pub(crate) fn make_room(
+    alloc: Global,
+    views: &mut Vec<TableView>,
+    dpid: Dpid,
+) -> Result<(), AllocError>
     ensures { views.new.items ≡ views.old.items }
 {
     match position(views, dpid) {
@@ -65,7 +69,12 @@ pub(crate) fn make_room(alloc: Global, views: &mut Vec<TableView>, dpid: Dpid) -
 }
 
 /// Puts a row in the view of a switch.
-fn put_in(alloc: Global, views: &mut Vec<TableView>, dpid: Dpid, row: ViewRow) -> Result<(), AllocError>
+fn put_in(
+    alloc: Global,
+    views: &mut Vec<TableView>,
+    dpid: Dpid,
+    row: ViewRow,
+) -> Result<(), AllocError>
     ensures ok { OnOk result (views.new.items ≡ with_rows dpid (with_row row) views.old.items) }
     ensures err { OnErr result (views.new.items ≡ views.old.items) }
 {
