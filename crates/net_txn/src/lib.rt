@@ -12,6 +12,7 @@ mod ports;
 mod prepared;
 mod queue;
 mod rows;
+mod txn;
 mod views;
 mod wait;
 
@@ -20,3 +21,4 @@ pub use logged::Logged;
 pub use net::Net;
 pub use ports::KnownPorts;
 pub use queue::{EventQueue, MessageQueue};
+pub use txn::Txn;

@@ -1,6 +1,6 @@
 //! The network of the host.
 
-ghost use Rattle.std.specs.Prelude.{◌≡◌, ◌≤◌, [], drop, slice_get, IfOk, OnOk, OnErr};
+ghost use Rattle.std.specs.Prelude.{◌≡◌, ◌≤◌, [], length, take, drop, slice_get, IfOk, OnOk, OnErr};
 ghost use Rattle.net_txn.specs.Net.{next_xid, awaited_from};
 
 use crate::heard::Awaited;
@@ -112,5 +112,26 @@ impl Net {
         ensures err { OnErr result (self.new ≡ self.old) }
     {
         Ok(self.kept.take_first())
+    }
+
+    /// How much is logged.
+    pub(crate) fn logged(&self) -> usize
+        ensures { result ≡ length self.now.log }
+    {
+        self.log.as_slice().len()
+    }
+
+    /// Forgets what was logged from a place on.
+    pub(crate) fn forget(&mut self, from: usize)
+        ensures { self.new ≡ record self.old { log = take from self.old.log } }
+    {
+        self.log.truncate(from);
+    }
+
+    /// No packet that was released.
+    pub(crate) fn none_released(&self) -> Vec<(Dpid, u32)>
+        ensures { result.items ≡ [] }
+    {
+        Vec::new(self.alloc)
     }
 }
