@@ -9,3 +9,8 @@ pub mod Net
 pub mod SentLaws
 pub mod Changes
 pub mod ChangeLaws
+pub mod Agreement
+pub mod RowLaws
+pub mod HeardLaws
+pub mod StepLaws
+pub mod InStepLaws
