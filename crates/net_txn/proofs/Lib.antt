@@ -1,4 +1,2 @@
-pub mod Sizes
-pub mod Echo
 pub mod RowTests
 pub mod Places

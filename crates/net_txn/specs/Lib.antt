@@ -2,6 +2,8 @@ pub mod Causes
 pub mod CauseLaws
 pub mod Waits
 pub mod WaitLaws
+pub mod SizeLaws
+pub mod EchoLaws
 pub mod Host
 pub mod Views
 pub mod ViewLaws
@@ -14,3 +16,5 @@ pub mod RowLaws
 pub mod HeardLaws
 pub mod StepLaws
 pub mod InStepLaws
+pub mod ReachedLaws
+pub mod ConsequenceLaws

@@ -87,7 +87,7 @@ refused_no_reply a e r refused is =
 refused_steps : (a : Awaited) (e : List ℕ) (r : Refusal) → heard a e ≡ Refused r → heard_steps a e ≡ Acted (Got a.dpid e) ∷ []
 refused_steps a e r refused = rw refused refl
 
-got_rest : (a : Awaited) (e : List ℕ) (r : Refusal) (bs : List (List ℕ)) → heard a e ≡ Refused r → wait_steps a (e ∷ bs) ++ reply_got a ∷ [] ≡ Acted (Got a.dpid e) ∷ (wait_steps a bs ++ reply_got a ∷ [])
+pub got_rest : (a : Awaited) (e : List ℕ) (r : Refusal) (bs : List (List ℕ)) → heard a e ≡ Refused r → wait_steps a (e ∷ bs) ++ reply_got a ∷ [] ≡ Acted (Got a.dpid e) ∷ (wait_steps a bs ++ reply_got a ∷ [])
 got_rest a e r bs refused = ap (λ (steps : List WorldStep). (steps ++ wait_steps a bs) ++ reply_got a ∷ []) (refused_steps a e r refused)
 
 -- where an ERROR that is awaited waits before the reply, it alone came
@@ -102,3 +102,8 @@ error_alone declared a e r (b ∷ bs) t waits refused may before =
     let left : waits_of a.dpid (after_step (Acted (Got a.dpid e)) t) ≡ message_bytes a.barrier BarrierReply ∷ [] = waits_of-got a.dpid e t ∙ ap (drop 1) waits in
     let none : bs ≡ [] = reply_alone declared a bs (after_step (Acted (Got a.dpid e)) t) left steps.1 before.1 in
     ap (λ (x : List ℕ). x ∷ bs) is ∙ ap (λ (xs : List (List ℕ)). e ∷ xs) none
+
+-- when all that waited was got, nothing waits
+pub gots_empty : (d : ℕ) (ws : List (List ℕ)) (t : State) → waits_of d t ≡ ws → waits_of d (after_steps (gots d ws) t) ≡ []
+gots_empty d [] t is = is
+gots_empty d (w ∷ ws) t is = gots_empty d ws (after_step (Acted (Got d w)) t) (waits_of-got d w t ∙ ap (drop 1) is)

@@ -2,6 +2,7 @@
 
 ghost use Rattle.std.specs.Prelude.{◌≡◌, [], length, take, IfOk};
 ghost use Rattle.net_txn.specs.Changes.{Changes};
+ghost use Rattle.net_txn.specs.ConsequenceLaws.{Reaches, Steps};
 
 use crate::fault::TxnFault;
 use crate::net::Net;
@@ -44,16 +45,31 @@ impl<'a> Txn<'a> {
 
     /// Answers one message of an application for a switch: by the host's own tests, else by the switch behind a
     /// barrier.
-    pub fn change<W: World>(&mut self, world: &mut W, dpid: Dpid, bytes: &[u8]) -> Result<Answer, TxnFault>
+    pub fn change<W: World>(
+        &mut self,
+        world: &mut W,
+        dpid: Dpid,
+        bytes: &[u8],
+    ) -> Result<Answer, TxnFault>
         ensures same_reference { self.new.net.ghost_name ≡ self.old.net.ghost_name }
         ensures start { self.new.start ≡ self.old.start }
         ensures changes { Changes W.Tells dpid bytes.now (W.seen world.old) (W.seen world.new) self.old.net.now self.new.net.now result }
+
+        // What the switch judged reached it at once.
+        ensures reached { Reaches W.Tells dpid bytes.now (W.seen world.old) (W.seen world.new) self.old.net.now result }
+
+        // Where the world keeps its word, nothing of the switch waited, and view and table agreed, they take the step together.
+        ensures in_step { Steps W.Tells dpid bytes.now (W.seen world.old) (W.seen world.new) self.old.net.now self.new.net.now result }
     {
         self.net.change(world, dpid, bytes)
     }
 
     /// Closes the transaction: its changes stay. Nothing is held back yet, so that no packet is released.
-    pub fn commit<W: World>(self, _world: &mut W, _queue: &mut EventQueue) -> Result<Vec<(Dpid, u32)>, TxnFault>
+    pub fn commit<W: World>(
+        self,
+        _world: &mut W,
+        _queue: &mut EventQueue,
+    ) -> Result<Vec<(Dpid, u32)>, TxnFault>
         ensures released { IfOk result (λ sent. sent.items ≡ []) }
         ensures net { self.exit.0.now ≡ record self.entry.net.now { log = take self.entry.start self.entry.net.now.log } }
         ensures world { W.seen _world.new ≡ W.seen _world.old }

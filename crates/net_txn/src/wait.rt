@@ -65,7 +65,7 @@ pub(crate) fn receive<W: World>(
 }
 
 /// Makes an ECHO_REQUEST its reply.
-#[tactic(auto, using(crate::proofs::Sizes::sizes))]
+#[tactic(auto, using(crate::specs::SizeLaws::sizes))]
 fn make_reply(message: &mut [u8])
     requires bytes { IsBytes message.old }
     requires read { IsOk (reading_of message.old) }
