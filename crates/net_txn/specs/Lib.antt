@@ -9,6 +9,7 @@ pub mod Views
 pub mod ViewLaws
 pub mod Net
 pub mod SentLaws
+pub mod Joining
 pub mod Changes
 pub mod ChangeLaws
 pub mod Agreement

@@ -4,6 +4,7 @@
 mod ask;
 mod change;
 mod fault;
+mod greeting;
 mod heard;
 mod host;
 mod logged;
