@@ -10,6 +10,8 @@ pub mod ViewLaws
 pub mod Net
 pub mod SentLaws
 pub mod Joining
+pub mod JoiningLaws
+pub mod Leaving
 pub mod Changes
 pub mod ChangeLaws
 pub mod Agreement

@@ -7,6 +7,8 @@ mod fault;
 mod greeting;
 mod heard;
 mod host;
+mod joining;
+mod leaving;
 mod logged;
 mod net;
 mod ports;
