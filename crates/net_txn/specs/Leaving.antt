@@ -14,8 +14,11 @@ ports_at d [] = []
 ports_at d (k ∷ ks) = if k.dpid == d then k.ports else ports_at d ks
 
 -- 48 bytes each (OpenFlow 1.0.0, 5.2.1 Port Structures)
+unfoldable pub port_text : PortDesc → List ℕ
+port_text port = spelled (port_fields port)
+
 unfoldable pub ports_text : List PortDesc → List ℕ
-ports_text ports = flat_map (λ port. spelled (port_fields port)) ports
+ports_text ports = flat_map port_text ports
 
 -- nothing of the switch stays
 abbrev pub without : ℕ → NetState → NetState

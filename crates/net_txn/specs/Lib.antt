@@ -12,6 +12,8 @@ pub mod SentLaws
 pub mod Joining
 pub mod JoiningLaws
 pub mod Leaving
+pub mod LeavingLaws
+pub mod Arriving
 pub mod Changes
 pub mod ChangeLaws
 pub mod Agreement

@@ -1,11 +1,9 @@
 //! A switch that leaves.
 
-ghost use Rattle.std.specs.Prelude.{◌≡◌, ◌==◌, ◌++◌, not, filter, drop, IsSome, IfOk, OnOk, OnErr};
-ghost use Rattle.of_types.specs.Layout.{spelled};
-ghost use Rattle.of_wire.specs.Spelling.{port_fields};
+ghost use Rattle.std.specs.Prelude.{◌≡◌, ◌==◌, ◌++◌, not, filter, length, drop, IsSome, IfOk, OnOk, OnErr};
 ghost use Rattle.app_frames.specs.declared.frame.EventKind.TheVariants.{Leave};
 ghost use Rattle.net_txn.specs.Views.{rows_at};
-ghost use Rattle.net_txn.specs.Leaving.{ports_at, ports_text, without};
+ghost use Rattle.net_txn.specs.Leaving.{ports_at, port_text, ports_text, without};
 
 use crate::net::Net;
 use crate::ports::KnownPorts;
@@ -18,7 +16,8 @@ use std::alloc::{AllocError, Global};
 /// A PORT_STATUS of a port, which ends by its 48 bytes.
 #[tactic(auto, unfolding(of_wire::specs::Spelling::message_size))]
 fn described(port: &PortDesc) -> [u8; 64]
-    ensures { drop 16 result ≡ spelled (port_fields port.now) }
+    ensures length { length result ≡ 64 }
+    ensures text { drop 16 result ≡ port_text port.now }
 {
     let status = PortStatus {
         reason: 0,
@@ -31,10 +30,11 @@ fn described(port: &PortDesc) -> [u8; 64]
 
 /// Appends the 48 bytes of a port.
 fn push_port(bytes: &mut Vec<u8>, port: &PortDesc) -> Result<(), AllocError>
-    ensures { OnOk result (bytes.new.items ≡ bytes.old.items ++ spelled (port_fields port.now)) }
+    ensures { OnOk result (bytes.new.items ≡ bytes.old.items ++ port_text port.now) }
 {
     let status = described(port);
-    bytes.extend_from_slice(&status[16..])
+    bytes.extend_from_slice(&status[16..])?;
+    Ok(())
 }
 
 /// The bytes of ports.

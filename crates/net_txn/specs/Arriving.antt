@@ -1,0 +1,82 @@
+-- What the host makes of a message that came of itself: an event, or none; and what it then knows (OpenFlow 1.0.0, 5.4 Asynchronous
+-- Messages and 5.5.2 Echo Request). Which messages are events is our own choice.
+use Rattle.std.specs.Prelude.{◌≡◌, ◌==◌, ℕ, ◌%◌, Bool, true, false, not, ◌&&◌, List, [], ◌∷◌, ◌++◌, filter, Option, Some, None, nat_lt, if◌then◌else◌}
+use Rattle.std.specs.List.{list_any}
+use Rattle.of_types.specs.Fields.{number_bytes}
+use Rattle.of_types.specs.declared.port_desc.PortDesc.{PortDesc}
+use Rattle.of_types.specs.declared.journal.Act.TheVariants.{Sent}
+use Rattle.of_match.specs.declared.key.Key.{Key}
+use Rattle.of_match.specs.Key.{place}
+use Rattle.of_wire.specs.declared.bodies.FlowRemoved.{FlowRemoved as Removed}
+use Rattle.of_wire.specs.declared.bodies.PortStatus.{PortStatus as Status}
+use Rattle.of_wire.specs.declared.message.Message.{Message}
+use Rattle.of_wire.specs.declared.message.Message.TheVariants.{Error, EchoRequest, EchoReply, PacketIn, FlowRemoved, PortStatus}
+
+use Rattle.of_wire.specs.Spelling.{message_bytes}
+use Rattle.flow_table.specs.declared.view.ViewRow.{ViewRow}
+use Rattle.flow_table.specs.declared.view.TableView.{TableView}
+use Rattle.flow_table.specs.Change.{asks_notice}
+use Rattle.app_frames.specs.declared.frame.Event.{Event}
+use Rattle.app_frames.specs.declared.frame.EventKind.{EventKind}
+use Rattle.app_frames.specs.declared.frame.EventKind.TheVariants as kinds
+use Rattle.outside.specs.declared.step.WorldStep.{WorldStep}
+use Rattle.outside.specs.declared.step.WorldStep.TheVariants.{Acted}
+use Rattle.net_txn.specs.declared.ports.KnownPorts.{KnownPorts}
+use Rattle.net_txn.specs.Views.{rows_at, with_rows}
+use Rattle.net_txn.specs.Net.{NetState}
+
+-- ---- Flows that were removed
+
+abbrev pub key_removed : Removed → Key
+key_removed f = record { priority = f.priority; matching = f.matching }
+
+-- the owner of the entry asked for a notice when it goes
+abbrev pub is_asked : Key → Option (List ViewRow) → Bool
+is_asked k None = false
+is_asked k (Some rows) = list_any (λ r. place r.key == place k && asks_notice r.flags) rows
+
+-- A notice with reason DELETE (2) is dropped for now.
+abbrev pub is_told : ℕ → List TableView → Removed → Bool
+is_told d views f = not (f.reason == 2) && is_asked (key_removed f) (rows_at d views)
+
+abbrev pub without_key : Key → List ViewRow → List ViewRow
+without_key k rows = filter (λ r. not (place r.key == place k)) rows
+
+-- ---- Ports that changed: ADD 0, DELETE 1, MODIFY 2
+
+-- a port in its place by number, in place of one with its number
+abbrev pub with_port : PortDesc → List PortDesc → List PortDesc
+with_port p [] = p ∷ []
+with_port p (q ∷ qs) =
+    if nat_lt p.port_no q.port_no then p ∷ q ∷ qs
+    else if p.port_no == q.port_no then p ∷ qs
+    else q ∷ with_port p qs
+
+abbrev pub ports_after : Status → List PortDesc → List PortDesc
+ports_after s ports = if s.reason == 1 then filter (λ p. not (p.port_no == s.port.port_no)) ports else with_port s.port ports
+
+abbrev pub known_after : ℕ → Status → List KnownPorts → List KnownPorts
+known_after d s [] = []
+known_after d s (k ∷ ks) = if k.dpid == d then record k { ports = ports_after s k.ports } ∷ ks else k ∷ known_after d s ks
+
+-- ---- The message
+
+abbrev pub event_from : EventKind → ℕ → Message → Event
+event_from kind d m = record { kind = kind; dpid = d; body = message_bytes 0 m }
+
+abbrev pub event_of : ℕ → List TableView → Message → Option Event
+event_of d views (PacketIn packet) = Some (event_from kinds.PacketIn d (PacketIn packet))
+event_of d views (PortStatus status) = Some (event_from kinds.PortStatus d (PortStatus status))
+event_of d views (Error kind code payload) = Some (record { kind = kinds.SwitchError; dpid = d; body = number_bytes 2 kind ++ number_bytes 2 code })
+event_of d views (FlowRemoved f) = if is_told d views f then Some (event_from kinds.FlowRemoved d (FlowRemoved f)) else None
+event_of d views other = None
+
+abbrev pub net_after : ℕ → Message → NetState → NetState
+net_after d (FlowRemoved f) net = record net { views = with_rows d (without_key (key_removed f)) net.views }
+net_after d (PortStatus status) net = record net { ports = known_after d status net.ports }
+net_after d other net = net
+
+-- an ECHO_REQUEST is answered at once, with its transaction id
+abbrev pub arrival_steps : ℕ → ℕ → Message → List WorldStep
+arrival_steps d xid (EchoRequest payload) = Acted (Sent d (message_bytes xid (EchoReply payload))) ∷ []
+arrival_steps d xid other = []
