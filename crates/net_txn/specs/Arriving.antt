@@ -1,7 +1,8 @@
 -- What the host makes of a message that came of itself: an event, or none; and what it then knows (OpenFlow 1.0.0, 5.4 Asynchronous
 -- Messages and 5.5.2 Echo Request). Which messages are events is our own choice.
-use Rattle.std.specs.Prelude.{◌≡◌, ◌==◌, ℕ, ◌%◌, Bool, true, false, not, ◌&&◌, List, [], ◌∷◌, ◌++◌, filter, Option, Some, None, nat_lt, if◌then◌else◌}
+use Rattle.std.specs.Prelude.{◌≡◌, ◌==◌, ℕ, ◌<◌, ◌≤◌, Bool, true, false, not, ◌&&◌, List, [], ◌∷◌, ◌++◌, filter, Option, Some, None, nat_lt, if◌then◌else◌}
 use Rattle.std.specs.List.{list_any}
+use Rattle.std.proofs.Common.{zero, suc}
 use Rattle.of_types.specs.Fields.{number_bytes}
 use Rattle.of_types.specs.declared.port_desc.PortDesc.{PortDesc}
 use Rattle.of_types.specs.declared.journal.Act.TheVariants.{Sent}
@@ -52,12 +53,28 @@ with_port p (q ∷ qs) =
     else if p.port_no == q.port_no then p ∷ qs
     else q ∷ with_port p qs
 
+-- where the port of a number goes: the ports before it have lower ones
+abbrev pub IsPortPlace : ℕ → List PortDesc → ℕ → Type 0
+IsPortPlace n [] i = i ≡ 0
+IsPortPlace n (p ∷ ps) zero = n ≤ p.port_no
+IsPortPlace n (p ∷ ps) (suc i) = (p.port_no < n) × IsPortPlace n ps i
+
 abbrev pub ports_after : Status → List PortDesc → List PortDesc
 ports_after s ports = if s.reason == 1 then filter (λ p. not (p.port_no == s.port.port_no)) ports else with_port s.port ports
 
 abbrev pub known_after : ℕ → Status → List KnownPorts → List KnownPorts
 known_after d s [] = []
 known_after d s (k ∷ ks) = if k.dpid == d then record k { ports = ports_after s k.ports } ∷ ks else k ∷ known_after d s ks
+
+-- where the known ports of a switch stand, if they stand anywhere
+abbrev pub IsKnownAt : ℕ → List KnownPorts → ℕ → Type 0
+IsKnownAt d [] i = ⊥
+IsKnownAt d (k ∷ ks) zero = k.dpid ≡ d
+IsKnownAt d (k ∷ ks) (suc i) = ((k.dpid == d) ≡ false) × IsKnownAt d ks i
+
+abbrev pub IsNoKnown : ℕ → List KnownPorts → Type 0
+IsNoKnown d [] = Unit {0}
+IsNoKnown d (k ∷ ks) = ((k.dpid == d) ≡ false) × IsNoKnown d ks
 
 -- ---- The message
 

@@ -14,6 +14,8 @@ pub mod JoiningLaws
 pub mod Leaving
 pub mod LeavingLaws
 pub mod Arriving
+pub mod PortLaws
+pub mod KnownLaws
 pub mod Changes
 pub mod ChangeLaws
 pub mod Agreement

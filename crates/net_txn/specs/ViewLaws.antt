@@ -1,7 +1,7 @@
 -- Laws of views: lookup, and where a change stands.
 use Rattle.std.specs.Prelude.{◌≡◌, ◌≢◌, ◌==◌, ℕ, ◌+◌, ◌<◌, ◌≤◌, Bool, true, false, List, [], ◌∷◌, length, drop, Option, Some, None, nat_lt, if◌then◌else◌, refl}
 use Rattle.std.specs.List.{insert}
-use Rattle.std.proofs.Common.{zero, suc, get_or, set, sym, ap, ◌∙◌, eqb, ltb, arith, eq-eqb}
+use Rattle.std.proofs.Common.{zero, suc, get_or, set, sym, ap, ◌∙◌, eqb, ltb, arith, eq-eqb, subst}
 use Rattle.std.proofs.lemmas.Bool.{eqb-true, ne_eqb, lt-ltb, le-ltb}
 use Rattle.of_match.specs.Key.{place}
 use Rattle.flow_table.specs.declared.view.ViewRow.{ViewRow}
@@ -31,6 +31,12 @@ pub with_rows-at : (d : ℕ) (change : List ViewRow → List ViewRow) (vs : List
 with_rows-at d change [] i v is = absurd is
 with_rows-at d change (w ∷ ws) zero v is = rw (eq-eqb _ _ is) refl
 with_rows-at d change (w ∷ ws) (suc i) v is = rw is.0 (ap (λ (rest : List TableView). w ∷ rest) (with_rows-at d change ws i v is.1))
+
+pub with_rows-placed : (d : ℕ) (change : List ViewRow → List ViewRow) (views seen : List TableView) (i : ℕ) (v : TableView) (new : List ViewRow) → seen ≡ views → IsViewAt d seen i → v ≡ get_or views i v → new ≡ change v.rows
+    → set views i (record { dpid = v.dpid; rows = new }) ≡ with_rows d change views
+with_rows-placed d change views seen i v new e is at changed =
+    let there = subst (λ (vs : List TableView). IsViewAt d vs i) e is in
+    rw changed (ap (λ (w : TableView). set views i (record { dpid = w.dpid; rows = change w.rows })) at ∙ sym (with_rows-at d change views i v there))
 
 pub rows_at-at : (d : ℕ) (vs : List TableView) (i : ℕ) (v : TableView) → IsViewAt d vs i → rows_at d vs ≡ Some (get_or vs i v).rows
 rows_at-at d [] i v is = absurd is

@@ -2,9 +2,11 @@
 
 ghost use Rattle.std.specs.Prelude.{◌≡◌, None, Some, MatchOption, OnOk, OnErr};
 ghost use Rattle.net_txn.specs.Views.{rows_at, with_rows, with_row, with_added, IsViewAt};
+ghost use Rattle.net_txn.specs.Arriving.{without_key};
 
-use crate::rows::put_row;
+use crate::rows::{is_same, put_row};
 use flow_table::{TableView, ViewList, ViewRow};
+use of_match::Key;
 use of_types::Dpid;
 use std::alloc::{AllocError, Global};
 use std::mem::replace;
@@ -97,5 +99,30 @@ pub(crate) fn put_added(
     match row {
         None => Ok(()),
         Some(row) => put_in(alloc, views, dpid, row),
+    }
+}
+
+/// Takes the row of a key out.
+fn remove_key(rows: &mut Vec<ViewRow>, key: &Key)
+    ensures { rows.new.items ≡ without_key key.now rows.old.items }
+{
+    rows.retain(|row| !is_same(&row.key, key));
+}
+
+fn remove(alloc: Global, rows: &mut ViewList, key: &Key)
+    ensures { rows.new ≡ without_key key.now rows.old }
+{
+    let mut all = replace(rows, ViewList::new(alloc)).into_vec();
+    remove_key(&mut all, key);
+    *rows = ViewList::from_vec(all);
+}
+
+/// Takes the row of a key out of the view of a switch.
+pub(crate) fn remove_in(alloc: Global, views: &mut Vec<TableView>, dpid: Dpid, key: &Key)
+    ensures { views.new.items ≡ with_rows dpid (without_key key.now) views.old.items }
+{
+    match position(views, dpid) {
+        None => {}
+        Some(at) => remove(alloc, &mut views[at].rows, key),
     }
 }
