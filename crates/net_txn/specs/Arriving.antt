@@ -1,6 +1,6 @@
 -- What the host makes of a message that came of itself: an event, or none; and what it then knows (OpenFlow 1.0.0, 5.4 Asynchronous
 -- Messages and 5.5.2 Echo Request). Which messages are events is our own choice.
-use Rattle.std.specs.Prelude.{◌≡◌, ◌==◌, ℕ, ◌<◌, ◌≤◌, Bool, true, false, not, ◌&&◌, List, [], ◌∷◌, ◌++◌, filter, Option, Some, None, nat_lt, if◌then◌else◌}
+use Rattle.std.specs.Prelude.{◌≡◌, ◌==◌, ℕ, ◌<◌, ◌≤◌, Bool, true, false, not, ◌&&◌, List, [], ◌∷◌, ◌++◌, filter, Option, Some, None, Result, IsErr, IsOkAnd, IfOk, IfErr, OnErr, nat_lt, if◌then◌else◌}
 use Rattle.std.specs.List.{list_any}
 use Rattle.std.proofs.Common.{zero, suc}
 use Rattle.of_types.specs.Fields.{number_bytes}
@@ -12,7 +12,7 @@ use Rattle.of_wire.specs.declared.bodies.FlowRemoved.{FlowRemoved as Removed}
 use Rattle.of_wire.specs.declared.bodies.PortStatus.{PortStatus as Status}
 use Rattle.of_wire.specs.declared.message.Message.{Message}
 use Rattle.of_wire.specs.declared.message.Message.TheVariants.{Error, EchoRequest, EchoReply, PacketIn, FlowRemoved, PortStatus}
-
+use Rattle.of_wire.specs.Reading.{reading_of}
 use Rattle.of_wire.specs.Spelling.{message_bytes}
 use Rattle.flow_table.specs.declared.view.ViewRow.{ViewRow}
 use Rattle.flow_table.specs.declared.view.TableView.{TableView}
@@ -22,6 +22,10 @@ use Rattle.app_frames.specs.declared.frame.EventKind.{EventKind}
 use Rattle.app_frames.specs.declared.frame.EventKind.TheVariants as kinds
 use Rattle.outside.specs.declared.step.WorldStep.{WorldStep}
 use Rattle.outside.specs.declared.step.WorldStep.TheVariants.{Acted}
+use Rattle.outside.specs.Seen.{Seen, Continues}
+use Rattle.lego_io.specs.Count.{Rose}
+use Rattle.net_txn.specs.declared.fault.TxnFault.{TxnFault}
+use Rattle.net_txn.specs.declared.fault.TxnFault.TheVariants.{SwitchFault, SwitchBroke, Diverged, Flooded, NoMemory}
 use Rattle.net_txn.specs.declared.ports.KnownPorts.{KnownPorts}
 use Rattle.net_txn.specs.Views.{rows_at, with_rows}
 use Rattle.net_txn.specs.Net.{NetState}
@@ -97,3 +101,25 @@ net_after d other net = net
 abbrev pub arrival_steps : ℕ → ℕ → Message → List WorldStep
 arrival_steps d xid (EchoRequest payload) = Acted (Sent d (message_bytes xid (EchoReply payload))) ∷ []
 arrival_steps d xid other = []
+
+-- ---- The whole
+
+-- SwitchBroke comes exactly where the frame is no message, unless memory is wanting.
+abbrev pub IsArrivalCause : {Own : Type 0} → ℕ → List ℕ → Seen Own → Seen Own → TxnFault → Type 0
+IsArrivalCause d frame old new (SwitchFault of) = (of ≡ d) × Rose (old.counts.link_faults d) (new.counts.link_faults d)
+IsArrivalCause d frame old new (SwitchBroke of bytes) = (of ≡ d) × (bytes ≡ frame) × IsErr (reading_of frame)
+IsArrivalCause d frame old new (Diverged of sent got) = ⊥
+IsArrivalCause d frame old new (Flooded of n) = ⊥
+IsArrivalCause d frame old new NoMemory = Unit {0}
+
+-- what a message that is read becomes
+pub record Becomes {Own : Type 0} (Tells : Type 0) (d xid : ℕ) (m : Message) (old new : Seen Own) (net now_net : NetState) (event : Option Event) : Type 0 where
+  pub event_so : event ≡ event_of d net.views m
+  pub net_so : now_net ≡ net_after d m net
+  pub told : Tells → new.history ≡ old.history ++ arrival_steps d xid m
+
+pub record Arrives {Own : Type 0} (Tells : Type 0) (d : ℕ) (frame : List ℕ) (old new : Seen Own) (net now_net : NetState) (result : Result (Option Event) TxnFault) : Type 0 where
+  pub continues : Continues Tells old new
+  pub cause : IfErr result (IsArrivalCause d frame old new)
+  pub err : OnErr result (now_net ≡ net)
+  pub read : IfOk result (λ event. IsOkAnd (reading_of frame) (λ e. Becomes Tells d e.xid e.message old new net now_net event))

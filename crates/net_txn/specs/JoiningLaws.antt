@@ -8,7 +8,6 @@ use Rattle.std.proofs.lemmas.List.{drop_all}
 use Rattle.flow_table.specs.declared.view.TableView.{TableView}
 use Rattle.net_txn.specs.Joining.{with_view, IsViewPlace}
 
-
 pub with_view-place : (d : ℕ) (vs : List TableView) (i : ℕ) → IsViewPlace d vs i → insert vs i (record { dpid = d; rows = [] }) ≡ with_view d vs
 with_view-place d [] i is = rw is refl
 with_view-place d (v ∷ vs) zero is = rw (le-ltb v.dpid d is) refl

@@ -20,20 +20,21 @@ use of_wire::{FlowRemoved, Message, PortStatus, encode};
 use std::alloc::{AllocError, Global};
 
 /// The event that tells a message.
-fn event_with(alloc: Global, kind: EventKind, dpid: Dpid, message: &Message) -> Result<Event, AllocError>
+pub(crate) fn event_with(
+    alloc: Global,
+    kind: EventKind,
+    dpid: Dpid,
+    message: &Message,
+) -> Result<Event, AllocError>
     requires { IsMessage message.now }
     ensures { IfOk result (λ e. e ≡ event_from kind dpid message.now) }
 {
     let body = encode(alloc, 0, message)?;
-    Ok(Event {
-        kind,
-        dpid,
-        body,
-    })
+    Ok(Event { kind, dpid, body })
 }
 
 /// The key of a flow that was removed.
-fn removed_key(flow: &FlowRemoved) -> Key
+pub(crate) fn removed_key(flow: &FlowRemoved) -> Key
     ensures { result ≡ key_removed flow.now }
 {
     Key {
@@ -55,7 +56,7 @@ fn has_asking(key: &Key, rows: &[ViewRow]) -> bool
 }
 
 /// Whether the owner of a flow that was removed is told.
-fn tells(views: &[TableView], dpid: Dpid, flow: &FlowRemoved) -> bool
+pub(crate) fn tells(views: &[TableView], dpid: Dpid, flow: &FlowRemoved) -> bool
     ensures { result ≡ is_told dpid views.now flow.now }
 {
     match find(views, dpid) {
@@ -67,7 +68,12 @@ fn tells(views: &[TableView], dpid: Dpid, flow: &FlowRemoved) -> bool
 }
 
 /// The event that tells an error: its kind and its code.
-fn error_event(alloc: Global, dpid: Dpid, kind: u16, code: u16) -> Result<Event, AllocError>
+pub(crate) fn error_event(
+    alloc: Global,
+    dpid: Dpid,
+    kind: u16,
+    code: u16,
+) -> Result<Event, AllocError>
     ensures { IfOk result (λ e. e ≡ record { kind = kinds.SwitchError; dpid = dpid; body = number_bytes 2 kind ++ number_bytes 2 code }) }
 {
     let mut body = [0; 4];
@@ -81,7 +87,12 @@ fn error_event(alloc: Global, dpid: Dpid, kind: u16, code: u16) -> Result<Event,
 }
 
 /// Changes the known ports of a switch as a PORT_STATUS tells.
-fn change_known(alloc: Global, all: &mut Vec<KnownPorts>, dpid: Dpid, status: &PortStatus) -> Result<(), AllocError>
+pub(crate) fn change_known(
+    alloc: Global,
+    all: &mut Vec<KnownPorts>,
+    dpid: Dpid,
+    status: &PortStatus,
+) -> Result<(), AllocError>
     ensures ok { OnOk result (all.new.items ≡ known_after dpid status.now all.old.items) }
     ensures err { OnErr result (all.new.items ≡ all.old.items) }
 {

@@ -95,7 +95,12 @@ fn admit(
 
 impl Net {
     /// A switch joins, with these features: its table is emptied and its configuration set, behind a barrier.
-    pub fn joined<W: World>(&mut self, world: &mut W, dpid: Dpid, features: &FeaturesReply) -> Result<(), TxnFault>
+    pub fn joined<W: World>(
+        &mut self,
+        world: &mut W,
+        dpid: Dpid,
+        features: &FeaturesReply,
+    ) -> Result<(), TxnFault>
         requires { rows_at dpid self.old.views ≡ None }
         ensures joins { OnOk result (Joins W.Tells dpid features.now.ports (W.seen world.old) (W.seen world.new) self.old self.new) }
         ensures err { OnErr result (DoesNotJoin dpid self.old self.new) }

@@ -74,7 +74,11 @@ fn change_ports(ports: &mut Vec<PortDesc>, status: &PortStatus) -> Result<(), Al
 }
 
 /// Changes the ports as a PORT_STATUS tells.
-pub(crate) fn change(alloc: Global, ports: &mut PortList, status: &PortStatus) -> Result<(), AllocError>
+pub(crate) fn change(
+    alloc: Global,
+    ports: &mut PortList,
+    status: &PortStatus,
+) -> Result<(), AllocError>
     ensures ok { OnOk result (ports.new ≡ ports_after status.now ports.old) }
     ensures err { OnErr result (ports.new ≡ ports.old) }
 {

@@ -11,6 +11,5 @@ placed views seen d i e is = with_view-place d views i (subst (λ (vs : List Tab
 pub insert-requires : goal.insert-requires
 insert-requires c = omega (arith, IsViewPlace-le c.args.dpid c.deref.result.now c.place_for-at.result c.place_for-at.ensures, c.deref.ensures.len)
 
-
 pub returns-clause-ok : goal.returns-clause-ok
 returns-clause-ok c = c.in_ok-insert.ensures.items ∙ (rw c.new.ensures (placed _ c.deref.result.now c.args.dpid c.place_for-at.result c.deref.ensures.value c.place_for-at.ensures))
