@@ -13,6 +13,7 @@ pub mod Joining
 pub mod JoiningLaws
 pub mod Leaving
 pub mod LeavingLaws
+pub mod OrderLaws
 pub mod Arriving
 pub mod PortLaws
 pub mod KnownLaws

@@ -10,6 +10,7 @@ mod greeting;
 mod heard;
 mod host;
 mod joining;
+mod laws;
 mod leaving;
 mod logged;
 mod net;
@@ -22,6 +23,7 @@ mod views;
 mod wait;
 
 pub use fault::TxnFault;
+pub use laws::views_stay_in_order;
 pub use logged::Logged;
 pub use net::Net;
 pub use ports::KnownPorts;

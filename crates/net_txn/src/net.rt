@@ -15,6 +15,12 @@ use std::marker::Model;
 /// How many bytes a message has at most.
 const MOST_MESSAGE: usize = 65_535;
 
+/// How many bytes of messages are kept during an undo.
+const UNDO_PLACE: usize = 1_048_576;
+
+/// How many messages the faults of an undo keep: two each, of an undo and of the abort behind it.
+const FAULT_MESSAGES: u8 = 4;
+
 /// What the host keeps of its switches: their tables as the owner sees them, their ports, what undoes the changes of
 /// the open transaction, and the messages that came while something else was awaited.
 #[derive(Drop, Debug)]
@@ -27,10 +33,14 @@ pub struct Net {
     pub(crate) xid: Xid,
     pub(crate) moment: u64,
     pub(crate) kept: MessageQueue,
+    /// The place for the messages that are kept during an undo, which takes no memory.
+    pub(crate) place: Vec<u8>,
+    /// Room for the bytes of two faults of an undo: of each the message that was sent and the one that was got.
+    pub(crate) rooms: Vec<Vec<u8>>,
 }
 
 impl Model for Net {
-    ghost use Rattle.std.specs.Prelude.{◌≡◌, ◌≤◌, vec_len};
+    ghost use Rattle.std.specs.Prelude.{◌≡◌, ◌≤◌, vec_len, vec_capacity};
     ghost use Rattle.net_txn.specs.Net.{NetState};
 
     ghost Value = { NetState };
@@ -44,7 +54,16 @@ impl Model for Net {
       kept = s.kept;
     } };
 
-    ghost invariant = { λ s. (vec_len s.buf ≡ 65535) × (1 ≤ s.xid) };
+    ghost invariant = { λ s. (vec_len s.buf ≡ 65535) × (1 ≤ s.xid) × (1048576 ≤ vec_capacity s.place) };
+}
+
+/// Room for the bytes of two faults.
+fn fault_rooms(alloc: Global) -> Result<Vec<Vec<u8>>, AllocError> {
+    let mut rooms = Vec::new(alloc);
+    for _room in 0..FAULT_MESSAGES {
+        rooms.push(Vec::with_capacity(alloc, MOST_MESSAGE)?)?;
+    }
+    Ok(rooms)
 }
 
 /// The transaction id behind one.
@@ -80,6 +99,8 @@ impl Net {
             xid: 1,
             moment: 0,
             kept: MessageQueue::new(alloc),
+            place: Vec::with_capacity(alloc, UNDO_PLACE)?,
+            rooms: fault_rooms(alloc)?,
         })
     }
 
