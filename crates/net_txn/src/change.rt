@@ -6,7 +6,7 @@ ghost use Rattle.of_wire.specs.Grammar.{IsMessage};
 ghost use Rattle.outside.specs.Seen.{Continues};
 ghost use Rattle.net_txn.specs.Causes.{IsCause};
 ghost use Rattle.net_txn.specs.Changes.{Asked, Stopped, Changes};
-ghost use Rattle.net_txn.specs.ConsequenceLaws.{Reaches, Steps};
+ghost use Rattle.net_txn.specs.Agreement.{Reaches, Steps};
 ghost use Rattle.net_txn.specs.Net.{with_logged};
 
 use crate::ask::ask;

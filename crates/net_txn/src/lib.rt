@@ -27,5 +27,5 @@ pub use laws::views_stay_in_order;
 pub use logged::Logged;
 pub use net::Net;
 pub use ports::KnownPorts;
-pub use queue::{EventQueue, MessageQueue};
+pub use queue::EventQueue;
 pub use txn::Txn;

@@ -2,7 +2,7 @@
 
 ghost use Rattle.std.specs.Prelude.{◌≡◌, [], length, take, IfOk};
 ghost use Rattle.net_txn.specs.Changes.{Changes};
-ghost use Rattle.net_txn.specs.ConsequenceLaws.{Reaches, Steps};
+ghost use Rattle.net_txn.specs.Agreement.{Reaches, Steps};
 
 use crate::fault::TxnFault;
 use crate::net::Net;
