@@ -1,6 +1,6 @@
 -- What follows of a change in a world that tells: it reached its switch at once; and where the world keeps its word, nothing of that
 -- switch waited, and its view agreed with its table, switch and view take the step together. All of this is our own.
-use Rattle.std.specs.Prelude.{◌≡◌, ◌≢◌, ℕ, List, [], ◌++◌, Option, None, Result, Ok, IfSome, IfOk, OnOk}
+use Rattle.std.specs.Prelude.{◌≡◌, ◌≢◌, ℕ, List, [], ◌++◌, None, Result, Ok, IfSome, IfOk, OnOk}
 use Rattle.std.specs.Option.{option_map}
 use Rattle.of_wire.specs.declared.bodies.FlowMod.{FlowMod as Change}
 use Rattle.of_wire.specs.declared.message.Message.{Message}

@@ -1,6 +1,6 @@
 -- What `change` does: the host's own answer with nothing sent, or the switch's answer behind a barrier (OpenFlow 1.0.0, 4.2 Message
 -- Handling and 5.3.7 Barrier Message). What is sent, and that it is logged before, is our own choice.
-use Rattle.std.specs.Prelude.{◌≡◌, ℕ, ◌^◌, ◌<◌, ◌≤◌, List, [], ◌∷◌, Option, Some, None, Result, Ok, Err, IfOk, IfErr, MatchResult, ◌⊎◌}
+use Rattle.std.specs.Prelude.{◌≡◌, ℕ, ◌^◌, ◌<◌, ◌≤◌, List, [], ◌∷◌, Option, Some, None, Result, Ok, IfOk, IfErr, MatchResult, ◌⊎◌}
 use Rattle.std.specs.Option.{option_map}
 use Rattle.of_types.specs.declared.errors.OfError.{OfError}
 use Rattle.of_types.specs.declared.journal.Act.TheVariants.{Sent}

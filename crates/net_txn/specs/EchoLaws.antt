@@ -1,8 +1,8 @@
 -- An ECHO_REQUEST whose type is made that of its reply is the reply, and is read.
-use Rattle.std.proofs.Common.{◌≡◌, ℕ, ◌+◌, ◌*◌, ◌^◌, ◌≤◌, ◌<◌, List, [], ◌∷◌, ◌++◌, length, take, drop, Ok, refl, sym, ap, ◌∙◌, append_assoc, arith}
+use Rattle.std.proofs.Common.{◌≡◌, ℕ, ◌+◌, List, [], ◌∷◌, ◌++◌, length, take, drop, Ok, refl, sym, ap, ◌∙◌, append_assoc, arith}
 use Rattle.std.specs.Prelude.{IsOk}
-use Rattle.std.proofs.lemmas.List.{append-nil, take-append-drop, drop-drop, length-drop, get_or-drop}
-use Rattle.of_types.specs.Fields.{number_at, number_bytes, piece, with_field, IsBytes}
+use Rattle.std.proofs.lemmas.List.{append-nil, take-append-drop, drop-drop, length-drop}
+use Rattle.of_types.specs.Fields.{number_at, number_bytes, with_field, IsBytes}
 use Rattle.of_types.specs.FieldLaws.{number_bytes-number_at, number_at-lt}
 use Rattle.of_wire.specs.declared.message.Message.TheVariants.{EchoReply}
 use Rattle.of_wire.specs.Reading.{reading_of}

@@ -1,11 +1,10 @@
 -- Where a world keeps its word, switch and view take a change together.
-use Rattle.std.specs.Prelude.{◌≡◌, ◌≢◌, ℕ, ◌^◌, ◌<◌, ◌≤◌, Bool, true, false, List, [], ◌∷◌, ◌++◌, length, Option, Some, None, Result, Ok, Err, IfOk, IfSome, refl}
+use Rattle.std.specs.Prelude.{◌≡◌, ◌≢◌, ℕ, ◌^◌, ◌<◌, ◌≤◌, Bool, true, false, List, [], ◌∷◌, ◌++◌, Option, Some, None, Ok, refl}
 use Rattle.std.specs.List.{AllByRecursion}
 use Rattle.std.specs.Option.{option_map}
-use Rattle.std.proofs.Common.{sym, ap, ◌∙◌, subst, inl, inr}
+use Rattle.std.proofs.Common.{sym, ap, ◌∙◌, subst}
 use Rattle.std.proofs.lemmas.List.{append-nil}
 use Rattle.of_types.specs.declared.errors.OfError.{OfError}
-use Rattle.of_types.specs.declared.journal.Act.TheVariants.{Sent, Got}
 use Rattle.of_wire.specs.declared.bodies.FlowMod.{FlowMod as Change}
 use Rattle.of_wire.specs.declared.message.Message.{Message}
 use Rattle.of_wire.specs.declared.message.Message.TheVariants.{FlowMod, BarrierRequest, BarrierReply}
@@ -18,22 +17,20 @@ use Rattle.flow_table.specs.declared.view.TableView.{TableView}
 use Rattle.flow_table.specs.Change.{changed, entries_after}
 use Rattle.flow_table.specs.Table.{TableState}
 use Rattle.flow_table.specs.Switch.{Declared, SwitchState}
-use Rattle.flow_table.specs.Refusals.{or_else, flow_refusal, message_refusal}
+use Rattle.flow_table.specs.Refusals.{or_else, message_refusal}
 use Rattle.flow_table.specs.Step.{after_taken, after_message, sent_by_taken, sent_by_message, error_bytes}
 use Rattle.app_frames.specs.declared.frame.Answer.{Answer}
 use Rattle.lego_model.specs.Answers.{Rows, rows_of_table, rows_of_view, as_sent, would_touch, flow_mod_refused, not_yet, refused_or, host_refusal, host_answer, answer_by, switch_answer}
 use Rattle.outside.specs.declared.step.WorldStep.{WorldStep}
-use Rattle.outside.specs.declared.step.WorldStep.TheVariants.{Acted}
-use Rattle.outside.specs.Seen.{Seen, Continues}
+use Rattle.outside.specs.Seen.{Seen}
 use Rattle.outside.specs.State.{State, after_step, after_steps, state, switch_of, waits_of}
 use Rattle.outside.specs.StateLaws.{state-append, Conforming-rest}
 use Rattle.outside.specs.LinkLaws.{switch_of-sent_other, waits_of-sent_other}
 use Rattle.outside.specs.Conforming.{MaySteps, Conforming}
-use Rattle.net_txn.specs.declared.heard.Awaited.{Awaited}
 use Rattle.net_txn.specs.declared.heard.Refusal.{Refusal}
-use Rattle.net_txn.specs.declared.heard.Heard.TheVariants.{Reply, Refused}
+use Rattle.net_txn.specs.declared.heard.Heard.TheVariants.{Refused}
 use Rattle.net_txn.specs.Waits.{heard, is_reply, kept_of, answer_of, wait_steps, barrier_sent, reply_got}
-use Rattle.net_txn.specs.Views.{rows_at, with_rows, rows_after}
+use Rattle.net_txn.specs.Views.{rows_at, rows_after}
 use Rattle.net_txn.specs.ViewLaws.{rows_at-same, rows_at-other}
 use Rattle.net_txn.specs.Net.{NetState, next_xid, awaited_from}
 use Rattle.net_txn.specs.SentLaws.{reading_of-as_sent}

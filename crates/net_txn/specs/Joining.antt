@@ -18,7 +18,6 @@ use Rattle.outside.specs.declared.step.WorldStep.TheVariants.{Acted}
 use Rattle.outside.specs.Seen.{Seen}
 use Rattle.net_txn.specs.declared.heard.Awaited.{Awaited}
 use Rattle.net_txn.specs.declared.heard.Refusal.{Refusal}
-use Rattle.net_txn.specs.declared.ports.KnownPorts.{KnownPorts}
 use Rattle.net_txn.specs.Waits.{Waits, KeptMore, barrier_sent}
 use Rattle.net_txn.specs.Net.{NetState, next_xid}
 

@@ -1,10 +1,9 @@
 -- What is done when a switch leaves: what the host kept of it goes, and its known ports stand in an event. All of this is our own.
-use Rattle.std.specs.Prelude.{◌≡◌, ◌==◌, ℕ, Bool, not, List, [], ◌∷◌, filter, if◌then◌else◌}
+use Rattle.std.specs.Prelude.{◌==◌, ℕ, not, List, [], ◌∷◌, filter, if◌then◌else◌}
 use Rattle.std.specs.List.{flat_map}
 use Rattle.of_types.specs.Layout.{spelled}
 use Rattle.of_types.specs.declared.port_desc.PortDesc.{PortDesc}
 use Rattle.of_wire.specs.Spelling.{port_fields}
-use Rattle.flow_table.specs.declared.view.TableView.{TableView}
 use Rattle.net_txn.specs.declared.ports.KnownPorts.{KnownPorts}
 use Rattle.net_txn.specs.Net.{NetState}
 

@@ -1,6 +1,6 @@
 -- The bytes of a port are the last ones of a PORT_STATUS.
-use Rattle.std.specs.Prelude.{◌≡◌, ℕ, ◌+◌, ◌-◌, List, [], ◌∷◌, ◌++◌, length, take, drop, replicate, refl}
-use Rattle.std.proofs.Common.{sym, ap, ◌∙◌, append_assoc, length-append, arith}
+use Rattle.std.specs.Prelude.{◌≡◌, ℕ, ◌-◌, List, [], ◌++◌, length, take, drop, replicate}
+use Rattle.std.proofs.Common.{ap, ◌∙◌, append_assoc, length-append, arith}
 use Rattle.std.proofs.lemmas.List.{append-nil, drop_at, take_all, length-drop, length-replicate}
 use Rattle.of_types.specs.Fields.{number_bytes}
 use Rattle.of_types.specs.FieldLaws.{length-number_bytes}

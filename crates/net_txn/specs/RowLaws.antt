@@ -13,7 +13,7 @@ use Rattle.flow_table.specs.declared.view.ViewRow.{ViewRow}
 use Rattle.flow_table.specs.Table.{place_of, with_entry}
 use Rattle.flow_table.specs.Change.{is_modify, is_delete, asks_notice, key_in, describes, sends_to, deletes, adds, new_entry, entries_after, notices_of}
 use Rattle.flow_table.specs.Refusals.{no_buffer}
-use Rattle.lego_model.specs.Answers.{Rows, rows_of_table, rows_of_view, would_clash, would_touch, flow_mod_refused, with_notice}
+use Rattle.lego_model.specs.Answers.{Rows, rows_of_table, rows_of_view, would_touch, flow_mod_refused, with_notice}
 use Rattle.net_txn.specs.Views.{with_row, row_in, rows_after}
 
 -- ---- One row more

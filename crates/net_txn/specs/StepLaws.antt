@@ -1,13 +1,10 @@
 -- What a change, a barrier and the messages that were got make of a world that keeps its word.
-use Rattle.std.specs.Prelude.{◌≡◌, ◌≢◌, ℕ, ◌^◌, ◌<◌, Bool, true, false, List, [], ◌∷◌, ◌++◌, drop, map, Option, Some, None, Result, Ok, IfSome, slice_get, refl}
+use Rattle.std.specs.Prelude.{◌≡◌, ◌≢◌, ℕ, true, false, List, [], ◌∷◌, ◌++◌, drop, map, Some, Ok, slice_get, refl}
 use Rattle.std.specs.List.{AllByRecursion}
 use Rattle.std.proofs.Common.{sym, ap, ◌∙◌, subst}
-use Rattle.std.proofs.lemmas.List.{append-nil}
-use Rattle.of_types.specs.declared.errors.OfError.{OfError}
 use Rattle.of_types.specs.declared.journal.Act.TheVariants.{Sent, Got}
-use Rattle.of_wire.specs.declared.bodies.FlowMod.{FlowMod as Change}
 use Rattle.of_wire.specs.declared.message.Message.{Message}
-use Rattle.of_wire.specs.declared.message.Message.TheVariants.{FlowMod, BarrierRequest, BarrierReply}
+use Rattle.of_wire.specs.declared.message.Message.TheVariants.{BarrierRequest, BarrierReply}
 use Rattle.of_wire.specs.Reading.{reading_of}
 use Rattle.of_wire.specs.Spelling.{message_bytes}
 use Rattle.of_wire.specs.Grammar.{enveloped}
@@ -16,8 +13,8 @@ use Rattle.flow_table.specs.Refusals.{message_refusal}
 use Rattle.flow_table.specs.Step.{after_taken, after_message, sent_by_taken, sent_by_message}
 use Rattle.outside.specs.declared.step.WorldStep.{WorldStep}
 use Rattle.outside.specs.declared.step.WorldStep.TheVariants.{Acted}
-use Rattle.outside.specs.State.{State, after_step, after_steps, switch_of, waits_of, switch_told, message_sends}
-use Rattle.outside.specs.LinkLaws.{switch_of-sent, waits_of-sent, switch_of-sent_other, waits_of-sent_other, switch_of-got, waits_of-got, switch_of-got_other, waits_of-got_other}
+use Rattle.outside.specs.State.{State, after_step, after_steps, switch_of, waits_of}
+use Rattle.outside.specs.LinkLaws.{switch_of-sent, waits_of-sent, switch_of-got, waits_of-got, switch_of-got_other, waits_of-got_other}
 use Rattle.outside.specs.Conforming.{MayStep, MayAct, MaySteps}
 use Rattle.net_txn.specs.declared.heard.Awaited.{Awaited}
 use Rattle.net_txn.specs.declared.heard.Refusal.{Refusal}

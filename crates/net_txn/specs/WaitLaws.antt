@@ -1,6 +1,6 @@
 -- Laws of waits: one message more, the reply, and steps before.
-use Rattle.std.specs.Prelude.{◌≡◌, ◌==◌, ℕ, ◌+◌, ◌≤◌, Bool, true, false, ◌&&◌, if◌then◌else◌, List, [], ◌∷◌, ◌++◌, length, map, Option, Some, None, Result, Ok, Err, IfOk, OnOk, refl}
-use Rattle.std.specs.List.{flat_map, AllByRecursion}
+use Rattle.std.specs.Prelude.{◌≡◌, ◌==◌, ℕ, ◌+◌, ◌≤◌, Bool, true, false, ◌&&◌, if◌then◌else◌, List, [], ◌∷◌, ◌++◌, map, Option, Some, None, Result, Ok, Err, IfOk, OnOk, refl}
+use Rattle.std.specs.List.{AllByRecursion}
 use Rattle.std.specs.Str.{bytes_eq}
 use Rattle.std.proofs.Common.{sym, ap, ◌∙◌, append_assoc, length-append, arith}
 use Rattle.std.proofs.lemmas.Bool.{eqb-true}
@@ -19,7 +19,7 @@ use Rattle.net_txn.specs.declared.heard.Awaited.{Awaited}
 use Rattle.net_txn.specs.declared.heard.Refusal.{Refusal}
 use Rattle.net_txn.specs.declared.heard.Heard.{Heard}
 use Rattle.net_txn.specs.declared.heard.Heard.TheVariants.{Reply, Refused, Notice, Echo, Other}
-use Rattle.net_txn.specs.Waits.{is_awaited, refusal_of, heard, is_reply, kept_by, steps_by, refusal_in, first_of, heard_steps, wait_steps, kept_of, answer_of, Hears, reply_got, Waits, WaitsOn, HearsOne, KeptMore, IsRead}
+use Rattle.net_txn.specs.Waits.{is_awaited, refusal_of, heard, is_reply, kept_by, steps_by, refusal_in, first_of, heard_steps, wait_steps, kept_of, answer_of, reply_got, Waits, WaitsOn, HearsOne, KeptMore, IsRead}
 
 -- ---- The reply
 

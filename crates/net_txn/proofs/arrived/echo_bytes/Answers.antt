@@ -1,4 +1,4 @@
-use Rattle.std.proofs.Common.{◌≡◌, ℕ, List, refl, arith}
+use Rattle.std.proofs.Common.{ℕ, List, refl, arith}
 use Rattle.std.proofs.lemmas.Result.{IfOk-weaker}
 use Rattle.of_wire.specs.declared.message.Message.TheVariants.{EchoRequest, EchoReply}
 use Rattle.of_wire.specs.Spelling.{message_size}

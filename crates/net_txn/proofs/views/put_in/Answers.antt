@@ -1,8 +1,6 @@
-use Rattle.std.proofs.Common.{◌≡◌, ℕ, List, get_or, set, sym, ap, ◌∙◌, subst, arith}
+use Rattle.std.proofs.Common.{sym, arith}
 use Rattle.std.proofs.lemmas.Result.{on_ok_weaker}
-use Rattle.flow_table.specs.declared.view.ViewRow.{ViewRow}
-use Rattle.flow_table.specs.declared.view.TableView.{TableView}
-use Rattle.net_txn.specs.Views.{with_rows, with_row, IsViewAt}
+use Rattle.net_txn.specs.Views.{with_row}
 use Rattle.net_txn.specs.ViewLaws.{with_rows-none, with_rows-placed, IsViewAt-within}
 use Rattle.net_txn.proofs.views.put_in.Goals as goal
 

@@ -1,4 +1,4 @@
-use Rattle.std.proofs.Common.{◌≡◌, sym, ap, ◌∙◌}
+use Rattle.std.proofs.Common.{◌≡◌, ap, ◌∙◌}
 use Rattle.net_txn.specs.Net.{NetState}
 use Rattle.net_txn.specs.ChangeLaws.{Changes-by_host, Changes-by_switch, host_unknown, host_knows}
 use Rattle.net_txn.specs.ConsequenceLaws.{Changes-reaches, Changes-steps}
