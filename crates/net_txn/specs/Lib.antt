@@ -26,3 +26,5 @@ pub mod StepLaws
 pub mod InStepLaws
 pub mod ReachedLaws
 pub mod ConsequenceLaws
+pub mod Asks
+pub mod AskLaws

@@ -4,6 +4,7 @@
 mod arrived;
 mod arriving;
 mod ask;
+mod asking;
 mod change;
 mod fault;
 mod greeting;
@@ -17,6 +18,7 @@ mod net;
 mod ports;
 mod prepared;
 mod queue;
+mod replies;
 mod rows;
 mod txn;
 mod views;
