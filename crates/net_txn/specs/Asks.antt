@@ -7,7 +7,6 @@ use Rattle.of_types.specs.Layout.{spelled}
 use Rattle.of_types.specs.declared.journal.Act.TheVariants.{Sent}
 use Rattle.of_match.specs.Fields.{bytes_of, any_fields}
 use Rattle.of_match.specs.Match.{match_of}
-use Rattle.of_wire.specs.declared.bodies.Stats.{Stats as StatsBody}
 use Rattle.of_wire.specs.declared.message.Message.TheVariants.{StatsRequest, BarrierReply}
 use Rattle.of_wire.specs.Spelling.{message_bytes}
 use Rattle.of_wire.specs.Stats.{flow_query_fields}

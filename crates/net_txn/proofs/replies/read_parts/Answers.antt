@@ -1,4 +1,4 @@
-use Rattle.std.proofs.Common.{◌≡◌, ℕ, List, Result, Err, inl, ap, subst, ◌∙◌}
+use Rattle.std.proofs.Common.{ℕ, List, Result, Err, inl, ap, subst, ◌∙◌}
 use Rattle.of_stats.specs.declared.fault.StatsFault.{StatsFault}
 use Rattle.of_stats.specs.Parts.{IsFirstBad}
 use Rattle.net_txn.specs.Asks.{all_parts}
