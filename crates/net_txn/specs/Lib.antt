@@ -28,3 +28,6 @@ pub mod ReachedLaws
 pub mod ConsequenceLaws
 pub mod Asks
 pub mod AskLaws
+pub mod AskSteps
+pub mod ReplyLaws
+pub mod AskStepLaws

@@ -6,6 +6,7 @@ ghost use Rattle.outside.specs.Calls.{most_message};
 ghost use Rattle.net_txn.specs.Views.{rows_at};
 ghost use Rattle.net_txn.specs.Net.{next_xid};
 ghost use Rattle.net_txn.specs.Asks.{all_flows, flows_request, asked_from, Asks};
+ghost use Rattle.net_txn.specs.AskSteps.{AskSteps};
 
 use crate::ask::ask;
 use crate::fault::TxnFault;
@@ -92,6 +93,9 @@ impl Net {
     pub fn rows<W: World>(&mut self, world: &mut W, dpid: Dpid) -> Result<RowList, TxnFault>
         requires { IsSome (rows_at dpid self.old.views) }
         ensures asks { Asks W.Tells dpid self.old.xid (W.seen world.old) (W.seen world.new) self.old.kept self.new.kept result }
+
+        // Where the world keeps its word and nothing of the switch waited, the rows are the switch's own, and all else stays.
+        ensures in_step { AskSteps W.Tells dpid (W.seen world.old) (W.seen world.new) self.old.kept self.new.kept result }
 
         // Views, ports, log and moment stay.
         ensures stays { self.new ≡ record self.old { xid = next_xid (next_xid self.old.xid); kept = self.new.kept } }
