@@ -1,5 +1,5 @@
 -- Where a world keeps its word, a switch that is asked for its rows tells them, and all stays as it was.
-use Rattle.std.specs.Prelude.{◌≡◌, ◌≢◌, ℕ, ◌^◌, ◌<◌, true, false, List, [], ◌∷◌, ◌++◌, length, drop, map, Some, None, Result, Ok, Err, MatchResult, refl}
+use Rattle.std.specs.Prelude.{◌≡◌, ◌≢◌, ℕ, ◌^◌, ◌<◌, false, List, [], ◌∷◌, ◌++◌, length, drop, map, Some, None, Result, Ok, Err, MatchResult, refl}
 use Rattle.std.specs.List.{AllByRecursion, concat, flat_map}
 use Rattle.std.proofs.Common.{sym, ap, ◌∙◌, subst, arith}
 use Rattle.std.proofs.lemmas.List.{append-nil}
@@ -9,16 +9,14 @@ use Rattle.of_match.specs.declared.fields.Fields.{Fields}
 use Rattle.of_match.specs.Fields.{bytes_of, any_fields}
 use Rattle.of_match.specs.Match.{match_of, fields_in}
 use Rattle.of_wire.specs.declared.bodies.Stats.{Stats as StatsBody}
-use Rattle.of_wire.specs.declared.message.Message.{Message}
 use Rattle.of_wire.specs.declared.message.Message.TheVariants.{StatsRequest, BarrierRequest, BarrierReply}
-use Rattle.of_wire.specs.Reading.{reading_of}
 use Rattle.of_wire.specs.Spelling.{message_size, message_bytes}
 use Rattle.of_wire.specs.Stats.{flow_query_fields}
-use Rattle.of_wire.specs.Grammar.{IsMessage, enveloped}
+use Rattle.of_wire.specs.Grammar.{IsMessage}
 use Rattle.of_wire.specs.ReadingLaws.{reading_of-message_bytes}
 use Rattle.of_stats.specs.declared.flow_row.FlowRow.{FlowRow}
 use Rattle.of_stats.specs.declared.fault.StatsFault.{StatsFault}
-use Rattle.of_stats.specs.Flows.{row_bytes, rows_bytes, AreRows}
+use Rattle.of_stats.specs.Flows.{row_bytes, rows_bytes}
 use Rattle.of_stats.specs.Reading.{rows_of}
 use Rattle.of_stats.specs.FlowLaws.{rows_of-spelled, SpellRows-rows_bytes}
 use Rattle.of_stats.specs.Parts.{Part, joined}
@@ -41,9 +39,9 @@ use Rattle.net_txn.specs.Net.{next_xid}
 use Rattle.net_txn.specs.Waits.{heard, is_reply, heard_steps, wait_steps, kept_of, barrier_sent, reply_got}
 use Rattle.net_txn.specs.HeardLaws.{IsMessage-barrier, next_xid-lt, heard-reply}
 use Rattle.net_txn.specs.StepLaws.{told_switch, told_waits, barrier_sends, barrier_stays, gots, gots_switch, gots_other, gots_other_waits, gots_empty, first_got, reply_alone}
-use Rattle.net_txn.specs.Asks.{all_flows, flows_request, request_sent, asked_from, is_about, parts_in, others_in, part_of, all_parts, GivesRows, IsAskCause}
+use Rattle.net_txn.specs.Asks.{all_flows, flows_request, request_sent, asked_from, parts_in, others_in, all_parts, GivesRows, IsAskCause}
 use Rattle.net_txn.specs.AskSteps.{own_rows, RowsInStep, AskSteps}
-use Rattle.net_txn.specs.ReplyLaws.{IsSmallPart, IsPartOf, IsPartOf-part_bytes, heard_part, about_part, small_parts, joined_parts}
+use Rattle.net_txn.specs.ReplyLaws.{IsSmallPart, IsPartOf-part_bytes, heard_part, about_part, small_parts, joined_parts}
 
 abbrev of_switch : ℕ → List ℕ → ℕ × List ℕ
 of_switch d b = (d, b)

@@ -1,8 +1,8 @@
 -- Laws of the parts that a switch sends for a request of its flows: what each is to a wait, and what they say together.
-use Rattle.std.specs.Prelude.{◌≡◌, ◌==◌, ℕ, ◌+◌, ◌^◌, ◌<◌, ◌≤◌, Bool, true, false, nat_le, List, [], ◌∷◌, ◌++◌, length, map, if◌then◌else◌, refl}
-use Rattle.std.specs.List.{AllByRecursion, concat, flat_map}
+use Rattle.std.specs.Prelude.{◌≡◌, ◌==◌, ℕ, ◌+◌, ◌^◌, ◌<◌, ◌≤◌, true, false, nat_le, List, [], ◌∷◌, ◌++◌, length, refl}
+use Rattle.std.specs.List.{AllByRecursion, concat}
 use Rattle.std.specs.Str.{bytes_eq}
-use Rattle.std.proofs.Common.{inl, inr, sym, ap, ◌∙◌, append_assoc, arith}
+use Rattle.std.proofs.Common.{inl, inr, ap, ◌∙◌, append_assoc, arith}
 use Rattle.std.proofs.lemmas.Bool.{cases_Bool, le-leb, eqb-false}
 use Rattle.std.proofs.lemmas.List.{append-nil, length-append}
 use Rattle.std.proofs.lemmas.Slice.Eq.{bytes_eq-Decides}
@@ -10,7 +10,7 @@ use Rattle.of_types.specs.Fields.{number_bytes, number_at}
 use Rattle.of_types.specs.FieldLaws.{length-number_bytes}
 use Rattle.of_types.specs.Layout.{number, spelled}
 use Rattle.of_types.specs.LayoutLaws.{IsLaidOut-spelled, length-spelled}
-use Rattle.of_wire.specs.declared.message.Message.TheVariants.{BarrierReply, StatsReply}
+use Rattle.of_wire.specs.declared.message.Message.TheVariants.{BarrierReply}
 use Rattle.of_wire.specs.Spelling.{message_size, body_bytes, message_bytes}
 use Rattle.of_wire.specs.SpellingLaws.{SpellMessage-message_bytes}
 use Rattle.of_stats.specs.Parts.{Part, room, joined}
