@@ -1,13 +1,21 @@
 -- Where a world keeps its word, a switch that is asked for its rows tells them, and all stays as it was.
-use Rattle.std.specs.Prelude.{◌≡◌, ◌≢◌, ℕ, ◌^◌, ◌<◌, false, List, [], ◌∷◌, ◌++◌, length, drop, map, Some, None, Result, Ok, Err, MatchResult, refl}
+use Rattle.std.specs.Prelude.{◌≡◌, ◌≢◌, ℕ, ◌^◌, ◌<◌, false, List, [], ◌∷◌, ◌++◌, length, drop, map, Some, None, Result, Ok, Err, MatchResult, refl, filter, true}
 use Rattle.std.specs.List.{AllByRecursion, concat, flat_map}
 use Rattle.std.proofs.Common.{sym, ap, ◌∙◌, subst, arith}
 use Rattle.std.proofs.lemmas.List.{append-nil}
 use Rattle.of_types.specs.declared.journal.Act.TheVariants.{Got}
-use Rattle.of_types.specs.LayoutLaws.{length-spelled}
+use Rattle.of_types.specs.LayoutLaws.{length-spelled, IsLaidOut-spelled}
 use Rattle.of_match.specs.declared.fields.Fields.{Fields}
-use Rattle.of_match.specs.Fields.{bytes_of, any_fields}
+use Rattle.of_match.specs.Fields.{bytes_of, any_fields, IsFields}
 use Rattle.of_match.specs.Match.{match_of, fields_in}
+use Rattle.of_types.specs.Fields.{number_at, piece}
+use Rattle.of_types.specs.Layout.{Field, spelled, AreFields, IsLaidOut}
+use Rattle.of_match.specs.MatchLaws.{fields_in-match_of-bytes_of, match_of-bytes_of}
+use Rattle.of_match.specs.declared.flow_match.Match.{Match}
+use Rattle.match_overlap.specs.Fieldwise.{fields_subsume}
+use Rattle.match_overlap.specs.Relations.{is_subsuming}
+use Rattle.flow_table.specs.Change.{sends_to}
+use Rattle.flow_table.specs.Rows.{is_selected}
 use Rattle.of_wire.specs.declared.bodies.Stats.{Stats as StatsBody}
 use Rattle.of_wire.specs.declared.message.Message.TheVariants.{StatsRequest, BarrierRequest, BarrierReply}
 use Rattle.of_wire.specs.Spelling.{message_size, message_bytes}
@@ -52,10 +60,46 @@ length-match : (f : Fields) → length (bytes_of f) ≡ 40
 unfolding bytes_of
 length-match f = refl
 
+-- ---- The request selects each entry: any match subsumes each one, and NONE stands for no output.
+
+abbrev any_match : Match
+any_match = match_of (bytes_of any_fields)
+
+any_subsumes : (f : Fields) → fields_subsume any_fields f ≡ true
+unfolding fields_subsume
+any_subsumes f = refl
+
+IsFields-any : IsFields any_fields
+IsFields-any = record { in_port = tt; dl_src = tt; dl_dst = tt; dl_vlan = tt; dl_vlan_pcp = tt; dl_type = tt; nw_tos = tt; nw_proto = tt; nw_src = tt; nw_dst = tt; tp_src = tt; tp_dst = tt }
+
+selects : (e : Entry) → is_selected any_match 0xffff e ≡ true
+unfolding is_selected is_subsuming sends_to
+selects e = rw (fields_in-match_of-bytes_of any_fields IsFields-any, any_subsumes (fields_in e.key.matching)) refl
+
+all_selected : (es : List Entry) → filter (is_selected any_match 0xffff) es ≡ es
+all_selected [] = refl
+all_selected (e ∷ es) = rw (selects e) (ap (λ (fs : List Entry). e ∷ fs) (all_selected es))
+
+abbrev query_fields : List Field
+query_fields = flow_query_fields (record { matching = any_match; table_id = 0xff; out_port = 0xffff })
+
+query_fit : AreFields query_fields
+query_fit = (length-match (fields_in any_match), (omega arith, (omega arith, tt)))
+
 length-all_flows : length all_flows ≡ 44
 unfolding all_flows
 length-all_flows =
-    length-spelled (flow_query_fields (record { matching = match_of (bytes_of any_fields); table_id = 0xff; out_port = 0xffff })) (length-match (fields_in (match_of (bytes_of any_fields))), (omega arith, (omega arith, tt)))
+    length-spelled query_fields query_fit
+
+query_laid : IsLaidOut 0 query_fields [] all_flows
+unfolding all_flows
+query_laid = subst (λ (b : List ℕ). IsLaidOut 0 query_fields [] b) (append-nil (spelled query_fields)) (IsLaidOut-spelled 0 query_fields [] [] refl query_fit)
+
+selected_all : (s : SwitchState) → selected_by all_flows s ≡ s.table.entries
+unfolding selected_by
+selected_all s =
+    let matching : match_of (piece 40 0 all_flows) ≡ any_match = ap match_of query_laid.0 ∙ match_of-bytes_of any_match in
+    rw (query_laid.1.0, query_laid.1.1.0, matching) (all_selected s.table.entries)
 
 abbrev asking : StatsBody
 asking = record { kind = 1; flags = 0; body = all_flows }
@@ -92,7 +136,7 @@ concat_rows moment (e ∷ es) = ap (λ (b : List ℕ). row_bytes (flow_row momen
 
 joined_own : (s : SwitchState) → joined (own_parts s) ≡ rows_bytes (own_rows s)
 unfolding parts_of flow_rows
-joined_own s = joined_parts 1 [] (flow_rows all_flows s) ∙ concat_rows s.moment (selected_by all_flows s)
+joined_own s = joined_parts 1 [] (flow_rows all_flows s) ∙ concat_rows s.moment (selected_by all_flows s) ∙ ap (λ (es : List Entry). rows_bytes (map (flow_row s.moment) es)) (selected_all s)
 
 -- ---- Before the messages that were got: the request and the barrier were sent.
 
@@ -104,7 +148,6 @@ record Asking (d xid : ℕ) (s : SwitchState) (before after : State) : Type 0 wh
 
 abbrev after_both : ℕ → ℕ → State → State
 after_both d xid t = after_step (barrier_sent (asked_from d xid)) (after_step (request_sent d xid) t)
-
 
 both_sent : (d xid : ℕ) (s : SwitchState) (t : State) → xid < 2 ^ 32 → switch_of d t ≡ Some s → waits_of d t ≡ [] → Asking d xid s t (after_both d xid t)
 both_sent d xid s t small is none =

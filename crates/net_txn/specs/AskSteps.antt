@@ -4,16 +4,15 @@ use Rattle.of_stats.specs.declared.flow_row.FlowRow.{FlowRow}
 use Rattle.of_stats.specs.Flows.{rows_bytes, AreRows}
 use Rattle.of_stats.specs.Reading.{rows_of}
 use Rattle.flow_table.specs.Switch.{SwitchState}
-use Rattle.flow_table.specs.Statistics.{selected_by, flow_row}
+use Rattle.flow_table.specs.Statistics.{flow_row}
 use Rattle.outside.specs.Seen.{Seen}
 use Rattle.outside.specs.State.{state, switch_of, waits_of}
 use Rattle.outside.specs.Conforming.{Conforming}
 use Rattle.net_txn.specs.declared.fault.TxnFault.{TxnFault}
-use Rattle.net_txn.specs.Asks.{all_flows}
 
--- the switch's own rows, in key order
+-- the switch's own rows: one for each entry of its table, in key order
 abbrev pub own_rows : SwitchState → List FlowRow
-own_rows s = map (flow_row s.moment) (selected_by all_flows s)
+own_rows s = map (flow_row s.moment) s.table.entries
 
 -- The rows are those that the bytes of the switch's own rows spell, and the same where these have a spelling; nothing of the switch
 -- waits, no switch moves, and nothing is kept.
