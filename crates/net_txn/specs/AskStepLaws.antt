@@ -8,7 +8,7 @@ use Rattle.of_types.specs.LayoutLaws.{length-spelled, IsLaidOut-spelled}
 use Rattle.of_match.specs.declared.fields.Fields.{Fields}
 use Rattle.of_match.specs.Fields.{bytes_of, any_fields, IsFields}
 use Rattle.of_match.specs.Match.{match_of, fields_in}
-use Rattle.of_types.specs.Fields.{number_at, piece}
+use Rattle.of_types.specs.Fields.{piece}
 use Rattle.of_types.specs.Layout.{Field, spelled, AreFields, IsLaidOut}
 use Rattle.of_match.specs.MatchLaws.{fields_in-match_of-bytes_of, match_of-bytes_of}
 use Rattle.of_match.specs.declared.flow_match.Match.{Match}
