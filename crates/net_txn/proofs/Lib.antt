@@ -1,0 +1,2 @@
+pub mod RowTests
+pub mod Places

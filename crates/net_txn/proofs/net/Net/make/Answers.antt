@@ -1,0 +1,53 @@
+use Rattle.std.proofs.Common.{◌≡◌, ◌≤◌, ◌<◌, ◌^◌, None, Some, refl, ap, ◌∙◌, inl, inr, arith}
+use Rattle.std.proofs.lemmas.Result.{err_from_is_err_and}
+use Rattle.net_txn.specs.declared.heard.Awaited.{Awaited}
+use Rattle.net_txn.specs.Views.{rows_after}
+use Rattle.net_txn.specs.Net.{NetState, next_xid, awaited_from}
+use Rattle.net_txn.specs.WaitLaws.{waits_kept}
+use Rattle.net_txn.specs.ChangeLaws.{sent_waits, kept_for, same_log, same_views, log_cut}
+use Rattle.net_txn.proofs.net.Net.make.Goals as goal
+
+pub returns-in_err-put_added-in-None-clause-result : goal.returns-in_err-put_added-in-None-clause-result
+returns-in_err-put_added-in-None-clause-result g c =
+    let p = err_from_is_err_and c.from_residual-in_err-put_added-in-None.result c.from_residual-in_err-put_added-in-None.ensures.1 in
+    let v = c.self.view_is in
+    rw p.1 (inr (record {
+      views = inl (c.in_err-put_added-in-None.ensures.err ∙ c.make_room.ensures ∙ ap (λ (n : NetState). n.views) v);
+      log = c.in_ok-push_logged.ensures.ok ∙ same_log _ _ _ _ c.in_ok-frame.ensures.logged (ap (λ (n : NetState). n.log) v);
+      kept = kept_for c.args.dpid c.await_from-awaited.result.dpid _ c.args.self.now.kept c.ask.new.kept (ap (λ (a : Awaited). a.dpid) c.await_from-awaited.ensures) (ap (λ (n : NetState). n.kept) v) (waits_kept c.in_ok-refusal.ensures.ok);
+    }))
+
+pub returns-in-None-clause-result : goal.returns-in-None-clause-result
+unfolding rows_after
+returns-in-None-clause-result g c =
+    let v = c.self.view_is in
+    let a : c.await_from-awaited.result ≡ awaited_from c.args.dpid c.args.self.now.xid = c.await_from-awaited.ensures ∙ ap (λ (n : NetState). awaited_from c.args.dpid n.xid) v in
+    let is_xid : (1 ≤ c.args.self.now.xid) × (c.args.self.now.xid < 2 ^ 32) = rw (← ap (λ (n : NetState). n.xid) v) (c.self.invariant.1, omega arith) in
+    record {
+      message = c.requires;
+      is_xid = is_xid;
+      refusal = None;
+      waits = sent_waits c.args.dpid c.args.flow c.args.self.now c.await_from-awaited.result c.as_slice.result.now _ c.ask.new.kept (g.W.World.seen c.args.world.now) (g.W.World.seen c.ask.new.world) None
+          a (c.as_slice.ensures ∙ c.in_ok-frame.ensures.frame) (ap (λ (n : NetState). n.kept) v) (rw c.in-None.is at c.in_ok-refusal.ensures.ok);
+      answer_so = refl;
+      views = c.in_ok-put_added-in-None.ensures.ok ∙ same_views c.args.dpid _ _ _ _ c.in_ok-frame.ensures.row (c.make_room.ensures ∙ ap (λ (n : NetState). n.views) v);
+      log = c.in_ok-push_logged.ensures.ok ∙ same_log _ _ _ _ c.in_ok-frame.ensures.logged (ap (λ (n : NetState). n.log) v);
+      xid = c.following-self-inside.ensures.next ∙ ap (λ (x : Awaited). next_xid x.barrier) a;
+    }
+
+pub returns-clause-result : goal.returns-clause-result
+returns-clause-result g c =
+    let v = c.self.view_is in
+    let a : c.await_from-awaited.result ≡ awaited_from c.args.dpid c.args.self.now.xid = c.await_from-awaited.ensures ∙ ap (λ (n : NetState). awaited_from c.args.dpid n.xid) v in
+    let is_xid : (1 ≤ c.args.self.now.xid) × (c.args.self.now.xid < 2 ^ 32) = rw (← ap (λ (n : NetState). n.xid) v) (c.self.invariant.1, omega arith) in
+    record {
+      message = c.requires;
+      is_xid = is_xid;
+      refusal = Some c.in-Some.refusal;
+      waits = sent_waits c.args.dpid c.args.flow c.args.self.now c.await_from-awaited.result c.as_slice.result.now _ c.ask.new.kept (g.W.World.seen c.args.world.now) (g.W.World.seen c.ask.new.world) (Some c.in-Some.refusal)
+          a (c.as_slice.ensures ∙ c.in_ok-frame.ensures.frame) (ap (λ (n : NetState). n.kept) v) (rw c.in-Some.is at c.in_ok-refusal.ensures.ok);
+      answer_so = refl;
+      views = c.make_room.ensures ∙ ap (λ (n : NetState). n.views) v;
+      log = c.truncate.ensures.items ∙ log_cut _ c.self.inside.log.items _ c.len-before.result (c.len-before.ensures ∙ c.self.inside.log.ok.0) c.in_ok-push_logged.ensures.ok ∙ ap (λ (n : NetState). n.log) v;
+      xid = c.following-self-inside.ensures.next ∙ ap (λ (x : Awaited). next_xid x.barrier) a;
+    }

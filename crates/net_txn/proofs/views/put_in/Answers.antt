@@ -1,0 +1,15 @@
+use Rattle.std.proofs.Common.{sym, arith}
+use Rattle.std.proofs.lemmas.Result.{on_ok_weaker}
+use Rattle.net_txn.specs.Views.{with_row}
+use Rattle.net_txn.specs.ViewLaws.{with_rows-none, with_rows-placed, IsViewAt-within}
+use Rattle.net_txn.proofs.views.put_in.Goals as goal
+
+pub index_mut-requires : goal.index_mut-requires
+index_mut-requires c = omega (arith, IsViewAt-within c.args.dpid c.deref.result.now c.in-Some.at c.in-Some.ensures, c.deref.ensures.len)
+
+pub returns-in-None-clause-ok : goal.returns-in-None-clause-ok
+returns-in-None-clause-ok c = sym (with_rows-none c.args.dpid (with_row c.args.row) _ (rw c.deref.ensures.value at c.in-None.ensures))
+
+pub returns-in-Some-clause-ok : goal.returns-in-Some-clause-ok
+returns-in-Some-clause-ok c =
+    on_ok_weaker c.put.result (λ put. with_rows-placed c.args.dpid (with_row c.args.row) _ c.deref.result.now c.in-Some.at c.index_mut.result.now c.put.new.rows c.deref.ensures.value c.in-Some.ensures c.index_mut.ensures.value put) c.put.ensures.ok

@@ -1,0 +1,18 @@
+use Rattle.std.proofs.Common.{take}
+use Rattle.of_types.specs.FieldLaws.{IsBytes-take}
+use Rattle.net_txn.specs.CauseLaws.{cause_later}
+use Rattle.net_txn.specs.WaitLaws.{heard_one}
+use Rattle.net_txn.proofs.wait.hear.Goals as goal
+
+pub returns-clause-ok : goal.returns-clause-ok
+returns-clause-ok g c =
+    let e = c.treat.ensures in
+    heard_one c.args.awaited.now c.args.kept.now c.treat.new.kept c.args.answer.now c.treat.new.answer c.treat.result (take c.in_ok-len.len c.receive.new.buf)
+    c.in_ok-len.ensures.continues e.continues (IsBytes-take c.in_ok-len.len c.receive.new.buf c.in_ok-len.ensures.bytes, c.in_ok-len.ensures.read) c.in_ok-len.ensures.told e.ends e.kept e.answer e.told
+
+pub returns-clause-cause : goal.returns-clause-cause
+returns-clause-cause g c =
+    cause_later c.args.awaited.now.dpid (g.W.World.seen c.args.world.now) (g.W.World.seen c.receive.new.world) (g.W.World.seen c.treat.new.world) c.treat.result c.in_ok-len.ensures.continues c.treat.ensures.cause
+
+pub treat-requires-clause-bytes : goal.treat-requires-clause-bytes
+treat-requires-clause-bytes g c = IsBytes-take c.in_ok-len.len c.receive.new.buf c.in_ok-len.ensures.bytes

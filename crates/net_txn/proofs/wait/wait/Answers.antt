@@ -1,0 +1,28 @@
+use Rattle.std.proofs.Common.{◌∙◌, arith}
+use Rattle.std.proofs.lemmas.Result.{err_from_is_err_and}
+use Rattle.net_txn.specs.CauseLaws.{IsCause-later}
+use Rattle.net_txn.specs.WaitLaws.{none_yet, one_more, ended, kept_so_far}
+use Rattle.net_txn.proofs.wait.wait.Goals as goal
+
+pub loop-heard-init : goal.loop-heard-init
+loop-heard-init g c = none_yet c.args.awaited.now (g.W.World.seen c.args.world.now) c.args.kept.now
+
+pub returns-in_err-hear-clause-cause : goal.returns-in_err-hear-clause-cause
+returns-in_err-hear-clause-cause g c =
+    let p = err_from_is_err_and c.from_residual.result c.from_residual.ensures.1 in
+    rw (p.1, p.2) (IsCause-later c.args.awaited.now.dpid (g.W.World.seen c.args.world.now) (g.W.World.seen c.loop-heard.world) (g.W.World.seen c.hear.new.world) c.in_err-hear.field-0.0 c.loop-heard.invariant.hears.continues c.in_err-hear.ensures.cause)
+
+pub returns-in_err-hear-clause-kept : goal.returns-in_err-hear-clause-kept
+returns-in_err-hear-clause-kept g c =
+    let p = err_from_is_err_and c.from_residual.result c.from_residual.ensures.1 in
+    let k = kept_so_far c.loop-heard.invariant in
+    rw p.1 (k.0, c.in_err-hear.ensures.kept ∙ k.1)
+
+pub returns-then-branch-clause-ok : goal.returns-then-branch-clause-ok
+returns-then-branch-clause-ok g c = ended c.loop-heard.invariant (omega arith) (rw c.if-branch.true at c.in_ok-hear.ensures.ok)
+
+pub loop-heard-preserved : goal.loop-heard-preserved
+loop-heard-preserved g c = one_more c.loop-heard.invariant (rw c.if-branch.false at c.in_ok-hear.ensures.ok)
+
+pub returns-clause-kept : goal.returns-clause-kept
+returns-clause-kept g c = kept_so_far c.loop-heard.invariant

@@ -1,0 +1,110 @@
+-- Laws of changes: how the pieces of one make the whole.
+use Rattle.std.specs.Prelude.{◌≡◌, ℕ, List, [], ◌∷◌, Option, Some, None, Result, Ok, Err, MatchResult, IfErr, length, take, refl}
+use Rattle.std.proofs.Common.{sym, ap, ◌∙◌, subst, arith}
+use Rattle.std.proofs.lemmas.List.{take_all, take_at}
+use Rattle.of_types.specs.declared.journal.Act.TheVariants.{Sent}
+use Rattle.of_wire.specs.declared.bodies.FlowMod.{FlowMod as Change}
+use Rattle.of_wire.specs.declared.message.Message.{Message}
+use Rattle.of_wire.specs.declared.message.Message.TheVariants.{FlowMod}
+use Rattle.of_wire.specs.declared.message.Envelope.{Envelope}
+use Rattle.of_wire.specs.declared.fault.WireFault.{WireFault}
+use Rattle.of_wire.specs.Reading.{reading_of}
+use Rattle.of_wire.specs.Spelling.{message_bytes}
+use Rattle.of_wire.specs.Grammar.{enveloped}
+use Rattle.app_frames.specs.declared.frame.Answer.{Answer}
+use Rattle.app_frames.specs.declared.frame.Answer.TheVariants.{Unknown}
+use Rattle.lego_model.specs.Answers.{rows_of_view, as_sent, host_answer_read, host_answer}
+use Rattle.outside.specs.declared.step.WorldStep.TheVariants.{Acted}
+use Rattle.outside.specs.Seen.{Seen, Continues}
+use Rattle.outside.specs.SeenLaws.{Continues-refl}
+use Rattle.net_txn.specs.declared.fault.TxnFault.{TxnFault}
+use Rattle.net_txn.specs.declared.heard.Awaited.{Awaited}
+use Rattle.net_txn.specs.declared.heard.Refusal.{Refusal}
+use Rattle.net_txn.specs.Causes.{IsCause}
+use Rattle.flow_table.specs.declared.view.ViewRow.{ViewRow}
+use Rattle.flow_table.specs.declared.view.TableView.{TableView}
+use Rattle.net_txn.specs.declared.logged.Logged.{Logged}
+use Rattle.net_txn.specs.Waits.{Waits, KeptMore, barrier_sent}
+use Rattle.net_txn.specs.Views.{rows_at, with_rows, with_added}
+use Rattle.net_txn.specs.Net.{NetState, awaited_from, with_logged}
+use Rattle.net_txn.specs.Changes.{answer_of_host, change_sent, Asked, Stopped, Changes}
+
+pub sent_waits : {Own : Type 0} {Tells : Type 0} (d : ℕ) (m : Change) (net : NetState) (a : Awaited) (frame : List ℕ) (kept now_kept : List (ℕ × List ℕ)) (old new : Seen Own) (refusal : Option Refusal)
+    → a ≡ awaited_from d net.xid → frame ≡ message_bytes a.first (as_sent (FlowMod m)) → kept ≡ net.kept
+    → Waits Tells a (Acted (Sent a.dpid frame) ∷ barrier_sent a ∷ []) old new kept now_kept refusal
+    → Waits Tells (awaited_from d net.xid) (change_sent d net.xid m ∷ barrier_sent (awaited_from d net.xid) ∷ []) old new net.kept now_kept refusal
+sent_waits {Tells = Tells} d m net a frame kept now_kept old new refusal is spelled same w =
+    let here = awaited_from d net.xid in
+    let first : frame ≡ message_bytes net.xid (as_sent (FlowMod m)) = spelled ∙ ap (λ (x : Awaited). message_bytes x.first (as_sent (FlowMod m))) is in
+    let w1 = subst (λ (x : Awaited). Waits Tells x (Acted (Sent x.dpid frame) ∷ barrier_sent x ∷ []) old new kept now_kept refusal) is w in
+    let w2 = subst (λ (b : List ℕ). Waits Tells here (Acted (Sent d b) ∷ barrier_sent here ∷ []) old new kept now_kept refusal) first w1 in
+    subst (λ (k : List (ℕ × List ℕ)). Waits Tells here (change_sent d net.xid m ∷ barrier_sent here ∷ []) old new k now_kept refusal) same w2
+
+no_answer : (answer : Answer) → Some answer ≡ None → ⊥
+no_answer answer e = cc
+
+abbrev some_rows : List ViewRow → Option (List ViewRow)
+some_rows rows = Some rows
+
+abbrev read_as : ℕ → Change → Result Envelope WireFault
+read_as xid m = Ok (enveloped xid (FlowMod m))
+
+abbrev message_in : Result Envelope WireFault → Option Message
+message_in (Ok envelope) = Some envelope.message
+message_in (Err fault) = None
+
+same_change : (x y : ℕ) (m n : Change) → read_as x m ≡ read_as y n → m ≡ n
+same_change x y m n e = let f : Some (FlowMod m) ≡ Some (FlowMod n) = ap message_in e in cc
+
+some_is : (a b : Answer) → Some a ≡ Some b → a ≡ b
+some_is a b e = cc
+
+-- the host answers, with nothing sent
+pub Changes-by_host : {Own : Type 0} {Tells : Type 0} (d : ℕ) (bytes : List ℕ) (seen : Seen Own) (net : NetState) (answer : Answer) → answer_of_host d bytes net ≡ Some answer → Changes Tells d bytes seen seen net net (Ok answer)
+Changes-by_host {Tells = Tells} d bytes seen net answer is = record {
+  continues = Continues-refl Tells seen;
+  cause = tt;
+  ports = refl;
+  moment = refl;
+  by_host = λ other h. record { answers = some_is answer other (sym is ∙ h); fault = tt; world = refl; stays = refl };
+  by_switch = λ xid m none read. absurd (no_answer answer (sym is ∙ none));
+}
+
+pub kept_for : (d e : ℕ) (before kept now_kept : List (ℕ × List ℕ)) → e ≡ d → before ≡ kept → KeptMore e before now_kept → KeptMore d kept now_kept
+kept_for d e before kept now_kept is same more =
+    subst (λ (k : List (ℕ × List ℕ)). KeptMore d k now_kept) same (subst (λ (x : ℕ). KeptMore x before now_kept) is more)
+
+pub same_log : (a b : Option Logged) (before log : List Logged) → a ≡ b → before ≡ log → with_logged a before ≡ with_logged b log
+same_log a b before log is same = ap (λ (o : Option Logged). with_logged o before) is ∙ ap (with_logged b) same
+
+pub log_cut : (a : Option Logged) (log all : List Logged) (n : ℕ) → n ≡ length log → all ≡ with_logged a log → take n all ≡ log
+log_cut None log all n is longer = rw (longer, is) (take_all (length log) log (omega arith))
+log_cut (Some entry) log all n is longer = rw longer (take_at log (entry ∷ []) n (sym is))
+
+pub same_views : (d : ℕ) (a b : Option ViewRow) (before views : List TableView) → a ≡ b → before ≡ views → with_rows d (with_added a) before ≡ with_rows d (with_added b) views
+same_views d a b before views is same = ap (λ (o : Option ViewRow). with_rows d (with_added o) before) is ∙ ap (with_rows d (with_added b)) same
+
+-- ---- What the host makes of it
+
+pub host_unknown : (d : ℕ) (bytes : List ℕ) (net : NetState) (views : List TableView) → views ≡ net.views → rows_at d views ≡ None → answer_of_host d bytes net ≡ Some Unknown
+unfolding host_answer
+host_unknown d bytes net views same none = let here : rows_at d net.views ≡ None = ap (λ (vs : List TableView). rows_at d vs) (sym same) ∙ none in rw here refl
+
+pub host_knows : (d : ℕ) (bytes : List ℕ) (net : NetState) (views : List TableView) (rows seen : List ViewRow) → views ≡ net.views → rows_at d views ≡ Some rows → seen ≡ rows
+    → answer_of_host d bytes net ≡ host_answer_read (rows_of_view seen) (reading_of bytes)
+unfolding host_answer
+host_knows d bytes net views rows seen same known is =
+    let here : rows_at d net.views ≡ Some seen = ap (λ (vs : List TableView). rows_at d vs) (sym same) ∙ known ∙ ap (λ (rs : List ViewRow). some_rows rs) (sym is) in
+    rw here refl
+
+pub Changes-by_switch : {Own : Type 0} {Tells : Type 0} (d : ℕ) (bytes : List ℕ) (old new : Seen Own) (net now_net : NetState) (result : Result Answer TxnFault) (xid : ℕ) (m : Change)
+    → answer_of_host d bytes net ≡ None → reading_of bytes ≡ Ok (enveloped xid (FlowMod m)) → MatchResult result (Asked Tells d m old new net now_net) (λ f. Stopped d m old new net now_net)
+    → Continues Tells old new → IfErr result (IsCause Tells d old new) → now_net.ports ≡ net.ports → now_net.moment ≡ net.moment → Changes Tells d bytes old new net now_net result
+Changes-by_switch {Tells = Tells} d bytes old new net now_net result xid m none read does continues cause ports moment = record {
+  continues = continues;
+  cause = cause;
+  ports = ports;
+  moment = moment;
+  by_host = λ answer h. absurd (no_answer answer (sym h ∙ none));
+  by_switch = λ other n _ again. subst (λ (x : Change). MatchResult result (Asked Tells d x old new net now_net) (λ f. Stopped d x old new net now_net)) (same_change xid other m n (sym read ∙ again)) does;
+}

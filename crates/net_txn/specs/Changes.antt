@@ -1,0 +1,102 @@
+-- What `change` does: the host's own answer with nothing sent, or the switch's answer behind a barrier (OpenFlow 1.0.0, 4.2 Message
+-- Handling and 5.3.7 Barrier Message). What is sent, and that it is logged before, is our own choice.
+use Rattle.std.specs.Prelude.{◌≡◌, ℕ, ◌^◌, ◌<◌, ◌≤◌, List, [], ◌∷◌, Option, Some, None, Result, Ok, IfOk, IfErr, MatchResult, ◌⊎◌}
+use Rattle.std.specs.Option.{option_map}
+use Rattle.of_types.specs.declared.errors.OfError.{OfError}
+use Rattle.of_types.specs.declared.journal.Act.TheVariants.{Sent}
+use Rattle.of_wire.specs.declared.bodies.FlowMod.{FlowMod as Change}
+use Rattle.of_wire.specs.declared.message.Message.TheVariants.{FlowMod}
+use Rattle.of_wire.specs.Reading.{reading_of}
+use Rattle.of_wire.specs.Spelling.{message_bytes}
+use Rattle.of_wire.specs.Grammar.{IsMessage, enveloped}
+use Rattle.flow_table.specs.declared.view.TableView.{TableView}
+use Rattle.app_frames.specs.declared.frame.Answer.{Answer}
+use Rattle.lego_model.specs.Answers.{Rows, rows_of_view, as_sent, host_answer, answer_by}
+use Rattle.outside.specs.declared.step.WorldStep.{WorldStep}
+use Rattle.outside.specs.declared.step.WorldStep.TheVariants.{Acted}
+use Rattle.outside.specs.Seen.{Seen, Continues}
+use Rattle.net_txn.specs.declared.fault.TxnFault.{TxnFault}
+use Rattle.net_txn.specs.declared.fault.TxnFault.TheVariants.{NoMemory}
+use Rattle.net_txn.specs.declared.heard.Refusal.{Refusal}
+use Rattle.net_txn.specs.declared.logged.Logged.{Logged}
+use Rattle.net_txn.specs.Causes.{IsCause}
+use Rattle.net_txn.specs.Waits.{Waits, KeptMore, barrier_sent}
+use Rattle.net_txn.specs.Views.{rows_at, with_rows, rows_after}
+use Rattle.net_txn.specs.Net.{NetState, next_xid, awaited_from, logged_by, with_logged}
+
+-- ---- What the host knows of a switch
+
+-- the keys and actions of its view, while it is joined
+abbrev pub known_rows : ℕ → List TableView → Option Rows
+known_rows d views = option_map rows_of_view (rows_at d views)
+
+-- the host's own answer to bytes for a switch, where it has one
+abbrev pub answer_of_host : ℕ → List ℕ → NetState → Option Answer
+answer_of_host d bytes net = host_answer (known_rows d net.views) bytes
+
+-- ---- What the switch judged
+
+abbrev pub error_in : Option Refusal → Option OfError
+error_in refusal = option_map (λ r. r.error) refusal
+
+-- the views after a change that was refused or not
+abbrev pub views_by : Option Refusal → ℕ → Change → List TableView → List TableView
+views_by None d m views = with_rows d (rows_after m) views
+views_by (Some refusal) d m views = views
+
+abbrev pub log_by : Option Refusal → ℕ → Change → List Logged → List Logged
+log_by None d m log = with_logged (logged_by d m) log
+log_by (Some refusal) d m log = log
+
+abbrev pub change_sent : ℕ → ℕ → Change → WorldStep
+change_sent d xid m = Acted (Sent d (message_bytes xid (as_sent (FlowMod m))))
+
+-- The change was sent, then a barrier, and its reply was awaited; the answer is the first refusal that came before it, or Fine. The
+-- view and the log move where it was not refused.
+pub record Asked {Own : Type 0} (Tells : Type 0) (d : ℕ) (m : Change) (old new : Seen Own) (net now_net : NetState) (answer : Answer) : Type 0 where
+  -- what is sent is a message with a transaction id
+  pub message : IsMessage (FlowMod m)
+  pub is_xid : (1 ≤ net.xid) × (net.xid < 2 ^ 32)
+  pub refusal : Option Refusal
+  pub waits : Waits Tells (awaited_from d net.xid) (change_sent d net.xid m ∷ barrier_sent (awaited_from d net.xid) ∷ []) old new net.kept now_net.kept refusal
+  pub answer_so : answer ≡ answer_by (error_in refusal)
+  pub views : now_net.views ≡ views_by refusal d m net.views
+  pub log : now_net.log ≡ log_by refusal d m net.log
+  pub xid : now_net.xid ≡ next_xid (next_xid net.xid)
+
+-- ---- Faults
+
+-- before anything was sent: no call of the world was made
+pub record Unsent {Own : Type 0} (old new : Seen Own) (net now_net : NetState) : Type 0 where
+  pub world : new ≡ old
+  pub views : now_net.views ≡ net.views
+  pub log : now_net.log ≡ net.log
+  pub kept : now_net.kept ≡ net.kept
+
+-- since the change may have been sent: it is logged, and the view moved so or not at all
+pub record CutOff (d : ℕ) (m : Change) (net now_net : NetState) : Type 0 where
+  pub views : (now_net.views ≡ net.views) ⊎ (now_net.views ≡ with_rows d (rows_after m) net.views)
+  pub log : now_net.log ≡ with_logged (logged_by d m) net.log
+  pub kept : KeptMore d net.kept now_net.kept
+
+abbrev pub Stopped : {Own : Type 0} → ℕ → Change → Seen Own → Seen Own → NetState → NetState → Type 0
+Stopped d m old new net now_net = Unsent old new net now_net ⊎ CutOff d m net now_net
+
+-- ---- The whole
+
+-- the host answered: no call of the world was made, and nothing moved; memory may have been wanting
+pub record ByHost {Own : Type 0} (answer : Answer) (old new : Seen Own) (net now_net : NetState) (result : Result Answer TxnFault) : Type 0 where
+  pub answers : IfOk result (λ a. a ≡ answer)
+  pub fault : IfErr result (λ f. f ≡ NoMemory)
+  pub world : new ≡ old
+  pub stays : now_net ≡ net
+
+-- Ports and moment stay, and each fault has its cause. The host's own answer is exactly that; else the switch answers.
+pub record Changes {Own : Type 0} (Tells : Type 0) (d : ℕ) (bytes : List ℕ) (old new : Seen Own) (net now_net : NetState) (result : Result Answer TxnFault) : Type 0 where
+  pub continues : Continues Tells old new
+  pub cause : IfErr result (IsCause Tells d old new)
+  pub ports : now_net.ports ≡ net.ports
+  pub moment : now_net.moment ≡ net.moment
+  pub by_host : (answer : Answer) → answer_of_host d bytes net ≡ Some answer → ByHost answer old new net now_net result
+  pub by_switch : (xid : ℕ) (m : Change) → answer_of_host d bytes net ≡ None → reading_of bytes ≡ Ok (enveloped xid (FlowMod m))
+      → MatchResult result (Asked Tells d m old new net now_net) (λ f. Stopped d m old new net now_net)

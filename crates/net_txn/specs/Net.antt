@@ -1,0 +1,58 @@
+-- What the host keeps of its network: the views of the joined switches and their known ports, by switch ascending; what undoes the
+-- changes of the open transaction, newest last; the transaction id that is used next; the moment; and the messages that came while
+-- something else was awaited. All of this is our own.
+use Rattle.std.specs.Prelude.{◌==◌, ℕ, ◌+◌, List, [], ◌∷◌, ◌++◌, Option, Some, None, if◌then◌else◌}
+use Rattle.of_match.specs.declared.key.Key.{Key}
+use Rattle.of_wire.specs.declared.bodies.FlowMod.{FlowMod as Change}
+use Rattle.of_wire.specs.declared.message.Message.TheVariants.{FlowMod}
+use Rattle.of_wire.specs.Spelling.{message_bytes}
+use Rattle.flow_table.specs.declared.view.TableView.{TableView}
+use Rattle.flow_table.specs.Change.{key_in, is_delete}
+use Rattle.flow_table.specs.Refusals.{no_buffer}
+use Rattle.net_txn.specs.declared.heard.Awaited.{Awaited}
+use Rattle.net_txn.specs.declared.logged.Logged.{Logged}
+use Rattle.net_txn.specs.declared.ports.KnownPorts.{KnownPorts}
+
+pub record NetState : Type 0 where
+  pub views : List TableView
+  pub ports : List KnownPorts
+  pub log : List Logged
+  pub xid : ℕ
+  pub moment : ℕ
+  pub kept : List (ℕ × List ℕ)
+
+-- ---- Transaction ids: 1, 2, .., and behind the last one 1 again
+
+abbrev pub next_xid : ℕ → ℕ
+next_xid xid = if xid == 4294967295 then 1 else xid + 1
+
+-- what is awaited where one message was sent with this id, and then a barrier
+abbrev pub awaited_from : ℕ → ℕ → Awaited
+awaited_from d xid = record { dpid = d; first = xid; barrier = next_xid xid }
+
+-- ---- What undoes an addition: DELETE_STRICT of its key, whatever its outputs (OpenFlow 1.0.0, 5.3.3 Modify State Messages)
+
+abbrev pub delete_strict : Key → Change
+delete_strict k = record {
+  matching = k.matching;
+  cookie = 0;
+  command = 4;
+  idle = 0;
+  hard = 0;
+  priority = k.priority;
+  buffer_id = no_buffer;
+  out_port = 0xffff;
+  flags = 0;
+  actions = [];
+}
+
+abbrev pub logged_at : ℕ → Key → Logged
+logged_at d k = record { dpid = d; key = k; inverse = message_bytes 0 (FlowMod (delete_strict k)) }
+
+-- what a change that touches no row logs
+abbrev pub logged_by : ℕ → Change → Option Logged
+logged_by d m = if is_delete m then None else Some (logged_at d (key_in m))
+
+abbrev pub with_logged : Option Logged → List Logged → List Logged
+with_logged None log = log
+with_logged (Some entry) log = log ++ entry ∷ []

@@ -1,0 +1,105 @@
+-- Laws of views: lookup, and where a change stands.
+use Rattle.std.specs.Prelude.{◌≡◌, ◌≢◌, ◌==◌, ℕ, ◌<◌, ◌≤◌, Bool, true, false, List, [], ◌∷◌, length, Option, Some, None, if◌then◌else◌, refl}
+use Rattle.std.specs.List.{insert}
+use Rattle.std.proofs.Common.{zero, suc, get_or, set, sym, ap, ◌∙◌, eqb, ltb, arith, eq-eqb, subst}
+use Rattle.std.proofs.lemmas.Bool.{eqb-true, ne_eqb, lt-ltb, le-ltb}
+use Rattle.of_match.specs.Key.{place}
+use Rattle.flow_table.specs.declared.view.ViewRow.{ViewRow}
+use Rattle.flow_table.specs.declared.view.TableView.{TableView}
+use Rattle.net_txn.specs.Views.{rows_at, with_rows, IsViewAt, with_row, IsRowPlace}
+
+-- ---- Views
+
+none_at : (d : ℕ) (change : List ViewRow → List ViewRow) (v : TableView) (vs : List TableView) (here : Bool) → (rows_at d vs ≡ None → with_rows d change vs ≡ vs) → (if here then Some v.rows else rows_at d vs) ≡ None
+    → (if here then record v { rows = change v.rows } ∷ vs else v ∷ with_rows d change vs) ≡ v ∷ vs
+none_at d change v vs true rest none = absurd cc
+none_at d change v vs false rest none = ap (λ (others : List TableView). v ∷ others) (rest none)
+
+pub with_rows-none : (d : ℕ) (change : List ViewRow → List ViewRow) (vs : List TableView) → rows_at d vs ≡ None → with_rows d change vs ≡ vs
+with_rows-none d change [] none = refl
+with_rows-none d change (v ∷ vs) none = none_at d change v vs (v.dpid == d) (with_rows-none d change vs) none
+
+kept_at : (d : ℕ) (v : TableView) (vs : List TableView) (here : Bool) → with_rows d (λ rows. rows) vs ≡ vs → (if here then v ∷ vs else v ∷ with_rows d (λ rows. rows) vs) ≡ v ∷ vs
+kept_at d v vs true rest = refl
+kept_at d v vs false rest = ap (λ (others : List TableView). v ∷ others) rest
+
+pub with_rows-kept : (d : ℕ) (vs : List TableView) → with_rows d (λ rows. rows) vs ≡ vs
+with_rows-kept d [] = refl
+with_rows-kept d (v ∷ vs) = kept_at d v vs (v.dpid == d) (with_rows-kept d vs)
+
+pub with_rows-at : (d : ℕ) (change : List ViewRow → List ViewRow) (vs : List TableView) (i : ℕ) (v : TableView) → IsViewAt d vs i → with_rows d change vs ≡ set vs i (record (get_or vs i v) { rows = change (get_or vs i v).rows })
+with_rows-at d change [] i v is = absurd is
+with_rows-at d change (w ∷ ws) zero v is = rw (eq-eqb _ _ is) refl
+with_rows-at d change (w ∷ ws) (suc i) v is = rw is.0 (ap (λ (rest : List TableView). w ∷ rest) (with_rows-at d change ws i v is.1))
+
+pub with_rows-placed : (d : ℕ) (change : List ViewRow → List ViewRow) (views seen : List TableView) (i : ℕ) (v : TableView) (new : List ViewRow) → seen ≡ views → IsViewAt d seen i → v ≡ get_or views i v → new ≡ change v.rows
+    → set views i (record { dpid = v.dpid; rows = new }) ≡ with_rows d change views
+with_rows-placed d change views seen i v new e is at changed =
+    let there = subst (λ (vs : List TableView). IsViewAt d vs i) e is in
+    rw changed (ap (λ (w : TableView). set views i (record { dpid = w.dpid; rows = change w.rows })) at ∙ sym (with_rows-at d change views i v there))
+
+pub rows_at-at : (d : ℕ) (vs : List TableView) (i : ℕ) (v : TableView) → IsViewAt d vs i → rows_at d vs ≡ Some (get_or vs i v).rows
+rows_at-at d [] i v is = absurd is
+rows_at-at d (w ∷ ws) zero v is = rw (eq-eqb _ _ is) refl
+rows_at-at d (w ∷ ws) (suc i) v is = rw is.0 (rows_at-at d ws i v is.1)
+
+pub IsViewAt-within : (d : ℕ) (vs : List TableView) (i : ℕ) → IsViewAt d vs i → i < length vs
+IsViewAt-within d [] i is = absurd is
+IsViewAt-within d (w ∷ ws) zero is = omega arith
+IsViewAt-within d (w ∷ ws) (suc i) is = omega (arith, IsViewAt-within d ws i is.1)
+
+same_rows : (xs ys : List ViewRow) → Some xs ≡ Some ys → xs ≡ ys
+same_rows xs ys e = cc
+
+same_at : (d : ℕ) (change : List ViewRow → List ViewRow) (v : TableView) (vs : List TableView) (rows : List ViewRow) (here : Bool) → (v.dpid == d) ≡ here → (rows_at d vs ≡ Some rows → rows_at d (with_rows d change vs) ≡ Some (change rows))
+    → (if here then Some v.rows else rows_at d vs) ≡ Some rows → rows_at d (if here then record v { rows = change v.rows } ∷ vs else v ∷ with_rows d change vs) ≡ Some (change rows)
+same_at d change v vs rows true e rest is = rw e (ap (λ (xs : List ViewRow). Some (change xs)) (same_rows v.rows rows is))
+same_at d change v vs rows false e rest is = rw e (rest is)
+
+pub rows_at-same : (d : ℕ) (change : List ViewRow → List ViewRow) (vs : List TableView) (rows : List ViewRow) → rows_at d vs ≡ Some rows → rows_at d (with_rows d change vs) ≡ Some (change rows)
+rows_at-same d change [] rows is = absurd cc
+rows_at-same d change (v ∷ vs) rows is = same_at d change v vs rows (v.dpid == d) refl (rows_at-same d change vs rows) is
+
+other_at : (d e : ℕ) (change : List ViewRow → List ViewRow) (v : TableView) (vs : List TableView) (here : Bool) → e ≢ d → (v.dpid == d) ≡ here → rows_at e (with_rows d change vs) ≡ rows_at e vs
+    → rows_at e (if here then record v { rows = change v.rows } ∷ vs else v ∷ with_rows d change vs) ≡ (if v.dpid == e then Some v.rows else rows_at e vs)
+other_at d e change v vs true other is rest = let apart : (v.dpid == e) ≡ false = ne_eqb v.dpid e (λ same. other (sym same ∙ eqb-true v.dpid d is)) in rw apart refl
+other_at d e change v vs false other is rest = ap (λ (o : Option (List ViewRow)). if v.dpid == e then Some v.rows else o) rest
+
+pub rows_at-other : (d e : ℕ) (change : List ViewRow → List ViewRow) (vs : List TableView) → e ≢ d → rows_at e (with_rows d change vs) ≡ rows_at e vs
+rows_at-other d e change [] other = refl
+rows_at-other d e change (v ∷ vs) other = other_at d e change v vs (v.dpid == d) other refl (rows_at-other d e change vs other)
+
+-- ---- Rows
+
+with_row-before : (r s : ViewRow) (ss : List ViewRow) → place r.key < place s.key → with_row r (s ∷ ss) ≡ r ∷ s ∷ ss
+with_row-before r s ss lt = rw (lt-ltb _ _ lt) refl
+
+with_row-same : (r s : ViewRow) (ss : List ViewRow) → place r.key ≡ place s.key → with_row r (s ∷ ss) ≡ r ∷ ss
+with_row-same r s ss same =
+    let not_below : ltb (place r.key) (place s.key) ≡ false = le-ltb _ _ (omega arith) in
+    let here : eqb (place r.key) (place s.key) ≡ true = eq-eqb _ _ same in
+    rw (not_below, here) refl
+
+with_row-after : (r s : ViewRow) (ss : List ViewRow) → place s.key < place r.key → with_row r (s ∷ ss) ≡ s ∷ with_row r ss
+with_row-after r s ss gt =
+    let not_below : ltb (place r.key) (place s.key) ≡ false = le-ltb _ _ (omega arith) in
+    let apart : eqb (place r.key) (place s.key) ≡ false = ne_eqb _ _ (λ e. omega arith) in
+    rw (not_below, apart) refl
+
+pub with_row-found : (r : ViewRow) (rows : List ViewRow) (i : ℕ) → IsRowPlace (place r.key) rows i → i < length rows → place r.key ≡ place (get_or rows i r).key → set rows i r ≡ with_row r rows
+with_row-found r [] i is within same = absurd (omega arith)
+with_row-found r (s ∷ ss) zero is within same = sym (with_row-same r s ss same)
+with_row-found r (s ∷ ss) (suc i) is within same = ap (λ (xs : List ViewRow). s ∷ xs) (with_row-found r ss i is.1 (omega arith) same) ∙ sym (with_row-after r s ss is.0)
+
+pub with_row-absent : (r : ViewRow) (rows : List ViewRow) (i : ℕ) → IsRowPlace (place r.key) rows i → (i < length rows → place r.key ≢ place (get_or rows i r).key) → insert rows i r ≡ with_row r rows
+with_row-absent r [] i is apart = rw is refl
+with_row-absent r (s ∷ ss) zero is apart = sym (with_row-before r s ss (less (apart (omega arith))))
+  where
+    less : place r.key ≢ place s.key → place r.key < place s.key
+    less ne = omega (arith, is, ne)
+with_row-absent r (s ∷ ss) (suc i) is apart = ap (λ (xs : List ViewRow). s ∷ xs) (with_row-absent r ss i is.1 (λ lt. apart (omega arith))) ∙ sym (with_row-after r s ss is.0)
+
+pub IsRowPlace-le : (p : ℕ) (rows : List ViewRow) (i : ℕ) → IsRowPlace p rows i → i ≤ length rows
+IsRowPlace-le p [] i is = omega arith
+IsRowPlace-le p (r ∷ rs) zero is = omega arith
+IsRowPlace-le p (r ∷ rs) (suc i) is = omega (arith, IsRowPlace-le p rs i is.1)

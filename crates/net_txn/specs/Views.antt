@@ -1,0 +1,61 @@
+-- The tables of the joined switches as their owner sees them, each by its switch. All of this is our own.
+use Rattle.std.specs.Prelude.{◌≡◌, ◌==◌, ℕ, ◌%◌, ◌<◌, ◌≤◌, false, List, [], ◌∷◌, Option, Some, None, nat_lt, if◌then◌else◌}
+use Rattle.std.proofs.Common.{zero, suc}
+use Rattle.of_match.specs.Key.{place}
+use Rattle.of_wire.specs.declared.bodies.FlowMod.{FlowMod}
+use Rattle.flow_table.specs.declared.view.ViewRow.{ViewRow}
+use Rattle.flow_table.specs.declared.view.TableView.{TableView}
+use Rattle.flow_table.specs.Change.{key_in, is_delete}
+
+-- the rows of a switch, while it is joined
+abbrev pub rows_at : ℕ → List TableView → Option (List ViewRow)
+rows_at d [] = None
+rows_at d (v ∷ vs) = if v.dpid == d then Some v.rows else rows_at d vs
+
+-- the views, the rows of one switch changed
+abbrev pub with_rows : ℕ → (List ViewRow → List ViewRow) → List TableView → List TableView
+with_rows d change [] = []
+with_rows d change (v ∷ vs) = if v.dpid == d then record v { rows = change v.rows } ∷ vs else v ∷ with_rows d change vs
+
+-- where the view of a switch stands
+abbrev pub IsViewAt : ℕ → List TableView → ℕ → Type 0
+IsViewAt d [] i = ⊥
+IsViewAt d (v ∷ vs) zero = v.dpid ≡ d
+IsViewAt d (v ∷ vs) (suc i) = ((v.dpid == d) ≡ false) × IsViewAt d vs i
+
+-- the rows with this one, in place of one with its key
+abbrev pub with_row : ViewRow → List ViewRow → List ViewRow
+with_row r [] = r ∷ []
+with_row r (s ∷ ss) =
+    if nat_lt (place r.key) (place s.key) then r ∷ s ∷ ss
+    else if place r.key == place s.key then r ∷ ss
+    else s ∷ with_row r ss
+
+-- where a row goes: the rows before it have lower places
+abbrev pub IsRowPlace : ℕ → List ViewRow → ℕ → Type 0
+IsRowPlace p [] i = i ≡ 0
+IsRowPlace p (r ∷ rs) zero = p ≤ place r.key
+IsRowPlace p (r ∷ rs) (suc i) = (place r.key < p) × IsRowPlace p rs i
+
+-- ---- What a FLOW_MOD that touches no row leaves (OpenFlow 1.0.0, 4.6): it adds a row, unless it is a DELETE.
+
+-- the row, as the owner asked for it; of the flags SEND_FLOW_REM counts alone
+abbrev pub row_in : FlowMod → ViewRow
+row_in m = record {
+  key = key_in m;
+  actions = m.actions;
+  cookie = m.cookie;
+  idle = m.idle;
+  hard = m.hard;
+  flags = m.flags % 2;
+}
+
+abbrev pub row_added : FlowMod → Option ViewRow
+row_added m = if is_delete m then None else Some (row_in m)
+
+abbrev pub with_added : Option ViewRow → List ViewRow → List ViewRow
+with_added None rows = rows
+with_added (Some row) rows = with_row row rows
+
+unfoldable pub rows_after : FlowMod → List ViewRow → List ViewRow
+rows_after m = with_added (row_added m)

@@ -1,0 +1,159 @@
+//! The host's own answers to messages of applications.
+
+ghost use Rattle.std.specs.Prelude.{◌≡◌, None, Some, nat_lt, if◌then◌else◌, IfOk};
+ghost use Rattle.of_action.specs.Spelling.{list_size};
+ghost use Rattle.of_wire.specs.declared.message.Message.TheVariants as messages;
+ghost use Rattle.flow_table.specs.Errors.{bad_type, bad_len};
+ghost use Rattle.flow_table.specs.Refusals.{or_else, most_action_bytes, stats_refusal};
+ghost use Rattle.lego_model.specs.Answers.{rows_of_view, unknown_action, flow_mod_refused, not_yet, would_touch, wire_fault};
+ghost use Rattle.net_txn.specs.Host.{IsJudged, IsJudgedOf};
+
+use crate::rows::would_touch;
+use app_frames::Answer;
+use flow_table::ViewRow;
+use of_action::{Action, ActionKind, size};
+use of_types::{OfError, errors, flows, stats};
+use of_wire::{FlowMod, Message, Stats, WireFault, decode};
+use std::alloc::{AllocError, Global};
+
+/// The most bytes of actions that a row of flow statistics can show.
+const MOST_ACTION_BYTES: usize = 65_432;
+
+/// What the host makes of a message.
+#[derive(Drop, Debug)]
+pub(crate) enum Judged {
+    /// It answers itself.
+    Answered(Answer),
+    /// The switch must judge the change.
+    Asks(FlowMod),
+}
+
+/// The first action that no switch here knows.
+fn find_unknown(actions: &[Action]) -> Option<OfError>
+    ensures { result ≡ unknown_action actions.now }
+{
+    for action in actions {
+        match action {
+            Action::Enqueue { .. } => return Some(errors::ACTION_BAD_TYPE),
+            Action::Vendor(_) => return Some(errors::ACTION_BAD_VENDOR),
+            _ => {}
+        }
+    }
+    None
+}
+
+/// What stands against the actions: one that no switch here knows, or too many bytes.
+fn refuse_actions(m: &FlowMod) -> Option<OfError>
+    ensures { result ≡ or_else (unknown_action m.now.actions) (if nat_lt most_action_bytes (list_size m.now.actions) then Some bad_len else None) }
+{
+    let unknown = find_unknown(m.actions.as_slice());
+    if unknown.is_some() {
+        unknown
+    } else if size(&m.actions) > MOST_ACTION_BYTES {
+        Some(errors::REQUEST_BAD_LEN)
+    } else {
+        None
+    }
+}
+
+/// What stands against a FLOW_MOD whatever the table holds.
+#[tactic(auto, unfolding(lego_model::specs::Answers::flow_mod_refused, lego_model::specs::Answers::addition_refused))]
+fn refuse_flow(m: &FlowMod) -> Option<OfError>
+    ensures { result ≡ flow_mod_refused m.now }
+{
+    if m.flags / flows::EMERG % 2 == 1 {
+        Some(errors::FLOW_EPERM)
+    } else if m.command > flows::DELETE_STRICT {
+        Some(errors::FLOW_BAD_COMMAND)
+    } else if m.command == flows::DELETE || m.command == flows::DELETE_STRICT {
+        None
+    } else if m.buffer_id != flows::NO_BUFFER {
+        Some(errors::REQUEST_BUFFER_UNKNOWN)
+    } else {
+        refuse_actions(m)
+    }
+}
+
+/// The same, and that entries which are there stay as they are.
+fn refuse_change(m: &FlowMod, rows: &[ViewRow]) -> Option<OfError>
+    ensures { result ≡ or_else (flow_mod_refused m.now) (not_yet (would_touch m.now (rows_of_view rows.now))) }
+{
+    let refusal = refuse_flow(m);
+    if refusal.is_none() && would_touch(m, rows) {
+        Some(errors::REQUEST_BAD_TYPE)
+    } else {
+        refusal
+    }
+}
+
+/// What stands against a request of statistics.
+#[tactic(auto, unfolding(flow_table::specs::Refusals::stats_refusal))]
+fn refuse_stats(m: &Stats) -> OfError
+    ensures { Some result ≡ or_else (stats_refusal m.now) (Some bad_type) }
+{
+    let wanted = match m.kind {
+        stats::DESC | stats::TABLE => 0,
+        stats::FLOW | stats::AGGREGATE => 44,
+        stats::PORT => 8,
+        _ => return errors::REQUEST_BAD_STAT,
+    };
+    if m.body.len() == wanted {
+        errors::REQUEST_BAD_TYPE
+    } else {
+        errors::REQUEST_BAD_LEN
+    }
+}
+
+/// The error that answers bytes which are no message.
+fn answer_fault(fault: &WireFault) -> OfError
+    ensures { result ≡ wire_fault fault.now }
+{
+    match fault {
+        WireFault::BadLength => errors::REQUEST_BAD_LEN,
+        WireFault::BadAction { kind, .. } => match kind {
+            ActionKind::BadType => errors::ACTION_BAD_TYPE,
+            ActionKind::BadLen => errors::ACTION_BAD_LEN,
+        },
+        WireFault::BadVersion | WireFault::BadType | WireFault::NoMemory =>
+            errors::REQUEST_BAD_TYPE,
+    }
+}
+
+/// What the host makes of a FLOW_MOD.
+#[tactic(auto, unfolding(lego_model::specs::Answers::host_refusal))]
+fn judge_change(m: FlowMod, rows: &[ViewRow]) -> Judged
+    ensures { IsJudgedOf (rows_of_view rows.now) (messages.FlowMod m) result }
+{
+    match refuse_change(&m, rows) {
+        Some(error) => Judged::Answered(Answer::Error(error)),
+        None => Judged::Asks(m),
+    }
+}
+
+/// What the host makes of a message that was read, for a switch with these rows.
+#[tactic(auto, unfolding(lego_model::specs::Answers::host_refusal))]
+fn judge_message(message: Message, rows: &[ViewRow]) -> Judged
+    ensures { IsJudgedOf (rows_of_view rows.now) message result }
+{
+    match message {
+        Message::FlowMod(m) => judge_change(m, rows),
+        Message::StatsRequest(m) => Judged::Answered(Answer::Error(refuse_stats(&m))),
+        Message::BarrierRequest => Judged::Answered(Answer::Fine),
+        _ => Judged::Answered(Answer::Error(errors::REQUEST_BAD_TYPE)),
+    }
+}
+
+/// What the host makes of bytes for a switch with these rows.
+pub(crate) fn judge_bytes(
+    alloc: Global,
+    bytes: &[u8],
+    rows: &[ViewRow],
+) -> Result<Judged, AllocError>
+    ensures { IfOk result (IsJudged (rows_of_view rows.now) bytes.now) }
+{
+    match decode(alloc, bytes) {
+        Ok(envelope) => Ok(judge_message(envelope.message, rows)),
+        Err(WireFault::NoMemory) => Err(AllocError),
+        Err(fault) => Ok(Judged::Answered(Answer::Error(answer_fault(&fault)))),
+    }
+}

@@ -1,0 +1,33 @@
+//! Changes to the flow tables of switches, so that each stands behind a barrier before it is answered, and can be undone.
+#![tactic(auto)]
+
+mod arrived;
+mod arriving;
+mod ask;
+mod asking;
+mod change;
+mod fault;
+mod greeting;
+mod heard;
+mod host;
+mod joining;
+mod laws;
+mod leaving;
+mod logged;
+mod net;
+mod ports;
+mod prepared;
+mod queue;
+mod replies;
+mod rows;
+mod txn;
+mod views;
+mod wait;
+
+pub use fault::TxnFault;
+pub use laws::views_stay_in_order;
+pub use logged::Logged;
+pub use net::Net;
+pub use ports::KnownPorts;
+pub use queue::EventQueue;
+pub use txn::Txn;

@@ -1,0 +1,158 @@
+//! The network of the host.
+
+ghost use Rattle.std.specs.Prelude.{◌≡◌, ◌≤◌, [], length, take, drop, slice_get, IfOk, OnOk, OnErr};
+ghost use Rattle.net_txn.specs.Net.{next_xid, awaited_from};
+
+use crate::heard::Awaited;
+use crate::logged::Logged;
+use crate::ports::KnownPorts;
+use crate::queue::MessageQueue;
+use flow_table::TableView;
+use of_types::{ByteList, Dpid, Xid};
+use std::alloc::{AllocError, Global};
+use std::marker::Model;
+
+/// How many bytes a message has at most.
+const MOST_MESSAGE: usize = 65_535;
+
+/// How many bytes of messages are kept during an undo.
+const UNDO_PLACE: usize = 1_048_576;
+
+/// How many messages the faults of an undo keep: two each, of an undo and of the abort behind it.
+const FAULT_MESSAGES: u8 = 4;
+
+/// What the host keeps of its switches: their tables as the owner sees them, their ports, what undoes the changes of
+/// the open transaction, and the messages that came while something else was awaited.
+#[derive(Drop, Debug)]
+pub struct Net {
+    pub(crate) alloc: Global,
+    pub(crate) buf: Vec<u8>,
+    pub(crate) views: Vec<TableView>,
+    pub(crate) ports: Vec<KnownPorts>,
+    pub(crate) log: Vec<Logged>,
+    pub(crate) xid: Xid,
+    pub(crate) moment: u64,
+    pub(crate) kept: MessageQueue,
+    /// The place for the messages that are kept during an undo, which takes no memory.
+    pub(crate) place: Vec<u8>,
+    /// Room for the bytes of two faults of an undo: of each the message that was sent and the one that was got.
+    pub(crate) rooms: Vec<Vec<u8>>,
+}
+
+impl Model for Net {
+    ghost use Rattle.std.specs.Prelude.{◌≡◌, ◌≤◌, vec_len, vec_capacity};
+    ghost use Rattle.net_txn.specs.Net.{NetState};
+
+    ghost Value = { NetState };
+
+    ghost view = { λ s. record {
+      views = s.views.items;
+      ports = s.ports.items;
+      log = s.log.items;
+      xid = s.xid;
+      moment = s.moment;
+      kept = s.kept;
+    } };
+
+    ghost invariant = { λ s. (vec_len s.buf ≡ 65535) × (1 ≤ s.xid) × (1048576 ≤ vec_capacity s.place) };
+}
+
+/// Room for the bytes of two faults.
+fn fault_rooms(alloc: Global) -> Result<Vec<Vec<u8>>, AllocError> {
+    let mut rooms = Vec::new(alloc);
+    for _room in 0..FAULT_MESSAGES {
+        rooms.push(Vec::with_capacity(alloc, MOST_MESSAGE)?)?;
+    }
+    Ok(rooms)
+}
+
+/// The transaction id behind one.
+pub(crate) fn following(xid: Xid) -> Xid
+    ensures next { result ≡ next_xid xid }
+    ensures least { 1 ≤ result }
+{
+    if xid == Xid::MAX { 1 } else { xid + 1 }
+}
+
+/// What is awaited where one message is sent with this id, and then a barrier.
+pub(crate) fn await_from(dpid: Dpid, xid: Xid) -> Awaited
+    ensures { result ≡ awaited_from dpid xid }
+{
+    Awaited {
+        dpid,
+        first: xid,
+        barrier: following(xid),
+    }
+}
+
+impl Net {
+    /// A network of no switch, at moment 0. It takes the room that an undo needs.
+    pub fn new(alloc: Global) -> Result<Net, AllocError>
+        ensures { IfOk result (λ n. n ≡ record { views = []; ports = []; log = []; xid = 1; moment = 0; kept = [] }) }
+    {
+        Ok(Net {
+            alloc,
+            buf: vec![in alloc; 0; MOST_MESSAGE]?,
+            views: Vec::new(alloc),
+            ports: Vec::new(alloc),
+            log: Vec::new(alloc),
+            xid: 1,
+            moment: 0,
+            kept: MessageQueue::new(alloc),
+            place: Vec::with_capacity(alloc, UNDO_PLACE)?,
+            rooms: fault_rooms(alloc)?,
+        })
+    }
+
+    /// The tables of the joined switches as the owner sees them, by switch ascending; takes no memory.
+    pub fn views(&self) -> &[TableView]
+        ensures { result.now ≡ self.now.views }
+    {
+        &self.views
+    }
+
+    /// The moment, in seconds from the start; takes no memory.
+    pub fn moment(&self) -> u64
+        ensures { result ≡ self.now.moment }
+    {
+        self.moment
+    }
+
+    /// Sets the moment, in seconds from the start; takes no memory.
+    pub fn set_moment(&mut self, moment: u64)
+        ensures { self.new ≡ record self.old { moment = moment } }
+    {
+        self.moment = moment;
+    }
+
+    /// Takes out the oldest message that was kept while something else was awaited, with its switch. There is none
+    /// exactly where none is kept.
+    pub fn waiting(&mut self) -> Result<Option<(Dpid, ByteList)>, AllocError>
+        ensures first { IfOk result (λ m. m ≡ slice_get self.old.kept 0) }
+        ensures rest { OnOk result (self.new ≡ record self.old { kept = drop 1 self.old.kept }) }
+        ensures err { OnErr result (self.new ≡ self.old) }
+    {
+        Ok(self.kept.take_first())
+    }
+
+    /// How much is logged.
+    pub(crate) fn logged(&self) -> usize
+        ensures { result ≡ length self.now.log }
+    {
+        self.log.as_slice().len()
+    }
+
+    /// Forgets what was logged from a place on.
+    pub(crate) fn forget(&mut self, from: usize)
+        ensures { self.new ≡ record self.old { log = take from self.old.log } }
+    {
+        self.log.truncate(from);
+    }
+
+    /// No packet that was released.
+    pub(crate) fn none_released(&self) -> Vec<(Dpid, u32)>
+        ensures { result.items ≡ [] }
+    {
+        Vec::new(self.alloc)
+    }
+}

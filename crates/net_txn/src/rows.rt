@@ -1,0 +1,196 @@
+//! The rows of a view: which of them a FLOW_MOD means, and where one has its place.
+
+ghost use Rattle.std.specs.Prelude.{◌≡◌, ◌≢◌, ◌==◌, ◌<◌, ◌&&◌, true, false, not, nat_lt, length, slice_index_or, OnOk, OnErr};
+ghost use Rattle.std.specs.List.{list_any};
+ghost use Rattle.std.specs.Ordering.{nat_cmp};
+ghost use Rattle.of_match.specs.Key.{place};
+ghost use Rattle.match_overlap.specs.Relations.{is_overlapping};
+ghost use Rattle.flow_table.specs.declared.view.ViewRow.{ViewRow};
+ghost use Rattle.flow_table.specs.Change.{is_modify, key_in, is_output_to, describes, sends_to};
+ghost use Rattle.lego_model.specs.Answers.{rows_of_view, would_clash, would_touch};
+ghost use Rattle.net_txn.specs.Views.{with_row, IsRowPlace};
+
+use flow_table::ViewRow;
+use match_overlap::{overlaps, subsumes};
+use of_action::{Action, ActionList};
+use of_match::Key;
+use of_types::{PortNo, flows, ports};
+use of_wire::FlowMod;
+use std::alloc::AllocError;
+use std::cmp::Ordering;
+
+/// How a key stands to another one in key order.
+pub(crate) fn compare(a: &Key, b: &Key) -> Ordering
+    ensures { result ≡ nat_cmp (place a.now) (place b.now) }
+{
+    let _first = a.priority;
+    let _second = b.priority;
+    a.cmp(b)
+}
+
+/// Whether two keys are one.
+pub(crate) fn is_same(a: &Key, b: &Key) -> bool
+    ensures { result ≡ (place a.now == place b.now) }
+{
+    compare(a, b) == Ordering::Equal
+}
+
+/// The key that a FLOW_MOD names.
+pub(crate) fn key_of(m: &FlowMod) -> Key
+    ensures { result ≡ key_in m.now }
+{
+    Key {
+        priority: m.priority,
+        matching: m.matching,
+    }
+}
+
+/// Whether a FLOW_MOD, strict or not, means a row.
+#[tactic(auto, unfolding(flow_table::specs::Change::describes))]
+fn is_described(m: &FlowMod, row: &ViewRow) -> bool
+    ensures { result ≡ describes m.now row.now.key }
+{
+    if m.command == flows::MODIFY_STRICT || m.command == flows::DELETE_STRICT {
+        is_same(&row.key, &key_of(m))
+    } else {
+        subsumes(&m.matching, &row.key.matching)
+    }
+}
+
+fn is_output(port: PortNo, action: &Action) -> bool
+    ensures { result ≡ is_output_to port action.now }
+{
+    matches!(action, Action::Output { port: to, .. } if *to == port)
+}
+
+/// Whether some OUTPUT of the actions goes to a port.
+fn has_output(port: PortNo, actions: &[Action]) -> bool
+    ensures { result ≡ list_any (is_output_to port) actions.now }
+{
+    actions.iter().any(|action| is_output(port, action))
+}
+
+/// Whether a port is NONE, or some OUTPUT of the actions goes to it.
+#[tactic(auto, unfolding(flow_table::specs::Change::sends_to))]
+fn sends(out_port: PortNo, actions: &ActionList) -> bool
+    ensures { result ≡ sends_to out_port actions.now }
+{
+    out_port == ports::NONE || has_output(out_port, actions.as_slice())
+}
+
+/// Whether a DELETE means a row.
+fn is_deleted(m: &FlowMod, row: &ViewRow) -> bool
+    ensures { result ≡ (describes m.now row.now.key && sends_to m.now.out_port row.now.actions) }
+{
+    is_described(m, row) && sends(m.out_port, &row.actions)
+}
+
+/// Whether a row has the priority of a key, another match, and some packet in common with it.
+fn is_overlap(key: &Key, row: &ViewRow) -> bool
+    ensures { result ≡ (row.now.key.priority == key.now.priority && (not (place row.now.key == place key.now) && is_overlapping row.now.key.matching key.now.matching)) }
+{
+    row.key.priority == key.priority
+        && !is_same(&row.key, key)
+        && overlaps(&row.key.matching, &key.matching)
+}
+
+fn has_overlap(key: &Key, rows: &[ViewRow]) -> bool
+    ensures { result ≡ list_any (λ r. r.key.priority == key.now.priority && (not (place r.key == place key.now) && is_overlapping r.key.matching key.now.matching)) rows.now }
+{
+    rows.iter().any(|row| is_overlap(key, row))
+}
+
+fn has_key(key: &Key, rows: &[ViewRow]) -> bool
+    ensures { result ≡ list_any (λ r. place r.key == place key.now) rows.now }
+{
+    rows.iter().any(|row| is_same(&row.key, key))
+}
+
+fn has_described(m: &FlowMod, rows: &[ViewRow]) -> bool
+    ensures { result ≡ list_any (λ r. describes m.now r.key) rows.now }
+{
+    rows.iter().any(|row| is_described(m, row))
+}
+
+fn has_deleted(m: &FlowMod, rows: &[ViewRow]) -> bool
+    ensures { result ≡ list_any (λ r. describes m.now r.key && sends_to m.now.out_port r.actions) rows.now }
+{
+    rows.iter().any(|row| is_deleted(m, row))
+}
+
+/// Whether another row of the priority overlaps, and that was to be checked.
+fn would_clash(m: &FlowMod, rows: &[ViewRow]) -> bool
+    ensures { result ≡ would_clash m.now (rows_of_view rows.now) }
+{
+    m.flags / flows::CHECK_OVERLAP % 2 == 1 && has_overlap(&key_of(m), rows)
+}
+
+/// Whether an ADD would replace a row.
+fn would_replace(m: &FlowMod, rows: &[ViewRow]) -> bool
+    ensures { result ≡ (list_any (λ r. place r.key == place (key_in m.now)) rows.now && not (would_clash m.now (rows_of_view rows.now))) }
+{
+    has_key(&key_of(m), rows) && !would_clash(m, rows)
+}
+
+/// Whether the command is one of the two of MODIFY.
+fn is_modifying(m: &FlowMod) -> bool
+    ensures { result ≡ is_modify m.now }
+{
+    m.command == flows::MODIFY || m.command == flows::MODIFY_STRICT
+}
+
+/// Whether a FLOW_MOD would replace, change or remove a row.
+pub(crate) fn would_touch(m: &FlowMod, rows: &[ViewRow]) -> bool
+    ensures { result ≡ would_touch m.now (rows_of_view rows.now) }
+{
+    if m.command == flows::ADD {
+        would_replace(m, rows)
+    } else if is_modifying(m) {
+        has_described(m, rows)
+    } else {
+        has_deleted(m, rows)
+    }
+}
+
+/// Whether a key stands before another one in key order.
+fn is_before(a: &Key, b: &Key) -> bool
+    ensures { result ≡ nat_lt (place a.now) (place b.now) }
+{
+    compare(a, b) == Ordering::Less
+}
+
+/// Where the row of a key has its place.
+fn place_of(rows: &[ViewRow], key: &Key) -> usize
+    ensures { IsRowPlace (place key.now) rows.now result }
+{
+    for (i, row) in rows.iter().enumerate() {
+        if !is_before(&row.key, key) {
+            return i;
+        }
+    }
+    rows.len()
+}
+
+/// Whether the row of a key stands there.
+fn stands_at(rows: &[ViewRow], at: usize, key: &Key) -> bool
+    ensures within { result ≡ true → at < length rows.now }
+    ensures same { (r : ViewRow) → result ≡ true → place key.now ≡ place (slice_index_or rows.now at r).key }
+    ensures other { (r : ViewRow) → result ≡ false → at < length rows.now → place key.now ≢ place (slice_index_or rows.now at r).key }
+{
+    at < rows.len() && is_same(key, &rows[at].key)
+}
+
+/// Puts a row in its place, in place of one with its key.
+pub(crate) fn put_row(rows: &mut Vec<ViewRow>, row: ViewRow) -> Result<(), AllocError>
+    ensures ok { OnOk result (rows.new.items ≡ with_row row rows.old.items) }
+    ensures err { OnErr result (rows.new.items ≡ rows.old.items) }
+{
+    let at = place_of(rows, &row.key);
+    if stands_at(rows, at, &row.key) {
+        rows[at] = row;
+        Ok(())
+    } else {
+        rows.insert(at, row)?;
+        Ok(())
+    }
+}

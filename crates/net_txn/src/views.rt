@@ -1,0 +1,128 @@
+//! The views of the joined switches.
+
+ghost use Rattle.std.specs.Prelude.{◌≡◌, None, Some, MatchOption, OnOk, OnErr};
+ghost use Rattle.net_txn.specs.Views.{rows_at, with_rows, with_row, with_added, IsViewAt};
+ghost use Rattle.net_txn.specs.Arriving.{without_key};
+
+use crate::rows::{is_same, put_row};
+use flow_table::{TableView, ViewList, ViewRow};
+use of_match::Key;
+use of_types::Dpid;
+use std::alloc::{AllocError, Global};
+use std::mem::replace;
+
+/// The view of a switch, while it is joined.
+pub(crate) fn find(views: &[TableView], dpid: Dpid) -> Option<&TableView>
+    ensures { MatchOption result (rows_at dpid views.now ≡ None) (λ v. rows_at dpid views.now ≡ Some v.now.rows) }
+{
+    for view in views {
+        if view.dpid == dpid {
+            return Some(view);
+        }
+    }
+    None
+}
+
+/// Where the view of a switch stands.
+fn position(views: &[TableView], dpid: Dpid) -> Option<usize>
+    ensures { MatchOption result (rows_at dpid views.now ≡ None) (IsViewAt dpid views.now) }
+{
+    for (i, view) in views.iter().enumerate() {
+        if view.dpid == dpid {
+            return Some(i);
+        }
+    }
+    None
+}
+
+/// Makes room for one row more.
+fn reserve(alloc: Global, rows: &mut ViewList) -> Result<(), AllocError>
+    ensures { rows.new ≡ rows.old }
+{
+    let mut all = replace(rows, ViewList::new(alloc)).into_vec();
+    let room = all.reserve(1);
+    *rows = ViewList::from_vec(all);
+    room
+}
+
+/// Puts a row in its place.
+fn put(alloc: Global, rows: &mut ViewList, row: ViewRow) -> Result<(), AllocError>
+    ensures ok { OnOk result (rows.new ≡ with_row row rows.old) }
+    ensures err { OnErr result (rows.new ≡ rows.old) }
+{
+    let mut all = replace(rows, ViewList::new(alloc)).into_vec();
+    let done = put_row(&mut all, row);
+    *rows = ViewList::from_vec(all);
+    done
+}
+
+/// Makes room for one row more in the view of a switch.
+pub(crate) fn make_room(
+    alloc: Global,
+    views: &mut Vec<TableView>,
+    dpid: Dpid,
+) -> Result<(), AllocError>
+    ensures { views.new.items ≡ views.old.items }
+{
+    match position(views, dpid) {
+        None => Ok(()),
+        Some(at) => reserve(alloc, &mut views[at].rows),
+    }
+}
+
+/// Puts a row in the view of a switch.
+fn put_in(
+    alloc: Global,
+    views: &mut Vec<TableView>,
+    dpid: Dpid,
+    row: ViewRow,
+) -> Result<(), AllocError>
+    ensures ok { OnOk result (views.new.items ≡ with_rows dpid (with_row row) views.old.items) }
+    ensures err { OnErr result (views.new.items ≡ views.old.items) }
+{
+    match position(views, dpid) {
+        None => Ok(()),
+        Some(at) => put(alloc, &mut views[at].rows, row),
+    }
+}
+
+/// Puts the row that a change adds, if it adds one, in the view of a switch.
+pub(crate) fn put_added(
+    alloc: Global,
+    views: &mut Vec<TableView>,
+    dpid: Dpid,
+    row: Option<ViewRow>,
+) -> Result<(), AllocError>
+    ensures ok { OnOk result (views.new.items ≡ with_rows dpid (with_added row) views.old.items) }
+    ensures err { OnErr result (views.new.items ≡ views.old.items) }
+{
+    match row {
+        None => Ok(()),
+        Some(row) => put_in(alloc, views, dpid, row),
+    }
+}
+
+/// Takes the row of a key out.
+fn remove_key(rows: &mut Vec<ViewRow>, key: &Key)
+    ensures { rows.new.items ≡ without_key key.now rows.old.items }
+{
+    rows.retain(|row| !is_same(&row.key, key));
+}
+
+fn remove(alloc: Global, rows: &mut ViewList, key: &Key)
+    ensures { rows.new ≡ without_key key.now rows.old }
+{
+    let mut all = replace(rows, ViewList::new(alloc)).into_vec();
+    remove_key(&mut all, key);
+    *rows = ViewList::from_vec(all);
+}
+
+/// Takes the row of a key out of the view of a switch.
+pub(crate) fn remove_in(alloc: Global, views: &mut Vec<TableView>, dpid: Dpid, key: &Key)
+    ensures { views.new.items ≡ with_rows dpid (without_key key.now) views.old.items }
+{
+    match position(views, dpid) {
+        None => {}
+        Some(at) => remove(alloc, &mut views[at].rows, key),
+    }
+}
