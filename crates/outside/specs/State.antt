@@ -244,7 +244,7 @@ after_stim x s = record s {
 -- ---- One step, and a history
 
 abbrev pub running_after : ℕ → Bool → List ℕ → List ℕ
-running_after app true running = app ∷ running
+running_after app true running = running ++ app ∷ []
 running_after app false running = running
 
 unfoldable pub after_act : Act → State → State

@@ -1,9 +1,9 @@
 -- How long edits make a frame: a tag is put only into a frame without one, so that all edits together add at most its four bytes.
-use Rattle.std.proofs.Common.{◌≡◌, ◌==◌, ℕ, ◌+◌, ◌-◌, ◌≤◌, ◌<◌, Bool, true, false, cond, eqb, leb, ◌&&◌, ◌||◌, List, [], ◌∷◌, ◌++◌, length, take, drop, get_or, Option, Some, None, refl, sym, ap, subst, ◌∙◌, inl, inr, ◌⊎◌, arith}
+use Rattle.std.proofs.Common.{◌≡◌, ◌==◌, ℕ, ◌+◌, ◌≤◌, ◌<◌, true, false, eqb, leb, List, [], ◌∷◌, ◌++◌, length, take, drop, Option, Some, None, refl, sym, ap, ◌∙◌, inl, inr, ◌⊎◌, arith}
 use Rattle.std.specs.Prelude.{All, IfSome, if◌then◌else◌}
 use Rattle.std.specs.List.{AllByRecursion}
 use Rattle.std.proofs.lemmas.Bool.{and_parts, and_from, leb-true, le-leb, eq-eqb, cond_both, cases_Bool}
-use Rattle.std.proofs.lemmas.List.{take_at, drop_at, length-append, length-take, length-drop, get_or-take}
+use Rattle.std.proofs.lemmas.List.{length-append, length-take, length-drop, get_or-take}
 use Rattle.std.proofs.lemmas.List.Elements.{All-nil, All-cons, All-head, All-tail, All-append, All-weaker}
 use Rattle.std.proofs.lemmas.List.Sums.{sum_by-cons}
 use Rattle.of_action.specs.Spelling.{action_size, list_size}
@@ -15,12 +15,12 @@ use Rattle.of_action.specs.declared.action.Action.TheVariants.{Output, SetVlanVi
 use Rattle.eth_key.specs.declared.ethernet.Payload.{Payload}
 use Rattle.eth_key.specs.declared.ipv4.Ipv4Header.{Ipv4Header}
 use Rattle.eth_key.specs.Ethernet.{has_header, is_tagged, payload_of, payload_behind, type_place, is_snap}
-use Rattle.eth_key.specs.Ipv4.{ipv4_header, header_in, header_at, is_header, header_len, protocol}
+use Rattle.eth_key.specs.Ipv4.{ipv4_header, header_in, header_at, is_header, protocol}
 use Rattle.eth_key.specs.Ipv4Laws.{IsWithin-ipv4_header}
-use Rattle.frame_edit.specs.Datagram.{header_checksum_place, tcp_checksum_place, udp_checksum_place}
-use Rattle.frame_edit.specs.Edits.{AreEdits, IsEdit, edited, tagged, with_control, with_identifier, with_priority, without_tag, with_address, with_network_address, with_service, with_port, in_header, in_ipv4, output_of, outputs}
+use Rattle.frame_edit.specs.Datagram.{tcp_checksum_place, udp_checksum_place}
+use Rattle.frame_edit.specs.Edits.{AreEdits, IsEdit, edited, tagged, with_control, with_identifier, with_priority, without_tag, with_address, with_network_address, with_service, with_port, output_of, outputs}
 use Rattle.frame_edit.specs.FieldLaws.{length-with_field, number_at-with_field_later, number_at-with_field_earlier}
-use Rattle.frame_edit.specs.Written.{IsOutside, Keeps, segment_checksum_fields, checksum_fields, IsDatagramEdit, field_of, Renews}
+use Rattle.frame_edit.specs.Written.{IsOutside, Keeps, segment_checksum_fields, checksum_fields, IsDatagramEdit, field_of}
 use Rattle.frame_edit.specs.WrittenLaws.{edited-renews}
 
 -- the addresses of actions have six bytes
@@ -269,7 +269,7 @@ pub outputs_short : (bound : ℕ) (actions : List Action) (frame : List ℕ) →
 outputs_short bound actions frame have fits =
     All-weaker (λ (o : ℕ × List ℕ). reach o.1 ≤ bound) (λ (o : ℕ × List ℕ). length o.1 ≤ bound) (λ o reached. omega (arith, reached, reach-least o.1)) (outputs actions frame) (outputs_fit bound actions frame have fits)
 
-least_size : (action : Action) → IsEdit action → 8 ≤ action_size action
+pub least_size : (action : Action) → IsEdit action → 8 ≤ action_size action
 least_size (Output port max_len) is = omega arith
 least_size (SetVlanVid vid) is = omega arith
 least_size (SetVlanPcp pcp) is = omega arith

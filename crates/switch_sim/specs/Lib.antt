@@ -13,3 +13,7 @@ pub mod PlanLaws
 pub mod Possible
 pub mod PortLaws
 pub mod SerialLaws
+pub mod Readable
+pub mod ReadableLaws
+pub mod FewLaws
+pub mod MomentLaws

@@ -1,8 +1,8 @@
 -- What follows about looks at the table: what a frame meets there, and what is sent then, stays as frames go by. Hits change counts and
 -- moments of entries alone, and outputs change counts of ports.
-use Rattle.std.proofs.Common.{◌≡◌, ◌==◌, ℕ, ◌+◌, ◌<◌, ◌≤◌, Bool, true, false, cond, not, ◌&&◌, nat_lt, List, [], ◌∷◌, ◌++◌, length, map, set, get_or, Option, Some, None, if◌then◌else◌, refl, sym, ap, subst, ◌∙◌, inl, inr, ◌⊎◌, arith}
-use Rattle.std.specs.Prelude.{All, IfSome, slice_get}
-use Rattle.std.specs.List.{flat_map, Contains}
+use Rattle.std.proofs.Common.{◌≡◌, ◌==◌, ℕ, not, ◌&&◌, nat_lt, List, [], ◌∷◌, ◌++◌, length, map, Option, Some, None, if◌then◌else◌, refl, sym, ap, subst, ◌∙◌, inl, inr, ◌⊎◌}
+use Rattle.std.specs.Prelude.{slice_get}
+use Rattle.std.specs.List.{flat_map}
 use Rattle.std.specs.Option.{option_map}
 use Rattle.std.proofs.lemmas.Bool.{cond_both, cases_Bool}
 use Rattle.std.proofs.Math.Seq.{map-set_same}
@@ -13,11 +13,11 @@ use Rattle.of_action.specs.declared.action.Action.{Action}
 use Rattle.frame_edit.specs.Edits.{outputs}
 use Rattle.eth_key.specs.PacketFields.{key_of}
 use Rattle.flow_table.specs.declared.entry.Entry.{Entry}
-use Rattle.flow_table.specs.Table.{TableState, IsTable, IsPositionOf}
+use Rattle.flow_table.specs.Table.{IsTable, IsPositionOf}
 use Rattle.flow_table.specs.Hit.{rank, best, better, counted, hit}
 use Rattle.flow_table.specs.HitLaws.{Contains-best, hit-set, IsTable-hit}
 use Rattle.flow_table.specs.Switch.{PortState, SwitchState, has_bit, is_down, has_no_fwd, port_at}
-use Rattle.flow_table.specs.Frames.{goes_out_by, after_frame_out, ports_after_output, after_output, sent_by_output, after_outputs, sent_by_outputs, hit_outputs, entry_hit, after_counts, after_lookup, is_silent, sent_by_miss, sent_by_hit, sent_by_lookup, after_packet_output, sent_by_packet_output, after_packet_outputs, sent_by_packet_outputs}
+use Rattle.flow_table.specs.Frames.{goes_out_by, after_frame_out, ports_after_output, after_output, after_outputs, sent_by_outputs, hit_outputs, entry_hit, after_counts, after_lookup, is_silent, sent_by_miss, sent_by_hit, sent_by_lookup, after_packet_output, sent_by_packet_output, sent_by_packet_outputs}
 use Rattle.switch_sim.specs.Words.{ports_after_outputs}
 
 -- ---- The position that a lookup gives

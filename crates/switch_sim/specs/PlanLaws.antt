@@ -5,7 +5,7 @@ use Rattle.std.proofs.lemmas.Bool.{cases_Bool}
 use Rattle.flow_table.specs.Switch.{SwitchState}
 use Rattle.flow_table.specs.Frames.{after_packet_output, after_packet_outputs}
 use Rattle.switch_sim.specs.declared.packet_out.Planned.{Planned}
-use Rattle.switch_sim.specs.Plan.{planned_output, hit_by_output, IsPlanned}
+use Rattle.switch_sim.specs.Plan.{planned_output, IsPlanned}
 use Rattle.switch_sim.specs.LookLaws.{LooksLike, same_hit}
 use Rattle.std.specs.Prelude.{All}
 use Rattle.std.proofs.lemmas.List.Elements.{All-nil, All-cons, All-head, All-tail, All-weaker}

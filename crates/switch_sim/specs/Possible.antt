@@ -1,6 +1,6 @@
 -- The stimuli that can happen to a switch: moments do not fall and end at 4,294,967,295, and frames have 14 to 9,216 bytes. The limits
 -- are our own choice.
-use Rattle.std.specs.Prelude.{ℕ, ◌≤◌, List, length}
+use Rattle.std.specs.Prelude.{◌≤◌, length}
 use Rattle.of_types.specs.declared.journal.Stimulus.{Stimulus}
 use Rattle.of_types.specs.declared.journal.Stimulus.TheVariants.{Frame, Advance}
 use Rattle.flow_table.specs.Table.{last_moment}

@@ -1,5 +1,5 @@
 -- What follows about the lengths of rows.
-use Rattle.std.proofs.Common.{◌≡◌, ℕ, ◌+◌, ◌≤◌, List, ◌++◌, length, Result, Ok, Err, IfOk, refl, sym, ap, ◌∙◌, arith}
+use Rattle.std.proofs.Common.{◌≡◌, ℕ, ◌≤◌, List, ◌++◌, length, Result, Ok, Err, IfOk, refl, arith}
 use Rattle.std.proofs.lemmas.List.{length-append}
 use Rattle.of_types.specs.Layout.{spelled}
 use Rattle.of_types.specs.FieldLaws.{length-number_bytes}

@@ -1,5 +1,5 @@
 -- What follows about serials: a message takes one at most, and a stimulus none.
-use Rattle.std.proofs.Common.{◌≡◌, ℕ, ◌+◌, ◌≤◌, List, [], ◌∷◌, Option, Some, None, Result, Ok, Err, OnOk, OnErr, if◌then◌else◌, length, refl, sym, ap, ◌∙◌, arith}
+use Rattle.std.proofs.Common.{◌≡◌, ℕ, ◌+◌, ◌≤◌, List, [], ◌∷◌, Option, Some, None, Result, Ok, Err, OnOk, OnErr, refl, ap, ◌∙◌, arith}
 use Rattle.std.proofs.lemmas.Bool.{cond_both}
 use Rattle.of_types.specs.declared.errors.OfError.{OfError}
 use Rattle.of_types.specs.declared.journal.PortChange.{PortChange}
@@ -11,7 +11,7 @@ use Rattle.of_wire.specs.declared.message.Message.{Message}
 use Rattle.of_wire.specs.declared.message.Message.TheVariants.{Hello, Error, EchoRequest, EchoReply, Vendor, FeaturesRequest, FeaturesReply, GetConfigRequest, GetConfigReply, SetConfig, PacketIn, FlowRemoved, PortStatus, PacketOut, FlowMod, PortMod, StatsRequest, StatsReply, BarrierRequest, BarrierReply, QueueGetConfigRequest, QueueGetConfigReply}
 use Rattle.frame_edit.specs.Edits.{outputs}
 use Rattle.flow_table.specs.Table.{TableState}
-use Rattle.flow_table.specs.Change.{unless_refused, adds, serial_after, changed}
+use Rattle.flow_table.specs.Change.{unless_refused, adds, changed}
 use Rattle.flow_table.specs.Expiry.{expire}
 use Rattle.flow_table.specs.Switch.{SwitchState, port_at, new_port, insert_port, with_number}
 use Rattle.flow_table.specs.Refusals.{message_refusal}
@@ -92,7 +92,7 @@ unfolding after_frame
 next_frame in_port frame s =
     cond_both (takes (port_at in_port s.ports)) (after_lookup in_port frame (after_arrival in_port frame s)) s (λ (u : SwitchState). next_of u ≡ next_of s) (λ _. next_lookup in_port frame (after_arrival in_port frame s)) (λ _. refl)
 
-next_expire : (now : ℕ) (t : TableState) → (expire now t).next ≡ t.next
+pub next_expire : (now : ℕ) (t : TableState) → (expire now t).next ≡ t.next
 unfolding expire
 next_expire now t = refl
 

@@ -1,10 +1,10 @@
 -- What follows about sound switches: whatever reaches them, they stay so.
-use Rattle.std.proofs.Common.{◌≡◌, ◌≢◌, ◌==◌, ℕ, suc, ◌+◌, ◌<◌, ◌≤◌, Bool, true, false, cond, not, ◌&&◌, nat_lt, nat_le, List, [], ◌∷◌, length, map, filter, set, get_or, Option, Some, None, if◌then◌else◌, refl, sym, ap, subst, ◌∙◌, inl, inr, ◌⊎◌, arith}
+use Rattle.std.proofs.Common.{◌≡◌, ◌==◌, ℕ, ◌≤◌, Bool, true, false, cond, not, nat_lt, nat_le, List, [], ◌∷◌, length, map, filter, get_or, Option, Some, None, if◌then◌else◌, refl, sym, ap, ◌∙◌, inl, inr, arith}
 use Rattle.std.specs.Prelude.{All}
-use Rattle.std.specs.List.{list_any, Contains, AllByRecursion}
-use Rattle.std.proofs.lemmas.Bool.{cond_both, cond-false, cases_Bool, eqb-true, ltb-false, leb-false, and_cases, not-false}
+use Rattle.std.specs.List.{list_any, Contains}
+use Rattle.std.proofs.lemmas.Bool.{cond_both, cond-false, eqb-true, ltb-false, leb-false, and_cases, not-false}
 use Rattle.std.proofs.lemmas.List.{length-map, length-set, get_or_default}
-use Rattle.std.proofs.lemmas.List.Elements.{All-nil, All-cons, All-map, All-filter, All-weaker, All-contains, All-head, All-tail}
+use Rattle.std.proofs.lemmas.List.Elements.{All-map, All-filter, All-weaker, All-contains}
 use Rattle.std.proofs.lemmas.List.Folds.{Any-from_list_any}
 use Rattle.of_types.specs.declared.errors.OfError.{OfError}
 use Rattle.of_action.specs.declared.action.Action.{Action}
@@ -24,7 +24,7 @@ use Rattle.flow_table.specs.Errors.{bad_len, buffer_unknown, flow_eperm, bad_com
 use Rattle.flow_table.specs.Expiry.{is_due, expire}
 use Rattle.flow_table.specs.MomentLaws.{All-with_entry}
 use Rattle.flow_table.specs.Switch.{PortState}
-use Rattle.flow_table.specs.Refusals.{or_else, is_output, action_refusal, actions_refusal, flow_actions_refusal, flow_refusal, is_emergency, no_buffer, most_action_bytes}
+use Rattle.flow_table.specs.Refusals.{or_else, action_refusal, actions_refusal, flow_actions_refusal, flow_refusal, is_emergency, no_buffer, most_action_bytes}
 use Rattle.switch_sim.specs.Sound.{IsEntryAt, IsSound}
 
 -- ---- What the table's calls need

@@ -1,5 +1,5 @@
 -- What follows about messages that are refused, and about those that are not.
-use Rattle.std.proofs.Common.{◌≡◌, ◌==◌, ◌≤◌, ◌||◌, ℕ, Bool, true, false, cond, nat_lt, List, [], ◌∷◌, length, Option, Some, None, Result, Ok, Err, IfOk, OnOk, OnErr, if◌then◌else◌, refl, sym, ap, ◌∙◌, arith}
+use Rattle.std.proofs.Common.{◌≡◌, ◌==◌, ◌≤◌, ℕ, Bool, true, false, cond, nat_lt, [], ◌∷◌, length, Option, Some, None, Result, Ok, Err, IfOk, OnOk, OnErr, if◌then◌else◌, refl, sym, ap, ◌∙◌}
 use Rattle.std.proofs.lemmas.Bool.{eqb-true, ltb-false}
 use Rattle.of_types.specs.declared.errors.OfError.{OfError}
 use Rattle.of_wire.specs.declared.bodies.FlowMod.{FlowMod as FlowModBody}
@@ -11,7 +11,7 @@ use Rattle.of_wire.specs.declared.message.Message.{Message}
 use Rattle.of_wire.specs.declared.message.Message.TheVariants.{Hello, Error, EchoRequest, EchoReply, Vendor, FeaturesRequest, FeaturesReply, GetConfigRequest, GetConfigReply, SetConfig, PacketIn, FlowRemoved, PortStatus, PacketOut, FlowMod, PortMod, StatsRequest, StatsReply, BarrierRequest, BarrierReply, QueueGetConfigRequest, QueueGetConfigReply}
 use Rattle.flow_table.specs.Change.{unless_refused, refusal}
 use Rattle.flow_table.specs.Errors.{bad_stat, bad_len}
-use Rattle.flow_table.specs.Switch.{SwitchState}
+use Rattle.flow_table.specs.Switch.{SwitchState, features_reply}
 use Rattle.flow_table.specs.Refusals.{or_else, flow_refusal, query_size, stats_refusal, message_refusal}
 use Rattle.flow_table.specs.Step.{after_taken, sent_by_taken, error_bytes, answered, after_message, sent_by_message}
 use Rattle.switch_sim.specs.Words.{IsQuestion}
@@ -201,3 +201,12 @@ question_taken s (QueueGetConfigReply payload) is = refl
 
 pub question_after : (s : SwitchState) (m : Message) → IsQuestion m → s ≡ after_message m s
 question_after s m is = sym (taken_after m s (question_free s m is) ∙ question_taken s m is)
+
+-- ---- A request for features
+
+pub features_sent : (xid : ℕ) (s : SwitchState) → sent_by_message xid FeaturesRequest s ≡ features_reply xid s ∷ []
+unfolding sent_by_taken
+features_sent xid s = taken_sent xid FeaturesRequest s (question_free s FeaturesRequest tt)
+
+pub features_stay : (s : SwitchState) → after_message FeaturesRequest s ≡ s
+features_stay s = sym (question_after s FeaturesRequest tt)

@@ -2,9 +2,11 @@
 //! sends then, exactly by the definitions of `flow_table`.
 #![tactic(auto)]
 
+mod laws;
 mod looking;
 mod message;
 mod message_list;
+mod moments;
 mod notices;
 mod output;
 mod packet_out;
@@ -17,6 +19,7 @@ mod stimulus;
 mod switch;
 mod table;
 
+pub use laws::{declarations_stay, features_are_answered, moments_stay};
 pub use message_list::MessageList;
 pub use switch::SimSwitch;
 

@@ -8,6 +8,7 @@ ghost use Rattle.flow_table.specs.Hit.{best, hit};
 ghost use Rattle.flow_table.specs.Switch.{port_at, with_port};
 ghost use Rattle.flow_table.specs.Frames.{takes, after_frame_in, is_silent, hit_count, hit_outputs, entry_hit, after_counts, after_lookup, sent_by_miss, sent_by_lookup, sent_by_outputs, ports_after_output, after_frame, sent_by_frame};
 ghost use Rattle.switch_sim.specs.EditLaws.{reach};
+ghost use Rattle.switch_sim.specs.Readable.{AreReadable};
 ghost use Rattle.switch_sim.specs.Words.{ports_after_outputs};
 
 use crate::message_list::MessageList;
@@ -76,7 +77,8 @@ fn miss(
     frame: &[u8],
 ) -> Result<MessageList, AllocError>
     requires { length frame.now ≤ 65517 }
-    ensures { IfOk result (λ list. list ≡ sent_by_miss in_port frame.now all.now) }
+    ensures sent { IfOk result (λ list. list ≡ sent_by_miss in_port frame.now all.now) }
+    ensures readable { IfOk result AreReadable }
 {
     if silences(all, in_port) {
         return Ok(MessageList::new(alloc));
@@ -90,6 +92,7 @@ fn act(alloc: Global, entry: &Entry, in_port: PortNo, frame: &[u8]) -> Result<Lo
     requires fits { reach frame.now ≤ 65517 }
     ensures outputs { IfOk result (λ l. l.outputs ≡ outputs entry.now.actions frame.now) }
     ensures sent { IfOk result (λ l. l.messages ≡ sent_by_outputs in_port (outputs entry.now.actions frame.now)) }
+    ensures readable { IfOk result (λ l. AreReadable l.messages) }
 {
     measure(entry.actions.as_slice());
     let outputs = apply(alloc, &entry.actions, frame)?.frames;
@@ -129,6 +132,7 @@ impl SimSwitch {
         requires { reach frame.now ≤ 65517 }
         ensures outputs { IfOk result (λ l. l.outputs ≡ hit_outputs (entry_hit in_port frame.now self.now) frame.now) }
         ensures sent { IfOk result (λ l. l.messages ≡ sent_by_lookup in_port frame.now self.now) }
+        ensures readable { IfOk result (λ l. AreReadable l.messages) }
     {
         match self.find(in_port, frame) {
             None => Ok(Looked {
@@ -191,6 +195,7 @@ impl SimSwitch {
     pub(crate) fn frame(&mut self, in_port: PortNo, frame: &[u8]) -> Result<MessageList, AllocError>
         requires { length frame.now ≤ 9216 }
         ensures sent { IfOk result (λ list. list ≡ sent_by_frame in_port frame.now self.old) }
+        ensures readable { IfOk result AreReadable }
         ensures ok { OnOk result (self.new ≡ after_frame in_port frame.now self.old) }
         ensures err { OnErr result (self.new ≡ self.old) }
     {

@@ -1,6 +1,7 @@
 //! What messages make of a switch, and what it answers.
 
-ghost use Rattle.std.specs.Prelude.{◌≡◌, ◌==◌, ◌+◌, ◌-◌, ◌≤◌, ◌<◌, ◌^◌, ◌∷◌, [], None, Some, map, if◌then◌else◌, IfOk, OnOk, OnErr};
+ghost use Rattle.std.specs.Prelude.{◌≡◌, ◌==◌, ◌+◌, ◌-◌, ◌≤◌, ◌<◌, ◌^◌, ◌∷◌, [], None, Some, map, length, if◌then◌else◌, All, IsOk, IfOk, OnOk, OnErr};
+ghost use Rattle.of_wire.specs.Reading.{reading_of};
 ghost use Rattle.of_wire.specs.Spelling.{message_size};
 ghost use Rattle.flow_table.specs.Change.{refusal, changed, notices_of};
 ghost use Rattle.flow_table.specs.Switch.{with_port};
@@ -8,6 +9,7 @@ ghost use Rattle.flow_table.specs.Refusals.{flow_refusal, stats_refusal};
 ghost use Rattle.flow_table.specs.Statistics.{statistics_replies};
 ghost use Rattle.flow_table.specs.Step.{flow_removed_bytes, with_config, error_bytes, sent_by_taken, after_message, sent_by_message};
 ghost use Rattle.switch_sim.specs.StepLaws.{early_refusal};
+ghost use Rattle.switch_sim.specs.Readable.{AreReadable};
 ghost use Rattle.switch_sim.specs.Words.{AnswersWith, IsQuestion};
 
 use crate::message_list::MessageList;
@@ -76,7 +78,8 @@ impl SimSwitch {
     /// The ERROR that answers a message.
     fn refuse(&self, xid: Xid, m: &Message, refusal: OfError) -> Result<MessageList, AllocError>
         requires { message_size m.now ≤ 65535 }
-        ensures { IfOk result (λ list. list ≡ error_bytes xid m.now refusal ∷ []) }
+        ensures sent { IfOk result (λ list. list ≡ error_bytes xid m.now refusal ∷ []) }
+        ensures readable { IfOk result AreReadable }
     {
         MessageList::one(self.alloc, error(self.alloc, xid, m, refusal)?)
     }
@@ -86,6 +89,7 @@ impl SimSwitch {
         requires serials { self.old.table.next < 2 ^ 64 - 1 }
         requires free { flow_refusal self.old.had m.now ≡ None }
         ensures answer { AnswersWith result (refusal self.old.declared.cap m.now self.old.table.entries) (map flow_removed_bytes (notices_of self.old.moment m.now self.old.table.entries)) }
+        ensures readable { IfOk result AreReadable }
         ensures ok { OnOk result (self.new ≡ record self.old { table = changed self.old.moment m.now self.old.table }) }
         ensures err { OnErr result (self.new ≡ self.old) }
     {
@@ -99,6 +103,7 @@ impl SimSwitch {
         requires serials { self.old.table.next < 2 ^ 64 - 1 }
         requires free { flow_refusal self.old.had flow.now ≡ None }
         ensures sent { IfOk result (λ list. list ≡ sent_by_message xid m.now self.old) }
+        ensures readable { IfOk result AreReadable }
         ensures ok { OnOk result (self.new ≡ after_message m.now self.old) }
         ensures err { OnErr result (self.new ≡ self.old) }
     {
@@ -129,7 +134,8 @@ impl SimSwitch {
     fn answer(&self, xid: Xid, m: &Message) -> Result<MessageList, AllocError>
         requires size { message_size m.now ≤ 65535 }
         requires question { IsQuestion m.now }
-        ensures { IfOk result (λ list. list ≡ sent_by_taken xid m.now self.now) }
+        ensures sent { IfOk result (λ list. list ≡ sent_by_taken xid m.now self.now) }
+        ensures readable { IfOk result AreReadable }
     {
         let reply = match m {
             Message::BarrierRequest => barrier(self.alloc, xid)?,
@@ -147,6 +153,7 @@ impl SimSwitch {
         requires serials { self.old.table.next < 2 ^ 64 - 1 }
         requires free { early_refusal self.old m.now ≡ None }
         ensures sent { IfOk result (λ list. list ≡ sent_by_message xid m.now self.old) }
+        ensures readable { IfOk result AreReadable }
         ensures ok { OnOk result (self.new ≡ after_message m.now self.old) }
         ensures err { OnErr result (self.new ≡ self.old) }
     {
@@ -171,6 +178,7 @@ impl SimSwitch {
         requires size { message_size m.now ≤ 65535 }
         requires serials { self.old.table.next < 2 ^ 64 - 1 }
         ensures sent { IfOk result (λ list. list ≡ sent_by_message xid m.now self.old) }
+        ensures readable { IfOk result AreReadable }
         ensures ok { OnOk result (self.new ≡ after_message m.now self.old) }
         ensures err { OnErr result (self.new ≡ self.old) }
     {
@@ -184,11 +192,13 @@ impl SimSwitch {
     /// (OpenFlow 1.0.0, 5.3 to 5.5).
     ///
     /// After a refusal and want of memory the switch is as before. The message has at most 65,535 bytes, and fewer than
-    /// 2^64 - 1 serials were given to entries; each message gives one at most.
+    /// 2^64 - 1 serials were given to entries; each message gives one at most. What is sent can be read.
     pub fn message(&mut self, xid: Xid, m: &Message) -> Result<MessageList, AllocError>
         requires size { message_size m.now ≤ 65535 }
         requires serials { self.old.table.next < 2 ^ 64 - 1 }
         ensures sent { IfOk result (λ list. list ≡ sent_by_message xid m.now self.old) }
+        ensures readable { IfOk result (λ list. All (λ bytes. IsOk (reading_of bytes)) list) }
+        ensures short { IfOk result (λ list. All (λ bytes. length bytes ≤ 65535) list) }
         ensures ok { OnOk result (self.new ≡ after_message m.now self.old) }
         ensures err { OnErr result (self.new ≡ self.old) }
         ensures serials { self.new.table.next ≤ self.old.table.next + 1 }

@@ -1,6 +1,7 @@
 //! A list of whole messages.
 
 ghost use Rattle.std.specs.Prelude.{◌≡◌, ◌↔◌, [], ◌∷◌, length, IsTrue, IfOk};
+ghost use Rattle.switch_sim.specs.Readable.{IsReadable, AreReadable};
 
 use of_types::ByteList;
 use std::alloc::{AllocError, Global};
@@ -34,7 +35,8 @@ impl MessageList {
 
     /// One message.
     pub(crate) fn one(alloc: Global, message: ByteList) -> Result<MessageList, AllocError>
-        ensures { IfOk result (λ list. list ≡ message ∷ []) }
+        ensures one { IfOk result (λ list. list ≡ message ∷ []) }
+        ensures readable { IsReadable message → IfOk result AreReadable }
     {
         let mut messages = Vec::new(alloc);
         messages.push(message)?;

@@ -2,10 +2,12 @@
 
 ghost use Rattle.std.specs.Prelude.{◌≡◌, ℕ, ◌+◌, ◌≤◌, ◌<◌, ◌++◌, ◌&&◌, ◌∷◌, [], length, map, filter, All, IfOk};
 ghost use Rattle.std.specs.Vec.{vec_len, vec_capacity};
+ghost use Rattle.of_wire.specs.Spelling.{message_bytes};
 ghost use Rattle.flow_table.specs.Change.{is_delete, describes, deletes, asks_notice, notices_of};
 ghost use Rattle.flow_table.specs.Expiry.{is_due};
 ghost use Rattle.flow_table.specs.Step.{flow_removed_bytes};
 ghost use Rattle.switch_sim.specs.NoticeLaws.{IsShort};
+ghost use Rattle.switch_sim.specs.Readable.{IsReadable, AreReadable};
 ghost use Rattle.switch_sim.specs.Sound.{IsEntryAt};
 ghost use Rattle.switch_sim.specs.Words.{AreSpares};
 
@@ -17,7 +19,7 @@ use flow_timeouts::deadline;
 use match_overlap::subsumes;
 use of_match::Key;
 use of_types::{ByteList, flows};
-use of_wire::{FlowMod, Message, encode_into};
+use of_wire::{FlowMod, FlowRemoved, Message, encode_into};
 use std::alloc::{AllocError, Global};
 
 /// The length of a FLOW_REMOVED.
@@ -70,16 +72,33 @@ fn take(buffers: &mut Vec<ByteList>) -> Vec<u8>
     buffers.pop().unwrap().into_vec()
 }
 
-#[tactic(auto, unfolding(of_wire::specs::Spelling::message_size, flow_table::specs::Step::flow_removed_bytes))]
+#[tactic(auto, unfolding(of_wire::specs::Spelling::message_size))]
+fn fill(buffer: Vec<u8>, flow: FlowRemoved) -> ByteList
+    requires { length buffer.items ≡ 88 }
+    ensures { result ≡ message_bytes 0 (Message.FlowRemoved flow) }
+{
+    let mut buffer = buffer;
+    encode_into(0, &Message::FlowRemoved(flow), buffer.as_mut_slice());
+    ByteList::from_vec(buffer)
+}
+
+/// A FLOW_REMOVED over all of a buffer, which can be read.
+fn spell_removed(buffer: Vec<u8>, flow: FlowRemoved) -> ByteList
+    requires { length buffer.items ≡ 88 }
+    ensures bytes { result ≡ message_bytes 0 (Message.FlowRemoved flow) }
+    ensures readable { IsReadable result }
+{
+    fill(buffer, flow)
+}
+
+#[tactic(auto, unfolding(flow_table::specs::Step::flow_removed_bytes))]
 fn write(buffer: Vec<u8>, notice: &Notice) -> ByteList
     requires len { length buffer.items ≡ 88 }
     requires short { IsShort notice.now }
-    ensures { result ≡ flow_removed_bytes notice.now }
+    ensures bytes { result ≡ flow_removed_bytes notice.now }
+    ensures readable { IsReadable result }
 {
-    let mut buffer = buffer;
-    let message = Message::FlowRemoved(flow_removed(notice));
-    encode_into(0, &message, buffer.as_mut_slice());
-    ByteList::from_vec(buffer)
+    spell_removed(buffer, flow_removed(notice))
 }
 
 /// The FLOW_REMOVED messages of notices, for which there is room.
@@ -89,7 +108,8 @@ pub(crate) fn write_all(room: NoticeRoom, notices: &[Notice]) -> MessageList
     requires each { AreSpares room.buffers.items }
     requires room { length notices.now ≤ vec_capacity room.messages }
     requires short { All IsShort notices.now }
-    ensures { result ≡ map flow_removed_bytes notices.now }
+    ensures messages { result ≡ map flow_removed_bytes notices.now }
+    ensures readable { AreReadable result }
 {
     let NoticeRoom {
         mut buffers,

@@ -3,6 +3,7 @@
 ghost use Rattle.std.specs.Prelude.{◌≡◌, ◌≤◌, ◌++◌, length, All, IfOk, OnOk};
 ghost use Rattle.flow_table.specs.Frames.{ports_after_output, sent_by_output, sent_by_outputs};
 ghost use Rattle.switch_sim.specs.EditLaws.{HasAddress};
+ghost use Rattle.switch_sim.specs.Readable.{AreReadable};
 ghost use Rattle.switch_sim.specs.Words.{after_output_at, ports_after_outputs};
 
 use crate::message_list::MessageList;
@@ -48,8 +49,10 @@ pub(crate) fn push_output(
     to: PortNo,
     frame: &ByteList,
 ) -> Result<(), AllocError>
-    requires { length frame.now ≤ 65517 }
-    ensures { OnOk result (messages.new.items ≡ messages.old.items ++ sent_by_output in_port (to, frame.now)) }
+    requires fits { length frame.now ≤ 65517 }
+    requires before { AreReadable messages.old.items }
+    ensures sent { OnOk result (messages.new.items ≡ messages.old.items ++ sent_by_output in_port (to, frame.now)) }
+    ensures readable { OnOk result (AreReadable messages.new.items) }
 {
     if to == ports::CONTROLLER {
         messages.push(packet_in(alloc, flows::ACTION, in_port, frame.as_slice())?)?;
@@ -65,7 +68,8 @@ pub(crate) fn packet_ins(
     outputs: &[(PortNo, ByteList)],
 ) -> Result<MessageList, AllocError>
     requires { All (λ o. length o.1 ≤ 65517) outputs.now }
-    ensures { IfOk result (λ list. list ≡ sent_by_outputs in_port outputs.now) }
+    ensures sent { IfOk result (λ list. list ≡ sent_by_outputs in_port outputs.now) }
+    ensures readable { IfOk result AreReadable }
 {
     let mut messages = Vec::new(alloc);
     for (to, frame) in outputs {

@@ -8,6 +8,7 @@ ghost use Rattle.flow_table.specs.Table.{IsTable};
 ghost use Rattle.flow_table.specs.Refusals.{packet_out_refusal};
 ghost use Rattle.flow_table.specs.Frames.{sent_by_packet_output, after_packet_output, after_packet_outputs, after_packet_out, sent_by_packet_out, sent_by_packet_outputs};
 ghost use Rattle.switch_sim.specs.EditLaws.{reach};
+ghost use Rattle.switch_sim.specs.Readable.{AreReadable};
 ghost use Rattle.switch_sim.specs.Plan.{IsPlanned, planned_output};
 
 use crate::message_list::MessageList;
@@ -34,7 +35,10 @@ struct Plan {
 }
 
 fn append(all: &mut Vec<ByteList>, more: MessageList) -> Result<(), AllocError>
-    ensures { OnOk result (all.new.items ≡ all.old.items ++ more) }
+    requires before { AreReadable all.old.items }
+    requires more { AreReadable more }
+    ensures all { OnOk result (all.new.items ≡ all.old.items ++ more) }
+    ensures readable { OnOk result (AreReadable all.new.items) }
 {
     let mut more = more.into_vec();
     all.append(&mut more)
@@ -55,10 +59,12 @@ impl SimSwitch {
         in_port: PortNo,
         frame: &ByteList,
     ) -> Result<Planned, AllocError>
-        requires { reach frame.now ≤ 65517 }
+        requires fits { reach frame.now ≤ 65517 }
+        requires before { AreReadable messages.old.items }
         ensures output { IfOk result (λ p. planned_output p ≡ (0xfff9, frame.now)) }
         ensures planned { IfOk result (IsPlanned in_port self.now) }
         ensures sent { OnOk result (messages.new.items ≡ messages.old.items ++ sent_by_packet_output in_port (0xfff9, frame.now) self.now) }
+        ensures readable { OnOk result (AreReadable messages.new.items) }
     {
         let looked = self.look_up(in_port, frame.as_slice())?;
         append(messages, looked.messages)?;
@@ -78,10 +84,12 @@ impl SimSwitch {
         to: PortNo,
         frame: &ByteList,
     ) -> Result<Planned, AllocError>
-        requires { reach frame.now ≤ 65517 }
+        requires fits { reach frame.now ≤ 65517 }
+        requires before { AreReadable messages.old.items }
         ensures output { IfOk result (λ p. planned_output p ≡ (to, frame.now)) }
         ensures planned { IfOk result (IsPlanned in_port self.now) }
         ensures sent { OnOk result (messages.new.items ≡ messages.old.items ++ sent_by_packet_output in_port (to, frame.now) self.now) }
+        ensures readable { OnOk result (AreReadable messages.new.items) }
     {
         if to == ports::TABLE {
             return self.plan_lookup(messages, in_port, frame);
@@ -100,6 +108,7 @@ impl SimSwitch {
         ensures outputs { IfOk result (λ p. map planned_output p.steps.items ≡ outputs.now) }
         ensures planned { IfOk result (λ p. All (IsPlanned in_port self.now) p.steps.items) }
         ensures sent { IfOk result (λ p. p.messages.items ≡ flat_map (λ o. sent_by_packet_output in_port o self.now) outputs.now) }
+        ensures readable { IfOk result (λ p. AreReadable p.messages.items) }
     {
         let mut steps = Vec::new(self.alloc);
         let mut messages = Vec::new(self.alloc);
@@ -143,6 +152,7 @@ impl SimSwitch {
     ) -> Result<MessageList, AllocError>
         requires { All (λ o. reach o.1 ≤ 65517) outputs.now }
         ensures sent { IfOk result (λ list. list ≡ sent_by_packet_outputs in_port outputs.now self.old) }
+        ensures readable { IfOk result AreReadable }
         ensures ok { OnOk result (self.new ≡ after_packet_outputs in_port outputs.now self.old) }
         ensures err { OnErr result (self.new ≡ self.old) }
     {
@@ -157,6 +167,7 @@ impl SimSwitch {
         requires free { packet_out_refusal self.old.had m.now ≡ None }
         requires size { message_size (Message.PacketOut m.now) ≤ 65535 }
         ensures sent { IfOk result (λ list. list ≡ sent_by_packet_out m.now self.old) }
+        ensures readable { IfOk result AreReadable }
         ensures ok { OnOk result (self.new ≡ after_packet_out m.now self.old) }
         ensures err { OnErr result (self.new ≡ self.old) }
     {

@@ -3,6 +3,8 @@
 ghost use Rattle.std.specs.Prelude.{◌≡◌, ◌==◌, ◌++◌, ◌≤◌, length, codes, bit_and, IfOk};
 ghost use Rattle.std.specs.String.{string_bytes};
 ghost use Rattle.std.specs.Fmt.{decimal};
+ghost use Rattle.of_types.specs.Layout.{AreFields};
+ghost use Rattle.of_wire.specs.Spelling.{port_fields};
 ghost use Rattle.flow_table.specs.Switch.{has_bit, has_no_packet_in, new_port, hw_addr, port_name, port_desc, padded};
 ghost use Rattle.flow_table.specs.Frames.{goes_out_by, after_frame_out, after_frame_in, takes};
 ghost use Rattle.flow_table.specs.Statistics.{port_row};
@@ -196,8 +198,17 @@ impl Port {
         }
     }
 
-    /// The port as its switch describes it.
+    /// The port as its switch describes it; the fields fit the wire.
     pub(crate) fn describe(&self, alloc: Global, dpid: u64) -> Result<PortDesc, AllocError>
+        ensures desc { IfOk result (λ desc. desc ≡ port_desc dpid self.now) }
+        ensures fields { IfOk result (λ desc. AreFields (port_fields desc)) }
+    {
+        let desc = self.description(alloc, dpid)?;
+        measure(desc);
+        Ok(desc)
+    }
+
+    fn description(&self, alloc: Global, dpid: u64) -> Result<PortDesc, AllocError>
         ensures { IfOk result (λ desc. desc ≡ port_desc dpid self.now) }
     {
         Ok(PortDesc {
@@ -212,6 +223,14 @@ impl Port {
             peer: 0,
         })
     }
+}
+
+/// Finds that the fields of a description fit the wire, as their types say.
+fn measure(desc: PortDesc)
+    ensures { AreFields (port_fields desc) }
+{
+    let _address = desc.hw_addr.len();
+    let _name = desc.name.len();
 }
 
 /// The address of a port: 02 and 00, the low 16 bits of the switch's number, and the port's.

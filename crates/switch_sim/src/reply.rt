@@ -1,11 +1,15 @@
 //! Messages that a switch sends.
 
-ghost use Rattle.std.specs.Prelude.{◌≡◌, ◌≤◌, ◌<◌, ◌^◌, length, take, map, IfOk};
+ghost use Rattle.std.specs.Prelude.{◌≡◌, ◌≤◌, ◌<◌, ◌^◌, length, take, map, Ok, All, IfOk};
 ghost use Rattle.of_types.specs.declared.port_desc.PortDesc.{PortDesc};
-ghost use Rattle.of_wire.specs.Spelling.{message_bytes, message_size};
+ghost use Rattle.of_types.specs.Layout.{AreFields};
+ghost use Rattle.of_wire.specs.Grammar.{IsMessage, enveloped};
+ghost use Rattle.of_wire.specs.Reading.{reading_of};
+ghost use Rattle.of_wire.specs.Spelling.{message_bytes, message_size, port_fields};
 ghost use Rattle.flow_table.specs.Switch.{port_desc};
 ghost use Rattle.flow_table.specs.Frames.{packet_in};
 ghost use Rattle.flow_table.specs.Step.{flow_removed, error_bytes, port_status};
+ghost use Rattle.switch_sim.specs.Readable.{IsReadable, features_message};
 
 use crate::port::Port;
 use flow_table::Notice;
@@ -18,8 +22,18 @@ use std::alloc::{AllocError, Global};
 /// The most bytes of a frame that a PACKET_IN can carry.
 pub(crate) const MOST_FRAME: usize = 65_517;
 
+/// The bytes of a message of the grammar, which is read again.
+pub(crate) fn spell(alloc: Global, xid: u32, message: &Message) -> Result<ByteList, AllocError>
+    requires { IsMessage message.now }
+    ensures bytes { IfOk result (λ bytes. bytes ≡ message_bytes xid message.now) }
+    ensures read { IfOk result (λ bytes. reading_of bytes ≡ Ok (enveloped xid message.now)) }
+    ensures readable { IfOk result IsReadable }
+{
+    encode(alloc, xid, message)
+}
+
 /// A PACKET_IN of a whole frame, in no buffer (OpenFlow 1.0.0, 5.4.1 Packet-In Message).
-#[tactic(auto, unfolding(flow_table::specs::Frames::packet_in, of_wire::specs::Spelling::message_size))]
+#[tactic(auto, unfolding(flow_table::specs::Frames::packet_in))]
 pub(crate) fn packet_in(
     alloc: Global,
     reason: u8,
@@ -27,7 +41,8 @@ pub(crate) fn packet_in(
     frame: &[u8],
 ) -> Result<ByteList, AllocError>
     requires { length frame.now ≤ MOST_FRAME }
-    ensures { IfOk result (λ bytes. bytes ≡ packet_in reason in_port frame.now) }
+    ensures bytes { IfOk result (λ bytes. bytes ≡ packet_in reason in_port frame.now) }
+    ensures readable { IfOk result IsReadable }
 {
     let packet = PacketIn {
         buffer_id: flows::NO_BUFFER,
@@ -36,7 +51,16 @@ pub(crate) fn packet_in(
         reason,
         payload: ByteList::from_slice(alloc, frame)?,
     };
-    encode(alloc, 0, &Message::PacketIn(packet))
+    spell_packet_in(alloc, packet)
+}
+
+#[tactic(auto, unfolding(of_wire::specs::Spelling::message_size))]
+fn spell_packet_in(alloc: Global, packet: PacketIn) -> Result<ByteList, AllocError>
+    requires { length packet.payload ≤ MOST_FRAME }
+    ensures bytes { IfOk result (λ bytes. bytes ≡ message_bytes 0 (Message.PacketIn packet)) }
+    ensures readable { IfOk result IsReadable }
+{
+    spell(alloc, 0, &Message::PacketIn(packet))
 }
 
 /// The first 64 bytes.
@@ -60,24 +84,26 @@ pub(crate) fn error(
     error: OfError,
 ) -> Result<ByteList, AllocError>
     requires { message_size message.now ≤ 65535 }
-    ensures { IfOk result (λ bytes. bytes ≡ error_bytes xid message.now error) }
+    ensures bytes { IfOk result (λ bytes. bytes ≡ error_bytes xid message.now error) }
+    ensures readable { IfOk result IsReadable }
 {
     let request = encode(alloc, xid, message)?;
     let payload = ByteList::from_slice(alloc, front(request.as_slice()))?;
-    encode_error(alloc, xid, error, payload)
+    spell_error(alloc, xid, error, payload)
 }
 
 #[tactic(auto, unfolding(of_wire::specs::Spelling::message_size))]
-fn encode_error(
+fn spell_error(
     alloc: Global,
     xid: u32,
     error: OfError,
     payload: ByteList,
 ) -> Result<ByteList, AllocError>
     requires { length payload ≤ 64 }
-    ensures { IfOk result (λ bytes. bytes ≡ message_bytes xid (Message.Error error.kind error.code payload)) }
+    ensures bytes { IfOk result (λ bytes. bytes ≡ message_bytes xid (Message.Error error.kind error.code payload)) }
+    ensures readable { IfOk result IsReadable }
 {
-    encode(
+    spell(
         alloc,
         xid,
         &Message::Error {
@@ -114,15 +140,17 @@ pub(crate) fn port_status(
     dpid: u64,
     port: &Port,
 ) -> Result<ByteList, AllocError>
-    ensures { IfOk result (λ bytes. bytes ≡ port_status reason dpid port.now) }
+    ensures bytes { IfOk result (λ bytes. bytes ≡ port_status reason dpid port.now) }
+    ensures readable { IfOk result IsReadable }
 {
     let port = port.describe(alloc, dpid)?;
-    encode(alloc, 0, &Message::PortStatus(PortStatus { reason, port }))
+    spell(alloc, 0, &Message::PortStatus(PortStatus { reason, port }))
 }
 
 /// The descriptions of ports.
 fn describe_all(alloc: Global, dpid: u64, ports: &[Port]) -> Result<PortList, AllocError>
-    ensures { IfOk result (λ list. list ≡ map (port_desc dpid) ports.now) }
+    ensures ports { IfOk result (λ list. list ≡ map (port_desc dpid) ports.now) }
+    ensures fields { IfOk result (λ list. All (λ port. AreFields (port_fields port)) list) }
 {
     let mut descriptions = Vec::new(alloc);
     for port in ports {
@@ -140,14 +168,9 @@ pub(crate) fn features(
     ports: &[Port],
 ) -> Result<ByteList, AllocError>
     requires { length ports.now ≤ 64 }
-    ensures { IfOk result (λ bytes. bytes ≡ message_bytes xid (Message.FeaturesReply (record {
-      dpid = dpid;
-      n_buffers = 0;
-      n_tables = 1;
-      capabilities = 0x87;
-      actions = 0x7ff;
-      ports = map (port_desc dpid) ports.now;
-    }))) }
+    ensures bytes { IfOk result (λ bytes. bytes ≡ message_bytes xid (features_message dpid ports.now)) }
+    ensures read { IfOk result (λ bytes. reading_of bytes ≡ Ok (enveloped xid (features_message dpid ports.now))) }
+    ensures readable { IfOk result IsReadable }
 {
     let ports = describe_all(alloc, dpid, ports)?;
     let features = FeaturesReply {
@@ -158,31 +181,43 @@ pub(crate) fn features(
         actions: 0x7ff,
         ports,
     };
-    encode(alloc, xid, &Message::FeaturesReply(features))
+    spell(alloc, xid, &Message::FeaturesReply(features))
 }
 
 /// The BARRIER_REPLY (OpenFlow 1.0.0, 5.3.7 Barrier Message).
 #[tactic(auto, unfolding(of_wire::specs::Spelling::message_size))]
 pub(crate) fn barrier(alloc: Global, xid: u32) -> Result<ByteList, AllocError>
-    ensures { IfOk result (λ bytes. bytes ≡ message_bytes xid Message.BarrierReply) }
+    ensures bytes { IfOk result (λ bytes. bytes ≡ message_bytes xid Message.BarrierReply) }
+    ensures readable { IfOk result IsReadable }
 {
-    encode(alloc, xid, &Message::BarrierReply)
+    spell(alloc, xid, &Message::BarrierReply)
 }
 
 /// The ECHO_REPLY with the request's data (OpenFlow 1.0.0, 5.5.3 Echo Reply).
 #[tactic(auto, unfolding(of_wire::specs::Spelling::message_size))]
 pub(crate) fn echo(alloc: Global, xid: u32, payload: &ByteList) -> Result<ByteList, AllocError>
     requires { message_size (Message.EchoRequest payload.now) ≤ 65535 }
-    ensures { IfOk result (λ bytes. bytes ≡ message_bytes xid (Message.EchoReply payload.now)) }
+    ensures bytes { IfOk result (λ bytes. bytes ≡ message_bytes xid (Message.EchoReply payload.now)) }
+    ensures readable { IfOk result IsReadable }
 {
     let payload = payload.clone()?;
-    encode(alloc, xid, &Message::EchoReply { payload })
+    spell_echo(alloc, xid, payload)
+}
+
+#[tactic(auto, unfolding(of_wire::specs::Spelling::message_size))]
+fn spell_echo(alloc: Global, xid: u32, payload: ByteList) -> Result<ByteList, AllocError>
+    requires { length payload ≤ 65527 }
+    ensures bytes { IfOk result (λ bytes. bytes ≡ message_bytes xid (Message.EchoReply payload)) }
+    ensures readable { IfOk result IsReadable }
+{
+    spell(alloc, xid, &Message::EchoReply { payload })
 }
 
 /// The GET_CONFIG_REPLY (OpenFlow 1.0.0, 5.3.2 Switch Configuration).
 #[tactic(auto, unfolding(of_wire::specs::Spelling::message_size))]
 pub(crate) fn config(alloc: Global, xid: u32, config: SwitchConfig) -> Result<ByteList, AllocError>
-    ensures { IfOk result (λ bytes. bytes ≡ message_bytes xid (Message.GetConfigReply config)) }
+    ensures bytes { IfOk result (λ bytes. bytes ≡ message_bytes xid (Message.GetConfigReply config)) }
+    ensures readable { IfOk result IsReadable }
 {
-    encode(alloc, xid, &Message::GetConfigReply(config))
+    spell(alloc, xid, &Message::GetConfigReply(config))
 }

@@ -5,6 +5,7 @@ ghost use Rattle.of_action.specs.Spelling.{list_size};
 ghost use Rattle.of_stats.specs.Parts.{room};
 ghost use Rattle.flow_table.specs.Refusals.{stats_refusal};
 ghost use Rattle.flow_table.specs.Statistics.{sees_table, flow_rows, sum_bytes, table_bytes, port_rows, reply_rows, statistics_replies};
+ghost use Rattle.switch_sim.specs.Readable.{AreReadable};
 
 use crate::message_list::MessageList;
 use crate::statistics::{
@@ -128,7 +129,8 @@ impl SimSwitch {
     #[tactic(auto, unfolding(flow_table::specs::Statistics::statistics_replies))]
     pub(crate) fn statistics(&self, xid: Xid, request: &Stats) -> Result<MessageList, AllocError>
         requires { stats_refusal request.now ≡ None }
-        ensures { IfOk result (λ list. list ≡ statistics_replies xid request.now self.now) }
+        ensures sent { IfOk result (λ list. list ≡ statistics_replies xid request.now self.now) }
+        ensures readable { IfOk result AreReadable }
     {
         let rows = self.rows(request)?;
         reply(self.alloc, xid, request.kind, &rows)

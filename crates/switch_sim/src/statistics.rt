@@ -14,10 +14,12 @@ ghost use Rattle.of_stats.specs.Layouts.{sum_fields, table_fields};
 ghost use Rattle.of_stats.specs.Parts.{room};
 ghost use Rattle.of_wire.specs.Spelling.{message_bytes};
 ghost use Rattle.std.specs.Vec.{vec_len};
+ghost use Rattle.switch_sim.specs.Readable.{IsReadable, AreReadable};
 ghost use Rattle.switch_sim.specs.Words.{counted_in, IsSumBefore};
 
 use crate::message_list::MessageList;
 use crate::port::Port;
+use crate::reply::spell;
 use flow_table::Entry;
 use match_overlap::subsumes;
 use of_action::{Action, ActionList, encode_list, size};
@@ -26,7 +28,7 @@ use of_stats::{
     FlowRow, Sum, TableRow, split_reply, write_flow_row, write_port_row, write_sum, write_table_row,
 };
 use of_types::{ByteList, PortNo, ports, put_bytes};
-use of_wire::{Message, Stats, encode};
+use of_wire::{Message, Stats};
 use std::alloc::{AllocError, Global};
 
 /// Appends a text and zero bytes up to a size.
@@ -255,7 +257,8 @@ pub(crate) fn table_name() -> [u8; 32]
 /// A part of a reply as a message.
 fn encode_part(alloc: Global, xid: u32, part: &(u16, u16, ByteList)) -> Result<ByteList, AllocError>
     requires { length part.now.2 ≤ room }
-    ensures { IfOk result (λ bytes. bytes ≡ part_bytes xid part.now) }
+    ensures bytes { IfOk result (λ bytes. bytes ≡ part_bytes xid part.now) }
+    ensures readable { IfOk result IsReadable }
 {
     let (kind, flags, body) = part;
     let stats = Stats {
@@ -263,15 +266,16 @@ fn encode_part(alloc: Global, xid: u32, part: &(u16, u16, ByteList)) -> Result<B
         flags: *flags,
         body: body.clone()?,
     };
-    encode_stats(alloc, xid, stats)
+    spell_stats(alloc, xid, stats)
 }
 
 #[tactic(auto, unfolding(of_wire::specs::Spelling::message_size))]
-fn encode_stats(alloc: Global, xid: u32, stats: Stats) -> Result<ByteList, AllocError>
+fn spell_stats(alloc: Global, xid: u32, stats: Stats) -> Result<ByteList, AllocError>
     requires { length stats.body ≤ room }
-    ensures { IfOk result (λ bytes. bytes ≡ message_bytes xid (Message.StatsReply stats)) }
+    ensures bytes { IfOk result (λ bytes. bytes ≡ message_bytes xid (Message.StatsReply stats)) }
+    ensures readable { IfOk result IsReadable }
 {
-    encode(alloc, xid, &Message::StatsReply(stats))
+    spell(alloc, xid, &Message::StatsReply(stats))
 }
 
 /// The parts of a reply as messages.
@@ -281,7 +285,8 @@ fn encode_parts(
     parts: &[(u16, u16, ByteList)],
 ) -> Result<MessageList, AllocError>
     requires { All (λ part. length part.2 ≤ room) parts.now }
-    ensures { IfOk result (λ list. list ≡ map (part_bytes xid) parts.now) }
+    ensures parts { IfOk result (λ list. list ≡ map (part_bytes xid) parts.now) }
+    ensures readable { IfOk result AreReadable }
 {
     let mut messages = Vec::new(alloc);
     for part in parts {
@@ -298,7 +303,8 @@ pub(crate) fn reply(
     rows: &[ByteList],
 ) -> Result<MessageList, AllocError>
     requires { All (λ row. length row ≤ room) rows.now }
-    ensures { IfOk result (λ list. list ≡ map (part_bytes xid) (parts_of kind rows.now)) }
+    ensures parts { IfOk result (λ list. list ≡ map (part_bytes xid) (parts_of kind rows.now)) }
+    ensures readable { IfOk result AreReadable }
 {
     let parts = split_reply(alloc, kind, rows)?;
     encode_parts(alloc, xid, &parts)

@@ -1,19 +1,19 @@
 //! What happens to a switch beside messages.
 
-ghost use Rattle.std.specs.Prelude.{◌≡◌, ◌==◌, ◌≤◌, ◌<◌, ◌∷◌, [], true, false, not, map, filter, length, if◌then◌else◌, IfOk, OnOk, OnErr};
+ghost use Rattle.std.specs.Prelude.{◌≡◌, ◌==◌, ◌≤◌, ◌<◌, ◌∷◌, [], true, false, not, length, if◌then◌else◌, All, IsOk, IfOk, OnOk, OnErr};
 ghost use Rattle.std.specs.List.{insert};
+ghost use Rattle.of_wire.specs.Reading.{reading_of};
 ghost use Rattle.flow_table.specs.Hit.{with_counts};
-ghost use Rattle.flow_table.specs.Expiry.{expire, expiry_notices};
-ghost use Rattle.flow_table.specs.Switch.{PortState, port_at, with_port, with_number, insert_port, new_port};
-ghost use Rattle.flow_table.specs.Step.{set_link, ports_after_link, sent_by_link, can_add, without_port, sent_by_deletion, flow_removed_bytes, port_status, after_port_change, sent_by_port_change, after_stimulus, sent_by_stimulus};
+ghost use Rattle.flow_table.specs.Switch.{PortState, port_at, with_number, insert_port};
+ghost use Rattle.flow_table.specs.Step.{set_link, ports_after_link, sent_by_link, can_add, without_port, sent_by_deletion, port_status, after_port_change, sent_by_port_change, after_stimulus, sent_by_stimulus};
 ghost use Rattle.switch_sim.specs.Possible.{IsPossible};
+ghost use Rattle.switch_sim.specs.Readable.{AreReadable, AreShort, IsNotRaw, IsShortIfRaw};
 
 use crate::message_list::MessageList;
 use crate::port::Port;
 use crate::refusal::port_of;
 use crate::reply::port_status;
 use crate::switch::SimSwitch;
-use crate::table::expire;
 use of_types::{ByteList, PortChange, PortNo, Stimulus, ports};
 use std::alloc::{AllocError, Global};
 
@@ -36,7 +36,8 @@ fn set_links(all: &mut [Port], number: PortNo, up: bool)
 
 /// What a change of a port sends: a PORT_STATUS with its description.
 fn tell(alloc: Global, reason: u8, dpid: u64, port: &Port) -> Result<MessageList, AllocError>
-    ensures { IfOk result (λ list. list ≡ port_status reason dpid port.now ∷ []) }
+    ensures sent { IfOk result (λ list. list ≡ port_status reason dpid port.now ∷ []) }
+    ensures readable { IfOk result AreReadable }
 {
     MessageList::one(alloc, port_status(alloc, reason, dpid, port)?)
 }
@@ -49,7 +50,8 @@ fn tell_link(
     number: PortNo,
     up: bool,
 ) -> Result<MessageList, AllocError>
-    ensures { IfOk result (λ list. list ≡ sent_by_link up dpid (port_at number all.now)) }
+    ensures sent { IfOk result (λ list. list ≡ sent_by_link up dpid (port_at number all.now)) }
+    ensures readable { IfOk result AreReadable }
 {
     match port_of(all, number) {
         None => Ok(MessageList::new(alloc)),
@@ -70,7 +72,8 @@ fn tell_deletion(
     all: &[Port],
     number: PortNo,
 ) -> Result<MessageList, AllocError>
-    ensures { IfOk result (λ list. list ≡ sent_by_deletion dpid (port_at number all.now)) }
+    ensures sent { IfOk result (λ list. list ≡ sent_by_deletion dpid (port_at number all.now)) }
+    ensures readable { IfOk result AreReadable }
 {
     match port_of(all, number) {
         None => Ok(MessageList::new(alloc)),
@@ -128,22 +131,10 @@ fn remove_port(all: &mut Vec<Port>, number: PortNo)
 }
 
 impl SimSwitch {
-    /// The moment moves on.
-    fn advance(&mut self, moment: u64) -> Result<MessageList, AllocError>
-        requires after { self.old.moment ≤ moment }
-        requires within { moment ≤ 4294967295 }
-        ensures sent { IfOk result (λ list. list ≡ map flow_removed_bytes (expiry_notices moment self.old.table.entries)) }
-        ensures ok { OnOk result (self.new ≡ record self.old { moment = moment; table = expire moment self.old.table }) }
-        ensures err { OnErr result (self.new ≡ self.old) }
-    {
-        let messages = expire(self.alloc, &mut self.table, moment)?;
-        self.moment = moment;
-        Ok(messages)
-    }
-
     /// A link comes or goes.
     fn change_link(&mut self, number: PortNo, up: bool) -> Result<MessageList, AllocError>
         ensures sent { IfOk result (λ list. list ≡ sent_by_link up self.old.declared.dpid (port_at number self.old.ports)) }
+        ensures readable { IfOk result AreReadable }
         ensures ok { OnOk result (self.new ≡ record self.old { ports = ports_after_link up number self.old.ports }) }
         ensures err { OnErr result (self.new ≡ self.old) }
     {
@@ -156,6 +147,7 @@ impl SimSwitch {
     #[tactic(auto, unfolding(flow_table::specs::Step::after_port_change, flow_table::specs::Step::sent_by_port_change))]
     fn add_port(&mut self, number: PortNo) -> Result<MessageList, AllocError>
         ensures sent { IfOk result (λ list. list ≡ sent_by_port_change number PortChange.Add self.old) }
+        ensures readable { IfOk result AreReadable }
         ensures ok { OnOk result (self.new ≡ after_port_change number PortChange.Add self.old) }
         ensures err { OnErr result (self.new ≡ self.old) }
     {
@@ -173,6 +165,7 @@ impl SimSwitch {
     /// A port goes.
     fn delete_port(&mut self, number: PortNo) -> Result<MessageList, AllocError>
         ensures sent { IfOk result (λ list. list ≡ sent_by_deletion self.old.declared.dpid (port_at number self.old.ports)) }
+        ensures readable { IfOk result AreReadable }
         ensures ok { OnOk result (self.new ≡ record self.old { ports = without_port number self.old.ports }) }
         ensures err { OnErr result (self.new ≡ self.old) }
     {
@@ -185,6 +178,7 @@ impl SimSwitch {
     #[tactic(auto, unfolding(flow_table::specs::Step::after_port_change, flow_table::specs::Step::sent_by_port_change))]
     fn change_port(&mut self, number: PortNo, change: PortChange) -> Result<MessageList, AllocError>
         ensures sent { IfOk result (λ list. list ≡ sent_by_port_change number change self.old) }
+        ensures readable { IfOk result AreReadable }
         ensures ok { OnOk result (self.new ≡ after_port_change number change self.old) }
         ensures err { OnErr result (self.new ≡ self.old) }
     {
@@ -207,6 +201,8 @@ impl SimSwitch {
     fn happen(&mut self, s: &Stimulus) -> Result<MessageList, AllocError>
         requires { IsPossible s.now self.old }
         ensures sent { IfOk result (λ list. list ≡ sent_by_stimulus s.now self.old) }
+        ensures readable { IsNotRaw s.now → IfOk result AreReadable }
+        ensures short { IsShortIfRaw s.now → IfOk result AreShort }
         ensures ok { OnOk result (self.new ≡ after_stimulus s.now self.old) }
         ensures err { OnErr result (self.new ≡ self.old) }
     {
@@ -229,14 +225,20 @@ impl SimSwitch {
     /// What happens to the switch beside messages: a frame that arrives, time, a port that changes, flows that count,
     /// or bytes that it sends. Gives what it sends then. After want of memory the switch is as before.
     ///
-    /// A moment is not before the last and at most 4,294,967,295 seconds; a frame has 14 to 9,216 bytes.
+    /// A moment is not before the last and at most 4,294,967,295 seconds; a frame has 14 to 9,216 bytes. What is sent can
+    /// be read, but for bytes that the switch is told to send; at most 8,192 messages are sent where the table takes at
+    /// most 4,096 entries.
     pub fn stimulus(&mut self, s: &Stimulus) -> Result<MessageList, AllocError>
         requires { IsPossible s.now self.old }
         ensures sent { IfOk result (λ list. list ≡ sent_by_stimulus s.now self.old) }
+        ensures readable { IsNotRaw s.now → IfOk result (λ list. All (λ bytes. IsOk (reading_of bytes)) list) }
+        ensures short { IsShortIfRaw s.now → IfOk result (λ list. All (λ bytes. length bytes ≤ 65535) list) }
+        ensures few { self.old.declared.cap ≤ 4096 → IfOk result (λ list. length list ≤ 8192) }
         ensures ok { OnOk result (self.new ≡ after_stimulus s.now self.old) }
         ensures err { OnErr result (self.new ≡ self.old) }
         ensures serials { self.new.table.next ≡ self.old.table.next }
     {
+        self.is_sound();
         self.happen(s)
     }
 

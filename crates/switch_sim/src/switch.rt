@@ -1,17 +1,21 @@
 //! The simulated switch.
 
-ghost use Rattle.std.specs.Prelude.{◌≡◌, ◌≤◌, length, map, IfOk};
-ghost use Rattle.flow_table.specs.Switch.{joined_at, new_port};
+ghost use Rattle.std.specs.Prelude.{◌≡◌, ◌≤◌, length, map, Ok, IfOk};
+ghost use Rattle.of_wire.specs.Grammar.{enveloped};
+ghost use Rattle.of_wire.specs.Reading.{reading_of};
+ghost use Rattle.flow_table.specs.Switch.{joined_at, new_port, features_of, features_reply};
+ghost use Rattle.switch_sim.specs.Readable.{IsReadable, IsFeaturesOf};
 
 use crate::port::Port;
+use crate::reply::features;
 use flow_table::Table;
-use of_types::{Dpid, PortNo};
-use of_wire::SwitchConfig;
+use of_types::{ByteList, Dpid, PortNo};
+use of_wire::{Message, SwitchConfig};
 use std::alloc::{AllocError, Global};
 use std::marker::Model;
 
-/// A switch of OpenFlow 1.0.0 that has joined at moment 0, with an empty table. Contracts see its state
-/// (`SwitchState`), and what it sends as a function of that.
+/// A switch of OpenFlow 1.0.0 that has joined, with an empty table. Contracts see its state (`SwitchState`), and what it
+/// sends as a function of that.
 #[derive(Debug, Drop)]
 pub struct SimSwitch {
     pub(crate) alloc: Global,
@@ -75,12 +79,28 @@ impl SimSwitch {
         requires { length ports.now ≤ 64 }
         ensures { IfOk result (λ s. s ≡ joined_at 0 (record { dpid = dpid; cap = cap; ports = ports.now })) }
     {
+        SimSwitch::joined(alloc, 0, dpid, cap, ports)
+    }
+
+    /// A switch that has just joined at a moment, in seconds and at most 4,294,967,295: with an empty table that takes
+    /// `cap` entries, and its ports, at most 64, with a link each.
+    pub fn joined(
+        alloc: Global,
+        moment: u64,
+        dpid: Dpid,
+        cap: u32,
+        ports: &[PortNo],
+    ) -> Result<SimSwitch, AllocError>
+        requires within { moment ≤ 4294967295 }
+        requires few { length ports.now ≤ 64 }
+        ensures { IfOk result (λ s. s ≡ joined_at moment (record { dpid = dpid; cap = cap; ports = ports.now })) }
+    {
         Ok(SimSwitch {
             alloc,
             dpid,
             cap,
             declared: copy_numbers(alloc, ports)?,
-            moment: 0,
+            moment,
             table: Table::new(alloc)?,
             ports: new_ports(alloc, ports)?,
             had: copy_numbers(alloc, ports)?,
@@ -91,6 +111,25 @@ impl SimSwitch {
             lookups: 0,
             matched: 0,
         })
+    }
+
+    fn features_message(&self) -> Result<ByteList, AllocError>
+        ensures bytes { IfOk result (λ bytes. bytes ≡ features_reply 0 self.now) }
+        ensures read { IfOk result (λ bytes. reading_of bytes ≡ Ok (enveloped 0 (Message.FeaturesReply (features_of self.now)))) }
+        ensures readable { IfOk result IsReadable }
+    {
+        features(self.alloc, 0, self.dpid, &self.ports)
+    }
+
+    /// The FEATURES_REPLY of the switch with the `xid` 0 (OpenFlow 1.0.0, 5.3.1 Handshake), as it answers a
+    /// FEATURES_REQUEST.
+    pub fn features(&self) -> Result<ByteList, AllocError>
+        ensures bytes { IfOk result (λ bytes. bytes ≡ features_reply 0 self.now) }
+        ensures read { IfOk result (λ bytes. reading_of bytes ≡ Ok (enveloped 0 (Message.FeaturesReply (features_of self.now)))) }
+        ensures own { IfOk result (IsFeaturesOf self.now.declared.dpid) }
+        ensures short { IfOk result (λ bytes. length bytes ≤ 65535) }
+    {
+        self.features_message()
     }
 
     /// The number with which it was made; takes no memory.

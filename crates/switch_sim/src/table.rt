@@ -3,8 +3,9 @@
 ghost use Rattle.std.specs.Prelude.{◌≡◌, ◌-◌, ◌<◌, ◌^◌, map, All, IfOk, OnOk, OnErr};
 ghost use Rattle.flow_table.specs.Table.{IsTable, IsMoment};
 ghost use Rattle.flow_table.specs.Change.{refusal, changed, notices_of};
-ghost use Rattle.flow_table.specs.Expiry.{expire, expiry_notices};
+ghost use Rattle.flow_table.specs.Expiry.{expiry_notices};
 ghost use Rattle.flow_table.specs.Step.{flow_removed_bytes};
+ghost use Rattle.switch_sim.specs.Readable.{AreReadable};
 ghost use Rattle.switch_sim.specs.Sound.{IsEntryAt};
 ghost use Rattle.switch_sim.specs.Words.{AnswersWith};
 
@@ -25,6 +26,7 @@ pub(crate) fn change(
     requires now { IsMoment now table.old.entries }
     requires serials { table.old.next < 2 ^ 64 - 1 }
     ensures answer { AnswersWith result (refusal cap m.now table.old.entries) (map flow_removed_bytes (notices_of now m.now table.old.entries)) }
+    ensures readable { IfOk result AreReadable }
     ensures ok { OnOk result (table.new ≡ changed now m.now table.old) }
     ensures err { OnErr result (table.new ≡ table.old) }
     ensures in_order { IsTable table.old.entries }
@@ -34,15 +36,14 @@ pub(crate) fn change(
     Ok(write_all(room, notices.as_slice()))
 }
 
-/// Removes the entries that are due at a moment, and gives their FLOW_REMOVED messages.
-pub(crate) fn expire(alloc: Global, table: &mut Table, now: u64) -> Result<MessageList, AllocError>
-    requires now { IsMoment now table.old.entries }
-    requires each { All (IsEntryAt now) table.old.entries }
-    ensures sent { IfOk result (λ list. list ≡ map flow_removed_bytes (expiry_notices now table.old.entries)) }
-    ensures ok { OnOk result (table.new ≡ expire now table.old) }
-    ensures err { OnErr result (table.new ≡ table.old) }
+/// The FLOW_REMOVED messages of the entries that are due at a moment.
+pub(crate) fn due(alloc: Global, table: &Table, now: u64) -> Result<MessageList, AllocError>
+    requires now { IsMoment now table.now.entries }
+    requires each { All (IsEntryAt now) table.now.entries }
+    ensures sent { IfOk result (λ list. list ≡ map flow_removed_bytes (expiry_notices now table.now.entries)) }
+    ensures readable { IfOk result AreReadable }
 {
     let room = make_room(alloc, count_due(table.entries(), now))?;
-    let notices = table.expire(now)?;
+    let notices = table.due(now)?;
     Ok(write_all(room, notices.as_slice()))
 }

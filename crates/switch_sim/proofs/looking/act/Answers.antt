@@ -1,4 +1,4 @@
-use Rattle.std.proofs.Common.{◌≡◌, ◌≤◌, ◌∙◌, ℕ, List, length, subst, sym}
+use Rattle.std.proofs.Common.{◌≤◌, ◌∙◌, ℕ, List, length, subst, sym}
 use Rattle.std.specs.Prelude.{All}
 use Rattle.of_action.specs.declared.action.Action.{Action}
 use Rattle.switch_sim.specs.EditLaws.{HasAddress, outputs_short}

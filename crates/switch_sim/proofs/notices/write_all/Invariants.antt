@@ -1,6 +1,7 @@
 use Rattle.std.proofs.Common.{◌≡◌, ◌+◌, ◌≤◌, length, map, take}
 use Rattle.std.specs.Vec.{vec_len, vec_capacity}
 use Rattle.flow_table.specs.Step.{flow_removed_bytes}
+use Rattle.switch_sim.specs.Readable.{AreReadable}
 use Rattle.switch_sim.specs.Words.{AreSpares}
 use Rattle.switch_sim.proofs.notices.write_all.Given as goal
 
@@ -11,4 +12,5 @@ invariant-loop-notice l = record {
   room : length l.notices ≤ vec_capacity l.messages;
   buffers : length l.notices ≤ vec_len l.buffers + l.notice-index;
   each : AreSpares l.buffers.items;
+  readable : AreReadable l.messages.items;
 }

@@ -1,6 +1,5 @@
-use Rattle.std.proofs.Common.{length, ap, arith, length-append, codes}
+use Rattle.std.proofs.Common.{arith}
 use Rattle.std.proofs.lemmas.Fmt.{length-decimal-le}
-use Rattle.std.specs.Fmt.{decimal}
 use Rattle.switch_sim.proofs.port.name.Goals as goal
 
 pub padded_name-requires : goal.padded_name-requires

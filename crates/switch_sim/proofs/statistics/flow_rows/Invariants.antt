@@ -1,7 +1,7 @@
-use Rattle.std.proofs.Common.{◌≡◌, ◌≤◌, ◌++◌, All, length, map, filter, drop}
+use Rattle.std.proofs.Common.{◌≡◌, ◌≤◌, ◌++◌, All, length, map, drop}
 use Rattle.of_stats.specs.Flows.{row_bytes}
 use Rattle.of_stats.specs.Parts.{room}
-use Rattle.flow_table.specs.Rows.{is_selected, selected}
+use Rattle.flow_table.specs.Rows.{selected}
 use Rattle.flow_table.specs.Statistics.{flow_row}
 use Rattle.switch_sim.proofs.statistics.flow_rows.Given as goal
 

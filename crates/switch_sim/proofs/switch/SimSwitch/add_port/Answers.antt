@@ -1,4 +1,4 @@
-use Rattle.std.proofs.Common.{◌≤◌, ◌∙◌, ap, length, arith}
+use Rattle.std.proofs.Common.{◌∙◌, ap, length, arith}
 use Rattle.switch_sim.specs.SoundLaws.{IsSound-ports}
 use Rattle.switch_sim.specs.PortLaws.{length-insert_port}
 use Rattle.switch_sim.proofs.switch.SimSwitch.add_port.Goals as goal

@@ -1,5 +1,4 @@
-use Rattle.std.proofs.Common.{◌≡◌, ℕ, List, Option, None, Result, Ok, Err, OnOk, OnErr, sym, subst}
-use Rattle.of_types.specs.declared.errors.OfError.{OfError}
+use Rattle.std.proofs.Common.{◌≡◌, ℕ, List, None, Result, Ok, Err, OnOk, OnErr, sym, subst}
 use Rattle.of_wire.specs.declared.bodies.FlowMod.{FlowMod}
 use Rattle.flow_table.specs.declared.fault.ChangeFault.{ChangeFault}
 use Rattle.flow_table.specs.Table.{TableState, IsTable}

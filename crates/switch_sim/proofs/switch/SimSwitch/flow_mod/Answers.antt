@@ -1,8 +1,7 @@
-use Rattle.std.proofs.Common.{◌≡◌, ◌∙◌, List, [], ◌∷◌, None, Some, sym, ap, subst}
-use Rattle.of_wire.specs.declared.message.Message.{Message}
+use Rattle.std.proofs.Common.{◌≡◌, ◌∙◌, [], ◌∷◌, None, Some, sym}
 use Rattle.of_wire.specs.declared.message.Message.TheVariants.{FlowMod}
 use Rattle.flow_table.specs.Refusals.{message_refusal}
-use Rattle.flow_table.specs.Step.{after_taken, sent_by_taken, error_bytes, after_message, sent_by_message}
+use Rattle.flow_table.specs.Step.{after_taken, sent_by_taken, error_bytes, sent_by_message}
 use Rattle.switch_sim.specs.StepLaws.{flow_mod_free, refused_sent, refused_after, taken_sent, taken_after, if_gives, on_ok}
 use Rattle.switch_sim.proofs.switch.SimSwitch.flow_mod.Goals as goal
 
@@ -25,7 +24,7 @@ returns-in-Err-Refused-clause-sent c =
     let s = c.args.self.now in
     let e = c.in-Err-Refused.refusal in
     let refused : message_refusal s c.args.m.now ≡ Some e = rw c.requires.is (flow_mod_free s c.args.flow.now (Some e) c.requires.free (rw c.in-Err-Refused.field-0-is at c.in-Err-Refused.ensures.answer)) in
-    if_gives c.refuse.result (error_bytes c.args.xid c.args.m.now e ∷ []) (sent_by_message c.args.xid c.args.m.now s) (sym (refused_sent c.args.xid c.args.m.now s e refused)) c.refuse.ensures
+    if_gives c.refuse.result (error_bytes c.args.xid c.args.m.now e ∷ []) (sent_by_message c.args.xid c.args.m.now s) (sym (refused_sent c.args.xid c.args.m.now s e refused)) c.refuse.ensures.sent
 
 pub returns-in-Err-Refused-clause-ok : goal.returns-in-Err-Refused-clause-ok
 returns-in-Err-Refused-clause-ok c =

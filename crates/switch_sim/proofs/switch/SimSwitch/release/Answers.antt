@@ -1,4 +1,4 @@
-use Rattle.std.proofs.Common.{◌≡◌, ◌∙◌, ℕ, List, sym, ap}
+use Rattle.std.proofs.Common.{◌∙◌, sym}
 use Rattle.switch_sim.specs.LookLaws.{LooksLike-itself, sent_from_the_start}
 use Rattle.switch_sim.specs.PlanLaws.{short_steps}
 use Rattle.switch_sim.proofs.switch.SimSwitch.release.Goals as goal

@@ -10,7 +10,7 @@ returns-in-Some-clause-sent c =
     let m = c.args.m.now in
     let e = c.in-Some.refusal in
     let refused : message_refusal s m ≡ Some e = early_some s m e (sym c.in-Some.ensures) in
-    if_gives c.refuse.result (error_bytes c.args.xid m e ∷ []) (sent_by_message c.args.xid m s) (sym (refused_sent c.args.xid m s e refused)) c.refuse.ensures
+    if_gives c.refuse.result (error_bytes c.args.xid m e ∷ []) (sent_by_message c.args.xid m s) (sym (refused_sent c.args.xid m s e refused)) c.refuse.ensures.sent
 
 pub returns-in-Some-clause-ok : goal.returns-in-Some-clause-ok
 returns-in-Some-clause-ok c =

@@ -1,8 +1,8 @@
-use Rattle.std.proofs.Common.{◌≡◌, ◌∙◌, List, ℕ, [], None, Some, sym, ap}
+use Rattle.std.proofs.Common.{◌≡◌, ◌∙◌, ℕ, None, sym}
 use Rattle.of_wire.specs.declared.message.Message.{Message}
 use Rattle.of_wire.specs.declared.message.Message.TheVariants.{PacketOut, PortMod, SetConfig, StatsRequest}
 use Rattle.flow_table.specs.Switch.{SwitchState}
-use Rattle.flow_table.specs.Refusals.{message_refusal, packet_out_refusal, stats_refusal}
+use Rattle.flow_table.specs.Refusals.{message_refusal}
 use Rattle.flow_table.specs.Statistics.{statistics_replies}
 use Rattle.flow_table.specs.Frames.{after_packet_out, sent_by_packet_out}
 use Rattle.flow_table.specs.Step.{after_taken, sent_by_taken, after_message, sent_by_message}
@@ -78,7 +78,7 @@ returns-in-StatsRequest-clause-sent c =
     let s = c.args.self.now in
     let m = StatsRequest c.in-StatsRequest.request in
     let none = at_message s c.args.m.now m c.in-StatsRequest.is c.requires.free in
-    if_gives c.statistics.result (statistics_replies c.args.xid c.in-StatsRequest.request s) (sent_by_message c.args.xid c.args.m.now s) (same_sent c.args.xid c.args.m.now m s c.in-StatsRequest.is none) c.statistics.ensures
+    if_gives c.statistics.result (statistics_replies c.args.xid c.in-StatsRequest.request s) (sent_by_message c.args.xid c.args.m.now s) (same_sent c.args.xid c.args.m.now m s c.in-StatsRequest.is none) c.statistics.ensures.sent
 
 pub returns-in-StatsRequest-clause-ok : goal.returns-in-StatsRequest-clause-ok
 unfolding after_taken
@@ -98,7 +98,7 @@ returns-in_default-clause-sent c =
     let s = c.args.self.now in
     let m = c.args.m.now in
     let is : IsQuestion m = question_other s m c.requires.free d.not-FlowMod d.not-PacketOut d.not-PortMod d.not-SetConfig d.not-StatsRequest in
-    if_gives c.answer.result (sent_by_taken c.args.xid m s) (sent_by_message c.args.xid m s) (sym (taken_sent c.args.xid m s (question_free s m is))) c.answer.ensures
+    if_gives c.answer.result (sent_by_taken c.args.xid m s) (sent_by_message c.args.xid m s) (sym (taken_sent c.args.xid m s (question_free s m is))) c.answer.ensures.sent
 
 pub returns-in_default-clause-ok : goal.returns-in_default-clause-ok
 returns-in_default-clause-ok c =

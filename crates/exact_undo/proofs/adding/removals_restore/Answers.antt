@@ -1,0 +1,12 @@
+use Rattle.exact_undo.specs.RemovalLaws.{removals-restore, is_among-reverse}
+use Rattle.exact_undo.specs.AddedLaws.{undone-added}
+use Rattle.exact_undo.proofs.adding.removals_restore.Goals as goal
+
+pub returns-clause-restores : goal.returns-clause-restores
+returns-clause-restores c = removals-restore
+
+pub returns-clause-newest_first : goal.returns-clause-newest_first
+returns-clause-newest_first c = is_among-reverse
+
+pub returns-clause-undone : goal.returns-clause-undone
+returns-clause-undone c = undone-added

@@ -1,0 +1,7 @@
+use Rattle.std.proofs.Common.{arith}
+use Rattle.of_wire.specs.Spelling.{message_size}
+use Rattle.switch_sim.proofs.reply.spell_echo.Goals as goal
+
+pub spell-requires : goal.spell-requires
+unfolding message_size
+spell-requires c = record { fields = tt; tail = tt; size = omega (arith, c.requires) }
