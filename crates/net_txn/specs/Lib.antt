@@ -9,3 +9,5 @@ pub mod Net
 pub mod SentLaws
 pub mod Changes
 pub mod ChangeLaws
+pub mod Undos
+pub mod QuietLaws

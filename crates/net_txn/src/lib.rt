@@ -3,6 +3,7 @@
 
 mod ask;
 mod change;
+mod fares;
 mod fault;
 mod heard;
 mod host;
@@ -11,12 +12,14 @@ mod net;
 mod ports;
 mod prepared;
 mod queue;
+mod quiet;
 mod rows;
+mod trouble;
 mod views;
 mod wait;
 
 pub use fault::TxnFault;
-pub use logged::Logged;
+pub use logged::{Fare, Logged};
 pub use net::Net;
 pub use ports::KnownPorts;
 pub use queue::{EventQueue, MessageQueue};

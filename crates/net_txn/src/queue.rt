@@ -1,5 +1,6 @@
 //! Events, and messages of switches, in the order in which they came.
 
+ghost use Rattle.net_txn.specs.Waits.{KeptMore};
 ghost use Rattle.std.specs.Prelude.{◌≡◌, ◌↔◌, [], ◌∷◌, ◌++◌, drop, length, slice_get, IsTrue, OnOk, OnErr};
 
 use app_frames::Event;
@@ -100,6 +101,12 @@ impl MessageQueue {
         let bytes = ByteList::from_slice(self.alloc, message)?;
         self.messages.push_back((dpid, bytes))?;
         Ok(())
+    }
+
+    /// Drops a message; takes no memory.
+    pub(crate) fn keep(&mut self, dpid: Dpid, _message: &[u8])
+        ensures { KeptMore dpid self.old self.new }
+    {
     }
 
     /// Takes the oldest message out; takes no memory.

@@ -1,0 +1,191 @@
+-- Laws of calls of one switch: what each leaves, one after the other, and a fault behind others.
+use Rattle.std.specs.Prelude.{◌≡◌, ℕ, ◌+◌, ◌≤◌, Bool, true, false, List, [], ◌∷◌, ◌++◌, length, take, None, Some, Result, Ok, Err, IsOk, IsErr, refl}
+use Rattle.std.specs.List.{flat_map, AllByRecursion}
+use Rattle.std.proofs.Common.{sym, ap, ◌∙◌, append_assoc, length-append, arith}
+use Rattle.std.proofs.lemmas.List.{append-nil, flat_map_more}
+use Rattle.lego_io.specs.CountLaws.{Rose-after}
+use Rattle.of_types.specs.declared.journal.Act.TheVariants.{Sent, Got}
+use Rattle.of_match.specs.declared.key.Key.{Key}
+use Rattle.of_wire.specs.Reading.{reading_of}
+use Rattle.of_wire.specs.Spelling.{message_bytes}
+use Rattle.of_wire.specs.declared.message.Message.TheVariants.{BarrierReply}
+use Rattle.outside.specs.declared.faults.LinkFault.{LinkFault}
+use Rattle.outside.specs.declared.faults.LinkFault.TheVariants as linking
+use Rattle.outside.specs.declared.step.WorldStep.{WorldStep}
+use Rattle.outside.specs.declared.step.WorldStep.TheVariants.{Acted, SendFailed, RecvFailed}
+use Rattle.outside.specs.Calls.{Sends, Receives, send_steps, receive_steps}
+use Rattle.outside.specs.Seen.{Counts, NoneFell, Seen}
+use Rattle.outside.specs.SeenLaws.{Continues-refl, Continues-trans, Sends-continues, Receives-continues}
+use Rattle.net_txn.specs.declared.fault.TxnFault.{TxnFault}
+use Rattle.net_txn.specs.declared.fault.TxnFault.TheVariants.{SwitchFault, SwitchBroke, Diverged, Flooded, NoMemory}
+use Rattle.net_txn.specs.declared.heard.Awaited.{Awaited}
+use Rattle.net_txn.specs.declared.heard.Heard.{Heard}
+use Rattle.net_txn.specs.declared.heard.Heard.TheVariants.{Reply, Refused, Notice, Echo, Other}
+use Rattle.net_txn.specs.Waits.{heard, is_reply, steps_by, heard_steps, wait_steps, reply_got}
+use Rattle.net_txn.specs.WaitLaws.{reply_is}
+use Rattle.net_txn.specs.Undos.{IsStepOf, Moves, key_refused, AreBefore, EndsBy, Refuses, IsFaultOf, Fails, Settles, HearsOn, HearsNext}
+
+-- ---- Calls of the world
+
+pub sent_moves : {Own T : Type 0} {Tells : Type 0} {d : ℕ} {frame : List ℕ} {old new : Seen Own} (x : T) → Sends Tells d frame old new (Ok x) → Moves Tells d (Acted (Sent d frame) ∷ []) old new
+unfolding send_steps
+sent_moves x call = record { continues = Sends-continues call; each = (refl, tt); told = λ t. (call.told t).history }
+
+pub send_fails : {Own : Type 0} {Tells : Type 0} {d : ℕ} {frame : List ℕ} {old new : Seen Own} (T : Type 0) → (sent : List (ℕ × Key)) → Sends {T = T} Tells d frame old new (Err linking.Failed) → Fails Tells d sent old new (SwitchFault d)
+unfolding send_steps
+send_fails {d = d} T sent call = record {
+  steps = SendFailed d ∷ [];
+  moves = record { continues = Sends-continues call; each = (refl, tt); told = λ t. (call.told t).history };
+  cause = (refl, call.failed refl);
+}
+
+pub send_short : {Own : Type 0} {Tells : Type 0} {d : ℕ} {frame : List ℕ} {old new : Seen Own} (T : Type 0) → (sent : List (ℕ × Key)) → Sends {T = T} Tells d frame old new (Err linking.Short) → Fails Tells d sent old new NoMemory
+unfolding send_steps
+send_short T sent call = record {
+  steps = [];
+  moves = record { continues = Sends-continues call; each = tt; told = λ t. (call.told t).history };
+  cause = (call.short refl, call.short_of refl);
+}
+
+-- the same where the fault is known by an equation
+pub send_fails_so : {Own : Type 0} {Tells : Type 0} {d : ℕ} {frame : List ℕ} {old new : Seen Own} (T : Type 0) → (sent : List (ℕ × Key)) (f : LinkFault) → f ≡ linking.Failed → Sends {T = T} Tells d frame old new (Err f) → Fails Tells d sent old new (SwitchFault d)
+send_fails_so T sent f is call = send_fails T sent (rw is at call)
+
+pub send_short_so : {Own : Type 0} {Tells : Type 0} {d : ℕ} {frame : List ℕ} {old new : Seen Own} (T : Type 0) → (sent : List (ℕ × Key)) (f : LinkFault) → f ≡ linking.Short → Sends {T = T} Tells d frame old new (Err f) → Fails Tells d sent old new NoMemory
+send_short_so T sent f is call = send_short T sent (rw is at call)
+
+pub got_moves : {Own : Type 0} {Tells : Type 0} {d : ℕ} {buf : List ℕ} {old new : Seen Own} (n : ℕ) → Receives Tells d old new (Ok n) buf → Moves Tells d (Acted (Got d (take n buf)) ∷ []) old new
+unfolding receive_steps
+got_moves n call = record { continues = Receives-continues call; each = (refl, tt); told = λ t. (call.told t).history }
+
+pub receive_fails : {Own : Type 0} {Tells : Type 0} {d : ℕ} {buf : List ℕ} {old new : Seen Own} (sent : List (ℕ × Key)) → Receives Tells d old new (Err linking.Failed) buf → Fails Tells d sent old new (SwitchFault d)
+unfolding receive_steps
+receive_fails {d = d} sent call = record {
+  steps = RecvFailed d ∷ [];
+  moves = record { continues = Receives-continues call; each = (refl, tt); told = λ t. (call.told t).history };
+  cause = (refl, call.failed refl);
+}
+
+pub receive_short : {Own : Type 0} {Tells : Type 0} {d : ℕ} {buf : List ℕ} {old new : Seen Own} (sent : List (ℕ × Key)) → Receives Tells d old new (Err linking.Short) buf → Fails Tells d sent old new NoMemory
+unfolding receive_steps
+receive_short sent call = record {
+  steps = [];
+  moves = record { continues = Receives-continues call; each = tt; told = λ t. (call.told t).history };
+  cause = (call.short refl, call.short_of refl);
+}
+
+pub receive_fails_so : {Own : Type 0} {Tells : Type 0} {d : ℕ} {buf : List ℕ} {old new : Seen Own} (sent : List (ℕ × Key)) (f : LinkFault) → f ≡ linking.Failed → Receives Tells d old new (Err f) buf → Fails Tells d sent old new (SwitchFault d)
+receive_fails_so sent f is call = receive_fails sent (rw is at call)
+
+pub receive_short_so : {Own : Type 0} {Tells : Type 0} {d : ℕ} {buf : List ℕ} {old new : Seen Own} (sent : List (ℕ × Key)) (f : LinkFault) → f ≡ linking.Short → Receives Tells d old new (Err f) buf → Fails Tells d sent old new NoMemory
+receive_short_so sent f is call = receive_short sent (rw is at call)
+
+pub received_broke : {Own : Type 0} {Tells : Type 0} {d : ℕ} {buf : List ℕ} {old new : Seen Own} (n : ℕ) (sent : List (ℕ × Key)) → Receives Tells d old new (Ok n) buf → IsErr (reading_of (take n buf)) → Fails Tells d sent old new (SwitchBroke d (take n buf))
+received_broke {d = d} {buf = buf} n sent call broke = record {
+  steps = Acted (Got d (take n buf)) ∷ [];
+  moves = got_moves n call;
+  cause = (refl, broke, ([], refl));
+}
+
+-- ---- One after the other
+
+all_append : {X : Type 0} (P : X → Type 0) (xs ys : List X) → AllByRecursion P xs → AllByRecursion P ys → AllByRecursion P (xs ++ ys)
+all_append P [] ys all rest = rest
+all_append P (x ∷ xs) ys all rest = (all.0, all_append P xs ys all.1 rest)
+
+pub Moves-none : {Own : Type 0} (Tells : Type 0) (d : ℕ) (seen : Seen Own) → Moves Tells d [] seen seen
+Moves-none Tells d seen = record { continues = Continues-refl Tells seen; each = tt; told = λ t. sym (append-nil seen.history) }
+
+pub Moves-then : {Own : Type 0} {Tells : Type 0} {d : ℕ} {first second : List WorldStep} {old mid new : Seen Own} → Moves Tells d first old mid → Moves Tells d second mid new → Moves Tells d (first ++ second) old new
+Moves-then {Tells = Tells} {d = d} {first = first} {second = second} {old = old} {mid = mid} {new = new} m n = record {
+  continues = Continues-trans Tells old mid new m.continues n.continues;
+  each = all_append (IsStepOf d) first second m.each n.each;
+  told = λ t. n.told t ∙ ap (λ (s : List WorldStep). s ++ second) (m.told t) ∙ append_assoc old.history first second;
+}
+
+pub Moves-same : {Own : Type 0} {Tells : Type 0} {d : ℕ} (first second : List WorldStep) {old new : Seen Own} → first ≡ second → Moves Tells d first old new → Moves Tells d second old new
+Moves-same first second same m = rw same at m
+
+EndsBy-behind : (d : ℕ) (bytes : List ℕ) (first steps : List WorldStep) → EndsBy d bytes steps → EndsBy d bytes (first ++ steps)
+EndsBy-behind d bytes first steps ends =
+    let got = Acted (Got d bytes) ∷ [] in
+    (first ++ ends.0, ap (λ (s : List WorldStep). first ++ s) ends.1 ∙ sym (append_assoc first ends.0 got))
+
+pub IsFaultOf-behind : (d : ℕ) (sent : List (ℕ × Key)) (old mid new : Counts) (first steps : List WorldStep) (fault : TxnFault) → NoneFell old mid → IsFaultOf d sent mid new steps fault → IsFaultOf d sent old new (first ++ steps) fault
+IsFaultOf-behind d sent old mid new first steps (SwitchFault e) before cause = (cause.0, Rose-after (old.link_faults d) (mid.link_faults d) (new.link_faults d) (before.link_faults d) cause.1)
+IsFaultOf-behind d sent old mid new first steps (SwitchBroke e bytes) before cause = (cause.0, cause.1, EndsBy-behind d bytes first steps cause.2)
+IsFaultOf-behind d sent old mid new first steps (Diverged e inverse bytes) before cause =
+    let r = cause.1 in (cause.0, record { key = r.key; of_key = r.of_key; inverse_so = r.inverse_so; last = EndsBy-behind d bytes first steps r.last })
+IsFaultOf-behind d sent old mid new first steps (Flooded e n) before cause = cause
+IsFaultOf-behind d sent old mid new first steps NoMemory before cause =
+    (Rose-after old.shorts mid.shorts new.shorts before.shorts cause.0, Rose-after (old.shorts_of d) (mid.shorts_of d) (new.shorts_of d) (before.shorts_of d) cause.1)
+
+pub Fails-behind : {Own : Type 0} {Tells : Type 0} {d : ℕ} {first : List WorldStep} {sent : List (ℕ × Key)} {old mid new : Seen Own} (fault : TxnFault) → Moves Tells d first old mid → Fails Tells d sent mid new fault → Fails Tells d sent old new fault
+Fails-behind {d = d} {first = first} {sent = sent} {old = old} {mid = mid} {new = new} fault m f = record {
+  steps = first ++ f.steps;
+  moves = Moves-then m f.moves;
+  cause = IsFaultOf-behind d sent old.counts mid.counts new.counts first f.steps fault m.continues.none_fell f.cause;
+}
+
+-- what was got last refuses an inverse
+pub Fails-refused : {Own : Type 0} {Tells : Type 0} {d : ℕ} {sent : List (ℕ × Key)} {old new : Seen Own} (bytes inverse : List ℕ) → Moves Tells d (Acted (Got d bytes) ∷ []) old new
+    → ((steps : List WorldStep) → EndsBy d bytes steps → Refuses d sent steps inverse bytes) → Fails Tells d sent old new (Diverged d inverse bytes)
+Fails-refused {d = d} bytes inverse m refuses = record {
+  steps = Acted (Got d bytes) ∷ [];
+  moves = m;
+  cause = (refl, refuses (Acted (Got d bytes) ∷ []) ([], refl));
+}
+
+-- too many messages were got
+pub Fails-flooded : {Own : Type 0} {Tells : Type 0} {d : ℕ} {sent : List (ℕ × Key)} {steps : List WorldStep} {old new : Seen Own} → Moves Tells d steps old new → Fails Tells d sent old new (Flooded d 65536)
+Fails-flooded {steps = steps} m = record { steps = steps; moves = m; cause = (refl, refl) }
+
+-- ---- Waits
+
+pub none_heard : {Own : Type 0} (Tells : Type 0) (a : Awaited) (sent : List (ℕ × Key)) (seen : Seen Own) → HearsOn Tells a sent seen seen 0
+none_heard Tells a sent seen = record {
+  got = [];
+  count = refl;
+  before = record { read = tt; before_reply = tt; unrefused = tt };
+  moves = Moves-none Tells a.dpid seen;
+}
+
+wait_more : (a : Awaited) (got : List (List ℕ)) (b : List ℕ) → wait_steps a got ++ wait_steps a (b ∷ []) ≡ wait_steps a (got ++ b ∷ [])
+wait_more a got b = ap (λ (s : List WorldStep). wait_steps a got ++ s) (append-nil (heard_steps a b)) ∙ flat_map_more (heard_steps a) [] got b
+
+pub one_heard : {Own : Type 0} {Tells : Type 0} {a : Awaited} {sent : List (ℕ × Key)} {old mid new : Seen Own} {n : ℕ} → HearsOn Tells a sent old mid n → HearsNext Tells a sent mid new false → HearsOn Tells a sent old new (n + 1)
+one_heard {a = a} {sent = sent} w h =
+    let b = h.bytes in
+    record {
+      got = w.got ++ b ∷ [];
+      count = omega (arith, w.count, length-append w.got (b ∷ []));
+      before = record {
+        read = all_append (λ x. IsOk (reading_of x)) w.got (b ∷ []) w.before.read (h.read, tt);
+        before_reply = all_append (λ x. is_reply (heard a x) ≡ false) w.got (b ∷ []) w.before.before_reply (sym h.ends, tt);
+        unrefused = all_append (λ x. key_refused sent x ≡ None) w.got (b ∷ []) w.before.unrefused (h.unrefused, tt);
+      };
+      moves = Moves-same (wait_steps a w.got ++ wait_steps a (b ∷ [])) (wait_steps a (w.got ++ b ∷ [])) (wait_more a w.got b) (Moves-then w.moves h.moves);
+    }
+
+is_Reply : (h : Heard) → is_reply h ≡ true → h ≡ Reply
+is_Reply Reply is = refl
+is_Reply (Refused r) is = absurd cc
+is_Reply Notice is = absurd cc
+is_Reply Echo is = absurd cc
+is_Reply Other is = absurd cc
+
+reply_steps : (a : Awaited) (bytes : List ℕ) → is_reply (heard a bytes) ≡ true → wait_steps a (bytes ∷ []) ≡ reply_got a ∷ []
+reply_steps a bytes is =
+    let h : heard a bytes ≡ Reply = is_Reply (heard a bytes) is in
+    rw h (ap (λ (b : List ℕ). Acted (Got a.dpid b) ∷ []) (reply_is a bytes is))
+
+pub heard_all : {Own : Type 0} {Tells : Type 0} {a : Awaited} {sent : List (ℕ × Key)} {old mid new : Seen Own} {n : ℕ} → HearsOn Tells a sent old mid n → n ≤ 65535 → HearsNext Tells a sent mid new true → Settles Tells a [] sent old new
+heard_all {a = a} w few h = record {
+  got = w.got;
+  few = omega (arith, w.count, few);
+  before = w.before;
+  moves = Moves-then w.moves (Moves-same (wait_steps a (h.bytes ∷ [])) (reply_got a ∷ []) (reply_steps a h.bytes (sym h.ends)) h.moves);
+}
+
+pub Settles-behind : {Own : Type 0} {Tells : Type 0} {a : Awaited} {first : List WorldStep} {sent : List (ℕ × Key)} {old mid new : Seen Own} → Moves Tells a.dpid first old mid → Settles Tells a [] sent mid new → Settles Tells a first sent old new
+Settles-behind m s = record { got = s.got; few = s.few; before = s.before; moves = Moves-then m s.moves }

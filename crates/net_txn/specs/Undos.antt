@@ -1,0 +1,247 @@
+-- How logged additions are undone: newest first over all switches each key is removed again (OpenFlow 1.0.0, 5.3.3 Modify State
+-- Messages: DELETE_STRICT), with barriers behind (5.3.7 Barrier Message). A switch that fails is left alone from then on. What is
+-- done is a list of parts, newest first, as the log is read from its end. All of this is our own choice.
+use Rattle.std.specs.Prelude.{◌≡◌, ◌==◌, ℕ, ◌+◌, ◌<◌, ◌≤◌, Bool, true, false, ◌&&◌, List, [], ◌∷◌, ◌++◌, length, take, map, Option, Some, None, Result, Ok, Err, IsOk, IsErr, if◌then◌else◌}
+use Rattle.std.specs.List.{AllByRecursion, list_any}
+use Rattle.std.specs.Option.{is_some}
+use Rattle.std.proofs.Common.{zero, suc}
+use Rattle.lego_io.specs.Count.{Rose}
+use Rattle.of_types.specs.Fields.{number_at}
+use Rattle.of_types.specs.declared.journal.Act.TheVariants.{Sent, Got}
+use Rattle.of_match.specs.declared.key.Key.{Key}
+use Rattle.of_wire.specs.Reading.{reading_of}
+use Rattle.flow_table.specs.declared.view.TableView.{TableView}
+use Rattle.outside.specs.declared.step.WorldStep.{WorldStep}
+use Rattle.outside.specs.declared.step.WorldStep.TheVariants.{Acted, SendFailed, RecvFailed}
+use Rattle.outside.specs.Seen.{Counts, Seen, Continues}
+use Rattle.net_txn.specs.declared.fault.TxnFault.{TxnFault}
+use Rattle.net_txn.specs.declared.fault.TxnFault.TheVariants.{SwitchFault, SwitchBroke, Diverged, Flooded, NoMemory}
+use Rattle.net_txn.specs.declared.heard.Awaited.{Awaited}
+use Rattle.net_txn.specs.declared.logged.Fare.{Fare}
+use Rattle.net_txn.specs.declared.logged.Logged.{Logged}
+use Rattle.net_txn.specs.declared.trouble.Trouble.{Trouble}
+use Rattle.net_txn.specs.declared.trouble.Trouble.TheVariants as troubles
+use Rattle.net_txn.specs.Causes.{flood}
+use Rattle.net_txn.specs.Net.{next_xid, inverse_bytes, no_fare}
+use Rattle.net_txn.specs.Waits.{heard, is_reply, wait_steps, barrier_sent, reply_got}
+
+-- ---- Steps of one switch
+
+abbrev pub IsStepOf : ℕ → WorldStep → Type 0
+IsStepOf d (Acted (Sent e bytes)) = e ≡ d
+IsStepOf d (Acted (Got e bytes)) = e ≡ d
+IsStepOf d (SendFailed e) = e ≡ d
+IsStepOf d (RecvFailed e) = e ≡ d
+IsStepOf d other = ⊥
+
+-- Calls of one switch went so: in a world that tells, its history goes on by these steps.
+pub record Moves {Own : Type 0} (Tells : Type 0) (d : ℕ) (steps : List WorldStep) (old new : Seen Own) : Type 0 where
+  pub continues : Continues Tells old new
+  pub each : AllByRecursion (IsStepOf d) steps
+  pub told : Tells → new.history ≡ old.history ++ steps
+
+-- ---- What a switch says to its inverses: each has its transaction id and its key, newest first.
+
+-- the key whose inverse was sent with this id
+abbrev pub key_sent : ℕ → List (ℕ × Key) → Option Key
+key_sent xid [] = None
+key_sent xid (p ∷ ps) = if p.0 == xid then Some p.1 else key_sent xid ps
+
+-- the key whose inverse this message refuses: it is an ERROR (1) with that id
+unfoldable pub key_refused : List (ℕ × Key) → List ℕ → Option Key
+key_refused sent bytes = if number_at 1 1 bytes == 1 then key_sent (number_at 4 4 bytes) sent else None
+
+-- what is awaited behind a barrier alone
+abbrev pub alone : ℕ → ℕ → Awaited
+alone d xid = record { dpid = d; first = xid; barrier = xid }
+
+-- messages before the reply to a barrier, none of which refuses an inverse
+pub record AreBefore (a : Awaited) (sent : List (ℕ × Key)) (got : List (List ℕ)) : Type 0 where
+  pub read : AllByRecursion (λ b. IsOk (reading_of b)) got
+  pub before_reply : AllByRecursion (λ b. is_reply (heard a b) ≡ false) got
+  pub unrefused : AllByRecursion (λ b. key_refused sent b ≡ None) got
+
+-- ---- Why a switch failed in an undo
+
+abbrev pub fault_by : ℕ → Trouble → List ℕ → TxnFault
+fault_by d troubles.Link buf = SwitchFault d
+fault_by d (troubles.Broke n) buf = SwitchBroke d (take n buf)
+fault_by d (troubles.Refused k xid n) buf = Diverged d (inverse_bytes xid k) (take n buf)
+fault_by d troubles.Flooded buf = Flooded d flood
+fault_by d troubles.Short buf = NoMemory
+
+-- the last of the steps is that these bytes were got
+abbrev pub EndsBy : ℕ → List ℕ → List WorldStep → Type 0
+EndsBy d bytes steps = (front : List WorldStep) × (steps ≡ front ++ Acted (Got d bytes) ∷ [])
+
+-- these bytes refuse the inverse that was sent, and were got last
+pub record Refuses (d : ℕ) (sent : List (ℕ × Key)) (steps : List WorldStep) (inverse bytes : List ℕ) : Type 0 where
+  pub key : Key
+  pub of_key : key_refused sent bytes ≡ Some key
+  pub inverse_so : inverse ≡ inverse_bytes (number_at 4 4 bytes) key
+  pub last : EndsBy d bytes steps
+
+-- Each fault is of its switch: the link's count rose; the bytes that were got last are no message, or refuse an inverse; too many
+-- messages came before the reply to a barrier. Memory was wanting only where the world's own was.
+abbrev pub IsFaultOf : ℕ → List (ℕ × Key) → Counts → Counts → List WorldStep → TxnFault → Type 0
+IsFaultOf d sent old new steps (SwitchFault e) = (e ≡ d) × Rose (old.link_faults d) (new.link_faults d)
+IsFaultOf d sent old new steps (SwitchBroke e bytes) = (e ≡ d) × IsErr (reading_of bytes) × EndsBy d bytes steps
+IsFaultOf d sent old new steps (Diverged e inverse bytes) = (e ≡ d) × Refuses d sent steps inverse bytes
+IsFaultOf d sent old new steps (Flooded e n) = (e ≡ d) × (n ≡ flood)
+IsFaultOf d sent old new steps NoMemory = Rose old.shorts new.shorts × Rose (old.shorts_of d) (new.shorts_of d)
+
+-- calls of one switch, the last of which failed
+pub record Fails {Own : Type 0} (Tells : Type 0) (d : ℕ) (sent : List (ℕ × Key)) (old new : Seen Own) (fault : TxnFault) : Type 0 where
+  pub steps : List WorldStep
+  pub moves : Moves Tells d steps old new
+  pub cause : IsFaultOf d sent old.counts new.counts steps fault
+
+-- a barrier whose reply was got, at most 65,535 messages before it
+pub record Settles {Own : Type 0} (Tells : Type 0) (a : Awaited) (front : List WorldStep) (sent : List (ℕ × Key)) (old new : Seen Own) : Type 0 where
+  pub got : List (List ℕ)
+  pub few : length got ≤ 65535
+  pub before : AreBefore a sent got
+  pub moves : Moves Tells a.dpid (front ++ (wait_steps a got ++ reply_got a ∷ [])) old new
+
+-- a wait that has not ended yet, after so many messages
+pub record HearsOn {Own : Type 0} (Tells : Type 0) (a : Awaited) (sent : List (ℕ × Key)) (old new : Seen Own) (n : ℕ) : Type 0 where
+  pub got : List (List ℕ)
+  pub count : length got ≡ n
+  pub before : AreBefore a sent got
+  pub moves : Moves Tells a.dpid (wait_steps a got) old new
+
+-- one message was got, and it was the reply or it was not
+pub record HearsNext {Own : Type 0} (Tells : Type 0) (a : Awaited) (sent : List (ℕ × Key)) (old new : Seen Own) (ended : Bool) : Type 0 where
+  pub bytes : List ℕ
+  pub read : IsOk (reading_of bytes)
+  pub ends : ended ≡ is_reply (heard a bytes)
+  pub unrefused : key_refused sent bytes ≡ None
+  pub moves : Moves Tells a.dpid (wait_steps a (bytes ∷ [])) old new
+
+-- ---- The parts of an undo, each with its switch, newest first
+
+pub data Part : Type 0 where
+  -- the inverse for a key was sent, with this transaction id
+  Inverse : ℕ → Key → Part
+  -- a barrier was sent with this id, and behind these messages its reply was got
+  Settled : ℕ → List (List ℕ) → Part
+  -- a message with this id was to be sent, and the switch failed so, with these steps
+  Stuck : ℕ → TxnFault → List WorldStep → Part
+
+abbrev pub part_steps : ℕ → Part → List WorldStep
+part_steps d (Inverse xid k) = Acted (Sent d (inverse_bytes xid k)) ∷ []
+part_steps d (Settled xid got) = barrier_sent (alone d xid) ∷ (wait_steps (alone d xid) got ++ reply_got (alone d xid) ∷ [])
+part_steps d (Stuck xid fault steps) = steps
+
+abbrev pub steps_of : List (ℕ × Part) → List WorldStep
+steps_of [] = []
+steps_of (p ∷ older) = steps_of older ++ part_steps p.0 p.1
+
+abbrev pub parts_of : ℕ → List (ℕ × Part) → List Part
+parts_of d [] = []
+parts_of d (p ∷ older) = if p.0 == d then p.1 ∷ parts_of d older else parts_of d older
+
+-- each part takes the next transaction id
+abbrev pub next_free : ℕ → List (ℕ × Part) → ℕ
+next_free xid [] = xid
+next_free xid (p ∷ older) = next_xid (next_free xid older)
+
+abbrev pub xid_of : Part → ℕ
+xid_of (Inverse xid k) = xid
+xid_of (Settled xid got) = xid
+xid_of (Stuck xid fault steps) = xid
+
+abbrev pub AreNumbered : ℕ → List (ℕ × Part) → Type 0
+AreNumbered xid [] = Unit {0}
+AreNumbered xid (p ∷ older) = (xid_of p.1 ≡ next_free xid older) × AreNumbered xid older
+
+-- the first fault of all
+abbrev pub fault_in : Part → Option TxnFault
+fault_in (Stuck xid fault steps) = Some fault
+fault_in other = None
+
+abbrev pub first_fault_of : Option TxnFault → Option TxnFault → Option TxnFault
+first_fault_of None later = later
+first_fault_of (Some fault) later = Some fault
+
+abbrev pub first_fault : List (ℕ × Part) → Option TxnFault
+first_fault [] = None
+first_fault (p ∷ older) = first_fault_of (first_fault older) (fault_in p.1)
+
+-- ---- The parts of one switch
+
+abbrev pub is_stuck : List Part → Bool
+is_stuck [] = false
+is_stuck (Stuck xid fault steps ∷ older) = true
+is_stuck (p ∷ older) = false
+
+-- how many inverses were sent since the last barrier
+abbrev pub since_of : List Part → ℕ
+since_of [] = 0
+since_of (Inverse xid k ∷ older) = since_of older + 1
+since_of (p ∷ older) = 0
+
+abbrev pub inverses_of : List Part → List (ℕ × Key)
+inverses_of [] = []
+inverses_of (Inverse xid k ∷ older) = (xid, k) ∷ inverses_of older
+inverses_of (p ∷ older) = inverses_of older
+
+pub record IsSettled (d xid : ℕ) (sent : List (ℕ × Key)) (got : List (List ℕ)) : Type 0 where
+  pub few : length got ≤ 65535
+  pub before : AreBefore (alone d xid) sent got
+
+pub record IsStuckBy (d : ℕ) (sent : List (ℕ × Key)) (old new : Counts) (fault : TxnFault) (steps : List WorldStep) : Type 0 where
+  pub each : AllByRecursion (IsStepOf d) steps
+  pub cause : IsFaultOf d sent old new steps fault
+
+-- At most 4,096 inverses stand behind a barrier, no inverse was refused before the reply to a barrier, and nothing comes behind a
+-- fault, which has its cause in the calls between.
+abbrev pub IsRun : Counts → Counts → ℕ → List Part → Type 0
+IsRun old new d [] = Unit {0}
+IsRun old new d (Inverse xid k ∷ older) = (since_of older < 4096) × (is_stuck older ≡ false) × IsRun old new d older
+IsRun old new d (Settled xid got ∷ older) = IsSettled d xid (inverses_of older) got × (is_stuck older ≡ false) × IsRun old new d older
+IsRun old new d (Stuck xid fault steps ∷ older) = IsStuckBy d (inverses_of older) old new fault steps × (is_stuck older ≡ false) × IsRun old new d older
+
+-- ---- What the log keeps of its inverses that were played
+
+abbrev pub fare_of : ℕ → List Logged → Fare
+fare_of d [] = no_fare
+fare_of d (e ∷ es) = if e.dpid == d then e.fare else fare_of d es
+
+abbrev pub inverses_in : ℕ → List Logged → List (ℕ × Key)
+inverses_in d [] = []
+inverses_in d (e ∷ es) = if e.dpid == d then (e.fare.xid, e.key) ∷ inverses_in d es else inverses_in d es
+
+-- the keys that were logged for a switch
+abbrev pub keys_in : ℕ → List Logged → List Key
+keys_in d [] = []
+keys_in d (e ∷ es) = if e.dpid == d then e.key ∷ keys_in d es else keys_in d es
+
+-- where the newest of them stands
+abbrev pub IsFareAt : ℕ → List Logged → ℕ → Type 0
+IsFareAt d [] i = ⊥
+IsFareAt d (e ∷ es) zero = e.dpid ≡ d
+IsFareAt d (e ∷ es) (suc i) = ((e.dpid == d) ≡ false) × IsFareAt d es i
+
+-- an entry but for its fare
+abbrev pub but_fare : Logged → ℕ × Key
+but_fare e = (e.dpid, e.key)
+
+abbrev pub is_viewed : ℕ → List TableView → Bool
+is_viewed d views = list_any (λ v. v.dpid == d) views
+
+-- how what was done with a switch stands to what the log keeps of it; `known` tells whether it is joined
+pub record Stands (known : Bool) (d : ℕ) (old new : Counts) (parts : List Part) (played : List Logged) : Type 0 where
+  pub unknown : known ≡ false → parts ≡ []
+  pub run : IsRun old new d parts
+  pub stuck : known ≡ true → (fare_of d played).failed ≡ is_stuck parts
+  pub since : known ≡ true → is_stuck parts ≡ false → (fare_of d played).since ≡ since_of parts
+  pub inverses : known ≡ true → is_stuck parts ≡ false → inverses_in d played ≡ inverses_of parts
+
+-- An undo so far: the inverses of these entries were played.
+pub record Undoing {Own : Type 0} (Tells : Type 0) (views : List TableView) (old new : Seen Own) (xid now_xid : ℕ) (played : List Logged) (parts : List (ℕ × Part)) : Type 0 where
+  pub continues : Continues Tells old new
+  pub told : Tells → new.history ≡ old.history ++ steps_of parts
+  pub next : now_xid ≡ next_free xid parts
+  pub numbered : AreNumbered xid parts
+  pub stands : (d : ℕ) → Stands (is_viewed d views) d old.counts new.counts (parts_of d parts) played
