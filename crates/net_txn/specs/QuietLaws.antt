@@ -1,8 +1,11 @@
 -- Laws of calls of one switch: what each leaves, one after the other, and a fault behind others.
-use Rattle.std.specs.Prelude.{◌≡◌, ℕ, ◌+◌, ◌≤◌, Bool, true, false, List, [], ◌∷◌, ◌++◌, length, take, None, Some, Result, Ok, Err, IsOk, IsErr, refl}
+use Rattle.std.specs.Prelude.{◌≡◌, ℕ, ◌+◌, ◌≤◌, Bool, true, false, List, [], ◌∷◌, ◌++◌, length, map, take, None, Some, Result, Ok, Err, IsOk, IsErr, IfOk, OnOk, refl}
+use Rattle.of_types.specs.Fields.{number_at}
+use Rattle.net_txn.specs.declared.trouble.Trouble.{Trouble}
+use Rattle.net_txn.specs.Net.{inverse_bytes}
 use Rattle.std.specs.List.{flat_map, AllByRecursion}
 use Rattle.std.proofs.Common.{sym, ap, ◌∙◌, append_assoc, length-append, arith}
-use Rattle.std.proofs.lemmas.List.{append-nil, flat_map_more}
+use Rattle.std.proofs.lemmas.List.{append-nil, flat_map_more, map-append}
 use Rattle.lego_io.specs.CountLaws.{Rose-after}
 use Rattle.of_types.specs.declared.journal.Act.TheVariants.{Sent, Got}
 use Rattle.of_match.specs.declared.key.Key.{Key}
@@ -21,9 +24,9 @@ use Rattle.net_txn.specs.declared.fault.TxnFault.TheVariants.{SwitchFault, Switc
 use Rattle.net_txn.specs.declared.heard.Awaited.{Awaited}
 use Rattle.net_txn.specs.declared.heard.Heard.{Heard}
 use Rattle.net_txn.specs.declared.heard.Heard.TheVariants.{Reply, Refused, Notice, Echo, Other}
-use Rattle.net_txn.specs.Waits.{heard, is_reply, steps_by, heard_steps, wait_steps, reply_got}
+use Rattle.net_txn.specs.Waits.{KeptMore, heard, is_reply, steps_by, heard_steps, wait_steps, reply_got}
 use Rattle.net_txn.specs.WaitLaws.{reply_is}
-use Rattle.net_txn.specs.Undos.{IsStepOf, Moves, key_refused, AreBefore, EndsBy, Refuses, IsFaultOf, Fails, Settles, HearsOn, HearsNext}
+use Rattle.net_txn.specs.Undos.{fault_by, link_trouble, IsStepOf, Moves, key_refused, AreBefore, EndsBy, Refuses, IsFaultOf, Fails, Settles, HearsOn, HearsNext}
 
 -- ---- Calls of the world
 
@@ -31,7 +34,7 @@ pub sent_moves : {Own T : Type 0} {Tells : Type 0} {d : ℕ} {frame : List ℕ} 
 unfolding send_steps
 sent_moves x call = record { continues = Sends-continues call; each = (refl, tt); told = λ t. (call.told t).history }
 
-pub send_fails : {Own : Type 0} {Tells : Type 0} {d : ℕ} {frame : List ℕ} {old new : Seen Own} (T : Type 0) → (sent : List (ℕ × Key)) → Sends {T = T} Tells d frame old new (Err linking.Failed) → Fails Tells d sent old new (SwitchFault d)
+send_fails : {Own : Type 0} {Tells : Type 0} {d : ℕ} {frame : List ℕ} {old new : Seen Own} (T : Type 0) → (sent : List (ℕ × Key)) → Sends {T = T} Tells d frame old new (Err linking.Failed) → Fails Tells d sent old new (SwitchFault d)
 unfolding send_steps
 send_fails {d = d} T sent call = record {
   steps = SendFailed d ∷ [];
@@ -39,7 +42,7 @@ send_fails {d = d} T sent call = record {
   cause = (refl, call.failed refl);
 }
 
-pub send_short : {Own : Type 0} {Tells : Type 0} {d : ℕ} {frame : List ℕ} {old new : Seen Own} (T : Type 0) → (sent : List (ℕ × Key)) → Sends {T = T} Tells d frame old new (Err linking.Short) → Fails Tells d sent old new NoMemory
+send_short : {Own : Type 0} {Tells : Type 0} {d : ℕ} {frame : List ℕ} {old new : Seen Own} (T : Type 0) → (sent : List (ℕ × Key)) → Sends {T = T} Tells d frame old new (Err linking.Short) → Fails Tells d sent old new NoMemory
 unfolding send_steps
 send_short T sent call = record {
   steps = [];
@@ -47,18 +50,15 @@ send_short T sent call = record {
   cause = (call.short refl, call.short_of refl);
 }
 
--- the same where the fault is known by an equation
-pub send_fails_so : {Own : Type 0} {Tells : Type 0} {d : ℕ} {frame : List ℕ} {old new : Seen Own} (T : Type 0) → (sent : List (ℕ × Key)) (f : LinkFault) → f ≡ linking.Failed → Sends {T = T} Tells d frame old new (Err f) → Fails Tells d sent old new (SwitchFault d)
-send_fails_so T sent f is call = send_fails T sent (rw is at call)
-
-pub send_short_so : {Own : Type 0} {Tells : Type 0} {d : ℕ} {frame : List ℕ} {old new : Seen Own} (T : Type 0) → (sent : List (ℕ × Key)) (f : LinkFault) → f ≡ linking.Short → Sends {T = T} Tells d frame old new (Err f) → Fails Tells d sent old new NoMemory
-send_short_so T sent f is call = send_short T sent (rw is at call)
+pub send_stuck : {Own : Type 0} {Tells : Type 0} {d : ℕ} {frame : List ℕ} {old new : Seen Own} (T : Type 0) → (sent : List (ℕ × Key)) (f : LinkFault) (buf : List ℕ) → Sends {T = T} Tells d frame old new (Err f) → Fails Tells d sent old new (fault_by d (link_trouble f) buf)
+send_stuck T sent linking.Failed buf call = send_fails T sent call
+send_stuck T sent linking.Short buf call = send_short T sent call
 
 pub got_moves : {Own : Type 0} {Tells : Type 0} {d : ℕ} {buf : List ℕ} {old new : Seen Own} (n : ℕ) → Receives Tells d old new (Ok n) buf → Moves Tells d (Acted (Got d (take n buf)) ∷ []) old new
 unfolding receive_steps
 got_moves n call = record { continues = Receives-continues call; each = (refl, tt); told = λ t. (call.told t).history }
 
-pub receive_fails : {Own : Type 0} {Tells : Type 0} {d : ℕ} {buf : List ℕ} {old new : Seen Own} (sent : List (ℕ × Key)) → Receives Tells d old new (Err linking.Failed) buf → Fails Tells d sent old new (SwitchFault d)
+receive_fails : {Own : Type 0} {Tells : Type 0} {d : ℕ} {buf : List ℕ} {old new : Seen Own} (sent : List (ℕ × Key)) → Receives Tells d old new (Err linking.Failed) buf → Fails Tells d sent old new (SwitchFault d)
 unfolding receive_steps
 receive_fails {d = d} sent call = record {
   steps = RecvFailed d ∷ [];
@@ -66,7 +66,7 @@ receive_fails {d = d} sent call = record {
   cause = (refl, call.failed refl);
 }
 
-pub receive_short : {Own : Type 0} {Tells : Type 0} {d : ℕ} {buf : List ℕ} {old new : Seen Own} (sent : List (ℕ × Key)) → Receives Tells d old new (Err linking.Short) buf → Fails Tells d sent old new NoMemory
+receive_short : {Own : Type 0} {Tells : Type 0} {d : ℕ} {buf : List ℕ} {old new : Seen Own} (sent : List (ℕ × Key)) → Receives Tells d old new (Err linking.Short) buf → Fails Tells d sent old new NoMemory
 unfolding receive_steps
 receive_short sent call = record {
   steps = [];
@@ -74,11 +74,9 @@ receive_short sent call = record {
   cause = (call.short refl, call.short_of refl);
 }
 
-pub receive_fails_so : {Own : Type 0} {Tells : Type 0} {d : ℕ} {buf : List ℕ} {old new : Seen Own} (sent : List (ℕ × Key)) (f : LinkFault) → f ≡ linking.Failed → Receives Tells d old new (Err f) buf → Fails Tells d sent old new (SwitchFault d)
-receive_fails_so sent f is call = receive_fails sent (rw is at call)
-
-pub receive_short_so : {Own : Type 0} {Tells : Type 0} {d : ℕ} {buf : List ℕ} {old new : Seen Own} (sent : List (ℕ × Key)) (f : LinkFault) → f ≡ linking.Short → Receives Tells d old new (Err f) buf → Fails Tells d sent old new NoMemory
-receive_short_so sent f is call = receive_short sent (rw is at call)
+pub receive_stuck : {Own : Type 0} {Tells : Type 0} {d : ℕ} {buf : List ℕ} {old new : Seen Own} (sent : List (ℕ × Key)) (f : LinkFault) → Receives Tells d old new (Err f) buf → Fails Tells d sent old new (fault_by d (link_trouble f) buf)
+receive_stuck sent linking.Failed call = receive_fails sent call
+receive_stuck sent linking.Short call = receive_short sent call
 
 pub received_broke : {Own : Type 0} {Tells : Type 0} {d : ℕ} {buf : List ℕ} {old new : Seen Own} (n : ℕ) (sent : List (ℕ × Key)) → Receives Tells d old new (Ok n) buf → IsErr (reading_of (take n buf)) → Fails Tells d sent old new (SwitchBroke d (take n buf))
 received_broke {d = d} {buf = buf} n sent call broke = record {
@@ -189,3 +187,30 @@ heard_all {a = a} w few h = record {
 
 pub Settles-behind : {Own : Type 0} {Tells : Type 0} {a : Awaited} {first : List WorldStep} {sent : List (ℕ × Key)} {old mid new : Seen Own} → Moves Tells a.dpid first old mid → Settles Tells a [] sent mid new → Settles Tells a first sent old new
 Settles-behind m s = record { got = s.got; few = s.few; before = s.before; moves = Moves-then m s.moves }
+
+-- ---- What was kept
+
+pub kept_then : (d : ℕ) (a b c : List (ℕ × List ℕ)) → KeptMore d a b → KeptMore d b c → KeptMore d a c
+kept_then d a b c first second =
+    let of_switch : List ℕ → ℕ × List ℕ = λ x. (d, x) in
+    (first.0 ++ second.0, second.1 ∙ ap (λ (k : List (ℕ × List ℕ)). k ++ map of_switch second.0) first.1 ∙ append_assoc a (map of_switch first.0) (map of_switch second.0)
+    ∙ ap (λ (k : List (ℕ × List ℕ)). a ++ k) (sym (map-append of_switch first.0 second.0)))
+
+-- ---- One message
+
+pub heard_next : {Own : Type 0} {Tells : Type 0} (a : Awaited) (sent : List (ℕ × Key)) (bytes : List ℕ) (old mid new : Seen Own) (result : Result Bool Trouble) → IsOk (reading_of bytes) → key_refused sent bytes ≡ None
+    → Moves Tells a.dpid (Acted (Got a.dpid bytes) ∷ []) old mid → IfOk result (λ e. e ≡ is_reply (heard a bytes)) → OnOk result (Moves Tells a.dpid (steps_by a.dpid (heard a bytes) bytes) mid new)
+    → IfOk result (HearsNext Tells a sent old new)
+heard_next a sent bytes old mid new (Ok e) read unrefused got ends m = record {
+  bytes = bytes;
+  read = read;
+  ends = ends;
+  unrefused = unrefused;
+  moves = Moves-same (Acted (Got a.dpid bytes) ∷ steps_by a.dpid (heard a bytes) bytes) (wait_steps a (bytes ∷ [])) (sym (append-nil (heard_steps a bytes))) (Moves-then got m);
+}
+heard_next a sent bytes old mid new (Err t) read unrefused got ends m = tt
+
+pub refused_next : {Own : Type 0} {Tells : Type 0} (d : ℕ) (sent : List (ℕ × Key)) (bytes : List ℕ) (key : Key) (xid : ℕ) {old new : Seen Own} → Moves Tells d (Acted (Got d bytes) ∷ []) old new → xid ≡ number_at 4 4 bytes → Some key ≡ key_refused sent bytes
+    → Fails Tells d sent old new (Diverged d (inverse_bytes xid key) bytes)
+refused_next d sent bytes key xid got is refused =
+    Fails-refused bytes (inverse_bytes xid key) got (λ steps last. record { key = key; of_key = sym refused; inverse_so = ap (λ (x : ℕ). inverse_bytes x key) is; last = last })

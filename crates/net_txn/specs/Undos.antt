@@ -11,6 +11,8 @@ use Rattle.of_types.specs.declared.journal.Act.TheVariants.{Sent, Got}
 use Rattle.of_match.specs.declared.key.Key.{Key}
 use Rattle.of_wire.specs.Reading.{reading_of}
 use Rattle.flow_table.specs.declared.view.TableView.{TableView}
+use Rattle.outside.specs.declared.faults.LinkFault.{LinkFault}
+use Rattle.outside.specs.declared.faults.LinkFault.TheVariants as linking
 use Rattle.outside.specs.declared.step.WorldStep.{WorldStep}
 use Rattle.outside.specs.declared.step.WorldStep.TheVariants.{Acted, SendFailed, RecvFailed}
 use Rattle.outside.specs.Seen.{Counts, Seen, Continues}
@@ -62,6 +64,10 @@ pub record AreBefore (a : Awaited) (sent : List (ℕ × Key)) (got : List (List 
   pub unrefused : AllByRecursion (λ b. key_refused sent b ≡ None) got
 
 -- ---- Why a switch failed in an undo
+
+abbrev pub link_trouble : LinkFault → Trouble
+link_trouble linking.Failed = troubles.Link
+link_trouble linking.Short = troubles.Short
 
 abbrev pub fault_by : ℕ → Trouble → List ℕ → TxnFault
 fault_by d troubles.Link buf = SwitchFault d

@@ -8,7 +8,7 @@ ghost use Rattle.of_wire.specs.Reading.{reading_of};
 ghost use Rattle.outside.specs.Calls.{most_message};
 ghost use Rattle.outside.specs.declared.step.WorldStep.TheVariants.{Acted};
 ghost use Rattle.net_txn.specs.Waits.{heard, is_reply, steps_by, barrier_sent, KeptMore};
-ghost use Rattle.net_txn.specs.Undos.{Moves, Fails, fault_by, inverses_in, alone, HearsNext, Settles};
+ghost use Rattle.net_txn.specs.Undos.{link_trouble, Moves, Fails, fault_by, inverses_in, alone, HearsNext, Settles};
 
 use crate::fares::key_refused;
 use crate::heard::{Awaited, Heard, barrier_request, judge};
@@ -20,6 +20,16 @@ use of_types::{Dpid, Xid, get_u32};
 use of_wire::check;
 use outside::{LinkFault, World};
 
+/// Why a call of a link failed.
+fn trouble_of(fault: LinkFault) -> Trouble
+    ensures { result ≡ link_trouble fault }
+{
+    match fault {
+        LinkFault::Failed => Trouble::Link,
+        LinkFault::Short => Trouble::Short,
+    }
+}
+
 /// Sends one message to a switch.
 pub(crate) fn send<W: World>(world: &mut W, dpid: Dpid, frame: &[u8]) -> Result<(), Trouble>
     requires { IsOk (reading_of frame.now) }
@@ -28,8 +38,7 @@ pub(crate) fn send<W: World>(world: &mut W, dpid: Dpid, frame: &[u8]) -> Result<
 {
     match world.send(dpid, frame) {
         Ok(()) => Ok(()),
-        Err(LinkFault::Failed) => Err(Trouble::Link),
-        Err(LinkFault::Short) => Err(Trouble::Short),
+        Err(fault) => Err(trouble_of(fault)),
     }
 }
 
@@ -49,8 +58,7 @@ pub(crate) fn receive<W: World>(
 {
     let len = match world.recv(dpid, buf) {
         Ok(len) => len,
-        Err(LinkFault::Failed) => return Err(Trouble::Link),
-        Err(LinkFault::Short) => return Err(Trouble::Short),
+        Err(fault) => return Err(trouble_of(fault)),
     };
     match check(&buf[..len]) {
         Ok(()) => Ok(len),

@@ -1,4 +1,4 @@
-use Rattle.std.proofs.Common.{◌≡◌, ◌×◌, length}
+use Rattle.std.proofs.Common.{◌≡◌, length}
 use Rattle.net_txn.specs.Waits.{KeptMore}
 use Rattle.net_txn.specs.Undos.{HearsOn, inverses_in}
 use Rattle.net_txn.proofs.quiet.wait.Given as goal
