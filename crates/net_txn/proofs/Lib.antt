@@ -2,3 +2,4 @@ pub mod Sizes
 pub mod Echo
 pub mod RowTests
 pub mod Places
+pub mod FarePlaces

@@ -11,3 +11,5 @@ pub mod Changes
 pub mod ChangeLaws
 pub mod Undos
 pub mod QuietLaws
+pub mod FareLaws
+pub mod UndoLaws

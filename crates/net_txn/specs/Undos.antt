@@ -230,6 +230,9 @@ IsFareAt d (e ∷ es) zero = e.dpid ≡ d
 IsFareAt d (e ∷ es) (suc i) = ((e.dpid == d) ≡ false) × IsFareAt d es i
 
 -- an entry but for its fare
+abbrev pub with_fare : Fare → Logged → Logged
+with_fare fare e = record e { fare = fare }
+
 abbrev pub but_fare : Logged → ℕ × Key
 but_fare e = (e.dpid, e.key)
 
@@ -251,3 +254,15 @@ pub record Undoing {Own : Type 0} (Tells : Type 0) (views : List TableView) (old
   pub next : now_xid ≡ next_free xid parts
   pub numbered : AreNumbered xid parts
   pub stands : (d : ℕ) → Stands (is_viewed d views) d old.counts new.counts (parts_of d parts) played
+
+-- An undo so far, with its first fault, and fewer than 4,096 inverses behind the last barrier of each switch.
+pub record Further {Own : Type 0} (Tells : Type 0) (views : List TableView) (old new : Seen Own) (xid now_xid : ℕ) (played : List Logged) (fault : Option TxnFault) : Type 0 where
+  pub parts : List (ℕ × Part)
+  pub undoing : Undoing Tells views old new xid now_xid played parts
+  pub few : (d : ℕ) → since_of (parts_of d parts) < 4096
+  pub fault_so : fault ≡ first_fault parts
+
+-- the fault of a switch, where there is one
+abbrev pub fault_of : ℕ → Result (Unit {0}) Trouble → List ℕ → Option TxnFault
+fault_of d (Ok x) buf = None
+fault_of d (Err trouble) buf = Some (fault_by d trouble buf)

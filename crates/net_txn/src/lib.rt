@@ -9,6 +9,7 @@ mod heard;
 mod host;
 mod logged;
 mod net;
+mod playing;
 mod ports;
 mod prepared;
 mod queue;

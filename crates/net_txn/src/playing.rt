@@ -1,0 +1,108 @@
+//! The inverses of a log, played newest first.
+
+ghost use Rattle.std.specs.Prelude.{◌≡◌, ◌+◌, ◌<◌, ◌≤◌, ℕ, List, [], ◌∷◌, length, drop, IfErr, OnOk, is_err, slice_index_or, slice_set, IsTrue};
+ghost use Rattle.of_types.specs.declared.journal.Act.TheVariants.{Sent};
+ghost use Rattle.of_match.specs.declared.key.Key.{Key};
+ghost use Rattle.outside.specs.Calls.{most_message};
+ghost use Rattle.outside.specs.declared.step.WorldStep.TheVariants.{Acted};
+ghost use Rattle.net_txn.specs.declared.logged.Logged.{Logged};
+ghost use Rattle.net_txn.specs.Net.{inverse_bytes};
+ghost use Rattle.net_txn.specs.Waits.{barrier_sent, KeptMore};
+ghost use Rattle.net_txn.specs.Undos.{Moves, Fails, Settles, fault_by, inverses_in, alone, is_viewed, with_fare};
+
+use crate::logged::{Fare, Logged, inverse_of};
+use crate::queue::MessageQueue;
+use crate::quiet::{send, settle};
+use crate::trouble::Trouble;
+use flow_table::TableView;
+use of_types::{Dpid, Xid};
+use outside::World;
+use std::alloc::Global;
+
+/// How many inverses are sent to a switch before a barrier.
+const MOST_SINCE: u32 = 4_096;
+
+/// Whether a switch has a view, so that it is joined.
+fn is_viewed(views: &[TableView], dpid: Dpid) -> bool
+    ensures { result ≡ is_viewed dpid views.now }
+{
+    views.iter().any(|view| view.dpid == dpid)
+}
+
+/// The log from a place on.
+fn behind(log: &[Logged], from: usize) -> &[Logged]
+    requires { from ≤ length log.now }
+    ensures { result.now ≡ drop from log.now }
+{
+    &log[from..]
+}
+
+/// Notes how an inverse fared.
+fn mark(log: &mut [Logged], at: usize, fare: Fare)
+    requires { at < length log.old }
+    ensures { (e : Logged) → log.new ≡ slice_set log.old at (with_fare fare (slice_index_or log.old at e)) }
+{
+    log[at].fare = fare;
+}
+
+/// Sends the inverse at a place.
+fn send_at<W: World>(
+    world: &mut W,
+    alloc: Global,
+    log: &mut [Logged],
+    at: usize,
+    since: u32,
+    xid: Xid,
+) -> Result<(), Trouble>
+    requires { at < length log.old }
+    ensures ok { (e : Logged) → let entry = slice_index_or log.old at e in
+        OnOk result (Moves W.Tells entry.dpid (Acted (Sent entry.dpid (inverse_bytes xid entry.key)) ∷ []) (W.seen world.old) (W.seen world.new)) }
+    ensures err { (e : Logged) (sent : List (ℕ × Key)) (buf : List ℕ) → let entry = slice_index_or log.old at e in
+        IfErr result (λ t. Fails W.Tells entry.dpid sent (W.seen world.old) (W.seen world.new) (fault_by entry.dpid t buf)) }
+    ensures marked { (e : Logged) → log.new ≡ slice_set log.old at (with_fare (record { xid = xid; since = since; failed = is_err result }) (slice_index_or log.old at e)) }
+{
+    let dpid = log[at].dpid;
+    let inverse = inverse_of(alloc, &log[at].key, xid);
+    let sent = send(world, dpid, &inverse);
+    let fare = Fare {
+        xid,
+        since,
+        failed: sent.is_err(),
+    };
+    mark(log, at, fare);
+    sent
+}
+
+/// Sends a barrier to the switch of the inverse at a place, the newest of those that were played to it from another
+/// place on, and waits for its reply.
+fn settle_at<W: World>(
+    world: &mut W,
+    buf: &mut [u8],
+    kept: &mut MessageQueue,
+    log: &mut [Logged],
+    from: usize,
+    at: usize,
+    xid: Xid,
+) -> Result<(), Trouble>
+    requires room { most_message ≤ length buf.old }
+    requires place { (from ≤ at) × (at < length log.old) }
+    ensures ok { (e : Logged) → let d = (slice_index_or log.old at e).dpid in
+        OnOk result (Settles W.Tells (alone d xid) (barrier_sent (alone d xid) ∷ []) (inverses_in d (drop from log.old)) (W.seen world.old) (W.seen world.new)) }
+    ensures err { (e : Logged) → let d = (slice_index_or log.old at e).dpid in
+        IfErr result (λ t. Fails W.Tells d (inverses_in d (drop from log.old)) (W.seen world.old) (W.seen world.new) (fault_by d t buf.new)) }
+    ensures marked { (e : Logged) → let entry = slice_index_or log.old at e in
+        log.new ≡ slice_set log.old at (with_fare (record { xid = entry.fare.xid; since = 0; failed = is_err result }) entry) }
+    ensures kept { (e : Logged) → KeptMore (slice_index_or log.old at e).dpid kept.old kept.new }
+    ensures len { length buf.new ≡ length buf.old }
+{
+    let dpid = log[at].dpid;
+    let sent = log[at].fare.xid;
+    let settled = settle(world, buf, kept, behind(log, from), dpid, xid);
+    let fare = Fare {
+        xid: sent,
+        since: 0,
+        failed: settled.is_err(),
+    };
+    mark(log, at, fare);
+    settled
+}
