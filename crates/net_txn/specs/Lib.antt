@@ -13,3 +13,5 @@ pub mod Undos
 pub mod QuietLaws
 pub mod FareLaws
 pub mod UndoLaws
+pub mod FurtherLaws
+pub mod PlayLaws

@@ -1,7 +1,7 @@
 -- How logged additions are undone: newest first over all switches each key is removed again (OpenFlow 1.0.0, 5.3.3 Modify State
 -- Messages: DELETE_STRICT), with barriers behind (5.3.7 Barrier Message). A switch that fails is left alone from then on. What is
 -- done is a list of parts, newest first, as the log is read from its end. All of this is our own choice.
-use Rattle.std.specs.Prelude.{◌≡◌, ◌==◌, ℕ, ◌+◌, ◌<◌, ◌≤◌, Bool, true, false, ◌&&◌, List, [], ◌∷◌, ◌++◌, length, take, map, Option, Some, None, Result, Ok, Err, IsOk, IsErr, if◌then◌else◌}
+use Rattle.std.specs.Prelude.{◌≡◌, ◌≢◌, ◌==◌, ℕ, ◌+◌, ◌<◌, ◌≤◌, Bool, true, false, ◌&&◌, List, [], ◌∷◌, ◌++◌, length, take, map, Option, Some, None, Result, Ok, Err, IsOk, IsErr, if◌then◌else◌}
 use Rattle.std.specs.List.{AllByRecursion, list_any}
 use Rattle.std.specs.Option.{is_some}
 use Rattle.std.proofs.Common.{zero, suc}
@@ -255,6 +255,10 @@ pub record Undoing {Own : Type 0} (Tells : Type 0) (views : List TableView) (old
   pub numbered : AreNumbered xid parts
   pub stands : (d : ℕ) → Stands (is_viewed d views) d old.counts new.counts (parts_of d parts) played
 
+-- more messages were kept
+abbrev pub KeptSome : List (ℕ × List ℕ) → List (ℕ × List ℕ) → Type 0
+KeptSome kept now_kept = (more : List (ℕ × List ℕ)) × (now_kept ≡ kept ++ more)
+
 -- An undo so far, with its first fault, and fewer than 4,096 inverses behind the last barrier of each switch.
 pub record Further {Own : Type 0} (Tells : Type 0) (views : List TableView) (old new : Seen Own) (xid now_xid : ℕ) (played : List Logged) (fault : Option TxnFault) : Type 0 where
   pub parts : List (ℕ × Part)
@@ -266,3 +270,11 @@ pub record Further {Own : Type 0} (Tells : Type 0) (views : List TableView) (old
 abbrev pub fault_of : ℕ → Result (Unit {0}) Trouble → List ℕ → Option TxnFault
 fault_of d (Ok x) buf = None
 fault_of d (Err trouble) buf = Some (fault_by d trouble buf)
+
+-- the same, where so many may stand behind the last barrier of one switch, which has not failed
+pub record Pending {Own : Type 0} (Tells : Type 0) (views : List TableView) (old new : Seen Own) (xid now_xid : ℕ) (played : List Logged) (fault : Option TxnFault) (d : ℕ) : Type 0 where
+  pub parts : List (ℕ × Part)
+  pub undoing : Undoing Tells views old new xid now_xid played parts
+  pub few : (c : ℕ) → c ≢ d → since_of (parts_of c parts) < 4096
+  pub free : is_stuck (parts_of d parts) ≡ false
+  pub fault_so : fault ≡ first_fault parts

@@ -1,16 +1,21 @@
 //! The inverses of a log, played newest first.
 
-ghost use Rattle.std.specs.Prelude.{◌≡◌, ◌+◌, ◌<◌, ◌≤◌, ℕ, List, [], ◌∷◌, length, drop, IfErr, OnOk, is_err, slice_index_or, slice_set, IsTrue};
+ghost use Rattle.std.specs.Prelude.{◌≡◌, ◌+◌, ◌<◌, ◌≤◌, ℕ, true, false, List, [], ◌∷◌, length, drop, map, Option, IfErr, OnOk, is_err, slice_index_or, slice_set};
+ghost use Rattle.outside.specs.Seen.{Seen};
+ghost use Rattle.flow_table.specs.declared.view.TableView.{TableView};
+ghost use Rattle.net_txn.specs.declared.fault.TxnFault.{TxnFault};
 ghost use Rattle.of_types.specs.declared.journal.Act.TheVariants.{Sent};
 ghost use Rattle.of_match.specs.declared.key.Key.{Key};
 ghost use Rattle.outside.specs.Calls.{most_message};
 ghost use Rattle.outside.specs.declared.step.WorldStep.TheVariants.{Acted};
 ghost use Rattle.net_txn.specs.declared.logged.Logged.{Logged};
-ghost use Rattle.net_txn.specs.Net.{inverse_bytes};
-ghost use Rattle.net_txn.specs.Waits.{barrier_sent, KeptMore};
-ghost use Rattle.net_txn.specs.Undos.{Moves, Fails, Settles, fault_by, inverses_in, alone, is_viewed, with_fare};
+ghost use Rattle.net_txn.specs.Net.{next_xid, inverse_bytes};
+ghost use Rattle.net_txn.specs.Waits.{barrier_sent};
+ghost use Rattle.net_txn.specs.Undos.{KeptSome, Further, first_fault_of, fault_of, fare_of, Moves, Fails, Settles, fault_by, inverses_in, alone, is_viewed, with_fare, but_fare};
 
+use crate::fares::fare_of;
 use crate::logged::{Fare, Logged, inverse_of};
+use crate::net::following;
 use crate::queue::MessageQueue;
 use crate::quiet::{send, settle};
 use crate::trouble::Trouble;
@@ -40,7 +45,8 @@ fn behind(log: &[Logged], from: usize) -> &[Logged]
 /// Notes how an inverse fared.
 fn mark(log: &mut [Logged], at: usize, fare: Fare)
     requires { at < length log.old }
-    ensures { (e : Logged) → log.new ≡ slice_set log.old at (with_fare fare (slice_index_or log.old at e)) }
+    ensures marked { (e : Logged) → log.new ≡ slice_set log.old at (with_fare fare (slice_index_or log.old at e)) }
+    ensures same { map but_fare log.new ≡ map but_fare log.old }
 {
     log[at].fare = fare;
 }
@@ -60,6 +66,7 @@ fn send_at<W: World>(
     ensures err { (e : Logged) (sent : List (ℕ × Key)) (buf : List ℕ) → let entry = slice_index_or log.old at e in
         IfErr result (λ t. Fails W.Tells entry.dpid sent (W.seen world.old) (W.seen world.new) (fault_by entry.dpid t buf)) }
     ensures marked { (e : Logged) → log.new ≡ slice_set log.old at (with_fare (record { xid = xid; since = since; failed = is_err result }) (slice_index_or log.old at e)) }
+    ensures same { map but_fare log.new ≡ map but_fare log.old }
 {
     let dpid = log[at].dpid;
     let inverse = inverse_of(alloc, &log[at].key, xid);
@@ -92,7 +99,8 @@ fn settle_at<W: World>(
         IfErr result (λ t. Fails W.Tells d (inverses_in d (drop from log.old)) (W.seen world.old) (W.seen world.new) (fault_by d t buf.new)) }
     ensures marked { (e : Logged) → let entry = slice_index_or log.old at e in
         log.new ≡ slice_set log.old at (with_fare (record { xid = entry.fare.xid; since = 0; failed = is_err result }) entry) }
-    ensures kept { (e : Logged) → KeptMore (slice_index_or log.old at e).dpid kept.old kept.new }
+    ensures same { map but_fare log.new ≡ map but_fare log.old }
+    ensures kept { KeptSome kept.old kept.new }
     ensures len { length buf.new ≡ length buf.old }
 {
     let dpid = log[at].dpid;
@@ -105,4 +113,59 @@ fn settle_at<W: World>(
     };
     mark(log, at, fare);
     settled
+}
+
+/// Takes the next transaction id.
+fn take_xid(xid: &mut Xid) -> Xid
+    ensures taken { result ≡ xid.old }
+    ensures next { xid.new ≡ next_xid xid.old }
+    ensures least { 1 ≤ xid.new }
+{
+    let taken = *xid;
+    *xid = following(taken);
+    taken
+}
+
+/// One inverse more behind the last barrier.
+fn one_more(since: u32) -> u32
+    ensures { since < 4096 → result ≡ since + 1 }
+{
+    if since < MOST_SINCE {
+        since + 1
+    } else {
+        MOST_SINCE
+    }
+}
+
+/// Plays the inverse at a place, to a switch that is joined and has not failed.
+fn play_to<W: World>(
+    world: &mut W,
+    alloc: Global,
+    buf: &mut [u8],
+    kept: &mut MessageQueue,
+    log: &mut [Logged],
+    at: usize,
+    since: u32,
+    xid: &mut Xid,
+) -> Result<(), Trouble>
+    requires room { most_message ≤ length buf.old }
+    requires place { at < length log.old }
+    ensures undoing { (base : Seen W.Own) (views : List TableView) (x : ℕ) (fault : Option TxnFault) (e : Logged) →
+        let d = (slice_index_or log.old at e).dpid in
+        let played = drop (at + 1) log.old in
+        Further W.Tells views base (W.seen world.old) x xid.old played fault → is_viewed d views ≡ true → (fare_of d played).failed ≡ false
+        → ((fare_of d played).since < 4096 → since ≡ (fare_of d played).since + 1)
+        → Further W.Tells views base (W.seen world.new) x xid.new (drop at log.new) (first_fault_of fault (fault_of d result buf.new)) }
+    ensures same { map but_fare log.new ≡ map but_fare log.old }
+    ensures kept { KeptSome kept.old kept.new }
+    ensures least { 1 ≤ xid.new }
+    ensures len { length buf.new ≡ length buf.old }
+{
+    let id = take_xid(xid);
+    send_at(world, alloc, log, at, since, id)?;
+    if since < MOST_SINCE {
+        return Ok(());
+    }
+    let id = take_xid(xid);
+    settle_at(world, buf, kept, log, at, at, id)
 }

@@ -1,0 +1,90 @@
+-- Laws of a log whose inverses are played: what a fare that is noted at a place leaves of an undo.
+use Rattle.std.specs.Prelude.{◌≡◌, ◌≢◌, ℕ, ◌+◌, ◌<◌, true, false, List, [], ◌∷◌, length, drop, Option, Some, refl}
+use Rattle.std.proofs.Common.{zero, suc, get_or, set, sym, ap, ◌∙◌, subst, arith}
+use Rattle.std.proofs.Math.Seq.{drop-cons}
+use Rattle.std.proofs.lemmas.List.{drop-set, drop-set-lt}
+use Rattle.of_types.specs.declared.journal.Act.TheVariants.{Sent}
+use Rattle.of_match.specs.declared.key.Key.{Key}
+use Rattle.flow_table.specs.declared.view.TableView.{TableView}
+use Rattle.outside.specs.declared.step.WorldStep.TheVariants.{Acted}
+use Rattle.outside.specs.Seen.{Seen}
+use Rattle.net_txn.specs.declared.fault.TxnFault.{TxnFault}
+use Rattle.net_txn.specs.declared.logged.Fare.{Fare}
+use Rattle.net_txn.specs.declared.logged.Logged.{Logged}
+use Rattle.net_txn.specs.Net.{next_xid, inverse_bytes}
+use Rattle.net_txn.specs.Waits.{barrier_sent}
+use Rattle.net_txn.specs.FareLaws.{fare_of-same, fare_of-other, inverses_in-other, fare_of-set, fare_of-set_other, inverses_in-set, IsFareAt-within, IsFareAt-dpid}
+use Rattle.net_txn.specs.Undos.{alone, Moves, Fails, Settles, first_fault_of, fare_of, inverses_in, is_viewed, with_fare, IsFareAt, Further, Pending}
+use Rattle.net_txn.specs.FurtherLaws.{Pending-of, Further-of, Further-inverse, Further-settled, Further-stuck, Further-skipped}
+
+-- ---- A place of the log
+
+marked_front : (log now : List Logged) (at : ℕ) (f : Fare) (e : Logged) → at < length log → now ≡ set log at (with_fare f (get_or log at e)) → drop at now ≡ with_fare f (get_or log at e) ∷ drop (at + 1) log
+marked_front log now at f e lt is = rw is (drop-set log at (with_fare f (get_or log at e)) lt)
+
+drop_at : (log : List Logged) (at : ℕ) (e : Logged) → at < length log → drop at log ≡ get_or log at e ∷ drop (at + 1) log
+drop_at log at e lt = let next : suc at ≡ at + 1 = omega arith in drop-cons log at e lt ∙ ap (λ (n : ℕ). get_or log at e ∷ drop n log) next
+
+-- a fare at the front of what was played
+marked_played : (log now : List Logged) (at : ℕ) (f : Fare) (e : Logged) → at < length log → now ≡ set log at (with_fare f (get_or log at e)) → drop at now ≡ set (drop at log) 0 (with_fare f (get_or (drop at log) 0 e))
+marked_played log now at f e lt is = marked_front log now at f e lt is ∙ ap (λ (xs : List Logged). set xs 0 (with_fare f (get_or xs 0 e))) (sym (drop_at log at e lt))
+
+-- ---- The inverse was sent
+
+pub skipped_at : {Own : Type 0} {Tells : Type 0} {views : List TableView} {base now : Seen Own} {x y : ℕ} {fault : Option TxnFault} (log later : List Logged) (at : ℕ) (f : Fare) (e : Logged) → at < length log → later ≡ set log at (with_fare f (get_or log at e)) → f.failed ≡ true
+    → (is_viewed (get_or log at e).dpid views ≡ true → (fare_of (get_or log at e).dpid (drop (at + 1) log)).failed ≡ true) → Further Tells views base now x y (drop (at + 1) log) fault → Further Tells views base now x y (drop at later) fault
+skipped_at log later at f e lt is failed stuck u = rw (marked_front log later at f e lt is) (Further-skipped (with_fare f (get_or log at e)) u stuck failed)
+
+pub stuck_at : {Own : Type 0} {Tells : Type 0} {views : List TableView} {base now next : Seen Own} {x y z : ℕ} {before : Option TxnFault} (log later : List Logged) (at : ℕ) (f : Fare) (e : Logged) (fault : TxnFault) → at < length log → later ≡ set log at (with_fare f (get_or log at e)) → f.failed ≡ true → z ≡ next_xid y
+    → Further Tells views base now x y (drop (at + 1) log) before → is_viewed (get_or log at e).dpid views ≡ true → (fare_of (get_or log at e).dpid (drop (at + 1) log)).failed ≡ false
+    → Fails Tells (get_or log at e).dpid (inverses_in (get_or log at e).dpid (drop (at + 1) log)) now next fault → Further Tells views base next x z (drop at later) (first_fault_of before (Some fault))
+stuck_at log later at f e fault lt is failed step u known unfailed fails =
+    let d = (get_or log at e).dpid in
+    let g = with_fare f (get_or log at e) in
+    let played = drop (at + 1) log in
+    rw (marked_front log later at f e lt is, step) (Further-stuck d (g ∷ played) fault (Pending-of d u known unfailed) known (ap (λ (h : Fare). h.failed) (fare_of-same d g played refl) ∙ failed)
+    (λ c other. (fare_of-other c g played other, inverses_in-other c g played other)) fails)
+
+pub sent_at : {Own : Type 0} {Tells : Type 0} {views : List TableView} {base now next : Seen Own} {x y z : ℕ} {fault : Option TxnFault} (log later : List Logged) (at : ℕ) (f : Fare) (e : Logged) → at < length log → later ≡ set log at (with_fare f (get_or log at e)) → f.failed ≡ false → f.xid ≡ y → z ≡ next_xid y
+    → Further Tells views base now x y (drop (at + 1) log) fault → is_viewed (get_or log at e).dpid views ≡ true → (fare_of (get_or log at e).dpid (drop (at + 1) log)).failed ≡ false
+    → ((fare_of (get_or log at e).dpid (drop (at + 1) log)).since < 4096 → f.since ≡ (fare_of (get_or log at e).dpid (drop (at + 1) log)).since + 1)
+    → Moves Tells (get_or log at e).dpid (Acted (Sent (get_or log at e).dpid (inverse_bytes f.xid (get_or log at e).key)) ∷ []) now next → Pending Tells views base next x z (drop at later) fault (get_or log at e).dpid
+sent_at {Tells = Tells} {now = now} {next = next} log later at f e lt is well numbered step u known unfailed more m =
+    let d = (get_or log at e).dpid in
+    let g = with_fare f (get_or log at e) in
+    let n = subst (λ (i : ℕ). Moves Tells d (Acted (Sent d (inverse_bytes i g.key)) ∷ []) now next) numbered m in
+    rw (marked_front log later at f e lt is, step) (Further-inverse d g u known unfailed refl numbered well more n)
+
+pub few_at : {Own : Type 0} {Tells : Type 0} {views : List TableView} {base now : Seen Own} {x y : ℕ} {fault : Option TxnFault} (log later : List Logged) (at : ℕ) (f : Fare) (e : Logged) → at < length log → later ≡ set log at (with_fare f (get_or log at e)) → f.since < 4096
+    → Pending Tells views base now x y (drop at later) fault (get_or log at e).dpid → is_viewed (get_or log at e).dpid views ≡ true → Further Tells views base now x y (drop at later) fault
+few_at log later at f e lt is few p known =
+    let d = (get_or log at e).dpid in
+    let same = ap (fare_of d) (marked_front log later at f e lt is) ∙ fare_of-same d (with_fare f (get_or log at e)) (drop (at + 1) log) refl in
+    Further-of d p known (rw same few)
+
+-- ---- The barrier was answered, or the switch failed
+
+abbrev pub settled : Logged → Logged
+settled e = with_fare (record { xid = e.fare.xid; since = 0; failed = false }) e
+
+abbrev pub failed_at : Logged → Logged
+failed_at e = with_fare (record { xid = e.fare.xid; since = 0; failed = true }) e
+
+pub settled_in : {Own : Type 0} {Tells : Type 0} {views : List TableView} {base now next : Seen Own} {x y z : ℕ} {fault : Option TxnFault} (d : ℕ) (played : List Logged) (j : ℕ) (e : Logged) → IsFareAt d played j → z ≡ next_xid y
+    → Pending Tells views base now x y played fault d → is_viewed d views ≡ true → Settles Tells (alone d y) (barrier_sent (alone d y) ∷ []) (inverses_in d played) now next → Further Tells views base next x z (set played j (settled (get_or played j e))) fault
+settled_in d played j e at step p known t =
+    let g = settled (get_or played j e) in
+    let is = IsFareAt-dpid d played j e at in
+    let lt = IsFareAt-within d played j at in
+    let fare = fare_of-set d played j g at is in
+    rw step (Further-settled d (set played j g) p known (ap (λ (h : Fare). h.failed) fare) (ap (λ (h : Fare). h.since) fare) (inverses_in-set d played j e g lt refl refl refl)
+    (λ c other. (fare_of-set_other d c played j g at is other, inverses_in-set c played j e g lt refl refl refl)) t)
+
+pub stuck_in : {Own : Type 0} {Tells : Type 0} {views : List TableView} {base now next : Seen Own} {x y z : ℕ} {before : Option TxnFault} (d : ℕ) (played : List Logged) (j : ℕ) (e : Logged) (fault : TxnFault) → IsFareAt d played j → z ≡ next_xid y
+    → Pending Tells views base now x y played before d → is_viewed d views ≡ true → Fails Tells d (inverses_in d played) now next fault → Further Tells views base next x z (set played j (failed_at (get_or played j e))) (first_fault_of before (Some fault))
+stuck_in d played j e fault at step p known t =
+    let g = failed_at (get_or played j e) in
+    let is = IsFareAt-dpid d played j e at in
+    let lt = IsFareAt-within d played j at in
+    rw step (Further-stuck d (set played j g) fault p known (ap (λ (h : Fare). h.failed) (fare_of-set d played j g at is))
+    (λ c other. (fare_of-set_other d c played j g at is other, inverses_in-set c played j e g lt refl refl refl)) t)
