@@ -5,6 +5,7 @@ use Rattle.std.proofs.lemmas.Bool.{ne_eqb, eqb-true}
 use Rattle.of_match.specs.declared.key.Key.{Key}
 use Rattle.net_txn.specs.declared.logged.Fare.{Fare}
 use Rattle.net_txn.specs.declared.logged.Logged.{Logged}
+use Rattle.net_txn.specs.Net.{no_fare}
 use Rattle.net_txn.specs.Undos.{fare_of, inverses_in, keys_in, IsFareAt}
 
 -- ---- One entry more
@@ -67,3 +68,11 @@ none_step false e keys inverses rest is = rest is
 pub keys_in-none : (d : ℕ) (es : List Logged) → keys_in d es ≡ [] → inverses_in d es ≡ []
 keys_in-none d [] none = refl
 keys_in-none d (e ∷ es) none = none_step (e.dpid == d) e (keys_in d es) (inverses_in d es) (keys_in-none d es) none
+
+none_fare : (here : Bool) (e : Logged) (keys : List Key) (fare : Fare) → (keys ≡ [] → fare ≡ no_fare) → (if here then e.key ∷ keys else keys) ≡ [] → (if here then e.fare else fare) ≡ no_fare
+none_fare true e keys fare rest is = absurd cc
+none_fare false e keys fare rest is = rest is
+
+pub fare_of-none : (d : ℕ) (es : List Logged) → keys_in d es ≡ [] → fare_of d es ≡ no_fare
+fare_of-none d [] none = refl
+fare_of-none d (e ∷ es) none = none_fare (e.dpid == d) e (keys_in d es) (fare_of d es) (fare_of-none d es) none

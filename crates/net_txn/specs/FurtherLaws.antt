@@ -17,7 +17,7 @@ use Rattle.net_txn.specs.QuietLaws.{IsFaultOf-behind}
 use Rattle.net_txn.specs.Undos.{alone, AreBefore, IsStuckBy, IsSettled, Moves, Fails, Settles, Part, Inverse, Settled, Stuck, parts_of, is_stuck, since_of, inverses_of, first_fault, first_fault_of, fare_of, inverses_in, is_viewed, Stands, Undoing, Further, Pending}
 use Rattle.net_txn.specs.UndoLaws.{SameFor, Undoing-part, Undoing-none, Undoing-skipped, Stands-inverse, Stands-stuck, Stands-settled}
 
-first_or_none : (o : Option TxnFault) → first_fault_of o None ≡ o
+pub first_or_none : (o : Option TxnFault) → first_fault_of o None ≡ o
 first_or_none None = refl
 first_or_none (Some f) = refl
 

@@ -1,5 +1,5 @@
 -- Laws of a log whose inverses are played: what a fare that is noted at a place leaves of an undo.
-use Rattle.std.specs.Prelude.{◌≡◌, ◌≢◌, ℕ, ◌+◌, ◌<◌, true, false, List, [], ◌∷◌, length, drop, Option, Some, refl}
+use Rattle.std.specs.Prelude.{◌≡◌, ◌≢◌, ℕ, ◌+◌, ◌<◌, true, false, List, [], ◌∷◌, length, drop, Option, Some, None, Result, Ok, Err, OnOk, IfErr, is_err, refl}
 use Rattle.std.proofs.Common.{zero, suc, get_or, set, sym, ap, ◌∙◌, subst, arith}
 use Rattle.std.proofs.Math.Seq.{drop-cons}
 use Rattle.std.proofs.lemmas.List.{drop-set, drop-set-lt}
@@ -11,11 +11,12 @@ use Rattle.outside.specs.Seen.{Seen}
 use Rattle.net_txn.specs.declared.fault.TxnFault.{TxnFault}
 use Rattle.net_txn.specs.declared.logged.Fare.{Fare}
 use Rattle.net_txn.specs.declared.logged.Logged.{Logged}
+use Rattle.net_txn.specs.declared.trouble.Trouble.{Trouble}
 use Rattle.net_txn.specs.Net.{next_xid, inverse_bytes}
 use Rattle.net_txn.specs.Waits.{barrier_sent}
 use Rattle.net_txn.specs.FareLaws.{fare_of-same, fare_of-other, inverses_in-other, fare_of-set, fare_of-set_other, inverses_in-set, IsFareAt-within, IsFareAt-dpid}
-use Rattle.net_txn.specs.Undos.{alone, Moves, Fails, Settles, first_fault_of, fare_of, inverses_in, is_viewed, with_fare, IsFareAt, Further, Pending}
-use Rattle.net_txn.specs.FurtherLaws.{Pending-of, Further-of, Further-inverse, Further-settled, Further-stuck, Further-skipped}
+use Rattle.net_txn.specs.Undos.{fault_by, fault_of, alone, Moves, Fails, Settles, first_fault_of, fare_of, inverses_in, is_viewed, with_fare, IsFareAt, Further, Pending}
+use Rattle.net_txn.specs.FurtherLaws.{first_or_none, Pending-of, Further-of, Further-inverse, Further-settled, Further-stuck, Further-skipped}
 
 -- ---- A place of the log
 
@@ -88,3 +89,36 @@ stuck_in d played j e fault at step p known t =
     let lt = IsFareAt-within d played j at in
     rw step (Further-stuck d (set played j g) fault p known (ap (λ (h : Fare). h.failed) (fare_of-set d played j g at is))
     (λ c other. (fare_of-set_other d c played j g at is other, inverses_in-set c played j e g lt refl refl refl)) t)
+
+pub unfaulted : {Own : Type 0} {Tells : Type 0} {views : List TableView} {base now : Seen Own} {x y : ℕ} {played : List Logged} {fault : Option TxnFault} → Further Tells views base now x y played fault → Further Tells views base now x y played (first_fault_of fault None)
+unfaulted {Tells = Tells} {views = views} {base = base} {now = now} {x = x} {y = y} {played = played} {fault = fault} u =
+    subst (λ (o : Option TxnFault). Further Tells views base now x y played o) (sym (first_or_none fault)) u
+
+-- whichever it was
+pub settle_in : {Own : Type 0} {Tells : Type 0} {views : List TableView} {base now next : Seen Own} {x y z : ℕ} {before : Option TxnFault} (d : ℕ) (played : List Logged) (j : ℕ) (e : Logged) (r : Result (Unit {0}) Trouble) (buf : List ℕ) → IsFareAt d played j → z ≡ next_xid y
+    → Pending Tells views base now x y played before d → is_viewed d views ≡ true
+    → OnOk r (Settles Tells (alone d y) (barrier_sent (alone d y) ∷ []) (inverses_in d played) now next) → IfErr r (λ t. Fails Tells d (inverses_in d played) now next (fault_by d t buf))
+    → Further Tells views base next x z (set played j (with_fare (record { xid = (get_or played j e).fare.xid; since = 0; failed = is_err r }) (get_or played j e))) (first_fault_of before (fault_of d r buf))
+settle_in d played j e (Ok u) buf at step p known ok err = unfaulted (settled_in d played j e at step p known ok)
+settle_in d played j e (Err t) buf at step p known ok err = stuck_in d played j e (fault_by d t buf) at step p known err
+
+-- the inverse was sent just before
+pub settle_played : {Own : Type 0} {Tells : Type 0} {views : List TableView} {base now next : Seen Own} {x y z : ℕ} {before : Option TxnFault} (d : ℕ) (log later : List Logged) (at : ℕ) (e : Logged) (r : Result (Unit {0}) Trouble) (buf : List ℕ) → at < length log → (get_or log at e).dpid ≡ d
+    → later ≡ set log at (with_fare (record { xid = (get_or log at e).fare.xid; since = 0; failed = is_err r }) (get_or log at e)) → z ≡ next_xid y
+    → Pending Tells views base now x y (drop at log) before d → is_viewed d views ≡ true
+    → OnOk r (Settles Tells (alone (get_or log at e).dpid y) (barrier_sent (alone (get_or log at e).dpid y) ∷ []) (inverses_in (get_or log at e).dpid (drop at log)) now next)
+    → IfErr r (λ t. Fails Tells (get_or log at e).dpid (inverses_in (get_or log at e).dpid (drop at log)) now next (fault_by (get_or log at e).dpid t buf))
+    → Further Tells views base next x z (drop at later) (first_fault_of before (fault_of d r buf))
+settle_played {Tells = Tells} {views = views} {base = base} {now = now} {next = next} {x = x} {y = y} {z = z} {before = before} d log later at e r buf lt is marked step p known ok err =
+    let played = drop at log in
+    let front = drop_at log at e lt in
+    let here : IsFareAt d played 0 = subst (λ (xs : List Logged). IsFareAt d xs 0) (sym front) is in
+    let first : get_or played 0 e ≡ get_or log at e = ap (λ (xs : List Logged). get_or xs 0 e) front in
+    let ok2 = subst (λ (n : ℕ). OnOk r (Settles Tells (alone n y) (barrier_sent (alone n y) ∷ []) (inverses_in n played) now next)) is ok in
+    let err2 = subst (λ (n : ℕ). IfErr r (λ t. Fails Tells n (inverses_in n played) now next (fault_by n t buf))) is err in
+    let u = settle_in d played 0 e r buf here step p known ok2 err2 in
+    let g : Fare = record { xid = (get_or log at e).fare.xid; since = 0; failed = is_err r } in
+    let same : set played 0 (with_fare (record { xid = (get_or played 0 e).fare.xid; since = 0; failed = is_err r }) (get_or played 0 e)) ≡ drop at later =
+    ap (λ (h : Logged). set played 0 (with_fare (record { xid = h.fare.xid; since = 0; failed = is_err r }) h)) first
+    ∙ ap (λ (h : Logged). set played 0 (with_fare g h)) (sym first) ∙ sym (marked_played log later at g e lt marked) in
+    subst (λ (xs : List Logged). Further Tells views base next x z xs (first_fault_of before (fault_of d r buf))) same u

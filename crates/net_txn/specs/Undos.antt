@@ -255,6 +255,10 @@ pub record Undoing {Own : Type 0} (Tells : Type 0) (views : List TableView) (old
   pub numbered : AreNumbered xid parts
   pub stands : (d : ℕ) → Stands (is_viewed d views) d old.counts new.counts (parts_of d parts) played
 
+-- no inverse of the switch stands behind its last barrier, unless it has failed
+abbrev pub IsSettledIn : ℕ → List Logged → Type 0
+IsSettledIn d played = (fare_of d played).failed ≡ false → (fare_of d played).since ≡ 0
+
 -- more messages were kept
 abbrev pub KeptSome : List (ℕ × List ℕ) → List (ℕ × List ℕ) → Type 0
 KeptSome kept now_kept = (more : List (ℕ × List ℕ)) × (now_kept ≡ kept ++ more)

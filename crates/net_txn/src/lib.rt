@@ -14,6 +14,7 @@ mod ports;
 mod prepared;
 mod queue;
 mod quiet;
+mod room;
 mod rows;
 mod trouble;
 mod views;

@@ -11,9 +11,9 @@ ghost use Rattle.outside.specs.declared.step.WorldStep.TheVariants.{Acted};
 ghost use Rattle.net_txn.specs.declared.logged.Logged.{Logged};
 ghost use Rattle.net_txn.specs.Net.{next_xid, inverse_bytes};
 ghost use Rattle.net_txn.specs.Waits.{barrier_sent};
-ghost use Rattle.net_txn.specs.Undos.{KeptSome, Further, first_fault_of, fault_of, fare_of, Moves, Fails, Settles, fault_by, inverses_in, alone, is_viewed, with_fare, but_fare};
+ghost use Rattle.net_txn.specs.Undos.{IsSettledIn, KeptSome, Further, first_fault_of, fault_of, fare_of, Moves, Fails, Settles, fault_by, inverses_in, alone, is_viewed, with_fare, but_fare};
 
-use crate::fares::fare_of;
+use crate::fares::{fare_of, place_of};
 use crate::logged::{Fare, Logged, inverse_of};
 use crate::net::following;
 use crate::queue::MessageQueue;
@@ -168,4 +168,81 @@ fn play_to<W: World>(
     }
     let id = take_xid(xid);
     settle_at(world, buf, kept, log, at, at, id)
+}
+
+/// Whether an inverse is played to a switch: it is joined and has not failed.
+fn plays(fare: Fare, views: &[TableView], dpid: Dpid) -> bool
+    ensures yes { result ≡ true → (is_viewed dpid views.now ≡ true) × (fare.failed ≡ false) }
+    ensures no { result ≡ false → is_viewed dpid views.now ≡ true → fare.failed ≡ true }
+{
+    !fare.failed && is_viewed(views, dpid)
+}
+
+/// Plays the inverse at a place, unless its switch has failed or is not joined.
+pub(crate) fn play<W: World>(
+    world: &mut W,
+    alloc: Global,
+    buf: &mut [u8],
+    kept: &mut MessageQueue,
+    views: &[TableView],
+    log: &mut [Logged],
+    at: usize,
+    xid: &mut Xid,
+) -> Result<(), Trouble>
+    requires room { most_message ≤ length buf.old }
+    requires place { at < length log.old }
+    requires least { 1 ≤ xid.old }
+    ensures undoing { (base : Seen W.Own) (x : ℕ) (fault : Option TxnFault) (e : Logged) →
+        Further W.Tells views.now base (W.seen world.old) x xid.old (drop (at + 1) log.old) fault
+        → Further W.Tells views.now base (W.seen world.new) x xid.new (drop at log.new)
+            (first_fault_of fault (fault_of (slice_index_or log.old at e).dpid result buf.new)) }
+    ensures same { map but_fare log.new ≡ map but_fare log.old }
+    ensures kept { KeptSome kept.old kept.new }
+    ensures least { 1 ≤ xid.new }
+    ensures len { length buf.new ≡ length buf.old }
+{
+    let dpid = log[at].dpid;
+    let fare = fare_of(behind(log, at + 1), dpid);
+    if plays(fare, views, dpid) {
+        play_to(world, alloc, buf, kept, log, at, one_more(fare.since), xid)
+    } else {
+        let left_alone = Fare {
+            xid: 0,
+            since: 0,
+            failed: true,
+        };
+        mark(log, at, left_alone);
+        Ok(())
+    }
+}
+
+/// Sends a barrier to a switch for which some inverse was played, unless it has failed, and waits for its reply.
+pub(crate) fn settle_switch<W: World>(
+    world: &mut W,
+    buf: &mut [u8],
+    kept: &mut MessageQueue,
+    log: &mut [Logged],
+    dpid: Dpid,
+    xid: &mut Xid,
+) -> Result<(), Trouble>
+    requires room { most_message ≤ length buf.old }
+    requires least { 1 ≤ xid.old }
+    ensures undoing { (base : Seen W.Own) (views : List TableView) (x : ℕ) (fault : Option TxnFault) →
+        Further W.Tells views base (W.seen world.old) x xid.old log.old fault → is_viewed dpid views ≡ true
+        → Further W.Tells views base (W.seen world.new) x xid.new log.new (first_fault_of fault (fault_of dpid result buf.new)) }
+    ensures settled { IsSettledIn dpid log.new }
+    ensures others { (c : ℕ) → IsSettledIn c log.old → IsSettledIn c log.new }
+    ensures same { map but_fare log.new ≡ map but_fare log.old }
+    ensures kept { KeptSome kept.old kept.new }
+    ensures least { 1 ≤ xid.new }
+    ensures len { length buf.new ≡ length buf.old }
+{
+    let Some(at) = place_of(log, dpid) else {
+        return Ok(());
+    };
+    if log[at].fare.failed {
+        return Ok(());
+    }
+    let id = take_xid(xid);
+    settle_at(world, buf, kept, log, 0, at, id)
 }
