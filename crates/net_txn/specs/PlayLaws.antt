@@ -1,6 +1,7 @@
 -- Laws of a log whose inverses are played: what a fare that is noted at a place leaves of an undo.
 use Rattle.std.specs.Prelude.{◌≡◌, ◌≢◌, ℕ, ◌+◌, ◌<◌, true, false, List, [], ◌∷◌, length, drop, Option, Some, None, Result, Ok, Err, OnOk, IfErr, is_err, refl}
-use Rattle.std.proofs.Common.{zero, suc, get_or, set, sym, ap, ◌∙◌, subst, arith}
+use Rattle.std.proofs.Common.{zero, suc, get_or, set, sym, ap, ◌∙◌, subst, inl, inr, arith}
+use Rattle.std.proofs.lemmas.Bool.{cases_eq}
 use Rattle.std.proofs.Math.Seq.{drop-cons}
 use Rattle.std.proofs.lemmas.List.{drop-set, drop-set-lt}
 use Rattle.of_types.specs.declared.journal.Act.TheVariants.{Sent}
@@ -14,8 +15,8 @@ use Rattle.net_txn.specs.declared.logged.Logged.{Logged}
 use Rattle.net_txn.specs.declared.trouble.Trouble.{Trouble}
 use Rattle.net_txn.specs.Net.{next_xid, inverse_bytes}
 use Rattle.net_txn.specs.Waits.{barrier_sent}
-use Rattle.net_txn.specs.FareLaws.{fare_of-same, fare_of-other, inverses_in-other, fare_of-set, fare_of-set_other, inverses_in-set, IsFareAt-within, IsFareAt-dpid}
-use Rattle.net_txn.specs.Undos.{fault_by, fault_of, alone, Moves, Fails, Settles, first_fault_of, fare_of, inverses_in, is_viewed, with_fare, IsFareAt, Further, Pending}
+use Rattle.net_txn.specs.FareLaws.{fare_of-same, fare_of-other, inverses_in-other, fare_of-set, fare_of-set_other, inverses_in-set, IsFareAt-within, IsFareAt-dpid, fare_of-at}
+use Rattle.net_txn.specs.Undos.{fault_by, fault_of, alone, Moves, Fails, Settles, first_fault_of, fare_of, inverses_in, is_viewed, with_fare, IsFareAt, IsSettledIn, Further, Pending}
 use Rattle.net_txn.specs.FurtherLaws.{first_or_none, Pending-of, Further-of, Further-inverse, Further-settled, Further-stuck, Further-skipped}
 
 -- ---- A place of the log
@@ -122,3 +123,32 @@ settle_played {Tells = Tells} {views = views} {base = base} {now = now} {next = 
     ap (λ (h : Logged). set played 0 (with_fare (record { xid = h.fare.xid; since = 0; failed = is_err r }) h)) first
     ∙ ap (λ (h : Logged). set played 0 (with_fare g h)) (sym first) ∙ sym (marked_played log later at g e lt marked) in
     subst (λ (xs : List Logged). Further Tells views base next x z xs (first_fault_of before (fault_of d r buf))) same u
+
+-- the switch of the newest inverse that was played to it
+pub settle_placed : {Own : Type 0} {Tells : Type 0} {views : List TableView} {base now next : Seen Own} {x y z : ℕ} {before : Option TxnFault} (d i : ℕ) (log later : List Logged) (at : ℕ) (e : Logged) (r : Result (Unit {0}) Trouble) (buf : List ℕ) → IsFareAt d log at
+    → later ≡ set log at (with_fare (record { xid = (get_or log at e).fare.xid; since = 0; failed = is_err r }) (get_or log at e)) → z ≡ next_xid y → i ≡ y
+    → Further Tells views base now x y log before → is_viewed d views ≡ true → (get_or log at e).fare.failed ≡ false
+    → OnOk r (Settles Tells (alone (get_or log at e).dpid i) (barrier_sent (alone (get_or log at e).dpid i) ∷ []) (inverses_in (get_or log at e).dpid log) now next)
+    → IfErr r (λ t. Fails Tells (get_or log at e).dpid (inverses_in (get_or log at e).dpid log) now next (fault_by (get_or log at e).dpid t buf))
+    → Further Tells views base next x z later (first_fault_of before (fault_of d r buf))
+settle_placed {Tells = Tells} {now = now} {next = next} {y = y} d i log later at e r buf here marked step taken u known unfailed ok err =
+    let is = IsFareAt-dpid d log at e here in
+    let free = ap (λ (f : Fare). f.failed) (fare_of-at d log at e here) ∙ unfailed in
+    let ok1 = subst (λ (n : ℕ). OnOk r (Settles Tells (alone (get_or log at e).dpid n) (barrier_sent (alone (get_or log at e).dpid n) ∷ []) (inverses_in (get_or log at e).dpid log) now next)) taken ok in
+    let ok2 = subst (λ (n : ℕ). OnOk r (Settles Tells (alone n y) (barrier_sent (alone n y) ∷ []) (inverses_in n log) now next)) is ok1 in
+    let err2 = subst (λ (n : ℕ). IfErr r (λ t. Fails Tells n (inverses_in n log) now next (fault_by n t buf))) is err in
+    rw marked (settle_in d log at e r buf here step (Pending-of d u known free) known ok2 err2)
+
+-- and no inverse stands behind its barrier
+pub settled_here : (d : ℕ) (log later : List Logged) (at : ℕ) (e : Logged) (f : Fare) → IsFareAt d log at → later ≡ set log at (with_fare f (get_or log at e)) → f.since ≡ 0 → IsSettledIn d later
+settled_here d log later at e f here marked none = λ unfailed.
+    rw marked (ap (λ (h : Fare). h.since) (fare_of-set d log at (with_fare f (get_or log at e)) here (IsFareAt-dpid d log at e here)) ∙ none)
+
+pub settled_there : (d c : ℕ) (log later : List Logged) (at : ℕ) (e : Logged) (f : Fare) → IsFareAt d log at → later ≡ set log at (with_fare f (get_or log at e)) → f.since ≡ 0 → IsSettledIn c log → IsSettledIn c later
+settled_there d c log later at e f here marked none before =
+    elim (cases_eq c d) [
+      | inl same ↦ subst (λ (n : ℕ). IsSettledIn n later) (sym same) (settled_here d log later at e f here marked none)
+      | inr other ↦
+        (let fare : fare_of c later ≡ fare_of c log = ap (fare_of c) marked ∙ fare_of-set_other d c log at (with_fare f (get_or log at e)) here (IsFareAt-dpid d log at e here) other in
+        subst (λ (h : Fare). h.failed ≡ false → h.since ≡ 0) (sym fare) before)
+    ]

@@ -1,6 +1,6 @@
 //! How the inverses of a log fared.
 
-ghost use Rattle.std.specs.Prelude.{◌≡◌, [], None, Some, MatchOption, IsOk};
+ghost use Rattle.std.specs.Prelude.{◌≡◌, ◌<◌, [], length, None, Some, MatchOption, IfSome, IsOk};
 ghost use Rattle.of_wire.specs.Reading.{reading_of};
 ghost use Rattle.net_txn.specs.Undos.{fare_of, inverses_in, key_sent, key_refused, keys_in, IsFareAt};
 
@@ -51,7 +51,8 @@ pub(crate) fn key_refused(message: &[u8], played: &[Logged], dpid: Dpid) -> Opti
 
 /// Where the newest inverse that was played stands of those of a switch.
 pub(crate) fn place_of(played: &[Logged], dpid: Dpid) -> Option<usize>
-    ensures { MatchOption result (keys_in dpid played.now ≡ []) (IsFareAt dpid played.now) }
+    ensures place { MatchOption result (keys_in dpid played.now ≡ []) (IsFareAt dpid played.now) }
+    ensures within { IfSome result (λ at. at < length played.now) }
 {
     for (i, entry) in played.iter().enumerate() {
         if entry.dpid == dpid {

@@ -4,8 +4,8 @@ use Rattle.std.proofs.lemmas.Grind.{common_steps}
 use Rattle.net_txn.proofs.FarePlaces.{fares_more, fares_stop}
 use Rattle.net_txn.proofs.fares.place_of.Goals as goal
 
-pub returns-then-entry-dpid : goal.returns-then-entry-dpid
-returns-then-entry-dpid c = fares_stop c.args.dpid c.args.played.now c.loop-i.i c.index-played-i.result c.loop-i-test.true c.index-played-i.is c.if-entry-dpid.true c.loop-i.invariant.places
+pub returns-then-entry-dpid-clause-place : goal.returns-then-entry-dpid-clause-place
+returns-then-entry-dpid-clause-place c = fares_stop c.args.dpid c.args.played.now c.loop-i.i c.index-played-i.result c.loop-i-test.true c.index-played-i.is c.if-entry-dpid.true c.loop-i.invariant.places
 
 pub loop-i-preserved : goal.loop-i-preserved
 loop-i-preserved c =

@@ -1,6 +1,7 @@
-use Rattle.std.proofs.Common.{◌≡◌, ◌<◌, length, get_or, set, false, true, refl, sym, ap, ◌∙◌, arith}
+use Rattle.std.proofs.Common.{◌≡◌, ◌<◌, List, length, get_or, false, refl, sym, ap, ◌∙◌, subst}
 use Rattle.std.proofs.lemmas.Result.{err_from_is_err_and}
-use Rattle.std.proofs.lemmas.List.{get_or-set_same, length-set}
+use Rattle.std.proofs.lemmas.List.{get_or-set_same}
+use Rattle.std.proofs.Math.Seq.{lt-length-set}
 use Rattle.net_txn.specs.declared.logged.Logged.{Logged}
 use Rattle.net_txn.specs.declared.logged.Fare.{Fare}
 use Rattle.net_txn.specs.Undos.{with_fare, inverses_in, fault_by}
@@ -24,8 +25,9 @@ returns-clause-undoing g c = λ base views x fault e u known unfailed more.
     let e1 = c.in_ok-send_at.ensures in
     let p = sent_at c.args.log.now c.send_at.new.log c.args.at _ e c.requires.place (e1.marked e) refl c.take_xid-id.ensures.taken c.take_xid-id.ensures.next u known unfailed more (e1.ok e) in
     let d = (get_or c.args.log.now c.args.at e).dpid in
+    let sent : Logged = with_fare (record { xid = c.take_xid-id.result; since = c.args.since; failed = false }) (get_or c.args.log.now c.args.at e) in
     let here : (get_or c.send_at.new.log c.args.at e).dpid ≡ d =
-    ap (λ (l : Logged). l.dpid) (rw (e1.marked e) (get_or-set_same c.args.log.now c.args.at _ e c.requires.place)) in
-    let lt : c.args.at < length c.send_at.new.log = rw (e1.marked e) (omega (arith, c.requires.place, length-set c.args.log.now c.args.at (with_fare (record { xid = c.take_xid-id.result; since = c.args.since; failed = false }) (get_or c.args.log.now c.args.at e)))) in
+    ap (λ (xs : List Logged). (get_or xs c.args.at e).dpid) (e1.marked e) ∙ ap (λ (l : Logged). l.dpid) (get_or-set_same c.args.log.now c.args.at sent e c.requires.place) in
+    let lt : c.args.at < length c.send_at.new.log = subst (λ (xs : List Logged). c.args.at < length xs) (sym (e1.marked e)) (lt-length-set c.args.log.now c.args.at sent c.requires.place) in
     let s = c.settle_at.ensures in
     settle_played d c.send_at.new.log c.settle_at.new.log c.args.at e c.settle_at.result c.settle_at.new.buf lt here (s.marked e) c.take_xid-id-2.ensures.next p known (rw c.take_xid-id-2.ensures.taken at s.ok e) (s.err e)
