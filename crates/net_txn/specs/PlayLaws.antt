@@ -1,5 +1,5 @@
 -- Laws of a log whose inverses are played: what a fare that is noted at a place leaves of an undo.
-use Rattle.std.specs.Prelude.{◌≡◌, ◌≢◌, ℕ, ◌+◌, ◌<◌, true, false, List, [], ◌∷◌, length, drop, Option, Some, None, Result, Ok, Err, OnOk, IfErr, is_err, refl}
+use Rattle.std.specs.Prelude.{◌≡◌, ◌≢◌, ℕ, ◌+◌, ◌<◌, Bool, true, false, List, [], ◌∷◌, length, drop, Option, Some, None, Result, Ok, Err, OnOk, IfErr, is_err, refl}
 use Rattle.std.proofs.Common.{zero, suc, get_or, set, sym, ap, ◌∙◌, subst, inl, inr, arith}
 use Rattle.std.proofs.lemmas.Bool.{cases_eq}
 use Rattle.std.proofs.Math.Seq.{drop-cons}
@@ -15,8 +15,8 @@ use Rattle.net_txn.specs.declared.logged.Logged.{Logged}
 use Rattle.net_txn.specs.declared.trouble.Trouble.{Trouble}
 use Rattle.net_txn.specs.Net.{next_xid, inverse_bytes}
 use Rattle.net_txn.specs.Waits.{barrier_sent}
-use Rattle.net_txn.specs.FareLaws.{fare_of-same, fare_of-other, inverses_in-other, fare_of-set, fare_of-set_other, inverses_in-set, IsFareAt-within, IsFareAt-dpid, fare_of-at}
-use Rattle.net_txn.specs.Undos.{fault_by, fault_of, alone, Moves, Fails, Settles, first_fault_of, fare_of, inverses_in, is_viewed, with_fare, IsFareAt, IsSettledIn, Further, Pending}
+use Rattle.net_txn.specs.FareLaws.{fare_of-same, fare_of-other, inverses_in-other, fare_of-set, fare_of-set_other, inverses_in-set, IsFareAt-within, IsFareAt-dpid, fare_of-at, fare_of-none}
+use Rattle.net_txn.specs.Undos.{fault_by, fault_of, alone, Moves, Fails, Settles, first_fault_of, fare_of, inverses_in, is_viewed, keys_in, with_fare, IsFareAt, IsSettledIn, Further, Pending}
 use Rattle.net_txn.specs.FurtherLaws.{first_or_none, Pending-of, Further-of, Further-inverse, Further-settled, Further-stuck, Further-skipped}
 
 -- ---- A place of the log
@@ -152,3 +152,12 @@ settled_there d c log later at e f here marked none before =
         (let fare : fare_of c later ≡ fare_of c log = ap (fare_of c) marked ∙ fare_of-set_other d c log at (with_fare f (get_or log at e)) here (IsFareAt-dpid d log at e here) other in
         subst (λ (h : Fare). h.failed ≡ false → h.since ≡ 0) (sym fare) before)
     ]
+
+pub settled_failed : (d : ℕ) (log : List Logged) (at : ℕ) (e : Logged) → IsFareAt d log at → (get_or log at e).fare.failed ≡ true → IsSettledIn d log
+settled_failed d log at e here failed = λ unfailed. absurd (no_both (fare_of d log).failed (ap (λ (f : Fare). f.failed) (fare_of-at d log at e here) ∙ failed) unfailed)
+  where
+    no_both : (b : Bool) → b ≡ true → b ≡ false → ⊥
+    no_both b is other = cc
+
+pub settled_none : (d : ℕ) (log : List Logged) → keys_in d log ≡ [] → IsSettledIn d log
+settled_none d log none = λ unfailed. ap (λ (f : Fare). f.since) (fare_of-none d log none)

@@ -263,6 +263,10 @@ IsSettledIn d played = (fare_of d played).failed ≡ false → (fare_of d played
 abbrev pub KeptSome : List (ℕ × List ℕ) → List (ℕ × List ℕ) → Type 0
 KeptSome kept now_kept = (more : List (ℕ × List ℕ)) × (now_kept ≡ kept ++ more)
 
+-- of the room for the bytes of faults none was taken without a fault, and that of one at most
+abbrev pub IsRoomLeft : Option TxnFault → Option TxnFault → ℕ → ℕ → Type 0
+IsRoomLeft fault now_fault room now_room = (now_fault ≡ None → (fault ≡ None) × (now_room ≡ room)) × (room ≤ now_room + 1) × ((fault ≡ None → ⊥) → now_room ≡ room)
+
 -- An undo so far, with its first fault, and fewer than 4,096 inverses behind the last barrier of each switch.
 pub record Further {Own : Type 0} (Tells : Type 0) (views : List TableView) (old new : Seen Own) (xid now_xid : ℕ) (played : List Logged) (fault : Option TxnFault) : Type 0 where
   pub parts : List (ℕ × Part)

@@ -17,6 +17,7 @@ mod quiet;
 mod room;
 mod rows;
 mod trouble;
+mod undo;
 mod views;
 mod wait;
 
