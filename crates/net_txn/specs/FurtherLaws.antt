@@ -1,7 +1,8 @@
 -- Laws of undos with their first fault: one inverse more, one barrier more, and a fault.
-use Rattle.std.specs.Prelude.{◌≡◌, ◌≢◌, ◌==◌, ℕ, ◌+◌, ◌<◌, Bool, true, false, List, [], ◌∷◌, Option, Some, None, if◌then◌else◌, refl}
-use Rattle.std.proofs.Common.{sym, ap, ◌∙◌, subst, eq-eqb, inl, inr, arith}
+use Rattle.std.specs.Prelude.{◌≡◌, ◌≢◌, ◌==◌, ℕ, ◌+◌, ◌<◌, Bool, true, false, ◌≤◌, List, [], ◌∷◌, ◌++◌, Option, Some, None, if◌then◌else◌, refl}
+use Rattle.std.proofs.Common.{sym, ap, ◌∙◌, subst, append_assoc, eq-eqb, inl, inr, arith}
 use Rattle.std.proofs.lemmas.Bool.{ne_eqb, cases_eq}
+use Rattle.std.proofs.lemmas.List.{append-nil}
 use Rattle.of_types.specs.declared.journal.Act.TheVariants.{Sent}
 use Rattle.of_match.specs.declared.key.Key.{Key}
 use Rattle.flow_table.specs.declared.view.TableView.{TableView}
@@ -14,7 +15,7 @@ use Rattle.net_txn.specs.Net.{next_xid, inverse_bytes}
 use Rattle.net_txn.specs.Waits.{barrier_sent}
 use Rattle.net_txn.specs.FareLaws.{fare_of-same, fare_of-other, inverses_in-other}
 use Rattle.net_txn.specs.QuietLaws.{IsFaultOf-behind}
-use Rattle.net_txn.specs.Undos.{alone, AreBefore, IsStuckBy, IsSettled, Moves, Fails, Settles, Part, Inverse, Settled, Stuck, parts_of, is_stuck, since_of, inverses_of, first_fault, first_fault_of, fare_of, inverses_in, is_viewed, Stands, Undoing, Further, Pending}
+use Rattle.net_txn.specs.Undos.{alone, AreBefore, IsStuckBy, IsSettled, Moves, Fails, Settles, Part, Inverse, Settled, Stuck, parts_of, is_stuck, since_of, inverses_of, first_fault, first_fault_of, fare_of, inverses_in, is_viewed, Stands, Undoing, Further, Pending, IsRoomLeft, KeptSome}
 use Rattle.net_txn.specs.UndoLaws.{SameFor, Undoing-part, Undoing-none, Undoing-skipped, Stands-inverse, Stands-stuck, Stands-settled}
 
 pub first_or_none : (o : Option TxnFault) → first_fault_of o None ≡ o
@@ -101,3 +102,29 @@ Further-stuck {Tells = Tells} {views = views} {base = base} {now = now} {next = 
       few = λ c. elim (cases_eq c d) [ inl mine ↦ rw (eq-eqb d c (sym mine)) (omega arith) | inr other ↦ rw (ne_eqb d c (λ is. other (sym is))) (p.few c other) ];
       fault_so = ap (λ (o : Option TxnFault). first_fault_of o (Some fault)) p.fault_so;
     }
+
+-- ---- Room and messages
+
+pub room_same : (fault : Option TxnFault) (room : ℕ) → IsRoomLeft fault fault room room
+room_same fault room = (λ none. (none, refl), omega arith, λ some. refl)
+
+pub room_then : (f g h : Option TxnFault) (a b c : ℕ) → IsRoomLeft f g a b → IsRoomLeft g h b c → IsRoomLeft f h a c
+room_then f None h a b c first second =
+    let same = first.0 refl in
+    (λ none. (same.0, (second.0 none).1 ∙ same.1), omega (arith, same.1, second.1), λ some. absurd (some same.0))
+room_then f (Some fault) h a b c first second =
+    let kept = second.2 (λ none. absurd cc) in
+    (λ none. absurd (some_not (second.0 none).0), omega (arith, kept, first.1), λ some. kept ∙ first.2 some)
+  where
+    some_not : Some fault ≡ None → ⊥
+    some_not is = cc
+
+pub some_none : (kept : List (ℕ × List ℕ)) → KeptSome kept kept
+some_none kept = ([], sym (append-nil kept))
+
+pub some_then : (a b c : List (ℕ × List ℕ)) → KeptSome a b → KeptSome b c → KeptSome a c
+some_then a b c first second = (first.0 ++ second.0, second.1 ∙ ap (λ (k : List (ℕ × List ℕ)). k ++ second.0) first.1 ∙ append_assoc a first.0 second.0)
+
+pub faultless : {Own : Type 0} {Tells : Type 0} {views : List TableView} {base now : Seen Own} {x y : ℕ} {played : List Logged} (fault : Option TxnFault) → Further Tells views base now x y played (first_fault_of fault None) → Further Tells views base now x y played fault
+faultless {Tells = Tells} {views = views} {base = base} {now = now} {x = x} {y = y} {played = played} fault u =
+    subst (λ (o : Option TxnFault). Further Tells views base now x y played o) (first_or_none fault) u

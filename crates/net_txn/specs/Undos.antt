@@ -1,7 +1,7 @@
 -- How logged additions are undone: newest first over all switches each key is removed again (OpenFlow 1.0.0, 5.3.3 Modify State
 -- Messages: DELETE_STRICT), with barriers behind (5.3.7 Barrier Message). A switch that fails is left alone from then on. What is
 -- done is a list of parts, newest first, as the log is read from its end. All of this is our own choice.
-use Rattle.std.specs.Prelude.{◌≡◌, ◌≢◌, ◌==◌, ℕ, ◌+◌, ◌<◌, ◌≤◌, Bool, true, false, ◌&&◌, List, [], ◌∷◌, ◌++◌, length, take, map, Option, Some, None, Result, Ok, Err, IsOk, IsErr, if◌then◌else◌}
+use Rattle.std.specs.Prelude.{◌≡◌, ◌≢◌, ◌==◌, ℕ, ◌+◌, ◌<◌, ◌≤◌, Bool, true, false, ◌&&◌, nat_lt, List, [], ◌∷◌, ◌++◌, length, take, drop, map, Option, Some, None, Result, Ok, Err, IsOk, IsErr, if◌then◌else◌}
 use Rattle.std.specs.List.{AllByRecursion, list_any}
 use Rattle.std.specs.Option.{is_some}
 use Rattle.std.proofs.Common.{zero, suc}
@@ -10,6 +10,8 @@ use Rattle.of_types.specs.Fields.{number_at}
 use Rattle.of_types.specs.declared.journal.Act.TheVariants.{Sent, Got}
 use Rattle.of_match.specs.declared.key.Key.{Key}
 use Rattle.of_wire.specs.Reading.{reading_of}
+use Rattle.of_match.specs.Key.{place}
+use Rattle.flow_table.specs.declared.view.ViewRow.{ViewRow}
 use Rattle.flow_table.specs.declared.view.TableView.{TableView}
 use Rattle.outside.specs.declared.faults.LinkFault.{LinkFault}
 use Rattle.outside.specs.declared.faults.LinkFault.TheVariants as linking
@@ -24,7 +26,8 @@ use Rattle.net_txn.specs.declared.logged.Logged.{Logged}
 use Rattle.net_txn.specs.declared.trouble.Trouble.{Trouble}
 use Rattle.net_txn.specs.declared.trouble.Trouble.TheVariants as troubles
 use Rattle.net_txn.specs.Causes.{flood}
-use Rattle.net_txn.specs.Net.{next_xid, inverse_bytes, no_fare}
+use Rattle.net_txn.specs.Views.{with_rows}
+use Rattle.net_txn.specs.Net.{NetState, next_xid, inverse_bytes, no_fare}
 use Rattle.net_txn.specs.Waits.{heard, is_reply, wait_steps, barrier_sent, reply_got}
 
 -- ---- Steps of one switch
@@ -286,3 +289,52 @@ pub record Pending {Own : Type 0} (Tells : Type 0) (views : List TableView) (old
   pub few : (c : ℕ) → c ≢ d → since_of (parts_of c parts) < 4096
   pub free : is_stuck (parts_of d parts) ≡ false
   pub fault_so : fault ≡ first_fault parts
+
+-- ---- The whole
+
+-- the rows in key order, that of a key taken out
+abbrev pub without_row : Key → List ViewRow → List ViewRow
+without_row k [] = []
+without_row k (r ∷ rs) =
+    if nat_lt (place r.key) (place k) then r ∷ without_row k rs
+    else if place r.key == place k then rs
+    else r ∷ rs
+
+-- the views without logged keys
+abbrev pub without_keys : List (ℕ × Key) → List TableView → List TableView
+without_keys [] views = views
+without_keys (p ∷ ps) views = without_keys ps (with_rows p.0 (without_row p.1) views)
+
+-- the keys of one switch
+abbrev pub keys_of : ℕ → List (ℕ × Key) → List Key
+keys_of d [] = []
+keys_of d (p ∷ ps) = if p.0 == d then p.1 ∷ keys_of d ps else keys_of d ps
+
+abbrev pub ended_by : Option TxnFault → Result (Unit {0}) TxnFault
+ended_by None = Ok tt
+ended_by (Some fault) = Err fault
+
+-- Nothing is done with a switch that is not joined. With one that is and does not fail: the inverses of exactly its keys are sent,
+-- newest first, and a barrier behind them.
+pub record IsPlayedOn (known : Bool) (d : ℕ) (old new : Counts) (keys : List Key) (parts : List Part) : Type 0 where
+  pub unknown : known ≡ false → parts ≡ []
+  pub run : IsRun old new d parts
+  pub keys_so : known ≡ true → is_stuck parts ≡ false → map (λ p. p.1) (inverses_of parts) ≡ keys
+  pub settled : known ≡ true → is_stuck parts ≡ false → since_of parts ≡ 0
+
+-- What was logged from a place on is undone and forgotten, and the views lose its keys. It goes on past a fault with the other
+-- switches, and the first fault is answered.
+pub record Undoes {Own : Type 0} (Tells : Type 0) (start : ℕ) (old new : Seen Own) (net now_net : NetState) (result : Result (Unit {0}) TxnFault) : Type 0 where
+  pub parts : List (ℕ × Part)
+  pub continues : Continues Tells old new
+  pub told : Tells → new.history ≡ old.history ++ steps_of parts
+  pub xid : now_net.xid ≡ next_free net.xid parts
+  pub numbered : AreNumbered net.xid parts
+  pub each : (d : ℕ) → IsPlayedOn (is_viewed d net.views) d old.counts new.counts (keys_of d (map but_fare (drop start net.log))) (parts_of d parts)
+  pub result_so : result ≡ ended_by (first_fault parts)
+  pub log : now_net.log ≡ take start net.log
+  pub views : now_net.views ≡ without_keys (map but_fare (drop start net.log)) net.views
+  pub ports : now_net.ports ≡ net.ports
+  pub moment : now_net.moment ≡ net.moment
+  pub kept : KeptSome net.kept now_net.kept
+  pub room : (net.room ≤ now_net.room + 1) × (IsOk result → now_net.room ≡ net.room)

@@ -7,6 +7,7 @@ use crate::heard::Awaited;
 use crate::logged::Logged;
 use crate::ports::KnownPorts;
 use crate::queue::MessageQueue;
+use crate::room::Room;
 use flow_table::TableView;
 use of_types::{ByteList, Dpid, Xid};
 use std::alloc::{AllocError, Global};
@@ -27,6 +28,7 @@ pub struct Net {
     pub(crate) xid: Xid,
     pub(crate) moment: u64,
     pub(crate) kept: MessageQueue,
+    pub(crate) rooms: Vec<Room>,
 }
 
 impl Model for Net {
@@ -42,6 +44,7 @@ impl Model for Net {
       xid = s.xid;
       moment = s.moment;
       kept = s.kept;
+      room = vec_len s.rooms;
     } };
 
     ghost invariant = { λ s. (vec_len s.buf ≡ 65535) × (1 ≤ s.xid) };
@@ -69,7 +72,7 @@ pub(crate) fn await_from(dpid: Dpid, xid: Xid) -> Awaited
 impl Net {
     /// A network of no switch, at moment 0. It takes the room that an undo needs.
     pub fn new(alloc: Global) -> Result<Net, AllocError>
-        ensures { IfOk result (λ n. n ≡ record { views = []; ports = []; log = []; xid = 1; moment = 0; kept = [] }) }
+        ensures { IfOk result (λ n. n ≡ record { views = []; ports = []; log = []; xid = 1; moment = 0; kept = []; room = 2 }) }
     {
         Ok(Net {
             alloc,
@@ -80,6 +83,7 @@ impl Net {
             xid: 1,
             moment: 0,
             kept: MessageQueue::new(alloc),
+            rooms: vec![in alloc; Room::new(alloc)?, Room::new(alloc)?]?,
         })
     }
 
