@@ -15,3 +15,4 @@ pub mod FareLaws
 pub mod UndoLaws
 pub mod FurtherLaws
 pub mod PlayLaws
+pub mod WholeLaws

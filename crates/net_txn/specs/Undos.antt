@@ -1,7 +1,7 @@
 -- How logged additions are undone: newest first over all switches each key is removed again (OpenFlow 1.0.0, 5.3.3 Modify State
 -- Messages: DELETE_STRICT), with barriers behind (5.3.7 Barrier Message). A switch that fails is left alone from then on. What is
 -- done is a list of parts, newest first, as the log is read from its end. All of this is our own choice.
-use Rattle.std.specs.Prelude.{◌≡◌, ◌≢◌, ◌==◌, ℕ, ◌+◌, ◌<◌, ◌≤◌, Bool, true, false, ◌&&◌, nat_lt, List, [], ◌∷◌, ◌++◌, length, take, drop, map, Option, Some, None, Result, Ok, Err, IsOk, IsErr, if◌then◌else◌}
+use Rattle.std.specs.Prelude.{◌≡◌, ◌≢◌, ◌==◌, ℕ, ◌+◌, ◌<◌, ◌≤◌, Bool, true, false, ◌&&◌, List, [], ◌∷◌, ◌++◌, length, take, drop, map, Option, Some, None, Result, Ok, Err, IsOk, IsErr, if◌then◌else◌}
 use Rattle.std.specs.List.{AllByRecursion, list_any}
 use Rattle.std.specs.Option.{is_some}
 use Rattle.std.proofs.Common.{zero, suc}
@@ -10,8 +10,6 @@ use Rattle.of_types.specs.Fields.{number_at}
 use Rattle.of_types.specs.declared.journal.Act.TheVariants.{Sent, Got}
 use Rattle.of_match.specs.declared.key.Key.{Key}
 use Rattle.of_wire.specs.Reading.{reading_of}
-use Rattle.of_match.specs.Key.{place}
-use Rattle.flow_table.specs.declared.view.ViewRow.{ViewRow}
 use Rattle.flow_table.specs.declared.view.TableView.{TableView}
 use Rattle.outside.specs.declared.faults.LinkFault.{LinkFault}
 use Rattle.outside.specs.declared.faults.LinkFault.TheVariants as linking
@@ -26,7 +24,7 @@ use Rattle.net_txn.specs.declared.logged.Logged.{Logged}
 use Rattle.net_txn.specs.declared.trouble.Trouble.{Trouble}
 use Rattle.net_txn.specs.declared.trouble.Trouble.TheVariants as troubles
 use Rattle.net_txn.specs.Causes.{flood}
-use Rattle.net_txn.specs.Views.{with_rows}
+use Rattle.net_txn.specs.Views.{with_rows, without_row}
 use Rattle.net_txn.specs.Net.{NetState, next_xid, inverse_bytes, no_fare}
 use Rattle.net_txn.specs.Waits.{heard, is_reply, wait_steps, barrier_sent, reply_got}
 
@@ -291,14 +289,6 @@ pub record Pending {Own : Type 0} (Tells : Type 0) (views : List TableView) (old
   pub fault_so : fault ≡ first_fault parts
 
 -- ---- The whole
-
--- the rows in key order, that of a key taken out
-abbrev pub without_row : Key → List ViewRow → List ViewRow
-without_row k [] = []
-without_row k (r ∷ rs) =
-    if nat_lt (place r.key) (place k) then r ∷ without_row k rs
-    else if place r.key == place k then rs
-    else r ∷ rs
 
 -- the views without logged keys
 abbrev pub without_keys : List (ℕ × Key) → List TableView → List TableView

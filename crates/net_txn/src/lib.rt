@@ -1,6 +1,7 @@
 //! Changes to the flow tables of switches, so that each stands behind a barrier before it is answered, and can be undone.
 #![tactic(auto)]
 
+mod abort;
 mod ask;
 mod change;
 mod fares;

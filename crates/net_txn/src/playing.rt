@@ -35,7 +35,7 @@ fn is_viewed(views: &[TableView], dpid: Dpid) -> bool
 }
 
 /// The log from a place on.
-fn behind(log: &[Logged], from: usize) -> &[Logged]
+pub(crate) fn behind(log: &[Logged], from: usize) -> &[Logged]
     requires { from ≤ length log.now }
     ensures { result.now ≡ drop from log.now }
 {

@@ -1,10 +1,11 @@
 //! The views of the joined switches.
 
 ghost use Rattle.std.specs.Prelude.{◌≡◌, None, Some, MatchOption, OnOk, OnErr};
-ghost use Rattle.net_txn.specs.Views.{rows_at, with_rows, with_row, with_added, IsViewAt};
+ghost use Rattle.net_txn.specs.Views.{rows_at, with_rows, with_row, without_row, with_added, IsViewAt};
 
-use crate::rows::put_row;
+use crate::rows::{put_row, take_row};
 use flow_table::{TableView, ViewList, ViewRow};
+use of_match::Key;
 use of_types::Dpid;
 use std::alloc::{AllocError, Global};
 use std::mem::replace;
@@ -97,5 +98,23 @@ pub(crate) fn put_added(
     match row {
         None => Ok(()),
         Some(row) => put_in(alloc, views, dpid, row),
+    }
+}
+
+/// Takes the row of a key out; takes no memory.
+fn take(alloc: Global, rows: &mut ViewList, key: &Key)
+    ensures { rows.new ≡ without_row key.now rows.old }
+{
+    let mut all = replace(rows, ViewList::new(alloc)).into_vec();
+    take_row(&mut all, key);
+    *rows = ViewList::from_vec(all);
+}
+
+/// Takes the row of a key out of the view of a switch; takes no memory.
+pub(crate) fn take_from(alloc: Global, views: &mut Vec<TableView>, dpid: Dpid, key: &Key)
+    ensures { views.new.items ≡ with_rows dpid (without_row key.now) views.old.items }
+{
+    if let Some(at) = position(views, dpid) {
+        take(alloc, &mut views[at].rows, key);
     }
 }
