@@ -1,5 +1,3 @@
-pub mod Sizes
-pub mod Echo
 pub mod RowTests
 pub mod Places
 pub mod FarePlaces

@@ -1,7 +1,7 @@
 -- A cause that arose later arose in the whole.
-use Rattle.std.specs.Prelude.{◌≡◌, ℕ, List, [], ◌∷◌, ◌++◌, Result, Ok, Err, IfErr, refl}
+use Rattle.std.specs.Prelude.{◌≡◌, ℕ, List, [], ◌∷◌, ◌++◌, Result, Ok, Err, IfErr}
 use Rattle.std.proofs.Common.{ap, ◌∙◌, append_assoc}
-use Rattle.lego_io.specs.CountLaws.{Rose-after, Rose-before}
+use Rattle.lego_io.specs.CountLaws.{Rose-after}
 use Rattle.of_types.specs.declared.journal.Act.TheVariants.{Got}
 use Rattle.outside.specs.declared.step.WorldStep.{WorldStep}
 use Rattle.outside.specs.declared.step.WorldStep.TheVariants.{Acted}

@@ -25,3 +25,11 @@ IsCause Tells d old new (SwitchBroke of bytes) = (of ≡ d) × IsErr (reading_of
 IsCause Tells d old new (Diverged of sent got) = ⊥
 IsCause Tells d old new (Flooded of n) = (of ≡ d) × (n ≡ flood)
 IsCause Tells d old new NoMemory = Unit {0}
+
+-- of a message that was sent alone
+abbrev pub IsLinkCause : {Own : Type 0} → ℕ → Seen Own → Seen Own → TxnFault → Type 0
+IsLinkCause d old new (SwitchFault of) = (of ≡ d) × Rose (old.counts.link_faults d) (new.counts.link_faults d)
+IsLinkCause d old new NoMemory = Unit {0}
+IsLinkCause d old new (SwitchBroke of bytes) = ⊥
+IsLinkCause d old new (Diverged of sent got) = ⊥
+IsLinkCause d old new (Flooded of n) = ⊥

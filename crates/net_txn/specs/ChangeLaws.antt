@@ -14,7 +14,6 @@ use Rattle.of_wire.specs.Grammar.{enveloped}
 use Rattle.app_frames.specs.declared.frame.Answer.{Answer}
 use Rattle.app_frames.specs.declared.frame.Answer.TheVariants.{Unknown}
 use Rattle.lego_model.specs.Answers.{rows_of_view, as_sent, host_answer_read, host_answer}
-use Rattle.outside.specs.declared.step.WorldStep.{WorldStep}
 use Rattle.outside.specs.declared.step.WorldStep.TheVariants.{Acted}
 use Rattle.outside.specs.Seen.{Seen, Continues}
 use Rattle.outside.specs.SeenLaws.{Continues-refl}
@@ -28,7 +27,7 @@ use Rattle.net_txn.specs.declared.logged.Logged.{Logged}
 use Rattle.net_txn.specs.Waits.{Waits, KeptMore, barrier_sent}
 use Rattle.net_txn.specs.Views.{rows_at, with_rows, with_added}
 use Rattle.net_txn.specs.Net.{NetState, awaited_from, with_logged}
-use Rattle.net_txn.specs.Changes.{answer_of_host, change_sent, Asked, Stopped, ByHost, Changes}
+use Rattle.net_txn.specs.Changes.{answer_of_host, change_sent, Asked, Stopped, Changes}
 
 pub sent_waits : {Own : Type 0} {Tells : Type 0} (d : ℕ) (m : Change) (net : NetState) (a : Awaited) (frame : List ℕ) (kept now_kept : List (ℕ × List ℕ)) (old new : Seen Own) (refusal : Option Refusal)
     → a ≡ awaited_from d net.xid → frame ≡ message_bytes a.first (as_sent (FlowMod m)) → kept ≡ net.kept

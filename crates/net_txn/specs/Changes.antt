@@ -1,6 +1,6 @@
 -- What `change` does: the host's own answer with nothing sent, or the switch's answer behind a barrier (OpenFlow 1.0.0, 4.2 Message
 -- Handling and 5.3.7 Barrier Message). What is sent, and that it is logged before, is our own choice.
-use Rattle.std.specs.Prelude.{◌≡◌, ℕ, List, [], ◌∷◌, Option, Some, None, Result, Ok, Err, IfOk, IfErr, MatchResult, ◌⊎◌}
+use Rattle.std.specs.Prelude.{◌≡◌, ℕ, ◌^◌, ◌<◌, ◌≤◌, List, [], ◌∷◌, Option, Some, None, Result, Ok, IfOk, IfErr, MatchResult, ◌⊎◌}
 use Rattle.std.specs.Option.{option_map}
 use Rattle.of_types.specs.declared.errors.OfError.{OfError}
 use Rattle.of_types.specs.declared.journal.Act.TheVariants.{Sent}
@@ -8,7 +8,7 @@ use Rattle.of_wire.specs.declared.bodies.FlowMod.{FlowMod as Change}
 use Rattle.of_wire.specs.declared.message.Message.TheVariants.{FlowMod}
 use Rattle.of_wire.specs.Reading.{reading_of}
 use Rattle.of_wire.specs.Spelling.{message_bytes}
-use Rattle.of_wire.specs.Grammar.{enveloped}
+use Rattle.of_wire.specs.Grammar.{IsMessage, enveloped}
 use Rattle.flow_table.specs.declared.view.TableView.{TableView}
 use Rattle.app_frames.specs.declared.frame.Answer.{Answer}
 use Rattle.lego_model.specs.Answers.{Rows, rows_of_view, as_sent, host_answer, answer_by}
@@ -54,6 +54,9 @@ change_sent d xid m = Acted (Sent d (message_bytes xid (as_sent (FlowMod m))))
 -- The change was sent, then a barrier, and its reply was awaited; the answer is the first refusal that came before it, or Fine. The
 -- view and the log move where it was not refused.
 pub record Asked {Own : Type 0} (Tells : Type 0) (d : ℕ) (m : Change) (old new : Seen Own) (net now_net : NetState) (answer : Answer) : Type 0 where
+  -- what is sent is a message with a transaction id
+  pub message : IsMessage (FlowMod m)
+  pub is_xid : (1 ≤ net.xid) × (net.xid < 2 ^ 32)
   pub refusal : Option Refusal
   pub waits : Waits Tells (awaited_from d net.xid) (change_sent d net.xid m ∷ barrier_sent (awaited_from d net.xid) ∷ []) old new net.kept now_net.kept refusal
   pub answer_so : answer ≡ answer_by (error_in refusal)

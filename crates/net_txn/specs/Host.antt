@@ -1,9 +1,7 @@
 -- What the host makes of a message: its own answer, or a change that the switch must judge.
-use Rattle.std.specs.Prelude.{◌≡◌, ℕ, List, Option, Some, None, Result, Ok, Err}
+use Rattle.std.specs.Prelude.{◌≡◌, ℕ, List, Some, None, Ok}
 use Rattle.of_wire.specs.declared.message.Message.{Message}
 use Rattle.of_wire.specs.declared.message.Message.TheVariants as messages
-use Rattle.of_wire.specs.declared.message.Envelope.{Envelope}
-use Rattle.of_wire.specs.declared.fault.WireFault.{WireFault}
 use Rattle.of_wire.specs.Reading.{reading_of}
 use Rattle.of_wire.specs.Grammar.{IsMessage}
 use Rattle.lego_model.specs.Answers.{Rows, host_refusal, host_answer_to, refused_or, host_answer_read}

@@ -1,5 +1,5 @@
 -- A change as it is sent is a message, and is read again.
-use Rattle.std.specs.Prelude.{◌≡◌, ℕ, ◌^◌, ◌<◌, Ok, IsOk, refl}
+use Rattle.std.specs.Prelude.{◌≡◌, ℕ, ◌^◌, ◌<◌, Ok}
 use Rattle.std.proofs.Common.{arith}
 use Rattle.of_wire.specs.declared.bodies.FlowMod.{FlowMod as Change}
 use Rattle.of_wire.specs.declared.message.Message.TheVariants.{FlowMod}

@@ -24,7 +24,8 @@ use Rattle.net_txn.specs.declared.logged.Logged.{Logged}
 use Rattle.net_txn.specs.declared.trouble.Trouble.{Trouble}
 use Rattle.net_txn.specs.declared.trouble.Trouble.TheVariants as troubles
 use Rattle.net_txn.specs.Causes.{flood}
-use Rattle.net_txn.specs.Views.{with_rows, without_row}
+use Rattle.net_txn.specs.Views.{with_rows}
+use Rattle.net_txn.specs.Arriving.{without_key}
 use Rattle.net_txn.specs.Net.{NetState, next_xid, inverse_bytes, no_fare}
 use Rattle.net_txn.specs.Waits.{heard, is_reply, wait_steps, barrier_sent, reply_got}
 
@@ -293,7 +294,7 @@ pub record Pending {Own : Type 0} (Tells : Type 0) (views : List TableView) (old
 -- the views without logged keys
 abbrev pub without_keys : List (ℕ × Key) → List TableView → List TableView
 without_keys [] views = views
-without_keys (p ∷ ps) views = without_keys ps (with_rows p.0 (without_row p.1) views)
+without_keys (p ∷ ps) views = without_keys ps (with_rows p.0 (without_key p.1) views)
 
 -- the keys of one switch
 abbrev pub keys_of : ℕ → List (ℕ × Key) → List Key

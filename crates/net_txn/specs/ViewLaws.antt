@@ -1,13 +1,12 @@
 -- Laws of views: lookup, and where a change stands.
-use Rattle.std.specs.Prelude.{◌≡◌, ◌≢◌, ◌==◌, ℕ, ◌+◌, ◌<◌, ◌≤◌, Bool, true, false, List, [], ◌∷◌, length, drop, Option, Some, None, nat_lt, if◌then◌else◌, refl}
-use Rattle.std.specs.List.{insert, remove}
-use Rattle.std.proofs.Common.{zero, suc, get_or, set, sym, ap, ◌∙◌, eqb, ltb, arith, eq-eqb}
+use Rattle.std.specs.Prelude.{◌≡◌, ◌≢◌, ◌==◌, ℕ, ◌<◌, ◌≤◌, Bool, true, false, List, [], ◌∷◌, length, Option, Some, None, if◌then◌else◌, refl}
+use Rattle.std.specs.List.{insert}
+use Rattle.std.proofs.Common.{zero, suc, get_or, set, sym, ap, ◌∙◌, eqb, ltb, arith, eq-eqb, subst}
 use Rattle.std.proofs.lemmas.Bool.{eqb-true, ne_eqb, lt-ltb, le-ltb}
-use Rattle.of_match.specs.declared.key.Key.{Key}
 use Rattle.of_match.specs.Key.{place}
 use Rattle.flow_table.specs.declared.view.ViewRow.{ViewRow}
 use Rattle.flow_table.specs.declared.view.TableView.{TableView}
-use Rattle.net_txn.specs.Views.{rows_at, with_rows, IsViewAt, with_row, without_row, IsRowPlace}
+use Rattle.net_txn.specs.Views.{rows_at, with_rows, IsViewAt, with_row, IsRowPlace}
 
 -- ---- Views
 
@@ -32,6 +31,12 @@ pub with_rows-at : (d : ℕ) (change : List ViewRow → List ViewRow) (vs : List
 with_rows-at d change [] i v is = absurd is
 with_rows-at d change (w ∷ ws) zero v is = rw (eq-eqb _ _ is) refl
 with_rows-at d change (w ∷ ws) (suc i) v is = rw is.0 (ap (λ (rest : List TableView). w ∷ rest) (with_rows-at d change ws i v is.1))
+
+pub with_rows-placed : (d : ℕ) (change : List ViewRow → List ViewRow) (views seen : List TableView) (i : ℕ) (v : TableView) (new : List ViewRow) → seen ≡ views → IsViewAt d seen i → v ≡ get_or views i v → new ≡ change v.rows
+    → set views i (record { dpid = v.dpid; rows = new }) ≡ with_rows d change views
+with_rows-placed d change views seen i v new e is at changed =
+    let there = subst (λ (vs : List TableView). IsViewAt d vs i) e is in
+    rw changed (ap (λ (w : TableView). set views i (record { dpid = w.dpid; rows = change w.rows })) at ∙ sym (with_rows-at d change views i v there))
 
 pub rows_at-at : (d : ℕ) (vs : List TableView) (i : ℕ) (v : TableView) → IsViewAt d vs i → rows_at d vs ≡ Some (get_or vs i v).rows
 rows_at-at d [] i v is = absurd is
@@ -98,32 +103,3 @@ pub IsRowPlace-le : (p : ℕ) (rows : List ViewRow) (i : ℕ) → IsRowPlace p r
 IsRowPlace-le p [] i is = omega arith
 IsRowPlace-le p (r ∷ rs) zero is = omega arith
 IsRowPlace-le p (r ∷ rs) (suc i) is = omega (arith, IsRowPlace-le p rs i is.1)
-
--- ---- Rows that are taken out
-
-without_row-after : (k : Key) (s : ViewRow) (ss : List ViewRow) → place s.key < place k → without_row k (s ∷ ss) ≡ s ∷ without_row k ss
-without_row-after k s ss lt = rw (lt-ltb _ _ lt) refl
-
-without_row-here : (k : Key) (s : ViewRow) (ss : List ViewRow) → place s.key ≡ place k → without_row k (s ∷ ss) ≡ ss
-without_row-here k s ss same =
-    let not_below : ltb (place s.key) (place k) ≡ false = le-ltb _ _ (omega arith) in
-    rw (not_below, eq-eqb _ _ same) refl
-
-without_row-past : (k : Key) (s : ViewRow) (ss : List ViewRow) → place k < place s.key → without_row k (s ∷ ss) ≡ s ∷ ss
-without_row-past k s ss gt =
-    let not_below : ltb (place s.key) (place k) ≡ false = le-ltb _ _ (omega arith) in
-    let apart : eqb (place s.key) (place k) ≡ false = ne_eqb _ _ (λ e. omega arith) in
-    rw (not_below, apart) refl
-
-pub without_row-found : (k : Key) (rows : List ViewRow) (i : ℕ) (r : ViewRow) → IsRowPlace (place k) rows i → i < length rows → place k ≡ place (get_or rows i r).key → remove rows i ≡ without_row k rows
-without_row-found k [] i r is within same = absurd (omega arith)
-without_row-found k (s ∷ ss) zero r is within same = sym (without_row-here k s ss (sym same))
-without_row-found k (s ∷ ss) (suc i) r is within same = ap (λ (xs : List ViewRow). s ∷ xs) (without_row-found k ss i r is.1 (omega arith) same) ∙ sym (without_row-after k s ss is.0)
-
-pub without_row-absent : (k : Key) (rows : List ViewRow) (i : ℕ) → IsRowPlace (place k) rows i → ((r : ViewRow) → i < length rows → place k ≢ place (get_or rows i r).key) → without_row k rows ≡ rows
-without_row-absent k [] i is apart = refl
-without_row-absent k (s ∷ ss) zero is apart = without_row-past k s ss (less (apart s (omega arith)))
-  where
-    less : place k ≢ place s.key → place k < place s.key
-    less ne = omega (arith, is, ne)
-without_row-absent k (s ∷ ss) (suc i) is apart = without_row-after k s ss is.0 ∙ ap (λ (xs : List ViewRow). s ∷ xs) (without_row-absent k ss i is.1 (λ r lt. apart r (omega arith)))

@@ -1,7 +1,6 @@
 -- The tables of the joined switches as their owner sees them, each by its switch. All of this is our own.
 use Rattle.std.specs.Prelude.{◌≡◌, ◌==◌, ℕ, ◌%◌, ◌<◌, ◌≤◌, false, List, [], ◌∷◌, Option, Some, None, nat_lt, if◌then◌else◌}
 use Rattle.std.proofs.Common.{zero, suc}
-use Rattle.of_match.specs.declared.key.Key.{Key}
 use Rattle.of_match.specs.Key.{place}
 use Rattle.of_wire.specs.declared.bodies.FlowMod.{FlowMod}
 use Rattle.flow_table.specs.declared.view.ViewRow.{ViewRow}
@@ -31,14 +30,6 @@ with_row r (s ∷ ss) =
     if nat_lt (place r.key) (place s.key) then r ∷ s ∷ ss
     else if place r.key == place s.key then r ∷ ss
     else s ∷ with_row r ss
-
--- the rows in key order, that of a key taken out
-abbrev pub without_row : Key → List ViewRow → List ViewRow
-without_row k [] = []
-without_row k (r ∷ rs) =
-    if nat_lt (place r.key) (place k) then r ∷ without_row k rs
-    else if place r.key == place k then rs
-    else r ∷ rs
 
 -- where a row goes: the rows before it have lower places
 abbrev pub IsRowPlace : ℕ → List ViewRow → ℕ → Type 0

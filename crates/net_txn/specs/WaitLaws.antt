@@ -1,6 +1,6 @@
 -- Laws of waits: one message more, the reply, and steps before.
-use Rattle.std.specs.Prelude.{◌≡◌, ◌==◌, ℕ, ◌+◌, ◌≤◌, Bool, true, false, ◌&&◌, if◌then◌else◌, List, [], ◌∷◌, ◌++◌, length, map, Option, Some, None, Result, Ok, Err, IsOk, IfOk, OnOk, refl}
-use Rattle.std.specs.List.{flat_map, AllByRecursion}
+use Rattle.std.specs.Prelude.{◌≡◌, ◌==◌, ℕ, ◌+◌, ◌≤◌, Bool, true, false, ◌&&◌, if◌then◌else◌, List, [], ◌∷◌, ◌++◌, map, Option, Some, None, Result, Ok, Err, IfOk, OnOk, refl}
+use Rattle.std.specs.List.{AllByRecursion}
 use Rattle.std.specs.Str.{bytes_eq}
 use Rattle.std.proofs.Common.{sym, ap, ◌∙◌, append_assoc, length-append, arith}
 use Rattle.std.proofs.lemmas.Bool.{eqb-true}
@@ -9,7 +9,6 @@ use Rattle.std.proofs.lemmas.Slice.Eq.{bytes_eq-Decides}
 use Rattle.of_types.specs.Fields.{number_at}
 use Rattle.of_types.specs.declared.journal.Act.TheVariants.{Got}
 use Rattle.of_wire.specs.declared.message.Message.TheVariants.{BarrierReply}
-use Rattle.of_wire.specs.Reading.{reading_of}
 use Rattle.of_wire.specs.Spelling.{message_bytes}
 use Rattle.outside.specs.declared.step.WorldStep.{WorldStep}
 use Rattle.outside.specs.declared.step.WorldStep.TheVariants.{Acted}
@@ -20,7 +19,7 @@ use Rattle.net_txn.specs.declared.heard.Awaited.{Awaited}
 use Rattle.net_txn.specs.declared.heard.Refusal.{Refusal}
 use Rattle.net_txn.specs.declared.heard.Heard.{Heard}
 use Rattle.net_txn.specs.declared.heard.Heard.TheVariants.{Reply, Refused, Notice, Echo, Other}
-use Rattle.net_txn.specs.Waits.{is_awaited, refusal_of, heard, is_reply, kept_by, steps_by, refusal_in, first_of, heard_steps, wait_steps, kept_of, answer_of, Hears, reply_got, Waits, WaitsOn, HearsOne, KeptMore}
+use Rattle.net_txn.specs.Waits.{is_awaited, refusal_of, heard, is_reply, kept_by, steps_by, refusal_in, first_of, heard_steps, wait_steps, kept_of, answer_of, reply_got, Waits, WaitsOn, HearsOne, KeptMore, IsRead}
 
 -- ---- The reply
 
@@ -87,7 +86,7 @@ one_more {Tells = Tells} {a = a} {old = old} {mid = mid} {new = new} {kept = kep
       count = omega (arith, w.count, length-append w.got (b ∷ []));
       hears = record {
         continues = Continues-trans Tells old mid new w.hears.continues h.continues;
-        read = all_more (λ x. IsOk (reading_of x)) w.got b w.hears.read h.read;
+        read = all_more IsRead w.got b w.hears.read h.read;
         before_reply = all_more (λ x. is_reply (heard a x) ≡ false) w.got b w.hears.before_reply (sym h.ends);
         kept_so = h.kept_so ∙ ap (λ (k : List (ℕ × List ℕ)). k ++ kept_by a.dpid (heard a b) b) w.hears.kept_so ∙ flat_map_more (λ x. kept_by a.dpid (heard a x) x) kept w.got b;
         answer_so = h.answer_so ∙ ap (λ (o : Option Refusal). first_of o (refusal_in (heard a b))) w.hears.answer_so ∙ sym (answer_more a w.got b);
@@ -185,7 +184,7 @@ echo_is a bytes is =
 
 -- one message that was got, and what was done with it
 pub heard_one : {Own : Type 0} {Tells : Type 0} (a : Awaited) {old mid new : Seen Own} (kept kept1 : List (ℕ × List ℕ)) (answer answer1 : Option Refusal) (result : Result Bool TxnFault) (bytes : List ℕ)
-    → Continues Tells old mid → Continues Tells mid new → IsOk (reading_of bytes) → (Tells → mid.history ≡ old.history ++ Acted (Got a.dpid bytes) ∷ [])
+    → Continues Tells old mid → Continues Tells mid new → IsRead bytes → (Tells → mid.history ≡ old.history ++ Acted (Got a.dpid bytes) ∷ [])
     → IfOk result (λ e. e ≡ is_reply (heard a bytes)) → OnOk result (kept1 ≡ kept ++ kept_by a.dpid (heard a bytes) bytes) → OnOk result (answer1 ≡ first_of answer (refusal_in (heard a bytes)))
     → (Tells → OnOk result (new.history ≡ mid.history ++ steps_by a.dpid (heard a bytes) bytes)) → IfOk result (HearsOne Tells a old new kept kept1 answer answer1)
 heard_one {Tells = Tells} a {old = old} {mid = mid} {new = new} kept kept1 answer answer1 (Ok e) bytes first second read got ends kept_so answer_so told = record {

@@ -5,7 +5,7 @@
 use Rattle.std.specs.Prelude.{◌≡◌, ◌==◌, ℕ, ◌≤◌, Bool, true, false, ◌&&◌, ◌||◌, nat_le, nat_lt, List, [], ◌∷◌, ◌++◌, length, drop, map, Option, Some, None, IsOk, if◌then◌else◌}
 use Rattle.std.specs.List.{flat_map, AllByRecursion}
 use Rattle.std.specs.Str.{bytes_eq}
-use Rattle.of_types.specs.Fields.{number_at}
+use Rattle.of_types.specs.Fields.{number_at, IsBytes}
 use Rattle.of_types.specs.declared.journal.Act.TheVariants.{Sent, Got}
 use Rattle.of_wire.specs.declared.message.Message.TheVariants.{EchoReply, BarrierRequest, BarrierReply}
 use Rattle.of_wire.specs.Reading.{reading_of}
@@ -79,11 +79,15 @@ abbrev pub answer_of : Awaited → List (List ℕ) → Option Refusal
 answer_of a [] = None
 answer_of a (b ∷ bs) = first_of (refusal_in (heard a b)) (answer_of a bs)
 
+-- bytes that are one message
+abbrev pub IsRead : List ℕ → Type 0
+IsRead bytes = IsBytes bytes × IsOk (reading_of bytes)
+
 -- ---- What calls leave that got messages: steps before, the messages, and steps behind them.
 
 pub record Hears {Own : Type 0} (Tells : Type 0) (a : Awaited) (front behind : List WorldStep) (old new : Seen Own) (kept now_kept : List (ℕ × List ℕ)) (answer : Option Refusal) (got : List (List ℕ)) : Type 0 where
   pub continues : Continues Tells old new
-  pub read : AllByRecursion (λ b. IsOk (reading_of b)) got
+  pub read : AllByRecursion IsRead got
   pub before_reply : AllByRecursion (λ b. is_reply (heard a b) ≡ false) got
   pub kept_so : now_kept ≡ kept ++ kept_of a got
   pub answer_so : answer ≡ answer_of a got
@@ -111,7 +115,7 @@ pub record WaitsOn {Own : Type 0} (Tells : Type 0) (a : Awaited) (old new : Seen
 pub record HearsOne {Own : Type 0} (Tells : Type 0) (a : Awaited) (old new : Seen Own) (kept now_kept : List (ℕ × List ℕ)) (answer now_answer : Option Refusal) (ended : Bool) : Type 0 where
   pub bytes : List ℕ
   pub continues : Continues Tells old new
-  pub read : IsOk (reading_of bytes)
+  pub read : IsRead bytes
   pub ends : ended ≡ is_reply (heard a bytes)
   pub kept_so : now_kept ≡ kept ++ kept_by a.dpid (heard a bytes) bytes
   pub answer_so : now_answer ≡ first_of answer (refusal_in (heard a bytes))

@@ -6,6 +6,7 @@ ghost use Rattle.of_wire.specs.Grammar.{IsMessage};
 ghost use Rattle.outside.specs.Seen.{Continues};
 ghost use Rattle.net_txn.specs.Causes.{IsCause};
 ghost use Rattle.net_txn.specs.Changes.{Asked, Stopped, Changes};
+ghost use Rattle.net_txn.specs.Agreement.{Reaches, Steps};
 ghost use Rattle.net_txn.specs.Net.{with_logged};
 
 use crate::ask::ask;
@@ -82,7 +83,13 @@ impl Net {
         dpid: Dpid,
         bytes: &[u8],
     ) -> Result<Answer, TxnFault>
-        ensures { Changes W.Tells dpid bytes.now (W.seen world.old) (W.seen world.new) self.old self.new result }
+        ensures changes { Changes W.Tells dpid bytes.now (W.seen world.old) (W.seen world.new) self.old self.new result }
+
+        // What the switch judged reached it at once.
+        ensures reached { Reaches W.Tells dpid bytes.now (W.seen world.old) (W.seen world.new) self.old result }
+
+        // Where the world keeps its word, nothing of the switch waited, and view and table agreed, they take the step together.
+        ensures in_step { Steps W.Tells dpid bytes.now (W.seen world.old) (W.seen world.new) self.old self.new result }
     {
         let Some(view) = find(&self.views, dpid) else {
             return Ok(Answer::Unknown);

@@ -37,7 +37,7 @@ fn key_sent(played: &[Logged], dpid: Dpid, xid: Xid) -> Option<Key>
 }
 
 /// The key whose inverse a message of the switch refuses.
-#[tactic(auto, unfolding(crate::specs::Undos::key_refused), using(crate::proofs::Sizes::sizes))]
+#[tactic(auto, unfolding(crate::specs::Undos::key_refused), using(crate::specs::SizeLaws::sizes))]
 pub(crate) fn key_refused(message: &[u8], played: &[Logged], dpid: Dpid) -> Option<Key>
     requires { IsOk (reading_of message.now) }
     ensures { result ≡ key_refused (inverses_in dpid played.now) message.now }

@@ -91,7 +91,7 @@ fn read_error(message: &[u8]) -> Refusal
 }
 
 /// What a message is to a wait.
-#[tactic(auto, unfolding(crate::specs::Waits::heard), using(crate::proofs::Sizes::sizes))]
+#[tactic(auto, unfolding(crate::specs::Waits::heard), using(crate::specs::SizeLaws::sizes))]
 pub(crate) fn judge(message: &[u8], awaited: &Awaited) -> Heard
     requires { IsOk (reading_of message.now) }
     ensures { result ≡ heard awaited.now message.now }

@@ -2,12 +2,18 @@
 #![tactic(auto)]
 
 mod abort;
+mod arrived;
+mod arriving;
 mod ask;
 mod change;
 mod fares;
 mod fault;
+mod greeting;
 mod heard;
 mod host;
+mod joining;
+mod laws;
+mod leaving;
 mod logged;
 mod net;
 mod playing;
@@ -18,12 +24,15 @@ mod quiet;
 mod room;
 mod rows;
 mod trouble;
+mod txn;
 mod undo;
 mod views;
 mod wait;
 
 pub use fault::TxnFault;
+pub use laws::views_stay_in_order;
 pub use logged::{Fare, Logged};
 pub use net::Net;
 pub use ports::KnownPorts;
-pub use queue::{EventQueue, MessageQueue};
+pub use queue::EventQueue;
+pub use txn::Txn;

@@ -1,6 +1,6 @@
 //! The network of the host.
 
-ghost use Rattle.std.specs.Prelude.{◌≡◌, ◌≤◌, [], drop, slice_get, IfOk, OnOk, OnErr};
+ghost use Rattle.std.specs.Prelude.{◌≡◌, ◌≤◌, [], length, take, drop, slice_get, IfOk, OnOk, OnErr};
 ghost use Rattle.net_txn.specs.Net.{next_xid, awaited_from};
 
 use crate::heard::Awaited;
@@ -16,6 +16,9 @@ use std::marker::Model;
 /// How many bytes a message has at most.
 const MOST_MESSAGE: usize = 65_535;
 
+/// How many bytes of messages are kept during an undo.
+const UNDO_PLACE: usize = 1_048_576;
+
 /// What the host keeps of its switches: their tables as the owner sees them, their ports, what undoes the changes of
 /// the open transaction, and the messages that came while something else was awaited.
 #[derive(Drop, Debug)]
@@ -28,11 +31,14 @@ pub struct Net {
     pub(crate) xid: Xid,
     pub(crate) moment: u64,
     pub(crate) kept: MessageQueue,
+    /// The place for the messages that are kept during an undo, which takes no memory.
+    pub(crate) place: Vec<u8>,
+    /// Room for the bytes of faults of undos.
     pub(crate) rooms: Vec<Room>,
 }
 
 impl Model for Net {
-    ghost use Rattle.std.specs.Prelude.{◌≡◌, ◌≤◌, vec_len};
+    ghost use Rattle.std.specs.Prelude.{◌≡◌, ◌≤◌, vec_len, vec_capacity};
     ghost use Rattle.net_txn.specs.Net.{NetState};
 
     ghost Value = { NetState };
@@ -47,7 +53,7 @@ impl Model for Net {
       room = vec_len s.rooms;
     } };
 
-    ghost invariant = { λ s. (vec_len s.buf ≡ 65535) × (1 ≤ s.xid) };
+    ghost invariant = { λ s. (vec_len s.buf ≡ 65535) × (1 ≤ s.xid) × (1048576 ≤ vec_capacity s.place) };
 }
 
 /// The transaction id behind one.
@@ -83,6 +89,7 @@ impl Net {
             xid: 1,
             moment: 0,
             kept: MessageQueue::new(alloc),
+            place: Vec::with_capacity(alloc, UNDO_PLACE)?,
             rooms: vec![in alloc; Room::new(alloc)?, Room::new(alloc)?]?,
         })
     }
@@ -116,5 +123,26 @@ impl Net {
         ensures err { OnErr result (self.new ≡ self.old) }
     {
         Ok(self.kept.take_first())
+    }
+
+    /// How much is logged.
+    pub(crate) fn logged(&self) -> usize
+        ensures { result ≡ length self.now.log }
+    {
+        self.log.as_slice().len()
+    }
+
+    /// Forgets what was logged from a place on.
+    pub(crate) fn forget(&mut self, from: usize)
+        ensures { self.new ≡ record self.old { log = take from self.old.log } }
+    {
+        self.log.truncate(from);
+    }
+
+    /// No packet that was released.
+    pub(crate) fn none_released(&self) -> Vec<(Dpid, u32)>
+        ensures { result.items ≡ [] }
+    {
+        Vec::new(self.alloc)
     }
 }

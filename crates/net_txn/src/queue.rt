@@ -1,7 +1,7 @@
 //! Events, and messages of switches, in the order in which they came.
 
 ghost use Rattle.net_txn.specs.Waits.{KeptMore};
-ghost use Rattle.std.specs.Prelude.{◌≡◌, ◌↔◌, [], ◌∷◌, ◌++◌, drop, length, slice_get, IsTrue, OnOk, OnErr};
+ghost use Rattle.std.specs.Prelude.{◌≡◌, ◌==◌, ◌↔◌, not, filter, [], ◌∷◌, ◌++◌, drop, length, slice_get, IsTrue, OnOk, OnErr};
 
 use app_frames::Event;
 use of_types::{ByteList, Dpid};
@@ -116,4 +116,17 @@ impl MessageQueue {
     {
         self.messages.pop_front()
     }
+
+    /// Drops the messages of a switch; takes no memory.
+    pub fn forget(&mut self, dpid: Dpid)
+        ensures { self.new ≡ filter (λ m. not (m.0 == dpid)) self.old }
+    {
+        forget_of(&mut self.messages, dpid);
+    }
+}
+
+fn forget_of(messages: &mut VecDeque<(Dpid, ByteList)>, dpid: Dpid)
+    ensures { messages.new.items ≡ filter (λ m. not (m.0 == dpid)) messages.old.items }
+{
+    messages.retain(|message| message.0 != dpid);
 }

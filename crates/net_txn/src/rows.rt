@@ -8,7 +8,7 @@ ghost use Rattle.match_overlap.specs.Relations.{is_overlapping};
 ghost use Rattle.flow_table.specs.declared.view.ViewRow.{ViewRow};
 ghost use Rattle.flow_table.specs.Change.{is_modify, key_in, is_output_to, describes, sends_to};
 ghost use Rattle.lego_model.specs.Answers.{rows_of_view, would_clash, would_touch};
-ghost use Rattle.net_txn.specs.Views.{with_row, without_row, IsRowPlace};
+ghost use Rattle.net_txn.specs.Views.{with_row, IsRowPlace};
 
 use flow_table::ViewRow;
 use match_overlap::{overlaps, subsumes};
@@ -192,15 +192,5 @@ pub(crate) fn put_row(rows: &mut Vec<ViewRow>, row: ViewRow) -> Result<(), Alloc
     } else {
         rows.insert(at, row)?;
         Ok(())
-    }
-}
-
-/// Takes the row of a key out, where there is one; takes no memory.
-pub(crate) fn take_row(rows: &mut Vec<ViewRow>, key: &Key)
-    ensures { rows.new.items ≡ without_row key.now rows.old.items }
-{
-    let at = place_of(rows, key);
-    if stands_at(rows, at, key) {
-        rows.remove(at);
     }
 }

@@ -12,7 +12,7 @@ use crate::logged::Logged;
 use crate::playing::{behind, play, settle_switch};
 use crate::queue::MessageQueue;
 use crate::room::{Room, note};
-use crate::views::take_from;
+use crate::views::remove_in;
 use flow_table::TableView;
 use of_types::{Dpid, Xid};
 use outside::World;
@@ -146,7 +146,7 @@ pub(crate) fn take_keys(alloc: Global, views: &mut Vec<TableView>, log: &[Logged
     ensures { views.new.items ≡ without_keys (map but_fare log.now) views.old.items }
 {
     for entry in log {
-        take_from(alloc, views, entry.dpid, &entry.key);
+        remove_in(alloc, views, entry.dpid, &entry.key);
     }
 }
 

@@ -1,9 +1,10 @@
 //! The views of the joined switches.
 
 ghost use Rattle.std.specs.Prelude.{◌≡◌, None, Some, MatchOption, OnOk, OnErr};
-ghost use Rattle.net_txn.specs.Views.{rows_at, with_rows, with_row, without_row, with_added, IsViewAt};
+ghost use Rattle.net_txn.specs.Views.{rows_at, with_rows, with_row, with_added, IsViewAt};
+ghost use Rattle.net_txn.specs.Arriving.{without_key};
 
-use crate::rows::{put_row, take_row};
+use crate::rows::{is_same, put_row};
 use flow_table::{TableView, ViewList, ViewRow};
 use of_match::Key;
 use of_types::Dpid;
@@ -101,20 +102,27 @@ pub(crate) fn put_added(
     }
 }
 
-/// Takes the row of a key out; takes no memory.
-fn take(alloc: Global, rows: &mut ViewList, key: &Key)
-    ensures { rows.new ≡ without_row key.now rows.old }
+/// Takes the row of a key out.
+fn remove_key(rows: &mut Vec<ViewRow>, key: &Key)
+    ensures { rows.new.items ≡ without_key key.now rows.old.items }
+{
+    rows.retain(|row| !is_same(&row.key, key));
+}
+
+fn remove(alloc: Global, rows: &mut ViewList, key: &Key)
+    ensures { rows.new ≡ without_key key.now rows.old }
 {
     let mut all = replace(rows, ViewList::new(alloc)).into_vec();
-    take_row(&mut all, key);
+    remove_key(&mut all, key);
     *rows = ViewList::from_vec(all);
 }
 
-/// Takes the row of a key out of the view of a switch; takes no memory.
-pub(crate) fn take_from(alloc: Global, views: &mut Vec<TableView>, dpid: Dpid, key: &Key)
-    ensures { views.new.items ≡ with_rows dpid (without_row key.now) views.old.items }
+/// Takes the row of a key out of the view of a switch.
+pub(crate) fn remove_in(alloc: Global, views: &mut Vec<TableView>, dpid: Dpid, key: &Key)
+    ensures { views.new.items ≡ with_rows dpid (without_key key.now) views.old.items }
 {
-    if let Some(at) = position(views, dpid) {
-        take(alloc, &mut views[at].rows, key);
+    match position(views, dpid) {
+        None => {}
+        Some(at) => remove(alloc, &mut views[at].rows, key),
     }
 }

@@ -7,7 +7,7 @@ ghost use Rattle.of_wire.specs.Reading.{reading_of};
 ghost use Rattle.outside.specs.Calls.{most_message};
 ghost use Rattle.outside.specs.Seen.{Continues};
 ghost use Rattle.outside.specs.declared.step.WorldStep.TheVariants.{Acted};
-ghost use Rattle.net_txn.specs.Causes.{IsCause};
+ghost use Rattle.net_txn.specs.Causes.{IsCause, IsLinkCause};
 ghost use Rattle.net_txn.specs.Waits.{heard, is_reply, echo_reply, steps_by, kept_by, refusal_in, first_of, HearsOne, Waits, KeptMore, barrier_sent};
 
 use crate::fault::TxnFault;
@@ -26,6 +26,7 @@ pub(crate) fn send<W: World>(world: &mut W, dpid: Dpid, frame: &[u8]) -> Result<
     requires { IsOk (reading_of frame.now) }
     ensures continues { Continues W.Tells (W.seen world.old) (W.seen world.new) }
     ensures cause { IfErr result (IsCause W.Tells dpid (W.seen world.old) (W.seen world.new)) }
+    ensures link { IfErr result (IsLinkCause dpid (W.seen world.old) (W.seen world.new)) }
     ensures told { W.Tells → OnOk result ((W.seen world.new).history ≡ (W.seen world.old).history ++ Acted (Sent dpid frame.now) ∷ []) }
 {
     match world.send(dpid, frame) {
@@ -65,7 +66,7 @@ pub(crate) fn receive<W: World>(
 }
 
 /// Makes an ECHO_REQUEST its reply.
-#[tactic(auto, using(crate::proofs::Sizes::sizes))]
+#[tactic(auto, using(crate::specs::SizeLaws::sizes))]
 pub(crate) fn make_reply(message: &mut [u8])
     requires bytes { IsBytes message.old }
     requires read { IsOk (reading_of message.old) }

@@ -3,7 +3,7 @@ use Rattle.std.proofs.lemmas.Result.{IfErr-weaker}
 use Rattle.of_types.specs.FieldLaws.{IsBytes-take}
 use Rattle.net_txn.specs.QuietLaws.{heard_next, refused_next, Fails-behind}
 use Rattle.net_txn.specs.Undos.{inverses_in}
-use Rattle.net_txn.proofs.Sizes.{header-read}
+use Rattle.net_txn.specs.SizeLaws.{header-read}
 use Rattle.net_txn.proofs.quiet.hear.Goals as goal
 
 pub get_u32-requires : goal.get_u32-requires

@@ -8,7 +8,7 @@ pub returns-clause-ok : goal.returns-clause-ok
 returns-clause-ok g c =
     let e = c.treat.ensures in
     heard_one c.args.awaited.now c.args.kept.now c.treat.new.kept c.args.answer.now c.treat.new.answer c.treat.result (take c.in_ok-len.len c.receive.new.buf)
-    c.in_ok-len.ensures.continues e.continues c.in_ok-len.ensures.read c.in_ok-len.ensures.told e.ends e.kept e.answer e.told
+    c.in_ok-len.ensures.continues e.continues (IsBytes-take c.in_ok-len.len c.receive.new.buf c.in_ok-len.ensures.bytes, c.in_ok-len.ensures.read) c.in_ok-len.ensures.told e.ends e.kept e.answer e.told
 
 pub returns-clause-cause : goal.returns-clause-cause
 returns-clause-cause g c =

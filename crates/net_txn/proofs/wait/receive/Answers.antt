@@ -1,9 +1,5 @@
-use Rattle.std.proofs.Common.{◌≡◌, ◌∷◌, ◌++◌, [], List, refl, sym, ap, ◌∙◌, ℕ, arith}
-use Rattle.of_types.specs.declared.journal.Act.TheVariants.{Got}
-use Rattle.of_wire.specs.Reading.{reading_of}
+use Rattle.std.proofs.Common.{[], refl}
 use Rattle.outside.specs.Calls.{receive_steps}
-use Rattle.outside.specs.declared.step.WorldStep.{WorldStep}
-use Rattle.outside.specs.declared.step.WorldStep.TheVariants.{Acted}
 use Rattle.net_txn.proofs.wait.receive.Goals as goal
 
 pub returns-in-Ok-check-clause-told : goal.returns-in-Ok-check-clause-told

@@ -1,4 +1,3 @@
-use Rattle.outside.specs.Seen.{Continues}
 use Rattle.net_txn.specs.Waits.{WaitsOn}
 use Rattle.net_txn.proofs.wait.wait.Given as goal
 

@@ -1,23 +1,27 @@
-use Rattle.std.proofs.Common.{◌≡◌, sym, ap, ◌∙◌}
+use Rattle.std.proofs.Common.{◌≡◌, ap, ◌∙◌}
 use Rattle.net_txn.specs.Net.{NetState}
 use Rattle.net_txn.specs.ChangeLaws.{Changes-by_host, Changes-by_switch, host_unknown, host_knows}
+use Rattle.net_txn.specs.ConsequenceLaws.{Changes-reaches, Changes-steps}
 use Rattle.net_txn.proofs.net.Net.change.Goals as goal
 
 pub returns-in_default : goal.returns-in_default
 returns-in_default g c =
     let v : c.deref.result.now ≡ c.args.self.now.views = c.deref.ensures.value ∙ ap (λ (n : NetState). n.views) c.self.view_is in
-    Changes-by_host c.args.dpid c.args.bytes.now (g.W.World.seen c.args.world.now) c.args.self.now _ (host_unknown c.args.dpid c.args.bytes.now c.args.self.now c.deref.result.now v c.in_default.ensures)
+    let h = Changes-by_host {Tells = g.W.World.Tells} c.args.dpid c.args.bytes.now (g.W.World.seen c.args.world.now) c.args.self.now _ (host_unknown c.args.dpid c.args.bytes.now c.args.self.now c.deref.result.now v c.in_default.ensures) in
+    record { changes = h; reached = Changes-reaches h; in_step = Changes-steps h }
 
 pub returns-in-Answered : goal.returns-in-Answered
 returns-in-Answered g c =
     let v : c.deref.result.now ≡ c.args.self.now.views = c.deref.ensures.value ∙ ap (λ (n : NetState). n.views) c.self.view_is in
     let knows = host_knows c.args.dpid c.args.bytes.now c.args.self.now c.deref.result.now c.in-Some.view.now.rows c.as_slice.result.now v c.in-Some.ensures c.as_slice.ensures in
-    Changes-by_host c.args.dpid c.args.bytes.now (g.W.World.seen c.args.world.now) c.args.self.now c.in-Answered.answer (knows ∙ (rw c.in-Answered.is at c.in_ok-answer.ensures))
+    let h = Changes-by_host {Tells = g.W.World.Tells} c.args.dpid c.args.bytes.now (g.W.World.seen c.args.world.now) c.args.self.now c.in-Answered.answer (knows ∙ (rw c.in-Answered.is at c.in_ok-answer.ensures)) in
+    record { changes = h; reached = Changes-reaches h; in_step = Changes-steps h }
 
 pub returns-in-Asks : goal.returns-in-Asks
 returns-in-Asks g c =
     let v : c.deref.result.now ≡ c.args.self.now.views = c.deref.ensures.value ∙ ap (λ (n : NetState). n.views) c.self.view_is in
     let knows = host_knows c.args.dpid c.args.bytes.now c.args.self.now c.deref.result.now c.in-Some.view.now.rows c.as_slice.result.now v c.in-Some.ensures c.as_slice.ensures in
     let judged = rw c.in-Asks.is at c.in_ok-answer.ensures in
-    Changes-by_switch c.args.dpid c.args.bytes.now (g.W.World.seen c.args.world.now) (g.W.World.seen c.make.new.world) c.args.self.now c.make.new.self c.make.result judged.1.0 c.in-Asks.flow
-    (knows ∙ judged.0) judged.1.1 c.make.ensures.result c.make.ensures.continues c.make.ensures.cause c.make.ensures.ports c.make.ensures.moment
+    let h = Changes-by_switch c.args.dpid c.args.bytes.now (g.W.World.seen c.args.world.now) (g.W.World.seen c.make.new.world) c.args.self.now c.make.new.self c.make.result judged.1.0 c.in-Asks.flow
+    (knows ∙ judged.0) judged.1.1 c.make.ensures.result c.make.ensures.continues c.make.ensures.cause c.make.ensures.ports c.make.ensures.moment in
+    record { changes = h; reached = Changes-reaches h; in_step = Changes-steps h }

@@ -1,4 +1,4 @@
-use Rattle.std.proofs.Common.{◌≡◌, None, Some, refl, sym, ap, ◌∙◌, inl, inr, arith}
+use Rattle.std.proofs.Common.{◌≡◌, ◌≤◌, ◌<◌, ◌^◌, None, Some, refl, ap, ◌∙◌, inl, inr, arith}
 use Rattle.std.proofs.lemmas.Result.{err_from_is_err_and}
 use Rattle.net_txn.specs.declared.heard.Awaited.{Awaited}
 use Rattle.net_txn.specs.Views.{rows_after}
@@ -22,7 +22,10 @@ unfolding rows_after
 returns-in-None-clause-result g c =
     let v = c.self.view_is in
     let a : c.await_from-awaited.result ≡ awaited_from c.args.dpid c.args.self.now.xid = c.await_from-awaited.ensures ∙ ap (λ (n : NetState). awaited_from c.args.dpid n.xid) v in
+    let is_xid : (1 ≤ c.args.self.now.xid) × (c.args.self.now.xid < 2 ^ 32) = rw (← ap (λ (n : NetState). n.xid) v) (c.self.invariant.1, omega arith) in
     record {
+      message = c.requires;
+      is_xid = is_xid;
       refusal = None;
       waits = sent_waits c.args.dpid c.args.flow c.args.self.now c.await_from-awaited.result c.as_slice.result.now _ c.ask.new.kept (g.W.World.seen c.args.world.now) (g.W.World.seen c.ask.new.world) None
           a (c.as_slice.ensures ∙ c.in_ok-frame.ensures.frame) (ap (λ (n : NetState). n.kept) v) (rw c.in-None.is at c.in_ok-refusal.ensures.ok);
@@ -36,7 +39,10 @@ pub returns-clause-result : goal.returns-clause-result
 returns-clause-result g c =
     let v = c.self.view_is in
     let a : c.await_from-awaited.result ≡ awaited_from c.args.dpid c.args.self.now.xid = c.await_from-awaited.ensures ∙ ap (λ (n : NetState). awaited_from c.args.dpid n.xid) v in
+    let is_xid : (1 ≤ c.args.self.now.xid) × (c.args.self.now.xid < 2 ^ 32) = rw (← ap (λ (n : NetState). n.xid) v) (c.self.invariant.1, omega arith) in
     record {
+      message = c.requires;
+      is_xid = is_xid;
       refusal = Some c.in-Some.refusal;
       waits = sent_waits c.args.dpid c.args.flow c.args.self.now c.await_from-awaited.result c.as_slice.result.now _ c.ask.new.kept (g.W.World.seen c.args.world.now) (g.W.World.seen c.ask.new.world) (Some c.in-Some.refusal)
           a (c.as_slice.ensures ∙ c.in_ok-frame.ensures.frame) (ap (λ (n : NetState). n.kept) v) (rw c.in-Some.is at c.in_ok-refusal.ensures.ok);

@@ -1,16 +1,16 @@
 -- An ECHO_REQUEST whose type is made that of its reply is the reply, and is read.
-use Rattle.std.proofs.Common.{◌≡◌, ℕ, ◌+◌, ◌*◌, ◌^◌, ◌≤◌, ◌<◌, List, [], ◌∷◌, ◌++◌, length, take, drop, Ok, refl, sym, ap, ◌∙◌, append_assoc, arith}
+use Rattle.std.proofs.Common.{◌≡◌, ℕ, ◌+◌, List, [], ◌∷◌, ◌++◌, length, take, drop, Ok, refl, sym, ap, ◌∙◌, append_assoc, arith}
 use Rattle.std.specs.Prelude.{IsOk}
-use Rattle.std.proofs.lemmas.List.{append-nil, take-append-drop, drop-drop, length-drop, get_or-drop}
-use Rattle.of_types.specs.Fields.{number_at, number_bytes, piece, with_field, IsBytes}
+use Rattle.std.proofs.lemmas.List.{append-nil, take-append-drop, drop-drop, length-drop}
+use Rattle.of_types.specs.Fields.{number_at, number_bytes, with_field, IsBytes}
 use Rattle.of_types.specs.FieldLaws.{number_bytes-number_at, number_at-lt}
 use Rattle.of_wire.specs.declared.message.Message.TheVariants.{EchoReply}
 use Rattle.of_wire.specs.Reading.{reading_of}
 use Rattle.of_wire.specs.Spelling.{message_size, body_bytes, message_bytes}
-use Rattle.of_wire.specs.Grammar.{IsMessage}
+use Rattle.of_wire.specs.Grammar.{IsMessage, enveloped}
 use Rattle.of_wire.specs.ReadingLaws.{reading_of-message_bytes}
 use Rattle.net_txn.specs.Waits.{echo_reply}
-use Rattle.net_txn.proofs.Sizes.{header-read, version-read, size-read}
+use Rattle.net_txn.specs.SizeLaws.{header-read, version-read, size-read}
 
 three : number_bytes 1 3 ≡ 3 ∷ []
 unfolding number_bytes
@@ -52,7 +52,8 @@ IsMessage-echo bytes fit is = record {
   size = omega (arith, size-read bytes is, number_at-lt 2 2 bytes fit, length-drop 8 bytes, header-read bytes is);
 }
 
+pub echo_reply-reading : (bytes : List ℕ) → IsBytes bytes → IsOk (reading_of bytes) → reading_of (echo_reply bytes) ≡ Ok (enveloped (number_at 4 4 bytes) (EchoReply (drop 8 bytes)))
+echo_reply-reading bytes fit is = reading_of-message_bytes (number_at 4 4 bytes) (EchoReply (drop 8 bytes)) (number_at-lt 4 4 bytes fit) (IsMessage-echo bytes fit is)
+
 pub echo_reply-read : (bytes : List ℕ) → IsBytes bytes → IsOk (reading_of bytes) → IsOk (reading_of (echo_reply bytes))
-echo_reply-read bytes fit is =
-    let again = reading_of-message_bytes (number_at 4 4 bytes) (EchoReply (drop 8 bytes)) (number_at-lt 4 4 bytes fit) (IsMessage-echo bytes fit is) in
-    rw again refl
+echo_reply-read bytes fit is = rw (echo_reply-reading bytes fit is) refl

@@ -1,0 +1,125 @@
+-- What the host makes of a message that came of itself: an event, or none; and what it then knows (OpenFlow 1.0.0, 5.4 Asynchronous
+-- Messages and 5.5.2 Echo Request). Which messages are events is our own choice.
+use Rattle.std.specs.Prelude.{◌≡◌, ◌==◌, ℕ, ◌<◌, ◌≤◌, Bool, false, not, ◌&&◌, List, [], ◌∷◌, ◌++◌, filter, Option, Some, None, Result, IsErr, IsOkAnd, IfOk, IfErr, OnErr, nat_lt, if◌then◌else◌}
+use Rattle.std.specs.List.{list_any}
+use Rattle.std.proofs.Common.{zero, suc}
+use Rattle.of_types.specs.Fields.{number_bytes}
+use Rattle.of_types.specs.declared.port_desc.PortDesc.{PortDesc}
+use Rattle.of_types.specs.declared.journal.Act.TheVariants.{Sent}
+use Rattle.of_match.specs.declared.key.Key.{Key}
+use Rattle.of_match.specs.Key.{place}
+use Rattle.of_wire.specs.declared.bodies.FlowRemoved.{FlowRemoved as Removed}
+use Rattle.of_wire.specs.declared.bodies.PortStatus.{PortStatus as Status}
+use Rattle.of_wire.specs.declared.message.Message.{Message}
+use Rattle.of_wire.specs.declared.message.Message.TheVariants.{Error, EchoRequest, EchoReply, PacketIn, FlowRemoved, PortStatus}
+use Rattle.of_wire.specs.Reading.{reading_of}
+use Rattle.of_wire.specs.Spelling.{message_bytes}
+use Rattle.flow_table.specs.declared.view.ViewRow.{ViewRow}
+use Rattle.flow_table.specs.declared.view.TableView.{TableView}
+use Rattle.flow_table.specs.Change.{asks_notice}
+use Rattle.app_frames.specs.declared.frame.Event.{Event}
+use Rattle.app_frames.specs.declared.frame.EventKind.{EventKind}
+use Rattle.app_frames.specs.declared.frame.EventKind.TheVariants as kinds
+use Rattle.outside.specs.declared.step.WorldStep.{WorldStep}
+use Rattle.outside.specs.declared.step.WorldStep.TheVariants.{Acted}
+use Rattle.outside.specs.Seen.{Seen, Continues}
+use Rattle.lego_io.specs.Count.{Rose}
+use Rattle.net_txn.specs.declared.fault.TxnFault.{TxnFault}
+use Rattle.net_txn.specs.declared.fault.TxnFault.TheVariants.{SwitchFault, SwitchBroke, Diverged, Flooded, NoMemory}
+use Rattle.net_txn.specs.declared.ports.KnownPorts.{KnownPorts}
+use Rattle.net_txn.specs.Views.{rows_at, with_rows}
+use Rattle.net_txn.specs.Net.{NetState}
+
+-- ---- Flows that were removed
+
+abbrev pub key_removed : Removed → Key
+key_removed f = record { priority = f.priority; matching = f.matching }
+
+-- the owner of the entry asked for a notice when it goes
+abbrev pub is_asked : Key → Option (List ViewRow) → Bool
+is_asked k None = false
+is_asked k (Some rows) = list_any (λ r. place r.key == place k && asks_notice r.flags) rows
+
+-- A notice with reason DELETE (2) is dropped for now.
+abbrev pub is_told : ℕ → List TableView → Removed → Bool
+is_told d views f = not (f.reason == 2) && is_asked (key_removed f) (rows_at d views)
+
+abbrev pub without_key : Key → List ViewRow → List ViewRow
+without_key k rows = filter (λ r. not (place r.key == place k)) rows
+
+-- ---- Ports that changed: ADD 0, DELETE 1, MODIFY 2
+
+-- a port in its place by number, in place of one with its number
+abbrev pub with_port : PortDesc → List PortDesc → List PortDesc
+with_port p [] = p ∷ []
+with_port p (q ∷ qs) =
+    if nat_lt p.port_no q.port_no then p ∷ q ∷ qs
+    else if p.port_no == q.port_no then p ∷ qs
+    else q ∷ with_port p qs
+
+-- where the port of a number goes: the ports before it have lower ones
+abbrev pub IsPortPlace : ℕ → List PortDesc → ℕ → Type 0
+IsPortPlace n [] i = i ≡ 0
+IsPortPlace n (p ∷ ps) zero = n ≤ p.port_no
+IsPortPlace n (p ∷ ps) (suc i) = (p.port_no < n) × IsPortPlace n ps i
+
+abbrev pub ports_after : Status → List PortDesc → List PortDesc
+ports_after s ports = if s.reason == 1 then filter (λ p. not (p.port_no == s.port.port_no)) ports else with_port s.port ports
+
+abbrev pub known_after : ℕ → Status → List KnownPorts → List KnownPorts
+known_after d s [] = []
+known_after d s (k ∷ ks) = if k.dpid == d then record k { ports = ports_after s k.ports } ∷ ks else k ∷ known_after d s ks
+
+-- where the known ports of a switch stand, if they stand anywhere
+abbrev pub IsKnownAt : ℕ → List KnownPorts → ℕ → Type 0
+IsKnownAt d [] i = ⊥
+IsKnownAt d (k ∷ ks) zero = k.dpid ≡ d
+IsKnownAt d (k ∷ ks) (suc i) = ((k.dpid == d) ≡ false) × IsKnownAt d ks i
+
+abbrev pub IsNoKnown : ℕ → List KnownPorts → Type 0
+IsNoKnown d [] = Unit {0}
+IsNoKnown d (k ∷ ks) = ((k.dpid == d) ≡ false) × IsNoKnown d ks
+
+-- ---- The message
+
+abbrev pub event_from : EventKind → ℕ → Message → Event
+event_from kind d m = record { kind = kind; dpid = d; body = message_bytes 0 m }
+
+abbrev pub event_of : ℕ → List TableView → Message → Option Event
+event_of d views (PacketIn packet) = Some (event_from kinds.PacketIn d (PacketIn packet))
+event_of d views (PortStatus status) = Some (event_from kinds.PortStatus d (PortStatus status))
+event_of d views (Error kind code payload) = Some (record { kind = kinds.SwitchError; dpid = d; body = number_bytes 2 kind ++ number_bytes 2 code })
+event_of d views (FlowRemoved f) = if is_told d views f then Some (event_from kinds.FlowRemoved d (FlowRemoved f)) else None
+event_of d views other = None
+
+abbrev pub net_after : ℕ → Message → NetState → NetState
+net_after d (FlowRemoved f) net = record net { views = with_rows d (without_key (key_removed f)) net.views }
+net_after d (PortStatus status) net = record net { ports = known_after d status net.ports }
+net_after d other net = net
+
+-- an ECHO_REQUEST is answered at once, with its transaction id
+abbrev pub arrival_steps : ℕ → ℕ → Message → List WorldStep
+arrival_steps d xid (EchoRequest payload) = Acted (Sent d (message_bytes xid (EchoReply payload))) ∷ []
+arrival_steps d xid other = []
+
+-- ---- The whole
+
+-- SwitchBroke comes exactly where the frame is no message, unless memory is wanting.
+abbrev pub IsArrivalCause : {Own : Type 0} → ℕ → List ℕ → Seen Own → Seen Own → TxnFault → Type 0
+IsArrivalCause d frame old new (SwitchFault of) = (of ≡ d) × Rose (old.counts.link_faults d) (new.counts.link_faults d)
+IsArrivalCause d frame old new (SwitchBroke of bytes) = (of ≡ d) × (bytes ≡ frame) × IsErr (reading_of frame)
+IsArrivalCause d frame old new (Diverged of sent got) = ⊥
+IsArrivalCause d frame old new (Flooded of n) = ⊥
+IsArrivalCause d frame old new NoMemory = Unit {0}
+
+-- what a message that is read becomes
+pub record Becomes {Own : Type 0} (Tells : Type 0) (d xid : ℕ) (m : Message) (old new : Seen Own) (net now_net : NetState) (event : Option Event) : Type 0 where
+  pub event_so : event ≡ event_of d net.views m
+  pub net_so : now_net ≡ net_after d m net
+  pub told : Tells → new.history ≡ old.history ++ arrival_steps d xid m
+
+pub record Arrives {Own : Type 0} (Tells : Type 0) (d : ℕ) (frame : List ℕ) (old new : Seen Own) (net now_net : NetState) (result : Result (Option Event) TxnFault) : Type 0 where
+  pub continues : Continues Tells old new
+  pub cause : IfErr result (IsArrivalCause d frame old new)
+  pub err : OnErr result (now_net ≡ net)
+  pub read : IfOk result (λ event. IsOkAnd (reading_of frame) (λ e. Becomes Tells d e.xid e.message old new net now_net event))

@@ -1,0 +1,71 @@
+-- What is done when a switch joins: its table is emptied and its configuration set, behind a barrier (OpenFlow 1.0.0, 5.3.2 Switch
+-- Configuration and 5.3.3 Modify State Messages). An ERROR that answers one of the two is kept, as any other message. All of this is
+-- our own choice.
+use Rattle.std.specs.Prelude.{◌≡◌, ℕ, ◌<◌, ◌≤◌, List, [], ◌∷◌, ◌++◌, Option, nat_lt, if◌then◌else◌}
+use Rattle.std.proofs.Common.{zero, suc}
+use Rattle.of_types.specs.declared.port_desc.PortDesc.{PortDesc}
+use Rattle.of_types.specs.declared.journal.Act.TheVariants.{Sent}
+use Rattle.of_match.specs.Fields.{bytes_of, any_fields}
+use Rattle.of_match.specs.Match.{match_of}
+use Rattle.of_wire.specs.declared.bodies.FlowMod.{FlowMod as Change}
+use Rattle.of_wire.specs.declared.message.Message.TheVariants.{FlowMod, SetConfig}
+use Rattle.of_wire.specs.Spelling.{message_bytes}
+use Rattle.flow_table.specs.declared.view.TableView.{TableView}
+use Rattle.flow_table.specs.Refusals.{no_buffer}
+use Rattle.flow_table.specs.Switch.{first_config}
+use Rattle.outside.specs.declared.step.WorldStep.{WorldStep}
+use Rattle.outside.specs.declared.step.WorldStep.TheVariants.{Acted}
+use Rattle.outside.specs.Seen.{Seen}
+use Rattle.net_txn.specs.declared.heard.Awaited.{Awaited}
+use Rattle.net_txn.specs.declared.heard.Refusal.{Refusal}
+use Rattle.net_txn.specs.Waits.{Waits, KeptMore, barrier_sent}
+use Rattle.net_txn.specs.Net.{NetState, next_xid}
+
+-- DELETE of any match, whatever the outputs
+abbrev pub delete_all : Change
+delete_all = record {
+  matching = match_of (bytes_of any_fields);
+  cookie = 0;
+  command = 3;
+  idle = 0;
+  hard = 0;
+  priority = 0;
+  buffer_id = no_buffer;
+  out_port = 0xffff;
+  flags = 0;
+  actions = [];
+}
+
+-- two messages are sent, and then a barrier; no refusal is awaited
+abbrev pub greeted_from : ℕ → ℕ → Awaited
+greeted_from d xid = record { dpid = d; first = next_xid (next_xid xid); barrier = next_xid (next_xid xid) }
+
+abbrev pub greeting : ℕ → ℕ → List WorldStep
+greeting d xid =
+    Acted (Sent d (message_bytes xid (FlowMod delete_all))) ∷ Acted (Sent d (message_bytes (next_xid xid) (SetConfig first_config)))
+    ∷ barrier_sent (greeted_from d xid) ∷ []
+
+-- an empty view among the others, by switch ascending
+abbrev pub with_view : ℕ → List TableView → List TableView
+with_view d [] = record { dpid = d; rows = [] } ∷ []
+with_view d (v ∷ vs) = if nat_lt v.dpid d then v ∷ with_view d vs else record { dpid = d; rows = [] } ∷ v ∷ vs
+
+-- where it goes: the views before it are of lower switches
+abbrev pub IsViewPlace : ℕ → List TableView → ℕ → Type 0
+IsViewPlace d [] i = i ≡ 0
+IsViewPlace d (v ∷ vs) zero = d ≤ v.dpid
+IsViewPlace d (v ∷ vs) (suc i) = (v.dpid < d) × IsViewPlace d vs i
+
+-- a switch joined with these ports
+pub record Joins {Own : Type 0} (Tells : Type 0) (d : ℕ) (ports : List PortDesc) (old new : Seen Own) (net now_net : NetState) : Type 0 where
+  pub answer : Option Refusal
+  pub waits : Waits Tells (greeted_from d net.xid) (greeting d net.xid) old new net.kept now_net.kept answer
+  pub views : now_net.views ≡ with_view d net.views
+  pub known : now_net.ports ≡ net.ports ++ record { dpid = d; ports = ports } ∷ []
+  pub xid : now_net.xid ≡ next_xid (next_xid (next_xid net.xid))
+
+-- it did not, for a fault: it is not joined, and more of its messages may be kept
+pub record DoesNotJoin (d : ℕ) (net now_net : NetState) : Type 0 where
+  pub views : now_net.views ≡ net.views
+  pub known : now_net.ports ≡ net.ports
+  pub kept : KeptMore d net.kept now_net.kept

@@ -1,0 +1,136 @@
+//! What the host makes of a message that comes of itself.
+
+ghost use Rattle.std.specs.Prelude.{◌≡◌, ◌++◌, ◌∷◌, [], IsOk, IsSome, IfOk, IfErr, OnOk, OnErr};
+ghost use Rattle.of_types.specs.declared.journal.Act.TheVariants.{Sent};
+ghost use Rattle.of_wire.specs.declared.message.Message.TheVariants as messages;
+ghost use Rattle.of_wire.specs.Reading.{reading_of};
+ghost use Rattle.of_wire.specs.Spelling.{message_bytes};
+ghost use Rattle.of_wire.specs.Grammar.{IsMessage};
+ghost use Rattle.outside.specs.Seen.{Continues};
+ghost use Rattle.outside.specs.declared.step.WorldStep.TheVariants.{Acted};
+ghost use Rattle.net_txn.specs.Causes.{IsLinkCause};
+ghost use Rattle.net_txn.specs.Views.{rows_at};
+ghost use Rattle.net_txn.specs.Arriving.{event_of, Becomes, Arrives};
+
+use crate::arriving::{change_known, error_event, event_with, removed_key, tells};
+use crate::fault::TxnFault;
+use crate::net::Net;
+use crate::views::remove_in;
+use crate::wait::send;
+use app_frames::{Event, EventKind};
+use flow_table::TableView;
+use of_types::{ByteList, Dpid, Xid};
+use of_wire::{FlowRemoved, Message, WireFault, decode, encode};
+use outside::World;
+use std::alloc::{AllocError, Global};
+
+/// The reply to an ECHO_REQUEST.
+fn echo_bytes(alloc: Global, xid: Xid, payload: &ByteList) -> Result<ByteList, AllocError>
+    requires { IsMessage (messages.EchoRequest payload.now) }
+    ensures bytes { IfOk result (λ b. b ≡ message_bytes xid (messages.EchoReply payload.now)) }
+    ensures read { IfOk result (λ b. IsOk (reading_of b)) }
+{
+    let payload = ByteList::from_slice(alloc, payload.as_slice())?;
+    encode(alloc, xid, &Message::EchoReply { payload })
+}
+
+/// Answers an ECHO_REQUEST.
+fn answer_echo<W: World>(
+    world: &mut W,
+    alloc: Global,
+    dpid: Dpid,
+    xid: Xid,
+    payload: &ByteList,
+) -> Result<(), TxnFault>
+    requires { IsMessage (messages.EchoRequest payload.now) }
+    ensures continues { Continues W.Tells (W.seen world.old) (W.seen world.new) }
+    ensures link { IfErr result (IsLinkCause dpid (W.seen world.old) (W.seen world.new)) }
+    ensures told { W.Tells → OnOk result ((W.seen world.new).history
+        ≡ (W.seen world.old).history ++ Acted (Sent dpid (message_bytes xid (messages.EchoReply payload.now))) ∷ []) }
+{
+    let reply = echo_bytes(alloc, xid, payload)?;
+    send(world, dpid, reply.as_slice())
+}
+
+/// The event of a flow that was removed, where its owner is told.
+fn removed_event(
+    alloc: Global,
+    views: &[TableView],
+    dpid: Dpid,
+    flow: &FlowRemoved,
+    message: &Message,
+) -> Result<Option<Event>, AllocError>
+    requires message { IsMessage message.now }
+    requires same { message.now ≡ messages.FlowRemoved flow.now }
+    ensures { IfOk result (λ e. e ≡ event_of dpid views.now message.now) }
+{
+    if tells(views, dpid, flow) {
+        Ok(Some(event_with(alloc, EventKind::FlowRemoved, dpid, message)?))
+    } else {
+        Ok(None)
+    }
+}
+
+impl Net {
+    /// Takes in a message that was read, and gives its event, where it is one.
+    fn take_in<W: World>(
+        &mut self,
+        world: &mut W,
+        dpid: Dpid,
+        xid: Xid,
+        message: &Message,
+    ) -> Result<Option<Event>, TxnFault>
+        requires { IsMessage message.now }
+        ensures ok { IfOk result (Becomes W.Tells dpid xid message.now (W.seen world.old) (W.seen world.new) self.old self.new) }
+        ensures err { OnErr result (self.new ≡ self.old) }
+        ensures continues { Continues W.Tells (W.seen world.old) (W.seen world.new) }
+        ensures link { IfErr result (IsLinkCause dpid (W.seen world.old) (W.seen world.new)) }
+    {
+        match message {
+            Message::EchoRequest { payload } => {
+                answer_echo(world, self.alloc, dpid, xid, payload)?;
+                Ok(None)
+            }
+            Message::PacketIn(_) => Ok(Some(event_with(
+                self.alloc,
+                EventKind::PacketIn,
+                dpid,
+                message,
+            )?)),
+            Message::Error { kind, code, .. } => Ok(Some(error_event(
+                self.alloc, dpid, *kind, *code,
+            )?)),
+            Message::FlowRemoved(flow) => {
+                let event = removed_event(self.alloc, &self.views, dpid, flow, message)?;
+                remove_in(self.alloc, &mut self.views, dpid, &removed_key(flow));
+                Ok(event)
+            }
+            Message::PortStatus(status) => {
+                let event = event_with(self.alloc, EventKind::PortStatus, dpid, message)?;
+                change_known(self.alloc, &mut self.ports, dpid, status)?;
+                Ok(Some(event))
+            }
+            _ => Ok(None),
+        }
+    }
+
+    /// A message came from a switch; gives its event, where it is one. `SwitchBroke` exactly where it is no message.
+    pub fn arrived<W: World>(
+        &mut self,
+        world: &mut W,
+        dpid: Dpid,
+        frame: &[u8],
+    ) -> Result<Option<Event>, TxnFault>
+        requires { IsSome (rows_at dpid self.old.views) }
+        ensures { Arrives W.Tells dpid frame.now (W.seen world.old) (W.seen world.new) self.old self.new result }
+    {
+        match decode(self.alloc, frame) {
+            Ok(envelope) => self.take_in(world, dpid, envelope.xid, &envelope.message),
+            Err(WireFault::NoMemory) => Err(TxnFault::NoMemory),
+            Err(_) => {
+                let bytes = ByteList::from_slice(self.alloc, frame)?;
+                Err(TxnFault::SwitchBroke(dpid, bytes))
+            }
+        }
+    }
+}

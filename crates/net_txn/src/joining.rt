@@ -1,0 +1,131 @@
+//! A switch that joins.
+
+ghost use Rattle.std.specs.Prelude.{◌≡◌, ◌++◌, [], ◌∷◌, None, IfOk, IfErr, OnOk, OnErr};
+ghost use Rattle.outside.specs.Seen.{Continues};
+ghost use Rattle.net_txn.specs.declared.ports.KnownPorts.{KnownPorts};
+ghost use Rattle.net_txn.specs.Causes.{IsCause};
+ghost use Rattle.net_txn.specs.Views.{rows_at};
+ghost use Rattle.net_txn.specs.Net.{next_xid};
+ghost use Rattle.net_txn.specs.Joining.{greeted_from, with_view, IsViewPlace, Joins, DoesNotJoin};
+
+use crate::fault::TxnFault;
+use crate::greeting::{configuring, emptying, greet};
+use crate::heard::Awaited;
+use crate::net::{Net, following};
+use crate::ports::KnownPorts;
+use flow_table::{TableView, ViewList};
+use of_types::{Dpid, Xid};
+use of_wire::{FeaturesReply, PortList};
+use outside::World;
+use std::alloc::{AllocError, Global};
+
+/// What is awaited where two messages are sent from this id on, and then a barrier.
+fn greeted(dpid: Dpid, xid: Xid) -> Awaited
+    ensures { result ≡ greeted_from dpid xid }
+{
+    let barrier = following(following(xid));
+    Awaited {
+        dpid,
+        first: barrier,
+        barrier,
+    }
+}
+
+/// Where the view of a switch goes.
+fn place_for(views: &[TableView], dpid: Dpid) -> usize
+    ensures { IsViewPlace dpid views.now result }
+{
+    for (i, view) in views.iter().enumerate() {
+        if dpid <= view.dpid {
+            return i;
+        }
+    }
+    views.len()
+}
+
+/// Puts an empty view among the others.
+fn put_view(alloc: Global, views: &mut Vec<TableView>, dpid: Dpid) -> Result<(), AllocError>
+    ensures ok { OnOk result (views.new.items ≡ with_view dpid views.old.items) }
+    ensures err { OnErr result (views.new.items ≡ views.old.items) }
+{
+    let at = place_for(views, dpid);
+    let view = TableView {
+        dpid,
+        rows: ViewList::new(alloc),
+    };
+    views.insert(at, view)?;
+    Ok(())
+}
+
+/// The ports with which a switch joins.
+fn known_ports(alloc: Global, dpid: Dpid, ports: &PortList) -> Result<KnownPorts, AllocError>
+    ensures dpid { IfOk result (λ k. k.dpid ≡ dpid) }
+    ensures ports { IfOk result (λ k. k.ports ≡ ports.now) }
+{
+    let copy = Vec::from_slice(alloc, ports.as_slice())?;
+    Ok(KnownPorts {
+        dpid,
+        ports: PortList::from_vec(copy),
+    })
+}
+
+/// Takes a switch in, with an empty view.
+fn admit(
+    alloc: Global,
+    views: &mut Vec<TableView>,
+    ports: &mut Vec<KnownPorts>,
+    known: KnownPorts,
+) -> Result<(), AllocError>
+    ensures views { OnOk result (views.new.items ≡ with_view known.dpid views.old.items) }
+    ensures ports { OnOk result (ports.new.items ≡ ports.old.items ++ known ∷ []) }
+    ensures views_err { OnErr result (views.new.items ≡ views.old.items) }
+    ensures ports_err { OnErr result (ports.new.items ≡ ports.old.items) }
+{
+    let dpid = known.dpid;
+    let before = ports.len();
+    ports.push(known)?;
+    match put_view(alloc, views, dpid) {
+        Ok(()) => Ok(()),
+        Err(error) => {
+            ports.truncate(before);
+            Err(error)
+        }
+    }
+}
+
+impl Net {
+    /// A switch joins, with these features: its table is emptied and its configuration set, behind a barrier.
+    pub fn joined<W: World>(
+        &mut self,
+        world: &mut W,
+        dpid: Dpid,
+        features: &FeaturesReply,
+    ) -> Result<(), TxnFault>
+        requires { rows_at dpid self.old.views ≡ None }
+        ensures joins { OnOk result (Joins W.Tells dpid features.now.ports (W.seen world.old) (W.seen world.new) self.old self.new) }
+        ensures err { OnErr result (DoesNotJoin dpid self.old self.new) }
+        ensures continues { Continues W.Tells (W.seen world.old) (W.seen world.new) }
+        ensures cause { IfErr result (IsCause W.Tells dpid (W.seen world.old) (W.seen world.new)) }
+        ensures log { self.new.log ≡ self.old.log }
+        ensures moment { self.new.moment ≡ self.old.moment }
+    {
+        let first = self.xid;
+        let awaited = greeted(dpid, first);
+        self.xid = following(awaited.barrier);
+        let emptying = emptying(self.alloc, first)?;
+        let known = known_ports(self.alloc, dpid, &features.ports)?;
+        self.views.reserve(1)?;
+        self.ports.reserve(1)?;
+        greet(
+            world,
+            self.alloc,
+            &mut self.buf,
+            &mut self.kept,
+            &awaited,
+            emptying.as_slice(),
+            configuring(following(first)).as_slice(),
+        )?;
+        admit(self.alloc, &mut self.views, &mut self.ports, known)?;
+        Ok(())
+    }
+}

@@ -1,0 +1,94 @@
+//! A switch that leaves.
+
+ghost use Rattle.std.specs.Prelude.{◌≡◌, ◌==◌, ◌++◌, not, filter, length, drop, IsSome, IfOk, OnOk, OnErr};
+ghost use Rattle.app_frames.specs.declared.frame.EventKind.TheVariants.{Leave};
+ghost use Rattle.net_txn.specs.Views.{rows_at};
+ghost use Rattle.net_txn.specs.Leaving.{ports_at, port_text, ports_text, without};
+
+use crate::net::Net;
+use crate::ports::KnownPorts;
+use app_frames::{Event, EventKind};
+use flow_table::TableView;
+use of_types::{ByteList, Dpid, PortDesc};
+use of_wire::{Message, PortStatus, encode_into};
+use std::alloc::{AllocError, Global};
+
+/// A PORT_STATUS of a port, which ends by its 48 bytes.
+#[tactic(auto, unfolding(of_wire::specs::Spelling::message_size))]
+fn described(port: &PortDesc) -> [u8; 64]
+    ensures length { length result ≡ 64 }
+    ensures text { drop 16 result ≡ port_text port.now }
+{
+    let status = PortStatus {
+        reason: 0,
+        port: *port,
+    };
+    let mut bytes = [0; 64];
+    encode_into(0, &Message::PortStatus(status), &mut bytes);
+    bytes
+}
+
+/// Appends the 48 bytes of a port.
+fn push_port(bytes: &mut Vec<u8>, port: &PortDesc) -> Result<(), AllocError>
+    ensures { OnOk result (bytes.new.items ≡ bytes.old.items ++ port_text port.now) }
+{
+    let status = described(port);
+    bytes.extend_from_slice(&status[16..])?;
+    Ok(())
+}
+
+/// The bytes of ports.
+#[tactic(auto, unfolding(crate::specs::Leaving::ports_text))]
+fn text_of(alloc: Global, ports: &[PortDesc]) -> Result<ByteList, AllocError>
+    ensures { IfOk result (λ b. b ≡ ports_text ports.now) }
+{
+    let mut bytes = Vec::new(alloc);
+    for port in ports {
+        push_port(&mut bytes, port)?;
+    }
+    Ok(ByteList::from_vec(bytes))
+}
+
+/// The bytes of the known ports of a switch.
+fn known_text(alloc: Global, all: &[KnownPorts], dpid: Dpid) -> Result<ByteList, AllocError>
+    ensures { IfOk result (λ b. b ≡ ports_text (ports_at dpid all.now)) }
+{
+    for known in all {
+        if known.dpid == dpid {
+            return text_of(alloc, known.ports.as_slice());
+        }
+    }
+    text_of(alloc, &[])
+}
+
+fn forget_view(views: &mut Vec<TableView>, dpid: Dpid)
+    ensures { views.new.items ≡ filter (λ v. not (v.dpid == dpid)) views.old.items }
+{
+    views.retain(|view| view.dpid != dpid);
+}
+
+fn forget_ports(ports: &mut Vec<KnownPorts>, dpid: Dpid)
+    ensures { ports.new.items ≡ filter (λ k. not (k.dpid == dpid)) ports.old.items }
+{
+    ports.retain(|known| known.dpid != dpid);
+}
+
+impl Net {
+    /// A switch leaves: its view, known ports and kept messages go. Gives its Leave event.
+    pub fn left(&mut self, dpid: Dpid) -> Result<Event, AllocError>
+        requires { IsSome (rows_at dpid self.old.views) }
+        ensures event { IfOk result (λ e. e ≡ record { kind = Leave; dpid = dpid; body = ports_text (ports_at dpid self.old.ports) }) }
+        ensures ok { OnOk result (self.new ≡ without dpid self.old) }
+        ensures err { OnErr result (self.new ≡ self.old) }
+    {
+        let body = known_text(self.alloc, &self.ports, dpid)?;
+        forget_view(&mut self.views, dpid);
+        forget_ports(&mut self.ports, dpid);
+        self.kept.forget(dpid);
+        Ok(Event {
+            kind: EventKind::Leave,
+            dpid,
+            body,
+        })
+    }
+}

@@ -1,0 +1,93 @@
+//! A transaction over the network: changes that are kept together or not at all.
+
+ghost use Rattle.std.specs.Prelude.{◌≡◌, [], length, take, IfOk};
+ghost use Rattle.net_txn.specs.Changes.{Changes};
+ghost use Rattle.net_txn.specs.Undos.{Undoes};
+ghost use Rattle.net_txn.specs.Agreement.{Reaches, Steps};
+
+use crate::fault::TxnFault;
+use crate::net::Net;
+use crate::queue::EventQueue;
+use app_frames::Answer;
+use flow_table::TableView;
+use of_types::Dpid;
+use outside::World;
+
+/// A transaction that is open: what was logged from `start` on undoes its changes.
+pub struct Txn<'a> {
+    net: &'a mut Net,
+    start: usize,
+}
+
+impl<'a> Txn<'a> {
+    /// Opens a transaction; takes no memory.
+    pub fn begin(net: &'a mut Net) -> Txn<'a>
+        ensures same_reference { result.net.ghost_name ≡ net.entry.ghost_name }
+        ensures net { result.net.now ≡ net.old }
+        ensures start { result.start ≡ length net.old.log }
+    {
+        let start = net.logged();
+        Txn { net, start }
+    }
+
+    /// The tables of the joined switches as the owner sees them; takes no memory.
+    pub fn views(&self) -> &[TableView]
+        ensures { result.now ≡ self.now.net.now.views }
+    {
+        self.net.views()
+    }
+
+    /// The moment, in seconds from the start; takes no memory.
+    pub fn moment(&self) -> u64
+        ensures { result ≡ self.now.net.now.moment }
+    {
+        self.net.moment()
+    }
+
+    /// Answers one message of an application for a switch: by the host's own tests, else by the switch behind a
+    /// barrier.
+    pub fn change<W: World>(
+        &mut self,
+        world: &mut W,
+        dpid: Dpid,
+        bytes: &[u8],
+    ) -> Result<Answer, TxnFault>
+        ensures same_reference { self.new.net.ghost_name ≡ self.old.net.ghost_name }
+        ensures start { self.new.start ≡ self.old.start }
+        ensures changes { Changes W.Tells dpid bytes.now (W.seen world.old) (W.seen world.new) self.old.net.now self.new.net.now result }
+
+        // What the switch judged reached it at once.
+        ensures reached { Reaches W.Tells dpid bytes.now (W.seen world.old) (W.seen world.new) self.old.net.now result }
+
+        // Where the world keeps its word, nothing of the switch waited, and view and table agreed, they take the step together.
+        ensures in_step { Steps W.Tells dpid bytes.now (W.seen world.old) (W.seen world.new) self.old.net.now self.new.net.now result }
+    {
+        self.net.change(world, dpid, bytes)
+    }
+
+    /// Closes the transaction: its changes stay. Nothing is held back yet, so that no packet is released.
+    pub fn commit<W: World>(
+        self,
+        _world: &mut W,
+        _queue: &mut EventQueue,
+    ) -> Result<Vec<(Dpid, u32)>, TxnFault>
+        ensures released { IfOk result (λ sent. sent.items ≡ []) }
+        ensures net { self.exit.0.now ≡ record self.entry.net.now { log = take self.entry.start self.entry.net.now.log } }
+        ensures world { W.seen _world.new ≡ W.seen _world.old }
+        ensures queue { _queue.new ≡ _queue.old }
+    {
+        let Txn { net, start } = self;
+        net.forget(start);
+        Ok(net.none_released())
+    }
+
+    /// Closes the transaction: its changes are undone, newest first, and leave the log and the views. It goes on past the
+    /// fault of a switch with the others, and answers the first one. It takes no memory of its own.
+    pub fn abort<W: World>(self, world: &mut W) -> Result<(), TxnFault>
+        requires { 1 ≤ self.net.now.room }
+        ensures { Undoes W.Tells self.entry.start (W.seen world.old) (W.seen world.new) self.entry.net.now self.exit.0.now result }
+    {
+        let Txn { net, start } = self;
+        net.undo_from(world, start)
+    }
+}
