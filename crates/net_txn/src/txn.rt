@@ -1,6 +1,6 @@
 //! A transaction over the network: changes that are kept together or not at all.
 
-ghost use Rattle.std.specs.Prelude.{◌≡◌, [], length, take, IfOk};
+ghost use Rattle.std.specs.Prelude.{◌≡◌, ◌≤◌, [], length, take, IfOk};
 ghost use Rattle.net_txn.specs.Changes.{Changes};
 ghost use Rattle.net_txn.specs.Undos.{Undoes};
 ghost use Rattle.net_txn.specs.Agreement.{Reaches, Steps};
