@@ -1,5 +1,5 @@
 -- Laws of undos with their first fault: one inverse more, one barrier more, and a fault.
-use Rattle.std.specs.Prelude.{◌≡◌, ◌≢◌, ◌==◌, ℕ, ◌+◌, ◌<◌, Bool, true, false, ◌≤◌, List, [], ◌∷◌, ◌++◌, Option, Some, None, if◌then◌else◌, refl}
+use Rattle.std.specs.Prelude.{◌≡◌, ◌≢◌, ℕ, ◌+◌, ◌<◌, true, false, List, [], ◌∷◌, ◌++◌, Option, Some, None, refl}
 use Rattle.std.proofs.Common.{sym, ap, ◌∙◌, subst, append_assoc, eq-eqb, inl, inr, arith}
 use Rattle.std.proofs.lemmas.Bool.{ne_eqb, cases_eq}
 use Rattle.std.proofs.lemmas.List.{append-nil}
@@ -9,13 +9,12 @@ use Rattle.flow_table.specs.declared.view.TableView.{TableView}
 use Rattle.outside.specs.declared.step.WorldStep.TheVariants.{Acted}
 use Rattle.outside.specs.Seen.{Seen}
 use Rattle.net_txn.specs.declared.fault.TxnFault.{TxnFault}
-use Rattle.net_txn.specs.declared.logged.Fare.{Fare}
 use Rattle.net_txn.specs.declared.logged.Logged.{Logged}
 use Rattle.net_txn.specs.Net.{next_xid, inverse_bytes}
 use Rattle.net_txn.specs.Waits.{barrier_sent}
-use Rattle.net_txn.specs.FareLaws.{fare_of-same, fare_of-other, inverses_in-other}
+use Rattle.net_txn.specs.FareLaws.{fare_of-other, inverses_in-other}
 use Rattle.net_txn.specs.QuietLaws.{IsFaultOf-behind}
-use Rattle.net_txn.specs.Undos.{alone, AreBefore, IsStuckBy, IsSettled, Moves, Fails, Settles, Part, Inverse, Settled, Stuck, parts_of, is_stuck, since_of, inverses_of, first_fault, first_fault_of, fare_of, inverses_in, is_viewed, Stands, Undoing, Further, Pending, IsRoomLeft, KeptSome}
+use Rattle.net_txn.specs.Undos.{alone, AreBefore, Moves, Fails, Settles, Inverse, Settled, Stuck, parts_of, since_of, inverses_of, first_fault, first_fault_of, fare_of, inverses_in, is_viewed, Further, Pending, IsRoomLeft, KeptSome}
 use Rattle.net_txn.specs.UndoLaws.{SameFor, Undoing-part, Undoing-none, Undoing-skipped, Stands-inverse, Stands-stuck, Stands-settled}
 
 pub first_or_none : (o : Option TxnFault) → first_fault_of o None ≡ o

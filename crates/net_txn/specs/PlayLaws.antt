@@ -1,11 +1,10 @@
 -- Laws of a log whose inverses are played: what a fare that is noted at a place leaves of an undo.
-use Rattle.std.specs.Prelude.{◌≡◌, ◌≢◌, ℕ, ◌+◌, ◌<◌, Bool, true, false, List, [], ◌∷◌, length, drop, Option, Some, None, Result, Ok, Err, OnOk, IfErr, is_err, refl}
-use Rattle.std.proofs.Common.{zero, suc, get_or, set, sym, ap, ◌∙◌, subst, inl, inr, arith}
+use Rattle.std.specs.Prelude.{◌≡◌, ℕ, ◌+◌, ◌<◌, Bool, true, false, List, [], ◌∷◌, length, drop, Option, Some, None, Result, Ok, Err, OnOk, IfErr, is_err, refl}
+use Rattle.std.proofs.Common.{suc, get_or, set, sym, ap, ◌∙◌, subst, inl, inr, arith}
 use Rattle.std.proofs.lemmas.Bool.{cases_eq}
 use Rattle.std.proofs.Math.Seq.{drop-cons}
-use Rattle.std.proofs.lemmas.List.{drop-set, drop-set-lt}
+use Rattle.std.proofs.lemmas.List.{drop-set}
 use Rattle.of_types.specs.declared.journal.Act.TheVariants.{Sent}
-use Rattle.of_match.specs.declared.key.Key.{Key}
 use Rattle.flow_table.specs.declared.view.TableView.{TableView}
 use Rattle.outside.specs.declared.step.WorldStep.TheVariants.{Acted}
 use Rattle.outside.specs.Seen.{Seen}
@@ -149,8 +148,8 @@ settled_there d c log later at e f here marked none before =
     elim (cases_eq c d) [
       | inl same ↦ subst (λ (n : ℕ). IsSettledIn n later) (sym same) (settled_here d log later at e f here marked none)
       | inr other ↦
-        (let fare : fare_of c later ≡ fare_of c log = ap (fare_of c) marked ∙ fare_of-set_other d c log at (with_fare f (get_or log at e)) here (IsFareAt-dpid d log at e here) other in
-        subst (λ (h : Fare). h.failed ≡ false → h.since ≡ 0) (sym fare) before)
+          (let fare : fare_of c later ≡ fare_of c log = ap (fare_of c) marked ∙ fare_of-set_other d c log at (with_fare f (get_or log at e)) here (IsFareAt-dpid d log at e here) other in
+          subst (λ (h : Fare). h.failed ≡ false → h.since ≡ 0) (sym fare) before)
     ]
 
 pub settled_failed : (d : ℕ) (log : List Logged) (at : ℕ) (e : Logged) → IsFareAt d log at → (get_or log at e).fare.failed ≡ true → IsSettledIn d log

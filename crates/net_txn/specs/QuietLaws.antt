@@ -1,17 +1,15 @@
 -- Laws of calls of one switch: what each leaves, one after the other, and a fault behind others.
-use Rattle.std.specs.Prelude.{◌≡◌, ℕ, ◌+◌, ◌≤◌, Bool, true, false, List, [], ◌∷◌, ◌++◌, length, map, take, None, Some, Result, Ok, Err, IsOk, IsErr, IfOk, OnOk, refl}
+use Rattle.std.specs.Prelude.{◌≡◌, ℕ, ◌+◌, ◌≤◌, Bool, true, false, List, [], ◌∷◌, ◌++◌, map, take, None, Some, Result, Ok, Err, IsOk, IsErr, IfOk, OnOk, refl}
 use Rattle.of_types.specs.Fields.{number_at}
 use Rattle.net_txn.specs.declared.trouble.Trouble.{Trouble}
 use Rattle.net_txn.specs.Net.{inverse_bytes}
-use Rattle.std.specs.List.{flat_map, AllByRecursion}
+use Rattle.std.specs.List.{AllByRecursion}
 use Rattle.std.proofs.Common.{sym, ap, ◌∙◌, append_assoc, length-append, arith}
 use Rattle.std.proofs.lemmas.List.{append-nil, flat_map_more, map-append}
 use Rattle.lego_io.specs.CountLaws.{Rose-after}
 use Rattle.of_types.specs.declared.journal.Act.TheVariants.{Sent, Got}
 use Rattle.of_match.specs.declared.key.Key.{Key}
 use Rattle.of_wire.specs.Reading.{reading_of}
-use Rattle.of_wire.specs.Spelling.{message_bytes}
-use Rattle.of_wire.specs.declared.message.Message.TheVariants.{BarrierReply}
 use Rattle.outside.specs.declared.faults.LinkFault.{LinkFault}
 use Rattle.outside.specs.declared.faults.LinkFault.TheVariants as linking
 use Rattle.outside.specs.declared.step.WorldStep.{WorldStep}
@@ -26,7 +24,7 @@ use Rattle.net_txn.specs.declared.heard.Heard.{Heard}
 use Rattle.net_txn.specs.declared.heard.Heard.TheVariants.{Reply, Refused, Notice, Echo, Other}
 use Rattle.net_txn.specs.Waits.{KeptMore, heard, is_reply, steps_by, heard_steps, wait_steps, reply_got}
 use Rattle.net_txn.specs.WaitLaws.{reply_is}
-use Rattle.net_txn.specs.Undos.{fault_by, link_trouble, IsStepOf, Moves, key_refused, AreBefore, EndsBy, Refuses, IsFaultOf, Fails, Settles, HearsOn, HearsNext}
+use Rattle.net_txn.specs.Undos.{fault_by, link_trouble, IsStepOf, Moves, key_refused, EndsBy, Refuses, IsFaultOf, Fails, Settles, HearsOn, HearsNext}
 
 -- ---- Calls of the world
 
@@ -192,9 +190,11 @@ Settles-behind m s = record { got = s.got; few = s.few; before = s.before; moves
 
 pub kept_then : (d : ℕ) (a b c : List (ℕ × List ℕ)) → KeptMore d a b → KeptMore d b c → KeptMore d a c
 kept_then d a b c first second =
-    let of_switch : List ℕ → ℕ × List ℕ = λ x. (d, x) in
-    (first.0 ++ second.0, second.1 ∙ ap (λ (k : List (ℕ × List ℕ)). k ++ map of_switch second.0) first.1 ∙ append_assoc a (map of_switch first.0) (map of_switch second.0)
-    ∙ ap (λ (k : List (ℕ × List ℕ)). a ++ k) (sym (map-append of_switch first.0 second.0)))
+    let of_switch : List ℕ → ℕ × List ℕ = λ x. (d, x) in (
+      first.0 ++ second.0,
+      second.1 ∙ ap (λ (k : List (ℕ × List ℕ)). k ++ map of_switch second.0) first.1 ∙ append_assoc a (map of_switch first.0) (map of_switch second.0)
+          ∙ ap (λ (k : List (ℕ × List ℕ)). a ++ k) (sym (map-append of_switch first.0 second.0)),
+    )
 
 -- ---- One message
 

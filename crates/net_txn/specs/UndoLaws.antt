@@ -1,24 +1,21 @@
 -- Laws of undos: one part more, and what it leaves of each switch.
-use Rattle.std.specs.Prelude.{◌≡◌, ◌≢◌, ◌==◌, ℕ, ◌+◌, ◌<◌, Bool, true, false, List, [], ◌∷◌, ◌++◌, length, Option, Some, None, if◌then◌else◌, refl}
+use Rattle.std.specs.Prelude.{◌≡◌, ◌≢◌, ℕ, ◌+◌, ◌<◌, Bool, true, false, List, [], ◌∷◌, ◌++◌, refl}
 use Rattle.std.proofs.Common.{sym, ap, ◌∙◌, subst, append_assoc, eq-eqb, inl, inr}
 use Rattle.std.proofs.lemmas.Bool.{ne_eqb, cases_eq}
 use Rattle.std.proofs.lemmas.List.{append-nil}
 use Rattle.lego_io.specs.CountLaws.{Rose-before}
-use Rattle.of_types.specs.declared.journal.Act.TheVariants.{Sent}
 use Rattle.of_match.specs.declared.key.Key.{Key}
 use Rattle.flow_table.specs.declared.view.TableView.{TableView}
 use Rattle.outside.specs.declared.step.WorldStep.{WorldStep}
-use Rattle.outside.specs.declared.step.WorldStep.TheVariants.{Acted}
 use Rattle.outside.specs.Seen.{Counts, NoneFell, Seen}
-use Rattle.outside.specs.SeenLaws.{Continues-refl, Continues-trans, NoneFell-refl}
+use Rattle.outside.specs.SeenLaws.{Continues-refl, Continues-trans}
 use Rattle.net_txn.specs.declared.fault.TxnFault.{TxnFault}
 use Rattle.net_txn.specs.declared.fault.TxnFault.TheVariants.{SwitchFault, SwitchBroke, Diverged, Flooded, NoMemory}
 use Rattle.net_txn.specs.declared.logged.Fare.{Fare}
 use Rattle.net_txn.specs.declared.logged.Logged.{Logged}
-use Rattle.net_txn.specs.Net.{next_xid, inverse_bytes}
-use Rattle.net_txn.specs.Waits.{barrier_sent, wait_steps, reply_got}
+use Rattle.net_txn.specs.Net.{next_xid}
 use Rattle.net_txn.specs.FareLaws.{fare_of-same, fare_of-other, inverses_in-same, inverses_in-other}
-use Rattle.net_txn.specs.Undos.{alone, IsFaultOf, IsStuckBy, IsSettled, Moves, Fails, Settles, Part, Inverse, Settled, Stuck, part_steps, steps_of, parts_of, next_free, xid_of, AreNumbered, is_stuck, since_of, inverses_of, IsRun, fare_of, inverses_in, is_viewed, Stands, Undoing}
+use Rattle.net_txn.specs.Undos.{IsFaultOf, IsStuckBy, IsSettled, Moves, Part, Inverse, Settled, Stuck, part_steps, steps_of, parts_of, xid_of, is_stuck, since_of, inverses_of, IsRun, fare_of, inverses_in, is_viewed, Stands, Undoing}
 
 -- ---- Later
 
@@ -137,12 +134,12 @@ Undoing-skipped {views = views} {base = base} {now = now} {played = played} {par
   where
     mine : (c : ℕ) → c ≡ e.dpid → Stands (is_viewed c views) c base.counts now.counts (parts_of c parts) (e ∷ played)
     mine c same = subst (λ (n : ℕ). Stands (is_viewed n views) n base.counts now.counts (parts_of n parts) (e ∷ played)) (sym same) (
-      let s = u.stands e.dpid in
-      let stuck : is_viewed e.dpid views ≡ true → is_stuck (parts_of e.dpid parts) ≡ true = λ k. sym (s.stuck k) ∙ failed k in
-      record {
-        unknown = s.unknown;
-        run = s.run;
-        stuck = λ k. ap (λ (f : Fare). f.failed) (fare_of-same e.dpid e played refl) ∙ is ∙ sym (stuck k);
-        since = λ k n. let so = stuck k in absurd cc;
-        inverses = λ k n. let so = stuck k in absurd cc;
-      })
+        let s = u.stands e.dpid in
+        let stuck : is_viewed e.dpid views ≡ true → is_stuck (parts_of e.dpid parts) ≡ true = λ k. sym (s.stuck k) ∙ failed k in
+        record {
+          unknown = s.unknown;
+          run = s.run;
+          stuck = λ k. ap (λ (f : Fare). f.failed) (fare_of-same e.dpid e played refl) ∙ is ∙ sym (stuck k);
+          since = λ k n. let so = stuck k in absurd cc;
+          inverses = λ k n. let so = stuck k in absurd cc;
+        })

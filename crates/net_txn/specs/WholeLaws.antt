@@ -6,7 +6,7 @@ use Rattle.outside.specs.Seen.{Counts, Seen}
 use Rattle.net_txn.specs.declared.fault.TxnFault.{TxnFault}
 use Rattle.net_txn.specs.Net.{NetState}
 use Rattle.net_txn.specs.declared.logged.Logged.{Logged}
-use Rattle.net_txn.specs.Undos.{Undoes, Further, KeptSome, ended_by, without_keys, is_viewed, parts_of, Part, is_stuck, inverses_of, inverses_in, keys_of, but_fare, fare_of, IsSettledIn, Stands, IsPlayedOn}
+use Rattle.net_txn.specs.Undos.{Undoes, Further, KeptSome, ended_by, without_keys, is_viewed, parts_of, Part, inverses_in, keys_of, but_fare, IsSettledIn, Stands, IsPlayedOn}
 
 key_step : (here : Bool) (x : ℕ) (k : Key) (pairs : List (ℕ × Key)) (keys : List Key) → map (λ p. p.1) pairs ≡ keys → map (λ p. p.1) (if here then (x, k) ∷ pairs else pairs) ≡ (if here then k ∷ keys else keys)
 key_step true x k pairs keys is = ap (λ (ks : List Key). k ∷ ks) is

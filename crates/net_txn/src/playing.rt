@@ -195,7 +195,7 @@ pub(crate) fn play<W: World>(
     ensures undoing { (base : Seen W.Own) (x : ℕ) (fault : Option TxnFault) (e : Logged) →
         Further W.Tells views.now base (W.seen world.old) x xid.old (drop (at + 1) log.old) fault
         → Further W.Tells views.now base (W.seen world.new) x xid.new (drop at log.new)
-            (first_fault_of fault (fault_of (slice_index_or log.old at e).dpid result buf.new)) }
+        (first_fault_of fault (fault_of (slice_index_or log.old at e).dpid result buf.new)) }
     ensures same { map but_fare log.new ≡ map but_fare log.old }
     ensures kept { KeptSome kept.old kept.new }
     ensures least { 1 ≤ xid.new }

@@ -106,8 +106,7 @@ impl MessageQueue {
     /// Drops a message; takes no memory.
     pub(crate) fn keep(&mut self, dpid: Dpid, _message: &[u8])
         ensures { KeptMore dpid self.old self.new }
-    {
-    }
+    {}
 
     /// Takes the oldest message out; takes no memory.
     pub fn take_first(&mut self) -> Option<(Dpid, ByteList)>

@@ -43,11 +43,7 @@ pub(crate) fn send<W: World>(world: &mut W, dpid: Dpid, frame: &[u8]) -> Result<
 }
 
 /// Takes one message of a switch into the front of the buffer, and answers how many bytes it has.
-pub(crate) fn receive<W: World>(
-    world: &mut W,
-    dpid: Dpid,
-    buf: &mut [u8],
-) -> Result<usize, Trouble>
+pub(crate) fn receive<W: World>(world: &mut W, dpid: Dpid, buf: &mut [u8]) -> Result<usize, Trouble>
     requires { most_message ≤ length buf.old }
     ensures bytes { IsBytes buf.new }
     ensures len { length buf.new ≡ length buf.old }

@@ -92,8 +92,11 @@ fn fault_by(
     match trouble {
         Trouble::Link => TxnFault::SwitchFault(dpid),
         Trouble::Broke(len) => TxnFault::SwitchBroke(dpid, room.keep_got(front(buf, len))),
-        Trouble::Refused(key, xid, len) =>
-            room.diverged(dpid, &inverse_of(alloc, &key, xid), front(buf, len)),
+        Trouble::Refused(key, xid, len) => room.diverged(
+            dpid,
+            &inverse_of(alloc, &key, xid),
+            front(buf, len),
+        ),
         Trouble::Flooded => TxnFault::Flooded(dpid, FLOOD),
         Trouble::Short => TxnFault::NoMemory,
     }

@@ -208,16 +208,7 @@ fn undo_part<W: World>(
     ensures buf { length buf.new ≡ 65535 }
     ensures room { (vec_len rooms.old ≤ vec_len rooms.new + 1) × (IsOk result → vec_len rooms.new ≡ vec_len rooms.old) }
 {
-    undo(
-        world,
-        alloc,
-        buf,
-        kept,
-        rooms,
-        views,
-        &mut log[from..],
-        xid,
-    )
+    undo(world, alloc, buf, kept, rooms, views, &mut log[from..], xid)
 }
 
 /// Undoes what was logged from a place on, and forgets it; its keys leave the views.

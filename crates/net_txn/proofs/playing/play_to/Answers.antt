@@ -3,8 +3,7 @@ use Rattle.std.proofs.lemmas.Result.{err_from_is_err_and}
 use Rattle.std.proofs.lemmas.List.{get_or-set_same}
 use Rattle.std.proofs.Math.Seq.{lt-length-set}
 use Rattle.net_txn.specs.declared.logged.Logged.{Logged}
-use Rattle.net_txn.specs.declared.logged.Fare.{Fare}
-use Rattle.net_txn.specs.Undos.{with_fare, inverses_in, fault_by}
+use Rattle.net_txn.specs.Undos.{with_fare}
 use Rattle.net_txn.specs.PlayLaws.{stuck_at, sent_at, few_at, unfaulted, settle_played}
 use Rattle.net_txn.proofs.playing.play_to.Goals as goal
 

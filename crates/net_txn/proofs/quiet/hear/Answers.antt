@@ -1,6 +1,5 @@
-use Rattle.std.proofs.Common.{take, sym, ◌∙◌, arith}
+use Rattle.std.proofs.Common.{take, sym, ◌∙◌}
 use Rattle.std.proofs.lemmas.Result.{IfErr-weaker}
-use Rattle.of_types.specs.FieldLaws.{IsBytes-take}
 use Rattle.net_txn.specs.QuietLaws.{heard_next, refused_next, Fails-behind}
 use Rattle.net_txn.specs.Undos.{inverses_in}
 use Rattle.net_txn.specs.SizeLaws.{header-read}

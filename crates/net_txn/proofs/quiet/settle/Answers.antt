@@ -1,4 +1,4 @@
-use Rattle.std.proofs.Common.{List, ℕ, ◌∷◌, [], ap, ◌∙◌}
+use Rattle.std.proofs.Common.{List, ℕ, ◌∷◌, [], ap}
 use Rattle.std.proofs.lemmas.Result.{on_ok_weaker, IfErr-weaker}
 use Rattle.of_types.specs.declared.journal.Act.TheVariants.{Sent}
 use Rattle.outside.specs.declared.step.WorldStep.TheVariants.{Acted}

@@ -1,7 +1,7 @@
-use Rattle.std.proofs.Common.{◌≡◌, ◌∙◌, refl, arith}
+use Rattle.std.proofs.Common.{◌∙◌, refl, arith}
 use Rattle.std.proofs.lemmas.Result.{err_from_is_err_and}
 use Rattle.net_txn.specs.WaitLaws.{none_kept}
-use Rattle.net_txn.specs.Undos.{inverses_in, fault_by}
+use Rattle.net_txn.specs.Undos.{inverses_in}
 use Rattle.net_txn.specs.QuietLaws.{none_heard, one_heard, heard_all, Fails-behind, Fails-flooded, kept_then}
 use Rattle.net_txn.proofs.quiet.wait.Goals as goal
 

@@ -1,7 +1,6 @@
-use Rattle.std.proofs.Common.{◌≡◌, ◌+◌, ◌-◌, ℕ, [], List, length, drop, None, refl, sym, ap, ◌∙◌, subst, arith}
+use Rattle.std.proofs.Common.{◌≡◌, ◌+◌, ◌-◌, ℕ, [], List, length, drop, refl, sym, ap, ◌∙◌, subst, arith}
 use Rattle.std.proofs.lemmas.List.{drop_all, length-map}
 use Rattle.of_match.specs.declared.key.Key.{Key}
-use Rattle.net_txn.specs.declared.logged.Logged.{Logged}
 use Rattle.net_txn.specs.Undos.{Further, but_fare}
 use Rattle.net_txn.specs.FurtherLaws.{Further-none, room_same, room_then, some_none, some_then}
 use Rattle.net_txn.proofs.undo.play_all.Goals as goal

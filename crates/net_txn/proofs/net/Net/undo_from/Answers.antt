@@ -1,4 +1,4 @@
-use Rattle.std.proofs.Common.{◌≡◌, List, ℕ, take, drop, ◌≤◌, refl, sym, ap, subst}
+use Rattle.std.proofs.Common.{◌≡◌, List, take, drop, refl, subst}
 use Rattle.std.specs.Prelude.{vec_len}
 use Rattle.net_txn.specs.declared.logged.Logged.{Logged}
 use Rattle.net_txn.specs.Net.{NetState}
