@@ -1,5 +1,5 @@
 -- Laws of undos with their first fault: one inverse more, one barrier more, and a fault.
-use Rattle.std.specs.Prelude.{◌≡◌, ◌≢◌, ℕ, ◌+◌, ◌<◌, true, false, List, [], ◌∷◌, ◌++◌, Option, Some, None, refl}
+use Rattle.std.specs.Prelude.{◌≡◌, ◌≢◌, ℕ, ◌+◌, ◌^◌, ◌<◌, true, false, List, [], ◌∷◌, ◌++◌, Option, Some, None, refl}
 use Rattle.std.proofs.Common.{sym, ap, ◌∙◌, subst, append_assoc, eq-eqb, inl, inr, arith}
 use Rattle.std.proofs.lemmas.Bool.{ne_eqb, cases_eq}
 use Rattle.std.proofs.lemmas.List.{append-nil}
@@ -14,7 +14,7 @@ use Rattle.net_txn.specs.Net.{next_xid, inverse_bytes}
 use Rattle.net_txn.specs.Waits.{barrier_sent}
 use Rattle.net_txn.specs.FareLaws.{fare_of-other, inverses_in-other}
 use Rattle.net_txn.specs.QuietLaws.{IsFaultOf-behind}
-use Rattle.net_txn.specs.Undos.{alone, AreBefore, Moves, Fails, Settles, Inverse, Settled, Stuck, parts_of, since_of, inverses_of, first_fault, first_fault_of, fare_of, inverses_in, is_viewed, Further, Pending, IsRoomLeft, KeptSome}
+use Rattle.net_txn.specs.Undos.{CanBeSent, alone, AreBefore, Moves, Fails, Settles, Inverse, Settled, Stuck, parts_of, since_of, inverses_of, first_fault, first_fault_of, fare_of, inverses_in, is_viewed, Further, Pending, IsRoomLeft, KeptSome}
 use Rattle.net_txn.specs.UndoLaws.{SameFor, Undoing-part, Undoing-none, Undoing-skipped, Stands-inverse, Stands-stuck, Stands-settled}
 
 pub first_or_none : (o : Option TxnFault) → first_fault_of o None ≡ o
@@ -55,8 +55,8 @@ Further-of d p known few = record {
 -- its inverse is sent
 pub Further-inverse : {Own : Type 0} {Tells : Type 0} {views : List TableView} {base now next : Seen Own} {x y : ℕ} {played : List Logged} {fault : Option TxnFault} (d : ℕ) (e : Logged)
     → Further Tells views base now x y played fault → is_viewed d views ≡ true → (fare_of d played).failed ≡ false → e.dpid ≡ d → e.fare.xid ≡ y → e.fare.failed ≡ false → ((fare_of d played).since < 4096 → e.fare.since ≡ (fare_of d played).since + 1)
-    → Moves Tells d (Acted (Sent d (inverse_bytes y e.key)) ∷ []) now next → Pending Tells views base next x (next_xid y) (e ∷ played) fault d
-Further-inverse {Tells = Tells} {views = views} {base = base} {now = now} {next = next} {y = y} {played = played} d e f known unfailed is numbered well more m =
+    → CanBeSent e.fare.xid e.key → Moves Tells d (Acted (Sent d (inverse_bytes y e.key)) ∷ []) now next → Pending Tells views base next x (next_xid y) (e ∷ played) fault d
+Further-inverse {Tells = Tells} {views = views} {base = base} {now = now} {next = next} {y = y} {played = played} d e f known unfailed is numbered well more can m =
     let s = f.undoing.stands d in
     let free = sym (s.stuck known) ∙ unfailed in
     let few = f.few d in
@@ -65,7 +65,7 @@ Further-inverse {Tells = Tells} {views = views} {base = base} {now = now} {next 
     record {
       parts = (d, Inverse e.fare.xid e.key) ∷ f.parts;
       undoing = Undoing-part d (Inverse e.fare.xid e.key) (e ∷ played) f.undoing m2 numbered (λ c other. (fare_of-other c e played (λ same. other (same ∙ is)), inverses_in-other c e played (λ same. other (same ∙ is))))
-          (Stands-inverse (is_viewed d views) d base.counts now.counts next.counts (parts_of d f.parts) played e f.undoing.continues.none_fell m.continues.none_fell s known free few is well since);
+          (Stands-inverse (is_viewed d views) d base.counts now.counts next.counts (parts_of d f.parts) played e f.undoing.continues.none_fell m.continues.none_fell s known free can few is well since);
       few = λ c other. rw (ne_eqb d c (λ same. other (sym same))) (f.few c);
       free = rw (eq-eqb d d refl) refl;
       fault_so = f.fault_so ∙ sym (first_or_none (first_fault f.parts));
@@ -73,15 +73,15 @@ Further-inverse {Tells = Tells} {views = views} {base = base} {now = now} {next 
 
 -- its barrier was answered
 pub Further-settled : {Own : Type 0} {Tells : Type 0} {views : List TableView} {base now next : Seen Own} {x y : ℕ} {played : List Logged} {fault : Option TxnFault} (d : ℕ) (later : List Logged)
-    → Pending Tells views base now x y played fault d → is_viewed d views ≡ true → (fare_of d later).failed ≡ false → (fare_of d later).since ≡ 0 → inverses_in d later ≡ inverses_in d played → ((c : ℕ) → c ≢ d → SameFor c later played)
+    → y < 2 ^ 32 → Pending Tells views base now x y played fault d → is_viewed d views ≡ true → (fare_of d later).failed ≡ false → (fare_of d later).since ≡ 0 → inverses_in d later ≡ inverses_in d played → ((c : ℕ) → c ≢ d → SameFor c later played)
     → Settles Tells (alone d y) (barrier_sent (alone d y) ∷ []) (inverses_in d played) now next → Further Tells views base next x (next_xid y) later fault
-Further-settled {views = views} {base = base} {now = now} {next = next} {y = y} {played = played} d later p known unfailed none same others t =
+Further-settled {views = views} {base = base} {now = now} {next = next} {y = y} {played = played} d later lt p known unfailed none same others t =
     let s = p.undoing.stands d in
     let before = subst (λ (ps : List (ℕ × Key)). AreBefore (alone d y) ps t.got) (s.inverses known p.free) t.before in
     record {
       parts = (d, Settled y t.got) ∷ p.parts;
       undoing = Undoing-part d (Settled y t.got) later p.undoing t.moves refl others
-          (Stands-settled (is_viewed d views) d y base.counts now.counts next.counts (parts_of d p.parts) played later t.got p.undoing.continues.none_fell t.moves.continues.none_fell s known p.free (record { few = t.few; before = before }) unfailed none same);
+          (Stands-settled (is_viewed d views) d y base.counts now.counts next.counts (parts_of d p.parts) played later t.got p.undoing.continues.none_fell t.moves.continues.none_fell s known p.free (record { is_xid = lt; few = t.few; before = before }) unfailed none same);
       few = λ c. elim (cases_eq c d) [ inl mine ↦ rw (eq-eqb d c (sym mine)) (omega arith) | inr other ↦ rw (ne_eqb d c (λ is. other (sym is))) (p.few c other) ];
       fault_so = p.fault_so ∙ sym (first_or_none (first_fault p.parts));
     }

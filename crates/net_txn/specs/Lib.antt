@@ -33,3 +33,4 @@ pub mod UndoLaws
 pub mod FurtherLaws
 pub mod PlayLaws
 pub mod WholeLaws
+pub mod PartLaws

@@ -1,5 +1,5 @@
 -- Laws of a log whose inverses are played: what a fare that is noted at a place leaves of an undo.
-use Rattle.std.specs.Prelude.{◌≡◌, ℕ, ◌+◌, ◌<◌, Bool, true, false, List, [], ◌∷◌, length, drop, Option, Some, None, Result, Ok, Err, OnOk, IfErr, is_err, refl}
+use Rattle.std.specs.Prelude.{◌≡◌, ℕ, ◌+◌, ◌^◌, ◌<◌, Bool, true, false, List, [], ◌∷◌, length, drop, Option, Some, None, Result, Ok, Err, OnOk, IfErr, is_err, refl}
 use Rattle.std.proofs.Common.{suc, get_or, set, sym, ap, ◌∙◌, subst, inl, inr, arith}
 use Rattle.std.proofs.lemmas.Bool.{cases_eq}
 use Rattle.std.proofs.Math.Seq.{drop-cons}
@@ -46,15 +46,15 @@ stuck_at log later at f e fault lt is failed step u known unfailed fails =
     rw (marked_front log later at f e lt is, step) (Further-stuck d (g ∷ played) fault (Pending-of d u known unfailed) known (ap (λ (h : Fare). h.failed) (fare_of-same d g played refl) ∙ failed)
     (λ c other. (fare_of-other c g played other, inverses_in-other c g played other)) fails)
 
-pub sent_at : {Own : Type 0} {Tells : Type 0} {views : List TableView} {base now next : Seen Own} {x y z : ℕ} {fault : Option TxnFault} (log later : List Logged) (at : ℕ) (f : Fare) (e : Logged) → at < length log → later ≡ set log at (with_fare f (get_or log at e)) → f.failed ≡ false → f.xid ≡ y → z ≡ next_xid y
+pub sent_at : {Own : Type 0} {Tells : Type 0} {views : List TableView} {base now next : Seen Own} {x y z : ℕ} {fault : Option TxnFault} (log later : List Logged) (at : ℕ) (f : Fare) (e : Logged) → at < length log → later ≡ set log at (with_fare f (get_or log at e)) → f.failed ≡ false → f.xid ≡ y → y < 2 ^ 32 → (get_or log at e).key.priority < 2 ^ 16 → z ≡ next_xid y
     → Further Tells views base now x y (drop (at + 1) log) fault → is_viewed (get_or log at e).dpid views ≡ true → (fare_of (get_or log at e).dpid (drop (at + 1) log)).failed ≡ false
     → ((fare_of (get_or log at e).dpid (drop (at + 1) log)).since < 4096 → f.since ≡ (fare_of (get_or log at e).dpid (drop (at + 1) log)).since + 1)
     → Moves Tells (get_or log at e).dpid (Acted (Sent (get_or log at e).dpid (inverse_bytes f.xid (get_or log at e).key)) ∷ []) now next → Pending Tells views base next x z (drop at later) fault (get_or log at e).dpid
-sent_at {Tells = Tells} {now = now} {next = next} log later at f e lt is well numbered step u known unfailed more m =
+sent_at {Tells = Tells} {now = now} {next = next} log later at f e lt is well numbered lt_xid lt_priority step u known unfailed more m =
     let d = (get_or log at e).dpid in
     let g = with_fare f (get_or log at e) in
     let n = subst (λ (i : ℕ). Moves Tells d (Acted (Sent d (inverse_bytes i g.key)) ∷ []) now next) numbered m in
-    rw (marked_front log later at f e lt is, step) (Further-inverse d g u known unfailed refl numbered well more n)
+    rw (marked_front log later at f e lt is, step) (Further-inverse d g u known unfailed refl numbered well more (record { is_xid = omega (arith, numbered, lt_xid); priority = lt_priority }) n)
 
 pub few_at : {Own : Type 0} {Tells : Type 0} {views : List TableView} {base now : Seen Own} {x y : ℕ} {fault : Option TxnFault} (log later : List Logged) (at : ℕ) (f : Fare) (e : Logged) → at < length log → later ≡ set log at (with_fare f (get_or log at e)) → f.since < 4096
     → Pending Tells views base now x y (drop at later) fault (get_or log at e).dpid → is_viewed (get_or log at e).dpid views ≡ true → Further Tells views base now x y (drop at later) fault
@@ -71,14 +71,14 @@ settled e = with_fare (record { xid = e.fare.xid; since = 0; failed = false }) e
 abbrev pub failed_at : Logged → Logged
 failed_at e = with_fare (record { xid = e.fare.xid; since = 0; failed = true }) e
 
-pub settled_in : {Own : Type 0} {Tells : Type 0} {views : List TableView} {base now next : Seen Own} {x y z : ℕ} {fault : Option TxnFault} (d : ℕ) (played : List Logged) (j : ℕ) (e : Logged) → IsFareAt d played j → z ≡ next_xid y
+pub settled_in : {Own : Type 0} {Tells : Type 0} {views : List TableView} {base now next : Seen Own} {x y z : ℕ} {fault : Option TxnFault} (d : ℕ) (played : List Logged) (j : ℕ) (e : Logged) → IsFareAt d played j → y < 2 ^ 32 → z ≡ next_xid y
     → Pending Tells views base now x y played fault d → is_viewed d views ≡ true → Settles Tells (alone d y) (barrier_sent (alone d y) ∷ []) (inverses_in d played) now next → Further Tells views base next x z (set played j (settled (get_or played j e))) fault
-settled_in d played j e at step p known t =
+settled_in d played j e at lt_xid step p known t =
     let g = settled (get_or played j e) in
     let is = IsFareAt-dpid d played j e at in
     let lt = IsFareAt-within d played j at in
     let fare = fare_of-set d played j g at is in
-    rw step (Further-settled d (set played j g) p known (ap (λ (h : Fare). h.failed) fare) (ap (λ (h : Fare). h.since) fare) (inverses_in-set d played j e g lt refl refl refl)
+    rw step (Further-settled d (set played j g) lt_xid p known (ap (λ (h : Fare). h.failed) fare) (ap (λ (h : Fare). h.since) fare) (inverses_in-set d played j e g lt refl refl refl)
     (λ c other. (fare_of-set_other d c played j g at is other, inverses_in-set c played j e g lt refl refl refl)) t)
 
 pub stuck_in : {Own : Type 0} {Tells : Type 0} {views : List TableView} {base now next : Seen Own} {x y z : ℕ} {before : Option TxnFault} (d : ℕ) (played : List Logged) (j : ℕ) (e : Logged) (fault : TxnFault) → IsFareAt d played j → z ≡ next_xid y
@@ -95,28 +95,28 @@ unfaulted {Tells = Tells} {views = views} {base = base} {now = now} {x = x} {y =
     subst (λ (o : Option TxnFault). Further Tells views base now x y played o) (sym (first_or_none fault)) u
 
 -- whichever it was
-pub settle_in : {Own : Type 0} {Tells : Type 0} {views : List TableView} {base now next : Seen Own} {x y z : ℕ} {before : Option TxnFault} (d : ℕ) (played : List Logged) (j : ℕ) (e : Logged) (r : Result (Unit {0}) Trouble) (buf : List ℕ) → IsFareAt d played j → z ≡ next_xid y
+pub settle_in : {Own : Type 0} {Tells : Type 0} {views : List TableView} {base now next : Seen Own} {x y z : ℕ} {before : Option TxnFault} (d : ℕ) (played : List Logged) (j : ℕ) (e : Logged) (r : Result (Unit {0}) Trouble) (buf : List ℕ) → IsFareAt d played j → y < 2 ^ 32 → z ≡ next_xid y
     → Pending Tells views base now x y played before d → is_viewed d views ≡ true
     → OnOk r (Settles Tells (alone d y) (barrier_sent (alone d y) ∷ []) (inverses_in d played) now next) → IfErr r (λ t. Fails Tells d (inverses_in d played) now next (fault_by d t buf))
     → Further Tells views base next x z (set played j (with_fare (record { xid = (get_or played j e).fare.xid; since = 0; failed = is_err r }) (get_or played j e))) (first_fault_of before (fault_of d r buf))
-settle_in d played j e (Ok u) buf at step p known ok err = unfaulted (settled_in d played j e at step p known ok)
-settle_in d played j e (Err t) buf at step p known ok err = stuck_in d played j e (fault_by d t buf) at step p known err
+settle_in d played j e (Ok u) buf at lt_xid step p known ok err = unfaulted (settled_in d played j e at lt_xid step p known ok)
+settle_in d played j e (Err t) buf at lt_xid step p known ok err = stuck_in d played j e (fault_by d t buf) at step p known err
 
 -- the inverse was sent just before
 pub settle_played : {Own : Type 0} {Tells : Type 0} {views : List TableView} {base now next : Seen Own} {x y z : ℕ} {before : Option TxnFault} (d : ℕ) (log later : List Logged) (at : ℕ) (e : Logged) (r : Result (Unit {0}) Trouble) (buf : List ℕ) → at < length log → (get_or log at e).dpid ≡ d
-    → later ≡ set log at (with_fare (record { xid = (get_or log at e).fare.xid; since = 0; failed = is_err r }) (get_or log at e)) → z ≡ next_xid y
+    → later ≡ set log at (with_fare (record { xid = (get_or log at e).fare.xid; since = 0; failed = is_err r }) (get_or log at e)) → y < 2 ^ 32 → z ≡ next_xid y
     → Pending Tells views base now x y (drop at log) before d → is_viewed d views ≡ true
     → OnOk r (Settles Tells (alone (get_or log at e).dpid y) (barrier_sent (alone (get_or log at e).dpid y) ∷ []) (inverses_in (get_or log at e).dpid (drop at log)) now next)
     → IfErr r (λ t. Fails Tells (get_or log at e).dpid (inverses_in (get_or log at e).dpid (drop at log)) now next (fault_by (get_or log at e).dpid t buf))
     → Further Tells views base next x z (drop at later) (first_fault_of before (fault_of d r buf))
-settle_played {Tells = Tells} {views = views} {base = base} {now = now} {next = next} {x = x} {y = y} {z = z} {before = before} d log later at e r buf lt is marked step p known ok err =
+settle_played {Tells = Tells} {views = views} {base = base} {now = now} {next = next} {x = x} {y = y} {z = z} {before = before} d log later at e r buf lt is marked lt_xid step p known ok err =
     let played = drop at log in
     let front = drop_at log at e lt in
     let here : IsFareAt d played 0 = subst (λ (xs : List Logged). IsFareAt d xs 0) (sym front) is in
     let first : get_or played 0 e ≡ get_or log at e = ap (λ (xs : List Logged). get_or xs 0 e) front in
     let ok2 = subst (λ (n : ℕ). OnOk r (Settles Tells (alone n y) (barrier_sent (alone n y) ∷ []) (inverses_in n played) now next)) is ok in
     let err2 = subst (λ (n : ℕ). IfErr r (λ t. Fails Tells n (inverses_in n played) now next (fault_by n t buf))) is err in
-    let u = settle_in d played 0 e r buf here step p known ok2 err2 in
+    let u = settle_in d played 0 e r buf here lt_xid step p known ok2 err2 in
     let g : Fare = record { xid = (get_or log at e).fare.xid; since = 0; failed = is_err r } in
     let same : set played 0 (with_fare (record { xid = (get_or played 0 e).fare.xid; since = 0; failed = is_err r }) (get_or played 0 e)) ≡ drop at later =
     ap (λ (h : Logged). set played 0 (with_fare (record { xid = h.fare.xid; since = 0; failed = is_err r }) h)) first
@@ -125,18 +125,18 @@ settle_played {Tells = Tells} {views = views} {base = base} {now = now} {next = 
 
 -- the switch of the newest inverse that was played to it
 pub settle_placed : {Own : Type 0} {Tells : Type 0} {views : List TableView} {base now next : Seen Own} {x y z : ℕ} {before : Option TxnFault} (d i : ℕ) (log later : List Logged) (at : ℕ) (e : Logged) (r : Result (Unit {0}) Trouble) (buf : List ℕ) → IsFareAt d log at
-    → later ≡ set log at (with_fare (record { xid = (get_or log at e).fare.xid; since = 0; failed = is_err r }) (get_or log at e)) → z ≡ next_xid y → i ≡ y
+    → later ≡ set log at (with_fare (record { xid = (get_or log at e).fare.xid; since = 0; failed = is_err r }) (get_or log at e)) → y < 2 ^ 32 → z ≡ next_xid y → i ≡ y
     → Further Tells views base now x y log before → is_viewed d views ≡ true → (get_or log at e).fare.failed ≡ false
     → OnOk r (Settles Tells (alone (get_or log at e).dpid i) (barrier_sent (alone (get_or log at e).dpid i) ∷ []) (inverses_in (get_or log at e).dpid log) now next)
     → IfErr r (λ t. Fails Tells (get_or log at e).dpid (inverses_in (get_or log at e).dpid log) now next (fault_by (get_or log at e).dpid t buf))
     → Further Tells views base next x z later (first_fault_of before (fault_of d r buf))
-settle_placed {Tells = Tells} {now = now} {next = next} {y = y} d i log later at e r buf here marked step taken u known unfailed ok err =
+settle_placed {Tells = Tells} {now = now} {next = next} {y = y} d i log later at e r buf here marked lt_xid step taken u known unfailed ok err =
     let is = IsFareAt-dpid d log at e here in
     let free = ap (λ (f : Fare). f.failed) (fare_of-at d log at e here) ∙ unfailed in
     let ok1 = subst (λ (n : ℕ). OnOk r (Settles Tells (alone (get_or log at e).dpid n) (barrier_sent (alone (get_or log at e).dpid n) ∷ []) (inverses_in (get_or log at e).dpid log) now next)) taken ok in
     let ok2 = subst (λ (n : ℕ). OnOk r (Settles Tells (alone n y) (barrier_sent (alone n y) ∷ []) (inverses_in n log) now next)) is ok1 in
     let err2 = subst (λ (n : ℕ). IfErr r (λ t. Fails Tells n (inverses_in n log) now next (fault_by n t buf))) is err in
-    rw marked (settle_in d log at e r buf here step (Pending-of d u known free) known ok2 err2)
+    rw marked (settle_in d log at e r buf here lt_xid step (Pending-of d u known free) known ok2 err2)
 
 -- and no inverse stands behind its barrier
 pub settled_here : (d : ℕ) (log later : List Logged) (at : ℕ) (e : Logged) (f : Fare) → IsFareAt d log at → later ≡ set log at (with_fare f (get_or log at e)) → f.since ≡ 0 → IsSettledIn d later

@@ -15,7 +15,7 @@ use Rattle.net_txn.specs.declared.logged.Fare.{Fare}
 use Rattle.net_txn.specs.declared.logged.Logged.{Logged}
 use Rattle.net_txn.specs.Net.{next_xid}
 use Rattle.net_txn.specs.FareLaws.{fare_of-same, fare_of-other, inverses_in-same, inverses_in-other}
-use Rattle.net_txn.specs.Undos.{IsFaultOf, IsStuckBy, IsSettled, Moves, Part, Inverse, Settled, Stuck, part_steps, steps_of, parts_of, xid_of, is_stuck, since_of, inverses_of, IsRun, fare_of, inverses_in, is_viewed, Stands, Undoing}
+use Rattle.net_txn.specs.Undos.{CanBeSent, IsFaultOf, IsStuckBy, IsSettled, Moves, Part, Inverse, Settled, Stuck, part_steps, steps_of, parts_of, xid_of, is_stuck, since_of, inverses_of, IsRun, fare_of, inverses_in, is_viewed, Stands, Undoing}
 
 -- ---- Later
 
@@ -29,7 +29,7 @@ IsFaultOf-later d sent old mid new steps NoMemory up after cause =
 
 IsRun-later : (d : ℕ) (old mid new : Counts) (parts : List Part) → NoneFell old mid → NoneFell mid new → IsRun old mid d parts → IsRun old new d parts
 IsRun-later d old mid new [] up after run = tt
-IsRun-later d old mid new (Inverse xid k ∷ older) up after run = (run.0, run.1, IsRun-later d old mid new older up after run.2)
+IsRun-later d old mid new (Inverse xid k ∷ older) up after run = (run.0, run.1, run.2, IsRun-later d old mid new older up after run.3)
 IsRun-later d old mid new (Settled xid got ∷ older) up after run = (run.0, run.1, IsRun-later d old mid new older up after run.2)
 IsRun-later d old mid new (Stuck xid fault steps ∷ older) up after run =
     (record { each = run.0.each; cause = IsFaultOf-later d (inverses_of older) old mid new steps fault up after run.0.cause }, run.1, IsRun-later d old mid new older up after run.2)
@@ -81,11 +81,11 @@ Undoing-part {Tells = Tells} {views = views} {base = base} {now = now} {next = n
 no_view : (known : Bool) (X : Type 0) → known ≡ true → known ≡ false → X
 no_view known X is other = absurd cc
 
-pub Stands-inverse : (known : Bool) (d : ℕ) (old mid new : Counts) (parts : List Part) (played : List Logged) (e : Logged) → NoneFell old mid → NoneFell mid new → Stands known d old mid parts played → known ≡ true → is_stuck parts ≡ false → since_of parts < 4096
+pub Stands-inverse : (known : Bool) (d : ℕ) (old mid new : Counts) (parts : List Part) (played : List Logged) (e : Logged) → NoneFell old mid → NoneFell mid new → Stands known d old mid parts played → known ≡ true → is_stuck parts ≡ false → CanBeSent e.fare.xid e.key → since_of parts < 4096
     → e.dpid ≡ d → e.fare.failed ≡ false → e.fare.since ≡ (fare_of d played).since + 1 → Stands known d old new (Inverse e.fare.xid e.key ∷ parts) (e ∷ played)
-Stands-inverse known d old mid new parts played e up after s known_so free few is unfailed more = record {
+Stands-inverse known d old mid new parts played e up after s known_so free can few is unfailed more = record {
   unknown = λ no. no_view known _ known_so no;
-  run = (few, free, IsRun-later d old mid new parts up after s.run);
+  run = (can, few, free, IsRun-later d old mid new parts up after s.run);
   stuck = λ k. ap (λ (f : Fare). f.failed) (fare_of-same d e played is) ∙ unfailed;
   since = λ k n. ap (λ (f : Fare). f.since) (fare_of-same d e played is) ∙ more ∙ ap (λ (n : ℕ). n + 1) (s.since k free);
   inverses = λ k n. inverses_in-same d e played is ∙ ap (λ (ps : List (ℕ × Key)). (e.fare.xid, e.key) ∷ ps) (s.inverses k free);

@@ -1,7 +1,7 @@
 -- How logged additions are undone: newest first over all switches each key is removed again (OpenFlow 1.0.0, 5.3.3 Modify State
 -- Messages: DELETE_STRICT), with barriers behind (5.3.7 Barrier Message). A switch that fails is left alone from then on. What is
 -- done is a list of parts, newest first, as the log is read from its end. All of this is our own choice.
-use Rattle.std.specs.Prelude.{◌≡◌, ◌≢◌, ◌==◌, ℕ, ◌+◌, ◌<◌, ◌≤◌, Bool, true, false, List, [], ◌∷◌, ◌++◌, length, take, drop, map, Option, Some, None, Result, Ok, Err, IsOk, IsErr, if◌then◌else◌}
+use Rattle.std.specs.Prelude.{◌≡◌, ◌≢◌, ◌==◌, ℕ, ◌+◌, ◌^◌, ◌<◌, ◌≤◌, Bool, true, false, List, [], ◌∷◌, ◌++◌, length, take, drop, map, Option, Some, None, Result, Ok, Err, IsOk, IsErr, if◌then◌else◌}
 use Rattle.std.specs.List.{AllByRecursion, list_any}
 use Rattle.std.proofs.Common.{zero, suc}
 use Rattle.lego_io.specs.Count.{Rose}
@@ -194,8 +194,14 @@ inverses_of (Inverse xid k ∷ older) = (xid, k) ∷ inverses_of older
 inverses_of (p ∷ older) = inverses_of older
 
 pub record IsSettled (d xid : ℕ) (sent : List (ℕ × Key)) (got : List (List ℕ)) : Type 0 where
+  pub is_xid : xid < 2 ^ 32
   pub few : length got ≤ 65535
   pub before : AreBefore (alone d xid) sent got
+
+-- its numbers fit their fields (5.1 OpenFlow Header and 5.3.3 Modify State Messages)
+pub record CanBeSent (xid : ℕ) (k : Key) : Type 0 where
+  pub is_xid : xid < 2 ^ 32
+  pub priority : k.priority < 2 ^ 16
 
 pub record IsStuckBy (d : ℕ) (sent : List (ℕ × Key)) (old new : Counts) (fault : TxnFault) (steps : List WorldStep) : Type 0 where
   pub each : AllByRecursion (IsStepOf d) steps
@@ -205,7 +211,7 @@ pub record IsStuckBy (d : ℕ) (sent : List (ℕ × Key)) (old new : Counts) (fa
 -- fault, which has its cause in the calls between.
 abbrev pub IsRun : Counts → Counts → ℕ → List Part → Type 0
 IsRun old new d [] = Unit {0}
-IsRun old new d (Inverse xid k ∷ older) = (since_of older < 4096) × (is_stuck older ≡ false) × IsRun old new d older
+IsRun old new d (Inverse xid k ∷ older) = CanBeSent xid k × (since_of older < 4096) × (is_stuck older ≡ false) × IsRun old new d older
 IsRun old new d (Settled xid got ∷ older) = IsSettled d xid (inverses_of older) got × (is_stuck older ≡ false) × IsRun old new d older
 IsRun old new d (Stuck xid fault steps ∷ older) = IsStuckBy d (inverses_of older) old new fault steps × (is_stuck older ≡ false) × IsRun old new d older
 

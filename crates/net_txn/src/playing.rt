@@ -1,6 +1,6 @@
 //! The inverses of a log, played newest first.
 
-ghost use Rattle.std.specs.Prelude.{◌≡◌, ◌+◌, ◌<◌, ◌≤◌, ℕ, true, false, List, [], ◌∷◌, length, drop, map, Option, IfErr, OnOk, is_err, slice_index_or, slice_set};
+ghost use Rattle.std.specs.Prelude.{◌≡◌, ◌+◌, ◌^◌, ◌<◌, ◌≤◌, ℕ, true, false, List, [], ◌∷◌, length, drop, map, Option, IfErr, OnOk, is_err, slice_index_or, slice_set};
 ghost use Rattle.outside.specs.Seen.{Seen};
 ghost use Rattle.flow_table.specs.declared.view.TableView.{TableView};
 ghost use Rattle.net_txn.specs.declared.fault.TxnFault.{TxnFault};
@@ -67,8 +67,10 @@ fn send_at<W: World>(
         IfErr result (λ t. Fails W.Tells entry.dpid sent (W.seen world.old) (W.seen world.new) (fault_by entry.dpid t buf)) }
     ensures marked { (e : Logged) → log.new ≡ slice_set log.old at (with_fare (record { xid = xid; since = since; failed = is_err result }) (slice_index_or log.old at e)) }
     ensures same { map but_fare log.new ≡ map but_fare log.old }
+    ensures priority { (e : Logged) → (slice_index_or log.old at e).key.priority < 2 ^ 16 }
 {
     let dpid = log[at].dpid;
+    let _priority = log[at].key.priority;
     let inverse = inverse_of(alloc, &log[at].key, xid);
     let sent = send(world, dpid, &inverse);
     let fare = Fare {

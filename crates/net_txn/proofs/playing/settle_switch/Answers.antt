@@ -1,4 +1,4 @@
-use Rattle.std.proofs.Common.{refl}
+use Rattle.std.proofs.Common.{refl, arith}
 use Rattle.net_txn.specs.PlayLaws.{settle_placed, settled_here, settled_there, settled_failed, settled_none}
 use Rattle.net_txn.proofs.playing.settle_switch.Goals as goal
 
@@ -12,7 +12,7 @@ pub returns-clause-undoing : goal.returns-clause-undoing
 returns-clause-undoing g c = λ base views x fault u known.
     let e = c.index-log-at.result in
     let s = c.settle_at.ensures in
-    settle_placed c.args.dpid c.take_xid-id.result c.args.log.now c.settle_at.new.log c.in-Some.at e c.settle_at.result c.settle_at.new.buf c.in-Some.ensures.place (s.marked e) c.take_xid-id.ensures.next c.take_xid-id.ensures.taken u known
+    settle_placed c.args.dpid c.take_xid-id.result c.args.log.now c.settle_at.new.log c.in-Some.at e c.settle_at.result c.settle_at.new.buf c.in-Some.ensures.place (s.marked e) (omega arith) c.take_xid-id.ensures.next c.take_xid-id.ensures.taken u known
     c.if-log-at.false (s.ok e) (s.err e)
 
 pub returns-clause-settled : goal.returns-clause-settled
