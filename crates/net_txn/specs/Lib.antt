@@ -34,3 +34,5 @@ pub mod FurtherLaws
 pub mod PlayLaws
 pub mod WholeLaws
 pub mod PartLaws
+pub mod NoticeLaws
+pub mod RestoreLaws

@@ -64,7 +64,7 @@ gots_other_waits d e (b ∷ bs) t other = gots_other_waits d e bs (after_step (A
 some_is : (a b : List ℕ) → Some a ≡ Some b → a ≡ b
 some_is a b e = cc
 
-first_got : (declared : List Declared) (d : ℕ) (b w : List ℕ) (ws : List (List ℕ)) (rest : List WorldStep) (t : State) → waits_of d t ≡ w ∷ ws → MaySteps declared (Acted (Got d b) ∷ rest) t → b ≡ w
+pub first_got : (declared : List Declared) (d : ℕ) (b w : List ℕ) (ws : List (List ℕ)) (rest : List WorldStep) (t : State) → waits_of d t ≡ w ∷ ws → MaySteps declared (Acted (Got d b) ∷ rest) t → b ≡ w
 unfolding MayStep MayAct
 first_got declared d b w ws rest t is may = some_is b w (sym may.0.0 ∙ ap (λ (xs : List (List ℕ)). slice_get xs 0) is)
 
