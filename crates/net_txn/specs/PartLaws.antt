@@ -16,16 +16,13 @@ use Rattle.outside.specs.declared.step.WorldStep.TheVariants.{Acted, TookInto, F
 use Rattle.outside.specs.State.{Link, State, after_step, after_steps, after_act, switch_of, switch_in, waits_of, waits_in, link_failed}
 use Rattle.outside.specs.LinkLaws.{KeepsDeclared, link_of-other, switch_of-sent_other, waits_of-sent_other, switch_of-got_other, waits_of-got_other}
 use Rattle.net_txn.specs.Net.{delete_strict, inverse_bytes}
-use Rattle.net_txn.specs.Undos.{IsStepOf, CanBeSent}
+use Rattle.net_txn.specs.Undos.{SameSwitch, IsStepOf, CanBeSent}
 
 -- ---- Steps of another switch
 
 keeps_failed : KeepsDeclared link_failed
 unfolding link_failed
 keeps_failed l = refl
-
-abbrev pub SameSwitch : ℕ → State → State → Type 0
-SameSwitch c t u = (switch_of c u ≡ switch_of c t) × (waits_of c u ≡ waits_of c t)
 
 act_other : (d c : ℕ) (act : Act) (t : State) → c ≢ d → IsStepOf d (Acted act) → SameSwitch c t (after_step (Acted act) t)
 act_other d c (Stim x) t other of = absurd of

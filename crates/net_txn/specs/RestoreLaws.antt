@@ -10,15 +10,20 @@ use Rattle.of_wire.specs.declared.message.Message.TheVariants.{FlowMod, BarrierR
 use Rattle.of_wire.specs.Spelling.{message_bytes}
 use Rattle.of_wire.specs.ReadingLaws.{reading_of-message_bytes}
 use Rattle.flow_table.specs.declared.entry.Entry.{Entry}
+use Rattle.flow_table.specs.Table.{TableState, IsTable}
+use Rattle.flow_table.specs.Undone.{undone}
 use Rattle.flow_table.specs.Switch.{Declared, SwitchState}
 use Rattle.flow_table.specs.Step.{sent_by_message}
 use Rattle.outside.specs.declared.step.WorldStep.{WorldStep}
 use Rattle.outside.specs.declared.step.WorldStep.TheVariants.{Acted}
-use Rattle.outside.specs.Seen.{Counts}
-use Rattle.outside.specs.State.{State, after_step, after_steps, switch_of, waits_of}
-use Rattle.outside.specs.StateLaws.{after_steps-append, MaySteps-front, MaySteps-rest}
-use Rattle.outside.specs.Conforming.{MaySteps}
-use Rattle.exact_undo.specs.Removal.{without, without_all}
+use Rattle.outside.specs.Seen.{Counts, Seen}
+use Rattle.outside.specs.State.{State, at_first, after_step, after_steps, state, switch_of, waits_of}
+use Rattle.outside.specs.StateLaws.{after_steps-append, MaySteps-front, MaySteps-rest, Conforming-rest}
+use Rattle.outside.specs.Conforming.{MaySteps, Conforming}
+use Rattle.exact_undo.specs.Removal.{without, without_all, OnlyAdded}
+use Rattle.exact_undo.specs.RemovalLaws.{without_added, is_among-reverse}
+use Rattle.exact_undo.specs.AddedLaws.{undone-added}
+use Rattle.exact_undo.specs.Serials.{IsSerialed}
 use Rattle.net_txn.specs.declared.heard.Awaited.{Awaited}
 use Rattle.net_txn.specs.declared.heard.Heard.{Heard}
 use Rattle.net_txn.specs.declared.heard.Heard.TheVariants as hearing
@@ -27,8 +32,8 @@ use Rattle.net_txn.specs.Net.{delete_strict, inverse_bytes}
 use Rattle.net_txn.specs.Waits.{heard, steps_by, heard_steps, wait_steps, barrier_sent, reply_got}
 use Rattle.net_txn.specs.HeardLaws.{IsMessage-barrier}
 use Rattle.net_txn.specs.StepLaws.{told_switch, told_waits, barrier_sends, barrier_stays, gots, gots_switch, gots_empty}
-use Rattle.net_txn.specs.Undos.{IsStepOf, CanBeSent, IsSettled, alone, Part, Inverse, Settled, Stuck, part_steps, steps_of, parts_of, is_stuck, since_of, inverses_of, IsRun}
-use Rattle.net_txn.specs.PartLaws.{SameSwitch, steps_other, reading_of-inverse}
+use Rattle.net_txn.specs.Undos.{SameSwitch, Restored, IsStepOf, CanBeSent, IsSettled, alone, Part, Inverse, Settled, Stuck, part_steps, steps_of, parts_of, is_stuck, since_of, inverses_of, IsRun}
+use Rattle.net_txn.specs.PartLaws.{ steps_other, reading_of-inverse}
 use Rattle.net_txn.specs.NoticeLaws.{with_entries, inverse_moves, inverse_sends, AllNotices, notices_steps, notices_alone}
 
 -- ---- The steps of a part are those of its switch.
@@ -173,3 +178,67 @@ left_all declared old new d s (p ∷ older) t all free may is none =
         let free_here = subst (λ (b : Bool). is_stuck (if b then p.1 ∷ parts_of d older else parts_of d older) ≡ false) taken free in
         let l = left_same d s (parts_of d older) before (after_steps (part_steps p.0 p.1) before) (steps_other p.0 d (part_steps p.0 p.1) before (λ same. other (sym same)) each) (rest free_here) in
         subst (λ (u : State). Left d s (parts_of d (p ∷ older)) u) (sym end) (subst (λ (b : Bool). Left d s (if b then p.1 ∷ parts_of d older else parts_of d older) (after_steps (part_steps p.0 p.1) before)) (sym taken) l)
+
+-- ---- The earlier table
+
+without_all-more : (ls : List Key) (k : Key) (es : List Entry) → without_all (ls ++ k ∷ []) es ≡ without k (without_all ls es)
+without_all-more [] k es = refl
+without_all-more (l ∷ ls) k es = without_all-more ls k (without l es)
+
+abbrev pub keys_played : List Part → List Key
+keys_played parts = map (λ p. p.1) (inverses_of parts)
+
+entries_left-keys : (parts : List Part) (es : List Entry) → entries_left parts es ≡ without_all (reverse (keys_played parts)) es
+entries_left-keys [] es = refl
+entries_left-keys (Inverse xid k ∷ older) es =
+    ap (without k) (entries_left-keys older es) ∙ sym (without_all-more (reverse (keys_played older)) k es)
+    ∙ ap (λ (ls : List Key). without_all ls es) (sym (reverse-append (k ∷ []) (keys_played older)))
+entries_left-keys (Settled xid got ∷ older) es = entries_left-keys older es
+entries_left-keys (Stuck xid fault steps ∷ older) es = entries_left-keys older es
+
+pub restored_table : (parts : List Part) (keys : List Key) (s : SwitchState) (before : TableState) → keys_played parts ≡ keys → IsTable before.entries → IsSerialed s.table → OnlyAdded keys before.entries s.table.entries
+    → with_entries (entries_left parts s.table.entries) s ≡ record s { table = undone before s.table s.moment }
+restored_table parts keys s before same was is only =
+    let es = s.table.entries in
+    let now : entries_left parts es ≡ before.entries =
+    entries_left-keys parts es ∙ ap (λ (ks : List Key). without_all (reverse ks) es) same ∙ without_added keys (reverse keys) before.entries es was is.table only (is_among-reverse keys) in
+    ap (λ (xs : List Entry). with_entries xs s) now ∙ ap (λ (t : TableState). record s { table = t }) (sym (undone-added s.moment keys before s.table was is only))
+
+-- ---- From what is seen
+
+pub state_after : {Own : Type 0} (old new : Seen Own) (steps : List WorldStep) → new.given ≡ old.given → new.history ≡ old.history ++ steps → state new ≡ after_steps steps (state old)
+unfolding state
+state_after old new steps given is = rw (given, is) (after_steps-append old.history steps (at_first old.given))
+
+none_other : (old new : Counts) (d : ℕ) (parts : List (ℕ × Part)) (t : State) → AllRun old new parts → parts_of d parts ≡ [] → SameSwitch d t (after_steps (steps_of parts) t)
+none_other old new d [] t all none = (refl, refl)
+none_other old new d (p ∷ older) t all none =
+    let here = runs_here old new p older all in
+    let each = part_of old new p.0 p.1 (parts_of p.0 older) here in
+    let end = after_steps-append (steps_of older) (part_steps p.0 p.1) t in
+    let rest = none_other old new d older t (runs_older old new p older all) in
+    elim (cases_eq p.0 d) [
+      | inl same ↦ absurd (not_none (subst (λ (b : Bool). (if b then p.1 ∷ parts_of d older else parts_of d older) ≡ []) (eq-eqb p.0 d same) none))
+      | inr other ↦
+          (let r = rest (subst (λ (b : Bool). (if b then p.1 ∷ parts_of d older else parts_of d older) ≡ []) (ne_eqb p.0 d other) none) in
+          let o = steps_other p.0 d (part_steps p.0 p.1) (after_steps (steps_of older) t) (λ same. other (sym same)) each in
+          (ap (switch_of d) end ∙ o.0 ∙ r.0, ap (waits_of d) end ∙ o.1 ∙ r.1))
+    ]
+  where
+    not_none : p.1 ∷ parts_of d older ≡ [] → ⊥
+    not_none is = cc
+
+pub others_stay : {Own : Type 0} (old new : Seen Own) (d : ℕ) (parts : List (ℕ × Part)) → new.given ≡ old.given → new.history ≡ old.history ++ steps_of parts → AllRun old.counts new.counts parts → parts_of d parts ≡ [] → SameSwitch d (state old) (state new)
+others_stay old new d parts given is all none =
+    subst (λ (t : State). SameSwitch d (state old) t) (sym (state_after old new (steps_of parts) given is)) (none_other old.counts new.counts d parts (state old) all none)
+
+pub restored : {Own : Type 0} (old new : Seen Own) (d : ℕ) (s : SwitchState) (before : TableState) (keys : List Key) (parts : List (ℕ × Part)) → new.given ≡ old.given → new.history ≡ old.history ++ steps_of parts → AllRun old.counts new.counts parts → Conforming new
+    → is_stuck (parts_of d parts) ≡ false → keys_played (parts_of d parts) ≡ keys → since_of (parts_of d parts) ≡ 0 → switch_of d (state old) ≡ Some s → waits_of d (state old) ≡ [] → IsTable before.entries → IsSerialed s.table → OnlyAdded keys before.entries s.table.entries
+    → Restored d before s (state new)
+restored old new d s before keys parts given is all conforming free same none here waits was serialed only =
+    let may = Conforming-rest old new (steps_of parts) given is conforming in
+    let l = left_all old.given.declared old.counts new.counts d s parts (state old) all free may here waits in
+    subst (λ (t : State). Restored d before s t) (sym (state_after old new (steps_of parts) given is)) (record {
+      switch = l.switch ∙ ap (λ (x : SwitchState). Some x) (restored_table (parts_of d parts) keys s before same was serialed only);
+      waits = l.settled none;
+    })

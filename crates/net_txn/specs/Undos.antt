@@ -10,11 +10,18 @@ use Rattle.of_types.specs.declared.journal.Act.TheVariants.{Sent, Got}
 use Rattle.of_match.specs.declared.key.Key.{Key}
 use Rattle.of_wire.specs.Reading.{reading_of}
 use Rattle.flow_table.specs.declared.view.TableView.{TableView}
+use Rattle.flow_table.specs.Table.{TableState, IsTable}
+use Rattle.flow_table.specs.Switch.{SwitchState}
+use Rattle.flow_table.specs.Undone.{undone}
 use Rattle.outside.specs.declared.faults.LinkFault.{LinkFault}
 use Rattle.outside.specs.declared.faults.LinkFault.TheVariants as linking
 use Rattle.outside.specs.declared.step.WorldStep.{WorldStep}
 use Rattle.outside.specs.declared.step.WorldStep.TheVariants.{Acted, SendFailed, RecvFailed}
 use Rattle.outside.specs.Seen.{Counts, Seen, Continues}
+use Rattle.outside.specs.State.{State, state, switch_of, waits_of}
+use Rattle.outside.specs.Conforming.{Conforming}
+use Rattle.exact_undo.specs.Serials.{IsSerialed}
+use Rattle.exact_undo.specs.Removal.{OnlyAdded}
 use Rattle.net_txn.specs.declared.fault.TxnFault.{TxnFault}
 use Rattle.net_txn.specs.declared.fault.TxnFault.TheVariants.{SwitchFault, SwitchBroke, Diverged, Flooded, NoMemory}
 use Rattle.net_txn.specs.declared.heard.Awaited.{Awaited}
@@ -318,8 +325,19 @@ pub record IsPlayedOn (known : Bool) (d : ℕ) (old new : Counts) (keys : List K
   pub keys_so : known ≡ true → is_stuck parts ≡ false → map (λ p. p.1) (inverses_of parts) ≡ keys
   pub settled : known ≡ true → is_stuck parts ≡ false → since_of parts ≡ 0
 
+-- the switch stands as it stood, and the same messages of it wait
+abbrev pub SameSwitch : ℕ → State → State → Type 0
+SameSwitch d old new = (switch_of d new ≡ switch_of d old) × (waits_of d new ≡ waits_of d old)
+
+-- the switch has the earlier table again, all else of it stands as it stood, and nothing of it waits
+pub record Restored (d : ℕ) (before : TableState) (s : SwitchState) (new : State) : Type 0 where
+  pub switch : switch_of d new ≡ Some (record s { table = undone before s.table s.moment })
+  pub waits : waits_of d new ≡ []
+
 -- What was logged from a place on is undone and forgotten, and the views lose its keys. It goes on past a fault with the other
--- switches, and the first fault is answered.
+-- switches, and the first fault is answered. In a world that tells, no switch moves that is not joined; and where it keeps its word,
+-- each joined switch that did not fail, of which nothing waited, and whose table had but the logged keys added since an earlier one,
+-- has that table again.
 pub record Undoes {Own : Type 0} (Tells : Type 0) (start : ℕ) (old new : Seen Own) (net now_net : NetState) (result : Result (Unit {0}) TxnFault) : Type 0 where
   pub parts : List (ℕ × Part)
   pub continues : Continues Tells old new
@@ -334,3 +352,7 @@ pub record Undoes {Own : Type 0} (Tells : Type 0) (start : ℕ) (old new : Seen 
   pub moment : now_net.moment ≡ net.moment
   pub kept : KeptSome net.kept now_net.kept
   pub room : (net.room ≤ now_net.room + 1) × (IsOk result → now_net.room ≡ net.room)
+  pub others : (d : ℕ) → Tells → is_viewed d net.views ≡ false → SameSwitch d (state old) (state new)
+  pub restored : (d : ℕ) (s : SwitchState) (before : TableState) → Tells → Conforming new → is_viewed d net.views ≡ true → is_stuck (parts_of d parts) ≡ false
+      → switch_of d (state old) ≡ Some s → waits_of d (state old) ≡ [] → IsTable before.entries → IsSerialed s.table
+      → OnlyAdded (keys_of d (map but_fare (drop start net.log))) before.entries s.table.entries → Restored d before s (state new)

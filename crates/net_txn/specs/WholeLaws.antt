@@ -6,6 +6,7 @@ use Rattle.outside.specs.Seen.{Counts, Seen}
 use Rattle.net_txn.specs.declared.fault.TxnFault.{TxnFault}
 use Rattle.net_txn.specs.Net.{NetState}
 use Rattle.net_txn.specs.declared.logged.Logged.{Logged}
+use Rattle.net_txn.specs.RestoreLaws.{others_stay, restored}
 use Rattle.net_txn.specs.Undos.{Undoes, Further, KeptSome, ended_by, without_keys, is_viewed, parts_of, Part, inverses_in, keys_of, but_fare, IsSettledIn, Stands, IsPlayedOn}
 
 key_step : (here : Bool) (x : ℕ) (k : Key) (pairs : List (ℕ × Key)) (keys : List Key) → map (λ p. p.1) pairs ≡ keys → map (λ p. p.1) (if here then (x, k) ∷ pairs else pairs) ≡ (if here then k ∷ keys else keys)
@@ -31,13 +32,15 @@ pub undoes : {Own : Type 0} {Tells : Type 0} (start from : ℕ) (old new : Seen 
     → KeptSome net.kept now_net.kept → (net.room ≤ now_net.room + 1) × (IsOk result → now_net.room ≡ net.room) → Undoes Tells start old new net now_net result
 undoes start from old new net now_net result fault played front rest is f settled same views log ports moment kept room =
     let all : map but_fare played ≡ map but_fare (drop start net.log) = same ∙ ap (λ (es : List Logged). map but_fare es) rest in
+    let each : (d : ℕ) → IsPlayedOn (is_viewed d net.views) d old.counts new.counts (keys_of d (map but_fare (drop start net.log))) (parts_of d f.parts) = λ d.
+    played_on (is_viewed d net.views) d old.counts new.counts (parts_of d f.parts) played (map but_fare (drop start net.log)) all (f.undoing.stands d) (settled d) in
     record {
       parts = f.parts;
       continues = f.undoing.continues;
       told = f.undoing.told;
       xid = f.undoing.next;
       numbered = f.undoing.numbered;
-      each = λ d. played_on (is_viewed d net.views) d old.counts new.counts (parts_of d f.parts) played (map but_fare (drop start net.log)) all (f.undoing.stands d) (settled d);
+      each = each;
       result_so = is ∙ ap ended_by f.fault_so;
       log = log ∙ front;
       views = views ∙ ap (λ (es : List Logged). without_keys (map but_fare es) net.views) rest;
@@ -45,4 +48,8 @@ undoes start from old new net now_net result fault played front rest is f settle
       moment = moment;
       kept = kept;
       room = room;
+      others = λ d told unknown. others_stay old new d f.parts f.undoing.continues.given (f.undoing.told told) (λ c. (each c).run) ((each d).unknown unknown);
+      restored = λ d s before told conforming known free here waits was serialed only.
+          restored old new d s before (keys_of d (map but_fare (drop start net.log))) f.parts f.undoing.continues.given (f.undoing.told told) (λ c. (each c).run) conforming free
+          ((each d).keys_so known free) ((each d).settled known free) here waits was serialed only;
     }
