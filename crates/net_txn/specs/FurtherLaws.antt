@@ -93,7 +93,7 @@ pub Further-stuck : {Own : Type 0} {Tells : Type 0} {views : List TableView} {ba
 Further-stuck {Tells = Tells} {views = views} {base = base} {now = now} {next = next} {y = y} {played = played} d later fault p known failed others g =
     let s = p.undoing.stands d in
     let f = subst (λ (ps : List (ℕ × Key)). Fails Tells d ps now next fault) (s.inverses known p.free) g in
-    let cause = IsFaultOf-behind d (inverses_of (parts_of d p.parts)) base.counts now.counts next.counts [] f.steps fault p.undoing.continues.none_fell f.cause in
+    let cause = IsFaultOf-behind d (inverses_of (parts_of d p.parts)) base.counts now.counts next.counts f.steps fault p.undoing.continues.none_fell f.cause in
     record {
       parts = (d, Stuck y fault f.steps) ∷ p.parts;
       undoing = Undoing-part d (Stuck y fault f.steps) later p.undoing f.moves refl others

@@ -125,7 +125,7 @@ heard-notice a bytes is =
       | inr other ↦ rw (other, is.kind, is.reason) refl
     ]
 
-notice_steps : (a : Awaited) (bytes : List ℕ) → IsNotice bytes → heard_steps a bytes ≡ Acted (Got a.dpid bytes) ∷ []
+pub notice_steps : (a : Awaited) (bytes : List ℕ) → IsNotice bytes → heard_steps a bytes ≡ Acted (Got a.dpid bytes) ∷ []
 notice_steps a bytes is = rw (heard-notice a bytes is) refl
 
 pub notices_steps : (a : Awaited) (ws : List (List ℕ)) → AllNotices ws → wait_steps a ws ≡ gots a.dpid ws

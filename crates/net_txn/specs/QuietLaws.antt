@@ -1,10 +1,10 @@
 -- Laws of calls of one switch: what each leaves, one after the other, and a fault behind others.
-use Rattle.std.specs.Prelude.{◌≡◌, ℕ, ◌+◌, ◌≤◌, Bool, true, false, List, [], ◌∷◌, ◌++◌, map, take, None, Some, Result, Ok, Err, IsOk, IsErr, IfOk, OnOk, refl}
+use Rattle.std.specs.Prelude.{◌≡◌, ℕ, ◌+◌, ◌^◌, ◌<◌, ◌≤◌, Bool, true, false, List, [], ◌∷◌, ◌++◌, map, take, None, Some, Result, Ok, Err, IsOk, IsErr, IfOk, OnOk, refl}
 use Rattle.of_types.specs.Fields.{number_at}
 use Rattle.net_txn.specs.declared.trouble.Trouble.{Trouble}
 use Rattle.net_txn.specs.Net.{inverse_bytes}
 use Rattle.std.specs.List.{AllByRecursion}
-use Rattle.std.proofs.Common.{sym, ap, ◌∙◌, append_assoc, length-append, arith}
+use Rattle.std.proofs.Common.{sym, ap, ◌∙◌, subst, append_assoc, length-append, arith}
 use Rattle.std.proofs.lemmas.List.{append-nil, flat_map_more, map-append}
 use Rattle.lego_io.specs.CountLaws.{Rose-after}
 use Rattle.of_types.specs.declared.journal.Act.TheVariants.{Sent, Got}
@@ -22,9 +22,9 @@ use Rattle.net_txn.specs.declared.fault.TxnFault.TheVariants.{SwitchFault, Switc
 use Rattle.net_txn.specs.declared.heard.Awaited.{Awaited}
 use Rattle.net_txn.specs.declared.heard.Heard.{Heard}
 use Rattle.net_txn.specs.declared.heard.Heard.TheVariants.{Reply, Refused, Notice, Echo, Other}
-use Rattle.net_txn.specs.Waits.{KeptMore, heard, is_reply, steps_by, heard_steps, wait_steps, reply_got}
+use Rattle.net_txn.specs.Waits.{KeptMore, heard, is_reply, steps_by, heard_steps, wait_steps, reply_got, barrier_sent}
 use Rattle.net_txn.specs.WaitLaws.{reply_is}
-use Rattle.net_txn.specs.Undos.{fault_by, link_trouble, IsStepOf, Moves, key_refused, EndsBy, Refuses, IsFaultOf, Fails, Settles, HearsOn, HearsNext}
+use Rattle.net_txn.specs.Undos.{fault_by, link_trouble, IsStepOf, Moves, key_refused, EndsBy, Refuses, IsFaultOf, FailsAfter, AreBefore, Settles, HearsOn, HearsNext}
 
 -- ---- Calls of the world
 
@@ -32,55 +32,55 @@ pub sent_moves : {Own T : Type 0} {Tells : Type 0} {d : ℕ} {frame : List ℕ} 
 unfolding send_steps
 sent_moves x call = record { continues = Sends-continues call; each = (refl, tt); told = λ t. (call.told t).history }
 
-send_fails : {Own : Type 0} {Tells : Type 0} {d : ℕ} {frame : List ℕ} {old new : Seen Own} (T : Type 0) → (sent : List (ℕ × Key)) → Sends {T = T} Tells d frame old new (Err linking.Failed) → Fails Tells d sent old new (SwitchFault d)
+send_fails : {Own : Type 0} {Tells : Type 0} {d : ℕ} {frame : List ℕ} {old new : Seen Own} (T : Type 0) → (sent : List (ℕ × Key)) (front : List WorldStep) → Sends {T = T} Tells d frame old new (Err linking.Failed) → FailsAfter Tells d sent front old new (SwitchFault d)
 unfolding send_steps
-send_fails {d = d} T sent call = record {
+send_fails {d = d} T sent front call = record {
   steps = SendFailed d ∷ [];
   moves = record { continues = Sends-continues call; each = (refl, tt); told = λ t. (call.told t).history };
   cause = (refl, call.failed refl);
 }
 
-send_short : {Own : Type 0} {Tells : Type 0} {d : ℕ} {frame : List ℕ} {old new : Seen Own} (T : Type 0) → (sent : List (ℕ × Key)) → Sends {T = T} Tells d frame old new (Err linking.Short) → Fails Tells d sent old new NoMemory
+send_short : {Own : Type 0} {Tells : Type 0} {d : ℕ} {frame : List ℕ} {old new : Seen Own} (T : Type 0) → (sent : List (ℕ × Key)) (front : List WorldStep) → Sends {T = T} Tells d frame old new (Err linking.Short) → FailsAfter Tells d sent front old new NoMemory
 unfolding send_steps
-send_short T sent call = record {
+send_short T sent front call = record {
   steps = [];
   moves = record { continues = Sends-continues call; each = tt; told = λ t. (call.told t).history };
   cause = (call.short refl, call.short_of refl);
 }
 
-pub send_stuck : {Own : Type 0} {Tells : Type 0} {d : ℕ} {frame : List ℕ} {old new : Seen Own} (T : Type 0) → (sent : List (ℕ × Key)) (f : LinkFault) (buf : List ℕ) → Sends {T = T} Tells d frame old new (Err f) → Fails Tells d sent old new (fault_by d (link_trouble f) buf)
-send_stuck T sent linking.Failed buf call = send_fails T sent call
-send_stuck T sent linking.Short buf call = send_short T sent call
+pub send_stuck : {Own : Type 0} {Tells : Type 0} {d : ℕ} {frame : List ℕ} {old new : Seen Own} (T : Type 0) → (sent : List (ℕ × Key)) (front : List WorldStep) (f : LinkFault) (buf : List ℕ) → Sends {T = T} Tells d frame old new (Err f) → FailsAfter Tells d sent front old new (fault_by d (link_trouble f) buf)
+send_stuck T sent front linking.Failed buf call = send_fails T sent front call
+send_stuck T sent front linking.Short buf call = send_short T sent front call
 
 pub got_moves : {Own : Type 0} {Tells : Type 0} {d : ℕ} {buf : List ℕ} {old new : Seen Own} (n : ℕ) → Receives Tells d old new (Ok n) buf → Moves Tells d (Acted (Got d (take n buf)) ∷ []) old new
 unfolding receive_steps
 got_moves n call = record { continues = Receives-continues call; each = (refl, tt); told = λ t. (call.told t).history }
 
-receive_fails : {Own : Type 0} {Tells : Type 0} {d : ℕ} {buf : List ℕ} {old new : Seen Own} (sent : List (ℕ × Key)) → Receives Tells d old new (Err linking.Failed) buf → Fails Tells d sent old new (SwitchFault d)
+receive_fails : {Own : Type 0} {Tells : Type 0} {d : ℕ} {buf : List ℕ} {old new : Seen Own} (sent : List (ℕ × Key)) (front : List WorldStep) → Receives Tells d old new (Err linking.Failed) buf → FailsAfter Tells d sent front old new (SwitchFault d)
 unfolding receive_steps
-receive_fails {d = d} sent call = record {
+receive_fails {d = d} sent front call = record {
   steps = RecvFailed d ∷ [];
   moves = record { continues = Receives-continues call; each = (refl, tt); told = λ t. (call.told t).history };
   cause = (refl, call.failed refl);
 }
 
-receive_short : {Own : Type 0} {Tells : Type 0} {d : ℕ} {buf : List ℕ} {old new : Seen Own} (sent : List (ℕ × Key)) → Receives Tells d old new (Err linking.Short) buf → Fails Tells d sent old new NoMemory
+receive_short : {Own : Type 0} {Tells : Type 0} {d : ℕ} {buf : List ℕ} {old new : Seen Own} (sent : List (ℕ × Key)) (front : List WorldStep) → Receives Tells d old new (Err linking.Short) buf → FailsAfter Tells d sent front old new NoMemory
 unfolding receive_steps
-receive_short sent call = record {
+receive_short sent front call = record {
   steps = [];
   moves = record { continues = Receives-continues call; each = tt; told = λ t. (call.told t).history };
   cause = (call.short refl, call.short_of refl);
 }
 
-pub receive_stuck : {Own : Type 0} {Tells : Type 0} {d : ℕ} {buf : List ℕ} {old new : Seen Own} (sent : List (ℕ × Key)) (f : LinkFault) → Receives Tells d old new (Err f) buf → Fails Tells d sent old new (fault_by d (link_trouble f) buf)
-receive_stuck sent linking.Failed call = receive_fails sent call
-receive_stuck sent linking.Short call = receive_short sent call
+pub receive_stuck : {Own : Type 0} {Tells : Type 0} {d : ℕ} {buf : List ℕ} {old new : Seen Own} (sent : List (ℕ × Key)) (front : List WorldStep) (f : LinkFault) → Receives Tells d old new (Err f) buf → FailsAfter Tells d sent front old new (fault_by d (link_trouble f) buf)
+receive_stuck sent front linking.Failed call = receive_fails sent front call
+receive_stuck sent front linking.Short call = receive_short sent front call
 
-pub received_broke : {Own : Type 0} {Tells : Type 0} {d : ℕ} {buf : List ℕ} {old new : Seen Own} (n : ℕ) (sent : List (ℕ × Key)) → Receives Tells d old new (Ok n) buf → IsErr (reading_of (take n buf)) → Fails Tells d sent old new (SwitchBroke d (take n buf))
-received_broke {d = d} {buf = buf} n sent call broke = record {
+pub received_broke : {Own : Type 0} {Tells : Type 0} {d : ℕ} {buf : List ℕ} {old new : Seen Own} (n : ℕ) (sent : List (ℕ × Key)) (front : List WorldStep) → Receives Tells d old new (Ok n) buf → IsErr (reading_of (take n buf)) → FailsAfter Tells d sent front old new (SwitchBroke d (take n buf))
+received_broke {d = d} {buf = buf} n sent front call broke = record {
   steps = Acted (Got d (take n buf)) ∷ [];
   moves = got_moves n call;
-  cause = (refl, broke, ([], refl));
+  cause = (refl, broke, (front, refl));
 }
 
 -- ---- One after the other
@@ -102,39 +102,26 @@ Moves-then {Tells = Tells} {d = d} {first = first} {second = second} {old = old}
 pub Moves-same : {Own : Type 0} {Tells : Type 0} {d : ℕ} (first second : List WorldStep) {old new : Seen Own} → first ≡ second → Moves Tells d first old new → Moves Tells d second old new
 Moves-same first second same m = rw same at m
 
-EndsBy-behind : (d : ℕ) (bytes : List ℕ) (first steps : List WorldStep) → EndsBy d bytes steps → EndsBy d bytes (first ++ steps)
-EndsBy-behind d bytes first steps ends =
-    let got = Acted (Got d bytes) ∷ [] in
-    (first ++ ends.0, ap (λ (s : List WorldStep). first ++ s) ends.1 ∙ sym (append_assoc first ends.0 got))
-
-pub IsFaultOf-behind : (d : ℕ) (sent : List (ℕ × Key)) (old mid new : Counts) (first steps : List WorldStep) (fault : TxnFault) → NoneFell old mid → IsFaultOf d sent mid new steps fault → IsFaultOf d sent old new (first ++ steps) fault
-IsFaultOf-behind d sent old mid new first steps (SwitchFault e) before cause = (cause.0, Rose-after (old.link_faults d) (mid.link_faults d) (new.link_faults d) (before.link_faults d) cause.1)
-IsFaultOf-behind d sent old mid new first steps (SwitchBroke e bytes) before cause = (cause.0, cause.1, EndsBy-behind d bytes first steps cause.2)
-IsFaultOf-behind d sent old mid new first steps (Diverged e inverse bytes) before cause =
-    let r = cause.1 in (cause.0, record { key = r.key; of_key = r.of_key; inverse_so = r.inverse_so; last = EndsBy-behind d bytes first steps r.last })
-IsFaultOf-behind d sent old mid new first steps (Flooded e n) before cause = cause
-IsFaultOf-behind d sent old mid new first steps NoMemory before cause =
+-- what arose later arose in the whole
+pub IsFaultOf-behind : (d : ℕ) (sent : List (ℕ × Key)) (old mid new : Counts) (steps : List WorldStep) (fault : TxnFault) → NoneFell old mid → IsFaultOf d sent mid new steps fault → IsFaultOf d sent old new steps fault
+IsFaultOf-behind d sent old mid new steps (SwitchFault e) before cause = (cause.0, Rose-after (old.link_faults d) (mid.link_faults d) (new.link_faults d) (before.link_faults d) cause.1)
+IsFaultOf-behind d sent old mid new steps (SwitchBroke e bytes) before cause = cause
+IsFaultOf-behind d sent old mid new steps (Diverged e inverse bytes) before cause = cause
+IsFaultOf-behind d sent old mid new steps (Flooded e n) before cause = cause
+IsFaultOf-behind d sent old mid new steps NoMemory before cause =
     (Rose-after old.shorts mid.shorts new.shorts before.shorts cause.0, Rose-after (old.shorts_of d) (mid.shorts_of d) (new.shorts_of d) (before.shorts_of d) cause.1)
 
-pub Fails-behind : {Own : Type 0} {Tells : Type 0} {d : ℕ} {first : List WorldStep} {sent : List (ℕ × Key)} {old mid new : Seen Own} (fault : TxnFault) → Moves Tells d first old mid → Fails Tells d sent mid new fault → Fails Tells d sent old new fault
-Fails-behind {d = d} {first = first} {sent = sent} {old = old} {mid = mid} {new = new} fault m f = record {
+pub Fails-behind : {Own : Type 0} {Tells : Type 0} {d : ℕ} {front first : List WorldStep} {sent : List (ℕ × Key)} {old mid new : Seen Own} (fault : TxnFault) → Moves Tells d first old mid → FailsAfter Tells d sent (front ++ first) mid new fault → FailsAfter Tells d sent front old new fault
+Fails-behind {d = d} {front = front} {first = first} {sent = sent} {old = old} {mid = mid} {new = new} fault m f = record {
   steps = first ++ f.steps;
   moves = Moves-then m f.moves;
-  cause = IsFaultOf-behind d sent old.counts mid.counts new.counts first f.steps fault m.continues.none_fell f.cause;
-}
-
--- what was got last refuses an inverse
-pub Fails-refused : {Own : Type 0} {Tells : Type 0} {d : ℕ} {sent : List (ℕ × Key)} {old new : Seen Own} (bytes inverse : List ℕ) → Moves Tells d (Acted (Got d bytes) ∷ []) old new
-    → ((steps : List WorldStep) → EndsBy d bytes steps → Refuses d sent steps inverse bytes) → Fails Tells d sent old new (Diverged d inverse bytes)
-Fails-refused {d = d} bytes inverse m refuses = record {
-  steps = Acted (Got d bytes) ∷ [];
-  moves = m;
-  cause = (refl, refuses (Acted (Got d bytes) ∷ []) ([], refl));
+  cause = subst (λ (s : List WorldStep). IsFaultOf d sent old.counts new.counts s fault) (append_assoc front first f.steps)
+      (IsFaultOf-behind d sent old.counts mid.counts new.counts ((front ++ first) ++ f.steps) fault m.continues.none_fell f.cause);
 }
 
 -- too many messages were got
-pub Fails-flooded : {Own : Type 0} {Tells : Type 0} {d : ℕ} {sent : List (ℕ × Key)} {steps : List WorldStep} {old new : Seen Own} → Moves Tells d steps old new → Fails Tells d sent old new (Flooded d 65536)
-Fails-flooded {steps = steps} m = record { steps = steps; moves = m; cause = (refl, refl) }
+pub Fails-flooded : {Own : Type 0} {Tells : Type 0} {d : ℕ} {sent : List (ℕ × Key)} {steps : List WorldStep} {old new : Seen Own} (front : List WorldStep) → Moves Tells d steps old new → FailsAfter Tells d sent front old new (Flooded d 65536)
+Fails-flooded {steps = steps} front m = record { steps = steps; moves = m; cause = (refl, refl) }
 
 -- ---- Waits
 
@@ -210,7 +197,20 @@ heard_next a sent bytes old mid new (Ok e) read unrefused got ends m = record {
 }
 heard_next a sent bytes old mid new (Err t) read unrefused got ends m = tt
 
-pub refused_next : {Own : Type 0} {Tells : Type 0} (d : ℕ) (sent : List (ℕ × Key)) (bytes : List ℕ) (key : Key) (xid : ℕ) {old new : Seen Own} → Moves Tells d (Acted (Got d bytes) ∷ []) old new → xid ≡ number_at 4 4 bytes → Some key ≡ key_refused sent bytes
-    → Fails Tells d sent old new (Diverged d (inverse_bytes xid key) bytes)
-refused_next d sent bytes key xid got is refused =
-    Fails-refused bytes (inverse_bytes xid key) got (λ steps last. record { key = key; of_key = sym refused; inverse_so = ap (λ (x : ℕ). inverse_bytes x key) is; last = last })
+pub refused_next : {Own : Type 0} {Tells : Type 0} (a : Awaited) (sent : List (ℕ × Key)) (got : List (List ℕ)) (bytes : List ℕ) (key : Key) (xid : ℕ) {old new : Seen Own} → AreBefore a sent got → a.barrier < 2 ^ 32 → Moves Tells a.dpid (Acted (Got a.dpid bytes) ∷ []) old new
+    → xid ≡ number_at 4 4 bytes → Some key ≡ key_refused sent bytes → FailsAfter Tells a.dpid sent (barrier_sent a ∷ wait_steps a got) old new (Diverged a.dpid (inverse_bytes xid key) bytes)
+refused_next a sent got bytes key xid before lt m is refused = record {
+  steps = Acted (Got a.dpid bytes) ∷ [];
+  moves = m;
+  cause = (refl, record {
+    key = key;
+    of_key = sym refused;
+    inverse_so = ap (λ (x : ℕ). inverse_bytes x key) is;
+    awaited = a;
+    of_switch = refl;
+    is_xid = lt;
+    got = got;
+    before = before;
+    steps_so = refl;
+  });
+}

@@ -1,8 +1,9 @@
 -- What an undo leaves of a switch in a world that keeps its word: the table without the keys that were logged, and nothing waits.
-use Rattle.std.specs.Prelude.{◌≡◌, ◌≢◌, ◌==◌, ℕ, ◌+◌, ◌<◌, Bool, true, false, List, [], ◌∷◌, ◌++◌, reverse, map, Some, if◌then◌else◌, refl}
+use Rattle.std.specs.Prelude.{◌≡◌, ◌≢◌, ◌⊎◌, ◌==◌, ℕ, ◌+◌, ◌<◌, Bool, true, false, List, [], ◌∷◌, ◌++◌, reverse, drop, map, Option, Some, None, Result, Ok, Err, if◌then◌else◌, refl}
 use Rattle.std.specs.List.{AllByRecursion, flat_map}
 use Rattle.std.proofs.Common.{sym, ap, ◌∙◌, subst, eq-eqb, inl, inr, arith}
-use Rattle.std.proofs.lemmas.Bool.{cases_eq, ne_eqb}
+use Rattle.std.proofs.lemmas.Bool.{cases_eq, ne_eqb, eqb-true}
+use Rattle.of_types.specs.Fields.{number_at}
 use Rattle.std.proofs.lemmas.List.{map-append, reverse-append}
 use Rattle.of_types.specs.declared.journal.Act.TheVariants.{Sent, Got}
 use Rattle.of_match.specs.declared.key.Key.{Key}
@@ -18,6 +19,7 @@ use Rattle.outside.specs.declared.step.WorldStep.{WorldStep}
 use Rattle.outside.specs.declared.step.WorldStep.TheVariants.{Acted}
 use Rattle.outside.specs.Seen.{Counts, Seen}
 use Rattle.outside.specs.State.{State, at_first, after_step, after_steps, state, switch_of, waits_of}
+use Rattle.outside.specs.LinkLaws.{waits_of-got}
 use Rattle.outside.specs.StateLaws.{after_steps-append, MaySteps-front, MaySteps-rest, Conforming-rest}
 use Rattle.outside.specs.Conforming.{MaySteps, Conforming}
 use Rattle.exact_undo.specs.Removal.{without, without_all, OnlyAdded}
@@ -28,13 +30,14 @@ use Rattle.net_txn.specs.declared.heard.Awaited.{Awaited}
 use Rattle.net_txn.specs.declared.heard.Heard.{Heard}
 use Rattle.net_txn.specs.declared.heard.Heard.TheVariants as hearing
 use Rattle.net_txn.specs.declared.fault.TxnFault.{TxnFault}
+use Rattle.net_txn.specs.declared.fault.TxnFault.TheVariants.{Diverged}
 use Rattle.net_txn.specs.Net.{delete_strict, inverse_bytes}
-use Rattle.net_txn.specs.Waits.{heard, steps_by, heard_steps, wait_steps, barrier_sent, reply_got}
+use Rattle.net_txn.specs.Waits.{heard, is_reply, steps_by, heard_steps, wait_steps, barrier_sent, reply_got}
 use Rattle.net_txn.specs.HeardLaws.{IsMessage-barrier}
-use Rattle.net_txn.specs.StepLaws.{told_switch, told_waits, barrier_sends, barrier_stays, gots, gots_switch, gots_empty}
-use Rattle.net_txn.specs.Undos.{SameSwitch, Restored, IsStepOf, CanBeSent, IsSettled, alone, Part, Inverse, Settled, Stuck, part_steps, steps_of, parts_of, is_stuck, since_of, inverses_of, IsRun}
+use Rattle.net_txn.specs.StepLaws.{first_got, reply_is_none, told_switch, told_waits, barrier_sends, barrier_stays, gots, gots_switch, gots_empty}
+use Rattle.net_txn.specs.Undos.{key_sent, key_refused, Refuses, IsFaultOf, fault_in, first_fault_of, first_fault, ended_by, SameSwitch, Restored, IsStepOf, CanBeSent, IsSettled, alone, Part, Inverse, Settled, Stuck, part_steps, steps_of, parts_of, is_stuck, since_of, inverses_of, IsRun}
 use Rattle.net_txn.specs.PartLaws.{ steps_other, reading_of-inverse}
-use Rattle.net_txn.specs.NoticeLaws.{with_entries, inverse_moves, inverse_sends, AllNotices, notices_steps, notices_alone}
+use Rattle.net_txn.specs.NoticeLaws.{reply_kind, notice_steps, with_entries, inverse_moves, inverse_sends, AllNotices, notices_steps, notices_alone}
 
 -- ---- The steps of a part are those of its switch.
 
@@ -242,3 +245,87 @@ restored old new d s before keys parts given is all conforming free same none he
       switch = l.switch ∙ ap (λ (x : SwitchState). Some x) (restored_table (parts_of d parts) keys s before same was serialed only);
       waits = l.settled none;
     })
+
+-- ---- No inverse is refused
+
+no_error : (declared : List Declared) (a : Awaited) (ws got : List (List ℕ)) (bytes : List ℕ) (t : State) → AllNotices ws → waits_of a.dpid t ≡ ws ++ message_bytes a.barrier BarrierReply ∷ [] → MaySteps declared (wait_steps a got ++ Acted (Got a.dpid bytes) ∷ []) t
+    → AllByRecursion (λ b. is_reply (heard a b) ≡ false) got → number_at 1 1 bytes ≡ 1 → ⊥
+no_error declared a [] [] bytes t all waits may before kind =
+    let is = first_got declared a.dpid bytes (message_bytes a.barrier BarrierReply) [] [] t waits may in
+    let reply = ap (number_at 1 1) is ∙ reply_kind a.barrier in
+    omega (arith, kind, reply)
+no_error declared a [] (b ∷ bs) bytes t all waits may before kind =
+    let is = first_got declared a.dpid b (message_bytes a.barrier BarrierReply) [] _ t waits may in
+    reply_is_none a b is before.0
+no_error declared a (w ∷ ws) [] bytes t all waits may before kind =
+    let is = first_got declared a.dpid bytes w (ws ++ message_bytes a.barrier BarrierReply ∷ []) [] t waits may in
+    let other = ap (number_at 1 1) is ∙ all.0.kind in
+    omega (arith, kind, other)
+no_error declared a (w ∷ ws) (b ∷ bs) bytes t all waits may before kind =
+    let reply = message_bytes a.barrier BarrierReply in
+    let is : b ≡ w = first_got declared a.dpid b w (ws ++ reply ∷ []) _ t waits may in
+    let here = subst (λ (x : List ℕ). MaySteps declared ((heard_steps a x ++ wait_steps a bs) ++ Acted (Got a.dpid bytes) ∷ []) t) is may in
+    let steps = subst (λ (xs : List WorldStep). MaySteps declared ((xs ++ wait_steps a bs) ++ Acted (Got a.dpid bytes) ∷ []) t) (notice_steps a w all.0) here in
+    let left : waits_of a.dpid (after_step (Acted (Got a.dpid w)) t) ≡ ws ++ reply ∷ [] = waits_of-got a.dpid w t ∙ ap (drop 1) waits in
+    no_error declared a ws bs bytes (after_step (Acted (Got a.dpid w)) t) all.1 left steps.1 before.1 kind
+
+refused_kind : (kind : Bool) (k : Option Key) (key : Key) → (if kind then k else None) ≡ Some key → kind ≡ true
+refused_kind true k key is = refl
+refused_kind false k key is = absurd cc
+
+refused_error : (sent : List (ℕ × Key)) (bytes : List ℕ) (key : Key) → key_refused sent bytes ≡ Some key → number_at 1 1 bytes ≡ 1
+unfolding key_refused
+refused_error sent bytes key is = eqb-true (number_at 1 1 bytes) 1 (refused_kind (number_at 1 1 bytes == 1) (key_sent (number_at 4 4 bytes) sent) key is)
+
+left_refused : (declared : List Declared) (d : ℕ) (sent : List (ℕ × Key)) (steps : List WorldStep) (inverse bytes : List ℕ) (s : SwitchState) (older : List Part) (t : State) → Refuses d sent steps inverse bytes → MaySteps declared steps t → Left d s older t → ⊥
+left_refused declared d sent steps inverse bytes s older t r may l =
+    let a = r.awaited in
+    let here = subst (λ (n : ℕ). Left n s older t) (sym r.of_switch) l in
+    let now = with_entries (entries_left older s.table.entries) s in
+    let reply = message_bytes a.barrier BarrierReply in
+    let read = reading_of-message_bytes a.barrier BarrierRequest r.is_xid IsMessage-barrier in
+    let u = after_step (barrier_sent a) t in
+    let waits : waits_of a.dpid u ≡ waits_of a.dpid t ++ reply ∷ [] = told_waits a.dpid a.barrier BarrierRequest (message_bytes a.barrier BarrierRequest) t now read here.switch ∙ ap (λ (ws : List (List ℕ)). waits_of a.dpid t ++ ws) (barrier_sends a.barrier now) in
+    let going = subst (λ (xs : List WorldStep). MaySteps declared xs t) r.steps_so may in
+    no_error declared a (waits_of a.dpid t) r.got bytes u here.notices waits going.1 r.before.before_reply (refused_error sent bytes r.key r.of_key)
+
+earlier_or : (o later : Option TxnFault) (g : TxnFault) → first_fault_of o later ≡ Some g → (o ≡ Some g) ⊎ ((o ≡ None) × (later ≡ Some g))
+earlier_or None later g is = inr (refl, is)
+earlier_or (Some f) later g is = inl is
+
+stuck_refused : (declared : List Declared) (old new : Counts) (d e : ℕ) (p : Part) (inverse bytes : List ℕ) (s : SwitchState) (older : List Part) (t : State) → IsRun old new e (p ∷ older) → fault_in p ≡ Some (Diverged d inverse bytes) → MaySteps declared (part_steps e p) t
+    → (e ≡ d → is_stuck older ≡ false → Left e s older t) → ⊥
+stuck_refused declared old new d e (Inverse xid k) inverse bytes s older t run is may l = absurd cc
+stuck_refused declared old new d e (Settled xid got) inverse bytes s older t run is may l = absurd cc
+stuck_refused declared old new d e (Stuck xid fault steps) inverse bytes s older t run is may l =
+    let same : fault ≡ Diverged d inverse bytes = one_fault fault (Diverged d inverse bytes) is in
+    let cause = subst (λ (f : TxnFault). IsFaultOf e (inverses_of older) old new steps f) same run.0.cause in
+    left_refused declared e (inverses_of older) steps inverse bytes s older t cause.1 may (l (sym cause.0) run.1)
+  where
+    one_fault : (f g : TxnFault) → Some f ≡ Some g → f ≡ g
+    one_fault f g e = cc
+
+pub none_refused : (declared : List Declared) (old new : Counts) (d : ℕ) (s : SwitchState) (inverse bytes : List ℕ) (parts : List (ℕ × Part)) (t : State) → AllRun old new parts → MaySteps declared (steps_of parts) t → switch_of d t ≡ Some s → waits_of d t ≡ []
+    → first_fault parts ≡ Some (Diverged d inverse bytes) → ⊥
+none_refused declared old new d s inverse bytes [] t all may is none first = absurd cc
+none_refused declared old new d s inverse bytes (p ∷ older) t all may is none first =
+    let before = after_steps (steps_of older) t in
+    let may_older = MaySteps-front declared (steps_of older) (part_steps p.0 p.1) t may in
+    let may_part = MaySteps-rest declared (steps_of older) (part_steps p.0 p.1) t may in
+    let rest = none_refused declared old new d s inverse bytes older t (runs_older old new p older all) may_older is none in
+    let l : p.0 ≡ d → is_stuck (parts_of p.0 older) ≡ false → Left p.0 s (parts_of p.0 older) before = λ same free.
+    left_all declared old new p.0 s older t (runs_older old new p older all) free may_older (ap (λ (n : ℕ). switch_of n t) same ∙ is) (ap (λ (n : ℕ). waits_of n t) same ∙ none) in
+    elim (earlier_or (first_fault older) (fault_in p.1) (Diverged d inverse bytes) first) [
+      | inl earlier ↦ rest earlier
+      | inr now ↦ stuck_refused declared old new d p.0 p.1 inverse bytes s (parts_of p.0 older) before (runs_here old new p older all) now.1 may_part l
+    ]
+
+ended_err : (o : Option TxnFault) (r : Result (Unit {0}) TxnFault) (f : TxnFault) → r ≡ ended_by o → r ≡ Err f → o ≡ Some f
+ended_err None r f is err = let bad : Ok tt ≡ Err f = sym is ∙ err in absurd cc
+ended_err (Some g) r f is err = let same : Err g ≡ Err f = sym is ∙ err in cc
+
+pub accepted : {Own : Type 0} (old new : Seen Own) (d : ℕ) (s : SwitchState) (inverse bytes : List ℕ) (parts : List (ℕ × Part)) (result : Result (Unit {0}) TxnFault) → new.given ≡ old.given → new.history ≡ old.history ++ steps_of parts → AllRun old.counts new.counts parts → Conforming new
+    → result ≡ ended_by (first_fault parts) → switch_of d (state old) ≡ Some s → waits_of d (state old) ≡ [] → result ≡ Err (Diverged d inverse bytes) → ⊥
+accepted old new d s inverse bytes parts result given is all conforming ended here waits err =
+    let may = Conforming-rest old new (steps_of parts) given is conforming in
+    none_refused old.given.declared old.counts new.counts d s inverse bytes parts (state old) all may here waits (ended_err (first_fault parts) result (Diverged d inverse bytes) ended err)

@@ -88,12 +88,17 @@ fault_by d troubles.Short buf = NoMemory
 abbrev pub EndsBy : ℕ → List ℕ → List WorldStep → Type 0
 EndsBy d bytes steps = (front : List WorldStep) × (steps ≡ front ++ Acted (Got d bytes) ∷ [])
 
--- these bytes refuse the inverse that was sent, and were got last
+-- these bytes refuse the inverse that was sent, and were got last in a wait
 pub record Refuses (d : ℕ) (sent : List (ℕ × Key)) (steps : List WorldStep) (inverse bytes : List ℕ) : Type 0 where
   pub key : Key
   pub of_key : key_refused sent bytes ≡ Some key
   pub inverse_so : inverse ≡ inverse_bytes (number_at 4 4 bytes) key
-  pub last : EndsBy d bytes steps
+  pub awaited : Awaited
+  pub of_switch : awaited.dpid ≡ d
+  pub is_xid : awaited.barrier < 2 ^ 32
+  pub got : List (List ℕ)
+  pub before : AreBefore awaited sent got
+  pub steps_so : steps ≡ barrier_sent awaited ∷ (wait_steps awaited got ++ Acted (Got awaited.dpid bytes) ∷ [])
 
 -- Each fault is of its switch: the link's count rose; the bytes that were got last are no message, or refuse an inverse; too many
 -- messages came before the reply to a barrier. Memory was wanting only where the world's own was.
@@ -104,11 +109,14 @@ IsFaultOf d sent old new steps (Diverged e inverse bytes) = (e ≡ d) × Refuses
 IsFaultOf d sent old new steps (Flooded e n) = (e ≡ d) × (n ≡ flood)
 IsFaultOf d sent old new steps NoMemory = Rose old.shorts new.shorts × Rose (old.shorts_of d) (new.shorts_of d)
 
--- calls of one switch, the last of which failed
-pub record Fails {Own : Type 0} (Tells : Type 0) (d : ℕ) (sent : List (ℕ × Key)) (old new : Seen Own) (fault : TxnFault) : Type 0 where
+-- calls of one switch behind others of it, the last of which failed
+pub record FailsAfter {Own : Type 0} (Tells : Type 0) (d : ℕ) (sent : List (ℕ × Key)) (front : List WorldStep) (old new : Seen Own) (fault : TxnFault) : Type 0 where
   pub steps : List WorldStep
   pub moves : Moves Tells d steps old new
-  pub cause : IsFaultOf d sent old.counts new.counts steps fault
+  pub cause : IsFaultOf d sent old.counts new.counts (front ++ steps) fault
+
+abbrev pub Fails : {Own : Type 0} → Type 0 → ℕ → List (ℕ × Key) → Seen Own → Seen Own → TxnFault → Type 0
+Fails Tells d sent old new fault = FailsAfter Tells d sent [] old new fault
 
 -- a barrier whose reply was got, at most 65,535 messages before it
 pub record Settles {Own : Type 0} (Tells : Type 0) (a : Awaited) (front : List WorldStep) (sent : List (ℕ × Key)) (old new : Seen Own) : Type 0 where
@@ -337,7 +345,7 @@ pub record Restored (d : ℕ) (before : TableState) (s : SwitchState) (new : Sta
 -- What was logged from a place on is undone and forgotten, and the views lose its keys. It goes on past a fault with the other
 -- switches, and the first fault is answered. In a world that tells, no switch moves that is not joined; and where it keeps its word,
 -- each joined switch that did not fail, of which nothing waited, and whose table had but the logged keys added since an earlier one,
--- has that table again.
+-- has that table again. There no inverse is refused.
 pub record Undoes {Own : Type 0} (Tells : Type 0) (start : ℕ) (old new : Seen Own) (net now_net : NetState) (result : Result (Unit {0}) TxnFault) : Type 0 where
   pub parts : List (ℕ × Part)
   pub continues : Continues Tells old new
@@ -353,6 +361,7 @@ pub record Undoes {Own : Type 0} (Tells : Type 0) (start : ℕ) (old new : Seen 
   pub kept : KeptSome net.kept now_net.kept
   pub room : (net.room ≤ now_net.room + 1) × (IsOk result → now_net.room ≡ net.room)
   pub others : (d : ℕ) → Tells → is_viewed d net.views ≡ false → SameSwitch d (state old) (state new)
+  pub accepted : (d : ℕ) (s : SwitchState) (inverse bytes : List ℕ) → Tells → Conforming new → switch_of d (state old) ≡ Some s → waits_of d (state old) ≡ [] → result ≡ Err (Diverged d inverse bytes) → ⊥
   pub restored : (d : ℕ) (s : SwitchState) (before : TableState) → Tells → Conforming new → is_viewed d net.views ≡ true → is_stuck (parts_of d parts) ≡ false
       → switch_of d (state old) ≡ Some s → waits_of d (state old) ≡ [] → IsTable before.entries → IsSerialed s.table
       → OnlyAdded (keys_of d (map but_fare (drop start net.log))) before.entries s.table.entries → Restored d before s (state new)

@@ -1,14 +1,15 @@
 //! Messages to a switch and the wait for the reply to a barrier, without memory.
 
-ghost use Rattle.std.specs.Prelude.{◌≡◌, ◌≤◌, ℕ, List, [], ◌∷◌, length, take, IsOk, IfOk, IfErr, OnOk};
+ghost use Rattle.std.specs.Prelude.{◌≡◌, ◌^◌, ◌<◌, ◌≤◌, ℕ, List, [], ◌∷◌, length, take, IsOk, IfOk, IfErr, OnOk};
 ghost use Rattle.of_types.specs.Fields.{number_at, IsBytes};
 ghost use Rattle.of_types.specs.declared.journal.Act.TheVariants.{Sent, Got};
 ghost use Rattle.of_match.specs.declared.key.Key.{Key};
 ghost use Rattle.of_wire.specs.Reading.{reading_of};
 ghost use Rattle.outside.specs.Calls.{most_message};
+ghost use Rattle.outside.specs.declared.step.WorldStep.{WorldStep};
 ghost use Rattle.outside.specs.declared.step.WorldStep.TheVariants.{Acted};
-ghost use Rattle.net_txn.specs.Waits.{heard, is_reply, steps_by, barrier_sent, KeptMore};
-ghost use Rattle.net_txn.specs.Undos.{link_trouble, Moves, Fails, fault_by, inverses_in, alone, HearsNext, Settles};
+ghost use Rattle.net_txn.specs.Waits.{heard, is_reply, steps_by, wait_steps, barrier_sent, KeptMore};
+ghost use Rattle.net_txn.specs.Undos.{link_trouble, Moves, Fails, FailsAfter, AreBefore, fault_by, inverses_in, alone, HearsNext, Settles};
 
 use crate::fares::key_refused;
 use crate::heard::{Awaited, Heard, barrier_request, judge};
@@ -34,7 +35,7 @@ fn trouble_of(fault: LinkFault) -> Trouble
 pub(crate) fn send<W: World>(world: &mut W, dpid: Dpid, frame: &[u8]) -> Result<(), Trouble>
     requires { IsOk (reading_of frame.now) }
     ensures ok { OnOk result (Moves W.Tells dpid (Acted (Sent dpid frame.now) ∷ []) (W.seen world.old) (W.seen world.new)) }
-    ensures err { (sent : List (ℕ × Key)) (buf : List ℕ) → IfErr result (λ t. Fails W.Tells dpid sent (W.seen world.old) (W.seen world.new) (fault_by dpid t buf)) }
+    ensures err { (sent : List (ℕ × Key)) (front : List WorldStep) (buf : List ℕ) → IfErr result (λ t. FailsAfter W.Tells dpid sent front (W.seen world.old) (W.seen world.new) (fault_by dpid t buf)) }
 {
     match world.send(dpid, frame) {
         Ok(()) => Ok(()),
@@ -50,7 +51,7 @@ pub(crate) fn receive<W: World>(world: &mut W, dpid: Dpid, buf: &mut [u8]) -> Re
     ensures within { IfOk result (λ n. n ≤ length buf.new) }
     ensures read { IfOk result (λ n. IsOk (reading_of (take n buf.new))) }
     ensures ok { IfOk result (λ n. Moves W.Tells dpid (Acted (Got dpid (take n buf.new)) ∷ []) (W.seen world.old) (W.seen world.new)) }
-    ensures err { (sent : List (ℕ × Key)) → IfErr result (λ t. Fails W.Tells dpid sent (W.seen world.old) (W.seen world.new) (fault_by dpid t buf.new)) }
+    ensures err { (sent : List (ℕ × Key)) (front : List WorldStep) → IfErr result (λ t. FailsAfter W.Tells dpid sent front (W.seen world.old) (W.seen world.new) (fault_by dpid t buf.new)) }
 {
     let len = match world.recv(dpid, buf) {
         Ok(len) => len,
@@ -74,7 +75,7 @@ fn treat<W: World>(
     ensures ends { IfOk result (λ ends. ends ≡ is_reply (heard awaited.now message.old)) }
     ensures ok { OnOk result (Moves W.Tells awaited.now.dpid (steps_by awaited.now.dpid (heard awaited.now message.old) message.old)
         (W.seen world.old) (W.seen world.new)) }
-    ensures err { (sent : List (ℕ × Key)) (buf : List ℕ) → IfErr result (λ t. Fails W.Tells awaited.now.dpid sent (W.seen world.old) (W.seen world.new)
+    ensures err { (sent : List (ℕ × Key)) (front : List WorldStep) (buf : List ℕ) → IfErr result (λ t. FailsAfter W.Tells awaited.now.dpid sent front (W.seen world.old) (W.seen world.new)
         (fault_by awaited.now.dpid t buf)) }
     ensures kept { KeptMore awaited.now.dpid kept.old kept.new }
 {
@@ -100,7 +101,8 @@ fn hear<W: World>(
 ) -> Result<bool, Trouble>
     requires { most_message ≤ length buf.old }
     ensures ok { IfOk result (HearsNext W.Tells awaited.now (inverses_in awaited.now.dpid played.now) (W.seen world.old) (W.seen world.new)) }
-    ensures err { IfErr result (λ t. Fails W.Tells awaited.now.dpid (inverses_in awaited.now.dpid played.now) (W.seen world.old) (W.seen world.new)
+    ensures err { (got : List (List ℕ)) → AreBefore awaited.now (inverses_in awaited.now.dpid played.now) got → awaited.now.barrier < 2 ^ 32
+        → IfErr result (λ t. FailsAfter W.Tells awaited.now.dpid (inverses_in awaited.now.dpid played.now) (barrier_sent awaited.now ∷ wait_steps awaited.now got) (W.seen world.old) (W.seen world.new)
         (fault_by awaited.now.dpid t buf.new)) }
     ensures kept { KeptMore awaited.now.dpid kept.old kept.new }
     ensures len { length buf.new ≡ length buf.old }
@@ -122,7 +124,7 @@ fn wait<W: World>(
 ) -> Result<(), Trouble>
     requires { most_message ≤ length buf.old }
     ensures ok { OnOk result (Settles W.Tells awaited.now [] (inverses_in awaited.now.dpid played.now) (W.seen world.old) (W.seen world.new)) }
-    ensures err { IfErr result (λ t. Fails W.Tells awaited.now.dpid (inverses_in awaited.now.dpid played.now) (W.seen world.old) (W.seen world.new)
+    ensures err { awaited.now.barrier < 2 ^ 32 → IfErr result (λ t. FailsAfter W.Tells awaited.now.dpid (inverses_in awaited.now.dpid played.now) (barrier_sent awaited.now ∷ []) (W.seen world.old) (W.seen world.new)
         (fault_by awaited.now.dpid t buf.new)) }
     ensures kept { KeptMore awaited.now.dpid kept.old kept.new }
     ensures len { length buf.new ≡ length buf.old }

@@ -1,4 +1,4 @@
-use Rattle.std.proofs.Common.{List, ℕ, ◌∷◌, [], ap}
+use Rattle.std.proofs.Common.{arith, List, ℕ, ◌∷◌, [], ap}
 use Rattle.std.proofs.lemmas.Result.{on_ok_weaker, IfErr-weaker}
 use Rattle.of_types.specs.declared.journal.Act.TheVariants.{Sent}
 use Rattle.outside.specs.declared.step.WorldStep.TheVariants.{Acted}
@@ -11,4 +11,4 @@ returns-clause-ok g c =
 
 pub returns-clause-err : goal.returns-clause-err
 returns-clause-err g c =
-    IfErr-weaker c.wait.result _ _ (λ t f. Fails-behind _ c.in_ok-send.ensures.ok f) c.wait.ensures.err
+    IfErr-weaker c.wait.result _ _ (λ t f. Fails-behind _ (Moves-same _ _ (ap (λ (b : List ℕ). Acted (Sent c.args.dpid b) ∷ []) c.barrier_request.ensures.bytes) c.in_ok-send.ensures.ok) f) (c.wait.ensures.err (omega arith))

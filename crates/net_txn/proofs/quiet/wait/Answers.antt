@@ -13,9 +13,10 @@ loop-heard-init g c = record {
 }
 
 pub returns-in_err-hear-clause-err : goal.returns-in_err-hear-clause-err
-returns-in_err-hear-clause-err g c =
+returns-in_err-hear-clause-err g c = λ lt.
     let p = err_from_is_err_and c.from_residual.result c.from_residual.ensures.1 in
-    rw (p.1, p.2) (Fails-behind _ c.loop-heard.invariant.heard.moves c.in_err-hear.ensures.err)
+    let h = c.loop-heard.invariant.heard in
+    rw (p.1, p.2) (Fails-behind _ h.moves (c.in_err-hear.ensures.err h.got h.before lt))
 
 pub returns-in_err-hear-clause-kept : goal.returns-in_err-hear-clause-kept
 returns-in_err-hear-clause-kept g c = kept_then c.args.awaited.now.dpid _ _ _ c.loop-heard.invariant.kept c.in_err-hear.ensures.kept
@@ -34,4 +35,4 @@ loop-heard-preserved g c = record {
 }
 
 pub returns-clause-err : goal.returns-clause-err
-returns-clause-err g c = Fails-flooded c.loop-heard.invariant.heard.moves
+returns-clause-err g c = λ lt. Fails-flooded _ c.loop-heard.invariant.heard.moves
