@@ -1,30 +1,29 @@
 -- What a switch makes of an inverse, and what a wait gets then: notices of the entry that went, and the reply.
-use Rattle.std.specs.Prelude.{◌≡◌, ◌==◌, ℕ, ◌+◌, ◌^◌, ◌<◌, Bool, true, false, List, [], ◌∷◌, ◌++◌, length, drop, map, Some, None, refl}
+use Rattle.std.specs.Prelude.{◌≡◌, ℕ, ◌+◌, ◌<◌, false, List, [], ◌∷◌, ◌++◌, length, drop, map, Some, None, refl}
 use Rattle.std.specs.List.{AllByRecursion}
 use Rattle.std.specs.Str.{bytes_eq}
 use Rattle.std.proofs.Common.{sym, ap, ◌∙◌, subst, append_assoc, length-append, inl, inr, arith}
 use Rattle.std.proofs.lemmas.Bool.{cases_Bool}
-use Rattle.std.proofs.lemmas.List.{map-append}
 use Rattle.std.proofs.lemmas.Slice.Eq.{bytes_eq-Decides}
 use Rattle.of_types.specs.Fields.{number_at, number_bytes}
 use Rattle.of_types.specs.FieldLaws.{number_at-number_bytes, length-number_bytes}
-use Rattle.of_types.specs.declared.journal.Act.TheVariants.{Sent, Got}
+use Rattle.of_types.specs.declared.journal.Act.TheVariants.{Got}
 use Rattle.of_match.specs.declared.key.Key.{Key}
 use Rattle.of_wire.specs.declared.message.Message.TheVariants.{FlowMod, FlowRemoved, BarrierReply}
-use Rattle.of_wire.specs.Spelling.{match_bytes, message_size, body_bytes, message_bytes}
+use Rattle.of_wire.specs.Spelling.{match_bytes, body_bytes, message_bytes}
 use Rattle.of_wire.specs.SpellingLaws.{length-match_bytes}
 use Rattle.flow_table.specs.declared.entry.Entry.{Entry}
 use Rattle.flow_table.specs.declared.notice.Notice.{Notice}
-use Rattle.flow_table.specs.Change.{key_in, notice, notices_of}
+use Rattle.flow_table.specs.Change.{notice, notices_of}
 use Rattle.flow_table.specs.ChangeLaws.{notices_of-delete}
 use Rattle.flow_table.specs.Switch.{Declared, SwitchState}
 use Rattle.flow_table.specs.Refusals.{flow_refusal, message_refusal}
 use Rattle.flow_table.specs.Step.{flow_removed, flow_removed_bytes, after_taken, after_message, sent_by_taken, sent_by_message}
 use Rattle.outside.specs.declared.step.WorldStep.{WorldStep}
 use Rattle.outside.specs.declared.step.WorldStep.TheVariants.{Acted}
-use Rattle.outside.specs.State.{State, after_step, after_steps, switch_of, waits_of}
+use Rattle.outside.specs.State.{State, after_step, waits_of}
 use Rattle.outside.specs.LinkLaws.{waits_of-got}
-use Rattle.outside.specs.Conforming.{MaySteps, MayStep, MayAct}
+use Rattle.outside.specs.Conforming.{MaySteps}
 use Rattle.exact_undo.specs.Removal.{without, IsRemoval}
 use Rattle.exact_undo.specs.RemovalLaws.{removal-changed, removal-refusal}
 use Rattle.net_txn.specs.declared.heard.Awaited.{Awaited}

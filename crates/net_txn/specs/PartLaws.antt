@@ -1,8 +1,8 @@
 -- What the parts of an undo leave of a switch: those of other switches leave it as it is, an inverse takes its key out of the table,
 -- and a barrier whose reply was got leaves nothing waiting.
-use Rattle.std.specs.Prelude.{◌≡◌, ◌≢◌, ℕ, ◌^◌, ◌<◌, List, [], ◌∷◌, ◌++◌, Some, Ok, refl}
+use Rattle.std.specs.Prelude.{◌≡◌, ◌≢◌, ℕ, ◌^◌, ◌<◌, List, [], ◌∷◌, Ok, refl}
 use Rattle.std.specs.List.{AllByRecursion}
-use Rattle.std.proofs.Common.{sym, ap, ◌∙◌, subst, arith}
+use Rattle.std.proofs.Common.{ap, ◌∙◌, arith}
 use Rattle.of_types.specs.declared.journal.Act.{Act}
 use Rattle.of_types.specs.declared.journal.Act.TheVariants.{Stim, Started, Gave, Gone, Took, Ended, Sent, Got}
 use Rattle.of_match.specs.declared.key.Key.{Key}
@@ -13,7 +13,7 @@ use Rattle.of_wire.specs.Grammar.{IsMessage, enveloped}
 use Rattle.of_wire.specs.ReadingLaws.{reading_of-message_bytes}
 use Rattle.outside.specs.declared.step.WorldStep.{WorldStep}
 use Rattle.outside.specs.declared.step.WorldStep.TheVariants.{Acted, TookInto, From, Joined, Left, Moment, Idle, End, Opened, NotOpened, NextFailed, SendFailed, RecvFailed}
-use Rattle.outside.specs.State.{Link, State, after_step, after_steps, after_act, switch_of, switch_in, waits_of, waits_in, link_failed}
+use Rattle.outside.specs.State.{State, after_step, after_steps, switch_of, switch_in, waits_of, waits_in, link_failed}
 use Rattle.outside.specs.LinkLaws.{KeepsDeclared, link_of-other, switch_of-sent_other, waits_of-sent_other, switch_of-got_other, waits_of-got_other}
 use Rattle.net_txn.specs.Net.{delete_strict, inverse_bytes}
 use Rattle.net_txn.specs.Undos.{SameSwitch, IsStepOf, CanBeSent}

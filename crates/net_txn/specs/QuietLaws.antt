@@ -24,7 +24,7 @@ use Rattle.net_txn.specs.declared.heard.Heard.{Heard}
 use Rattle.net_txn.specs.declared.heard.Heard.TheVariants.{Reply, Refused, Notice, Echo, Other}
 use Rattle.net_txn.specs.Waits.{KeptMore, heard, is_reply, steps_by, heard_steps, wait_steps, reply_got, barrier_sent}
 use Rattle.net_txn.specs.WaitLaws.{reply_is}
-use Rattle.net_txn.specs.Undos.{fault_by, link_trouble, IsStepOf, Moves, key_refused, EndsBy, Refuses, IsFaultOf, FailsAfter, AreBefore, Settles, HearsOn, HearsNext}
+use Rattle.net_txn.specs.Undos.{fault_by, link_trouble, IsStepOf, Moves, key_refused, IsFaultOf, FailsAfter, AreBefore, Settles, HearsOn, HearsNext}
 
 -- ---- Calls of the world
 
@@ -202,15 +202,18 @@ pub refused_next : {Own : Type 0} {Tells : Type 0} (a : Awaited) (sent : List (�
 refused_next a sent got bytes key xid before lt m is refused = record {
   steps = Acted (Got a.dpid bytes) ∷ [];
   moves = m;
-  cause = (refl, record {
-    key = key;
-    of_key = sym refused;
-    inverse_so = ap (λ (x : ℕ). inverse_bytes x key) is;
-    awaited = a;
-    of_switch = refl;
-    is_xid = lt;
-    got = got;
-    before = before;
-    steps_so = refl;
-  });
+  cause = (
+    refl,
+    record {
+      key = key;
+      of_key = sym refused;
+      inverse_so = ap (λ (x : ℕ). inverse_bytes x key) is;
+      awaited = a;
+      of_switch = refl;
+      is_xid = lt;
+      got = got;
+      before = before;
+      steps_so = refl;
+    },
+  );
 }

@@ -1,6 +1,6 @@
 -- What an undo leaves of a switch in a world that keeps its word: the table without the keys that were logged, and nothing waits.
-use Rattle.std.specs.Prelude.{◌≡◌, ◌≢◌, ◌⊎◌, ◌==◌, ℕ, ◌+◌, ◌<◌, Bool, true, false, List, [], ◌∷◌, ◌++◌, reverse, drop, map, Option, Some, None, Result, Ok, Err, if◌then◌else◌, refl}
-use Rattle.std.specs.List.{AllByRecursion, flat_map}
+use Rattle.std.specs.Prelude.{◌≡◌, ◌≢◌, ◌⊎◌, ◌==◌, ℕ, Bool, true, false, List, [], ◌∷◌, ◌++◌, reverse, drop, map, Option, Some, None, Result, Ok, Err, if◌then◌else◌, refl}
+use Rattle.std.specs.List.{AllByRecursion}
 use Rattle.std.proofs.Common.{sym, ap, ◌∙◌, subst, eq-eqb, inl, inr, arith}
 use Rattle.std.proofs.lemmas.Bool.{cases_eq, ne_eqb, eqb-true}
 use Rattle.of_types.specs.Fields.{number_at}
@@ -36,7 +36,7 @@ use Rattle.net_txn.specs.Waits.{heard, is_reply, steps_by, heard_steps, wait_ste
 use Rattle.net_txn.specs.HeardLaws.{IsMessage-barrier}
 use Rattle.net_txn.specs.StepLaws.{first_got, reply_is_none, told_switch, told_waits, barrier_sends, barrier_stays, gots, gots_switch, gots_empty}
 use Rattle.net_txn.specs.Undos.{key_sent, key_refused, Refuses, IsFaultOf, fault_in, first_fault_of, first_fault, ended_by, SameSwitch, Restored, IsStepOf, CanBeSent, IsSettled, alone, Part, Inverse, Settled, Stuck, part_steps, steps_of, parts_of, is_stuck, since_of, inverses_of, IsRun}
-use Rattle.net_txn.specs.PartLaws.{ steps_other, reading_of-inverse}
+use Rattle.net_txn.specs.PartLaws.{steps_other, reading_of-inverse}
 use Rattle.net_txn.specs.NoticeLaws.{reply_kind, notice_steps, with_entries, inverse_moves, inverse_sends, AllNotices, notices_steps, notices_alone}
 
 -- ---- The steps of a part are those of its switch.

@@ -103,8 +103,9 @@ impl MessageQueue {
         Ok(())
     }
 
-    /// Drops a message; takes no memory.
-    pub(crate) fn keep(&mut self, dpid: Dpid, _message: &[u8])
+    /// Keeps a message where there is room for it that was taken before, else drops it; takes no memory. No such
+    /// room is kept yet, so it is dropped.
+    pub(crate) fn keep_or_drop(&mut self, dpid: Dpid, _message: &[u8])
         ensures { KeptMore dpid self.old self.new }
     {}
 

@@ -86,7 +86,7 @@ fn treat<W: World>(
             make_reply(message);
             send(world, awaited.dpid, message)?;
         }
-        Heard::Other => kept.keep(awaited.dpid, message),
+        Heard::Other => kept.keep_or_drop(awaited.dpid, message),
     }
     Ok(false)
 }
