@@ -29,7 +29,7 @@ use Rattle.net_txn.specs.Waits.{is_awaited, refusal_of, heard}
 
 -- ---- The reply
 
-IsMessage-reply : IsMessage BarrierReply
+pub IsMessage-reply : IsMessage BarrierReply
 unfolding message_size
 IsMessage-reply = record { fields = tt; tail = tt; size = omega arith }
 

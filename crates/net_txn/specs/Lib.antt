@@ -36,3 +36,8 @@ pub mod WholeLaws
 pub mod PartLaws
 pub mod NoticeLaws
 pub mod RestoreLaws
+pub mod Asks
+pub mod AskLaws
+pub mod AskSteps
+pub mod ReplyLaws
+pub mod AskStepLaws

@@ -44,7 +44,7 @@ pub enum Heard {
 
 /// The reply to a barrier.
 #[tactic(auto, unfolding(of_wire::specs::Spelling::message_size))]
-fn barrier_reply(xid: Xid) -> [u8; 8]
+pub(crate) fn barrier_reply(xid: Xid) -> [u8; 8]
     ensures { result ≡ message_bytes xid BarrierReply }
 {
     let mut bytes = [0; 8];

@@ -108,6 +108,21 @@ impl MessageQueue {
     pub(crate) fn keep_or_drop(&mut self, dpid: Dpid, _message: &[u8])
         ensures { KeptMore dpid self.old self.new }
     {}
+    /// Appends a message.
+    pub fn append(&mut self, dpid: Dpid, message: ByteList) -> Result<(), AllocError>
+        ensures ok { OnOk result (self.new ≡ self.old ++ (dpid, message) ∷ []) }
+        ensures err { OnErr result (self.new ≡ self.old) }
+    {
+        self.messages.push_back((dpid, message))?;
+        Ok(())
+    }
+
+    /// The messages, oldest first; takes no memory.
+    pub(crate) fn into_messages(self) -> VecDeque<(Dpid, ByteList)>
+        ensures { result.items ≡ self }
+    {
+        self.messages
+    }
 
     /// Takes the oldest message out; takes no memory.
     pub fn take_first(&mut self) -> Option<(Dpid, ByteList)>

@@ -1,0 +1,47 @@
+use Rattle.std.proofs.Common.{inl, ap, ◌∙◌}
+use Rattle.std.proofs.lemmas.Result.{err_from_is_err_and}
+use Rattle.net_txn.specs.declared.heard.Awaited.{Awaited}
+use Rattle.net_txn.specs.AskLaws.{long_parts, sorted_more, sorted_some, came_more, asked_cause, asked_waits, answer_by_replies}
+use Rattle.net_txn.proofs.asking.request_rows.Goals as goal
+
+pub returns-in_err-replies : goal.returns-in_err-replies
+returns-in_err-replies g c =
+    let p = err_from_is_err_and c.from_residual-in_err-replies.result c.from_residual-in_err-replies.ensures.1 in
+    let came = c.ask-waited.new.kept in
+    let more = came_more g.W.World.Tells c.args.dpid c.args.xid c.asked-awaited.result _ (g.W.World.seen c.args.world.now) (g.W.World.seen c.ask-waited.new.world) c.new-came.result came c.ask-waited.result c.asked-awaited.ensures c.new-came.ensures c.ask-waited.ensures.ok c.ask-waited.ensures.kept in
+    let (n, kept) = c.in_err-replies.ensures.kept_err in
+    rw (p.1, p.2) (record {
+      continues = c.ask-waited.ensures.continues;
+      kept_more = sorted_some c.args.dpid c.args.xid n came c.args.kept.now c.sort_out.new.kept more kept;
+      answer = inl tt;
+    })
+
+pub returns-in_err-waited : goal.returns-in_err-waited
+returns-in_err-waited g c =
+    let p = err_from_is_err_and c.from_residual-in_err-waited.result c.from_residual-in_err-waited.ensures.1 in
+    let came = c.ask-waited.new.kept in
+    let more = came_more g.W.World.Tells c.args.dpid c.args.xid c.asked-awaited.result _ (g.W.World.seen c.args.world.now) (g.W.World.seen c.ask-waited.new.world) c.new-came.result came c.ask-waited.result c.asked-awaited.ensures c.new-came.ensures c.ask-waited.ensures.ok c.ask-waited.ensures.kept in
+    rw (p.1, p.2) (record {
+      continues = c.ask-waited.ensures.continues;
+      kept_more = sorted_more c.args.dpid c.args.xid came c.args.kept.now c.sort_out.new.kept more c.in_ok-replies.ensures.kept;
+      answer = inl (asked_cause g.W.World.Tells c.args.dpid c.args.xid c.asked-awaited.result (g.W.World.seen c.args.world.now) (g.W.World.seen c.ask-waited.new.world) c.in_err-waited.field-0.0 c.asked-awaited.ensures c.in_err-waited.ensures.cause);
+    })
+
+pub judge_replies-requires : goal.judge_replies-requires
+judge_replies-requires g c = rw c.in_ok-replies.ensures.parts (long_parts c.args.xid c.ask-waited.new.kept)
+
+pub returns : goal.returns
+returns g c =
+    let came = c.ask-waited.new.kept in
+    let old = g.W.World.seen c.args.world.now in
+    let new = g.W.World.seen c.ask-waited.new.world in
+    let more = came_more g.W.World.Tells c.args.dpid c.args.xid c.asked-awaited.result _ old new c.new-came.result came c.ask-waited.result c.asked-awaited.ensures c.new-came.ensures c.ask-waited.ensures.ok c.ask-waited.ensures.kept in
+    let waits = asked_waits c.args.dpid c.args.xid c.asked-awaited.result c.as_slice.result.now old new c.new-came.result came c.in_ok-waited.field-0 c.asked-awaited.ensures (c.as_slice.ensures ∙ c.in_ok-request.ensures.bytes) c.new-came.ensures c.in_ok-waited.ensures.ok in
+    record {
+      continues = c.ask-waited.ensures.continues;
+      kept_more = sorted_more c.args.dpid c.args.xid came c.args.kept.now c.sort_out.new.kept more c.in_ok-replies.ensures.kept;
+      answer = answer_by_replies c.args.dpid c.args.xid old new c.args.kept.now c.sort_out.new.kept came c.in_ok-replies.replies.parts.items c.in_ok-replies.replies.refusals.items c.in_ok-request.request c.asked-awaited.result.barrier c.judge_replies.result
+          (record { refusal = c.in_ok-waited.field-0; waits = waits; kept_so = c.in_ok-replies.ensures.kept })
+          c.in_ok-replies.ensures.parts c.in_ok-replies.ensures.refusals c.in_ok-request.ensures.bytes (ap (λ (x : Awaited). x.barrier) c.asked-awaited.ensures)
+          c.judge_replies.ensures.rows c.judge_replies.ensures.no_refusal c.judge_replies.ensures.err;
+    }
