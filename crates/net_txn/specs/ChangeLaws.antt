@@ -66,6 +66,7 @@ Changes-by_host {Tells = Tells} d bytes seen net answer is = record {
   cause = tt;
   ports = refl;
   moment = refl;
+  room = refl;
   by_host = λ other h. record { answers = some_is answer other (sym is ∙ h); fault = tt; world = refl; stays = refl };
   by_switch = λ xid m none read. absurd (no_answer answer (sym is ∙ none));
 }
@@ -99,12 +100,13 @@ host_knows d bytes net views rows seen same known is =
 
 pub Changes-by_switch : {Own : Type 0} {Tells : Type 0} (d : ℕ) (bytes : List ℕ) (old new : Seen Own) (net now_net : NetState) (result : Result Answer TxnFault) (xid : ℕ) (m : Change)
     → answer_of_host d bytes net ≡ None → reading_of bytes ≡ Ok (enveloped xid (FlowMod m)) → MatchResult result (Asked Tells d m old new net now_net) (λ f. Stopped d m old new net now_net)
-    → Continues Tells old new → IfErr result (IsCause Tells d old new) → now_net.ports ≡ net.ports → now_net.moment ≡ net.moment → Changes Tells d bytes old new net now_net result
-Changes-by_switch {Tells = Tells} d bytes old new net now_net result xid m none read does continues cause ports moment = record {
+    → Continues Tells old new → IfErr result (IsCause Tells d old new) → now_net.ports ≡ net.ports → now_net.moment ≡ net.moment → now_net.room ≡ net.room → Changes Tells d bytes old new net now_net result
+Changes-by_switch {Tells = Tells} d bytes old new net now_net result xid m none read does continues cause ports moment room = record {
   continues = continues;
   cause = cause;
   ports = ports;
   moment = moment;
+  room = room;
   by_host = λ answer h. absurd (no_answer answer (sym h ∙ none));
   by_switch = λ other n _ again. subst (λ (x : Change). MatchResult result (Asked Tells d x old new net now_net) (λ f. Stopped d x old new net now_net)) (same_change xid other m n (sym read ∙ again)) does;
 }

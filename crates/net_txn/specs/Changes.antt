@@ -91,12 +91,13 @@ pub record ByHost {Own : Type 0} (answer : Answer) (old new : Seen Own) (net now
   pub world : new ≡ old
   pub stays : now_net ≡ net
 
--- Ports and moment stay, and each fault has its cause. The host's own answer is exactly that; else the switch answers.
+-- Ports, moment and room stay, and each fault has its cause. The host's own answer is exactly that; else the switch answers.
 pub record Changes {Own : Type 0} (Tells : Type 0) (d : ℕ) (bytes : List ℕ) (old new : Seen Own) (net now_net : NetState) (result : Result Answer TxnFault) : Type 0 where
   pub continues : Continues Tells old new
   pub cause : IfErr result (IsCause Tells d old new)
   pub ports : now_net.ports ≡ net.ports
   pub moment : now_net.moment ≡ net.moment
+  pub room : now_net.room ≡ net.room
   pub by_host : (answer : Answer) → answer_of_host d bytes net ≡ Some answer → ByHost answer old new net now_net result
   pub by_switch : (xid : ℕ) (m : Change) → answer_of_host d bytes net ≡ None → reading_of bytes ≡ Ok (enveloped xid (FlowMod m))
       → MatchResult result (Asked Tells d m old new net now_net) (λ f. Stopped d m old new net now_net)

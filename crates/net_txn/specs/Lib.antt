@@ -26,6 +26,16 @@ pub mod StepLaws
 pub mod InStepLaws
 pub mod ReachedLaws
 pub mod ConsequenceLaws
+pub mod Undos
+pub mod QuietLaws
+pub mod FareLaws
+pub mod UndoLaws
+pub mod FurtherLaws
+pub mod PlayLaws
+pub mod WholeLaws
+pub mod PartLaws
+pub mod NoticeLaws
+pub mod RestoreLaws
 pub mod Asks
 pub mod AskLaws
 pub mod AskSteps

@@ -1,7 +1,7 @@
 -- What the host keeps of its network: the views of the joined switches and their known ports, by switch ascending; what undoes the
 -- changes of the open transaction, newest last; the transaction id that is used next; the moment; and the messages that came while
--- something else was awaited. All of this is our own.
-use Rattle.std.specs.Prelude.{◌==◌, ℕ, ◌+◌, List, [], ◌∷◌, ◌++◌, Option, Some, None, if◌then◌else◌}
+-- something else was awaited; and how many faults of undos there is room for. All of this is our own.
+use Rattle.std.specs.Prelude.{◌==◌, false, ℕ, ◌+◌, List, [], ◌∷◌, ◌++◌, Option, Some, None, if◌then◌else◌}
 use Rattle.of_match.specs.declared.key.Key.{Key}
 use Rattle.of_wire.specs.declared.bodies.FlowMod.{FlowMod as Change}
 use Rattle.of_wire.specs.declared.message.Message.TheVariants.{FlowMod}
@@ -10,6 +10,7 @@ use Rattle.flow_table.specs.declared.view.TableView.{TableView}
 use Rattle.flow_table.specs.Change.{key_in, is_delete}
 use Rattle.flow_table.specs.Refusals.{no_buffer}
 use Rattle.net_txn.specs.declared.heard.Awaited.{Awaited}
+use Rattle.net_txn.specs.declared.logged.Fare.{Fare}
 use Rattle.net_txn.specs.declared.logged.Logged.{Logged}
 use Rattle.net_txn.specs.declared.ports.KnownPorts.{KnownPorts}
 
@@ -20,6 +21,7 @@ pub record NetState : Type 0 where
   pub xid : ℕ
   pub moment : ℕ
   pub kept : List (ℕ × List ℕ)
+  pub room : ℕ
 
 -- ---- Transaction ids: 1, 2, .., and behind the last one 1 again
 
@@ -46,8 +48,16 @@ delete_strict k = record {
   actions = [];
 }
 
+-- the inverse as it is sent
+unfoldable pub inverse_bytes : ℕ → Key → List ℕ
+inverse_bytes xid k = message_bytes xid (FlowMod (delete_strict k))
+
+-- how an inverse that was not sent fares
+abbrev pub no_fare : Fare
+no_fare = record { xid = 0; since = 0; failed = false }
+
 abbrev pub logged_at : ℕ → Key → Logged
-logged_at d k = record { dpid = d; key = k; inverse = message_bytes 0 (FlowMod (delete_strict k)) }
+logged_at d k = record { dpid = d; key = k; fare = no_fare }
 
 -- what a change that touches no row logs
 abbrev pub logged_by : ℕ → Change → Option Logged

@@ -68,7 +68,7 @@ pub first_got : (declared : List Declared) (d : ℕ) (b w : List ℕ) (ws : List
 unfolding MayStep MayAct
 first_got declared d b w ws rest t is may = some_is b w (sym may.0.0 ∙ ap (λ (xs : List (List ℕ)). slice_get xs 0) is)
 
-reply_is_none : (a : Awaited) (b : List ℕ) → b ≡ message_bytes a.barrier BarrierReply → is_reply (heard a b) ≡ false → ⊥
+pub reply_is_none : (a : Awaited) (b : List ℕ) → b ≡ message_bytes a.barrier BarrierReply → is_reply (heard a b) ≡ false → ⊥
 reply_is_none a b is other = let h : is_reply (heard a b) ≡ true = rw (is, heard-reply a) refl in absurd cc
 
 -- where only the reply waits, nothing came before it

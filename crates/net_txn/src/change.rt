@@ -48,6 +48,7 @@ impl Net {
         ensures cause { IfErr result (IsCause W.Tells dpid (W.seen world.old) (W.seen world.new)) }
         ensures ports { self.new.ports ≡ self.old.ports }
         ensures moment { self.new.moment ≡ self.old.moment }
+        ensures room { self.new.room ≡ self.old.room }
     {
         let awaited = await_from(dpid, self.xid);
         self.xid = following(awaited.barrier);

@@ -1,11 +1,13 @@
 //! Changes to the flow tables of switches, so that each stands behind a barrier before it is answered, and can be undone.
 #![tactic(auto)]
 
+mod abort;
 mod arrived;
 mod arriving;
 mod ask;
 mod asking;
 mod change;
+mod fares;
 mod fault;
 mod greeting;
 mod heard;
@@ -15,18 +17,23 @@ mod laws;
 mod leaving;
 mod logged;
 mod net;
+mod playing;
 mod ports;
 mod prepared;
 mod queue;
+mod quiet;
+mod room;
 mod replies;
 mod rows;
+mod trouble;
 mod txn;
+mod undo;
 mod views;
 mod wait;
 
 pub use fault::TxnFault;
 pub use laws::views_stay_in_order;
-pub use logged::Logged;
+pub use logged::{Fare, Logged};
 pub use net::Net;
 pub use ports::KnownPorts;
 pub use queue::EventQueue;

@@ -1,22 +1,37 @@
 //! What undoes a change.
 
-ghost use Rattle.std.specs.Prelude.{◌≡◌, IfOk};
-ghost use Rattle.net_txn.specs.Net.{delete_strict, logged_at};
+ghost use Rattle.std.specs.Prelude.{◌≡◌, IsOk};
+ghost use Rattle.of_wire.specs.Reading.{reading_of};
+ghost use Rattle.net_txn.specs.Net.{delete_strict, inverse_bytes, logged_at};
 
 use of_action::ActionList;
 use of_match::Key;
-use of_types::{ByteList, Dpid, flows, ports};
-use of_wire::{FlowMod, Message, encode};
-use std::alloc::{AllocError, Global};
+use of_types::{Dpid, Xid, flows, ports};
+use of_wire::{FlowMod, Message, encode_into};
+use std::alloc::Global;
 
-/// What undoes the addition of an entry.
+/// How many bytes an inverse has.
+pub(crate) const INVERSE: usize = 72;
+
+/// How an inverse fared in an undo.
+#[derive(Clone, Copy, Debug, PartialEq, Eq)]
+pub struct Fare {
+    /// The transaction id with which it was sent, else 0.
+    pub xid: Xid,
+    /// How many inverses were sent to its switch up to this one since the last barrier.
+    pub since: u32,
+    /// Whether its switch has failed.
+    pub failed: bool,
+}
+
+/// The addition of an entry, which is undone by the DELETE_STRICT of its key.
 #[derive(Drop, Debug)]
 pub struct Logged {
     pub dpid: Dpid,
     /// The key of the entry.
     pub key: Key,
-    /// The message that removes it, with a transaction id of 0 until it is sent.
-    pub inverse: ByteList,
+    /// Room for what an undo keeps of it.
+    pub fare: Fare,
 }
 
 /// The FLOW_MOD that removes the entry of a key, whatever its outputs.
@@ -37,15 +52,29 @@ fn deletion(alloc: Global, key: &Key) -> FlowMod
     }
 }
 
-/// What undoes the addition of the entry of a key.
-#[tactic(auto, unfolding(of_wire::specs::Spelling::message_size))]
-pub(crate) fn undoing(alloc: Global, dpid: Dpid, key: &Key) -> Result<Logged, AllocError>
-    ensures { IfOk result (λ l. l ≡ logged_at dpid key.now) }
+/// The message that undoes the addition of the entry of a key; takes no memory.
+#[tactic(auto, unfolding(of_wire::specs::Spelling::message_size, crate::specs::Net::inverse_bytes))]
+pub(crate) fn inverse_of(alloc: Global, key: &Key, xid: Xid) -> [u8; 72]
+    ensures bytes { result ≡ inverse_bytes xid key.now }
+    ensures read { IsOk (reading_of result) }
 {
-    let inverse = encode(alloc, 0, &Message::FlowMod(deletion(alloc, key)))?;
-    Ok(Logged {
+    let _priority = key.priority;
+    let mut bytes = [0; INVERSE];
+    encode_into(xid, &Message::FlowMod(deletion(alloc, key)), &mut bytes);
+    bytes
+}
+
+/// What undoes the addition of the entry of a key; takes no memory.
+pub(crate) fn undoing(dpid: Dpid, key: &Key) -> Logged
+    ensures { result ≡ logged_at dpid key.now }
+{
+    Logged {
         dpid,
         key: *key,
-        inverse,
-    })
+        fare: Fare {
+            xid: 0,
+            since: 0,
+            failed: false,
+        },
+    }
 }

@@ -7,6 +7,7 @@ use crate::heard::Awaited;
 use crate::logged::Logged;
 use crate::ports::KnownPorts;
 use crate::queue::MessageQueue;
+use crate::room::Room;
 use flow_table::TableView;
 use of_types::{ByteList, Dpid, Xid};
 use std::alloc::{AllocError, Global};
@@ -17,9 +18,6 @@ const MOST_MESSAGE: usize = 65_535;
 
 /// How many bytes of messages are kept during an undo.
 const UNDO_PLACE: usize = 1_048_576;
-
-/// How many messages the faults of an undo keep: two each, of an undo and of the abort behind it.
-const FAULT_MESSAGES: u8 = 4;
 
 /// What the host keeps of its switches: their tables as the owner sees them, their ports, what undoes the changes of
 /// the open transaction, and the messages that came while something else was awaited.
@@ -35,8 +33,8 @@ pub struct Net {
     pub(crate) kept: MessageQueue,
     /// The place for the messages that are kept during an undo, which takes no memory.
     pub(crate) place: Vec<u8>,
-    /// Room for the bytes of two faults of an undo: of each the message that was sent and the one that was got.
-    pub(crate) rooms: Vec<Vec<u8>>,
+    /// Room for the bytes of faults of undos.
+    pub(crate) rooms: Vec<Room>,
 }
 
 impl Model for Net {
@@ -52,18 +50,10 @@ impl Model for Net {
       xid = s.xid;
       moment = s.moment;
       kept = s.kept;
+      room = vec_len s.rooms;
     } };
 
     ghost invariant = { λ s. (vec_len s.buf ≡ 65535) × (1 ≤ s.xid) × (1048576 ≤ vec_capacity s.place) };
-}
-
-/// Room for the bytes of two faults.
-fn fault_rooms(alloc: Global) -> Result<Vec<Vec<u8>>, AllocError> {
-    let mut rooms = Vec::new(alloc);
-    for _room in 0..FAULT_MESSAGES {
-        rooms.push(Vec::with_capacity(alloc, MOST_MESSAGE)?)?;
-    }
-    Ok(rooms)
 }
 
 /// The transaction id behind one.
@@ -88,7 +78,7 @@ pub(crate) fn await_from(dpid: Dpid, xid: Xid) -> Awaited
 impl Net {
     /// A network of no switch, at moment 0. It takes the room that an undo needs.
     pub fn new(alloc: Global) -> Result<Net, AllocError>
-        ensures { IfOk result (λ n. n ≡ record { views = []; ports = []; log = []; xid = 1; moment = 0; kept = [] }) }
+        ensures { IfOk result (λ n. n ≡ record { views = []; ports = []; log = []; xid = 1; moment = 0; kept = []; room = 2 }) }
     {
         Ok(Net {
             alloc,
@@ -100,7 +90,7 @@ impl Net {
             moment: 0,
             kept: MessageQueue::new(alloc),
             place: Vec::with_capacity(alloc, UNDO_PLACE)?,
-            rooms: fault_rooms(alloc)?,
+            rooms: vec![in alloc; Room::new(alloc)?, Room::new(alloc)?]?,
         })
     }
 

@@ -74,13 +74,13 @@ fn added(alloc: Global, m: &FlowMod) -> Result<Option<ViewRow>, AllocError>
     }
 }
 
-fn undone(alloc: Global, dpid: Dpid, m: &FlowMod) -> Result<Option<Logged>, AllocError>
-    ensures { IfOk result (λ l. l ≡ logged_by dpid m.now) }
+fn undone(dpid: Dpid, m: &FlowMod) -> Option<Logged>
+    ensures { result ≡ logged_by dpid m.now }
 {
     if is_deleting(m) {
-        Ok(None)
+        None
     } else {
-        Ok(Some(undoing(alloc, dpid, &key_of(m))?))
+        Some(undoing(dpid, &key_of(m)))
     }
 }
 
@@ -118,7 +118,7 @@ pub(crate) fn prepare(
     ensures logged { IfOk result (λ p. p.logged ≡ logged_by dpid m) }
 {
     let row = added(alloc, &m)?;
-    let logged = undone(alloc, dpid, &m)?;
+    let logged = undone(dpid, &m);
     let frame = frame_of(alloc, xid, m)?;
     Ok(Prepared { frame, row, logged })
 }

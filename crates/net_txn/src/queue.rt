@@ -1,5 +1,6 @@
 //! Events, and messages of switches, in the order in which they came.
 
+ghost use Rattle.net_txn.specs.Waits.{KeptMore};
 ghost use Rattle.std.specs.Prelude.{◌≡◌, ◌==◌, ◌↔◌, not, filter, [], ◌∷◌, ◌++◌, drop, length, slice_get, IsTrue, OnOk, OnErr};
 
 use app_frames::Event;
@@ -102,6 +103,11 @@ impl MessageQueue {
         Ok(())
     }
 
+    /// Keeps a message where there is room for it that was taken before, else drops it; takes no memory. No such
+    /// room is kept yet, so it is dropped.
+    pub(crate) fn keep_or_drop(&mut self, dpid: Dpid, _message: &[u8])
+        ensures { KeptMore dpid self.old self.new }
+    {}
     /// Appends a message.
     pub fn append(&mut self, dpid: Dpid, message: ByteList) -> Result<(), AllocError>
         ensures ok { OnOk result (self.new ≡ self.old ++ (dpid, message) ∷ []) }

@@ -1,7 +1,8 @@
 //! A transaction over the network: changes that are kept together or not at all.
 
-ghost use Rattle.std.specs.Prelude.{◌≡◌, [], length, take, IfOk};
+ghost use Rattle.std.specs.Prelude.{◌≡◌, ◌≤◌, [], length, take, IfOk};
 ghost use Rattle.net_txn.specs.Changes.{Changes};
+ghost use Rattle.net_txn.specs.Undos.{Undoes};
 ghost use Rattle.net_txn.specs.Agreement.{Reaches, Steps};
 
 use crate::fault::TxnFault;
@@ -78,5 +79,15 @@ impl<'a> Txn<'a> {
         let Txn { net, start } = self;
         net.forget(start);
         Ok(net.none_released())
+    }
+
+    /// Closes the transaction: its changes are undone, newest first, and leave the log and the views. It goes on past the
+    /// fault of a switch with the others, and answers the first one. It takes no memory of its own.
+    pub fn abort<W: World>(self, world: &mut W) -> Result<(), TxnFault>
+        requires { 1 ≤ self.net.now.room }
+        ensures { Undoes W.Tells self.entry.start (W.seen world.old) (W.seen world.new) self.entry.net.now self.exit.0.now result }
+    {
+        let Txn { net, start } = self;
+        net.undo_from(world, start)
     }
 }

@@ -19,7 +19,7 @@ use outside::{LinkFault, World};
 use std::alloc::Global;
 
 /// How many messages without the reply to a barrier are too many.
-const FLOOD: u32 = 65_536;
+pub(crate) const FLOOD: u32 = 65_536;
 
 /// Sends one message to a switch.
 pub(crate) fn send<W: World>(world: &mut W, dpid: Dpid, frame: &[u8]) -> Result<(), TxnFault>
@@ -67,7 +67,7 @@ pub(crate) fn receive<W: World>(
 
 /// Makes an ECHO_REQUEST its reply.
 #[tactic(auto, using(crate::specs::SizeLaws::sizes))]
-fn make_reply(message: &mut [u8])
+pub(crate) fn make_reply(message: &mut [u8])
     requires bytes { IsBytes message.old }
     requires read { IsOk (reading_of message.old) }
     requires kind { number_at 1 1 message.old ≡ 2 }

@@ -1,0 +1,367 @@
+-- How logged additions are undone: newest first over all switches each key is removed again (OpenFlow 1.0.0, 5.3.3 Modify State
+-- Messages: DELETE_STRICT), with barriers behind (5.3.7 Barrier Message). A switch that fails is left alone from then on. What is
+-- done is a list of parts, newest first, as the log is read from its end. All of this is our own choice.
+use Rattle.std.specs.Prelude.{◌≡◌, ◌≢◌, ◌==◌, ℕ, ◌+◌, ◌^◌, ◌<◌, ◌≤◌, Bool, true, false, List, [], ◌∷◌, ◌++◌, length, take, drop, map, Option, Some, None, Result, Ok, Err, IsOk, IsErr, if◌then◌else◌}
+use Rattle.std.specs.List.{AllByRecursion, list_any}
+use Rattle.std.proofs.Common.{zero, suc}
+use Rattle.lego_io.specs.Count.{Rose}
+use Rattle.of_types.specs.Fields.{number_at}
+use Rattle.of_types.specs.declared.journal.Act.TheVariants.{Sent, Got}
+use Rattle.of_match.specs.declared.key.Key.{Key}
+use Rattle.of_wire.specs.Reading.{reading_of}
+use Rattle.flow_table.specs.declared.view.TableView.{TableView}
+use Rattle.flow_table.specs.Table.{TableState, IsTable}
+use Rattle.flow_table.specs.Switch.{SwitchState}
+use Rattle.flow_table.specs.Undone.{undone}
+use Rattle.outside.specs.declared.faults.LinkFault.{LinkFault}
+use Rattle.outside.specs.declared.faults.LinkFault.TheVariants as linking
+use Rattle.outside.specs.declared.step.WorldStep.{WorldStep}
+use Rattle.outside.specs.declared.step.WorldStep.TheVariants.{Acted, SendFailed, RecvFailed}
+use Rattle.outside.specs.Seen.{Counts, Seen, Continues}
+use Rattle.outside.specs.State.{State, state, switch_of, waits_of}
+use Rattle.outside.specs.Conforming.{Conforming}
+use Rattle.exact_undo.specs.Serials.{IsSerialed}
+use Rattle.exact_undo.specs.Removal.{OnlyAdded}
+use Rattle.net_txn.specs.declared.fault.TxnFault.{TxnFault}
+use Rattle.net_txn.specs.declared.fault.TxnFault.TheVariants.{SwitchFault, SwitchBroke, Diverged, Flooded, NoMemory}
+use Rattle.net_txn.specs.declared.heard.Awaited.{Awaited}
+use Rattle.net_txn.specs.declared.logged.Fare.{Fare}
+use Rattle.net_txn.specs.declared.logged.Logged.{Logged}
+use Rattle.net_txn.specs.declared.trouble.Trouble.{Trouble}
+use Rattle.net_txn.specs.declared.trouble.Trouble.TheVariants as troubles
+use Rattle.net_txn.specs.Causes.{flood}
+use Rattle.net_txn.specs.Views.{with_rows}
+use Rattle.net_txn.specs.Arriving.{without_key}
+use Rattle.net_txn.specs.Net.{NetState, next_xid, inverse_bytes, no_fare}
+use Rattle.net_txn.specs.Waits.{heard, is_reply, wait_steps, barrier_sent, reply_got}
+
+-- ---- Steps of one switch
+
+abbrev pub IsStepOf : ℕ → WorldStep → Type 0
+IsStepOf d (Acted (Sent e bytes)) = e ≡ d
+IsStepOf d (Acted (Got e bytes)) = e ≡ d
+IsStepOf d (SendFailed e) = e ≡ d
+IsStepOf d (RecvFailed e) = e ≡ d
+IsStepOf d other = ⊥
+
+-- Calls of one switch went so: in a world that tells, its history goes on by these steps.
+pub record Moves {Own : Type 0} (Tells : Type 0) (d : ℕ) (steps : List WorldStep) (old new : Seen Own) : Type 0 where
+  pub continues : Continues Tells old new
+  pub each : AllByRecursion (IsStepOf d) steps
+  pub told : Tells → new.history ≡ old.history ++ steps
+
+-- ---- What a switch says to its inverses: each has its transaction id and its key, newest first.
+
+-- the key whose inverse was sent with this id
+abbrev pub key_sent : ℕ → List (ℕ × Key) → Option Key
+key_sent xid [] = None
+key_sent xid (p ∷ ps) = if p.0 == xid then Some p.1 else key_sent xid ps
+
+-- the key whose inverse this message refuses: it is an ERROR (1) with that id
+unfoldable pub key_refused : List (ℕ × Key) → List ℕ → Option Key
+key_refused sent bytes = if number_at 1 1 bytes == 1 then key_sent (number_at 4 4 bytes) sent else None
+
+-- what is awaited behind a barrier alone
+abbrev pub alone : ℕ → ℕ → Awaited
+alone d xid = record { dpid = d; first = xid; barrier = xid }
+
+-- messages before the reply to a barrier, none of which refuses an inverse
+pub record AreBefore (a : Awaited) (sent : List (ℕ × Key)) (got : List (List ℕ)) : Type 0 where
+  pub read : AllByRecursion (λ b. IsOk (reading_of b)) got
+  pub before_reply : AllByRecursion (λ b. is_reply (heard a b) ≡ false) got
+  pub unrefused : AllByRecursion (λ b. key_refused sent b ≡ None) got
+
+-- ---- Why a switch failed in an undo
+
+abbrev pub link_trouble : LinkFault → Trouble
+link_trouble linking.Failed = troubles.Link
+link_trouble linking.Short = troubles.Short
+
+abbrev pub fault_by : ℕ → Trouble → List ℕ → TxnFault
+fault_by d troubles.Link buf = SwitchFault d
+fault_by d (troubles.Broke n) buf = SwitchBroke d (take n buf)
+fault_by d (troubles.Refused k xid n) buf = Diverged d (inverse_bytes xid k) (take n buf)
+fault_by d troubles.Flooded buf = Flooded d flood
+fault_by d troubles.Short buf = NoMemory
+
+-- the last of the steps is that these bytes were got
+abbrev pub EndsBy : ℕ → List ℕ → List WorldStep → Type 0
+EndsBy d bytes steps = (front : List WorldStep) × (steps ≡ front ++ Acted (Got d bytes) ∷ [])
+
+-- these bytes refuse the inverse that was sent, and were got last in a wait
+pub record Refuses (d : ℕ) (sent : List (ℕ × Key)) (steps : List WorldStep) (inverse bytes : List ℕ) : Type 0 where
+  pub key : Key
+  pub of_key : key_refused sent bytes ≡ Some key
+  pub inverse_so : inverse ≡ inverse_bytes (number_at 4 4 bytes) key
+  pub awaited : Awaited
+  pub of_switch : awaited.dpid ≡ d
+  pub is_xid : awaited.barrier < 2 ^ 32
+  pub got : List (List ℕ)
+  pub before : AreBefore awaited sent got
+  pub steps_so : steps ≡ barrier_sent awaited ∷ (wait_steps awaited got ++ Acted (Got awaited.dpid bytes) ∷ [])
+
+-- Each fault is of its switch: the link's count rose; the bytes that were got last are no message, or refuse an inverse; too many
+-- messages came before the reply to a barrier. Memory was wanting only where the world's own was.
+abbrev pub IsFaultOf : ℕ → List (ℕ × Key) → Counts → Counts → List WorldStep → TxnFault → Type 0
+IsFaultOf d sent old new steps (SwitchFault e) = (e ≡ d) × Rose (old.link_faults d) (new.link_faults d)
+IsFaultOf d sent old new steps (SwitchBroke e bytes) = (e ≡ d) × IsErr (reading_of bytes) × EndsBy d bytes steps
+IsFaultOf d sent old new steps (Diverged e inverse bytes) = (e ≡ d) × Refuses d sent steps inverse bytes
+IsFaultOf d sent old new steps (Flooded e n) = (e ≡ d) × (n ≡ flood)
+IsFaultOf d sent old new steps NoMemory = Rose old.shorts new.shorts × Rose (old.shorts_of d) (new.shorts_of d)
+
+-- calls of one switch behind others of it, the last of which failed
+pub record FailsAfter {Own : Type 0} (Tells : Type 0) (d : ℕ) (sent : List (ℕ × Key)) (front : List WorldStep) (old new : Seen Own) (fault : TxnFault) : Type 0 where
+  pub steps : List WorldStep
+  pub moves : Moves Tells d steps old new
+  pub cause : IsFaultOf d sent old.counts new.counts (front ++ steps) fault
+
+abbrev pub Fails : {Own : Type 0} → Type 0 → ℕ → List (ℕ × Key) → Seen Own → Seen Own → TxnFault → Type 0
+Fails Tells d sent old new fault = FailsAfter Tells d sent [] old new fault
+
+-- a barrier whose reply was got, at most 65,535 messages before it
+pub record Settles {Own : Type 0} (Tells : Type 0) (a : Awaited) (front : List WorldStep) (sent : List (ℕ × Key)) (old new : Seen Own) : Type 0 where
+  pub got : List (List ℕ)
+  pub few : length got ≤ 65535
+  pub before : AreBefore a sent got
+  pub moves : Moves Tells a.dpid (front ++ (wait_steps a got ++ reply_got a ∷ [])) old new
+
+-- a wait that has not ended yet, after so many messages
+pub record HearsOn {Own : Type 0} (Tells : Type 0) (a : Awaited) (sent : List (ℕ × Key)) (old new : Seen Own) (n : ℕ) : Type 0 where
+  pub got : List (List ℕ)
+  pub count : length got ≡ n
+  pub before : AreBefore a sent got
+  pub moves : Moves Tells a.dpid (wait_steps a got) old new
+
+-- one message was got, and it was the reply or it was not
+pub record HearsNext {Own : Type 0} (Tells : Type 0) (a : Awaited) (sent : List (ℕ × Key)) (old new : Seen Own) (ended : Bool) : Type 0 where
+  pub bytes : List ℕ
+  pub read : IsOk (reading_of bytes)
+  pub ends : ended ≡ is_reply (heard a bytes)
+  pub unrefused : key_refused sent bytes ≡ None
+  pub moves : Moves Tells a.dpid (wait_steps a (bytes ∷ [])) old new
+
+-- ---- The parts of an undo, each with its switch, newest first
+
+pub data Part : Type 0 where
+  -- the inverse for a key was sent, with this transaction id
+  Inverse : ℕ → Key → Part
+  -- a barrier was sent with this id, and behind these messages its reply was got
+  Settled : ℕ → List (List ℕ) → Part
+  -- a message with this id was to be sent, and the switch failed so, with these steps
+  Stuck : ℕ → TxnFault → List WorldStep → Part
+
+abbrev pub part_steps : ℕ → Part → List WorldStep
+part_steps d (Inverse xid k) = Acted (Sent d (inverse_bytes xid k)) ∷ []
+part_steps d (Settled xid got) = barrier_sent (alone d xid) ∷ (wait_steps (alone d xid) got ++ reply_got (alone d xid) ∷ [])
+part_steps d (Stuck xid fault steps) = steps
+
+abbrev pub steps_of : List (ℕ × Part) → List WorldStep
+steps_of [] = []
+steps_of (p ∷ older) = steps_of older ++ part_steps p.0 p.1
+
+abbrev pub parts_of : ℕ → List (ℕ × Part) → List Part
+parts_of d [] = []
+parts_of d (p ∷ older) = if p.0 == d then p.1 ∷ parts_of d older else parts_of d older
+
+-- each part takes the next transaction id
+abbrev pub next_free : ℕ → List (ℕ × Part) → ℕ
+next_free xid [] = xid
+next_free xid (p ∷ older) = next_xid (next_free xid older)
+
+abbrev pub xid_of : Part → ℕ
+xid_of (Inverse xid k) = xid
+xid_of (Settled xid got) = xid
+xid_of (Stuck xid fault steps) = xid
+
+abbrev pub AreNumbered : ℕ → List (ℕ × Part) → Type 0
+AreNumbered xid [] = Unit {0}
+AreNumbered xid (p ∷ older) = (xid_of p.1 ≡ next_free xid older) × AreNumbered xid older
+
+-- the first fault of all
+abbrev pub fault_in : Part → Option TxnFault
+fault_in (Stuck xid fault steps) = Some fault
+fault_in other = None
+
+abbrev pub first_fault_of : Option TxnFault → Option TxnFault → Option TxnFault
+first_fault_of None later = later
+first_fault_of (Some fault) later = Some fault
+
+abbrev pub first_fault : List (ℕ × Part) → Option TxnFault
+first_fault [] = None
+first_fault (p ∷ older) = first_fault_of (first_fault older) (fault_in p.1)
+
+-- ---- The parts of one switch
+
+abbrev pub is_stuck : List Part → Bool
+is_stuck [] = false
+is_stuck (Stuck xid fault steps ∷ older) = true
+is_stuck (p ∷ older) = false
+
+-- how many inverses were sent since the last barrier
+abbrev pub since_of : List Part → ℕ
+since_of [] = 0
+since_of (Inverse xid k ∷ older) = since_of older + 1
+since_of (p ∷ older) = 0
+
+abbrev pub inverses_of : List Part → List (ℕ × Key)
+inverses_of [] = []
+inverses_of (Inverse xid k ∷ older) = (xid, k) ∷ inverses_of older
+inverses_of (p ∷ older) = inverses_of older
+
+pub record IsSettled (d xid : ℕ) (sent : List (ℕ × Key)) (got : List (List ℕ)) : Type 0 where
+  pub is_xid : xid < 2 ^ 32
+  pub few : length got ≤ 65535
+  pub before : AreBefore (alone d xid) sent got
+
+-- its numbers fit their fields (5.1 OpenFlow Header and 5.3.3 Modify State Messages)
+pub record CanBeSent (xid : ℕ) (k : Key) : Type 0 where
+  pub is_xid : xid < 2 ^ 32
+  pub priority : k.priority < 2 ^ 16
+
+pub record IsStuckBy (d : ℕ) (sent : List (ℕ × Key)) (old new : Counts) (fault : TxnFault) (steps : List WorldStep) : Type 0 where
+  pub each : AllByRecursion (IsStepOf d) steps
+  pub cause : IsFaultOf d sent old new steps fault
+
+-- At most 4,096 inverses stand behind a barrier, no inverse was refused before the reply to a barrier, and nothing comes behind a
+-- fault, which has its cause in the calls between.
+abbrev pub IsRun : Counts → Counts → ℕ → List Part → Type 0
+IsRun old new d [] = Unit {0}
+IsRun old new d (Inverse xid k ∷ older) = CanBeSent xid k × (since_of older < 4096) × (is_stuck older ≡ false) × IsRun old new d older
+IsRun old new d (Settled xid got ∷ older) = IsSettled d xid (inverses_of older) got × (is_stuck older ≡ false) × IsRun old new d older
+IsRun old new d (Stuck xid fault steps ∷ older) = IsStuckBy d (inverses_of older) old new fault steps × (is_stuck older ≡ false) × IsRun old new d older
+
+-- ---- What the log keeps of its inverses that were played
+
+abbrev pub fare_of : ℕ → List Logged → Fare
+fare_of d [] = no_fare
+fare_of d (e ∷ es) = if e.dpid == d then e.fare else fare_of d es
+
+abbrev pub inverses_in : ℕ → List Logged → List (ℕ × Key)
+inverses_in d [] = []
+inverses_in d (e ∷ es) = if e.dpid == d then (e.fare.xid, e.key) ∷ inverses_in d es else inverses_in d es
+
+-- the keys that were logged for a switch
+abbrev pub keys_in : ℕ → List Logged → List Key
+keys_in d [] = []
+keys_in d (e ∷ es) = if e.dpid == d then e.key ∷ keys_in d es else keys_in d es
+
+-- where the newest of them stands
+abbrev pub IsFareAt : ℕ → List Logged → ℕ → Type 0
+IsFareAt d [] i = ⊥
+IsFareAt d (e ∷ es) zero = e.dpid ≡ d
+IsFareAt d (e ∷ es) (suc i) = ((e.dpid == d) ≡ false) × IsFareAt d es i
+
+-- an entry but for its fare
+abbrev pub with_fare : Fare → Logged → Logged
+with_fare fare e = record e { fare = fare }
+
+abbrev pub but_fare : Logged → ℕ × Key
+but_fare e = (e.dpid, e.key)
+
+abbrev pub is_viewed : ℕ → List TableView → Bool
+is_viewed d views = list_any (λ v. v.dpid == d) views
+
+-- how what was done with a switch stands to what the log keeps of it; `known` tells whether it is joined
+pub record Stands (known : Bool) (d : ℕ) (old new : Counts) (parts : List Part) (played : List Logged) : Type 0 where
+  pub unknown : known ≡ false → parts ≡ []
+  pub run : IsRun old new d parts
+  pub stuck : known ≡ true → (fare_of d played).failed ≡ is_stuck parts
+  pub since : known ≡ true → is_stuck parts ≡ false → (fare_of d played).since ≡ since_of parts
+  pub inverses : known ≡ true → is_stuck parts ≡ false → inverses_in d played ≡ inverses_of parts
+
+-- An undo so far: the inverses of these entries were played.
+pub record Undoing {Own : Type 0} (Tells : Type 0) (views : List TableView) (old new : Seen Own) (xid now_xid : ℕ) (played : List Logged) (parts : List (ℕ × Part)) : Type 0 where
+  pub continues : Continues Tells old new
+  pub told : Tells → new.history ≡ old.history ++ steps_of parts
+  pub next : now_xid ≡ next_free xid parts
+  pub numbered : AreNumbered xid parts
+  pub stands : (d : ℕ) → Stands (is_viewed d views) d old.counts new.counts (parts_of d parts) played
+
+-- no inverse of the switch stands behind its last barrier, unless it has failed
+abbrev pub IsSettledIn : ℕ → List Logged → Type 0
+IsSettledIn d played = (fare_of d played).failed ≡ false → (fare_of d played).since ≡ 0
+
+-- more messages were kept
+abbrev pub KeptSome : List (ℕ × List ℕ) → List (ℕ × List ℕ) → Type 0
+KeptSome kept now_kept = (more : List (ℕ × List ℕ)) × (now_kept ≡ kept ++ more)
+
+-- of the room for the bytes of faults none was taken without a fault, and that of one at most
+abbrev pub IsRoomLeft : Option TxnFault → Option TxnFault → ℕ → ℕ → Type 0
+IsRoomLeft fault now_fault room now_room = (now_fault ≡ None → (fault ≡ None) × (now_room ≡ room)) × (room ≤ now_room + 1) × ((fault ≡ None → ⊥) → now_room ≡ room)
+
+-- An undo so far, with its first fault, and fewer than 4,096 inverses behind the last barrier of each switch.
+pub record Further {Own : Type 0} (Tells : Type 0) (views : List TableView) (old new : Seen Own) (xid now_xid : ℕ) (played : List Logged) (fault : Option TxnFault) : Type 0 where
+  pub parts : List (ℕ × Part)
+  pub undoing : Undoing Tells views old new xid now_xid played parts
+  pub few : (d : ℕ) → since_of (parts_of d parts) < 4096
+  pub fault_so : fault ≡ first_fault parts
+
+-- the fault of a switch, where there is one
+abbrev pub fault_of : ℕ → Result (Unit {0}) Trouble → List ℕ → Option TxnFault
+fault_of d (Ok x) buf = None
+fault_of d (Err trouble) buf = Some (fault_by d trouble buf)
+
+-- the same, where so many may stand behind the last barrier of one switch, which has not failed
+pub record Pending {Own : Type 0} (Tells : Type 0) (views : List TableView) (old new : Seen Own) (xid now_xid : ℕ) (played : List Logged) (fault : Option TxnFault) (d : ℕ) : Type 0 where
+  pub parts : List (ℕ × Part)
+  pub undoing : Undoing Tells views old new xid now_xid played parts
+  pub few : (c : ℕ) → c ≢ d → since_of (parts_of c parts) < 4096
+  pub free : is_stuck (parts_of d parts) ≡ false
+  pub fault_so : fault ≡ first_fault parts
+
+-- ---- The whole
+
+-- the views without logged keys
+abbrev pub without_keys : List (ℕ × Key) → List TableView → List TableView
+without_keys [] views = views
+without_keys (p ∷ ps) views = without_keys ps (with_rows p.0 (without_key p.1) views)
+
+-- the keys of one switch
+abbrev pub keys_of : ℕ → List (ℕ × Key) → List Key
+keys_of d [] = []
+keys_of d (p ∷ ps) = if p.0 == d then p.1 ∷ keys_of d ps else keys_of d ps
+
+abbrev pub ended_by : Option TxnFault → Result (Unit {0}) TxnFault
+ended_by None = Ok tt
+ended_by (Some fault) = Err fault
+
+-- Nothing is done with a switch that is not joined. With one that is and does not fail: the inverses of exactly its keys are sent,
+-- newest first, and a barrier behind them.
+pub record IsPlayedOn (known : Bool) (d : ℕ) (old new : Counts) (keys : List Key) (parts : List Part) : Type 0 where
+  pub unknown : known ≡ false → parts ≡ []
+  pub run : IsRun old new d parts
+  pub keys_so : known ≡ true → is_stuck parts ≡ false → map (λ p. p.1) (inverses_of parts) ≡ keys
+  pub settled : known ≡ true → is_stuck parts ≡ false → since_of parts ≡ 0
+
+-- the switch stands as it stood, and the same messages of it wait
+abbrev pub SameSwitch : ℕ → State → State → Type 0
+SameSwitch d old new = (switch_of d new ≡ switch_of d old) × (waits_of d new ≡ waits_of d old)
+
+-- the switch has the earlier table again, all else of it stands as it stood, and nothing of it waits
+pub record Restored (d : ℕ) (before : TableState) (s : SwitchState) (new : State) : Type 0 where
+  pub switch : switch_of d new ≡ Some (record s { table = undone before s.table s.moment })
+  pub waits : waits_of d new ≡ []
+
+-- What was logged from a place on is undone and forgotten, and the views lose its keys. It goes on past a fault with the other
+-- switches, and the first fault is answered. In a world that tells, no switch moves that is not joined; and where it keeps its word,
+-- each joined switch that did not fail, of which nothing waited, and whose table had but the logged keys added since an earlier one,
+-- has that table again. There no inverse is refused.
+pub record Undoes {Own : Type 0} (Tells : Type 0) (start : ℕ) (old new : Seen Own) (net now_net : NetState) (result : Result (Unit {0}) TxnFault) : Type 0 where
+  pub parts : List (ℕ × Part)
+  pub continues : Continues Tells old new
+  pub told : Tells → new.history ≡ old.history ++ steps_of parts
+  pub xid : now_net.xid ≡ next_free net.xid parts
+  pub numbered : AreNumbered net.xid parts
+  pub each : (d : ℕ) → IsPlayedOn (is_viewed d net.views) d old.counts new.counts (keys_of d (map but_fare (drop start net.log))) (parts_of d parts)
+  pub result_so : result ≡ ended_by (first_fault parts)
+  pub log : now_net.log ≡ take start net.log
+  pub views : now_net.views ≡ without_keys (map but_fare (drop start net.log)) net.views
+  pub ports : now_net.ports ≡ net.ports
+  pub moment : now_net.moment ≡ net.moment
+  pub kept : KeptSome net.kept now_net.kept
+  pub room : (net.room ≤ now_net.room + 1) × (IsOk result → now_net.room ≡ net.room)
+  pub others : (d : ℕ) → Tells → is_viewed d net.views ≡ false → SameSwitch d (state old) (state new)
+  pub accepted : (d : ℕ) (s : SwitchState) (inverse bytes : List ℕ) → Tells → Conforming new → switch_of d (state old) ≡ Some s → waits_of d (state old) ≡ [] → result ≡ Err (Diverged d inverse bytes) → ⊥
+  pub restored : (d : ℕ) (s : SwitchState) (before : TableState) → Tells → Conforming new → is_viewed d net.views ≡ true → is_stuck (parts_of d parts) ≡ false
+      → switch_of d (state old) ≡ Some s → waits_of d (state old) ≡ [] → IsTable before.entries → IsSerialed s.table
+      → OnlyAdded (keys_of d (map but_fare (drop start net.log))) before.entries s.table.entries → Restored d before s (state new)

@@ -1,0 +1,57 @@
+-- The law of a whole undo: what it says of each switch.
+use Rattle.std.specs.Prelude.{◌≡◌, ◌==◌, ℕ, Bool, true, false, List, [], ◌∷◌, map, take, drop, if◌then◌else◌, Option, Result, IsOk, ◌≤◌, ◌+◌, refl}
+use Rattle.std.proofs.Common.{sym, ap, ◌∙◌}
+use Rattle.of_match.specs.declared.key.Key.{Key}
+use Rattle.outside.specs.Seen.{Counts, Seen}
+use Rattle.net_txn.specs.declared.fault.TxnFault.{TxnFault}
+use Rattle.net_txn.specs.Net.{NetState}
+use Rattle.net_txn.specs.declared.logged.Logged.{Logged}
+use Rattle.net_txn.specs.RestoreLaws.{others_stay, restored, accepted}
+use Rattle.net_txn.specs.Undos.{Undoes, Further, KeptSome, ended_by, without_keys, is_viewed, parts_of, Part, inverses_in, keys_of, but_fare, IsSettledIn, Stands, IsPlayedOn}
+
+key_step : (here : Bool) (x : ℕ) (k : Key) (pairs : List (ℕ × Key)) (keys : List Key) → map (λ p. p.1) pairs ≡ keys → map (λ p. p.1) (if here then (x, k) ∷ pairs else pairs) ≡ (if here then k ∷ keys else keys)
+key_step true x k pairs keys is = ap (λ (ks : List Key). k ∷ ks) is
+key_step false x k pairs keys is = is
+
+pub keys-inverses_in : (d : ℕ) (es : List Logged) → map (λ p. p.1) (inverses_in d es) ≡ keys_of d (map but_fare es)
+keys-inverses_in d [] = refl
+keys-inverses_in d (e ∷ es) = key_step (e.dpid == d) e.fare.xid e.key (inverses_in d es) (keys_of d (map but_fare es)) (keys-inverses_in d es)
+
+pub played_on : (known : Bool) (d : ℕ) (old new : Counts) (parts : List Part) (played : List Logged) (all : List (ℕ × Key)) → map but_fare played ≡ all → Stands known d old new parts played → (known ≡ true → IsSettledIn d played) → IsPlayedOn known d old new (keys_of d all) parts
+played_on known d old new parts played all same s settled = record {
+  unknown = s.unknown;
+  run = s.run;
+  keys_so = λ k free. ap (λ (ps : List (ℕ × Key)). map (λ p. p.1) ps) (sym (s.inverses k free)) ∙ keys-inverses_in d played ∙ ap (keys_of d) same;
+  settled = λ k free. sym (s.since k free) ∙ settled k (s.stuck k ∙ free);
+}
+
+pub undoes : {Own : Type 0} {Tells : Type 0} (start from : ℕ) (old new : Seen Own) (net now_net : NetState) (result : Result (Unit {0}) TxnFault) (fault : Option TxnFault) (played : List Logged)
+    → take from net.log ≡ take start net.log → drop from net.log ≡ drop start net.log → result ≡ ended_by fault → Further Tells net.views old new net.xid now_net.xid played fault
+    → ((d : ℕ) → is_viewed d net.views ≡ true → IsSettledIn d played) → map but_fare played ≡ map but_fare (drop from net.log)
+    → now_net.views ≡ without_keys (map but_fare (drop from net.log)) net.views → now_net.log ≡ take from net.log → now_net.ports ≡ net.ports → now_net.moment ≡ net.moment
+    → KeptSome net.kept now_net.kept → (net.room ≤ now_net.room + 1) × (IsOk result → now_net.room ≡ net.room) → Undoes Tells start old new net now_net result
+undoes start from old new net now_net result fault played front rest is f settled same views log ports moment kept room =
+    let all : map but_fare played ≡ map but_fare (drop start net.log) = same ∙ ap (λ (es : List Logged). map but_fare es) rest in
+    let each : (d : ℕ) → IsPlayedOn (is_viewed d net.views) d old.counts new.counts (keys_of d (map but_fare (drop start net.log))) (parts_of d f.parts) = λ d.
+    played_on (is_viewed d net.views) d old.counts new.counts (parts_of d f.parts) played (map but_fare (drop start net.log)) all (f.undoing.stands d) (settled d) in
+    record {
+      parts = f.parts;
+      continues = f.undoing.continues;
+      told = f.undoing.told;
+      xid = f.undoing.next;
+      numbered = f.undoing.numbered;
+      each = each;
+      result_so = is ∙ ap ended_by f.fault_so;
+      log = log ∙ front;
+      views = views ∙ ap (λ (es : List Logged). without_keys (map but_fare es) net.views) rest;
+      ports = ports;
+      moment = moment;
+      kept = kept;
+      room = room;
+      others = λ d told unknown. others_stay old new d f.parts f.undoing.continues.given (f.undoing.told told) (λ c. (each c).run) ((each d).unknown unknown);
+      accepted = λ d s inverse bytes told conforming here waits err.
+          accepted old new d s inverse bytes f.parts result f.undoing.continues.given (f.undoing.told told) (λ c. (each c).run) conforming (is ∙ ap ended_by f.fault_so) here waits err;
+      restored = λ d s before told conforming known free here waits was serialed only.
+          restored old new d s before (keys_of d (map but_fare (drop start net.log))) f.parts f.undoing.continues.given (f.undoing.told told) (λ c. (each c).run) conforming free
+          ((each d).keys_so known free) ((each d).settled known free) here waits was serialed only;
+    }

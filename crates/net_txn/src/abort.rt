@@ -1,0 +1,45 @@
+//! The end of a transaction whose changes do not stay.
+
+ghost use Rattle.std.specs.Prelude.{◌≡◌, ◌≤◌, length, take, drop};
+ghost use Rattle.net_txn.specs.Undos.{Undoes};
+
+use crate::fault::TxnFault;
+use crate::logged::Logged;
+use crate::net::Net;
+use crate::undo::undo_log;
+use outside::World;
+
+/// A place of the log, its end where it is past it.
+fn place_in(log: &[Logged], start: usize) -> usize
+    ensures within { result ≤ length log.now }
+    ensures front { take result log.now ≡ take start log.now }
+    ensures rest { drop result log.now ≡ drop start log.now }
+{
+    if start < log.len() { start } else { log.len() }
+}
+
+impl Net {
+    /// Undoes what was logged from a place on, newest first, and forgets it. It goes on past the fault of a switch
+    /// with the others, and answers the first one. It takes no memory of its own.
+    pub(crate) fn undo_from<W: World>(
+        &mut self,
+        world: &mut W,
+        start: usize,
+    ) -> Result<(), TxnFault>
+        requires { 1 ≤ self.old.room }
+        ensures { Undoes W.Tells start (W.seen world.old) (W.seen world.new) self.old self.new result }
+    {
+        let from = place_in(&self.log, start);
+        undo_log(
+            world,
+            self.alloc,
+            &mut self.buf,
+            &mut self.kept,
+            &mut self.rooms,
+            &mut self.views,
+            &mut self.log,
+            from,
+            &mut self.xid,
+        )
+    }
+}

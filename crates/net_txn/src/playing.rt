@@ -1,0 +1,250 @@
+//! The inverses of a log, played newest first.
+
+ghost use Rattle.std.specs.Prelude.{◌≡◌, ◌+◌, ◌^◌, ◌<◌, ◌≤◌, ℕ, true, false, List, [], ◌∷◌, length, drop, map, Option, IfErr, OnOk, is_err, slice_index_or, slice_set};
+ghost use Rattle.outside.specs.Seen.{Seen};
+ghost use Rattle.flow_table.specs.declared.view.TableView.{TableView};
+ghost use Rattle.net_txn.specs.declared.fault.TxnFault.{TxnFault};
+ghost use Rattle.of_types.specs.declared.journal.Act.TheVariants.{Sent};
+ghost use Rattle.of_match.specs.declared.key.Key.{Key};
+ghost use Rattle.outside.specs.Calls.{most_message};
+ghost use Rattle.outside.specs.declared.step.WorldStep.TheVariants.{Acted};
+ghost use Rattle.net_txn.specs.declared.logged.Logged.{Logged};
+ghost use Rattle.net_txn.specs.Net.{next_xid, inverse_bytes};
+ghost use Rattle.net_txn.specs.Waits.{barrier_sent};
+ghost use Rattle.net_txn.specs.Undos.{IsSettledIn, KeptSome, Further, first_fault_of, fault_of, fare_of, Moves, Fails, Settles, fault_by, inverses_in, alone, is_viewed, with_fare, but_fare};
+
+use crate::fares::{fare_of, place_of};
+use crate::logged::{Fare, Logged, inverse_of};
+use crate::net::following;
+use crate::queue::MessageQueue;
+use crate::quiet::{send, settle};
+use crate::trouble::Trouble;
+use flow_table::TableView;
+use of_types::{Dpid, Xid};
+use outside::World;
+use std::alloc::Global;
+
+/// How many inverses are sent to a switch before a barrier.
+const MOST_SINCE: u32 = 4_096;
+
+/// Whether a switch has a view, so that it is joined.
+fn is_viewed(views: &[TableView], dpid: Dpid) -> bool
+    ensures { result ≡ is_viewed dpid views.now }
+{
+    views.iter().any(|view| view.dpid == dpid)
+}
+
+/// The log from a place on.
+pub(crate) fn behind(log: &[Logged], from: usize) -> &[Logged]
+    requires { from ≤ length log.now }
+    ensures { result.now ≡ drop from log.now }
+{
+    &log[from..]
+}
+
+/// Notes how an inverse fared.
+fn mark(log: &mut [Logged], at: usize, fare: Fare)
+    requires { at < length log.old }
+    ensures marked { (e : Logged) → log.new ≡ slice_set log.old at (with_fare fare (slice_index_or log.old at e)) }
+    ensures same { map but_fare log.new ≡ map but_fare log.old }
+{
+    log[at].fare = fare;
+}
+
+/// Sends the inverse at a place.
+fn send_at<W: World>(
+    world: &mut W,
+    alloc: Global,
+    log: &mut [Logged],
+    at: usize,
+    since: u32,
+    xid: Xid,
+) -> Result<(), Trouble>
+    requires { at < length log.old }
+    ensures ok { (e : Logged) → let entry = slice_index_or log.old at e in
+        OnOk result (Moves W.Tells entry.dpid (Acted (Sent entry.dpid (inverse_bytes xid entry.key)) ∷ []) (W.seen world.old) (W.seen world.new)) }
+    ensures err { (e : Logged) (sent : List (ℕ × Key)) (buf : List ℕ) → let entry = slice_index_or log.old at e in
+        IfErr result (λ t. Fails W.Tells entry.dpid sent (W.seen world.old) (W.seen world.new) (fault_by entry.dpid t buf)) }
+    ensures marked { (e : Logged) → log.new ≡ slice_set log.old at (with_fare (record { xid = xid; since = since; failed = is_err result }) (slice_index_or log.old at e)) }
+    ensures same { map but_fare log.new ≡ map but_fare log.old }
+    ensures priority { (e : Logged) → (slice_index_or log.old at e).key.priority < 2 ^ 16 }
+{
+    let dpid = log[at].dpid;
+    let _priority = log[at].key.priority;
+    let inverse = inverse_of(alloc, &log[at].key, xid);
+    let sent = send(world, dpid, &inverse);
+    let fare = Fare {
+        xid,
+        since,
+        failed: sent.is_err(),
+    };
+    mark(log, at, fare);
+    sent
+}
+
+/// Sends a barrier to the switch of the inverse at a place, the newest of those that were played to it from another
+/// place on, and waits for its reply.
+fn settle_at<W: World>(
+    world: &mut W,
+    buf: &mut [u8],
+    kept: &mut MessageQueue,
+    log: &mut [Logged],
+    from: usize,
+    at: usize,
+    xid: Xid,
+) -> Result<(), Trouble>
+    requires room { most_message ≤ length buf.old }
+    requires place { (from ≤ at) × (at < length log.old) }
+    ensures ok { (e : Logged) → let d = (slice_index_or log.old at e).dpid in
+        OnOk result (Settles W.Tells (alone d xid) (barrier_sent (alone d xid) ∷ []) (inverses_in d (drop from log.old)) (W.seen world.old) (W.seen world.new)) }
+    ensures err { (e : Logged) → let d = (slice_index_or log.old at e).dpid in
+        IfErr result (λ t. Fails W.Tells d (inverses_in d (drop from log.old)) (W.seen world.old) (W.seen world.new) (fault_by d t buf.new)) }
+    ensures marked { (e : Logged) → let entry = slice_index_or log.old at e in
+        log.new ≡ slice_set log.old at (with_fare (record { xid = entry.fare.xid; since = 0; failed = is_err result }) entry) }
+    ensures same { map but_fare log.new ≡ map but_fare log.old }
+    ensures kept { KeptSome kept.old kept.new }
+    ensures len { length buf.new ≡ length buf.old }
+{
+    let dpid = log[at].dpid;
+    let sent = log[at].fare.xid;
+    let settled = settle(world, buf, kept, behind(log, from), dpid, xid);
+    let fare = Fare {
+        xid: sent,
+        since: 0,
+        failed: settled.is_err(),
+    };
+    mark(log, at, fare);
+    settled
+}
+
+/// Takes the next transaction id.
+fn take_xid(xid: &mut Xid) -> Xid
+    ensures taken { result ≡ xid.old }
+    ensures next { xid.new ≡ next_xid xid.old }
+    ensures least { 1 ≤ xid.new }
+{
+    let taken = *xid;
+    *xid = following(taken);
+    taken
+}
+
+/// One inverse more behind the last barrier.
+fn one_more(since: u32) -> u32
+    ensures { since < 4096 → result ≡ since + 1 }
+{
+    if since < MOST_SINCE {
+        since + 1
+    } else {
+        MOST_SINCE
+    }
+}
+
+/// Plays the inverse at a place, to a switch that is joined and has not failed.
+fn play_to<W: World>(
+    world: &mut W,
+    alloc: Global,
+    buf: &mut [u8],
+    kept: &mut MessageQueue,
+    log: &mut [Logged],
+    at: usize,
+    since: u32,
+    xid: &mut Xid,
+) -> Result<(), Trouble>
+    requires room { most_message ≤ length buf.old }
+    requires place { at < length log.old }
+    ensures undoing { (base : Seen W.Own) (views : List TableView) (x : ℕ) (fault : Option TxnFault) (e : Logged) →
+        let d = (slice_index_or log.old at e).dpid in
+        let played = drop (at + 1) log.old in
+        Further W.Tells views base (W.seen world.old) x xid.old played fault → is_viewed d views ≡ true → (fare_of d played).failed ≡ false
+        → ((fare_of d played).since < 4096 → since ≡ (fare_of d played).since + 1)
+        → Further W.Tells views base (W.seen world.new) x xid.new (drop at log.new) (first_fault_of fault (fault_of d result buf.new)) }
+    ensures same { map but_fare log.new ≡ map but_fare log.old }
+    ensures kept { KeptSome kept.old kept.new }
+    ensures least { 1 ≤ xid.new }
+    ensures len { length buf.new ≡ length buf.old }
+{
+    let id = take_xid(xid);
+    send_at(world, alloc, log, at, since, id)?;
+    if since < MOST_SINCE {
+        return Ok(());
+    }
+    let id = take_xid(xid);
+    settle_at(world, buf, kept, log, at, at, id)
+}
+
+/// Whether an inverse is played to a switch: it is joined and has not failed.
+fn plays(fare: Fare, views: &[TableView], dpid: Dpid) -> bool
+    ensures yes { result ≡ true → (is_viewed dpid views.now ≡ true) × (fare.failed ≡ false) }
+    ensures no { result ≡ false → is_viewed dpid views.now ≡ true → fare.failed ≡ true }
+{
+    !fare.failed && is_viewed(views, dpid)
+}
+
+/// Plays the inverse at a place, unless its switch has failed or is not joined.
+pub(crate) fn play<W: World>(
+    world: &mut W,
+    alloc: Global,
+    buf: &mut [u8],
+    kept: &mut MessageQueue,
+    views: &[TableView],
+    log: &mut [Logged],
+    at: usize,
+    xid: &mut Xid,
+) -> Result<(), Trouble>
+    requires room { most_message ≤ length buf.old }
+    requires place { at < length log.old }
+    requires least { 1 ≤ xid.old }
+    ensures undoing { (base : Seen W.Own) (x : ℕ) (fault : Option TxnFault) (e : Logged) →
+        Further W.Tells views.now base (W.seen world.old) x xid.old (drop (at + 1) log.old) fault
+        → Further W.Tells views.now base (W.seen world.new) x xid.new (drop at log.new)
+        (first_fault_of fault (fault_of (slice_index_or log.old at e).dpid result buf.new)) }
+    ensures same { map but_fare log.new ≡ map but_fare log.old }
+    ensures kept { KeptSome kept.old kept.new }
+    ensures least { 1 ≤ xid.new }
+    ensures len { length buf.new ≡ length buf.old }
+{
+    let dpid = log[at].dpid;
+    let fare = fare_of(behind(log, at + 1), dpid);
+    if plays(fare, views, dpid) {
+        play_to(world, alloc, buf, kept, log, at, one_more(fare.since), xid)
+    } else {
+        let left_alone = Fare {
+            xid: 0,
+            since: 0,
+            failed: true,
+        };
+        mark(log, at, left_alone);
+        Ok(())
+    }
+}
+
+/// Sends a barrier to a switch for which some inverse was played, unless it has failed, and waits for its reply.
+pub(crate) fn settle_switch<W: World>(
+    world: &mut W,
+    buf: &mut [u8],
+    kept: &mut MessageQueue,
+    log: &mut [Logged],
+    dpid: Dpid,
+    xid: &mut Xid,
+) -> Result<(), Trouble>
+    requires room { most_message ≤ length buf.old }
+    requires least { 1 ≤ xid.old }
+    ensures undoing { (base : Seen W.Own) (views : List TableView) (x : ℕ) (fault : Option TxnFault) →
+        Further W.Tells views base (W.seen world.old) x xid.old log.old fault → is_viewed dpid views ≡ true
+        → Further W.Tells views base (W.seen world.new) x xid.new log.new (first_fault_of fault (fault_of dpid result buf.new)) }
+    ensures settled { IsSettledIn dpid log.new }
+    ensures others { (c : ℕ) → IsSettledIn c log.old → IsSettledIn c log.new }
+    ensures same { map but_fare log.new ≡ map but_fare log.old }
+    ensures kept { KeptSome kept.old kept.new }
+    ensures least { 1 ≤ xid.new }
+    ensures len { length buf.new ≡ length buf.old }
+{
+    let Some(at) = place_of(log, dpid) else {
+        return Ok(());
+    };
+    if log[at].fare.failed {
+        return Ok(());
+    }
+    let id = take_xid(xid);
+    settle_at(world, buf, kept, log, 0, at, id)
+}

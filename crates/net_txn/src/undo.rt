@@ -1,0 +1,244 @@
+//! The undo of what was logged from a place on.
+
+ghost use Rattle.std.specs.Prelude.{◌≡◌, ◌+◌, ◌<◌, ◌≤◌, ℕ, true, List, length, take, drop, map, Option, None, IsOk, vec_len};
+ghost use Rattle.net_txn.specs.declared.fault.TxnFault.{TxnFault};
+ghost use Rattle.outside.specs.Seen.{Seen};
+ghost use Rattle.flow_table.specs.declared.view.TableView.{TableView};
+ghost use Rattle.net_txn.specs.declared.logged.Logged.{Logged};
+ghost use Rattle.net_txn.specs.Undos.{ended_by, without_keys, Further, KeptSome, IsSettledIn, IsRoomLeft, is_viewed, but_fare};
+
+use crate::fault::TxnFault;
+use crate::logged::Logged;
+use crate::playing::{behind, play, settle_switch};
+use crate::queue::MessageQueue;
+use crate::room::{Room, note};
+use crate::views::remove_in;
+use flow_table::TableView;
+use of_types::{Dpid, Xid};
+use outside::World;
+use std::alloc::Global;
+
+/// Plays the inverse at a place, and notes the first fault.
+fn play_noted<W: World>(
+    world: &mut W,
+    alloc: Global,
+    buf: &mut [u8],
+    kept: &mut MessageQueue,
+    rooms: &mut Vec<Room>,
+    views: &[TableView],
+    log: &mut [Logged],
+    at: usize,
+    xid: &mut Xid,
+    fault: &mut Option<TxnFault>,
+)
+    requires buf { length buf.old ≡ 65535 }
+    requires place { at < length log.old }
+    requires least { 1 ≤ xid.old }
+    requires room { fault.old ≡ None → 1 ≤ vec_len rooms.old }
+    ensures undoing { (base : Seen W.Own) (x : ℕ) →
+        Further W.Tells views.now base (W.seen world.old) x xid.old (drop (at + 1) log.old) fault.old
+        → Further W.Tells views.now base (W.seen world.new) x xid.new (drop at log.new) fault.new }
+    ensures same { map but_fare log.new ≡ map but_fare log.old }
+    ensures kept { KeptSome kept.old kept.new }
+    ensures least { 1 ≤ xid.new }
+    ensures buf { length buf.new ≡ 65535 }
+    ensures room { IsRoomLeft fault.old fault.new (vec_len rooms.old) (vec_len rooms.new) }
+{
+    let dpid = log[at].dpid;
+    if let Err(trouble) = play(world, alloc, buf, kept, views, log, at, xid) {
+        note(alloc, rooms, fault, dpid, trouble, buf);
+    }
+}
+
+/// Plays the inverses of a log, newest first.
+fn play_all<W: World>(
+    world: &mut W,
+    alloc: Global,
+    buf: &mut [u8],
+    kept: &mut MessageQueue,
+    rooms: &mut Vec<Room>,
+    views: &[TableView],
+    log: &mut [Logged],
+    xid: &mut Xid,
+    fault: &mut Option<TxnFault>,
+)
+    requires buf { length buf.old ≡ 65535 }
+    requires least { 1 ≤ xid.old }
+    requires fault { fault.old ≡ None }
+    requires room { 1 ≤ vec_len rooms.old }
+    ensures undoing { Further W.Tells views.now (W.seen world.old) (W.seen world.new) xid.old xid.new log.new fault.new }
+    ensures same { map but_fare log.new ≡ map but_fare log.old }
+    ensures kept { KeptSome kept.old kept.new }
+    ensures least { 1 ≤ xid.new }
+    ensures buf { length buf.new ≡ 65535 }
+    ensures room { IsRoomLeft fault.old fault.new (vec_len rooms.old) (vec_len rooms.new) }
+{
+    let count = log.len();
+    for done in 0..count {
+        let at = count - 1 - done;
+        play_noted(world, alloc, buf, kept, rooms, views, log, at, xid, fault);
+    }
+}
+
+/// Settles a switch, and notes the first fault.
+fn settle_noted<W: World>(
+    world: &mut W,
+    alloc: Global,
+    buf: &mut [u8],
+    kept: &mut MessageQueue,
+    rooms: &mut Vec<Room>,
+    dpid: Dpid,
+    log: &mut [Logged],
+    xid: &mut Xid,
+    fault: &mut Option<TxnFault>,
+)
+    requires buf { length buf.old ≡ 65535 }
+    requires least { 1 ≤ xid.old }
+    requires room { fault.old ≡ None → 1 ≤ vec_len rooms.old }
+    ensures undoing { (base : Seen W.Own) (views : List TableView) (x : ℕ) →
+        Further W.Tells views base (W.seen world.old) x xid.old log.old fault.old → is_viewed dpid views ≡ true
+        → Further W.Tells views base (W.seen world.new) x xid.new log.new fault.new }
+    ensures settled { IsSettledIn dpid log.new }
+    ensures others { (c : ℕ) → IsSettledIn c log.old → IsSettledIn c log.new }
+    ensures same { map but_fare log.new ≡ map but_fare log.old }
+    ensures kept { KeptSome kept.old kept.new }
+    ensures least { 1 ≤ xid.new }
+    ensures buf { length buf.new ≡ 65535 }
+    ensures room { IsRoomLeft fault.old fault.new (vec_len rooms.old) (vec_len rooms.new) }
+{
+    if let Err(trouble) = settle_switch(world, buf, kept, log, dpid, xid) {
+        note(alloc, rooms, fault, dpid, trouble, buf);
+    }
+}
+
+/// Sends a barrier to each joined switch for which some inverse was played and which has not failed, ascending, and
+/// waits for its reply.
+fn settle_all<W: World>(
+    world: &mut W,
+    alloc: Global,
+    buf: &mut [u8],
+    kept: &mut MessageQueue,
+    rooms: &mut Vec<Room>,
+    views: &[TableView],
+    log: &mut [Logged],
+    xid: &mut Xid,
+    fault: &mut Option<TxnFault>,
+)
+    requires buf { length buf.old ≡ 65535 }
+    requires least { 1 ≤ xid.old }
+    requires room { fault.old ≡ None → 1 ≤ vec_len rooms.old }
+    ensures undoing { (base : Seen W.Own) (x : ℕ) → Further W.Tells views.now base (W.seen world.old) x xid.old log.old fault.old
+        → Further W.Tells views.now base (W.seen world.new) x xid.new log.new fault.new }
+    ensures settled { (c : ℕ) → is_viewed c views.now ≡ true → IsSettledIn c log.new }
+    ensures same { map but_fare log.new ≡ map but_fare log.old }
+    ensures kept { KeptSome kept.old kept.new }
+    ensures least { 1 ≤ xid.new }
+    ensures buf { length buf.new ≡ 65535 }
+    ensures room { IsRoomLeft fault.old fault.new (vec_len rooms.old) (vec_len rooms.new) }
+{
+    for view in views {
+        settle_noted(world, alloc, buf, kept, rooms, view.dpid, log, xid, fault);
+    }
+}
+
+/// Takes the rows of logged keys out of the views; takes no memory.
+pub(crate) fn take_keys(alloc: Global, views: &mut Vec<TableView>, log: &[Logged])
+    ensures { views.new.items ≡ without_keys (map but_fare log.now) views.old.items }
+{
+    for entry in log {
+        remove_in(alloc, views, entry.dpid, &entry.key);
+    }
+}
+
+/// Plays the inverses of a log, newest first, and then sends a barrier to each joined switch for which some was played
+/// and which has not failed, ascending, and waits for its reply.
+pub(crate) fn undo<W: World>(
+    world: &mut W,
+    alloc: Global,
+    buf: &mut [u8],
+    kept: &mut MessageQueue,
+    rooms: &mut Vec<Room>,
+    views: &[TableView],
+    log: &mut [Logged],
+    xid: &mut Xid,
+) -> Result<(), TxnFault>
+    requires buf { length buf.old ≡ 65535 }
+    requires least { 1 ≤ xid.old }
+    requires room { 1 ≤ vec_len rooms.old }
+    ensures undoing { (fault : Option TxnFault) × (result ≡ ended_by fault) × Further W.Tells views.now (W.seen world.old) (W.seen world.new) xid.old xid.new log.new fault }
+    ensures settled { (c : ℕ) → is_viewed c views.now ≡ true → IsSettledIn c log.new }
+    ensures same { map but_fare log.new ≡ map but_fare log.old }
+    ensures kept { KeptSome kept.old kept.new }
+    ensures least { 1 ≤ xid.new }
+    ensures buf { length buf.new ≡ 65535 }
+    ensures room { (vec_len rooms.old ≤ vec_len rooms.new + 1) × (IsOk result → vec_len rooms.new ≡ vec_len rooms.old) }
+{
+    let mut fault = None;
+    play_all(world, alloc, buf, kept, rooms, views, log, xid, &mut fault);
+    settle_all(world, alloc, buf, kept, rooms, views, log, xid, &mut fault);
+    match fault {
+        None => Ok(()),
+        Some(fault) => Err(fault),
+    }
+}
+
+/// The same for what was logged from a place on.
+fn undo_part<W: World>(
+    world: &mut W,
+    alloc: Global,
+    buf: &mut [u8],
+    kept: &mut MessageQueue,
+    rooms: &mut Vec<Room>,
+    views: &[TableView],
+    log: &mut [Logged],
+    from: usize,
+    xid: &mut Xid,
+) -> Result<(), TxnFault>
+    requires place { from ≤ length log.old }
+    requires buf { length buf.old ≡ 65535 }
+    requires least { 1 ≤ xid.old }
+    requires room { 1 ≤ vec_len rooms.old }
+    ensures undoing { (fault : Option TxnFault) × (result ≡ ended_by fault)
+        × Further W.Tells views.now (W.seen world.old) (W.seen world.new) xid.old xid.new (drop from log.new) fault }
+    ensures settled { (c : ℕ) → is_viewed c views.now ≡ true → IsSettledIn c (drop from log.new) }
+    ensures same { map but_fare (drop from log.new) ≡ map but_fare (drop from log.old) }
+    ensures front { take from log.new ≡ take from log.old }
+    ensures kept { KeptSome kept.old kept.new }
+    ensures least { 1 ≤ xid.new }
+    ensures buf { length buf.new ≡ 65535 }
+    ensures room { (vec_len rooms.old ≤ vec_len rooms.new + 1) × (IsOk result → vec_len rooms.new ≡ vec_len rooms.old) }
+{
+    undo(world, alloc, buf, kept, rooms, views, &mut log[from..], xid)
+}
+
+/// Undoes what was logged from a place on, and forgets it; its keys leave the views.
+pub(crate) fn undo_log<W: World>(
+    world: &mut W,
+    alloc: Global,
+    buf: &mut [u8],
+    kept: &mut MessageQueue,
+    rooms: &mut Vec<Room>,
+    views: &mut Vec<TableView>,
+    log: &mut Vec<Logged>,
+    from: usize,
+    xid: &mut Xid,
+) -> Result<(), TxnFault>
+    requires place { from ≤ vec_len log.old }
+    requires buf { length buf.old ≡ 65535 }
+    requires least { 1 ≤ xid.old }
+    requires room { 1 ≤ vec_len rooms.old }
+    ensures undoing { (fault : Option TxnFault) × (played : List Logged) × (result ≡ ended_by fault)
+        × Further W.Tells views.old.items (W.seen world.old) (W.seen world.new) xid.old xid.new played fault
+        × ((c : ℕ) → is_viewed c views.old.items ≡ true → IsSettledIn c played) × (map but_fare played ≡ map but_fare (drop from log.old.items)) }
+    ensures views { views.new.items ≡ without_keys (map but_fare (drop from log.old.items)) views.old.items }
+    ensures log { log.new.items ≡ take from log.old.items }
+    ensures kept { KeptSome kept.old kept.new }
+    ensures least { 1 ≤ xid.new }
+    ensures buf { length buf.new ≡ 65535 }
+    ensures room { (vec_len rooms.old ≤ vec_len rooms.new + 1) × (IsOk result → vec_len rooms.new ≡ vec_len rooms.old) }
+{
+    let undone = undo_part(world, alloc, buf, kept, rooms, views, log, from, xid);
+    take_keys(alloc, views, behind(log, from));
+    log.truncate(from);
+    undone
+}
