@@ -1,11 +1,11 @@
 -- How a call ends without a report: its status, and the one line that it writes. Our own choice.
 use Rattle.std.specs.Prelude.{ℕ, List, [], ◌∷◌, ◌++◌, codes}
-use Rattle.session_text.specs.declared.error.SessionError.{SessionError}
-use Rattle.session_text.specs.declared.error.SessionError.TheVariants as session
+use Rattle.session_text.specs.declared.error.PlainSessionError.{PlainSessionError}
+use Rattle.session_text.specs.declared.error.PlainSessionError.TheVariants as session
 use Rattle.legosdn.specs.declared.stop.Stop.{Stop}
 use Rattle.legosdn.specs.declared.stop.Stop.TheVariants.{Usage, BadInput, ReadFault, NoMemory}
 
-abbrev pub stop_of_session : SessionError → Stop
+abbrev pub stop_of_session : PlainSessionError → Stop
 stop_of_session session.BadInput = BadInput
 stop_of_session session.NoMemory = NoMemory
 

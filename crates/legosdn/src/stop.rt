@@ -4,7 +4,7 @@ ghost use Rattle.std.specs.Prelude.{◌≡◌};
 ghost use Rattle.legosdn.specs.Stops.{stop_of_session, stop_status, stop_line};
 ghost use Rattle.legosdn.specs.declared.stop.Stop.TheVariants.{NoMemory};
 
-use session_text::SessionError;
+use session_text::PlainSessionError;
 use std::alloc::AllocError;
 
 /// Why a call ends without a report. It writes one line, and has a status of its own.
@@ -54,13 +54,13 @@ impl From<AllocError> for Stop {
     }
 }
 
-impl From<SessionError> for Stop {
+impl From<PlainSessionError> for Stop {
     ghost from_gives = { λ error stop. stop ≡ stop_of_session error };
 
-    fn from(error: SessionError) -> Stop {
+    fn from(error: PlainSessionError) -> Stop {
         match error {
-            SessionError::BadInput => Stop::BadInput,
-            SessionError::NoMemory => Stop::NoMemory,
+            PlainSessionError::BadInput => Stop::BadInput,
+            PlainSessionError::NoMemory => Stop::NoMemory,
         }
     }
 }

@@ -12,7 +12,7 @@ ghost use Rattle.legosdn.specs.Stops.{stop_status, stop_line};
 use crate::engine::run;
 use crate::stop::Stop;
 use lego_io::{ReadAllFault, Sink, Source, read_all, write_all};
-use session_text::{MOST_INPUT, PlainWorld, read_session};
+use session_text::{MOST_INPUT, PlainWorld, read_plain_session};
 use std::alloc::Global;
 
 /// Whether the words are the one command, `replay`.
@@ -52,7 +52,7 @@ fn replay<S: Source>(alloc: Global, source: &mut S, sim: &mut PlainWorld) -> Res
     ensures never_fell { NeverFell (S.faults source.old) (S.faults source.new) }
 {
     let input = read_input(alloc, source)?;
-    let session = read_session(alloc, &input)?;
+    let session = read_plain_session(alloc, &input)?;
     Ok(run(alloc, &session, sim)?)
 }
 

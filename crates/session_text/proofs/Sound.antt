@@ -3,7 +3,7 @@ use Rattle.std.proofs.Common.{◌≡◌, ℕ, List, length, map, Result, Ok, Err
 use Rattle.std.specs.Global.{Global}
 use Rattle.std.proofs.lemmas.List.{length-map}
 use Rattle.lego_model.specs.declared.session.Session.{Session}
-use Rattle.session_text.specs.declared.text_fault.SessionTextError.{SessionTextError}
+use Rattle.session_text.specs.declared.text_fault.SessionError.{SessionError}
 use Rattle.session_text.specs.TextGives.{TextGives}
 use Rattle.session_text.specs.SessionView.{view_session}
 use Rattle.lego_model.specs.SessionLines.{SessionValue}
@@ -17,12 +17,12 @@ session_of_names names n text s read =
     let is = session_read (map (λ name. string_bytes name) names) n text s read in
     (is.0, subst (λ count. IsOf count s) (length-map names (λ (name : String Global). string_bytes name)) is.1)
 
-pub sound : (names : List (String Global)) (n : ℕ) (text : List ℕ) (r : Result Session SessionTextError)
+pub sound : (names : List (String Global)) (n : ℕ) (text : List ℕ) (r : Result Session SessionError)
     → TextGives view_session r (session_text (map (λ name. string_bytes name) names) n text) → IfOk r (λ session. IsSession (view_session session))
 sound names n text (Ok s) read = (session_of_names names n text (view_session s) read).0
 sound names n text (Err fault) read = tt
 
-pub named : (names : List (String Global)) (n : ℕ) (text : List ℕ) (r : Result Session SessionTextError)
+pub named : (names : List (String Global)) (n : ℕ) (text : List ℕ) (r : Result Session SessionError)
     → TextGives view_session r (session_text (map (λ name. string_bytes name) names) n text) → IfOk r (λ session. IsOf (length names) (view_session session))
 named names n text (Ok s) read = (session_of_names names n text (view_session s) read).1
 named names n text (Err fault) read = tt

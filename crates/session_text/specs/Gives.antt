@@ -3,15 +3,15 @@ use Rattle.std.specs.Prelude.{◌≡◌, ◌++◌, List, Result, Ok, Err}
 use Rattle.lego_model.specs.declared.turn.Addition.{Addition}
 use Rattle.lego_model.specs.Session.{Reply}
 use Rattle.lego_model.specs.Words.{Refusal, BadInput as bad_input, ◌>>=◌}
-use Rattle.session_text.specs.declared.error.SessionError.{SessionError}
-use Rattle.session_text.specs.declared.error.SessionError.TheVariants.{BadInput, NoMemory}
+use Rattle.session_text.specs.declared.error.PlainSessionError.{PlainSessionError}
+use Rattle.session_text.specs.declared.error.PlainSessionError.TheVariants.{BadInput, NoMemory}
 
-abbrev pub Fails : {Y : Type 0} → SessionError → Result Y Refusal → Type 0
+abbrev pub Fails : {Y : Type 0} → PlainSessionError → Result Y Refusal → Type 0
 Fails NoMemory read = Unit {0}
 Fails BadInput read = read ≡ Err bad_input
 
 -- The result, seen by view, is what reading gives, unless memory ran out.
-abbrev pub Gives : {X Y : Type 0} → (X → Y) → Result X SessionError → Result Y Refusal → Type 0
+abbrev pub Gives : {X Y : Type 0} → (X → Y) → Result X PlainSessionError → Result Y Refusal → Type 0
 Gives view (Ok x) read = read ≡ Ok (view x)
 Gives view (Err e) read = Fails e read
 

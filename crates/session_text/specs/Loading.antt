@@ -12,8 +12,8 @@ use Rattle.sim_world.specs.World.{WorldData, seen_of}
 use Rattle.sim_world.specs.Building.{insert_declared, Begins}
 use Rattle.lego_model.specs.declared.session.SessionFault.{SessionFault}
 use Rattle.lego_model.specs.SessionLines.{SessionValue}
-use Rattle.session_text.specs.declared.text_fault.SessionTextError.{SessionTextError}
-use Rattle.session_text.specs.declared.text_fault.SessionTextError.TheVariants as text
+use Rattle.session_text.specs.declared.text_fault.SessionError.{SessionError}
+use Rattle.session_text.specs.declared.text_fault.SessionError.TheVariants as text
 
 -- a switch of a session
 abbrev pub declared_of : ℕ × ℕ × List ℕ → Declared
@@ -58,10 +58,10 @@ with_stimuli stimuli given = record given { stimuli = given.stimuli ++ stimuli }
 
 -- What was read is the session that the world was given, or its first fault, where the world was given nothing. Want of memory says
 -- nothing of the text.
-abbrev pub LoadFails : SessionTextError → WorldData → WorldData → Result SessionValue SessionFault → Type 0
+abbrev pub LoadFails : SessionError → WorldData → WorldData → Result SessionValue SessionFault → Type 0
 LoadFails text.NoMemory old new read = Unit {0}
 LoadFails (text.Bad fault) old new read = (read ≡ Err fault) × (new ≡ old)
 
-abbrev pub Loads : {T : Type 0} → Result T SessionTextError → WorldData → WorldData → Result SessionValue SessionFault → Type 0
+abbrev pub Loads : {T : Type 0} → Result T SessionError → WorldData → WorldData → Result SessionValue SessionFault → Type 0
 Loads (Ok x) old new read = (s : SessionValue) × (read ≡ Ok s) × Begins (given_by s) (seen_of new)
 Loads (Err fault) old new read = LoadFails fault old new read

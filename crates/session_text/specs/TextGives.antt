@@ -6,8 +6,8 @@ use Rattle.lego_model.specs.declared.session.SessionKind.TheVariants.{Range}
 use Rattle.lego_model.specs.SessionWords.{◌>>=◌, unless, ascends, a_number}
 use Rattle.session_text.specs.declared.text_fault.LineFault.{LineFault}
 use Rattle.session_text.specs.declared.text_fault.LineFault.TheVariants.{Kind, NoMemory}
-use Rattle.session_text.specs.declared.text_fault.SessionTextError.{SessionTextError}
-use Rattle.session_text.specs.declared.text_fault.SessionTextError.TheVariants as text
+use Rattle.session_text.specs.declared.text_fault.SessionError.{SessionError}
+use Rattle.session_text.specs.declared.text_fault.SessionError.TheVariants as text
 
 abbrev pub Fails : {Y : Type 0} → LineFault → Result Y SessionKind → Type 0
 Fails NoMemory read = Unit {0}
@@ -19,11 +19,11 @@ Gives view (Ok x) read = read ≡ Ok (view x)
 Gives view (Err fault) read = Fails fault read
 
 -- the same for a whole text
-abbrev pub TextFails : {Y : Type 0} → SessionTextError → Result Y SessionFault → Type 0
+abbrev pub TextFails : {Y : Type 0} → SessionError → Result Y SessionFault → Type 0
 TextFails text.NoMemory read = Unit {0}
 TextFails (text.Bad fault) read = read ≡ Err fault
 
-abbrev pub TextGives : {X Y : Type 0} → (X → Y) → Result X SessionTextError → Result Y SessionFault → Type 0
+abbrev pub TextGives : {X Y : Type 0} → (X → Y) → Result X SessionError → Result Y SessionFault → Type 0
 TextGives view (Ok x) read = read ≡ Ok (view x)
 TextGives view (Err fault) read = TextFails fault read
 

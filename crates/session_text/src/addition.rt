@@ -7,7 +7,7 @@ ghost use Rattle.lego_model.specs.Grammar.{addition_in, addition_of as addition_
 ghost use Rattle.session_text.specs.Gives.{Gives};
 ghost use Rattle.session_text.specs.View.{view_switch, addition};
 
-use crate::error::SessionError;
+use crate::error::PlainSessionError;
 use crate::session::Switch;
 use crate::words::{is, number, split};
 use of_action::{Action, ActionList};
@@ -20,13 +20,13 @@ const PLAIN_SIZE: usize = 80;
 
 /// The bytes of a message, from hexadecimal digits of either case.
 #[tactic(auto, unfolding(lego_model::specs::Words::hex_bytes))]
-fn message_of(word: &[u8]) -> Result<[u8; 80], SessionError>
+fn message_of(word: &[u8]) -> Result<[u8; 80], PlainSessionError>
     ensures { Gives (λ bytes. bytes) result (hex_bytes 80 word.now) }
 {
     let mut bytes = [0u8; PLAIN_SIZE];
     match hex::decode_to_slice(word, &mut bytes) {
         Ok(()) => Ok(bytes),
-        Err(_) => Err(SessionError::BadInput),
+        Err(_) => Err(PlainSessionError::BadInput),
     }
 }
 
@@ -53,35 +53,39 @@ fn send_to(ports: &[u16], actions: &ActionList) -> bool
 }
 
 /// The FLOW_MOD of a message that adds an entry at a switch with these ports.
-fn addition_by(ports: &[u16], message: Message) -> Result<FlowMod, SessionError>
+fn addition_by(ports: &[u16], message: Message) -> Result<FlowMod, PlainSessionError>
     ensures value { Gives (λ flow. flow) result (addition_in_message ports.now message) }
     ensures for_good { IfOk result (λ flow. adds_for_good_in flow ≡ true) }
 {
     let Message::FlowMod(flow) = message else {
-        return Err(SessionError::BadInput);
+        return Err(PlainSessionError::BadInput);
     };
     if adds_for_good(&flow) && send_to(ports, &flow.actions) {
         Ok(flow)
     } else {
-        Err(SessionError::BadInput)
+        Err(PlainSessionError::BadInput)
     }
 }
 
 /// The FLOW_MOD that bytes spell, where it adds an entry at a switch with these ports.
 #[tactic(auto, unfolding(lego_model::specs::Messages::plain_add))]
-fn plain_add(alloc: Global, ports: &[u16], bytes: &[u8; 80]) -> Result<FlowMod, SessionError>
+fn plain_add(alloc: Global, ports: &[u16], bytes: &[u8; 80]) -> Result<FlowMod, PlainSessionError>
     ensures value { Gives (λ flow. flow) result (plain_add_in ports.now bytes.now) }
     ensures for_good { IfOk result (λ flow. adds_for_good_in flow ≡ true) }
 {
     match decode(alloc, bytes) {
         Ok(envelope) => addition_by(ports, envelope.message),
-        Err(WireFault::NoMemory) => Err(SessionError::NoMemory),
-        Err(_) => Err(SessionError::BadInput),
+        Err(WireFault::NoMemory) => Err(PlainSessionError::NoMemory),
+        Err(_) => Err(PlainSessionError::BadInput),
     }
 }
 
 /// The FLOW_MOD that the parts of a step spell.
-fn flow_of_parts(alloc: Global, switch: &Switch, parts: &[&[u8]]) -> Result<FlowMod, SessionError>
+fn flow_of_parts(
+    alloc: Global,
+    switch: &Switch,
+    parts: &[&[u8]],
+) -> Result<FlowMod, PlainSessionError>
     ensures value { Gives (addition switch.now.dpid) result (addition_in (view_switch switch.now) (map (λ p. p.now) parts.now)) }
     ensures for_good { IfOk result (λ flow. adds_for_good_in flow ≡ true) }
 {
@@ -91,13 +95,13 @@ fn flow_of_parts(alloc: Global, switch: &Switch, parts: &[&[u8]]) -> Result<Flow
             let bytes = message_of(hex)?;
             plain_add(alloc, &switch.ports, &bytes)
         }
-        _ => Err(SessionError::BadInput),
+        _ => Err(PlainSessionError::BadInput),
     }
 }
 
 /// The FLOW_MOD of a step, which adds an entry: `m:DPID:HEX`, of that switch.
 #[tactic(auto, unfolding(lego_model::specs::Grammar::addition_of))]
-pub fn flow_added(alloc: Global, switch: &Switch, step: &[u8]) -> Result<FlowMod, SessionError>
+pub fn flow_added(alloc: Global, switch: &Switch, step: &[u8]) -> Result<FlowMod, PlainSessionError>
     ensures value { Gives (addition switch.now.dpid) result (addition_at (view_switch switch.now) step.now) }
     ensures for_good { IfOk result (λ flow. adds_for_good_in flow ≡ true) }
 {

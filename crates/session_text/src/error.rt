@@ -1,14 +1,14 @@
 //! Why a text is not read as a session.
 
 ghost use Rattle.std.specs.Prelude.{◌≡◌};
-ghost use Rattle.session_text.specs.declared.error.SessionError.TheVariants.{NoMemory};
+ghost use Rattle.session_text.specs.declared.error.PlainSessionError.TheVariants.{NoMemory};
 
 use std::alloc::{AllocError, AllocFailed};
 use thiserror::Error;
 
 /// Why a text is not read as a session.
 #[derive(Clone, Copy, Debug, PartialEq, Eq, Error)]
-pub enum SessionError {
+pub enum PlainSessionError {
     /// The text is no session.
     #[error("bad input")]
     BadInput,
@@ -17,18 +17,18 @@ pub enum SessionError {
     NoMemory,
 }
 
-impl From<AllocError> for SessionError {
+impl From<AllocError> for PlainSessionError {
     ghost from_gives = { λ _ e. e ≡ NoMemory };
 
-    fn from(_e: AllocError) -> SessionError {
-        SessionError::NoMemory
+    fn from(_e: AllocError) -> PlainSessionError {
+        PlainSessionError::NoMemory
     }
 }
 
-impl<T: Drop> From<AllocFailed<T>> for SessionError {
+impl<T: Drop> From<AllocFailed<T>> for PlainSessionError {
     ghost from_gives = { λ _ e. e ≡ NoMemory };
 
-    fn from(_e: AllocFailed<T>) -> SessionError {
-        SessionError::NoMemory
+    fn from(_e: AllocFailed<T>) -> PlainSessionError {
+        PlainSessionError::NoMemory
     }
 }

@@ -7,7 +7,7 @@ ghost use Rattle.lego_model.specs.Grammar.{join_of as join_in, closing as closin
 ghost use Rattle.session_text.specs.Gives.{Gives};
 ghost use Rattle.session_text.specs.View.{view_switch, view_reply, view_session, view_input, as_list};
 
-use crate::error::SessionError;
+use crate::error::PlainSessionError;
 use crate::reply::reply_of;
 use crate::session::{Reply, Session, Switch};
 use crate::switch::switch_of;
@@ -19,17 +19,17 @@ use std::alloc::Global;
 pub const MOST_INPUT: usize = 67_108_864;
 
 /// The next line; one that is too long is refused.
-fn next_line<'a>(lines: &mut Lines<'a>) -> Result<Option<&'a [u8]>, SessionError>
+fn next_line<'a>(lines: &mut Lines<'a>) -> Result<Option<&'a [u8]>, PlainSessionError>
     ensures none { IfOk result (λ next. IfNone next (lines.old ≡ [])) }
     ensures some { IfOk result (λ next. IfSome next (λ line. (lines.old ≡ line.now ∷ lines.new) × (short line.now ≡ Ok line.now))) }
-    ensures long { IfErr result (λ e. (e ≡ SessionError.BadInput) × ((line : List ℕ) × (lines.old ≡ line ∷ lines.new) × (short line ≡ refused))) }
+    ensures long { IfErr result (λ e. (e ≡ PlainSessionError.BadInput) × ((line : List ℕ) × (lines.old ≡ line ∷ lines.new) × (short line ≡ refused))) }
 {
-    lines.next().map_err(|_| SessionError::BadInput)
+    lines.next().map_err(|_| PlainSessionError::BadInput)
 }
 
 /// Whether the words of a line let the switch join; they do nothing else.
 #[tactic(auto, unfolding(lego_model::specs::Grammar::join_of))]
-fn join_of(switch: &Switch, words: &[&[u8]]) -> Result<(), SessionError>
+fn join_of(switch: &Switch, words: &[&[u8]]) -> Result<(), PlainSessionError>
     ensures { Gives (λ _. Join switch.now.dpid) result (join_in (view_switch switch.now) (map (λ w. w.now) words.now)) }
 {
     match words {
@@ -37,7 +37,7 @@ fn join_of(switch: &Switch, words: &[&[u8]]) -> Result<(), SessionError>
             let _dpid = number(dpid, switch.dpid, switch.dpid)?;
             Ok(())
         }
-        _ => Err(SessionError::BadInput),
+        _ => Err(PlainSessionError::BadInput),
     }
 }
 
@@ -48,11 +48,11 @@ fn closing(
     reply: Option<Reply>,
     words: &[&[u8]],
     lines: &mut Lines<'_>,
-) -> Result<Session, SessionError>
+) -> Result<Session, PlainSessionError>
     ensures { Gives view_session result (closing_in (view_switch switch) (as_list (view_reply switch.dpid) reply) (map (λ w. w.now) words.now) lines.old) }
 {
     if next_line(lines)?.is_some() {
-        return Err(SessionError::BadInput);
+        return Err(PlainSessionError::BadInput);
     }
     join_of(&switch, words)?;
     Ok(Session {
@@ -69,7 +69,7 @@ fn joined(
     switch: Switch,
     reply: Option<Reply>,
     lines: &mut Lines<'_>,
-) -> Result<Session, SessionError>
+) -> Result<Session, PlainSessionError>
     ensures { Gives view_session result (joined_in (view_switch switch) (as_list (view_reply switch.dpid) reply) lines.old) }
 {
     match next_line(lines)? {
@@ -102,7 +102,7 @@ fn said(
     switch: Switch,
     words: &[&[u8]],
     lines: &mut Lines<'_>,
-) -> Result<Session, SessionError>
+) -> Result<Session, PlainSessionError>
     ensures { Gives view_session result (said_in (view_switch switch) (map (λ w. w.now) words.now) lines.old) }
 {
     if !is_reply(words) {
@@ -114,7 +114,11 @@ fn said(
 
 /// The session of a switch, from the lines behind its own.
 #[tactic(auto, unfolding(lego_model::specs::Grammar::scripted))]
-fn scripted(alloc: Global, switch: Switch, lines: &mut Lines<'_>) -> Result<Session, SessionError>
+fn scripted(
+    alloc: Global,
+    switch: Switch,
+    lines: &mut Lines<'_>,
+) -> Result<Session, PlainSessionError>
     ensures { Gives view_session result (scripted_in (view_switch switch) lines.old) }
 {
     match next_line(lines)? {
@@ -132,11 +136,11 @@ fn scripted(alloc: Global, switch: Switch, lines: &mut Lines<'_>) -> Result<Sess
 
 /// The session whose first line was read.
 #[tactic(auto, unfolding(lego_model::specs::Grammar::declared))]
-fn declared(alloc: Global, lines: &mut Lines<'_>) -> Result<Session, SessionError>
+fn declared(alloc: Global, lines: &mut Lines<'_>) -> Result<Session, PlainSessionError>
     ensures { Gives view_session result (declared_in lines.old) }
 {
     match next_line(lines)? {
-        None => Err(SessionError::BadInput),
+        None => Err(PlainSessionError::BadInput),
         Some(line) => {
             let words = words_of(alloc, line)?;
             let switch = switch_of(alloc, &words)?;
@@ -147,24 +151,24 @@ fn declared(alloc: Global, lines: &mut Lines<'_>) -> Result<Session, SessionErro
 
 /// What stands behind the separator: nothing, or a session.
 #[tactic(auto, unfolding(lego_model::specs::Grammar::body))]
-fn body(alloc: Global, lines: &mut Lines<'_>) -> Result<Option<Session>, SessionError>
+fn body(alloc: Global, lines: &mut Lines<'_>) -> Result<Option<Session>, PlainSessionError>
     ensures { Gives view_input result (body_in lines.old) }
 {
     match next_line(lines)? {
         None => Ok(None),
         Some(line) if is(line, b"session 1") => Ok(Some(declared(alloc, lines)?)),
-        Some(_) => Err(SessionError::BadInput),
+        Some(_) => Err(PlainSessionError::BadInput),
     }
 }
 
 /// What lines spell, the separator first.
 #[tactic(auto, unfolding(lego_model::specs::Grammar::of_lines))]
-fn of_lines(alloc: Global, lines: &mut Lines<'_>) -> Result<Option<Session>, SessionError>
+fn of_lines(alloc: Global, lines: &mut Lines<'_>) -> Result<Option<Session>, PlainSessionError>
     ensures { Gives view_input result (lines_in lines.old) }
 {
     match next_line(lines)? {
         Some(line) if is(line, b"---") => body(alloc, lines),
-        _ => Err(SessionError::BadInput),
+        _ => Err(PlainSessionError::BadInput),
     }
 }
 
@@ -173,11 +177,11 @@ fn of_lines(alloc: Global, lines: &mut Lines<'_>) -> Result<Option<Session>, Ses
 /// An input that spells no session is `BadInput`, also one of more than 67,108,864 bytes or with a line of
 /// more than 4,194,304 bytes. `NoMemory` says that memory ran out, and nothing of the input.
 #[tactic(auto, unfolding(lego_model::specs::Grammar::session_of))]
-pub fn read_session(alloc: Global, input: &[u8]) -> Result<Option<Session>, SessionError>
+pub fn read_plain_session(alloc: Global, input: &[u8]) -> Result<Option<Session>, PlainSessionError>
     ensures { Gives view_input result (session_in input.now) }
 {
     if input.len() > MOST_INPUT {
-        return Err(SessionError::BadInput);
+        return Err(PlainSessionError::BadInput);
     }
     of_lines(alloc, &mut Lines::new(input))
 }

@@ -26,10 +26,10 @@ mod words;
 mod world;
 
 pub use change::{PlainAct, PlainChange, key_of};
-pub use error::SessionError;
-pub use input::{MOST_INPUT, read_session};
-pub use loading::load_session;
+pub use error::PlainSessionError;
+pub use input::{MOST_INPUT, read_plain_session};
+pub use loading::read_session;
 pub use session::{Reply, Session, Switch};
-pub use text_fault::SessionTextError;
+pub use text_fault::SessionError;
 pub use whole_text::parse_session;
 pub use world::PlainWorld;

@@ -9,7 +9,7 @@ ghost use Rattle.session_text.specs.SessionView.{view_session, view_declared};
 ghost use Rattle.session_text.specs.Loading.{given_by, with_switches, with_faults, with_starts, with_replies, with_stimuli, Loads};
 ghost use Rattle.session_text.specs.LoadingLaws.{MayDeclare};
 
-use crate::text_fault::SessionTextError;
+use crate::text_fault::SessionError;
 use crate::whole_text::parse_session;
 use app_frames::{Script, StartScript};
 use lego_model::Session;
@@ -100,13 +100,13 @@ fn give_session(sim: &mut SimWorld, session: Session) -> Result<(), AllocError>
 /// The lines are counted from `first_line`, the number that the text's first line has in the whole input. An
 /// application is named in the text as in `names`, and in the world by its place among them. A text that is no
 /// session leaves the world as it was; want of memory may leave it with a part of the session.
-pub fn load_session(
+pub fn read_session(
     alloc: Global,
     text: &[u8],
     first_line: u64,
     names: &[String],
     sim: &mut SimWorld,
-) -> Result<(), SessionTextError>
+) -> Result<(), SessionError>
     requires first { first_line < 2 ^ 63 }
     requires new { IsNew sim.old }
     requires nothing { given_of sim.old ≡ nothing_given }

@@ -18,10 +18,10 @@ fn loaded(alloc: Global, text: &[u8]) -> Result<SimWorld, Fail> {
     let mut names = Vec::new(alloc);
     names.push(String::from_str(alloc, "app")?)?;
     let mut sim = SimWorld::new(alloc)?;
-    match load_session(alloc, text, FIRST, &names, &mut sim) {
+    match read_session(alloc, text, FIRST, &names, &mut sim) {
         Ok(()) => Ok(sim),
-        Err(SessionTextError::Bad(_)) => Err(Fail::from("refused")),
-        Err(SessionTextError::NoMemory) => Err(Fail::from("no memory")),
+        Err(SessionError::Bad(_)) => Err(Fail::from("refused")),
+        Err(SessionError::NoMemory) => Err(Fail::from("no memory")),
     }
 }
 
@@ -69,8 +69,8 @@ fn a_fault_leaves_the_world_as_it_was(rt: HostRuntime) -> Result<(), Fail> {
     let alloc = rt.alloc();
     let mut sim = SimWorld::new(alloc)?;
     let names = Vec::new(alloc);
-    match load_session(alloc, b"session 1\njoin 1\n", FIRST, &names, &mut sim) {
-        Err(SessionTextError::Bad(fault)) => assert!(rt; fault.line == FIRST + 1),
+    match read_session(alloc, b"session 1\njoin 1\n", FIRST, &names, &mut sim) {
+        Err(SessionError::Bad(fault)) => assert!(rt; fault.line == FIRST + 1),
         _ => return Err(Fail::from("not refused")),
     }
     Ok(())

@@ -8,7 +8,7 @@ ghost use Rattle.session_text.specs.Gives.{Gives};
 ghost use Rattle.session_text.specs.View.{view_switch, view_script, view_reply};
 
 use crate::addition::flow_added;
-use crate::error::SessionError;
+use crate::error::PlainSessionError;
 use crate::session::{Reply, Script, Switch};
 use crate::words::is;
 use lego_model::Ending;
@@ -19,7 +19,7 @@ use std::alloc::Global;
 const MOST_MESSAGES: usize = 999;
 
 /// The turn that the steps spell: messages, and then `done`, `closed` or nothing.
-fn turn_of(alloc: Global, switch: &Switch, steps: &[&[u8]]) -> Result<Script, SessionError>
+fn turn_of(alloc: Global, switch: &Switch, steps: &[&[u8]]) -> Result<Script, PlainSessionError>
     ensures { Gives (view_script switch.now.dpid) result (turn_in (view_switch switch.now) (map (λ w. w.now) steps.now)) }
 {
     let mut flows = Vec::new(alloc);
@@ -27,7 +27,7 @@ fn turn_of(alloc: Global, switch: &Switch, steps: &[&[u8]]) -> Result<Script, Se
     while let [step, more @ ..] = rest {
         if let Some(ending) = ending_of(step) {
             if !more.is_empty() {
-                return Err(SessionError::BadInput);
+                return Err(PlainSessionError::BadInput);
             }
             return Ok(Script { flows, ending });
         }
@@ -84,14 +84,14 @@ fn are_distinct(flows: &[FlowMod]) -> bool
 
 /// The turn that the words of a line spell.
 #[tactic(auto, unfolding(lego_model::specs::Grammar::reply_of))]
-pub fn reply_of(alloc: Global, switch: &Switch, words: &[&[u8]]) -> Result<Reply, SessionError>
+pub fn reply_of(alloc: Global, switch: &Switch, words: &[&[u8]]) -> Result<Reply, PlainSessionError>
     ensures { Gives (view_reply switch.now.dpid) result (reply_in (view_switch switch.now) (map (λ w. w.now) words.now)) }
 {
     match words {
         [first, app, steps @ ..] if is(first, b"reply") && is(app, b"app") && !steps.is_empty() => {
             bounded(switch, turn_of(alloc, switch, steps)?)
         }
-        _ => Err(SessionError::BadInput),
+        _ => Err(PlainSessionError::BadInput),
     }
 }
 
@@ -108,12 +108,12 @@ fn are_bounded(capacity: u32, flows: &[FlowMod]) -> bool
 
 /// The turn, where its FLOW_MODs are few enough and have different keys.
 #[tactic(auto, using(crate::proofs::Flows::flows_of_additions), unfolding(lego_model::specs::Grammar::bounded))]
-fn bounded(switch: &Switch, script: Script) -> Result<Reply, SessionError>
+fn bounded(switch: &Switch, script: Script) -> Result<Reply, PlainSessionError>
     ensures { Gives (view_reply switch.now.dpid) result (bounded_in (view_switch switch.now) (view_script switch.now.dpid script)) }
 {
     let Script { flows, ending } = script;
     if !are_bounded(switch.capacity, &flows) {
-        return Err(SessionError::BadInput);
+        return Err(PlainSessionError::BadInput);
     }
     Ok(Reply { flows, ending })
 }

@@ -6,7 +6,7 @@ ghost use Rattle.lego_model.specs.Grammar.{ascends as ascends_in, ports_of as po
 ghost use Rattle.session_text.specs.Gives.{Gives};
 ghost use Rattle.session_text.specs.View.{view_switch};
 
-use crate::error::SessionError;
+use crate::error::PlainSessionError;
 use crate::session::Switch;
 use crate::words::{is, number, split};
 use std::alloc::Global;
@@ -21,7 +21,7 @@ const LAST_PORT: u64 = 65_280;
 const MOST_ENTRIES: u64 = 4_096;
 
 /// Port numbers, each a decimal number of its own word.
-fn numbers(alloc: Global, words: &[&[u8]]) -> Result<Vec<u16>, SessionError>
+fn numbers(alloc: Global, words: &[&[u8]]) -> Result<Vec<u16>, PlainSessionError>
     ensures { Gives (λ v. v.items) result (numbers_in 1 65280 (map (λ w. w.now) words.now)) }
 {
     let mut ports = Vec::new(alloc);
@@ -45,7 +45,7 @@ fn ascends(ports: &[u16]) -> bool
 
 /// The ports that a word lists: `-`, or ascending numbers joined by `,`.
 #[tactic(auto, unfolding(lego_model::specs::Grammar::ports_of))]
-fn ports_of(alloc: Global, word: &[u8]) -> Result<Vec<u16>, SessionError>
+fn ports_of(alloc: Global, word: &[u8]) -> Result<Vec<u16>, PlainSessionError>
     ensures { Gives (λ v. v.items) result (ports_in word.now) }
 {
     if is(word, b"-") {
@@ -54,14 +54,14 @@ fn ports_of(alloc: Global, word: &[u8]) -> Result<Vec<u16>, SessionError>
     let pieces = split(alloc, word, b',')?;
     let ports = numbers(alloc, &pieces)?;
     if !ascends(&ports) || ports.len() > MOST_PORTS {
-        return Err(SessionError::BadInput);
+        return Err(PlainSessionError::BadInput);
     }
     Ok(ports)
 }
 
 /// The switch that the words of a line declare.
 #[tactic(auto, unfolding(lego_model::specs::Grammar::switch_of))]
-pub fn switch_of(alloc: Global, words: &[&[u8]]) -> Result<Switch, SessionError>
+pub fn switch_of(alloc: Global, words: &[&[u8]]) -> Result<Switch, PlainSessionError>
     ensures { Gives view_switch result (switch_in (map (λ w. w.now) words.now)) }
 {
     match words {
@@ -75,6 +75,6 @@ pub fn switch_of(alloc: Global, words: &[&[u8]]) -> Result<Switch, SessionError>
                 ports,
             })
         }
-        _ => Err(SessionError::BadInput),
+        _ => Err(PlainSessionError::BadInput),
     }
 }

@@ -2,7 +2,7 @@ ghost use Rattle.std.specs.Prelude.{◌≡◌, true, IfOk};
 ghost use Rattle.lego_model.specs.Messages.{adds_for_good};
 
 use super::*;
-use crate::SessionError::BadInput;
+use crate::PlainSessionError::BadInput;
 use lego_model::Ending;
 use of_action::{Action, ActionList};
 use of_match::Match;
@@ -66,7 +66,7 @@ fn port_1(alloc: Global) -> Result<FlowMod, AllocError>
 fn reads_sessions(rt: HostRuntime) -> Result<(), Fail> {
     let alloc = rt.alloc();
     for (input, ending) in [(DONE, Ending::Done), (CLOSED, Ending::Closed)] {
-        let session = read_session(alloc, input)?.ok_or("no session")?;
+        let session = read_plain_session(alloc, input)?.ok_or("no session")?;
         assert_eq!(rt; session.switch.dpid, 1);
         assert_eq!(rt; session.switch.capacity, 4);
         assert!(rt; session.switch.ports.as_slice() == [1, 2].as_slice());
@@ -80,7 +80,7 @@ fn reads_sessions(rt: HostRuntime) -> Result<(), Fail> {
 
 #[test]
 fn takes_just_the_grammar(rt: HostRuntime) -> Result<(), Fail> {
-    let cases: [(&[u8], Result<bool, SessionError>); 21] = [
+    let cases: [(&[u8], Result<bool, PlainSessionError>); 21] = [
         (b"", Err(BadInput)),
         (b"---", Ok(false)),
         (b"---\n", Ok(false)),
@@ -113,7 +113,7 @@ fn takes_just_the_grammar(rt: HostRuntime) -> Result<(), Fail> {
         (ONE_KEY_TWICE, Err(BadInput)),
     ];
     for (input, want) in cases {
-        let read = read_session(rt.alloc(), input).map(|session| session.is_some());
+        let read = read_plain_session(rt.alloc(), input).map(|session| session.is_some());
         assert_eq!(rt; read, want, "{}", input.escape_ascii());
     }
     Ok(())

@@ -2,7 +2,7 @@
 
 ghost use Rattle.std.specs.Prelude.{◌≡◌};
 ghost use Rattle.session_text.specs.declared.text_fault.LineFault.TheVariants as line;
-ghost use Rattle.session_text.specs.declared.text_fault.SessionTextError.TheVariants as text;
+ghost use Rattle.session_text.specs.declared.text_fault.SessionError.TheVariants as text;
 
 use lego_model::{SessionFault, SessionKind};
 use std::alloc::{AllocError, AllocFailed};
@@ -35,7 +35,7 @@ impl<T: Drop> From<AllocFailed<T>> for LineFault {
 
 /// Why a text is not read as a session.
 #[derive(Clone, Copy, Debug, PartialEq, Eq, Error)]
-pub enum SessionTextError {
+pub enum SessionError {
     /// The text is no session: the first fault.
     #[error("the text is no session")]
     Bad(SessionFault),
@@ -44,10 +44,10 @@ pub enum SessionTextError {
     NoMemory,
 }
 
-impl From<AllocError> for SessionTextError {
+impl From<AllocError> for SessionError {
     ghost from_gives = { λ _ e. e ≡ text.NoMemory };
 
-    fn from(_e: AllocError) -> SessionTextError {
-        SessionTextError::NoMemory
+    fn from(_e: AllocError) -> SessionError {
+        SessionError::NoMemory
     }
 }

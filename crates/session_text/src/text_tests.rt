@@ -17,8 +17,8 @@ fn read(alloc: Global, text: &[u8]) -> Result<Session, Fail> {
     names.push(String::from_str(alloc, "app")?)?;
     match parse_session(alloc, text, FIRST, &names) {
         Ok(session) => Ok(session),
-        Err(SessionTextError::Bad(_)) => Err(Fail::from("refused")),
-        Err(SessionTextError::NoMemory) => Err(Fail::from("no memory")),
+        Err(SessionError::Bad(_)) => Err(Fail::from("refused")),
+        Err(SessionError::NoMemory) => Err(Fail::from("no memory")),
     }
 }
 
@@ -28,8 +28,8 @@ fn fault_of(alloc: Global, text: &[u8]) -> Result<Option<(u64, SessionKind)>, Fa
     names.push(String::from_str(alloc, "app")?)?;
     match parse_session(alloc, text, FIRST, &names) {
         Ok(_) => Ok(None),
-        Err(SessionTextError::Bad(SessionFault { line, kind })) => Ok(Some((line, kind))),
-        Err(SessionTextError::NoMemory) => Err(Fail::from("no memory")),
+        Err(SessionError::Bad(SessionFault { line, kind })) => Ok(Some((line, kind))),
+        Err(SessionError::NoMemory) => Err(Fail::from("no memory")),
     }
 }
 

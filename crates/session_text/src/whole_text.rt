@@ -8,10 +8,10 @@ ghost use Rattle.lego_model.specs.SessionText.{at_first as at_first_in, is_skipp
 ghost use Rattle.lego_model.specs.SessionFacts.{IsSession, IsOf};
 ghost use Rattle.session_text.specs.TextGives.{Gives, TextGives};
 ghost use Rattle.session_text.specs.SessionView.{view_session, view_so_far, view_progress};
-ghost use Rattle.session_text.specs.declared.text_fault.SessionTextError.TheVariants.{Bad};
+ghost use Rattle.session_text.specs.declared.text_fault.SessionError.TheVariants.{Bad};
 ghost use Rattle.lego_model.specs.declared.session.SessionKind.TheVariants.{Long};
 
-use crate::text_fault::{LineFault, SessionTextError};
+use crate::text_fault::{LineFault, SessionError};
 use crate::text_lines::line_of;
 use crate::text_so_far::{SoFar, nothing};
 use crate::words::{is, words_of};
@@ -126,29 +126,26 @@ fn numbered_line(
     number: u64,
     progress: Progress,
     line: &[u8],
-) -> Result<Progress, SessionTextError>
+) -> Result<Progress, SessionError>
     requires { length line.now ≤ most_line }
     ensures { TextGives view_progress result (in_line number (next_line_in (map (λ s. string_bytes s) names.now) (view_progress progress) line.now)) }
 {
     match short_line(alloc, names, progress, line) {
         Ok(progress) => Ok(progress),
-        Err(LineFault::Kind(kind)) => Err(SessionTextError::Bad(SessionFault {
-            line: number,
-            kind,
-        })),
-        Err(LineFault::NoMemory) => Err(SessionTextError::NoMemory),
+        Err(LineFault::Kind(kind)) => Err(SessionError::Bad(SessionFault { line: number, kind })),
+        Err(LineFault::NoMemory) => Err(SessionError::NoMemory),
     }
 }
 
 /// The next line, which has this number; one that is too long is a fault.
-fn next_line<'a>(lines: &mut Lines<'a>, number: u64) -> Result<Option<&'a [u8]>, SessionTextError>
+fn next_line<'a>(lines: &mut Lines<'a>, number: u64) -> Result<Option<&'a [u8]>, SessionError>
     ensures none { IfOk result (λ next. IfNone next (lines.old ≡ [])) }
     ensures some { IfOk result (λ next. IfSome next (λ line. (lines.old ≡ line.now ∷ lines.new) × (length line.now ≤ most_line))) }
     ensures long { IfErr result (λ e. (e ≡ Bad (record { line = number; kind = Long })) × ((line : List ℕ) × (lines.old ≡ line ∷ lines.new) × (most_line < length line))) }
 {
     match lines.next() {
         Ok(next) => Ok(next),
-        Err(_) => Err(SessionTextError::Bad(SessionFault {
+        Err(_) => Err(SessionError::Bad(SessionFault {
             line: number,
             kind: SessionKind::Long,
         })),
@@ -161,7 +158,7 @@ fn all_lines(
     names: &[String],
     first: u64,
     lines: &mut Lines<'_>,
-) -> Result<Progress, SessionTextError>
+) -> Result<Progress, SessionError>
     requires { first + length lines.old < 2 ^ 64 }
     ensures { TextGives view_progress result (lines_from (map (λ s. string_bytes s) names.now) first at_first_in lines.old) }
 {
@@ -181,7 +178,7 @@ fn read_text(
     names: &[String],
     first: u64,
     text: &[u8],
-) -> Result<Session, SessionTextError>
+) -> Result<Session, SessionError>
     requires { first < 2 ^ 63 }
     ensures { TextGives view_session result (session_text (map (λ s. string_bytes s) names.now) first text.now) }
 {
@@ -198,7 +195,7 @@ pub fn parse_session(
     text: &[u8],
     first_line: u64,
     names: &[String],
-) -> Result<Session, SessionTextError>
+) -> Result<Session, SessionError>
     requires { first_line < 2 ^ 63 }
     // The session or the first fault, unless memory runs out.
     ensures exact { TextGives view_session result (session_text (map (λ s. string_bytes s) names.now) first_line text.now) }

@@ -6,7 +6,7 @@ ghost use Rattle.std.specs.List.{list_all, slice_split};
 ghost use Rattle.lego_model.specs.Words.{words_of as words_in, is_word, is_numeral, leads_with_zero as zero_leads, number as number_in, value_after};
 ghost use Rattle.session_text.specs.Gives.{Gives};
 
-use crate::error::SessionError;
+use crate::error::PlainSessionError;
 use std::alloc::{AllocError, Global};
 
 /// The pieces of a text between the bytes `separator`.
@@ -60,16 +60,16 @@ fn is_decimal(word: &[u8]) -> bool
 
 /// The number that a word spells, from `least` to `most`.
 #[tactic(auto, unfolding(lego_model::specs::Words::number))]
-pub fn number(word: &[u8], least: u64, most: u64) -> Result<u64, SessionError>
+pub fn number(word: &[u8], least: u64, most: u64) -> Result<u64, PlainSessionError>
     ensures value { Gives (λ n. n) result (number_in least most word.now) }
     ensures within { IfOk result (λ n. (least ≤ n) × (n ≤ most)) }
 {
     if !is_decimal(word) {
-        return Err(SessionError::BadInput);
+        return Err(PlainSessionError::BadInput);
     }
     match value_of(word) {
         Some(value) if least <= value && value <= most => Ok(value),
-        _ => Err(SessionError::BadInput),
+        _ => Err(PlainSessionError::BadInput),
     }
 }
 
