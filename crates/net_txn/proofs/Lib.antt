@@ -1,3 +1,4 @@
 pub mod RowTests
 pub mod Places
 pub mod FarePlaces
+pub mod PlaceSteps

@@ -41,3 +41,4 @@ pub mod AskLaws
 pub mod AskSteps
 pub mod ReplyLaws
 pub mod AskStepLaws
+pub mod Place

@@ -78,7 +78,7 @@ fn request_rows<W: World>(
 {
     let awaited = asked(dpid, xid);
     let request = flows_request(alloc, xid)?;
-    let mut came = MessageQueue::new(alloc);
+    let mut came = MessageQueue::new(alloc)?;
     let waited = ask(world, alloc, buf, &mut came, &awaited, request.as_slice());
     let replies = sort_out(alloc, came, kept, xid)?;
     waited?;

@@ -82,9 +82,9 @@ impl Net {
         ensures err { OnErr result (self.new ≡ self.old) }
     {
         let body = known_text(self.alloc, &self.ports, dpid)?;
+        self.kept.forget(dpid)?;
         forget_view(&mut self.views, dpid);
         forget_ports(&mut self.ports, dpid);
-        self.kept.forget(dpid);
         Ok(Event {
             kind: EventKind::Leave,
             dpid,

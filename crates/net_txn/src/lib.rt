@@ -17,6 +17,7 @@ mod laws;
 mod leaving;
 mod logged;
 mod net;
+mod place;
 mod playing;
 mod ports;
 mod prepared;

@@ -16,9 +16,6 @@ use std::marker::Model;
 /// How many bytes a message has at most.
 const MOST_MESSAGE: usize = 65_535;
 
-/// How many bytes of messages are kept during an undo.
-const UNDO_PLACE: usize = 1_048_576;
-
 /// What the host keeps of its switches: their tables as the owner sees them, their ports, what undoes the changes of
 /// the open transaction, and the messages that came while something else was awaited.
 #[derive(Drop, Debug)]
@@ -31,14 +28,12 @@ pub struct Net {
     pub(crate) xid: Xid,
     pub(crate) moment: u64,
     pub(crate) kept: MessageQueue,
-    /// The place for the messages that are kept during an undo, which takes no memory.
-    pub(crate) place: Vec<u8>,
     /// Room for the bytes of faults of undos.
     pub(crate) rooms: Vec<Room>,
 }
 
 impl Model for Net {
-    ghost use Rattle.std.specs.Prelude.{◌≡◌, ◌≤◌, vec_len, vec_capacity};
+    ghost use Rattle.std.specs.Prelude.{◌≡◌, ◌≤◌, vec_len};
     ghost use Rattle.net_txn.specs.Net.{NetState};
 
     ghost Value = { NetState };
@@ -53,7 +48,7 @@ impl Model for Net {
       room = vec_len s.rooms;
     } };
 
-    ghost invariant = { λ s. (vec_len s.buf ≡ 65535) × (1 ≤ s.xid) × (1048576 ≤ vec_capacity s.place) };
+    ghost invariant = { λ s. (vec_len s.buf ≡ 65535) × (1 ≤ s.xid) };
 }
 
 /// The transaction id behind one.
@@ -88,8 +83,7 @@ impl Net {
             log: Vec::new(alloc),
             xid: 1,
             moment: 0,
-            kept: MessageQueue::new(alloc),
-            place: Vec::with_capacity(alloc, UNDO_PLACE)?,
+            kept: MessageQueue::new(alloc)?,
             rooms: vec![in alloc; Room::new(alloc)?, Room::new(alloc)?]?,
         })
     }
@@ -122,7 +116,7 @@ impl Net {
         ensures rest { OnOk result (self.new ≡ record self.old { kept = drop 1 self.old.kept }) }
         ensures err { OnErr result (self.new ≡ self.old) }
     {
-        Ok(self.kept.take_first())
+        self.kept.take_first()
     }
 
     /// How much is logged.

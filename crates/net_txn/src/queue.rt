@@ -1,8 +1,10 @@
 //! Events, and messages of switches, in the order in which they came.
 
+ghost use Rattle.std.specs.Prelude.{◌≡◌, ◌==◌, ◌↔◌, ◌⊎◌, true, not, filter, [], ◌∷◌, ◌++◌, drop, length, slice_get, IsTrue, IfOk, OnOk, OnErr};
+ghost use Rattle.net_txn.specs.Place.{fits};
 ghost use Rattle.net_txn.specs.Waits.{KeptMore};
-ghost use Rattle.std.specs.Prelude.{◌≡◌, ◌==◌, ◌↔◌, not, filter, [], ◌∷◌, ◌++◌, drop, length, slice_get, IsTrue, OnOk, OnErr};
 
+use crate::place::Place;
 use app_frames::Event;
 use of_types::{ByteList, Dpid};
 use std::alloc::{AllocError, Global};
@@ -66,31 +68,34 @@ impl EventQueue {
     }
 }
 
-/// Messages that switches sent while something else was awaited, each with its switch, first in first out.
-/// Contracts see a list.
+/// Messages that switches sent while something else was awaited, each with its switch, first in first out. The
+/// newest may stand in a place of fixed size. Contracts see a list.
 #[derive(Drop, Debug)]
 pub struct MessageQueue {
     alloc: Global,
     messages: VecDeque<(Dpid, ByteList)>,
+    /// What came behind those, while no memory could be taken.
+    place: Place,
 }
 
 impl Model for MessageQueue {
-    ghost use Rattle.std.specs.Prelude.{List, ℕ};
+    ghost use Rattle.std.specs.Prelude.{List, ℕ, ◌++◌};
 
     ghost Value = { List (ℕ × List ℕ) };
 
-    ghost view = { λ s. s.messages.items };
+    ghost view = { λ s. s.messages.items ++ s.place };
 }
 
 impl MessageQueue {
-    /// No messages; takes no memory.
-    pub fn new(alloc: Global) -> MessageQueue
-        ensures { result ≡ [] }
+    /// No messages. It takes the place for those that are kept without memory.
+    pub fn new(alloc: Global) -> Result<MessageQueue, AllocError>
+        ensures { IfOk result (λ q. q ≡ []) }
     {
-        MessageQueue {
+        Ok(MessageQueue {
             alloc,
             messages: VecDeque::new(alloc),
-        }
+            place: Place::new(alloc)?,
+        })
     }
 
     /// Appends a copy of a message.
@@ -99,45 +104,76 @@ impl MessageQueue {
         ensures err { OnErr result (self.new ≡ self.old) }
     {
         let bytes = ByteList::from_slice(self.alloc, message)?;
+        gather(self.alloc, &mut self.messages, &mut self.place)?;
         self.messages.push_back((dpid, bytes))?;
         Ok(())
     }
 
-    /// Keeps a message where there is room for it that was taken before, else drops it; takes no memory. No such
-    /// room is kept yet, so it is dropped.
-    pub(crate) fn keep_or_drop(&mut self, dpid: Dpid, _message: &[u8])
-        ensures { KeptMore dpid self.old self.new }
-    {}
     /// Appends a message.
     pub fn append(&mut self, dpid: Dpid, message: ByteList) -> Result<(), AllocError>
         ensures ok { OnOk result (self.new ≡ self.old ++ (dpid, message) ∷ []) }
         ensures err { OnErr result (self.new ≡ self.old) }
     {
+        gather(self.alloc, &mut self.messages, &mut self.place)?;
         self.messages.push_back((dpid, message))?;
         Ok(())
     }
 
-    /// The messages, oldest first; takes no memory.
-    pub(crate) fn into_messages(self) -> VecDeque<(Dpid, ByteList)>
-        ensures { result.items ≡ self }
+    /// The messages, oldest first.
+    pub(crate) fn into_messages(self) -> Result<VecDeque<(Dpid, ByteList)>, AllocError>
+        ensures { IfOk result (λ messages. messages.items ≡ self) }
     {
-        self.messages
+        let mut queue = self;
+        gather(queue.alloc, &mut queue.messages, &mut queue.place)?;
+        Ok(queue.messages)
     }
 
-    /// Takes the oldest message out; takes no memory.
-    pub fn take_first(&mut self) -> Option<(Dpid, ByteList)>
-        ensures first { result ≡ slice_get self.old 0 }
-        ensures rest { self.new ≡ drop 1 self.old }
+    /// Appends a copy of a message where there is room for it that was taken before, else drops it; takes no memory.
+    /// There is room at least where it and all that is kept are at most 16,384 messages of 1,048,576 bytes together.
+    pub(crate) fn keep_or_drop(&mut self, dpid: Dpid, message: &[u8])
+        ensures kept_or_dropped { (self.new ≡ self.old ++ (dpid, message.now) ∷ []) ⊎ (self.new ≡ self.old) }
+        ensures fits { fits self.old message.now ≡ true → self.new ≡ self.old ++ (dpid, message.now) ∷ [] }
+        ensures more { KeptMore dpid self.old self.new }
     {
-        self.messages.pop_front()
+        self.place.keep_or_drop(dpid, message);
     }
 
-    /// Drops the messages of a switch; takes no memory.
-    pub fn forget(&mut self, dpid: Dpid)
-        ensures { self.new ≡ filter (λ m. not (m.0 == dpid)) self.old }
+    /// Takes the oldest message out.
+    pub fn take_first(&mut self) -> Result<Option<(Dpid, ByteList)>, AllocError>
+        ensures first { IfOk result (λ m. m ≡ slice_get self.old 0) }
+        ensures rest { OnOk result (self.new ≡ drop 1 self.old) }
+        ensures err { OnErr result (self.new ≡ self.old) }
     {
+        gather(self.alloc, &mut self.messages, &mut self.place)?;
+        Ok(self.messages.pop_front())
+    }
+
+    /// Drops the messages of a switch.
+    pub fn forget(&mut self, dpid: Dpid) -> Result<(), AllocError>
+        ensures ok { OnOk result (self.new ≡ filter (λ m. not (m.0 == dpid)) self.old) }
+        ensures err { OnErr result (self.new ≡ self.old) }
+    {
+        gather(self.alloc, &mut self.messages, &mut self.place)?;
         forget_of(&mut self.messages, dpid);
+        Ok(())
     }
+}
+
+/// Moves the messages of a place behind others.
+fn gather(
+    alloc: Global,
+    messages: &mut VecDeque<(Dpid, ByteList)>,
+    place: &mut Place,
+) -> Result<(), AllocError>
+    ensures ok { OnOk result (messages.new.items ≡ messages.old.items ++ place.old) }
+    ensures emptied { OnOk result (place.new ≡ []) }
+    ensures err { OnErr result (messages.new.items ≡ messages.old.items) }
+    ensures left { OnErr result (place.new ≡ place.old) }
+{
+    let mut copies = place.copies(alloc)?;
+    messages.append(&mut copies)?;
+    place.clear();
+    Ok(())
 }
 
 fn forget_of(messages: &mut VecDeque<(Dpid, ByteList)>, dpid: Dpid)

@@ -70,7 +70,8 @@ pub(crate) fn sort_out(
         parts: Vec::new(alloc),
         refusals: Vec::new(alloc),
     };
-    for (dpid, message) in came.into_messages() {
+    let messages = came.into_messages()?;
+    for (dpid, message) in messages {
         sort_one(&mut replies, kept, xid, dpid, message)?;
     }
     Ok(replies)

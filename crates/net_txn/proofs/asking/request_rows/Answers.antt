@@ -8,7 +8,7 @@ pub returns-in_err-replies : goal.returns-in_err-replies
 returns-in_err-replies g c =
     let p = err_from_is_err_and c.from_residual-in_err-replies.result c.from_residual-in_err-replies.ensures.1 in
     let came = c.ask-waited.new.kept in
-    let more = came_more g.W.World.Tells c.args.dpid c.args.xid c.asked-awaited.result _ (g.W.World.seen c.args.world.now) (g.W.World.seen c.ask-waited.new.world) c.new-came.result came c.ask-waited.result c.asked-awaited.ensures c.new-came.ensures c.ask-waited.ensures.ok c.ask-waited.ensures.kept in
+    let more = came_more g.W.World.Tells c.args.dpid c.args.xid c.asked-awaited.result _ (g.W.World.seen c.args.world.now) (g.W.World.seen c.ask-waited.new.world) c.in_ok-came.came came c.ask-waited.result c.asked-awaited.ensures c.in_ok-came.ensures c.ask-waited.ensures.ok c.ask-waited.ensures.kept in
     let (n, kept) = c.in_err-replies.ensures.kept_err in
     rw (p.1, p.2) (record {
       continues = c.ask-waited.ensures.continues;
@@ -20,7 +20,7 @@ pub returns-in_err-waited : goal.returns-in_err-waited
 returns-in_err-waited g c =
     let p = err_from_is_err_and c.from_residual-in_err-waited.result c.from_residual-in_err-waited.ensures.1 in
     let came = c.ask-waited.new.kept in
-    let more = came_more g.W.World.Tells c.args.dpid c.args.xid c.asked-awaited.result _ (g.W.World.seen c.args.world.now) (g.W.World.seen c.ask-waited.new.world) c.new-came.result came c.ask-waited.result c.asked-awaited.ensures c.new-came.ensures c.ask-waited.ensures.ok c.ask-waited.ensures.kept in
+    let more = came_more g.W.World.Tells c.args.dpid c.args.xid c.asked-awaited.result _ (g.W.World.seen c.args.world.now) (g.W.World.seen c.ask-waited.new.world) c.in_ok-came.came came c.ask-waited.result c.asked-awaited.ensures c.in_ok-came.ensures c.ask-waited.ensures.ok c.ask-waited.ensures.kept in
     rw (p.1, p.2) (record {
       continues = c.ask-waited.ensures.continues;
       kept_more = sorted_more c.args.dpid c.args.xid came c.args.kept.now c.sort_out.new.kept more c.in_ok-replies.ensures.kept;
@@ -35,8 +35,8 @@ returns g c =
     let came = c.ask-waited.new.kept in
     let old = g.W.World.seen c.args.world.now in
     let new = g.W.World.seen c.ask-waited.new.world in
-    let more = came_more g.W.World.Tells c.args.dpid c.args.xid c.asked-awaited.result _ old new c.new-came.result came c.ask-waited.result c.asked-awaited.ensures c.new-came.ensures c.ask-waited.ensures.ok c.ask-waited.ensures.kept in
-    let waits = asked_waits c.args.dpid c.args.xid c.asked-awaited.result c.as_slice.result.now old new c.new-came.result came c.in_ok-waited.field-0 c.asked-awaited.ensures (c.as_slice.ensures ∙ c.in_ok-request.ensures.bytes) c.new-came.ensures c.in_ok-waited.ensures.ok in
+    let more = came_more g.W.World.Tells c.args.dpid c.args.xid c.asked-awaited.result _ old new c.in_ok-came.came came c.ask-waited.result c.asked-awaited.ensures c.in_ok-came.ensures c.ask-waited.ensures.ok c.ask-waited.ensures.kept in
+    let waits = asked_waits c.args.dpid c.args.xid c.asked-awaited.result c.as_slice.result.now old new c.in_ok-came.came came c.in_ok-waited.field-0 c.asked-awaited.ensures (c.as_slice.ensures ∙ c.in_ok-request.ensures.bytes) c.in_ok-came.ensures c.in_ok-waited.ensures.ok in
     record {
       continues = c.ask-waited.ensures.continues;
       kept_more = sorted_more c.args.dpid c.args.xid came c.args.kept.now c.sort_out.new.kept more c.in_ok-replies.ensures.kept;

@@ -10,5 +10,5 @@ returns-in_err-sort_one-clause-kept_err c =
     let (came, _, _, kept) = c.loop-dpid.invariant in
     let xs = c.loop-dpid.yielded in
     let front : take (length xs) c.args.came ≡ xs = ap (take (length xs)) came ∙ take_at xs (into_iter_items c.loop-dpid.dpid-iterator) (length xs) refl in
-    let p = err_from_is_err_and c.from_residual.result c.from_residual.ensures.1 in
+    let p = err_from_is_err_and c.from_residual-in_err-sort_one.result c.from_residual-in_err-sort_one.ensures.1 in
     rw p.1 (length xs, c.in_err-sort_one.ensures.kept_err ∙ kept ∙ ap (λ (ms : List (ℕ × List ℕ)). c.args.kept.now ++ others_in c.args.xid ms) (sym front))

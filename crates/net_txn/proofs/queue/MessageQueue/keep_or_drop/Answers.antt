@@ -1,0 +1,14 @@
+use Rattle.net_txn.proofs.PlaceSteps.{put_last}
+use Rattle.net_txn.proofs.queue.MessageQueue.keep_or_drop.Goals as goal
+
+pub returns-clause-kept_or_dropped : goal.returns-clause-kept_or_dropped
+returns-clause-kept_or_dropped c =
+    (put_last c.self.inside.messages.items c.self.inside.place c.keep_or_drop.new.self c.args.self.now c.args.dpid c.args.message.now c.self.view_is c.keep_or_drop.ensures).one_or_none
+
+pub returns-clause-fits : goal.returns-clause-fits
+returns-clause-fits c =
+    (put_last c.self.inside.messages.items c.self.inside.place c.keep_or_drop.new.self c.args.self.now c.args.dpid c.args.message.now c.self.view_is c.keep_or_drop.ensures).one
+
+pub returns-clause-more : goal.returns-clause-more
+returns-clause-more c =
+    (put_last c.self.inside.messages.items c.self.inside.place c.keep_or_drop.new.self c.args.self.now c.args.dpid c.args.message.now c.self.view_is c.keep_or_drop.ensures).more
