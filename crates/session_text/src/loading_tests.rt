@@ -1,5 +1,3 @@
-ghost use Rattle.std.specs.Prelude.{◌≡◌, ◌≤◌, length};
-
 use super::*;
 use outside::{Item, StartFault, Taken, World};
 use sim_world::SimWorld;
@@ -26,11 +24,9 @@ fn loaded(alloc: Global, text: &[u8]) -> Result<SimWorld, Fail> {
 }
 
 /// What comes next, without its bytes.
-fn next_of(sim: &mut SimWorld, buf: &mut [u8]) -> Result<Item, Fail>
-    requires { 65535 ≤ length buf.old }
-    ensures { length buf.new ≡ length buf.old }
-{
-    match sim.next(buf) {
+fn next_of(alloc: Global, sim: &mut SimWorld) -> Result<Item, Fail> {
+    let mut buf = vec![in alloc; 0u8; 65_535]?;
+    match sim.next(&mut buf) {
         Ok(Item::From(dpid, _)) => Ok(Item::From(dpid, 0)),
         Ok(Item::Joined(dpid, _)) => Ok(Item::Joined(dpid, 0)),
         Ok(item) => Ok(item),
@@ -38,18 +34,33 @@ fn next_of(sim: &mut SimWorld, buf: &mut [u8]) -> Result<Item, Fail>
     }
 }
 
+/// What the first application gives.
+fn taken_of(alloc: Global, sim: &mut SimWorld) -> Result<Taken, Fail> {
+    let mut buf = vec![in alloc; 0u8; 16]?;
+    match sim.take(0, &mut buf) {
+        Ok(taken) => Ok(taken),
+        Err(_) => Err(Fail::from("no memory")),
+    }
+}
+
 #[test]
 fn stimuli_come_in_order(rt: HostRuntime) -> Result<(), Fail> {
     let alloc = rt.alloc();
     let mut sim = loaded(alloc, TEXT)?;
-    let mut buf = vec![in alloc; 0u8; 65_535]?;
-    assert!(rt; next_of(&mut sim, &mut buf)? == Item::Joined(9, 0));
-    assert!(rt; next_of(&mut sim, &mut buf)? == Item::Idle);
-    assert!(rt; next_of(&mut sim, &mut buf)? == Item::Moment(5));
-    assert!(rt; next_of(&mut sim, &mut buf)? == Item::Idle);
-    assert!(rt; next_of(&mut sim, &mut buf)? == Item::Joined(7, 0));
-    assert!(rt; next_of(&mut sim, &mut buf)? == Item::Idle);
-    assert!(rt; next_of(&mut sim, &mut buf)? == Item::End);
+    let wanted = [
+        Item::Joined(9, 0),
+        Item::Idle,
+        Item::Moment(5),
+        Item::Idle,
+        Item::Joined(7, 0),
+        Item::Idle,
+        Item::End,
+    ];
+    for item in &wanted {
+        if next_of(alloc, &mut sim)? != *item {
+            return Err(Fail::from("another item"));
+        }
+    }
     Ok(())
 }
 
@@ -57,10 +68,9 @@ fn stimuli_come_in_order(rt: HostRuntime) -> Result<(), Fail> {
 fn scripts_are_played(rt: HostRuntime) -> Result<(), Fail> {
     let alloc = rt.alloc();
     let mut sim = loaded(alloc, TEXT)?;
-    let mut buf = vec![in alloc; 0u8; 16]?;
     assert!(rt; sim.start(0, &[]) == Err(StartFault::NotStarted));
     assert!(rt; sim.start(0, &[]).is_ok());
-    assert!(rt; sim.take(0, &mut buf) == Ok(Taken::Some(5)));
+    assert!(rt; taken_of(alloc, &mut sim)? == Taken::Some(5));
     Ok(())
 }
 
