@@ -102,7 +102,7 @@ fn is_session(rt: &HostRuntime) -> io::Result<bool> {
 }
 
 /// Reads a session text, and writes what it found.
-fn session(rt: &HostRuntime) -> io::Result<ExitCode> {
+fn run_session(rt: &HostRuntime) -> io::Result<ExitCode> {
     match session::read(rt)? {
         Found::Session => println!(rt; "session")?,
         Found::Fault(line) => println!(rt; "line {line}")?,
@@ -113,7 +113,7 @@ fn session(rt: &HostRuntime) -> io::Result<ExitCode> {
 
 fn main(rt: HostRuntime) -> io::Result<ExitCode> {
     if is_session(&rt)? {
-        return session(&rt);
+        return run_session(&rt);
     }
     let Some((named, rounds)) = command(&rt)? else {
         println!(rt; "usage: lego_bench decode|check|encode small|large|actions ROUNDS")?;
