@@ -12,6 +12,7 @@ pub mod Journal
 pub mod Turns
 pub mod Places
 pub mod Controller
+pub mod Agreement
 pub mod JournalLaws
 pub mod Answers
 pub mod SessionFacts
