@@ -27,7 +27,7 @@ any-shown : (test : Entry → Bool) (g : Entry → Entry) → ((e : Entry) → t
 any-shown test g blind [] = refl
 any-shown test g blind (e ∷ es) = ap₂ (λ a b. a || b) (blind e) (any-shown test g blind es)
 
-filter-shown : (test : Entry → Bool) (g : Entry → Entry) → ((e : Entry) → test (g e) ≡ test e) → (es : List Entry) → filter test (map g es) ≡ map g (filter test es)
+pub filter-shown : (test : Entry → Bool) (g : Entry → Entry) → ((e : Entry) → test (g e) ≡ test e) → (es : List Entry) → filter test (map g es) ≡ map g (filter test es)
 filter-shown test g blind [] = refl
 filter-shown test g blind (e ∷ es) =
     elim (cases_Bool (test e)) [
@@ -35,7 +35,7 @@ filter-shown test g blind (e ∷ es) =
       | inr fails ↦ rw (blind e, fails) (filter-shown test g blind es)
     ]
 
-map-shown : (f g : Entry → Entry) → ((e : Entry) → f (g e) ≡ g (f e)) → (es : List Entry) → map f (map g es) ≡ map g (map f es)
+pub map-shown : (f g : Entry → Entry) → ((e : Entry) → f (g e) ≡ g (f e)) → (es : List Entry) → map f (map g es) ≡ map g (map f es)
 map-shown f g blind [] = refl
 map-shown f g blind (e ∷ es) = ap₂ (λ x xs. x ∷ xs) (blind e) (map-shown f g blind es)
 

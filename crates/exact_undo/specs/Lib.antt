@@ -17,3 +17,5 @@ pub mod RestoredLaws
 pub mod InFlightLaws
 pub mod Corrected
 pub mod CorrectedLaws
+pub mod Owned
+pub mod OwnedLaws

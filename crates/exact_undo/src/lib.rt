@@ -5,6 +5,7 @@
 
 mod adding;
 mod corrected;
+mod owned;
 mod playing;
 mod same;
 mod serials;
@@ -12,6 +13,7 @@ mod undoing;
 
 pub use adding::{additions_are_kept, removal_is_exact, removals_restore};
 pub use corrected::{changes_are_shown, inverses_are_shown, same_is_asked};
+pub use owned::owners_see;
 pub use playing::{logs_can_be_played, messages_play, no_inverse_is_refused};
 pub use same::{same_changes, same_events, undo_agrees};
 pub use serials::{serials_differ, used_is_by_serial};

@@ -13,6 +13,7 @@ pub mod Turns
 pub mod Places
 pub mod Controller
 pub mod Agreement
+pub mod RunReport
 pub mod JournalLaws
 pub mod Answers
 pub mod SessionFacts

@@ -1,3 +1,4 @@
+use app_frames::Cause;
 use of_wire::FlowMod;
 
 /// One message of a turn: a FLOW_MOD that adds an entry to one switch.
@@ -16,4 +17,15 @@ pub enum Ending {
     Done,
     /// The application closed its side before it was done: what it changed is undone.
     Closed,
+}
+
+/// How a turn of an application ended, as a report says it.
+#[derive(Clone, Copy, Debug, PartialEq, Eq)]
+pub enum TurnWord {
+    /// It was done: what it changed stays.
+    Done,
+    /// It was done, and no further application is given the event.
+    Stop,
+    /// It failed for this cause: what it changed is undone.
+    Failed(Cause),
 }
