@@ -1,0 +1,6 @@
+pub mod Shown
+pub mod FlagLaws
+pub mod PlaceLaws
+pub mod ChangeShown
+pub mod AskedLaws
+pub mod ExchangeShown
