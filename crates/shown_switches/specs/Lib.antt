@@ -4,3 +4,4 @@ pub mod PlaceLaws
 pub mod ChangeShown
 pub mod AskedLaws
 pub mod ExchangeShown
+pub mod StandLaws
