@@ -41,4 +41,6 @@ pub mod AskLaws
 pub mod AskSteps
 pub mod ReplyLaws
 pub mod AskStepLaws
+pub mod JoiningSteps
+pub mod JoiningStepLaws
 pub mod Place

@@ -41,7 +41,7 @@ use Rattle.net_txn.specs.NoticeLaws.{reply_kind, notice_steps, with_entries, inv
 
 -- ---- The steps of a part are those of its switch.
 
-all_two : {X : Type 0} (P : X → Type 0) (xs ys : List X) → AllByRecursion P xs → AllByRecursion P ys → AllByRecursion P (xs ++ ys)
+pub all_two : {X : Type 0} (P : X → Type 0) (xs ys : List X) → AllByRecursion P xs → AllByRecursion P ys → AllByRecursion P (xs ++ ys)
 all_two P [] ys all rest = rest
 all_two P (x ∷ xs) ys all rest = (all.0, all_two P xs ys all.1 rest)
 
@@ -52,7 +52,7 @@ by_of d hearing.Notice bytes = tt
 by_of d hearing.Echo bytes = (refl, tt)
 by_of d hearing.Other bytes = tt
 
-wait_of : (a : Awaited) (got : List (List ℕ)) → AllByRecursion (IsStepOf a.dpid) (wait_steps a got)
+pub wait_of : (a : Awaited) (got : List (List ℕ)) → AllByRecursion (IsStepOf a.dpid) (wait_steps a got)
 wait_of a [] = tt
 wait_of a (b ∷ bs) = (refl, all_two (IsStepOf a.dpid) (steps_by a.dpid (heard a b) b) (wait_steps a bs) (by_of a.dpid (heard a b) b) (wait_of a bs))
 
