@@ -36,6 +36,7 @@ pub mod WholeLaws
 pub mod PartLaws
 pub mod NoticeLaws
 pub mod RestoreLaws
+pub mod AgreeLaws
 pub mod Asks
 pub mod AskLaws
 pub mod AskSteps

@@ -34,6 +34,7 @@ use Rattle.net_txn.specs.Views.{with_rows}
 use Rattle.net_txn.specs.Arriving.{without_key}
 use Rattle.net_txn.specs.Net.{NetState, next_xid, inverse_bytes, no_fare}
 use Rattle.net_txn.specs.Waits.{heard, is_reply, wait_steps, barrier_sent, reply_got}
+use Rattle.net_txn.specs.Agreement.{Agrees}
 
 -- ---- Steps of one switch
 
@@ -342,10 +343,16 @@ pub record Restored (d : ℕ) (before : TableState) (s : SwitchState) (new : Sta
   pub switch : switch_of d new ≡ Some (record s { table = undone before s.table s.moment })
   pub waits : waits_of d new ≡ []
 
+-- its view shows its table, and nothing of it waits
+pub record AgreesAgain (d : ℕ) (views : List TableView) (new : State) : Type 0 where
+  pub agrees : Agrees d views new
+  pub waits : waits_of d new ≡ []
+
 -- What was logged from a place on is undone and forgotten, and the views lose its keys. It goes on past a fault with the other
--- switches, and the first fault is answered. In a world that tells, no switch moves that is not joined; and where it keeps its word,
--- each joined switch that did not fail, of which nothing waited, and whose table had but the logged keys added since an earlier one,
--- has that table again. There no inverse is refused.
+-- switches, and the first fault is answered; after Ok none failed. In a world that tells, no switch moves that is not joined; and
+-- where it keeps its word, each joined switch that did not fail, of which nothing waited, and whose table had but the logged keys
+-- added since an earlier one, has that table again; and where its view agreed with its table, it does so again. There no inverse is
+-- refused.
 pub record Undoes {Own : Type 0} (Tells : Type 0) (start : ℕ) (old new : Seen Own) (net now_net : NetState) (result : Result (Unit {0}) TxnFault) : Type 0 where
   pub parts : List (ℕ × Part)
   pub continues : Continues Tells old new
@@ -354,6 +361,7 @@ pub record Undoes {Own : Type 0} (Tells : Type 0) (start : ℕ) (old new : Seen 
   pub numbered : AreNumbered net.xid parts
   pub each : (d : ℕ) → IsPlayedOn (is_viewed d net.views) d old.counts new.counts (keys_of d (map but_fare (drop start net.log))) (parts_of d parts)
   pub result_so : result ≡ ended_by (first_fault parts)
+  pub none_failed : IsOk result → (d : ℕ) → is_stuck (parts_of d parts) ≡ false
   pub log : now_net.log ≡ take start net.log
   pub views : now_net.views ≡ without_keys (map but_fare (drop start net.log)) net.views
   pub ports : now_net.ports ≡ net.ports
@@ -365,3 +373,4 @@ pub record Undoes {Own : Type 0} (Tells : Type 0) (start : ℕ) (old new : Seen 
   pub restored : (d : ℕ) (s : SwitchState) (before : TableState) → Tells → Conforming new → is_viewed d net.views ≡ true → is_stuck (parts_of d parts) ≡ false
       → switch_of d (state old) ≡ Some s → waits_of d (state old) ≡ [] → IsTable before.entries → IsSerialed s.table
       → OnlyAdded (keys_of d (map but_fare (drop start net.log))) before.entries s.table.entries → Restored d before s (state new)
+  pub agrees : (d : ℕ) → Tells → Conforming new → is_stuck (parts_of d parts) ≡ false → waits_of d (state old) ≡ [] → Agrees d net.views (state old) → AgreesAgain d now_net.views (state new)

@@ -7,6 +7,7 @@ use Rattle.net_txn.specs.declared.fault.TxnFault.{TxnFault}
 use Rattle.net_txn.specs.Net.{NetState}
 use Rattle.net_txn.specs.declared.logged.Logged.{Logged}
 use Rattle.net_txn.specs.RestoreLaws.{others_stay, restored, accepted}
+use Rattle.net_txn.specs.AgreeLaws.{agrees, none_failed}
 use Rattle.net_txn.specs.Undos.{Undoes, Further, KeptSome, ended_by, without_keys, is_viewed, parts_of, Part, inverses_in, keys_of, but_fare, IsSettledIn, Stands, IsPlayedOn}
 
 key_step : (here : Bool) (x : ℕ) (k : Key) (pairs : List (ℕ × Key)) (keys : List Key) → map (λ p. p.1) pairs ≡ keys → map (λ p. p.1) (if here then (x, k) ∷ pairs else pairs) ≡ (if here then k ∷ keys else keys)
@@ -54,4 +55,8 @@ undoes start from old new net now_net result fault played front rest is f settle
       restored = λ d s before told conforming known free here waits was serialed only.
           restored old new d s before (keys_of d (map but_fare (drop start net.log))) f.parts f.undoing.continues.given (f.undoing.told told) (λ c. (each c).run) conforming free
           ((each d).keys_so known free) ((each d).settled known free) here waits was serialed only;
+      none_failed = λ ok d. none_failed result f.parts d (is ∙ ap ended_by f.fault_so) ok;
+      agrees = λ d told conforming free waits before.
+          agrees old new d net.views now_net.views (map but_fare (drop start net.log)) f.parts f.undoing.continues.given (f.undoing.told told) each
+          (views ∙ ap (λ (es : List Logged). without_keys (map but_fare es) net.views) rest) conforming free waits before;
     }
