@@ -169,7 +169,7 @@ agrees old new d views now_views all parts given told each lost keeps free none 
 
 -- ---- After Ok no switch failed.
 
-both_none : (o later : Option TxnFault) → first_fault_of o later ≡ None → (o ≡ None) × (later ≡ None)
+pub both_none : (o later : Option TxnFault) → first_fault_of o later ≡ None → (o ≡ None) × (later ≡ None)
 both_none None later is = (refl, is)
 both_none (Some f) later is = absurd cc
 
@@ -178,7 +178,7 @@ free_head (Inverse xid k) older none = refl
 free_head (Settled xid got) older none = refl
 free_head (Stuck xid fault steps) older none = absurd cc
 
-free_all : (parts : List (ℕ × Part)) (d : ℕ) → first_fault parts ≡ None → is_stuck (parts_of d parts) ≡ false
+pub free_all : (parts : List (ℕ × Part)) (d : ℕ) → first_fault parts ≡ None → is_stuck (parts_of d parts) ≡ false
 free_all [] d none = refl
 free_all (p ∷ older) d none =
     let n = both_none (first_fault older) (fault_in p.1) none in
@@ -187,7 +187,7 @@ free_all (p ∷ older) d none =
       | inr other ↦ rw other (free_all older d n.0)
     ]
 
-no_fault : (o : Option TxnFault) → IsOk (ended_by o) → o ≡ None
+pub no_fault : (o : Option TxnFault) → IsOk (ended_by o) → o ≡ None
 no_fault None ok = refl
 no_fault (Some f) ok = absurd cc
 

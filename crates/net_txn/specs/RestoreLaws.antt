@@ -128,10 +128,10 @@ older_run old new d (Stuck xid fault steps) older run = run.2
 abbrev pub AllRun : Counts → Counts → List (ℕ × Part) → Type 0
 AllRun old new parts = (d : ℕ) → IsRun old new d (parts_of d parts)
 
-runs_here : (old new : Counts) (p : ℕ × Part) (older : List (ℕ × Part)) → AllRun old new (p ∷ older) → IsRun old new p.0 (p.1 ∷ parts_of p.0 older)
+pub runs_here : (old new : Counts) (p : ℕ × Part) (older : List (ℕ × Part)) → AllRun old new (p ∷ older) → IsRun old new p.0 (p.1 ∷ parts_of p.0 older)
 runs_here old new p older all = subst (λ (b : Bool). IsRun old new p.0 (if b then p.1 ∷ parts_of p.0 older else parts_of p.0 older)) (eq-eqb p.0 p.0 refl) (all p.0)
 
-runs_older : (old new : Counts) (p : ℕ × Part) (older : List (ℕ × Part)) → AllRun old new (p ∷ older) → AllRun old new older
+pub runs_older : (old new : Counts) (p : ℕ × Part) (older : List (ℕ × Part)) → AllRun old new (p ∷ older) → AllRun old new older
 runs_older old new p older all d =
     elim (cases_eq p.0 d) [
       | inl same ↦ subst (λ (n : ℕ). IsRun old new n (parts_of n older)) same (older_run old new p.0 p.1 (parts_of p.0 older) (runs_here old new p older all))
