@@ -65,11 +65,11 @@ length-match f = refl
 abbrev any_match : Match
 any_match = match_of (bytes_of any_fields)
 
-any_subsumes : (f : Fields) → fields_subsume any_fields f ≡ true
+pub any_subsumes : (f : Fields) → fields_subsume any_fields f ≡ true
 unfolding fields_subsume
 any_subsumes f = refl
 
-IsFields-any : IsFields any_fields
+pub IsFields-any : IsFields any_fields
 IsFields-any = record { in_port = tt; dl_src = tt; dl_dst = tt; dl_vlan = tt; dl_vlan_pcp = tt; dl_type = tt; nw_tos = tt; nw_proto = tt; nw_src = tt; nw_dst = tt; tp_src = tt; tp_dst = tt }
 
 selects : (e : Entry) → is_selected any_match 0xffff e ≡ true

@@ -1,11 +1,13 @@
--- Where an empty view goes.
-use Rattle.std.specs.Prelude.{◌≡◌, ℕ, ◌+◌, ◌<◌, ◌≤◌, List, [], ◌∷◌, length, refl}
+-- Where an empty view goes, and what is then known of each switch.
+use Rattle.std.specs.Prelude.{◌≡◌, ◌≢◌, ◌==◌, ℕ, ◌+◌, ◌<◌, ◌≤◌, Bool, true, false, List, [], ◌∷◌, length, Option, Some, nat_lt, if◌then◌else◌, refl}
 use Rattle.std.specs.List.{insert}
-use Rattle.std.proofs.Common.{zero, suc, get_or, drop, sym, ap, ◌∙◌, subst, arith}
+use Rattle.std.proofs.Common.{zero, suc, get_or, drop, sym, ap, ◌∙◌, subst, eq-eqb, arith}
 use Rattle.std.proofs.Math.Seq.{drop-cons}
-use Rattle.std.proofs.lemmas.Bool.{lt-ltb, le-ltb}
+use Rattle.std.proofs.lemmas.Bool.{lt-ltb, le-ltb, ltb-true, ne_eqb}
 use Rattle.std.proofs.lemmas.List.{drop_all}
+use Rattle.flow_table.specs.declared.view.ViewRow.{ViewRow}
 use Rattle.flow_table.specs.declared.view.TableView.{TableView}
+use Rattle.net_txn.specs.Views.{rows_at}
 use Rattle.net_txn.specs.Joining.{with_view, IsViewPlace}
 
 pub with_view-place : (d : ℕ) (vs : List TableView) (i : ℕ) → IsViewPlace d vs i → insert vs i (record { dpid = d; rows = [] }) ≡ with_view d vs
@@ -46,3 +48,26 @@ lower_end d vs i is before =
     let here : IsViewPlace d (drop i vs) 0 = subst (λ (xs : List TableView). IsViewPlace d xs 0) (sym none) refl in
     let same : i + 0 ≡ length vs = omega arith in
     subst (IsViewPlace d vs) same (before 0 here)
+
+-- ---- Lookup: the switch has no rows, and the others have theirs.
+
+abbrev empty_view : ℕ → TableView
+empty_view d = record { dpid = d; rows = [] }
+
+same_if : (d : ℕ) (v : TableView) (vs : List TableView) (below : Bool) → nat_lt v.dpid d ≡ below → rows_at d (with_view d vs) ≡ Some []
+    → rows_at d (if below then v ∷ with_view d vs else empty_view d ∷ v ∷ vs) ≡ Some []
+same_if d v vs true is rest = let lt = ltb-true v.dpid d is in rw (ne_eqb v.dpid d (λ same. omega arith)) rest
+same_if d v vs false is rest = rw (eq-eqb d d refl) refl
+
+pub rows_at-with_view : (d : ℕ) (vs : List TableView) → rows_at d (with_view d vs) ≡ Some []
+rows_at-with_view d [] = rw (eq-eqb d d refl) refl
+rows_at-with_view d (v ∷ vs) = same_if d v vs (nat_lt v.dpid d) refl (rows_at-with_view d vs)
+
+other_if : (d e : ℕ) (v : TableView) (vs : List TableView) (below : Bool) → e ≢ d → rows_at e (with_view d vs) ≡ rows_at e vs
+    → rows_at e (if below then v ∷ with_view d vs else empty_view d ∷ v ∷ vs) ≡ rows_at e (v ∷ vs)
+other_if d e v vs true other rest = ap (λ (o : Option (List ViewRow)). if v.dpid == e then Some v.rows else o) rest
+other_if d e v vs false other rest = rw (ne_eqb d e (λ same. other (sym same))) refl
+
+pub rows_at-with_view-other : (d e : ℕ) (vs : List TableView) → e ≢ d → rows_at e (with_view d vs) ≡ rows_at e vs
+rows_at-with_view-other d e [] other = rw (ne_eqb d e (λ same. other (sym same))) refl
+rows_at-with_view-other d e (v ∷ vs) other = other_if d e v vs (nat_lt v.dpid d) other (rows_at-with_view-other d e vs other)

@@ -29,6 +29,7 @@ pub mod ConsequenceLaws
 pub mod Undos
 pub mod QuietLaws
 pub mod FareLaws
+pub mod PartOrderLaws
 pub mod UndoLaws
 pub mod FurtherLaws
 pub mod PlayLaws
@@ -36,9 +37,14 @@ pub mod WholeLaws
 pub mod PartLaws
 pub mod NoticeLaws
 pub mod RestoreLaws
+pub mod AgreeLaws
+pub mod KeepLaws
 pub mod Asks
 pub mod AskLaws
 pub mod AskSteps
 pub mod ReplyLaws
 pub mod AskStepLaws
+pub mod JoiningSteps
+pub mod JoiningStepLaws
 pub mod Place
+pub mod PlaceLaws

@@ -29,7 +29,7 @@ use Rattle.exact_undo.specs.RemovalLaws.{removal-changed, removal-refusal}
 use Rattle.net_txn.specs.declared.heard.Awaited.{Awaited}
 use Rattle.net_txn.specs.declared.heard.Heard.TheVariants as hearing
 use Rattle.net_txn.specs.Net.{delete_strict}
-use Rattle.net_txn.specs.Waits.{heard, is_reply, heard_steps, wait_steps, reply_got}
+use Rattle.net_txn.specs.Waits.{heard, is_reply, heard_steps, wait_steps, kept_of, reply_got}
 use Rattle.net_txn.specs.StepLaws.{gots, first_got, reply_alone}
 
 -- ---- The switch
@@ -96,7 +96,7 @@ reply_kind xid = kind_of_header 19 _ xid (body_bytes BarrierReply) (omega arith)
 abbrev pub AllNotices : List (List ℕ) → Type 0
 AllNotices ws = AllByRecursion IsNotice ws
 
-notices_all : (now : ℕ) (es : List Entry) → AllNotices (map flow_removed_bytes (map (notice 2 now) es))
+pub notices_all : (now : ℕ) (es : List Entry) → AllNotices (map flow_removed_bytes (map (notice 2 now) es))
 notices_all now [] = tt
 notices_all now (e ∷ es) = (removed-notice (notice 2 now e) refl, notices_all now es)
 
@@ -130,6 +130,11 @@ notice_steps a bytes is = rw (heard-notice a bytes is) refl
 pub notices_steps : (a : Awaited) (ws : List (List ℕ)) → AllNotices ws → wait_steps a ws ≡ gots a.dpid ws
 notices_steps a [] all = refl
 notices_steps a (w ∷ ws) all = ap (λ (steps : List WorldStep). steps ++ wait_steps a ws) (notice_steps a w all.0) ∙ ap (λ (steps : List WorldStep). Acted (Got a.dpid w) ∷ steps) (notices_steps a ws all.1)
+
+-- they are not kept
+pub notices_kept : (a : Awaited) (ws : List (List ℕ)) → AllNotices ws → kept_of a ws ≡ []
+notices_kept a [] all = refl
+notices_kept a (w ∷ ws) all = rw (heard-notice a w all.0) (notices_kept a ws all.1)
 
 -- where notices wait before the reply, they alone came before it
 pub notices_alone : (declared : List Declared) (a : Awaited) (ws got : List (List ℕ)) (t : State) → AllNotices ws → waits_of a.dpid t ≡ ws ++ message_bytes a.barrier BarrierReply ∷ [] → MaySteps declared (wait_steps a got ++ reply_got a ∷ []) t

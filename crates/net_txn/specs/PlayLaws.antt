@@ -1,8 +1,8 @@
 -- Laws of a log whose inverses are played: what a fare that is noted at a place leaves of an undo.
-use Rattle.std.specs.Prelude.{◌≡◌, ℕ, ◌+◌, ◌^◌, ◌<◌, Bool, true, false, List, [], ◌∷◌, length, drop, Option, Some, None, Result, Ok, Err, OnOk, IfErr, is_err, refl}
+use Rattle.std.specs.Prelude.{◌≡◌, ℕ, ◌+◌, ◌^◌, ◌<◌, Bool, true, false, List, [], ◌∷◌, length, drop, map, Option, Some, None, Result, Ok, Err, OnOk, IfErr, is_err, refl}
 use Rattle.std.proofs.Common.{suc, get_or, set, sym, ap, ◌∙◌, subst, inl, inr, arith}
 use Rattle.std.proofs.lemmas.Bool.{cases_eq}
-use Rattle.std.proofs.Math.Seq.{drop-cons}
+use Rattle.std.proofs.Math.Seq.{drop-cons, map-set_same}
 use Rattle.std.proofs.lemmas.List.{drop-set}
 use Rattle.of_types.specs.declared.journal.Act.TheVariants.{Sent}
 use Rattle.flow_table.specs.declared.view.TableView.{TableView}
@@ -13,9 +13,11 @@ use Rattle.net_txn.specs.declared.logged.Fare.{Fare}
 use Rattle.net_txn.specs.declared.logged.Logged.{Logged}
 use Rattle.net_txn.specs.declared.trouble.Trouble.{Trouble}
 use Rattle.net_txn.specs.Net.{next_xid, inverse_bytes}
-use Rattle.net_txn.specs.Waits.{barrier_sent}
-use Rattle.net_txn.specs.FareLaws.{fare_of-same, fare_of-other, inverses_in-other, fare_of-set, fare_of-set_other, inverses_in-set, IsFareAt-within, IsFareAt-dpid, fare_of-at, fare_of-none}
-use Rattle.net_txn.specs.Undos.{fault_by, fault_of, alone, Moves, Fails, Settles, first_fault_of, fare_of, inverses_in, is_viewed, keys_in, with_fare, IsFareAt, IsSettledIn, Further, Pending}
+use Rattle.net_txn.specs.Waits.{barrier_sent, KeptMore}
+use Rattle.net_txn.specs.WaitLaws.{none_kept}
+use Rattle.net_txn.specs.FareLaws.{fare_of-same, fare_of-other, inverses_in-other, fare_of-set, fare_of-set_other, inverses_in-set, IsFareAt-within, IsFareAt-dpid, fare_of-at, fare_of-none, keys_in-none}
+use Rattle.net_txn.specs.Undos.{fault_by, fault_of, alone, Moves, Fails, Settles, first_fault_of, fare_of, inverses_in, is_viewed, keys_in, with_fare, IsFareAt, IsSettledIn, but_fare, Further, Pending, parts_of, is_stuck, inverses_of}
+use Rattle.net_txn.specs.PartOrderLaws.{EndsStep, thinned_more, ends_skipped}
 use Rattle.net_txn.specs.FurtherLaws.{first_or_none, Pending-of, Further-of, Further-inverse, Further-settled, Further-stuck, Further-skipped}
 
 -- ---- A place of the log
@@ -32,32 +34,32 @@ marked_played log now at f e lt is = marked_front log now at f e lt is ∙ ap (�
 
 -- ---- The inverse was sent
 
-pub skipped_at : {Own : Type 0} {Tells : Type 0} {views : List TableView} {base now : Seen Own} {x y : ℕ} {fault : Option TxnFault} (log later : List Logged) (at : ℕ) (f : Fare) (e : Logged) → at < length log → later ≡ set log at (with_fare f (get_or log at e)) → f.failed ≡ true
-    → (is_viewed (get_or log at e).dpid views ≡ true → (fare_of (get_or log at e).dpid (drop (at + 1) log)).failed ≡ true) → Further Tells views base now x y (drop (at + 1) log) fault → Further Tells views base now x y (drop at later) fault
+pub skipped_at : {Own : Type 0} {Tells : Type 0} {views : List TableView} {base now : Seen Own} {kept kept1 : List (ℕ × List ℕ)} {x y : ℕ} {switches : List ℕ} {fault : Option TxnFault} (log later : List Logged) (at : ℕ) (f : Fare) (e : Logged) → at < length log → later ≡ set log at (with_fare f (get_or log at e)) → f.failed ≡ true
+    → (is_viewed (get_or log at e).dpid views ≡ true → (fare_of (get_or log at e).dpid (drop (at + 1) log)).failed ≡ true) → Further Tells views base now kept kept1 x y switches (drop (at + 1) log) fault → Further Tells views base now kept kept1 x y switches (drop at later) fault
 skipped_at log later at f e lt is failed stuck u = rw (marked_front log later at f e lt is) (Further-skipped (with_fare f (get_or log at e)) u stuck failed)
 
-pub stuck_at : {Own : Type 0} {Tells : Type 0} {views : List TableView} {base now next : Seen Own} {x y z : ℕ} {before : Option TxnFault} (log later : List Logged) (at : ℕ) (f : Fare) (e : Logged) (fault : TxnFault) → at < length log → later ≡ set log at (with_fare f (get_or log at e)) → f.failed ≡ true → z ≡ next_xid y
-    → Further Tells views base now x y (drop (at + 1) log) before → is_viewed (get_or log at e).dpid views ≡ true → (fare_of (get_or log at e).dpid (drop (at + 1) log)).failed ≡ false
-    → Fails Tells (get_or log at e).dpid (inverses_in (get_or log at e).dpid (drop (at + 1) log)) now next fault → Further Tells views base next x z (drop at later) (first_fault_of before (Some fault))
-stuck_at log later at f e fault lt is failed step u known unfailed fails =
+pub stuck_at : {Own : Type 0} {Tells : Type 0} {views : List TableView} {base now next : Seen Own} {kept kept1 : List (ℕ × List ℕ)} {x y z : ℕ} {switches : List ℕ} {before : Option TxnFault} (log later : List Logged) (at : ℕ) (f : Fare) (e : Logged) (fault : TxnFault) → at < length log → later ≡ set log at (with_fare f (get_or log at e)) → f.failed ≡ true → z ≡ next_xid y
+    → Further Tells views base now kept kept1 x y switches (drop (at + 1) log) before → is_viewed (get_or log at e).dpid views ≡ true → (fare_of (get_or log at e).dpid (drop (at + 1) log)).failed ≡ false
+    → Fails Tells (get_or log at e).dpid (inverses_in (get_or log at e).dpid (drop (at + 1) log)) now next fault → Further Tells views base next kept kept1 x z [] (drop at later) (first_fault_of before (Some fault))
+stuck_at {kept1 = kept1} log later at f e fault lt is failed step u known unfailed fails =
     let d = (get_or log at e).dpid in
     let g = with_fare f (get_or log at e) in
     let played = drop (at + 1) log in
     rw (marked_front log later at f e lt is, step) (Further-stuck d (g ∷ played) fault (Pending-of d u known unfailed) known (ap (λ (h : Fare). h.failed) (fare_of-same d g played refl) ∙ failed)
-    (λ c other. (fare_of-other c g played other, inverses_in-other c g played other)) fails)
+    (λ c other. (fare_of-other c g played other, inverses_in-other c g played other)) (none_kept d kept1) (λ xs is. thinned_more xs (but_fare g) (map but_fare played) is) (inl refl) fails)
 
-pub sent_at : {Own : Type 0} {Tells : Type 0} {views : List TableView} {base now next : Seen Own} {x y z : ℕ} {fault : Option TxnFault} (log later : List Logged) (at : ℕ) (f : Fare) (e : Logged) → at < length log → later ≡ set log at (with_fare f (get_or log at e)) → f.failed ≡ false → f.xid ≡ y → y < 2 ^ 32 → (get_or log at e).key.priority < 2 ^ 16 → z ≡ next_xid y
-    → Further Tells views base now x y (drop (at + 1) log) fault → is_viewed (get_or log at e).dpid views ≡ true → (fare_of (get_or log at e).dpid (drop (at + 1) log)).failed ≡ false
+pub sent_at : {Own : Type 0} {Tells : Type 0} {views : List TableView} {base now next : Seen Own} {kept kept1 : List (ℕ × List ℕ)} {x y z : ℕ} {switches : List ℕ} {fault : Option TxnFault} (log later : List Logged) (at : ℕ) (f : Fare) (e : Logged) → at < length log → later ≡ set log at (with_fare f (get_or log at e)) → f.failed ≡ false → f.xid ≡ y → y < 2 ^ 32 → (get_or log at e).key.priority < 2 ^ 16 → z ≡ next_xid y
+    → Further Tells views base now kept kept1 x y switches (drop (at + 1) log) fault → is_viewed (get_or log at e).dpid views ≡ true → (fare_of (get_or log at e).dpid (drop (at + 1) log)).failed ≡ false
     → ((fare_of (get_or log at e).dpid (drop (at + 1) log)).since < 4096 → f.since ≡ (fare_of (get_or log at e).dpid (drop (at + 1) log)).since + 1)
-    → Moves Tells (get_or log at e).dpid (Acted (Sent (get_or log at e).dpid (inverse_bytes f.xid (get_or log at e).key)) ∷ []) now next → Pending Tells views base next x z (drop at later) fault (get_or log at e).dpid
+    → Moves Tells (get_or log at e).dpid (Acted (Sent (get_or log at e).dpid (inverse_bytes f.xid (get_or log at e).key)) ∷ []) now next → Pending Tells views base next kept kept1 x z [] (drop at later) fault (get_or log at e).dpid
 sent_at {Tells = Tells} {now = now} {next = next} log later at f e lt is well numbered lt_xid lt_priority step u known unfailed more m =
     let d = (get_or log at e).dpid in
     let g = with_fare f (get_or log at e) in
     let n = subst (λ (i : ℕ). Moves Tells d (Acted (Sent d (inverse_bytes i g.key)) ∷ []) now next) numbered m in
     rw (marked_front log later at f e lt is, step) (Further-inverse d g u known unfailed refl numbered well more (record { is_xid = omega (arith, numbered, lt_xid); priority = lt_priority }) n)
 
-pub few_at : {Own : Type 0} {Tells : Type 0} {views : List TableView} {base now : Seen Own} {x y : ℕ} {fault : Option TxnFault} (log later : List Logged) (at : ℕ) (f : Fare) (e : Logged) → at < length log → later ≡ set log at (with_fare f (get_or log at e)) → f.since < 4096
-    → Pending Tells views base now x y (drop at later) fault (get_or log at e).dpid → is_viewed (get_or log at e).dpid views ≡ true → Further Tells views base now x y (drop at later) fault
+pub few_at : {Own : Type 0} {Tells : Type 0} {views : List TableView} {base now : Seen Own} {kept kept1 : List (ℕ × List ℕ)} {x y : ℕ} {switches : List ℕ} {fault : Option TxnFault} (log later : List Logged) (at : ℕ) (f : Fare) (e : Logged) → at < length log → later ≡ set log at (with_fare f (get_or log at e)) → f.since < 4096
+    → Pending Tells views base now kept kept1 x y switches (drop at later) fault (get_or log at e).dpid → is_viewed (get_or log at e).dpid views ≡ true → Further Tells views base now kept kept1 x y switches (drop at later) fault
 few_at log later at f e lt is few p known =
     let d = (get_or log at e).dpid in
     let same = ap (fare_of d) (marked_front log later at f e lt is) ∙ fare_of-same d (with_fare f (get_or log at e)) (drop (at + 1) log) refl in
@@ -71,72 +73,72 @@ settled e = with_fare (record { xid = e.fare.xid; since = 0; failed = false }) e
 abbrev pub failed_at : Logged → Logged
 failed_at e = with_fare (record { xid = e.fare.xid; since = 0; failed = true }) e
 
-pub settled_in : {Own : Type 0} {Tells : Type 0} {views : List TableView} {base now next : Seen Own} {x y z : ℕ} {fault : Option TxnFault} (d : ℕ) (played : List Logged) (j : ℕ) (e : Logged) → IsFareAt d played j → y < 2 ^ 32 → z ≡ next_xid y
-    → Pending Tells views base now x y played fault d → is_viewed d views ≡ true → Settles Tells (alone d y) (barrier_sent (alone d y) ∷ []) (inverses_in d played) now next → Further Tells views base next x z (set played j (settled (get_or played j e))) fault
-settled_in d played j e at lt_xid step p known t =
+pub settled_in : {Own : Type 0} {Tells : Type 0} {views : List TableView} {base now next : Seen Own} {kept kept1 kept2 : List (ℕ × List ℕ)} {x y z : ℕ} {switches more : List ℕ} {fault : Option TxnFault} (d : ℕ) (played : List Logged) (j : ℕ) (e : Logged) → IsFareAt d played j → y < 2 ^ 32 → z ≡ next_xid y
+    → Pending Tells views base now kept kept1 x y switches played fault d → is_viewed d views ≡ true → EndsStep d switches more → Settles Tells (alone d y) (barrier_sent (alone d y) ∷ []) (inverses_in d played) now next kept1 kept2 → Further Tells views base next kept kept2 x z more (set played j (settled (get_or played j e))) fault
+settled_in d played j e at lt_xid step p known ends t =
     let g = settled (get_or played j e) in
     let is = IsFareAt-dpid d played j e at in
     let lt = IsFareAt-within d played j at in
     let fare = fare_of-set d played j g at is in
     rw step (Further-settled d (set played j g) lt_xid p known (ap (λ (h : Fare). h.failed) fare) (ap (λ (h : Fare). h.since) fare) (inverses_in-set d played j e g lt refl refl refl)
-    (λ c other. (fare_of-set_other d c played j g at is other, inverses_in-set c played j e g lt refl refl refl)) t)
+    (λ c other. (fare_of-set_other d c played j g at is other, inverses_in-set c played j e g lt refl refl refl)) (map-set_same but_fare played j g e refl) ends t)
 
-pub stuck_in : {Own : Type 0} {Tells : Type 0} {views : List TableView} {base now next : Seen Own} {x y z : ℕ} {before : Option TxnFault} (d : ℕ) (played : List Logged) (j : ℕ) (e : Logged) (fault : TxnFault) → IsFareAt d played j → z ≡ next_xid y
-    → Pending Tells views base now x y played before d → is_viewed d views ≡ true → Fails Tells d (inverses_in d played) now next fault → Further Tells views base next x z (set played j (failed_at (get_or played j e))) (first_fault_of before (Some fault))
-stuck_in d played j e fault at step p known t =
+pub stuck_in : {Own : Type 0} {Tells : Type 0} {views : List TableView} {base now next : Seen Own} {kept kept1 kept2 : List (ℕ × List ℕ)} {x y z : ℕ} {switches more : List ℕ} {before : Option TxnFault} (d : ℕ) (played : List Logged) (j : ℕ) (e : Logged) (fault : TxnFault) → IsFareAt d played j → z ≡ next_xid y
+    → Pending Tells views base now kept kept1 x y switches played before d → is_viewed d views ≡ true → EndsStep d switches more → KeptMore d kept1 kept2 → Fails Tells d (inverses_in d played) now next fault → Further Tells views base next kept kept2 x z more (set played j (failed_at (get_or played j e))) (first_fault_of before (Some fault))
+stuck_in d played j e fault at step p known ends some t =
     let g = failed_at (get_or played j e) in
     let is = IsFareAt-dpid d played j e at in
     let lt = IsFareAt-within d played j at in
     rw step (Further-stuck d (set played j g) fault p known (ap (λ (h : Fare). h.failed) (fare_of-set d played j g at is))
-    (λ c other. (fare_of-set_other d c played j g at is other, inverses_in-set c played j e g lt refl refl refl)) t)
+    (λ c other. (fare_of-set_other d c played j g at is other, inverses_in-set c played j e g lt refl refl refl)) some (λ xs is. rw (map-set_same but_fare played j g e refl) is) ends t)
 
-pub unfaulted : {Own : Type 0} {Tells : Type 0} {views : List TableView} {base now : Seen Own} {x y : ℕ} {played : List Logged} {fault : Option TxnFault} → Further Tells views base now x y played fault → Further Tells views base now x y played (first_fault_of fault None)
-unfaulted {Tells = Tells} {views = views} {base = base} {now = now} {x = x} {y = y} {played = played} {fault = fault} u =
-    subst (λ (o : Option TxnFault). Further Tells views base now x y played o) (sym (first_or_none fault)) u
+pub unfaulted : {Own : Type 0} {Tells : Type 0} {views : List TableView} {base now : Seen Own} {kept kept1 : List (ℕ × List ℕ)} {x y : ℕ} {switches : List ℕ} {played : List Logged} {fault : Option TxnFault} → Further Tells views base now kept kept1 x y switches played fault → Further Tells views base now kept kept1 x y switches played (first_fault_of fault None)
+unfaulted {Tells = Tells} {views = views} {base = base} {now = now} {kept = kept} {kept1 = kept1} {x = x} {y = y} {switches = switches} {played = played} {fault = fault} u =
+    subst (λ (o : Option TxnFault). Further Tells views base now kept kept1 x y switches played o) (sym (first_or_none fault)) u
 
 -- whichever it was
-pub settle_in : {Own : Type 0} {Tells : Type 0} {views : List TableView} {base now next : Seen Own} {x y z : ℕ} {before : Option TxnFault} (d : ℕ) (played : List Logged) (j : ℕ) (e : Logged) (r : Result (Unit {0}) Trouble) (buf : List ℕ) → IsFareAt d played j → y < 2 ^ 32 → z ≡ next_xid y
-    → Pending Tells views base now x y played before d → is_viewed d views ≡ true
-    → OnOk r (Settles Tells (alone d y) (barrier_sent (alone d y) ∷ []) (inverses_in d played) now next) → IfErr r (λ t. Fails Tells d (inverses_in d played) now next (fault_by d t buf))
-    → Further Tells views base next x z (set played j (with_fare (record { xid = (get_or played j e).fare.xid; since = 0; failed = is_err r }) (get_or played j e))) (first_fault_of before (fault_of d r buf))
-settle_in d played j e (Ok u) buf at lt_xid step p known ok err = unfaulted (settled_in d played j e at lt_xid step p known ok)
-settle_in d played j e (Err t) buf at lt_xid step p known ok err = stuck_in d played j e (fault_by d t buf) at step p known err
+pub settle_in : {Own : Type 0} {Tells : Type 0} {views : List TableView} {base now next : Seen Own} {kept kept1 kept2 : List (ℕ × List ℕ)} {x y z : ℕ} {switches more : List ℕ} {before : Option TxnFault} (d : ℕ) (played : List Logged) (j : ℕ) (e : Logged) (r : Result (Unit {0}) Trouble) (buf : List ℕ) → IsFareAt d played j → y < 2 ^ 32 → z ≡ next_xid y
+    → Pending Tells views base now kept kept1 x y switches played before d → is_viewed d views ≡ true → EndsStep d switches more → KeptMore d kept1 kept2
+    → OnOk r (Settles Tells (alone d y) (barrier_sent (alone d y) ∷ []) (inverses_in d played) now next kept1 kept2) → IfErr r (λ t. Fails Tells d (inverses_in d played) now next (fault_by d t buf))
+    → Further Tells views base next kept kept2 x z more (set played j (with_fare (record { xid = (get_or played j e).fare.xid; since = 0; failed = is_err r }) (get_or played j e))) (first_fault_of before (fault_of d r buf))
+settle_in d played j e (Ok u) buf at lt_xid step p known ends some ok err = unfaulted (settled_in d played j e at lt_xid step p known ends ok)
+settle_in d played j e (Err t) buf at lt_xid step p known ends some ok err = stuck_in d played j e (fault_by d t buf) at step p known ends some err
 
 -- the inverse was sent just before
-pub settle_played : {Own : Type 0} {Tells : Type 0} {views : List TableView} {base now next : Seen Own} {x y z : ℕ} {before : Option TxnFault} (d : ℕ) (log later : List Logged) (at : ℕ) (e : Logged) (r : Result (Unit {0}) Trouble) (buf : List ℕ) → at < length log → (get_or log at e).dpid ≡ d
+pub settle_played : {Own : Type 0} {Tells : Type 0} {views : List TableView} {base now next : Seen Own} {kept kept1 kept2 : List (ℕ × List ℕ)} {x y z : ℕ} {switches : List ℕ} {before : Option TxnFault} (d : ℕ) (log later : List Logged) (at : ℕ) (e : Logged) (r : Result (Unit {0}) Trouble) (buf : List ℕ) → at < length log → (get_or log at e).dpid ≡ d
     → later ≡ set log at (with_fare (record { xid = (get_or log at e).fare.xid; since = 0; failed = is_err r }) (get_or log at e)) → y < 2 ^ 32 → z ≡ next_xid y
-    → Pending Tells views base now x y (drop at log) before d → is_viewed d views ≡ true
-    → OnOk r (Settles Tells (alone (get_or log at e).dpid y) (barrier_sent (alone (get_or log at e).dpid y) ∷ []) (inverses_in (get_or log at e).dpid (drop at log)) now next)
+    → Pending Tells views base now kept kept1 x y switches (drop at log) before d → is_viewed d views ≡ true → KeptMore (get_or log at e).dpid kept1 kept2
+    → OnOk r (Settles Tells (alone (get_or log at e).dpid y) (barrier_sent (alone (get_or log at e).dpid y) ∷ []) (inverses_in (get_or log at e).dpid (drop at log)) now next kept1 kept2)
     → IfErr r (λ t. Fails Tells (get_or log at e).dpid (inverses_in (get_or log at e).dpid (drop at log)) now next (fault_by (get_or log at e).dpid t buf))
-    → Further Tells views base next x z (drop at later) (first_fault_of before (fault_of d r buf))
-settle_played {Tells = Tells} {views = views} {base = base} {now = now} {next = next} {x = x} {y = y} {z = z} {before = before} d log later at e r buf lt is marked lt_xid step p known ok err =
+    → Further Tells views base next kept kept2 x z [] (drop at later) (first_fault_of before (fault_of d r buf))
+settle_played {Tells = Tells} {views = views} {base = base} {now = now} {next = next} {kept = kept} {kept1 = kept1} {kept2 = kept2} {x = x} {y = y} {z = z} {before = before} d log later at e r buf lt is marked lt_xid step p known some ok err =
     let played = drop at log in
     let front = drop_at log at e lt in
     let here : IsFareAt d played 0 = subst (λ (xs : List Logged). IsFareAt d xs 0) (sym front) is in
     let first : get_or played 0 e ≡ get_or log at e = ap (λ (xs : List Logged). get_or xs 0 e) front in
-    let ok2 = subst (λ (n : ℕ). OnOk r (Settles Tells (alone n y) (barrier_sent (alone n y) ∷ []) (inverses_in n played) now next)) is ok in
+    let ok2 = subst (λ (n : ℕ). OnOk r (Settles Tells (alone n y) (barrier_sent (alone n y) ∷ []) (inverses_in n played) now next kept1 kept2)) is ok in
     let err2 = subst (λ (n : ℕ). IfErr r (λ t. Fails Tells n (inverses_in n played) now next (fault_by n t buf))) is err in
-    let u = settle_in d played 0 e r buf here lt_xid step p known ok2 err2 in
+    let u = settle_in d played 0 e r buf here lt_xid step p known (inl refl) (subst (λ (n : ℕ). KeptMore n kept1 kept2) is some) ok2 err2 in
     let g : Fare = record { xid = (get_or log at e).fare.xid; since = 0; failed = is_err r } in
     let same : set played 0 (with_fare (record { xid = (get_or played 0 e).fare.xid; since = 0; failed = is_err r }) (get_or played 0 e)) ≡ drop at later =
     ap (λ (h : Logged). set played 0 (with_fare (record { xid = h.fare.xid; since = 0; failed = is_err r }) h)) first
     ∙ ap (λ (h : Logged). set played 0 (with_fare g h)) (sym first) ∙ sym (marked_played log later at g e lt marked) in
-    subst (λ (xs : List Logged). Further Tells views base next x z xs (first_fault_of before (fault_of d r buf))) same u
+    subst (λ (xs : List Logged). Further Tells views base next kept kept2 x z [] xs (first_fault_of before (fault_of d r buf))) same u
 
 -- the switch of the newest inverse that was played to it
-pub settle_placed : {Own : Type 0} {Tells : Type 0} {views : List TableView} {base now next : Seen Own} {x y z : ℕ} {before : Option TxnFault} (d i : ℕ) (log later : List Logged) (at : ℕ) (e : Logged) (r : Result (Unit {0}) Trouble) (buf : List ℕ) → IsFareAt d log at
+pub settle_placed : {Own : Type 0} {Tells : Type 0} {views : List TableView} {base now next : Seen Own} {kept kept1 kept2 : List (ℕ × List ℕ)} {x y z : ℕ} {switches : List ℕ} {before : Option TxnFault} (d i : ℕ) (log later : List Logged) (at : ℕ) (e : Logged) (r : Result (Unit {0}) Trouble) (buf : List ℕ) → IsFareAt d log at
     → later ≡ set log at (with_fare (record { xid = (get_or log at e).fare.xid; since = 0; failed = is_err r }) (get_or log at e)) → y < 2 ^ 32 → z ≡ next_xid y → i ≡ y
-    → Further Tells views base now x y log before → is_viewed d views ≡ true → (get_or log at e).fare.failed ≡ false
-    → OnOk r (Settles Tells (alone (get_or log at e).dpid i) (barrier_sent (alone (get_or log at e).dpid i) ∷ []) (inverses_in (get_or log at e).dpid log) now next)
+    → Further Tells views base now kept kept1 x y switches log before → is_viewed d views ≡ true → (get_or log at e).fare.failed ≡ false → KeptMore (get_or log at e).dpid kept1 kept2
+    → OnOk r (Settles Tells (alone (get_or log at e).dpid i) (barrier_sent (alone (get_or log at e).dpid i) ∷ []) (inverses_in (get_or log at e).dpid log) now next kept1 kept2)
     → IfErr r (λ t. Fails Tells (get_or log at e).dpid (inverses_in (get_or log at e).dpid log) now next (fault_by (get_or log at e).dpid t buf))
-    → Further Tells views base next x z later (first_fault_of before (fault_of d r buf))
-settle_placed {Tells = Tells} {now = now} {next = next} {y = y} d i log later at e r buf here marked lt_xid step taken u known unfailed ok err =
+    → Further Tells views base next kept kept2 x z (d ∷ switches) later (first_fault_of before (fault_of d r buf))
+settle_placed {Tells = Tells} {now = now} {next = next} {kept1 = kept1} {kept2 = kept2} {y = y} d i log later at e r buf here marked lt_xid step taken u known unfailed some ok err =
     let is = IsFareAt-dpid d log at e here in
     let free = ap (λ (f : Fare). f.failed) (fare_of-at d log at e here) ∙ unfailed in
-    let ok1 = subst (λ (n : ℕ). OnOk r (Settles Tells (alone (get_or log at e).dpid n) (barrier_sent (alone (get_or log at e).dpid n) ∷ []) (inverses_in (get_or log at e).dpid log) now next)) taken ok in
-    let ok2 = subst (λ (n : ℕ). OnOk r (Settles Tells (alone n y) (barrier_sent (alone n y) ∷ []) (inverses_in n log) now next)) is ok1 in
+    let ok1 = subst (λ (n : ℕ). OnOk r (Settles Tells (alone (get_or log at e).dpid n) (barrier_sent (alone (get_or log at e).dpid n) ∷ []) (inverses_in (get_or log at e).dpid log) now next kept1 kept2)) taken ok in
+    let ok2 = subst (λ (n : ℕ). OnOk r (Settles Tells (alone n y) (barrier_sent (alone n y) ∷ []) (inverses_in n log) now next kept1 kept2)) is ok1 in
     let err2 = subst (λ (n : ℕ). IfErr r (λ t. Fails Tells n (inverses_in n log) now next (fault_by n t buf))) is err in
-    rw marked (settle_in d log at e r buf here lt_xid step (Pending-of d u known free) known ok2 err2)
+    rw marked (settle_in d log at e r buf here lt_xid step (Pending-of d u known free) known (inr refl) (subst (λ (n : ℕ). KeptMore n kept1 kept2) is some) ok2 err2)
 
 -- and no inverse stands behind its barrier
 pub settled_here : (d : ℕ) (log later : List Logged) (at : ℕ) (e : Logged) (f : Fare) → IsFareAt d log at → later ≡ set log at (with_fare f (get_or log at e)) → f.since ≡ 0 → IsSettledIn d later
@@ -160,3 +162,34 @@ settled_failed d log at e here failed = λ unfailed. absurd (no_both (fare_of d 
 
 pub settled_none : (d : ℕ) (log : List Logged) → keys_in d log ≡ [] → IsSettledIn d log
 settled_none d log none = λ unfailed. ap (λ (f : Fare). f.since) (fare_of-none d log none)
+
+-- ---- No barrier is sent to a switch that failed, or for which no inverse was sent.
+
+Further-passed : {Own : Type 0} {Tells : Type 0} {views : List TableView} {base now : Seen Own} {kept kept1 : List (ℕ × List ℕ)} {x y : ℕ} {switches : List ℕ} {played : List Logged} {fault : Option TxnFault} (d : ℕ)
+    → (u : Further Tells views base now kept kept1 x y switches played fault) → (is_stuck (parts_of d u.parts) ≡ false → inverses_of (parts_of d u.parts) ≡ []) → Further Tells views base now kept kept1 x y (d ∷ switches) played fault
+Further-passed {switches = switches} d u none = record {
+  parts = u.parts;
+  undoing = record {
+    continues = u.undoing.continues;
+    told = u.undoing.told;
+    next = u.undoing.next;
+    numbered = u.undoing.numbered;
+    stands = u.undoing.stands;
+    keeps = u.undoing.keeps;
+    order = u.undoing.order;
+    ends = ends_skipped d switches u.parts none u.undoing.ends;
+  };
+  few = u.few;
+  fault_so = u.fault_so;
+}
+
+no_both : (b : Bool) → b ≡ true → b ≡ false → ⊥
+no_both b is other = cc
+
+pub passed_none : {Own : Type 0} {Tells : Type 0} {views : List TableView} {base now : Seen Own} {kept kept1 : List (ℕ × List ℕ)} {x y : ℕ} {switches : List ℕ} {fault : Option TxnFault} (d : ℕ) (log : List Logged) → keys_in d log ≡ []
+    → is_viewed d views ≡ true → Further Tells views base now kept kept1 x y switches log fault → Further Tells views base now kept kept1 x y (d ∷ switches) log fault
+passed_none d log none known u = Further-passed d u (λ free. sym ((u.undoing.stands d).inverses known free) ∙ keys_in-none d log none)
+
+pub passed_failed : {Own : Type 0} {Tells : Type 0} {views : List TableView} {base now : Seen Own} {kept kept1 : List (ℕ × List ℕ)} {x y : ℕ} {switches : List ℕ} {fault : Option TxnFault} (d : ℕ) (log : List Logged) (at : ℕ) (e : Logged) → IsFareAt d log at → (get_or log at e).fare.failed ≡ true
+    → is_viewed d views ≡ true → Further Tells views base now kept kept1 x y switches log fault → Further Tells views base now kept kept1 x y (d ∷ switches) log fault
+passed_failed d log at e here failed known u = Further-passed d u (λ free. absurd (no_both (is_stuck (parts_of d u.parts)) (sym ((u.undoing.stands d).stuck known) ∙ ap (λ (f : Fare). f.failed) (fare_of-at d log at e here) ∙ failed) free))

@@ -22,7 +22,9 @@ use Rattle.net_txn.specs.declared.fault.TxnFault.TheVariants.{SwitchFault, Switc
 use Rattle.net_txn.specs.declared.heard.Awaited.{Awaited}
 use Rattle.net_txn.specs.declared.heard.Heard.{Heard}
 use Rattle.net_txn.specs.declared.heard.Heard.TheVariants.{Reply, Refused, Notice, Echo, Other}
-use Rattle.net_txn.specs.Waits.{KeptMore, heard, is_reply, steps_by, heard_steps, wait_steps, reply_got, barrier_sent}
+use Rattle.net_txn.specs.Place.{KeptWhereFit}
+use Rattle.net_txn.specs.PlaceLaws.{where_fit_then}
+use Rattle.net_txn.specs.Waits.{KeptMore, heard, is_reply, kept_by, kept_of, steps_by, heard_steps, wait_steps, reply_got, barrier_sent}
 use Rattle.net_txn.specs.WaitLaws.{reply_is}
 use Rattle.net_txn.specs.Undos.{fault_by, link_trouble, IsStepOf, Moves, key_refused, IsFaultOf, FailsAfter, AreBefore, Settles, HearsOn, HearsNext}
 
@@ -125,9 +127,10 @@ Fails-flooded {steps = steps} front m = record { steps = steps; moves = m; cause
 
 -- ---- Waits
 
-pub none_heard : {Own : Type 0} (Tells : Type 0) (a : Awaited) (sent : List (ℕ × Key)) (seen : Seen Own) → HearsOn Tells a sent seen seen 0
-none_heard Tells a sent seen = record {
+pub none_heard : {Own : Type 0} (Tells : Type 0) (a : Awaited) (sent : List (ℕ × Key)) (seen : Seen Own) (kept : List (ℕ × List ℕ)) → HearsOn Tells a sent seen seen kept kept 0
+none_heard Tells a sent seen kept = record {
   got = [];
+  kept_so = refl;
   count = refl;
   before = record { read = tt; before_reply = tt; unrefused = tt };
   moves = Moves-none Tells a.dpid seen;
@@ -136,11 +139,15 @@ none_heard Tells a sent seen = record {
 wait_more : (a : Awaited) (got : List (List ℕ)) (b : List ℕ) → wait_steps a got ++ wait_steps a (b ∷ []) ≡ wait_steps a (got ++ b ∷ [])
 wait_more a got b = ap (λ (s : List WorldStep). wait_steps a got ++ s) (append-nil (heard_steps a b)) ∙ flat_map_more (heard_steps a) [] got b
 
-pub one_heard : {Own : Type 0} {Tells : Type 0} {a : Awaited} {sent : List (ℕ × Key)} {old mid new : Seen Own} {n : ℕ} → HearsOn Tells a sent old mid n → HearsNext Tells a sent mid new false → HearsOn Tells a sent old new (n + 1)
-one_heard {a = a} {sent = sent} w h =
+kept_more : (a : Awaited) (got : List (List ℕ)) (b : List ℕ) → kept_of a got ++ kept_by a.dpid (heard a b) b ≡ kept_of a (got ++ b ∷ [])
+kept_more a got b = flat_map_more (λ x. kept_by a.dpid (heard a x) x) [] got b
+
+pub one_heard : {Own : Type 0} {Tells : Type 0} {a : Awaited} {sent : List (ℕ × Key)} {old mid new : Seen Own} {kept kept1 kept2 : List (ℕ × List ℕ)} {n : ℕ} → HearsOn Tells a sent old mid kept kept1 n → HearsNext Tells a sent mid new kept1 kept2 false → HearsOn Tells a sent old new kept kept2 (n + 1)
+one_heard {a = a} {sent = sent} {kept = kept} {kept1 = kept1} {kept2 = kept2} w h =
     let b = h.bytes in
     record {
       got = w.got ++ b ∷ [];
+      kept_so = subst (λ (ms : List (ℕ × List ℕ)). KeptWhereFit kept ms kept2) (kept_more a w.got b) (where_fit_then (kept_of a w.got) (kept_by a.dpid (heard a b) b) kept kept1 kept2 w.kept_so h.kept_so);
       count = omega (arith, w.count, length-append w.got (b ∷ []));
       before = record {
         read = all_append (λ x. IsOk (reading_of x)) w.got (b ∷ []) w.before.read (h.read, tt);
@@ -162,16 +169,22 @@ reply_steps a bytes is =
     let h : heard a bytes ≡ Reply = is_Reply (heard a bytes) is in
     rw h (ap (λ (b : List ℕ). Acted (Got a.dpid b) ∷ []) (reply_is a bytes is))
 
-pub heard_all : {Own : Type 0} {Tells : Type 0} {a : Awaited} {sent : List (ℕ × Key)} {old mid new : Seen Own} {n : ℕ} → HearsOn Tells a sent old mid n → n ≤ 65535 → HearsNext Tells a sent mid new true → Settles Tells a [] sent old new
-heard_all {a = a} w few h = record {
+reply_keeps : (a : Awaited) (bytes : List ℕ) (kept now : List (ℕ × List ℕ)) → is_reply (heard a bytes) ≡ true → KeptWhereFit kept (kept_by a.dpid (heard a bytes) bytes) now → now ≡ kept
+reply_keeps a bytes kept now is some =
+    let h : heard a bytes ≡ Reply = is_Reply (heard a bytes) is in
+    rw h at some
+
+pub heard_all : {Own : Type 0} {Tells : Type 0} {a : Awaited} {sent : List (ℕ × Key)} {old mid new : Seen Own} {kept kept1 kept2 : List (ℕ × List ℕ)} {n : ℕ} → HearsOn Tells a sent old mid kept kept1 n → n ≤ 65535 → HearsNext Tells a sent mid new kept1 kept2 true → Settles Tells a [] sent old new kept kept2
+heard_all {a = a} {kept = kept} {kept1 = kept1} {kept2 = kept2} w few h = record {
   got = w.got;
+  kept_so = subst (λ (k : List (ℕ × List ℕ)). KeptWhereFit kept (kept_of a w.got) k) (sym (reply_keeps a h.bytes kept1 kept2 (sym h.ends) h.kept_so)) w.kept_so;
   few = omega (arith, w.count, few);
   before = w.before;
   moves = Moves-then w.moves (Moves-same (wait_steps a (h.bytes ∷ [])) (reply_got a ∷ []) (reply_steps a h.bytes (sym h.ends)) h.moves);
 }
 
-pub Settles-behind : {Own : Type 0} {Tells : Type 0} {a : Awaited} {first : List WorldStep} {sent : List (ℕ × Key)} {old mid new : Seen Own} → Moves Tells a.dpid first old mid → Settles Tells a [] sent mid new → Settles Tells a first sent old new
-Settles-behind m s = record { got = s.got; few = s.few; before = s.before; moves = Moves-then m s.moves }
+pub Settles-behind : {Own : Type 0} {Tells : Type 0} {a : Awaited} {first : List WorldStep} {sent : List (ℕ × Key)} {old mid new : Seen Own} {kept now_kept : List (ℕ × List ℕ)} → Moves Tells a.dpid first old mid → Settles Tells a [] sent mid new kept now_kept → Settles Tells a first sent old new kept now_kept
+Settles-behind m s = record { got = s.got; kept_so = s.kept_so; few = s.few; before = s.before; moves = Moves-then m s.moves }
 
 -- ---- What was kept
 
@@ -185,17 +198,18 @@ kept_then d a b c first second =
 
 -- ---- One message
 
-pub heard_next : {Own : Type 0} {Tells : Type 0} (a : Awaited) (sent : List (ℕ × Key)) (bytes : List ℕ) (old mid new : Seen Own) (result : Result Bool Trouble) → IsOk (reading_of bytes) → key_refused sent bytes ≡ None
+pub heard_next : {Own : Type 0} {Tells : Type 0} (a : Awaited) (sent : List (ℕ × Key)) (bytes : List ℕ) (old mid new : Seen Own) (kept now_kept : List (ℕ × List ℕ)) (result : Result Bool Trouble) → IsOk (reading_of bytes) → key_refused sent bytes ≡ None
     → Moves Tells a.dpid (Acted (Got a.dpid bytes) ∷ []) old mid → IfOk result (λ e. e ≡ is_reply (heard a bytes)) → OnOk result (Moves Tells a.dpid (steps_by a.dpid (heard a bytes) bytes) mid new)
-    → IfOk result (HearsNext Tells a sent old new)
-heard_next a sent bytes old mid new (Ok e) read unrefused got ends m = record {
+    → OnOk result (KeptWhereFit kept (kept_by a.dpid (heard a bytes) bytes) now_kept) → IfOk result (HearsNext Tells a sent old new kept now_kept)
+heard_next a sent bytes old mid new kept now_kept (Ok e) read unrefused got ends m some = record {
   bytes = bytes;
+  kept_so = some;
   read = read;
   ends = ends;
   unrefused = unrefused;
   moves = Moves-same (Acted (Got a.dpid bytes) ∷ steps_by a.dpid (heard a bytes) bytes) (wait_steps a (bytes ∷ [])) (sym (append-nil (heard_steps a bytes))) (Moves-then got m);
 }
-heard_next a sent bytes old mid new (Err t) read unrefused got ends m = tt
+heard_next a sent bytes old mid new kept now_kept (Err t) read unrefused got ends m some = tt
 
 pub refused_next : {Own : Type 0} {Tells : Type 0} (a : Awaited) (sent : List (ℕ × Key)) (got : List (List ℕ)) (bytes : List ℕ) (key : Key) (xid : ℕ) {old new : Seen Own} → AreBefore a sent got → a.barrier < 2 ^ 32 → Moves Tells a.dpid (Acted (Got a.dpid bytes) ∷ []) old new
     → xid ≡ number_at 4 4 bytes → Some key ≡ key_refused sent bytes → FailsAfter Tells a.dpid sent (barrier_sent a ∷ wait_steps a got) old new (Diverged a.dpid (inverse_bytes xid key) bytes)

@@ -41,7 +41,7 @@ use Rattle.net_txn.specs.NoticeLaws.{reply_kind, notice_steps, with_entries, inv
 
 -- ---- The steps of a part are those of its switch.
 
-all_two : {X : Type 0} (P : X → Type 0) (xs ys : List X) → AllByRecursion P xs → AllByRecursion P ys → AllByRecursion P (xs ++ ys)
+pub all_two : {X : Type 0} (P : X → Type 0) (xs ys : List X) → AllByRecursion P xs → AllByRecursion P ys → AllByRecursion P (xs ++ ys)
 all_two P [] ys all rest = rest
 all_two P (x ∷ xs) ys all rest = (all.0, all_two P xs ys all.1 rest)
 
@@ -52,7 +52,7 @@ by_of d hearing.Notice bytes = tt
 by_of d hearing.Echo bytes = (refl, tt)
 by_of d hearing.Other bytes = tt
 
-wait_of : (a : Awaited) (got : List (List ℕ)) → AllByRecursion (IsStepOf a.dpid) (wait_steps a got)
+pub wait_of : (a : Awaited) (got : List (List ℕ)) → AllByRecursion (IsStepOf a.dpid) (wait_steps a got)
 wait_of a [] = tt
 wait_of a (b ∷ bs) = (refl, all_two (IsStepOf a.dpid) (steps_by a.dpid (heard a b) b) (wait_steps a bs) (by_of a.dpid (heard a b) b) (wait_of a bs))
 
@@ -128,10 +128,10 @@ older_run old new d (Stuck xid fault steps) older run = run.2
 abbrev pub AllRun : Counts → Counts → List (ℕ × Part) → Type 0
 AllRun old new parts = (d : ℕ) → IsRun old new d (parts_of d parts)
 
-runs_here : (old new : Counts) (p : ℕ × Part) (older : List (ℕ × Part)) → AllRun old new (p ∷ older) → IsRun old new p.0 (p.1 ∷ parts_of p.0 older)
+pub runs_here : (old new : Counts) (p : ℕ × Part) (older : List (ℕ × Part)) → AllRun old new (p ∷ older) → IsRun old new p.0 (p.1 ∷ parts_of p.0 older)
 runs_here old new p older all = subst (λ (b : Bool). IsRun old new p.0 (if b then p.1 ∷ parts_of p.0 older else parts_of p.0 older)) (eq-eqb p.0 p.0 refl) (all p.0)
 
-runs_older : (old new : Counts) (p : ℕ × Part) (older : List (ℕ × Part)) → AllRun old new (p ∷ older) → AllRun old new older
+pub runs_older : (old new : Counts) (p : ℕ × Part) (older : List (ℕ × Part)) → AllRun old new (p ∷ older) → AllRun old new older
 runs_older old new p older all d =
     elim (cases_eq p.0 d) [
       | inl same ↦ subst (λ (n : ℕ). IsRun old new n (parts_of n older)) same (older_run old new p.0 p.1 (parts_of p.0 older) (runs_here old new p older all))

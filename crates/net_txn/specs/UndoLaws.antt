@@ -1,5 +1,5 @@
 -- Laws of undos: one part more, and what it leaves of each switch.
-use Rattle.std.specs.Prelude.{◌≡◌, ◌≢◌, ℕ, ◌+◌, ◌<◌, Bool, true, false, List, [], ◌∷◌, ◌++◌, refl}
+use Rattle.std.specs.Prelude.{◌≡◌, ◌≢◌, ℕ, ◌+◌, ◌<◌, Bool, true, false, List, [], ◌∷◌, ◌++◌, map, refl}
 use Rattle.std.proofs.Common.{sym, ap, ◌∙◌, subst, append_assoc, eq-eqb, inl, inr}
 use Rattle.std.proofs.lemmas.Bool.{ne_eqb, cases_eq}
 use Rattle.std.proofs.lemmas.List.{append-nil}
@@ -15,7 +15,8 @@ use Rattle.net_txn.specs.declared.logged.Fare.{Fare}
 use Rattle.net_txn.specs.declared.logged.Logged.{Logged}
 use Rattle.net_txn.specs.Net.{next_xid}
 use Rattle.net_txn.specs.FareLaws.{fare_of-same, fare_of-other, inverses_in-same, inverses_in-other}
-use Rattle.net_txn.specs.Undos.{CanBeSent, IsFaultOf, IsStuckBy, IsSettled, Moves, Part, Inverse, Settled, Stuck, part_steps, steps_of, parts_of, xid_of, is_stuck, since_of, inverses_of, IsRun, fare_of, inverses_in, is_viewed, Stands, Undoing}
+use Rattle.net_txn.specs.Undos.{CanBeSent, IsFaultOf, IsStuckBy, IsSettled, Moves, Part, Inverse, Settled, Stuck, part_steps, steps_of, parts_of, xid_of, is_stuck, since_of, inverses_of, IsRun, fare_of, inverses_in, is_viewed, but_fare, Stands, Undoing, KeepsOne, IsThinned, inverse_in, sent_in, EndsSettled}
+use Rattle.net_txn.specs.PartOrderLaws.{thinned_more, ends_none}
 
 -- ---- Later
 
@@ -58,15 +59,19 @@ Stands-same known d old new parts played later fares inverses s = record {
 abbrev pub SameFor : ℕ → List Logged → List Logged → Type 0
 SameFor c later played = (fare_of c later ≡ fare_of c played) × (inverses_in c later ≡ inverses_in c played)
 
-pub Undoing-part : {Own : Type 0} {Tells : Type 0} {views : List TableView} {base now next : Seen Own} {x y : ℕ} {played : List Logged} {parts : List (ℕ × Part)} (d : ℕ) (p : Part) (later : List Logged)
-    → Undoing Tells views base now x y played parts → Moves Tells d (part_steps d p) now next → xid_of p ≡ y → ((c : ℕ) → c ≢ d → SameFor c later played)
-    → Stands (is_viewed d views) d base.counts next.counts (p ∷ parts_of d parts) later → Undoing Tells views base next x (next_xid y) later ((d, p) ∷ parts)
-Undoing-part {Tells = Tells} {views = views} {base = base} {now = now} {next = next} {x = x} {y = y} {played = played} {parts = parts} d p later u m is others here = record {
+pub Undoing-part : {Own : Type 0} {Tells : Type 0} {views : List TableView} {base now next : Seen Own} {kept kept1 kept2 : List (ℕ × List ℕ)} {x y : ℕ} {switches more : List ℕ} {played : List Logged} {parts : List (ℕ × Part)} (d : ℕ) (p : Part) (later : List Logged)
+    → Undoing Tells views base now kept kept1 x y switches played parts → Moves Tells d (part_steps d p) now next → xid_of p ≡ y → ((c : ℕ) → c ≢ d → SameFor c later played)
+    → Stands (is_viewed d views) d base.counts next.counts (p ∷ parts_of d parts) later → KeepsOne d p kept1 kept2 → IsThinned (inverse_in d p ++ sent_in parts) (map but_fare later) → EndsSettled more ((d, p) ∷ parts)
+    → Undoing Tells views base next kept kept2 x (next_xid y) more later ((d, p) ∷ parts)
+Undoing-part {Tells = Tells} {views = views} {base = base} {now = now} {next = next} {kept1 = kept1} {x = x} {y = y} {played = played} {parts = parts} d p later u m is others here keeps order ends = record {
   continues = Continues-trans Tells base now next u.continues m.continues;
   told = λ t. m.told t ∙ ap (λ (s : List WorldStep). s ++ part_steps d p) (u.told t) ∙ append_assoc base.history (steps_of parts) (part_steps d p);
   next = ap next_xid u.next;
   numbered = (is ∙ u.next, u.numbered);
   stands = λ c. elim (cases_eq c d) [ inl same ↦ mine c same | inr other ↦ theirs c other ];
+  keeps = (kept1, u.keeps, keeps);
+  order = order;
+  ends = ends;
 }
   where
     mine : (c : ℕ) → c ≡ d → Stands (is_viewed c views) c base.counts next.counts (parts_of c ((d, p) ∷ parts)) later
@@ -112,24 +117,30 @@ Stands-settled known d xid old mid new parts played later got up after s known_s
 }
 
 -- nothing was done yet
-pub Undoing-none : {Own : Type 0} (Tells : Type 0) (views : List TableView) (seen : Seen Own) (x : ℕ) → Undoing Tells views seen seen x x [] []
-Undoing-none Tells views seen x = record {
+pub Undoing-none : {Own : Type 0} (Tells : Type 0) (views : List TableView) (seen : Seen Own) (kept : List (ℕ × List ℕ)) (x : ℕ) → Undoing Tells views seen seen kept kept x x [] [] []
+Undoing-none Tells views seen kept x = record {
   continues = Continues-refl Tells seen;
   told = λ t. sym (append-nil seen.history);
   next = refl;
   numbered = tt;
   stands = λ d. record { unknown = λ no. refl; run = tt; stuck = λ k. refl; since = λ k n. refl; inverses = λ k n. refl };
+  keeps = refl;
+  order = tt;
+  ends = ends_none [];
 }
 
 -- an inverse that is not played, of a switch that failed or is not joined
-pub Undoing-skipped : {Own : Type 0} {Tells : Type 0} {views : List TableView} {base now : Seen Own} {x y : ℕ} {played : List Logged} {parts : List (ℕ × Part)} (e : Logged)
-    → Undoing Tells views base now x y played parts → (is_viewed e.dpid views ≡ true → (fare_of e.dpid played).failed ≡ true) → e.fare.failed ≡ true → Undoing Tells views base now x y (e ∷ played) parts
+pub Undoing-skipped : {Own : Type 0} {Tells : Type 0} {views : List TableView} {base now : Seen Own} {kept kept1 : List (ℕ × List ℕ)} {x y : ℕ} {switches : List ℕ} {played : List Logged} {parts : List (ℕ × Part)} (e : Logged)
+    → Undoing Tells views base now kept kept1 x y switches played parts → (is_viewed e.dpid views ≡ true → (fare_of e.dpid played).failed ≡ true) → e.fare.failed ≡ true → Undoing Tells views base now kept kept1 x y switches (e ∷ played) parts
 Undoing-skipped {views = views} {base = base} {now = now} {played = played} {parts = parts} e u failed is = record {
   continues = u.continues;
   told = u.told;
   next = u.next;
   numbered = u.numbered;
   stands = λ c. elim (cases_eq c e.dpid) [ inl same ↦ mine c same | inr other ↦ Stands-same (is_viewed c views) c base.counts now.counts (parts_of c parts) played (e ∷ played) (fare_of-other c e played other) (inverses_in-other c e played other) (u.stands c) ];
+  keeps = u.keeps;
+  order = thinned_more (sent_in parts) (but_fare e) (map but_fare played) u.order;
+  ends = u.ends;
 }
   where
     mine : (c : ℕ) → c ≡ e.dpid → Stands (is_viewed c views) c base.counts now.counts (parts_of c parts) (e ∷ played)

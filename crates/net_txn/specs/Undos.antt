@@ -1,7 +1,7 @@
 -- How logged additions are undone: newest first over all switches each key is removed again (OpenFlow 1.0.0, 5.3.3 Modify State
 -- Messages: DELETE_STRICT), with barriers behind (5.3.7 Barrier Message). A switch that fails is left alone from then on. What is
 -- done is a list of parts, newest first, as the log is read from its end. All of this is our own choice.
-use Rattle.std.specs.Prelude.{◌≡◌, ◌≢◌, ◌==◌, ℕ, ◌+◌, ◌^◌, ◌<◌, ◌≤◌, Bool, true, false, List, [], ◌∷◌, ◌++◌, length, take, drop, map, Option, Some, None, Result, Ok, Err, IsOk, IsErr, if◌then◌else◌}
+use Rattle.std.specs.Prelude.{◌≡◌, ◌≢◌, ◌==◌, ℕ, ◌+◌, ◌^◌, ◌<◌, ◌≤◌, Bool, true, false, List, [], ◌∷◌, ◌++◌, length, take, drop, map, reverse, ◌⊎◌, Option, Some, None, Result, Ok, Err, IsOk, IsErr, if◌then◌else◌}
 use Rattle.std.specs.List.{AllByRecursion, list_any}
 use Rattle.std.proofs.Common.{zero, suc}
 use Rattle.lego_io.specs.Count.{Rose}
@@ -33,7 +33,9 @@ use Rattle.net_txn.specs.Causes.{flood}
 use Rattle.net_txn.specs.Views.{with_rows}
 use Rattle.net_txn.specs.Arriving.{without_key}
 use Rattle.net_txn.specs.Net.{NetState, next_xid, inverse_bytes, no_fare}
-use Rattle.net_txn.specs.Waits.{heard, is_reply, wait_steps, barrier_sent, reply_got}
+use Rattle.net_txn.specs.Waits.{heard, is_reply, kept_by, kept_of, wait_steps, barrier_sent, reply_got, KeptMore}
+use Rattle.net_txn.specs.Place.{KeptWhereFit}
+use Rattle.net_txn.specs.Agreement.{Agrees}
 
 -- ---- Steps of one switch
 
@@ -119,22 +121,25 @@ abbrev pub Fails : {Own : Type 0} → Type 0 → ℕ → List (ℕ × Key) → S
 Fails Tells d sent old new fault = FailsAfter Tells d sent [] old new fault
 
 -- a barrier whose reply was got, at most 65,535 messages before it
-pub record Settles {Own : Type 0} (Tells : Type 0) (a : Awaited) (front : List WorldStep) (sent : List (ℕ × Key)) (old new : Seen Own) : Type 0 where
+pub record Settles {Own : Type 0} (Tells : Type 0) (a : Awaited) (front : List WorldStep) (sent : List (ℕ × Key)) (old new : Seen Own) (kept now_kept : List (ℕ × List ℕ)) : Type 0 where
   pub got : List (List ℕ)
+  pub kept_so : KeptWhereFit kept (kept_of a got) now_kept
   pub few : length got ≤ 65535
   pub before : AreBefore a sent got
   pub moves : Moves Tells a.dpid (front ++ (wait_steps a got ++ reply_got a ∷ [])) old new
 
 -- a wait that has not ended yet, after so many messages
-pub record HearsOn {Own : Type 0} (Tells : Type 0) (a : Awaited) (sent : List (ℕ × Key)) (old new : Seen Own) (n : ℕ) : Type 0 where
+pub record HearsOn {Own : Type 0} (Tells : Type 0) (a : Awaited) (sent : List (ℕ × Key)) (old new : Seen Own) (kept now_kept : List (ℕ × List ℕ)) (n : ℕ) : Type 0 where
   pub got : List (List ℕ)
+  pub kept_so : KeptWhereFit kept (kept_of a got) now_kept
   pub count : length got ≡ n
   pub before : AreBefore a sent got
   pub moves : Moves Tells a.dpid (wait_steps a got) old new
 
 -- one message was got, and it was the reply or it was not
-pub record HearsNext {Own : Type 0} (Tells : Type 0) (a : Awaited) (sent : List (ℕ × Key)) (old new : Seen Own) (ended : Bool) : Type 0 where
+pub record HearsNext {Own : Type 0} (Tells : Type 0) (a : Awaited) (sent : List (ℕ × Key)) (old new : Seen Own) (kept now_kept : List (ℕ × List ℕ)) (ended : Bool) : Type 0 where
   pub bytes : List ℕ
+  pub kept_so : KeptWhereFit kept (kept_by a.dpid (heard a bytes) bytes) now_kept
   pub read : IsOk (reading_of bytes)
   pub ends : ended ≡ is_reply (heard a bytes)
   pub unrefused : key_refused sent bytes ≡ None
@@ -176,6 +181,33 @@ xid_of (Stuck xid fault steps) = xid
 abbrev pub AreNumbered : ℕ → List (ℕ × Part) → Type 0
 AreNumbered xid [] = Unit {0}
 AreNumbered xid (p ∷ older) = (xid_of p.1 ≡ next_free xid older) × AreNumbered xid older
+
+-- What a part keeps: of the messages before a reply those that are nothing to the wait, where they fit. Of a switch that fails some
+-- may be kept.
+abbrev pub KeepsOne : ℕ → Part → List (ℕ × List ℕ) → List (ℕ × List ℕ) → Type 0
+KeepsOne d (Inverse xid k) kept now_kept = now_kept ≡ kept
+KeepsOne d (Settled xid got) kept now_kept = KeptWhereFit kept (kept_of (alone d xid) got) now_kept
+KeepsOne d (Stuck xid fault steps) kept now_kept = KeptMore d kept now_kept
+
+abbrev pub Keeps : List (ℕ × List ℕ) → List (ℕ × Part) → List (ℕ × List ℕ) → Type 0
+Keeps kept [] now_kept = now_kept ≡ kept
+Keeps kept (p ∷ older) now_kept = (mid : List (ℕ × List ℕ)) × Keeps kept older mid × KeepsOne p.0 p.1 mid now_kept
+
+-- the inverses that were sent, each with its switch
+abbrev pub inverse_in : ℕ → Part → List (ℕ × Key)
+inverse_in d (Inverse xid k) = (d, k) ∷ []
+inverse_in d (Settled xid got) = []
+inverse_in d (Stuck xid fault steps) = []
+
+abbrev pub sent_in : List (ℕ × Part) → List (ℕ × Key)
+sent_in [] = []
+sent_in (p ∷ older) = inverse_in p.0 p.1 ++ sent_in older
+
+-- items without some of them, in their order
+abbrev pub IsThinned : {X : Type 0} → List X → List X → Type 0
+IsThinned [] ys = Unit {0}
+IsThinned (x ∷ xs) [] = ⊥
+IsThinned (x ∷ xs) (y ∷ ys) = ((x ≡ y) × IsThinned xs ys) ⊎ IsThinned (x ∷ xs) ys
 
 -- the first fault of all
 abbrev pub fault_in : Part → Option TxnFault
@@ -230,6 +262,20 @@ IsRun old new d (Inverse xid k ∷ older) = CanBeSent xid k × (since_of older <
 IsRun old new d (Settled xid got ∷ older) = IsSettled d xid (inverses_of older) got × (is_stuck older ≡ false) × IsRun old new d older
 IsRun old new d (Stuck xid fault steps ∷ older) = IsStuckBy d (inverses_of older) old new fault steps × (is_stuck older ≡ false) × IsRun old new d older
 
+-- the joined switches, the last one first
+abbrev pub switches_of : List TableView → List ℕ
+switches_of views = reverse (map (λ v. v.dpid) views)
+
+-- Behind the last inverse of all stand barriers alone, whose switches come in this order (as the parts, from the last one on): one for
+-- each of them for which an inverse was sent and that did not fail.
+pub record EndsSettled (switches : List ℕ) (parts : List (ℕ × Part)) : Type 0 where
+  pub last : List (ℕ × Part)
+  pub front : List (ℕ × Part)
+  pub parts_so : parts ≡ last ++ front
+  pub no_inverse : sent_in last ≡ []
+  pub in_order : IsThinned (map (λ p. p.0) last) switches
+  pub each : (d : ℕ) → list_any (λ c. c == d) switches ≡ true → is_stuck (parts_of d parts) ≡ false → (inverses_of (parts_of d parts) ≡ []) ⊎ (list_any (λ p. p.0 == d) last ≡ true)
+
 -- ---- What the log keeps of its inverses that were played
 
 abbrev pub fare_of : ℕ → List Logged → Fare
@@ -269,30 +315,29 @@ pub record Stands (known : Bool) (d : ℕ) (old new : Counts) (parts : List Part
   pub since : known ≡ true → is_stuck parts ≡ false → (fare_of d played).since ≡ since_of parts
   pub inverses : known ≡ true → is_stuck parts ≡ false → inverses_in d played ≡ inverses_of parts
 
--- An undo so far: the inverses of these entries were played.
-pub record Undoing {Own : Type 0} (Tells : Type 0) (views : List TableView) (old new : Seen Own) (xid now_xid : ℕ) (played : List Logged) (parts : List (ℕ × Part)) : Type 0 where
+-- An undo so far: the inverses of these entries were played, and then barriers sent to these switches, the last one first.
+pub record Undoing {Own : Type 0} (Tells : Type 0) (views : List TableView) (old new : Seen Own) (kept now_kept : List (ℕ × List ℕ)) (xid now_xid : ℕ) (switches : List ℕ) (played : List Logged) (parts : List (ℕ × Part)) : Type 0 where
   pub continues : Continues Tells old new
   pub told : Tells → new.history ≡ old.history ++ steps_of parts
   pub next : now_xid ≡ next_free xid parts
   pub numbered : AreNumbered xid parts
   pub stands : (d : ℕ) → Stands (is_viewed d views) d old.counts new.counts (parts_of d parts) played
+  pub keeps : Keeps kept parts now_kept
+  pub order : IsThinned (sent_in parts) (map but_fare played)
+  pub ends : EndsSettled switches parts
 
 -- no inverse of the switch stands behind its last barrier, unless it has failed
 abbrev pub IsSettledIn : ℕ → List Logged → Type 0
 IsSettledIn d played = (fare_of d played).failed ≡ false → (fare_of d played).since ≡ 0
-
--- more messages were kept
-abbrev pub KeptSome : List (ℕ × List ℕ) → List (ℕ × List ℕ) → Type 0
-KeptSome kept now_kept = (more : List (ℕ × List ℕ)) × (now_kept ≡ kept ++ more)
 
 -- of the room for the bytes of faults none was taken without a fault, and that of one at most
 abbrev pub IsRoomLeft : Option TxnFault → Option TxnFault → ℕ → ℕ → Type 0
 IsRoomLeft fault now_fault room now_room = (now_fault ≡ None → (fault ≡ None) × (now_room ≡ room)) × (room ≤ now_room + 1) × ((fault ≡ None → ⊥) → now_room ≡ room)
 
 -- An undo so far, with its first fault, and fewer than 4,096 inverses behind the last barrier of each switch.
-pub record Further {Own : Type 0} (Tells : Type 0) (views : List TableView) (old new : Seen Own) (xid now_xid : ℕ) (played : List Logged) (fault : Option TxnFault) : Type 0 where
+pub record Further {Own : Type 0} (Tells : Type 0) (views : List TableView) (old new : Seen Own) (kept now_kept : List (ℕ × List ℕ)) (xid now_xid : ℕ) (switches : List ℕ) (played : List Logged) (fault : Option TxnFault) : Type 0 where
   pub parts : List (ℕ × Part)
-  pub undoing : Undoing Tells views old new xid now_xid played parts
+  pub undoing : Undoing Tells views old new kept now_kept xid now_xid switches played parts
   pub few : (d : ℕ) → since_of (parts_of d parts) < 4096
   pub fault_so : fault ≡ first_fault parts
 
@@ -302,9 +347,9 @@ fault_of d (Ok x) buf = None
 fault_of d (Err trouble) buf = Some (fault_by d trouble buf)
 
 -- the same, where so many may stand behind the last barrier of one switch, which has not failed
-pub record Pending {Own : Type 0} (Tells : Type 0) (views : List TableView) (old new : Seen Own) (xid now_xid : ℕ) (played : List Logged) (fault : Option TxnFault) (d : ℕ) : Type 0 where
+pub record Pending {Own : Type 0} (Tells : Type 0) (views : List TableView) (old new : Seen Own) (kept now_kept : List (ℕ × List ℕ)) (xid now_xid : ℕ) (switches : List ℕ) (played : List Logged) (fault : Option TxnFault) (d : ℕ) : Type 0 where
   pub parts : List (ℕ × Part)
-  pub undoing : Undoing Tells views old new xid now_xid played parts
+  pub undoing : Undoing Tells views old new kept now_kept xid now_xid switches played parts
   pub few : (c : ℕ) → c ≢ d → since_of (parts_of c parts) < 4096
   pub free : is_stuck (parts_of d parts) ≡ false
   pub fault_so : fault ≡ first_fault parts
@@ -342,10 +387,22 @@ pub record Restored (d : ℕ) (before : TableState) (s : SwitchState) (new : Sta
   pub switch : switch_of d new ≡ Some (record s { table = undone before s.table s.moment })
   pub waits : waits_of d new ≡ []
 
+-- the switch is joined, and nothing of it waits
+pub record StandsReady (d : ℕ) (s : State) : Type 0 where
+  pub switch : SwitchState
+  pub is : switch_of d s ≡ Some switch
+  pub waits : waits_of d s ≡ []
+
+-- its view shows its table, and nothing of it waits
+pub record AgreesAgain (d : ℕ) (views : List TableView) (new : State) : Type 0 where
+  pub agrees : Agrees d views new
+  pub waits : waits_of d new ≡ []
+
 -- What was logged from a place on is undone and forgotten, and the views lose its keys. It goes on past a fault with the other
--- switches, and the first fault is answered. In a world that tells, no switch moves that is not joined; and where it keeps its word,
--- each joined switch that did not fail, of which nothing waited, and whose table had but the logged keys added since an earlier one,
--- has that table again. There no inverse is refused.
+-- switches, and the first fault is answered; after Ok none failed. In a world that tells, no switch moves that is not joined; and
+-- where it keeps its word, each joined switch that did not fail, of which nothing waited, and whose table had but the logged keys
+-- added since an earlier one, has that table again; and where its view agreed with its table, it does so again. There no inverse is
+-- refused; and after Ok no message was kept, where nothing waited of any joined switch.
 pub record Undoes {Own : Type 0} (Tells : Type 0) (start : ℕ) (old new : Seen Own) (net now_net : NetState) (result : Result (Unit {0}) TxnFault) : Type 0 where
   pub parts : List (ℕ × Part)
   pub continues : Continues Tells old new
@@ -353,15 +410,20 @@ pub record Undoes {Own : Type 0} (Tells : Type 0) (start : ℕ) (old new : Seen 
   pub xid : now_net.xid ≡ next_free net.xid parts
   pub numbered : AreNumbered net.xid parts
   pub each : (d : ℕ) → IsPlayedOn (is_viewed d net.views) d old.counts new.counts (keys_of d (map but_fare (drop start net.log))) (parts_of d parts)
+  pub order : IsThinned (sent_in parts) (map but_fare (drop start net.log))
+  pub last : EndsSettled (switches_of net.views) parts
   pub result_so : result ≡ ended_by (first_fault parts)
+  pub none_failed : IsOk result → (d : ℕ) → is_stuck (parts_of d parts) ≡ false
   pub log : now_net.log ≡ take start net.log
   pub views : now_net.views ≡ without_keys (map but_fare (drop start net.log)) net.views
   pub ports : now_net.ports ≡ net.ports
   pub moment : now_net.moment ≡ net.moment
-  pub kept : KeptSome net.kept now_net.kept
+  pub kept : Keeps net.kept parts now_net.kept
   pub room : (net.room ≤ now_net.room + 1) × (IsOk result → now_net.room ≡ net.room)
   pub others : (d : ℕ) → Tells → is_viewed d net.views ≡ false → SameSwitch d (state old) (state new)
   pub accepted : (d : ℕ) (s : SwitchState) (inverse bytes : List ℕ) → Tells → Conforming new → switch_of d (state old) ≡ Some s → waits_of d (state old) ≡ [] → result ≡ Err (Diverged d inverse bytes) → ⊥
   pub restored : (d : ℕ) (s : SwitchState) (before : TableState) → Tells → Conforming new → is_viewed d net.views ≡ true → is_stuck (parts_of d parts) ≡ false
       → switch_of d (state old) ≡ Some s → waits_of d (state old) ≡ [] → IsTable before.entries → IsSerialed s.table
       → OnlyAdded (keys_of d (map but_fare (drop start net.log))) before.entries s.table.entries → Restored d before s (state new)
+  pub none_kept : Tells → Conforming new → IsOk result → ((d : ℕ) → is_viewed d net.views ≡ true → StandsReady d (state old)) → now_net.kept ≡ net.kept
+  pub agrees : (d : ℕ) → Tells → Conforming new → is_stuck (parts_of d parts) ≡ false → waits_of d (state old) ≡ [] → Agrees d net.views (state old) → AgreesAgain d now_net.views (state new)

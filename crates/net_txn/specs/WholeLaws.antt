@@ -7,7 +7,9 @@ use Rattle.net_txn.specs.declared.fault.TxnFault.{TxnFault}
 use Rattle.net_txn.specs.Net.{NetState}
 use Rattle.net_txn.specs.declared.logged.Logged.{Logged}
 use Rattle.net_txn.specs.RestoreLaws.{others_stay, restored, accepted}
-use Rattle.net_txn.specs.Undos.{Undoes, Further, KeptSome, ended_by, without_keys, is_viewed, parts_of, Part, inverses_in, keys_of, but_fare, IsSettledIn, Stands, IsPlayedOn}
+use Rattle.net_txn.specs.AgreeLaws.{agrees, none_failed}
+use Rattle.net_txn.specs.KeepLaws.{none_kept}
+use Rattle.net_txn.specs.Undos.{Undoes, Further, switches_of, ended_by, without_keys, is_viewed, parts_of, Part, inverses_in, keys_of, but_fare, IsSettledIn, Stands, IsPlayedOn}
 
 key_step : (here : Bool) (x : ℕ) (k : Key) (pairs : List (ℕ × Key)) (keys : List Key) → map (λ p. p.1) pairs ≡ keys → map (λ p. p.1) (if here then (x, k) ∷ pairs else pairs) ≡ (if here then k ∷ keys else keys)
 key_step true x k pairs keys is = ap (λ (ks : List Key). k ∷ ks) is
@@ -26,11 +28,11 @@ played_on known d old new parts played all same s settled = record {
 }
 
 pub undoes : {Own : Type 0} {Tells : Type 0} (start from : ℕ) (old new : Seen Own) (net now_net : NetState) (result : Result (Unit {0}) TxnFault) (fault : Option TxnFault) (played : List Logged)
-    → take from net.log ≡ take start net.log → drop from net.log ≡ drop start net.log → result ≡ ended_by fault → Further Tells net.views old new net.xid now_net.xid played fault
+    → take from net.log ≡ take start net.log → drop from net.log ≡ drop start net.log → result ≡ ended_by fault → Further Tells net.views old new net.kept now_net.kept net.xid now_net.xid (switches_of net.views) played fault
     → ((d : ℕ) → is_viewed d net.views ≡ true → IsSettledIn d played) → map but_fare played ≡ map but_fare (drop from net.log)
     → now_net.views ≡ without_keys (map but_fare (drop from net.log)) net.views → now_net.log ≡ take from net.log → now_net.ports ≡ net.ports → now_net.moment ≡ net.moment
-    → KeptSome net.kept now_net.kept → (net.room ≤ now_net.room + 1) × (IsOk result → now_net.room ≡ net.room) → Undoes Tells start old new net now_net result
-undoes start from old new net now_net result fault played front rest is f settled same views log ports moment kept room =
+    → (net.room ≤ now_net.room + 1) × (IsOk result → now_net.room ≡ net.room) → Undoes Tells start old new net now_net result
+undoes start from old new net now_net result fault played front rest is f settled same views log ports moment room =
     let all : map but_fare played ≡ map but_fare (drop start net.log) = same ∙ ap (λ (es : List Logged). map but_fare es) rest in
     let each : (d : ℕ) → IsPlayedOn (is_viewed d net.views) d old.counts new.counts (keys_of d (map but_fare (drop start net.log))) (parts_of d f.parts) = λ d.
     played_on (is_viewed d net.views) d old.counts new.counts (parts_of d f.parts) played (map but_fare (drop start net.log)) all (f.undoing.stands d) (settled d) in
@@ -41,12 +43,14 @@ undoes start from old new net now_net result fault played front rest is f settle
       xid = f.undoing.next;
       numbered = f.undoing.numbered;
       each = each;
+      order = rw all at f.undoing.order;
+      last = f.undoing.ends;
       result_so = is ∙ ap ended_by f.fault_so;
       log = log ∙ front;
       views = views ∙ ap (λ (es : List Logged). without_keys (map but_fare es) net.views) rest;
       ports = ports;
       moment = moment;
-      kept = kept;
+      kept = f.undoing.keeps;
       room = room;
       others = λ d told unknown. others_stay old new d f.parts f.undoing.continues.given (f.undoing.told told) (λ c. (each c).run) ((each d).unknown unknown);
       accepted = λ d s inverse bytes told conforming here waits err.
@@ -54,4 +58,10 @@ undoes start from old new net now_net result fault played front rest is f settle
       restored = λ d s before told conforming known free here waits was serialed only.
           restored old new d s before (keys_of d (map but_fare (drop start net.log))) f.parts f.undoing.continues.given (f.undoing.told told) (λ c. (each c).run) conforming free
           ((each d).keys_so known free) ((each d).settled known free) here waits was serialed only;
+      none_failed = λ ok d. none_failed result f.parts d (is ∙ ap ended_by f.fault_so) ok;
+      none_kept = λ told conforming ok ready.
+          none_kept old new net.views f.parts result net.kept now_net.kept f.undoing.continues.given (f.undoing.told told) (λ c. (each c).run) (λ c. (each c).unknown) (is ∙ ap ended_by f.fault_so) ok conforming ready f.undoing.keeps;
+      agrees = λ d told conforming free waits before.
+          agrees old new d net.views now_net.views (map but_fare (drop start net.log)) f.parts f.undoing.continues.given (f.undoing.told told) each
+          (views ∙ ap (λ (es : List Logged). without_keys (map but_fare es) net.views) rest) conforming free waits before;
     }

@@ -1,12 +1,13 @@
 //! A switch that joins.
 
-ghost use Rattle.std.specs.Prelude.{◌≡◌, ◌++◌, [], ◌∷◌, None, IfOk, IfErr, OnOk, OnErr};
+ghost use Rattle.std.specs.Prelude.{◌≡◌, ◌<◌, ◌^◌, ◌++◌, [], ◌∷◌, None, IfOk, IfErr, OnOk, OnErr};
 ghost use Rattle.outside.specs.Seen.{Continues};
 ghost use Rattle.net_txn.specs.declared.ports.KnownPorts.{KnownPorts};
 ghost use Rattle.net_txn.specs.Causes.{IsCause};
 ghost use Rattle.net_txn.specs.Views.{rows_at};
 ghost use Rattle.net_txn.specs.Net.{next_xid};
 ghost use Rattle.net_txn.specs.Joining.{greeted_from, with_view, IsViewPlace, Joins, DoesNotJoin};
+ghost use Rattle.net_txn.specs.JoiningSteps.{JoinSteps};
 
 use crate::fault::TxnFault;
 use crate::greeting::{configuring, emptying, greet};
@@ -94,20 +95,20 @@ fn admit(
 }
 
 impl Net {
-    /// A switch joins, with these features: its table is emptied and its configuration set, behind a barrier.
-    pub fn joined<W: World>(
+    /// Empties the table of a switch and sets its configuration, behind a barrier, and takes it in.
+    fn join<W: World>(
         &mut self,
         world: &mut W,
         dpid: Dpid,
         features: &FeaturesReply,
     ) -> Result<(), TxnFault>
-        requires { rows_at dpid self.old.views ≡ None }
         ensures joins { OnOk result (Joins W.Tells dpid features.now.ports (W.seen world.old) (W.seen world.new) self.old self.new) }
         ensures err { OnErr result (DoesNotJoin dpid self.old self.new) }
         ensures continues { Continues W.Tells (W.seen world.old) (W.seen world.new) }
         ensures cause { IfErr result (IsCause W.Tells dpid (W.seen world.old) (W.seen world.new)) }
         ensures log { self.new.log ≡ self.old.log }
         ensures moment { self.new.moment ≡ self.old.moment }
+        ensures xid { self.old.xid < 2 ^ 32 }
     {
         let first = self.xid;
         let awaited = greeted(dpid, first);
@@ -127,5 +128,26 @@ impl Net {
         )?;
         admit(self.alloc, &mut self.views, &mut self.ports, known)?;
         Ok(())
+    }
+
+    /// A switch joins, with these features: its table is emptied and its configuration set, behind a barrier.
+    pub fn joined<W: World>(
+        &mut self,
+        world: &mut W,
+        dpid: Dpid,
+        features: &FeaturesReply,
+    ) -> Result<(), TxnFault>
+        requires { rows_at dpid self.old.views ≡ None }
+        ensures joins { OnOk result (Joins W.Tells dpid features.now.ports (W.seen world.old) (W.seen world.new) self.old self.new) }
+        ensures err { OnErr result (DoesNotJoin dpid self.old self.new) }
+        ensures continues { Continues W.Tells (W.seen world.old) (W.seen world.new) }
+        ensures cause { IfErr result (IsCause W.Tells dpid (W.seen world.old) (W.seen world.new)) }
+        ensures log { self.new.log ≡ self.old.log }
+        ensures moment { self.new.moment ≡ self.old.moment }
+
+        // Where the world keeps its word and nothing of the switch waited, the switch is empty, as its view is.
+        ensures in_step { JoinSteps W.Tells dpid (W.seen world.old) (W.seen world.new) self.old self.new result }
+    {
+        self.join(world, dpid, features)
     }
 }

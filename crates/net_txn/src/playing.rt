@@ -10,8 +10,8 @@ ghost use Rattle.outside.specs.Calls.{most_message};
 ghost use Rattle.outside.specs.declared.step.WorldStep.TheVariants.{Acted};
 ghost use Rattle.net_txn.specs.declared.logged.Logged.{Logged};
 ghost use Rattle.net_txn.specs.Net.{next_xid, inverse_bytes};
-ghost use Rattle.net_txn.specs.Waits.{barrier_sent};
-ghost use Rattle.net_txn.specs.Undos.{IsSettledIn, KeptSome, Further, first_fault_of, fault_of, fare_of, Moves, Fails, Settles, fault_by, inverses_in, alone, is_viewed, with_fare, but_fare};
+ghost use Rattle.net_txn.specs.Waits.{barrier_sent, KeptMore};
+ghost use Rattle.net_txn.specs.Undos.{IsSettledIn, Further, first_fault_of, fault_of, fare_of, Moves, Fails, Settles, fault_by, inverses_in, alone, is_viewed, with_fare, but_fare};
 
 use crate::fares::{fare_of, place_of};
 use crate::logged::{Fare, Logged, inverse_of};
@@ -96,13 +96,13 @@ fn settle_at<W: World>(
     requires room { most_message ≤ length buf.old }
     requires place { (from ≤ at) × (at < length log.old) }
     ensures ok { (e : Logged) → let d = (slice_index_or log.old at e).dpid in
-        OnOk result (Settles W.Tells (alone d xid) (barrier_sent (alone d xid) ∷ []) (inverses_in d (drop from log.old)) (W.seen world.old) (W.seen world.new)) }
+        OnOk result (Settles W.Tells (alone d xid) (barrier_sent (alone d xid) ∷ []) (inverses_in d (drop from log.old)) (W.seen world.old) (W.seen world.new) kept.old kept.new) }
     ensures err { (e : Logged) → let d = (slice_index_or log.old at e).dpid in
         IfErr result (λ t. Fails W.Tells d (inverses_in d (drop from log.old)) (W.seen world.old) (W.seen world.new) (fault_by d t buf.new)) }
     ensures marked { (e : Logged) → let entry = slice_index_or log.old at e in
         log.new ≡ slice_set log.old at (with_fare (record { xid = entry.fare.xid; since = 0; failed = is_err result }) entry) }
     ensures same { map but_fare log.new ≡ map but_fare log.old }
-    ensures kept { KeptSome kept.old kept.new }
+    ensures kept { (e : Logged) → KeptMore (slice_index_or log.old at e).dpid kept.old kept.new }
     ensures len { length buf.new ≡ length buf.old }
 {
     let dpid = log[at].dpid;
@@ -152,14 +152,13 @@ fn play_to<W: World>(
 ) -> Result<(), Trouble>
     requires room { most_message ≤ length buf.old }
     requires place { at < length log.old }
-    ensures undoing { (base : Seen W.Own) (views : List TableView) (x : ℕ) (fault : Option TxnFault) (e : Logged) →
+    ensures undoing { (base : Seen W.Own) (views : List TableView) (x : ℕ) (first : List (ℕ × List ℕ)) (fault : Option TxnFault) (e : Logged) →
         let d = (slice_index_or log.old at e).dpid in
         let played = drop (at + 1) log.old in
-        Further W.Tells views base (W.seen world.old) x xid.old played fault → is_viewed d views ≡ true → (fare_of d played).failed ≡ false
+        Further W.Tells views base (W.seen world.old) first kept.old x xid.old [] played fault → is_viewed d views ≡ true → (fare_of d played).failed ≡ false
         → ((fare_of d played).since < 4096 → since ≡ (fare_of d played).since + 1)
-        → Further W.Tells views base (W.seen world.new) x xid.new (drop at log.new) (first_fault_of fault (fault_of d result buf.new)) }
+        → Further W.Tells views base (W.seen world.new) first kept.new x xid.new [] (drop at log.new) (first_fault_of fault (fault_of d result buf.new)) }
     ensures same { map but_fare log.new ≡ map but_fare log.old }
-    ensures kept { KeptSome kept.old kept.new }
     ensures least { 1 ≤ xid.new }
     ensures len { length buf.new ≡ length buf.old }
 {
@@ -194,12 +193,11 @@ pub(crate) fn play<W: World>(
     requires room { most_message ≤ length buf.old }
     requires place { at < length log.old }
     requires least { 1 ≤ xid.old }
-    ensures undoing { (base : Seen W.Own) (x : ℕ) (fault : Option TxnFault) (e : Logged) →
-        Further W.Tells views.now base (W.seen world.old) x xid.old (drop (at + 1) log.old) fault
-        → Further W.Tells views.now base (W.seen world.new) x xid.new (drop at log.new)
+    ensures undoing { (base : Seen W.Own) (x : ℕ) (first : List (ℕ × List ℕ)) (fault : Option TxnFault) (e : Logged) →
+        Further W.Tells views.now base (W.seen world.old) first kept.old x xid.old [] (drop (at + 1) log.old) fault
+        → Further W.Tells views.now base (W.seen world.new) first kept.new x xid.new [] (drop at log.new)
         (first_fault_of fault (fault_of (slice_index_or log.old at e).dpid result buf.new)) }
     ensures same { map but_fare log.new ≡ map but_fare log.old }
-    ensures kept { KeptSome kept.old kept.new }
     ensures least { 1 ≤ xid.new }
     ensures len { length buf.new ≡ length buf.old }
 {
@@ -229,13 +227,12 @@ pub(crate) fn settle_switch<W: World>(
 ) -> Result<(), Trouble>
     requires room { most_message ≤ length buf.old }
     requires least { 1 ≤ xid.old }
-    ensures undoing { (base : Seen W.Own) (views : List TableView) (x : ℕ) (fault : Option TxnFault) →
-        Further W.Tells views base (W.seen world.old) x xid.old log.old fault → is_viewed dpid views ≡ true
-        → Further W.Tells views base (W.seen world.new) x xid.new log.new (first_fault_of fault (fault_of dpid result buf.new)) }
+    ensures undoing { (base : Seen W.Own) (views : List TableView) (x : ℕ) (first : List (ℕ × List ℕ)) (switches : List ℕ) (fault : Option TxnFault) →
+        Further W.Tells views base (W.seen world.old) first kept.old x xid.old switches log.old fault → is_viewed dpid views ≡ true
+        → Further W.Tells views base (W.seen world.new) first kept.new x xid.new (dpid ∷ switches) log.new (first_fault_of fault (fault_of dpid result buf.new)) }
     ensures settled { IsSettledIn dpid log.new }
     ensures others { (c : ℕ) → IsSettledIn c log.old → IsSettledIn c log.new }
     ensures same { map but_fare log.new ≡ map but_fare log.old }
-    ensures kept { KeptSome kept.old kept.new }
     ensures least { 1 ≤ xid.new }
     ensures len { length buf.new ≡ length buf.old }
 {

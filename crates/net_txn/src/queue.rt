@@ -1,7 +1,7 @@
 //! Events, and messages of switches, in the order in which they came.
 
 ghost use Rattle.std.specs.Prelude.{◌≡◌, ◌==◌, ◌↔◌, ◌⊎◌, true, not, filter, [], ◌∷◌, ◌++◌, drop, length, slice_get, IsTrue, IfOk, OnOk, OnErr};
-ghost use Rattle.net_txn.specs.Place.{fits};
+ghost use Rattle.net_txn.specs.Place.{fits, KeptWhereFit};
 ghost use Rattle.net_txn.specs.Waits.{KeptMore};
 
 use crate::place::Place;
@@ -133,6 +133,7 @@ impl MessageQueue {
     pub(crate) fn keep_or_drop(&mut self, dpid: Dpid, message: &[u8])
         ensures kept_or_dropped { (self.new ≡ self.old ++ (dpid, message.now) ∷ []) ⊎ (self.new ≡ self.old) }
         ensures fits { fits self.old message.now ≡ true → self.new ≡ self.old ++ (dpid, message.now) ∷ [] }
+        ensures where_fit { KeptWhereFit self.old ((dpid, message.now) ∷ []) self.new }
         ensures more { KeptMore dpid self.old self.new }
     {
         self.place.keep_or_drop(dpid, message);

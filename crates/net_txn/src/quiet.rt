@@ -8,7 +8,8 @@ ghost use Rattle.of_wire.specs.Reading.{reading_of};
 ghost use Rattle.outside.specs.Calls.{most_message};
 ghost use Rattle.outside.specs.declared.step.WorldStep.{WorldStep};
 ghost use Rattle.outside.specs.declared.step.WorldStep.TheVariants.{Acted};
-ghost use Rattle.net_txn.specs.Waits.{heard, is_reply, steps_by, wait_steps, barrier_sent, KeptMore};
+ghost use Rattle.net_txn.specs.Waits.{heard, is_reply, steps_by, kept_by, wait_steps, barrier_sent, KeptMore};
+ghost use Rattle.net_txn.specs.Place.{KeptWhereFit};
 ghost use Rattle.net_txn.specs.Undos.{link_trouble, Moves, Fails, FailsAfter, AreBefore, fault_by, inverses_in, alone, HearsNext, Settles};
 
 use crate::fares::key_refused;
@@ -78,6 +79,7 @@ fn treat<W: World>(
     ensures err { (sent : List (ℕ × Key)) (front : List WorldStep) (buf : List ℕ) → IfErr result (λ t. FailsAfter W.Tells awaited.now.dpid sent front (W.seen world.old) (W.seen world.new)
         (fault_by awaited.now.dpid t buf)) }
     ensures kept { KeptMore awaited.now.dpid kept.old kept.new }
+    ensures where_fit { OnOk result (KeptWhereFit kept.old (kept_by awaited.now.dpid (heard awaited.now message.old) message.old) kept.new) }
 {
     match judge(message, awaited) {
         Heard::Reply => return Ok(true),
@@ -100,7 +102,7 @@ fn hear<W: World>(
     awaited: &Awaited,
 ) -> Result<bool, Trouble>
     requires { most_message ≤ length buf.old }
-    ensures ok { IfOk result (HearsNext W.Tells awaited.now (inverses_in awaited.now.dpid played.now) (W.seen world.old) (W.seen world.new)) }
+    ensures ok { IfOk result (HearsNext W.Tells awaited.now (inverses_in awaited.now.dpid played.now) (W.seen world.old) (W.seen world.new) kept.old kept.new) }
     ensures err { (got : List (List ℕ)) → AreBefore awaited.now (inverses_in awaited.now.dpid played.now) got → awaited.now.barrier < 2 ^ 32
         → IfErr result (λ t. FailsAfter W.Tells awaited.now.dpid (inverses_in awaited.now.dpid played.now) (barrier_sent awaited.now ∷ wait_steps awaited.now got) (W.seen world.old) (W.seen world.new)
         (fault_by awaited.now.dpid t buf.new)) }
@@ -123,7 +125,7 @@ fn wait<W: World>(
     awaited: &Awaited,
 ) -> Result<(), Trouble>
     requires { most_message ≤ length buf.old }
-    ensures ok { OnOk result (Settles W.Tells awaited.now [] (inverses_in awaited.now.dpid played.now) (W.seen world.old) (W.seen world.new)) }
+    ensures ok { OnOk result (Settles W.Tells awaited.now [] (inverses_in awaited.now.dpid played.now) (W.seen world.old) (W.seen world.new) kept.old kept.new) }
     ensures err { awaited.now.barrier < 2 ^ 32 → IfErr result (λ t. FailsAfter W.Tells awaited.now.dpid (inverses_in awaited.now.dpid played.now) (barrier_sent awaited.now ∷ []) (W.seen world.old) (W.seen world.new)
         (fault_by awaited.now.dpid t buf.new)) }
     ensures kept { KeptMore awaited.now.dpid kept.old kept.new }
@@ -147,7 +149,7 @@ pub(crate) fn settle<W: World>(
     xid: Xid,
 ) -> Result<(), Trouble>
     requires { most_message ≤ length buf.old }
-    ensures ok { OnOk result (Settles W.Tells (alone dpid xid) (barrier_sent (alone dpid xid) ∷ []) (inverses_in dpid played.now) (W.seen world.old) (W.seen world.new)) }
+    ensures ok { OnOk result (Settles W.Tells (alone dpid xid) (barrier_sent (alone dpid xid) ∷ []) (inverses_in dpid played.now) (W.seen world.old) (W.seen world.new) kept.old kept.new) }
     ensures err { IfErr result (λ t. Fails W.Tells dpid (inverses_in dpid played.now) (W.seen world.old) (W.seen world.new) (fault_by dpid t buf.new)) }
     ensures kept { KeptMore dpid kept.old kept.new }
     ensures len { length buf.new ≡ length buf.old }

@@ -1,11 +1,11 @@
 //! The undo of what was logged from a place on.
 
-ghost use Rattle.std.specs.Prelude.{◌≡◌, ◌+◌, ◌<◌, ◌≤◌, ℕ, true, List, length, take, drop, map, Option, None, IsOk, vec_len};
+ghost use Rattle.std.specs.Prelude.{◌≡◌, ◌+◌, ◌<◌, ◌≤◌, ℕ, true, List, [], ◌∷◌, length, take, drop, map, Option, None, IsOk, vec_len};
 ghost use Rattle.net_txn.specs.declared.fault.TxnFault.{TxnFault};
 ghost use Rattle.outside.specs.Seen.{Seen};
 ghost use Rattle.flow_table.specs.declared.view.TableView.{TableView};
 ghost use Rattle.net_txn.specs.declared.logged.Logged.{Logged};
-ghost use Rattle.net_txn.specs.Undos.{ended_by, without_keys, Further, KeptSome, IsSettledIn, IsRoomLeft, is_viewed, but_fare};
+ghost use Rattle.net_txn.specs.Undos.{ended_by, without_keys, switches_of, Further, IsSettledIn, IsRoomLeft, is_viewed, but_fare};
 
 use crate::fault::TxnFault;
 use crate::logged::Logged;
@@ -35,11 +35,10 @@ fn play_noted<W: World>(
     requires place { at < length log.old }
     requires least { 1 ≤ xid.old }
     requires room { fault.old ≡ None → 1 ≤ vec_len rooms.old }
-    ensures undoing { (base : Seen W.Own) (x : ℕ) →
-        Further W.Tells views.now base (W.seen world.old) x xid.old (drop (at + 1) log.old) fault.old
-        → Further W.Tells views.now base (W.seen world.new) x xid.new (drop at log.new) fault.new }
+    ensures undoing { (base : Seen W.Own) (first : List (ℕ × List ℕ)) (x : ℕ) →
+        Further W.Tells views.now base (W.seen world.old) first kept.old x xid.old [] (drop (at + 1) log.old) fault.old
+        → Further W.Tells views.now base (W.seen world.new) first kept.new x xid.new [] (drop at log.new) fault.new }
     ensures same { map but_fare log.new ≡ map but_fare log.old }
-    ensures kept { KeptSome kept.old kept.new }
     ensures least { 1 ≤ xid.new }
     ensures buf { length buf.new ≡ 65535 }
     ensures room { IsRoomLeft fault.old fault.new (vec_len rooms.old) (vec_len rooms.new) }
@@ -66,9 +65,8 @@ fn play_all<W: World>(
     requires least { 1 ≤ xid.old }
     requires fault { fault.old ≡ None }
     requires room { 1 ≤ vec_len rooms.old }
-    ensures undoing { Further W.Tells views.now (W.seen world.old) (W.seen world.new) xid.old xid.new log.new fault.new }
+    ensures undoing { Further W.Tells views.now (W.seen world.old) (W.seen world.new) kept.old kept.new xid.old xid.new [] log.new fault.new }
     ensures same { map but_fare log.new ≡ map but_fare log.old }
-    ensures kept { KeptSome kept.old kept.new }
     ensures least { 1 ≤ xid.new }
     ensures buf { length buf.new ≡ 65535 }
     ensures room { IsRoomLeft fault.old fault.new (vec_len rooms.old) (vec_len rooms.new) }
@@ -95,13 +93,12 @@ fn settle_noted<W: World>(
     requires buf { length buf.old ≡ 65535 }
     requires least { 1 ≤ xid.old }
     requires room { fault.old ≡ None → 1 ≤ vec_len rooms.old }
-    ensures undoing { (base : Seen W.Own) (views : List TableView) (x : ℕ) →
-        Further W.Tells views base (W.seen world.old) x xid.old log.old fault.old → is_viewed dpid views ≡ true
-        → Further W.Tells views base (W.seen world.new) x xid.new log.new fault.new }
+    ensures undoing { (base : Seen W.Own) (views : List TableView) (first : List (ℕ × List ℕ)) (switches : List ℕ) (x : ℕ) →
+        Further W.Tells views base (W.seen world.old) first kept.old x xid.old switches log.old fault.old → is_viewed dpid views ≡ true
+        → Further W.Tells views base (W.seen world.new) first kept.new x xid.new (dpid ∷ switches) log.new fault.new }
     ensures settled { IsSettledIn dpid log.new }
     ensures others { (c : ℕ) → IsSettledIn c log.old → IsSettledIn c log.new }
     ensures same { map but_fare log.new ≡ map but_fare log.old }
-    ensures kept { KeptSome kept.old kept.new }
     ensures least { 1 ≤ xid.new }
     ensures buf { length buf.new ≡ 65535 }
     ensures room { IsRoomLeft fault.old fault.new (vec_len rooms.old) (vec_len rooms.new) }
@@ -127,11 +124,10 @@ fn settle_all<W: World>(
     requires buf { length buf.old ≡ 65535 }
     requires least { 1 ≤ xid.old }
     requires room { fault.old ≡ None → 1 ≤ vec_len rooms.old }
-    ensures undoing { (base : Seen W.Own) (x : ℕ) → Further W.Tells views.now base (W.seen world.old) x xid.old log.old fault.old
-        → Further W.Tells views.now base (W.seen world.new) x xid.new log.new fault.new }
+    ensures undoing { (base : Seen W.Own) (first : List (ℕ × List ℕ)) (x : ℕ) → Further W.Tells views.now base (W.seen world.old) first kept.old x xid.old [] log.old fault.old
+        → Further W.Tells views.now base (W.seen world.new) first kept.new x xid.new (switches_of views.now) log.new fault.new }
     ensures settled { (c : ℕ) → is_viewed c views.now ≡ true → IsSettledIn c log.new }
     ensures same { map but_fare log.new ≡ map but_fare log.old }
-    ensures kept { KeptSome kept.old kept.new }
     ensures least { 1 ≤ xid.new }
     ensures buf { length buf.new ≡ 65535 }
     ensures room { IsRoomLeft fault.old fault.new (vec_len rooms.old) (vec_len rooms.new) }
@@ -165,10 +161,9 @@ pub(crate) fn undo<W: World>(
     requires buf { length buf.old ≡ 65535 }
     requires least { 1 ≤ xid.old }
     requires room { 1 ≤ vec_len rooms.old }
-    ensures undoing { (fault : Option TxnFault) × (result ≡ ended_by fault) × Further W.Tells views.now (W.seen world.old) (W.seen world.new) xid.old xid.new log.new fault }
+    ensures undoing { (fault : Option TxnFault) × (result ≡ ended_by fault) × Further W.Tells views.now (W.seen world.old) (W.seen world.new) kept.old kept.new xid.old xid.new (switches_of views.now) log.new fault }
     ensures settled { (c : ℕ) → is_viewed c views.now ≡ true → IsSettledIn c log.new }
     ensures same { map but_fare log.new ≡ map but_fare log.old }
-    ensures kept { KeptSome kept.old kept.new }
     ensures least { 1 ≤ xid.new }
     ensures buf { length buf.new ≡ 65535 }
     ensures room { (vec_len rooms.old ≤ vec_len rooms.new + 1) × (IsOk result → vec_len rooms.new ≡ vec_len rooms.old) }
@@ -199,11 +194,10 @@ fn undo_part<W: World>(
     requires least { 1 ≤ xid.old }
     requires room { 1 ≤ vec_len rooms.old }
     ensures undoing { (fault : Option TxnFault) × (result ≡ ended_by fault)
-        × Further W.Tells views.now (W.seen world.old) (W.seen world.new) xid.old xid.new (drop from log.new) fault }
+        × Further W.Tells views.now (W.seen world.old) (W.seen world.new) kept.old kept.new xid.old xid.new (switches_of views.now) (drop from log.new) fault }
     ensures settled { (c : ℕ) → is_viewed c views.now ≡ true → IsSettledIn c (drop from log.new) }
     ensures same { map but_fare (drop from log.new) ≡ map but_fare (drop from log.old) }
     ensures front { take from log.new ≡ take from log.old }
-    ensures kept { KeptSome kept.old kept.new }
     ensures least { 1 ≤ xid.new }
     ensures buf { length buf.new ≡ 65535 }
     ensures room { (vec_len rooms.old ≤ vec_len rooms.new + 1) × (IsOk result → vec_len rooms.new ≡ vec_len rooms.old) }
@@ -228,11 +222,10 @@ pub(crate) fn undo_log<W: World>(
     requires least { 1 ≤ xid.old }
     requires room { 1 ≤ vec_len rooms.old }
     ensures undoing { (fault : Option TxnFault) × (played : List Logged) × (result ≡ ended_by fault)
-        × Further W.Tells views.old.items (W.seen world.old) (W.seen world.new) xid.old xid.new played fault
+        × Further W.Tells views.old.items (W.seen world.old) (W.seen world.new) kept.old kept.new xid.old xid.new (switches_of views.old.items) played fault
         × ((c : ℕ) → is_viewed c views.old.items ≡ true → IsSettledIn c played) × (map but_fare played ≡ map but_fare (drop from log.old.items)) }
     ensures views { views.new.items ≡ without_keys (map but_fare (drop from log.old.items)) views.old.items }
     ensures log { log.new.items ≡ take from log.old.items }
-    ensures kept { KeptSome kept.old kept.new }
     ensures least { 1 ≤ xid.new }
     ensures buf { length buf.new ≡ 65535 }
     ensures room { (vec_len rooms.old ≤ vec_len rooms.new + 1) × (IsOk result → vec_len rooms.new ≡ vec_len rooms.old) }

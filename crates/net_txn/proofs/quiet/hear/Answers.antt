@@ -14,8 +14,8 @@ returns-in-Some-clause-err g c = λ got before lt.
 
 pub returns-clause-ok : goal.returns-clause-ok
 returns-clause-ok g c =
-    heard_next c.args.awaited.now (inverses_in c.args.awaited.now.dpid c.args.played.now) (take c.in_ok-len.len c.receive.new.buf) (g.W.World.seen c.args.world.now) (g.W.World.seen c.receive.new.world) (g.W.World.seen c.treat.new.world) c.treat.result c.in_ok-len.ensures.read (sym c.key_refused.ensures ∙ c.in_default.is)
-    c.in_ok-len.ensures.ok c.treat.ensures.ends c.treat.ensures.ok
+    heard_next c.args.awaited.now (inverses_in c.args.awaited.now.dpid c.args.played.now) (take c.in_ok-len.len c.receive.new.buf) (g.W.World.seen c.args.world.now) (g.W.World.seen c.receive.new.world) (g.W.World.seen c.treat.new.world) c.args.kept.now c.treat.new.kept c.treat.result c.in_ok-len.ensures.read (sym c.key_refused.ensures ∙ c.in_default.is)
+    c.in_ok-len.ensures.ok c.treat.ensures.ends c.treat.ensures.ok c.treat.ensures.where_fit
 
 pub returns-clause-err : goal.returns-clause-err
 returns-clause-err g c = λ got before lt.

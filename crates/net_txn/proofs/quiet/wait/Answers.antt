@@ -7,7 +7,7 @@ use Rattle.net_txn.proofs.quiet.wait.Goals as goal
 
 pub loop-heard-init : goal.loop-heard-init
 loop-heard-init g c = record {
-  heard = none_heard g.W.World.Tells c.args.awaited.now (inverses_in c.args.awaited.now.dpid c.args.played.now) (g.W.World.seen c.args.world.now);
+  heard = none_heard g.W.World.Tells c.args.awaited.now (inverses_in c.args.awaited.now.dpid c.args.played.now) (g.W.World.seen c.args.world.now) c.args.kept.now;
   kept = none_kept c.args.awaited.now.dpid c.args.kept.now;
   room = refl;
 }

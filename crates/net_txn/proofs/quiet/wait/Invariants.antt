@@ -5,7 +5,7 @@ use Rattle.net_txn.proofs.quiet.wait.Given as goal
 
 abbrev pub invariant-loop-heard : goal.invariant-loop-heard
 invariant-loop-heard g l = record {
-  heard : HearsOn g.W.World.Tells l.awaited (inverses_in l.awaited.dpid l.played) (g.W.World.seen l.fn.world) (g.W.World.seen l.world) l._heard;
+  heard : HearsOn g.W.World.Tells l.awaited (inverses_in l.awaited.dpid l.played) (g.W.World.seen l.fn.world) (g.W.World.seen l.world) l.fn.kept l.kept l._heard;
   kept : KeptMore l.awaited.dpid l.fn.kept l.kept;
   room : length l.buf ≡ length l.fn.buf;
 }

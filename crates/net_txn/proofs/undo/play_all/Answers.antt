@@ -2,16 +2,15 @@ use Rattle.std.proofs.Common.{◌≡◌, ◌+◌, ◌-◌, ℕ, [], List, length
 use Rattle.std.proofs.lemmas.List.{drop_all, length-map}
 use Rattle.of_match.specs.declared.key.Key.{Key}
 use Rattle.net_txn.specs.Undos.{Further, but_fare}
-use Rattle.net_txn.specs.FurtherLaws.{Further-none, room_same, room_then, some_none, some_then}
+use Rattle.net_txn.specs.FurtherLaws.{Further-none, room_same, room_then}
 use Rattle.net_txn.proofs.undo.play_all.Goals as goal
 
 pub loop-done-init : goal.loop-done-init
 loop-done-init g c =
     let none : drop (length c.args.log.now - 0) c.args.log.now ≡ [] = drop_all (length c.args.log.now - 0) c.args.log.now (omega arith) in
     record {
-      undoing = rw (none, c.requires.fault) (Further-none g.W.World.Tells c.args.views.now (g.W.World.seen c.args.world.now) c.args.xid.now);
+      undoing = rw (none, c.requires.fault) (Further-none g.W.World.Tells c.args.views.now (g.W.World.seen c.args.world.now) c.args.kept.now c.args.xid.now);
       same = refl;
-      kept = some_none c.args.kept.now;
       least = c.requires.least;
       buf = c.requires.buf;
       room = room_same c.args.fault.now _;
@@ -26,12 +25,11 @@ loop-done-preserved g c =
     let lt = c.loop-done-test.true in
     let from : n - 1 - c.loop-done.done + 1 ≡ n - c.loop-done.done = omega (arith, lt) in
     let to : n - 1 - c.loop-done.done ≡ n - (c.loop-done.done + 1) = omega (arith, lt) in
-    let before = subst (λ (k : ℕ). Further g.W.World.Tells c.args.views.now (g.W.World.seen c.args.world.now) (g.W.World.seen c.loop-done.world) c.args.xid.now c.loop-done.xid (drop k c.loop-done.log) c.loop-done.fault) (sym from) i.undoing in
+    let before = subst (λ (k : ℕ). Further g.W.World.Tells c.args.views.now (g.W.World.seen c.args.world.now) (g.W.World.seen c.loop-done.world) c.args.kept.now c.loop-done.kept c.args.xid.now c.loop-done.xid [] (drop k c.loop-done.log) c.loop-done.fault) (sym from) i.undoing in
     record {
-      undoing = subst (λ (k : ℕ). Further g.W.World.Tells c.args.views.now (g.W.World.seen c.args.world.now) (g.W.World.seen c.play_noted.new.world) c.args.xid.now c.play_noted.new.xid (drop k c.play_noted.new.log) c.play_noted.new.fault) to
-          (s.undoing (g.W.World.seen c.args.world.now) c.args.xid.now before);
+      undoing = subst (λ (k : ℕ). Further g.W.World.Tells c.args.views.now (g.W.World.seen c.args.world.now) (g.W.World.seen c.play_noted.new.world) c.args.kept.now c.play_noted.new.kept c.args.xid.now c.play_noted.new.xid [] (drop k c.play_noted.new.log) c.play_noted.new.fault) to
+          (s.undoing (g.W.World.seen c.args.world.now) c.args.kept.now c.args.xid.now before);
       same = s.same ∙ i.same;
-      kept = some_then c.args.kept.now c.loop-done.kept c.play_noted.new.kept i.kept s.kept;
       least = s.least;
       buf = s.buf;
       room = room_then c.args.fault.now c.loop-done.fault c.play_noted.new.fault _ _ _ i.room s.room;

@@ -1,13 +1,12 @@
-use Rattle.std.proofs.Common.{◌≡◌, ◌-◌, ◌≤◌, length, drop, map}
+use Rattle.std.proofs.Common.{◌≡◌, ◌-◌, ◌≤◌, [], length, drop, map}
 use Rattle.std.specs.Prelude.{vec_len}
-use Rattle.net_txn.specs.Undos.{Further, KeptSome, IsRoomLeft, but_fare}
+use Rattle.net_txn.specs.Undos.{Further, IsRoomLeft, but_fare}
 use Rattle.net_txn.proofs.undo.play_all.Given as goal
 
 abbrev pub invariant-loop-done : goal.invariant-loop-done
 invariant-loop-done g l = record {
-  undoing : Further g.W.World.Tells l.views (g.W.World.seen l.fn.world) (g.W.World.seen l.world) l.fn.xid l.xid (drop (l.count - l.done) l.log) l.fault;
+  undoing : Further g.W.World.Tells l.views (g.W.World.seen l.fn.world) (g.W.World.seen l.world) l.fn.kept l.kept l.fn.xid l.xid [] (drop (l.count - l.done) l.log) l.fault;
   same : map but_fare l.log ≡ map but_fare l.fn.log;
-  kept : KeptSome l.fn.kept l.kept;
   least : 1 ≤ l.xid;
   buf : length l.buf ≡ 65535;
   room : IsRoomLeft l.fn.fault l.fault (vec_len l.fn.rooms) (vec_len l.rooms);

@@ -17,4 +17,4 @@ returns g c =
     let rest = subst (λ (xs : List Logged). drop c.place_in-from.result xs ≡ drop c.args.start xs) c.deref.ensures.value c.place_in-from.ensures.rest in
     let p = u.undoing in
     subst (λ (x : NetState). Undoes g.W.World.Tells c.args.start (g.W.World.seen c.args.world.now) (g.W.World.seen n.world) x later c.undo_log.result) c.self.view_is
-    (undoes c.args.start c.place_in-from.result (g.W.World.seen c.args.world.now) (g.W.World.seen n.world) net later c.undo_log.result p.0 p.1 front rest p.2 p.3 p.4 p.5 u.views u.log refl refl u.kept u.room)
+    (undoes c.args.start c.place_in-from.result (g.W.World.seen c.args.world.now) (g.W.World.seen n.world) net later c.undo_log.result p.0 p.1 front rest p.2 p.3 p.4 p.5 u.views u.log refl refl u.room)

@@ -1,3 +1,4 @@
+use Rattle.net_txn.specs.PlaceLaws.{where_fit_one}
 use Rattle.net_txn.proofs.PlaceSteps.{put_last}
 use Rattle.net_txn.proofs.queue.MessageQueue.keep_or_drop.Goals as goal
 
@@ -12,3 +13,8 @@ returns-clause-fits c =
 pub returns-clause-more : goal.returns-clause-more
 returns-clause-more c =
     (put_last c.self.inside.messages.items c.self.inside.place c.keep_or_drop.new.self c.args.self.now c.args.dpid c.args.message.now c.self.view_is c.keep_or_drop.ensures).more
+
+pub returns-clause-where_fit : goal.returns-clause-where_fit
+returns-clause-where_fit c =
+    let p = put_last c.self.inside.messages.items c.self.inside.place c.keep_or_drop.new.self c.args.self.now c.args.dpid c.args.message.now c.self.view_is c.keep_or_drop.ensures in
+    where_fit_one (c.args.dpid, c.args.message.now) c.args.self.now _ p.one_or_none p.one
