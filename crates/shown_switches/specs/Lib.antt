@@ -5,3 +5,4 @@ pub mod ChangeShown
 pub mod AskedLaws
 pub mod ExchangeShown
 pub mod StandLaws
+pub mod ViewLaws
