@@ -6,3 +6,4 @@ pub mod AskedLaws
 pub mod ExchangeShown
 pub mod StandLaws
 pub mod ViewLaws
+pub mod AbsentLaws
