@@ -128,11 +128,11 @@ known-from d bytes m xid views s (Some rows) (Some switch) rows_are switch_is sa
   passes = passes (rows_of_table switch.table.entries) bytes m xid (ap (λ (k : Option Rows). host_answer k bytes) (sym same) ∙ host) read;
 }
 
-known : (d : ℕ) (bytes : List ℕ) (m : Change) (xid : ℕ) (net : NetState) (s : State) → Agrees d net.views s → answer_of_host d bytes net ≡ None → reading_of bytes ≡ Ok (enveloped xid (FlowMod m)) → Known d m net.views s
+pub known : (d : ℕ) (bytes : List ℕ) (m : Change) (xid : ℕ) (net : NetState) (s : State) → Agrees d net.views s → answer_of_host d bytes net ≡ None → reading_of bytes ≡ Ok (enveloped xid (FlowMod m)) → Known d m net.views s
 known d bytes m xid net s agrees host read = known-from d bytes m xid net.views s (rows_at d net.views) (switch_of d s) refl refl agrees host read
 
 module _ {Own : Type 0} (Tells : Type 0) (d : ℕ) (old new : Seen Own) (net now_net : NetState) (m : Change) (given : Answer) where
-  judged : (k : Known d m net.views (state old)) → Asked Tells d m old new net now_net given → InStep d (as_sent (FlowMod m)) old new net now_net given → (refusal : Option Refusal) → now_net.views ≡ views_by refusal d m net.views
+  pub judged : (k : Known d m net.views (state old)) → Asked Tells d m old new net now_net given → InStep d (as_sent (FlowMod m)) old new net now_net given → (refusal : Option Refusal) → now_net.views ≡ views_by refusal d m net.views
       → given ≡ answer_by (error_in refusal) → error_in refusal ≡ message_refusal k.switch (as_sent (FlowMod m))
   unfolding switch_answer
   judged k is step refusal views_so answer_so =

@@ -7,3 +7,5 @@ pub mod ExchangeShown
 pub mod StandLaws
 pub mod ViewLaws
 pub mod AbsentLaws
+pub mod Since
+pub mod SinceLaws
