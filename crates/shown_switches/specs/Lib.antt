@@ -9,3 +9,4 @@ pub mod ViewLaws
 pub mod AbsentLaws
 pub mod Since
 pub mod SinceLaws
+pub mod UndoShown

@@ -38,3 +38,8 @@ pub record Since {Own : Type 0} (start : ℕ) (first now : Seen Own) (net0 net :
   pub views : without_keys (logged_since start net) net.views ≡ net0.views
   pub joined : (d : ℕ) (s : SwitchState) → switch_of d (state first) ≡ Some s → JoinedSince (keys_of d (logged_since start net)) s (switch_of d (state now))
   pub out : (d : ℕ) → switch_of d (state first) ≡ None → switch_of d (state now) ≡ None
+
+-- a transaction stands so, and all is ready
+pub record Goes {Own : Type 0} (start : ℕ) (first now : Seen Own) (net0 net : NetState) : Type 0 where
+  pub since : Since start first now net0 net
+  pub ready : Ready now net

@@ -40,7 +40,7 @@ use Rattle.shown_switches.specs.AskedLaws.{asked}
 use Rattle.shown_switches.specs.ViewLaws.{has_row, without-added}
 use Rattle.shown_switches.specs.AbsentLaws.{absent-entry, absent-row}
 use Rattle.shown_switches.specs.ExchangeShown.{Known, known, judged}
-use Rattle.shown_switches.specs.Since.{Ready, logged_since, SwitchSince, JoinedSince, Since}
+use Rattle.shown_switches.specs.Since.{Ready, logged_since, SwitchSince, JoinedSince, Since, Goes}
 
 -- ---- Where it begins
 
@@ -245,7 +245,7 @@ module _ {Own : Type 0} (Tells : Type 0) (d start : ℕ) (first old new : Seen O
             let j = since.joined d s (ap (λ (n : ℕ). switch_of n (state first)) (sym same) ∙ is) in
             let this : j.switch ≡ k.switch = one_value j.switch k.switch (sym j.is ∙ k.switch_is) in
             let keys : keys_of d (logged_since start now_net) ≡ keys_of d (logged_since start net) ++ keys_then refusal_of m =
-                ap (λ (log : List Logged). keys_of d (map but_fare (drop start log))) log_so ∙ logged_here start d m net.log refusal_of since.started in
+            ap (λ (log : List Logged). keys_of d (map but_fare (drop start log))) log_so ∙ logged_here start d m net.log refusal_of since.started in
             let after = switch_then m (keys_of d (logged_since start net)) s k.switch refusal_of k.passes refused (subst (SwitchSince (keys_of d (logged_since start net)) s) this j.since) in
             subst (λ (n : ℕ). JoinedSince (keys_of n (logged_since start now_net)) s (switch_of n (state new))) (sym same)
             (record {
@@ -256,7 +256,7 @@ module _ {Own : Type 0} (Tells : Type 0) (d start : ℕ) (first old new : Seen O
         | inr other ↦
             let j = since.joined e s is in
             let keys : keys_of e (logged_since start now_net) ≡ keys_of e (logged_since start net) =
-                ap (λ (log : List Logged). keys_of e (map but_fare (drop start log))) log_so ∙ logged_elsewhere start d e m net.log refusal_of other since.started in
+            ap (λ (log : List Logged). keys_of e (map but_fare (drop start log))) log_so ∙ logged_elsewhere start d e m net.log refusal_of other since.started in
             record {
               switch = j.switch;
               is = step.others e other ∙ j.is;
@@ -301,11 +301,6 @@ ready-asked d m old new net now_net given ready step = record {
     | inr other ↦ step.others_agree e other (ready.agrees e)
   ];
 }
-
--- an answered message keeps a transaction so, and all is ready again
-pub record Goes {Own : Type 0} (start : ℕ) (first now : Seen Own) (net0 net : NetState) : Type 0 where
-  pub since : Since start first now net0 net
-  pub ready : Ready now net
 
 goes-by : {Own : Type 0} (Tells : Type 0) (d : ℕ) (bytes : List ℕ) (start : ℕ) (first old new : Seen Own) (net0 net now_net : NetState) (given : Answer) → Tells → Conforming new → Changes Tells d bytes old new net now_net (Ok given)
     → Steps Tells d bytes old new net now_net (Ok given) → Goes start first old net0 net → (o : Option Answer) → answer_of_host d bytes net ≡ o → Goes start first new net0 now_net

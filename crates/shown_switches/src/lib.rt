@@ -5,6 +5,8 @@
 
 mod exchange;
 mod flags;
+mod transaction;
 
 pub use exchange::{changes_are_shown, exchanges_are_shown};
 pub use flags::flags_are_kept;
+pub use transaction::{histories_stand, transactions_stand, undos_are_shown};
