@@ -10,3 +10,7 @@ pub mod AbsentLaws
 pub mod Since
 pub mod SinceLaws
 pub mod UndoShown
+pub mod Talks
+pub mod Beats
+pub mod Turns
+pub mod TurnShown
