@@ -14,3 +14,4 @@ pub mod Talks
 pub mod Beats
 pub mod Turns
 pub mod TurnShown
+pub mod ChainShown

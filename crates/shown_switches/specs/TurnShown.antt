@@ -167,3 +167,15 @@ module _ (Own : Type 0) {State : Type 0} (table : Table State) (judged : Bool) w
   alike (suc left) answers end (Framed Ready rest pieces) = record { is = λ before after xs given outcome so allows h. alike-over before after xs given outcome (Failed Unbalanced) so h }
   alike (suc left) answers end (Faulty fault) = record { is = λ before after xs given outcome so allows h. alike-over before after xs given outcome (Failed (Garbled fault)) so h }
   alike (suc left) answers end Over = record { is = λ before after xs given outcome so allows h. alike-over before after xs given outcome (ended_by end) so h }
+
+-- ---- The whole turn
+
+-- A turn whose messages were answered as a table answers them, played on that table.
+pub turn-alike : {Own State : Type 0} (table : Table State) (judged : Bool) (budget : ℕ) (rest : List ℕ) (reply : Reply) (before after : State) (xs : List (Exchange Own)) (given : List Answer) (outcome : Outcome) → AnswersSo table before xs after → table.allows after ≡ judged
+    → turn_of (oracle judged) budget rest reply (Some xs) ≡ played_so given outcome → turn_of table budget rest reply before ≡ ended_so after given outcome
+unfolding turn_of
+turn-alike {Own} table judged budget rest reply before after xs given outcome so allows h =
+    elim (cases_Bool reply.given) [
+      | inl could ↦ rw could ((alike Own table judged budget reply.answers reply.end (next_of rest reply.pieces)).is before after xs given outcome so allows (rw could at h))
+      | inr could_not ↦ rw could_not (alike-over Own table judged before after xs given outcome (Failed Closed) so (rw could_not at h))
+    ]
