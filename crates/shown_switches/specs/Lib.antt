@@ -15,3 +15,5 @@ pub mod Beats
 pub mod Turns
 pub mod TurnShown
 pub mod ChainShown
+pub mod Sound
+pub mod SoundLaws
