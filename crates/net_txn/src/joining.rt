@@ -108,6 +108,7 @@ impl Net {
         ensures cause { IfErr result (IsCause W.Tells dpid (W.seen world.old) (W.seen world.new)) }
         ensures log { self.new.log ≡ self.old.log }
         ensures moment { self.new.moment ≡ self.old.moment }
+        ensures room { self.new.room ≡ self.old.room }
     {
         let first = self.xid;
         let awaited = greeted(dpid, first);
