@@ -39,6 +39,7 @@ pub mod NoticeLaws
 pub mod RestoreLaws
 pub mod AgreeLaws
 pub mod KeepLaws
+pub mod SentOrderLaws
 pub mod Asks
 pub mod AskLaws
 pub mod AskSteps

@@ -1,7 +1,7 @@
 -- How logged additions are undone: newest first over all switches each key is removed again (OpenFlow 1.0.0, 5.3.3 Modify State
 -- Messages: DELETE_STRICT), with barriers behind (5.3.7 Barrier Message). A switch that fails is left alone from then on. What is
 -- done is a list of parts, newest first, as the log is read from its end. All of this is our own choice.
-use Rattle.std.specs.Prelude.{◌≡◌, ◌≢◌, ◌==◌, ℕ, ◌+◌, ◌^◌, ◌<◌, ◌≤◌, Bool, true, false, List, [], ◌∷◌, ◌++◌, length, take, drop, map, reverse, ◌⊎◌, Option, Some, None, Result, Ok, Err, IsOk, IsErr, if◌then◌else◌}
+use Rattle.std.specs.Prelude.{◌≡◌, ◌≢◌, ◌==◌, ℕ, ◌+◌, ◌^◌, ◌<◌, ◌≤◌, Bool, true, false, List, [], ◌∷◌, ◌++◌, length, take, drop, map, reverse, ◌⊎◌, Option, Some, None, Result, Ok, Err, IsOk, IsErr, if◌then◌else◌, not, ◌&&◌, filter}
 use Rattle.std.specs.List.{AllByRecursion, list_any}
 use Rattle.std.proofs.Common.{zero, suc}
 use Rattle.lego_io.specs.Count.{Rose}
@@ -370,6 +370,10 @@ abbrev pub ended_by : Option TxnFault → Result (Unit {0}) TxnFault
 ended_by None = Ok tt
 ended_by (Some fault) = Err fault
 
+-- the switch is joined and did not fail
+abbrev pub is_served : List TableView → List (ℕ × Part) → ℕ → Bool
+is_served views parts d = is_viewed d views && not (is_stuck (parts_of d parts))
+
 -- Nothing is done with a switch that is not joined. With one that is and does not fail: the inverses of exactly its keys are sent,
 -- newest first, and a barrier behind them.
 pub record IsPlayedOn (known : Bool) (d : ℕ) (old new : Counts) (keys : List Key) (parts : List Part) : Type 0 where
@@ -411,6 +415,7 @@ pub record Undoes {Own : Type 0} (Tells : Type 0) (start : ℕ) (old new : Seen 
   pub numbered : AreNumbered net.xid parts
   pub each : (d : ℕ) → IsPlayedOn (is_viewed d net.views) d old.counts new.counts (keys_of d (map but_fare (drop start net.log))) (parts_of d parts)
   pub order : IsThinned (sent_in parts) (map but_fare (drop start net.log))
+  pub whole_order : filter (λ p. is_served net.views parts p.0) (sent_in parts) ≡ filter (λ p. is_served net.views parts p.0) (map but_fare (drop start net.log))
   pub last : EndsSettled (switches_of net.views) parts
   pub result_so : result ≡ ended_by (first_fault parts)
   pub none_failed : IsOk result → (d : ℕ) → is_stuck (parts_of d parts) ≡ false

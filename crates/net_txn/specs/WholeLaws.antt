@@ -9,6 +9,7 @@ use Rattle.net_txn.specs.declared.logged.Logged.{Logged}
 use Rattle.net_txn.specs.RestoreLaws.{others_stay, restored, accepted}
 use Rattle.net_txn.specs.AgreeLaws.{agrees, none_failed}
 use Rattle.net_txn.specs.KeepLaws.{none_kept}
+use Rattle.net_txn.specs.SentOrderLaws.{served_all}
 use Rattle.net_txn.specs.Undos.{Undoes, Further, switches_of, ended_by, without_keys, is_viewed, parts_of, Part, inverses_in, keys_of, but_fare, IsSettledIn, Stands, IsPlayedOn}
 
 key_step : (here : Bool) (x : ℕ) (k : Key) (pairs : List (ℕ × Key)) (keys : List Key) → map (λ p. p.1) pairs ≡ keys → map (λ p. p.1) (if here then (x, k) ∷ pairs else pairs) ≡ (if here then k ∷ keys else keys)
@@ -44,6 +45,7 @@ undoes start from old new net now_net result fault played front rest is f settle
       numbered = f.undoing.numbered;
       each = each;
       order = rw all at f.undoing.order;
+      whole_order = served_all net.views f.parts (map but_fare (drop start net.log)) (rw all at f.undoing.order) (λ d. (each d).keys_so);
       last = f.undoing.ends;
       result_so = is ∙ ap ended_by f.fault_so;
       log = log ∙ front;

@@ -108,6 +108,7 @@ impl Net {
         ensures cause { IfErr result (IsCause W.Tells dpid (W.seen world.old) (W.seen world.new)) }
         ensures log { self.new.log ≡ self.old.log }
         ensures moment { self.new.moment ≡ self.old.moment }
+        ensures room { self.new.room ≡ self.old.room }
         ensures xid { self.old.xid < 2 ^ 32 }
     {
         let first = self.xid;
@@ -144,6 +145,7 @@ impl Net {
         ensures cause { IfErr result (IsCause W.Tells dpid (W.seen world.old) (W.seen world.new)) }
         ensures log { self.new.log ≡ self.old.log }
         ensures moment { self.new.moment ≡ self.old.moment }
+        ensures room { self.new.room ≡ self.old.room }
 
         // Where the world keeps its word and nothing of the switch waited, the switch is empty, as its view is.
         ensures in_step { JoinSteps W.Tells dpid (W.seen world.old) (W.seen world.new) self.old self.new result }

@@ -1,14 +1,13 @@
 //! The words of a session text, each with its first fault.
 
-ghost use Rattle.std.specs.Prelude.{◌≡◌, ◌==◌, ◌≤◌, ◌^◌, ◌%◌, ◌*◌, ◌&&◌, not, ℕ, List, IfOk, MatchOption, map, true, false, length, string_bytes};
-ghost use Rattle.std.specs.Char.{is_ascii_digit};
+ghost use Rattle.std.specs.Prelude.{◌≡◌, ◌==◌, ◌≤◌, ◌%◌, ◌*◌, ◌&&◌, not, ℕ, List, IfOk, MatchOption, map, true, false, length, string_bytes};
 ghost use Rattle.std.specs.List.{list_all};
-ghost use Rattle.lego_model.specs.Words.{is_numeral as is_numeral_in, leads_with_zero as zero_leads, value_after};
+ghost use Rattle.lego_model.specs.Words.{is_numeral as is_numeral_in};
 ghost use Rattle.lego_model.specs.SessionWords.{a_number as a_number_in, is_sized, some_bytes as some_bytes_in, ascends as ascends_in, listed_ports as listed_ports_in, some_ports as some_ports_in, place_among, an_app as an_app_in, before, behind, has_mark};
 ghost use Rattle.session_text.specs.TextGives.{Gives, numbers as numbers_in, ordered, ports_read};
 
 use crate::text_fault::LineFault;
-use crate::words::{is, split};
+use crate::words::{is, is_numeral, split, value_of};
 use lego_model::SessionKind;
 use std::alloc::Global;
 
@@ -17,43 +16,6 @@ const MOST_PORTS: usize = 64;
 
 /// The greatest number of a physical port (OpenFlow 1.0.0, 5.2.1 Port Structures; we stop at 0xff00).
 const LAST_PORT: u64 = 65_280;
-
-/// Whether a word of two digits or more begins with `0`.
-fn leads_with_zero(word: &[u8]) -> bool
-    ensures { result ≡ zero_leads word.now }
-{
-    matches!(word, [b'0', _, ..])
-}
-
-/// Whether each byte is a digit.
-fn all_digits(word: &[u8]) -> bool
-    ensures { result ≡ list_all is_ascii_digit word.now }
-{
-    word.iter().all(|byte| byte.is_ascii_digit())
-}
-
-/// Whether a word is a decimal number, without a leading zero but for `0` itself.
-#[tactic(auto, unfolding(lego_model::specs::Words::is_numeral))]
-fn is_numeral(word: &[u8]) -> bool
-    ensures value { result ≡ is_numeral_in word.now }
-    ensures digits { result ≡ true → list_all is_ascii_digit word.now ≡ true }
-{
-    !word.is_empty() && !leads_with_zero(word) && all_digits(word)
-}
-
-/// The number that digits spell, or `None` where it does not fit 64 bits.
-fn value_of(digits: &[u8]) -> Option<u64>
-    requires { list_all is_ascii_digit digits.now ≡ true }
-    ensures { MatchOption result (2 ^ 64 ≤ value_after 0 digits.now) (λ value. value ≡ value_after 0 digits.now) }
-{
-    let mut value: u64 = 0;
-    for digit in digits {
-        value = value
-            .checked_mul(10)?
-            .checked_add(u64::from(*digit - b'0'))?;
-    }
-    Some(value)
-}
 
 /// The number that a word spells, from `least` to `most`. A number has any length; what is beyond is out of
 /// range, and what is no number is told first.

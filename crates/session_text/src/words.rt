@@ -3,7 +3,7 @@
 ghost use Rattle.std.specs.Prelude.{◌≡◌, ◌==◌, ◌≤◌, ◌^◌, IfOk, MatchOption, map, true};
 ghost use Rattle.std.specs.Char.{is_ascii_digit};
 ghost use Rattle.std.specs.List.{list_all, slice_split};
-ghost use Rattle.lego_model.specs.Words.{words_of as words_in, is_word, is_numeral, leads_with_zero as zero_leads, number as number_in, value_after};
+ghost use Rattle.lego_model.specs.Words.{words_of as words_in, is_word, is_numeral as is_numeral_in, leads_with_zero as zero_leads, number as number_in, value_after};
 ghost use Rattle.session_text.specs.Gives.{Gives};
 
 use crate::error::PlainSessionError;
@@ -51,8 +51,8 @@ fn leads_with_zero(word: &[u8]) -> bool
 
 /// Whether a word is a decimal number, without a leading zero but for `0` itself.
 #[tactic(auto, unfolding(lego_model::specs::Words::is_numeral))]
-fn is_decimal(word: &[u8]) -> bool
-    ensures value { result ≡ is_numeral word.now }
+pub fn is_numeral(word: &[u8]) -> bool
+    ensures value { result ≡ is_numeral_in word.now }
     ensures digits { result ≡ true → list_all is_ascii_digit word.now ≡ true }
 {
     !word.is_empty() && !leads_with_zero(word) && all_digits(word)
@@ -64,7 +64,7 @@ pub fn number(word: &[u8], least: u64, most: u64) -> Result<u64, PlainSessionErr
     ensures value { Gives (λ n. n) result (number_in least most word.now) }
     ensures within { IfOk result (λ n. (least ≤ n) × (n ≤ most)) }
 {
-    if !is_decimal(word) {
+    if !is_numeral(word) {
         return Err(PlainSessionError::BadInput);
     }
     match value_of(word) {
@@ -74,7 +74,7 @@ pub fn number(word: &[u8], least: u64, most: u64) -> Result<u64, PlainSessionErr
 }
 
 /// The number that digits spell, or `None` where it does not fit 64 bits.
-fn value_of(digits: &[u8]) -> Option<u64>
+pub fn value_of(digits: &[u8]) -> Option<u64>
     requires { list_all is_ascii_digit digits.now ≡ true }
     ensures { MatchOption result (2 ^ 64 ≤ value_after 0 digits.now) (λ value. value ≡ value_after 0 digits.now) }
 {

@@ -76,6 +76,7 @@ pub record AreZero (counts : Counts) : Type 0 where
 pub record IsNew (w : WorldData) : Type 0 where
   pub history : w.history ≡ []
   pub nexts : w.nexts ≡ 0
+  pub calls : w.calls ≡ 0
   pub lives : w.lives ≡ []
   pub told : w.told ≡ without_links w.fails
   pub state : w.state ≡ at_first (given_of w)

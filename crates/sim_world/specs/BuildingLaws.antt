@@ -329,6 +329,7 @@ pub record HoldsNothing (w : WorldData) : Type 0 where
   pub told : w.told ≡ []
   pub history : w.history ≡ []
   pub nexts : w.nexts ≡ 0
+  pub calls : w.calls ≡ 0
   pub tally : w.tally ≡ no_counts
   pub lives : w.lives ≡ []
   pub state : w.state ≡ record w.state { opened = false; moment = 0; begun = false; marks = [] }
@@ -349,6 +350,7 @@ unfolding without_links declared_in
 IsNew-nothing w is = record {
   history = is.history;
   nexts = is.nexts;
+  calls = is.calls;
   lives = is.lives;
   told = is.told ∙ ap without_links (sym is.fails);
   state = state_of_none w is ∙ sym first_of_none ∙ ap at_first (sym (given-nothing w is));
@@ -411,6 +413,7 @@ Gets-switch d w is = record {
   still = record {
     history = is.history;
     nexts = is.nexts;
+    calls = is.calls;
     lives = is.lives;
     told = is.told;
     state =
@@ -434,6 +437,7 @@ Gets-stimulus x w is = record {
   still = record {
     history = is.history;
     nexts = is.nexts;
+    calls = is.calls;
     lives = is.lives;
     told = is.told;
     state = ap (λ (s : State). record s { to_come = w.stimuli ++ x ∷ [] }) is.state;
@@ -453,6 +457,7 @@ Gets-scripts own change w changed is = record {
   still = record {
     history = is.history;
     nexts = is.nexts;
+    calls = is.calls;
     lives = is.lives;
     told = is.told;
     state = is.state;
@@ -507,6 +512,7 @@ Gets-link_fail f w link are is = record {
   still = record {
     history = is.history;
     nexts = is.nexts;
+    calls = is.calls;
     lives = is.lives;
     told = is.told ∙ sym (without_links-link w.fails f link);
     state = ap (fail_state f) is.state ∙ fail_first (given_of w) f link are ∙ ap at_first (sym (fail_given f w));
@@ -522,6 +528,7 @@ Gets-other_fail f w apart is = record {
   still = record {
     history = is.history;
     nexts = is.nexts;
+    calls = is.calls;
     lives = is.lives;
     told = ap (λ (fs : List FailCall). fs ++ f ∷ []) is.told ∙ sym (without_links-other w.fails f apart);
     state = is.state ∙ other_first (given_of w) f apart;

@@ -166,7 +166,7 @@ Next_begun old mid new x item buf untold rests next come begins few read due tel
 
 -- ---- Where room was made before
 
-pub NextStands_ready : (old mid : WorldData) → mid ≡ record old { room = mid.room } → length mid.state.running ≤ mid.room → NextStands old → NextStands mid
+pub NextStands_ready : (old mid : WorldData) → mid ≡ record old { room = mid.room; calls = mid.calls } → length mid.state.running ≤ mid.room → NextStands old → NextStands mid
 NextStands_ready old mid same promised stands = record {
   promised = promised;
   few = subst (λ (w : WorldData). w.nexts < 2 ^ 64 - 1) (sym same) stands.few;
@@ -176,8 +176,8 @@ NextStands_ready old mid same promised stands = record {
   can_come = subst (λ (w : WorldData). CanCome (declared_in w.state) w.state.moment w.state.to_come) (sym same) stands.can_come;
 }
 
-pub Next_short_ready : (old mid new : WorldData) (buf : List ℕ) → mid ≡ record old { room = mid.room } → Moves mid new [] (tally_short mid.tally) → DoesNext old new (Err coming.Short) buf
+pub Next_short_ready : (old mid new : WorldData) (buf : List ℕ) → mid ≡ record old { room = mid.room; calls = mid.calls } → Moves mid new [] (tally_short mid.tally) → DoesNext old new (Err coming.Short) buf
 Next_short_ready old mid new buf same moves =
     Next_short old new buf
     (subst (λ t. Moves old new [] t) (ap (λ (w : WorldData). tally_short w.tally) same)
-    (Moves_ready old mid new [] _ (same ∙ ap (λ xs. record old { room = mid.room; lives = xs }) (sym (ap (λ (w : WorldData). w.lives) same))) (λ app. ap (λ (w : WorldData). life_in app w.lives) same) moves))
+    (Moves_ready old mid new [] _ (same ∙ ap (λ xs. record old { room = mid.room; calls = mid.calls; lives = xs }) (sym (ap (λ (w : WorldData). w.lives) same))) (λ app. ap (λ (w : WorldData). life_in app w.lives) same) moves))

@@ -5,11 +5,14 @@ use Rattle.outside.specs.declared.step.WorldStep.{WorldStep}
 use Rattle.outside.specs.State.{state, but_marks, is_running, at_first}
 use Rattle.outside.specs.Conforming.{Conforming}
 use Rattle.sim_world.specs.Scripts.{Life, fresh, FewCalls, KeepsScripts}
-use Rattle.sim_world.specs.Told.{without_links}
+use Rattle.lego_io.specs.Count.{raised}
+use Rattle.outside.specs.declared.call.CallKind.TheVariants as kinds
+use Rattle.outside.specs.declared.call.FailCall.{FailCall}
+use Rattle.sim_world.specs.Told.{without_links, TellSame-without_links}
 use Rattle.sim_world.specs.ScriptLaws.{running-through, FewCalls-history}
 use Rattle.sim_world.specs.Lives.{life_in}
 use Rattle.sim_world.specs.LinkStepLaws.{AreStanding-stands, AreStanding-may_call}
-use Rattle.sim_world.specs.World.{WorldData, Stands, IsReadable, AreAsTold, given_of, seen_of, nexts_through, counted_next, is_next_answer}
+use Rattle.sim_world.specs.World.{WorldData, Stands, IsReadable, AreAsTold, given_of, seen_of, nexts_through, counted_next, is_next_answer, short_told}
 use Rattle.sim_world.specs.Doing.{AppsStand, LinksStand, NextStands}
 use Rattle.sim_world.specs.Keeping.{Keeps}
 
@@ -82,3 +85,12 @@ scripts_kept w keeps = keeps.stands.history.scripts
 pub told_kept : (w : WorldData) → Keeps w → AreAsTold (without_links w.fails) 0 w.history (at_first (given_of w))
 unfolding given_of
 told_kept w keeps = keeps.stands.history.told
+
+-- ---- Want of memory that is told
+
+pub short_kept : (w : WorldData) → Keeps w → short_told w.fails w.calls ≡ true → short_told w.told w.calls ≡ true
+short_kept w keeps told =
+    ap (short_at w.calls) keeps.stands.told ∙ TellSame-without_links w.fails kinds.Short 0 (raised w.calls) refl ∙ told
+  where
+    short_at : ℕ → List FailCall → Bool
+    short_at calls fails = short_told fails calls

@@ -2,6 +2,7 @@
 -- fail make. All of this is our own choice.
 use Rattle.std.specs.Prelude.{◌≡◌, ℕ, ◌+◌, ◌≤◌, Bool, true, false, not, ◌||◌, List, [], ◌∷◌, ◌++◌, length, map, is_ok, if◌then◌else◌}
 use Rattle.std.specs.List.{list_all}
+use Rattle.lego_io.specs.Count.{raised}
 use Rattle.of_types.specs.declared.journal.Act.{Act}
 use Rattle.of_types.specs.declared.journal.Act.TheVariants.{Stim, Sent, Got}
 use Rattle.of_types.specs.declared.journal.Stimulus.{Stimulus}
@@ -15,7 +16,7 @@ use Rattle.outside.specs.declared.step.WorldStep.{WorldStep}
 use Rattle.outside.specs.declared.step.WorldStep.TheVariants.{Acted, TookInto, From, Joined, Left, Moment, Idle, End, Opened, NotOpened, NextFailed, SendFailed, RecvFailed}
 use Rattle.flow_table.specs.Switch.{Declared}
 use Rattle.outside.specs.Seen.{Given, Seen}
-use Rattle.outside.specs.State.{State, at_first, after_step, after_steps, state, but_marks, moment_after, link_fails}
+use Rattle.outside.specs.State.{State, at_first, after_step, after_steps, state, but_marks, moment_after, link_fails, is_joined, has_waiting}
 use Rattle.outside.specs.Conforming.{AreDeclaredFrom, IsWorldStim, MaySteps}
 use Rattle.sim_world.specs.Tally.{TallyState, CountsFor, counts_of}
 use Rattle.sim_world.specs.Told.{is_told, without_links}
@@ -24,8 +25,8 @@ use Rattle.sim_world.specs.Lives.{life_in}
 
 -- ---- As data
 
--- What a world was given (the calls that are to fail also without those of links), its history and for how many more steps there is room, its counts, the state that it is in (but for marks,
--- which it does not keep), and the life of each application.
+-- What a world was given (the calls that are to fail also without those of links), its history and for how many more steps there is room, how many answers of `next` and how many calls
+-- that can want memory there were, its counts, the state that it is in (but for marks, which it does not keep), and the life of each application.
 pub record WorldData : Type 0 where
   pub scripts : Scripts
   pub stimuli : List WorldStim
@@ -34,6 +35,7 @@ pub record WorldData : Type 0 where
   pub history : List WorldStep
   pub room : ℕ
   pub nexts : ℕ
+  pub calls : ℕ
   pub tally : TallyState
   pub state : State
   pub lives : List (ℕ × Life)
@@ -86,9 +88,20 @@ abbrev pub nexts_through : List WorldStep → ℕ → ℕ
 nexts_through [] n = n
 nexts_through (step ∷ steps) n = nexts_through steps (counted_next step n)
 
+-- the next call that can want memory is told to
+abbrev pub short_told : List FailCall → ℕ → Bool
+short_told fails calls = is_told kinds.Short 0 (raised calls) fails
+
+-- a call to send fails where the link does, or the switch is not joined; one to take a message also where none waits
+abbrev pub send_fails : ℕ → State → Bool
+send_fails d s = link_fails d s || not (is_joined d s)
+
+abbrev pub recv_fails : ℕ → State → Bool
+recv_fails d s = link_fails d s || not (has_waiting d s)
+
 abbrev pub IsActAsTold : List FailCall → Act → State → Type 0
-IsActAsTold fails (Sent d bytes) s = link_fails d s ≡ false
-IsActAsTold fails (Got d bytes) s = link_fails d s ≡ false
+IsActAsTold fails (Sent d bytes) s = send_fails d s ≡ false
+IsActAsTold fails (Got d bytes) s = recv_fails d s ≡ false
 IsActAsTold fails other s = Unit {0}
 
 abbrev pub next_told : List FailCall → ℕ → Bool
@@ -101,8 +114,8 @@ IsAsTold fails n (TookInto app what room) s = Unit {0}
 IsAsTold fails n Opened s = (s.opened || is_told kinds.Open 0 1 fails) ≡ false
 IsAsTold fails n NotOpened s = (s.opened || is_told kinds.Open 0 1 fails) ≡ true
 IsAsTold fails n NextFailed s = next_told fails n ≡ true
-IsAsTold fails n (SendFailed d) s = Unit {0}
-IsAsTold fails n (RecvFailed d) s = Unit {0}
+IsAsTold fails n (SendFailed d) s = send_fails d s ≡ true
+IsAsTold fails n (RecvFailed d) s = recv_fails d s ≡ true
 IsAsTold fails n item s = next_told fails n ≡ false
 
 abbrev pub AreAsTold : List FailCall → ℕ → List WorldStep → State → Type 0

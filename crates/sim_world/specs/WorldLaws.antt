@@ -128,7 +128,7 @@ MaySteps-same declared (step ∷ steps) s t same may = (
 -- ---- Calls that are told to fail
 
 told_act_same : (fails : List FailCall) (act : Act) (s : State) → IsActAsTold fails act s ≡ IsActAsTold fails act (but_marks s)
-unfolding link_fails
+unfolding link_fails switch_of waits_of
 told_act_same fails (Stim x) s = refl
 told_act_same fails (Started app ok) s = refl
 told_act_same fails (Gave app bytes) s = refl
@@ -139,7 +139,7 @@ told_act_same fails (Sent d bytes) s = refl
 told_act_same fails (Got d bytes) s = refl
 
 told_same : (fails : List FailCall) (n : ℕ) (step : WorldStep) (s : State) → IsAsTold fails n step s ≡ IsAsTold fails n step (but_marks s)
-unfolding IsAsTold
+unfolding IsAsTold link_fails switch_of waits_of
 told_same fails n (Acted act) s = told_act_same fails act s
 told_same fails n (TookInto app what room) s = refl
 told_same fails n (From d bytes) s = refl
@@ -362,7 +362,7 @@ Moves_both old mid new xs ys t u first second = record {
 }
 
 -- A call behind one that made room and took applications down, with no life moved.
-pub Moves_ready : (old mid new : WorldData) (steps : List WorldStep) (t : TallyState) → mid ≡ record old { room = mid.room; lives = mid.lives } → ((app : ℕ) → life_in app mid.lives ≡ life_in app old.lives) → Moves mid new steps t → Moves old new steps t
+pub Moves_ready : (old mid new : WorldData) (steps : List WorldStep) (t : TallyState) → mid ≡ record old { room = mid.room; calls = mid.calls; lives = mid.lives } → ((app : ℕ) → life_in app mid.lives ≡ life_in app old.lives) → Moves mid new steps t → Moves old new steps t
 Moves_ready old mid new steps t same lives moves = record {
   scripts = moves.scripts ∙ ap (λ (w : WorldData). w.scripts) same;
   stimuli = moves.stimuli ∙ ap (λ (w : WorldData). w.stimuli) same;

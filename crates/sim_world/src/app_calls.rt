@@ -1,13 +1,14 @@
 //! The calls of a simulated world that reach applications.
 
-ghost use Rattle.std.specs.Prelude.{◌≡◌, ℕ, ◌+◌, ◌-◌, ◌^◌, ◌≤◌, ◌<◌, [], ◌∷◌, true, false, not, length, Result};
+ghost use Rattle.std.specs.Prelude.{◌≡◌, ℕ, ◌+◌, ◌-◌, ◌^◌, ◌≤◌, ◌<◌, [], ◌∷◌, true, false, not, length, Result, IsErr, IsErrOf};
 ghost use Rattle.outside.specs.State.{is_running};
 ghost use Rattle.outside.specs.declared.step.WorldStep.TheVariants.{TookInto};
 ghost use Rattle.outside.specs.Calls.{start_steps, give_steps, take_steps, end_steps, IsTakenIn};
 ghost use Rattle.sim_world.specs.Lives.{has_life, took_of};
 ghost use Rattle.sim_world.specs.Tally.{tally_stray};
 ghost use Rattle.sim_world.specs.Scripts.{AreScripted, will_start, will_give, next_taken, taken_bytes};
-ghost use Rattle.sim_world.specs.World.{Moves};
+ghost use Rattle.sim_world.specs.World.{Moves, short_told};
+ghost use Rattle.lego_io.specs.Count.{raised};
 ghost use Rattle.sim_world.specs.Doing.{AppsStand, lives_of, take_tally, DoesStart, DoesGive, DoesTake};
 
 use crate::parts::Parts;
@@ -49,6 +50,8 @@ impl Parts {
         requires { AppsStand self.old }
         ensures does { DoesStart app self.old self.new result }
         ensures scripted { AreScripted self.old.scripts self.old.told (start_steps app result) (lives_of self.old) }
+        ensures short { short_told self.old.told self.old.calls ≡ true → IsErrOf result StartFault.Short }
+        ensures calls { self.new.calls ≡ raised self.old.calls }
     {
         let stray = self.runs(app);
         if !self.is_ready_for(app, 2) {
@@ -74,6 +77,8 @@ impl Parts {
         requires { AppsStand self.old }
         ensures does { DoesGive app bytes.now self.old self.new result }
         ensures scripted { AreScripted self.old.scripts self.old.told (give_steps app bytes.now result) (lives_of self.old) }
+        ensures short { short_told self.old.told self.old.calls ≡ true → IsErrOf result GiveFault.Short }
+        ensures calls { self.new.calls ≡ raised self.old.calls }
     {
         let stray = !self.runs(app);
         if !self.is_ready_for(app, 1) {
@@ -126,6 +131,7 @@ impl Parts {
         ensures moves { Moves self.old self.new (TookInto app (took_of result buf.new) (length buf.new) ∷ []) (tally_stray stray (take_tally (Result.Ok result) self.old.tally)) }
         ensures taken { IsTakenIn result buf.new }
         ensures what { took_of result buf.new ≡ next_taken self.old.told app (length buf.old) (lives_of self.old app) }
+        ensures calls { self.new.calls ≡ self.old.calls }
     {
         let taken = self.lives.take(&self.told, app, buf);
         let what = what_of(taken, copy, buf);
@@ -141,6 +147,8 @@ impl Parts {
         requires room { 0 < length buf.old }
         ensures does { DoesTake app self.old self.new result buf.new }
         ensures scripted { AreScripted self.old.scripts self.old.told (take_steps app result buf.new) (lives_of self.old) }
+        ensures short { short_told self.old.told self.old.calls ≡ true → IsErr result }
+        ensures calls { self.new.calls ≡ raised self.old.calls }
     {
         let stray = !self.runs(app);
         if !self.is_ready_for(app, 1) {
@@ -161,6 +169,7 @@ impl Parts {
         requires { AppsStand self.old }
         ensures moves { Moves self.old self.new (end_steps app (is_running app self.old.state)) self.old.tally }
         ensures scripted { AreScripted self.old.scripts self.old.told (end_steps app (is_running app self.old.state)) (lives_of self.old) }
+        ensures calls { self.new.calls ≡ self.old.calls }
     {
         if self.runs(app) {
             self.ended(app);

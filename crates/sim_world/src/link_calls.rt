@@ -1,6 +1,6 @@
 //! The calls of a simulated world that reach switches.
 
-ghost use Rattle.std.specs.Prelude.{◌≡◌, ℕ, ◌+◌, ◌≤◌, ◌<◌, [], ◌∷◌, not, length, take, IsOk, IsTrue, IfSome, IfNone, Some, slice_get, OnOk, OnErr};
+ghost use Rattle.std.specs.Prelude.{◌≡◌, ℕ, ◌+◌, ◌≤◌, ◌<◌, [], ◌∷◌, true, not, length, take, IsOk, IsTrue, IsErrOf, IfSome, IfNone, Some, slice_get, OnOk, OnErr};
 ghost use Rattle.of_types.specs.declared.journal.Act.TheVariants.{Sent, Got};
 ghost use Rattle.of_wire.specs.Reading.{reading_of};
 ghost use Rattle.outside.specs.declared.step.WorldStep.TheVariants.{Acted, SendFailed, RecvFailed};
@@ -10,7 +10,8 @@ ghost use Rattle.outside.specs.Conforming.{MaySteps};
 ghost use Rattle.sim_world.specs.Tally.{tally_stray, tally_short_of, tally_fault_of};
 ghost use Rattle.sim_world.specs.Links.{AreReadable, MayCall};
 ghost use Rattle.sim_world.specs.LinkStepLaws.{AllReadable};
-ghost use Rattle.sim_world.specs.World.{Moves, AreAsTold, declared_in};
+ghost use Rattle.sim_world.specs.World.{Moves, AreAsTold, declared_in, short_told};
+ghost use Rattle.lego_io.specs.Count.{raised};
 ghost use Rattle.sim_world.specs.Doing.{LinksStand, DoesSend, DoesReceive};
 
 use crate::parts::Parts;
@@ -23,7 +24,8 @@ impl Parts {
     /// A call of a link wants memory, and is out of place or not.
     fn want_memory_of(&mut self, dpid: Dpid, stray: bool)
         requires { length self.old.state.running ≤ self.old.room }
-        ensures { Moves self.old self.new [] (tally_stray stray (tally_short_of dpid self.old.tally)) }
+        ensures moves { Moves self.old self.new [] (tally_stray stray (tally_short_of dpid self.old.tally)) }
+        ensures calls { self.new.calls ≡ self.old.calls }
     {
         self.tally.raise_shorts_of(dpid);
         self.tally.raise_strays(stray);
@@ -61,6 +63,7 @@ impl Parts {
         requires room { length self.old.state.running + 1 ≤ self.old.room }
         ensures moves { Moves self.old self.new (SendFailed dpid ∷ []) (tally_stray stray (tally_fault_of dpid self.old.tally)) }
         ensures readable { AllReadable self.old.state.links → AllReadable self.new.state.links }
+        ensures calls { self.new.calls ≡ self.old.calls }
     {
         self.links.fail(dpid);
         self.history.push(WorldStep::SendFailed(dpid));
@@ -75,6 +78,7 @@ impl Parts {
         requires room { length self.old.state.running + 1 ≤ self.old.room }
         ensures moves { Moves self.old self.new (RecvFailed dpid ∷ []) (tally_stray stray (tally_fault_of dpid self.old.tally)) }
         ensures readable { AllReadable self.old.state.links → AllReadable self.new.state.links }
+        ensures calls { self.new.calls ≡ self.old.calls }
     {
         self.links.fail(dpid);
         self.history.push(WorldStep::RecvFailed(dpid));
@@ -92,6 +96,7 @@ impl Parts {
         ensures ok { OnOk result (Moves self.old self.new (Acted (Sent dpid frame.now) ∷ []) self.old.tally) }
         ensures err { OnErr result (self.new ≡ self.old) }
         ensures readable { AllReadable self.old.state.links → AllReadable self.new.state.links }
+        ensures calls { self.new.calls ≡ self.old.calls }
     {
         self.links.send(dpid, frame)?;
         self.history.push(WorldStep::Acted(Act::Sent(dpid, copy)));
@@ -107,6 +112,8 @@ impl Parts {
         ensures word { MaySteps (declared_in self.old.state) (send_steps dpid frame.now result) self.old.state }
         ensures told { AreAsTold self.old.told self.old.nexts (send_steps dpid frame.now result) self.old.state }
         ensures readable { AllReadable self.old.state.links → AllReadable self.new.state.links }
+        ensures short { short_told self.old.told self.old.calls ≡ true → IsErrOf result LinkFault.Short }
+        ensures calls { self.new.calls ≡ raised self.old.calls }
     {
         let stray = self.is_out(dpid);
         if !self.is_ready(1) {
@@ -141,6 +148,7 @@ impl Parts {
         ensures within { IfSome result (λ n. (n ≤ length buf.new) × (n ≤ 65535)) }
         ensures none { IfNone result ((waits_of dpid self.old.state ≡ []) × (self.new ≡ self.old)) }
         ensures readable { AllReadable self.old.state.links → AllReadable self.new.state.links }
+        ensures calls { self.new.calls ≡ self.old.calls }
     {
         let message = self.links.got(dpid)?;
         let len = copy_to_front(message.as_slice(), buf);
@@ -157,6 +165,8 @@ impl Parts {
         ensures word { AllReadable self.old.state.links → MaySteps (declared_in self.old.state) (receive_steps dpid result buf.new) self.old.state }
         ensures told { AreAsTold self.old.told self.old.nexts (receive_steps dpid result buf.new) self.old.state }
         ensures readable { AllReadable self.old.state.links → AllReadable self.new.state.links }
+        ensures short { short_told self.old.told self.old.calls ≡ true → IsErrOf result LinkFault.Short }
+        ensures calls { self.new.calls ≡ raised self.old.calls }
     {
         let stray = self.none_waits(dpid);
         if !self.is_ready(1) {

@@ -3,7 +3,7 @@
 ghost use Rattle.std.specs.List.{AllByRecursion};
 ghost use Rattle.std.specs.Option.{option_to_list};
 ghost use Rattle.std.specs.VecDeque.{deque_len, deque_capacity};
-ghost use Rattle.std.specs.Prelude.{◌≡◌, ℕ, ◌+◌, ◌-◌, ◌^◌, ◌≤◌, ◌<◌, ◌++◌, [], ◌∷◌, All, length, take, drop, false, true, IfOk, IfSome, IfNone, OnOk, OnErr, IsOk, Some, slice_get};
+ghost use Rattle.std.specs.Prelude.{◌≡◌, ℕ, ◌+◌, ◌-◌, ◌^◌, ◌≤◌, ◌<◌, ◌++◌, [], ◌∷◌, All, length, take, drop, false, true, IfOk, IfSome, IfNone, OnOk, OnErr, IsOk, IsErrOf, Some, slice_get};
 ghost use Rattle.of_types.specs.declared.journal.Act.TheVariants.{Stim};
 ghost use Rattle.of_types.specs.declared.journal.WorldStim.{WorldStim};
 ghost use Rattle.outside.specs.declared.step.WorldStep.TheVariants.{Acted, Idle, End, NextFailed};
@@ -15,7 +15,7 @@ ghost use Rattle.sim_world.specs.Links.{IsDue, HasReadableRaw, StandsAt, waiting
 ghost use Rattle.sim_world.specs.NextLaws.{IsMessage};
 ghost use Rattle.sim_world.specs.Doing.{Tells, NextStands, DoesNext};
 ghost use Rattle.sim_world.specs.LinkStepLaws.{AllReadable};
-ghost use Rattle.sim_world.specs.World.{Moves, declared_in, next_told};
+ghost use Rattle.sim_world.specs.World.{Moves, declared_in, next_told, short_told};
 
 use crate::parts::Parts;
 use crate::waits::copy_to_front;
@@ -94,7 +94,8 @@ impl Parts {
     fn next_failed(&mut self)
         requires room { length self.old.state.running + 1 ≤ self.old.room }
         requires few { self.old.nexts < 2 ^ 64 - 1 }
-        ensures { Moves self.old self.new (NextFailed ∷ []) (record self.old.tally { next_faults = raised self.old.tally.next_faults }) }
+        ensures moves { Moves self.old self.new (NextFailed ∷ []) (record self.old.tally { next_faults = raised self.old.tally.next_faults }) }
+        ensures calls { self.new.calls ≡ self.old.calls }
     {
         self.history.push(WorldStep::NextFailed);
         self.nexts += 1;
@@ -106,7 +107,8 @@ impl Parts {
     fn tell_end(&mut self)
         requires room { length self.old.state.running + 1 ≤ self.old.room }
         requires few { self.old.nexts < 2 ^ 64 - 1 }
-        ensures { Moves self.old self.new (End ∷ []) self.old.tally }
+        ensures moves { Moves self.old self.new (End ∷ []) self.old.tally }
+        ensures calls { self.new.calls ≡ self.old.calls }
     {
         self.history.push(WorldStep::End);
         self.nexts += 1;
@@ -119,6 +121,7 @@ impl Parts {
         requires few { self.old.nexts < 2 ^ 64 - 1 }
         ensures moves { Moves self.old self.new (Idle ∷ []) self.old.tally }
         ensures links { self.new.state.links ≡ self.old.state.links }
+        ensures calls { self.new.calls ≡ self.old.calls }
     {
         self.history.push(WorldStep::Idle);
         self.nexts += 1;
@@ -143,6 +146,7 @@ impl Parts {
         ensures begun { OnOk result (self.new.state.begun ≡ true) }
         ensures nexts { OnOk result (self.new.nexts ≡ self.old.nexts) }
         ensures err { OnErr result (self.new ≡ self.old) }
+        ensures calls { self.new.calls ≡ self.old.calls }
     {
         self.due.reserve(1)?;
         let due = self.links.begin(&x, self.moment)?;
@@ -167,6 +171,7 @@ impl Parts {
         ensures within { IfSome result (λ item. IsItemIn (Unit {0}) item buf.new) }
         ensures links { IfSome result (λ item. self.new.state.links ≡ self.old.state.links) }
         ensures none { IfNone result ((self.old.state.due ≡ []) × (self.new ≡ self.old)) }
+        ensures calls { self.new.calls ≡ self.old.calls }
     {
         let step = self.due.pop_front()?;
         let item = item_of(&step, buf);
@@ -187,6 +192,7 @@ impl Parts {
         ensures within { IfSome result (λ item. IsItemIn (Unit {0}) item buf.new) }
         ensures readable { AllReadable self.old.state.links → AllReadable self.new.state.links }
         ensures none { IfNone result ((waiting_in self.old.state.links ≡ []) × (self.new ≡ self.old)) }
+        ensures calls { self.new.calls ≡ self.old.calls }
     {
         let (dpid, message) = self.links.told()?;
         let len = copy_to_front(message.as_slice(), buf);
@@ -203,7 +209,8 @@ impl Parts {
         requires few { self.old.nexts < 2 ^ 64 - 1 }
         requires due { All IsDue self.old.state.due }
         requires buf { 65535 ≤ length buf.old }
-        ensures { Tells self.old self.new result buf.new }
+        ensures tells { Tells self.old self.new result buf.new }
+        ensures calls { self.new.calls ≡ self.old.calls }
     {
         if let Some(item) = self.tell_due(buf) {
             return item;
@@ -243,7 +250,8 @@ impl Parts {
         requires next { slice_get self.old.state.to_come 0 ≡ Some x }
         requires room { length self.old.state.running + 2 ≤ self.old.room }
         requires buf { 65535 ≤ length buf.old }
-        ensures { DoesNext self.old self.new result buf.new }
+        ensures does { DoesNext self.old self.new result buf.new }
+        ensures calls { self.new.calls ≡ self.old.calls }
     {
         match self.begin_with(x) {
             Ok(()) => Ok(self.tell(buf)),
@@ -260,7 +268,8 @@ impl Parts {
         requires stands { NextStands self.old }
         requires room { length self.old.state.running + 2 ≤ self.old.room }
         requires buf { 65535 ≤ length buf.old }
-        ensures { DoesNext self.old self.new result buf.new }
+        ensures does { DoesNext self.old self.new result buf.new }
+        ensures calls { self.new.calls ≡ self.old.calls }
     {
         if self.is_next_told() {
             self.next_failed();
@@ -287,7 +296,9 @@ impl Parts {
     pub(crate) fn next(&mut self, buf: &mut [u8]) -> Result<Item, NextFault>
         requires stands { NextStands self.old }
         requires buf { 65535 ≤ length buf.old }
-        ensures { DoesNext self.old self.new result buf.new }
+        ensures does { DoesNext self.old self.new result buf.new }
+        ensures short { short_told self.old.told self.old.calls ≡ true → IsErrOf result NextFault.Short }
+        ensures calls { self.new.calls ≡ raised self.old.calls }
     {
         if !self.is_ready(2) {
             self.want_memory(false);

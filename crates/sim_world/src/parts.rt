@@ -1,13 +1,13 @@
 //! The parts of a simulated world, and what each step does to them.
 
-ghost use Rattle.std.specs.Prelude.{◌≡◌, ℕ, ◌+◌, ◌-◌, ◌^◌, ◌≤◌, ◌<◌, ◌==◌, [], ◌∷◌, ◌++◌, true, false, not, filter, length, IsTrue, OnOk, OnErr};
+ghost use Rattle.std.specs.Prelude.{◌≡◌, ℕ, ◌+◌, ◌-◌, ◌^◌, ◌≤◌, ◌<◌, ◌==◌, [], ◌∷◌, ◌++◌, true, false, not, filter, length, IsTrue, IsErrOf, OnOk, OnErr};
 ghost use Rattle.lego_io.specs.Count.{raised};
 ghost use Rattle.of_types.specs.declared.journal.Act.TheVariants.{Started, Gave, Gone, Ended};
 ghost use Rattle.outside.specs.declared.step.WorldStep.TheVariants.{Acted, Opened, NotOpened};
 ghost use Rattle.sim_world.specs.Lives.{life_in, has_life};
 ghost use Rattle.sim_world.specs.Tally.{tally_stray, tally_short};
 ghost use Rattle.outside.specs.Calls.{open_steps};
-ghost use Rattle.sim_world.specs.World.{Moves, AreAsTold};
+ghost use Rattle.sim_world.specs.World.{Moves, AreAsTold, short_told};
 ghost use Rattle.sim_world.specs.Doing.{DoesOpen};
 
 use crate::history::History;
@@ -56,6 +56,7 @@ impl Model for Parts {
       history = w.history.steps;
       room = w.history.room;
       nexts = w.nexts;
+      calls = w.calls;
       tally = w.tally;
       state = record {
         opened = w.opened;
@@ -91,7 +92,9 @@ impl Parts {
     pub(crate) fn is_ready(&mut self, more: usize) -> bool
         requires promised { length self.old.state.running ≤ self.old.room }
         requires few { more ≤ 2 }
-        ensures same { self.new ≡ record self.old { room = self.new.room } }
+        ensures same { self.new ≡ record self.old { room = self.new.room; calls = self.new.calls } }
+        ensures calls { self.new.calls ≡ raised self.old.calls }
+        ensures told { short_told self.old.told self.old.calls ≡ true → result ≡ false }
         ensures promised { length self.new.state.running ≤ self.new.room }
         ensures room { IsTrue result → length self.new.state.running + more ≤ self.new.room }
     {
@@ -103,7 +106,8 @@ impl Parts {
     /// A call wants memory, and is out of place or not.
     pub(crate) fn want_memory(&mut self, stray: bool)
         requires { length self.old.state.running ≤ self.old.room }
-        ensures { Moves self.old self.new [] (tally_stray stray (tally_short self.old.tally)) }
+        ensures moves { Moves self.old self.new [] (tally_stray stray (tally_short self.old.tally)) }
+        ensures calls { self.new.calls ≡ self.old.calls }
     {
         self.tally.raise_shorts();
         self.tally.raise_strays(stray);
@@ -113,7 +117,8 @@ impl Parts {
     #[tactic(auto, unfolding(outside::specs::State::after_step, crate::specs::Scripts::life_after))]
     fn open_up(&mut self)
         requires { length self.old.state.running + 1 ≤ self.old.room }
-        ensures { Moves self.old self.new (Opened ∷ []) (tally_stray self.old.state.opened self.old.tally) }
+        ensures moves { Moves self.old self.new (Opened ∷ []) (tally_stray self.old.state.opened self.old.tally) }
+        ensures calls { self.new.calls ≡ self.old.calls }
     {
         self.history.push(WorldStep::Opened);
         self.tally.raise_strays(self.opened);
@@ -124,7 +129,8 @@ impl Parts {
     #[tactic(auto, unfolding(outside::specs::State::after_step, crate::specs::Scripts::life_after))]
     fn stay_shut(&mut self)
         requires { length self.old.state.running + 1 ≤ self.old.room }
-        ensures { Moves self.old self.new (NotOpened ∷ []) (tally_stray self.old.state.opened (record self.old.tally { shuts = raised self.old.tally.shuts })) }
+        ensures moves { Moves self.old self.new (NotOpened ∷ []) (tally_stray self.old.state.opened (record self.old.tally { shuts = raised self.old.tally.shuts })) }
+        ensures calls { self.new.calls ≡ self.old.calls }
     {
         self.history.push(WorldStep::NotOpened);
         self.tally.raise_shuts();
@@ -138,6 +144,8 @@ impl Parts {
         requires { length self.old.state.running ≤ self.old.room }
         ensures does { DoesOpen self.old self.new result }
         ensures told { AreAsTold self.old.told self.old.nexts (open_steps result) self.old.state }
+        ensures short { short_told self.old.told self.old.calls ≡ true → IsErrOf result OpenFault.Short }
+        ensures calls { self.new.calls ≡ raised self.old.calls }
     {
         if !self.is_ready(1) {
             self.want_memory(self.opened);
@@ -156,7 +164,9 @@ impl Parts {
     pub(crate) fn is_ready_for(&mut self, app: u32, more: usize) -> bool
         requires promised { length self.old.state.running ≤ self.old.room }
         requires few { more ≤ 2 }
-        ensures same { self.new ≡ record self.old { room = self.new.room; lives = self.new.lives } }
+        ensures same { self.new ≡ record self.old { room = self.new.room; calls = self.new.calls; lives = self.new.lives } }
+        ensures calls { self.new.calls ≡ raised self.old.calls }
+        ensures told { short_told self.old.told self.old.calls ≡ true → result ≡ false }
         ensures lives { (a : ℕ) → life_in a self.new.lives ≡ life_in a self.old.lives }
         ensures promised { length self.new.state.running ≤ self.new.room }
         ensures room { IsTrue result → length self.new.state.running + more ≤ self.new.room }
@@ -173,6 +183,7 @@ impl Parts {
         requires few { (life_in app self.old.lives).start_calls < 2 ^ 64 - 1 }
         ensures ok { OnOk result (Moves self.old self.new (Acted (Started app true) ∷ []) self.old.tally) }
         ensures err { OnErr result (self.new ≡ self.old) }
+        ensures calls { self.new.calls ≡ self.old.calls }
     {
         self.running.push(app)?;
         self.lives.start(&self.told, app, true);
@@ -186,7 +197,8 @@ impl Parts {
         requires room { length self.old.state.running + 1 ≤ self.old.room }
         requires known { IsTrue (has_life app self.old.lives) }
         requires few { (life_in app self.old.lives).start_calls < 2 ^ 64 - 1 }
-        ensures { Moves self.old self.new (Acted (Started app false) ∷ []) (tally_stray stray (record self.old.tally { starts_failed = raised self.old.tally.starts_failed })) }
+        ensures moves { Moves self.old self.new (Acted (Started app false) ∷ []) (tally_stray stray (record self.old.tally { starts_failed = raised self.old.tally.starts_failed })) }
+        ensures calls { self.new.calls ≡ self.old.calls }
     {
         self.lives.start(&self.told, app, false);
         self.history
@@ -201,7 +213,8 @@ impl Parts {
         requires room { length self.old.state.running + 1 ≤ self.old.room }
         requires known { IsTrue (has_life app self.old.lives) }
         requires few { (life_in app self.old.lives).give_calls < 2 ^ 64 - 1 }
-        ensures { Moves self.old self.new (Acted (Gave app bytes) ∷ []) self.old.tally }
+        ensures moves { Moves self.old self.new (Acted (Gave app bytes) ∷ []) self.old.tally }
+        ensures calls { self.new.calls ≡ self.old.calls }
     {
         self.lives.gave(app, bytes.as_slice());
         self.history.push(WorldStep::Acted(Act::Gave(app, bytes)));
@@ -213,7 +226,8 @@ impl Parts {
         requires room { length self.old.state.running + 1 ≤ self.old.room }
         requires known { IsTrue (has_life app self.old.lives) }
         requires few { (life_in app self.old.lives).give_calls < 2 ^ 64 - 1 }
-        ensures { Moves self.old self.new (Acted (Gone app bytes) ∷ []) (tally_stray stray (record self.old.tally { closings = raised self.old.tally.closings })) }
+        ensures moves { Moves self.old self.new (Acted (Gone app bytes) ∷ []) (tally_stray stray (record self.old.tally { closings = raised self.old.tally.closings })) }
+        ensures calls { self.new.calls ≡ self.old.calls }
     {
         self.lives.gone(app);
         self.history.push(WorldStep::Acted(Act::Gone(app, bytes)));
@@ -225,7 +239,8 @@ impl Parts {
     #[tactic(auto, unfolding(outside::specs::State::after_step, outside::specs::State::after_act, crate::specs::Lives::life_of, crate::specs::Lives::is_known))]
     pub(crate) fn ended(&mut self, app: u32)
         requires { length (filter (λ a. not (a == app)) self.old.state.running) + 1 ≤ self.old.room }
-        ensures { Moves self.old self.new (Acted (Ended app) ∷ []) self.old.tally }
+        ensures moves { Moves self.old self.new (Acted (Ended app) ∷ []) self.old.tally }
+        ensures calls { self.new.calls ≡ self.old.calls }
     {
         self.lives.end(app);
         remove(&mut self.running, app);

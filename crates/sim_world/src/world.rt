@@ -1,11 +1,13 @@
 //! A simulated world.
 
-ghost use Rattle.std.specs.Prelude.{◌≡◌, ℕ, ◌<◌, ◌≤◌, true, length, IsOk};
+ghost use Rattle.std.specs.Prelude.{◌≡◌, ℕ, ◌<◌, ◌≤◌, true, length, IsOk, IsErr, IsErrOf};
 ghost use Rattle.of_wire.specs.Reading.{reading_of};
+ghost use Rattle.lego_io.specs.Count.{raised};
+ghost use Rattle.outside.specs.Calls.{most_message, Opens, Nexts, Starts, Gives, Takes, Ends, Sends, Receives};
 ghost use Rattle.outside.specs.Conforming.{Conforming};
 ghost use Rattle.sim_world.specs.Told.{without_links};
 ghost use Rattle.sim_world.specs.Scripts.{KeepsScripts};
-ghost use Rattle.sim_world.specs.World.{IsReadable, AreAsTold, seen_of, given_of};
+ghost use Rattle.sim_world.specs.World.{IsReadable, AreAsTold, seen_of, given_of, short_told};
 ghost use Rattle.outside.specs.State.{at_first};
 
 use crate::parts::Parts;
@@ -56,50 +58,85 @@ impl World for SimWorld {
 
     ghost seen = { λ w. seen_of w };
 
-    #[tactic(auto, using(crate::specs::StandingLaws::links_stand, crate::specs::DoingLaws::Opens_by, crate::specs::KeepingLaws::keeps_open))]
-    fn open(&mut self, _port: u16) -> Result<(), OpenFault> {
+    #[tactic(auto, using(crate::specs::StandingLaws::links_stand, crate::specs::StandingLaws::short_kept, crate::specs::DoingLaws::Opens_by, crate::specs::KeepingLaws::keeps_open))]
+    fn open(&mut self, _port: u16) -> Result<(), OpenFault>
+        ensures seen { Opens (Unit {0}) (seen_of self.old) (seen_of self.new) result }
+        ensures short { short_told self.old.fails self.old.calls ≡ true → IsErrOf result OpenFault.Short }
+        ensures calls { self.new.calls ≡ raised self.old.calls }
+    {
         self.parts.are_few();
         self.parts.open()
     }
 
-    #[tactic(auto, using(crate::specs::StandingLaws::next_stands, crate::specs::DoingLaws::Nexts_by, crate::specs::KeepingLaws::keeps_next))]
-    fn next(&mut self, buf: &mut [u8]) -> Result<Item, NextFault> {
+    #[tactic(auto, using(crate::specs::StandingLaws::next_stands, crate::specs::StandingLaws::short_kept, crate::specs::DoingLaws::Nexts_by, crate::specs::KeepingLaws::keeps_next))]
+    fn next(&mut self, buf: &mut [u8]) -> Result<Item, NextFault>
+        requires { most_message ≤ length buf.old }
+        ensures seen { Nexts (Unit {0}) (seen_of self.old) (seen_of self.new) result buf.new }
+        ensures short { short_told self.old.fails self.old.calls ≡ true → IsErrOf result NextFault.Short }
+        ensures calls { self.new.calls ≡ raised self.old.calls }
+    {
         self.parts.are_few();
         self.parts.next(buf)
     }
 
-    #[tactic(auto, using(crate::specs::StandingLaws::apps_stand, crate::specs::DoingLaws::Starts_by, crate::specs::KeepingLaws::keeps_start))]
-    fn start(&mut self, app: u32, _words: &[String]) -> Result<(), StartFault> {
+    #[tactic(auto, using(crate::specs::StandingLaws::apps_stand, crate::specs::StandingLaws::short_kept, crate::specs::DoingLaws::Starts_by, crate::specs::KeepingLaws::keeps_start))]
+    fn start(&mut self, app: u32, _words: &[String]) -> Result<(), StartFault>
+        ensures seen { Starts (Unit {0}) app (seen_of self.old) (seen_of self.new) result }
+        ensures short { short_told self.old.fails self.old.calls ≡ true → IsErrOf result StartFault.Short }
+        ensures calls { self.new.calls ≡ raised self.old.calls }
+    {
         self.parts.are_few();
         self.parts.start(app)
     }
 
-    #[tactic(auto, using(crate::specs::StandingLaws::apps_stand, crate::specs::DoingLaws::Gives_by, crate::specs::KeepingLaws::keeps_give))]
-    fn give(&mut self, app: u32, bytes: &[u8]) -> Result<(), GiveFault> {
+    #[tactic(auto, using(crate::specs::StandingLaws::apps_stand, crate::specs::StandingLaws::short_kept, crate::specs::DoingLaws::Gives_by, crate::specs::KeepingLaws::keeps_give))]
+    fn give(&mut self, app: u32, bytes: &[u8]) -> Result<(), GiveFault>
+        ensures seen { Gives (Unit {0}) app bytes.now (seen_of self.old) (seen_of self.new) result }
+        ensures short { short_told self.old.fails self.old.calls ≡ true → IsErrOf result GiveFault.Short }
+        ensures calls { self.new.calls ≡ raised self.old.calls }
+    {
         self.parts.are_few();
         self.parts.give(app, bytes)
     }
 
-    #[tactic(auto, using(crate::specs::StandingLaws::apps_stand, crate::specs::DoingLaws::Takes_by, crate::specs::KeepingLaws::keeps_take))]
-    fn take(&mut self, app: u32, buf: &mut [u8]) -> Result<Taken, Short> {
+    #[tactic(auto, using(crate::specs::StandingLaws::apps_stand, crate::specs::StandingLaws::short_kept, crate::specs::DoingLaws::Takes_by, crate::specs::KeepingLaws::keeps_take))]
+    fn take(&mut self, app: u32, buf: &mut [u8]) -> Result<Taken, Short>
+        requires { 0 < length buf.old }
+        ensures seen { Takes (Unit {0}) app (seen_of self.old) (seen_of self.new) result buf.new }
+        ensures short { short_told self.old.fails self.old.calls ≡ true → IsErr result }
+        ensures calls { self.new.calls ≡ raised self.old.calls }
+    {
         self.parts.are_few();
         self.parts.take(app, buf)
     }
 
     #[tactic(auto, using(crate::specs::StandingLaws::apps_stand, crate::specs::DoingLaws::Ends_by, crate::specs::KeepingLaws::keeps_end))]
-    fn end(&mut self, app: u32) {
+    fn end(&mut self, app: u32)
+        ensures seen { Ends (Unit {0}) app (seen_of self.old) (seen_of self.new) }
+        ensures calls { self.new.calls ≡ self.old.calls }
+    {
         self.parts.are_few();
         self.parts.end(app);
     }
 
-    #[tactic(auto, using(crate::specs::StandingLaws::links_stand, crate::specs::DoingLaws::Sends_by, crate::specs::KeepingLaws::keeps_send))]
-    fn send(&mut self, dpid: u64, frame: &[u8]) -> Result<(), LinkFault> {
+    #[tactic(auto, using(crate::specs::StandingLaws::links_stand, crate::specs::StandingLaws::short_kept, crate::specs::DoingLaws::Sends_by, crate::specs::KeepingLaws::keeps_send))]
+    fn send(&mut self, dpid: u64, frame: &[u8]) -> Result<(), LinkFault>
+        requires { IsOk (reading_of frame.now) }
+        ensures seen { Sends (Unit {0}) dpid frame.now (seen_of self.old) (seen_of self.new) result }
+        ensures short { short_told self.old.fails self.old.calls ≡ true → IsErrOf result LinkFault.Short }
+        ensures calls { self.new.calls ≡ raised self.old.calls }
+    {
         self.parts.are_few();
         self.parts.send(dpid, frame)
     }
 
-    #[tactic(auto, using(crate::specs::StandingLaws::links_stand, crate::specs::DoingLaws::Receives_by, crate::specs::KeepingLaws::keeps_recv))]
-    fn recv(&mut self, dpid: u64, buf: &mut [u8]) -> Result<usize, LinkFault> {
+    #[tactic(auto, using(crate::specs::StandingLaws::links_stand, crate::specs::StandingLaws::short_kept, crate::specs::DoingLaws::Receives_by, crate::specs::KeepingLaws::keeps_recv))]
+    fn recv(&mut self, dpid: u64, buf: &mut [u8]) -> Result<usize, LinkFault>
+        requires { most_message ≤ length buf.old }
+        ensures seen { Receives (Unit {0}) dpid (seen_of self.old) (seen_of self.new) result buf.new }
+        ensures short { short_told self.old.fails self.old.calls ≡ true → IsErrOf result LinkFault.Short }
+        ensures calls { self.new.calls ≡ raised self.old.calls }
+    {
         self.parts.are_few();
         self.parts.recv(dpid, buf)
     }

@@ -12,7 +12,7 @@ use Rattle.sim_world.specs.DoingLaws.{taken_out_of_place}
 use Rattle.sim_world.proofs.parts.Parts.take.Goals as goal
 
 -- what was taken is what the life before says
-from : (old mid : WorldData) (app room : ℕ) → mid ≡ record old { room = mid.room; lives = mid.lives } → lives_of mid app ≡ lives_of old app → next_taken mid.told app room (lives_of mid app) ≡ next_taken old.told app room (lives_of old app)
+from : (old mid : WorldData) (app room : ℕ) → mid ≡ record old { room = mid.room; calls = mid.calls; lives = mid.lives } → lives_of mid app ≡ lives_of old app → next_taken mid.told app room (lives_of mid app) ≡ next_taken old.told app room (lives_of old app)
 from old mid app room same lives =
     ap (λ (w : WorldData). next_taken w.told app room (lives_of mid app)) same ∙ ap (next_taken old.told app room) lives
 

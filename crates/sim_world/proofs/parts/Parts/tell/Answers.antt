@@ -5,8 +5,8 @@ use Rattle.sim_world.specs.World.{WorldData, Moves}
 use Rattle.sim_world.specs.TellLaws.{Tells_by_idle}
 use Rattle.sim_world.proofs.parts.Parts.tell.Goals as goal
 
-pub returns : goal.returns
-returns c =
+pub returns-clause-tells : goal.returns-clause-tells
+returns-clause-tells c =
     let first = c.in_default.ensures.none in
     let second = c.in_default-tell_message.ensures.none in
     let same = second.1 ∙ first.1 in
