@@ -1,36 +1,33 @@
 -- Laws of attempts to start an application.
-use Rattle.std.specs.Prelude.{◌≡◌, ◌≢◌, ℕ, zero, suc, ◌==◌, nat_eq, Bool, true, false, not, ◌&&◌, List, [], ◌∷◌, ◌++◌, map, filter, drop, Option, Some, None, is_some, unwrap_or, if◌then◌else◌, refl}
-use Rattle.std.specs.List.{flat_map, list_any}
+use Rattle.std.specs.Prelude.{◌≡◌, ℕ, ◌==◌, Bool, true, false, not, List, [], ◌∷◌, ◌++◌, map, if◌then◌else◌, refl}
 use Rattle.std.proofs.Common.{sym, ap, ◌∙◌, subst, append_assoc}
 use Rattle.std.proofs.lemmas.List.{append-nil, map-append}
 use Rattle.std.proofs.lemmas.Map.Views.{any-filter_same}
 use Rattle.std.proofs.lemmas.Bool.{eq-eqb}
 use Rattle.of_types.specs.declared.journal.Act.{Act}
-use Rattle.of_types.specs.declared.journal.Act.TheVariants.{Started, Gave, Gone, Took, Ended}
+use Rattle.of_types.specs.declared.journal.Act.TheVariants.{Started, Gave, Gone, Took}
 use Rattle.of_types.specs.declared.journal.TookWhat.TheVariants as took
 use Rattle.of_types.specs.Fields.{number_bytes}
-use Rattle.app_frames.specs.declared.cause.Tried.{Tried}
-use Rattle.app_frames.specs.declared.cause.Tried.TheVariants.{Ready, Refused, Closed, Silent, Garbled}
+use Rattle.app_frames.specs.declared.cause.Tried.TheVariants.{Closed}
 use Rattle.app_frames.specs.declared.frame.AppFrame.TheVariants as frames
-use Rattle.app_frames.specs.Frames.{app_reading}
 use Rattle.app_frames.specs.Spelling.{framed, host_body_bytes, host_bytes}
-use Rattle.lego_model.specs.Journal.{Attempt, Start, End, Untold, Closes, Stalls, inputs, start_of, is_event, in_turns, pieces, end_from, any_gone}
+use Rattle.lego_model.specs.Journal.{Start, End, Untold, Closes, Stalls, inputs, start_of, is_event, in_turns, pieces, end_from, any_gone}
 use Rattle.lego_model.specs.Turns.{Next, outcome_of, first_frame, next_of}
-use Rattle.lego_model.specs.Controller.{App, restore_frame, is_ready, attempts, started}
+use Rattle.lego_model.specs.Controller.{restore_frame}
 use Rattle.lego_io.specs.CountLaws.{Rose-after}
 use Rattle.outside.specs.declared.step.WorldStep.{WorldStep}
 use Rattle.outside.specs.declared.step.WorldStep.TheVariants.{Acted}
 use Rattle.outside.specs.Seen.{Seen, Continues}
-use Rattle.outside.specs.SeenLaws.{Continues-refl, Continues-trans, Ends-continues}
+use Rattle.outside.specs.SeenLaws.{Continues-trans}
 use Rattle.outside.specs.State.{State, state, is_running, after_act, after_step, after_steps}
 use Rattle.outside.specs.StateLaws.{state-append}
 use Rattle.outside.specs.Calls.{Ends, end_steps}
 use Rattle.app_visor.specs.declared.came.Came.{Came}
 use Rattle.app_visor.specs.declared.came.Came.TheVariants as comes
 use Rattle.app_visor.specs.Talks.{Told, step_of}
-use Rattle.app_visor.specs.Reads.{takes, TakesAll, Taken, CameSo, Comes}
+use Rattle.app_visor.specs.Reads.{takes, TakesAll, CameSo, Comes}
 use Rattle.app_visor.specs.ReadLaws.{Taken-continues, Comes-continues, next_taken, next_framed, next_faulty, next_over, pieces_takes, end_takes, gone_takes, inputs_takes, turns_takes}
-use Rattle.app_visor.specs.Attempts.{end_acts, TryRises, restored, IsTry, OneTry, AreTries, ready_rest, tries_of, starts_of, given_by, restarted, Restarts, TriedAll, TriesOn, tried_by, rest_of, stood, Greets, EndsUnless}
+use Rattle.app_visor.specs.Attempts.{end_acts, TryRises, restored, tried_by, rest_of, stood, Greets}
 
 -- ---- What is read of a start
 

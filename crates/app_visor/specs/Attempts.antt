@@ -1,5 +1,5 @@
 -- Attempts to start an application: what one does, and what they all leave. All of this is our own choice.
-use Rattle.std.specs.Prelude.{◌≡◌, ℕ, zero, suc, ◌≤◌, Bool, true, false, ◌&&◌, List, [], ◌∷◌, ◌++◌, map, Option, Some, None, is_some, unwrap_or, ◌⊎◌, if◌then◌else◌}
+use Rattle.std.specs.Prelude.{◌≡◌, ℕ, zero, suc, Bool, true, false, ◌&&◌, List, [], ◌∷◌, ◌++◌, map, Option, Some, None, is_some, unwrap_or, ◌⊎◌, if◌then◌else◌}
 use Rattle.std.specs.List.{flat_map}
 use Rattle.lego_io.specs.Count.{Rose}
 use Rattle.of_types.specs.declared.journal.Act.{Act}

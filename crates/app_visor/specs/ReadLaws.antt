@@ -1,6 +1,6 @@
 -- Laws of frames as they come: what a turn or a start reads of the acts of taking.
-use Rattle.std.specs.Prelude.{◌≡◌, ℕ, Bool, true, false, List, [], ◌∷◌, ◌++◌, length, filter, drop, Option, Some, None, Result, Ok, Err, OnErr, ◌⊎◌, refl}
-use Rattle.std.proofs.Common.{sym, ap, ◌∙◌, subst, inl, inr}
+use Rattle.std.specs.Prelude.{◌≡◌, ℕ, List, [], ◌∷◌, ◌++◌, filter, None, Result, Ok, Err, OnErr, ◌⊎◌, refl}
+use Rattle.std.proofs.Common.{sym, ap, subst, inl, inr}
 use Rattle.std.proofs.lemmas.Result.{on_err_weaker}
 use Rattle.of_types.specs.declared.journal.Act.{Act}
 use Rattle.of_types.specs.declared.journal.Act.TheVariants.{Took}
@@ -14,7 +14,7 @@ use Rattle.outside.specs.Seen.{Seen, Continues}
 use Rattle.outside.specs.SeenLaws.{Continues-refl, Continues-trans}
 use Rattle.app_visor.specs.declared.came.Came.{Came}
 use Rattle.app_visor.specs.declared.came.Came.TheVariants.{Frame, Refused, Closed, Silent}
-use Rattle.app_visor.specs.Talks.{Told, Wants}
+use Rattle.app_visor.specs.Talks.{Wants}
 use Rattle.app_visor.specs.Reads.{takes, TakesAll, Taken, IsNext, TakesOne, CameSo, Comes, Breaks, TakesOn}
 
 -- ---- Pieces taken

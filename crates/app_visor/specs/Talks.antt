@@ -1,8 +1,8 @@
 -- One call for an application as the world answered it, and what a telling world's history has of it. All of this is our own choice.
-use Rattle.std.specs.Prelude.{◌≡◌, ℕ, Bool, true, false, List, [], ◌∷◌, ◌++◌, if◌then◌else◌}
+use Rattle.std.specs.Prelude.{◌≡◌, ℕ, Bool, false, List, [], ◌∷◌, ◌++◌, if◌then◌else◌}
 use Rattle.lego_io.specs.Count.{Rose}
 use Rattle.of_types.specs.declared.journal.Act.{Act}
-use Rattle.of_types.specs.declared.journal.Act.TheVariants.{Started, Gone, Took, Ended, Gave}
+use Rattle.of_types.specs.declared.journal.Act.TheVariants.{Started, Gone, Took, Gave}
 use Rattle.of_types.specs.declared.journal.TookWhat.TheVariants.{Closed, Silent}
 use Rattle.outside.specs.declared.step.WorldStep.{WorldStep}
 use Rattle.outside.specs.declared.step.WorldStep.TheVariants.{Acted, TookInto}

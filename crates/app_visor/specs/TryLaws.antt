@@ -1,8 +1,8 @@
 -- Laws of one attempt to start an application, of the loop over all attempts, and of what the reference comes to by them.
-use Rattle.std.specs.Prelude.{◌≡◌, ℕ, ◌≤◌, zero, suc, Bool, true, false, List, [], ◌∷◌, ◌++◌, map, Option, Some, None, if◌then◌else◌, refl}
+use Rattle.std.specs.Prelude.{◌≡◌, ℕ, ◌≤◌, zero, suc, Bool, true, false, List, [], ◌∷◌, ◌++◌, Some, None, if◌then◌else◌, refl}
 use Rattle.std.proofs.Common.{sym, ap, ◌∙◌, subst, append_assoc, inl, inr, arith}
 use Rattle.std.proofs.lemmas.Bool.{cases_lt}
-use Rattle.std.proofs.lemmas.List.{append-nil, map-append}
+use Rattle.std.proofs.lemmas.List.{append-nil}
 use Rattle.of_types.specs.declared.journal.Act.{Act}
 use Rattle.of_types.specs.declared.journal.Act.TheVariants.{Started}
 use Rattle.app_frames.specs.declared.cause.Tried.{Tried}
@@ -12,13 +12,13 @@ use Rattle.lego_io.specs.Count.{Rose}
 use Rattle.lego_io.specs.CountLaws.{Rose-after}
 use Rattle.lego_model.specs.Journal.{Start, inputs, start_of}
 use Rattle.lego_model.specs.Turns.{outcome_of}
-use Rattle.lego_model.specs.Controller.{App, restore_frame, is_ready, attempts, started}
+use Rattle.lego_model.specs.Controller.{App, is_ready, attempts, started}
 use Rattle.outside.specs.Seen.{Counts, NoneFell, Seen, Continues}
-use Rattle.outside.specs.SeenLaws.{Continues-refl, Continues-trans, Ends-continues, NoneFell-refl}
+use Rattle.outside.specs.SeenLaws.{Continues-refl, Continues-trans, Ends-continues}
 use Rattle.outside.specs.State.{state, is_running}
 use Rattle.outside.specs.Calls.{Ends}
 use Rattle.app_visor.specs.Talks.{Told}
-use Rattle.app_visor.specs.Attempts.{end_acts, TryRises, restored, IsTry, Tries, OneTry, AreTries, ready_rest, tries_of, starts_of, given_by, restarted, Restarts, TriedAll, TriesOn, rest_of, stood, Greets, EndsUnless}
+use Rattle.app_visor.specs.Attempts.{end_acts, TryRises, restored, IsTry, Tries, OneTry, AreTries, tries_of, starts_of, restarted, Restarts, TriesOn, rest_of, stood, Greets, EndsUnless}
 use Rattle.app_visor.specs.AttemptLaws.{Adds, Adds-append, Adds-none, Adds-ended, ends_so, not_started_so}
 
 -- ---- One attempt

@@ -2,11 +2,14 @@
 //! exactly what its bytes, their end and the answers that it was given say.
 #![tactic(auto)]
 
+mod asking;
 mod came;
 mod intake;
 mod starting;
 mod state;
 mod talk;
+mod turning;
 
 pub use starting::restart;
 pub use state::{AppState, Back, TurnEnd};
+pub use turning::turn;

@@ -1,4 +1,3 @@
-use Rattle.std.proofs.Common.{◌≡◌, true, false, not, sym, ap, ◌∙◌, subst}
 use Rattle.app_visor.specs.TryLaws.{try_refused, try_stood, unless_continues}
 use Rattle.lego_model.specs.Controller.{is_ready}
 use Rattle.outside.specs.SeenLaws.{Continues-trans, Ends-continues}

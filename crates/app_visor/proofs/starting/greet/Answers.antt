@@ -1,6 +1,4 @@
-use Rattle.std.proofs.Common.{◌≡◌, true, false, not, sym, ap, ◌∙◌, subst}
-use Rattle.std.proofs.lemmas.Bool.{not-true, not-false}
-use Rattle.app_visor.specs.Talks.{Told, give_act}
+use Rattle.std.proofs.Common.{sym, subst}
 use Rattle.app_visor.specs.Attempts.{Greets}
 use Rattle.app_visor.specs.AttemptLaws.{greets_gone, greets_came}
 use Rattle.app_visor.specs.ReadLaws.{Comes-continues, Breaks-continues}

@@ -1,4 +1,4 @@
-use Rattle.std.proofs.Common.{◌≡◌, inl, inr, refl, ◌∙◌, sym, ap, arith, take, length, ◌++◌, List, ℕ}
+use Rattle.std.proofs.Common.{◌≡◌, inl, inr, refl, arith, take, length, ◌++◌}
 use Rattle.std.proofs.lemmas.Grind.{common_steps}
 use Rattle.std.proofs.lemmas.Result.{err_from_is_err_and}
 use Rattle.app_visor.specs.TalkLaws.{took_one, told_closed, told_silent, wants_take}
