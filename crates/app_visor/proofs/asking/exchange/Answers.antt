@@ -1,0 +1,49 @@
+use Rattle.std.proofs.Common.{◌∙◌}
+use Rattle.std.proofs.lemmas.Result.{err_from_is_err_and}
+use Rattle.net_txn.specs.declared.fault.TxnFault.TheVariants.{NoMemory}
+use Rattle.app_visor.specs.ResultLaws.{err_so}
+use Rattle.app_visor.specs.ReadLaws.{Wants-refl}
+use Rattle.app_visor.specs.Beats.{IsExchange, exchange_of}
+use Rattle.app_visor.specs.BeatLaws.{stops_wanting}
+use Rattle.app_visor.specs.PlayLaws.{stops_at_change, leads_asked, exchanges_so}
+use Rattle.app_visor.specs.AnswerLaws.{answer_fits}
+use Rattle.app_visor.proofs.asking.exchange.Goals as goal
+
+pub returns-in_err-answer-clause-err : goal.returns-in_err-answer-clause-err
+returns-in_err-answer-clause-err g c =
+    let p = err_from_is_err_and c.from_residual.result c.from_residual.ensures.1 in
+    rw (p.1, p.2) (stops_at_change c.args.app c.in_err-answer.field-0.0 c.in_err-answer.ensures.changes)
+
+pub encode_answer-requires : goal.encode_answer-requires
+encode_answer-requires g c =
+    answer_fits g.W.World.Tells c.args.dpid c.args.bytes.now (g.W.World.seen c.args.world.now) (g.W.World.seen c.change.new.world) c.args.txn.now.net.now c.change.new.self.net.now c.in_ok-answer.answer
+    c.in_ok-answer.ensures.changes
+
+pub returns-in_err-frame-clause-err : goal.returns-in_err-frame-clause-err
+returns-in_err-frame-clause-err g c =
+    let p = err_from_is_err_and c.from_residual-in_err-frame.result c.from_residual-in_err-frame.ensures.1 in
+    let old = g.W.World.seen c.args.world.now in
+    let after = g.W.World.seen c.change.new.world in
+    let is : IsExchange g.W.World.Tells (exchange_of c.args.dpid c.args.bytes.now c.in_ok-answer.answer old after c.args.txn.now.net.now c.change.new.self.net.now) =
+    record { changes = c.in_ok-answer.ensures.changes; reached = c.in_ok-answer.ensures.reached; in_step = c.in_ok-answer.ensures.in_step } in
+    err_so _ c.from_residual-in_err-frame.result p.0 NoMemory p.1 p.2
+    (stops_wanting (leads_asked c.args.app c.args.dpid c.args.bytes.now c.in_ok-answer.answer old after c.args.txn.now.net.now c.change.new.self.net.now is) (Wants-refl after))
+
+pub returns-in_err-give-clause-err : goal.returns-in_err-give-clause-err
+returns-in_err-give-clause-err g c =
+    let p = err_from_is_err_and c.from_residual-in_err-give.result c.from_residual-in_err-give.ensures.1 in
+    let old = g.W.World.seen c.args.world.now in
+    let after = g.W.World.seen c.change.new.world in
+    let is : IsExchange g.W.World.Tells (exchange_of c.args.dpid c.args.bytes.now c.in_ok-answer.answer old after c.args.txn.now.net.now c.change.new.self.net.now) =
+    record { changes = c.in_ok-answer.ensures.changes; reached = c.in_ok-answer.ensures.reached; in_step = c.in_ok-answer.ensures.in_step } in
+    err_so _ c.from_residual-in_err-give.result p.0 NoMemory p.1 p.2
+    (stops_wanting (leads_asked c.args.app c.args.dpid c.args.bytes.now c.in_ok-answer.answer old after c.args.txn.now.net.now c.change.new.self.net.now is) c.in_err-give.ensures.err)
+
+pub returns-clause-ok : goal.returns-clause-ok
+returns-clause-ok g c =
+    let old = g.W.World.seen c.args.world.now in
+    let after = g.W.World.seen c.change.new.world in
+    let is : IsExchange g.W.World.Tells (exchange_of c.args.dpid c.args.bytes.now c.in_ok-answer.answer old after c.args.txn.now.net.now c.change.new.self.net.now) =
+    record { changes = c.in_ok-answer.ensures.changes; reached = c.in_ok-answer.ensures.reached; in_step = c.in_ok-answer.ensures.in_step } in
+    exchanges_so g.W.World.Tells c.args.app c.args.dpid c.args.bytes.now c.in_ok-give.field-0 c.in_ok-answer.answer c.as_slice.result.now old after (g.W.World.seen c.give.new.world) c.args.txn.now.net.now
+    c.change.new.self.net.now is (c.as_slice.ensures ∙ c.in_ok-frame.ensures) c.in_ok-give.ensures.ok

@@ -1,0 +1,10 @@
+use Rattle.std.proofs.Common.{◌-◌}
+use Rattle.outside.specs.Seen.{Continues}
+use Rattle.app_visor.specs.Attempts.{TriesOn}
+use Rattle.app_visor.proofs.starting.try_all.Given as goal
+
+abbrev pub invariant-loop-attempt : goal.invariant-loop-attempt
+invariant-loop-attempt g l = record {
+  on : TriesOn g.W.World.Tells l.app (3 - l._attempt) (g.W.World.seen l.fn.world) l.tries.items (g.W.World.seen l.world);
+  continues : Continues g.W.World.Tells (g.W.World.seen l.fn.world) (g.W.World.seen l.world);
+}

@@ -1,0 +1,18 @@
+use Rattle.std.proofs.Common.{refl}
+use Rattle.app_visor.specs.TurnLaws.{plays_done, plays_unbalanced}
+use Rattle.app_visor.specs.PlayLaws.{is_unbalanced}
+use Rattle.app_visor.specs.BeatLaws.{Leads-refl}
+use Rattle.app_visor.proofs.turning.play.Goals as goal
+
+pub returns-in-Done-clause-ok : goal.returns-in-Done-clause-ok
+returns-in-Done-clause-ok g c =
+    rw c.in-Done.is (plays_done g.W.World.Tells (g.J.Judge.accepts c.args.judge.now) c.args.app c.in-Done.stop c.in-Done.checkpoint (g.W.World.seen c.args.world.now) c.args.txn.now.net.now c.finish.result c.finish.ensures)
+
+pub returns : goal.returns
+returns g c = record {
+  same_reference = refl;
+  start = refl;
+  leads = Leads-refl c.args.app (g.W.World.seen c.args.world.now) c.args.txn.now.net.now;
+  ok = plays_unbalanced g.W.World.Tells (g.J.Judge.accepts c.args.judge.now) c.args.app c.args.frame (g.W.World.seen c.args.world.now) c.args.txn.now.net.now (is_unbalanced c.args.frame c.in-Save.is);
+  err = tt;
+}

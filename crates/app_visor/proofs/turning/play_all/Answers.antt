@@ -1,0 +1,45 @@
+use Rattle.std.proofs.Common.{◌≡◌, ◌+◌, ◌-◌, zero, suc, refl, ◌∙◌, arith}
+use Rattle.std.proofs.lemmas.Result.{err_from_is_err_and}
+use Rattle.net_txn.specs.declared.fault.TxnFault.TheVariants.{NoMemory}
+use Rattle.app_visor.specs.ResultLaws.{err_so}
+use Rattle.app_visor.specs.BeatLaws.{Leads-refl, Leads-trans, stops_then, stops_breaking}
+use Rattle.app_visor.specs.PlayLaws.{goes_none, goes_more, ends_then, spent_then}
+use Rattle.app_visor.proofs.turning.play_all.Goals as goal
+
+pub loop-played-init : goal.loop-played-init
+loop-played-init g c = record {
+  on = goes_none c.args.app c.args.budget (c.args.budget - 0) c.args.intake.now (g.W.World.seen c.args.world.now) c.args.txn.now.net.now (omega arith);
+  leads = Leads-refl c.args.app (g.W.World.seen c.args.world.now) c.args.txn.now.net.now;
+  same_reference = refl;
+  start = refl;
+}
+
+pub returns-in_err-end-clause-err : goal.returns-in_err-end-clause-err
+returns-in_err-end-clause-err g c =
+    let p = err_from_is_err_and c.from_residual.result c.from_residual.ensures.1 in
+    err_so _ c.from_residual.result p.0 c.in_err-end.field-0.0 p.1 p.2 (stops_then c.loop-played.invariant.leads c.in_err-end.ensures.err)
+
+pub returns-in-Some-clause-ok : goal.returns-in-Some-clause-ok
+returns-in-Some-clause-ok g c =
+    let left : c.args.budget - c.loop-played._played ≡ suc (c.args.budget - (c.loop-played._played + 1)) = omega arith in
+    ends_then (c.args.budget - (c.loop-played._played + 1)) left c.loop-played.invariant.on (rw c.in-Some.is at c.in_ok-end.ensures.ok)
+
+pub loop-played-preserved : goal.loop-played-preserved
+loop-played-preserved g c =
+    let left : c.args.budget - c.loop-played._played ≡ suc (c.args.budget - (c.loop-played._played + 1)) = omega arith in
+    record {
+      on = goes_more (c.args.budget - (c.loop-played._played + 1)) left c.loop-played.invariant.on (rw c.in_default.is at c.in_ok-end.ensures.ok);
+      leads = Leads-trans c.loop-played.invariant.leads c.in_ok-end.ensures.leads;
+      same_reference = c.in_ok-end.ensures.same_reference ∙ c.loop-played.invariant.same_reference;
+      start = c.in_ok-end.ensures.start ∙ c.loop-played.invariant.start;
+    }
+
+pub returns-in_err-next_frame-clause-err : goal.returns-in_err-next_frame-clause-err
+returns-in_err-next_frame-clause-err g c =
+    let p = err_from_is_err_and c.from_residual-in_err-next_frame.result c.from_residual-in_err-next_frame.ensures.1 in
+    err_so _ c.from_residual-in_err-next_frame.result p.0 NoMemory p.1 p.2 (stops_then c.loop-played.invariant.leads (stops_breaking c.loop-played.txn.net.now c.in_err-next_frame.ensures.err))
+
+pub returns-clause-ok : goal.returns-clause-ok
+returns-clause-ok g c =
+    let none : c.args.budget - c.loop-played._played ≡ zero = omega arith in
+    rw c.judge_came.ensures (spent_then c.in_ok-next_frame.field-0 none c.loop-played.invariant.on c.in_ok-next_frame.ensures.ok)

@@ -1,0 +1,35 @@
+use Rattle.std.proofs.Common.{refl}
+use Rattle.std.proofs.lemmas.Result.{err_from_is_err_and, IfOk-weaker, on_ok_weaker}
+use Rattle.net_txn.specs.declared.fault.TxnFault.TheVariants.{NoMemory}
+use Rattle.app_visor.specs.ResultLaws.{err_so, err_then}
+use Rattle.app_visor.specs.BeatLaws.{Leads-trans, leads_comes, stops_then, stops_breaking}
+use Rattle.app_visor.specs.PlayLaws.{plays_came, ends_over, not_frame}
+use Rattle.app_visor.proofs.turning.play_next.Goals as goal
+
+pub returns-in_err-came-clause-err : goal.returns-in_err-came-clause-err
+returns-in_err-came-clause-err g c =
+    let p = err_from_is_err_and c.from_residual.result c.from_residual.ensures.1 in
+    err_so _ c.from_residual.result p.0 NoMemory p.1 p.2 (stops_breaking c.args.txn.now.net.now c.in_err-came.ensures.err)
+
+pub returns-in-Frame-clause-leads : goal.returns-in-Frame-clause-leads
+returns-in-Frame-clause-leads g c =
+    on_ok_weaker c.play.result (λ later. Leads-trans (leads_comes c.in_ok-came.came c.args.txn.now.net.now c.in_ok-came.ensures.ok) later) c.play.ensures.leads
+
+pub returns-in-Frame-clause-ok : goal.returns-in-Frame-clause-ok
+returns-in-Frame-clause-ok g c =
+    IfOk-weaker c.play.result _ _ (λ o plays. plays_came g.W.World.Tells (g.J.Judge.accepts c.args.judge.now) c.args.app o c.in-Frame.frame c.args.intake.now c.next_frame.new.intake (g.W.World.seen c.args.world.now)
+    (g.W.World.seen c.next_frame.new.world) (g.W.World.seen c.play.new.world) c.args.txn.now.net.now c.play.new.txn.net.now (rw c.in-Frame.is at c.in_ok-came.ensures.ok) plays) c.play.ensures.ok
+
+pub returns-in-Frame-clause-err : goal.returns-in-Frame-clause-err
+returns-in-Frame-clause-err g c =
+    err_then _ _ c.play.result (λ fault stops. stops_then (leads_comes c.in_ok-came.came c.args.txn.now.net.now c.in_ok-came.ensures.ok) stops) c.play.ensures.err
+
+pub returns-in_default : goal.returns-in_default
+returns-in_default g c = record {
+  same_reference = refl;
+  start = refl;
+  leads = leads_comes c.in_ok-came.came c.args.txn.now.net.now c.in_ok-came.ensures.ok;
+  ok = rw c.judge_came.ensures (ends_over g.W.World.Tells (g.J.Judge.accepts c.args.judge.now) c.args.app c.in_ok-came.came c.args.intake.now c.next_frame.new.intake (g.W.World.seen c.args.world.now)
+      (g.W.World.seen c.next_frame.new.world) c.args.txn.now.net.now (not_frame c.in_ok-came.came c.in_default.not-Frame) c.in_ok-came.ensures.ok);
+  err = tt;
+}

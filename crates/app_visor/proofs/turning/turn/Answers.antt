@@ -1,0 +1,65 @@
+use Rattle.std.proofs.Common.{ℕ, ap, ◌∙◌}
+use Rattle.std.proofs.lemmas.Result.{err_from_is_err_and}
+use Rattle.lego_model.specs.Controller.{event_frame}
+use Rattle.outside.specs.SeenLaws.{Continues-trans}
+use Rattle.net_txn.specs.declared.fault.TxnFault.TheVariants.{NoMemory}
+use Rattle.app_visor.specs.ResultLaws.{err_so}
+use Rattle.app_visor.specs.ReadLaws.{Wants-refl}
+use Rattle.app_visor.specs.BeatLaws.{Leads-refl, Leads-trans, Leads-continues, stops_wanting, stops_then, Stops-continues}
+use Rattle.app_visor.specs.PlayLaws.{turns_gone, turns_given, leads_turn, leads_told}
+use Rattle.app_visor.proofs.turning.turn.Goals as goal
+
+pub returns-in_err-frame-clause-err : goal.returns-in_err-frame-clause-err
+returns-in_err-frame-clause-err g c =
+    let p = err_from_is_err_and c.from_residual.result c.from_residual.ensures.1 in
+    let seen = g.W.World.seen c.args.world.now in
+    err_so _ c.from_residual.result p.0 NoMemory p.1 p.2 (stops_wanting (Leads-refl c.args.app.now.index seen c.args.txn.now.net.now) (Wants-refl seen))
+
+pub returns-in_err-intake-clause-err : goal.returns-in_err-intake-clause-err
+returns-in_err-intake-clause-err g c =
+    let p = err_from_is_err_and c.from_residual-in_err-intake.result c.from_residual-in_err-intake.ensures.1 in
+    let seen = g.W.World.seen c.args.world.now in
+    err_so _ c.from_residual-in_err-intake.result p.0 NoMemory p.1 p.2 (stops_wanting (Leads-refl c.args.app.now.index seen c.args.txn.now.net.now) (Wants-refl seen))
+
+pub returns-in_err-give-clause-err : goal.returns-in_err-give-clause-err
+returns-in_err-give-clause-err g c =
+    let p = err_from_is_err_and c.from_residual-in_err-give.result c.from_residual-in_err-give.ensures.1 in
+    err_so _ c.from_residual-in_err-give.result p.0 NoMemory p.1 p.2
+    (stops_wanting (Leads-refl c.args.app.now.index (g.W.World.seen c.args.world.now) c.args.txn.now.net.now) c.in_err-give.ensures.err)
+
+pub returns-then-not-branch-clause-ok : goal.returns-then-not-branch-clause-ok
+returns-then-not-branch-clause-ok g c =
+    let spelled = c.as_slice-2.ensures ∙ c.in_ok-frame.ensures ∙ ap (λ (m : ℕ). event_frame c.args.number m c.args.event.now) c.moment.ensures in
+    turns_gone c.args.budget c.args.app.now.rest c.replace-rest.new.dest c.as_slice-2.result.now (event_frame c.args.number c.args.txn.now.net.now.moment c.args.event.now) c.args.txn.now.net.now (c.replace-rest.ensures.after ∙ c.new.ensures) spelled
+    (rw c.if-not-branch.true at c.in_ok-give.ensures.ok)
+
+pub returns-in_err-end-clause-err : goal.returns-in_err-end-clause-err
+returns-in_err-end-clause-err g c =
+    let p = err_from_is_err_and c.from_residual-in_err-end.result c.from_residual-in_err-end.ensures.1 in
+    err_so _ c.from_residual-in_err-end.result p.0 c.in_err-end.field-0.0 p.1 p.2 (stops_then (leads_told c.args.txn.now.net.now (rw c.if-not-branch.false at c.in_ok-give.ensures.ok)) c.in_err-end.ensures.err)
+
+pub returns-in_err-end-clause-continues : goal.returns-in_err-end-clause-continues
+returns-in_err-end-clause-continues g c =
+    Continues-trans g.W.World.Tells (g.W.World.seen c.args.world.now) (g.W.World.seen c.give.new.world) (g.W.World.seen c.play_all.new.world) c.in_ok-give.ensures.ok.continues (Stops-continues c.in_err-end.ensures.err)
+
+pub returns-in_err-app-clause-err : goal.returns-in_err-app-clause-err
+returns-in_err-app-clause-err g c =
+    let p = err_from_is_err_and c.from_residual-in_err-app.result c.from_residual-in_err-app.ensures.1 in
+    err_so _ c.from_residual-in_err-app.result p.0 NoMemory p.1 p.2
+    (stops_wanting (Leads-trans (leads_told c.args.txn.now.net.now (rw c.if-not-branch.false at c.in_ok-give.ensures.ok)) (leads_turn c.in_ok-end.ensures.ok)) (Wants-refl (g.W.World.seen c.play_all.new.world)))
+
+pub returns-in_err-app-clause-continues : goal.returns-in_err-app-clause-continues
+returns-in_err-app-clause-continues g c =
+    Continues-trans g.W.World.Tells (g.W.World.seen c.args.world.now) (g.W.World.seen c.give.new.world) (g.W.World.seen c.play_all.new.world) c.in_ok-give.ensures.ok.continues
+    (Leads-continues (leads_turn c.in_ok-end.ensures.ok))
+
+pub returns-clause-ok : goal.returns-clause-ok
+returns-clause-ok g c =
+    let spelled = c.as_slice-2.ensures ∙ c.in_ok-frame.ensures ∙ ap (λ (m : ℕ). event_frame c.args.number m c.args.event.now) c.moment.ensures in
+    turns_given _ c.as_slice-2.result.now (event_frame c.args.number c.args.txn.now.net.now.moment c.args.event.now) c.in_ok-intake.intake c.in_ok-app.ensures spelled (c.in_ok-intake.ensures ∙ c.as_slice.ensures ∙ c.replace-rest.ensures.value)
+    (rw c.if-not-branch.false at c.in_ok-give.ensures.ok) c.in_ok-end.ensures.ok
+
+pub returns-clause-continues : goal.returns-clause-continues
+returns-clause-continues g c =
+    Continues-trans g.W.World.Tells (g.W.World.seen c.args.world.now) (g.W.World.seen c.give.new.world) (g.W.World.seen c.play_all.new.world) c.in_ok-give.ensures.ok.continues
+    (Leads-continues (leads_turn c.in_ok-end.ensures.ok))

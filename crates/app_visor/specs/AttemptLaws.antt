@@ -1,0 +1,246 @@
+-- Laws of attempts to start an application.
+use Rattle.std.specs.Prelude.{◌≡◌, ℕ, ◌==◌, Bool, true, false, not, List, [], ◌∷◌, ◌++◌, map, if◌then◌else◌, refl}
+use Rattle.std.proofs.Common.{sym, ap, ◌∙◌, subst, append_assoc}
+use Rattle.std.proofs.lemmas.List.{append-nil, map-append}
+use Rattle.std.proofs.lemmas.Map.Views.{any-filter_same}
+use Rattle.std.proofs.lemmas.Bool.{eq-eqb}
+use Rattle.of_types.specs.declared.journal.Act.{Act}
+use Rattle.of_types.specs.declared.journal.Act.TheVariants.{Started, Gave, Gone, Took}
+use Rattle.of_types.specs.declared.journal.TookWhat.TheVariants as took
+use Rattle.of_types.specs.Fields.{number_bytes}
+use Rattle.app_frames.specs.declared.cause.Tried.TheVariants.{Closed}
+use Rattle.app_frames.specs.declared.frame.AppFrame.TheVariants as frames
+use Rattle.app_frames.specs.Spelling.{framed, host_body_bytes, host_bytes}
+use Rattle.lego_model.specs.Journal.{Start, End, Untold, Closes, Stalls, inputs, start_of, is_event, in_turns, pieces, end_from, any_gone}
+use Rattle.lego_model.specs.Turns.{Next, outcome_of, first_frame, next_of}
+use Rattle.lego_model.specs.Controller.{restore_frame}
+use Rattle.lego_io.specs.CountLaws.{Rose-after}
+use Rattle.outside.specs.declared.step.WorldStep.{WorldStep}
+use Rattle.outside.specs.declared.step.WorldStep.TheVariants.{Acted}
+use Rattle.outside.specs.Seen.{Seen, Continues}
+use Rattle.outside.specs.SeenLaws.{Continues-trans}
+use Rattle.outside.specs.State.{State, state, is_running, after_act, after_step, after_steps}
+use Rattle.outside.specs.StateLaws.{state-append}
+use Rattle.outside.specs.Calls.{Ends, end_steps}
+use Rattle.app_visor.specs.declared.came.Came.{Came}
+use Rattle.app_visor.specs.declared.came.Came.TheVariants as comes
+use Rattle.app_visor.specs.Talks.{Told, step_of}
+use Rattle.app_visor.specs.Reads.{takes, TakesAll, CameSo, Comes}
+use Rattle.app_visor.specs.ReadLaws.{Taken-continues, Comes-continues, next_taken, next_framed, next_faulty, next_over, pieces_takes, end_takes, gone_takes, inputs_takes, turns_takes}
+use Rattle.app_visor.specs.Attempts.{end_acts, TryRises, restored, tried_by, rest_of, stood, Greets}
+
+-- ---- What is read of a start
+
+is_no_event : is_event restore_frame ≡ false
+unfolding host_bytes framed host_body_bytes number_bytes
+is_no_event = refl
+
+same : (n : ℕ) → (n == n) ≡ true
+same n = eq-eqb n n refl
+
+-- acts that tell of no event, nothing given and nobody gone
+record IsQuiet (app : ℕ) (acts : List Act) : Type 0 where
+  turns : (in_turns acts).0 ≡ acts
+  gone : any_gone acts ≡ false
+  given : inputs app acts ≡ []
+  none : pieces acts ≡ []
+
+-- what ends the taking
+abbrev last_acts : Came → ℕ → List Act
+last_acts comes.Closed app = Took app took.Closed ∷ []
+last_acts comes.Silent app = Took app took.Silent ∷ []
+last_acts (comes.Frame frame) app = []
+last_acts (comes.Refused fault) app = []
+
+abbrev end_of : Came → End
+end_of comes.Closed = Closes
+end_of comes.Silent = Stalls
+end_of (comes.Frame frame) = Untold
+end_of (comes.Refused fault) = Untold
+
+abbrev lasts : Came → Bool → ℕ → List Act
+lasts came running app = last_acts came app ++ end_acts running app
+
+quiet_lasts : (came : Came) (running : Bool) (app : ℕ) → IsQuiet app (lasts came running app)
+unfolding inputs
+quiet_lasts comes.Closed true app = record { turns = refl; gone = refl; given = refl; none = refl }
+quiet_lasts comes.Closed false app = record { turns = refl; gone = refl; given = refl; none = refl }
+quiet_lasts comes.Silent true app = record { turns = refl; gone = refl; given = refl; none = refl }
+quiet_lasts comes.Silent false app = record { turns = refl; gone = refl; given = refl; none = refl }
+quiet_lasts (comes.Frame frame) true app = record { turns = refl; gone = refl; given = refl; none = refl }
+quiet_lasts (comes.Frame frame) false app = record { turns = refl; gone = refl; given = refl; none = refl }
+quiet_lasts (comes.Refused fault) true app = record { turns = refl; gone = refl; given = refl; none = refl }
+quiet_lasts (comes.Refused fault) false app = record { turns = refl; gone = refl; given = refl; none = refl }
+
+end_lasts : (came : Came) (running : Bool) (app : ℕ) → end_from Untold (lasts came running app) ≡ end_of came
+end_lasts comes.Closed true app = refl
+end_lasts comes.Closed false app = refl
+end_lasts comes.Silent true app = refl
+end_lasts comes.Silent false app = refl
+end_lasts (comes.Frame frame) true app = refl
+end_lasts (comes.Frame frame) false app = refl
+end_lasts (comes.Refused fault) true app = refl
+end_lasts (comes.Refused fault) false app = refl
+
+-- the acts of a start that was given Restore
+abbrev all_acts : ℕ → List (List ℕ) → List Act → List Act
+all_acts app ps last = Gave app restore_frame ∷ (takes app ps ++ last)
+
+abbrev start_by : List (List ℕ) → End → Start
+start_by ps end = record { stands = true; restored = true; pieces = ps; end = end }
+
+turns_all : (app : ℕ) (ps : List (List ℕ)) (last : List Act) → IsQuiet app last → (in_turns (all_acts app ps last)).0 ≡ all_acts app ps last
+turns_all app ps last quiet =
+    let e : (in_turns (takes app ps ++ last)).0 ≡ takes app ps ++ last = turns_takes app ps last ∙ ap (λ (x : List Act). takes app ps ++ x) quiet.turns in
+    rw is_no_event (ap (λ (x : List Act). Gave app restore_frame ∷ x) e)
+
+abbrev start_in : Bool → List Act → Start
+start_in stands acts = record { stands = stands; restored = if any_gone acts then false else true; pieces = pieces acts; end = end_from Untold acts }
+
+start_greeted : (app : ℕ) (ps : List (List ℕ)) (last : List Act) (end : End) → IsQuiet app last → end_from Untold last ≡ end → start_of (stood (all_acts app ps last)) ≡ start_by ps end
+unfolding start_of
+start_greeted app ps last end quiet ends =
+    let p : pieces (takes app ps ++ last) ≡ ps = pieces_takes app ps last ∙ ap (λ (x : List (List ℕ)). ps ++ x) quiet.none ∙ append-nil ps in
+    let g : any_gone (takes app ps ++ last) ≡ false = gone_takes app ps last ∙ quiet.gone in
+    let n : end_from Untold (takes app ps ++ last) ≡ end = end_takes app ps last ∙ ends in
+    ap (λ (acts : List Act). start_in true acts) (turns_all app ps last quiet) ∙ rw (p, g, n) refl
+
+inputs_greeted : (app : ℕ) (ps : List (List ℕ)) (last : List Act) → IsQuiet app last → inputs app (all_acts app ps last) ≡ restore_frame ∷ []
+unfolding inputs
+inputs_greeted app ps last quiet =
+    let e : inputs app (takes app ps ++ last) ≡ [] = inputs_takes app ps last ∙ quiet.given in
+    rw same (ap (λ (x : List (List ℕ)). restore_frame ∷ x) e)
+
+-- ---- What a telling world's history has of it
+
+abbrev pub Adds : {Own : Type 0} → Type 0 → List Act → Seen Own → Seen Own → Type 0
+Adds Tells acts old new = Tells → new.history ≡ old.history ++ map step_of acts
+
+pub Adds-append : {Own : Type 0} (Tells : Type 0) (xs ys : List Act) (a b c : Seen Own) → Adds Tells xs a b → Adds Tells ys b c → Adds Tells (xs ++ ys) a c
+Adds-append Tells xs ys a b c first second = λ told.
+    second told ∙ ap (λ (h : List WorldStep). h ++ map step_of ys) (first told) ∙ append_assoc a.history (map step_of xs) (map step_of ys)
+    ∙ ap (λ (steps : List WorldStep). a.history ++ steps) (sym (map-append step_of xs ys))
+
+pub Adds-none : {Own : Type 0} (Tells : Type 0) (a b : Seen Own) → b ≡ a → Adds Tells [] a b
+Adds-none Tells a b is = λ told. ap (λ (s : Seen _). s.history) is ∙ sym (append-nil a.history)
+
+Adds-takes : {Own : Type 0} (Tells : Type 0) (app : ℕ) (ps : List (List ℕ)) (rest left : List ℕ) (old new : Seen Own) → TakesAll Tells app ps rest left old new → Adds Tells (takes app ps) old new
+Adds-takes Tells app [] rest left old new all = Adds-none Tells old new all.1
+Adds-takes Tells app (p ∷ ps) rest left old new all =
+    Adds-append Tells (Took app (took.Bytes p) ∷ []) (takes app ps) old all.1.0 new all.1.1.0.history (Adds-takes Tells app ps (rest ++ p) left all.1.0 new all.1.1.1)
+
+Adds-last : {Own : Type 0} (Tells : Type 0) (app : ℕ) (came : Came) (rest left : List ℕ) (old new : Seen Own) → CameSo Tells app came rest left old new → Adds Tells (last_acts came app) old new
+Adds-last Tells app (comes.Frame frame) rest left old new so = Adds-none Tells old new so.1
+Adds-last Tells app (comes.Refused fault) rest left old new so = Adds-none Tells old new so.1
+Adds-last Tells app comes.Closed rest left old new so = so.1.history
+Adds-last Tells app comes.Silent rest left old new so = so.1.history
+
+ended_steps : (app : ℕ) (running : Bool) → end_steps app running ≡ map step_of (end_acts running app)
+unfolding end_steps
+ended_steps app true = refl
+ended_steps app false = refl
+
+pub Adds-ended : {Own : Type 0} (Tells : Type 0) (app : ℕ) (old new : Seen Own) → Ends Tells app old new → Adds Tells (end_acts (is_running app (state old)) app) old new
+Adds-ended Tells app old new ends = λ told. (ends.told told).history ∙ ap (λ (steps : List WorldStep). old.history ++ steps) (ended_steps app (is_running app (state old)))
+
+-- ---- It does not run
+
+stopped : (app : ℕ) (running : Bool) (s : State) → is_running app s ≡ running → is_running app (after_steps (end_steps app running) s) ≡ false
+unfolding end_steps after_step after_act
+stopped app true s is = any-filter_same (λ a. a == app) (λ a. not (a == app)) false (λ k e. rw e refl) s.running
+stopped app false s is = is
+
+pub ends_so : {Own : Type 0} (Tells : Type 0) (app : ℕ) (old new : Seen Own) → Ends Tells app old new → Tells → is_running app (state new) ≡ false
+ends_so Tells app old new ends told =
+    ap (λ (s : State). is_running app s) (state-append old new (end_steps app (is_running app (state old))) ends.given (ends.told told).history) ∙ stopped app (is_running app (state old)) (state old) refl
+
+pub not_started_so : {Own : Type 0} (Tells : Type 0) (app : ℕ) (old new : Seen Own) → Told Tells (Started app false) old new → Tells → is_running app (state old) ≡ false → is_running app (state new) ≡ false
+unfolding after_step after_act
+not_started_so Tells app old new told tells is =
+    ap (λ (s : State). is_running app s) (state-append old new (Acted (Started app false) ∷ []) told.continues.given (told.history tells)) ∙ is
+
+-- ---- A start that stands
+
+abbrev gone_acts : ℕ → Bool → List Act
+gone_acts app running = Gone app restore_frame ∷ end_acts running app
+
+gone_outcome : (app : ℕ) (running : Bool) → outcome_of (start_of (stood (gone_acts app running))) ≡ (Closed, [])
+unfolding start_of outcome_of
+gone_outcome app true = rw is_no_event refl
+gone_outcome app false = rw is_no_event refl
+
+gone_given : (app : ℕ) (running : Bool) → inputs app (gone_acts app running) ≡ restored (start_of (stood (gone_acts app running)))
+unfolding start_of inputs
+gone_given app true = rw is_no_event refl
+gone_given app false = rw is_no_event refl
+
+pub greets_gone : {Own : Type 0} {Tells : Type 0} {app : ℕ} {old new : Seen Own} (frame unread : List ℕ) → frame ≡ restore_frame → Told Tells (Gone app frame) old new → Greets Tells app Closed unread old new
+greets_gone {Tells = Tells} {app = app} {old = old} {new = new} frame unread is told_so =
+    let told : Told Tells (Gone app restore_frame) old new = subst (λ (f : List ℕ). Told Tells (Gone app f) old new) is told_so in
+    record {
+      acts = Gone app restore_frame ∷ [];
+      continues = told.continues;
+      history = told.history;
+      outcome = λ running. gone_outcome app running;
+      given = λ running. gone_given app running;
+      rises = told.rises;
+    }
+
+first_so : {Own : Type 0} (Tells : Type 0) (app : ℕ) (came : Came) (unread left : List ℕ) (old new : Seen Own) → CameSo Tells app came unread left old new
+    → first_frame (end_of came) (next_of unread []) ≡ (tried_by came, rest_of (tried_by came) left)
+first_so Tells app (comes.Frame frames.Ready) unread left old new so = rw (next_framed frames.Ready unread left [] so.0) refl
+first_so Tells app (comes.Frame frames.Save) unread left old new so = rw (next_framed frames.Save unread left [] so.0) refl
+first_so Tells app (comes.Frame frames.Keep) unread left old new so = rw (next_framed frames.Keep unread left [] so.0) refl
+first_so Tells app (comes.Frame frames.Undo) unread left old new so = rw (next_framed frames.Undo unread left [] so.0) refl
+first_so Tells app (comes.Frame (frames.Message dpid bytes)) unread left old new so = rw (next_framed (frames.Message dpid bytes) unread left [] so.0) refl
+first_so Tells app (comes.Frame (frames.Done stop checkpoint)) unread left old new so = rw (next_framed (frames.Done stop checkpoint) unread left [] so.0) refl
+first_so Tells app (comes.Refused fault) unread left old new so = rw (next_faulty fault unread [] so.0) refl
+first_so Tells app comes.Closed unread left old new so = rw (next_over unread so.0) refl
+first_so Tells app comes.Silent unread left old new so = rw (next_over unread so.0) refl
+
+came_rises : {Own : Type 0} (Tells : Type 0) (app : ℕ) (came : Came) (unread left : List ℕ) (first old new : Seen Own) → Continues Tells first old → CameSo Tells app came unread left old new
+    → TryRises (tried_by came) first.counts new.counts
+came_rises Tells app (comes.Frame frames.Ready) unread left first old new c so = tt
+came_rises Tells app (comes.Frame frames.Save) unread left first old new c so = tt
+came_rises Tells app (comes.Frame frames.Keep) unread left first old new c so = tt
+came_rises Tells app (comes.Frame frames.Undo) unread left first old new c so = tt
+came_rises Tells app (comes.Frame (frames.Message dpid bytes)) unread left first old new c so = tt
+came_rises Tells app (comes.Frame (frames.Done stop checkpoint)) unread left first old new c so = tt
+came_rises Tells app (comes.Refused fault) unread left first old new c so = tt
+came_rises Tells app comes.Closed unread left first old new c so = Rose-after first.counts.closings old.counts.closings new.counts.closings c.none_fell.closings so.1.rises
+came_rises Tells app comes.Silent unread left first old new c so = Rose-after first.counts.silences old.counts.silences new.counts.silences c.none_fell.silences so.1.rises
+
+outcome_by : (ps : List (List ℕ)) (end : End) → outcome_of (start_by ps end) ≡ first_frame end (next_of [] ps)
+unfolding outcome_of
+outcome_by ps end = refl
+
+-- behind all acts of the start it may be ended
+then_ended : (app : ℕ) (ps : List (List ℕ)) (came : Came) (running : Bool) → all_acts app ps (last_acts came app) ++ end_acts running app ≡ all_acts app ps (lasts came running app)
+then_ended app ps came running = ap (λ (x : List Act). Gave app restore_frame ∷ x) (append_assoc (takes app ps) (last_acts came app) (end_acts running app))
+
+start_came : (app : ℕ) (ps : List (List ℕ)) (came : Came) (running : Bool) → start_of (stood (all_acts app ps (last_acts came app) ++ end_acts running app)) ≡ start_by ps (end_of came)
+start_came app ps came running =
+    ap (λ (acts : List Act). start_of (stood acts)) (then_ended app ps came running)
+    ∙ start_greeted app ps (lasts came running app) (end_of came) (quiet_lasts came running app) (end_lasts came running app)
+
+pub greets_came : {Own : Type 0} {Tells : Type 0} {app : ℕ} {rest left : List ℕ} {old mid new : Seen Own} (frame : List ℕ) (came : Came) → frame ≡ restore_frame → rest ≡ [] → Told Tells (Gave app frame) old mid
+    → Comes Tells app rest left mid new came → Greets Tells app (tried_by came) left old new
+greets_came {Tells = Tells} {app = app} {rest = rest} {left = left} {old = old} {mid = mid} {new = new} frame came is none told_so comes =
+    let told : Told Tells (Gave app restore_frame) old mid = subst (λ (f : List ℕ). Told Tells (Gave app f) old mid) is told_so in
+    let ps = comes.taken.pieces in
+    let then_seen = comes.then_seen in
+    let taken = Taken-continues comes.taken in
+    let next : next_of [] ps ≡ next_of comes.unread [] =
+    ap (λ (r : List ℕ). next_of r ps) (sym none) ∙ ap (λ (x : List (List ℕ)). next_of rest x) (sym (append-nil ps)) ∙ next_taken [] comes.taken in
+    record {
+      acts = all_acts app ps (last_acts came app);
+      continues = Continues-trans Tells old mid new told.continues (Comes-continues comes);
+      history = Adds-append Tells (Gave app restore_frame ∷ []) (takes app ps ++ last_acts came app) old mid new told.history
+          (Adds-append Tells (takes app ps) (last_acts came app) mid then_seen new (Adds-takes Tells app ps rest comes.unread mid then_seen comes.taken.all)
+          (Adds-last Tells app came comes.unread left then_seen new comes.so));
+      outcome = λ running. ap (λ (s : Start). outcome_of s) (start_came app ps came running) ∙ outcome_by ps (end_of came) ∙ ap (λ (n : Next). first_frame (end_of came) n) next
+          ∙ first_so Tells app came comes.unread left then_seen new comes.so;
+      given = λ running. ap (λ (acts : List Act). inputs app acts) (then_ended app ps came running) ∙ inputs_greeted app ps (lasts came running app) (quiet_lasts came running app)
+          ∙ ap (λ (s : Start). restored s) (sym (start_came app ps came running));
+      rises = came_rises Tells app came comes.unread left old then_seen new (Continues-trans Tells old mid then_seen told.continues taken) comes.so;
+    }

@@ -1,0 +1,14 @@
+pub mod ResultLaws
+pub mod Talks
+pub mod Reads
+pub mod TalkLaws
+pub mod ReadLaws
+pub mod Beats
+pub mod BeatLaws
+pub mod Turns
+pub mod TurnLaws
+pub mod PlayLaws
+pub mod AnswerLaws
+pub mod Attempts
+pub mod AttemptLaws
+pub mod TryLaws

@@ -1,0 +1,139 @@
+-- A turn: the event is given, and each frame of the application is played in order, with the messages answered as the network answered
+-- them, until it is done or fails. All of this is our own choice.
+use Rattle.std.specs.Prelude.{◌≡◌, ◌==◌, ℕ, suc, Bool, true, false, ◌&&◌, List, [], ◌∷◌, map, Option, Some, None, if◌then◌else◌}
+use Rattle.of_types.specs.declared.journal.Act.{Act}
+use Rattle.flow_table.specs.declared.view.TableView.{TableView}
+use Rattle.app_frames.specs.declared.frame.AppFrame.{AppFrame}
+use Rattle.app_frames.specs.declared.frame.Answer.{Answer}
+use Rattle.app_frames.specs.declared.frame.Answer.TheVariants.{Unknown}
+use Rattle.app_frames.specs.declared.cause.Cause.{Cause}
+use Rattle.app_frames.specs.declared.cause.Cause.TheVariants as causes
+use Rattle.lego_model.specs.Journal.{Untold, Reply, reply_of, pieces, end_from, answers_given, inputs}
+use Rattle.lego_model.specs.Turns.{Outcome, Completed, Failed, Played, Table, next_of, turn_from, turn_of}
+use Rattle.lego_model.specs.Controller.{answer_frame, given_in}
+use Rattle.outside.specs.Seen.{Seen}
+use Rattle.net_txn.specs.Net.{NetState}
+use Rattle.app_visor.specs.declared.came.Came.{Came}
+use Rattle.app_visor.specs.declared.came.Came.TheVariants as comes
+use Rattle.app_visor.specs.declared.state.TurnEnd.{TurnEnd}
+use Rattle.app_visor.specs.declared.state.TurnEnd.TheVariants as ends
+use Rattle.app_visor.specs.Talks.{give_act}
+use Rattle.app_visor.specs.Reads.{IsNext}
+use Rattle.app_visor.specs.Beats.{Exchange, Beat, Talk, Chain, acts_in, exchanges_in}
+
+-- ---- The oracle: messages are answered as they were
+
+abbrev pub same_bytes : List ℕ → List ℕ → Bool
+same_bytes [] [] = true
+same_bytes [] (y ∷ ys) = false
+same_bytes (x ∷ xs) [] = false
+same_bytes (x ∷ xs) (y ∷ ys) = x == y && same_bytes xs ys
+
+-- The answer of the next exchange, where that is of this message, and the exchanges behind it; else there is none from then on.
+abbrev pub next_asked : {Own : Type 0} → ℕ → List ℕ → Option (List (Exchange Own)) → Answer × Option (List (Exchange Own))
+next_asked dpid bytes None = (Unknown, None)
+next_asked dpid bytes (Some []) = (Unknown, None)
+next_asked dpid bytes (Some (x ∷ xs)) = if x.dpid == dpid && same_bytes x.bytes bytes then (x.answer, Some xs) else (Unknown, None)
+
+abbrev pub Asking : Type 0 → Type 0
+Asking Own = Option (List (Exchange Own))
+
+unfoldable pub oracle : {Own : Type 0} → Bool → Table (Asking Own)
+oracle judged = record { answer = λ state dpid bytes. next_asked dpid bytes state; allows = λ state. judged }
+
+-- exactly these messages were asked, in this order
+abbrev pub played_so : {Own : Type 0} → List Answer → Outcome → Played (Asking Own)
+played_so answers outcome = record { state = Some []; answers = answers; outcome = outcome }
+
+-- ---- How a turn ends
+
+-- what the turn answers, with the bytes that are unread behind its last frame
+abbrev pub IsEnd : TurnEnd → List ℕ → Outcome → Type 0
+IsEnd (ends.Done stop) unread (Completed stops checkpoint rest) = (stop ≡ stops) × (unread ≡ rest)
+IsEnd (ends.Done stop) unread (Failed cause) = ⊥
+IsEnd (ends.Failed why) unread (Completed stops checkpoint rest) = ⊥
+IsEnd (ends.Failed why) unread (Failed cause) = why ≡ cause
+
+-- nothing stays unread where it failed
+abbrev pub LeavesNone : TurnEnd → List ℕ → Type 0
+LeavesNone (ends.Done stop) unread = Unit {0}
+LeavesNone (ends.Failed cause) unread = unread ≡ []
+
+-- ---- The rest of a turn
+
+-- what is played of acts and exchanges, with so many frames left and these bytes unread
+abbrev pub played_by : {Own : Type 0} → Bool → ℕ → List ℕ → List Act → List (Exchange Own) → Played (Asking Own)
+played_by judged left rest acts exchanges =
+    turn_from (oracle judged) left (answers_given acts) (end_from Untold acts) (Some exchanges) (next_of rest (pieces acts))
+
+-- The rest of a turn, behind its event: so many frames may still be taken, and these bytes are unread.
+pub record TurnsFrom {Own : Type 0} (Tells : Type 0) (accepts : List TableView → Bool) (app left : ℕ) (rest : List ℕ) (old new : Seen Own) (net now_net : NetState) (end : TurnEnd) (unread : List ℕ) : Type 0 where
+  pub trace : List (Beat Own)
+  pub chain : Chain Tells app trace old new net now_net
+  pub answers : List Answer
+  pub outcome : Outcome
+  pub played : played_by (accepts now_net.views) left rest (acts_in trace) (exchanges_in trace) ≡ played_so answers outcome
+  pub ends : IsEnd end unread outcome
+  pub given : inputs app (acts_in trace) ≡ map answer_frame answers
+
+-- ---- The whole turn
+
+abbrev pub reply_by : {Own : Type 0} → Bool → List (Beat Own) → Reply
+reply_by given trace = reply_of (record { given = given; acts = acts_in trace })
+
+-- The event is given, or cannot be; the rest of the turn is what its frames, their end and the answers that could be given say, with the
+-- messages answered as they were; and what the application was given is the event and these answers.
+pub record Turns {Own : Type 0} (Tells : Type 0) (accepts : List TableView → Bool) (app budget : ℕ) (rest frame : List ℕ) (old new : Seen Own) (net now_net : NetState) (end : TurnEnd) (unread : List ℕ) : Type 0 where
+  pub given : Bool
+  -- the beats behind the event
+  pub trace : List (Beat Own)
+  pub chain : Chain Tells app (Talk (give_act given app frame) ∷ trace) old new net now_net
+  pub answers : List Answer
+  pub outcome : Outcome
+  pub played : turn_of (oracle (accepts now_net.views)) budget rest (reply_by given trace) (Some (exchanges_in trace)) ≡ played_so answers outcome
+  pub ends : IsEnd end unread outcome
+  pub leaves : LeavesNone end unread
+  pub inputs_so : inputs app (acts_in (Talk (give_act given app frame) ∷ trace)) ≡ given_in given frame answers
+
+-- ---- One frame
+
+-- why a turn fails where no frame comes
+abbrev pub cause_of : Came → Cause
+cause_of (comes.Frame frame) = causes.Budget
+cause_of (comes.Refused fault) = causes.Garbled fault
+cause_of comes.Closed = causes.Closed
+cause_of comes.Silent = causes.Silent
+
+-- A frame was played, and the turn goes on from there: whatever its rest is, with one frame more it is the rest from before.
+pub record Goes {Own : Type 0} (Tells : Type 0) (accepts : List TableView → Bool) (app : ℕ) (rest here : List ℕ) (old then_seen : Seen Own) (net then_net : NetState) : Type 0 where
+  pub on : (left : ℕ) (new : Seen Own) (now_net : NetState) (end : TurnEnd) (unread : List ℕ) → TurnsFrom Tells accepts app left here then_seen new then_net now_net end unread
+      → TurnsFrom Tells accepts app (suc left) rest old new net now_net end unread
+
+-- A frame was played, and the turn ended with it.
+pub record EndsSo {Own : Type 0} (Tells : Type 0) (accepts : List TableView → Bool) (app : ℕ) (rest unread : List ℕ) (old new : Seen Own) (net now_net : NetState) (end : TurnEnd) : Type 0 where
+  pub is : (left : ℕ) → TurnsFrom Tells accepts app (suc left) rest old new net now_net end unread
+
+abbrev pub FramePlayed : {Own : Type 0} → Type 0 → (List TableView → Bool) → ℕ → Option TurnEnd → List ℕ → List ℕ → Seen Own → Seen Own → NetState → NetState → Type 0
+FramePlayed Tells accepts app None rest here old new net now_net = Goes Tells accepts app rest here old new net now_net
+FramePlayed Tells accepts app (Some end) rest here old new net now_net = EndsSo Tells accepts app rest here old new net now_net end
+
+-- the same of a frame, wherever it stood
+pub record Plays {Own : Type 0} (Tells : Type 0) (accepts : List TableView → Bool) (app : ℕ) (frame : AppFrame) (old new : Seen Own) (net now_net : NetState) (result : Option TurnEnd) : Type 0 where
+  pub so : (rest here : List ℕ) → IsNext frame rest here → FramePlayed Tells accepts app result rest here old new net now_net
+
+-- ---- The loop over frames
+
+-- the rest of the turn from here on makes the rest of the turn from its event on
+pub record GoesOn {Own : Type 0} (Tells : Type 0) (accepts : List TableView → Bool) (app budget : ℕ) (rest : List ℕ) (old : Seen Own) (net : NetState) (left : ℕ) (here : List ℕ) (then_seen : Seen Own) (then_net : NetState) : Type 0 where
+  pub on : (new : Seen Own) (now_net : NetState) (end : TurnEnd) (unread : List ℕ) → TurnsFrom Tells accepts app left here then_seen new then_net now_net end unread
+      → TurnsFrom Tells accepts app budget rest old new net now_net end unread
+
+-- how it ends where the application is done, by the judge's word
+abbrev pub done_as : Bool → Bool → TurnEnd
+done_as true stop = ends.Done stop
+done_as false stop = ends.Failed causes.Judged
+
+-- what stays unread then: nothing where it failed
+abbrev pub unread_after : TurnEnd → List ℕ → List ℕ
+unread_after (ends.Done stop) unread = unread
+unread_after (ends.Failed cause) unread = []

@@ -1,0 +1,15 @@
+//! The turns and the starts of applications: each frame that one gives is played in order, and how a turn or a start ends is
+//! exactly what its bytes, their end and the answers that it was given say.
+#![tactic(auto)]
+
+mod asking;
+mod came;
+mod intake;
+mod starting;
+mod state;
+mod talk;
+mod turning;
+
+pub use starting::restart;
+pub use state::{AppState, Back, TurnEnd};
+pub use turning::turn;

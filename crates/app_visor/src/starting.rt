@@ -1,0 +1,173 @@
+//! Starts of an application that failed or was not started yet.
+
+ghost use Rattle.std.specs.Prelude.{◌≡◌, false, [], Some, None, if◌then◌else◌, OnErr, IfOk};
+ghost use Rattle.lego_model.specs.Controller.{restore_frame, is_ready as ready};
+ghost use Rattle.outside.specs.Seen.{Continues};
+ghost use Rattle.of_types.specs.declared.journal.Act.TheVariants.{Started};
+ghost use Rattle.app_visor.specs.Talks.{Told};
+ghost use Rattle.app_visor.specs.Attempts.{tried_by, rest_of, Greets, EndsUnless, Tries, Restarts};
+
+use crate::came::Came;
+use crate::intake::Intake;
+use crate::state::{AppState, Back};
+use crate::talk::{give, next_frame};
+use app_frames::{AppFrame, HostFrame, Tried, encode_host};
+use of_types::ByteList;
+use outside::{StartFault, World};
+use std::alloc::{AllocError, Global};
+
+/// How many attempts there are at most.
+const ATTEMPTS: u32 = 3;
+
+/// The application has started.
+fn is_ready(tried: Tried) -> bool
+    ensures { result ≡ ready tried }
+{
+    match tried {
+        Tried::Ready => true,
+        _ => false,
+    }
+}
+
+/// How a start ends by what comes first.
+fn judge(came: Came) -> Tried
+    ensures { result ≡ tried_by came }
+{
+    match came {
+        Came::Frame(AppFrame::Ready) => Tried::Ready,
+        Came::Frame(_) | Came::Refused(_) => Tried::Garbled,
+        Came::Closed => Tried::Closed,
+        Came::Silent => Tried::Silent,
+    }
+}
+
+/// Starts the application, and answers whether it stands.
+fn start<W: World>(world: &mut W, app: u32, words: &[String]) -> Result<bool, AllocError>
+    ensures ok { IfOk result (λ stands. Told W.Tells (Started app stands) (W.seen world.old) (W.seen world.new)) }
+    ensures continues { Continues W.Tells (W.seen world.old) (W.seen world.new) }
+{
+    match world.start(app, words) {
+        Ok(()) => Ok(true),
+        Err(StartFault::NotStarted) => Ok(false),
+        Err(StartFault::Short) => Err(AllocError),
+    }
+}
+
+/// Ends the application where its start did not end by its being ready.
+fn end_unless_ready<W: World>(world: &mut W, app: u32, tried: Tried)
+    ensures { EndsUnless W.Tells app (ready tried) (W.seen world.old) (W.seen world.new) }
+{
+    if !is_ready(tried) {
+        world.end(app);
+    }
+}
+
+/// Gives the application that was started no checkpoint, and awaits its first frame.
+fn greet<W: World>(
+    alloc: Global,
+    world: &mut W,
+    app: u32,
+    frame: &[u8],
+    intake: &mut Intake,
+) -> Result<Tried, AllocError>
+    requires frame { frame.now ≡ restore_frame }
+    requires intake { intake.old ≡ [] }
+    ensures ok { IfOk result (λ tried. Greets W.Tells app tried intake.new (W.seen world.old) (W.seen world.new)) }
+    ensures continues { Continues W.Tells (W.seen world.old) (W.seen world.new) }
+{
+    if !give(world, app, frame)? {
+        return Ok(Tried::Closed);
+    }
+    Ok(judge(next_frame(alloc, world, app, intake)?))
+}
+
+/// What is unread behind the frame Ready, and nothing where there is none.
+fn rest_by(alloc: Global, tried: Tried, intake: &Intake) -> Result<ByteList, AllocError>
+    ensures { IfOk result (λ rest. rest ≡ rest_of tried intake.now) }
+{
+    if is_ready(tried) {
+        intake.rest(alloc)
+    } else {
+        Ok(ByteList::new(alloc))
+    }
+}
+
+/// One attempt to start an application; it ends it where it runs, and where it is not ready. It answers how that ended,
+/// and the bytes behind the frame Ready.
+fn attempt<W: World>(
+    alloc: Global,
+    world: &mut W,
+    app: u32,
+    words: &[String],
+    frame: &[u8],
+) -> Result<(Tried, ByteList), AllocError>
+    requires { frame.now ≡ restore_frame }
+    ensures ok { IfOk result (λ r. Tries W.Tells app r.0 r.1 (W.seen world.old) (W.seen world.new)) }
+    ensures continues { Continues W.Tells (W.seen world.old) (W.seen world.new) }
+{
+    let mut intake = Intake::new(alloc, &[])?;
+    world.end(app);
+    if !start(world, app, words)? {
+        return Ok((Tried::Refused, ByteList::new(alloc)));
+    }
+    let tried = greet(alloc, world, app, frame, &mut intake)?;
+    let rest = rest_by(alloc, tried, &intake)?;
+    end_unless_ready(world, app, tried);
+    Ok((tried, rest))
+}
+
+/// Attempts to start the application until it is ready, and appends how each attempt ended; answers what is unread behind
+/// the frame Ready.
+fn try_all<W: World>(
+    alloc: Global,
+    world: &mut W,
+    app: u32,
+    words: &[String],
+    frame: &[u8],
+    tries: &mut Vec<Tried>,
+) -> Result<Option<ByteList>, AllocError>
+    requires frame { frame.now ≡ restore_frame }
+    requires none { tries.old.items ≡ [] }
+    ensures ok { IfOk result (λ found. Restarts W.Tells app (W.seen world.old) (W.seen world.new) found tries.new.items) }
+    ensures continues { Continues W.Tells (W.seen world.old) (W.seen world.new) }
+{
+    for _attempt in 0..ATTEMPTS {
+        let (tried, rest) = attempt(alloc, world, app, words, frame)?;
+        tries.push(tried)?;
+        if is_ready(tried) {
+            return Ok(Some(rest));
+        }
+    }
+    Ok(None)
+}
+
+/// Starts the application, which has failed or was not started yet: at most three attempts, until one is ready.
+pub fn restart<W: World>(
+    alloc: Global,
+    world: &mut W,
+    app: &mut AppState,
+    words: &[String],
+) -> Result<Back, AllocError>
+    // How each attempt ended is what its acts say, and the application of the reference comes to the same.
+    ensures ok { IfOk result (λ r. Restarts W.Tells app.old.index (W.seen world.old) (W.seen world.new)
+        (if r.back then Some app.new.rest else None) r.tries.items) }
+    ensures alive { IfOk result (λ r. app.new.alive ≡ r.back) }
+    // Nothing is unread where it is not back.
+    ensures rest { IfOk result (λ r. r.back ≡ false → app.new.rest ≡ []) }
+    ensures index { app.new.index ≡ app.old.index }
+    ensures err { OnErr result (app.new ≡ app.old) }
+    ensures continues { Continues W.Tells (W.seen world.old) (W.seen world.new) }
+{
+    let frame = encode_host(alloc, &HostFrame::Restore(ByteList::new(alloc)))?;
+    let mut tries = Vec::new(alloc);
+    let found = try_all(alloc, world, app.index, words, frame.as_slice(), &mut tries)?;
+    app.alive = found.is_some();
+    app.rest = match found {
+        Some(rest) => rest,
+        None => ByteList::new(alloc),
+    };
+    Ok(Back {
+        back: app.alive,
+        tries,
+    })
+}

@@ -1,0 +1,184 @@
+//! The turn of an application at an event.
+
+ghost use Rattle.std.specs.Prelude.{◌≡◌, [], IfOk, IfErr, OnOk, OnErr};
+ghost use Rattle.app_frames.specs.declared.frame.HostFrame.TheVariants as host;
+ghost use Rattle.app_frames.specs.Frames.{HostFits};
+ghost use Rattle.lego_model.specs.Controller.{event_frame};
+ghost use Rattle.app_visor.specs.Beats.{Stops, Leads};
+ghost use Rattle.app_frames.specs.declared.frame.AppFrame.TheVariants as frames;
+ghost use Rattle.outside.specs.Seen.{Continues};
+ghost use Rattle.app_visor.specs.Turns.{TurnsFrom, Turns, FramePlayed, Plays, done_as, cause_of, unread_after};
+
+use crate::asking::{encode_event, exchange};
+use crate::came::Came;
+use crate::intake::Intake;
+use crate::state::{AppState, TurnEnd};
+use crate::talk::{give, next_frame};
+use app_frames::{AppFrame, Cause, Event};
+use flow_table::Judge;
+use net_txn::{Txn, TxnFault};
+use of_types::ByteList;
+use outside::World;
+use std::alloc::{AllocError, Global};
+use std::mem::replace;
+
+/// How the turn ends where the application is done: the judge is asked about the tables.
+fn finish<J: Judge>(txn: &Txn<'_>, judge: &J, stop: bool) -> TurnEnd
+    ensures { result ≡ done_as (J.accepts judge.now txn.now.net.now.views) stop }
+{
+    if judge.allows(txn.views()) {
+        TurnEnd::Done { stop }
+    } else {
+        TurnEnd::Failed(Cause::Judged)
+    }
+}
+
+/// Why a turn fails where no frame comes, or one too many.
+fn judge_came(came: Came) -> Cause
+    ensures { result ≡ cause_of came }
+{
+    match came {
+        Came::Frame(_) => Cause::Budget,
+        Came::Refused(fault) => Cause::Garbled(fault),
+        Came::Closed => Cause::Closed,
+        Came::Silent => Cause::Silent,
+    }
+}
+
+/// Has a message answered; the turn ends where the answer cannot be given.
+fn answer<W: World, J: Judge>(
+    alloc: Global,
+    world: &mut W,
+    txn: &mut Txn<'_>,
+    judge: &J,
+    app: u32,
+    dpid: u64,
+    bytes: ByteList,
+) -> Result<Option<TurnEnd>, TxnFault>
+    ensures same_reference { txn.new.net.ghost_name ≡ txn.old.net.ghost_name }
+    ensures start { txn.new.start ≡ txn.old.start }
+    ensures leads { OnOk result (Leads W.Tells app (W.seen world.old) (W.seen world.new) txn.old.net.now txn.new.net.now) }
+    ensures ok { IfOk result (Plays W.Tells (J.accepts judge.now) app (frames.Message dpid bytes) (W.seen world.old) (W.seen world.new) txn.old.net.now txn.new.net.now) }
+    ensures err { IfErr result (λ fault. Stops W.Tells app (W.seen world.old) (W.seen world.new) txn.old.net.now txn.new.net.now fault) }
+{
+    if exchange(alloc, world, txn, app, dpid, bytes.as_slice())? {
+        Ok(None)
+    } else {
+        Ok(Some(TurnEnd::Failed(Cause::Closed)))
+    }
+}
+
+/// Plays one frame, and answers how the turn ends with it, where it does.
+fn play<W: World, J: Judge>(
+    alloc: Global,
+    world: &mut W,
+    txn: &mut Txn<'_>,
+    judge: &J,
+    app: u32,
+    frame: AppFrame,
+) -> Result<Option<TurnEnd>, TxnFault>
+    ensures same_reference { txn.new.net.ghost_name ≡ txn.old.net.ghost_name }
+    ensures start { txn.new.start ≡ txn.old.start }
+    ensures leads { OnOk result (Leads W.Tells app (W.seen world.old) (W.seen world.new) txn.old.net.now txn.new.net.now) }
+    ensures ok { IfOk result (Plays W.Tells (J.accepts judge.now) app frame (W.seen world.old) (W.seen world.new) txn.old.net.now txn.new.net.now) }
+    ensures err { IfErr result (λ fault. Stops W.Tells app (W.seen world.old) (W.seen world.new) txn.old.net.now txn.new.net.now fault) }
+{
+    match frame {
+        AppFrame::Message(dpid, bytes) => answer(alloc, world, txn, judge, app, dpid, bytes),
+        AppFrame::Done { stop, .. } => Ok(Some(finish(txn, judge, stop))),
+        AppFrame::Save | AppFrame::Keep | AppFrame::Undo | AppFrame::Ready => Ok(Some(
+            TurnEnd::Failed(Cause::Unbalanced),
+        )),
+    }
+}
+
+/// Takes the next frame and plays it, and answers how the turn ends with it, where it does.
+fn play_next<W: World, J: Judge>(
+    alloc: Global,
+    world: &mut W,
+    txn: &mut Txn<'_>,
+    judge: &J,
+    app: u32,
+    intake: &mut Intake,
+) -> Result<Option<TurnEnd>, TxnFault>
+    ensures same_reference { txn.new.net.ghost_name ≡ txn.old.net.ghost_name }
+    ensures start { txn.new.start ≡ txn.old.start }
+    ensures leads { OnOk result (Leads W.Tells app (W.seen world.old) (W.seen world.new) txn.old.net.now txn.new.net.now) }
+    ensures ok { IfOk result (λ end. FramePlayed W.Tells (J.accepts judge.now) app end intake.old intake.new (W.seen world.old) (W.seen world.new) txn.old.net.now txn.new.net.now) }
+    ensures err { IfErr result (λ fault. Stops W.Tells app (W.seen world.old) (W.seen world.new) txn.old.net.now txn.new.net.now fault) }
+{
+    match next_frame(alloc, world, app, intake)? {
+        Came::Frame(frame) => play(alloc, world, txn, judge, app, frame),
+        came => Ok(Some(TurnEnd::Failed(judge_came(came)))),
+    }
+}
+
+/// Plays frames until the turn ends, at most so many.
+fn play_all<W: World, J: Judge>(
+    alloc: Global,
+    world: &mut W,
+    txn: &mut Txn<'_>,
+    judge: &J,
+    app: u32,
+    intake: &mut Intake,
+    budget: u32,
+) -> Result<TurnEnd, TxnFault>
+    ensures same_reference { txn.new.net.ghost_name ≡ txn.old.net.ghost_name }
+    ensures start { txn.new.start ≡ txn.old.start }
+    ensures ok { IfOk result (λ end. TurnsFrom W.Tells (J.accepts judge.now) app budget intake.old (W.seen world.old) (W.seen world.new) txn.old.net.now txn.new.net.now end intake.new) }
+    ensures err { IfErr result (λ fault. Stops W.Tells app (W.seen world.old) (W.seen world.new) txn.old.net.now txn.new.net.now fault) }
+{
+    for _played in 0..budget {
+        if let Some(end) = play_next(alloc, world, txn, judge, app, intake)? {
+            return Ok(end);
+        }
+    }
+    Ok(TurnEnd::Failed(judge_came(next_frame(alloc, world, app, intake)?)))
+}
+
+/// What stays unread: nothing where the turn failed.
+fn rest_after(alloc: Global, end: &TurnEnd, intake: &Intake) -> Result<ByteList, AllocError>
+    ensures { IfOk result (λ rest. rest ≡ unread_after end.now intake.now) }
+{
+    match end {
+        TurnEnd::Done { .. } => intake.rest(alloc),
+        TurnEnd::Failed(_) => Ok(ByteList::new(alloc)),
+    }
+}
+
+/// The turn of an application at an event: it is given the event, and its frames are played in order, at most `budget` of
+/// them before the one that it is done. Each message is answered by the transaction, which is neither committed nor
+/// undone here.
+pub fn turn<W: World, J: Judge>(
+    alloc: Global,
+    world: &mut W,
+    txn: &mut Txn<'_>,
+    judge: &J,
+    app: &mut AppState,
+    number: u64,
+    event: &Event,
+    budget: u32,
+) -> Result<TurnEnd, TxnFault>
+    requires { HostFits (host.Event number txn.old.net.now.moment event.now) }
+    ensures same_reference { txn.new.net.ghost_name ≡ txn.old.net.ghost_name }
+    ensures start { txn.new.start ≡ txn.old.start }
+    ensures index { app.new.index ≡ app.old.index }
+    ensures alive { app.new.alive ≡ app.old.alive }
+    // How it ended is what the event, the frames of the application, their end and the answers say.
+    ensures ok { IfOk result (λ end. Turns W.Tells (J.accepts judge.now) app.old.index budget app.old.rest (event_frame number txn.old.net.now.moment event.now)
+        (W.seen world.old) (W.seen world.new) txn.old.net.now txn.new.net.now end app.new.rest) }
+    // Memory was wanting, or the network failed at a message; nothing is unread then.
+    ensures err_rest { OnErr result (app.new.rest ≡ []) }
+    ensures err { IfErr result (λ fault. Stops W.Tells app.old.index (W.seen world.old) (W.seen world.new) txn.old.net.now txn.new.net.now fault) }
+    ensures continues { Continues W.Tells (W.seen world.old) (W.seen world.new) }
+{
+    let rest = replace(&mut app.rest, ByteList::new(alloc));
+    let frame = encode_event(alloc, number, txn.moment(), event)?;
+    let mut intake = Intake::new(alloc, rest.as_slice())?;
+    if !give(world, app.index, frame.as_slice())? {
+        return Ok(TurnEnd::Failed(Cause::Closed));
+    }
+    let end = play_all(alloc, world, txn, judge, app.index, &mut intake, budget)?;
+    app.rest = rest_after(alloc, &end, &intake)?;
+    Ok(end)
+}
