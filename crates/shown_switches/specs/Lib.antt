@@ -10,10 +10,6 @@ pub mod AbsentLaws
 pub mod Since
 pub mod SinceLaws
 pub mod UndoShown
-pub mod Talks
-pub mod Beats
-pub mod Turns
-pub mod TurnShown
-pub mod ChainShown
 pub mod Sound
 pub mod SoundLaws
+pub mod SoundSteps

@@ -97,12 +97,18 @@ unviewed d views s agrees out = unviewed-rows d views (no_map (rows_at d views) 
 
 module _ {Own : Type 0} (Tells : Type 0) (start : ℕ) (first old new : Seen Own) (net0 net now_net : NetState) where
   -- how a switch stands again
-  again : Tells → Conforming new → Since start first old net0 net → Ready old net → Undoes Tells start old new net now_net (Ok tt) → (d : ℕ) (s0 : SwitchState) → switch_of d (state first) ≡ Some s0 → (j : JoinedSince (keys_of d (logged_since start net)) s0 (switch_of d (state old)))
+  pub again : Tells → Conforming new → Since start first old net0 net → Ready old net → Undoes Tells start old new net now_net (Ok tt) → (d : ℕ) (s0 : SwitchState) → switch_of d (state first) ≡ Some s0 → (j : JoinedSince (keys_of d (logged_since start net)) s0 (switch_of d (state old)))
       → switch_of d (state new) ≡ Some (record s0 { table = undone s0.table j.switch.table j.switch.moment })
   again told keeps since ready undoes d s0 is j =
       let stands = undoes.restored d j.switch s0.table told keeps (viewed d net.views (state old) j.switch (ready.agrees d) j.is) (undoes.none_failed refl d) j.is (ready.waits d)
       (table-serialed first d s0 is).table (table-serialed old d j.switch j.is) j.since.added in
       stands.switch ∙ ap (λ (x : SwitchState). Some (record x { table = undone s0.table j.switch.table j.switch.moment })) j.since.rest
+
+  -- a switch that was out stays out
+  pub out-again : Tells → Since start first old net0 net → Ready old net → Undoes Tells start old new net now_net (Ok tt) → (d : ℕ) → switch_of d (state first) ≡ None → switch_of d (state new) ≡ None
+  out-again told since ready undoes d is =
+      let out : switch_of d (state old) ≡ None = since.out d is in
+      (undoes.others d told (unviewed d net.views (state old) (ready.agrees d) out)).0 ∙ out
 
   -- which views stand again
   views-again : Since start first old net0 net → Undoes Tells start old new net now_net (Ok tt) → now_net.views ≡ net0.views
@@ -112,8 +118,7 @@ module _ {Own : Type 0} (Tells : Type 0) (start : ℕ) (first old new : Seen Own
       → switch_undone (shown_switch net0.views (state first) d) (shown_switch net.views (state old) d) ≡ shown_switch now_net.views (state new) d
   shown-again told keeps since ready undoes d None is =
       let out : switch_of d (state old) ≡ None = since.out d is in
-      let not_viewed = unviewed d net.views (state old) (ready.agrees d) out in
-      let still : switch_of d (state new) ≡ None = (undoes.others d told not_viewed).0 ∙ out in
+      let still : switch_of d (state new) ≡ None = out-again told since ready undoes d is in
       ap₂ (λ (a b : Option SwitchState). switch_undone (option_map (owned_switch (flags_at d net0.views)) a) (option_map (owned_switch (flags_at d net.views)) b)) is out
       ∙ sym (ap (option_map (owned_switch (flags_at d now_net.views))) still)
   shown-again told keeps since ready undoes d (Some s0) is =

@@ -9,8 +9,8 @@ use Rattle.app_frames.specs.declared.frame.Answer.TheVariants.{Unknown}
 use Rattle.app_frames.specs.declared.cause.Cause.TheVariants.{Closed, Garbled, Budget, Unbalanced, Judged}
 use Rattle.lego_model.specs.Journal.{End, Reply}
 use Rattle.lego_model.specs.Turns.{Next, Framed, Faulty, Over, next_of, Outcome, Completed, Failed, ended_by, Played, over, answered, Table, done_by, one_fewer, is_none_left, told_to, spent, turn_from, turn_of}
-use Rattle.shown_switches.specs.Beats.{Exchange}
-use Rattle.shown_switches.specs.Turns.{same_bytes, next_asked, Asking, oracle, played_so}
+use Rattle.app_visor.specs.Beats.{Exchange}
+use Rattle.app_visor.specs.Turns.{same_bytes, next_asked, Asking, oracle, played_so}
 
 -- ---- Messages that a table answers as they were answered
 

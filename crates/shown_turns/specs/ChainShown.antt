@@ -1,6 +1,6 @@
 -- What follows of the beats of a turn in a world that keeps its word: its messages were answered as the reference controller answers them,
 -- and its switches stand then as the world's do.
-use Rattle.std.proofs.Common.{◌≡◌, ◌≢◌, ℕ, Bool, true, false, List, [], ◌∷◌, ◌++◌, Option, Some, None, Ok, refl, sym, ap, ap₂, ◌∙◌, subst, true≢false}
+use Rattle.std.proofs.Common.{◌≡◌, ◌≢◌, ℕ, Bool, true, false, List, [], ◌∷◌, ◌++◌, length, Option, Some, None, Ok, refl, sym, ap, ap₂, ◌∙◌, subst, true≢false}
 use Rattle.std.specs.Option.{option_map}
 use Rattle.of_types.specs.declared.journal.Act.{Act}
 use Rattle.of_types.specs.declared.journal.Act.TheVariants.{Stim, Started, Gave, Gone, Took, Ended, Sent, Got}
@@ -9,9 +9,9 @@ use Rattle.flow_table.specs.Switch.{Declared, SwitchState}
 use Rattle.exact_undo.specs.Owned.{owned_switch}
 use Rattle.app_frames.specs.declared.frame.Answer.{Answer}
 use Rattle.lego_model.specs.Answers.{rows_of_table}
-use Rattle.lego_model.specs.Journal.{is_of}
+use Rattle.lego_model.specs.Journal.{is_of, Reply}
 use Rattle.lego_model.specs.Places.{Place, answer}
-use Rattle.lego_model.specs.Turns.{Table}
+use Rattle.lego_model.specs.Turns.{Outcome, Table, turn_of}
 use Rattle.lego_model.specs.Controller.{table_of}
 use Rattle.outside.specs.Seen.{Given, Seen, Continues}
 use Rattle.outside.specs.SeenLaws.{Continues-refl, Continues-trans}
@@ -21,14 +21,16 @@ use Rattle.outside.specs.Conforming.{Conforming}
 use Rattle.net_txn.specs.Net.{NetState}
 use Rattle.net_txn.specs.Changes.{known_rows}
 use Rattle.net_txn.specs.Agreement.{Agrees}
-use Rattle.shown_switches.specs.Talks.{step_of, Told}
-use Rattle.shown_switches.specs.Beats.{Exchange, IsExchange, Beat, Talk, Asks, Chain, exchanges_in}
+use Rattle.app_visor.specs.declared.state.TurnEnd.{TurnEnd}
+use Rattle.app_visor.specs.Talks.{step_of, Told, give_act}
+use Rattle.app_visor.specs.Beats.{Exchange, IsExchange, Beat, Talk, Asks, Chain, exchanges_in}
+use Rattle.app_visor.specs.Turns.{reply_by, Turns}
 use Rattle.shown_switches.specs.Shown.{flags_at, shown_switch, places, shown_places}
 use Rattle.shown_switches.specs.StandLaws.{all-stand}
 use Rattle.shown_switches.specs.ExchangeShown.{exchange-shown}
 use Rattle.shown_switches.specs.Since.{Ready, Since, Goes}
-use Rattle.shown_switches.specs.SinceLaws.{goes-on}
-use Rattle.shown_switches.specs.TurnShown.{AnswersSo}
+use Rattle.shown_switches.specs.SinceLaws.{begun, goes-on}
+use Rattle.shown_turns.specs.TurnShown.{AnswersSo, ended_so, turn-alike}
 
 -- ---- Calls for an application move no switch
 
@@ -133,3 +135,23 @@ chain-shown Tells app allows start first net0 (Asks x ∷ trace) old new net now
         ap₂ (λ (n : NetState) (s : Seen _). answer (shown_places first.given.declared n.views (state s)) x.dpid x.bytes) (sym chain.0.1) (sym chain.0.0)
         ∙ subst (λ (ds : List Declared). answer (shown_places ds x.net.views (state x.before)) x.dpid x.bytes ≡ (x.answer, shown_places ds x.now_net.views (state x.after))) (sym declared) shown in
     record { answers = (shown_places first.given.declared x.now_net.views (state x.after), (answered, rest.answers)); goes = rest.goes }
+
+-- ---- A turn
+
+-- A turn as the reference controller plays it: on its own switches, with the same answers and the same end.
+pub record PlayedAlike {Own : Type 0} (allows : List Place → Bool) (budget : ℕ) (rest : List ℕ) (reply : Reply) (old new : Seen Own) (net now_net : NetState) (given : List Answer) (outcome : Outcome) : Type 0 where
+  pub goes : Goes (length net.log) old new net now_net
+  pub played : turn_of (table_of allows) budget rest reply (shown_places old.given.declared net.views (state old))
+      ≡ ended_so (shown_places old.given.declared now_net.views (state new)) given outcome
+
+pub turn-shown : {Own : Type 0} (Tells : Type 0) (accepts : List TableView → Bool) (allows : List Place → Bool) (app budget : ℕ) (rest frame : List ℕ) (old new : Seen Own) (net now_net : NetState) (end : TurnEnd) (unread : List ℕ) → Tells → Conforming new → Ready old net
+    → (t : Turns Tells accepts app budget rest frame old new net now_net end unread) → allows (shown_places old.given.declared now_net.views (state new)) ≡ accepts now_net.views
+    → PlayedAlike allows budget rest (reply_by t.given t.trace) old new net now_net t.answers t.outcome
+turn-shown Tells accepts allows app budget rest frame old new net now_net end unread told keeps ready t judges =
+    let first : Goes (length net.log) old old net net = record { since = begun old net; ready = ready } in
+    let leads = chain-shown Tells app allows (length net.log) old net (Talk (give_act t.given app frame) ∷ t.trace) old new net now_net told keeps t.chain first in
+    record {
+      goes = leads.goes;
+      played = turn-alike (table_of allows) (accepts now_net.views) budget rest (reply_by t.given t.trace) (shown_places old.given.declared net.views (state old)) (shown_places old.given.declared now_net.views (state new)) (exchanges_in t.trace) t.answers t.outcome
+          leads.answers judges t.played;
+    }

@@ -1,0 +1,2 @@
+pub mod TurnShown
+pub mod ChainShown

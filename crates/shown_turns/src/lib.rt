@@ -1,0 +1,7 @@
+//! Laws of turns: in a world that keeps its word a turn of an application goes as the reference controller plays it. There is no
+//! call here but laws, each the contract of a function that does nothing.
+#![tactic(auto)]
+
+mod turns;
+
+pub use turns::{turns_are_shown, turns_play_alike};
