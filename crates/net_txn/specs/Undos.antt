@@ -402,7 +402,8 @@ pub record AgreesAgain (d : ℕ) (views : List TableView) (new : State) : Type 0
   pub agrees : Agrees d views new
   pub waits : waits_of d new ≡ []
 
--- What was logged from a place on is undone and forgotten, and the views lose its keys. It goes on past a fault with the other
+-- What was logged from a place on is undone and forgotten, and the views lose its keys. The log is undone from its end on, so that the
+-- inverses, the newest part first, stand as in the log, of each joined switch that did not fail all of them. It goes on past a fault with the other
 -- switches, and the first fault is answered; after Ok none failed. In a world that tells, no switch moves that is not joined; and
 -- where it keeps its word, each joined switch that did not fail, of which nothing waited, and whose table had but the logged keys
 -- added since an earlier one, has that table again; and where its view agreed with its table, it does so again. There no inverse is
