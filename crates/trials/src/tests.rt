@@ -12,7 +12,7 @@ mod worlds;
 use ended::Ended;
 use messages::{ADD, changed};
 use plays::{Close, answer_behind, arrival, departure, late_notice, play, undo_both};
-use worlds::{one_switch, two_switches};
+use worlds::small_world;
 
 const CUT: Ended = Ended::SwitchFault(1);
 
@@ -27,7 +27,7 @@ fn outcome(
     fails: Option<(CallKind, u64)>,
     close: Close,
 ) -> Result<[Ended; 4], AllocError> {
-    let mut world = one_switch(alloc, 8, fails)?;
+    let mut world = small_world(alloc, 8, fails)?;
     Ok(play(alloc, &mut world, close))
 }
 
@@ -45,7 +45,7 @@ fn changes_stay_or_go(rt: HostRuntime) -> Result<(), Fail> {
 
 /// The answer to a message for a switch, behind a first change, where the switch has room for one entry.
 fn second_answer(alloc: Global, dpid: u64, message: &[u8]) -> Result<Ended, AllocError> {
-    let mut world = one_switch(alloc, 1, None)?;
+    let mut world = small_world(alloc, 1, None)?;
     Ok(answer_behind(alloc, &mut world, dpid, message))
 }
 
@@ -140,7 +140,7 @@ fn memory_is_wanting_in_turn(rt: HostRuntime) -> Result<(), Fail> {
 
 /// How an undo over two switches went, and their rows, where a call of the first one's link fails.
 fn both_undone(alloc: Global, number: u64) -> Result<[Ended; 3], AllocError> {
-    let mut world = two_switches(alloc, number)?;
+    let mut world = small_world(alloc, 8, Some((CallKind::Link, number)))?;
     Ok(undo_both(alloc, &mut world))
 }
 
@@ -167,7 +167,7 @@ fn arrived(
     frame: &[u8],
     body: &[u8],
 ) -> Result<Ended, AllocError> {
-    let mut world = one_switch(alloc, 8, fails)?;
+    let mut world = small_world(alloc, 8, fails)?;
     Ok(arrival(alloc, &mut world, frame, body))
 }
 
@@ -208,7 +208,7 @@ fn messages_arrive(rt: HostRuntime) -> Result<(), Fail> {
 
 /// How a switch left of which a port went down.
 fn left(alloc: Global) -> Result<[Ended; 2], AllocError> {
-    let mut world = one_switch(alloc, 8, None)?;
+    let mut world = small_world(alloc, 8, None)?;
     Ok(departure(alloc, &mut world))
 }
 
@@ -223,7 +223,7 @@ fn nothing_stays_of_a_switch_that_left(rt: HostRuntime) -> Result<(), Fail> {
 
 /// How two changes went, and what is kept of an entry of the first one that had timed out before the second one.
 fn noticed(alloc: Global, fails: Option<(CallKind, u64)>) -> Result<[Ended; 4], AllocError> {
-    let mut world = one_switch(alloc, 8, fails)?;
+    let mut world = small_world(alloc, 8, fails)?;
     Ok(late_notice(alloc, &mut world))
 }
 

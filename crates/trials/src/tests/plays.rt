@@ -59,6 +59,8 @@ fn net_of_two<W: World>(alloc: Global, world: &mut W) -> Result<Net, Ended>
 {
     let mut net = new_net(alloc, world)?;
     pass(alloc, world, Item::Idle)?;
+    pass(alloc, world, Item::Moment(5))?;
+    pass(alloc, world, Item::Idle)?;
     join(alloc, world, &mut net, 2)?;
     Ok(net)
 }

@@ -1,16 +1,56 @@
-//! Simulated worlds.
+//! A simulated world.
 
-ghost use Rattle.std.specs.Prelude.{◌≤◌};
+ghost use Rattle.std.specs.Prelude.{◌≡◌, ◌≤◌, [], IsTrue, OnOk};
+ghost use Rattle.outside.specs.Seen.{is_declared};
+ghost use Rattle.sim_world.specs.World.{given_of};
+ghost use Rattle.sim_world.specs.Building.{nothing_given, IsNew};
 
 use of_types::WorldStim;
 use outside::CallKind;
 use sim_world::SimWorld;
 use std::alloc::{AllocError, Global};
 
-/// A world of switch 1 with two ports, which joins, and then it is moment 5; in it one call is to fail, if one is
-/// named.
+/// Declares two switches with two ports each.
+fn declare(world: &mut SimWorld, capacity: u32) -> Result<(), AllocError>
+    requires capacity { capacity ≤ 4096 }
+    requires new { IsNew world.old }
+    requires nothing { given_of world.old ≡ nothing_given }
+    ensures new { OnOk result (IsNew world.new) }
+    ensures first { OnOk result (IsTrue (is_declared 1 (given_of world.new).declared)) }
+    ensures second { OnOk result (IsTrue (is_declared 2 (given_of world.new).declared)) }
+    ensures stimuli { OnOk result ((given_of world.new).stimuli ≡ []) }
+{
+    world.add_switch(1, capacity, &[1, 2])?;
+    world.add_switch(2, capacity, &[1, 2])
+}
+
+/// Switch 1 joins, then it is moment 5, and then switch 2 joins.
 #[tactic(auto, unfolding(outside::specs::Conforming::IsWorldStim))]
-pub fn one_switch(
+fn let_happen(world: &mut SimWorld) -> Result<(), AllocError>
+    requires new { IsNew world.old }
+    requires first { IsTrue (is_declared 1 (given_of world.old).declared) }
+    requires second { IsTrue (is_declared 2 (given_of world.old).declared) }
+    requires stimuli { (given_of world.old).stimuli ≡ [] }
+    ensures { OnOk result (IsNew world.new) }
+{
+    world.add_stimulus(WorldStim::Join(1))?;
+    world.add_stimulus(WorldStim::At(5))?;
+    world.add_stimulus(WorldStim::Join(2))
+}
+
+/// Lets a call fail, if one is named, a link's of switch 1.
+fn let_fail(world: &mut SimWorld, fails: Option<(CallKind, u64)>) -> Result<(), AllocError>
+    requires { IsNew world.old }
+{
+    match fails {
+        Some((kind, number)) => world.fail_call(kind, 1, number),
+        None => Ok(()),
+    }
+}
+
+/// A world in which switch 1 joins, then it is moment 5, and then switch 2 joins; in it one call is to fail, if one is
+/// named.
+pub fn small_world(
     alloc: Global,
     capacity: u32,
     fails: Option<(CallKind, u64)>,
@@ -18,23 +58,8 @@ pub fn one_switch(
     requires { capacity ≤ 4096 }
 {
     let mut world = SimWorld::new(alloc)?;
-    world.add_switch(1, capacity, &[1, 2])?;
-    world.add_stimulus(WorldStim::Join(1))?;
-    world.add_stimulus(WorldStim::At(5))?;
-    if let Some((kind, number)) = fails {
-        world.fail_call(kind, 1, number)?;
-    }
-    Ok(world)
-}
-
-/// A world of two switches, which join; in it one call of the first one's link is to fail.
-#[tactic(auto, unfolding(outside::specs::Conforming::IsWorldStim))]
-pub fn two_switches(alloc: Global, number: u64) -> Result<SimWorld, AllocError> {
-    let mut world = SimWorld::new(alloc)?;
-    world.add_switch(1, 8, &[1, 2])?;
-    world.add_switch(2, 8, &[1, 2])?;
-    world.add_stimulus(WorldStim::Join(1))?;
-    world.add_stimulus(WorldStim::Join(2))?;
-    world.fail_call(CallKind::Link, 1, number)?;
+    declare(&mut world, capacity)?;
+    let_happen(&mut world)?;
+    let_fail(&mut world, fails)?;
     Ok(world)
 }
