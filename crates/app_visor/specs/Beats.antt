@@ -87,3 +87,9 @@ pub record Stops {Own : Type 0} (Tells : Type 0) (app : ℕ) (old new : Seen Own
   pub then_net : NetState
   pub leads : Leads Tells app old then_seen net then_net
   pub halts : Halts Tells then_seen new then_net now_net fault
+
+-- what no message of an application changes of what the host keeps
+pub record Stays (net now_net : NetState) : Type 0 where
+  pub ports : now_net.ports ≡ net.ports
+  pub moment : now_net.moment ≡ net.moment
+  pub room : now_net.room ≡ net.room
