@@ -19,18 +19,8 @@ use Rattle.net_txn.specs.Net.{NetState, awaited_from}
 use Rattle.net_txn.specs.Waits.{heard, steps_by, wait_steps, reply_got, barrier_sent}
 use Rattle.net_txn.specs.Changes.{known_rows, change_sent}
 use Rattle.app_visor.specs.Talks.{step_of}
-use Rattle.app_visor.specs.Beats.{Exchange, Beat, Talk, Asks, IsExchange, Chain, acts_in}
+use Rattle.app_visor.specs.Beats.{Exchange, Beat, Talk, Asks, IsExchange, Chain, acts_in, acts_of, ActsTold}
 use Rattle.app_visor.specs.AnswerLaws.{decided}
-
--- the acts of an application in a history
-abbrev pub acts_of : ℕ → List WorldStep → List Act
-acts_of app steps = filter (is_of app) (journal steps)
-
--- the history goes on by steps that have these acts of the application, and no others
-pub record ActsTold {Own : Type 0} (app : ℕ) (acts : List Act) (old new : Seen Own) : Type 0 where
-  pub steps : List WorldStep
-  pub history : new.history ≡ old.history ++ steps
-  pub acts_so : acts_of app steps ≡ acts
 
 acts_append : (app : ℕ) (xs ys : List WorldStep) → acts_of app (xs ++ ys) ≡ acts_of app xs ++ acts_of app ys
 acts_append app xs ys = ap (λ (acts : List Act). filter (is_of app) acts) (journal-append xs ys) ∙ filter-append (is_of app) (journal xs) (journal ys)

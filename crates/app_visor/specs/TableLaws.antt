@@ -14,15 +14,7 @@ use Rattle.outside.specs.Seen.{Seen}
 use Rattle.net_txn.specs.Net.{NetState}
 use Rattle.app_visor.specs.declared.state.TurnEnd.{TurnEnd}
 use Rattle.app_visor.specs.Beats.{Exchange, Beat, acts_in, exchanges_in}
-use Rattle.app_visor.specs.Turns.{same_bytes, next_asked, Asking, oracle, played_so, reply_by, Turns}
-
--- The table answers the messages of these exchanges, one after the other, as they were answered, and comes to a state by them.
-abbrev pub Agrees : {State Own : Type 0} → Table State → List (Exchange Own) → State → State → Type 0
-Agrees table [] s end = end ≡ s
-Agrees table (x ∷ xs) s end = ((table.answer s x.dpid x.bytes).0 ≡ x.answer) × Agrees table xs (table.answer s x.dpid x.bytes).1 end
-
-abbrev pub played_on : {State : Type 0} → State → List Answer → Outcome → Played State
-played_on state answers outcome = record { state = state; answers = answers; outcome = outcome }
+use Rattle.app_visor.specs.Turns.{same_bytes, next_asked, Asking, oracle, played_so, reply_by, Turns, Agrees, played_on}
 
 -- ---- Where it ends at once
 

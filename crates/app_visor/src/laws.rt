@@ -8,10 +8,8 @@ ghost use Rattle.lego_model.specs.Controller.{table_of};
 ghost use Rattle.outside.specs.Seen.{Seen};
 ghost use Rattle.net_txn.specs.Net.{NetState};
 ghost use Rattle.app_visor.specs.declared.state.TurnEnd.{TurnEnd};
-ghost use Rattle.app_visor.specs.Beats.{Beat, Chain, acts_in, exchanges_in};
-ghost use Rattle.app_visor.specs.Turns.{Turns, reply_by};
-ghost use Rattle.app_visor.specs.TableLaws.{Agrees, played_on};
-ghost use Rattle.app_visor.specs.JournalLaws.{ActsTold};
+ghost use Rattle.app_visor.specs.Beats.{Beat, Chain, acts_in, exchanges_in, ActsTold};
+ghost use Rattle.app_visor.specs.Turns.{Turns, reply_by, Agrees, played_on};
 
 use outside::World;
 
