@@ -75,7 +75,7 @@ decides rows (messages.QueueGetConfigRequest payload) = refused rows (messages.Q
 decides rows (messages.QueueGetConfigReply payload) = refused rows (messages.QueueGetConfigReply payload) (Some bad_type) bad_type refl refl
 
 -- the same of bytes
-abbrev DecidesRead : Option Rows → List ℕ → Type 0
+abbrev pub DecidesRead : Option Rows → List ℕ → Type 0
 DecidesRead rows bytes =
     ((answer : Answer) × ((host_answer rows bytes ≡ Some answer) × IsPlain answer))
     ⊎ ((xid : ℕ) × ((m : Change) × (((host_answer rows bytes ≡ None) ⊎ ((answer : Answer) × ((host_answer rows bytes ≡ Some answer) × IsPlain answer))) × (reading_of bytes ≡ Ok (enveloped xid (messages.FlowMod m))))))
@@ -92,7 +92,7 @@ read_decided rows bytes (Ok envelope) is = elim (decides rows envelope.message) 
   | inr d ↦ inr (envelope.xid, (d.0, (rw (is, d.1) (flow_decided (host_refusal rows (messages.FlowMod d.0))), is ∙ ap (λ (m : Message). Ok (enveloped envelope.xid m)) d.1)))
 ]
 
-decided : (rows : Option Rows) (bytes : List ℕ) → DecidesRead rows bytes
+pub decided : (rows : Option Rows) (bytes : List ℕ) → DecidesRead rows bytes
 unfolding host_answer
 decided None bytes = inl (Unknown, (refl, tt))
 decided (Some rows) bytes = read_decided rows bytes (reading_of bytes) refl

@@ -1,6 +1,6 @@
 -- Laws of beats: they compose, and what they read of the acts.
-use Rattle.std.specs.Prelude.{◌≡◌, ℕ, ◌==◌, true, List, [], ◌∷◌, ◌++◌, map, refl}
-use Rattle.std.proofs.Common.{ap, subst, inl, inr}
+use Rattle.std.specs.Prelude.{◌≡◌, ℕ, ◌==◌, true, List, [], ◌∷◌, ◌++◌, map, Result, refl}
+use Rattle.std.proofs.Common.{◌∙◌, ap, subst, inl, inr}
 use Rattle.std.proofs.lemmas.Bool.{eq-eqb}
 use Rattle.of_types.specs.declared.journal.Act.{Act}
 use Rattle.of_types.specs.declared.journal.Act.TheVariants.{Took}
@@ -10,11 +10,13 @@ use Rattle.outside.specs.SeenLaws.{Continues-refl, Continues-trans}
 use Rattle.net_txn.specs.declared.fault.TxnFault.{TxnFault}
 use Rattle.net_txn.specs.declared.fault.TxnFault.TheVariants.{NoMemory}
 use Rattle.net_txn.specs.Net.{NetState}
+use Rattle.net_txn.specs.Changes.{Changes}
+use Rattle.app_frames.specs.declared.frame.Answer.{Answer}
 use Rattle.app_visor.specs.declared.came.Came.{Came}
 use Rattle.app_visor.specs.declared.came.Came.TheVariants as comes
 use Rattle.app_visor.specs.Talks.{Wants}
 use Rattle.app_visor.specs.Reads.{takes, TakesAll, Taken, CameSo, Comes, Breaks}
-use Rattle.app_visor.specs.Beats.{Beat, Talk, Asks, Chain, acts_in, exchanges_in, Leads, Halts, Stops}
+use Rattle.app_visor.specs.Beats.{Beat, Talk, Asks, Chain, acts_in, exchanges_in, Leads, Halts, Stops, Stays}
 
 pub same : (n : ℕ) → (n == n) ≡ true
 same n = eq-eqb n n refl
@@ -99,3 +101,31 @@ halts_continue Tells old new net now_net fault (inr h) = h.1.1.continues
 pub Stops-continues : {Own : Type 0} {Tells : Type 0} {app : ℕ} {old new : Seen Own} {net now_net : NetState} {fault : TxnFault} → Stops Tells app old new net now_net fault → Continues Tells old new
 Stops-continues {Tells = Tells} {old = old} {new = new} {now_net = now_net} {fault = fault} stops =
     Continues-trans Tells old stops.then_seen new (Leads-continues stops.leads) (halts_continue Tells stops.then_seen new stops.then_net now_net fault stops.halts)
+
+-- ---- What stays
+
+Stays-refl : (net : NetState) → Stays net net
+Stays-refl net = record { ports = refl; moment = refl; room = refl }
+
+Stays-trans : (a b c : NetState) → Stays a b → Stays b c → Stays a c
+Stays-trans a b c first second = record { ports = second.ports ∙ first.ports; moment = second.moment ∙ first.moment; room = second.room ∙ first.room }
+
+stays_changed : {Own : Type 0} {Tells : Type 0} {d : ℕ} {bytes : List ℕ} {old new : Seen Own} {net now_net : NetState} {result : Result Answer TxnFault} → Changes Tells d bytes old new net now_net result → Stays net now_net
+stays_changed changes = record { ports = changes.ports; moment = changes.moment; room = changes.room }
+
+Chain-stays : {Own : Type 0} (Tells : Type 0) (app : ℕ) (xs : List (Beat Own)) (a b : Seen Own) (m n : NetState) → Chain Tells app xs a b m n → Stays m n
+Chain-stays Tells app [] a b m n chain = rw chain.1 (Stays-refl m)
+Chain-stays Tells app (Talk act ∷ xs) a b m n chain = Chain-stays Tells app xs chain.1.0 b m n chain.1.1.1
+Chain-stays Tells app (Asks x ∷ xs) a b m n chain =
+    Stays-trans m x.now_net n (subst (λ (k : NetState). Stays k x.now_net) chain.0.1 (stays_changed chain.1.0.changes)) (Chain-stays Tells app xs x.after b x.now_net n chain.1.1)
+
+pub Leads-stays : {Own : Type 0} {Tells : Type 0} {app : ℕ} {a b : Seen Own} {m n : NetState} → Leads Tells app a b m n → Stays m n
+Leads-stays {Tells = Tells} {app = app} {a = a} {b = b} {m = m} {n = n} leads = Chain-stays Tells app leads.trace a b m n leads.chain
+
+halts_stay : {Own : Type 0} (Tells : Type 0) (old new : Seen Own) (net now_net : NetState) (fault : TxnFault) → Halts Tells old new net now_net fault → Stays net now_net
+halts_stay Tells old new net now_net fault (inl h) = rw h.1 (Stays-refl net)
+halts_stay Tells old new net now_net fault (inr h) = stays_changed h.1.1
+
+pub Stops-stays : {Own : Type 0} {Tells : Type 0} {app : ℕ} {old new : Seen Own} {net now_net : NetState} {fault : TxnFault} → Stops Tells app old new net now_net fault → Stays net now_net
+Stops-stays {Tells = Tells} {new = new} {net = net} {now_net = now_net} {fault = fault} stops =
+    Stays-trans net stops.then_net now_net (Leads-stays stops.leads) (halts_stay Tells stops.then_seen new stops.then_net now_net fault stops.halts)

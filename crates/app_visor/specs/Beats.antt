@@ -1,11 +1,12 @@
 -- What happens during a turn, beat by beat: a call for the application, or one message as the network answered it. All of this is our own
 -- choice.
-use Rattle.std.specs.Prelude.{◌≡◌, ℕ, Bool, true, List, [], ◌∷◌, filter_map, Option, Some, None, Ok, Err, ◌⊎◌}
+use Rattle.std.specs.Prelude.{◌≡◌, ℕ, Bool, true, List, [], ◌∷◌, ◌++◌, filter, filter_map, Option, Some, None, Ok, Err, ◌⊎◌}
 use Rattle.of_types.specs.declared.journal.Act.{Act}
 use Rattle.app_frames.specs.declared.frame.Answer.{Answer}
 use Rattle.lego_model.specs.Journal.{is_of}
 use Rattle.lego_model.specs.Controller.{answer_frame}
-use Rattle.outside.specs.Seen.{Seen}
+use Rattle.outside.specs.declared.step.WorldStep.{WorldStep}
+use Rattle.outside.specs.Seen.{Seen, journal}
 use Rattle.net_txn.specs.declared.fault.TxnFault.{TxnFault}
 use Rattle.net_txn.specs.declared.fault.TxnFault.TheVariants.{NoMemory}
 use Rattle.net_txn.specs.Net.{NetState}
@@ -87,3 +88,21 @@ pub record Stops {Own : Type 0} (Tells : Type 0) (app : ℕ) (old new : Seen Own
   pub then_net : NetState
   pub leads : Leads Tells app old then_seen net then_net
   pub halts : Halts Tells then_seen new then_net now_net fault
+
+-- what no message of an application changes of what the host keeps
+pub record Stays (net now_net : NetState) : Type 0 where
+  pub ports : now_net.ports ≡ net.ports
+  pub moment : now_net.moment ≡ net.moment
+  pub room : now_net.room ≡ net.room
+
+-- ---- What the history has of beats
+
+-- the acts of an application in a history
+abbrev pub acts_of : ℕ → List WorldStep → List Act
+acts_of app steps = filter (is_of app) (journal steps)
+
+-- the history goes on by steps that have these acts of the application, and no others
+pub record ActsTold {Own : Type 0} (app : ℕ) (acts : List Act) (old new : Seen Own) : Type 0 where
+  pub steps : List WorldStep
+  pub history : new.history ≡ old.history ++ steps
+  pub acts_so : acts_of app steps ≡ acts

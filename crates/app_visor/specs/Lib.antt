@@ -9,6 +9,8 @@ pub mod Turns
 pub mod TurnLaws
 pub mod PlayLaws
 pub mod AnswerLaws
+pub mod TableLaws
+pub mod JournalLaws
 pub mod Attempts
 pub mod AttemptLaws
 pub mod TryLaws

@@ -137,3 +137,13 @@ done_as false stop = ends.Failed causes.Judged
 abbrev pub unread_after : TurnEnd → List ℕ → List ℕ
 unread_after (ends.Done stop) unread = unread
 unread_after (ends.Failed cause) unread = []
+
+-- ---- Other tables
+
+-- The table answers the messages of these exchanges, one after the other, as they were answered, and comes to a state by them.
+abbrev pub Agrees : {State Own : Type 0} → Table State → List (Exchange Own) → State → State → Type 0
+Agrees table [] s end = end ≡ s
+Agrees table (x ∷ xs) s end = ((table.answer s x.dpid x.bytes).0 ≡ x.answer) × Agrees table xs (table.answer s x.dpid x.bytes).1 end
+
+abbrev pub played_on : {State : Type 0} → State → List Answer → Outcome → Played State
+played_on state answers outcome = record { state = state; answers = answers; outcome = outcome }

@@ -5,11 +5,13 @@
 mod asking;
 mod came;
 mod intake;
+mod laws;
 mod starting;
 mod state;
 mod talk;
 mod turning;
 
+pub use laws::{acts_of_a_turn, turns_of_the_reference};
 pub use starting::restart;
 pub use state::{AppState, Back, TurnEnd};
 pub use turning::turn;

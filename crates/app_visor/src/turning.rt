@@ -4,7 +4,7 @@ ghost use Rattle.std.specs.Prelude.{◌≡◌, [], IfOk, IfErr, OnOk, OnErr};
 ghost use Rattle.app_frames.specs.declared.frame.HostFrame.TheVariants as host;
 ghost use Rattle.app_frames.specs.Frames.{HostFits};
 ghost use Rattle.lego_model.specs.Controller.{event_frame};
-ghost use Rattle.app_visor.specs.Beats.{Stops, Leads};
+ghost use Rattle.app_visor.specs.Beats.{Stops, Leads, Stays};
 ghost use Rattle.app_frames.specs.declared.frame.AppFrame.TheVariants as frames;
 ghost use Rattle.outside.specs.Seen.{Continues};
 ghost use Rattle.app_visor.specs.Turns.{TurnsFrom, Turns, FramePlayed, Plays, done_as, cause_of, unread_after};
@@ -162,6 +162,7 @@ pub fn turn<W: World, J: Judge>(
     requires { HostFits (host.Event number txn.old.net.now.moment event.now) }
     ensures same_reference { txn.new.net.ghost_name ≡ txn.old.net.ghost_name }
     ensures start { txn.new.start ≡ txn.old.start }
+    ensures stays { Stays txn.old.net.now txn.new.net.now }
     ensures index { app.new.index ≡ app.old.index }
     ensures alive { app.new.alive ≡ app.old.alive }
     // How it ended is what the event, the frames of the application, their end and the answers say.

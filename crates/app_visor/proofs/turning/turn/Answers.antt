@@ -5,7 +5,7 @@ use Rattle.outside.specs.SeenLaws.{Continues-trans}
 use Rattle.net_txn.specs.declared.fault.TxnFault.TheVariants.{NoMemory}
 use Rattle.app_visor.specs.ResultLaws.{err_so}
 use Rattle.app_visor.specs.ReadLaws.{Wants-refl}
-use Rattle.app_visor.specs.BeatLaws.{Leads-refl, Leads-trans, Leads-continues, stops_wanting, stops_then, Stops-continues}
+use Rattle.app_visor.specs.BeatLaws.{Leads-refl, Leads-trans, Leads-continues, stops_wanting, stops_then, Stops-continues, Leads-stays, Stops-stays}
 use Rattle.app_visor.specs.PlayLaws.{turns_gone, turns_given, leads_turn, leads_told}
 use Rattle.app_visor.proofs.turning.turn.Goals as goal
 
@@ -63,3 +63,12 @@ pub returns-clause-continues : goal.returns-clause-continues
 returns-clause-continues g c =
     Continues-trans g.W.World.Tells (g.W.World.seen c.args.world.now) (g.W.World.seen c.give.new.world) (g.W.World.seen c.play_all.new.world) c.in_ok-give.ensures.ok.continues
     (Leads-continues (leads_turn c.in_ok-end.ensures.ok))
+
+pub returns-in_err-end-clause-stays : goal.returns-in_err-end-clause-stays
+returns-in_err-end-clause-stays g c = Stops-stays c.in_err-end.ensures.err
+
+pub returns-in_err-app-clause-stays : goal.returns-in_err-app-clause-stays
+returns-in_err-app-clause-stays g c = Leads-stays (leads_turn c.in_ok-end.ensures.ok)
+
+pub returns-clause-stays : goal.returns-clause-stays
+returns-clause-stays g c = Leads-stays (leads_turn c.in_ok-end.ensures.ok)

@@ -1,0 +1,31 @@
+//! Laws of turns, each the contract of a function that does nothing.
+
+ghost use Rattle.std.specs.Prelude.{◌≡◌, ℕ, Bool, List};
+ghost use Rattle.flow_table.specs.declared.view.TableView.{TableView};
+ghost use Rattle.lego_model.specs.Places.{Place};
+ghost use Rattle.lego_model.specs.Turns.{turn_of};
+ghost use Rattle.lego_model.specs.Controller.{table_of};
+ghost use Rattle.outside.specs.Seen.{Seen};
+ghost use Rattle.net_txn.specs.Net.{NetState};
+ghost use Rattle.app_visor.specs.declared.state.TurnEnd.{TurnEnd};
+ghost use Rattle.app_visor.specs.Beats.{Beat, Chain, acts_in, exchanges_in, ActsTold};
+ghost use Rattle.app_visor.specs.Turns.{Turns, reply_by, Agrees, played_on};
+
+use outside::World;
+
+/// A turn that was played is the turn of the reference controller, where its switches answer the messages as they were
+/// answered, one after the other, and its judge has the same word.
+pub fn turns_of_the_reference<W: World>()
+    ensures { (allows : List Place → Bool) (accepts : List TableView → Bool) (app budget : ℕ) (rest frame unread : List ℕ)
+        (old new : Seen W.Own) (net now_net : NetState) (end : TurnEnd) (before after : List Place)
+        → (t : Turns W.Tells accepts app budget rest frame old new net now_net end unread)
+        → Agrees (table_of allows) (exchanges_in t.trace) before after → allows after ≡ accepts now_net.views
+        → turn_of (table_of allows) budget rest (reply_by t.given t.trace) before ≡ played_on after t.answers t.outcome }
+{}
+
+/// Of the acts of the application a telling world's history has, since the turn began, the calls of its beats, in order, and
+/// no others: so the journal's turn is the one that was played.
+pub fn acts_of_a_turn<W: World>()
+    ensures { (app : ℕ) (trace : List (Beat W.Own)) (old new : Seen W.Own) (net now_net : NetState) → W.Tells
+        → Chain W.Tells app trace old new net now_net → ActsTold app (acts_in trace) old new }
+{}
