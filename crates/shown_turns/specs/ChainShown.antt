@@ -14,7 +14,6 @@ use Rattle.lego_model.specs.Places.{Place, answer}
 use Rattle.lego_model.specs.Turns.{Outcome, Table, turn_of}
 use Rattle.lego_model.specs.Controller.{table_of}
 use Rattle.outside.specs.Seen.{Given, Seen, Continues}
-use Rattle.outside.specs.SeenLaws.{Continues-refl, Continues-trans}
 use Rattle.outside.specs.State.{Link, State, link_of, switch_in, waits_in, state, switch_of, waits_of, after_act, after_step}
 use Rattle.outside.specs.StateLaws.{state-append, Conforming-before}
 use Rattle.outside.specs.Conforming.{Conforming}
@@ -24,13 +23,14 @@ use Rattle.net_txn.specs.Agreement.{Agrees}
 use Rattle.app_visor.specs.declared.state.TurnEnd.{TurnEnd}
 use Rattle.app_visor.specs.Talks.{step_of, Told, give_act}
 use Rattle.app_visor.specs.Beats.{Exchange, IsExchange, Beat, Talk, Asks, Chain, exchanges_in}
-use Rattle.app_visor.specs.Turns.{reply_by, Turns}
+use Rattle.app_visor.specs.BeatLaws.{Chain-continues}
+use Rattle.app_visor.specs.Turns.{reply_by, Turns, Agrees as AnswersSo, played_on}
+use Rattle.app_visor.specs.TableLaws.{turn_alike}
 use Rattle.shown_switches.specs.Shown.{flags_at, shown_switch, places, shown_places}
 use Rattle.shown_switches.specs.StandLaws.{all-stand}
 use Rattle.shown_switches.specs.ExchangeShown.{exchange-shown}
 use Rattle.shown_switches.specs.Since.{Ready, Since, Goes}
 use Rattle.shown_switches.specs.SinceLaws.{begun, goes-on}
-use Rattle.shown_turns.specs.TurnShown.{AnswersSo, ended_so, turn-alike}
 
 -- ---- Calls for an application move no switch
 
@@ -94,17 +94,9 @@ goes-same start first old new net0 net given same goes = record {
 
 -- ---- The beats
 
-chain-continues : {Own : Type 0} (Tells : Type 0) (app : ℕ) (trace : List (Beat Own)) (old new : Seen Own) (net now_net : NetState) → Chain Tells app trace old new net now_net → Continues Tells old new
-chain-continues Tells app [] old new net now_net chain = subst (λ (s : Seen _). Continues Tells old s) (sym chain.0) (Continues-refl Tells old)
-chain-continues Tells app (Talk act ∷ trace) old new net now_net chain =
-    let next = chain.1.0 in
-    Continues-trans Tells old next new chain.1.1.0.continues (chain-continues Tells app trace next new net now_net chain.1.1.1)
-chain-continues Tells app (Asks x ∷ trace) old new net now_net chain =
-    Continues-trans Tells old x.after new (subst (λ (s : Seen _). Continues Tells s x.after) chain.0.0 chain.1.0.changes.continues) (chain-continues Tells app trace x.after new x.now_net now_net chain.1.1)
-
 -- where the beats lead
 pub record Leads {Own : Type 0} (allows : List Place → Bool) (start : ℕ) (first old new : Seen Own) (net0 net now_net : NetState) (xs : List (Exchange Own)) : Type 0 where
-  pub answers : AnswersSo (table_of allows) (shown_places first.given.declared net.views (state old)) xs (shown_places first.given.declared now_net.views (state new))
+  pub answers : AnswersSo (table_of allows) xs (shown_places first.given.declared net.views (state old)) (shown_places first.given.declared now_net.views (state new))
   pub goes : Goes start first new net0 now_net
 
 chain-shown : {Own : Type 0} (Tells : Type 0) (app : ℕ) (allows : List Place → Bool) (start : ℕ) (first : Seen Own) (net0 : NetState) (trace : List (Beat Own)) (old new : Seen Own) (net now_net : NetState) → Tells → Conforming new → Chain Tells app trace old new net now_net
@@ -119,12 +111,12 @@ chain-shown Tells app allows start first net0 (Talk act ∷ trace) old new net n
     let same = links-then Tells app act old next told chain.0 t in
     let rest = chain-shown Tells app allows start first net0 trace next new net now_net told keeps chain.1.1.1 (goes-same start first old next net0 net t.continues.given same goes) in
     record {
-      answers = subst (λ (ps : List Place). AnswersSo (table_of allows) ps (exchanges_in trace) (shown_places first.given.declared now_net.views (state new))) (shown-same first.given.declared net.views (state old) (state next) same) rest.answers;
+      answers = subst (λ (ps : List Place). AnswersSo (table_of allows) (exchanges_in trace) ps (shown_places first.given.declared now_net.views (state new))) (shown-same first.given.declared net.views (state old) (state next) same) rest.answers;
       goes = rest.goes;
     }
 chain-shown Tells app allows start first net0 (Asks x ∷ trace) old new net now_net told keeps chain goes =
     let is = chain.1.0 in
-    let later = chain-continues Tells app trace x.after new x.now_net now_net chain.1.1 in
+    let later = Chain-continues Tells app trace x.after new x.now_net now_net chain.1.1 in
     let kept = Conforming-before told later keeps in
     let here = subst (λ (n : NetState). Goes start first x.before net0 n) (sym chain.0.1) (subst (λ (s : Seen _). Goes start first s net0 net) (sym chain.0.0) goes) in
     let goes_there = goes-on Tells x.dpid x.bytes start first x.before x.after net0 x.net x.now_net x.answer told kept is.changes is.in_step here in
@@ -132,9 +124,15 @@ chain-shown Tells app allows start first net0 (Asks x ∷ trace) old new net now
     let declared : first.given.declared ≡ x.before.given.declared = ap (λ (g : Given _). g.declared) (sym here.since.given) in
     let shown = exchange-shown x.dpid x.bytes x.before x.after x.net x.now_net x.answer told kept is.changes is.in_step (here.ready.waits x.dpid) (here.ready.agrees x.dpid) (all-stand x.before) in
     let answered : answer (shown_places first.given.declared net.views (state old)) x.dpid x.bytes ≡ (x.answer, shown_places first.given.declared x.now_net.views (state x.after)) =
-        ap₂ (λ (n : NetState) (s : Seen _). answer (shown_places first.given.declared n.views (state s)) x.dpid x.bytes) (sym chain.0.1) (sym chain.0.0)
-        ∙ subst (λ (ds : List Declared). answer (shown_places ds x.net.views (state x.before)) x.dpid x.bytes ≡ (x.answer, shown_places ds x.now_net.views (state x.after))) (sym declared) shown in
-    record { answers = (shown_places first.given.declared x.now_net.views (state x.after), (answered, rest.answers)); goes = rest.goes }
+    ap₂ (λ (n : NetState) (s : Seen _). answer (shown_places first.given.declared n.views (state s)) x.dpid x.bytes) (sym chain.0.1) (sym chain.0.0)
+    ∙ subst (λ (ds : List Declared). answer (shown_places ds x.net.views (state x.before)) x.dpid x.bytes ≡ (x.answer, shown_places ds x.now_net.views (state x.after))) (sym declared) shown in
+    record {
+      answers = (
+        ap (λ (p : Answer × List Place). p.0) answered,
+        subst (λ (ps : List Place). AnswersSo (table_of allows) (exchanges_in trace) ps (shown_places first.given.declared now_net.views (state new))) (sym (ap (λ (p : Answer × List Place). p.1) answered)) rest.answers,
+      );
+      goes = rest.goes;
+    }
 
 -- ---- A turn
 
@@ -142,7 +140,7 @@ chain-shown Tells app allows start first net0 (Asks x ∷ trace) old new net now
 pub record PlayedAlike {Own : Type 0} (allows : List Place → Bool) (budget : ℕ) (rest : List ℕ) (reply : Reply) (old new : Seen Own) (net now_net : NetState) (given : List Answer) (outcome : Outcome) : Type 0 where
   pub goes : Goes (length net.log) old new net now_net
   pub played : turn_of (table_of allows) budget rest reply (shown_places old.given.declared net.views (state old))
-      ≡ ended_so (shown_places old.given.declared now_net.views (state new)) given outcome
+      ≡ played_on (shown_places old.given.declared now_net.views (state new)) given outcome
 
 pub turn-shown : {Own : Type 0} (Tells : Type 0) (accepts : List TableView → Bool) (allows : List Place → Bool) (app budget : ℕ) (rest frame : List ℕ) (old new : Seen Own) (net now_net : NetState) (end : TurnEnd) (unread : List ℕ) → Tells → Conforming new → Ready old net
     → (t : Turns Tells accepts app budget rest frame old new net now_net end unread) → allows (shown_places old.given.declared now_net.views (state new)) ≡ accepts now_net.views
@@ -152,6 +150,5 @@ turn-shown Tells accepts allows app budget rest frame old new net now_net end un
     let leads = chain-shown Tells app allows (length net.log) old net (Talk (give_act t.given app frame) ∷ t.trace) old new net now_net told keeps t.chain first in
     record {
       goes = leads.goes;
-      played = turn-alike (table_of allows) (accepts now_net.views) budget rest (reply_by t.given t.trace) (shown_places old.given.declared net.views (state old)) (shown_places old.given.declared now_net.views (state new)) (exchanges_in t.trace) t.answers t.outcome
-          leads.answers judges t.played;
+      played = turn_alike (table_of allows) (shown_places old.given.declared net.views (state old)) (shown_places old.given.declared now_net.views (state new)) t leads.answers judges;
     }

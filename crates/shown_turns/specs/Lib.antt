@@ -1,2 +1,1 @@
-pub mod TurnShown
 pub mod ChainShown

@@ -4,4 +4,4 @@
 
 mod turns;
 
-pub use turns::{turns_are_shown, turns_play_alike};
+pub use turns::turns_are_shown;
