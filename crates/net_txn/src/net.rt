@@ -1,6 +1,6 @@
 //! The network of the host.
 
-ghost use Rattle.std.specs.Prelude.{◌≡◌, ◌==◌, ◌≤◌, if◌then◌else◌, [], length, take, drop, slice_get, IfOk, OnOk, OnErr};
+ghost use Rattle.std.specs.Prelude.{◌≡◌, ◌≤◌, [], length, take, drop, slice_get, IfOk, OnOk, OnErr};
 ghost use Rattle.net_txn.specs.Net.{next_xid, awaited_from};
 
 use crate::heard::Awaited;
@@ -117,18 +117,6 @@ impl Net {
         ensures err { OnErr result (self.new ≡ self.old) }
     {
         self.kept.take_first()
-    }
-
-    /// Takes the room for a fault that an undo needs, where faults of earlier undos took all that there was.
-    pub fn restock(&mut self) -> Result<(), AllocError>
-        ensures ok { OnOk result (self.new ≡ record self.old { room = if self.old.room == 0 then 1 else self.old.room }) }
-        ensures err { OnErr result (self.new ≡ self.old) }
-    {
-        if self.rooms.is_empty() {
-            let room = Room::new(self.alloc)?;
-            self.rooms.push(room)?;
-        }
-        Ok(())
     }
 
     /// How much is logged.
