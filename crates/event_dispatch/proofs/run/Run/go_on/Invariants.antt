@@ -1,0 +1,14 @@
+use Rattle.std.proofs.Common.{◌≡◌, ◌*◌, ◌≤◌, length}
+use Rattle.lego_io.specs.Count.{NeverFell}
+use Rattle.outside.specs.Seen.{Continues}
+use Rattle.event_dispatch.specs.Runs.{Going}
+use Rattle.event_dispatch.proofs.run.Run.go_on.Given as goal
+
+abbrev pub invariant-loop-round : goal.invariant-loop-round
+invariant-loop-round g l = record {
+  buffer : length l.buf ≡ length l.fn.buf;
+  going : Going l.self;
+  events : l.self.events ≤ 1000 * l._round;
+  continues : Continues g.W.World.Tells (g.W.World.seen l.fn.world) (g.W.World.seen l.world);
+  never_fell : NeverFell (g.K.Sink.faults l.fn.sink) (g.K.Sink.faults l.sink);
+}

@@ -1,0 +1,4 @@
+pub mod Why
+pub mod Runs
+pub mod WhyLaws
+pub mod Joined

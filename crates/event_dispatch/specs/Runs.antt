@@ -1,0 +1,15 @@
+-- A run so far: there is room for an undo, and no more turns ended than there were events. All of this is our own.
+use Rattle.std.specs.Prelude.{◌≡◌, ◌≤◌}
+use Rattle.event_dispatch.specs.declared.run.Run.{Run}
+
+pub record Going (r : Run) : Type 0 where
+  pub room : 1 ≤ r.net.room
+  pub done : r.app.done ≤ r.events
+  pub failed : r.app.failed ≤ r.events
+
+-- no event was dispatched, and the application is as it was
+pub record Waits (old new : Run) : Type 0 where
+  pub room : new.net.room ≡ old.net.room
+  pub events : new.events ≡ old.events
+  pub done : new.app.done ≡ old.app.done
+  pub failed : new.app.failed ≡ old.app.failed

@@ -1,0 +1,215 @@
+//! A batch: what comes up to the next rest of the outside, and the events that it makes.
+
+ghost use Rattle.std.specs.Prelude.{◌≡◌, ◌≤◌, length, true, false, None, IsSome, IfOk, IfErr, OnOk};
+ghost use Rattle.outside.specs.Seen.{Continues};
+ghost use Rattle.outside.specs.Calls.{most_message, IsItemIn};
+ghost use Rattle.of_wire.specs.Spelling.{message_size};
+ghost use Rattle.net_txn.specs.Views.{rows_at};
+ghost use Rattle.event_dispatch.specs.Joined.{is_joined as is_joined_in};
+ghost use Rattle.event_dispatch.specs.Runs.{Waits};
+ghost use Rattle.event_dispatch.specs.Why.{IsWhy};
+
+use crate::run::Run;
+use crate::served::Served;
+use app_frames::{Event, EventKind};
+use net_txn::Net;
+use of_types::Dpid;
+use of_wire::{Message, WireFault, decode, encode};
+use outside::{Item, NextFault, World};
+use std::alloc::AllocError;
+
+/// So many items are a batch, though the outside has not come to rest.
+const MOST_ITEMS: u32 = 1_000_000;
+
+/// How a batch ended.
+#[derive(Clone, Copy, Debug, PartialEq, Eq)]
+pub(crate) enum Rest {
+    /// Nothing waits now.
+    Idle,
+    /// Nothing comes any more.
+    End,
+}
+
+/// Whether a switch has a view.
+fn has_view(net: &Net, dpid: Dpid) -> bool
+    ensures { result ≡ is_joined_in dpid net.now.views }
+{
+    net.views().iter().any(|view| view.dpid == dpid)
+}
+
+/// Whether a switch is joined.
+#[tactic(auto, using(crate::specs::Joined::joined_rows, crate::specs::Joined::out_rows))]
+pub(crate) fn is_joined(net: &Net, dpid: Dpid) -> bool
+    ensures joined { result ≡ true → IsSome (rows_at dpid net.now.views) }
+    ensures out { result ≡ false → rows_at dpid net.now.views ≡ None }
+{
+    has_view(net, dpid)
+}
+
+/// What the outside tells next.
+fn next_item<W: World>(world: &mut W, buf: &mut [u8]) -> Result<Item, Served>
+    requires { most_message ≤ length buf.old }
+    ensures item { IfOk result (λ item. IsItemIn W.Tells item buf.new) }
+    ensures continues { Continues W.Tells (W.seen world.old) (W.seen world.new) }
+    ensures why { IfErr result (IsWhy (W.seen world.old).counts (W.seen world.new).counts 0 0) }
+    ensures buffer { length buf.new ≡ length buf.old }
+{
+    match world.next(buf) {
+        Ok(item) => Ok(item),
+        Err(NextFault::Failed) => Err(Served::NextFault),
+        Err(NextFault::Short) => Err(Served::NoMemory),
+    }
+}
+
+impl Run {
+    /// A message came from a switch. One of a switch that is not joined is ignored.
+    #[tactic(auto, using(crate::specs::WhyLaws::arrival_why))]
+    pub(crate) fn take_message<W: World>(
+        &mut self,
+        world: &mut W,
+        dpid: Dpid,
+        frame: &[u8],
+    ) -> Result<(), Served>
+        ensures waits { OnOk result (Waits self.old self.new) }
+        ensures continues { Continues W.Tells (W.seen world.old) (W.seen world.new) }
+        ensures why { IfErr result (IsWhy (W.seen world.old).counts (W.seen world.new).counts 0 0) }
+    {
+        if !is_joined(&self.net, dpid) {
+            return Ok(());
+        }
+        if let Some(event) = self.net.arrived(world, dpid, frame)? {
+            self.queue.push(event)?;
+        }
+        Ok(())
+    }
+
+    /// A switch leaves. One that is not joined is ignored.
+    fn take_out(&mut self, dpid: Dpid) -> Result<(), AllocError>
+        ensures { OnOk result (Waits self.old self.new) }
+    {
+        if is_joined(&self.net, dpid) {
+            let event = self.net.left(dpid)?;
+            self.queue.push(event)?;
+        }
+        Ok(())
+    }
+
+    /// A switch describes itself as it joins. One that is joined is not taken in again.
+    fn take_in<W: World>(&mut self, world: &mut W, dpid: Dpid, frame: &[u8]) -> Result<(), Served>
+        ensures waits { OnOk result (Waits self.old self.new) }
+        ensures continues { Continues W.Tells (W.seen world.old) (W.seen world.new) }
+        ensures why { IfErr result (IsWhy (W.seen world.old).counts (W.seen world.new).counts 0 0) }
+    {
+        if is_joined(&self.net, dpid) {
+            return Ok(());
+        }
+        match decode(self.alloc, frame) {
+            Ok(envelope) => self.join(world, dpid, &envelope.message),
+            Err(WireFault::NoMemory) => Err(Served::NoMemory),
+            Err(_) => Ok(()),
+        }
+    }
+
+    /// A switch joins with what it says of itself.
+    fn join<W: World>(&mut self, world: &mut W, dpid: Dpid, message: &Message) -> Result<(), Served>
+        requires out { rows_at dpid self.old.net.views ≡ None }
+        requires fits { message_size message.now ≤ 65535 }
+        ensures waits { OnOk result (Waits self.old self.new) }
+        ensures continues { Continues W.Tells (W.seen world.old) (W.seen world.new) }
+        ensures why { IfErr result (IsWhy (W.seen world.old).counts (W.seen world.new).counts 0 0) }
+    {
+        if let Message::FeaturesReply(features) = message {
+            self.net.joined(world, dpid, features)?;
+            self.announce(dpid, message)?;
+        }
+        Ok(())
+    }
+
+    /// The event that a switch joined.
+    fn announce(&mut self, dpid: Dpid, message: &Message) -> Result<(), AllocError>
+        requires { message_size message.now ≤ 65535 }
+        ensures { OnOk result (Waits self.old self.new) }
+    {
+        let body = encode(self.alloc, 0, message)?;
+        let kind = EventKind::Join;
+        self.queue.push(Event { kind, dpid, body })?;
+        Ok(())
+    }
+
+    /// Takes one item. Bytes that it has stand in the buffer.
+    fn take_item<W: World>(&mut self, world: &mut W, item: Item, buf: &[u8]) -> Result<(), Served>
+        requires { IsItemIn W.Tells item buf.now }
+        ensures waits { OnOk result (Waits self.old self.new) }
+        ensures continues { Continues W.Tells (W.seen world.old) (W.seen world.new) }
+        ensures why { IfErr result (IsWhy (W.seen world.old).counts (W.seen world.new).counts 0 0) }
+    {
+        match item {
+            Item::From(dpid, size) => self.take_message(world, dpid, &buf[..size]),
+            Item::Joined(dpid, size) => self.take_in(world, dpid, &buf[..size]),
+            Item::Left(dpid) => Ok(self.take_out(dpid)?),
+            Item::Moment(moment) => {
+                self.net.set_moment(moment);
+                Ok(())
+            }
+            Item::Idle | Item::End => Ok(()),
+        }
+    }
+
+    /// Takes the messages that were kept while something else was awaited, oldest first, and answers how many items the
+    /// batch can still have.
+    #[tactic(auto, using(crate::specs::WhyLaws::continues_then, crate::specs::WhyLaws::why_then, crate::specs::WhyLaws::waits_then))]
+    fn take_kept<W: World>(&mut self, world: &mut W) -> Result<u32, Served>
+        ensures waits { OnOk result (Waits self.old self.new) }
+        ensures continues { Continues W.Tells (W.seen world.old) (W.seen world.new) }
+        ensures why { IfErr result (IsWhy (W.seen world.old).counts (W.seen world.new).counts 0 0) }
+    {
+        for taken in 0..MOST_ITEMS {
+            let Some((dpid, message)) = self.net.waiting()? else {
+                return Ok(MOST_ITEMS - taken);
+            };
+            self.take_message(world, dpid, message.as_slice())?;
+        }
+        Ok(0)
+    }
+
+    /// Takes what the outside tells next, and answers whether the batch is over.
+    fn take_next<W: World>(&mut self, world: &mut W, buf: &mut [u8]) -> Result<Option<Rest>, Served>
+        requires { most_message ≤ length buf.old }
+        ensures waits { OnOk result (Waits self.old self.new) }
+        ensures continues { Continues W.Tells (W.seen world.old) (W.seen world.new) }
+        ensures why { IfErr result (IsWhy (W.seen world.old).counts (W.seen world.new).counts 0 0) }
+        ensures buffer { length buf.new ≡ length buf.old }
+    {
+        let item = next_item(world, buf)?;
+        match item {
+            Item::Idle => Ok(Some(Rest::Idle)),
+            Item::End => Ok(Some(Rest::End)),
+            _ => {
+                self.take_item(world, item, buf)?;
+                Ok(None)
+            }
+        }
+    }
+
+    /// Takes a batch: the messages that were kept while something else was awaited, then what the outside tells.
+    #[tactic(auto, using(crate::specs::WhyLaws::continues_then, crate::specs::WhyLaws::why_then, crate::specs::WhyLaws::waits_then))]
+    pub(crate) fn take_batch<W: World>(
+        &mut self,
+        world: &mut W,
+        buf: &mut [u8],
+    ) -> Result<Rest, Served>
+        requires { most_message ≤ length buf.old }
+        ensures waits { OnOk result (Waits self.old self.new) }
+        ensures continues { Continues W.Tells (W.seen world.old) (W.seen world.new) }
+        ensures why { IfErr result (IsWhy (W.seen world.old).counts (W.seen world.new).counts 0 0) }
+        ensures buffer { length buf.new ≡ length buf.old }
+    {
+        let left = self.take_kept(world)?;
+        for _item in 0..left {
+            if let Some(rest) = self.take_next(world, buf)? {
+                return Ok(rest);
+            }
+        }
+        Ok(Rest::Idle)
+    }
+}

@@ -1,0 +1,224 @@
+//! Events, given to the application one after the other.
+
+ghost use Rattle.std.specs.Prelude.{◌≡◌, ℕ, ◌+◌, ◌^◌, ◌<◌, ◌≤◌, IfErr, OnOk};
+ghost use Rattle.lego_io.specs.Count.{NeverFell};
+ghost use Rattle.app_frames.specs.declared.frame.HostFrame.TheVariants as host;
+ghost use Rattle.app_frames.specs.Frames.{HostFits};
+ghost use Rattle.outside.specs.Seen.{Continues};
+ghost use Rattle.event_dispatch.specs.Runs.{Going, Waits};
+ghost use Rattle.event_dispatch.specs.Why.{IsWhy};
+
+use crate::run::{NAME, Run};
+use crate::served::Served;
+use app_frames::Event;
+use app_visor::{AppState, Back, TurnEnd, restart, turn};
+use lego_io::Sink;
+use net_txn::{EventQueue, Net, Txn};
+use outside::{Judge, World};
+use report_text::{TurnWord, event_line, gone_line, start_line, turn_line};
+use std::alloc::{AllocError, Global};
+
+/// How many events are dispatched after a batch; the rest waits for the next one.
+const MOST_EVENTS: u32 = 1_000;
+
+/// How many frames an application may take for a turn.
+const BUDGET: u32 = 1_000;
+
+/// How many bytes an event may have in a frame whose length four bytes can say.
+const MOST_BODY: usize = 0xffff_ffff - 26;
+
+/// The turn of the application, whose changes are kept where it was done and undone where it failed.
+#[tactic(auto, using(crate::specs::WhyLaws::continues_then, crate::specs::WhyLaws::why_then, crate::specs::WhyLaws::why_before, crate::specs::WhyLaws::undo_why, crate::specs::WhyLaws::stops_why))]
+fn play<W: World, J: Judge>(
+    alloc: Global,
+    world: &mut W,
+    net: &mut Net,
+    queue: &mut EventQueue,
+    judge: &J,
+    app: &mut AppState,
+    number: u64,
+    event: &Event,
+) -> Result<TurnEnd, Served>
+    requires room { 1 ≤ net.old.room }
+    requires fits { HostFits (host.Event number net.old.moment event.now) }
+    ensures room { OnOk result (net.new.room ≡ net.old.room) }
+    ensures continues { Continues W.Tells (W.seen world.old) (W.seen world.new) }
+    ensures why { IfErr result (IsWhy (W.seen world.old).counts (W.seen world.new).counts 0 0) }
+{
+    let mut txn = Txn::begin(net);
+    match turn(alloc, world, &mut txn, judge, app, number, event, BUDGET) {
+        Ok(TurnEnd::Done { stop }) => {
+            txn.commit(world, queue)?;
+            Ok(TurnEnd::Done { stop })
+        }
+        Ok(TurnEnd::Failed(cause)) => {
+            txn.abort(world)?;
+            Ok(TurnEnd::Failed(cause))
+        }
+        Err(fault) => {
+            let _ = txn.abort(world);
+            Err(Served::from(fault))
+        }
+    }
+}
+
+impl Run {
+    /// Appends the line of how a turn ended.
+    fn note_turn(&mut self, word: TurnWord) -> Result<(), AllocError>
+        ensures { OnOk result (Waits self.old self.new) }
+    {
+        let line = turn_line(self.alloc, NAME, &word)?;
+        self.note(&line)
+    }
+
+    /// Starts the application, in at most three attempts.
+    #[tactic(auto, using(crate::specs::WhyLaws::waits_then))]
+    pub(crate) fn start<W: World>(&mut self, world: &mut W) -> Result<(), AllocError>
+        ensures waits { OnOk result (Waits self.old self.new) }
+        ensures continues { Continues W.Tells (W.seen world.old) (W.seen world.new) }
+    {
+        let back = restart(self.alloc, world, &mut self.app.state, &[])?;
+        self.note_start(back)
+    }
+
+    /// Appends the lines of the attempts to start the application.
+    #[tactic(auto, using(crate::specs::WhyLaws::waits_then))]
+    fn note_start(&mut self, back: Back) -> Result<(), AllocError>
+        ensures { OnOk result (Waits self.old self.new) }
+    {
+        for tried in back.tries.iter() {
+            let line = start_line(self.alloc, NAME, tried)?;
+            self.note(&line)?;
+        }
+        if !back.back {
+            let line = gone_line(self.alloc, NAME)?;
+            self.note(&line)?;
+        }
+        Ok(())
+    }
+
+    /// What follows of a turn that was closed: it is counted and told, and an application that failed is started again.
+    fn close<W: World>(&mut self, world: &mut W, end: TurnEnd) -> Result<(), AllocError>
+        requires done { self.old.app.done < self.old.events }
+        requires failed { self.old.app.failed < self.old.events }
+        requires room { 1 ≤ self.old.net.room }
+        ensures going { OnOk result (Going self.new) }
+        ensures events { OnOk result (self.new.events ≡ self.old.events) }
+        ensures continues { Continues W.Tells (W.seen world.old) (W.seen world.new) }
+    {
+        match end {
+            TurnEnd::Done { stop } => {
+                self.app.done += 1;
+                self.note_turn(if stop { TurnWord::Stop } else { TurnWord::Done })
+            }
+            TurnEnd::Failed(cause) => {
+                self.app.failed += 1;
+                self.note_turn(TurnWord::Failed(cause))?;
+                self.start(world)
+            }
+        }
+    }
+
+    /// Gives the application its turn at an event, whose frame four bytes can count.
+    fn take_turn<W: World, J: Judge>(
+        &mut self,
+        world: &mut W,
+        judge: &J,
+        event: &Event,
+    ) -> Result<(), Served>
+        requires done { self.old.app.done < self.old.events }
+        requires failed { self.old.app.failed < self.old.events }
+        requires room { 1 ≤ self.old.net.room }
+        requires fits { HostFits (host.Event self.old.events self.old.net.moment event.now) }
+        ensures going { OnOk result (Going self.new) }
+        ensures events { OnOk result (self.new.events ≡ self.old.events) }
+        ensures continues { Continues W.Tells (W.seen world.old) (W.seen world.new) }
+        ensures why { IfErr result (IsWhy (W.seen world.old).counts (W.seen world.new).counts 0 0) }
+    {
+        let end = play(
+            self.alloc,
+            world,
+            &mut self.net,
+            &mut self.queue,
+            judge,
+            &mut self.app.state,
+            self.events,
+            event,
+        )?;
+        Ok(self.close(world, end)?)
+    }
+
+    /// Gives an event to the application, while it is alive.
+    fn dispatch<W: World, J: Judge>(
+        &mut self,
+        world: &mut W,
+        judge: &J,
+        event: &Event,
+    ) -> Result<(), Served>
+        requires going { Going self.old }
+        requires few { self.old.events < 2 ^ 63 }
+        ensures going { OnOk result (Going self.new) }
+        ensures events { OnOk result (self.new.events ≡ self.old.events + 1) }
+        ensures continues { Continues W.Tells (W.seen world.old) (W.seen world.new) }
+        ensures why { IfErr result (IsWhy (W.seen world.old).counts (W.seen world.new).counts 0 0) }
+    {
+        self.events += 1;
+        let line = event_line(self.alloc, self.events, event.kind, event.dpid)?;
+        self.note(&line)?;
+        if !self.app.state.alive {
+            return Ok(());
+        }
+        if event.body.len() > MOST_BODY {
+            return Err(Served::NoMemory);
+        }
+        self.take_turn(world, judge, event)
+    }
+
+    /// Dispatches the oldest event that waits, and writes its lines; answers whether there was one.
+    #[tactic(auto, using(crate::specs::WhyLaws::why_sink))]
+    fn settle_one<W: World, J: Judge, K: Sink>(
+        &mut self,
+        world: &mut W,
+        judge: &J,
+        sink: &mut K,
+    ) -> Result<bool, Served>
+        requires going { Going self.old }
+        requires few { self.old.events < 2 ^ 63 }
+        ensures going { OnOk result (Going self.new) }
+        ensures events { OnOk result (self.new.events ≤ self.old.events + 1) }
+        ensures continues { Continues W.Tells (W.seen world.old) (W.seen world.new) }
+        ensures never_fell { NeverFell (K.faults sink.old) (K.faults sink.new) }
+        ensures why { IfErr result (IsWhy (W.seen world.old).counts (W.seen world.new).counts (K.faults sink.old) (K.faults sink.new)) }
+    {
+        let Some(event) = self.queue.take_first() else {
+            return Ok(false);
+        };
+        self.dispatch(world, judge, &event)?;
+        self.write(sink)?;
+        Ok(true)
+    }
+
+    /// Dispatches the events that wait, first in first out, and those that join them meanwhile, up to 1,000.
+    #[tactic(auto, using(crate::specs::WhyLaws::continues_then, crate::specs::WhyLaws::why_behind, crate::specs::WhyLaws::fell_then))]
+    pub(crate) fn settle<W: World, J: Judge, K: Sink>(
+        &mut self,
+        world: &mut W,
+        judge: &J,
+        sink: &mut K,
+    ) -> Result<(), Served>
+        requires going { Going self.old }
+        requires few { self.old.events < 2 ^ 62 }
+        ensures going { OnOk result (Going self.new) }
+        ensures events { OnOk result (self.new.events ≤ self.old.events + 1000) }
+        ensures continues { Continues W.Tells (W.seen world.old) (W.seen world.new) }
+        ensures never_fell { NeverFell (K.faults sink.old) (K.faults sink.new) }
+        ensures why { IfErr result (IsWhy (W.seen world.old).counts (W.seen world.new).counts (K.faults sink.old) (K.faults sink.new)) }
+    {
+        for _event in 0..MOST_EVENTS {
+            if !self.settle_one(world, judge, sink)? {
+                break;
+            }
+        }
+        Ok(())
+    }
+}

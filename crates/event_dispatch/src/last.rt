@@ -1,0 +1,140 @@
+//! The end of a report: the tables of the joined switches, the application, and how many events there were.
+
+ghost use Rattle.std.specs.Prelude.{◌≡◌, ◌<◌, ◌≤◌, length, IsSome, IfSome, IfErr, OnOk, slice_index};
+ghost use Rattle.flow_table.specs.declared.view.TableView.{TableView};
+ghost use Rattle.outside.specs.Seen.{Continues};
+ghost use Rattle.net_txn.specs.Views.{rows_at};
+ghost use Rattle.event_dispatch.specs.Runs.{Waits};
+ghost use Rattle.event_dispatch.specs.Why.{IsWhy};
+
+use crate::batch::is_joined;
+use crate::run::{NAME, Run};
+use crate::served::Served;
+use flow_table::ViewRow;
+use of_match::Key;
+use of_stats::{FlowRow, RowList};
+use of_types::Dpid;
+use outside::World;
+use report_text::{app_line, end_line, flow_line, switch_line};
+use std::alloc::AllocError;
+
+/// Where the row of a key stands, from a place on.
+fn place_from(rows: &[ViewRow], from: usize, key: &Key) -> Option<usize>
+    ensures { IfSome result (λ at. at < length rows.now) }
+{
+    for at in from..rows.len() {
+        if rows[at].key == *key {
+            return Some(at);
+        }
+    }
+    None
+}
+
+impl Run {
+    /// Appends the line of an entry, with the flags with which its owner asked for it.
+    fn note_flow(&mut self, row: &FlowRow, flags: u16) -> Result<(), AllocError>
+        ensures { OnOk result (Waits self.old self.new) }
+    {
+        let line = flow_line(self.alloc, row, flags)?;
+        self.note(&line)
+    }
+
+    /// The flags of the owner of an entry of a switch, and where the next one is looked for. Rows and entries stand in key
+    /// order.
+    fn flags_of(&self, dpid: Dpid, from: usize, key: &Key) -> (u16, usize) {
+        for view in self.net.views() {
+            if view.dpid == dpid {
+                let rows = view.rows.as_slice();
+                if let Some(at) = place_from(rows, from, key) {
+                    return (rows[at].flags, at + 1);
+                }
+            }
+        }
+        (0, from)
+    }
+
+    /// Appends the lines of the entries of a switch.
+    #[tactic(auto, using(crate::specs::WhyLaws::waits_then))]
+    fn note_flows(&mut self, dpid: Dpid, rows: &RowList) -> Result<(), AllocError>
+        ensures { OnOk result (Waits self.old self.new) }
+    {
+        let mut from = 0;
+        for row in rows.as_slice() {
+            let (flags, next) = self.flags_of(dpid, from, &row.key);
+            from = next;
+            self.note_flow(row, flags)?;
+        }
+        Ok(())
+    }
+
+    /// Appends how many entries a switch has, and each.
+    #[tactic(auto, using(crate::specs::WhyLaws::waits_then))]
+    fn note_rows(&mut self, dpid: Dpid, rows: &RowList) -> Result<(), AllocError>
+        ensures { OnOk result (Waits self.old self.new) }
+    {
+        let line = switch_line(self.alloc, dpid, rows.len() as u64)?;
+        self.note(&line)?;
+        self.note_flows(dpid, rows)
+    }
+
+    /// Asks a joined switch for its entries.
+    fn ask_rows<W: World>(&mut self, world: &mut W, dpid: Dpid) -> Result<RowList, Served>
+        requires { IsSome (rows_at dpid self.old.net.views) }
+        ensures waits { OnOk result (Waits self.old self.new) }
+        ensures continues { Continues W.Tells (W.seen world.old) (W.seen world.new) }
+        ensures why { IfErr result (IsWhy (W.seen world.old).counts (W.seen world.new).counts 0 0) }
+    {
+        match self.net.rows(world, dpid) {
+            Ok(rows) => Ok(rows),
+            Err(fault) => Err(Served::from(fault)),
+        }
+    }
+
+    /// Asks a switch for its entries, and appends their lines. One that is not joined has none.
+    #[tactic(auto, using(crate::specs::WhyLaws::waits_then))]
+    fn note_table<W: World>(&mut self, world: &mut W, dpid: Dpid) -> Result<(), Served>
+        ensures waits { OnOk result (Waits self.old self.new) }
+        ensures continues { Continues W.Tells (W.seen world.old) (W.seen world.new) }
+        ensures why { IfErr result (IsWhy (W.seen world.old).counts (W.seen world.new).counts 0 0) }
+    {
+        if !is_joined(&self.net, dpid) {
+            return Ok(());
+        }
+        let rows = self.ask_rows(world, dpid)?;
+        Ok(self.note_rows(dpid, &rows)?)
+    }
+
+    /// The joined switches, by number.
+    fn switches(&self) -> Result<Vec<Dpid>, AllocError> {
+        let mut switches = Vec::new(self.alloc);
+        for view in self.net.views() {
+            switches.push(view.dpid)?;
+        }
+        Ok(switches)
+    }
+
+    /// Appends the lines of the application and of the end.
+    fn note_end(&mut self) -> Result<(), AllocError>
+        ensures { OnOk result (Waits self.old self.new) }
+    {
+        let app = &self.app;
+        let line = app_line(self.alloc, NAME, app.state.alive, app.done, app.failed)?;
+        let last = end_line(self.alloc, self.net.moment(), self.events)?;
+        self.note(&line)?;
+        self.note(&last)
+    }
+
+    /// Appends the last lines: the tables of the joined switches, by number, the application, and the end.
+    #[tactic(auto, using(crate::specs::WhyLaws::continues_then, crate::specs::WhyLaws::why_then, crate::specs::WhyLaws::waits_then))]
+    pub(crate) fn note_last<W: World>(&mut self, world: &mut W) -> Result<(), Served>
+        ensures waits { OnOk result (Waits self.old self.new) }
+        ensures continues { Continues W.Tells (W.seen world.old) (W.seen world.new) }
+        ensures why { IfErr result (IsWhy (W.seen world.old).counts (W.seen world.new).counts 0 0) }
+    {
+        let switches = self.switches()?;
+        for dpid in switches.iter() {
+            self.note_table(world, *dpid)?;
+        }
+        Ok(self.note_end()?)
+    }
+}

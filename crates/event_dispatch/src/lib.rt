@@ -1,0 +1,12 @@
+//! The engine: it takes what the outside tells, makes events of it, gives them to the application, and writes the report.
+#![tactic(auto)]
+
+mod batch;
+mod dispatch;
+mod last;
+mod run;
+mod served;
+mod whole;
+
+pub use served::Served;
+pub use whole::serve;

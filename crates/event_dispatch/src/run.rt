@@ -1,0 +1,85 @@
+//! What the engine keeps of a run.
+
+ghost use Rattle.std.specs.Prelude.{◌≡◌, IfOk, OnOk, OnErr};
+ghost use Rattle.lego_io.specs.Count.{Rose, NeverFell};
+ghost use Rattle.event_dispatch.specs.Runs.{Going, Waits};
+
+use app_visor::AppState;
+use lego_io::{Sink, WriteFault, write_all};
+use net_txn::{EventQueue, Net};
+use of_types::ByteList;
+use std::alloc::{AllocError, Global};
+
+/// The name of the one application.
+pub(crate) const NAME: &str = "app";
+
+/// The index of the one application.
+pub(crate) const INDEX: u32 = 0;
+
+/// An application with what it has done.
+#[derive(Drop, Debug)]
+pub(crate) struct Managed {
+    pub(crate) state: AppState,
+    /// How many turns completed.
+    pub(crate) done: u64,
+    /// How many turns failed.
+    pub(crate) failed: u64,
+}
+
+/// A run so far.
+#[derive(Drop, Debug)]
+pub(crate) struct Run {
+    pub(crate) alloc: Global,
+    pub(crate) net: Net,
+    pub(crate) queue: EventQueue,
+    /// How many events were dispatched.
+    pub(crate) events: u64,
+    pub(crate) app: Managed,
+    /// Lines of the report that were not written yet.
+    pub(crate) lines: Vec<u8>,
+}
+
+impl Run {
+    /// A run of which nothing has happened.
+    pub(crate) fn new(alloc: Global) -> Result<Run, AllocError>
+        ensures going { IfOk result Going }
+        ensures events { IfOk result (λ r. r.events ≡ 0) }
+    {
+        let state = AppState {
+            index: INDEX,
+            alive: false,
+            rest: ByteList::new(alloc),
+        };
+        Ok(Run {
+            alloc,
+            net: Net::new(alloc)?,
+            queue: EventQueue::new(alloc),
+            events: 0,
+            app: Managed {
+                state,
+                done: 0,
+                failed: 0,
+            },
+            lines: Vec::new(alloc),
+        })
+    }
+
+    /// Appends a line to those that are to be written.
+    pub(crate) fn note(&mut self, line: &ByteList) -> Result<(), AllocError>
+        ensures { OnOk result (Waits self.old self.new) }
+    {
+        self.lines.extend_from_slice(line.as_slice())?;
+        Ok(())
+    }
+
+    /// Writes the lines, after which none is left.
+    pub(crate) fn write<K: Sink>(&mut self, sink: &mut K) -> Result<(), WriteFault>
+        ensures waits { OnOk result (Waits self.old self.new) }
+        ensures rose { OnErr result (Rose (K.faults sink.old) (K.faults sink.new)) }
+        ensures never_fell { NeverFell (K.faults sink.old) (K.faults sink.new) }
+    {
+        write_all(sink, &self.lines)?;
+        self.lines.clear();
+        Ok(())
+    }
+}
