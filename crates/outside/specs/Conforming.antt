@@ -1,6 +1,7 @@
 -- A world that keeps its word: each step of its history is one that a world of OpenFlow 1.0.0 switches may make in the state
 -- before it. What a stimulus may be, and the order of the items, are our own choice.
 use Rattle.std.specs.Prelude.{◌≡◌, ℕ, ◌+◌, ◌<◌, ◌≤◌, ◌^◌, Bool, true, false, not, ◌||◌, List, [], ◌∷◌, length, Some, Result, Ok, Err, IsTrue, IsOk, slice_get}
+use Rattle.std.specs.List.{AllByRecursion}
 use Rattle.of_types.specs.declared.journal.Act.{Act}
 use Rattle.of_types.specs.declared.journal.Act.TheVariants.{Stim, Started, Gave, Gone, Took, Ended, Sent, Got}
 use Rattle.of_types.specs.declared.journal.Stimulus.{Stimulus}
@@ -26,6 +27,17 @@ use Rattle.outside.specs.Calls.{IsIdle, IsOver}
 abbrev pub AreDeclaredFrom : ℕ → List Declared → Type 0
 AreDeclaredFrom least [] = Unit {0}
 AreDeclaredFrom least (x ∷ xs) = (least ≤ x.dpid) × (x.cap ≤ 4096) × AreDeclaredFrom (x.dpid + 1) xs
+
+-- Ports are numbered from 1 to 65,280, strictly ascending.
+abbrev pub ArePortsFrom : ℕ → List ℕ → Type 0
+ArePortsFrom least [] = Unit {0}
+ArePortsFrom least (p ∷ ps) = (least ≤ p) × (p ≤ 65280) × ArePortsFrom (p + 1) ps
+
+-- A switch has a number of 64 bits, and at most 64 ports.
+pub record MayDeclare (d : Declared) : Type 0 where
+  pub number : d.dpid < 2 ^ 64
+  pub ports : ArePortsFrom 1 d.ports
+  pub few : length d.ports ≤ 64
 
 -- ---- What may be a stimulus
 
@@ -104,4 +116,5 @@ MaySteps declared (step ∷ steps) s = MayStep declared step s × MaySteps decla
 
 pub record Conforming {Own : Type 0} (seen : Seen Own) : Type 0 where
   pub declared : AreDeclaredFrom 1 seen.given.declared
+  pub switches : AllByRecursion MayDeclare seen.given.declared
   pub steps : MaySteps seen.given.declared seen.history (at_first seen.given)

@@ -1,5 +1,6 @@
 -- Laws of the state that a history leaves, and of a world that keeps its word.
 use Rattle.std.specs.Prelude.{◌≡◌, List, [], ◌∷◌, ◌++◌, refl}
+use Rattle.std.specs.List.{AllByRecursion}
 use Rattle.std.proofs.Common.{sym, ap, ◌∙◌, subst}
 use Rattle.of_types.specs.declared.journal.Act.{Act}
 use Rattle.of_types.specs.declared.journal.Act.TheVariants.{Stim, Started, Gave, Gone, Took, Ended, Sent, Got}
@@ -9,7 +10,7 @@ use Rattle.outside.specs.declared.step.WorldStep.{WorldStep}
 use Rattle.outside.specs.declared.step.WorldStep.TheVariants.{Acted, TookInto, From, Joined, Left, Moment, Idle, End, Opened, NotOpened, NextFailed, SendFailed, RecvFailed}
 use Rattle.outside.specs.Seen.{Given, Seen, Continues}
 use Rattle.outside.specs.State.{State, at_first, switch_of, after_stim, after_act, after_step, after_steps, state, but_marks}
-use Rattle.outside.specs.Conforming.{MaySteps, AreDeclaredFrom, Conforming}
+use Rattle.outside.specs.Conforming.{MaySteps, AreDeclaredFrom, MayDeclare, Conforming}
 
 -- ---- A longer history
 
@@ -48,6 +49,7 @@ Conforming-front old new steps same longer keeps =
     subst (λ (xs : List WorldStep). MaySteps new.given.declared xs (at_first new.given)) longer keeps.steps in
     record {
       declared = subst (λ (g : Given _). AreDeclaredFrom 1 g.declared) same keeps.declared;
+      switches = subst (λ (g : Given _). AllByRecursion MayDeclare g.declared) same keeps.switches;
       steps = subst (λ (g : Given _). MaySteps g.declared old.history (at_first g)) same (MaySteps-front new.given.declared old.history steps (at_first new.given) may);
     }
 
@@ -68,6 +70,7 @@ Conforming-append old new steps same longer keeps may =
     subst (λ (g : Given _). MaySteps g.declared (old.history ++ steps) (at_first g)) (sym same) all in
     record {
       declared = subst (λ (g : Given _). AreDeclaredFrom 1 g.declared) (sym same) keeps.declared;
+      switches = subst (λ (g : Given _). AllByRecursion MayDeclare g.declared) (sym same) keeps.switches;
       steps = subst (λ (xs : List WorldStep). MaySteps new.given.declared xs (at_first new.given)) (sym longer) given_so;
     }
 

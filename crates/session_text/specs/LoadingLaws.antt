@@ -18,13 +18,13 @@ use Rattle.of_wire.specs.Spelling.{kind_of}
 use Rattle.flow_table.specs.Switch.{Declared}
 use Rattle.outside.specs.Seen.{Given, is_declared}
 use Rattle.outside.specs.State.{moment_after}
-use Rattle.outside.specs.Conforming.{IsWorldStim, IsStimulus as IsStimulusOf, may_be_raw as may_send, is_unasked as sends_unasked}
+use Rattle.outside.specs.Conforming.{ArePortsFrom, IsWorldStim, IsStimulus as IsStimulusOf, may_be_raw as may_send, is_unasked as sends_unasked}
 use Rattle.sim_world.specs.Scripts.{Scripts}
 use Rattle.sim_world.specs.World.{WorldData, given_of, CanCome}
 use Rattle.sim_world.specs.Building.{insert_declared, with_stimulus, last_moment_from, last_moment_of, nothing_given, Gets}
 use Rattle.sim_world.specs.BuildingLaws.{is_declared-insert, length-insert_declared}
 use Rattle.lego_model.specs.SessionLines.{SessionValue, may_be_raw, is_unasked}
-use Rattle.lego_model.specs.SessionFacts.{IsSwitch, IsKnown, IsStimulus, MayHappen, moments, IsSession}
+use Rattle.lego_model.specs.SessionFacts.{IsPort, IsSwitch, IsKnown, IsStimulus, MayHappen, moments, IsSession}
 use Rattle.session_text.specs.Loading.{declared_of, declared_with, with_switches, with_faults, with_starts, with_replies, with_stimuli, given_by}
 
 -- ---- Switches
@@ -34,6 +34,7 @@ pub record IsNewSwitch (declared : List Declared) (d : ℕ × ℕ × List ℕ) :
   pub number : 1 ≤ d.0
   pub cap : d.1 ≤ 4096
   pub ports : length d.2 ≤ 64
+  pub ports_so : ArePortsFrom 1 d.2
   pub absent : is_declared d.0 declared ≡ false
   pub few : length declared < 64
 
@@ -50,6 +51,23 @@ first_differs d ds differ = λ i e less. differ zero (suc i) e (omega arith) (om
 
 others_differ : (d : ℕ × ℕ × List ℕ) (ds : List (ℕ × ℕ × List ℕ)) → AllPairs DiffersFrom (d ∷ ds) → AllPairs DiffersFrom ds
 others_differ d ds differ = λ i j e less within. differ (suc i) (suc j) e (omega arith) (omega arith)
+
+-- ports that ascend, each within its limits, stand as the definition of a world that keeps its word has them
+abbrev Below : ℕ → ℕ → Type 0
+Below port later = port < later
+
+above_first : (port : ℕ) (ports : List ℕ) → AllPairs Below (port ∷ ports) → All (λ later. port + 1 ≤ later) ports
+above_first port ports rise = λ i e less.
+    let above : port < slice_index_or ports i e = rise zero (suc i) e (omega arith) (omega arith) in
+    omega (arith, above)
+
+ports_from : (least : ℕ) (ports : List ℕ) → All IsPort ports → AllPairs Below ports → All (λ port. least ≤ port) ports → ArePortsFrom least ports
+ports_from least [] are rise above = tt
+ports_from least (port ∷ ports) are rise above = (
+  All-head (λ p. least ≤ p) port ports above,
+  (All-head IsPort port ports are).1,
+  ports_from (port + 1) ports (All-tail IsPort port ports are) (λ i j e less within. rise (suc i) (suc j) e (omega arith) (omega arith)) (above_first port ports rise),
+)
 
 absent_still : (declared : List Declared) (d e : ℕ × ℕ × List ℕ) → DiffersFrom d e → is_declared e.0 declared ≡ false → is_declared e.0 (insert_declared (declared_of d) declared) ≡ false
 absent_still declared d e differs absent =
@@ -69,6 +87,7 @@ may_declare declared (d ∷ ds) are differ absent few =
         number = is.numbered.0;
         cap = is.roomy.1;
         ports = is.few_ports;
+        ports_so = ports_from 1 d.2 is.ports is.ascending (λ i e less. (is.ports i e less).0);
         absent = All-head (λ e. is_declared e.0 declared ≡ false) d ds absent;
         few = omega (arith, few);
       },

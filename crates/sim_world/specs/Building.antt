@@ -1,5 +1,6 @@
 -- What a simulated world is given before anything happens. All of this is our own choice.
 use Rattle.std.specs.Prelude.{◌≡◌, ℕ, List, [], ◌∷◌, ◌++◌, nat_lt, if◌then◌else◌}
+use Rattle.std.specs.List.{AllByRecursion}
 use Rattle.of_types.specs.declared.journal.WorldStim.{WorldStim}
 use Rattle.app_frames.specs.declared.script.ScriptStep.{ScriptStep}
 use Rattle.app_frames.specs.declared.script.StartScript.{StartScript}
@@ -7,7 +8,7 @@ use Rattle.flow_table.specs.Switch.{Declared}
 use Rattle.outside.specs.declared.call.FailCall.{FailCall}
 use Rattle.outside.specs.Seen.{Given, Seen, Counts}
 use Rattle.outside.specs.State.{at_first, moment_after}
-use Rattle.outside.specs.Conforming.{AreDeclaredFrom}
+use Rattle.outside.specs.Conforming.{AreDeclaredFrom, MayDeclare}
 use Rattle.sim_world.specs.Tally.{CountsFor, counts_of}
 use Rattle.sim_world.specs.Told.{without_links}
 use Rattle.sim_world.specs.Scripts.{Scripts}
@@ -54,9 +55,10 @@ last_moment_from moment (x ∷ xs) = last_moment_from (moment_after x moment) xs
 abbrev pub last_moment_of : List WorldStim → ℕ
 last_moment_of stimuli = last_moment_from 0 stimuli
 
--- switches by number, and stimuli of those, with moments that do not go back
+-- switches by number, each one that may be declared, and stimuli of those, with moments that do not go back
 pub record MayBeGiven (given : Given Scripts) : Type 0 where
   pub declared : AreDeclaredFrom 1 given.declared
+  pub switches : AllByRecursion MayDeclare given.declared
   pub stimuli : CanCome given.declared 0 given.stimuli
 
 -- ---- A world in which nothing happened yet

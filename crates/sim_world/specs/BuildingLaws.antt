@@ -1,7 +1,7 @@
 -- Laws of what a simulated world is given: what one thing more makes of a world in which nothing happened yet, and that such a world
 -- stands.
 use Rattle.std.specs.Prelude.{◌≡◌, ◌==◌, ℕ, ◌+◌, ◌-◌, ◌<◌, ◌≤◌, Bool, true, false, ◌&&◌, ◌||◌, nat_lt, List, [], ◌∷◌, ◌++◌, map, take, All, Option, Some, None, length, IsTrue, IsOk, OnOk, OnErr, Result, Ok, Err, refl, if◌then◌else◌, cond}
-use Rattle.std.specs.List.{list_any, filter}
+use Rattle.std.specs.List.{AllByRecursion, list_any, filter}
 use Rattle.std.specs.Option.{is_some}
 use Rattle.std.proofs.Common.{suc, sym, ap, ◌∙◌, subst, arith, length-append}
 use Rattle.std.proofs.lemmas.Bool.{eqb-true, eqb-false, eq-eqb, ne_eqb, cond_both, ltb-true, ltb-false, true≢false, false≢true}
@@ -18,7 +18,7 @@ use Rattle.flow_table.specs.Switch.{Declared}
 use Rattle.outside.specs.declared.call.FailCall.{FailCall}
 use Rattle.outside.specs.Seen.{Given, is_declared}
 use Rattle.outside.specs.State.{Link, State, at_first, state, but_marks, after_steps, is_link_call, fails_of, link_at_first, link_of, with_link, moment_after}
-use Rattle.outside.specs.Conforming.{AreDeclaredFrom, IsWorldStim}
+use Rattle.outside.specs.Conforming.{AreDeclaredFrom, MayDeclare, IsWorldStim}
 use Rattle.of_wire.specs.Reading.{reading_of}
 use Rattle.outside.specs.declared.step.WorldStep.{WorldStep}
 use Rattle.sim_world.specs.Links.{IsDue, fails_at, insert_link}
@@ -98,6 +98,12 @@ AreDeclaredFrom-insert least d (e ∷ es) from small absent are =
     rest_of true absent = absurd (true≢false absent)
     rest_of false absent = absent
 
+MayDeclare-insert : (d : Declared) (ds : List Declared) → MayDeclare d → AllByRecursion MayDeclare ds → AllByRecursion MayDeclare (insert_declared d ds)
+MayDeclare-insert d [] may are = (may, tt)
+MayDeclare-insert d (e ∷ es) may are =
+    cond_both (nat_lt d.dpid e.dpid) (d ∷ e ∷ es) (e ∷ insert_declared d es) (AllByRecursion MayDeclare)
+    (λ _. (may, are)) (λ _. (are.0, MayDeclare-insert d es may are.1))
+
 -- a stimulus of a switch that is declared stays one
 or_true : (a b : Bool) → IsTrue a → IsTrue (a || b)
 or_true true b is = is
@@ -124,25 +130,26 @@ CanCome-more ds moment (y ∷ ys) x can is = (can.0, CanCome-more ds (moment_aft
 -- ---- What may be given, with one thing more
 
 pub MayBeGiven-nothing : MayBeGiven nothing_given
-MayBeGiven-nothing = record { declared = tt; stimuli = tt }
+MayBeGiven-nothing = record { declared = tt; switches = tt; stimuli = tt }
 
-pub MayBeGiven-switch : (given : Given Scripts) (d : Declared) → MayBeGiven given → 1 ≤ d.dpid → d.cap ≤ 4096 → is_declared d.dpid given.declared ≡ false → MayBeGiven (with_switch d given)
-MayBeGiven-switch given d may from small absent = record {
+pub MayBeGiven-switch : (given : Given Scripts) (d : Declared) → MayBeGiven given → 1 ≤ d.dpid → d.cap ≤ 4096 → MayDeclare d → is_declared d.dpid given.declared ≡ false → MayBeGiven (with_switch d given)
+MayBeGiven-switch given d may from small one absent = record {
   declared = AreDeclaredFrom-insert 1 d given.declared from small absent may.declared;
+  switches = MayDeclare-insert d given.declared one may.switches;
   stimuli = CanCome-insert d given.declared 0 given.stimuli may.stimuli;
 }
 
 pub MayBeGiven-stimulus : (given : Given Scripts) (x : WorldStim) → MayBeGiven given → IsWorldStim given.declared (last_moment_of given.stimuli) x → MayBeGiven (with_stimulus x given)
-MayBeGiven-stimulus given x may is = record { declared = may.declared; stimuli = CanCome-more given.declared 0 given.stimuli x may.stimuli is }
+MayBeGiven-stimulus given x may is = record { declared = may.declared; switches = may.switches; stimuli = CanCome-more given.declared 0 given.stimuli x may.stimuli is }
 
 pub MayBeGiven-fail : (given : Given Scripts) (f : FailCall) → MayBeGiven given → MayBeGiven (with_fail f given)
-MayBeGiven-fail given f may = record { declared = may.declared; stimuli = may.stimuli }
+MayBeGiven-fail given f may = record { declared = may.declared; switches = may.switches; stimuli = may.stimuli }
 
 pub MayBeGiven-start : (given : Given Scripts) (app : ℕ) (s : StartScript) → MayBeGiven given → MayBeGiven (with_start app s given)
-MayBeGiven-start given app s may = record { declared = may.declared; stimuli = may.stimuli }
+MayBeGiven-start given app s may = record { declared = may.declared; switches = may.switches; stimuli = may.stimuli }
 
 pub MayBeGiven-reply : (given : Given Scripts) (app : ℕ) (reply : List ScriptStep) → MayBeGiven given → MayBeGiven (with_reply app reply given)
-MayBeGiven-reply given app reply may = record { declared = may.declared; stimuli = may.stimuli }
+MayBeGiven-reply given app reply may = record { declared = may.declared; switches = may.switches; stimuli = may.stimuli }
 
 -- ---- One call more that is to fail
 
@@ -579,6 +586,7 @@ pub Stands-new : (w : WorldData) → IsNew w → MayBeGiven (given_of w) → Sta
 unfolding seen_of state
 Stands-new w is may = record {
   declared = rw (← declared_given w) may.declared;
+  switches = rw (← declared_given w) may.switches;
   state =
       ap (λ (h : List WorldStep). but_marks (after_steps h (at_first (given_of w)))) is.history
       ∙ first_kept (given_of w)
@@ -598,6 +606,7 @@ Stands-new w is may = record {
 pub MayBeGiven-stands : (w : WorldData) → IsNew w → Stands w → MayBeGiven (given_of w)
 MayBeGiven-stands w is stands = record {
   declared = rw (declared_given w) stands.declared;
+  switches = rw (declared_given w) stands.switches;
   stimuli = subst (λ (T : Type 0). T) (come_now w is) stands.can_come;
 }
 

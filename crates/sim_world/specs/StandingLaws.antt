@@ -76,7 +76,7 @@ next_stands w keeps less = record {
 
 pub conforms : (w : WorldData) → Keeps w → IsReadable w.history ≡ true → Conforming (seen_of w)
 unfolding seen_of given_of
-conforms w keeps readable = record { declared = keeps.stands.declared; steps = keeps.stands.history.word readable }
+conforms w keeps readable = record { declared = keeps.stands.declared; switches = keeps.stands.switches; steps = keeps.stands.history.word readable }
 
 pub scripts_kept : (w : WorldData) → Keeps w → KeepsScripts w.scripts (without_links w.fails) w.history
 unfolding given_of

@@ -1,7 +1,7 @@
 -- A simulated world as data, and what holds of it: its history is one that its switches, its scripts and the calls that are told to
 -- fail make. All of this is our own choice.
 use Rattle.std.specs.Prelude.{◌≡◌, ℕ, ◌+◌, ◌≤◌, Bool, true, false, not, ◌||◌, List, [], ◌∷◌, ◌++◌, length, map, is_ok, if◌then◌else◌}
-use Rattle.std.specs.List.{list_all}
+use Rattle.std.specs.List.{AllByRecursion, list_all}
 use Rattle.lego_io.specs.Count.{raised}
 use Rattle.of_types.specs.declared.journal.Act.{Act}
 use Rattle.of_types.specs.declared.journal.Act.TheVariants.{Stim, Sent, Got}
@@ -17,7 +17,7 @@ use Rattle.outside.specs.declared.step.WorldStep.TheVariants.{Acted, TookInto, F
 use Rattle.flow_table.specs.Switch.{Declared}
 use Rattle.outside.specs.Seen.{Given, Seen}
 use Rattle.outside.specs.State.{State, at_first, after_step, after_steps, state, but_marks, moment_after, link_fails, is_joined, has_waiting}
-use Rattle.outside.specs.Conforming.{AreDeclaredFrom, IsWorldStim, MaySteps}
+use Rattle.outside.specs.Conforming.{AreDeclaredFrom, MayDeclare, IsWorldStim, MaySteps}
 use Rattle.sim_world.specs.Tally.{TallyState, CountsFor, counts_of}
 use Rattle.sim_world.specs.Told.{is_told, without_links}
 use Rattle.sim_world.specs.Scripts.{Scripts, Life, fresh, life_through, KeepsScripts}
@@ -142,6 +142,7 @@ pub record IsHistory (given : Given Scripts) (history : List WorldStep) : Type 0
 
 pub record Stands (w : WorldData) : Type 0 where
   pub declared : AreDeclaredFrom 1 (declared_in w.state)
+  pub switches : AllByRecursion MayDeclare (declared_in w.state)
   pub state : but_marks (state (seen_of w)) ≡ w.state
   pub lives : (app : ℕ) → life_in app w.lives ≡ life_through w.scripts w.told app w.history fresh
   pub told : w.told ≡ without_links w.fails

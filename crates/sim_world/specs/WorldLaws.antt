@@ -321,6 +321,7 @@ Stands_moves old new steps counted stands moves may counts come =
     IsHistory-more (given_of old) old.history steps old.state (λ app. life_in app old.lives) stands.state (λ app. rw (← stands.told) (stands.lives app)) stands.history may.word (rw (← stands.told) may.scripts) (rw (← stands.told, ← stands.nexts) may.told) in
     record {
       declared = rw declared stands.declared;
+      switches = rw declared stands.switches;
       state =
           ap (λ (g : Given Scripts). but_marks (after_steps new.history (at_first g))) given
           ∙ ap (λ (h : List WorldStep). but_marks (after_steps h (at_first (given_of old)))) moves.history

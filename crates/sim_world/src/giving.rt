@@ -1,7 +1,7 @@
 //! What a simulated world is given before anything happens, one thing at a time.
 
 ghost use Rattle.std.specs.Prelude.{◌≡◌, ◌<◌, ◌≤◌, false, length, IfOk, OnOk, OnErr};
-ghost use Rattle.outside.specs.Conforming.{IsWorldStim};
+ghost use Rattle.outside.specs.Conforming.{ArePortsFrom, IsWorldStim};
 ghost use Rattle.outside.specs.Seen.{is_declared};
 ghost use Rattle.sim_world.specs.World.{given_of, seen_of};
 ghost use Rattle.sim_world.specs.Building.{nothing_given, last_moment_of, with_switch, with_stimulus, with_fail, with_start, with_reply, IsNew, Gets, Begins};
@@ -26,13 +26,15 @@ impl SimWorld {
     }
 
     /// Declares a switch: its number, from 1 on and not declared yet, how many entries its table takes, at most 4,096, and
-    /// its ports, at most 64. Fewer than 64 are declared. After want of memory the world is as before.
+    /// its ports, at most 64, strictly ascending from 1 to 65,280. Fewer than 64 are declared. After want of memory the world
+    /// is as before.
     pub fn add_switch(&mut self, dpid: u64, cap: u32, ports: &[u16]) -> Result<(), AllocError>
         requires new { IsNew self.old }
         requires number { 1 ≤ dpid }
         requires absent { is_declared dpid (given_of self.old).declared ≡ false }
         requires cap { cap ≤ 4096 }
         requires ports { length ports.now ≤ 64 }
+        requires ports_so { ArePortsFrom 1 ports.now }
         requires few { length (given_of self.old).declared < 64 }
         ensures ok { OnOk result (Gets (with_switch (record { dpid = dpid; cap = cap; ports = ports.now })) self.old self.new) }
         ensures seen { OnOk result (Begins (with_switch (record { dpid = dpid; cap = cap; ports = ports.now }) (seen_of self.old).given) (seen_of self.new)) }
