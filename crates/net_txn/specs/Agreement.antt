@@ -1,6 +1,6 @@
 -- What follows of a change in a world that tells: it reached its switch at once; and where the world keeps its word, nothing of that
 -- switch waited, and its view agreed with its table, switch and view take the step together. All of this is our own.
-use Rattle.std.specs.Prelude.{◌≡◌, ◌≢◌, ℕ, List, [], ◌++◌, None, Result, Ok, IfSome, IfOk, OnOk}
+use Rattle.std.specs.Prelude.{◌≡◌, ◌≢◌, ℕ, List, [], ◌++◌, None, Result, Ok, IfSome, OnOk, MatchResult}
 use Rattle.std.specs.Option.{option_map}
 use Rattle.of_wire.specs.declared.bodies.FlowMod.{FlowMod as Change}
 use Rattle.of_wire.specs.declared.message.Message.{Message}
@@ -17,6 +17,7 @@ use Rattle.outside.specs.Seen.{Seen, journal}
 use Rattle.outside.specs.State.{State, state, switch_of, waits_of}
 use Rattle.outside.specs.Conforming.{Conforming}
 use Rattle.net_txn.specs.declared.fault.TxnFault.{TxnFault}
+use Rattle.net_txn.specs.Causes.{IsPlainFault}
 use Rattle.net_txn.specs.Net.{NetState}
 use Rattle.net_txn.specs.Changes.{known_rows, answer_of_host}
 
@@ -49,8 +50,9 @@ abbrev pub Reaches : {Own : Type 0} → Type 0 → ℕ → List ℕ → Seen Own
 Reaches Tells d bytes old new net result =
     (xid : ℕ) (m : Change) → Tells → answer_of_host d bytes net ≡ None → reading_of bytes ≡ Ok (enveloped xid (FlowMod m)) → OnOk result (ReachedSince d (as_sent (FlowMod m)) old.history new.history)
 
--- where the world keeps its word, nothing of the switch waited, and view and table agreed, they take the step together
+-- Where the world keeps its word, nothing of the switch waited, and view and table agreed, they take the step together; a fault is then
+-- one of the link, or of memory.
 abbrev pub Steps : {Own : Type 0} → Type 0 → ℕ → List ℕ → Seen Own → Seen Own → NetState → NetState → Result Answer TxnFault → Type 0
 Steps Tells d bytes old new net now_net result =
     (xid : ℕ) (m : Change) → Tells → answer_of_host d bytes net ≡ None → reading_of bytes ≡ Ok (enveloped xid (FlowMod m)) → Conforming new → waits_of d (state old) ≡ [] → Agrees d net.views (state old)
-    → IfOk result (InStep d (as_sent (FlowMod m)) old new net now_net)
+    → MatchResult result (InStep d (as_sent (FlowMod m)) old new net now_net) (IsPlainFault d)

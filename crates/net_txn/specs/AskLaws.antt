@@ -15,11 +15,11 @@ use Rattle.outside.specs.declared.step.WorldStep.{WorldStep}
 use Rattle.outside.specs.declared.step.WorldStep.TheVariants.{Acted}
 use Rattle.outside.specs.Seen.{Seen}
 use Rattle.net_txn.specs.declared.fault.TxnFault.{TxnFault}
-use Rattle.net_txn.specs.declared.fault.TxnFault.TheVariants.{SwitchBroke}
+use Rattle.net_txn.specs.declared.fault.TxnFault.TheVariants.{SwitchFault, SwitchBroke, Diverged, Flooded, NoMemory}
 use Rattle.net_txn.specs.declared.heard.Awaited.{Awaited}
 use Rattle.net_txn.specs.declared.heard.Refusal.{Refusal}
 use Rattle.net_txn.specs.Causes.{IsCause}
-use Rattle.net_txn.specs.Waits.{Waits, KeptMore, barrier_sent}
+use Rattle.net_txn.specs.Waits.{Waits, IfFlooded, KeptMore, barrier_sent}
 use Rattle.net_txn.specs.WaitLaws.{waits_kept}
 use Rattle.net_txn.specs.ChangeLaws.{kept_for}
 use Rattle.net_txn.specs.Net.{next_xid}
@@ -121,3 +121,26 @@ answer_by_replies d xid old new kept now_kept came parts refusals request barrie
     let e2 = subst (λ (rs : List (List ℕ)). IsRepliesFault d request (message_bytes barrier BarrierReply) (parts_in xid came) rs fault) refusals_are e1 in
     let e3 = subst (λ (b : List ℕ). IsRepliesFault d b (message_bytes barrier BarrierReply) (parts_in xid came) (refusals_in xid came) fault) request_is e2 in
     inr (came, answered, subst (λ (x : ℕ). IsRepliesFault d (flows_request xid) (message_bytes x BarrierReply) (parts_in xid came) (refusals_in xid came) fault) barrier_is e3)
+
+-- ---- A flood
+
+pub asked_flooded : {Own : Type 0} (Tells : Type 0) (d xid : ℕ) (a : Awaited) (frame : List ℕ) (old new : Seen Own) (fault : TxnFault) → a ≡ asked_from d xid → frame ≡ flows_request xid
+    → IfFlooded Tells a (Acted (Sent a.dpid frame) ∷ barrier_sent a ∷ []) old new fault → IfFlooded Tells (asked_from d xid) (request_sent d xid ∷ barrier_sent (asked_from d xid) ∷ []) old new fault
+asked_flooded Tells d xid a frame old new fault is spelled f =
+    let here = asked_from d xid in
+    let f1 = subst (λ (x : Awaited). IfFlooded Tells x (Acted (Sent x.dpid frame) ∷ barrier_sent x ∷ []) old new fault) is f in
+    subst (λ (b : List ℕ). IfFlooded Tells here (Acted (Sent d b) ∷ barrier_sent here ∷ []) old new fault) spelled f1
+
+no_flood_of : {Own : Type 0} (Tells : Type 0) (d xid : ℕ) (a : Awaited) (front : List WorldStep) (old new : Seen Own) (request reply : List ℕ) (parts refusals : List (List ℕ)) (fault : TxnFault) → IsRepliesFault d request reply parts refusals fault → IfFlooded Tells a front old new fault
+no_flood_of Tells d xid a front old new request reply parts refusals (SwitchFault of) is = tt
+no_flood_of Tells d xid a front old new request reply parts refusals (SwitchBroke of bytes) is = tt
+no_flood_of Tells d xid a front old new request reply parts refusals (Diverged of sent got) is = tt
+no_flood_of Tells d xid a front old new request reply parts refusals (Flooded of n) is = absurd is
+no_flood_of Tells d xid a front old new request reply parts refusals NoMemory is = tt
+
+-- what came is no flood
+pub replies_no_flood : {Own : Type 0} (Tells : Type 0) (d xid : ℕ) (old new : Seen Own) (request reply : List ℕ) (parts refusals : List (List ℕ)) (result : Result (List FlowRow) TxnFault) → IfErr result (IsRepliesFault d request reply parts refusals)
+    → IfErr result (IfFlooded Tells (asked_from d xid) (request_sent d xid ∷ barrier_sent (asked_from d xid) ∷ []) old new)
+replies_no_flood Tells d xid old new request reply parts refusals (Ok rows) is = tt
+replies_no_flood Tells d xid old new request reply parts refusals (Err fault) is =
+    no_flood_of Tells d xid (asked_from d xid) (request_sent d xid ∷ barrier_sent (asked_from d xid) ∷ []) old new request reply parts refusals fault is

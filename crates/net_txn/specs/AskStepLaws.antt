@@ -1,5 +1,5 @@
 -- Where a world keeps its word, a switch that is asked for its rows tells them, and all stays as it was.
-use Rattle.std.specs.Prelude.{◌≡◌, ◌≢◌, ℕ, ◌^◌, ◌<◌, false, List, [], ◌∷◌, ◌++◌, length, drop, map, Some, None, Result, Ok, Err, MatchResult, refl, filter, true}
+use Rattle.std.specs.Prelude.{◌≡◌, ◌≢◌, ℕ, ◌^◌, ◌<◌, false, List, [], ◌∷◌, ◌++◌, length, drop, map, Some, None, Result, Ok, refl, filter, true}
 use Rattle.std.specs.List.{AllByRecursion, concat, flat_map}
 use Rattle.std.proofs.Common.{sym, ap, ◌∙◌, subst, arith}
 use Rattle.std.proofs.lemmas.List.{append-nil}
@@ -24,7 +24,7 @@ use Rattle.of_wire.specs.Grammar.{IsMessage}
 use Rattle.of_wire.specs.ReadingLaws.{reading_of-message_bytes}
 use Rattle.of_stats.specs.declared.flow_row.FlowRow.{FlowRow}
 use Rattle.of_stats.specs.declared.fault.StatsFault.{StatsFault}
-use Rattle.of_stats.specs.Flows.{row_bytes, rows_bytes}
+use Rattle.of_stats.specs.Flows.{row_bytes, rows_bytes, AreRows}
 use Rattle.of_stats.specs.Reading.{rows_of}
 use Rattle.of_stats.specs.FlowLaws.{rows_of-spelled, SpellRows-rows_bytes}
 use Rattle.of_stats.specs.Parts.{Part, joined}
@@ -40,15 +40,15 @@ use Rattle.outside.specs.State.{State, after_step, after_steps, state, switch_of
 use Rattle.outside.specs.StateLaws.{state-append, Conforming-rest}
 use Rattle.outside.specs.LinkLaws.{switch_of-sent_other, waits_of-sent_other, waits_of-got}
 use Rattle.outside.specs.Conforming.{MaySteps, Conforming}
-use Rattle.net_txn.specs.declared.fault.TxnFault.{TxnFault}
 use Rattle.net_txn.specs.declared.heard.Awaited.{Awaited}
 use Rattle.net_txn.specs.declared.heard.Heard.TheVariants.{Reply, Other}
 use Rattle.net_txn.specs.Net.{next_xid}
 use Rattle.net_txn.specs.Waits.{heard, is_reply, heard_steps, wait_steps, kept_of, barrier_sent, reply_got}
 use Rattle.net_txn.specs.HeardLaws.{IsMessage-barrier, next_xid-lt, heard-reply}
 use Rattle.net_txn.specs.StepLaws.{told_switch, told_waits, barrier_sends, barrier_stays, gots, gots_switch, gots_other, gots_other_waits, gots_empty, first_got, reply_alone}
-use Rattle.net_txn.specs.Asks.{all_flows, flows_request, request_sent, asked_from, parts_in, others_in, all_parts, GivesRows, IsAskCause}
-use Rattle.net_txn.specs.AskSteps.{own_rows, RowsInStep, AskSteps}
+use Rattle.net_txn.specs.Asks.{all_flows, flows_request, request_sent, asked_from, parts_in, refusals_in, others_in, all_parts, Answered, GivesRows}
+use Rattle.net_txn.specs.AskLaws.{part_refuses_not}
+use Rattle.net_txn.specs.AskSteps.{own_rows, RowsInStep}
 use Rattle.net_txn.specs.ReplyLaws.{IsSmallPart, IsPartOf-part_bytes, heard_part, about_part, small_parts, joined_parts}
 
 abbrev of_switch : ℕ → List ℕ → ℕ × List ℕ
@@ -95,7 +95,7 @@ query_laid : IsLaidOut 0 query_fields [] all_flows
 unfolding all_flows
 query_laid = subst (λ (b : List ℕ). IsLaidOut 0 query_fields [] b) (append-nil (spelled query_fields)) (IsLaidOut-spelled 0 query_fields [] [] refl query_fit)
 
-selected_all : (s : SwitchState) → selected_by all_flows s ≡ s.table.entries
+pub selected_all : (s : SwitchState) → selected_by all_flows s ≡ s.table.entries
 unfolding selected_by
 selected_all s =
     let matching : match_of (piece 40 0 all_flows) ≡ any_match = ap match_of query_laid.0 ∙ match_of-bytes_of any_match in
@@ -116,17 +116,17 @@ asking_stays : (s : SwitchState) → after_message (StatsRequest asking) s ≡ s
 unfolding after_message after_taken
 asking_stays s = rw (not_refused s) refl
 
-abbrev own_parts : SwitchState → List Part
+abbrev pub own_parts : SwitchState → List Part
 own_parts s = parts_of 1 (flow_rows all_flows s)
 
-abbrev own_replies : ℕ → SwitchState → List (List ℕ)
+abbrev pub own_replies : ℕ → SwitchState → List (List ℕ)
 own_replies xid s = map (part_bytes xid) (own_parts s)
 
 asking_sends : (xid : ℕ) (s : SwitchState) → sent_by_message xid (StatsRequest asking) s ≡ own_replies xid s
 unfolding sent_by_message sent_by_taken statistics_replies reply_rows
 asking_sends xid s = rw (not_refused s) refl
 
-small_own : (s : SwitchState) → AllByRecursion IsSmallPart (own_parts s)
+pub small_own : (s : SwitchState) → AllByRecursion IsSmallPart (own_parts s)
 unfolding parts_of
 small_own s = small_parts 1 [] (flow_rows all_flows s) (omega arith)
 
@@ -134,22 +134,22 @@ concat_rows : (moment : ℕ) (es : List Entry) → concat (map (λ e. row_bytes 
 concat_rows moment [] = refl
 concat_rows moment (e ∷ es) = ap (λ (b : List ℕ). row_bytes (flow_row moment e) ++ b) (concat_rows moment es)
 
-joined_own : (s : SwitchState) → joined (own_parts s) ≡ rows_bytes (own_rows s)
+pub joined_own : (s : SwitchState) → joined (own_parts s) ≡ rows_bytes (own_rows s)
 unfolding parts_of flow_rows
 joined_own s = joined_parts 1 [] (flow_rows all_flows s) ∙ concat_rows s.moment (selected_by all_flows s) ∙ ap (λ (es : List Entry). rows_bytes (map (flow_row s.moment) es)) (selected_all s)
 
 -- ---- Before the messages that were got: the request and the barrier were sent.
 
-record Asking (d xid : ℕ) (s : SwitchState) (before after : State) : Type 0 where
-  switch : switch_of d after ≡ Some s
-  waits : waits_of d after ≡ own_replies xid s ++ message_bytes (next_xid xid) BarrierReply ∷ []
-  others : (e : ℕ) → e ≢ d → switch_of e after ≡ switch_of e before
-  others_wait : (e : ℕ) → e ≢ d → waits_of e after ≡ waits_of e before
+pub record Asking (d xid : ℕ) (s : SwitchState) (before after : State) : Type 0 where
+  pub switch : switch_of d after ≡ Some s
+  pub waits : waits_of d after ≡ own_replies xid s ++ message_bytes (next_xid xid) BarrierReply ∷ []
+  pub others : (e : ℕ) → e ≢ d → switch_of e after ≡ switch_of e before
+  pub others_wait : (e : ℕ) → e ≢ d → waits_of e after ≡ waits_of e before
 
-abbrev after_both : ℕ → ℕ → State → State
+abbrev pub after_both : ℕ → ℕ → State → State
 after_both d xid t = after_step (barrier_sent (asked_from d xid)) (after_step (request_sent d xid) t)
 
-both_sent : (d xid : ℕ) (s : SwitchState) (t : State) → xid < 2 ^ 32 → switch_of d t ≡ Some s → waits_of d t ≡ [] → Asking d xid s t (after_both d xid t)
+pub both_sent : (d xid : ℕ) (s : SwitchState) (t : State) → xid < 2 ^ 32 → switch_of d t ≡ Some s → waits_of d t ≡ [] → Asking d xid s t (after_both d xid t)
 both_sent d xid s t small is none =
     let request = flows_request xid in
     let barrier = message_bytes (next_xid xid) BarrierRequest in
@@ -222,29 +222,41 @@ no_others d xid [] lt fit = refl
 no_others d xid (p ∷ ps) lt fit =
     rw (about_part xid p (part_bytes xid p) (IsPartOf-part_bytes xid p lt fit.0)) (no_others d xid ps lt fit.1)
 
+-- a part is no ERROR
+no_refusals : (d xid : ℕ) (parts : List Part) → xid < 2 ^ 32 → AllByRecursion IsSmallPart parts → refusals_in xid (map (of_switch d) (map (part_bytes xid) parts)) ≡ []
+no_refusals d xid [] lt fit = refl
+no_refusals d xid (p ∷ ps) lt fit =
+    let part = part_bytes xid p in
+    rw (part_refuses_not xid part (about_part xid p part (IsPartOf-part_bytes xid p lt fit.0))) (no_refusals d xid ps lt fit.1)
+
 parts_said : (xid : ℕ) (parts : List Part) → xid < 2 ^ 32 → AllByRecursion IsSmallPart parts → all_parts (map (part_bytes xid) parts) ≡ parts
 parts_said xid [] lt fit = refl
 parts_said xid (p ∷ ps) lt fit =
     let is = IsPartOf-part_bytes xid p lt fit.0 in
     ap (λ (q : Part). q ∷ all_parts (map (part_bytes xid) ps)) is.said ∙ ap (λ (qs : List Part). p ∷ qs) (parts_said xid ps lt fit.1)
 
--- ---- The whole
+-- ---- What was answered
 
-abbrev read_as : List FlowRow → Result (List FlowRow) StatsFault
-read_as rows = Ok rows
+-- the messages of the transaction id are the switch's own reply, and no ERROR; what the wait leaves
+pub record AskedInStep {Own : Type 0} (d xid : ℕ) (s : SwitchState) (old new : Seen Own) (kept now_kept came : List (ℕ × List ℕ)) : Type 0 where
+  pub parts : parts_in xid came ≡ own_replies xid s
+  pub refusals : refusals_in xid came ≡ []
+  pub said : all_parts (parts_in xid came) ≡ own_parts s
+  pub waits : waits_of d (state new) ≡ []
+  pub stays : switch_of d (state new) ≡ Some s
+  pub others : (e : ℕ) → e ≢ d → switch_of e (state new) ≡ switch_of e (state old)
+  pub others_wait : (e : ℕ) → e ≢ d → waits_of e (state new) ≡ waits_of e (state old)
+  pub kept_so : now_kept ≡ kept
 
-same_value : (x y : List FlowRow) → read_as x ≡ read_as y → x ≡ y
-same_value x y e = cc
-
-pub rows_in_step : {Own : Type 0} {Tells : Type 0} (d xid : ℕ) (s : SwitchState) (old new : Seen Own) (kept now_kept : List (ℕ × List ℕ)) (rows : List FlowRow) → xid < 2 ^ 32 → Tells → GivesRows Tells d xid old new kept now_kept rows
-    → Conforming new → switch_of d (state old) ≡ Some s → waits_of d (state old) ≡ [] → RowsInStep d s old new kept now_kept rows
-rows_in_step d xid s old new kept now_kept rows lt told gives keeps is none =
+pub asked_in_step : {Own : Type 0} {Tells : Type 0} (d xid : ℕ) (s : SwitchState) (old new : Seen Own) (kept now_kept came : List (ℕ × List ℕ)) → xid < 2 ^ 32 → Tells → Answered Tells d xid old new kept now_kept came
+    → Conforming new → switch_of d (state old) ≡ Some s → waits_of d (state old) ≡ [] → AskedInStep d xid s old new kept now_kept came
+asked_in_step d xid s old new kept now_kept came lt told answered keeps is none =
     let a = asked_from d xid in
     let small = next_xid-lt xid lt in
     let fit = small_own s in
     let parts = own_replies xid s in
     let reply = message_bytes (next_xid xid) BarrierReply in
-    let w = gives.answered.waits in
+    let w = answered.waits in
     let steps = request_sent d xid ∷ barrier_sent a ∷ (wait_steps a w.got ++ reply_got a ∷ []) in
     let may = Conforming-rest old new steps w.hears.continues.given (w.hears.told told) keeps in
     let after = state-append old new steps w.hears.continues.given (w.hears.told told) in
@@ -253,21 +265,43 @@ rows_in_step d xid s old new kept now_kept rows lt told gives keeps is none =
     let got_is : w.got ≡ parts = parts_alone old.given.declared a xid (own_parts s) w.got mid lt small fit sent.waits may.1.1 w.hears.before_reply in
     let got_steps : wait_steps a w.got ++ reply_got a ∷ [] ≡ gots d (parts ++ reply ∷ []) = ap (λ (gs : List (List ℕ)). wait_steps a gs ++ reply_got a ∷ []) got_is ∙ part_steps a xid (own_parts s) lt small fit in
     let now : state new ≡ after_steps (gots d (parts ++ reply ∷ [])) mid = after ∙ ap (λ (xs : List WorldStep). after_steps xs mid) got_steps in
-    let came : gives.came ≡ map (of_switch d) parts = w.hears.kept_so ∙ ap (kept_of a) got_is ∙ came_parts a xid (own_parts s) lt small fit in
-    let there : parts_in xid gives.came ≡ parts = ap (parts_in xid) came ∙ parts_there d xid (own_parts s) lt fit in
-    let said : joined (all_parts (parts_in xid gives.came)) ≡ rows_bytes (own_rows s) = ap (λ (ms : List (List ℕ)). joined (all_parts ms)) there ∙ ap joined (parts_said xid (own_parts s) lt fit) ∙ joined_own s in
-    let read : rows_of (rows_bytes (own_rows s)) ≡ Ok rows = ap rows_of (sym said) ∙ gives.rows_so.read in
+    let came_is : came ≡ map (of_switch d) parts = w.hears.kept_so ∙ ap (kept_of a) got_is ∙ came_parts a xid (own_parts s) lt small fit in
+    let there : parts_in xid came ≡ parts = ap (parts_in xid) came_is ∙ parts_there d xid (own_parts s) lt fit in
     record {
-      rows_so = read;
-      same_rows = λ fits. same_value rows (own_rows s) (sym read ∙ rows_of-spelled (own_rows s) (rows_bytes (own_rows s)) fits (SpellRows-rows_bytes (own_rows s) fits));
+      parts = there;
+      refusals = ap (refusals_in xid) came_is ∙ no_refusals d xid (own_parts s) lt fit;
+      said = ap all_parts there ∙ parts_said xid (own_parts s) lt fit;
       waits = ap (waits_of d) now ∙ gots_empty d (parts ++ reply ∷ []) mid sent.waits;
       stays = ap (switch_of d) now ∙ gots_switch d (parts ++ reply ∷ []) mid ∙ sent.switch;
       others = λ e other. ap (switch_of e) now ∙ gots_other d e (parts ++ reply ∷ []) mid other ∙ sent.others e other;
       others_wait = λ e other. ap (waits_of e) now ∙ gots_other_waits d e (parts ++ reply ∷ []) mid other ∙ sent.others_wait e other;
-      kept_so = gives.answered.kept_so ∙ ap (λ (ms : List (ℕ × List ℕ)). kept ++ others_in xid ms) came ∙ ap (λ (ms : List (ℕ × List ℕ)). kept ++ ms) (no_others d xid (own_parts s) lt fit) ∙ append-nil kept;
+      kept_so = answered.kept_so ∙ ap (λ (ms : List (ℕ × List ℕ)). kept ++ others_in xid ms) came_is ∙ ap (λ (ms : List (ℕ × List ℕ)). kept ++ ms) (no_others d xid (own_parts s) lt fit) ∙ append-nil kept;
     }
 
-pub ask_steps : {Own : Type 0} {Tells : Type 0} (d xid : ℕ) (old new : Seen Own) (kept now_kept : List (ℕ × List ℕ)) (result : Result (List FlowRow) TxnFault) → xid < 2 ^ 32
-    → MatchResult result (GivesRows Tells d xid old new kept now_kept) (IsAskCause Tells d xid old new kept now_kept) → AskSteps Tells d old new kept now_kept result
-ask_steps d xid old new kept now_kept (Ok rows) lt answer s told keeps is none = rows_in_step d xid s old new kept now_kept rows lt told answer keeps is none
-ask_steps d xid old new kept now_kept (Err fault) lt answer s told keeps is none = tt
+-- ---- The rows
+
+abbrev read_as : List FlowRow → Result (List FlowRow) StatsFault
+read_as rows = Ok rows
+
+same_value : (x y : List FlowRow) → read_as x ≡ read_as y → x ≡ y
+same_value x y e = cc
+
+-- where the switch's own rows have a spelling, their bytes are read as they are
+pub own_read : (s : SwitchState) → AreRows (own_rows s) → rows_of (rows_bytes (own_rows s)) ≡ Ok (own_rows s)
+own_read s fits = rows_of-spelled (own_rows s) (rows_bytes (own_rows s)) fits (SpellRows-rows_bytes (own_rows s) fits)
+
+pub rows_in_step : {Own : Type 0} {Tells : Type 0} (d xid : ℕ) (s : SwitchState) (old new : Seen Own) (kept now_kept : List (ℕ × List ℕ)) (rows : List FlowRow) → xid < 2 ^ 32 → Tells → GivesRows Tells d xid old new kept now_kept rows
+    → Conforming new → switch_of d (state old) ≡ Some s → waits_of d (state old) ≡ [] → RowsInStep d s old new kept now_kept rows
+rows_in_step d xid s old new kept now_kept rows lt told gives keeps is none =
+    let in_step = asked_in_step d xid s old new kept now_kept gives.came lt told gives.answered keeps is none in
+    let said : joined (all_parts (parts_in xid gives.came)) ≡ rows_bytes (own_rows s) = ap joined in_step.said ∙ joined_own s in
+    let read : rows_of (rows_bytes (own_rows s)) ≡ Ok rows = ap rows_of (sym said) ∙ gives.rows_so.read in
+    record {
+      rows_so = read;
+      same_rows = λ fits. same_value rows (own_rows s) (sym read ∙ own_read s fits);
+      waits = in_step.waits;
+      stays = in_step.stays;
+      others = in_step.others;
+      others_wait = in_step.others_wait;
+      kept_so = in_step.kept_so;
+    }

@@ -1,5 +1,5 @@
 -- What follows of `rows` in a world that keeps its word, where nothing of the switch waited.
-use Rattle.std.specs.Prelude.{◌≡◌, ◌≢◌, ℕ, List, [], map, Some, Result, Ok, IfOk}
+use Rattle.std.specs.Prelude.{◌≡◌, ◌≢◌, ℕ, List, [], map, Some, Result, Ok, MatchResult}
 use Rattle.of_stats.specs.declared.flow_row.FlowRow.{FlowRow}
 use Rattle.of_stats.specs.Flows.{rows_bytes, AreRows}
 use Rattle.of_stats.specs.Reading.{rows_of}
@@ -9,6 +9,8 @@ use Rattle.outside.specs.Seen.{Seen}
 use Rattle.outside.specs.State.{state, switch_of, waits_of}
 use Rattle.outside.specs.Conforming.{Conforming}
 use Rattle.net_txn.specs.declared.fault.TxnFault.{TxnFault}
+use Rattle.net_txn.specs.declared.fault.TxnFault.TheVariants.{SwitchBroke}
+use Rattle.net_txn.specs.Causes.{IsPlainFault}
 
 -- the switch's own rows: one for each entry of its table, in key order
 abbrev pub own_rows : SwitchState → List FlowRow
@@ -25,6 +27,13 @@ pub record RowsInStep {Own : Type 0} (d : ℕ) (s : SwitchState) (old new : Seen
   pub others_wait : (e : ℕ) → e ≢ d → waits_of e (state new) ≡ waits_of e (state old)
   pub kept_so : now_kept ≡ kept
 
+-- The link failed, or memory ran out; what the switch sent is at fault only where its own rows have no spelling.
+abbrev pub IsAskFault : ℕ → SwitchState → TxnFault → Type 0
+IsAskFault d s (SwitchBroke of bytes) = (of ≡ d) × (AreRows (own_rows s) → ⊥)
+IsAskFault d s fault = IsPlainFault d fault
+
+-- where the world keeps its word, the switch was joined and nothing of it waited
 abbrev pub AskSteps : {Own : Type 0} → Type 0 → ℕ → Seen Own → Seen Own → List (ℕ × List ℕ) → List (ℕ × List ℕ) → Result (List FlowRow) TxnFault → Type 0
 AskSteps Tells d old new kept now_kept result =
-    (s : SwitchState) → Tells → Conforming new → switch_of d (state old) ≡ Some s → waits_of d (state old) ≡ [] → IfOk result (RowsInStep d s old new kept now_kept)
+    (s : SwitchState) → Tells → Conforming new → switch_of d (state old) ≡ Some s → waits_of d (state old) ≡ []
+    → MatchResult result (RowsInStep d s old new kept now_kept) (IsAskFault d s)

@@ -33,3 +33,19 @@ IsLinkCause d old new NoMemory = Unit {0}
 IsLinkCause d old new (SwitchBroke of bytes) = ⊥
 IsLinkCause d old new (Diverged of sent got) = ⊥
 IsLinkCause d old new (Flooded of n) = ⊥
+
+-- a fault of no message that came: the link of the switch failed, or memory ran out
+abbrev pub IsPlainFault : ℕ → TxnFault → Type 0
+IsPlainFault d (SwitchFault of) = of ≡ d
+IsPlainFault d NoMemory = Unit {0}
+IsPlainFault d (SwitchBroke of bytes) = ⊥
+IsPlainFault d (Diverged of sent got) = ⊥
+IsPlainFault d (Flooded of n) = ⊥
+
+-- any fault but Flooded
+abbrev pub IsNoFlood : TxnFault → Type 0
+IsNoFlood (SwitchFault of) = Unit {0}
+IsNoFlood NoMemory = Unit {0}
+IsNoFlood (SwitchBroke of bytes) = Unit {0}
+IsNoFlood (Diverged of sent got) = Unit {0}
+IsNoFlood (Flooded of n) = ⊥

@@ -1,5 +1,5 @@
 -- Laws of changes: how the pieces of one make the whole.
-use Rattle.std.specs.Prelude.{◌≡◌, ℕ, List, [], ◌∷◌, Option, Some, None, Result, Ok, Err, MatchResult, IfErr, length, take, refl}
+use Rattle.std.specs.Prelude.{◌≡◌, ℕ, ◌^◌, ◌<◌, List, [], ◌∷◌, Option, Some, None, Result, Ok, Err, MatchResult, IfErr, length, take, refl}
 use Rattle.std.proofs.Common.{sym, ap, ◌∙◌, subst, arith}
 use Rattle.std.proofs.lemmas.List.{take_all, take_at}
 use Rattle.of_types.specs.declared.journal.Act.TheVariants.{Sent}
@@ -10,7 +10,7 @@ use Rattle.of_wire.specs.declared.message.Envelope.{Envelope}
 use Rattle.of_wire.specs.declared.fault.WireFault.{WireFault}
 use Rattle.of_wire.specs.Reading.{reading_of}
 use Rattle.of_wire.specs.Spelling.{message_bytes}
-use Rattle.of_wire.specs.Grammar.{enveloped}
+use Rattle.of_wire.specs.Grammar.{IsMessage, enveloped}
 use Rattle.app_frames.specs.declared.frame.Answer.{Answer}
 use Rattle.app_frames.specs.declared.frame.Answer.TheVariants.{Unknown}
 use Rattle.lego_model.specs.Answers.{rows_of_view, as_sent, host_answer_read, host_answer}
@@ -18,16 +18,17 @@ use Rattle.outside.specs.declared.step.WorldStep.TheVariants.{Acted}
 use Rattle.outside.specs.Seen.{Seen, Continues}
 use Rattle.outside.specs.SeenLaws.{Continues-refl}
 use Rattle.net_txn.specs.declared.fault.TxnFault.{TxnFault}
+use Rattle.net_txn.specs.declared.fault.TxnFault.TheVariants.{SwitchFault, SwitchBroke, Diverged, Flooded, NoMemory}
 use Rattle.net_txn.specs.declared.heard.Awaited.{Awaited}
 use Rattle.net_txn.specs.declared.heard.Refusal.{Refusal}
 use Rattle.net_txn.specs.Causes.{IsCause}
 use Rattle.flow_table.specs.declared.view.ViewRow.{ViewRow}
 use Rattle.flow_table.specs.declared.view.TableView.{TableView}
 use Rattle.net_txn.specs.declared.logged.Logged.{Logged}
-use Rattle.net_txn.specs.Waits.{Waits, KeptMore, barrier_sent}
+use Rattle.net_txn.specs.Waits.{Waits, Floods, IfFlooded, KeptMore, barrier_sent}
 use Rattle.net_txn.specs.Views.{rows_at, with_rows, with_added}
 use Rattle.net_txn.specs.Net.{NetState, awaited_from, with_logged}
-use Rattle.net_txn.specs.Changes.{answer_of_host, change_sent, Asked, Stopped, Changes}
+use Rattle.net_txn.specs.Changes.{answer_of_host, change_sent, Asked, Stopped, IfGivenUp, Changes}
 
 pub sent_waits : {Own : Type 0} {Tells : Type 0} (d : ℕ) (m : Change) (net : NetState) (a : Awaited) (frame : List ℕ) (kept now_kept : List (ℕ × List ℕ)) (old new : Seen Own) (refusal : Option Refusal)
     → a ≡ awaited_from d net.xid → frame ≡ message_bytes a.first (as_sent (FlowMod m)) → kept ≡ net.kept
@@ -39,6 +40,22 @@ sent_waits {Tells = Tells} d m net a frame kept now_kept old new refusal is spel
     let w1 = subst (λ (x : Awaited). Waits Tells x (Acted (Sent x.dpid frame) ∷ barrier_sent x ∷ []) old new kept now_kept refusal) is w in
     let w2 = subst (λ (b : List ℕ). Waits Tells here (Acted (Sent d b) ∷ barrier_sent here ∷ []) old new kept now_kept refusal) first w1 in
     subst (λ (k : List (ℕ × List ℕ)). Waits Tells here (change_sent d net.xid m ∷ barrier_sent here ∷ []) old new k now_kept refusal) same w2
+
+sent_floods : {Own : Type 0} {Tells : Type 0} (d : ℕ) (m : Change) (net : NetState) (a : Awaited) (frame : List ℕ) (old new : Seen Own) → a ≡ awaited_from d net.xid → frame ≡ message_bytes a.first (as_sent (FlowMod m))
+    → Floods Tells a (Acted (Sent a.dpid frame) ∷ barrier_sent a ∷ []) old new → Floods Tells (awaited_from d net.xid) (change_sent d net.xid m ∷ barrier_sent (awaited_from d net.xid) ∷ []) old new
+sent_floods {Tells = Tells} d m net a frame old new is spelled f =
+    let here = awaited_from d net.xid in
+    let first : frame ≡ message_bytes net.xid (as_sent (FlowMod m)) = spelled ∙ ap (λ (x : Awaited). message_bytes x.first (as_sent (FlowMod m))) is in
+    let f1 = subst (λ (x : Awaited). Floods Tells x (Acted (Sent x.dpid frame) ∷ barrier_sent x ∷ []) old new) is f in
+    subst (λ (b : List ℕ). Floods Tells here (Acted (Sent d b) ∷ barrier_sent here ∷ []) old new) first f1
+
+pub given_up : {Own : Type 0} (Tells : Type 0) (d : ℕ) (m : Change) (net : NetState) (a : Awaited) (frame : List ℕ) (old new : Seen Own) (fault : TxnFault) → a ≡ awaited_from d net.xid → frame ≡ message_bytes a.first (as_sent (FlowMod m))
+    → IsMessage (FlowMod m) → net.xid < 2 ^ 32 → IfFlooded Tells a (Acted (Sent a.dpid frame) ∷ barrier_sent a ∷ []) old new fault → IfGivenUp Tells d m old new net fault
+given_up Tells d m net a frame old new (SwitchFault of) is spelled message lt f = tt
+given_up Tells d m net a frame old new (SwitchBroke of bytes) is spelled message lt f = tt
+given_up Tells d m net a frame old new (Diverged of sent got) is spelled message lt f = tt
+given_up Tells d m net a frame old new (Flooded of n) is spelled message lt f = (message, lt, sent_floods d m net a frame old new is spelled f)
+given_up Tells d m net a frame old new NoMemory is spelled message lt f = tt
 
 no_answer : (answer : Answer) → Some answer ≡ None → ⊥
 no_answer answer e = cc
@@ -69,6 +86,7 @@ Changes-by_host {Tells = Tells} d bytes seen net answer is = record {
   room = refl;
   by_host = λ other h. record { answers = some_is answer other (sym is ∙ h); fault = tt; world = refl; stays = refl };
   by_switch = λ xid m none read. absurd (no_answer answer (sym is ∙ none));
+  flooded = λ xid m none read. tt;
 }
 
 pub kept_for : (d e : ℕ) (before kept now_kept : List (ℕ × List ℕ)) → e ≡ d → before ≡ kept → KeptMore e before now_kept → KeptMore d kept now_kept
@@ -100,8 +118,9 @@ host_knows d bytes net views rows seen same known is =
 
 pub Changes-by_switch : {Own : Type 0} {Tells : Type 0} (d : ℕ) (bytes : List ℕ) (old new : Seen Own) (net now_net : NetState) (result : Result Answer TxnFault) (xid : ℕ) (m : Change)
     → answer_of_host d bytes net ≡ None → reading_of bytes ≡ Ok (enveloped xid (FlowMod m)) → MatchResult result (Asked Tells d m old new net now_net) (λ f. Stopped d m old new net now_net)
-    → Continues Tells old new → IfErr result (IsCause Tells d old new) → now_net.ports ≡ net.ports → now_net.moment ≡ net.moment → now_net.room ≡ net.room → Changes Tells d bytes old new net now_net result
-Changes-by_switch {Tells = Tells} d bytes old new net now_net result xid m none read does continues cause ports moment room = record {
+    → Continues Tells old new → IfErr result (IsCause Tells d old new) → now_net.ports ≡ net.ports → now_net.moment ≡ net.moment → now_net.room ≡ net.room
+    → IfErr result (IfGivenUp Tells d m old new net) → Changes Tells d bytes old new net now_net result
+Changes-by_switch {Tells = Tells} d bytes old new net now_net result xid m none read does continues cause ports moment room f = record {
   continues = continues;
   cause = cause;
   ports = ports;
@@ -109,4 +128,5 @@ Changes-by_switch {Tells = Tells} d bytes old new net now_net result xid m none 
   room = room;
   by_host = λ answer h. absurd (no_answer answer (sym h ∙ none));
   by_switch = λ other n _ again. subst (λ (x : Change). MatchResult result (Asked Tells d x old new net now_net) (λ f. Stopped d x old new net now_net)) (same_change xid other m n (sym read ∙ again)) does;
+  flooded = λ other n _ again. subst (λ (x : Change). IfErr result (IfGivenUp Tells d x old new net)) (same_change xid other m n (sym read ∙ again)) f;
 }

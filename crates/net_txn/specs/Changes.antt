@@ -16,11 +16,11 @@ use Rattle.outside.specs.declared.step.WorldStep.{WorldStep}
 use Rattle.outside.specs.declared.step.WorldStep.TheVariants.{Acted}
 use Rattle.outside.specs.Seen.{Seen, Continues}
 use Rattle.net_txn.specs.declared.fault.TxnFault.{TxnFault}
-use Rattle.net_txn.specs.declared.fault.TxnFault.TheVariants.{NoMemory}
+use Rattle.net_txn.specs.declared.fault.TxnFault.TheVariants.{SwitchFault, SwitchBroke, Diverged, Flooded, NoMemory}
 use Rattle.net_txn.specs.declared.heard.Refusal.{Refusal}
 use Rattle.net_txn.specs.declared.logged.Logged.{Logged}
 use Rattle.net_txn.specs.Causes.{IsCause}
-use Rattle.net_txn.specs.Waits.{Waits, KeptMore, barrier_sent}
+use Rattle.net_txn.specs.Waits.{Waits, Floods, KeptMore, barrier_sent}
 use Rattle.net_txn.specs.Views.{rows_at, with_rows, rows_after}
 use Rattle.net_txn.specs.Net.{NetState, next_xid, awaited_from, logged_by, with_logged}
 
@@ -82,6 +82,15 @@ pub record CutOff (d : ℕ) (m : Change) (net now_net : NetState) : Type 0 where
 abbrev pub Stopped : {Own : Type 0} → ℕ → Change → Seen Own → Seen Own → NetState → NetState → Type 0
 Stopped d m old new net now_net = Unsent old new net now_net ⊎ CutOff d m net now_net
 
+-- of a fault that may be Flooded: what was sent is a message with a transaction id, and the wait for its answer was given up
+abbrev pub IfGivenUp : {Own : Type 0} → Type 0 → ℕ → Change → Seen Own → Seen Own → NetState → TxnFault → Type 0
+IfGivenUp Tells d m old new net (Flooded of n) =
+    IsMessage (FlowMod m) × (net.xid < 2 ^ 32) × Floods Tells (awaited_from d net.xid) (change_sent d net.xid m ∷ barrier_sent (awaited_from d net.xid) ∷ []) old new
+IfGivenUp Tells d m old new net (SwitchFault of) = Unit {0}
+IfGivenUp Tells d m old new net (SwitchBroke of bytes) = Unit {0}
+IfGivenUp Tells d m old new net (Diverged of sent got) = Unit {0}
+IfGivenUp Tells d m old new net NoMemory = Unit {0}
+
 -- ---- The whole
 
 -- the host answered: no call of the world was made, and nothing moved; memory may have been wanting
@@ -91,7 +100,8 @@ pub record ByHost {Own : Type 0} (answer : Answer) (old new : Seen Own) (net now
   pub world : new ≡ old
   pub stays : now_net ≡ net
 
--- Ports, moment and room stay, and each fault has its cause. The host's own answer is exactly that; else the switch answers.
+-- Ports, moment and room stay, and each fault has its cause. The host's own answer is exactly that; else the switch answers. Flooded comes
+-- only where 65,536 messages were got behind the barrier, none of them its reply.
 pub record Changes {Own : Type 0} (Tells : Type 0) (d : ℕ) (bytes : List ℕ) (old new : Seen Own) (net now_net : NetState) (result : Result Answer TxnFault) : Type 0 where
   pub continues : Continues Tells old new
   pub cause : IfErr result (IsCause Tells d old new)
@@ -101,3 +111,5 @@ pub record Changes {Own : Type 0} (Tells : Type 0) (d : ℕ) (bytes : List ℕ) 
   pub by_host : (answer : Answer) → answer_of_host d bytes net ≡ Some answer → ByHost answer old new net now_net result
   pub by_switch : (xid : ℕ) (m : Change) → answer_of_host d bytes net ≡ None → reading_of bytes ≡ Ok (enveloped xid (FlowMod m))
       → MatchResult result (Asked Tells d m old new net now_net) (λ f. Stopped d m old new net now_net)
+  pub flooded : (xid : ℕ) (m : Change) → answer_of_host d bytes net ≡ None → reading_of bytes ≡ Ok (enveloped xid (FlowMod m))
+      → IfErr result (IfGivenUp Tells d m old new net)

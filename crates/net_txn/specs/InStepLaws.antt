@@ -48,10 +48,10 @@ pub record Sending (d xid : ℕ) (m : Change) (s : SwitchState) (before after : 
   pub others : (e : ℕ) → e ≢ d → switch_of e after ≡ switch_of e before
   pub others_wait : (e : ℕ) → e ≢ d → waits_of e after ≡ waits_of e before
 
-abbrev after_both : ℕ → ℕ → Change → State → State
+abbrev pub after_both : ℕ → ℕ → Change → State → State
 after_both d xid m t = after_step (barrier_sent (awaited_from d xid)) (after_step (change_sent d xid m) t)
 
-both_sent : (d xid : ℕ) (m : Change) (s : SwitchState) (t : State) → reading_of (message_bytes xid (as_sent (FlowMod m))) ≡ Ok (enveloped xid (as_sent (FlowMod m))) → next_xid xid < 2 ^ 32
+pub both_sent : (d xid : ℕ) (m : Change) (s : SwitchState) (t : State) → reading_of (message_bytes xid (as_sent (FlowMod m))) ≡ Ok (enveloped xid (as_sent (FlowMod m))) → next_xid xid < 2 ^ 32
     → switch_of d t ≡ Some s → waits_of d t ≡ [] → Sending d xid m s t (after_both d xid m t)
 both_sent d xid m s t read small is none =
     let change = message_bytes xid (as_sent (FlowMod m)) in
@@ -74,7 +74,7 @@ both_sent d xid m s t read small is none =
 
 -- ---- What the switch sends for a change that the host let pass
 
-refused_sends : (xid : ℕ) (m : Message) (s : SwitchState) (e : OfError) → message_refusal s m ≡ Some e → sent_by_message xid m s ≡ error_bytes xid m e ∷ []
+pub refused_sends : (xid : ℕ) (m : Message) (s : SwitchState) (e : OfError) → message_refusal s m ≡ Some e → sent_by_message xid m s ≡ error_bytes xid m e ∷ []
 unfolding sent_by_message
 refused_sends xid m s e is = rw is refl
 
@@ -82,7 +82,7 @@ refused_stays : (m : Message) (s : SwitchState) (e : OfError) → message_refusa
 unfolding after_message
 refused_stays m s e is = rw is refl
 
-taken_sends : (xid : ℕ) (m : Change) (s : SwitchState) → message_refusal s (as_sent (FlowMod m)) ≡ None → would_touch m (rows_of_table s.table.entries) ≡ false → sent_by_message xid (as_sent (FlowMod m)) s ≡ []
+pub taken_sends : (xid : ℕ) (m : Change) (s : SwitchState) → message_refusal s (as_sent (FlowMod m)) ≡ None → would_touch m (rows_of_table s.table.entries) ≡ false → sent_by_message xid (as_sent (FlowMod m)) s ≡ []
 unfolding sent_by_message sent_by_taken
 taken_sends xid m s is none = rw (is, no_notices m s.table.entries s.moment none) refl
 
@@ -101,10 +101,10 @@ pub record Played (d xid : ℕ) (m : Change) (s : SwitchState) (got : List (List
   pub others : (e : ℕ) → e ≢ d → switch_of e after ≡ switch_of e before
   pub others_wait : (e : ℕ) → e ≢ d → waits_of e after ≡ waits_of e before
 
-abbrev reply_to : ℕ → List ℕ
+abbrev pub reply_to : ℕ → List ℕ
 reply_to xid = message_bytes (next_xid xid) BarrierReply
 
-small_of : (e : OfError) → IsSmall (Some e) → (e.kind < 256 ^ 2) × (e.code < 256 ^ 2)
+pub small_of : (e : OfError) → IsSmall (Some e) → (e.kind < 256 ^ 2) × (e.code < 256 ^ 2)
 small_of e is = is.small
 
 -- where all that waited was got
@@ -172,7 +172,7 @@ passed d bytes m net xid host read = passed_by d bytes m net.views xid (known_ro
 same_value : {Y : Type 0} (p q : Y) → Some p ≡ Some q → p ≡ q
 same_value p q e = cc
 
-some_from : {X Y : Type 0} (f : X → Y) (o : Option X) (y : Y) → option_map f o ≡ Some y → (x : X) × (o ≡ Some x) × (f x ≡ y)
+pub some_from : {X Y : Type 0} (f : X → Y) (o : Option X) (y : Y) → option_map f o ≡ Some y → (x : X) × (o ≡ Some x) × (f x ≡ y)
 some_from f None y is = absurd cc
 some_from f (Some x) y is = (x, refl, same_value (f x) y is)
 
@@ -187,7 +187,7 @@ abbrev rows_by : Option Refusal → Change → List ViewRow → List ViewRow
 rows_by None m rows = rows_after m rows
 rows_by (Some r) m rows = rows
 
-abbrev shown_by : SwitchState → Rows
+abbrev pub shown_by : SwitchState → Rows
 shown_by s = rows_of_table s.table.entries
 
 agreed : (m : Change) (s : SwitchState) (rows : List ViewRow) (refusal : Option Refusal) → error_in refusal ≡ message_refusal s (as_sent (FlowMod m)) → rows_of_view rows ≡ shown_by s → m.command ≤ 4 → would_touch m (rows_of_view rows) ≡ false

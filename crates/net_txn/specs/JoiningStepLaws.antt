@@ -1,9 +1,9 @@
 -- Where a world keeps its word, a switch that joins is emptied, and its view shows that.
-use Rattle.std.specs.Prelude.{◌≡◌, ◌≢◌, ℕ, ◌^◌, ◌<◌, true, false, not, List, [], ◌∷◌, ◌++◌, filter, map, Option, Some, None, Result, Ok, Err, OnOk, slice_get, refl}
+use Rattle.std.specs.Prelude.{◌≡◌, ◌≢◌, ℕ, ◌^◌, ◌<◌, ◌≤◌, Bool, true, false, not, ◌&&◌, List, [], ◌∷◌, ◌++◌, length, filter, map, Option, Some, None, Ok, slice_get, refl}
 use Rattle.std.specs.List.{AllByRecursion}
 use Rattle.std.specs.Option.{option_map}
 use Rattle.std.proofs.Common.{sym, ap, ◌∙◌, subst, arith}
-use Rattle.std.proofs.lemmas.List.{append-nil, map-append}
+use Rattle.std.proofs.lemmas.List.{append-nil, map-append, length-map}
 use Rattle.of_types.specs.declared.port_desc.PortDesc.{PortDesc}
 use Rattle.of_types.specs.declared.journal.Act.TheVariants.{Sent, Got}
 use Rattle.of_match.specs.Fields.{any_fields}
@@ -20,7 +20,8 @@ use Rattle.of_wire.specs.ReadingLaws.{reading_of-message_bytes}
 use Rattle.flow_table.specs.declared.entry.Entry.{Entry}
 use Rattle.flow_table.specs.declared.view.ViewRow.{ViewRow}
 use Rattle.flow_table.specs.Table.{TableState}
-use Rattle.flow_table.specs.Change.{describes, sends_to, deletes, adds, changed, notices_of}
+use Rattle.flow_table.specs.TableLaws.{length-filter-le}
+use Rattle.flow_table.specs.Change.{describes, sends_to, deletes, asks_notice, adds, changed, notice, notices_of}
 use Rattle.flow_table.specs.ChangeLaws.{entries_after-delete, refusal-delete, notices_of-delete}
 use Rattle.flow_table.specs.Switch.{Declared, SwitchState, first_config}
 use Rattle.flow_table.specs.Refusals.{flow_refusal, message_refusal}
@@ -33,7 +34,6 @@ use Rattle.outside.specs.State.{State, after_step, after_steps, state, switch_of
 use Rattle.outside.specs.StateLaws.{state-append, Conforming-rest}
 use Rattle.outside.specs.LinkLaws.{switch_of-sent, waits_of-sent}
 use Rattle.outside.specs.Conforming.{MayStep, MayAct, MaySteps, Conforming}
-use Rattle.net_txn.specs.declared.fault.TxnFault.{TxnFault}
 use Rattle.net_txn.specs.declared.heard.Awaited.{Awaited}
 use Rattle.net_txn.specs.Net.{NetState, next_xid}
 use Rattle.net_txn.specs.Waits.{heard, is_reply, wait_steps, kept_of, reply_got}
@@ -47,7 +47,7 @@ use Rattle.net_txn.specs.PartLaws.{steps_other}
 use Rattle.net_txn.specs.RestoreLaws.{all_two, wait_of}
 use Rattle.net_txn.specs.Joining.{delete_all, greeted_from, greeting, Joins}
 use Rattle.net_txn.specs.JoiningLaws.{rows_at-with_view, rows_at-with_view-other}
-use Rattle.net_txn.specs.JoiningSteps.{emptied, JoinsInStep, JoinSteps}
+use Rattle.net_txn.specs.JoiningSteps.{emptied, JoinsInStep}
 
 -- ---- What a switch makes of the two messages
 
@@ -93,6 +93,19 @@ deletion_sent xid s = rw (not_refused s) refl
 deletion_sends : (xid : ℕ) (s : SwitchState) → AllNotices (sent_by_message xid (FlowMod delete_all) s)
 deletion_sends xid s = subst AllNotices (sym (deletion_sent xid s ∙ ap (map flow_removed_bytes) (notices_of-delete s.moment delete_all s.table.entries refl))) (notices_all s.moment _)
 
+-- a notice of each entry at most
+deletion_few : (xid : ℕ) (s : SwitchState) → length (sent_by_message xid (FlowMod delete_all) s) ≤ length s.table.entries
+deletion_few xid s =
+    let tells : Entry → Bool = λ e. deletes delete_all e && asks_notice e.flags in
+    let told = filter tells s.table.entries in
+    omega (
+      arith,
+      ap length (deletion_sent xid s ∙ ap (map flow_removed_bytes) (notices_of-delete s.moment delete_all s.table.entries refl)),
+      length-map (map (notice 2 s.moment) told) flow_removed_bytes,
+      length-map told (notice 2 s.moment),
+      length-filter-le tells s.table.entries,
+    )
+
 config_moves : (s : SwitchState) → after_message (SetConfig first_config) s ≡ record s { config = first_config }
 unfolding after_message message_refusal after_taken
 config_moves s = refl
@@ -116,12 +129,12 @@ abbrev barrier_bytes : ℕ → List ℕ
 barrier_bytes xid = message_bytes (next_xid (next_xid xid)) BarrierRequest
 
 -- the three messages are read
-record AreRead (xid : ℕ) : Type 0 where
+pub record AreRead (xid : ℕ) : Type 0 where
   deletion : reading_of (deletion_bytes xid) ≡ Ok (enveloped xid (FlowMod delete_all))
   config : reading_of (config_bytes xid) ≡ Ok (enveloped (next_xid xid) (SetConfig first_config))
   barrier : reading_of (barrier_bytes xid) ≡ Ok (enveloped (next_xid (next_xid xid)) BarrierRequest)
 
-are_read : (xid : ℕ) → xid < 2 ^ 32 → AreRead xid
+pub are_read : (xid : ℕ) → xid < 2 ^ 32 → AreRead xid
 are_read xid lt =
     let second = next_xid-lt xid lt in
     record {
@@ -130,19 +143,20 @@ are_read xid lt =
       barrier = reading_of-message_bytes (next_xid (next_xid xid)) BarrierRequest (next_xid-lt (next_xid xid) second) IsMessage-barrier;
     }
 
-abbrev after_all : ℕ → ℕ → State → State
+abbrev pub after_all : ℕ → ℕ → State → State
 after_all d xid t = after_steps (greeting d xid) t
 
-abbrev reply_to : ℕ → List ℕ
+abbrev pub reply_to : ℕ → List ℕ
 reply_to xid = message_bytes (next_xid (next_xid xid)) BarrierReply
 
-record Greeted (d xid : ℕ) (s : SwitchState) (t : State) : Type 0 where
-  switch : switch_of d t ≡ Some (emptied s)
-  notices : List (List ℕ)
-  are_notices : AllNotices notices
-  waits : waits_of d t ≡ notices ++ reply_to xid ∷ []
+pub record Greeted (d xid : ℕ) (s : SwitchState) (t : State) : Type 0 where
+  pub switch : switch_of d t ≡ Some (emptied s)
+  pub notices : List (List ℕ)
+  pub are_notices : AllNotices notices
+  pub few : length notices ≤ length s.table.entries
+  pub waits : waits_of d t ≡ notices ++ reply_to xid ∷ []
 
-greeted : (d xid : ℕ) (s : SwitchState) (t : State) → AreRead xid → switch_of d t ≡ Some s → waits_of d t ≡ [] → Greeted d xid s (after_all d xid t)
+pub greeted : (d xid : ℕ) (s : SwitchState) (t : State) → AreRead xid → switch_of d t ≡ Some s → waits_of d t ≡ [] → Greeted d xid s (after_all d xid t)
 greeted d xid s t read is none =
     let deletion = FlowMod delete_all in
     let config = SetConfig first_config in
@@ -158,6 +172,7 @@ greeted d xid s t read is none =
       switch = told_switch d (next_xid (next_xid xid)) BarrierRequest (barrier_bytes xid) two (emptied s) read.barrier there_two ∙ ap some_switch (barrier_stays (emptied s));
       notices = sends;
       are_notices = deletion_sends xid s;
+      few = deletion_few xid s;
       waits = told_waits d (next_xid (next_xid xid)) BarrierRequest (barrier_bytes xid) two (emptied s) read.barrier there_two
           ∙ ap (λ (ws : List (List ℕ)). waits_of d two ++ ws) (barrier_sends (next_xid (next_xid xid)) (emptied s)) ∙ ap (λ (ws : List (List ℕ)). ws ++ reply_to xid ∷ []) waits_two;
     }
@@ -167,7 +182,7 @@ told_none : (d xid : ℕ) (m : Message) (bytes : List ℕ) (t : State) → readi
     → (switch_of d (after_step (Acted (Sent d bytes)) t) ≡ None) × (waits_of d (after_step (Acted (Sent d bytes)) t) ≡ [])
 told_none d xid m bytes t read out none = (switch_of-sent d bytes t ∙ (rw (read, out) refl), waits_of-sent d bytes t ∙ (rw (read, out, none) refl))
 
-greeted_none : (d xid : ℕ) (t : State) → AreRead xid → switch_of d t ≡ None → waits_of d t ≡ [] → waits_of d (after_all d xid t) ≡ []
+pub greeted_none : (d xid : ℕ) (t : State) → AreRead xid → switch_of d t ≡ None → waits_of d t ≡ [] → waits_of d (after_all d xid t) ≡ []
 greeted_none d xid t read out none =
     let one = after_step (Acted (Sent d (deletion_bytes xid))) t in
     let two = after_step (Acted (Sent d (config_bytes xid))) one in
@@ -175,7 +190,7 @@ greeted_none d xid t read out none =
     let second = told_none d (next_xid xid) (SetConfig first_config) (config_bytes xid) one read.config first.0 first.1 in
     (told_none d (next_xid (next_xid xid)) BarrierRequest (barrier_bytes xid) two read.barrier second.0 second.1).1
 
-none_first : (declared : List Declared) (d : ℕ) (b : List ℕ) (rest : List WorldStep) (t : State) → waits_of d t ≡ [] → MaySteps declared (Acted (Got d b) ∷ rest) t → ⊥
+pub none_first : (declared : List Declared) (d : ℕ) (b : List ℕ) (rest : List WorldStep) (t : State) → waits_of d t ≡ [] → MaySteps declared (Acted (Got d b) ∷ rest) t → ⊥
 unfolding MayStep MayAct
 none_first declared d b rest t none may = absurd (nothing (sym may.0.0 ∙ ap (λ (ws : List (List ℕ)). slice_get ws 0) none))
   where
@@ -229,7 +244,7 @@ stays_empty s t o here there entries config =
     let same : s ≡ t = same_switch s t (sym here ∙ there) in
     ap (λ (x : SwitchState). Some (emptied x)) same ∙ ap some_switch (emptied_already t entries config)
 
-in_step_of : {Own : Type 0} {Tells : Type 0} (d : ℕ) (ports : List PortDesc) (old new : Seen Own) (net now_net : NetState) (o : Option SwitchState) → net.xid < 2 ^ 32 → Tells → Joins Tells d ports old new net now_net → Conforming new
+pub in_step_of : {Own : Type 0} {Tells : Type 0} (d : ℕ) (ports : List PortDesc) (old new : Seen Own) (net now_net : NetState) (o : Option SwitchState) → net.xid < 2 ^ 32 → Tells → Joins Tells d ports old new net now_net → Conforming new
     → waits_of d (state old) ≡ [] → switch_of d (state old) ≡ o → JoinsInStep d old new net now_net
 in_step_of d ports old new net now_net None lt told joins keeps none out =
     let a = greeted_from d net.xid in
@@ -261,7 +276,3 @@ in_step_of d ports old new net now_net (Some s) lt told joins keeps none is =
   where
     shown_by : SwitchState → Rows
     shown_by x = rows_of_table x.table.entries
-
-pub join_steps : {Own : Type 0} {Tells : Type 0} (d : ℕ) (ports : List PortDesc) (old new : Seen Own) (net now_net : NetState) (result : Result (Unit {0}) TxnFault) → net.xid < 2 ^ 32 → OnOk result (Joins Tells d ports old new net now_net) → JoinSteps Tells d old new net now_net result
-join_steps d ports old new net now_net (Ok x) lt joins told keeps none = in_step_of d ports old new net now_net (switch_of d (state old)) lt told joins keeps none refl
-join_steps d ports old new net now_net (Err fault) lt joins told keeps none = tt

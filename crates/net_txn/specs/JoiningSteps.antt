@@ -1,11 +1,12 @@
 -- What follows of a switch that joins, in a world that keeps its word. All of this is our own.
-use Rattle.std.specs.Prelude.{◌≡◌, ◌≢◌, ℕ, [], Some, Result, OnOk}
+use Rattle.std.specs.Prelude.{◌≡◌, ◌≢◌, ℕ, [], Some, Result, MatchResult}
 use Rattle.std.specs.Option.{option_map}
 use Rattle.flow_table.specs.Switch.{SwitchState, first_config}
 use Rattle.outside.specs.Seen.{Seen}
 use Rattle.outside.specs.State.{state, switch_of, waits_of}
 use Rattle.outside.specs.Conforming.{Conforming}
 use Rattle.net_txn.specs.declared.fault.TxnFault.{TxnFault}
+use Rattle.net_txn.specs.Causes.{IsPlainFault}
 use Rattle.net_txn.specs.Net.{NetState}
 use Rattle.net_txn.specs.Agreement.{Agrees}
 
@@ -25,6 +26,6 @@ pub record JoinsInStep {Own : Type 0} (d : ℕ) (old new : Seen Own) (net now_ne
   pub agrees : Agrees d now_net.views (state new)
   pub others_agree : (e : ℕ) → e ≢ d → Agrees e net.views (state old) → Agrees e now_net.views (state new)
 
--- where the world keeps its word and nothing of the switch waited
+-- where the world keeps its word and nothing of the switch waited; a fault is then one of the link, or of memory
 abbrev pub JoinSteps : {Own : Type 0} → Type 0 → ℕ → Seen Own → Seen Own → NetState → NetState → Result (Unit {0}) TxnFault → Type 0
-JoinSteps Tells d old new net now_net result = Tells → Conforming new → waits_of d (state old) ≡ [] → OnOk result (JoinsInStep d old new net now_net)
+JoinSteps Tells d old new net now_net result = Tells → Conforming new → waits_of d (state old) ≡ [] → MatchResult result (λ _. JoinsInStep d old new net now_net) (IsPlainFault d)

@@ -23,7 +23,9 @@ pub mod Agreement
 pub mod RowLaws
 pub mod HeardLaws
 pub mod StepLaws
+pub mod FloodLaws
 pub mod InStepLaws
+pub mod ChangeFaultLaws
 pub mod ReachedLaws
 pub mod ConsequenceLaws
 pub mod Undos
@@ -44,8 +46,11 @@ pub mod Asks
 pub mod AskLaws
 pub mod AskSteps
 pub mod ReplyLaws
+pub mod TableBoundLaws
 pub mod AskStepLaws
+pub mod AskFaultLaws
 pub mod JoiningSteps
 pub mod JoiningStepLaws
+pub mod JoiningFaultLaws
 pub mod Place
 pub mod PlaceLaws

@@ -13,10 +13,13 @@ use Rattle.of_wire.specs.Spelling.{message_bytes}
 use Rattle.outside.specs.declared.step.WorldStep.{WorldStep}
 use Rattle.outside.specs.declared.step.WorldStep.TheVariants.{Acted}
 use Rattle.outside.specs.Seen.{Seen, Continues}
+use Rattle.net_txn.specs.declared.fault.TxnFault.{TxnFault}
+use Rattle.net_txn.specs.declared.fault.TxnFault.TheVariants.{SwitchFault, SwitchBroke, Diverged, Flooded, NoMemory}
 use Rattle.net_txn.specs.declared.heard.Awaited.{Awaited}
 use Rattle.net_txn.specs.declared.heard.Refusal.{Refusal}
 use Rattle.net_txn.specs.declared.heard.Heard.{Heard}
 use Rattle.net_txn.specs.declared.heard.Heard.TheVariants.{Reply, Refused, Notice, Echo, Other}
+use Rattle.net_txn.specs.Causes.{flood}
 
 -- ---- What a message is to a wait
 
@@ -104,6 +107,22 @@ pub record Waits {Own : Type 0} (Tells : Type 0) (a : Awaited) (front : List Wor
   pub got : List (List ℕ)
   pub few : length got ≤ 65535
   pub hears : Hears Tells a front (reply_got a ∷ []) old new kept now_kept answer got
+
+-- A wait that was given up: 65,536 messages behind the steps before, none of them the reply.
+pub record Floods {Own : Type 0} (Tells : Type 0) (a : Awaited) (front : List WorldStep) (old new : Seen Own) : Type 0 where
+  pub got : List (List ℕ)
+  pub many : length got ≡ flood
+  pub before_reply : AllByRecursion (λ b. is_reply (heard a b) ≡ false) got
+  pub continues : Continues Tells old new
+  pub told : Tells → new.history ≡ old.history ++ (front ++ wait_steps a got)
+
+-- of a fault that may be Flooded
+abbrev pub IfFlooded : {Own : Type 0} → Type 0 → Awaited → List WorldStep → Seen Own → Seen Own → TxnFault → Type 0
+IfFlooded Tells a front old new (Flooded of n) = Floods Tells a front old new
+IfFlooded Tells a front old new (SwitchFault of) = Unit {0}
+IfFlooded Tells a front old new (SwitchBroke of bytes) = Unit {0}
+IfFlooded Tells a front old new (Diverged of sent got) = Unit {0}
+IfFlooded Tells a front old new NoMemory = Unit {0}
 
 -- A wait that has not ended yet, after so many messages.
 pub record WaitsOn {Own : Type 0} (Tells : Type 0) (a : Awaited) (old new : Seen Own) (kept now_kept : List (ℕ × List ℕ)) (answer : Option Refusal) (n : ℕ) : Type 0 where

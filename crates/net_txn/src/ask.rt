@@ -7,7 +7,7 @@ ghost use Rattle.outside.specs.Calls.{most_message};
 ghost use Rattle.outside.specs.Seen.{Continues};
 ghost use Rattle.outside.specs.declared.step.WorldStep.TheVariants.{Acted};
 ghost use Rattle.net_txn.specs.Causes.{IsCause};
-ghost use Rattle.net_txn.specs.Waits.{Waits, KeptMore, barrier_sent};
+ghost use Rattle.net_txn.specs.Waits.{Waits, IfFlooded, KeptMore, barrier_sent};
 
 use crate::fault::TxnFault;
 use crate::heard::{Awaited, Refusal};
@@ -31,6 +31,8 @@ pub(crate) fn ask<W: World>(
         (W.seen world.old) (W.seen world.new) kept.old kept.new) }
     ensures continues { Continues W.Tells (W.seen world.old) (W.seen world.new) }
     ensures cause { IfErr result (IsCause W.Tells awaited.now.dpid (W.seen world.old) (W.seen world.new)) }
+    ensures flooded { IfErr result (IfFlooded W.Tells awaited.now (Acted (Sent awaited.now.dpid frame.now) ∷ barrier_sent awaited.now ∷ [])
+        (W.seen world.old) (W.seen world.new)) }
     ensures kept { OnErr result (KeptMore awaited.now.dpid kept.old kept.new) }
 {
     send(world, awaited.dpid, frame)?;

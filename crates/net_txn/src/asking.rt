@@ -94,7 +94,8 @@ impl Net {
         requires { IsSome (rows_at dpid self.old.views) }
         ensures asks { Asks W.Tells dpid self.old.xid (W.seen world.old) (W.seen world.new) self.old.kept self.new.kept result }
 
-        // Where the world keeps its word and nothing of the switch waited, the rows are the switch's own, and all else stays.
+        // Where the world keeps its word and nothing of the switch waited, the rows are the switch's own, and all else stays; a
+        // fault is one of the switch's link, or of memory, or its own rows have no spelling.
         ensures in_step { AskSteps W.Tells dpid (W.seen world.old) (W.seen world.new) self.old.kept self.new.kept result }
 
         // Views, ports, log and moment stay.

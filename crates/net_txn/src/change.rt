@@ -5,7 +5,7 @@ ghost use Rattle.of_wire.specs.declared.message.Message.TheVariants as messages;
 ghost use Rattle.of_wire.specs.Grammar.{IsMessage};
 ghost use Rattle.outside.specs.Seen.{Continues};
 ghost use Rattle.net_txn.specs.Causes.{IsCause};
-ghost use Rattle.net_txn.specs.Changes.{Asked, Stopped, Changes};
+ghost use Rattle.net_txn.specs.Changes.{Asked, Stopped, IfGivenUp, Changes};
 ghost use Rattle.net_txn.specs.Agreement.{Reaches, Steps};
 ghost use Rattle.net_txn.specs.Net.{with_logged};
 
@@ -46,6 +46,7 @@ impl Net {
             (λ f. Stopped dpid flow (W.seen world.old) (W.seen world.new) self.old self.new) }
         ensures continues { Continues W.Tells (W.seen world.old) (W.seen world.new) }
         ensures cause { IfErr result (IsCause W.Tells dpid (W.seen world.old) (W.seen world.new)) }
+        ensures flooded { IfErr result (IfGivenUp W.Tells dpid flow (W.seen world.old) (W.seen world.new) self.old) }
         ensures ports { self.new.ports ≡ self.old.ports }
         ensures moment { self.new.moment ≡ self.old.moment }
         ensures room { self.new.room ≡ self.old.room }
@@ -89,7 +90,8 @@ impl Net {
         // What the switch judged reached it at once.
         ensures reached { Reaches W.Tells dpid bytes.now (W.seen world.old) (W.seen world.new) self.old result }
 
-        // Where the world keeps its word, nothing of the switch waited, and view and table agreed, they take the step together.
+        // Where the world keeps its word, nothing of the switch waited, and view and table agreed, they take the step together; a
+        // fault is one of the switch's link, or of memory.
         ensures in_step { Steps W.Tells dpid bytes.now (W.seen world.old) (W.seen world.new) self.old self.new result }
     {
         let Some(view) = find(&self.views, dpid) else {

@@ -4,9 +4,10 @@ ghost use Rattle.std.specs.Prelude.{◌≡◌, ◌<◌, ◌^◌, ◌++◌, [], �
 ghost use Rattle.outside.specs.Seen.{Continues};
 ghost use Rattle.net_txn.specs.declared.ports.KnownPorts.{KnownPorts};
 ghost use Rattle.net_txn.specs.Causes.{IsCause};
+ghost use Rattle.net_txn.specs.Waits.{IfFlooded};
 ghost use Rattle.net_txn.specs.Views.{rows_at};
 ghost use Rattle.net_txn.specs.Net.{next_xid};
-ghost use Rattle.net_txn.specs.Joining.{greeted_from, with_view, IsViewPlace, Joins, DoesNotJoin};
+ghost use Rattle.net_txn.specs.Joining.{greeted_from, greeting, with_view, IsViewPlace, Joins, DoesNotJoin};
 ghost use Rattle.net_txn.specs.JoiningSteps.{JoinSteps};
 
 use crate::fault::TxnFault;
@@ -106,6 +107,7 @@ impl Net {
         ensures err { OnErr result (DoesNotJoin dpid self.old self.new) }
         ensures continues { Continues W.Tells (W.seen world.old) (W.seen world.new) }
         ensures cause { IfErr result (IsCause W.Tells dpid (W.seen world.old) (W.seen world.new)) }
+        ensures flooded { IfErr result (IfFlooded W.Tells (greeted_from dpid self.old.xid) (greeting dpid self.old.xid) (W.seen world.old) (W.seen world.new)) }
         ensures log { self.new.log ≡ self.old.log }
         ensures moment { self.new.moment ≡ self.old.moment }
         ensures room { self.new.room ≡ self.old.room }
@@ -147,7 +149,8 @@ impl Net {
         ensures moment { self.new.moment ≡ self.old.moment }
         ensures room { self.new.room ≡ self.old.room }
 
-        // Where the world keeps its word and nothing of the switch waited, the switch is empty, as its view is.
+        // Where the world keeps its word and nothing of the switch waited, the switch is empty, as its view is; a fault is
+        // one of the switch's link, or of memory.
         ensures in_step { JoinSteps W.Tells dpid (W.seen world.old) (W.seen world.new) self.old self.new result }
     {
         self.join(world, dpid, features)

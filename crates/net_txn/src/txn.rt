@@ -60,7 +60,8 @@ impl<'a> Txn<'a> {
         // What the switch judged reached it at once.
         ensures reached { Reaches W.Tells dpid bytes.now (W.seen world.old) (W.seen world.new) self.old.net.now result }
 
-        // Where the world keeps its word, nothing of the switch waited, and view and table agreed, they take the step together.
+        // Where the world keeps its word, nothing of the switch waited, and view and table agreed, they take the step together; a
+        // fault is one of the switch's link, or of memory.
         ensures in_step { Steps W.Tells dpid bytes.now (W.seen world.old) (W.seen world.new) self.old.net.now self.new.net.now result }
     {
         self.net.change(world, dpid, bytes)

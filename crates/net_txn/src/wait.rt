@@ -7,8 +7,8 @@ ghost use Rattle.of_wire.specs.Reading.{reading_of};
 ghost use Rattle.outside.specs.Calls.{most_message};
 ghost use Rattle.outside.specs.Seen.{Continues};
 ghost use Rattle.outside.specs.declared.step.WorldStep.TheVariants.{Acted};
-ghost use Rattle.net_txn.specs.Causes.{IsCause, IsLinkCause};
-ghost use Rattle.net_txn.specs.Waits.{heard, is_reply, echo_reply, steps_by, kept_by, refusal_in, first_of, HearsOne, Waits, KeptMore, barrier_sent};
+ghost use Rattle.net_txn.specs.Causes.{IsCause, IsLinkCause, IsNoFlood};
+ghost use Rattle.net_txn.specs.Waits.{heard, is_reply, echo_reply, steps_by, kept_by, refusal_in, first_of, HearsOne, Waits, IfFlooded, KeptMore, barrier_sent};
 
 use crate::fault::TxnFault;
 use crate::heard::{Awaited, Heard, Refusal, barrier_request, judge};
@@ -27,6 +27,7 @@ pub(crate) fn send<W: World>(world: &mut W, dpid: Dpid, frame: &[u8]) -> Result<
     ensures continues { Continues W.Tells (W.seen world.old) (W.seen world.new) }
     ensures cause { IfErr result (IsCause W.Tells dpid (W.seen world.old) (W.seen world.new)) }
     ensures link { IfErr result (IsLinkCause dpid (W.seen world.old) (W.seen world.new)) }
+    ensures no_flood { IfErr result IsNoFlood }
     ensures told { W.Tells → OnOk result ((W.seen world.new).history ≡ (W.seen world.old).history ++ Acted (Sent dpid frame.now) ∷ []) }
 {
     match world.send(dpid, frame) {
@@ -46,6 +47,7 @@ pub(crate) fn receive<W: World>(
     requires { most_message ≤ length buf.old }
     ensures continues { Continues W.Tells (W.seen world.old) (W.seen world.new) }
     ensures cause { IfErr result (IsCause W.Tells dpid (W.seen world.old) (W.seen world.new)) }
+    ensures no_flood { IfErr result IsNoFlood }
     ensures within { IfOk result (λ n. n ≤ length buf.new) }
     ensures bytes { IsBytes buf.new }
     ensures read { IfOk result (λ n. IsOk (reading_of (take n buf.new))) }
@@ -89,6 +91,7 @@ fn treat<W: World>(
     requires read { IsOk (reading_of message.old) }
     ensures continues { Continues W.Tells (W.seen world.old) (W.seen world.new) }
     ensures cause { IfErr result (IsCause W.Tells awaited.now.dpid (W.seen world.old) (W.seen world.new)) }
+    ensures no_flood { IfErr result IsNoFlood }
     ensures ends { IfOk result (λ ends. ends ≡ is_reply (heard awaited.now message.old)) }
     ensures kept { OnOk result (kept.new ≡ kept.old ++ kept_by awaited.now.dpid (heard awaited.now message.old) message.old) }
     ensures kept_err { OnErr result (kept.new ≡ kept.old) }
@@ -131,6 +134,7 @@ fn hear<W: World>(
     ensures ok { IfOk result (HearsOne W.Tells awaited.now (W.seen world.old) (W.seen world.new) kept.old kept.new answer.old answer.new) }
     ensures continues { Continues W.Tells (W.seen world.old) (W.seen world.new) }
     ensures cause { IfErr result (IsCause W.Tells awaited.now.dpid (W.seen world.old) (W.seen world.new)) }
+    ensures no_flood { IfErr result IsNoFlood }
     ensures kept { OnErr result (kept.new ≡ kept.old) }
 {
     let len = receive(world, alloc, awaited.dpid, buf)?;
@@ -149,6 +153,7 @@ pub(crate) fn wait<W: World>(
     ensures ok { IfOk result (Waits W.Tells awaited.now [] (W.seen world.old) (W.seen world.new) kept.old kept.new) }
     ensures continues { Continues W.Tells (W.seen world.old) (W.seen world.new) }
     ensures cause { IfErr result (IsCause W.Tells awaited.now.dpid (W.seen world.old) (W.seen world.new)) }
+    ensures flooded { IfErr result (IfFlooded W.Tells awaited.now [] (W.seen world.old) (W.seen world.new)) }
     ensures kept { OnErr result (KeptMore awaited.now.dpid kept.old kept.new) }
 {
     let mut answer = None;
@@ -172,6 +177,7 @@ pub(crate) fn settle<W: World>(
     ensures ok { IfOk result (Waits W.Tells awaited.now (barrier_sent awaited.now ∷ []) (W.seen world.old) (W.seen world.new) kept.old kept.new) }
     ensures continues { Continues W.Tells (W.seen world.old) (W.seen world.new) }
     ensures cause { IfErr result (IsCause W.Tells awaited.now.dpid (W.seen world.old) (W.seen world.new)) }
+    ensures flooded { IfErr result (IfFlooded W.Tells awaited.now (barrier_sent awaited.now ∷ []) (W.seen world.old) (W.seen world.new)) }
     ensures kept { OnErr result (KeptMore awaited.now.dpid kept.old kept.new) }
 {
     send(world, awaited.dpid, &barrier_request(awaited.barrier))?;

@@ -1,7 +1,9 @@
 use Rattle.std.proofs.Common.{inl, ap, ◌∙◌}
 use Rattle.std.proofs.lemmas.Result.{err_from_is_err_and}
+use Rattle.of_wire.specs.declared.message.Message.TheVariants.{BarrierReply}
+use Rattle.of_wire.specs.Spelling.{message_bytes}
 use Rattle.net_txn.specs.declared.heard.Awaited.{Awaited}
-use Rattle.net_txn.specs.AskLaws.{long_parts, sorted_more, sorted_some, came_more, asked_cause, asked_waits, answer_by_replies}
+use Rattle.net_txn.specs.AskLaws.{long_parts, sorted_more, sorted_some, came_more, asked_cause, asked_waits, asked_flooded, replies_no_flood, answer_by_replies}
 use Rattle.net_txn.proofs.asking.request_rows.Goals as goal
 
 pub returns-in_err-replies : goal.returns-in_err-replies
@@ -14,6 +16,7 @@ returns-in_err-replies g c =
       continues = c.ask-waited.ensures.continues;
       kept_more = sorted_some c.args.dpid c.args.xid n came c.args.kept.now c.sort_out.new.kept more kept;
       answer = inl tt;
+      flooded = tt;
     })
 
 pub returns-in_err-waited : goal.returns-in_err-waited
@@ -24,6 +27,7 @@ returns-in_err-waited g c =
     rw (p.1, p.2) (record {
       continues = c.ask-waited.ensures.continues;
       kept_more = sorted_more c.args.dpid c.args.xid came c.args.kept.now c.sort_out.new.kept more c.in_ok-replies.ensures.kept;
+      flooded = asked_flooded g.W.World.Tells c.args.dpid c.args.xid c.asked-awaited.result c.as_slice.result.now (g.W.World.seen c.args.world.now) (g.W.World.seen c.ask-waited.new.world) c.in_err-waited.field-0.0 c.asked-awaited.ensures (c.as_slice.ensures ∙ c.in_ok-request.ensures.bytes) c.in_err-waited.ensures.flooded;
       answer = inl (asked_cause g.W.World.Tells c.args.dpid c.args.xid c.asked-awaited.result (g.W.World.seen c.args.world.now) (g.W.World.seen c.ask-waited.new.world) c.in_err-waited.field-0.0 c.asked-awaited.ensures c.in_err-waited.ensures.cause);
     })
 
@@ -44,4 +48,5 @@ returns g c =
           (record { refusal = c.in_ok-waited.field-0; waits = waits; kept_so = c.in_ok-replies.ensures.kept })
           c.in_ok-replies.ensures.parts c.in_ok-replies.ensures.refusals c.in_ok-request.ensures.bytes (ap (λ (x : Awaited). x.barrier) c.asked-awaited.ensures)
           c.judge_replies.ensures.rows c.judge_replies.ensures.no_refusal c.judge_replies.ensures.err;
+      flooded = replies_no_flood g.W.World.Tells c.args.dpid c.args.xid old new c.in_ok-request.request (message_bytes c.asked-awaited.result.barrier BarrierReply) c.in_ok-replies.replies.parts.items c.in_ok-replies.replies.refusals.items c.judge_replies.result c.judge_replies.ensures.err;
     }

@@ -1,7 +1,8 @@
-use Rattle.std.proofs.Common.{◌∙◌, arith}
+use Rattle.std.proofs.Common.{[], ◌∙◌, arith}
 use Rattle.std.proofs.lemmas.Result.{err_from_is_err_and}
 use Rattle.net_txn.specs.CauseLaws.{IsCause-later}
 use Rattle.net_txn.specs.WaitLaws.{none_yet, one_more, ended, kept_so_far}
+use Rattle.net_txn.specs.FloodLaws.{floods_not, flooded}
 use Rattle.net_txn.proofs.wait.wait.Goals as goal
 
 pub loop-heard-init : goal.loop-heard-init
@@ -26,3 +27,11 @@ loop-heard-preserved g c = one_more c.loop-heard.invariant (rw c.if-branch.false
 
 pub returns-clause-kept : goal.returns-clause-kept
 returns-clause-kept g c = kept_so_far c.loop-heard.invariant
+
+pub returns-clause-flooded : goal.returns-clause-flooded
+returns-clause-flooded g c = flooded c.loop-heard.invariant (omega arith)
+
+pub returns-in_err-hear-clause-flooded : goal.returns-in_err-hear-clause-flooded
+returns-in_err-hear-clause-flooded g c =
+    let p = err_from_is_err_and c.from_residual.result c.from_residual.ensures.1 in
+    rw (p.1, p.2) (floods_not g.W.World.Tells c.args.awaited.now [] (g.W.World.seen c.args.world.now) (g.W.World.seen c.hear.new.world) c.in_err-hear.field-0.0 c.in_err-hear.ensures.no_flood)

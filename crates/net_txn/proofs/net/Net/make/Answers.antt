@@ -4,7 +4,7 @@ use Rattle.net_txn.specs.declared.heard.Awaited.{Awaited}
 use Rattle.net_txn.specs.Views.{rows_after}
 use Rattle.net_txn.specs.Net.{NetState, next_xid, awaited_from}
 use Rattle.net_txn.specs.WaitLaws.{waits_kept}
-use Rattle.net_txn.specs.ChangeLaws.{sent_waits, kept_for, same_log, same_views, log_cut}
+use Rattle.net_txn.specs.ChangeLaws.{sent_waits, given_up, kept_for, same_log, same_views, log_cut}
 use Rattle.net_txn.proofs.net.Net.make.Goals as goal
 
 pub returns-in_err-put_added-in-None-clause-result : goal.returns-in_err-put_added-in-None-clause-result
@@ -51,3 +51,12 @@ returns-clause-result g c =
       log = c.truncate.ensures.items ∙ log_cut _ c.self.inside.log.items _ c.len-before.result (c.len-before.ensures ∙ c.self.inside.log.ok.0) c.in_ok-push_logged.ensures.ok ∙ ap (λ (n : NetState). n.log) v;
       xid = c.following-self-inside.ensures.next ∙ ap (λ (x : Awaited). next_xid x.barrier) a;
     }
+
+pub returns-in_err-refusal-clause-flooded : goal.returns-in_err-refusal-clause-flooded
+returns-in_err-refusal-clause-flooded g c =
+    let p = err_from_is_err_and c.from_residual-in_err-refusal.result c.from_residual-in_err-refusal.ensures.1 in
+    let v = c.self.view_is in
+    let a : c.await_from-awaited.result ≡ awaited_from c.args.dpid c.args.self.now.xid = c.await_from-awaited.ensures ∙ ap (λ (n : NetState). awaited_from c.args.dpid n.xid) v in
+    let small : c.args.self.now.xid < 2 ^ 32 = rw (← ap (λ (n : NetState). n.xid) v) (omega arith) in
+    rw (p.1, p.2) (given_up g.W.World.Tells c.args.dpid c.args.flow c.args.self.now c.await_from-awaited.result c.as_slice.result.now (g.W.World.seen c.args.world.now) (g.W.World.seen c.ask.new.world) c.in_err-refusal.field-0.0
+    a (c.as_slice.ensures ∙ c.in_ok-frame.ensures.frame) c.requires small c.in_err-refusal.ensures.flooded)
