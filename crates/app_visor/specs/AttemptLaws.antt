@@ -1,5 +1,6 @@
 -- Laws of attempts to start an application.
 use Rattle.std.specs.Prelude.{◌≡◌, ℕ, ◌==◌, Bool, true, false, not, List, [], ◌∷◌, ◌++◌, map, if◌then◌else◌, refl}
+use Rattle.std.specs.List.{list_any}
 use Rattle.std.proofs.Common.{sym, ap, ◌∙◌, subst, append_assoc}
 use Rattle.std.proofs.lemmas.List.{append-nil, map-append}
 use Rattle.std.proofs.lemmas.Map.Views.{any-filter_same}
@@ -7,11 +8,9 @@ use Rattle.std.proofs.lemmas.Bool.{eq-eqb}
 use Rattle.of_types.specs.declared.journal.Act.{Act}
 use Rattle.of_types.specs.declared.journal.Act.TheVariants.{Started, Gave, Gone, Took}
 use Rattle.of_types.specs.declared.journal.TookWhat.TheVariants as took
-use Rattle.of_types.specs.Fields.{number_bytes}
 use Rattle.app_frames.specs.declared.cause.Tried.TheVariants.{Closed}
 use Rattle.app_frames.specs.declared.frame.AppFrame.TheVariants as frames
-use Rattle.app_frames.specs.Spelling.{framed, host_body_bytes, host_bytes}
-use Rattle.lego_model.specs.Journal.{Start, End, Untold, Closes, Stalls, inputs, start_of, is_event, in_turns, pieces, end_from, any_gone}
+use Rattle.lego_model.specs.Journal.{Start, End, Untold, Closes, Stalls, inputs, start_of, in_turns, pieces, end_from, any_gone}
 use Rattle.lego_model.specs.Turns.{Next, outcome_of, first_frame, next_of}
 use Rattle.lego_model.specs.Controller.{restore_frame}
 use Rattle.lego_io.specs.CountLaws.{Rose-after}
@@ -19,21 +18,20 @@ use Rattle.outside.specs.declared.step.WorldStep.{WorldStep}
 use Rattle.outside.specs.declared.step.WorldStep.TheVariants.{Acted}
 use Rattle.outside.specs.Seen.{Seen, Continues}
 use Rattle.outside.specs.SeenLaws.{Continues-trans}
-use Rattle.outside.specs.State.{State, state, is_running, after_act, after_step, after_steps}
+use Rattle.outside.specs.State.{State, state, is_running, marks_after_gave, after_act, after_step, after_steps}
 use Rattle.outside.specs.StateLaws.{state-append}
 use Rattle.outside.specs.Calls.{Ends, end_steps}
+use Rattle.journal_readings.specs.Readings.{is_within, Within}
+use Rattle.journal_readings.specs.ReadingLaws.{Within-append}
+use Rattle.journal_readings.specs.FrameLaws.{restore_is_none}
 use Rattle.app_visor.specs.declared.came.Came.{Came}
 use Rattle.app_visor.specs.declared.came.Came.TheVariants as comes
 use Rattle.app_visor.specs.Talks.{Told, step_of}
 use Rattle.app_visor.specs.Reads.{takes, TakesAll, CameSo, Comes}
-use Rattle.app_visor.specs.ReadLaws.{Taken-continues, Comes-continues, next_taken, next_framed, next_faulty, next_over, pieces_takes, end_takes, gone_takes, inputs_takes, turns_takes}
+use Rattle.app_visor.specs.ReadLaws.{Taken-continues, Comes-continues, next_taken, next_framed, next_faulty, next_over, pieces_takes, end_takes, gone_takes, inputs_takes, turns_takes, within_takes}
 use Rattle.app_visor.specs.Attempts.{end_acts, TryRises, restored, tried_by, rest_of, stood, Greets}
 
 -- ---- What is read of a start
-
-is_no_event : is_event restore_frame ≡ false
-unfolding host_bytes framed host_body_bytes number_bytes
-is_no_event = refl
 
 same : (n : ℕ) → (n == n) ≡ true
 same n = eq-eqb n n refl
@@ -92,7 +90,7 @@ start_by ps end = record { stands = true; restored = true; pieces = ps; end = en
 turns_all : (app : ℕ) (ps : List (List ℕ)) (last : List Act) → IsQuiet app last → (in_turns (all_acts app ps last)).0 ≡ all_acts app ps last
 turns_all app ps last quiet =
     let e : (in_turns (takes app ps ++ last)).0 ≡ takes app ps ++ last = turns_takes app ps last ∙ ap (λ (x : List Act). takes app ps ++ x) quiet.turns in
-    rw is_no_event (ap (λ (x : List Act). Gave app restore_frame ∷ x) e)
+    rw restore_is_none (ap (λ (x : List Act). Gave app restore_frame ∷ x) e)
 
 abbrev start_in : Bool → List Act → Start
 start_in stands acts = record { stands = stands; restored = if any_gone acts then false else true; pieces = pieces acts; end = end_from Untold acts }
@@ -166,13 +164,70 @@ gone_acts app running = Gone app restore_frame ∷ end_acts running app
 
 gone_outcome : (app : ℕ) (running : Bool) → outcome_of (start_of (stood (gone_acts app running))) ≡ (Closed, [])
 unfolding start_of outcome_of
-gone_outcome app true = rw is_no_event refl
-gone_outcome app false = rw is_no_event refl
+gone_outcome app true = rw restore_is_none refl
+gone_outcome app false = rw restore_is_none refl
 
 gone_given : (app : ℕ) (running : Bool) → inputs app (gone_acts app running) ≡ restored (start_of (stood (gone_acts app running)))
 unfolding start_of inputs
-gone_given app true = rw is_no_event refl
-gone_given app false = rw is_no_event refl
+gone_given app true = rw restore_is_none refl
+gone_given app false = rw restore_is_none refl
+
+within_restored : (app : ℕ) → is_within app (Gave app restore_frame) ≡ true
+within_restored app = rw (same app, restore_is_none) refl
+
+within_gone : (app : ℕ) → is_within app (Gone app restore_frame) ≡ true
+within_gone app = rw (same app, restore_is_none) refl
+
+within_last : (app : ℕ) (came : Came) → Within app (last_acts came app)
+within_last app comes.Closed = (same app, tt)
+within_last app comes.Silent = (same app, tt)
+within_last app (comes.Frame frame) = tt
+within_last app (comes.Refused fault) = tt
+
+within_all : (app : ℕ) (ps : List (List ℕ)) (came : Came) → Within app (all_acts app ps (last_acts came app))
+within_all app ps came = (within_restored app, Within-append app (takes app ps) (last_acts came app) (within_takes app ps) (within_last app came))
+
+-- what is given and taken starts and ends nothing
+abbrev runs_after : ℕ → List Act → State → Bool
+runs_after app acts s = is_running app (after_steps (map step_of acts) s)
+
+runs_last : (app : ℕ) (came : Came) (s : State) → runs_after app (last_acts came app) s ≡ is_running app s
+unfolding after_step
+runs_last app comes.Closed s = refl
+runs_last app comes.Silent s = refl
+runs_last app (comes.Frame frame) s = refl
+runs_last app (comes.Refused fault) s = refl
+
+runs_taken : (app : ℕ) (ps : List (List ℕ)) (came : Came) (s : State) → runs_after app (takes app ps ++ last_acts came app) s ≡ is_running app s
+unfolding after_step
+runs_taken app [] came s = runs_last app came s
+runs_taken app (p ∷ ps) came s = runs_taken app ps came s
+
+runs_given : (app : ℕ) (ps : List (List ℕ)) (came : Came) (s : State) → runs_after app (all_acts app ps (last_acts came app)) s ≡ is_running app s
+unfolding after_step after_act
+runs_given app ps came s = runs_taken app ps came (record s { marks = marks_after_gave restore_frame s })
+
+runs_gone : (app : ℕ) (s : State) → runs_after app (Gone app restore_frame ∷ []) s ≡ is_running app s
+unfolding after_step after_act
+runs_gone app s = refl
+
+runs_by : {Own : Type 0} (Tells : Type 0) (app : ℕ) (acts : List Act) (old new : Seen Own) → Continues Tells old new → Adds Tells acts old new → ((s : State) → runs_after app acts s ≡ is_running app s)
+    → Tells → is_running app (state new) ≡ is_running app (state old)
+runs_by Tells app acts old new continues adds stays told =
+    ap (λ (s : State). is_running app s) (state-append old new (map step_of acts) continues.given (adds told)) ∙ stays (state old)
+
+-- it runs once it was started
+pub runs_started : {Own : Type 0} (Tells : Type 0) (app : ℕ) (old new : Seen Own) → Told Tells (Started app true) old new → Tells → is_running app (state new) ≡ true
+unfolding after_step after_act
+runs_started Tells app old new told tells =
+    ap (λ (s : State). is_running app s) (state-append old new (Acted (Started app true) ∷ []) told.continues.given (told.history tells)) ∙ runs_then app (state old).running
+  where
+    runs_then : (a : ℕ) (running : List ℕ) → list_any (λ b. b == a) (running ++ a ∷ []) ≡ true
+    runs_then a [] = rw (same a) refl
+    runs_then a (b ∷ running) = elim (b == a) as (λ t. (b == a) ≡ t → list_any (λ c. c == a) ((b ∷ running) ++ a ∷ []) ≡ true) [
+      | true ↦ λ t. rw t refl
+      | false ↦ λ t. rw t (runs_then a running)
+    ] refl
 
 pub greets_gone : {Own : Type 0} {Tells : Type 0} {app : ℕ} {old new : Seen Own} (frame unread : List ℕ) → frame ≡ restore_frame → Told Tells (Gone app frame) old new → Greets Tells app Closed unread old new
 greets_gone {Tells = Tells} {app = app} {old = old} {new = new} frame unread is told_so =
@@ -184,6 +239,8 @@ greets_gone {Tells = Tells} {app = app} {old = old} {new = new} frame unread is 
       outcome = λ running. gone_outcome app running;
       given = λ running. gone_given app running;
       rises = told.rises;
+      within = (within_gone app, tt);
+      running = runs_by Tells app (Gone app restore_frame ∷ []) old new told.continues told.history (runs_gone app);
     }
 
 first_so : {Own : Type 0} (Tells : Type 0) (app : ℕ) (came : Came) (unread left : List ℕ) (old new : Seen Own) → CameSo Tells app came unread left old new
@@ -232,15 +289,19 @@ greets_came {Tells = Tells} {app = app} {rest = rest} {left = left} {old = old} 
     let taken = Taken-continues comes.taken in
     let next : next_of [] ps ≡ next_of comes.unread [] =
     ap (λ (r : List ℕ). next_of r ps) (sym none) ∙ ap (λ (x : List (List ℕ)). next_of rest x) (sym (append-nil ps)) ∙ next_taken [] comes.taken in
+    let continues = Continues-trans Tells old mid new told.continues (Comes-continues comes) in
+    let adds : Adds Tells (all_acts app ps (last_acts came app)) old new = Adds-append Tells (Gave app restore_frame ∷ []) (takes app ps ++ last_acts came app) old mid new told.history
+    (Adds-append Tells (takes app ps) (last_acts came app) mid then_seen new (Adds-takes Tells app ps rest comes.unread mid then_seen comes.taken.all)
+    (Adds-last Tells app came comes.unread left then_seen new comes.so)) in
     record {
       acts = all_acts app ps (last_acts came app);
-      continues = Continues-trans Tells old mid new told.continues (Comes-continues comes);
-      history = Adds-append Tells (Gave app restore_frame ∷ []) (takes app ps ++ last_acts came app) old mid new told.history
-          (Adds-append Tells (takes app ps) (last_acts came app) mid then_seen new (Adds-takes Tells app ps rest comes.unread mid then_seen comes.taken.all)
-          (Adds-last Tells app came comes.unread left then_seen new comes.so));
+      continues = continues;
+      history = adds;
       outcome = λ running. ap (λ (s : Start). outcome_of s) (start_came app ps came running) ∙ outcome_by ps (end_of came) ∙ ap (λ (n : Next). first_frame (end_of came) n) next
           ∙ first_so Tells app came comes.unread left then_seen new comes.so;
       given = λ running. ap (λ (acts : List Act). inputs app acts) (then_ended app ps came running) ∙ inputs_greeted app ps (lasts came running app) (quiet_lasts came running app)
           ∙ ap (λ (s : Start). restored s) (sym (start_came app ps came running));
       rises = came_rises Tells app came comes.unread left old then_seen new (Continues-trans Tells old mid then_seen told.continues taken) comes.so;
+      within = within_all app ps came;
+      running = runs_by Tells app (all_acts app ps (last_acts came app)) old new continues adds (runs_given app ps came);
     }

@@ -13,6 +13,7 @@ use Rattle.lego_model.specs.Controller.{App, restore_frame, is_ready, attempts, 
 use Rattle.outside.specs.Seen.{Counts, Seen, Continues}
 use Rattle.outside.specs.State.{state, is_running}
 use Rattle.outside.specs.Calls.{Ends}
+use Rattle.journal_readings.specs.Readings.{Within}
 use Rattle.app_visor.specs.declared.came.Came.{Came}
 use Rattle.app_visor.specs.declared.came.Came.TheVariants as comes
 use Rattle.app_visor.specs.Talks.{step_of}
@@ -42,8 +43,11 @@ pub record IsTry {Own : Type 0} (Tells : Type 0) (app : ℕ) (attempt : Attempt)
   pub outcome : outcome_of (start_of attempt) ≡ (tried, rest)
   pub given : inputs app attempt.acts ≡ restored (start_of attempt)
   pub rises : TryRises tried old.counts new.counts
-  -- where it is not ready it does not run
+  -- no act begins a turn or a further attempt
+  pub within : Within app attempt.acts
+  -- where it is not ready it does not run, and where it is ready it does
   pub ended : Tells → is_ready tried ≡ false → is_running app (state new) ≡ false
+  pub running : Tells → is_ready tried ≡ true → is_running app (state new) ≡ true
 
 pub record Tries {Own : Type 0} (Tells : Type 0) (app : ℕ) (tried : Tried) (rest : List ℕ) (old new : Seen Own) : Type 0 where
   pub attempt : Attempt
@@ -133,6 +137,10 @@ pub record Greets {Own : Type 0} (Tells : Type 0) (app : ℕ) (tried : Tried) (u
   pub outcome : (running : Bool) → outcome_of (start_of (stood (acts ++ end_acts running app))) ≡ (tried, rest_of tried unread)
   pub given : (running : Bool) → inputs app (acts ++ end_acts running app) ≡ restored (start_of (stood (acts ++ end_acts running app)))
   pub rises : TryRises tried old.counts new.counts
+  -- no act begins a turn or a further attempt
+  pub within : Within app acts
+  -- it runs where it ran
+  pub running : Tells → is_running app (state new) ≡ is_running app (state old)
 
 -- it is ended where it is not ready
 abbrev pub EndsUnless : {Own : Type 0} → Type 0 → ℕ → Bool → Seen Own → Seen Own → Type 0

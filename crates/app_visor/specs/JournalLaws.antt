@@ -38,7 +38,7 @@ told_then app xs ys a b c first second = record {
 
 -- ---- A call for the application
 
-journal_told : (act : Act) → journal (step_of act ∷ []) ≡ act ∷ []
+pub journal_told : (act : Act) → journal (step_of act ∷ []) ≡ act ∷ []
 unfolding journal
 journal_told (Stim x) = refl
 journal_told (Started app stands) = refl

@@ -14,3 +14,7 @@ pub mod JournalLaws
 pub mod Attempts
 pub mod AttemptLaws
 pub mod TryLaws
+pub mod Tellings
+pub mod TellingLaws
+pub mod ReadTurnLaws
+pub mod ReadTryLaws

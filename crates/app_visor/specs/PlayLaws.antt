@@ -109,6 +109,7 @@ gone_ends Tells accepts app budget rest frame old new net told = record {
   ends = refl;
   leaves = refl;
   inputs_so = given_none app frame;
+  within = tt;
 }
 
 pub turns_gone : {Own : Type 0} {Tells : Type 0} {accepts : List TableView → Bool} {app : ℕ} {old new : Seen Own} (budget : ℕ) (rest left frame event : List ℕ) (net : NetState) → left ≡ [] → frame ≡ event → Told Tells (Gone app frame) old new
@@ -138,6 +139,7 @@ given_ends Tells accepts app budget rest frame unread old mid new net now_net en
   ends = ends_after end unread t.outcome t.ends;
   leaves = leaves_after end unread;
   inputs_so = given_more app frame (acts_in t.trace) _ t.given;
+  within = t.within;
 }
 
 pub turns_given : {Own : Type 0} {Tells : Type 0} {accepts : List TableView → Bool} {app budget : ℕ} {rest unread : List ℕ} {old mid new : Seen Own} {net now_net : NetState} {end : TurnEnd} (left frame event taken : List ℕ)

@@ -2,6 +2,7 @@
 use Rattle.std.specs.Prelude.{◌≡◌, ℕ, List, [], ◌∷◌, ◌++◌, filter, None, Result, Ok, Err, OnErr, ◌⊎◌, refl}
 use Rattle.std.proofs.Common.{sym, ap, subst, inl, inr}
 use Rattle.std.proofs.lemmas.Result.{on_err_weaker}
+use Rattle.std.proofs.lemmas.Bool.{eq-eqb}
 use Rattle.of_types.specs.declared.journal.Act.{Act}
 use Rattle.of_types.specs.declared.journal.Act.TheVariants.{Took}
 use Rattle.of_types.specs.declared.journal.TookWhat.TheVariants as took
@@ -12,6 +13,7 @@ use Rattle.lego_model.specs.Journal.{Untold, pieces, end_from, any_gone, gave, i
 use Rattle.lego_model.specs.Turns.{Framed, Faulty, Over, next_of}
 use Rattle.outside.specs.Seen.{Seen, Continues}
 use Rattle.outside.specs.SeenLaws.{Continues-refl, Continues-trans}
+use Rattle.journal_readings.specs.Readings.{Within}
 use Rattle.app_visor.specs.declared.came.Came.{Came}
 use Rattle.app_visor.specs.declared.came.Came.TheVariants.{Frame, Refused, Closed, Silent}
 use Rattle.app_visor.specs.Talks.{Wants}
@@ -128,6 +130,10 @@ inputs_takes app (p ∷ ps) more = inputs_takes app ps more
 pub turns_takes : (app : ℕ) (ps : List (List ℕ)) (more : List Act) → (in_turns (takes app ps ++ more)).0 ≡ takes app ps ++ (in_turns more).0
 turns_takes app [] more = refl
 turns_takes app (p ∷ ps) more = ap (λ (x : List Act). Took app (took.Bytes p) ∷ x) (turns_takes app ps more)
+
+pub within_takes : (app : ℕ) (ps : List (List ℕ)) → Within app (takes app ps)
+within_takes app [] = tt
+within_takes app (p ∷ ps) = (eq-eqb app app refl, within_takes app ps)
 
 -- ---- Want of memory
 

@@ -1,7 +1,7 @@
 -- Laws of one attempt to start an application, of the loop over all attempts, and of what the reference comes to by them.
 use Rattle.std.specs.Prelude.{◌≡◌, ℕ, ◌≤◌, zero, suc, Bool, true, false, List, [], ◌∷◌, ◌++◌, Some, None, if◌then◌else◌, refl}
 use Rattle.std.proofs.Common.{sym, ap, ◌∙◌, subst, append_assoc, inl, inr, arith}
-use Rattle.std.proofs.lemmas.Bool.{cases_lt}
+use Rattle.std.proofs.lemmas.Bool.{cases_lt, eq-eqb}
 use Rattle.std.proofs.lemmas.List.{append-nil}
 use Rattle.of_types.specs.declared.journal.Act.{Act}
 use Rattle.of_types.specs.declared.journal.Act.TheVariants.{Started}
@@ -17,11 +17,16 @@ use Rattle.outside.specs.Seen.{Counts, NoneFell, Seen, Continues}
 use Rattle.outside.specs.SeenLaws.{Continues-refl, Continues-trans, Ends-continues}
 use Rattle.outside.specs.State.{state, is_running}
 use Rattle.outside.specs.Calls.{Ends}
+use Rattle.journal_readings.specs.Readings.{Within}
+use Rattle.journal_readings.specs.ReadingLaws.{Within-append}
 use Rattle.app_visor.specs.Talks.{Told}
 use Rattle.app_visor.specs.Attempts.{end_acts, TryRises, restored, IsTry, Tries, OneTry, AreTries, tries_of, starts_of, restarted, Restarts, TriesOn, rest_of, stood, Greets, EndsUnless}
-use Rattle.app_visor.specs.AttemptLaws.{Adds, Adds-append, Adds-none, Adds-ended, ends_so, not_started_so}
+use Rattle.app_visor.specs.AttemptLaws.{Adds, Adds-append, Adds-none, Adds-ended, ends_so, not_started_so, runs_started}
 
 -- ---- One attempt
+
+no_ready : true ≡ false → ⊥
+no_ready e = cc
 
 refused_outcome : outcome_of (start_of (record { stands = false; acts = [] })) ≡ (Refused, [])
 unfolding start_of outcome_of
@@ -40,7 +45,9 @@ try_refused {Tells = Tells} {app = app} {old = old} {mid = mid} {new = new} rest
     outcome = rw none refused_outcome;
     given = refused_given app;
     rises = Rose-after old.counts.starts_failed mid.counts.starts_failed new.counts.starts_failed ends.none_fell.starts_failed told.rises;
+    within = tt;
     ended = λ tells not_ready. not_started_so Tells app mid new told tells (ends_so Tells app old mid ends tells);
+    running = λ tells ready. absurd (no_ready (sym ready));
   };
 }
 
@@ -60,33 +67,36 @@ rises_over tries.Silent a b c d first up rises last = over a.silences b.silences
 abbrev stood_acts : ℕ → List Act → Bool → List Act
 stood_acts app acts running = acts ++ end_acts running app
 
+within_end : (app : ℕ) (running : Bool) → Within app (end_acts running app)
+within_end app true = (eq-eqb app app refl, tt)
+within_end app false = tt
+
 stood_so : {Own : Type 0} (Tells : Type 0) (app : ℕ) (tried : Tried) (left : List ℕ) (running : Bool) (old mid up then_seen new : Seen Own)
     → Ends Tells app old mid → Told Tells (Started app true) mid up → (greets : Greets Tells app tried left up then_seen) → Adds Tells (end_acts running app) then_seen new → Continues Tells then_seen new
-    → (Tells → is_ready tried ≡ false → is_running app (state new) ≡ false) → IsTry Tells app (stood (stood_acts app greets.acts running)) tried (rest_of tried left) old new
-stood_so Tells app tried left running old mid up then_seen new ends told greets adds later ended = record {
+    → (Tells → is_ready tried ≡ false → is_running app (state new) ≡ false) → (Tells → is_ready tried ≡ true → is_running app (state new) ≡ true) → IsTry Tells app (stood (stood_acts app greets.acts running)) tried (rest_of tried left) old new
+stood_so Tells app tried left running old mid up then_seen new ends told greets adds later ended running_so = record {
   continues = Continues-trans Tells old mid new (Ends-continues ends) (Continues-trans Tells mid up new told.continues (Continues-trans Tells up then_seen new greets.continues later));
   history = Adds-append Tells (end_acts (is_running app (state old)) app) (Started app true ∷ stood_acts app greets.acts running) old mid new (Adds-ended Tells app old mid ends)
       (Adds-append Tells (Started app true ∷ []) (stood_acts app greets.acts running) mid up new told.history (Adds-append Tells greets.acts (end_acts running app) up then_seen new greets.history adds));
   outcome = greets.outcome running;
   given = greets.given running;
   rises = rises_over tried old.counts up.counts then_seen.counts new.counts (Continues-trans Tells old mid up (Ends-continues ends) told.continues).none_fell greets.continues.none_fell greets.rises later.none_fell;
+  within = Within-append app greets.acts (end_acts running app) greets.within (within_end app running);
   ended = ended;
+  running = running_so;
 }
-
-no_ready : true ≡ false → ⊥
-no_ready e = cc
 
 try_stood_at : {Own : Type 0} (Tells : Type 0) (app : ℕ) (tried : Tried) (left : List ℕ) (ready : Bool) (old mid up then_seen new : Seen Own) → is_ready tried ≡ ready
     → Ends Tells app old mid → Told Tells (Started app true) mid up → Greets Tells app tried left up then_seen → EndsUnless Tells app ready then_seen new → Tries Tells app tried (rest_of tried left) old new
 try_stood_at Tells app tried left true old mid up then_seen new is ends told greets unless = record {
   attempt = stood (stood_acts app greets.acts false);
   is = stood_so Tells app tried left false old mid up then_seen new ends told greets (Adds-none Tells then_seen new unless) (rw unless (Continues-refl Tells then_seen))
-      (λ tells e. absurd (no_ready (sym is ∙ e)));
+      (λ tells e. absurd (no_ready (sym is ∙ e))) (λ tells e. ap (λ (s : Seen _). is_running app (state s)) unless ∙ greets.running tells ∙ runs_started Tells app mid up told tells);
 }
 try_stood_at Tells app tried left false old mid up then_seen new is ends told greets unless = record {
   attempt = stood (stood_acts app greets.acts (is_running app (state then_seen)));
   is = stood_so Tells app tried left (is_running app (state then_seen)) old mid up then_seen new ends told greets (Adds-ended Tells app then_seen new unless) (Ends-continues unless)
-      (λ tells e. ends_so Tells app then_seen new unless tells);
+      (λ tells e. ends_so Tells app then_seen new unless tells) (λ tells e. absurd (no_ready (sym e ∙ is)));
 }
 
 pub try_stood : {Own : Type 0} (Tells : Type 0) (app : ℕ) (tried : Tried) (left rest : List ℕ) (old mid up then_seen new : Seen Own) → rest ≡ rest_of tried left

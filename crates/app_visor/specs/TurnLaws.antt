@@ -15,13 +15,16 @@ use Rattle.lego_model.specs.Journal.{End, Untold, Closes, Stalls, pieces, end_fr
 use Rattle.lego_model.specs.Turns.{Next, Framed, Faulty, Over, Outcome, Completed, Failed, Played, told_to, answered, is_none_left, one_fewer, next_of, turn_from}
 use Rattle.lego_model.specs.Controller.{answer_frame}
 use Rattle.outside.specs.Seen.{Seen}
+use Rattle.journal_readings.specs.Readings.{is_within, Within}
+use Rattle.journal_readings.specs.ReadingLaws.{Within-append}
+use Rattle.journal_readings.specs.FrameLaws.{answer_is_none}
 use Rattle.net_txn.specs.Net.{NetState}
 use Rattle.app_visor.specs.declared.came.Came.{Came}
 use Rattle.app_visor.specs.declared.came.Came.TheVariants as comes
 use Rattle.app_visor.specs.declared.state.TurnEnd.{TurnEnd}
 use Rattle.app_visor.specs.declared.state.TurnEnd.TheVariants as ends
 use Rattle.app_visor.specs.Reads.{takes, Taken, IsNext, CameSo, Comes}
-use Rattle.app_visor.specs.ReadLaws.{next_taken, next_framed, next_faulty, next_over, pieces_takes, end_takes, gone_takes, gave_takes, inputs_takes}
+use Rattle.app_visor.specs.ReadLaws.{next_taken, next_framed, next_faulty, next_over, pieces_takes, end_takes, gone_takes, gave_takes, inputs_takes, within_takes}
 use Rattle.app_visor.specs.Beats.{Exchange, Talk, Asks, acts_in, exchanges_in, exchange_of, Exchanges, Leads}
 use Rattle.app_visor.specs.BeatLaws.{same, Chain-append, talks, takes_chain, acts_talks, exchanges_talks}
 use Rattle.app_visor.specs.Turns.{same_bytes, Asking, oracle, played_so, IsEnd, played_by, TurnsFrom, cause_of, Goes, EndsSo, Plays, done_as}
@@ -50,9 +53,17 @@ turn_taken {Own = Own} {Tells = Tells} {accepts = accepts} {app = app} {left = l
           ∙ t.played;
       ends = t.ends;
       given = ap (λ (acts : List Act). inputs app acts) (acts_talks Own (takes app ps) t.trace) ∙ inputs_takes app ps (acts_in t.trace) ∙ t.given;
+      within = subst (Within app) (sym (acts_talks Own (takes app ps) t.trace)) (Within-append app (takes app ps) (acts_in t.trace) (within_takes app ps) t.within);
     }
 
 -- ---- A message
+
+-- it begins no turn that the application is given an answer, or cannot be
+within_gave : (app : ℕ) (answer : Answer) → is_within app (Gave app (answer_frame answer)) ≡ true
+within_gave app answer = rw (same app, answer_is_none answer) refl
+
+within_gone : (app : ℕ) (answer : Answer) → is_within app (Gone app (answer_frame answer)) ≡ true
+within_gone app answer = rw (same app, answer_is_none answer) refl
 
 same_bytes_refl : (bytes : List ℕ) → same_bytes bytes bytes ≡ true
 same_bytes_refl [] = refl
@@ -106,6 +117,7 @@ goes_answered Tells accepts app dpid bytes rest here old mid net mid_net next e 
         played = exchanged_played (accepts now_net.views) app left rest here (answer_frame e.answer) x (acts_in t.trace) (exchanges_in t.trace) t.answers t.outcome next t.played;
         ends = t.ends;
         given = given_more app (answer_frame e.answer) (acts_in t.trace) (map answer_frame t.answers) t.given;
+        within = (within_gave app e.answer, t.within);
       };
 }
 
@@ -132,6 +144,7 @@ ends_unanswered Tells accepts app dpid bytes rest here old new net now_net next 
         played = unanswered_played (accepts now_net.views) app left rest here (answer_frame e.answer) x next;
         ends = refl;
         given = given_none app (answer_frame e.answer);
+        within = (within_gone app e.answer, tt);
       };
 }
 
@@ -159,6 +172,7 @@ ends_at {Own = Own} Tells accepts app frame rest here seen net end outcome next 
     played = ap (λ (n : Next). turn_from {State = Asking Own} (oracle (accepts net.views)) (suc left) None Untold (Some []) n) (next_framed frame rest here [] next) ∙ plays left;
     ends = is;
     given = refl;
+    within = tt;
   };
 }
 
@@ -250,6 +264,7 @@ came_over {Own = Own} Tells accepts app left (comes.Frame frame) rest here unrea
   played = ap (λ (n : Next). turn_from {State = Asking Own} (oracle (accepts net.views)) zero None Untold (Some []) n) (next_framed frame rest here [] so.0) ∙ spent_plays Own (accepts net.views) frame here;
   ends = refl;
   given = refl;
+  within = tt;
 })
 came_over {Own = Own} Tells accepts app left (comes.Refused fault) rest here unread old new net over so = record {
   trace = [];
@@ -259,6 +274,7 @@ came_over {Own = Own} Tells accepts app left (comes.Refused fault) rest here unr
   played = ap (λ (n : Next). turn_from {State = Asking Own} (oracle (accepts net.views)) left None Untold (Some []) n) (next_faulty fault rest [] so.0) ∙ faulty_plays Own (accepts net.views) left fault;
   ends = refl;
   given = refl;
+  within = tt;
 }
 came_over {Own = Own} Tells accepts app left comes.Closed rest here unread old new net over so = record {
   trace = Talk (Took app took.Closed) ∷ [];
@@ -268,6 +284,7 @@ came_over {Own = Own} Tells accepts app left comes.Closed rest here unread old n
   played = ap (λ (n : Next). turn_from {State = Asking Own} (oracle (accepts net.views)) left None Closes (Some []) n) (next_over rest so.0) ∙ closed_plays Own (accepts net.views) left;
   ends = refl;
   given = refl;
+  within = (same app, tt);
 }
 came_over {Own = Own} Tells accepts app left comes.Silent rest here unread old new net over so = record {
   trace = Talk (Took app took.Silent) ∷ [];
@@ -277,6 +294,7 @@ came_over {Own = Own} Tells accepts app left comes.Silent rest here unread old n
   played = ap (λ (n : Next). turn_from {State = Asking Own} (oracle (accepts net.views)) left None Stalls (Some []) n) (next_over rest so.0) ∙ silent_plays Own (accepts net.views) left;
   ends = refl;
   given = refl;
+  within = (same app, tt);
 }
 
 pub turn_over : {Own : Type 0} (Tells : Type 0) (accepts : List TableView → Bool) (app left : ℕ) (came : Came) (rest here unread : List ℕ) (old new : Seen Own) (net : NetState) → IsOver came left → Comes Tells app rest here old new came

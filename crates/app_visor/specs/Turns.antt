@@ -13,6 +13,7 @@ use Rattle.lego_model.specs.Turns.{Outcome, Completed, Failed, Played, Table, ne
 use Rattle.lego_model.specs.Controller.{answer_frame, given_in}
 use Rattle.outside.specs.Seen.{Seen}
 use Rattle.net_txn.specs.Net.{NetState}
+use Rattle.journal_readings.specs.Readings.{Within}
 use Rattle.app_visor.specs.declared.came.Came.{Came}
 use Rattle.app_visor.specs.declared.came.Came.TheVariants as comes
 use Rattle.app_visor.specs.declared.state.TurnEnd.{TurnEnd}
@@ -75,6 +76,8 @@ pub record TurnsFrom {Own : Type 0} (Tells : Type 0) (accepts : List TableView �
   pub played : played_by (accepts now_net.views) left rest (acts_in trace) (exchanges_in trace) ≡ played_so answers outcome
   pub ends : IsEnd end unread outcome
   pub given : inputs app (acts_in trace) ≡ map answer_frame answers
+  -- no act begins a turn or an attempt
+  pub within : Within app (acts_in trace)
 
 -- ---- The whole turn
 
@@ -94,6 +97,8 @@ pub record Turns {Own : Type 0} (Tells : Type 0) (accepts : List TableView → B
   pub ends : IsEnd end unread outcome
   pub leaves : LeavesNone end unread
   pub inputs_so : inputs app (acts_in (Talk (give_act given app frame) ∷ trace)) ≡ given_in given frame answers
+  -- behind the event no act begins a turn or an attempt
+  pub within : Within app (acts_in trace)
 
 -- ---- One frame
 

@@ -1,15 +1,19 @@
-//! Laws of turns, each the contract of a function that does nothing.
+//! Laws of turns and of attempts to start, each the contract of a function that does nothing.
 
-ghost use Rattle.std.specs.Prelude.{◌≡◌, ℕ, Bool, List};
+ghost use Rattle.std.specs.Prelude.{◌≡◌, ℕ, Bool, true, List};
 ghost use Rattle.flow_table.specs.declared.view.TableView.{TableView};
+ghost use Rattle.lego_model.specs.Journal.{is_event};
 ghost use Rattle.lego_model.specs.Places.{Place};
 ghost use Rattle.lego_model.specs.Turns.{turn_of};
-ghost use Rattle.lego_model.specs.Controller.{table_of};
+ghost use Rattle.lego_model.specs.Controller.{table_of, given_in};
 ghost use Rattle.outside.specs.Seen.{Seen};
 ghost use Rattle.net_txn.specs.Net.{NetState};
+ghost use Rattle.journal_readings.specs.Readings.{LastStands};
 ghost use Rattle.app_visor.specs.declared.state.TurnEnd.{TurnEnd};
-ghost use Rattle.app_visor.specs.Beats.{Beat, Chain, acts_in, exchanges_in, ActsTold};
+ghost use Rattle.app_visor.specs.Beats.{Beat, Chain, acts_in, exchanges_in, acts_of, ActsTold};
 ghost use Rattle.app_visor.specs.Turns.{Turns, reply_by, Agrees, played_on};
+ghost use Rattle.app_visor.specs.Attempts.{OneTry, AreTries};
+ghost use Rattle.app_visor.specs.Tellings.{TurnTold, TriesTold};
 
 use outside::World;
 
@@ -28,4 +32,18 @@ pub fn turns_of_the_reference<W: World>()
 pub fn acts_of_a_turn<W: World>()
     ensures { (app : ℕ) (trace : List (Beat W.Own)) (old new : Seen W.Own) (net now_net : NetState) → W.Tells
         → Chain W.Tells app trace old new net now_net → ActsTold app (acts_in trace) old new }
+{}
+
+/// Once a turn was played at an event, the journal of a telling world tells of one reply more, of the frames that the
+/// application was given, and of no start and no stimulus; where the last attempt to start it stood, it stands still.
+pub fn turns_are_told<W: World>()
+    ensures { (accepts : List TableView → Bool) (app budget : ℕ) (rest frame unread : List ℕ) (old new : Seen W.Own) (net now_net : NetState) (end : TurnEnd)
+        → (t : Turns W.Tells accepts app budget rest frame old new net now_net end unread) → W.Tells → is_event frame ≡ true → LastStands (acts_of app old.history)
+        → TurnTold app t.given frame (reply_by t.given t.trace) (given_in t.given frame t.answers) old new }
+{}
+
+/// Once attempts to start an application were made, the journal of a telling world tells of their starts and of the frames
+/// that the application was given then, and of no reply and no stimulus; no switch moved.
+pub fn attempts_are_told<W: World>()
+    ensures { (app n : ℕ) (all : List (OneTry W.Own)) (old new : Seen W.Own) → AreTries W.Tells app n all old new → W.Tells → TriesTold app all old new }
 {}

@@ -1,0 +1,4 @@
+pub mod Readings
+pub mod FrameLaws
+pub mod ReadingLaws
+pub mod CallLaws

@@ -1,0 +1,80 @@
+-- What the acts of one application tell: its starts and its replies, and which acts belong to a turn or an attempt that was begun. All of
+-- this is our own.
+use Rattle.std.specs.Prelude.{◌≡◌, ◌==◌, ℕ, Bool, true, false, not, ◌&&◌, List, [], ◌∷◌, ◌++◌, map, filter, if◌then◌else◌}
+use Rattle.std.specs.List.{flat_map, AllByRecursion}
+use Rattle.of_types.specs.declared.journal.Act.{Act}
+use Rattle.of_types.specs.declared.journal.Act.TheVariants.{Stim, Started, Gave, Gone, Took, Ended, Sent, Got}
+use Rattle.lego_model.specs.Journal.{Reply, Start, Attempt, in_attempts, is_event, in_turns, start_of, reply_of}
+
+-- ---- What the acts of an application tell
+
+abbrev pub starts_in : List Act → List Start
+starts_in acts = map start_of (in_attempts acts).1
+
+-- the replies of one attempt, and of all of them, life after life
+abbrev pub replies_at : Attempt → List Reply
+replies_at attempt = map reply_of (in_turns attempt.acts).1
+
+abbrev pub replies_in : List Act → List Reply
+replies_in acts = flat_map replies_at (filter (λ a. a.stands) (in_attempts acts).1)
+
+-- the last attempt to start it stands
+pub record LastStands (acts : List Act) : Type 0 where
+  pub before : List Attempt
+  pub last : Attempt
+  pub attempts : (in_attempts acts).1 ≡ before ++ last ∷ []
+  pub stands : last.stands ≡ true
+
+-- ---- Acts within a turn or an attempt: the application was given bytes that are no Event, or could not be, its bytes were taken, or it was
+-- ended.
+
+abbrev pub is_within : ℕ → Act → Bool
+is_within app (Gave to bytes) = to == app && not (is_event bytes)
+is_within app (Gone to bytes) = to == app && not (is_event bytes)
+is_within app (Took from what) = from == app
+is_within app (Ended of) = of == app
+is_within app other = false
+
+abbrev pub Within : ℕ → List Act → Type 0
+Within app acts = AllByRecursion (λ act. is_within app act ≡ true) acts
+
+-- the calls for it, each but the giving of an Event
+abbrev pub is_call : ℕ → Act → Bool
+is_call app (Started of stands) = of == app
+is_call app (Gave to bytes) = to == app && not (is_event bytes)
+is_call app (Gone to bytes) = to == app && not (is_event bytes)
+is_call app (Took from what) = from == app
+is_call app (Ended of) = of == app
+is_call app (Stim x) = false
+is_call app (Sent d bytes) = false
+is_call app (Got d bytes) = false
+
+abbrev pub Calls : ℕ → List Act → Type 0
+Calls app acts = AllByRecursion (λ act. is_call app act ≡ true) acts
+
+-- ---- What further acts tell
+
+-- an Event that is given, or cannot be
+abbrev pub event_act : Bool → ℕ → List ℕ → Act
+event_act given app frame = if given then Gave app frame else Gone app frame
+
+-- that it is ended, where it runs
+abbrev pub end_part : Bool → ℕ → List Act
+end_part running app = if running then Ended app ∷ [] else []
+
+-- no start and no reply more
+pub record ReadsSame (before after : List Act) : Type 0 where
+  pub starts : starts_in after ≡ starts_in before
+  pub replies : replies_in after ≡ replies_in before
+
+-- one reply more, and the last attempt stands still
+pub record ReadsTurn (before after : List Act) (reply : Reply) : Type 0 where
+  pub starts : starts_in after ≡ starts_in before
+  pub replies : replies_in after ≡ replies_in before ++ reply ∷ []
+  pub life : LastStands after
+
+-- one start more, which is the last, and stands where its attempt does
+pub record ReadsAttempt (before after : List Act) (attempt : Attempt) : Type 0 where
+  pub starts : starts_in after ≡ starts_in before ++ start_of attempt ∷ []
+  pub replies : replies_in after ≡ replies_in before
+  pub life : attempt.stands ≡ true → LastStands after
