@@ -13,3 +13,4 @@ pub mod UndoShown
 pub mod Sound
 pub mod SoundLaws
 pub mod SoundSteps
+pub mod ClockLaws
