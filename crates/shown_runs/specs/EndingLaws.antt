@@ -1,0 +1,84 @@
+-- Laws of endings: what a whole run promises follows of its parts.
+use Rattle.std.proofs.Common.{◌≡◌, ℕ, ◌+◌, ◌<◌, Bool, List, [], ◌++◌, length, Option, Some, None, refl, sym, ap, ◌∙◌, subst, arith}
+use Rattle.std.specs.Io.KnownBytes.{append_known}
+use Rattle.std.proofs.lemmas.List.{append_assoc, length-append}
+use Rattle.of_types.specs.declared.journal.WorldStim.{WorldStim}
+use Rattle.flow_table.specs.declared.view.TableView.{TableView}
+use Rattle.of_types.specs.declared.journal.Act.{Act}
+use Rattle.lego_model.specs.Journal.{stimuli}
+use Rattle.lego_model.specs.JournalLaws.{stimuli-append}
+use Rattle.lego_model.specs.Places.{Place}
+use Rattle.lego_model.specs.Controller.{settle}
+use Rattle.outside.specs.declared.step.WorldStep.{WorldStep}
+use Rattle.outside.specs.Seen.{Seen, Continues, journal}
+use Rattle.outside.specs.SeenLaws.{journal-append}
+use Rattle.outside.specs.Conforming.{Conforming}
+use Rattle.outside.specs.StateLaws.{Conforming-before}
+use Rattle.shown_runs.specs.Engine.{Engine, stimuli_in}
+use Rattle.shown_runs.specs.Readings.{JudgesAlike}
+use Rattle.shown_runs.specs.Moves.{rounds, ShownToEnd}
+use Rattle.shown_runs.specs.MoveLaws.{moved-then}
+use Rattle.shown_runs.specs.LastReport.{last_text}
+use Rattle.shown_runs.specs.WholeRun.{all_started}
+use Rattle.shown_runs.specs.WholeLaws.{ran}
+use Rattle.shown_runs.specs.FirstLaws.{IsOpened, engine_at_first, settled-first}
+use Rattle.shown_runs.specs.Promise.{most_rounds, EndsAlike, LeavesAlike}
+use Rattle.shown_runs.specs.FinishLaws.{ends-alike, leaves-alike}
+use Rattle.shown_runs.specs.Endings.{ShownStart, ShownWhole, Leaves, RanOut, RanFull}
+
+known-append : (o : Option (List ℕ)) (s t : List ℕ) → append_known (append_known o s) t ≡ append_known o (s ++ t)
+known-append None s t = refl
+known-append (Some xs) s t = ap (λ (l : List ℕ). Some l) (append_assoc xs s t)
+
+-- the application is started, and then the rounds follow
+pub whole-of : {Own : Type 0} (Tells : Type 0) (accepts : List TableView → Bool) (most : ℕ) (first second : List ℕ) (a b c : Seen Own) (e1 e2 e3 : Engine) → Continues Tells b c
+    → ShownStart Tells first a b e1 e2 → ShownToEnd Tells accepts most second b c e2 e3 → ShownWhole Tells accepts most (first ++ second) a c e1 e3
+whole-of Tells accepts most first second a b c e1 e2 e3 later begins ends = record {
+  whole_so = λ allows told keeps judges settled few.
+      let one = begins.moved told (Conforming-before told later keeps) settled in
+      let two = ends.to_end allows told keeps judges one.settled few in
+      record {
+        stimuli = two.stimuli;
+        moved = moved-then [] two.stimuli all_started (λ r. settle allows (rounds allows two.stimuli r)) first second a b c e1 e2 e3 one two.moved;
+      };
+}
+
+pub leaves-then : {Own : Type 0} (a b c : Seen Own) → Leaves a b → Leaves b c → Leaves a c
+leaves-then a b c m n = record {
+  given = n.given ∙ m.given;
+  starts = n.starts ∙ m.starts;
+  replies = n.replies ∙ m.replies;
+  inputs = n.inputs ∙ m.inputs;
+  stimuli = n.stimuli ∙ m.stimuli;
+  marks = n.marks ∙ m.marks;
+  switches = λ d. n.switches d ∙ m.switches d;
+}
+
+-- ---- Of a world that was opened
+
+-- stimuli are never fewer later
+fewer : {Own : Type 0} (Tells : Type 0) (most : ℕ) (a b : Seen Own) → Tells → Continues Tells a b → length (stimuli_in b) < most → length (stimuli_in a) < most
+fewer Tells most a b told later few =
+    let steps = (later.told told).0 in
+    let longer : stimuli_in b ≡ stimuli_in a ++ stimuli (journal steps) =
+    ap (λ (h : List WorldStep). stimuli (journal h)) (later.told told).1 ∙ ap (λ (j : List Act). stimuli j) (journal-append a.history steps) ∙ stimuli-append (journal a.history) (journal steps) in
+    let sum : length (stimuli_in b) ≡ length (stimuli_in a) + length (stimuli (journal steps)) =
+    ap (λ (xs : List WorldStim). length xs) longer ∙ length-append (stimuli_in a) (stimuli (journal steps)) in
+    omega (arith, sum, few)
+
+pub ran-out : {Own : Type 0} (Tells : Type 0) (accepts : List TableView → Bool) (allows : List Place → Bool) (contents now_contents : Option (List ℕ)) (old new : Seen Own) (e : Engine) → Tells → Conforming new → JudgesAlike Own allows accepts → IsOpened old
+    → length (stimuli_in new) < most_rounds → RanOut Tells accepts most_rounds contents now_contents old new engine_at_first e → EndsAlike allows new contents now_contents e.events
+ran-out Tells accepts allows contents now_contents old new e told keeps judges opened few out =
+    let few_last = fewer Tells most_rounds out.last new told out.later few in
+    let moved = out.whole_so.whole_so allows told (Conforming-before told out.later keeps) judges (settled-first old opened) few_last in
+    let done = out.finish.shown told keeps moved.moved.settled.calm in
+    ends-alike allows out.text out.last new e contents now_contents keeps done.leaves (ran allows moved.stimuli out.text old out.last e opened moved.moved.moves) out.none_left
+    (done.written ∙ known-append contents out.text (last_text out.last e))
+
+pub ran-full : {Own : Type 0} (Tells : Type 0) (accepts : List TableView → Bool) (allows : List Place → Bool) (left : ℕ) (contents now_contents : Option (List ℕ)) (old new : Seen Own) → Tells → Conforming new → JudgesAlike Own allows accepts → IsOpened old
+    → length (stimuli_in new) < most_rounds → RanFull Tells accepts most_rounds left contents now_contents old new engine_at_first → LeavesAlike allows new contents now_contents left
+ran-full Tells accepts allows left contents now_contents old new told keeps judges opened few full =
+    let few_last = fewer Tells most_rounds full.last new told full.later few in
+    let moved = full.whole_so.whole_so allows told (Conforming-before told full.later keeps) judges (settled-first old opened) few_last in
+    subst (λ (n : ℕ). LeavesAlike allows new contents now_contents n) (sym full.left_so)
+    (leaves-alike allows full.text full.last new full.now_engine contents now_contents keeps (full.leaves.shown told keeps) (ran allows moved.stimuli full.text old full.last full.now_engine opened moved.moved.moves) full.contents_so)

@@ -1,0 +1,88 @@
+-- How a run ends: the last part of the report, and the end of the application, leave all else as it was.
+use Rattle.std.proofs.Common.{◌≡◌, ℕ, Bool, List, [], ◌∷◌, ◌++◌, length, map, Option, None, refl, sym, ap, ap₂, ◌∙◌, subst}
+use Rattle.std.specs.Option.{option_map}
+use Rattle.std.specs.Io.KnownBytes.{append_known}
+use Rattle.of_types.specs.declared.journal.WorldStim.{WorldStim}
+use Rattle.flow_table.specs.Switch.{Declared, SwitchState}
+use Rattle.exact_undo.specs.Owned.{owned_switch}
+use Rattle.app_frames.specs.declared.frame.Event.{Event}
+use Rattle.lego_model.specs.Journal.{Reply, Start}
+use Rattle.lego_model.specs.Places.{Place}
+use Rattle.lego_model.specs.Controller.{App, Run, quiet_of, reference}
+use Rattle.lego_model.specs.Agreement.{AgreeQuiet, AgreeQuiets}
+use Rattle.lego_model.specs.RunReport.{run_report}
+use Rattle.outside.specs.Seen.{Given, Seen}
+use Rattle.outside.specs.State.{Mark, State, switch_of, state}
+use Rattle.outside.specs.Conforming.{Conforming}
+use Rattle.flow_table.specs.declared.view.TableView.{TableView}
+use Rattle.shown_switches.specs.Shown.{flags_at, shown_switch, places, shown_places}
+use Rattle.shown_batches.specs.HistoryLaws.{links-declared}
+use Rattle.journal_readings.specs.Readings.{starts_in, replies_in}
+use Rattle.shown_runs.specs.Engine.{Engine, Stands, names, own_acts, stimuli_in, quiet_by, quiets_in, text_of}
+use Rattle.shown_runs.specs.QuietLaws.{quiets_more, mark_alike}
+use Rattle.shown_runs.specs.LastReport.{last_text}
+use Rattle.shown_runs.specs.LastReportLaws.{report-ends, last-shown}
+use Rattle.shown_runs.specs.WholeRun.{RunsAlike, fresh, reference_of, last_quiet}
+use Rattle.shown_runs.specs.WholeLaws.{Ran}
+use Rattle.shown_runs.specs.Endings.{Leaves}
+use Rattle.shown_runs.specs.Promise.{EndsAlike, LeavesAlike}
+
+-- the reference controller's run is the same
+reference-same : {Own : Type 0} (allows : List Place → Bool) (last new : Seen Own) → Leaves last new → reference_of allows new ≡ reference_of allows last
+reference-same {Own} allows last new l =
+    ap (λ (g : Given Own). reference allows g.declared (fresh (starts_in (own_acts new)) (replies_in (own_acts new)) ∷ []) (stimuli_in new)) l.given
+    ∙ ap₂ (λ (ss : List Start) (rs : List Reply). reference allows last.given.declared (fresh ss rs ∷ []) (stimuli_in new)) l.starts l.replies
+    ∙ ap (λ (xs : List WorldStim). reference allows last.given.declared (fresh (starts_in (own_acts last)) (replies_in (own_acts last)) ∷ []) xs) l.stimuli
+
+places-same : (f g : ℕ → Option SwitchState) (ds : List Declared) → ((d : ℕ) → f d ≡ g d) → places f ds ≡ places g ds
+places-same f g [] same = refl
+places-same f g (d ∷ ds) same = ap₂ (λ (o : Option SwitchState) (ps : List Place). record { declared = d; switch = o } ∷ ps) (same d.dpid) (places-same f g ds same)
+
+pub shown-still : (declared : List Declared) (views : List TableView) (s t : State) → ((d : ℕ) → switch_of d t ≡ switch_of d s) → shown_places declared views t ≡ shown_places declared views s
+unfolding shown_places
+shown-still declared views s t same =
+    places-same (shown_switch views t) (shown_switch views s) declared (λ d. ap (λ (o : Option SwitchState). option_map (owned_switch (flags_at d views)) o) (same d))
+
+-- engine and reference controller ran alike
+runs-alike : {Own : Type 0} (last new : Seen Own) (e : Engine) (r : Run) → Conforming new → Leaves last new → Stands last e [] [] r → RunsAlike new r
+runs-alike {Own} last new e r keeps l s =
+    let declared = new.given.declared in
+    let same_declared : declared ≡ last.given.declared = ap (λ (g : Given Own). g.declared) l.given in
+    let here : r.places ≡ shown_places declared e.net.views (state new) =
+    s.places ∙ sym (ap (λ (ds : List Declared). shown_places ds e.net.views (state last)) same_declared) ∙ sym (shown-still declared e.net.views (state last) (state new) l.switches) in
+    let quiets : AgreeQuiets (quiets_in new) r.quiets = subst (λ (ms : List Mark). AgreeQuiets (map quiet_by ms) r.quiets) (sym l.marks) s.quiets in
+    let end : AgreeQuiet (last_quiet new) (quiet_of None r.places) =
+    subst (λ (ps : List Place). AgreeQuiet (last_quiet new) (quiet_of None ps)) (sym here) (mark_alike None declared e.net.views (state new) (links-declared new) keeps.declared) in
+    record {
+      tables = quiets_more (quiets_in new) r.quiets (last_quiet new) (quiet_of None r.places) quiets end;
+      inputs = ap (λ (all : List App). map (λ a. a.inputs) all) s.apps ∙ ap (λ (given : List (List ℕ)). given ∷ []) (sym l.inputs);
+    }
+
+-- ---- All was dispatched
+
+pub ends-alike : {Own : Type 0} (allows : List Place → Bool) (text : List ℕ) (last new : Seen Own) (e : Engine) (contents now_contents : Option (List ℕ)) → Conforming new → Leaves last new → Ran allows text last e
+    → e.queue ≡ [] → now_contents ≡ append_known contents (text ++ last_text last e) → EndsAlike allows new contents now_contents e.events
+ends-alike allows text last new e contents now_contents keeps l ran none written =
+    let same = reference-same allows last new l in
+    let r = reference_of allows last in
+    let report : run_report names r ≡ text ++ last_text last e =
+    report-ends r ∙ ap₂ (λ (a b : List ℕ). a ++ b) ran.text_so (last-shown last e [] [] r ran.stands) in
+    record {
+      alike = subst (RunsAlike new) (sym same) (runs-alike last new e r keeps l ran.stands);
+      none_left = ap (λ (q : Run). q.queue) same ∙ ran.stands.queue ∙ none;
+      events_so = sym (ap (λ (q : Run). q.events) same ∙ ran.stands.events);
+      report = written ∙ ap (append_known contents) (sym (ap (run_report names) same ∙ report));
+    }
+
+-- ---- Some events were left
+
+pub leaves-alike : {Own : Type 0} (allows : List Place → Bool) (text : List ℕ) (last new : Seen Own) (e : Engine) (contents now_contents : Option (List ℕ)) → Conforming new → Leaves last new → Ran allows text last e
+    → now_contents ≡ append_known contents text → LeavesAlike allows new contents now_contents (length e.queue)
+leaves-alike allows text last new e contents now_contents keeps l ran written =
+    let same = reference-same allows last new l in
+    let r = reference_of allows last in
+    record {
+      alike = subst (RunsAlike new) (sym same) (runs-alike last new e r keeps l ran.stands);
+      left_so = ap (λ (q : List Event). length q) (sym (ap (λ (q : Run). q.queue) same ∙ ran.stands.queue));
+      report = written ∙ ap (append_known contents) (sym (ap text_of same ∙ ran.text_so));
+    }

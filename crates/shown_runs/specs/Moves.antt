@@ -1,0 +1,95 @@
+-- What a part of a run does is what the reference controller does, with what the part tells of the application. All of this is our own.
+use Rattle.std.specs.Prelude.{◌≡◌, ℕ, zero, suc, Bool, true, List, [], ◌∷◌, ◌++◌, length, ◌<◌, fold}
+use Rattle.of_types.specs.declared.journal.WorldStim.{WorldStim}
+use Rattle.flow_table.specs.declared.view.TableView.{TableView}
+use Rattle.lego_model.specs.Journal.{Reply, Start}
+use Rattle.lego_model.specs.Places.{Place}
+use Rattle.lego_model.specs.Controller.{Run, dispatch, settle, happen}
+use Rattle.app_frames.specs.declared.frame.Event.{Event}
+use Rattle.outside.specs.Seen.{Seen}
+use Rattle.outside.specs.Conforming.{Conforming}
+use Rattle.journal_readings.specs.Readings.{starts_in, replies_in, LastStands}
+use Rattle.shown_batches.specs.Calm.{Calm}
+use Rattle.shown_runs.specs.Engine.{Engine, Stands, own_acts, stimuli_in, text_of}
+use Rattle.shown_runs.specs.Readings.{JudgesAlike}
+
+-- A part of a run with these stimuli and this text: what the journal tells is longer by these starts and replies, and wherever engine and
+-- reference controller stood alike, with these starts and replies before its application, they do so after the part.
+pub record Moves {Own : Type 0} (xs : List WorldStim) (f : Run → Run) (text : List ℕ) (old new : Seen Own) (e now_e : Engine) : Type 0 where
+  pub starts : List Start
+  pub replies : List Reply
+  pub given : new.given ≡ old.given
+  pub read_starts : starts_in (own_acts new) ≡ starts_in (own_acts old) ++ starts
+  pub read_replies : replies_in (own_acts new) ≡ replies_in (own_acts old) ++ replies
+  pub read_stimuli : stimuli_in new ≡ stimuli_in old ++ xs
+  pub stands : (later_starts : List Start) (later_replies : List Reply) (r : Run) → Stands old e (starts ++ later_starts) (replies ++ later_replies) r
+      → Stands new now_e later_starts later_replies (f r)
+  pub says : (later_starts : List Start) (later_replies : List Reply) (r : Run) → Stands old e (starts ++ later_starts) (replies ++ later_replies) r
+      → text_of (f r) ≡ text_of r ++ text
+
+-- between parts all is calm, and where the application is alive its last start stands
+pub record Settled {Own : Type 0} (seen : Seen Own) (e : Engine) : Type 0 where
+  pub calm : Calm seen e.net
+  pub life : e.alive ≡ true → LastStands (own_acts seen)
+
+pub record Moved {Own : Type 0} (xs : List WorldStim) (f : Run → Run) (text : List ℕ) (old new : Seen Own) (e now_e : Engine) : Type 0 where
+  pub moves : Moves xs f text old new e now_e
+  pub settled : Settled new now_e
+
+-- In a world that keeps its word a part does what the reference controller does, whatever its judge is, if the two judge alike.
+pub record Shown {Own : Type 0} (Tells : Type 0) (accepts : List TableView → Bool) (xs : List WorldStim) (f : (List Place → Bool) → Run → Run) (text : List ℕ) (old new : Seen Own) (e now_e : Engine) : Type 0 where
+  pub moved : (allows : List Place → Bool) → Tells → Conforming new → JudgesAlike Own allows accepts → Settled old e → Moved xs (f allows) text old new e now_e
+
+-- ---- The parts of a run of the reference controller
+
+-- the oldest event that waits is dispatched, where there is one
+abbrev pub next_dispatched : (List Place → Bool) → List Event → Run → Run
+next_dispatched allows [] r = r
+next_dispatched allows (event ∷ queue) r = dispatch allows event (record r { queue = queue })
+
+abbrev pub dispatch_next : (List Place → Bool) → Run → Run
+dispatch_next allows r = next_dispatched allows r.queue r
+
+-- so often
+abbrev pub times : ℕ → (Run → Run) → Run → Run
+times zero f r = r
+times (suc n) f r = times n f (f r)
+
+-- a stimulus, and then the events that wait
+abbrev pub round : (List Place → Bool) → Run → WorldStim → Run
+round allows r x = settle allows (happen x r)
+
+abbrev pub rounds : (List Place → Bool) → List WorldStim → Run → Run
+rounds allows xs r = fold (round allows) r xs
+
+-- ---- Batch after batch
+
+-- a batch with one stimulus
+pub record OneHappens {Own : Type 0} (old new : Seen Own) (e now_e : Engine) : Type 0 where
+  pub stimulus : WorldStim
+  pub moved : Moved (stimulus ∷ []) (happen stimulus) [] old new e now_e
+
+-- so many rounds, with a stimulus each
+pub record Rounds {Own : Type 0} (allows : List Place → Bool) (number : ℕ) (text : List ℕ) (old new : Seen Own) (e now_e : Engine) : Type 0 where
+  pub stimuli : List WorldStim
+  pub number_so : length stimuli ≡ number
+  pub moved : Moved stimuli (rounds allows stimuli) text old new e now_e
+
+-- all rounds, and the last batch, that has no stimulus
+pub record ToEnd {Own : Type 0} (allows : List Place → Bool) (text : List ℕ) (old new : Seen Own) (e now_e : Engine) : Type 0 where
+  pub stimuli : List WorldStim
+  pub moved : Moved stimuli (λ r. settle allows (rounds allows stimuli r)) text old new e now_e
+
+-- the same in a world that keeps its word
+pub record ShownIdle {Own : Type 0} (Tells : Type 0) (old new : Seen Own) (e now_e : Engine) : Type 0 where
+  pub happens : Tells → Conforming new → Settled old e → OneHappens old new e now_e
+
+pub record ShownOver {Own : Type 0} (Tells : Type 0) (old new : Seen Own) (e now_e : Engine) : Type 0 where
+  pub moved : Tells → Conforming new → Settled old e → Moved [] (λ r. r) [] old new e now_e
+
+pub record ShownRounds {Own : Type 0} (Tells : Type 0) (accepts : List TableView → Bool) (number : ℕ) (text : List ℕ) (old new : Seen Own) (e now_e : Engine) : Type 0 where
+  pub rounds_so : (allows : List Place → Bool) → Tells → Conforming new → JudgesAlike Own allows accepts → Settled old e → Rounds allows number text old new e now_e
+
+-- where the stimuli are fewer than this number of rounds
+pub record ShownToEnd {Own : Type 0} (Tells : Type 0) (accepts : List TableView → Bool) (most : ℕ) (text : List ℕ) (old new : Seen Own) (e now_e : Engine) : Type 0 where
+  pub to_end : (allows : List Place → Bool) → Tells → Conforming new → JudgesAlike Own allows accepts → Settled old e → length (stimuli_in new) < most → ToEnd allows text old new e now_e

@@ -1,0 +1,87 @@
+-- What the reference controller does at an event where it has one application: its parts one by one.
+use Rattle.std.proofs.Common.{◌≡◌, ℕ, ◌+◌, Bool, true, false, List, [], ◌∷◌, ◌++◌, drop, if◌then◌else◌, refl, ap, ◌∙◌}
+use Rattle.app_frames.specs.declared.frame.Event.{Event}
+use Rattle.lego_model.specs.Journal.{Reply}
+use Rattle.lego_model.specs.Places.{Place}
+use Rattle.lego_model.specs.Turns.{Played, turn_of}
+use Rattle.lego_model.specs.Controller.{App, Dispatched, Ended, Run, Turned, table_of, next_reply, event_frame, given_in, after_outcome, places_by, restart_lines, turn, says_stop, marked, given_to, dispatch}
+
+-- the event has its number and its line
+abbrev pub numbered : Event → Run → Run
+numbered event r = record r { events = r.events + 1; lines = r.lines ++ Dispatched (r.events + 1) event ∷ [] }
+
+-- the run behind a turn of the application
+abbrev pub after_turn : Turned → Run → Run
+after_turn t r = record r {
+  places = t.places;
+  apps = t.app.0 ∷ [];
+  lines = r.lines ++ Ended 0 t.outcome ∷ restart_lines 0 t.outcome t.app;
+  quiets = marked t.given r.events r.places r.quiets;
+}
+
+abbrev pub without_turn : App → Run → Run
+without_turn a r = record r { apps = a ∷ [] }
+
+both_same : {X : Type 0} (b : Bool) (x : X) → (if b then x else x) ≡ x
+both_same true x = refl
+both_same false x = refl
+
+abbrev next_run : Turned → Run → Run
+next_run t r = record r {
+  places = t.places;
+  lines = r.lines ++ Ended 0 t.outcome ∷ restart_lines 0 t.outcome t.app;
+  quiets = marked t.given r.events r.places r.quiets;
+}
+
+abbrev turned_one : Turned → Run → List App × Run
+turned_one t r = if says_stop t.outcome then (t.app.0 ∷ [], next_run t r) else (t.app.0 ∷ [], next_run t r)
+
+given_one : (allows : List Place → Bool) (event : Event) (a : App) (r : Run) → given_to allows event 0 (a ∷ []) r ≡ (if a.alive then turned_one (turn allows r.events r.moment event r.places a) r else (a ∷ [], r))
+unfolding given_to
+given_one allows event a r = refl
+
+given_alive : (allows : List Place → Bool) (event : Event) (a : App) (r : Run) (t : Turned) → a.alive ≡ true → turn allows r.events r.moment event r.places a ≡ t → given_to allows event 0 (a ∷ []) r ≡ (t.app.0 ∷ [], next_run t r)
+given_alive allows event a r t alive is =
+    given_one allows event a r
+    ∙ ap (λ (b : Bool). if b then turned_one (turn allows r.events r.moment event r.places a) r else (a ∷ [], r)) alive
+    ∙ ap (λ (x : Turned). turned_one x r) is
+    ∙ both_same (says_stop t.outcome) (t.app.0 ∷ [], next_run t r)
+
+given_dead : (allows : List Place → Bool) (event : Event) (a : App) (r : Run) → a.alive ≡ false → given_to allows event 0 (a ∷ []) r ≡ (a ∷ [], r)
+given_dead allows event a r dead =
+    given_one allows event a r ∙ ap (λ (b : Bool). if b then turned_one (turn allows r.events r.moment event r.places a) r else (a ∷ [], r)) dead
+
+abbrev with_apps : List App × Run → Run
+with_apps done = record done.1 { apps = done.0 }
+
+-- the application is alive
+pub dispatch_alive : (allows : List Place → Bool) (event : Event) (a : App) (r : Run) (t : Turned) → r.apps ≡ a ∷ [] → a.alive ≡ true → turn allows (r.events + 1) r.moment event r.places a ≡ t
+    → dispatch allows event r ≡ after_turn t (numbered event r)
+unfolding dispatch
+dispatch_alive allows event a r t apps alive is =
+    ap with_apps (ap (λ (all : List App). given_to allows event 0 all (numbered event r)) apps ∙ given_alive allows event a (numbered event r) t alive is)
+
+-- the application is gone
+pub dispatch_dead : (allows : List Place → Bool) (event : Event) (a : App) (r : Run) → r.apps ≡ a ∷ [] → a.alive ≡ false → dispatch allows event r ≡ without_turn a (numbered event r)
+unfolding dispatch
+dispatch_dead allows event a r apps dead =
+    ap with_apps (ap (λ (all : List App). given_to allows event 0 all (numbered event r)) apps ∙ given_dead allows event a (numbered event r) dead)
+
+-- ---- A turn
+
+-- the application with its reply used up and what it was given in its turn
+abbrev pub after_given : App → Reply → List (List ℕ) → App
+after_given a reply given = record a { replies = drop 1 a.replies; inputs = a.inputs ++ given }
+
+abbrev pub turned_by : (number moment : ℕ) → Event → List Place → App → Reply → Played (List Place) → Turned
+turned_by number moment event ps a reply played = record {
+  places = places_by played.outcome ps played.state;
+  app = after_outcome played.outcome (after_given a reply (given_in reply.given (event_frame number moment event) played.answers));
+  outcome = played.outcome;
+  given = reply.given;
+}
+
+pub turn_so : (allows : List Place → Bool) (number moment : ℕ) (event : Event) (ps : List Place) (a : App) (reply : Reply) (played : Played (List Place)) → next_reply a.replies ≡ reply
+    → turn_of (table_of allows) a.budget a.rest reply ps ≡ played → turn allows number moment event ps a ≡ turned_by number moment event ps a reply played
+unfolding turn
+turn_so allows number moment event ps a reply played next is = rw (next, is) refl

@@ -1,0 +1,48 @@
+-- A whole run, from the world that was opened on. All of this is our own.
+use Rattle.std.specs.Prelude.{◌≡◌, Bool, false, List, [], ◌∷◌, ◌++◌, map, None}
+use Rattle.flow_table.specs.Switch.{Declared}
+use Rattle.lego_model.specs.Journal.{Reply, Start}
+use Rattle.lego_model.specs.Places.{Place}
+use Rattle.lego_model.specs.Controller.{App, Quiet, Run, quiet_of, start_all, reference}
+use Rattle.lego_model.specs.Agreement.{AgreeQuiets}
+use Rattle.outside.specs.Seen.{Seen}
+use Rattle.outside.specs.State.{Link, state}
+use Rattle.journal_readings.specs.Readings.{starts_in, replies_in}
+use Rattle.shown_runs.specs.Engine.{own_acts, given_in, stimuli_in, quiets_in, budget}
+
+-- ---- The application of the reference controller at first, with what it will do
+
+abbrev pub fresh : List Start → List Reply → App
+fresh starts replies = record { alive = false; budget = budget; rest = []; inputs = []; starts = starts; replies = replies; done = 0; failed = 0 }
+
+-- before anything is started
+abbrev pub before_start : List Declared → App → Run
+before_start declared a = record {
+  moment = 0;
+  places = map (λ d. record { declared = d; switch = None }) declared;
+  queue = [];
+  events = 0;
+  apps = a ∷ [];
+  lines = [];
+  quiets = [];
+}
+
+-- all applications are started
+abbrev pub all_started : Run → Run
+all_started r = let begun = start_all 0 r.apps in record r { apps = begun.0; lines = r.lines ++ begun.1 }
+
+-- ---- What the reference controller does with what a world tells
+
+abbrev pub reference_of : {Own : Type 0} → (List Place → Bool) → Seen Own → Run
+reference_of allows seen =
+    reference allows seen.given.declared (fresh (starts_in (own_acts seen)) (replies_in (own_acts seen)) ∷ []) (stimuli_in seen)
+
+-- how the switches stand at the end
+abbrev pub last_quiet : {Own : Type 0} → Seen Own → Quiet
+last_quiet seen = record { event = None; switches = map (λ (l : Link). l.switch) (state seen).links }
+
+-- The run is that of the reference controller: at every quiet place, the end included, the switches agree; and the application was given
+-- what the reference controller gives it.
+pub record RunsAlike {Own : Type 0} (seen : Seen Own) (r : Run) : Type 0 where
+  pub tables : AgreeQuiets (quiets_in seen ++ last_quiet seen ∷ []) (r.quiets ++ quiet_of None r.places ∷ [])
+  pub inputs : map (λ (a : App). a.inputs) r.apps ≡ given_in seen ∷ []

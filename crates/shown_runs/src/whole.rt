@@ -1,0 +1,55 @@
+//! Laws of whole runs, each the contract of a function that does nothing.
+
+ghost use Rattle.std.specs.Prelude.{◌≡◌, ℕ, ◌+◌, ◌^◌, ◌<◌, Bool, List, [], ◌∷◌, length, Option};
+ghost use Rattle.std.specs.List.{AllByRecursion};
+ghost use Rattle.of_types.specs.declared.journal.WorldStim.{WorldStim};
+ghost use Rattle.flow_table.specs.declared.view.TableView.{TableView};
+ghost use Rattle.app_frames.specs.declared.frame.Event.{Event};
+ghost use Rattle.lego_model.specs.Places.{Place};
+ghost use Rattle.outside.specs.Seen.{Seen, Continues};
+ghost use Rattle.outside.specs.State.{state, after_stim, upcoming};
+ghost use Rattle.outside.specs.Conforming.{Conforming};
+ghost use Rattle.net_txn.specs.Net.{NetState};
+ghost use Rattle.shown_batches.specs.TellLaws.{FitsItem};
+ghost use Rattle.shown_batches.specs.InBatch.{BatchDone, BatchOver};
+ghost use Rattle.shown_runs.specs.Engine.{Engine, stimuli_in};
+ghost use Rattle.shown_runs.specs.Facts.{Dispatches};
+ghost use Rattle.shown_runs.specs.Readings.{JudgesAlike};
+ghost use Rattle.shown_runs.specs.Moves.{Settled, Moved, Shown, OneHappens, dispatch_next};
+ghost use Rattle.shown_runs.specs.BatchMoveLaws.{engine_then};
+ghost use Rattle.shown_runs.specs.FirstLaws.{IsOpened, engine_at_first};
+ghost use Rattle.shown_runs.specs.Promise.{most_rounds, EndsAlike, LeavesAlike};
+ghost use Rattle.shown_runs.specs.Endings.{RanOut, RanFull};
+
+use outside::World;
+
+/// In a world that keeps its word a batch is the next stimulus of the reference controller, with the events that it makes;
+/// and the last one, that has none, is nothing.
+pub fn batches_move<W: World>()
+    ensures happens { (x : WorldStim) (old new : Seen W.Own) (net now_net : NetState) (queue now_queue : List Event) (e : Engine) → Conforming old
+        → Conforming new → Settled old e → e.net ≡ net → e.queue ≡ queue
+        → BatchDone x (record { seen = old; net = net; queue = queue }) (record { seen = new; net = now_net; queue = now_queue })
+        → AllByRecursion FitsItem (upcoming (after_stim x (state old))) → OneHappens old new e (engine_then e now_net now_queue) }
+    ensures over { (old new : Seen W.Own) (net now_net : NetState) (queue now_queue : List Event) (e : Engine) → Settled old e → e.net ≡ net
+        → e.queue ≡ queue → BatchOver (record { seen = old; net = net; queue = queue }) (record { seen = new; net = now_net; queue = now_queue })
+        → Moved [] (λ r. r) [] old new e (engine_then e now_net now_queue) }
+{}
+
+/// In a world that keeps its word the oldest event that waits is dispatched as the reference controller dispatches it.
+pub fn oldest_events_move<W: World>()
+    ensures { (accepts : List TableView → Bool) (event : Event) (queue : List Event) (text : List ℕ) (old new : Seen W.Own) (e now_e : Engine)
+        → Continues W.Tells old new → e.events + 1 < 2 ^ 64 → e.queue ≡ event ∷ queue
+        → Dispatches W.Tells accepts event text old new (record e { queue = queue }) now_e → Shown W.Tells accepts [] dispatch_next text old new e now_e }
+{}
+
+/// Of a world that was just opened and that keeps its word: a run whose parts are those of the reference controller is the run
+/// of the reference controller over what the world told. At every quiet place the tables agree, the application was given what
+/// it is given there, and what was written is its report, whole where all events were dispatched.
+pub fn runs_are_the_references<W: World>()
+    ensures out { (accepts : List TableView → Bool) (allows : List Place → Bool) (contents now_contents : Option (List ℕ)) (old new : Seen W.Own) (e : Engine)
+        → W.Tells → Conforming new → JudgesAlike W.Own allows accepts → IsOpened old → length (stimuli_in new) < most_rounds
+        → RanOut W.Tells accepts most_rounds contents now_contents old new engine_at_first e → EndsAlike allows new contents now_contents e.events }
+    ensures full { (accepts : List TableView → Bool) (allows : List Place → Bool) (left : ℕ) (contents now_contents : Option (List ℕ)) (old new : Seen W.Own)
+        → W.Tells → Conforming new → JudgesAlike W.Own allows accepts → IsOpened old → length (stimuli_in new) < most_rounds
+        → RanFull W.Tells accepts most_rounds left contents now_contents old new engine_at_first → LeavesAlike allows new contents now_contents left }
+{}
