@@ -1,4 +1,9 @@
 pub mod Why
 pub mod Runs
+pub mod Shows
 pub mod WhyLaws
 pub mod Joined
+pub mod LastShown
+pub mod LastLaws
+pub mod Batch
+pub mod BatchLaws

@@ -1,4 +1,4 @@
--- Why a run ended: each end but the whole one has its cause in the run. All of this is our own choice.
+-- Why a run ended: each end but the whole one and want of memory has its cause in the run. All of this is our own choice.
 use Rattle.std.specs.Prelude.{◌≡◌, ℕ, ◌≤◌, ◌⊎◌, IsErr}
 use Rattle.lego_io.specs.Count.{Rose}
 use Rattle.of_types.specs.Fields.{number_at}

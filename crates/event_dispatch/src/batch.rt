@@ -1,18 +1,23 @@
 //! A batch: what comes up to the next rest of the outside, and the events that it makes.
 
-ghost use Rattle.std.specs.Prelude.{◌≡◌, ◌≤◌, length, true, false, None, IsSome, IfOk, IfErr, OnOk};
+ghost use Rattle.std.specs.Prelude.{◌≡◌, ◌≤◌, length, true, false, Ok, None, IsSome, IfOk, IfErr, OnOk, [], ◌∷◌, ◌++◌};
+ghost use Rattle.outside.specs.declared.step.WorldStep.TheVariants.{From, Joined};
 ghost use Rattle.outside.specs.Seen.{Continues};
-ghost use Rattle.outside.specs.Calls.{most_message, IsItemIn};
-ghost use Rattle.of_wire.specs.Spelling.{message_size};
+ghost use Rattle.outside.specs.Calls.{most_message, item_step, IsItemIn, Nexts};
+ghost use Rattle.of_wire.specs.Spelling.{message_size, message_bytes};
+ghost use Rattle.app_frames.specs.declared.frame.EventKind.TheVariants as kinds;
 ghost use Rattle.net_txn.specs.Views.{rows_at};
 ghost use Rattle.event_dispatch.specs.Joined.{is_joined as is_joined_in};
+ghost use Rattle.shown_batches.specs.Knowledge.{with_event};
+ghost use Rattle.shown_batches.specs.Items.{Departs, Enters, Handles};
 ghost use Rattle.event_dispatch.specs.Runs.{Waits};
+ghost use Rattle.event_dispatch.specs.Batch.{of_memory, TakesKept, NextTaken, BatchShown};
 ghost use Rattle.event_dispatch.specs.Why.{IsWhy};
 
 use crate::run::Run;
 use crate::served::Served;
 use app_frames::{Event, EventKind};
-use net_txn::Net;
+use net_txn::{EventQueue, Net};
 use of_types::Dpid;
 use of_wire::{Message, WireFault, decode, encode};
 use outside::{Item, NextFault, World};
@@ -46,6 +51,23 @@ pub(crate) fn is_joined(net: &Net, dpid: Dpid) -> bool
     has_view(net, dpid)
 }
 
+/// Whether bytes were not read for want of memory.
+fn ran_short(fault: &WireFault) -> bool
+    ensures { result ≡ of_memory fault.now }
+{
+    matches!(fault, WireFault::NoMemory)
+}
+
+/// Appends an event, where there is one.
+fn append(queue: &mut EventQueue, event: Option<Event>) -> Result<(), AllocError>
+    ensures { OnOk result (queue.new ≡ with_event event queue.old) }
+{
+    if let Some(event) = event {
+        queue.push(event)?;
+    }
+    Ok(())
+}
+
 /// What the outside tells next.
 fn next_item<W: World>(world: &mut W, buf: &mut [u8]) -> Result<Item, Served>
     requires { most_message ≤ length buf.old }
@@ -53,6 +75,7 @@ fn next_item<W: World>(world: &mut W, buf: &mut [u8]) -> Result<Item, Served>
     ensures continues { Continues W.Tells (W.seen world.old) (W.seen world.new) }
     ensures why { IfErr result (IsWhy (W.seen world.old).counts (W.seen world.new).counts 0 0) }
     ensures buffer { length buf.new ≡ length buf.old }
+    ensures nexts { IfOk result (λ item. Nexts W.Tells (W.seen world.old) (W.seen world.new) (Ok item) buf.new) }
 {
     match world.next(buf) {
         Ok(item) => Ok(item),
@@ -71,21 +94,27 @@ impl Run {
         frame: &[u8],
     ) -> Result<(), Served>
         ensures waits { OnOk result (Waits self.old self.new) }
+        ensures app { self.new.app ≡ self.old.app }
+        ensures lines { self.new.lines ≡ self.old.lines }
         ensures continues { Continues W.Tells (W.seen world.old) (W.seen world.new) }
         ensures why { IfErr result (IsWhy (W.seen world.old).counts (W.seen world.new).counts 0 0) }
+        ensures handles { OnOk result (Handles W.Tells (From dpid frame.now) (W.seen world.old) (W.seen world.new)
+            self.old.net self.new.net self.old.queue self.new.queue) }
     {
         if !is_joined(&self.net, dpid) {
             return Ok(());
         }
-        if let Some(event) = self.net.arrived(world, dpid, frame)? {
-            self.queue.push(event)?;
-        }
+        let event = self.net.arrived(world, dpid, frame)?;
+        append(&mut self.queue, event)?;
         Ok(())
     }
 
     /// A switch leaves. One that is not joined is ignored.
     fn take_out(&mut self, dpid: Dpid) -> Result<(), AllocError>
-        ensures { OnOk result (Waits self.old self.new) }
+        ensures waits { OnOk result (Waits self.old self.new) }
+        ensures app { self.new.app ≡ self.old.app }
+        ensures lines { self.new.lines ≡ self.old.lines }
+        ensures departs { OnOk result (Departs dpid self.old.net self.new.net self.old.queue self.new.queue) }
     {
         if is_joined(&self.net, dpid) {
             let event = self.net.left(dpid)?;
@@ -97,16 +126,24 @@ impl Run {
     /// A switch describes itself as it joins. One that is joined is not taken in again.
     fn take_in<W: World>(&mut self, world: &mut W, dpid: Dpid, frame: &[u8]) -> Result<(), Served>
         ensures waits { OnOk result (Waits self.old self.new) }
+        ensures app { self.new.app ≡ self.old.app }
+        ensures lines { self.new.lines ≡ self.old.lines }
         ensures continues { Continues W.Tells (W.seen world.old) (W.seen world.new) }
         ensures why { IfErr result (IsWhy (W.seen world.old).counts (W.seen world.new).counts 0 0) }
+        ensures handles { OnOk result (Handles W.Tells (Joined dpid frame.now) (W.seen world.old) (W.seen world.new)
+            self.old.net self.new.net self.old.queue self.new.queue) }
     {
         if is_joined(&self.net, dpid) {
             return Ok(());
         }
         match decode(self.alloc, frame) {
             Ok(envelope) => self.join(world, dpid, &envelope.message),
-            Err(WireFault::NoMemory) => Err(Served::NoMemory),
-            Err(_) => Ok(()),
+            Err(fault) => {
+                if ran_short(&fault) {
+                    return Err(Served::NoMemory);
+                }
+                Ok(())
+            }
         }
     }
 
@@ -115,8 +152,12 @@ impl Run {
         requires out { rows_at dpid self.old.net.views ≡ None }
         requires fits { message_size message.now ≤ 65535 }
         ensures waits { OnOk result (Waits self.old self.new) }
+        ensures app { self.new.app ≡ self.old.app }
+        ensures lines { self.new.lines ≡ self.old.lines }
         ensures continues { Continues W.Tells (W.seen world.old) (W.seen world.new) }
         ensures why { IfErr result (IsWhy (W.seen world.old).counts (W.seen world.new).counts 0 0) }
+        ensures enters { OnOk result (Enters W.Tells dpid message.now (W.seen world.old) (W.seen world.new)
+            self.old.net self.new.net self.old.queue self.new.queue) }
     {
         if let Message::FeaturesReply(features) = message {
             self.net.joined(world, dpid, features)?;
@@ -128,7 +169,12 @@ impl Run {
     /// The event that a switch joined.
     fn announce(&mut self, dpid: Dpid, message: &Message) -> Result<(), AllocError>
         requires { message_size message.now ≤ 65535 }
-        ensures { OnOk result (Waits self.old self.new) }
+        ensures waits { OnOk result (Waits self.old self.new) }
+        ensures app { self.new.app ≡ self.old.app }
+        ensures lines { self.new.lines ≡ self.old.lines }
+        ensures queue { OnOk result (self.new.queue
+            ≡ self.old.queue ++ record { kind = kinds.Join; dpid = dpid; body = message_bytes 0 message.now } ∷ []) }
+        ensures net { self.new.net ≡ self.old.net }
     {
         let body = encode(self.alloc, 0, message)?;
         let kind = EventKind::Join;
@@ -140,8 +186,12 @@ impl Run {
     fn take_item<W: World>(&mut self, world: &mut W, item: Item, buf: &[u8]) -> Result<(), Served>
         requires { IsItemIn W.Tells item buf.now }
         ensures waits { OnOk result (Waits self.old self.new) }
+        ensures app { self.new.app ≡ self.old.app }
+        ensures lines { self.new.lines ≡ self.old.lines }
         ensures continues { Continues W.Tells (W.seen world.old) (W.seen world.new) }
         ensures why { IfErr result (IsWhy (W.seen world.old).counts (W.seen world.new).counts 0 0) }
+        ensures handles { OnOk result (Handles W.Tells (item_step item buf.now) (W.seen world.old) (W.seen world.new)
+            self.old.net self.new.net self.old.queue self.new.queue) }
     {
         match item {
             Item::From(dpid, size) => self.take_message(world, dpid, &buf[..size]),
@@ -160,8 +210,11 @@ impl Run {
     #[tactic(auto, using(crate::specs::WhyLaws::continues_then, crate::specs::WhyLaws::why_then, crate::specs::WhyLaws::waits_then))]
     fn take_kept<W: World>(&mut self, world: &mut W) -> Result<u32, Served>
         ensures waits { OnOk result (Waits self.old self.new) }
+        ensures app { self.new.app ≡ self.old.app }
+        ensures lines { self.new.lines ≡ self.old.lines }
         ensures continues { Continues W.Tells (W.seen world.old) (W.seen world.new) }
         ensures why { IfErr result (IsWhy (W.seen world.old).counts (W.seen world.new).counts 0 0) }
+        ensures kept { IfOk result (λ left. TakesKept left (W.seen world.old) (W.seen world.new) self.old self.new) }
     {
         for taken in 0..MOST_ITEMS {
             let Some((dpid, message)) = self.net.waiting()? else {
@@ -176,9 +229,12 @@ impl Run {
     fn take_next<W: World>(&mut self, world: &mut W, buf: &mut [u8]) -> Result<Option<Rest>, Served>
         requires { most_message ≤ length buf.old }
         ensures waits { OnOk result (Waits self.old self.new) }
+        ensures app { self.new.app ≡ self.old.app }
+        ensures lines { self.new.lines ≡ self.old.lines }
         ensures continues { Continues W.Tells (W.seen world.old) (W.seen world.new) }
         ensures why { IfErr result (IsWhy (W.seen world.old).counts (W.seen world.new).counts 0 0) }
         ensures buffer { length buf.new ≡ length buf.old }
+        ensures taken { IfOk result (λ rest. NextTaken W.Tells rest (W.seen world.old) (W.seen world.new) self.old self.new) }
     {
         let item = next_item(world, buf)?;
         match item {
@@ -200,9 +256,14 @@ impl Run {
     ) -> Result<Rest, Served>
         requires { most_message ≤ length buf.old }
         ensures waits { OnOk result (Waits self.old self.new) }
+        ensures app { self.new.app ≡ self.old.app }
+        ensures lines { self.new.lines ≡ self.old.lines }
         ensures continues { Continues W.Tells (W.seen world.old) (W.seen world.new) }
         ensures why { IfErr result (IsWhy (W.seen world.old).counts (W.seen world.new).counts 0 0) }
         ensures buffer { length buf.new ≡ length buf.old }
+
+        // Where the world keeps its word and all was calm, one stimulus was begun, and its items were told and taken.
+        ensures batch { IfOk result (λ rest. BatchShown W.Tells rest (W.seen world.old) (W.seen world.new) self.old self.new) }
     {
         let left = self.take_kept(world)?;
         for _item in 0..left {

@@ -1,16 +1,20 @@
 //! The end of a report: the tables of the joined switches, the application, and how many events there were.
 
-ghost use Rattle.std.specs.Prelude.{◌≡◌, ◌<◌, ◌≤◌, length, IsSome, IfSome, IfErr, OnOk, slice_index};
-ghost use Rattle.flow_table.specs.declared.view.TableView.{TableView};
+ghost use Rattle.std.specs.Prelude.{◌≡◌, ◌<◌, ◌∷◌, List, length, map, drop, None, Some, MatchOption, IsSome, IfSome, IfOk, IfErr, OnOk};
+ghost use Rattle.flow_table.specs.declared.view.ViewRow.{ViewRow};
 ghost use Rattle.outside.specs.Seen.{Continues};
+ghost use Rattle.lego_model.specs.RunReport.{flow_line};
 ghost use Rattle.net_txn.specs.Views.{rows_at};
+ghost use Rattle.shown_runs.specs.LastReport.{engine_end};
 ghost use Rattle.event_dispatch.specs.Runs.{Waits};
 ghost use Rattle.event_dispatch.specs.Why.{IsWhy};
+ghost use Rattle.event_dispatch.specs.Shows.{engine_of, Adds};
+ghost use Rattle.event_dispatch.specs.LastShown.{FindsFlags, FlowsSaid, TableSaid, AsksShown, TableShown, LastShown};
 
 use crate::batch::is_joined;
 use crate::run::{NAME, Run};
 use crate::served::Served;
-use flow_table::ViewRow;
+use flow_table::{TableView, ViewList, ViewRow};
 use of_match::Key;
 use of_stats::{FlowRow, RowList};
 use of_types::Dpid;
@@ -20,7 +24,8 @@ use std::alloc::AllocError;
 
 /// Where the row of a key stands, from a place on.
 fn place_from(rows: &[ViewRow], from: usize, key: &Key) -> Option<usize>
-    ensures { IfSome result (λ at. at < length rows.now) }
+    ensures within { IfSome result (λ at. at < length rows.now) }
+    ensures here { (v : ViewRow) (later : List ViewRow) → drop from rows.now ≡ v ∷ later → v.key ≡ key.now → result ≡ Some from }
 {
     for at in from..rows.len() {
         if rows[at].key == *key {
@@ -30,33 +35,53 @@ fn place_from(rows: &[ViewRow], from: usize, key: &Key) -> Option<usize>
     None
 }
 
+/// The flags of the owner of an entry, and where the next one is looked for. Rows and entries stand in key order.
+fn flags_from(rows: &[ViewRow], from: usize, key: &Key) -> (u16, usize)
+    ensures { FindsFlags from key.now rows.now result }
+{
+    match place_from(rows, from, key) {
+        Some(at) => (rows[at].flags, at + 1),
+        None => (0, from),
+    }
+}
+
+/// The rows of a switch as their owner sees them, while it is joined.
+fn rows_of(views: &[TableView], dpid: Dpid) -> Option<&ViewList>
+    ensures { MatchOption result (rows_at dpid views.now ≡ None) (λ rows. rows_at dpid views.now ≡ Some rows.now) }
+{
+    for view in views {
+        if view.dpid == dpid {
+            return Some(&view.rows);
+        }
+    }
+    None
+}
+
 impl Run {
     /// Appends the line of an entry, with the flags with which its owner asked for it.
     fn note_flow(&mut self, row: &FlowRow, flags: u16) -> Result<(), AllocError>
-        ensures { OnOk result (Waits self.old self.new) }
+        ensures waits { OnOk result (Waits self.old self.new) }
+        ensures adds { OnOk result (Adds (flow_line row.now flags) self.old self.new) }
     {
         let line = flow_line(self.alloc, row, flags)?;
         self.note(&line)
     }
 
-    /// The flags of the owner of an entry of a switch, and where the next one is looked for. Rows and entries stand in key
-    /// order.
-    fn flags_of(&self, dpid: Dpid, from: usize, key: &Key) -> (u16, usize) {
-        for view in self.net.views() {
-            if view.dpid == dpid {
-                let rows = view.rows.as_slice();
-                if let Some(at) = place_from(rows, from, key) {
-                    return (rows[at].flags, at + 1);
-                }
-            }
+    /// The flags of the owner of an entry of a switch, and where the next one is looked for.
+    fn flags_of(&self, dpid: Dpid, from: usize, key: &Key) -> (u16, usize)
+        ensures { (rows : List ViewRow) → rows_at dpid self.now.net.views ≡ Some rows → FindsFlags from key.now rows result }
+    {
+        match rows_of(self.net.views(), dpid) {
+            Some(rows) => flags_from(rows.as_slice(), from, key),
+            None => (0, from),
         }
-        (0, from)
     }
 
     /// Appends the lines of the entries of a switch.
     #[tactic(auto, using(crate::specs::WhyLaws::waits_then))]
     fn note_flows(&mut self, dpid: Dpid, rows: &RowList) -> Result<(), AllocError>
-        ensures { OnOk result (Waits self.old self.new) }
+        ensures waits { OnOk result (Waits self.old self.new) }
+        ensures said { OnOk result (FlowsSaid dpid rows.now self.old self.new) }
     {
         let mut from = 0;
         for row in rows.as_slice() {
@@ -70,7 +95,8 @@ impl Run {
     /// Appends how many entries a switch has, and each.
     #[tactic(auto, using(crate::specs::WhyLaws::waits_then))]
     fn note_rows(&mut self, dpid: Dpid, rows: &RowList) -> Result<(), AllocError>
-        ensures { OnOk result (Waits self.old self.new) }
+        ensures waits { OnOk result (Waits self.old self.new) }
+        ensures said { OnOk result (TableSaid dpid rows.now self.old self.new) }
     {
         let line = switch_line(self.alloc, dpid, rows.len() as u64)?;
         self.note(&line)?;
@@ -83,6 +109,7 @@ impl Run {
         ensures waits { OnOk result (Waits self.old self.new) }
         ensures continues { Continues W.Tells (W.seen world.old) (W.seen world.new) }
         ensures why { IfErr result (IsWhy (W.seen world.old).counts (W.seen world.new).counts 0 0) }
+        ensures asks { IfOk result (λ rows. AsksShown W.Tells dpid (W.seen world.old) (W.seen world.new) self.old self.new rows) }
     {
         match self.net.rows(world, dpid) {
             Ok(rows) => Ok(rows),
@@ -96,6 +123,7 @@ impl Run {
         ensures waits { OnOk result (Waits self.old self.new) }
         ensures continues { Continues W.Tells (W.seen world.old) (W.seen world.new) }
         ensures why { IfErr result (IsWhy (W.seen world.old).counts (W.seen world.new).counts 0 0) }
+        ensures shown { OnOk result (TableShown W.Tells dpid (W.seen world.old) (W.seen world.new) self.old self.new) }
     {
         if !is_joined(&self.net, dpid) {
             return Ok(());
@@ -105,7 +133,9 @@ impl Run {
     }
 
     /// The joined switches, by number.
-    fn switches(&self) -> Result<Vec<Dpid>, AllocError> {
+    fn switches(&self) -> Result<Vec<Dpid>, AllocError>
+        ensures { IfOk result (λ switches. switches.items ≡ map (λ v. v.dpid) self.now.net.views) }
+    {
         let mut switches = Vec::new(self.alloc);
         for view in self.net.views() {
             switches.push(view.dpid)?;
@@ -115,7 +145,8 @@ impl Run {
 
     /// Appends the lines of the application and of the end.
     fn note_end(&mut self) -> Result<(), AllocError>
-        ensures { OnOk result (Waits self.old self.new) }
+        ensures waits { OnOk result (Waits self.old self.new) }
+        ensures adds { OnOk result (Adds (engine_end (engine_of self.old)) self.old self.new) }
     {
         let app = &self.app;
         let line = app_line(self.alloc, NAME, app.state.alive, app.done, app.failed)?;
@@ -130,6 +161,9 @@ impl Run {
         ensures waits { OnOk result (Waits self.old self.new) }
         ensures continues { Continues W.Tells (W.seen world.old) (W.seen world.new) }
         ensures why { IfErr result (IsWhy (W.seen world.old).counts (W.seen world.new).counts 0 0) }
+
+        // Where the world keeps its word, this is what the reference controller says at the end.
+        ensures shown { OnOk result (LastShown W.Tells (W.seen world.old) (W.seen world.new) self.old self.new) }
     {
         let switches = self.switches()?;
         for dpid in switches.iter() {

@@ -3,6 +3,7 @@
 ghost use Rattle.std.specs.Prelude.{◌≡◌, IfOk, OnOk, OnErr};
 ghost use Rattle.lego_io.specs.Count.{Rose, NeverFell};
 ghost use Rattle.event_dispatch.specs.Runs.{Going, Waits};
+ghost use Rattle.event_dispatch.specs.Shows.{Adds};
 
 use app_visor::AppState;
 use lego_io::{Sink, WriteFault, write_all};
@@ -66,7 +67,8 @@ impl Run {
 
     /// Appends a line to those that are to be written.
     pub(crate) fn note(&mut self, line: &ByteList) -> Result<(), AllocError>
-        ensures { OnOk result (Waits self.old self.new) }
+        ensures waits { OnOk result (Waits self.old self.new) }
+        ensures adds { OnOk result (Adds line.now self.old self.new) }
     {
         self.lines.extend_from_slice(line.as_slice())?;
         Ok(())

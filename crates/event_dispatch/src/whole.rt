@@ -193,7 +193,7 @@ pub fn serve<W: World, J: Judge, K: Sink>(
 ) -> Served
     ensures continues { Continues W.Tells (W.seen world.old) (W.seen world.new) }
     ensures never_fell { NeverFell (K.faults sink.old) (K.faults sink.new) }
-    // Each end but the whole one has its cause in this call.
+    // Each end but the whole one and want of memory has its cause in this call.
     ensures why { IsWhy (W.seen world.old).counts (W.seen world.new).counts (K.faults sink.old) (K.faults sink.new) result }
 {
     if let Err(served) = open(world) {

@@ -1,7 +1,11 @@
-use Rattle.std.proofs.Common.{sym, subst}
+use Rattle.std.proofs.Common.{refl, sym, ap, subst}
+use Rattle.net_txn.specs.Net.{NetState}
+use Rattle.shown_runs.specs.LastReportLaws.{rows-asked}
 use Rattle.event_dispatch.specs.declared.served.Served.{Served}
+use Rattle.event_dispatch.specs.Shows.{engine_of}
 use Rattle.event_dispatch.specs.Why.{IsWhy}
 use Rattle.event_dispatch.specs.WhyLaws.{asks_why}
+use Rattle.event_dispatch.specs.LastLaws.{net_stays}
 use Rattle.event_dispatch.proofs.run.Run.ask_rows.Goals as goal
 
 -- src/last.rt:81:5
@@ -9,3 +13,13 @@ pub returns-in-Err-clause-why : goal.returns-in-Err-clause-why
 returns-in-Err-clause-why g c =
     subst (λ (s : Served). IsWhy (g.W.World.seen c.args.world.now).counts (g.W.World.seen c.rows.new.world).counts 0 0 s) (sym c.from.ensures)
     (asks_why c.in-Err.fault c.in-Err.ensures.asks)
+
+-- src/last.rt:107:5
+pub returns-in-Ok-clause-asks : goal.returns-in-Ok-clause-asks
+returns-in-Ok-clause-asks g c = record {
+  in_step = c.in-Ok.ensures.in_step;
+  asked = λ told. rows-asked g.W.World.Tells c.args.dpid c.args.self.now.net.xid (g.W.World.seen c.args.world.now) (g.W.World.seen c.rows.new.world) c.args.self.now.net.kept c.rows.new.self.kept c.in-Ok.rows told c.in-Ok.ensures.asks.answer;
+  engine = ap (λ (n : NetState). record (engine_of c.args.self.now) { net = n }) (net_stays c.args.self.now.net c.rows.new.self _ c.in-Ok.ensures.stays);
+  index = refl;
+  lines = refl;
+}

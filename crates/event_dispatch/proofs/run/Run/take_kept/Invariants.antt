@@ -1,9 +1,14 @@
+use Rattle.std.proofs.Common.{◌≡◌}
 use Rattle.outside.specs.Seen.{Continues}
 use Rattle.event_dispatch.specs.Runs.{Waits}
+use Rattle.event_dispatch.specs.Batch.{KeptSoFar}
 use Rattle.event_dispatch.proofs.run.Run.take_kept.Given as goal
 
 abbrev pub invariant-loop-taken : goal.invariant-loop-taken
 invariant-loop-taken g l = record {
   waits : Waits l.fn.self l.self;
+  app : l.self.app ≡ l.fn.self.app;
+  lines : l.self.lines ≡ l.fn.self.lines;
+  kept : KeptSoFar l.taken (g.W.World.seen l.fn.world) (g.W.World.seen l.world) l.fn.self l.self;
   continues : Continues g.W.World.Tells (g.W.World.seen l.fn.world) (g.W.World.seen l.world);
 }

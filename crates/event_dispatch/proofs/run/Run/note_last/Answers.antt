@@ -1,0 +1,25 @@
+use Rattle.std.proofs.Common.{◌∙◌, ℕ, List, get_or, take, sym, subst}
+use Rattle.std.proofs.lemmas.List.{take_more}
+use Rattle.event_dispatch.specs.WhyLaws.{waits_then, continues_then}
+use Rattle.event_dispatch.specs.LastShown.{TablesShown}
+use Rattle.event_dispatch.specs.LastLaws.{take_whole, tables_next, last_shown}
+use Rattle.event_dispatch.proofs.run.Run.note_last.Goals as goal
+
+-- src/last.rt:169:9
+pub loop-dpid-preserved : goal.loop-dpid-preserved
+loop-dpid-preserved g c =
+    let ds = c.deref-dpid-items.result.now in
+    let i = c.loop-dpid.dpid-index in
+    record {
+      waits = waits_then c.args.self.now c.loop-dpid.self c.note_table.new.self c.loop-dpid.invariant.waits c.in_ok-note_table.ensures.waits;
+      continues = continues_then g.W.World.Tells (g.W.World.seen c.args.world.now) (g.W.World.seen c.loop-dpid.world) (g.W.World.seen c.note_table.new.world) c.loop-dpid.invariant.continues c.in_ok-note_table.ensures.continues;
+      shown = subst (λ (xs : List ℕ). TablesShown g.W.World.Tells xs (g.W.World.seen c.args.world.now) (g.W.World.seen c.note_table.new.world) c.args.self.now c.note_table.new.self) (sym (take_more ds i 0 c.loop-dpid-test.true))
+          (tables_next g.W.World.Tells (take i ds) (get_or ds i 0) (g.W.World.seen c.args.world.now) (g.W.World.seen c.loop-dpid.world) (g.W.World.seen c.note_table.new.world) c.args.self.now c.loop-dpid.self c.note_table.new.self
+          c.loop-dpid.invariant.shown c.in_ok-note_table.ensures.continues c.in_ok-note_table.ensures.shown);
+    }
+
+-- src/last.rt:159:5
+pub returns-clause-shown : goal.returns-clause-shown
+returns-clause-shown g c =
+    last_shown c.loop-dpid.invariant.continues (take_whole c.deref-dpid-items.result.now _ c.loop-dpid.dpid-index c.loop-dpid-test.false (c.deref-dpid-items.ensures.value ∙ c.in_ok-switches.ensures)) c.loop-dpid.invariant.shown
+    c.in_ok-note_end.ensures.adds

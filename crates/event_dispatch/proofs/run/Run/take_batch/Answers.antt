@@ -1,0 +1,27 @@
+use Rattle.std.proofs.Common.{subst, ◌∙◌, Option}
+use Rattle.event_dispatch.specs.declared.batch.Rest.{Rest}
+use Rattle.event_dispatch.specs.Batch.{NextTaken}
+use Rattle.event_dispatch.specs.WhyLaws.{continues_then, waits_then}
+use Rattle.event_dispatch.specs.BatchLaws.{batch_goes, batch_ends, batch_too_long}
+use Rattle.event_dispatch.proofs.run.Run.take_batch.Goals as goal
+
+pub returns-in-Some-clause-batch : goal.returns-in-Some-clause-batch
+returns-in-Some-clause-batch g c =
+    batch_ends c.loop-item._item c.in-Some.rest (g.W.World.seen c.args.world.now) (g.W.World.seen c.loop-item.world) (g.W.World.seen c.take_next.new.world) c.args.self.now c.loop-item.self c.take_next.new.self c.loop-item.invariant.goes
+    (subst (λ (rest : Option Rest). NextTaken g.W.World.Tells rest (g.W.World.seen c.loop-item.world) (g.W.World.seen c.take_next.new.world) c.loop-item.self c.take_next.new.self) c.in-Some.is c.in_ok-rest.ensures.taken)
+
+pub returns-clause-batch : goal.returns-clause-batch
+returns-clause-batch g c =
+    batch_too_long c.loop-item._item c.in_ok-left.left (g.W.World.seen c.args.world.now) (g.W.World.seen c.take_kept.new.world) (g.W.World.seen c.loop-item.world) c.args.self.now c.take_kept.new.self c.loop-item.self
+    c.loop-item-test.false c.loop-item.invariant.continues c.in_ok-left.ensures.kept c.loop-item.invariant.goes
+
+pub loop-item-preserved : goal.loop-item-preserved
+loop-item-preserved g c = record {
+  waits = waits_then c.args.self.now c.loop-item.self c.take_next.new.self c.loop-item.invariant.waits c.in_ok-rest.ensures.waits;
+  app = c.in_ok-rest.ensures.app ∙ c.loop-item.invariant.app;
+  lines = c.in_ok-rest.ensures.lines ∙ c.loop-item.invariant.lines;
+  goes = batch_goes c.loop-item._item (g.W.World.seen c.args.world.now) (g.W.World.seen c.loop-item.world) (g.W.World.seen c.take_next.new.world) c.args.self.now c.loop-item.self c.take_next.new.self c.loop-item.invariant.goes
+      (subst (λ (rest : Option Rest). NextTaken g.W.World.Tells rest (g.W.World.seen c.loop-item.world) (g.W.World.seen c.take_next.new.world) c.loop-item.self c.take_next.new.self) c.in_default.is c.in_ok-rest.ensures.taken);
+  buffer = c.in_ok-rest.ensures.buffer ∙ c.loop-item.invariant.buffer;
+  continues = continues_then g.W.World.Tells (g.W.World.seen c.args.world.now) (g.W.World.seen c.loop-item.world) (g.W.World.seen c.take_next.new.world) c.loop-item.invariant.continues c.in_ok-rest.ensures.continues;
+}

@@ -1,0 +1,34 @@
+use Rattle.std.specs.Prelude.{OnOk}
+use Rattle.std.proofs.Common.{subst}
+use Rattle.outside.specs.declared.step.WorldStep.{WorldStep}
+use Rattle.shown_batches.specs.Items.{Handles}
+use Rattle.shown_batches.specs.HandleLaws.{departs_handles, moment_handles}
+use Rattle.event_dispatch.specs.BatchLaws.{from_step, joined_step, left_step, moment_step, rest_handles}
+use Rattle.event_dispatch.proofs.run.Run.take_item.Goals as goal
+
+pub returns-in-From-clause-handles : goal.returns-in-From-clause-handles
+returns-in-From-clause-handles g c =
+    subst
+    (λ (step : WorldStep). OnOk c.take_message.result (Handles g.W.World.Tells step (g.W.World.seen c.args.world.now) (g.W.World.seen c.take_message.new.world) c.args.self.now.net c.take_message.new.self.net c.args.self.now.queue c.take_message.new.self.queue))
+    (from_step c.args.item c.in-From.dpid c.in-From.size c.args.buf.now c.in-From.is) c.take_message.ensures.handles
+
+pub returns-in-Joined-clause-handles : goal.returns-in-Joined-clause-handles
+returns-in-Joined-clause-handles g c =
+    subst
+    (λ (step : WorldStep). OnOk c.take_in.result (Handles g.W.World.Tells step (g.W.World.seen c.args.world.now) (g.W.World.seen c.take_in.new.world) c.args.self.now.net c.take_in.new.self.net c.args.self.now.queue c.take_in.new.self.queue))
+    (joined_step c.args.item c.in-Joined.dpid c.in-Joined.size c.args.buf.now c.in-Joined.is) c.take_in.ensures.handles
+
+pub returns-in_ok-take_out-in-Left-clause-handles : goal.returns-in_ok-take_out-in-Left-clause-handles
+returns-in_ok-take_out-in-Left-clause-handles g c =
+    subst (λ (step : WorldStep). Handles g.W.World.Tells step (g.W.World.seen c.args.world.now) (g.W.World.seen c.args.world.now) c.args.self.now.net c.take_out.new.self.net c.args.self.now.queue c.take_out.new.self.queue)
+    (left_step c.args.item c.in-Left.dpid c.args.buf.now c.in-Left.is)
+    (departs_handles c.in-Left.dpid (g.W.World.seen c.args.world.now) c.args.self.now.net c.take_out.new.self.net c.args.self.now.queue c.take_out.new.self.queue c.in_ok-take_out-in-Left.ensures.departs)
+
+pub returns-in-Moment-clause-handles : goal.returns-in-Moment-clause-handles
+returns-in-Moment-clause-handles g c =
+    subst (λ (step : WorldStep). Handles g.W.World.Tells step (g.W.World.seen c.args.world.now) (g.W.World.seen c.args.world.now) c.args.self.now.net c.set_moment.new.self c.args.self.now.queue c.args.self.now.queue)
+    (moment_step c.args.item c.in-Moment.moment c.args.buf.now c.in-Moment.is)
+    (moment_handles c.in-Moment.moment (g.W.World.seen c.args.world.now) c.args.self.now.net c.set_moment.new.self c.args.self.now.queue c.set_moment.ensures)
+
+pub returns-in-Idle-clause-handles : goal.returns-in-Idle-clause-handles
+returns-in-Idle-clause-handles g c = rest_handles c.args.item c.args.buf.now (g.W.World.seen c.args.world.now) c.args.self.now.net c.args.self.now.queue c.in-Idle.is

@@ -1,0 +1,44 @@
+use Rattle.std.proofs.Common.{sym, ap, inl, inr}
+use Rattle.event_dispatch.specs.Batch.{rest_by}
+use Rattle.event_dispatch.specs.WhyLaws.{continues_then}
+use Rattle.event_dispatch.specs.BatchLaws.{rest_handles, no_rest}
+use Rattle.event_dispatch.proofs.run.Run.take_next.Goals as goal
+
+pub returns-in-Idle-clause-taken : goal.returns-in-Idle-clause-taken
+returns-in-Idle-clause-taken g c = record {
+  item = c.in_ok-item.item;
+  takes = record {
+    mid = g.W.World.seen c.next_item.new.world;
+    buf = c.next_item.new.buf;
+    nexts = c.in_ok-item.ensures.nexts;
+    handles = rest_handles c.in_ok-item.item c.next_item.new.buf (g.W.World.seen c.next_item.new.world) c.args.self.now.net c.args.self.now.queue (inl c.in-Idle.is);
+  };
+  rest_so = sym (ap rest_by c.in-Idle.is);
+}
+
+pub returns-in-End-clause-taken : goal.returns-in-End-clause-taken
+returns-in-End-clause-taken g c = record {
+  item = c.in_ok-item.item;
+  takes = record {
+    mid = g.W.World.seen c.next_item.new.world;
+    buf = c.next_item.new.buf;
+    nexts = c.in_ok-item.ensures.nexts;
+    handles = rest_handles c.in_ok-item.item c.next_item.new.buf (g.W.World.seen c.next_item.new.world) c.args.self.now.net c.args.self.now.queue (inr c.in-End.is);
+  };
+  rest_so = sym (ap rest_by c.in-End.is);
+}
+
+pub returns-in_ok-take_item-in_default : goal.returns-in_ok-take_item-in_default
+returns-in_ok-take_item-in_default g c = record {
+  waits = c.in_ok-take_item-in_default.ensures.waits;
+  app = c.in_ok-take_item-in_default.ensures.app;
+  lines = c.in_ok-take_item-in_default.ensures.lines;
+  continues = continues_then g.W.World.Tells (g.W.World.seen c.args.world.now) (g.W.World.seen c.next_item.new.world) (g.W.World.seen c.take_item.new.world) c.in_ok-item.ensures.continues c.in_ok-take_item-in_default.ensures.continues;
+  why = tt;
+  buffer = c.in_ok-item.ensures.buffer;
+  taken = record {
+    item = c.in_ok-item.item;
+    takes = record { mid = g.W.World.seen c.next_item.new.world; buf = c.next_item.new.buf; nexts = c.in_ok-item.ensures.nexts; handles = c.in_ok-take_item-in_default.ensures.handles };
+    rest_so = no_rest c.in_ok-item.item c.in_default.not-Idle c.in_default.not-End;
+  };
+}

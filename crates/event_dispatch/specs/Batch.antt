@@ -1,0 +1,64 @@
+-- What a batch does in a world that tells and keeps its word. All of this is our own.
+use Rattle.std.specs.Prelude.{◌≡◌, ℕ, Bool, true, false, [], Option, Some, None}
+use Rattle.of_types.specs.declared.journal.WorldStim.{WorldStim}
+use Rattle.of_wire.specs.declared.fault.WireFault.{WireFault}
+use Rattle.of_wire.specs.declared.fault.WireFault.TheVariants.{NoMemory}
+use Rattle.outside.specs.declared.item.Item.{Item}
+use Rattle.outside.specs.declared.item.Item.TheVariants as items
+use Rattle.outside.specs.Seen.{Seen}
+use Rattle.outside.specs.Conforming.{Conforming}
+use Rattle.shown_batches.specs.Calm.{Calm}
+use Rattle.shown_batches.specs.Batches.{Standing}
+use Rattle.shown_batches.specs.Items.{TakesNext}
+use Rattle.shown_batches.specs.InBatch.{BatchDone, BatchOver, SoFar}
+use Rattle.event_dispatch.specs.declared.batch.Rest.{Rest}
+use Rattle.event_dispatch.specs.declared.batch.Rest.TheVariants as rests
+use Rattle.event_dispatch.specs.declared.run.Run.{Run}
+
+abbrev pub standing_of : {Own : Type 0} → Seen Own → Run → Standing Own
+standing_of seen run = record { seen = seen; net = run.net; queue = run.queue }
+
+-- ---- Why bytes were not read
+
+abbrev pub of_memory : WireFault → Bool
+of_memory NoMemory = true
+of_memory other = false
+
+-- ---- What was told next
+
+abbrev pub rest_by : Item → Option Rest
+rest_by items.Idle = Some rests.Idle
+rest_by items.End = Some rests.End
+rest_by other = None
+
+pub record NextTaken {Own : Type 0} (Tells : Type 0) (rest : Option Rest) (old new : Seen Own) (run now_run : Run) : Type 0 where
+  pub item : Item
+  pub takes : TakesNext Tells item old new run.net now_run.net run.queue now_run.queue
+  pub rest_so : rest ≡ rest_by item
+
+-- ---- The messages that were kept: where there is none, nothing is done
+
+abbrev pub IsAsBefore : {Own : Type 0} → Seen Own → Seen Own → Run → Run → Type 0
+IsAsBefore old new run now_run = (new ≡ old) × (now_run.net ≡ run.net) × (now_run.queue ≡ run.queue)
+
+-- after so many of them
+pub record KeptSoFar {Own : Type 0} (n : ℕ) (old new : Seen Own) (run now_run : Run) : Type 0 where
+  pub none : run.net.kept ≡ [] → (n ≡ 0) × IsAsBefore old new run now_run
+
+-- and then, with how many items the batch can still have
+pub record TakesKept {Own : Type 0} (left : ℕ) (old new : Seen Own) (run now_run : Run) : Type 0 where
+  pub none : run.net.kept ≡ [] → (left ≡ 1000000) × IsAsBefore old new run now_run
+
+-- ---- A batch, after so many items
+
+pub record BatchGoes {Own : Type 0} (Tells : Type 0) (n : ℕ) (old new : Seen Own) (run now_run : Run) : Type 0 where
+  pub so_far : Tells → Conforming new → Calm old run.net → SoFar n (standing_of old run) (standing_of new now_run)
+
+-- ---- A batch that is over: one stimulus was begun and its items were told, or nothing is to come
+
+abbrev pub BatchBy : {Own : Type 0} → Rest → Standing Own → Standing Own → Type 0
+BatchBy rests.Idle first now = (x : WorldStim) × BatchDone x first now
+BatchBy rests.End first now = BatchOver first now
+
+pub record BatchShown {Own : Type 0} (Tells : Type 0) (rest : Rest) (old new : Seen Own) (run now_run : Run) : Type 0 where
+  pub shown : Tells → Conforming new → Calm old run.net → BatchBy rest (standing_of old run) (standing_of new now_run)

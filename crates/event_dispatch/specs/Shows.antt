@@ -1,0 +1,23 @@
+-- What the engine does, in the words of what is seen and kept: the text that it notes, and how the run stands then. All of this is our own.
+use Rattle.std.specs.Prelude.{◌≡◌, ℕ, List, ◌++◌}
+use Rattle.shown_runs.specs.Engine.{Engine}
+use Rattle.event_dispatch.specs.declared.run.Run.{Run}
+
+abbrev pub engine_of : Run → Engine
+engine_of r = record {
+  net = r.net;
+  queue = r.queue;
+  events = r.events;
+  alive = r.app.state.alive;
+  rest = r.app.state.rest;
+  done = r.app.done;
+  failed = r.app.failed;
+}
+
+-- ---- The text that is noted
+
+-- text is noted, and nothing else happens
+pub record Adds (text : List ℕ) (r now_r : Run) : Type 0 where
+  pub engine : engine_of now_r ≡ engine_of r
+  pub index : now_r.app.state.index ≡ r.app.state.index
+  pub lines : now_r.lines.items ≡ r.lines.items ++ text
