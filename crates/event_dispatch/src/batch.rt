@@ -1,6 +1,7 @@
 //! A batch: what comes up to the next rest of the outside, and the events that it makes.
 
 ghost use Rattle.std.specs.Prelude.{◌≡◌, ◌≤◌, length, true, false, Ok, None, IsSome, IfOk, IfErr, OnOk, [], ◌∷◌, ◌++◌};
+ghost use Rattle.of_types.specs.Fields.{IsBytes};
 ghost use Rattle.outside.specs.declared.step.WorldStep.TheVariants.{From, Joined};
 ghost use Rattle.outside.specs.Seen.{Continues};
 ghost use Rattle.outside.specs.Calls.{most_message, item_step, IsItemIn, Nexts};
@@ -75,6 +76,7 @@ fn next_item<W: World>(world: &mut W, buf: &mut [u8]) -> Result<Item, Served>
     ensures continues { Continues W.Tells (W.seen world.old) (W.seen world.new) }
     ensures why { IfErr result (IsWhy (W.seen world.old).counts (W.seen world.new).counts 0 0) }
     ensures buffer { length buf.new ≡ length buf.old }
+    ensures bytes { IsBytes buf.new }
     ensures nexts { IfOk result (λ item. Nexts W.Tells (W.seen world.old) (W.seen world.new) (Ok item) buf.new) }
 {
     match world.next(buf) {

@@ -14,6 +14,7 @@ use Rattle.outside.specs.State.{State, after_stim, upcoming, state, switch_of, w
 use Rattle.outside.specs.Conforming.{MayBegin}
 use Rattle.shown_batches.specs.Knowledge.{knowledge_of, handled_all}
 use Rattle.shown_batches.specs.Batches.{Standing}
+use Rattle.shown_batches.specs.TellLaws.{FitsItem}
 
 -- ---- What of a state no item moves
 
@@ -43,6 +44,7 @@ pub record InBatch {Own : Type 0} (x : WorldStim) (n : ℕ) (first now : Standin
   pub told : List WorldStep
   pub count : length told ≡ n
   pub read : AllByRecursion IsReadable told
+  pub fits : AllByRecursion FitsItem told
   pub order : told ++ upcoming (state now.seen) ≡ upcoming (after_stim x (state first.seen))
   pub knowledge : handled_all (upcoming (state now.seen)) (knowledge_of now.net now.queue) ≡ handled_all (upcoming (after_stim x (state first.seen))) (knowledge_of first.net first.queue)
   pub kept : now.net.kept ≡ []
@@ -53,7 +55,8 @@ pub record InBatch {Own : Type 0} (x : WorldStim) (n : ℕ) (first now : Standin
 
 -- ---- When it is over
 
--- Idle was told: all items of the stimulus were told and could be read, and the engine knows what they make of what it knew.
+-- Idle was told: all items of the stimulus were told, could be read and say numbers that fit, and the engine knows what they make of what
+-- it knew.
 pub record BatchDone {Own : Type 0} (x : WorldStim) (first now : Standing Own) : Type 0 where
   pub given : now.seen.given ≡ first.seen.given
   pub began : MayBegin first.seen.given.declared x (state first.seen)
@@ -63,6 +66,7 @@ pub record BatchDone {Own : Type 0} (x : WorldStim) (first now : Standing Own) :
   pub waits : (d : ℕ) → waits_of d (state now.seen) ≡ []
   pub switches : (d : ℕ) → switch_of d (state now.seen) ≡ switch_of d (after_stim x (state first.seen))
   pub read : AllByRecursion IsReadable (upcoming (after_stim x (state first.seen)))
+  pub fits : AllByRecursion FitsItem (upcoming (after_stim x (state first.seen)))
   pub knowledge : knowledge_of now.net now.queue ≡ handled_all (upcoming (after_stim x (state first.seen))) (knowledge_of first.net first.queue)
   pub kept : now.net.kept ≡ []
   pub log : now.net.log ≡ first.net.log

@@ -6,6 +6,8 @@ use Rattle.std.proofs.Common.{sym, ap, ap₂, ◌∙◌, subst, arith, inl, inr,
 use Rattle.std.proofs.lemmas.Bool.{cases_Bool, eqb-true, eqb-false}
 use Rattle.std.proofs.lemmas.List.{append-nil}
 use Rattle.std.proofs.lemmas.List.Elements.{filter-append}
+use Rattle.of_types.specs.Fields.{IsBytes}
+use Rattle.of_types.specs.FieldLaws.{IsBytes-take}
 use Rattle.of_types.specs.declared.journal.Act.{Act}
 use Rattle.of_types.specs.declared.journal.Act.TheVariants.{Stim}
 use Rattle.of_types.specs.declared.journal.WorldStim.{WorldStim}
@@ -31,6 +33,8 @@ use Rattle.shown_batches.specs.Knowledge.{Knowledge, knowledge_of, handled, hand
 use Rattle.shown_batches.specs.Calm.{Calm}
 use Rattle.shown_batches.specs.Batches.{Standing}
 use Rattle.shown_batches.specs.Items.{Handles, TakesNext}
+use Rattle.shown_batches.specs.TellLaws.{FitsItem}
+use Rattle.shown_batches.specs.StimulusLaws.{bytes-fit}
 use Rattle.shown_batches.specs.ItemLaws.{waiting, links_ascend, told_first, none_waiting, none_waits, Fresh, IsFresh, IsItem, item_done}
 use Rattle.shown_batches.specs.InBatch.{SameBesides, IsReadable, InBatch, BatchDone, BatchOver, SoFar, GoesOn}
 
@@ -348,6 +352,16 @@ all_more P (y ∷ ys) x all last = (all.0, all_more P ys x all.1 last)
 abbrev pub standing : {Own : Type 0} → Seen Own → NetState → List Event → Standing Own
 standing seen net queue = record { seen = seen; net = net; queue = queue }
 
+-- the numbers of an item whose bytes stand in a buffer of bytes
+item_fits : (item : Item) (buf : List ℕ) → IsBytes buf → FitsItem (item_step item buf)
+unfolding item_step
+item_fits (items.From d k) buf fit = bytes-fit d (take k buf) (IsBytes-take k buf fit)
+item_fits (items.Joined d k) buf fit = tt
+item_fits (items.Left d) buf fit = tt
+item_fits (items.Moment t) buf fit = tt
+item_fits items.Idle buf fit = tt
+item_fits items.End buf fit = tt
+
 -- it was told as the next, and the engine did with it what it does
 record Later {Own : Type 0} (Tells : Type 0) (item : WorldStep) (now : Standing Own) (mid new : Seen Own) (net : NetState) (queue : List Event) : Type 0 where
   told : Tells
@@ -356,6 +370,7 @@ record Later {Own : Type 0} (Tells : Type 0) (item : WorldStep) (now : Standing 
   given : mid.given ≡ now.seen.given
   longer : mid.history ≡ now.seen.history ++ item ∷ []
   may : MayStep now.seen.given.declared item (state now.seen)
+  fits : FitsItem item
   handles : Handles Tells item mid new now.net net now.queue queue
 
 mid_state : {Own Tells : Type 0} {item : WorldStep} {now : Standing Own} {mid new : Seen Own} {net : NetState} {queue : List Event} → Later Tells item now mid new net queue → state mid ≡ after_step item (state now.seen)
@@ -377,6 +392,7 @@ one_more {x = x} {n = n} {first = first} {now = now} {item = item} {mid = mid} {
       told = batch.told ++ item ∷ [];
       count = length-append batch.told (item ∷ []) ∙ ap (λ (k : ℕ). k + 1) batch.count;
       read = all_more IsReadable batch.told item batch.read told.readable;
+      fits = all_more FitsItem batch.told item batch.fits later.fits;
       order = ap (λ (xs : List WorldStep). (batch.told ++ item ∷ []) ++ xs) leaves.upcoming_so ∙ append_assoc batch.told (item ∷ []) (upcoming (state mid))
           ∙ ap (λ (xs : List WorldStep). batch.told ++ xs) (sym told.first) ∙ batch.order;
       knowledge = ap₂ (λ (xs : List WorldStep) (k : Knowledge). handled_all xs k) leaves.upcoming_so later.handles.knowledge
@@ -482,6 +498,7 @@ told_idle {x = x} {first = first} {now = now} {mid = mid} {new = new} batch late
       waits = λ d. (nothing_waits d (state new) after).1;
       switches = λ d. leaves.switches d ∙ ap (switch_of d) is ∙ idle_switch d s ∙ batch.switches d;
       read = subst (λ (xs : List WorldStep). AllByRecursion IsReadable xs) all batch.read;
+      fits = subst (λ (xs : List WorldStep). AllByRecursion FitsItem xs) all batch.fits;
       knowledge = later.handles.knowledge ∙ handled_idle (knowledge_of now.net now.queue) ∙ sym (ap (λ (xs : List WorldStep). handled_all xs (knowledge_of now.net now.queue)) none) ∙ batch.knowledge;
       kept = done.kept;
       log = later.handles.log ∙ batch.log;
@@ -546,6 +563,7 @@ begins x first still may =
       told = [];
       count = refl;
       read = tt;
+      fits = tt;
       order = ap upcoming same;
       knowledge = ap (λ (s : State). handled_all (upcoming s) (knowledge_of first.net first.queue)) same;
       kept = still.kept;
@@ -639,6 +657,7 @@ first_told {first = first} {new = new} item (Some x) told keeps still takes is =
       given = takes.nexts.given;
       longer = behind;
       may = (Conforming-rest now.seen mid (step ∷ []) takes.nexts.given behind kept).0;
+      fits = item_fits item takes.buf takes.fit;
       handles = takes.handles;
     })
 
@@ -658,6 +677,7 @@ next_told {now = now} {new = new} item None told keeps still batch takes is =
       given = takes.nexts.given;
       longer = longer;
       may = (Conforming-rest now.seen mid (step ∷ []) takes.nexts.given longer kept).0;
+      fits = item_fits item takes.buf takes.fit;
       handles = takes.handles;
     })
 next_told {now = now} {new = new} item (Some y) told keeps still batch takes is =

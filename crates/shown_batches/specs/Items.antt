@@ -114,9 +114,10 @@ pub record Handles {Own : Type 0} (Tells : Type 0) (item : WorldStep) (old new :
   pub room : now_net.room ≡ net.room
   pub does : Does Tells item old new net now_net
 
--- The outside told an item, and the engine did this with it.
+-- The outside told an item, whose bytes stand in a buffer of bytes, and the engine did this with it.
 pub record TakesNext {Own : Type 0} (Tells : Type 0) (item : Item) (old new : Seen Own) (net now_net : NetState) (queue now_queue : List Event) : Type 0 where
   pub mid : Seen Own
   pub buf : List ℕ
+  pub fit : IsBytes buf
   pub nexts : Nexts Tells old mid (Ok item) buf
   pub handles : Handles Tells (item_step item buf) mid new net now_net queue now_queue

@@ -1,7 +1,6 @@
 -- A batch in a world that keeps its word is what the reference controller makes of its stimulus.
 use Rattle.std.proofs.Common.{◌≡◌, ℕ, List, [], ◌∷◌, ◌++◌, map, filter, Option, None, refl, sym, ap, ap₂, ◌∙◌, subst}
 use Rattle.std.specs.Option.{option_map}
-use Rattle.std.specs.List.{AllByRecursion}
 use Rattle.std.proofs.lemmas.List.{append-nil, map-append}
 use Rattle.of_types.specs.declared.journal.Act.{Act}
 use Rattle.of_types.specs.declared.journal.WorldStim.{WorldStim}
@@ -14,7 +13,7 @@ use Rattle.lego_model.specs.Places.{Place}
 use Rattle.lego_model.specs.Controller.{Quiet, Run, quiet_of, moment_after, places_after, events_after, ports_of, happen}
 use Rattle.lego_model.specs.Agreement.{AgreeQuiet, AgreeQuiets}
 use Rattle.outside.specs.Seen.{Given, Seen, journal}
-use Rattle.outside.specs.State.{Mark, State, mark_of, after_stim, upcoming, state, switch_of, waits_of}
+use Rattle.outside.specs.State.{Mark, State, mark_of, after_stim, state, switch_of, waits_of}
 use Rattle.outside.specs.Conforming.{Conforming}
 use Rattle.net_txn.specs.Net.{NetState}
 use Rattle.shown_switches.specs.Shown.{shown_places}
@@ -23,7 +22,6 @@ use Rattle.journal_readings.specs.Readings.{starts_in, replies_in, LastStands}
 use Rattle.journal_readings.specs.CallLaws.{inputs_own}
 use Rattle.shown_batches.specs.Knowledge.{knowledge_of}
 use Rattle.shown_batches.specs.Calm.{Calm}
-use Rattle.shown_batches.specs.TellLaws.{FitsItem}
 use Rattle.shown_batches.specs.InBatch.{BatchDone, BatchOver}
 use Rattle.shown_batches.specs.HistoryLaws.{links-declared}
 use Rattle.shown_batches.specs.StimulusLaws.{StimulusHandled, stimulus-handled}
@@ -118,11 +116,11 @@ happen-text x r = sym (append-nil (text_of r))
 
 -- with a stimulus
 pub batch-happens : {Own : Type 0} (x : WorldStim) (old new : Seen Own) (net now_net : NetState) (queue now_queue : List Event) (e : Engine) → Conforming old → Conforming new → Settled old e → e.net ≡ net → e.queue ≡ queue
-    → BatchDone x (record { seen = old; net = net; queue = queue }) (record { seen = new; net = now_net; queue = now_queue }) → AllByRecursion FitsItem (upcoming (after_stim x (state old)))
+    → BatchDone x (record { seen = old; net = net; queue = queue }) (record { seen = new; net = now_net; queue = now_queue })
     → OneHappens old new e (engine_then e now_net now_queue)
-batch-happens x old new net now_net queue now_queue e keeps_old keeps settled same_net same_queue done fits =
+batch-happens x old new net now_net queue now_queue e keeps_old keeps settled same_net same_queue done =
     let calm : Calm old net = subst (λ (n : NetState). Calm old n) same_net settled.calm in
-    let h = subst (StimulusHandled x old net queue) (sym done.knowledge) (stimulus-handled x old net queue keeps_old calm done.began.stimulus fits) in
+    let h = subst (StimulusHandled x old net queue) (sym done.knowledge) (stimulus-handled x old net queue keeps_old calm done.began.stimulus done.fits) in
     let own : own_acts new ≡ own_acts old = done.acts index in
     record {
       stimulus = x;

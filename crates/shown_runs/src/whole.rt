@@ -1,16 +1,13 @@
 //! Laws of whole runs, each the contract of a function that does nothing.
 
 ghost use Rattle.std.specs.Prelude.{◌≡◌, ℕ, ◌+◌, ◌^◌, ◌<◌, Bool, List, [], ◌∷◌, length, Option};
-ghost use Rattle.std.specs.List.{AllByRecursion};
 ghost use Rattle.of_types.specs.declared.journal.WorldStim.{WorldStim};
 ghost use Rattle.flow_table.specs.declared.view.TableView.{TableView};
 ghost use Rattle.app_frames.specs.declared.frame.Event.{Event};
 ghost use Rattle.lego_model.specs.Places.{Place};
 ghost use Rattle.outside.specs.Seen.{Seen, Continues};
-ghost use Rattle.outside.specs.State.{state, after_stim, upcoming};
 ghost use Rattle.outside.specs.Conforming.{Conforming};
 ghost use Rattle.net_txn.specs.Net.{NetState};
-ghost use Rattle.shown_batches.specs.TellLaws.{FitsItem};
 ghost use Rattle.shown_batches.specs.InBatch.{BatchDone, BatchOver};
 ghost use Rattle.shown_runs.specs.Engine.{Engine, stimuli_in};
 ghost use Rattle.shown_runs.specs.Facts.{Dispatches};
@@ -29,7 +26,7 @@ pub fn batches_move<W: World>()
     ensures happens { (x : WorldStim) (old new : Seen W.Own) (net now_net : NetState) (queue now_queue : List Event) (e : Engine) → Conforming old
         → Conforming new → Settled old e → e.net ≡ net → e.queue ≡ queue
         → BatchDone x (record { seen = old; net = net; queue = queue }) (record { seen = new; net = now_net; queue = now_queue })
-        → AllByRecursion FitsItem (upcoming (after_stim x (state old))) → OneHappens old new e (engine_then e now_net now_queue) }
+        → OneHappens old new e (engine_then e now_net now_queue) }
     ensures over { (old new : Seen W.Own) (net now_net : NetState) (queue now_queue : List Event) (e : Engine) → Settled old e → e.net ≡ net
         → e.queue ≡ queue → BatchOver (record { seen = old; net = net; queue = queue }) (record { seen = new; net = now_net; queue = now_queue })
         → Moved [] (λ r. r) [] old new e (engine_then e now_net now_queue) }

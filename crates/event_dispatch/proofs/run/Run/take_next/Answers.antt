@@ -10,6 +10,7 @@ returns-in-Idle-clause-taken g c = record {
   takes = record {
     mid = g.W.World.seen c.next_item.new.world;
     buf = c.next_item.new.buf;
+    fit = c.in_ok-item.ensures.bytes;
     nexts = c.in_ok-item.ensures.nexts;
     handles = rest_handles c.in_ok-item.item c.next_item.new.buf (g.W.World.seen c.next_item.new.world) c.args.self.now.net c.args.self.now.queue (inl c.in-Idle.is);
   };
@@ -22,6 +23,7 @@ returns-in-End-clause-taken g c = record {
   takes = record {
     mid = g.W.World.seen c.next_item.new.world;
     buf = c.next_item.new.buf;
+    fit = c.in_ok-item.ensures.bytes;
     nexts = c.in_ok-item.ensures.nexts;
     handles = rest_handles c.in_ok-item.item c.next_item.new.buf (g.W.World.seen c.next_item.new.world) c.args.self.now.net c.args.self.now.queue (inr c.in-End.is);
   };
@@ -38,7 +40,7 @@ returns-in_ok-take_item-in_default g c = record {
   buffer = c.in_ok-item.ensures.buffer;
   taken = record {
     item = c.in_ok-item.item;
-    takes = record { mid = g.W.World.seen c.next_item.new.world; buf = c.next_item.new.buf; nexts = c.in_ok-item.ensures.nexts; handles = c.in_ok-take_item-in_default.ensures.handles };
+    takes = record { mid = g.W.World.seen c.next_item.new.world; buf = c.next_item.new.buf; fit = c.in_ok-item.ensures.bytes; nexts = c.in_ok-item.ensures.nexts; handles = c.in_ok-take_item-in_default.ensures.handles };
     rest_so = no_rest c.in_ok-item.item c.in_default.not-Idle c.in_default.not-End;
   };
 }
