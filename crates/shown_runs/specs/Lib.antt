@@ -11,6 +11,7 @@ pub mod Promise
 pub mod Endings
 pub mod FinishLaws
 pub mod EndingLaws
+pub mod LeaveLaws
 pub mod BatchMoveLaws
 pub mod LastReport
 pub mod LastReportLaws

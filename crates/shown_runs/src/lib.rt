@@ -6,4 +6,4 @@ mod events;
 mod whole;
 
 pub use events::{events_move, starts_move, turns_move};
-pub use whole::{batches_move, oldest_events_move, runs_are_the_references};
+pub use whole::{batches_move, ends_leave, oldest_events_move, runs_are_the_references};

@@ -6,17 +6,18 @@ ghost use Rattle.flow_table.specs.declared.view.TableView.{TableView};
 ghost use Rattle.app_frames.specs.declared.frame.Event.{Event};
 ghost use Rattle.lego_model.specs.Places.{Place};
 ghost use Rattle.outside.specs.Seen.{Seen, Continues};
+ghost use Rattle.outside.specs.Calls.{Ends};
 ghost use Rattle.outside.specs.Conforming.{Conforming};
 ghost use Rattle.net_txn.specs.Net.{NetState};
 ghost use Rattle.shown_batches.specs.InBatch.{BatchDone, BatchOver};
-ghost use Rattle.shown_runs.specs.Engine.{Engine, stimuli_in};
+ghost use Rattle.shown_runs.specs.Engine.{Engine, index, stimuli_in};
 ghost use Rattle.shown_runs.specs.Facts.{Dispatches};
 ghost use Rattle.shown_runs.specs.Readings.{JudgesAlike};
 ghost use Rattle.shown_runs.specs.Moves.{Settled, Moved, Shown, OneHappens, dispatch_next};
 ghost use Rattle.shown_runs.specs.BatchMoveLaws.{engine_then};
 ghost use Rattle.shown_runs.specs.FirstLaws.{IsOpened, engine_at_first};
 ghost use Rattle.shown_runs.specs.Promise.{most_rounds, EndsAlike, LeavesAlike};
-ghost use Rattle.shown_runs.specs.Endings.{RanOut, RanFull};
+ghost use Rattle.shown_runs.specs.Endings.{Leaves, RanOut, RanFull};
 
 use outside::World;
 
@@ -37,6 +38,13 @@ pub fn oldest_events_move<W: World>()
     ensures { (accepts : List TableView → Bool) (event : Event) (queue : List Event) (text : List ℕ) (old new : Seen W.Own) (e now_e : Engine)
         → Continues W.Tells old new → e.events + 1 < 2 ^ 64 → e.queue ≡ event ∷ queue
         → Dispatches W.Tells accepts event text old new (record e { queue = queue }) now_e → Shown W.Tells accepts [] dispatch_next text old new e now_e }
+{}
+
+/// In a world that tells, the end of the application leaves what the world told of the run; and where two parts leave it, one
+/// after the other, both together do.
+pub fn ends_leave<W: World>()
+    ensures end { (old new : Seen W.Own) → W.Tells → Ends W.Tells index old new → Leaves old new }
+    ensures both { (old mid new : Seen W.Own) → Leaves old mid → Leaves mid new → Leaves old new }
 {}
 
 /// Of a world that was just opened and that keeps its word: a run whose parts are those of the reference controller is the run
