@@ -29,6 +29,8 @@ use Rattle.shown_switches.specs.ClockLaws.{switch-in_time, moment-within}
 use Rattle.shown_runs.specs.Engine.{Engine}
 use Rattle.shown_runs.specs.LastReport.{SameKeys, flow_lines, table_lines, shown_text, engine_end, OnlyAsked}
 use Rattle.shown_runs.specs.LastReportLaws.{keys-same, table-shown, joined-with, out-with, places-shown, asked-nothing, asked-then}
+use Rattle.shown_runs.specs.Endings.{Leaves}
+use Rattle.shown_runs.specs.LeaveLaws.{asked-leaves}
 use Rattle.event_dispatch.specs.declared.run.Run.{Run}
 use Rattle.event_dispatch.specs.Shows.{engine_of, Adds}
 use Rattle.event_dispatch.specs.LastShown.{FindsFlags, FlowsSoFar, TableSaid, AsksShown, Says, TableShown, TablesShown, LastShown}
@@ -207,6 +209,10 @@ says_then first rest old mid new a b c one two = record {
   waits = two.waits;
   asked = asked-then old mid new one.asked two.asked;
 }
+
+-- and what it leaves
+pub says_leaves : {Own : Type 0} {text : List ℕ} {old new : Seen Own} {r now_r : Run} → Says text old new r now_r → Leaves old new
+says_leaves {old = old} {new = new} says = asked-leaves old new says.asked says.switches
 
 pub tables_none : {Own : Type 0} (Tells : Type 0) (seen : Seen Own) (r : Run) → TablesShown Tells [] seen seen r r
 tables_none Tells seen r = record { shown = λ told keeps ready sound. record { lines = sym (nothing_more r.lines.items); engine = refl; index = refl; switches = λ d. refl; waits = ready.waits; asked = asked-nothing seen } }
