@@ -1,20 +1,15 @@
 -- Laws of endings: what a whole run promises follows of its parts.
-use Rattle.std.proofs.Common.{◌≡◌, ℕ, ◌+◌, ◌<◌, Bool, List, [], ◌++◌, length, Option, Some, None, refl, sym, ap, ◌∙◌, subst, arith}
+use Rattle.std.proofs.Common.{◌≡◌, ℕ, ◌<◌, Bool, List, [], ◌++◌, length, Option, Some, None, refl, sym, ap, ◌∙◌, subst}
 use Rattle.std.specs.Io.KnownBytes.{append_known}
-use Rattle.std.proofs.lemmas.List.{append_assoc, length-append}
-use Rattle.of_types.specs.declared.journal.WorldStim.{WorldStim}
+use Rattle.std.proofs.lemmas.List.{append_assoc}
 use Rattle.flow_table.specs.declared.view.TableView.{TableView}
-use Rattle.of_types.specs.declared.journal.Act.{Act}
-use Rattle.lego_model.specs.Journal.{stimuli}
-use Rattle.lego_model.specs.JournalLaws.{stimuli-append}
 use Rattle.lego_model.specs.Places.{Place}
 use Rattle.lego_model.specs.Controller.{settle}
-use Rattle.outside.specs.declared.step.WorldStep.{WorldStep}
-use Rattle.outside.specs.Seen.{Seen, Continues, journal}
-use Rattle.outside.specs.SeenLaws.{journal-append}
+use Rattle.outside.specs.Seen.{Seen, Continues}
 use Rattle.outside.specs.Conforming.{Conforming}
 use Rattle.outside.specs.StateLaws.{Conforming-before}
 use Rattle.shown_runs.specs.Engine.{Engine, stimuli_in}
+use Rattle.shown_runs.specs.StimuliLaws.{fewer-before}
 use Rattle.shown_runs.specs.Readings.{JudgesAlike}
 use Rattle.shown_runs.specs.Moves.{rounds, ShownToEnd}
 use Rattle.shown_runs.specs.MoveLaws.{moved-then}
@@ -56,20 +51,10 @@ leaves-then a b c m n = record {
 
 -- ---- Of a world that was opened
 
--- stimuli are never fewer later
-fewer : {Own : Type 0} (Tells : Type 0) (most : ℕ) (a b : Seen Own) → Tells → Continues Tells a b → length (stimuli_in b) < most → length (stimuli_in a) < most
-fewer Tells most a b told later few =
-    let steps = (later.told told).0 in
-    let longer : stimuli_in b ≡ stimuli_in a ++ stimuli (journal steps) =
-    ap (λ (h : List WorldStep). stimuli (journal h)) (later.told told).1 ∙ ap (λ (j : List Act). stimuli j) (journal-append a.history steps) ∙ stimuli-append (journal a.history) (journal steps) in
-    let sum : length (stimuli_in b) ≡ length (stimuli_in a) + length (stimuli (journal steps)) =
-    ap (λ (xs : List WorldStim). length xs) longer ∙ length-append (stimuli_in a) (stimuli (journal steps)) in
-    omega (arith, sum, few)
-
 pub ran-out : {Own : Type 0} (Tells : Type 0) (accepts : List TableView → Bool) (allows : List Place → Bool) (contents now_contents : Option (List ℕ)) (old new : Seen Own) (e : Engine) → Tells → Conforming new → JudgesAlike Own allows accepts → IsOpened old
     → length (stimuli_in new) < most_rounds → RanOut Tells accepts most_rounds contents now_contents old new engine_at_first e → EndsAlike allows new contents now_contents e.events
 ran-out Tells accepts allows contents now_contents old new e told keeps judges opened few out =
-    let few_last = fewer Tells most_rounds out.last new told out.later few in
+    let few_last = fewer-before Tells out.last new told out.later few in
     let moved = out.whole_so.whole_so allows told (Conforming-before told out.later keeps) judges (settled-first old opened) few_last in
     let done = out.finish.shown told keeps moved.moved.settled.calm in
     ends-alike allows out.text out.last new e contents now_contents keeps done.leaves (ran allows moved.stimuli out.text old out.last e opened moved.moved.moves) out.none_left
@@ -78,7 +63,7 @@ ran-out Tells accepts allows contents now_contents old new e told keeps judges o
 pub ran-full : {Own : Type 0} (Tells : Type 0) (accepts : List TableView → Bool) (allows : List Place → Bool) (left : ℕ) (contents now_contents : Option (List ℕ)) (old new : Seen Own) → Tells → Conforming new → JudgesAlike Own allows accepts → IsOpened old
     → length (stimuli_in new) < most_rounds → RanFull Tells accepts most_rounds left contents now_contents old new engine_at_first → LeavesAlike allows new contents now_contents left
 ran-full Tells accepts allows left contents now_contents old new told keeps judges opened few full =
-    let few_last = fewer Tells most_rounds full.last new told full.later few in
+    let few_last = fewer-before Tells full.last new told full.later few in
     let moved = full.whole_so.whole_so allows told (Conforming-before told full.later keeps) judges (settled-first old opened) few_last in
     subst (λ (n : ℕ). LeavesAlike allows new contents now_contents n) (sym full.left_so)
     (leaves-alike allows full.text full.last new full.now_engine contents now_contents keeps (full.leaves.shown told keeps) (ran allows moved.stimuli full.text old full.last full.now_engine opened moved.moved.moves) full.contents_so)

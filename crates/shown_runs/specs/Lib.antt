@@ -28,3 +28,5 @@ pub mod StartMoveLaws
 pub mod TurnMoveLaws
 pub mod DispatchLaws
 pub mod EventLaws
+pub mod StimuliLaws
+pub mod StartShownLaws
