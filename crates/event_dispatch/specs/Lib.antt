@@ -1,6 +1,10 @@
 pub mod Why
 pub mod Runs
 pub mod Shows
+pub mod Serves
+pub mod TurnLaws
+pub mod RoundLaws
+pub mod WholeLaws
 pub mod WhyLaws
 pub mod Joined
 pub mod LastShown

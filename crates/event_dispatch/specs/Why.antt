@@ -9,6 +9,8 @@ use Rattle.outside.specs.Seen.{Counts}
 use Rattle.net_txn.specs.declared.fault.TxnFault.{TxnFault}
 use Rattle.net_txn.specs.declared.fault.TxnFault.TheVariants.{SwitchFault, SwitchBroke, Diverged, Flooded, NoMemory}
 use Rattle.net_txn.specs.Causes.{flood}
+use Rattle.event_dispatch.specs.declared.fault.Fault.{Fault}
+use Rattle.event_dispatch.specs.declared.fault.Fault.TheVariants as faults
 use Rattle.event_dispatch.specs.declared.served.Served.{Served}
 use Rattle.event_dispatch.specs.declared.served.Served.TheVariants as ends
 
@@ -31,10 +33,26 @@ IsWhy old new sink_old sink_new (ends.Txn fault) = IsWhyTxn old new fault
 IsWhy old new sink_old sink_new (ends.EventsLeft left) = 1 ≤ left
 IsWhy old new sink_old sink_new ends.NoMemory = Unit {0}
 
--- what a fault of the network is as the end of a run
+-- ---- What ends a run before its end
+
+-- what a fault of the network is then
+abbrev pub fault_of : TxnFault → Fault
+fault_of NoMemory = faults.NoMemory
+fault_of (SwitchFault d) = faults.Txn (SwitchFault d)
+fault_of (SwitchBroke d bytes) = faults.Txn (SwitchBroke d bytes)
+fault_of (Diverged d sent got) = faults.Txn (Diverged d sent got)
+fault_of (Flooded d n) = faults.Txn (Flooded d n)
+
+-- how the run ends with it
+abbrev pub served_by : Fault → Served
+served_by faults.Write = ends.WriteFault
+served_by faults.Next = ends.NextFault
+served_by (faults.Txn fault) = ends.Txn fault
+served_by faults.NoMemory = ends.NoMemory
+
+-- it has its cause
+abbrev pub IsReason : Counts → Counts → ℕ → ℕ → Fault → Type 0
+IsReason old new sink_old sink_new fault = IsWhy old new sink_old sink_new (served_by fault)
+
 abbrev pub ended_by : TxnFault → Served
-ended_by NoMemory = ends.NoMemory
-ended_by (SwitchFault d) = ends.Txn (SwitchFault d)
-ended_by (SwitchBroke d bytes) = ends.Txn (SwitchBroke d bytes)
-ended_by (Diverged d sent got) = ends.Txn (Diverged d sent got)
-ended_by (Flooded d n) = ends.Txn (Flooded d n)
+ended_by fault = served_by (fault_of fault)

@@ -13,10 +13,10 @@ ghost use Rattle.shown_batches.specs.Knowledge.{with_event};
 ghost use Rattle.shown_batches.specs.Items.{Departs, Enters, Handles};
 ghost use Rattle.event_dispatch.specs.Runs.{Waits};
 ghost use Rattle.event_dispatch.specs.Batch.{of_memory, TakesKept, NextTaken, BatchShown};
-ghost use Rattle.event_dispatch.specs.Why.{IsWhy};
+ghost use Rattle.event_dispatch.specs.Why.{IsReason};
 
+use crate::fault::Fault;
 use crate::run::Run;
-use crate::served::Served;
 use app_frames::{Event, EventKind};
 use net_txn::{EventQueue, Net};
 use of_types::Dpid;
@@ -70,19 +70,19 @@ fn append(queue: &mut EventQueue, event: Option<Event>) -> Result<(), AllocError
 }
 
 /// What the outside tells next.
-fn next_item<W: World>(world: &mut W, buf: &mut [u8]) -> Result<Item, Served>
+fn next_item<W: World>(world: &mut W, buf: &mut [u8]) -> Result<Item, Fault>
     requires { most_message ≤ length buf.old }
     ensures item { IfOk result (λ item. IsItemIn W.Tells item buf.new) }
     ensures continues { Continues W.Tells (W.seen world.old) (W.seen world.new) }
-    ensures why { IfErr result (IsWhy (W.seen world.old).counts (W.seen world.new).counts 0 0) }
+    ensures why { IfErr result (IsReason (W.seen world.old).counts (W.seen world.new).counts 0 0) }
     ensures buffer { length buf.new ≡ length buf.old }
     ensures bytes { IsBytes buf.new }
     ensures nexts { IfOk result (λ item. Nexts W.Tells (W.seen world.old) (W.seen world.new) (Ok item) buf.new) }
 {
     match world.next(buf) {
         Ok(item) => Ok(item),
-        Err(NextFault::Failed) => Err(Served::NextFault),
-        Err(NextFault::Short) => Err(Served::NoMemory),
+        Err(NextFault::Failed) => Err(Fault::Next),
+        Err(NextFault::Short) => Err(Fault::NoMemory),
     }
 }
 
@@ -94,12 +94,12 @@ impl Run {
         world: &mut W,
         dpid: Dpid,
         frame: &[u8],
-    ) -> Result<(), Served>
+    ) -> Result<(), Fault>
         ensures waits { OnOk result (Waits self.old self.new) }
         ensures app { self.new.app ≡ self.old.app }
         ensures lines { self.new.lines ≡ self.old.lines }
         ensures continues { Continues W.Tells (W.seen world.old) (W.seen world.new) }
-        ensures why { IfErr result (IsWhy (W.seen world.old).counts (W.seen world.new).counts 0 0) }
+        ensures why { IfErr result (IsReason (W.seen world.old).counts (W.seen world.new).counts 0 0) }
         ensures handles { OnOk result (Handles W.Tells (From dpid frame.now) (W.seen world.old) (W.seen world.new)
             self.old.net self.new.net self.old.queue self.new.queue) }
     {
@@ -126,12 +126,12 @@ impl Run {
     }
 
     /// A switch describes itself as it joins. One that is joined is not taken in again.
-    fn take_in<W: World>(&mut self, world: &mut W, dpid: Dpid, frame: &[u8]) -> Result<(), Served>
+    fn take_in<W: World>(&mut self, world: &mut W, dpid: Dpid, frame: &[u8]) -> Result<(), Fault>
         ensures waits { OnOk result (Waits self.old self.new) }
         ensures app { self.new.app ≡ self.old.app }
         ensures lines { self.new.lines ≡ self.old.lines }
         ensures continues { Continues W.Tells (W.seen world.old) (W.seen world.new) }
-        ensures why { IfErr result (IsWhy (W.seen world.old).counts (W.seen world.new).counts 0 0) }
+        ensures why { IfErr result (IsReason (W.seen world.old).counts (W.seen world.new).counts 0 0) }
         ensures handles { OnOk result (Handles W.Tells (Joined dpid frame.now) (W.seen world.old) (W.seen world.new)
             self.old.net self.new.net self.old.queue self.new.queue) }
     {
@@ -142,7 +142,7 @@ impl Run {
             Ok(envelope) => self.join(world, dpid, &envelope.message),
             Err(fault) => {
                 if ran_short(&fault) {
-                    return Err(Served::NoMemory);
+                    return Err(Fault::NoMemory);
                 }
                 Ok(())
             }
@@ -150,14 +150,14 @@ impl Run {
     }
 
     /// A switch joins with what it says of itself.
-    fn join<W: World>(&mut self, world: &mut W, dpid: Dpid, message: &Message) -> Result<(), Served>
+    fn join<W: World>(&mut self, world: &mut W, dpid: Dpid, message: &Message) -> Result<(), Fault>
         requires out { rows_at dpid self.old.net.views ≡ None }
         requires fits { message_size message.now ≤ 65535 }
         ensures waits { OnOk result (Waits self.old self.new) }
         ensures app { self.new.app ≡ self.old.app }
         ensures lines { self.new.lines ≡ self.old.lines }
         ensures continues { Continues W.Tells (W.seen world.old) (W.seen world.new) }
-        ensures why { IfErr result (IsWhy (W.seen world.old).counts (W.seen world.new).counts 0 0) }
+        ensures why { IfErr result (IsReason (W.seen world.old).counts (W.seen world.new).counts 0 0) }
         ensures enters { OnOk result (Enters W.Tells dpid message.now (W.seen world.old) (W.seen world.new)
             self.old.net self.new.net self.old.queue self.new.queue) }
     {
@@ -185,13 +185,13 @@ impl Run {
     }
 
     /// Takes one item. Bytes that it has stand in the buffer.
-    fn take_item<W: World>(&mut self, world: &mut W, item: Item, buf: &[u8]) -> Result<(), Served>
+    fn take_item<W: World>(&mut self, world: &mut W, item: Item, buf: &[u8]) -> Result<(), Fault>
         requires { IsItemIn W.Tells item buf.now }
         ensures waits { OnOk result (Waits self.old self.new) }
         ensures app { self.new.app ≡ self.old.app }
         ensures lines { self.new.lines ≡ self.old.lines }
         ensures continues { Continues W.Tells (W.seen world.old) (W.seen world.new) }
-        ensures why { IfErr result (IsWhy (W.seen world.old).counts (W.seen world.new).counts 0 0) }
+        ensures why { IfErr result (IsReason (W.seen world.old).counts (W.seen world.new).counts 0 0) }
         ensures handles { OnOk result (Handles W.Tells (item_step item buf.now) (W.seen world.old) (W.seen world.new)
             self.old.net self.new.net self.old.queue self.new.queue) }
     {
@@ -210,12 +210,12 @@ impl Run {
     /// Takes the messages that were kept while something else was awaited, oldest first, and answers how many items the
     /// batch can still have.
     #[tactic(auto, using(crate::specs::WhyLaws::continues_then, crate::specs::WhyLaws::why_then, crate::specs::WhyLaws::waits_then))]
-    fn take_kept<W: World>(&mut self, world: &mut W) -> Result<u32, Served>
+    fn take_kept<W: World>(&mut self, world: &mut W) -> Result<u32, Fault>
         ensures waits { OnOk result (Waits self.old self.new) }
         ensures app { self.new.app ≡ self.old.app }
         ensures lines { self.new.lines ≡ self.old.lines }
         ensures continues { Continues W.Tells (W.seen world.old) (W.seen world.new) }
-        ensures why { IfErr result (IsWhy (W.seen world.old).counts (W.seen world.new).counts 0 0) }
+        ensures why { IfErr result (IsReason (W.seen world.old).counts (W.seen world.new).counts 0 0) }
         ensures kept { IfOk result (λ left. TakesKept left (W.seen world.old) (W.seen world.new) self.old self.new) }
     {
         for taken in 0..MOST_ITEMS {
@@ -228,13 +228,13 @@ impl Run {
     }
 
     /// Takes what the outside tells next, and answers whether the batch is over.
-    fn take_next<W: World>(&mut self, world: &mut W, buf: &mut [u8]) -> Result<Option<Rest>, Served>
+    fn take_next<W: World>(&mut self, world: &mut W, buf: &mut [u8]) -> Result<Option<Rest>, Fault>
         requires { most_message ≤ length buf.old }
         ensures waits { OnOk result (Waits self.old self.new) }
         ensures app { self.new.app ≡ self.old.app }
         ensures lines { self.new.lines ≡ self.old.lines }
         ensures continues { Continues W.Tells (W.seen world.old) (W.seen world.new) }
-        ensures why { IfErr result (IsWhy (W.seen world.old).counts (W.seen world.new).counts 0 0) }
+        ensures why { IfErr result (IsReason (W.seen world.old).counts (W.seen world.new).counts 0 0) }
         ensures buffer { length buf.new ≡ length buf.old }
         ensures taken { IfOk result (λ rest. NextTaken W.Tells rest (W.seen world.old) (W.seen world.new) self.old self.new) }
     {
@@ -255,13 +255,13 @@ impl Run {
         &mut self,
         world: &mut W,
         buf: &mut [u8],
-    ) -> Result<Rest, Served>
+    ) -> Result<Rest, Fault>
         requires { most_message ≤ length buf.old }
         ensures waits { OnOk result (Waits self.old self.new) }
         ensures app { self.new.app ≡ self.old.app }
         ensures lines { self.new.lines ≡ self.old.lines }
         ensures continues { Continues W.Tells (W.seen world.old) (W.seen world.new) }
-        ensures why { IfErr result (IsWhy (W.seen world.old).counts (W.seen world.new).counts 0 0) }
+        ensures why { IfErr result (IsReason (W.seen world.old).counts (W.seen world.new).counts 0 0) }
         ensures buffer { length buf.new ≡ length buf.old }
 
         // Where the world keeps its word and all was calm, one stimulus was begun, and its items were told and taken.

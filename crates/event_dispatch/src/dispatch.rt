@@ -1,15 +1,20 @@
 //! Events, given to the application one after the other.
 
-ghost use Rattle.std.specs.Prelude.{◌≡◌, ℕ, ◌+◌, ◌^◌, ◌<◌, ◌≤◌, IfErr, OnOk};
+ghost use Rattle.std.specs.Prelude.{◌≡◌, ℕ, ◌+◌, ◌^◌, ◌<◌, ◌≤◌, [], IfOk, IfErr, OnOk};
 ghost use Rattle.lego_io.specs.Count.{NeverFell};
 ghost use Rattle.app_frames.specs.declared.frame.HostFrame.TheVariants as host;
 ghost use Rattle.app_frames.specs.Frames.{HostFits};
 ghost use Rattle.outside.specs.Seen.{Continues};
 ghost use Rattle.event_dispatch.specs.Runs.{Going, Waits};
-ghost use Rattle.event_dispatch.specs.Why.{IsWhy};
+ghost use Rattle.event_dispatch.specs.Why.{IsReason};
+ghost use Rattle.lego_model.specs.RunReport.{turn_line as turn_line_of};
+ghost use Rattle.shown_runs.specs.Engine.{index};
+ghost use Rattle.shown_runs.specs.Facts.{name, starts_text};
+ghost use Rattle.event_dispatch.specs.Shows.{Adds};
+ghost use Rattle.event_dispatch.specs.Serves.{Starts, PlaysTurn, Closes, HasTurn, IsDispatched, SettlesOne, Settles};
 
+use crate::fault::Fault;
 use crate::run::{NAME, Run};
-use crate::served::Served;
 use app_frames::Event;
 use app_visor::{AppState, Back, TurnEnd, restart, turn};
 use lego_io::Sink;
@@ -38,12 +43,17 @@ fn play<W: World, J: Judge>(
     app: &mut AppState,
     number: u64,
     event: &Event,
-) -> Result<TurnEnd, Served>
+) -> Result<TurnEnd, Fault>
     requires room { 1 ≤ net.old.room }
     requires fits { HostFits (host.Event number net.old.moment event.now) }
     ensures room { OnOk result (net.new.room ≡ net.old.room) }
+    ensures index { app.new.index ≡ app.old.index }
+    ensures alive { app.new.alive ≡ app.old.alive }
+    ensures queue { queue.new ≡ queue.old }
+    ensures plays { IfOk result (λ end. PlaysTurn W.Tells (J.accepts judge.now) app.old.index number event.now end (W.seen world.old) (W.seen world.new)
+        net.old net.new app.old.rest app.new.rest) }
     ensures continues { Continues W.Tells (W.seen world.old) (W.seen world.new) }
-    ensures why { IfErr result (IsWhy (W.seen world.old).counts (W.seen world.new).counts 0 0) }
+    ensures why { IfErr result (IsReason (W.seen world.old).counts (W.seen world.new).counts 0 0) }
 {
     let mut txn = Txn::begin(net);
     match turn(alloc, world, &mut txn, judge, app, number, event, BUDGET) {
@@ -57,7 +67,7 @@ fn play<W: World, J: Judge>(
         }
         Err(fault) => {
             let _ = txn.abort(world);
-            Err(Served::from(fault))
+            Err(Fault::from(fault))
         }
     }
 }
@@ -65,7 +75,8 @@ fn play<W: World, J: Judge>(
 impl Run {
     /// Appends the line of how a turn ended.
     fn note_turn(&mut self, word: TurnWord) -> Result<(), AllocError>
-        ensures { OnOk result (Waits self.old self.new) }
+        ensures waits { OnOk result (Waits self.old self.new) }
+        ensures adds { OnOk result (Adds (turn_line_of name word) self.old self.new) }
     {
         let line = turn_line(self.alloc, NAME, &word)?;
         self.note(&line)
@@ -74,7 +85,10 @@ impl Run {
     /// Starts the application, in at most three attempts.
     #[tactic(auto, using(crate::specs::WhyLaws::waits_then))]
     pub(crate) fn start<W: World>(&mut self, world: &mut W) -> Result<(), AllocError>
+        requires { self.old.app.state.index ≡ index }
         ensures waits { OnOk result (Waits self.old self.new) }
+        ensures index { OnOk result (self.new.app.state.index ≡ index) }
+        ensures starts { OnOk result (Starts W.Tells (W.seen world.old) (W.seen world.new) self.old self.new) }
         ensures continues { Continues W.Tells (W.seen world.old) (W.seen world.new) }
     {
         let back = restart(self.alloc, world, &mut self.app.state, &[])?;
@@ -84,7 +98,8 @@ impl Run {
     /// Appends the lines of the attempts to start the application.
     #[tactic(auto, using(crate::specs::WhyLaws::waits_then))]
     fn note_start(&mut self, back: Back) -> Result<(), AllocError>
-        ensures { OnOk result (Waits self.old self.new) }
+        ensures waits { OnOk result (Waits self.old self.new) }
+        ensures adds { OnOk result (Adds (starts_text back.tries.items back.back) self.old self.new) }
     {
         for tried in back.tries.iter() {
             let line = start_line(self.alloc, NAME, tried)?;
@@ -102,8 +117,10 @@ impl Run {
         requires done { self.old.app.done < self.old.events }
         requires failed { self.old.app.failed < self.old.events }
         requires room { 1 ≤ self.old.net.room }
+        requires index { self.old.app.state.index ≡ index }
         ensures going { OnOk result (Going self.new) }
         ensures events { OnOk result (self.new.events ≡ self.old.events) }
+        ensures closes { OnOk result (Closes W.Tells end (W.seen world.old) (W.seen world.new) self.old self.new) }
         ensures continues { Continues W.Tells (W.seen world.old) (W.seen world.new) }
     {
         match end {
@@ -125,15 +142,17 @@ impl Run {
         world: &mut W,
         judge: &J,
         event: &Event,
-    ) -> Result<(), Served>
+    ) -> Result<(), Fault>
         requires done { self.old.app.done < self.old.events }
         requires failed { self.old.app.failed < self.old.events }
         requires room { 1 ≤ self.old.net.room }
+        requires index { self.old.app.state.index ≡ index }
         requires fits { HostFits (host.Event self.old.events self.old.net.moment event.now) }
         ensures going { OnOk result (Going self.new) }
         ensures events { OnOk result (self.new.events ≡ self.old.events) }
+        ensures turn { OnOk result (HasTurn W.Tells (J.accepts judge.now) event.now (W.seen world.old) (W.seen world.new) self.old self.new) }
         ensures continues { Continues W.Tells (W.seen world.old) (W.seen world.new) }
-        ensures why { IfErr result (IsWhy (W.seen world.old).counts (W.seen world.new).counts 0 0) }
+        ensures why { IfErr result (IsReason (W.seen world.old).counts (W.seen world.new).counts 0 0) }
     {
         let end = play(
             self.alloc,
@@ -154,13 +173,14 @@ impl Run {
         world: &mut W,
         judge: &J,
         event: &Event,
-    ) -> Result<(), Served>
+    ) -> Result<(), Fault>
         requires going { Going self.old }
         requires few { self.old.events < 2 ^ 63 }
         ensures going { OnOk result (Going self.new) }
         ensures events { OnOk result (self.new.events ≡ self.old.events + 1) }
+        ensures dispatched { OnOk result (IsDispatched W.Tells (J.accepts judge.now) event.now (W.seen world.old) (W.seen world.new) self.old self.new) }
         ensures continues { Continues W.Tells (W.seen world.old) (W.seen world.new) }
-        ensures why { IfErr result (IsWhy (W.seen world.old).counts (W.seen world.new).counts 0 0) }
+        ensures why { IfErr result (IsReason (W.seen world.old).counts (W.seen world.new).counts 0 0) }
     {
         self.events += 1;
         let line = event_line(self.alloc, self.events, event.kind, event.dpid)?;
@@ -169,7 +189,7 @@ impl Run {
             return Ok(());
         }
         if event.body.len() > MOST_BODY {
-            return Err(Served::NoMemory);
+            return Err(Fault::NoMemory);
         }
         self.take_turn(world, judge, event)
     }
@@ -181,14 +201,17 @@ impl Run {
         world: &mut W,
         judge: &J,
         sink: &mut K,
-    ) -> Result<bool, Served>
+    ) -> Result<bool, Fault>
         requires going { Going self.old }
         requires few { self.old.events < 2 ^ 63 }
+        requires none_waits { self.old.lines.items ≡ [] }
         ensures going { OnOk result (Going self.new) }
         ensures events { OnOk result (self.new.events ≤ self.old.events + 1) }
+        ensures settles { IfOk result (λ found. SettlesOne W.Tells (J.accepts judge.now) found (K.contents sink.old) (K.contents sink.new)
+            (W.seen world.old) (W.seen world.new) self.old self.new) }
         ensures continues { Continues W.Tells (W.seen world.old) (W.seen world.new) }
         ensures never_fell { NeverFell (K.faults sink.old) (K.faults sink.new) }
-        ensures why { IfErr result (IsWhy (W.seen world.old).counts (W.seen world.new).counts (K.faults sink.old) (K.faults sink.new)) }
+        ensures why { IfErr result (IsReason (W.seen world.old).counts (W.seen world.new).counts (K.faults sink.old) (K.faults sink.new)) }
     {
         let Some(event) = self.queue.take_first() else {
             return Ok(false);
@@ -205,18 +228,23 @@ impl Run {
         world: &mut W,
         judge: &J,
         sink: &mut K,
-    ) -> Result<(), Served>
+    ) -> Result<(), Fault>
         requires going { Going self.old }
         requires few { self.old.events < 2 ^ 62 }
+        requires none_waits { self.old.lines.items ≡ [] }
         ensures going { OnOk result (Going self.new) }
         ensures events { OnOk result (self.new.events ≤ self.old.events + 1000) }
+
+        // In a world that keeps its word this is what the reference controller does with the events that wait.
+        ensures settles { OnOk result (Settles W.Tells (J.accepts judge.now) (K.contents sink.old) (K.contents sink.new)
+            (W.seen world.old) (W.seen world.new) self.old self.new) }
         ensures continues { Continues W.Tells (W.seen world.old) (W.seen world.new) }
         ensures never_fell { NeverFell (K.faults sink.old) (K.faults sink.new) }
-        ensures why { IfErr result (IsWhy (W.seen world.old).counts (W.seen world.new).counts (K.faults sink.old) (K.faults sink.new)) }
+        ensures why { IfErr result (IsReason (W.seen world.old).counts (W.seen world.new).counts (K.faults sink.old) (K.faults sink.new)) }
     {
         for _event in 0..MOST_EVENTS {
             if !self.settle_one(world, judge, sink)? {
-                break;
+                return Ok(());
             }
         }
         Ok(())

@@ -7,13 +7,13 @@ ghost use Rattle.lego_model.specs.RunReport.{flow_line};
 ghost use Rattle.net_txn.specs.Views.{rows_at};
 ghost use Rattle.shown_runs.specs.LastReport.{engine_end};
 ghost use Rattle.event_dispatch.specs.Runs.{Waits};
-ghost use Rattle.event_dispatch.specs.Why.{IsWhy};
+ghost use Rattle.event_dispatch.specs.Why.{IsReason};
 ghost use Rattle.event_dispatch.specs.Shows.{engine_of, Adds};
 ghost use Rattle.event_dispatch.specs.LastShown.{FindsFlags, FlowsSaid, TableSaid, AsksShown, TableShown, LastShown};
 
 use crate::batch::is_joined;
+use crate::fault::Fault;
 use crate::run::{NAME, Run};
-use crate::served::Served;
 use flow_table::{TableView, ViewList, ViewRow};
 use of_match::Key;
 use of_stats::{FlowRow, RowList};
@@ -104,25 +104,25 @@ impl Run {
     }
 
     /// Asks a joined switch for its entries.
-    fn ask_rows<W: World>(&mut self, world: &mut W, dpid: Dpid) -> Result<RowList, Served>
+    fn ask_rows<W: World>(&mut self, world: &mut W, dpid: Dpid) -> Result<RowList, Fault>
         requires { IsSome (rows_at dpid self.old.net.views) }
         ensures waits { OnOk result (Waits self.old self.new) }
         ensures continues { Continues W.Tells (W.seen world.old) (W.seen world.new) }
-        ensures why { IfErr result (IsWhy (W.seen world.old).counts (W.seen world.new).counts 0 0) }
+        ensures why { IfErr result (IsReason (W.seen world.old).counts (W.seen world.new).counts 0 0) }
         ensures asks { IfOk result (λ rows. AsksShown W.Tells dpid (W.seen world.old) (W.seen world.new) self.old self.new rows) }
     {
         match self.net.rows(world, dpid) {
             Ok(rows) => Ok(rows),
-            Err(fault) => Err(Served::from(fault)),
+            Err(fault) => Err(Fault::from(fault)),
         }
     }
 
     /// Asks a switch for its entries, and appends their lines. One that is not joined has none.
     #[tactic(auto, using(crate::specs::WhyLaws::waits_then))]
-    fn note_table<W: World>(&mut self, world: &mut W, dpid: Dpid) -> Result<(), Served>
+    fn note_table<W: World>(&mut self, world: &mut W, dpid: Dpid) -> Result<(), Fault>
         ensures waits { OnOk result (Waits self.old self.new) }
         ensures continues { Continues W.Tells (W.seen world.old) (W.seen world.new) }
-        ensures why { IfErr result (IsWhy (W.seen world.old).counts (W.seen world.new).counts 0 0) }
+        ensures why { IfErr result (IsReason (W.seen world.old).counts (W.seen world.new).counts 0 0) }
         ensures shown { OnOk result (TableShown W.Tells dpid (W.seen world.old) (W.seen world.new) self.old self.new) }
     {
         if !is_joined(&self.net, dpid) {
@@ -157,10 +157,10 @@ impl Run {
 
     /// Appends the last lines: the tables of the joined switches, by number, the application, and the end.
     #[tactic(auto, using(crate::specs::WhyLaws::continues_then, crate::specs::WhyLaws::why_then, crate::specs::WhyLaws::waits_then))]
-    pub(crate) fn note_last<W: World>(&mut self, world: &mut W) -> Result<(), Served>
+    pub(crate) fn note_last<W: World>(&mut self, world: &mut W) -> Result<(), Fault>
         ensures waits { OnOk result (Waits self.old self.new) }
         ensures continues { Continues W.Tells (W.seen world.old) (W.seen world.new) }
-        ensures why { IfErr result (IsWhy (W.seen world.old).counts (W.seen world.new).counts 0 0) }
+        ensures why { IfErr result (IsReason (W.seen world.old).counts (W.seen world.new).counts 0 0) }
 
         // Where the world keeps its word, this is what the reference controller says at the end.
         ensures shown { OnOk result (LastShown W.Tells (W.seen world.old) (W.seen world.new) self.old self.new) }

@@ -3,6 +3,7 @@
 
 mod batch;
 mod dispatch;
+mod fault;
 mod last;
 mod run;
 mod served;

@@ -1,9 +1,11 @@
 //! What the engine keeps of a run.
 
-ghost use Rattle.std.specs.Prelude.{◌≡◌, IfOk, OnOk, OnErr};
+ghost use Rattle.std.specs.Prelude.{◌≡◌, [], IfOk, OnOk, OnErr};
 ghost use Rattle.lego_io.specs.Count.{Rose, NeverFell};
 ghost use Rattle.event_dispatch.specs.Runs.{Going, Waits};
-ghost use Rattle.event_dispatch.specs.Shows.{Adds};
+ghost use Rattle.shown_runs.specs.FirstLaws.{engine_at_first};
+ghost use Rattle.event_dispatch.specs.Shows.{engine_of, Adds};
+ghost use Rattle.event_dispatch.specs.Serves.{Writes};
 
 use app_visor::AppState;
 use lego_io::{Sink, WriteFault, write_all};
@@ -44,7 +46,8 @@ impl Run {
     /// A run of which nothing has happened.
     pub(crate) fn new(alloc: Global) -> Result<Run, AllocError>
         ensures going { IfOk result Going }
-        ensures events { IfOk result (λ r. r.events ≡ 0) }
+        ensures first { IfOk result (λ r. engine_of r ≡ engine_at_first) }
+        ensures none_waits { IfOk result (λ r. r.lines.items ≡ []) }
     {
         let state = AppState {
             index: INDEX,
@@ -77,6 +80,9 @@ impl Run {
     /// Writes the lines, after which none is left.
     pub(crate) fn write<K: Sink>(&mut self, sink: &mut K) -> Result<(), WriteFault>
         ensures waits { OnOk result (Waits self.old self.new) }
+        ensures engine { engine_of self.new ≡ engine_of self.old }
+        ensures index { self.new.app.state.index ≡ self.old.app.state.index }
+        ensures writes { OnOk result (Writes self.old.lines.items (K.contents sink.old) (K.contents sink.new) self.new) }
         ensures rose { OnErr result (Rose (K.faults sink.old) (K.faults sink.new)) }
         ensures never_fell { NeverFell (K.faults sink.old) (K.faults sink.new) }
     {

@@ -1,18 +1,17 @@
 //! How a run ended.
 
 ghost use Rattle.std.specs.Prelude.{◌≡◌};
-ghost use Rattle.outside.specs.declared.faults.OpenFault.TheVariants as opening;
 ghost use Rattle.event_dispatch.specs.declared.served.Served.TheVariants as ends;
-ghost use Rattle.event_dispatch.specs.Why.{ended_by};
+ghost use Rattle.event_dispatch.specs.Why.{served_by};
 
-use lego_io::WriteFault;
+use crate::fault::Fault;
 use net_txn::TxnFault;
 use std::alloc::{AllocError, AllocFailed};
 
 /// How a run ended.
 #[derive(Drop, Debug)]
 pub enum Served {
-    /// All stimuli came, all their events were dispatched, and the report was written.
+    /// No more came, all events were dispatched, and the report was written.
     Ended {
         /// How many events were dispatched.
         events: u64,
@@ -31,6 +30,19 @@ pub enum Served {
     NoMemory,
 }
 
+impl From<Fault> for Served {
+    ghost from_gives = { λ fault s. s ≡ served_by fault };
+
+    fn from(fault: Fault) -> Served {
+        match fault {
+            Fault::Write => Served::WriteFault,
+            Fault::Next => Served::NextFault,
+            Fault::Txn(fault) => Served::Txn(fault),
+            Fault::NoMemory => Served::NoMemory,
+        }
+    }
+}
+
 impl From<AllocError> for Served {
     ghost from_gives = { λ _ s. s ≡ ends.NoMemory };
 
@@ -44,24 +56,5 @@ impl<T: Drop> From<AllocFailed<T>> for Served {
 
     fn from(_error: AllocFailed<T>) -> Served {
         Served::NoMemory
-    }
-}
-
-impl From<WriteFault> for Served {
-    ghost from_gives = { λ _ s. s ≡ ends.WriteFault };
-
-    fn from(_fault: WriteFault) -> Served {
-        Served::WriteFault
-    }
-}
-
-impl From<TxnFault> for Served {
-    ghost from_gives = { λ fault s. s ≡ ended_by fault };
-
-    fn from(fault: TxnFault) -> Served {
-        match fault {
-            TxnFault::NoMemory => Served::NoMemory,
-            fault => Served::Txn(fault),
-        }
     }
 }

@@ -1,13 +1,19 @@
 //! A whole run.
 
-ghost use Rattle.std.specs.Prelude.{◌≡◌, ℕ, ◌+◌, ◌^◌, ◌<◌, ◌≤◌, length, IfOk, IfErr, OnOk};
+ghost use Rattle.std.specs.Prelude.{◌≡◌, ℕ, ◌+◌, ◌^◌, ◌<◌, ◌≤◌, Bool, List, [], ◌∷◌, ◌++◌, length, IfOk, IfErr, OnOk};
 ghost use Rattle.lego_io.specs.Count.{NeverFell};
 ghost use Rattle.outside.specs.Seen.{Continues};
 ghost use Rattle.outside.specs.Calls.{most_message};
 ghost use Rattle.event_dispatch.specs.Runs.{Going};
-ghost use Rattle.event_dispatch.specs.Why.{IsWhy};
+ghost use Rattle.event_dispatch.specs.Why.{IsWhy, IsReason};
+ghost use Rattle.lego_model.specs.Places.{Place};
+ghost use Rattle.outside.specs.declared.step.WorldStep.TheVariants.{Opened};
+ghost use Rattle.shown_runs.specs.Endings.{ShownLeaves};
+ghost use Rattle.shown_runs.specs.Promise.{Premise};
+ghost use Rattle.event_dispatch.specs.Serves.{GoesRound, GoesToEnd, Begins, EndsReport, Finishes, GoesAs, RunsAs, IsUnopened, IsAlike};
 
 use crate::batch::Rest;
+use crate::fault::Fault;
 use crate::run::{INDEX, Run};
 use crate::served::Served;
 use lego_io::Sink;
@@ -29,16 +35,19 @@ impl Run {
         judge: &J,
         sink: &mut K,
         buf: &mut [u8],
-    ) -> Result<Rest, Served>
+    ) -> Result<Rest, Fault>
         requires buffer { most_message ≤ length buf.old }
         requires going { Going self.old }
         requires few { self.old.events < 2 ^ 62 }
+        requires none_waits { self.old.lines.items ≡ [] }
+        ensures round { IfOk result (λ rest. GoesRound W.Tells (J.accepts judge.now) rest (K.contents sink.old) (K.contents sink.new)
+            (W.seen world.old) (W.seen world.new) self.old self.new) }
         ensures buffer { length buf.new ≡ length buf.old }
         ensures going { OnOk result (Going self.new) }
         ensures events { OnOk result (self.new.events ≤ self.old.events + 1000) }
         ensures continues { Continues W.Tells (W.seen world.old) (W.seen world.new) }
         ensures never_fell { NeverFell (K.faults sink.old) (K.faults sink.new) }
-        ensures why { IfErr result (IsWhy (W.seen world.old).counts (W.seen world.new).counts (K.faults sink.old) (K.faults sink.new)) }
+        ensures why { IfErr result (IsReason (W.seen world.old).counts (W.seen world.new).counts (K.faults sink.old) (K.faults sink.new)) }
     {
         let rest = self.take_batch(world, buf)?;
         self.settle(world, judge, sink)?;
@@ -53,17 +62,21 @@ impl Run {
         judge: &J,
         sink: &mut K,
         buf: &mut [u8],
-    ) -> Result<(), Served>
+    ) -> Result<(), Fault>
         requires buffer { most_message ≤ length buf.old }
         requires going { Going self.old }
         requires none { self.old.events ≡ 0 }
+        requires none_waits { self.old.lines.items ≡ [] }
+        ensures to_end { OnOk result (GoesToEnd W.Tells (J.accepts judge.now) (K.contents sink.old) (K.contents sink.new)
+            (W.seen world.old) (W.seen world.new) self.old self.new) }
         ensures continues { Continues W.Tells (W.seen world.old) (W.seen world.new) }
         ensures never_fell { NeverFell (K.faults sink.old) (K.faults sink.new) }
-        ensures why { IfErr result (IsWhy (W.seen world.old).counts (W.seen world.new).counts (K.faults sink.old) (K.faults sink.new)) }
+        ensures why { IfErr result (IsReason (W.seen world.old).counts (W.seen world.new).counts (K.faults sink.old) (K.faults sink.new)) }
     {
         for _round in 0..MOST_ROUNDS {
-            if self.go_round(world, judge, sink, buf)? == Rest::End {
-                break;
+            match self.go_round(world, judge, sink, buf)? {
+                Rest::Idle => {}
+                Rest::End => return Ok(()),
             }
         }
         Ok(())
@@ -71,16 +84,32 @@ impl Run {
 
     /// Starts the application, and writes how its attempts ended.
     #[tactic(auto, using(crate::specs::WhyLaws::why_sink))]
-    fn begin<W: World, K: Sink>(&mut self, world: &mut W, sink: &mut K) -> Result<(), Served>
+    fn begin<W: World, K: Sink>(&mut self, world: &mut W, sink: &mut K) -> Result<(), Fault>
         requires going { Going self.old }
         requires none { self.old.events ≡ 0 }
+        requires none_waits { self.old.lines.items ≡ [] }
+        ensures begins { OnOk result (Begins W.Tells (K.contents sink.old) (K.contents sink.new) (W.seen world.old) (W.seen world.new) self.old self.new) }
         ensures going { OnOk result (Going self.new) }
         ensures none { OnOk result (self.new.events ≡ 0) }
         ensures continues { Continues W.Tells (W.seen world.old) (W.seen world.new) }
         ensures never_fell { NeverFell (K.faults sink.old) (K.faults sink.new) }
-        ensures why { IfErr result (IsWhy (W.seen world.old).counts (W.seen world.new).counts (K.faults sink.old) (K.faults sink.new)) }
+        ensures why { IfErr result (IsReason (W.seen world.old).counts (W.seen world.new).counts (K.faults sink.old) (K.faults sink.new)) }
     {
         self.start(world)?;
+        self.write(sink)?;
+        Ok(())
+    }
+
+    /// Writes the end of the report.
+    #[tactic(auto, using(crate::specs::WhyLaws::why_sink))]
+    fn end_report<W: World, K: Sink>(&mut self, world: &mut W, sink: &mut K) -> Result<(), Fault>
+        requires none_waits { self.old.lines.items ≡ [] }
+        ensures ends { OnOk result (EndsReport W.Tells (K.contents sink.old) (K.contents sink.new) (W.seen world.old) (W.seen world.new) self.old self.new) }
+        ensures continues { Continues W.Tells (W.seen world.old) (W.seen world.new) }
+        ensures never_fell { NeverFell (K.faults sink.old) (K.faults sink.new) }
+        ensures why { IfErr result (IsReason (W.seen world.old).counts (W.seen world.new).counts (K.faults sink.old) (K.faults sink.new)) }
+    {
+        self.note_last(world)?;
         self.write(sink)?;
         Ok(())
     }
@@ -88,6 +117,8 @@ impl Run {
     /// Writes the end of the report, where no event is left.
     #[tactic(auto, using(crate::specs::WhyLaws::why_sink))]
     fn finish<W: World, K: Sink>(&mut self, world: &mut W, sink: &mut K) -> Result<(), Served>
+        requires none_waits { self.old.lines.items ≡ [] }
+        ensures finishes { Finishes W.Tells result (K.contents sink.old) (K.contents sink.new) (W.seen world.old) (W.seen world.new) self.old self.new }
         ensures continues { Continues W.Tells (W.seen world.old) (W.seen world.new) }
         ensures never_fell { NeverFell (K.faults sink.old) (K.faults sink.new) }
         ensures why { IfErr result (IsWhy (W.seen world.old).counts (W.seen world.new).counts (K.faults sink.old) (K.faults sink.new)) }
@@ -95,9 +126,7 @@ impl Run {
         if !self.queue.is_empty() {
             return Err(Served::EventsLeft(self.queue.len()));
         }
-        self.note_last(world)?;
-        self.write(sink)?;
-        Ok(())
+        Ok(self.end_report(world, sink)?)
     }
 
     /// The whole run of a world that was opened.
@@ -112,6 +141,8 @@ impl Run {
         requires buffer { most_message ≤ length buf.old }
         requires going { Going self.old }
         requires none { self.old.events ≡ 0 }
+        requires none_waits { self.old.lines.items ≡ [] }
+        ensures goes { GoesAs W.Tells (J.accepts judge.now) result (K.contents sink.old) (K.contents sink.new) (W.seen world.old) (W.seen world.new) self.old self.new }
         ensures continues { Continues W.Tells (W.seen world.old) (W.seen world.new) }
         ensures never_fell { NeverFell (K.faults sink.old) (K.faults sink.new) }
         ensures why { IfErr result (IsWhy (W.seen world.old).counts (W.seen world.new).counts (K.faults sink.old) (K.faults sink.new)) }
@@ -124,6 +155,8 @@ impl Run {
 
 /// Opens the world.
 fn open<W: World>(world: &mut W) -> Result<(), Served>
+    ensures opened { OnOk result (W.Tells → (W.seen world.new).history ≡ (W.seen world.old).history ++ Opened ∷ []) }
+    ensures unopened { IfErr result IsUnopened }
     ensures continues { Continues W.Tells (W.seen world.old) (W.seen world.new) }
     ensures why { IfErr result (IsWhy (W.seen world.old).counts (W.seen world.new).counts 0 0) }
 {
@@ -137,7 +170,8 @@ fn open<W: World>(world: &mut W) -> Result<(), Served>
 /// Ends the application, if it runs.
 #[tactic(auto, using(crate::specs::WhyLaws::ends_continue))]
 fn end<W: World>(world: &mut W)
-    ensures { Continues W.Tells (W.seen world.old) (W.seen world.new) }
+    ensures continues { Continues W.Tells (W.seen world.old) (W.seen world.new) }
+    ensures leaves { ShownLeaves W.Tells (W.seen world.old) (W.seen world.new) }
 {
     world.end(INDEX);
 }
@@ -154,6 +188,8 @@ fn go_to_end<W: World, J: Judge, K: Sink>(
     requires buffer { most_message ≤ length buf.old }
     requires going { Going run.old }
     requires none { run.old.events ≡ 0 }
+    requires none_waits { run.old.lines.items ≡ [] }
+    ensures goes { GoesAs W.Tells (J.accepts judge.now) result (K.contents sink.old) (K.contents sink.new) (W.seen world.old) (W.seen world.new) run.old run.new }
     ensures continues { Continues W.Tells (W.seen world.old) (W.seen world.new) }
     ensures never_fell { NeverFell (K.faults sink.old) (K.faults sink.new) }
     ensures why { IfErr result (IsWhy (W.seen world.old).counts (W.seen world.new).counts (K.faults sink.old) (K.faults sink.new)) }
@@ -170,6 +206,7 @@ fn run<W: World, J: Judge, K: Sink>(
     judge: &J,
     sink: &mut K,
 ) -> Result<u64, Served>
+    ensures runs { RunsAs W.Tells (J.accepts judge.now) result (K.contents sink.old) (K.contents sink.new) (W.seen world.old) (W.seen world.new) }
     ensures continues { Continues W.Tells (W.seen world.old) (W.seen world.new) }
     ensures never_fell { NeverFell (K.faults sink.old) (K.faults sink.new) }
     ensures why { IfErr result (IsWhy (W.seen world.old).counts (W.seen world.new).counts (K.faults sink.old) (K.faults sink.new)) }
@@ -195,6 +232,11 @@ pub fn serve<W: World, J: Judge, K: Sink>(
     ensures never_fell { NeverFell (K.faults sink.old) (K.faults sink.new) }
     // Each end but the whole one and want of memory has its cause in this call.
     ensures why { IsWhy (W.seen world.old).counts (W.seen world.new).counts (K.faults sink.old) (K.faults sink.new) result }
+    // In a world that tells and keeps its word, on which no call was made before, the run is the reference controller's over what the
+    // world told: the tables agree at every quiet place, the application was given what it is given there, and what was written is the
+    // report, whole where all events were dispatched, and as far as these go where some were left.
+    ensures alike { (allows : List Place → Bool) → Premise W.Tells (J.accepts judge.now) allows (W.seen world.old) (W.seen world.new)
+        → IsAlike allows (W.seen world.new) (K.contents sink.old) (K.contents sink.new) result }
 {
     if let Err(served) = open(world) {
         return served;

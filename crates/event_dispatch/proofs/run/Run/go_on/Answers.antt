@@ -1,0 +1,35 @@
+use Rattle.std.proofs.Common.{rules, arith, subst, ◌∙◌}
+use Rattle.event_dispatch.specs.declared.batch.Rest.{Rest}
+use Rattle.event_dispatch.specs.Serves.{GoesRound}
+use Rattle.event_dispatch.specs.WhyLaws.{continues_then, fell_then}
+use Rattle.event_dispatch.specs.RoundLaws.{rounds_none, rounds_next, rounds_last, rounds_out}
+use Rattle.event_dispatch.proofs.run.Run.go_on.Goals as goal
+
+pub loop-round-init : goal.loop-round-init
+loop-round-init g c = record {
+  buffer = (search rules);
+  going = c.requires.going;
+  events = (search rules);
+  continues = (search rules);
+  rounds = rounds_none g.W.World.Tells (g.J.Judge.accepts c.args.judge.now) (g.K.Sink.contents c.args.sink.now) (g.W.World.seen c.args.world.now) c.args.self.now c.requires.none_waits;
+  never_fell = (search rules);
+}
+
+pub go_round-requires-clause-none_waits : goal.go_round-requires-clause-none_waits
+go_round-requires-clause-none_waits g c = c.loop-round.invariant.rounds.writes.none_waits
+
+pub returns-in-End-clause-to_end : goal.returns-in-End-clause-to_end
+returns-in-End-clause-to_end g c = rounds_last g.W.World.Tells (g.J.Judge.accepts c.args.judge.now) c.loop-round._round (g.K.Sink.contents c.args.sink.now) (g.K.Sink.contents c.loop-round.sink) (g.K.Sink.contents c.go_round.new.sink) (g.W.World.seen c.args.world.now) (g.W.World.seen c.loop-round.world) (g.W.World.seen c.go_round.new.world) c.args.self.now c.loop-round.self c.go_round.new.self c.loop-round.invariant.rounds (subst (λ (rest : Rest). GoesRound g.W.World.Tells (g.J.Judge.accepts c.args.judge.now) rest (g.K.Sink.contents c.loop-round.sink) (g.K.Sink.contents c.go_round.new.sink) (g.W.World.seen c.loop-round.world) (g.W.World.seen c.go_round.new.world) c.loop-round.self c.go_round.new.self) c.in-End.is c.in_ok-go_round.ensures.round)
+
+pub loop-round-preserved : goal.loop-round-preserved
+loop-round-preserved g c = record {
+  buffer = c.in_ok-go_round.ensures.buffer ∙ c.loop-round.invariant.buffer;
+  going = c.in_ok-go_round.ensures.going;
+  events = omega (arith, c.loop-round.invariant.events, c.in_ok-go_round.ensures.events);
+  continues = continues_then g.W.World.Tells (g.W.World.seen c.args.world.now) (g.W.World.seen c.loop-round.world) (g.W.World.seen c.go_round.new.world) c.loop-round.invariant.continues c.in_ok-go_round.ensures.continues;
+  rounds = rounds_next g.W.World.Tells (g.J.Judge.accepts c.args.judge.now) c.loop-round._round (g.K.Sink.contents c.args.sink.now) (g.K.Sink.contents c.loop-round.sink) (g.K.Sink.contents c.go_round.new.sink) (g.W.World.seen c.args.world.now) (g.W.World.seen c.loop-round.world) (g.W.World.seen c.go_round.new.world) c.args.self.now c.loop-round.self c.go_round.new.self c.loop-round.invariant.rounds (subst (λ (rest : Rest). GoesRound g.W.World.Tells (g.J.Judge.accepts c.args.judge.now) rest (g.K.Sink.contents c.loop-round.sink) (g.K.Sink.contents c.go_round.new.sink) (g.W.World.seen c.loop-round.world) (g.W.World.seen c.go_round.new.world) c.loop-round.self c.go_round.new.self) c.in-Idle.is c.in_ok-go_round.ensures.round);
+  never_fell = fell_then (g.K.Sink.faults c.args.sink.now) (g.K.Sink.faults c.loop-round.sink) (g.K.Sink.faults c.go_round.new.sink) c.loop-round.invariant.never_fell c.in_ok-go_round.ensures.never_fell;
+}
+
+pub returns-clause-to_end : goal.returns-clause-to_end
+returns-clause-to_end g c = rounds_out g.W.World.Tells (g.J.Judge.accepts c.args.judge.now) c.loop-round._round (g.K.Sink.contents c.args.sink.now) (g.K.Sink.contents c.loop-round.sink) (g.W.World.seen c.args.world.now) (g.W.World.seen c.loop-round.world) c.args.self.now c.loop-round.self c.loop-round-test.false c.loop-round.invariant.rounds

@@ -1,0 +1,36 @@
+use Rattle.std.proofs.Common.{◌+◌, rules, arith}
+use Rattle.event_dispatch.specs.WhyLaws.{continues_then, fell_then}
+use Rattle.event_dispatch.specs.RoundLaws.{some_none, some_more, settles_early, settles_all}
+use Rattle.event_dispatch.proofs.run.Run.settle.Goals as goal
+
+pub loop-event-init : goal.loop-event-init
+loop-event-init g c = record {
+  going = c.requires.going;
+  events = (search rules);
+  continues = (search rules);
+  settles = some_none g.W.World.Tells (g.J.Judge.accepts c.args.judge.now) (g.K.Sink.contents c.args.sink.now) (g.W.World.seen c.args.world.now) c.args.self.now c.requires.none_waits;
+  never_fell = (search rules);
+}
+
+pub settle_one-requires-clause-none_waits : goal.settle_one-requires-clause-none_waits
+settle_one-requires-clause-none_waits g c = c.loop-event.invariant.settles.writes.none_waits
+
+pub returns-then-not-branch-clause-settles : goal.returns-then-not-branch-clause-settles
+returns-then-not-branch-clause-settles g c =
+    settles_early g.W.World.Tells (g.J.Judge.accepts c.args.judge.now) (c.loop-event._event + 1) (g.K.Sink.contents c.args.sink.now) (g.K.Sink.contents c.settle_one.new.sink) (g.W.World.seen c.args.world.now) (g.W.World.seen c.settle_one.new.world) c.args.self.now c.settle_one.new.self (omega (arith, c.loop-event-test.true))
+    (c.in_ok-settle_one.ensures.settles.none (search rules)) (some_more g.W.World.Tells (g.J.Judge.accepts c.args.judge.now) c.loop-event._event _ (g.K.Sink.contents c.args.sink.now) (g.K.Sink.contents c.loop-event.sink) (g.K.Sink.contents c.settle_one.new.sink) (g.W.World.seen c.args.world.now) (g.W.World.seen c.loop-event.world) (g.W.World.seen c.settle_one.new.world) c.args.self.now c.loop-event.self c.settle_one.new.self
+    c.in_ok-settle_one.ensures.continues c.loop-event.invariant.settles c.in_ok-settle_one.ensures.settles)
+
+pub loop-event-preserved : goal.loop-event-preserved
+loop-event-preserved g c = record {
+  going = c.in_ok-settle_one.ensures.going;
+  events = omega (arith, c.loop-event.invariant.events, c.in_ok-settle_one.ensures.events);
+  continues = continues_then g.W.World.Tells (g.W.World.seen c.args.world.now) (g.W.World.seen c.loop-event.world) (g.W.World.seen c.settle_one.new.world) c.loop-event.invariant.continues c.in_ok-settle_one.ensures.continues;
+  settles = (some_more g.W.World.Tells (g.J.Judge.accepts c.args.judge.now) c.loop-event._event _ (g.K.Sink.contents c.args.sink.now) (g.K.Sink.contents c.loop-event.sink) (g.K.Sink.contents c.settle_one.new.sink) (g.W.World.seen c.args.world.now) (g.W.World.seen c.loop-event.world) (g.W.World.seen c.settle_one.new.world) c.args.self.now c.loop-event.self c.settle_one.new.self
+      c.in_ok-settle_one.ensures.continues c.loop-event.invariant.settles c.in_ok-settle_one.ensures.settles);
+  never_fell = fell_then (g.K.Sink.faults c.args.sink.now) (g.K.Sink.faults c.loop-event.sink) (g.K.Sink.faults c.settle_one.new.sink) c.loop-event.invariant.never_fell c.in_ok-settle_one.ensures.never_fell;
+}
+
+pub returns-clause-settles : goal.returns-clause-settles
+returns-clause-settles g c =
+    settles_all g.W.World.Tells (g.J.Judge.accepts c.args.judge.now) c.loop-event._event (g.K.Sink.contents c.args.sink.now) (g.K.Sink.contents c.loop-event.sink) (g.W.World.seen c.args.world.now) (g.W.World.seen c.loop-event.world) c.args.self.now c.loop-event.self (omega (arith, c.loop-event-test.false, c.loop-event.auto._event-end)) c.loop-event.invariant.settles

@@ -1,0 +1,216 @@
+-- What the engine does, in the words of what is seen and kept: the facts of `shown_runs`, each with its text behind what waited to be
+-- written, and what was written where it was. All of this is our own.
+use Rattle.std.specs.Prelude.{◌≡◌, ℕ, ◌+◌, ◌<◌, Bool, false, List, [], ◌++◌, length, take, Option, Result, Ok, Err}
+use Rattle.std.specs.Io.KnownBytes.{append_known}
+use Rattle.flow_table.specs.declared.view.TableView.{TableView}
+use Rattle.app_frames.specs.declared.frame.Event.{Event}
+use Rattle.app_frames.specs.declared.cause.Cause.{Cause}
+use Rattle.lego_model.specs.Places.{Place}
+use Rattle.lego_model.specs.Controller.{event_frame, settle}
+use Rattle.lego_model.specs.RunReport.{turn_line}
+use Rattle.lego_model.specs.declared.turn.TurnWord.TheVariants as words
+use Rattle.outside.specs.Seen.{Seen, Continues}
+use Rattle.outside.specs.State.{state}
+use Rattle.outside.specs.Conforming.{Conforming}
+use Rattle.net_txn.specs.Net.{NetState}
+use Rattle.net_txn.specs.Undos.{Undoes}
+use Rattle.app_visor.specs.declared.state.TurnEnd.{TurnEnd}
+use Rattle.app_visor.specs.declared.state.TurnEnd.TheVariants as ends
+use Rattle.app_visor.specs.Turns.{Turns}
+use Rattle.shown_runs.specs.Engine.{Engine, budget, stimuli_in}
+use Rattle.shown_runs.specs.Readings.{JudgesAlike}
+use Rattle.shown_runs.specs.Facts.{name, turn_word, StartsAgain, TakesTurn, Dispatches}
+use Rattle.shown_runs.specs.Moves.{Settled, Shown, ShownIdle, ShownOver, ShownRounds, ShownToEnd, dispatch_next, times}
+use Rattle.shown_runs.specs.FirstLaws.{engine_at_first}
+use Rattle.shown_runs.specs.Endings.{ShownStart, ShownFinish, RanOut, RanFull}
+use Rattle.shown_runs.specs.Promise.{most_rounds, EndsAlike, LeavesAlike}
+use Rattle.event_dispatch.specs.declared.batch.Rest.{Rest}
+use Rattle.event_dispatch.specs.declared.batch.Rest.TheVariants as rests
+use Rattle.event_dispatch.specs.declared.run.Run.{Run}
+use Rattle.event_dispatch.specs.declared.served.Served.{Served}
+use Rattle.event_dispatch.specs.declared.served.Served.TheVariants as served
+use Rattle.event_dispatch.specs.Shows.{engine_of}
+
+-- text was noted behind what waits to be written
+abbrev pub Notes : List ℕ → Run → Run → Type 0
+Notes text r now_r = now_r.lines.items ≡ r.lines.items ++ text
+
+-- ---- The application
+
+-- it was started, in some attempts, and how they ended was noted
+pub record Starts {Own : Type 0} (Tells : Type 0) (old new : Seen Own) (r now_r : Run) : Type 0 where
+  pub text : List ℕ
+  pub starts : StartsAgain Tells text old new (engine_of r) (engine_of now_r)
+  pub notes : Notes text r now_r
+
+-- a turn was played, and what it did stays or is undone
+abbrev pub IsPlayed : {Own : Type 0} → Type 0 → TurnEnd → ℕ → Seen Own → Seen Own → NetState → NetState → Type 0
+IsPlayed Tells (ends.Done stop) start mid new mid_net now_net = (new ≡ mid) × (now_net ≡ record mid_net { log = take start mid_net.log })
+IsPlayed Tells (ends.Failed cause) start mid new mid_net now_net = Undoes Tells start mid new mid_net now_net (Ok tt)
+
+pub record PlaysTurn {Own : Type 0} (Tells : Type 0) (accepts : List TableView → Bool) (app number : ℕ) (event : Event) (end : TurnEnd) (old new : Seen Own) (net now_net : NetState) (rest unread : List ℕ) : Type 0 where
+  pub mid : Seen Own
+  pub mid_net : NetState
+  pub turns : Turns Tells accepts app budget rest (event_frame number net.moment event) old mid net mid_net end unread
+  pub played : IsPlayed Tells end (length net.log) mid new mid_net now_net
+
+-- the turn was counted, and how it ended was noted
+pub record IsCounted {Own : Type 0} (stop : Bool) (old new : Seen Own) (r now_r : Run) : Type 0 where
+  pub seen : new ≡ old
+  pub engine : engine_of now_r ≡ record (engine_of r) { done = r.app.done + 1 }
+  pub notes : Notes (turn_line name (turn_word (ends.Done stop))) r now_r
+
+-- and so it was where it failed, and the application started again
+pub record IsRestarted {Own : Type 0} (Tells : Type 0) (cause : Cause) (old new : Seen Own) (r now_r : Run) : Type 0 where
+  pub text : List ℕ
+  pub starts : StartsAgain Tells text old new (record (engine_of r) { failed = r.app.failed + 1 }) (engine_of now_r)
+  pub notes : Notes (turn_line name (words.Failed cause) ++ text) r now_r
+
+abbrev pub Closes : {Own : Type 0} → Type 0 → TurnEnd → Seen Own → Seen Own → Run → Run → Type 0
+Closes Tells (ends.Done stop) old new r now_r = IsCounted stop old new r now_r
+Closes Tells (ends.Failed cause) old new r now_r = IsRestarted Tells cause old new r now_r
+
+-- the application had its turn
+pub record HasTurn {Own : Type 0} (Tells : Type 0) (accepts : List TableView → Bool) (event : Event) (old new : Seen Own) (r now_r : Run) : Type 0 where
+  pub text : List ℕ
+  pub takes : TakesTurn Tells accepts event text old new (engine_of r) (engine_of now_r)
+  pub notes : Notes text r now_r
+
+-- an event was dispatched
+pub record IsDispatched {Own : Type 0} (Tells : Type 0) (accepts : List TableView → Bool) (event : Event) (old new : Seen Own) (r now_r : Run) : Type 0 where
+  pub text : List ℕ
+  pub dispatches : Dispatches Tells accepts event text old new (engine_of r) (engine_of now_r)
+  pub notes : Notes text r now_r
+
+-- ---- Events that wait, where no line waits to be written
+
+-- the text that was written, and then none waits
+pub record Writes (text : List ℕ) (contents now_contents : Option (List ℕ)) (now_r : Run) : Type 0 where
+  pub written : now_contents ≡ append_known contents text
+  pub none_waits : now_r.lines.items ≡ []
+
+-- The oldest event was dispatched and its lines written, or there was none and nothing was done.
+pub record SettlesOne {Own : Type 0} (Tells : Type 0) (accepts : List TableView → Bool) (found : Bool) (contents now_contents : Option (List ℕ)) (old new : Seen Own) (r now_r : Run) : Type 0 where
+  pub text : List ℕ
+  pub shown : Shown Tells accepts [] dispatch_next text old new (engine_of r) (engine_of now_r)
+  pub writes : Writes text contents now_contents now_r
+  pub none : found ≡ false → now_r.queue ≡ []
+
+-- so many times
+pub record SettlesSome {Own : Type 0} (Tells : Type 0) (accepts : List TableView → Bool) (n : ℕ) (contents now_contents : Option (List ℕ)) (old new : Seen Own) (r now_r : Run) : Type 0 where
+  pub text : List ℕ
+  pub shown : Shown Tells accepts [] (λ allows q. times n (dispatch_next allows) q) text old new (engine_of r) (engine_of now_r)
+  pub writes : Writes text contents now_contents now_r
+
+-- up to 1,000 of them
+pub record Settles {Own : Type 0} (Tells : Type 0) (accepts : List TableView → Bool) (contents now_contents : Option (List ℕ)) (old new : Seen Own) (r now_r : Run) : Type 0 where
+  pub text : List ℕ
+  pub shown : Shown Tells accepts [] settle text old new (engine_of r) (engine_of now_r)
+  pub writes : Writes text contents now_contents now_r
+
+-- ---- Rounds
+
+-- the last batch, that has no stimulus, since none is to come
+pub record IsLast {Own : Type 0} (Tells : Type 0) (old new : Seen Own) (e now_e : Engine) : Type 0 where
+  pub over : ShownOver Tells old new e now_e
+  pub none_to_come : Tells → Conforming new → Settled old e → (state old).to_come ≡ []
+
+-- a batch: one stimulus with its items, or the last one
+abbrev pub IsBatch : {Own : Type 0} → Type 0 → Rest → Seen Own → Seen Own → Engine → Engine → Type 0
+IsBatch Tells rests.Idle old new e now_e = ShownIdle Tells old new e now_e
+IsBatch Tells rests.End old new e now_e = IsLast Tells old new e now_e
+
+-- a batch, and then the events that wait
+pub record GoesRound {Own : Type 0} (Tells : Type 0) (accepts : List TableView → Bool) (rest : Rest) (contents now_contents : Option (List ℕ)) (old new : Seen Own) (r now_r : Run) : Type 0 where
+  pub mid : Seen Own
+  pub mid_run : Run
+  pub first : Continues Tells old mid
+  pub batch : IsBatch Tells rest old mid (engine_of r) (engine_of mid_run)
+  pub later : Continues Tells mid new
+  pub settles : Settles Tells accepts contents now_contents mid new mid_run now_r
+
+-- so many rounds
+pub record GoesRounds {Own : Type 0} (Tells : Type 0) (accepts : List TableView → Bool) (number : ℕ) (contents now_contents : Option (List ℕ)) (old new : Seen Own) (r now_r : Run) : Type 0 where
+  pub text : List ℕ
+  pub shown : ShownRounds Tells accepts number text old new (engine_of r) (engine_of now_r)
+  pub writes : Writes text contents now_contents now_r
+
+-- in a world that keeps its word no stimulus is to come, where they are fewer than this
+pub record NoneToCome {Own : Type 0} (Tells : Type 0) (accepts : List TableView → Bool) (old new : Seen Own) (e : Engine) : Type 0 where
+  pub none : (allows : List Place → Bool) → Tells → Conforming new → JudgesAlike Own allows accepts → Settled old e → length (stimuli_in new) < most_rounds → (state new).to_come ≡ []
+
+-- all of them
+pub record GoesToEnd {Own : Type 0} (Tells : Type 0) (accepts : List TableView → Bool) (contents now_contents : Option (List ℕ)) (old new : Seen Own) (r now_r : Run) : Type 0 where
+  pub text : List ℕ
+  pub shown : ShownToEnd Tells accepts most_rounds text old new (engine_of r) (engine_of now_r)
+  pub none_to_come : NoneToCome Tells accepts old new (engine_of r)
+  pub writes : Writes text contents now_contents now_r
+
+-- ---- The start, and the end
+
+pub record Begins {Own : Type 0} (Tells : Type 0) (contents now_contents : Option (List ℕ)) (old new : Seen Own) (r now_r : Run) : Type 0 where
+  pub text : List ℕ
+  pub shown : ShownStart Tells text old new (engine_of r) (engine_of now_r)
+  pub writes : Writes text contents now_contents now_r
+
+pub record EndsReport {Own : Type 0} (Tells : Type 0) (contents now_contents : Option (List ℕ)) (last new : Seen Own) (r now_r : Run) : Type 0 where
+  pub finish : ShownFinish Tells contents now_contents last new (engine_of r)
+  pub events : now_r.events ≡ r.events
+
+-- The end of the report was written, where no event is left; else nothing was done.
+abbrev pub Finishes : {Own : Type 0} → Type 0 → Result (Unit {0}) Served → Option (List ℕ) → Option (List ℕ) → Seen Own → Seen Own → Run → Run → Type 0
+Finishes Tells (Ok x) contents now_contents last new r now_r = (r.queue ≡ []) × EndsReport Tells contents now_contents last new r now_r
+Finishes Tells (Err (served.Ended events)) contents now_contents last new r now_r = ⊥
+Finishes Tells (Err (served.EventsLeft left)) contents now_contents last new r now_r = (left ≡ length r.queue) × (now_contents ≡ contents) × (new ≡ last)
+Finishes Tells (Err other) contents now_contents last new r now_r = Unit {0}
+
+-- ---- A whole run of a world that was opened
+
+-- all events were dispatched, so many
+pub record RunsOut {Own : Type 0} (Tells : Type 0) (accepts : List TableView → Bool) (events : ℕ) (contents now_contents : Option (List ℕ)) (old new : Seen Own) (e : Engine) : Type 0 where
+  pub last : Engine
+  pub out : RanOut Tells accepts most_rounds contents now_contents old new e last
+  pub events_so : events ≡ last.events
+  pub none_to_come : NoneToCome Tells accepts old new e
+
+-- so many were left
+pub record RunsFull {Own : Type 0} (Tells : Type 0) (accepts : List TableView → Bool) (left : ℕ) (contents now_contents : Option (List ℕ)) (old new : Seen Own) (e : Engine) : Type 0 where
+  pub full : RanFull Tells accepts most_rounds left contents now_contents old new e
+  pub none_to_come : NoneToCome Tells accepts old new e
+
+abbrev pub GoesAs : {Own : Type 0} → Type 0 → (List TableView → Bool) → Result (Unit {0}) Served → Option (List ℕ) → Option (List ℕ) → Seen Own → Seen Own → Run → Run → Type 0
+GoesAs Tells accepts (Ok x) contents now_contents old new r now_r = RunsOut Tells accepts now_r.events contents now_contents old new (engine_of r)
+GoesAs Tells accepts (Err (served.Ended events)) contents now_contents old new r now_r = ⊥
+GoesAs Tells accepts (Err (served.EventsLeft left)) contents now_contents old new r now_r = RunsFull Tells accepts left contents now_contents old new (engine_of r)
+GoesAs Tells accepts (Err other) contents now_contents old new r now_r = Unit {0}
+
+abbrev pub RunsAs : {Own : Type 0} → Type 0 → (List TableView → Bool) → Result ℕ Served → Option (List ℕ) → Option (List ℕ) → Seen Own → Seen Own → Type 0
+RunsAs Tells accepts (Ok events) contents now_contents old new = RunsOut Tells accepts events contents now_contents old new engine_at_first
+RunsAs Tells accepts (Err (served.Ended events)) contents now_contents old new = ⊥
+RunsAs Tells accepts (Err (served.EventsLeft left)) contents now_contents old new = RunsFull Tells accepts left contents now_contents old new engine_at_first
+RunsAs Tells accepts (Err other) contents now_contents old new = Unit {0}
+
+-- why a world is not opened
+abbrev pub IsUnopened : Served → Type 0
+IsUnopened served.Shut = Unit {0}
+IsUnopened served.NoMemory = Unit {0}
+IsUnopened other = ⊥
+
+-- ---- What a whole run promises
+
+-- All events were dispatched, and no stimulus is to come.
+pub record IsWhole {Own : Type 0} (allows : List Place → Bool) (seen : Seen Own) (contents now_contents : Option (List ℕ)) (events : ℕ) : Type 0 where
+  pub alike : EndsAlike allows seen contents now_contents events
+  pub none_to_come : (state seen).to_come ≡ []
+
+-- Some were left after the last batch.
+pub record IsPart {Own : Type 0} (allows : List Place → Bool) (seen : Seen Own) (contents now_contents : Option (List ℕ)) (left : ℕ) : Type 0 where
+  pub alike : LeavesAlike allows seen contents now_contents left
+  pub none_to_come : (state seen).to_come ≡ []
+
+-- Of a world that tells and keeps its word, on which no call was made before: in both cases the run is the reference controller's, and so
+-- is what was written.
+abbrev pub IsAlike : {Own : Type 0} → (List Place → Bool) → Seen Own → Option (List ℕ) → Option (List ℕ) → Served → Type 0
+IsAlike allows seen contents now_contents (served.Ended events) = IsWhole allows seen contents now_contents events
+IsAlike allows seen contents now_contents (served.EventsLeft left) = IsPart allows seen contents now_contents left
+IsAlike allows seen contents now_contents other = Unit {0}
