@@ -1,7 +1,9 @@
 #!/usr/bin/env python3
-"""Time and peak memory of `legosdn replay` over large inputs: bench/replay.py [PROGRAM]
+"""Time and peak memory of `legosdn replay` over large inputs: bench/replay.py [PROGRAM [SHARE]]
 
-Prints a line for each input: its name, its size in bytes, seconds, and the peak of memory in MiB.
+Prints a line for each input: its name, its size in bytes, the least seconds of a processor in three runs, and the peak of memory in MiB. A session stands twice, once
+half as long: the line behind it says how much longer the whole takes than the half, which is to be at most 2.2 times. Ends with
+status 1 where a report or a status is wrong or a session takes longer. SHARE, as 0.01, makes all sessions shorter, for a trial.
 """
 
 import os
@@ -9,56 +11,109 @@ import resource
 import subprocess
 import sys
 import tempfile
-import time
 
 HERE = os.path.dirname(os.path.abspath(__file__))
 PROGRAM = os.path.join(HERE, "..", "crates", "legosdn", "out", "legosdn")
+MOST = 67_108_864
+GROWTH = 2.2
+FRAME = "ffffffffffff02000000000188b5"
 
-HEAD = "010e005000000000003820fe0001" + "00" * 34 + "00" * 14
-TAIL = "ffffffffffff00000000000800020000"
 
-
-def message(priority):
+def addition(priority, hard=0, flags=0):
     """A FLOW_MOD that adds in_port=1 at a priority, with an output to port 2."""
-    return HEAD[:124] + "%04x" % priority + TAIL
+    head = "010e005000000000003820fe0001" + "00" * 34 + "00" * 8
+    return head + "00000000%04x%04xffffffffffff%04x0000000800020000" % (hard, priority, flags)
 
 
-def session(count, end="done"):
-    steps = " ".join("m:1:" + message(p) for p in range(count))
-    return ("---\nsession 1\nswitch 1 4096 1,2\nreply app %s %s\njoin 1\n" % (steps, end)).encode()
+def big_turn(count, end):
+    """One turn of so many messages, and how it ends."""
+    steps = " ".join("m:1:" + addition(p) for p in range(count))
+    flows = count if end == "done" else 0
+    text = "---\nsession 1\nswitch 1 4096 1,2\nreply app %s %s\njoin 1\n" % (steps, end)
+    return text.encode(), b"end 0 events 1\n", b"switch 1 flows %d\n" % flows
 
 
-def inputs():
-    """Names, inputs and the status that each has to end with."""
-    most = 67_108_864
-    yield "64 MiB of zero bytes", bytes(most), 3
-    yield "64 MiB in one line behind the separator", b"---\n" + b"x" * (most - 4), 3
-    yield "64 MiB of line ends", b"---\n" + b"\n" * (most - 4), 3
-    yield "64 MiB of spaces in lines of 4 MiB", b"---\nsession 1\n" + (b" " * 4_194_303 + b"\n") * 15, 3
-    yield "one byte more than 64 MiB", bytes(most + 1), 3
-    for count in (1, 250, 500, 999):
-        yield "%d messages, done" % count, session(count), 0
-    yield "999 messages, closed", session(999, "closed"), 0
-    yield "999 messages, read and not run", session(999).replace(b"join 1\n", b""), 0
+def busy(stimuli):
+    """A session with so many stimuli: frames that meet no entry and become events, turns that add an entry, of which each tenth
+    closes in its middle and is undone, frames that meet an entry, counts, and moments at which the entry expires."""
+    add = "reply app m:1:%s " % addition(5, hard=2, flags=1)
+    lines = ["---", "session 1", "switch 1 8 1,2", "reply app done", "join 1"]
+    moment, events, given, cycle = 0, 1, 1, 0
+    while given + 4 <= stimuli:
+        cycle += 1
+        moment += 2
+        if cycle % 10 == 0:
+            lines += [add + "closed", add + "done", "reply app done"]
+            events += 3
+        else:
+            lines += [add + "done", "reply app done"]
+            events += 2
+        lines += ["frame 1 1 " + FRAME, "frame 1 1 " + FRAME, "count 1 5 3 300", "at %d" % moment]
+        given += 4
+    return ("\n".join(lines) + "\n").encode(), b"end %d events %d\n" % (moment, events), b"switch 1 flows 0\n"
 
 
-def one(program, path):
-    """Runs the program over a file; prints seconds, the peak in MiB and the status."""
-    with open(path, "rb") as stdin:
-        start = time.monotonic()
-        status = subprocess.run([program, "replay"], stdin=stdin, stdout=subprocess.DEVNULL).returncode
-        seconds = time.monotonic() - start
-    print(seconds, resource.getrusage(resource.RUSAGE_CHILDREN).ru_maxrss / 1024, status)
+def long_frames(size):
+    """A session of so many bytes: frames of 9,216 bytes, each of which becomes an event and a turn."""
+    head = b"---\nsession 1\nswitch 1 8 1,2\njoin 1\n"
+    line = b"frame 1 1 " + FRAME.encode() + b"00" * (9216 - 14) + b"\n"
+    count = (size - len(head)) // len(line)
+    rest = size - len(head) - count * len(line)
+    return head + line * count + b"#" * (rest - 1) + b"\n" * (rest > 0), b"end 0 events %d\n" % (count + 1), b"switch 1 flows 0\n"
 
 
-def run(program, data):
-    """The same in a small process of its own, so that the peak is the program's."""
-    with tempfile.NamedTemporaryFile() as file:
-        file.write(data)
-        file.flush()
-        done = subprocess.run([sys.executable, __file__, "--one", program, file.name], stdout=subprocess.PIPE)
-    seconds, mebibytes, status = done.stdout.split()
-    return float(seconds), float(mebibytes), int(status)
+def refused():
+    """Names, inputs and the line that refuses them."""
+    yield "64 MiB of zero bytes", bytes(MOST), b"bad separator\n"
+    yield "64 MiB in one line behind the separator", b"---\n" + b"x" * (MOST - 4), b"bad session 2 long\n"
+    yield "64 MiB of line ends before a policy's end", b"\n" * (MOST - 4) + b"---\n", b"bad policy later\n"
+    yield "64 MiB of spaces in lines of 4 MiB", b"---\nsession 1\n" + (b" " * 4_194_303 + b"\n") * 15, b"bad session 3 word\n"
+    yield "one byte more than 64 MiB", bytes(MOST + 1), b"bad size\n"
+
+
+def sessions(share):
+    """Names, and sessions with the last line and one more line of their reports; the half first, where there is one."""
+    for count, end in ((1, "done"), (250, "done"), (500, "done"), (999, "done"), (999, "closed")):
+        yield "%d messages, %s" % (count, end), [big_turn(count, end)]
+    n = int(100_000 * share)
+    yield "%d stimuli: turns, frames, expiries" % n, [busy(n // 2), busy(n)]
+    n = int(MOST * share)
+    yield "%.3g MiB: long frames" % (n / 2**20), [long_frames(n // 2), long_frames(n)]
+    n = int(1_000_000 * share)
+    yield "%d moments" % n, [(b"---\nsession 1\nswitch 1 8 1\njoin 1\n" + b"at 1\n" * k, b"end 1 events 1\n", b"") for k in (n // 2, n - 1)]
+
+
+def processor_seconds():
+    """What the processes that this one has waited for took of a processor."""
+    used = resource.getrusage(resource.RUSAGE_CHILDREN)
+    return used.ru_utime + used.ru_stime
+
+
+def one(program, path, report):
+    """Runs the program three times over a file; prints the least seconds of a processor, the peak in MiB and the status."""
+    seconds = []
+    for _ in range(3):
+        with open(path, "rb") as stdin, open(report, "wb") as stdout:
+            start = processor_seconds()
+            status = subprocess.run([program, "replay"], stdin=stdin, stdout=stdout).returncode
+            seconds.append(processor_seconds() - start)
+    print(min(seconds), resource.getrusage(resource.RUSAGE_CHILDREN).ru_maxrss / 1024, status)
+
+
+def run(program, name, data, status, last, within):
+    """Runs the program in a small process of its own, so that the peak is the program's; prints a line. Gives the seconds, and
+    whether the status and the report are as they are to be."""
+    with tempfile.TemporaryDirectory() as room:
+        path, report = os.path.join(room, "input"), os.path.join(room, "report")
+        with open(path, "wb") as file:
+            file.write(data)
+        done = subprocess.run([sys.executable, __file__, "--one", program, path, report], stdout=subprocess.PIPE)
+        with open(report, "rb") as file:
+            text = file.read()
+    seconds, mebibytes, got = done.stdout.split()
+    right = int(got) == status and text.endswith(last) and within in text
+    print("%-44s %10d bytes %8.3f s %8.1f MiB%s" % (name, len(data), float(seconds), float(mebibytes), "" if right else "  WRONG"))
+    return float(seconds), right
 
 
 def main():
@@ -66,14 +121,22 @@ def main():
         one(*sys.argv[2:])
         return 0
     program = sys.argv[1] if len(sys.argv) > 1 else PROGRAM
-    failed = 0
-    for name, data, due in inputs():
-        seconds, mebibytes, status = run(program, data)
-        print("%-42s %10d bytes %8.3f s %8.1f MiB" % (name, len(data), seconds, mebibytes))
-        if status != due:
-            failed += 1
-            print("  ended with status %d, not %d" % (status, due))
-    return 1 if failed else 0
+    share = float(sys.argv[2]) if len(sys.argv) > 2 else 1.0
+    wrong = 0
+    for name, data, line in refused() if share == 1.0 else ():
+        wrong += not run(program, name, data, 3, line, line)[1]
+    for name, cases in sessions(share):
+        times = []
+        for case, (data, last, within) in enumerate(cases):
+            half = len(cases) == 2 and case == 0
+            seconds, right = run(program, name + (", half" if half else ""), data, 0, last, within)
+            wrong += not right
+            times.append(seconds)
+        if len(times) == 2:
+            slow = times[1] > GROWTH * times[0] and times[1] > 0.5
+            wrong += slow
+            print("%-44s %.2f times the half's time%s" % ("", times[1] / times[0], "  TOO SLOW" if slow else ""))
+    return 1 if wrong else 0
 
 
 sys.exit(main())

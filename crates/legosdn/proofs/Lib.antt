@@ -1,2 +1,7 @@
-pub mod Playing
-pub mod Reporting
+mod Cutting
+mod Pieces
+mod Reading
+mod Statuses
+mod Loads
+mod Causes
+mod Runs

@@ -1,17 +1,25 @@
--- What a replay promises: the run of the reference controller over the input, seen in the report, in the table and in the journal.
-use Rattle.std.specs.Prelude.{◌≡◌, ◌⊎◌, ℕ, Bool, true, false, IsOk, IsSome, List, [], ◌∷◌, Option, IfSome, Ok, codes}
-use Rattle.std.specs.List.{AllByRecursion}
+-- What a command promises: how it ends, why, and what it wrote last.
+use Rattle.std.specs.Prelude.{◌≡◌, ◌⊎◌, ◌≤◌, ℕ, Bool, true, false, List, [], ◌∷◌, Option, IfSome, Result, Ok, Err, codes}
 use Rattle.std.specs.Str.{bytes_eq}
 use Rattle.std.specs.Io.KnownBytes.{append_known}
-use Rattle.lego_io.specs.Count.{Rose}
+use Rattle.lego_io.specs.Count.{Rose, NeverFell}
+use Rattle.lego_io.specs.Source.{ended}
 use Rattle.lego_io.specs.Sink.{TookPart}
-use Rattle.lego_model.specs.Session.{Session}
-use Rattle.lego_model.specs.Grammar.{session_of}
-use Rattle.lego_model.specs.Reference.{reference}
-use Rattle.lego_model.specs.Report.{report}
+use Rattle.outside.specs.Seen.{Counts, Seen}
+use Rattle.sim_world.specs.Told.{without_links}
+use Rattle.sim_world.specs.Scripts.{Scripts, KeepsScripts}
+use Rattle.sim_world.specs.World.{WorldData, IsReadable, seen_of}
+use Rattle.shown_runs.specs.Engine.{stimuli_in}
+use Rattle.shown_runs.specs.Promise.{EndsAlike, LeavesAlike}
+use Rattle.lego_model.specs.Places.{Place}
+use Rattle.net_txn.specs.declared.fault.TxnFault.{TxnFault}
+use Rattle.event_dispatch.specs.Why.{IsWhyTxn}
+use Rattle.lego_model.specs.SessionLines.{SessionValue}
+use Rattle.session_text.specs.Loading.{given_by}
+use Rattle.legosdn.specs.Input.{session_of}
 use Rattle.legosdn.specs.declared.stop.Stop.{Stop}
-use Rattle.legosdn.specs.Stops.{stop_status, stop_line}
-use Rattle.session_text.specs.Journal.{Journal, table_of, journal_of}
+use Rattle.legosdn.specs.declared.stop.Stop.TheVariants.{Usage, Refused, ReadFault, WriteFault, Shut, NextFault, SwitchFault, SwitchBroke, Diverged, EventsLeft, NoMemory}
+use Rattle.legosdn.specs.Stops.{stop_status, stop_line, stop_of_switch}
 
 -- the one command
 abbrev pub is_command : List (List ℕ) → Bool
@@ -19,48 +27,130 @@ is_command [] = false
 is_command (word ∷ []) = bytes_eq word (codes "replay")
 is_command (word ∷ next ∷ more) = false
 
--- the entries of each joined switch are those that the journal leaves
-abbrev pub TablesAgree : Session → Journal → Type 0
-TablesAgree session journal = AllByRecursion (λ t. t.1.entries ≡ table_of journal) (reference session).tables
+-- How often the source, the sink and the world failed.
+pub record Faults : Type 0 where
+  pub source : ℕ
+  pub sink : ℕ
+  pub world : Counts
 
--- a turn that was cut off left nothing, and one that had ended left all of its change
-abbrev pub LeavesNoHalf : Session → Journal → Type 0
-LeavesNoHalf session journal = (table_of journal ≡ []) ⊎ TablesAgree session journal
+abbrev pub faults_of : ℕ → ℕ → Counts → Faults
+faults_of source sink world = record { source = source; sink = sink; world = world }
 
--- The text is the report of the reference controller over the session that the input spells, the input is
--- all that the source told, the journal is that session's, and so is the table.
-pub record Replayed (told : Option (List ℕ)) (journal : Journal) (text : List ℕ) : Type 0 where
+-- a switch failed, which stops the run so
+abbrev pub IsSwitchCause : Counts → Counts → Stop → Type 0
+IsSwitchCause old new stop = (fault : TxnFault) × (stop ≡ stop_of_switch fault) × IsWhyTxn old new fault
+
+-- why an input is not read, or refused for its size
+abbrev pub IsReadCause : Option (List ℕ) → ℕ → ℕ → Stop → Type 0
+IsReadCause told old new (Refused refusal) = IfSome told (λ input. session_of input ≡ Err refusal)
+IsReadCause told old new ReadFault = Rose old new
+IsReadCause told old new NoMemory = Unit {0}
+IsReadCause told old new other = ⊥
+
+-- why a run ends without its whole report
+abbrev pub IsRunCause : ℕ → ℕ → Counts → Counts → Stop → Type 0
+IsRunCause sink_old sink_new old new WriteFault = Rose sink_old sink_new
+IsRunCause sink_old sink_new old new Shut = Rose old.shuts new.shuts
+IsRunCause sink_old sink_new old new NextFault = Rose old.next_faults new.next_faults
+IsRunCause sink_old sink_new old new (SwitchFault d) = Rose (old.link_faults d) (new.link_faults d)
+IsRunCause sink_old sink_new old new (SwitchBroke d) = IsSwitchCause old new (SwitchBroke d)
+IsRunCause sink_old sink_new old new (Diverged d) = IsSwitchCause old new (Diverged d)
+IsRunCause sink_old sink_new old new (EventsLeft left) = 1 ≤ left
+IsRunCause sink_old sink_new old new NoMemory = Unit {0}
+IsRunCause sink_old sink_new old new other = ⊥
+
+-- Why a command stops: the words are no command; all that the source told is refused; what failed is counted; or events are left.
+-- Want of memory may come at any time.
+abbrev pub IsCause : List (List ℕ) → Option (List ℕ) → Faults → Faults → Stop → Type 0
+IsCause words told old new Usage = is_command words ≡ false
+IsCause words told old new (Refused refusal) = IfSome told (λ input. session_of input ≡ Err refusal)
+IsCause words told old new ReadFault = Rose old.source new.source
+IsCause words told old new stop = IsRunCause old.sink new.sink old.world new.world stop
+
+-- the stops that come before anything runs
+abbrev pub IsEarly : Stop → Type 0
+IsEarly Usage = Unit {0}
+IsEarly (Refused refusal) = Unit {0}
+IsEarly ReadFault = Unit {0}
+IsEarly other = ⊥
+
+-- the stops that come once the world runs
+abbrev pub IsLate : Stop → Type 0
+IsLate WriteFault = Unit {0}
+IsLate Shut = Unit {0}
+IsLate NextFault = Unit {0}
+IsLate (SwitchFault d) = Unit {0}
+IsLate (SwitchBroke d) = Unit {0}
+IsLate (Diverged d) = Unit {0}
+IsLate (EventsLeft left) = Unit {0}
+IsLate other = ⊥
+
+-- The source was read to its end, what it told spells a session, and the world was given that session.
+pub record Loaded (told left : Option (List ℕ)) (seen : Seen Scripts) : Type 0 where
   pub input : List ℕ
-  pub session : Session
-  pub whole : IfSome told (λ left. input ≡ left)
+  pub session : SessionValue
+  pub whole : IfSome told (λ bytes. input ≡ bytes)
+  pub end : left ≡ ended told
   pub spelled : session_of input ≡ Ok session
-  pub reported : text ≡ report session
-  pub acts : journal ≡ journal_of session
-  pub tables : TablesAgree session journal
+  pub given : seen.given ≡ given_by session
+
+-- ---- What a run is
+
+-- the judge lets every table be
+abbrev pub all_allowed : List Place → Bool
+all_allowed places = true
+
+-- All stimuli that the world was given were told, and the run is that of the reference controller over them: at every quiet place the
+-- tables agree, the application was given what it is given there, no event is left, and what was written is the whole report.
+pub record RunsWhole (seen : Seen Scripts) (contents now_contents : Option (List ℕ)) : Type 0 where
+  pub events : ℕ
+  pub alike : EndsAlike all_allowed seen contents now_contents events
+  pub stimuli : stimuli_in seen ≡ seen.given.stimuli
+
+-- The same with so many events left, and with the lines of those that were dispatched.
+pub record RunsPart (seen : Seen Scripts) (contents now_contents : Option (List ℕ)) (left : ℕ) : Type 0 where
+  pub alike : LeavesAlike all_allowed seen contents now_contents left
+  pub stimuli : stimuli_in seen ≡ seen.given.stimuli
+
+-- how a run goes that ends so, unless a stimulus sends bytes that are no message
+abbrev pub StopsAs : Stop → WorldData → Option (List ℕ) → Option (List ℕ) → Type 0
+StopsAs (EventsLeft left) sim contents now_contents = IsReadable sim.history ≡ true → RunsPart (seen_of sim) contents now_contents left
+StopsAs other sim contents now_contents = Unit {0}
+
+abbrev pub RunsAs : {T : Type 0} → Result T Stop → WorldData → Option (List ℕ) → Option (List ℕ) → Type 0
+RunsAs (Ok x) sim contents now_contents = IsReadable sim.history ≡ true → RunsWhole (seen_of sim) contents now_contents
+RunsAs (Err stop) sim contents now_contents = StopsAs stop sim contents now_contents
+
+-- each start of the application, and all that it gave and was given, went as the lines of the session say
+abbrev pub KeepsLines : WorldData → Type 0
+KeepsLines sim = KeepsScripts sim.scripts (without_links sim.fails) sim.history
+
+-- ---- What is written
 
 -- the bytes were written, or the sink failed and a part of them was
 abbrev pub Wrote : Option (List ℕ) → Option (List ℕ) → ℕ → ℕ → List ℕ → Type 0
 Wrote old new faults_old faults_new bytes = (new ≡ append_known old bytes) ⊎ (Rose faults_old faults_new × TookPart old new bytes)
 
--- a run of the reference controller whose report meets P
-pub record ReplayedTo (told : Option (List ℕ)) (journal : Journal) (P : List ℕ → Type 0) : Type 0 where
-  pub text : List ℕ
-  pub replayed : Replayed told journal text
-  pub written : P text
+-- the same behind what was written before
+pub record WroteLast (new : Option (List ℕ)) (faults_old faults_new : ℕ) (bytes : List ℕ) : Type 0 where
+  pub before : Option (List ℕ)
+  pub faults : ℕ
+  pub never_fell : NeverFell faults_old faults
+  pub written : Wrote before new faults faults_new bytes
 
--- where a call stopped, no switch has an entry, or all of the change of a session that the source told
-abbrev pub NoHalf : Option (List ℕ) → Journal → Type 0
-NoHalf told journal = (table_of journal ≡ []) ⊎ ((session : Session) × IfSome told (λ input. session_of input ≡ Ok session) × TablesAgree session journal)
+-- Events are left: their number is in the last line, behind the lines of the events that were dispatched.
+pub record LeftAs (sim : WorldData) (contents now_contents : Option (List ℕ)) (faults_old faults_new : ℕ) : Type 0 where
+  pub left : ℕ
+  pub some : 1 ≤ left
+  pub before : Option (List ℕ)
+  pub faults : ℕ
+  pub never_fell : NeverFell faults_old faults
+  pub run : IsReadable sim.history ≡ true → RunsPart (seen_of sim) contents before left
+  pub written : Wrote before now_contents faults faults_new (stop_line (EventsLeft left))
 
--- 0 and 5 come with a report, written whole or cut; any other status is that of a stop
-abbrev pub IsStatus : ℕ → Type 0
-IsStatus status = ((status ≡ 0) ⊎ (status ≡ 5)) ⊎ ((stop : Stop) × (status ≡ stop_status stop))
-
--- the line of a status that ends without a report meets P
-abbrev pub OnStop : ℕ → (List ℕ → Type 0) → Type 0
-OnStop status P = (stop : Stop) → status ≡ stop_status stop → P (stop_line stop)
-
--- Where the words are the command, the input is a session and nothing failed, the report was written or memory ran out.
-abbrev pub IsComplete : List (List ℕ) → Option (List ℕ) → Type 0 → Type 0 → ℕ → Type 0
-IsComplete words told read_failed write_failed status =
-    is_command words ≡ true → IfSome told (λ input. IsOk (session_of input)) → IsSome told → ¬ read_failed → ¬ write_failed → (status ≡ 0) ⊎ (status ≡ 12)
+-- a stop of this status, with its cause
+pub record Stopped (words : List (List ℕ)) (told : Option (List ℕ)) (old new : Faults) (status : ℕ) (P : Stop → Type 0) : Type 0 where
+  pub stop : Stop
+  pub is : status ≡ stop_status stop
+  pub cause : IsCause words told old new stop
+  pub so : P stop

@@ -1,4 +1,3 @@
-pub mod Turn
-pub mod Idle
 pub mod Stops
+pub mod Input
 pub mod Headline

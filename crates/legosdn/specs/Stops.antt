@@ -1,22 +1,80 @@
--- How a call ends without a report: its status, and the one line that it writes. Our own choice.
-use Rattle.std.specs.Prelude.{ℕ, List, [], ◌∷◌, ◌++◌, codes}
-use Rattle.session_text.specs.declared.error.PlainSessionError.{PlainSessionError}
-use Rattle.session_text.specs.declared.error.PlainSessionError.TheVariants as session
+-- How a command ends without the whole report: its status, and the line that is written last. Our own choice.
+use Rattle.std.specs.Prelude.{ℕ, List, [], ◌++◌, codes}
+use Rattle.std.specs.Fmt.{decimal}
+use Rattle.lego_io.specs.declared.transfer.ReadAllFault.{ReadAllFault}
+use Rattle.lego_io.specs.declared.transfer.ReadAllFault.TheVariants as reading
+use Rattle.lego_model.specs.declared.session.SessionKind.{SessionKind}
+use Rattle.lego_model.specs.declared.session.SessionKind.TheVariants as kinds
+use Rattle.lego_model.specs.Report.{line_of}
+use Rattle.net_txn.specs.declared.fault.TxnFault.{TxnFault}
+use Rattle.net_txn.specs.declared.fault.TxnFault.TheVariants as faults
+use Rattle.session_text.specs.declared.text_fault.SessionError.{SessionError}
+use Rattle.session_text.specs.declared.text_fault.SessionError.TheVariants as text
+use Rattle.legosdn.specs.declared.stop.Refusal.{Refusal}
+use Rattle.legosdn.specs.declared.stop.Refusal.TheVariants as refusals
 use Rattle.legosdn.specs.declared.stop.Stop.{Stop}
-use Rattle.legosdn.specs.declared.stop.Stop.TheVariants.{Usage, BadInput, ReadFault, NoMemory}
-
-abbrev pub stop_of_session : PlainSessionError → Stop
-stop_of_session session.BadInput = BadInput
-stop_of_session session.NoMemory = NoMemory
+use Rattle.legosdn.specs.declared.stop.Stop.TheVariants as stops
 
 abbrev pub stop_status : Stop → ℕ
-stop_status Usage = 2
-stop_status BadInput = 3
-stop_status ReadFault = 4
-stop_status NoMemory = 12
+stop_status stops.Usage = 2
+stop_status (stops.Refused refusal) = 3
+stop_status stops.ReadFault = 4
+stop_status stops.WriteFault = 5
+stop_status stops.Shut = 6
+stop_status stops.NextFault = 6
+stop_status (stops.SwitchFault dpid) = 7
+stop_status (stops.SwitchBroke dpid) = 8
+stop_status (stops.Diverged dpid) = 9
+stop_status (stops.EventsLeft left) = 10
+stop_status stops.NoMemory = 12
 
-abbrev pub stop_line : Stop → List ℕ
-stop_line Usage = codes "usage: legosdn replay" ++ 10 ∷ []
-stop_line BadInput = codes "bad input" ++ 10 ∷ []
-stop_line ReadFault = codes "read fault" ++ 10 ∷ []
-stop_line NoMemory = codes "no memory" ++ 10 ∷ []
+-- ---- Lines
+
+abbrev pub kind_word : SessionKind → List ℕ
+kind_word kinds.Long = codes "long"
+kind_word kinds.Text = codes "text"
+kind_word kinds.Order = codes "order"
+kind_word kinds.Word = codes "word"
+kind_word kinds.Number = codes "number"
+kind_word kinds.Range = codes "range"
+kind_word kinds.Hex = codes "hex"
+kind_word kinds.Switch = codes "switch"
+kind_word kinds.App = codes "app"
+kind_word kinds.Raw = codes "raw"
+
+unfoldable pub refusal_line : Refusal → List ℕ
+refusal_line refusals.Size = line_of (codes "bad size")
+refusal_line refusals.Separator = line_of (codes "bad separator")
+refusal_line refusals.PolicyLater = line_of (codes "bad policy later")
+refusal_line (refusals.Session fault) = codes "bad session " ++ decimal fault.line ++ line_of (codes " " ++ kind_word fault.kind)
+
+unfoldable pub stop_line : Stop → List ℕ
+stop_line stops.Usage = line_of (codes "usage: legosdn replay")
+stop_line (stops.Refused refusal) = refusal_line refusal
+stop_line stops.ReadFault = line_of (codes "read fault")
+stop_line stops.WriteFault = []
+stop_line stops.Shut = line_of (codes "world shut")
+stop_line stops.NextFault = line_of (codes "world fault")
+stop_line (stops.SwitchFault dpid) = line_of (codes "switch fault " ++ decimal dpid)
+stop_line (stops.SwitchBroke dpid) = line_of (codes "switch broke " ++ decimal dpid)
+stop_line (stops.Diverged dpid) = line_of (codes "diverged " ++ decimal dpid)
+stop_line (stops.EventsLeft left) = line_of (codes "events left " ++ decimal left)
+stop_line stops.NoMemory = line_of (codes "no memory")
+
+-- ---- What faults are as stops
+
+abbrev pub stop_of_reading : ReadAllFault → Stop
+stop_of_reading reading.Read = stops.ReadFault
+stop_of_reading reading.TooLong = stops.Refused refusals.Size
+stop_of_reading reading.NoMemory = stops.NoMemory
+
+abbrev pub stop_of_session : SessionError → Stop
+stop_of_session (text.Bad fault) = stops.Refused (refusals.Session fault)
+stop_of_session text.NoMemory = stops.NoMemory
+
+abbrev pub stop_of_switch : TxnFault → Stop
+stop_of_switch (faults.SwitchFault dpid) = stops.SwitchFault dpid
+stop_of_switch (faults.SwitchBroke dpid bytes) = stops.SwitchBroke dpid
+stop_of_switch (faults.Flooded dpid count) = stops.SwitchBroke dpid
+stop_of_switch (faults.Diverged dpid sent got) = stops.Diverged dpid
+stop_of_switch faults.NoMemory = stops.NoMemory

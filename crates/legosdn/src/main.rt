@@ -1,8 +1,7 @@
 //! LegoSDN: an OpenFlow 1.0 controller that outlives its applications.
 #![tactic(auto)]
 
-mod engine;
-mod report;
+mod input;
 mod stop;
 #[cfg(test)]
 mod tests;
@@ -10,7 +9,7 @@ mod top;
 
 use crate::top::legosdn;
 use lego_io::{StdSink, StdSource};
-use session_text::PlainWorld;
+use sim_world::SimWorld;
 use std::alloc::AllocError;
 use std::process::ExitCode;
 use std::{env, io};
@@ -32,7 +31,7 @@ fn run(rt: &HostRuntime) -> Result<u8, AllocError> {
     let words = words_of(rt)?;
     let mut source = StdSource::new(rt, rt.alloc())?;
     let mut sink = StdSink::new(rt, rt.alloc())?;
-    let mut sim = PlainWorld::new(rt.alloc())?;
+    let mut sim = SimWorld::new(rt.alloc())?;
     Ok(legosdn(rt.alloc(), &words, &mut source, &mut sink, &mut sim))
 }
 

@@ -1,66 +1,219 @@
-//! Why a call ends without a report.
+//! Why a command ends without the whole report.
 
-ghost use Rattle.std.specs.Prelude.{◌≡◌};
-ghost use Rattle.legosdn.specs.Stops.{stop_of_session, stop_status, stop_line};
-ghost use Rattle.legosdn.specs.declared.stop.Stop.TheVariants.{NoMemory};
+ghost use Rattle.std.specs.Prelude.{◌≡◌, ◌++◌, codes, OnOk, OnErr, decimal};
+ghost use Rattle.std.specs.Io.KnownBytes.{append_known};
+ghost use Rattle.lego_io.specs.Count.{Rose, NeverFell};
+ghost use Rattle.lego_model.specs.Report.{line_of};
+ghost use Rattle.lego_io.specs.Sink.{TookPart};
+ghost use Rattle.legosdn.specs.Stops.{stop_status, stop_line, refusal_line, kind_word, stop_of_reading, stop_of_session, stop_of_switch};
+ghost use Rattle.legosdn.specs.declared.stop.Stop.TheVariants as stops;
 
-use session_text::PlainSessionError;
+use itoa::Buffer;
+use lego_io::{ReadAllFault, Sink, WriteFault, write_all};
+use lego_model::{SessionFault, SessionKind};
+use net_txn::TxnFault;
+use of_types::Dpid;
+use session_text::SessionError;
 use std::alloc::AllocError;
 
-/// Why a call ends without a report. It writes one line, and has a status of its own.
+/// Why an input is refused.
+#[derive(Clone, Copy, Debug, PartialEq, Eq)]
+pub enum Refusal {
+    /// It has more bytes than an input may have.
+    Size,
+    /// It has no line `---`.
+    Separator,
+    /// It has a policy, which no command takes yet.
+    PolicyLater,
+    /// Behind the separator stands no session: the first fault.
+    Session(SessionFault),
+}
+
+/// Why a command ends without the whole report. It has a status of its own and, but for a failed write, a line.
 #[derive(Clone, Copy, Debug, PartialEq, Eq)]
 pub enum Stop {
     /// The words are no command.
     Usage,
-    /// The input is no session.
-    BadInput,
+    /// The input is refused.
+    Refused(Refusal),
     /// The input could not be read to its end.
     ReadFault,
+    /// The report could not be written.
+    WriteFault,
+    /// The outside stays shut.
+    Shut,
+    /// The outside failed at what comes next.
+    NextFault,
+    /// The link of this switch failed.
+    SwitchFault(Dpid),
+    /// This switch sent what is no message, or too many messages.
+    SwitchBroke(Dpid),
+    /// This switch refused what the controller asked of its own.
+    Diverged(Dpid),
+    /// After the last batch so many events were left.
+    EventsLeft(usize),
     /// Memory ran out.
     NoMemory,
 }
 
 impl Stop {
-    /// The status of the program: 2, 3, 4 or 12.
+    /// The status of the program.
     pub fn status(self) -> u8
         ensures { result ≡ stop_status self }
     {
         match self {
             Stop::Usage => 2,
-            Stop::BadInput => 3,
+            Stop::Refused(_) => 3,
             Stop::ReadFault => 4,
+            Stop::WriteFault => 5,
+            Stop::Shut | Stop::NextFault => 6,
+            Stop::SwitchFault(_) => 7,
+            Stop::SwitchBroke(_) => 8,
+            Stop::Diverged(_) => 9,
+            Stop::EventsLeft(_) => 10,
             Stop::NoMemory => 12,
         }
     }
 
-    /// The line that is written.
-    pub fn line(self) -> &'static str
-        ensures { result.now ≡ stop_line self }
+    /// Writes the line, which takes no memory.
+    #[tactic(auto, unfolding(crate::specs::Stops::stop_line, lego_model::specs::Report::line_of))]
+    pub fn write_line<K: Sink>(self, sink: &mut K) -> Result<(), WriteFault>
+        ensures all { OnOk result (K.contents sink.new ≡ append_known (K.contents sink.old) (stop_line self)) }
+        ensures part { OnErr result (TookPart (K.contents sink.old) (K.contents sink.new) (stop_line self)) }
+        ensures fault_rose { OnErr result (Rose (K.faults sink.old) (K.faults sink.new)) }
+        ensures never_fell { NeverFell (K.faults sink.old) (K.faults sink.new) }
     {
         match self {
-            Stop::Usage => "usage: legosdn replay\n",
-            Stop::BadInput => "bad input\n",
-            Stop::ReadFault => "read fault\n",
-            Stop::NoMemory => "no memory\n",
+            Stop::Usage => write_all(sink, b"usage: legosdn replay\n"),
+            Stop::Refused(refusal) => refusal.write_line(sink),
+            Stop::ReadFault => write_all(sink, b"read fault\n"),
+            Stop::WriteFault => Ok(()),
+            Stop::Shut => write_all(sink, b"world shut\n"),
+            Stop::NextFault => write_all(sink, b"world fault\n"),
+            Stop::SwitchFault(dpid) => write_numbered(sink, b"switch fault ", dpid, b"\n"),
+            Stop::SwitchBroke(dpid) => write_numbered(sink, b"switch broke ", dpid, b"\n"),
+            Stop::Diverged(dpid) => write_numbered(sink, b"diverged ", dpid, b"\n"),
+            Stop::EventsLeft(left) => write_numbered(sink, b"events left ", left as u64, b"\n"),
+            Stop::NoMemory => write_all(sink, b"no memory\n"),
         }
     }
 }
 
-impl From<AllocError> for Stop {
-    ghost from_gives = { λ _ stop. stop ≡ NoMemory };
+impl Refusal {
+    /// Writes the line, which takes no memory.
+    #[tactic(auto, unfolding(crate::specs::Stops::refusal_line, lego_model::specs::Report::line_of))]
+    fn write_line<K: Sink>(self, sink: &mut K) -> Result<(), WriteFault>
+        ensures all { OnOk result (K.contents sink.new ≡ append_known (K.contents sink.old) (refusal_line self)) }
+        ensures part { OnErr result (TookPart (K.contents sink.old) (K.contents sink.new) (refusal_line self)) }
+        ensures fault_rose { OnErr result (Rose (K.faults sink.old) (K.faults sink.new)) }
+        ensures never_fell { NeverFell (K.faults sink.old) (K.faults sink.new) }
+    {
+        match self {
+            Refusal::Size => write_all(sink, b"bad size\n"),
+            Refusal::Separator => write_all(sink, b"bad separator\n"),
+            Refusal::PolicyLater => write_all(sink, b"bad policy later\n"),
+            Refusal::Session(fault) => {
+                let kind = kind_end(fault.kind);
+                write_numbered(sink, b"bad session ", fault.line, kind.as_bytes())
+            }
+        }
+    }
+}
 
-    fn from(_fault: AllocError) -> Stop {
+/// Writes a number in decimal digits.
+fn write_number<K: Sink>(sink: &mut K, number: u64) -> Result<(), WriteFault>
+    ensures all { OnOk result (K.contents sink.new ≡ append_known (K.contents sink.old) (decimal number)) }
+    ensures part { OnErr result (TookPart (K.contents sink.old) (K.contents sink.new) (decimal number)) }
+    ensures fault_rose { OnErr result (Rose (K.faults sink.old) (K.faults sink.new)) }
+    ensures never_fell { NeverFell (K.faults sink.old) (K.faults sink.new) }
+{
+    write_all(sink, Buffer::new().format(number).as_bytes())
+}
+
+/// Writes a line with a number in it.
+fn write_numbered<K: Sink>(
+    sink: &mut K,
+    front: &[u8],
+    number: u64,
+    end: &[u8],
+) -> Result<(), WriteFault>
+    ensures all { OnOk result (K.contents sink.new ≡ append_known (K.contents sink.old) (front.now ++ decimal number ++ end.now)) }
+    ensures part { OnErr result (TookPart (K.contents sink.old) (K.contents sink.new) (front.now ++ decimal number ++ end.now)) }
+    ensures fault_rose { OnErr result (Rose (K.faults sink.old) (K.faults sink.new)) }
+    ensures never_fell { NeverFell (K.faults sink.old) (K.faults sink.new) }
+{
+    write_all(sink, front)?;
+    write_number(sink, number)?;
+    write_all(sink, end)
+}
+
+/// What is wrong with a line of a session, as the end of a line.
+#[tactic(auto, unfolding(lego_model::specs::Report::line_of))]
+fn kind_end(kind: SessionKind) -> &'static str
+    ensures { result.now ≡ line_of (codes " " ++ kind_word kind) }
+{
+    match kind {
+        SessionKind::Long => " long\n",
+        SessionKind::Text => " text\n",
+        SessionKind::Order => " order\n",
+        SessionKind::Word => " word\n",
+        SessionKind::Number => " number\n",
+        SessionKind::Range => " range\n",
+        SessionKind::Hex => " hex\n",
+        SessionKind::Switch => " switch\n",
+        SessionKind::App => " app\n",
+        SessionKind::Raw => " raw\n",
+    }
+}
+
+impl From<AllocError> for Stop {
+    ghost from_gives = { λ _ stop. stop ≡ stops.NoMemory };
+
+    fn from(_error: AllocError) -> Stop {
         Stop::NoMemory
     }
 }
 
-impl From<PlainSessionError> for Stop {
+impl From<Refusal> for Stop {
+    ghost from_gives = { λ refusal stop. stop ≡ stops.Refused refusal };
+
+    fn from(refusal: Refusal) -> Stop {
+        Stop::Refused(refusal)
+    }
+}
+
+impl From<ReadAllFault> for Stop {
+    ghost from_gives = { λ fault stop. stop ≡ stop_of_reading fault };
+
+    fn from(fault: ReadAllFault) -> Stop {
+        match fault {
+            ReadAllFault::Read => Stop::ReadFault,
+            ReadAllFault::TooLong => Stop::Refused(Refusal::Size),
+            ReadAllFault::NoMemory => Stop::NoMemory,
+        }
+    }
+}
+
+impl From<SessionError> for Stop {
     ghost from_gives = { λ error stop. stop ≡ stop_of_session error };
 
-    fn from(error: PlainSessionError) -> Stop {
+    fn from(error: SessionError) -> Stop {
         match error {
-            PlainSessionError::BadInput => Stop::BadInput,
-            PlainSessionError::NoMemory => Stop::NoMemory,
+            SessionError::Bad(fault) => Stop::Refused(Refusal::Session(fault)),
+            SessionError::NoMemory => Stop::NoMemory,
+        }
+    }
+}
+
+impl From<TxnFault> for Stop {
+    ghost from_gives = { λ fault stop. stop ≡ stop_of_switch fault };
+
+    fn from(fault: TxnFault) -> Stop {
+        match fault {
+            TxnFault::SwitchFault(dpid) => Stop::SwitchFault(dpid),
+            TxnFault::SwitchBroke(dpid, _) | TxnFault::Flooded(dpid, _) => Stop::SwitchBroke(dpid),
+            TxnFault::Diverged(dpid, _, _) => Stop::Diverged(dpid),
+            TxnFault::NoMemory => Stop::NoMemory,
         }
     }
 }

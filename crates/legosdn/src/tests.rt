@@ -1,20 +1,32 @@
-//! What the program answers, row by row. The expected answers are written out by hand.
+//! What the program answers. The expected answers are written out by hand.
 
-use super::*;
+mod rows;
+
+use crate::stop::{Refusal, Stop};
+use crate::tests::rows::{
+    ADDS, BREAKS, CLOSES, FULL, GARBLES, LINK_FAILS, MODIFIES, NO_SEPARATOR, NOTHING, ODD_DIGITS,
+    OVERLAPS, STAYS_DOWN,
+};
+use crate::top::{halt, legosdn, play};
 use lego_io::{MemSink, MemSource};
-use std::alloc::Global;
+use lego_model::{SessionFault, SessionKind};
+use outside::CallKind;
+use sim_world::SimWorld;
+use std::alloc::{AllocError, Global};
 use std::process::Abort;
 use std::test::Fail;
 
-/// FLOW_MOD: add in_port=1 at priority 100, output to port 2.
-const ADD: &str =
-    "010e005000000000003820fe00010000000000000000000000000000000000000000000000000000000000000000000000000000000000000000000000000064ffffffffffff00000000000800020000";
+/// How many bytes may be written.
+const ROOM: usize = 1_048_576;
 
-/// The same message up to its priority, and behind it.
-const HEAD: &str =
-    "010e005000000000003820fe0001000000000000000000000000000000000000000000000000000000000000000000000000000000000000000000000000";
-
-const TAIL: &str = "ffffffffffff00000000000800020000";
+/// The text of bytes that were written.
+fn text_of(alloc: Global, bytes: &[u8]) -> Result<String, AllocError> {
+    let mut text = String::new(alloc);
+    for byte in bytes {
+        text.push(char::from(*byte))?;
+    }
+    Ok(text)
+}
 
 /// The answer of one call: its status, and what was written.
 fn answer(
@@ -29,22 +41,16 @@ fn answer(
         all.push(String::from_str(alloc, word)?)?;
     }
     let mut source = MemSource::new(alloc, input, failing_reads)?;
-    let mut sink = MemSink::new(alloc, 1_048_576, failing_writes)?;
-    let mut sim = PlainWorld::new(alloc)?;
+    let mut sink = MemSink::new(alloc, ROOM, failing_writes)?;
+    let mut sim = SimWorld::new(alloc)?;
     let status = legosdn(alloc, &all, &mut source, &mut sink, &mut sim);
-    let mut text = String::new(alloc);
-    for byte in sink.bytes() {
-        text.push(char::from(*byte))?;
-    }
-    Ok((status, text))
+    Ok((status, text_of(alloc, sink.bytes())?))
 }
 
 /// Asserts the answer of `replay` over an input.
 fn replays(
     rt: &(impl Abort + AllocGlobal),
-    input: &str,
-    status: u8,
-    output: &str,
+    (input, status, output): (&str, u8, &str),
 ) -> Result<(), AllocError> {
     let (got, text) = answer(rt.alloc(), &["replay"], input.as_bytes(), &[], &[])?;
     assert_eq!(rt; got, status, "{input}");
@@ -53,165 +59,170 @@ fn replays(
 }
 
 #[test]
-fn sessions(rt: HostRuntime) -> Result<(), Fail> {
-    let alloc = rt.alloc();
-    let done = format!(in alloc;
-        "---\nsession 1\nswitch 1 4 1,2\nreply app m:1:{ADD} done\njoin 1\n"
-    )?;
-    replays(
-        &rt,
-        done.as_str(),
-        0,
-        "start app ready\nevent 1 join 1\nturn app done\nswitch 1 flows 1\nflow 100 in_port=1 cookie=0 idle=0 hard=0 flags=0 packets=0 bytes=0 age=0 actions=0000000800020000\napp app alive done 1 failed 0\nend 0 events 1\n",
-    )?;
-    let closed =
-        "start app ready\nevent 1 join 1\nturn app failed closed\nstart app ready\nswitch 1 flows 0\napp app alive done 0 failed 1\nend 0 events 1\n";
-    for end in [" closed", ""] {
-        let input = format!(in alloc;
-            "---\nsession 1\nswitch 1 4 1,2\nreply app m:1:{ADD}{end}\njoin 1\n"
-        )?;
-        replays(&rt, input.as_str(), 0, closed)?;
+fn inputs_have_their_answers(rt: HostRuntime) -> Result<(), Fail> {
+    let cases = [
+        ADDS,
+        CLOSES,
+        NOTHING,
+        ODD_DIGITS,
+        FULL,
+        MODIFIES,
+        OVERLAPS,
+        GARBLES,
+        STAYS_DOWN,
+        LINK_FAILS,
+        BREAKS,
+        NO_SEPARATOR,
+    ];
+    for case in cases {
+        replays(&rt, case)?;
     }
     Ok(())
 }
 
 #[test]
-fn hostile_inputs(rt: HostRuntime) -> Result<(), Fail> {
-    let alloc = rt.alloc();
-    let idle = "start app ready\napp app alive done 0 failed 0\nend 0 events 0\n";
-    let joined =
-        "start app ready\nevent 1 join 1\nturn app done\nswitch 1 flows 0\napp app alive done 1 failed 0\nend 0 events 1\n";
-    let bad = "bad input\n";
-    // The same key in other bytes: wildcard bits that mean nothing are set.
-    let same =
-        "010e005000000000fff820fe00010000000000000000000000000000000000000000000000000000000000000000000000000000000000000000000000000064ffffffffffff00000000000800020000";
-    let twice = format!(in alloc;
-        "---\nsession 1\nswitch 1 4 1,2\nreply app m:1:{ADD} m:1:{same} done\njoin 1\n"
-    )?;
-    let other_port = format!(in alloc;
-        "---\nsession 1\nswitch 1 4 1,3\nreply app m:1:{ADD} done\njoin 1\n"
-    )?;
-    let other_switch = format!(in alloc;
-        "---\nsession 1\nswitch 1 4 1,2\nreply app m:2:{ADD} done\njoin 1\n"
-    )?;
-    let after_end = format!(in alloc;
-        "---\nsession 1\nswitch 1 4 1,2\nreply app done m:1:{ADD}\njoin 1\n"
-    )?;
-    let late = format!(in alloc;
-        "---\nsession 1\nswitch 1 4 1,2\nreply app m:1:{ADD} done\njoin 1\nat 5\n"
-    )?;
+fn the_first_separator_counts(rt: HostRuntime) -> Result<(), Fail> {
+    let nothing = "start app ready\napp app alive done 0 failed 0\nend 0 events 0\n";
     let cases = [
-        ("---\n", 0, idle),
-        ("---", 0, idle),
-        (
-            "---\r\nsession 1\r\nswitch 1 4 1,2\r\njoin 1\r\n",
-            0,
-            joined,
-        ),
-        ("---\nsession 1\nswitch 1 4 -\njoin 1", 0, joined),
-        ("---\nsession 1\nswitch 1 4 1,2\nreply app done\n", 0, idle),
-        ("", 3, bad),
-        ("--\n", 3, bad),
-        ("\n---\n", 3, bad),
-        ("---\nsession 1\n", 3, bad),
-        ("---\nsession 2\nswitch 1 4 1,2\n", 3, bad),
-        ("---\nsession 1\njoin 1\nswitch 1 4 1,2\n", 3, bad),
-        (
-            "---\nsession 1\nswitch 1 4 1,2\njoin 1\nreply app done\n",
-            3,
-            bad,
-        ),
-        ("---\nsession 1\nswitch 1 4 1,2\njoin 1\njoin 1\n", 3, bad),
-        ("---\nsession 1\nswitch 1 4 1,2\njoin 2\n", 3, bad),
-        (
-            "---\nsession 1\nswitch 1 4 1,2\nreply app\njoin 1\n",
-            3,
-            bad,
-        ),
-        (
-            "---\nsession 1\nswitch 1 4 1,2\nreply app done done\n",
-            3,
-            bad,
-        ),
-        ("---\nsession 1\nswitch 1 4 1,2\n\njoin 1\n", 3, bad),
-        ("---\nsession 1\nswitch 1 4 1,2 \njoin 1\n", 3, bad),
-        ("---\nsession 1\nswitch 0 4 1,2\n", 3, bad),
-        ("---\nsession 1\nswitch 01 4 1,2\n", 3, bad),
-        (
-            "---\nsession 1\nswitch 18446744073709551616 4 1,2\n",
-            3,
-            bad,
-        ),
-        ("---\nsession 1\nswitch 1 0 1,2\n", 3, bad),
-        ("---\nsession 1\nswitch 1 4097 1,2\n", 3, bad),
-        ("---\nsession 1\nswitch 1 4 2,1\n", 3, bad),
-        ("---\nsession 1\nswitch 1 4 1,65281\n", 3, bad),
-        ("---\nsession 1\nswitch 1 4 1,\n", 3, bad),
-        ("---\nsession 1\nswitch 1 4 1,2\0\njoin 1\n", 3, bad),
-        (twice.as_str(), 3, bad),
-        (other_port.as_str(), 3, bad),
-        (other_switch.as_str(), 3, bad),
-        (after_end.as_str(), 3, bad),
-        (late.as_str(), 3, bad),
+        ("---", 0, nothing),
+        ("---\r\n", 0, nothing),
+        ("---\r\nsession 1\r\n", 0, nothing),
+        ("---\n\n# nothing\n", 0, nothing),
+        ("", 3, "bad separator\n"),
+        ("--- \n", 3, "bad separator\n"),
+        ("\n---\n", 3, "bad policy later\n"),
+        ("x = 1\n---\nx\n", 3, "bad policy later\n"),
+        ("---\n---\n", 3, "bad session 2 order\n"),
+        ("---\n\n#\nsession 1\njoin 1\n", 3, "bad session 5 switch\n"),
     ];
-    for (input, status, output) in cases {
-        replays(&rt, input, status, output)?;
+    for case in cases {
+        replays(&rt, case)?;
     }
     Ok(())
 }
 
-/// An input whose turn adds entries at so many priorities, into a table of this capacity.
-fn many(alloc: Global, count: u16, capacity: u16) -> Result<String, AllocError> {
-    let mut input = format!(in alloc; "---\nsession 1\nswitch 1 {capacity} 1,2\nreply app")?;
-    for priority in 0..count {
-        write!(input, " m:1:{HEAD}{priority:04x}{TAIL}")?;
+#[test]
+fn words_that_are_no_command(rt: HostRuntime) -> Result<(), Fail> {
+    let none: &[&str] = &[];
+    let cases: [&[&str]; 7] = [
+        none,
+        &["replay", "x"],
+        &["run", "0", "5"],
+        &["gen", "07", "1"],
+        &["--help"],
+        &["--", "replay"],
+        &[""],
+    ];
+    for words in cases {
+        let (status, text) = answer(rt.alloc(), words, b"---\n", &[1], &[])?;
+        assert_eq!(rt; status, 2);
+        assert_eq!(rt; text.as_str(), "usage: legosdn replay\n");
     }
-    input.push_str(" done\njoin 1\n")?;
+    Ok(())
+}
+
+#[test]
+fn the_source_or_the_sink_fails(rt: HostRuntime) -> Result<(), Fail> {
+    let cases: [(&[u64], &[u64], u8, &str); 5] = [
+        (&[1], &[], 4, "read fault\n"),
+        (&[2], &[], 4, "read fault\n"),
+        (&[1], &[1], 4, ""),
+        (&[], &[1], 5, ""),
+        (&[], &[2], 5, "start app ready\n"),
+    ];
+    for (reads, writes, status, output) in cases {
+        let (got, text) = answer(rt.alloc(), &["replay"], b"---\n", reads, writes)?;
+        assert_eq!(rt; got, status);
+        assert_eq!(rt; text.as_str(), output);
+    }
+    Ok(())
+}
+
+#[test]
+fn the_outside_fails(rt: HostRuntime) -> Result<(), Fail> {
+    let alloc = rt.alloc();
+    for (kind, status, output) in [
+        (CallKind::Open, 6, "world shut\n"),
+        (CallKind::Next, 6, "start app ready\nworld fault\n"),
+        (CallKind::Short, 12, "no memory\n"),
+    ] {
+        let mut sim = SimWorld::new(alloc)?;
+        sim.fail_call(kind, 0, 1)?;
+        let mut sink = MemSink::new(alloc, ROOM, &[])?;
+        let stop = play(alloc, &mut sink, &mut sim).err().ok_or("no stop")?;
+        assert_eq!(rt; halt(&mut sink, stop), status);
+        assert_eq!(rt; text_of(alloc, sink.bytes())?.as_str(), output);
+    }
+    Ok(())
+}
+
+#[test]
+fn stops_have_their_status_and_line(rt: HostRuntime) -> Result<(), Fail> {
+    let alloc = rt.alloc();
+    let last = 18_446_744_073_709_551_615;
+    let fault = SessionFault {
+        line: 4_194_304,
+        kind: SessionKind::Range,
+    };
+    for (stop, status, line) in [
+        (Stop::Usage, 2, "usage: legosdn replay\n"),
+        (Stop::Refused(Refusal::Size), 3, "bad size\n"),
+        (Stop::Refused(Refusal::Separator), 3, "bad separator\n"),
+        (Stop::Refused(Refusal::PolicyLater), 3, "bad policy later\n"),
+        (
+            Stop::Refused(Refusal::Session(fault)),
+            3,
+            "bad session 4194304 range\n",
+        ),
+        (Stop::ReadFault, 4, "read fault\n"),
+        (Stop::WriteFault, 5, ""),
+        (Stop::Shut, 6, "world shut\n"),
+        (Stop::NextFault, 6, "world fault\n"),
+        (Stop::SwitchFault(0), 7, "switch fault 0\n"),
+        (Stop::SwitchBroke(10), 8, "switch broke 10\n"),
+        (Stop::Diverged(last), 9, "diverged 18446744073709551615\n"),
+        (Stop::EventsLeft(500), 10, "events left 500\n"),
+        (Stop::NoMemory, 12, "no memory\n"),
+    ] {
+        let mut sink = MemSink::new(alloc, ROOM, &[])?;
+        assert_eq!(rt; halt(&mut sink, stop), status);
+        assert_eq!(rt; text_of(alloc, sink.bytes())?.as_str(), line);
+    }
+    Ok(())
+}
+
+/// An input in which one frame, when the application is gone, sends 2,500 PACKET_INs: its entry has so many outputs to the
+/// controller.
+fn many_come(alloc: Global) -> Result<String, AllocError> {
+    let mut input = String::from_str(alloc, "---\nsession 1\nswitch 1 4 1,2\n")?;
+    input.push_str("start app ready\nstart app refused\nstart app refused\nstart app refused\n")?;
+    input.push_str(
+        "reply app m:1:010e4e6800000000003820fe00010000000000000000000000000000000000000000000000000000000000000000000000000000000000000000000000000000ffffffffffff0000",
+    )?;
+    for _ in 0..2500u32 {
+        input.push_str("00000008fffd0000")?;
+    }
+    input.push_str(" done\nreply app closed\njoin 1\nport 1 2 down\n")?;
+    input.push_str("frame 1 1 ffffffffffff02000000000188b5\n")?;
     Ok(input)
 }
 
 #[test]
-fn many_messages(rt: HostRuntime) -> Result<(), Fail> {
+fn events_are_left(rt: HostRuntime) -> Result<(), Fail> {
     let alloc = rt.alloc();
-    for (count, capacity, status, line) in [
-        (999, 4096, 0, "switch 1 flows 999\nflow 998 in_port=1 "),
-        (1000, 4096, 3, "bad input\n"),
-        (4, 4, 0, "switch 1 flows 4\nflow 3 in_port=1 "),
-        (5, 4, 3, "bad input\n"),
-    ] {
-        let input = many(alloc, count, capacity)?;
-        let (got, text) = answer(alloc, &["replay"], input.as_bytes(), &[], &[])?;
-        assert_eq!(rt; got, status, "{count}");
-        assert!(rt; text.as_str().contains(line), "{count}");
-    }
-    Ok(())
-}
-
-#[test]
-fn words_and_faults(rt: HostRuntime) -> Result<(), Fail> {
-    let alloc = rt.alloc();
-    let usage = "usage: legosdn replay\n";
-    let none: &[&str] = &[];
-    for words in [
-        none,
-        &["replay", "x"],
-        &["run", "0", "5"],
-        &["--help"],
-        &[""],
-    ] {
-        let (status, text) = answer(alloc, words, b"---\n", &[], &[])?;
-        assert_eq!(rt; status, 2);
-        assert_eq!(rt; text.as_str(), usage);
-    }
-    for (reads, writes, status, output) in [
-        (2u64, 9u64, 4, "read fault\n"),
-        (1, 9, 4, "read fault\n"),
-        (9, 1, 5, ""),
-        (1, 1, 4, ""),
-    ] {
-        let (got, text) = answer(alloc, &["replay"], b"---\n", &[reads], &[writes])?;
-        assert_eq!(rt; got, status, "{reads} {writes}");
-        assert_eq!(rt; text.as_str(), output, "{reads} {writes}");
-    }
+    let mut input = many_come(alloc)?;
+    let (status, text) = answer(alloc, &["replay"], input.as_bytes(), &[], &[])?;
+    assert_eq!(rt; status, 10);
+    assert!(rt;
+        text.as_str()
+            .ends_with("\nevent 2002 packet_in 1\nevents left 500\n")
+    );
+    input.push_str("at 6\n")?;
+    let (status, text) = answer(alloc, &["replay"], input.as_bytes(), &[], &[])?;
+    assert_eq!(rt; status, 0);
+    assert!(rt;
+        text.as_str()
+            .ends_with("\napp app dead done 1 failed 1\nend 6 events 2502\n")
+    );
     Ok(())
 }

@@ -1,19 +1,23 @@
 //! The program as a call over a source, a sink and a world.
 
-ghost use Rattle.std.specs.Prelude.{◌≡◌, ◌≢◌, ◌↔◌, ◌⊎◌, [], ◌∷◌, true, false, map, Contains, IsOk, IfSome, IfOk, OnOk, OnErr, IsErrOf, IfErr, string_bytes};
-ghost use Rattle.std.specs.Io.KnownBytes.{append_known};
+ghost use Rattle.std.specs.Prelude.{◌≡◌, ◌≤◌, ◌↔◌, ◌⊎◌, ◌∷◌, [], Err, true, false, length, map, Contains, IfSome, IfOk, OnOk, IfErr, string_bytes};
 ghost use Rattle.lego_io.specs.Count.{Rose, NeverFell};
-ghost use Rattle.lego_io.specs.Sink.{TookPart};
-ghost use Rattle.lego_model.specs.Words.{refused};
-ghost use Rattle.lego_model.specs.Grammar.{session_of};
-ghost use Rattle.legosdn.specs.Headline.{is_command as is_command_in, Replayed, ReplayedTo, NoHalf, Wrote, IsStatus, OnStop, IsComplete};
-ghost use Rattle.legosdn.specs.Stops.{stop_status, stop_line};
+ghost use Rattle.outside.specs.Seen.{Continues};
+ghost use Rattle.sim_world.specs.World.{IsReadable, given_of, seen_of};
+ghost use Rattle.sim_world.specs.Building.{nothing_given, IsNew, Begins};
+ghost use Rattle.legosdn.specs.declared.stop.Refusal.{Refusal};
+ghost use Rattle.legosdn.specs.Input.{app_names as names_in, session_of};
+ghost use Rattle.legosdn.specs.Stops.{stop_status, stop_line, refusal_line};
+ghost use Rattle.legosdn.specs.Headline.{is_command as is_command_in, faults_of, IsReadCause, IsRunCause, IsCause, IsEarly, IsLate, Loaded, RunsWhole, RunsAs, KeepsLines, LeftAs, Wrote, WroteLast, Stopped};
 
-use crate::engine::run;
+use crate::input::{parts_of, read_input};
 use crate::stop::Stop;
-use lego_io::{ReadAllFault, Sink, Source, read_all, write_all};
-use session_text::{MOST_INPUT, PlainWorld, read_plain_session};
-use std::alloc::Global;
+use event_dispatch::{Served, serve};
+use lego_io::{Sink, Source};
+use outside::AllowAll;
+use session_text::read_session;
+use sim_world::SimWorld;
+use std::alloc::{AllocError, Global};
 
 /// Whether the words are the one command, `replay`.
 fn is_command(words: &[String]) -> bool
@@ -25,99 +29,143 @@ fn is_command(words: &[String]) -> bool
     }
 }
 
-/// All of the input.
-fn read_input<S: Source>(alloc: Global, source: &mut S) -> Result<Vec<u8>, Stop>
-    ensures all { IfOk result (λ bytes. IfSome (S.remaining source.old) (λ left. bytes.items ≡ left)) }
-    ensures bad_input { IsErrOf result Stop.BadInput → IfSome (S.remaining source.old) (λ input. session_of input ≡ refused) }
-    ensures read_fault { IsErrOf result Stop.ReadFault → Rose (S.faults source.old) (S.faults source.new) }
-    ensures no_usage { IsErrOf result Stop.Usage → ⊥ }
-    ensures never_fell { NeverFell (S.faults source.old) (S.faults source.new) }
+/// The names of the applications: without a policy there is one, `app`.
+fn app_names(alloc: Global) -> Result<Vec<String>, AllocError>
+    ensures { IfOk result (λ names. map string_bytes names.items ≡ names_in) }
 {
-    match read_all(alloc, source, MOST_INPUT) {
-        Ok(input) => Ok(input),
-        Err(ReadAllFault::TooLong) => Err(Stop::BadInput),
-        Err(ReadAllFault::Read) => Err(Stop::ReadFault),
-        Err(ReadAllFault::NoMemory) => Err(Stop::NoMemory),
-    }
+    let mut names = Vec::new(alloc);
+    names.push(String::from_str(alloc, "app")?)?;
+    Ok(names)
 }
 
-/// Reads a session and runs it.
-fn replay<S: Source>(alloc: Global, source: &mut S, sim: &mut PlainWorld) -> Result<String, Stop>
-    requires { sim.old ≡ [] }
-    ensures replayed { IfOk result (λ text. Replayed (S.remaining source.old) sim.new (string_bytes text)) }
-    ensures bad_input { IsErrOf result Stop.BadInput → IfSome (S.remaining source.old) (λ input. session_of input ≡ refused) }
-    ensures read_fault { IsErrOf result Stop.ReadFault → Rose (S.faults source.old) (S.faults source.new) }
-    ensures no_usage { IsErrOf result Stop.Usage → ⊥ }
-    ensures no_half { OnErr result (NoHalf (S.remaining source.old) sim.new) }
+/// Reads an input to its end, and its session into the world.
+fn load<S: Source>(alloc: Global, source: &mut S, sim: &mut SimWorld) -> Result<(), Stop>
+    requires new { IsNew sim.old }
+    requires nothing { given_of sim.old ≡ nothing_given }
+    ensures loaded { OnOk result (Loaded (S.remaining source.old) (S.remaining source.new) (seen_of sim.new)) }
+    ensures new { IsNew sim.new }
+    ensures few { OnOk result (length (seen_of sim.new).given.stimuli ≤ 1000000) }
+    ensures why { IfErr result (IsReadCause (S.remaining source.old) (S.faults source.old) (S.faults source.new)) }
+    ensures early { IfErr result (λ stop. IsEarly stop → sim.new ≡ sim.old) }
     ensures never_fell { NeverFell (S.faults source.old) (S.faults source.new) }
 {
     let input = read_input(alloc, source)?;
-    let session = read_plain_session(alloc, &input)?;
-    Ok(run(alloc, &session, sim)?)
+    let parts = parts_of(&input)?;
+    let names = app_names(alloc)?;
+    Ok(read_session(alloc, parts.session, parts.first_line, &names, sim)?)
 }
 
-/// Writes a report, and answers 0, or 5 where the sink fails.
-fn finish<K: Sink>(sink: &mut K, report: &str) -> u8
-    ensures done { result ≡ 0 → K.contents sink.new ≡ append_known (K.contents sink.old) report.now }
-    ensures cut { result ≡ 5 → TookPart (K.contents sink.old) (K.contents sink.new) report.now }
-    ensures write_fault { result ≡ 5 → Rose (K.faults sink.old) (K.faults sink.new) }
-    ensures statuses { (result ≡ 0) ⊎ (result ≡ 5) }
+/// Runs the world to its end, and writes the report.
+#[tactic(auto, using(crate::proofs::Causes::switch_cause))]
+pub fn play<K: Sink>(alloc: Global, sink: &mut K, sim: &mut SimWorld) -> Result<(), Stop>
+    ensures runs { (seen_of sim.old).history ≡ [] → length (seen_of sim.old).given.stimuli ≤ 1000000
+        → RunsAs result sim.new (K.contents sink.old) (K.contents sink.new) }
+    ensures lines { KeepsLines sim.new }
+    ensures why { IfErr result (IsRunCause (K.faults sink.old) (K.faults sink.new) (seen_of sim.old).counts (seen_of sim.new).counts) }
+    ensures continues { Continues (Unit {0}) (seen_of sim.old) (seen_of sim.new) }
+    ensures never_fell { NeverFell (K.faults sink.old) (K.faults sink.new) }
 {
-    match write_all(sink, report.as_bytes()) {
-        Ok(()) => 0,
-        Err(_) => 5,
+    let served = serve(alloc, sim, &AllowAll, sink);
+    sim.keeps_word();
+    match served {
+        Served::Ended { .. } => Ok(()),
+        Served::WriteFault => Err(Stop::WriteFault),
+        Served::Shut => Err(Stop::Shut),
+        Served::NextFault => Err(Stop::NextFault),
+        Served::Txn(fault) => Err(Stop::from(fault)),
+        Served::EventsLeft(left) => Err(Stop::EventsLeft(left)),
+        Served::NoMemory => Err(Stop::NoMemory),
     }
 }
 
+/// Runs one command.
+fn run<S: Source, K: Sink>(
+    alloc: Global,
+    words: &[String],
+    source: &mut S,
+    sink: &mut K,
+    sim: &mut SimWorld,
+) -> Result<(), Stop>
+    requires new { IsNew sim.old }
+    requires nothing { given_of sim.old ≡ nothing_given }
+    ensures loaded { OnOk result (Loaded (S.remaining source.old) (S.remaining source.new) (seen_of sim.new)) }
+    ensures runs { RunsAs result sim.new (K.contents sink.old) (K.contents sink.new) }
+    ensures lines { OnOk result (KeepsLines sim.new) }
+    ensures late_lines { IfErr result (λ stop. IsLate stop → KeepsLines sim.new) }
+    ensures why { IfErr result (IsCause (map string_bytes words.now) (S.remaining source.old)
+        (faults_of (S.faults source.old) (K.faults sink.old) (seen_of sim.old).counts)
+        (faults_of (S.faults source.new) (K.faults sink.new) (seen_of sim.new).counts)) }
+    ensures early { IfErr result (λ stop. IsEarly stop → (sim.new ≡ sim.old) × (sink.new ≡ sink.old)) }
+    ensures late { IfErr result (λ stop. IsLate stop → Loaded (S.remaining source.old) (S.remaining source.new) (seen_of sim.new)) }
+    ensures usage { IfErr result (λ stop. (stop ≡ Stop.Usage) ↔ (is_command_in (map string_bytes words.now) ≡ false)) }
+    ensures command { OnOk result (is_command_in (map string_bytes words.now) ≡ true) }
+    ensures never_fell { NeverFell (K.faults sink.old) (K.faults sink.new) }
+{
+    if !is_command(words) {
+        return Err(Stop::Usage);
+    }
+    load(alloc, source, sim)?;
+    play(alloc, sink, sim)
+}
+
 /// Writes the line of a stop, and answers its status. A failed write does not change the status.
-fn halt<K: Sink>(sink: &mut K, stop: Stop) -> u8
+#[tactic(auto, using(crate::proofs::Causes::wrote))]
+pub fn halt<K: Sink>(sink: &mut K, stop: Stop) -> u8
     ensures status { result ≡ stop_status stop }
     ensures line { Wrote (K.contents sink.old) (K.contents sink.new) (K.faults sink.old) (K.faults sink.new) (stop_line stop) }
+    ensures never_fell { NeverFell (K.faults sink.old) (K.faults sink.new) }
 {
-    let _ = write_all(sink, stop.line().as_bytes());
+    let _ = stop.write_line(sink);
     stop.status()
 }
 
-/// Runs one command: reads an input to its end, runs it in a new world, and writes its report.
+/// Runs one command: reads an input to its end, runs its session in a new world, and writes the report.
 ///
-/// The one command is `replay`. The answer is the status of the program: 0 where the report was written, 2
-/// where the words are no command, 3 where the input is no session, 4 where the source failed, 5 where the
-/// sink failed, 12 where memory ran out. At 2, 3, 4 and 12 one line is written and nothing else.
+/// The one command is `replay`. The answer is the status of the program: 0 where the whole report was written, 2 where
+/// the words are no command, 3 where the input is refused, 4 where the source failed, 5 where the sink failed, 6 where
+/// the world stays shut or fails, 7 where the link of a switch failed, 8 where a switch broke, 9 where it diverged, 10
+/// where events were left, 12 where memory ran out. At any status but 0 and 5 the last line that is written says why.
 pub fn legosdn<S: Source, K: Sink>(
     alloc: Global,
     words: &[String],
     source: &mut S,
     sink: &mut K,
-    sim: &mut PlainWorld,
+    sim: &mut SimWorld,
 ) -> u8
-    requires { sim.old ≡ [] }
-    ensures statuses { IsStatus result }
+    requires new { IsNew sim.old }
+    requires nothing { given_of sim.old ≡ nothing_given }
+    // At status 0, unless a stimulus sent bytes that are no message: all stimuli of the session happened, and the run is that of the
+    // reference controller over them and over what the application did: at every quiet place the tables agree, the application was
+    // given what it is given there, no event is left, and what was written is the whole report.
+    ensures done { result ≡ 0 → IsReadable sim.new.history ≡ true → RunsWhole (seen_of sim.new) (K.contents sink.old) (K.contents sink.new) }
+    // At status 10 the same with the lines of the events that were dispatched, and how many are left behind them.
+    ensures left { result ≡ 10 → LeftAs sim.new (K.contents sink.old) (K.contents sink.new) (K.faults sink.old) (K.faults sink.new) }
+    // What the application did is what the lines of the session say.
+    ensures lines { Contains (0 ∷ 5 ∷ 6 ∷ 7 ∷ 8 ∷ 9 ∷ 10 ∷ []) result → KeepsLines sim.new }
+
+    // Any other status than 0 is that of a stop, whose cause there is, and whose line is the last that was written.
+    ensures statuses { (result ≡ 0) ⊎ Stopped (map string_bytes words.now) (S.remaining source.old)
+        (faults_of (S.faults source.old) (K.faults sink.old) (seen_of sim.old).counts)
+        (faults_of (S.faults source.new) (K.faults sink.new) (seen_of sim.new).counts)
+        result (λ stop. WroteLast (K.contents sink.new) (K.faults sink.old) (K.faults sink.new) (stop_line stop)) }
 
     // Each status with its cause.
     ensures usage { (result ≡ 2) ↔ (is_command_in (map string_bytes words.now) ≡ false) }
-    ensures bad_input { result ≡ 3 → IfSome (S.remaining source.old) (λ input. session_of input ≡ refused) }
+    ensures bad_input { result ≡ 3 → (refusal : Refusal) × IfSome (S.remaining source.old) (λ input. session_of input ≡ Err refusal)
+        × Wrote (K.contents sink.old) (K.contents sink.new) (K.faults sink.old) (K.faults sink.new) (refusal_line refusal) }
     ensures read_fault { result ≡ 4 → Rose (S.faults source.old) (S.faults source.new) }
     ensures write_fault { result ≡ 5 → Rose (K.faults sink.old) (K.faults sink.new) }
 
-    // The report, the table and the journal are those of the reference controller over the input.
-    ensures done { result ≡ 0 → ReplayedTo (S.remaining source.old) sim.new (λ text. K.contents sink.new ≡ append_known (K.contents sink.old) text) }
-    ensures cut { result ≡ 5 → ReplayedTo (S.remaining source.old) sim.new (λ text. TookPart (K.contents sink.old) (K.contents sink.new) text) }
+    // Before anything runs one line is written and nothing else, and the world stays as it is.
+    ensures stopped { Contains (2 ∷ 3 ∷ 4 ∷ []) result → (sim.new ≡ sim.old) × ((stop : Stop) × (result ≡ stop_status stop)
+        × Wrote (K.contents sink.old) (K.contents sink.new) (K.faults sink.old) (K.faults sink.new) (stop_line stop)) }
 
-    // At every other status one line is written, or a part of it where the sink failed.
-    ensures stopped { OnStop result (λ line. Wrote (K.contents sink.old) (K.contents sink.new) (K.faults sink.old) (K.faults sink.new) line) }
-
-    // A turn that was cut off left nothing in the table.
-    ensures no_half { OnStop result (λ _. NoHalf (S.remaining source.old) sim.new) }
-
-    // An input that is a session is run, and one that is none is refused.
-    ensures complete { IsComplete (map string_bytes words.now) (S.remaining source.old) (Rose (S.faults source.old) (S.faults source.new)) (Rose (K.faults sink.old) (K.faults sink.new)) result }
-    ensures refuses { IfSome (S.remaining source.old) (λ input. session_of input ≡ refused → Contains (2 ∷ 3 ∷ 4 ∷ 12 ∷ []) result) }
+    // Where the world runs, the input was read to its end and is a session, which the world was given.
+    ensures loaded { Contains (0 ∷ 5 ∷ 6 ∷ 7 ∷ 8 ∷ 9 ∷ 10 ∷ []) result → Loaded (S.remaining source.old) (S.remaining source.new) (seen_of sim.new) }
+    ensures refuses { (refusal : Refusal) → IfSome (S.remaining source.old) (λ input. session_of input ≡ Err refusal → Contains (2 ∷ 3 ∷ 4 ∷ 12 ∷ []) result) }
 {
-    if !is_command(words) {
-        return halt(sink, Stop::Usage);
-    }
-    match replay(alloc, source, sim) {
-        Ok(report) => finish(sink, &report),
+    match run(alloc, words, source, sink, sim) {
+        Ok(()) => 0,
         Err(stop) => halt(sink, stop),
     }
 }

@@ -1,7 +1,34 @@
-use Rattle.std.proofs.Common.{ap, ◌∙◌, inl}
-use Rattle.session_text.specs.Journal.{table_of}
-use Rattle.session_text.specs.JournalLaws.{table_of-nil}
+use Rattle.std.proofs.Common.{ℕ, [], ◌∷◌, Contains, map, string_bytes, sym, subst, ◌∙◌}
+use Rattle.sim_world.specs.World.{seen_of}
+use Rattle.legosdn.specs.Headline.{faults_of}
+use Rattle.legosdn.proofs.Causes.{refused_at_three, refuses}
+use Rattle.legosdn.proofs.Statuses.{is_left, is_late, not_zero}
+use Rattle.legosdn.proofs.Runs.{left_as}
 use Rattle.legosdn.proofs.top.legosdn.Goals as goal
 
-pub returns-then-not-is_command-clause-no_half : goal.returns-then-not-is_command-clause-no_half
-returns-then-not-is_command-clause-no_half g c = λ stop status. inl (ap table_of c.requires ∙ table_of-nil)
+pub returns-in-Err-clause-bad_input : goal.returns-in-Err-clause-bad_input
+returns-in-Err-clause-bad_input g c = λ three.
+    refused_at_three g.K.Sink.contents g.K.Sink.faults c.args.sink.now c.run.new.sink c.halt.new.sink (map (λ s. string_bytes s) c.args.words.now) (g.S.Source.remaining c.args.source.now)
+    (faults_of (g.S.Source.faults c.args.source.now) (g.K.Sink.faults c.args.sink.now) (seen_of c.args.sim.now).counts)
+    (faults_of (g.S.Source.faults c.run.new.source) (g.K.Sink.faults c.run.new.sink) (seen_of c.run.new.sim).counts)
+    c.in-Err.stop c.in-Err.ensures.why (λ early. (c.in-Err.ensures.early early).1) c.halt.ensures.line (sym c.halt.ensures.status ∙ three)
+
+pub returns-in-Err-clause-refuses : goal.returns-in-Err-clause-refuses
+returns-in-Err-clause-refuses g c = λ refusal. rw c.halt.ensures.status (refuses (g.S.Source.remaining c.args.source.now) _ _ c.in-Err.stop refusal c.in-Err.ensures.late)
+
+pub returns-in-Ok-clause-done : goal.returns-in-Ok-clause-done
+returns-in-Ok-clause-done g c = λ zero readable. c.in-Ok.ensures.runs readable
+
+pub returns-in-Err-clause-done : goal.returns-in-Err-clause-done
+returns-in-Err-clause-done g c = λ zero. absurd (not_zero c.in-Err.stop (sym c.halt.ensures.status ∙ zero))
+
+pub returns-in-Err-clause-left : goal.returns-in-Err-clause-left
+returns-in-Err-clause-left g c = λ ten.
+    let is = is_left c.in-Err.stop (sym c.halt.ensures.status ∙ ten) in
+    left_as c.run.new.sim is.0 c.in-Err.stop (g.K.Sink.contents c.args.sink.now) (g.K.Sink.contents c.run.new.sink) (g.K.Sink.contents c.halt.new.sink) (g.K.Sink.faults c.args.sink.now) (g.K.Sink.faults c.run.new.sink) (g.K.Sink.faults c.halt.new.sink)
+    (map (λ s. string_bytes s) c.args.words.now) (g.S.Source.remaining c.args.source.now) (faults_of (g.S.Source.faults c.args.source.now) (g.K.Sink.faults c.args.sink.now) (seen_of c.args.sim.now).counts)
+    (faults_of (g.S.Source.faults c.run.new.source) (g.K.Sink.faults c.run.new.sink) (seen_of c.run.new.sim).counts) is.1 c.run.ensures.never_fell c.in-Err.ensures.runs c.in-Err.ensures.why c.halt.ensures.line
+
+pub returns-in-Err-clause-lines : goal.returns-in-Err-clause-lines
+returns-in-Err-clause-lines g c = λ within.
+    c.in-Err.ensures.late_lines (is_late c.in-Err.stop (subst (λ (status : ℕ). Contains (0 ∷ 5 ∷ 6 ∷ 7 ∷ 8 ∷ 9 ∷ 10 ∷ []) status) c.halt.ensures.status within))

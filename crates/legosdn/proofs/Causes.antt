@@ -1,0 +1,162 @@
+-- Why a run stops.
+use Rattle.std.proofs.Common.{◌≡◌, ◌⊎◌, ℕ, List, [], ◌∷◌, Contains, Option, Some, None, Result, Ok, Err, OnOk, OnErr, IfErr, IfSome, refl, sym, ap, subst, ◌∙◌, arith, inl, inr}
+use Rattle.lego_io.specs.Count.{NeverFell}
+use Rattle.lego_io.specs.CountLaws.{Rose-after, Rose-before}
+use Rattle.outside.specs.Seen.{Counts, NoneFell, Seen}
+use Rattle.sim_world.specs.Scripts.{Scripts}
+use Rattle.sim_world.specs.World.{WorldData, seen_of}
+use Rattle.sim_world.specs.Building.{AreZero, IsNew}
+use Rattle.net_txn.specs.declared.fault.TxnFault.{TxnFault}
+use Rattle.net_txn.specs.declared.fault.TxnFault.TheVariants as faults
+use Rattle.event_dispatch.specs.Why.{IsWhyTxn}
+use Rattle.lego_model.specs.SessionLines.{SessionValue}
+use Rattle.legosdn.specs.declared.stop.Refusal.{Refusal}
+use Rattle.legosdn.specs.declared.stop.Stop.{Stop}
+use Rattle.legosdn.specs.declared.stop.Stop.TheVariants.{Usage, Refused, ReadFault, WriteFault, Shut, NextFault, SwitchFault, SwitchBroke, Diverged, EventsLeft, NoMemory}
+use Rattle.legosdn.specs.Input.{session_of}
+use Rattle.legosdn.specs.Stops.{stop_status, stop_line, refusal_line, stop_of_switch}
+use Rattle.legosdn.specs.Headline.{Faults, faults_of, IsReadCause, IsRunCause, IsCause, IsEarly, IsLate, Loaded, Wrote}
+use Rattle.legosdn.proofs.Statuses.{is_refused, not_late}
+
+pub switch_cause : (k l : ℕ) (old new : Counts) (fault : TxnFault) → IsWhyTxn old new fault → IsRunCause k l old new (stop_of_switch fault)
+switch_cause k l old new (faults.SwitchFault d) why = why
+switch_cause k l old new (faults.SwitchBroke d bytes) why = (faults.SwitchBroke d bytes, refl, why)
+switch_cause k l old new (faults.Flooded d count) why = (faults.Flooded d count, refl, why)
+switch_cause k l old new (faults.Diverged d sent got) why = (faults.Diverged d sent got, refl, why)
+switch_cause k l old new faults.NoMemory why = tt
+
+-- ---- Counts that were 0
+
+pub none_fell : (a b : Counts) → AreZero a → AreZero b → NoneFell a b
+none_fell a b first second = record {
+  shuts = omega (arith, first.shuts, second.shuts);
+  next_faults = omega (arith, first.next_faults, second.next_faults);
+  starts_failed = omega (arith, first.starts_failed, second.starts_failed);
+  closings = omega (arith, first.closings, second.closings);
+  silences = omega (arith, first.silences, second.silences);
+  link_faults = λ d. omega (arith, first.link_faults d, second.link_faults d);
+  shorts = omega (arith, first.shorts, second.shorts);
+  shorts_of = λ d. omega (arith, first.shorts_of d, second.shorts_of d);
+  strays = omega (arith, first.strays, second.strays);
+}
+
+why_behind : (a b c : Counts) (fault : TxnFault) → NoneFell a b → IsWhyTxn b c fault → IsWhyTxn a c fault
+why_behind a b c (faults.SwitchFault d) first why = Rose-after (a.link_faults d) (b.link_faults d) (c.link_faults d) (first.link_faults d) why
+why_behind a b c (faults.SwitchBroke d bytes) first why = why
+why_behind a b c (faults.Flooded d count) first why = why
+why_behind a b c (faults.Diverged d sent got) first why = why
+why_behind a b c faults.NoMemory first why = why
+
+-- why a run stopped, with what was counted before it
+run_cause : (words : List (List ℕ)) (told : Option (List ℕ)) (i j k l : ℕ) (a b c : Counts) (stop : Stop) → NoneFell a b → IsRunCause k l b c stop → IsCause words told (faults_of i k a) (faults_of j l c) stop
+run_cause words told i j k l a b c Usage first why = absurd why
+run_cause words told i j k l a b c (Refused refusal) first why = absurd why
+run_cause words told i j k l a b c ReadFault first why = absurd why
+run_cause words told i j k l a b c WriteFault first why = why
+run_cause words told i j k l a b c Shut first why = Rose-after a.shuts b.shuts c.shuts first.shuts why
+run_cause words told i j k l a b c NextFault first why = Rose-after a.next_faults b.next_faults c.next_faults first.next_faults why
+run_cause words told i j k l a b c (SwitchFault d) first why = Rose-after (a.link_faults d) (b.link_faults d) (c.link_faults d) (first.link_faults d) why
+run_cause words told i j k l a b c (SwitchBroke d) first why = (why.0, why.1, why_behind a b c why.0 first why.2)
+run_cause words told i j k l a b c (Diverged d) first why = (why.0, why.1, why_behind a b c why.0 first why.2)
+run_cause words told i j k l a b c (EventsLeft left) first why = why
+run_cause words told i j k l a b c NoMemory first why = tt
+
+-- why an input was not read, among all causes
+read_cause : (words : List (List ℕ)) (told : Option (List ℕ)) (i j k l : ℕ) (a c : Counts) (stop : Stop) → IsReadCause told i j stop → IsCause words told (faults_of i k a) (faults_of j l c) stop
+read_cause words told i j k l a c Usage why = absurd why
+read_cause words told i j k l a c (Refused refusal) why = why
+read_cause words told i j k l a c ReadFault why = why
+read_cause words told i j k l a c WriteFault why = absurd why
+read_cause words told i j k l a c Shut why = absurd why
+read_cause words told i j k l a c NextFault why = absurd why
+read_cause words told i j k l a c (SwitchFault d) why = absurd why
+read_cause words told i j k l a c (SwitchBroke d) why = absurd why
+read_cause words told i j k l a c (Diverged d) why = absurd why
+read_cause words told i j k l a c (EventsLeft left) why = absurd why
+read_cause words told i j k l a c NoMemory why = tt
+
+read_is_not_late : (told : Option (List ℕ)) (i j : ℕ) (stop : Stop) → IsReadCause told i j stop → IsLate stop → ⊥
+read_is_not_late told i j Usage why late = late
+read_is_not_late told i j (Refused refusal) why late = late
+read_is_not_late told i j ReadFault why late = late
+read_is_not_late told i j WriteFault why late = why
+read_is_not_late told i j Shut why late = why
+read_is_not_late told i j NextFault why late = why
+read_is_not_late told i j (SwitchFault d) why late = why
+read_is_not_late told i j (SwitchBroke d) why late = why
+read_is_not_late told i j (Diverged d) why late = why
+read_is_not_late told i j (EventsLeft left) why late = why
+read_is_not_late told i j NoMemory why late = late
+
+run_is_not_early : (k l : ℕ) (b c : Counts) (stop : Stop) → IsRunCause k l b c stop → IsEarly stop → ⊥
+run_is_not_early k l b c Usage why early = why
+run_is_not_early k l b c (Refused refusal) why early = why
+run_is_not_early k l b c ReadFault why early = why
+run_is_not_early k l b c WriteFault why early = early
+run_is_not_early k l b c Shut why early = early
+run_is_not_early k l b c NextFault why early = early
+run_is_not_early k l b c (SwitchFault d) why early = early
+run_is_not_early k l b c (SwitchBroke d) why early = early
+run_is_not_early k l b c (Diverged d) why early = early
+run_is_not_early k l b c (EventsLeft left) why early = early
+run_is_not_early k l b c NoMemory why early = early
+
+-- a write of the last line, behind the run
+pub cause_then : (words : List (List ℕ)) (told : Option (List ℕ)) (i j k l m : ℕ) (a c : Counts) (stop : Stop) → NeverFell k l → NeverFell l m → IsCause words told (faults_of i k a) (faults_of j l c) stop
+    → IsCause words told (faults_of i k a) (faults_of j m c) stop
+cause_then words told i j k l m a c Usage up on why = why
+cause_then words told i j k l m a c (Refused refusal) up on why = why
+cause_then words told i j k l m a c ReadFault up on why = why
+cause_then words told i j k l m a c WriteFault up on why = Rose-before k l m up why on
+cause_then words told i j k l m a c Shut up on why = why
+cause_then words told i j k l m a c NextFault up on why = why
+cause_then words told i j k l m a c (SwitchFault d) up on why = why
+cause_then words told i j k l m a c (SwitchBroke d) up on why = why
+cause_then words told i j k l m a c (Diverged d) up on why = why
+cause_then words told i j k l m a c (EventsLeft left) up on why = why
+cause_then words told i j k l m a c NoMemory up on why = why
+
+-- ---- The last line
+
+pub wrote : {T E P Q R : Type 0} (result : Result T E) → OnOk result P → OnErr result Q → OnErr result R → P ⊎ (Q × R)
+wrote (Ok x) all rose part = inl all
+wrote (Err e) all rose part = inr (rose, part)
+
+-- ---- At the top call
+
+pub are_zero : (w : WorldData) → IsNew w → AreZero (seen_of w).counts
+unfolding seen_of
+are_zero w new = new.counts
+
+pub run_causes : {T : Type 0} (words : List (List ℕ)) (told : Option (List ℕ)) (i j k l : ℕ) (a b c : Counts) (result : Result T Stop) → AreZero a → AreZero b → IfErr result (IsRunCause k l b c)
+    → IfErr result (IsCause words told (faults_of i k a) (faults_of j l c))
+run_causes words told i j k l a b c (Ok x) first second why = tt
+run_causes words told i j k l a b c (Err stop) first second why = run_cause words told i j k l a b c stop (none_fell a b first second) why
+
+refused_line : {X : Type 0} (contents : X → Option (List ℕ)) (faults : X → ℕ) (old mid new : X) (words : List (List ℕ)) (told : Option (List ℕ)) (before after : Faults) (stop : Stop) (refusal : Refusal)
+    → stop ≡ Refused refusal → IsCause words told before after stop → (IsEarly stop → mid ≡ old) → Wrote (contents mid) (contents new) (faults mid) (faults new) (stop_line stop)
+    → IfSome told (λ input. session_of input ≡ Err refusal) × Wrote (contents old) (contents new) (faults old) (faults new) (refusal_line refusal)
+unfolding stop_line
+refused_line contents faults old mid new words told before after stop refusal is =
+    subst (λ s. IsCause words told before after s → (IsEarly s → mid ≡ old) → Wrote (contents mid) (contents new) (faults mid) (faults new) (stop_line s)
+    → IfSome told (λ input. session_of input ≡ Err refusal) × Wrote (contents old) (contents new) (faults old) (faults new) (refusal_line refusal)) (sym is)
+    (λ why early line. (why, subst (λ x. Wrote (contents x) (contents new) (faults x) (faults new) (refusal_line refusal)) (early tt) line))
+
+pub refused_at_three : {X : Type 0} (contents : X → Option (List ℕ)) (faults : X → ℕ) (old mid new : X) (words : List (List ℕ)) (told : Option (List ℕ)) (before after : Faults) (stop : Stop)
+    → IsCause words told before after stop → (IsEarly stop → mid ≡ old) → Wrote (contents mid) (contents new) (faults mid) (faults new) (stop_line stop) → stop_status stop ≡ 3
+    → (refusal : Refusal) × IfSome told (λ input. session_of input ≡ Err refusal) × Wrote (contents old) (contents new) (faults old) (faults new) (refusal_line refusal)
+refused_at_three contents faults old mid new words told before after stop why early line e =
+    let r = is_refused stop e in
+    let both = refused_line contents faults old mid new words told before after stop r.0 r.1 why early line in
+    (r.0, both.0, both.1)
+
+no_both : (session : SessionValue) (refusal : Refusal) → Ok session ≡ Err refusal → ⊥
+no_both session refusal e = absurd cc
+
+refused_or_loaded : {left : Option (List ℕ)} {seen : Seen Scripts} {bytes : List ℕ} {refusal : Refusal} → Loaded (Some bytes) left seen → session_of bytes ≡ Err refusal → ⊥
+refused_or_loaded loaded e = no_both _ _ (sym loaded.spelled ∙ ap session_of loaded.whole ∙ e)
+
+pub refuses : (told left : Option (List ℕ)) (seen : Seen Scripts) (stop : Stop) (refusal : Refusal) → (IsLate stop → Loaded told left seen)
+    → IfSome told (λ input. session_of input ≡ Err refusal → Contains (2 ∷ 3 ∷ 4 ∷ 12 ∷ []) (stop_status stop))
+refuses None left seen stop refusal loaded = tt
+refuses (Some bytes) left seen stop refusal loaded = λ e. not_late stop (λ late. refused_or_loaded (loaded late) e)

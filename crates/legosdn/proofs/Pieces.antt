@@ -1,0 +1,43 @@
+-- A line that is written in pieces.
+use Rattle.std.proofs.Common.{◌≡◌, ℕ, ◌+◌, List, ◌++◌, length, take, Option, Result, Ok, Err, OnErr, refl, sym, ap, ◌∙◌, arith, length-append, codes}
+use Rattle.std.proofs.lemmas.List.{take-append-le}
+use Rattle.std.proofs.Math.Seq.{take-append-add}
+use Rattle.std.specs.Io.KnownBytes.{append_known}
+use Rattle.std.specs.Fmt.{decimal}
+use Rattle.lego_model.specs.declared.session.SessionFault.{SessionFault}
+use Rattle.lego_model.specs.Report.{line_of}
+use Rattle.legosdn.specs.declared.stop.Refusal.{Refusal}
+use Rattle.legosdn.specs.declared.stop.Refusal.TheVariants.{Session}
+use Rattle.legosdn.specs.Stops.{refusal_line, kind_word}
+use Rattle.lego_io.specs.Sink.{TookPart}
+use Rattle.lego_io.specs.ToldLaws.{append_known-append}
+
+-- a part of the first of two
+pub part_of_two : (old new : Option (List ℕ)) (a b : List ℕ) → TookPart old new a → TookPart old new (a ++ b)
+part_of_two old new a b part =
+    (part.0, omega (arith, length-append a b, part.1), part.2 ∙ ap (append_known old) (sym (take-append-le part.0 a b (omega (arith, part.1)))))
+
+-- the first of two, and a part of the second
+pub part_behind : (old mid new : Option (List ℕ)) (a b : List ℕ) → mid ≡ append_known old a → TookPart mid new b → TookPart old new (a ++ b)
+part_behind old mid new a b first part = (
+  length a + part.0,
+  omega (arith, length-append a b, part.1),
+  part.2 ∙ ap (λ (told : Option (List ℕ)). append_known told (take part.0 b)) first ∙ sym (append_known-append old a (take part.0 b)) ∙ ap (append_known old) (sym (take-append-add a b part.0)),
+)
+
+pub part_of_second : (old mid new : Option (List ℕ)) (a b c : List ℕ) → mid ≡ append_known old a → TookPart mid new b → TookPart old new (a ++ b ++ c)
+part_of_second old mid new a b c first part = part_of_two old new (a ++ b) c (part_behind old mid new a b first part)
+
+pub part_of_third : (old mid late new : Option (List ℕ)) (a b c : List ℕ) → mid ≡ append_known old a → late ≡ append_known mid b → TookPart late new c → TookPart old new (a ++ b ++ c)
+part_of_third old mid late new a b c first second part =
+    part_behind old late new (a ++ b) c (second ∙ ap (λ (told : Option (List ℕ)). append_known told b) first ∙ sym (append_known-append old a b)) part
+
+pub whenever : {T E P : Type 0} (r : Result T E) → P → OnErr r P
+whenever (Ok x) p = tt
+whenever (Err e) p = p
+
+-- the line of a session's fault, in its pieces
+pub session_line : (refusal : Refusal) (fault : SessionFault) (end : List ℕ) → refusal ≡ Session fault → end ≡ line_of (codes " " ++ kind_word fault.kind)
+    → refusal_line refusal ≡ codes "bad session " ++ decimal fault.line ++ end
+unfolding refusal_line
+session_line refusal fault end is said = rw (is, said) refl

@@ -1,7 +1,0 @@
-use Rattle.std.proofs.Common.{rules, append_assoc}
-use Rattle.lego_model.specs.Report.{flow_head, line_of}
-use Rattle.legosdn.proofs.report.push_key.Goals as goal
-
-pub returns : goal.returns
-unfolding flow_head line_of
-returns c = search (rules, append_assoc)

@@ -1,0 +1,24 @@
+use Rattle.std.proofs.Common.{map, string_bytes}
+use Rattle.sim_world.specs.World.{seen_of}
+use Rattle.legosdn.proofs.Causes.{are_zero, run_causes}
+use Rattle.legosdn.specs.Headline.{KeepsLines}
+use Rattle.legosdn.proofs.Runs.{untouched, runs_by_read, lines_by_read}
+use Rattle.legosdn.proofs.top.run.Goals as goal
+
+pub returns-clause-why : goal.returns-clause-why
+returns-clause-why g c =
+    run_causes (map (λ s. string_bytes s) c.args.words.now) (g.S.Source.remaining c.args.source.now) (g.S.Source.faults c.args.source.now) (g.S.Source.faults c.load.new.source)
+    (g.K.Sink.faults c.args.sink.now) (g.K.Sink.faults c.play.new.sink) (seen_of c.args.sim.now).counts (seen_of c.load.new.sim).counts (seen_of c.play.new.sim).counts c.play.result
+    (are_zero c.args.sim.now c.requires.new) (are_zero c.load.new.sim c.in_ok-load.ensures.new) c.play.ensures.why
+
+pub returns-in_err-load-clause-runs : goal.returns-in_err-load-clause-runs
+returns-in_err-load-clause-runs g c =
+    runs_by_read (g.S.Source.remaining c.args.source.now) (g.S.Source.faults c.args.source.now) (g.S.Source.faults c.load.new.source) c.load.new.sim (g.K.Sink.contents c.args.sink.now) (g.K.Sink.contents c.args.sink.now) c.in_err-load.field-0.0 c.from_residual.result
+    c.from_residual.ensures.1 c.in_err-load.ensures.why
+
+pub returns-in_err-load-clause-late_lines : goal.returns-in_err-load-clause-late_lines
+returns-in_err-load-clause-late_lines g c =
+    lines_by_read (KeepsLines c.load.new.sim) (g.S.Source.remaining c.args.source.now) (g.S.Source.faults c.args.source.now) (g.S.Source.faults c.load.new.source) c.in_err-load.field-0.0 c.from_residual.result c.from_residual.ensures.1 c.in_err-load.ensures.why
+
+pub returns-clause-runs : goal.returns-clause-runs
+returns-clause-runs g c = c.play.ensures.runs (untouched c.load.new.sim c.in_ok-load.ensures.new) c.in_ok-load.ensures.few
