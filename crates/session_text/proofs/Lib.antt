@@ -1,4 +1,3 @@
-pub mod Flows
 pub mod Sizes
 pub mod Ports
 pub mod Cuts

@@ -3,10 +3,8 @@
 ghost use Rattle.std.specs.Prelude.{◌≡◌, ◌==◌, ◌≤◌, ◌^◌, IfOk, MatchOption, map, true};
 ghost use Rattle.std.specs.Char.{is_ascii_digit};
 ghost use Rattle.std.specs.List.{list_all, slice_split};
-ghost use Rattle.lego_model.specs.Words.{words_of as words_in, is_word, is_numeral as is_numeral_in, leads_with_zero as zero_leads, number as number_in, value_after};
-ghost use Rattle.session_text.specs.Gives.{Gives};
+ghost use Rattle.lego_model.specs.Words.{words_of as words_in, is_word, is_numeral as is_numeral_in, leads_with_zero as zero_leads, value_after};
 
-use crate::error::PlainSessionError;
 use std::alloc::{AllocError, Global};
 
 /// The pieces of a text between the bytes `separator`.
@@ -56,21 +54,6 @@ pub fn is_numeral(word: &[u8]) -> bool
     ensures digits { result ≡ true → list_all is_ascii_digit word.now ≡ true }
 {
     !word.is_empty() && !leads_with_zero(word) && all_digits(word)
-}
-
-/// The number that a word spells, from `least` to `most`.
-#[tactic(auto, unfolding(lego_model::specs::Words::number))]
-pub fn number(word: &[u8], least: u64, most: u64) -> Result<u64, PlainSessionError>
-    ensures value { Gives (λ n. n) result (number_in least most word.now) }
-    ensures within { IfOk result (λ n. (least ≤ n) × (n ≤ most)) }
-{
-    if !is_numeral(word) {
-        return Err(PlainSessionError::BadInput);
-    }
-    match value_of(word) {
-        Some(value) if least <= value && value <= most => Ok(value),
-        _ => Err(PlainSessionError::BadInput),
-    }
 }
 
 /// The number that digits spell, or `None` where it does not fit 64 bits.

@@ -1,6 +1,0 @@
-use Rattle.std.proofs.Common.{◌≡◌, ◌-◌, drop}
-use Rattle.lego_model.specs.Grammar.{ascends}
-use Rattle.session_text.proofs.switch.ascends.Given as goal
-
-abbrev pub invariant-loop-at : goal.invariant-loop-at
-invariant-loop-at l = ascends (drop (l.at - 1) l.ports) ≡ ascends l.ports
