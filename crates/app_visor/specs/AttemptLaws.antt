@@ -1,7 +1,6 @@
 -- Laws of attempts to start an application.
 use Rattle.std.specs.Prelude.{◌≡◌, ℕ, ◌==◌, Bool, true, false, not, List, [], ◌∷◌, ◌++◌, map, if◌then◌else◌, refl}
-use Rattle.std.specs.List.{list_any}
-use Rattle.std.proofs.Common.{sym, ap, ◌∙◌, subst, append_assoc}
+use Rattle.std.proofs.Common.{sym, ap, ◌∙◌, subst, append_assoc, true≢false}
 use Rattle.std.proofs.lemmas.List.{append-nil, map-append}
 use Rattle.std.proofs.lemmas.Map.Views.{any-filter_same}
 use Rattle.std.proofs.lemmas.Bool.{eq-eqb}
@@ -12,7 +11,7 @@ use Rattle.app_frames.specs.declared.cause.Tried.TheVariants.{Closed}
 use Rattle.app_frames.specs.declared.frame.AppFrame.TheVariants as frames
 use Rattle.lego_model.specs.Journal.{Start, End, Untold, Closes, Stalls, inputs, start_of, in_turns, pieces, end_from, any_gone}
 use Rattle.lego_model.specs.Turns.{Next, outcome_of, first_frame, next_of}
-use Rattle.lego_model.specs.Controller.{restore_frame}
+use Rattle.lego_model.specs.Controller.{restore_frame, is_ready}
 use Rattle.lego_io.specs.CountLaws.{Rose-after}
 use Rattle.outside.specs.declared.step.WorldStep.{WorldStep}
 use Rattle.outside.specs.declared.step.WorldStep.TheVariants.{Acted}
@@ -24,11 +23,15 @@ use Rattle.outside.specs.Calls.{Ends, end_steps}
 use Rattle.journal_readings.specs.Readings.{is_within, Within}
 use Rattle.journal_readings.specs.ReadingLaws.{Within-append}
 use Rattle.journal_readings.specs.FrameLaws.{restore_is_none}
+use Rattle.lego_model.specs.AtOnce.{before, nothing_said, besides}
 use Rattle.app_visor.specs.declared.came.Came.{Came}
 use Rattle.app_visor.specs.declared.came.Came.TheVariants as comes
 use Rattle.app_visor.specs.Talks.{Told, step_of}
 use Rattle.app_visor.specs.Reads.{takes, TakesAll, CameSo, Comes}
 use Rattle.app_visor.specs.ReadLaws.{Taken-continues, Comes-continues, next_taken, next_framed, next_faulty, next_over, pieces_takes, end_takes, gone_takes, inputs_takes, turns_takes, within_takes}
+use Rattle.app_visor.specs.Dialogues.{Converses, Speaks}
+use Rattle.app_visor.specs.DialogueLaws.{passes_next, Converses-refl, Converses-then, converses_told, converses_takes, converses_restored}
+use Rattle.app_visor.specs.RunningLaws.{started_runs}
 use Rattle.app_visor.specs.Attempts.{end_acts, TryRises, restored, tried_by, rest_of, stood, Greets}
 
 -- ---- What is read of a start
@@ -220,14 +223,7 @@ runs_by Tells app acts old new continues adds stays told =
 pub runs_started : {Own : Type 0} (Tells : Type 0) (app : ℕ) (old new : Seen Own) → Told Tells (Started app true) old new → Tells → is_running app (state new) ≡ true
 unfolding after_step after_act
 runs_started Tells app old new told tells =
-    ap (λ (s : State). is_running app s) (state-append old new (Acted (Started app true) ∷ []) told.continues.given (told.history tells)) ∙ runs_then app (state old).running
-  where
-    runs_then : (a : ℕ) (running : List ℕ) → list_any (λ b. b == a) (running ++ a ∷ []) ≡ true
-    runs_then a [] = rw (same a) refl
-    runs_then a (b ∷ running) = elim (b == a) as (λ t. (b == a) ≡ t → list_any (λ c. c == a) ((b ∷ running) ++ a ∷ []) ≡ true) [
-      | true ↦ λ t. rw t refl
-      | false ↦ λ t. rw t (runs_then a running)
-    ] refl
+    ap (λ (s : State). is_running app s) (state-append old new (Acted (Started app true) ∷ []) told.continues.given (told.history tells)) ∙ started_runs app app (state old).running (same app)
 
 pub greets_gone : {Own : Type 0} {Tells : Type 0} {app : ℕ} {old new : Seen Own} (frame unread : List ℕ) → frame ≡ restore_frame → Told Tells (Gone app frame) old new → Greets Tells app Closed unread old new
 greets_gone {Tells = Tells} {app = app} {old = old} {new = new} frame unread is told_so =
@@ -241,6 +237,12 @@ greets_gone {Tells = Tells} {app = app} {old = old} {new = new} frame unread is 
       rises = told.rises;
       within = (within_gone app, tt);
       running = runs_by Tells app (Gone app restore_frame ∷ []) old new told.continues told.history (runs_gone app);
+      speaks = λ tells. record {
+        after = besides nothing_said (Gone app restore_frame);
+        converses = converses_told Tells app (Gone app restore_frame) nothing_said (besides nothing_said (Gone app restore_frame)) old new told tells (same app) (refl, refl);
+        runs = λ ready. refl;
+        passes = λ ready. absurd (true≢false (sym ready));
+      };
     }
 
 first_so : {Own : Type 0} (Tells : Type 0) (app : ℕ) (came : Came) (unread left : List ℕ) (old new : Seen Own) → CameSo Tells app came unread left old new
@@ -266,6 +268,40 @@ came_rises Tells app (comes.Frame (frames.Done stop checkpoint)) unread left fir
 came_rises Tells app (comes.Refused fault) unread left first old new c so = tt
 came_rises Tells app comes.Closed unread left first old new c so = Rose-after first.counts.closings old.counts.closings new.counts.closings c.none_fell.closings so.1.rises
 came_rises Tells app comes.Silent unread left first old new c so = Rose-after first.counts.silences old.counts.silences new.counts.silences c.none_fell.silences so.1.rises
+
+-- what came first goes on with the dialogue
+speaks_came : {Own : Type 0} (Tells : Type 0) (app : ℕ) (came : Came) (unread left : List ℕ) (since : List Act) (old new : Seen Own) → CameSo Tells app came unread left old new → Tells
+    → Speaks app (before unread since) old new (is_ready (tried_by came)) left
+speaks_came Tells app (comes.Frame frames.Ready) unread left since old new so tells =
+    record { after = before unread since; converses = Converses-refl app (before unread since) old new so.1; runs = λ ready. refl; passes = λ ready. passes_next frames.Ready unread left refl so.0 }
+speaks_came Tells app (comes.Frame frames.Save) unread left since old new so tells =
+    record { after = before unread since; converses = Converses-refl app (before unread since) old new so.1; runs = λ ready. refl; passes = λ ready. absurd (true≢false (sym ready)) }
+speaks_came Tells app (comes.Frame frames.Keep) unread left since old new so tells =
+    record { after = before unread since; converses = Converses-refl app (before unread since) old new so.1; runs = λ ready. refl; passes = λ ready. absurd (true≢false (sym ready)) }
+speaks_came Tells app (comes.Frame frames.Undo) unread left since old new so tells =
+    record { after = before unread since; converses = Converses-refl app (before unread since) old new so.1; runs = λ ready. refl; passes = λ ready. absurd (true≢false (sym ready)) }
+speaks_came Tells app (comes.Frame (frames.Message dpid bytes)) unread left since old new so tells =
+    record { after = before unread since; converses = Converses-refl app (before unread since) old new so.1; runs = λ ready. refl; passes = λ ready. absurd (true≢false (sym ready)) }
+speaks_came Tells app (comes.Frame (frames.Done stop checkpoint)) unread left since old new so tells =
+    record { after = before unread since; converses = Converses-refl app (before unread since) old new so.1; runs = λ ready. refl; passes = λ ready. absurd (true≢false (sym ready)) }
+speaks_came Tells app (comes.Refused fault) unread left since old new so tells =
+    record { after = before unread since; converses = Converses-refl app (before unread since) old new so.1; runs = λ ready. refl; passes = λ ready. absurd (true≢false (sym ready)) }
+speaks_came Tells app comes.Closed unread left since old new so tells =
+    let act = Took app took.Closed in
+    record {
+      after = besides (before unread since) act;
+      converses = converses_told Tells app act (before unread since) (besides (before unread since) act) old new so.1 tells (same app) (refl, refl);
+      runs = λ ready. refl;
+      passes = λ ready. absurd (true≢false (sym ready));
+    }
+speaks_came Tells app comes.Silent unread left since old new so tells =
+    let act = Took app took.Silent in
+    record {
+      after = besides (before unread since) act;
+      converses = converses_told Tells app act (before unread since) (besides (before unread since) act) old new so.1 tells (same app) (refl, refl);
+      runs = λ ready. refl;
+      passes = λ ready. absurd (true≢false (sym ready));
+    }
 
 outcome_by : (ps : List (List ℕ)) (end : End) → outcome_of (start_by ps end) ≡ first_frame end (next_of [] ps)
 unfolding outcome_of
@@ -304,4 +340,15 @@ greets_came {Tells = Tells} {app = app} {rest = rest} {left = left} {old = old} 
       rises = came_rises Tells app came comes.unread left old then_seen new (Continues-trans Tells old mid then_seen told.continues taken) comes.so;
       within = within_all app ps came;
       running = runs_by Tells app (all_acts app ps (last_acts came app)) old new continues adds (runs_given app ps came);
+      speaks = λ tells.
+          let last = speaks_came Tells app came comes.unread left (takes app ps) then_seen new comes.so tells in
+          let front : Converses app nothing_said (before comes.unread (takes app ps)) mid then_seen =
+          subst (λ (r : List ℕ). Converses app (before r []) (before comes.unread (takes app ps)) mid then_seen) none (converses_takes Tells app ps rest comes.unread [] mid then_seen comes.taken.all tells) in
+          record {
+            after = last.after;
+            converses = Converses-then app nothing_said nothing_said last.after old mid new (converses_restored Tells app old mid told tells)
+                (Converses-then app nothing_said (before comes.unread (takes app ps)) last.after mid then_seen new front last.converses);
+            runs = last.runs;
+            passes = last.passes;
+          };
     }

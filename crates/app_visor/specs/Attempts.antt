@@ -14,9 +14,11 @@ use Rattle.outside.specs.Seen.{Counts, Seen, Continues}
 use Rattle.outside.specs.State.{state, is_running}
 use Rattle.outside.specs.Calls.{Ends}
 use Rattle.journal_readings.specs.Readings.{Within}
+use Rattle.lego_model.specs.AtOnce.{Before, nothing_said}
 use Rattle.app_visor.specs.declared.came.Came.{Came}
 use Rattle.app_visor.specs.declared.came.Came.TheVariants as comes
 use Rattle.app_visor.specs.Talks.{step_of}
+use Rattle.app_visor.specs.Dialogues.{Speaks}
 
 -- ---- One attempt
 
@@ -48,6 +50,8 @@ pub record IsTry {Own : Type 0} (Tells : Type 0) (app : ℕ) (attempt : Attempt)
   -- where it is not ready it does not run, and where it is ready it does
   pub ended : Tells → is_ready tried ≡ false → is_running app (state new) ≡ false
   pub running : Tells → is_ready tried ≡ true → is_running app (state new) ≡ true
+  -- it goes on with the dialogue, where this tells whether the application runs
+  pub speaks : Tells → (s : Before) → s.running ≡ is_running app (state old) → Speaks app s old new (is_ready tried) rest
 
 pub record Tries {Own : Type 0} (Tells : Type 0) (app : ℕ) (tried : Tried) (rest : List ℕ) (old new : Seen Own) : Type 0 where
   pub attempt : Attempt
@@ -141,6 +145,8 @@ pub record Greets {Own : Type 0} (Tells : Type 0) (app : ℕ) (tried : Tried) (u
   pub within : Within app acts
   -- it runs where it ran
   pub running : Tells → is_running app (state new) ≡ is_running app (state old)
+  -- it goes on with the dialogue
+  pub speaks : Tells → Speaks app nothing_said old new (is_ready tried) unread
 
 -- it is ended where it is not ready
 abbrev pub EndsUnless : {Own : Type 0} → Type 0 → ℕ → Bool → Seen Own → Seen Own → Type 0

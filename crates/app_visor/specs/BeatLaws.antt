@@ -94,9 +94,9 @@ stops_wanting {mid = mid} {now_net = now_net} leads wants = record { then_seen =
 pub stops_breaking : {Own : Type 0} {Tells : Type 0} {app : ℕ} {rest : List ℕ} {old new : Seen Own} (net : NetState) → Breaks Tells app rest old new → Stops Tells app old new net net NoMemory
 stops_breaking net breaks = stops_wanting (leads_taken net breaks.taken) breaks.wants
 
-halts_continue : {Own : Type 0} (Tells : Type 0) (old new : Seen Own) (net now_net : NetState) (fault : TxnFault) → Halts Tells old new net now_net fault → Continues Tells old new
+pub halts_continue : {Own : Type 0} (Tells : Type 0) (old new : Seen Own) (net now_net : NetState) (fault : TxnFault) → Halts Tells old new net now_net fault → Continues Tells old new
 halts_continue Tells old new net now_net fault (inl h) = h.2.continues
-halts_continue Tells old new net now_net fault (inr h) = h.1.1.continues
+halts_continue Tells old new net now_net fault (inr h) = h.1.1.0.continues
 
 pub Stops-continues : {Own : Type 0} {Tells : Type 0} {app : ℕ} {old new : Seen Own} {net now_net : NetState} {fault : TxnFault} → Stops Tells app old new net now_net fault → Continues Tells old new
 Stops-continues {Tells = Tells} {old = old} {new = new} {now_net = now_net} {fault = fault} stops =
@@ -124,7 +124,7 @@ Leads-stays {Tells = Tells} {app = app} {a = a} {b = b} {m = m} {n = n} leads = 
 
 halts_stay : {Own : Type 0} (Tells : Type 0) (old new : Seen Own) (net now_net : NetState) (fault : TxnFault) → Halts Tells old new net now_net fault → Stays net now_net
 halts_stay Tells old new net now_net fault (inl h) = rw h.1 (Stays-refl net)
-halts_stay Tells old new net now_net fault (inr h) = stays_changed h.1.1
+halts_stay Tells old new net now_net fault (inr h) = stays_changed h.1.1.0
 
 pub Stops-stays : {Own : Type 0} {Tells : Type 0} {app : ℕ} {old new : Seen Own} {net now_net : NetState} {fault : TxnFault} → Stops Tells app old new net now_net fault → Stays net now_net
 Stops-stays {Tells = Tells} {new = new} {net = net} {now_net = now_net} {fault = fault} stops =

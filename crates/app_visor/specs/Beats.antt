@@ -77,10 +77,10 @@ pub record Exchanges {Own : Type 0} (Tells : Type 0) (app dpid : ℕ) (bytes : L
 
 -- ---- A turn that stops
 
--- memory was wanting, or the network failed at a message
+-- memory was wanting, or the network failed at a message, in step with its switch where the world keeps its word
 abbrev pub Halts : {Own : Type 0} → Type 0 → Seen Own → Seen Own → NetState → NetState → TxnFault → Type 0
 Halts Tells old new net now_net fault =
-    ((fault ≡ NoMemory) × (now_net ≡ net) × Wants Tells old new) ⊎ ((dpid : ℕ) × ((bytes : List ℕ) × Changes Tells dpid bytes old new net now_net (Err fault)))
+    ((fault ≡ NoMemory) × (now_net ≡ net) × Wants Tells old new) ⊎ ((dpid : ℕ) × ((bytes : List ℕ) × (Changes Tells dpid bytes old new net now_net (Err fault) × Steps Tells dpid bytes old new net now_net (Err fault))))
 
 -- Some beats lead to where it stopped.
 pub record Stops {Own : Type 0} (Tells : Type 0) (app : ℕ) (old new : Seen Own) (net now_net : NetState) (fault : TxnFault) : Type 0 where

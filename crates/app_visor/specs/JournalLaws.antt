@@ -69,7 +69,7 @@ wait_none app a (bytes ∷ got) =
     acts_append app (Acted (Got a.dpid bytes) ∷ steps_by a.dpid (heard a bytes) bytes) (wait_steps a got)
     ∙ ap (λ (acts : List Act). acts ++ acts_of app (wait_steps a got)) (heard_none app a.dpid bytes (heard a bytes)) ∙ wait_none app a got
 
-asked_none : (app d xid : ℕ) (m : Change) (a : Awaited) (got : List (List ℕ)) → acts_of app ((change_sent d xid m ∷ barrier_sent a ∷ []) ++ (wait_steps a got ++ reply_got a ∷ [])) ≡ []
+pub asked_none : (app d xid : ℕ) (m : Change) (a : Awaited) (got : List (List ℕ)) → acts_of app ((change_sent d xid m ∷ barrier_sent a ∷ []) ++ (wait_steps a got ++ reply_got a ∷ [])) ≡ []
 unfolding journal
 asked_none app d xid m a got =
     acts_append app (wait_steps a got) (reply_got a ∷ []) ∙ ap (λ (acts : List Act). acts ++ acts_of app (reply_got a ∷ [])) (wait_none app a got)

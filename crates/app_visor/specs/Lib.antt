@@ -4,6 +4,7 @@ pub mod Reads
 pub mod TalkLaws
 pub mod ReadLaws
 pub mod Beats
+pub mod Dialogues
 pub mod BeatLaws
 pub mod Turns
 pub mod TurnLaws
@@ -11,6 +12,8 @@ pub mod PlayLaws
 pub mod AnswerLaws
 pub mod TableLaws
 pub mod JournalLaws
+pub mod DialogueLaws
+pub mod RunningLaws
 pub mod Attempts
 pub mod AttemptLaws
 pub mod TryLaws

@@ -1,6 +1,6 @@
 -- Laws of the loop over the frames of a turn, and of the whole turn.
 use Rattle.std.specs.Prelude.{◌≡◌, ℕ, zero, suc, Bool, true, false, List, [], ◌∷◌, Option, Some, None, Err, ◌⊎◌, refl}
-use Rattle.std.proofs.Common.{sym, subst, inl, inr}
+use Rattle.std.proofs.Common.{sym, subst, inl, inr, true≢false}
 use Rattle.flow_table.specs.declared.view.TableView.{TableView}
 use Rattle.of_types.specs.declared.journal.Act.TheVariants.{Gave, Gone}
 use Rattle.app_frames.specs.declared.frame.AppFrame.{AppFrame}
@@ -14,6 +14,8 @@ use Rattle.outside.specs.Seen.{Seen}
 use Rattle.net_txn.specs.declared.fault.TxnFault.{TxnFault}
 use Rattle.net_txn.specs.Net.{NetState}
 use Rattle.net_txn.specs.Changes.{Changes}
+use Rattle.net_txn.specs.Agreement.{Steps}
+use Rattle.lego_model.specs.AtOnce.{before, besides, Passes}
 use Rattle.app_visor.specs.declared.came.Came.{Came}
 use Rattle.app_visor.specs.declared.came.Came.TheVariants as comes
 use Rattle.app_visor.specs.declared.state.TurnEnd.{TurnEnd}
@@ -22,15 +24,17 @@ use Rattle.app_visor.specs.Talks.{Told, give_act}
 use Rattle.app_visor.specs.Reads.{Taken, Comes}
 use Rattle.app_visor.specs.Beats.{Talk, Asks, acts_in, exchange_of, IsExchange, Exchanges, Leads, Stops}
 use Rattle.app_visor.specs.BeatLaws.{same, Leads-refl}
+use Rattle.app_visor.specs.Dialogues.{is_done}
+use Rattle.app_visor.specs.DialogueLaws.{Converses-then, converses_told, converses_event}
 use Rattle.app_visor.specs.Turns.{IsEnd, LeavesNone, TurnsFrom, Turns, cause_of, Goes, EndsSo, FramePlayed, Plays, GoesOn, unread_after}
 use Rattle.app_visor.specs.TurnLaws.{turn_taken, goes_answered, ends_unanswered, given_more, given_none, IsUnbalanced, IsOver, turn_over}
 
 -- ---- One message
 
 pub stops_at_change : {Own : Type 0} {Tells : Type 0} {dpid : ℕ} {bytes : List ℕ} {old new : Seen Own} {net now_net : NetState} (app : ℕ) (fault : TxnFault) → Changes Tells dpid bytes old new net now_net (Err fault)
-    → Stops Tells app old new net now_net fault
-stops_at_change {dpid = dpid} {bytes = bytes} {old = old} {net = net} app fault changes =
-    record { then_seen = old; then_net = net; leads = Leads-refl app old net; halts = inr (dpid, (bytes, changes)) }
+    → Steps Tells dpid bytes old new net now_net (Err fault) → Stops Tells app old new net now_net fault
+stops_at_change {dpid = dpid} {bytes = bytes} {old = old} {net = net} app fault changes steps =
+    record { then_seen = old; then_net = net; leads = Leads-refl app old net; halts = inr (dpid, (bytes, (changes, steps))) }
 
 pub leads_asked : {Own : Type 0} {Tells : Type 0} (app dpid : ℕ) (bytes : List ℕ) (answer : Answer) (old after : Seen Own) (net now_net : NetState) → IsExchange Tells (exchange_of dpid bytes answer old after net now_net)
     → Leads Tells app old after net now_net
@@ -110,6 +114,12 @@ gone_ends Tells accepts app budget rest frame old new net told = record {
   leaves = refl;
   inputs_so = given_none app frame;
   within = tt;
+  speaks = λ tells event s runs passes. record {
+    after = besides s (Gone app frame);
+    converses = converses_told Tells app (Gone app frame) s (besides s (Gone app frame)) old new told tells (same app) (runs, refl);
+    runs = λ done. absurd (true≢false (sym done));
+    passes = λ done. absurd (true≢false (sym done));
+  };
 }
 
 pub turns_gone : {Own : Type 0} {Tells : Type 0} {accepts : List TableView → Bool} {app : ℕ} {old new : Seen Own} (budget : ℕ) (rest left frame event : List ℕ) (net : NetState) → left ≡ [] → frame ≡ event → Told Tells (Gone app frame) old new
@@ -126,6 +136,10 @@ leaves_after : (end : TurnEnd) (unread : List ℕ) → LeavesNone end (unread_af
 leaves_after (ends.Done stop) unread = tt
 leaves_after (ends.Failed cause) unread = refl
 
+passes_after : (end : TurnEnd) (bytes unread : List ℕ) → (is_done end ≡ true → Passes bytes unread) → is_done end ≡ true → Passes bytes (unread_after end unread)
+passes_after (ends.Done stop) bytes unread passes done = passes done
+passes_after (ends.Failed cause) bytes unread passes done = absurd (true≢false (sym done))
+
 given_ends : {Own : Type 0} (Tells : Type 0) (accepts : List TableView → Bool) (app budget : ℕ) (rest frame unread : List ℕ) (old mid new : Seen Own) (net now_net : NetState) (end : TurnEnd) → Told Tells (Gave app frame) old mid
     → TurnsFrom Tells accepts app budget rest mid new net now_net end unread → Turns Tells accepts app budget rest frame old new net now_net end (unread_after end unread)
 unfolding turn_of reply_of
@@ -140,6 +154,14 @@ given_ends Tells accepts app budget rest frame unread old mid new net now_net en
   leaves = leaves_after end unread;
   inputs_so = given_more app frame (acts_in t.trace) _ t.given;
   within = t.within;
+  speaks = λ tells event s runs passes.
+      let later = t.speaks tells [] refl in
+      record {
+        after = later.after;
+        converses = Converses-then app s (before rest []) later.after old mid new (converses_event Tells app frame rest s old mid told tells event runs passes) later.converses;
+        runs = later.runs;
+        passes = passes_after end later.after.unread unread later.passes;
+      };
 }
 
 pub turns_given : {Own : Type 0} {Tells : Type 0} {accepts : List TableView → Bool} {app budget : ℕ} {rest unread : List ℕ} {old mid new : Seen Own} {net now_net : NetState} {end : TurnEnd} (left frame event taken : List ℕ)

@@ -1,5 +1,5 @@
 -- Laws of one attempt to start an application, of the loop over all attempts, and of what the reference comes to by them.
-use Rattle.std.specs.Prelude.{◌≡◌, ℕ, ◌≤◌, zero, suc, Bool, true, false, List, [], ◌∷◌, ◌++◌, Some, None, if◌then◌else◌, refl}
+use Rattle.std.specs.Prelude.{◌≡◌, ℕ, ◌≤◌, zero, suc, Bool, true, false, List, [], ◌∷◌, ◌++◌, Option, Some, None, is_some, unwrap_or, if◌then◌else◌, refl}
 use Rattle.std.proofs.Common.{sym, ap, ◌∙◌, subst, append_assoc, inl, inr, arith}
 use Rattle.std.proofs.lemmas.Bool.{cases_lt, eq-eqb}
 use Rattle.std.proofs.lemmas.List.{append-nil}
@@ -19,8 +19,12 @@ use Rattle.outside.specs.State.{state, is_running}
 use Rattle.outside.specs.Calls.{Ends}
 use Rattle.journal_readings.specs.Readings.{Within}
 use Rattle.journal_readings.specs.ReadingLaws.{Within-append}
+use Rattle.lego_model.specs.AtOnce.{Before, nothing_said, attempted, Passes}
 use Rattle.app_visor.specs.Talks.{Told}
-use Rattle.app_visor.specs.Attempts.{end_acts, TryRises, restored, IsTry, Tries, OneTry, AreTries, tries_of, starts_of, restarted, Restarts, TriesOn, rest_of, stood, Greets, EndsUnless}
+use Rattle.app_visor.specs.Dialogues.{Converses, Speaks}
+use Rattle.app_visor.specs.DialogueLaws.{Converses-refl, Converses-then, converses_told, converses_ended}
+use Rattle.app_visor.specs.RunningLaws.{converses_runs}
+use Rattle.app_visor.specs.Attempts.{end_acts, TryRises, restored, IsTry, Tries, OneTry, AreTries, ready_rest, tries_of, starts_of, restarted, Restarts, TriesOn, rest_of, stood, Greets, EndsUnless}
 use Rattle.app_visor.specs.AttemptLaws.{Adds, Adds-append, Adds-none, Adds-ended, ends_so, not_started_so, runs_started}
 
 -- ---- One attempt
@@ -48,6 +52,14 @@ try_refused {Tells = Tells} {app = app} {old = old} {mid = mid} {new = new} rest
     within = tt;
     ended = λ tells not_ready. not_started_so Tells app mid new told tells (ends_so Tells app old mid ends tells);
     running = λ tells ready. absurd (no_ready (sym ready));
+    speaks = λ tells s runs.
+        let ended = converses_ended Tells app s old mid ends tells runs in
+        record {
+          after = attempted false;
+          converses = Converses-then app s ended.0 (attempted false) old mid new ended.1.0 (converses_told Tells app (Started app false) ended.0 (attempted false) mid new told tells (eq-eqb app app refl) (ended.1.1, refl));
+          runs = λ ready. absurd (no_ready (sym ready));
+          passes = λ ready. absurd (no_ready (sym ready));
+        };
   };
 }
 
@@ -73,8 +85,10 @@ within_end app false = tt
 
 stood_so : {Own : Type 0} (Tells : Type 0) (app : ℕ) (tried : Tried) (left : List ℕ) (running : Bool) (old mid up then_seen new : Seen Own)
     → Ends Tells app old mid → Told Tells (Started app true) mid up → (greets : Greets Tells app tried left up then_seen) → Adds Tells (end_acts running app) then_seen new → Continues Tells then_seen new
-    → (Tells → is_ready tried ≡ false → is_running app (state new) ≡ false) → (Tells → is_ready tried ≡ true → is_running app (state new) ≡ true) → IsTry Tells app (stood (stood_acts app greets.acts running)) tried (rest_of tried left) old new
-stood_so Tells app tried left running old mid up then_seen new ends told greets adds later ended running_so = record {
+    → (Tells → is_ready tried ≡ false → is_running app (state new) ≡ false) → (Tells → is_ready tried ≡ true → is_running app (state new) ≡ true)
+    → (Tells → (s : Before) → s.running ≡ is_running app (state then_seen) → (is_ready tried ≡ true → Passes s.unread left) → Speaks app s then_seen new (is_ready tried) (rest_of tried left))
+    → IsTry Tells app (stood (stood_acts app greets.acts running)) tried (rest_of tried left) old new
+stood_so Tells app tried left running old mid up then_seen new ends told greets adds later ended running_so closes = record {
   continues = Continues-trans Tells old mid new (Ends-continues ends) (Continues-trans Tells mid up new told.continues (Continues-trans Tells up then_seen new greets.continues later));
   history = Adds-append Tells (end_acts (is_running app (state old)) app) (Started app true ∷ stood_acts app greets.acts running) old mid new (Adds-ended Tells app old mid ends)
       (Adds-append Tells (Started app true ∷ []) (stood_acts app greets.acts running) mid up new told.history (Adds-append Tells greets.acts (end_acts running app) up then_seen new greets.history adds));
@@ -84,6 +98,19 @@ stood_so Tells app tried left running old mid up then_seen new ends told greets 
   within = Within-append app greets.acts (end_acts running app) greets.within (within_end app running);
   ended = ended;
   running = running_so;
+  speaks = λ tells s runs.
+      let first = converses_ended Tells app s old mid ends tells runs in
+      let greeted = greets.speaks tells in
+      let still = converses_runs app nothing_said greeted.after up then_seen greeted.converses greets.continues.given (sym (runs_started Tells app mid up told tells)) in
+      let last = closes tells greeted.after still greeted.passes in
+      record {
+        after = last.after;
+        converses = Converses-then app s first.0 last.after old mid new first.1.0
+            (Converses-then app first.0 nothing_said last.after mid up new (converses_told Tells app (Started app true) first.0 nothing_said mid up told tells (eq-eqb app app refl) (first.1.1, refl))
+            (Converses-then app nothing_said greeted.after last.after up then_seen new greeted.converses last.converses));
+        runs = last.runs;
+        passes = last.passes;
+      };
 }
 
 try_stood_at : {Own : Type 0} (Tells : Type 0) (app : ℕ) (tried : Tried) (left : List ℕ) (ready : Bool) (old mid up then_seen new : Seen Own) → is_ready tried ≡ ready
@@ -91,12 +118,21 @@ try_stood_at : {Own : Type 0} (Tells : Type 0) (app : ℕ) (tried : Tried) (left
 try_stood_at Tells app tried left true old mid up then_seen new is ends told greets unless = record {
   attempt = stood (stood_acts app greets.acts false);
   is = stood_so Tells app tried left false old mid up then_seen new ends told greets (Adds-none Tells then_seen new unless) (rw unless (Continues-refl Tells then_seen))
-      (λ tells e. absurd (no_ready (sym is ∙ e))) (λ tells e. ap (λ (s : Seen _). is_running app (state s)) unless ∙ greets.running tells ∙ runs_started Tells app mid up told tells);
+      (λ tells e. absurd (no_ready (sym is ∙ e))) (λ tells e. ap (λ (s : Seen _). is_running app (state s)) unless ∙ greets.running tells ∙ runs_started Tells app mid up told tells)
+      (λ tells s runs passes. record {
+        after = s;
+        converses = Converses-refl app s then_seen new unless;
+        runs = λ ready. runs ∙ greets.running tells ∙ runs_started Tells app mid up told tells;
+        passes = λ ready. subst (Passes s.unread) (sym (ap (λ (b : Bool). if b then left else []) ready)) (passes ready);
+      });
 }
 try_stood_at Tells app tried left false old mid up then_seen new is ends told greets unless = record {
   attempt = stood (stood_acts app greets.acts (is_running app (state then_seen)));
   is = stood_so Tells app tried left (is_running app (state then_seen)) old mid up then_seen new ends told greets (Adds-ended Tells app then_seen new unless) (Ends-continues unless)
-      (λ tells e. ends_so Tells app then_seen new unless tells) (λ tells e. absurd (no_ready (sym e ∙ is)));
+      (λ tells e. ends_so Tells app then_seen new unless tells) (λ tells e. absurd (no_ready (sym e ∙ is)))
+      (λ tells s runs passes.
+      let closed = converses_ended Tells app s then_seen new unless tells runs in
+      record { after = closed.0; converses = closed.1.0; runs = λ ready. absurd (no_ready (sym ready ∙ is)); passes = λ ready. absurd (no_ready (sym ready ∙ is)) });
 }
 
 pub try_stood : {Own : Type 0} (Tells : Type 0) (app : ℕ) (tried : Tried) (left rest : List ℕ) (old mid up then_seen new : Seen Own) → rest ≡ rest_of tried left
@@ -192,3 +228,34 @@ none_back {Tells = Tells} {app = app} {tries = tries} {first = first} {old = old
       found_so = sym all.found_so;
       as_started = started_so Tells app attempts all.all first old all.are;
     }
+
+-- ---- The dialogue
+
+-- all attempts go on with it, where it tells whether the application runs; where one was ready, it runs then, and what is unread stands
+-- behind its frame Ready
+pub tries_speak : {Own : Type 0} (Tells : Type 0) (app n : ℕ) (all : List (OneTry Own)) (old new : Seen Own) (s : Before) → AreTries Tells app n all old new → Tells → s.running ≡ is_running app (state old)
+    → Speaks app s old new (is_some (ready_rest all)) (unwrap_or (ready_rest all) [])
+tries_speak Tells app zero [] old new s are tells runs = record { after = s; converses = Converses-refl app s old new are; runs = λ some. absurd (no_ready (sym some)); passes = λ some. absurd (no_ready (sym some)) }
+tries_speak Tells app zero (t ∷ ts) old new s are tells runs = absurd are
+tries_speak Tells app (suc n) [] old new s are tells runs = absurd are
+tries_speak Tells app (suc n) (t ∷ ts) old new s are tells runs =
+    let first = are.0.speaks tells s runs in
+    elim are.1 [
+      | inl h ↦
+          let found : ready_rest (t ∷ ts) ≡ Some t.rest = ap (λ (b : Bool). if b then Some t.rest else ready_rest ts) h.0 in
+          record {
+            after = first.after;
+            converses = subst (λ (x : Seen _). Converses app s first.after old x) (sym h.2) first.converses;
+            runs = λ some. first.runs h.0;
+            passes = λ some. subst (λ (o : Option (List ℕ)). Passes first.after.unread (unwrap_or o [])) (sym found) (first.passes h.0);
+          }
+      | inr h ↦
+          let found : ready_rest (t ∷ ts) ≡ ready_rest ts = ap (λ (b : Bool). if b then Some t.rest else ready_rest ts) h.0 in
+          let later = tries_speak Tells app n ts t.after new first.after h.1 tells (converses_runs app s first.after old t.after first.converses are.0.continues.given runs) in
+          record {
+            after = later.after;
+            converses = Converses-then app s first.after later.after old t.after new first.converses later.converses;
+            runs = λ some. later.runs (sym (ap (λ (o : Option (List ℕ)). is_some o) found) ∙ some);
+            passes = λ some. subst (λ (o : Option (List ℕ)). Passes later.after.unread (unwrap_or o [])) (sym found) (later.passes (sym (ap (λ (o : Option (List ℕ)). is_some o) found) ∙ some));
+          }
+    ]

@@ -1,6 +1,6 @@
 -- Laws of turns: each kind of beat is one step of the definition, and each ending is one of its endings.
 use Rattle.std.specs.Prelude.{◌≡◌, ℕ, zero, suc, ◌==◌, Bool, true, false, List, [], ◌∷◌, ◌++◌, length, filter, map, Option, Some, None, refl}
-use Rattle.std.proofs.Common.{sym, ap, ◌∙◌, subst, arith}
+use Rattle.std.proofs.Common.{sym, ap, ◌∙◌, subst, true≢false, arith}
 use Rattle.std.proofs.lemmas.Bool.{ne_eqb}
 use Rattle.of_types.specs.declared.journal.Act.{Act}
 use Rattle.of_types.specs.declared.journal.Act.TheVariants.{Gave, Gone, Took}
@@ -18,6 +18,8 @@ use Rattle.outside.specs.Seen.{Seen}
 use Rattle.journal_readings.specs.Readings.{is_within, Within}
 use Rattle.journal_readings.specs.ReadingLaws.{Within-append}
 use Rattle.journal_readings.specs.FrameLaws.{answer_is_none}
+use Rattle.lego_model.specs.AtOnce.{before, besides, Passes}
+use Rattle.journal_readings.specs.AtOnceLaws.{sends_none_both}
 use Rattle.net_txn.specs.Net.{NetState}
 use Rattle.app_visor.specs.declared.came.Came.{Came}
 use Rattle.app_visor.specs.declared.came.Came.TheVariants as comes
@@ -27,6 +29,8 @@ use Rattle.app_visor.specs.Reads.{takes, Taken, IsNext, CameSo, Comes}
 use Rattle.app_visor.specs.ReadLaws.{next_taken, next_framed, next_faulty, next_over, pieces_takes, end_takes, gone_takes, gave_takes, inputs_takes, within_takes}
 use Rattle.app_visor.specs.Beats.{Exchange, Talk, Asks, acts_in, exchanges_in, exchange_of, Exchanges, Leads}
 use Rattle.app_visor.specs.BeatLaws.{same, Chain-append, talks, takes_chain, acts_talks, exchanges_talks}
+use Rattle.app_visor.specs.Dialogues.{is_done}
+use Rattle.app_visor.specs.DialogueLaws.{passes_next, Converses-refl, Converses-then, converses_told, converses_takes, takes_send_none, converses_answered, converses_unanswered}
 use Rattle.app_visor.specs.Turns.{same_bytes, Asking, oracle, played_so, IsEnd, played_by, TurnsFrom, cause_of, Goes, EndsSo, Plays, done_as}
 
 -- ---- Pieces taken
@@ -54,6 +58,15 @@ turn_taken {Own = Own} {Tells = Tells} {accepts = accepts} {app = app} {left = l
       ends = t.ends;
       given = ap (λ (acts : List Act). inputs app acts) (acts_talks Own (takes app ps) t.trace) ∙ inputs_takes app ps (acts_in t.trace) ∙ t.given;
       within = subst (Within app) (sym (acts_talks Own (takes app ps) t.trace)) (Within-append app (takes app ps) (acts_in t.trace) (within_takes app ps) t.within);
+      speaks = λ tells since none.
+          let acts = since ++ takes app ps in
+          let later = t.speaks tells acts (sends_none_both since (takes app ps) none (takes_send_none app ps)) in
+          record {
+            after = later.after;
+            converses = Converses-then app (before rest since) (before here acts) later.after old mid new (converses_takes Tells app ps rest here since old mid taken.all tells) later.converses;
+            runs = later.runs;
+            passes = later.passes;
+          };
     }
 
 -- ---- A message
@@ -118,6 +131,14 @@ goes_answered Tells accepts app dpid bytes rest here old mid net mid_net next e 
         ends = t.ends;
         given = given_more app (answer_frame e.answer) (acts_in t.trace) (map answer_frame t.answers) t.given;
         within = (within_gave app e.answer, t.within);
+        speaks = λ tells since none.
+            let later = t.speaks tells [] refl in
+            record {
+              after = later.after;
+              converses = Converses-then app (before rest since) (before here []) later.after old mid new (converses_answered Tells app dpid bytes rest here since old mid net mid_net next e tells none) later.converses;
+              runs = later.runs;
+              passes = later.passes;
+            };
       };
 }
 
@@ -145,6 +166,9 @@ ends_unanswered Tells accepts app dpid bytes rest here old new net now_net next 
         ends = refl;
         given = given_none app (answer_frame e.answer);
         within = (within_gone app e.answer, tt);
+        speaks = λ tells since none.
+            let said = converses_unanswered Tells app dpid bytes (before rest since) old new net now_net e tells refl in
+            record { after = said.0; converses = said.1; runs = λ done. absurd (true≢false (sym done)); passes = λ done. absurd (true≢false (sym done)) };
       };
 }
 
@@ -161,9 +185,9 @@ leads_exchanged {app = app} {dpid = dpid} {bytes = bytes} {old = old} {new = new
 -- ---- A frame that ends the turn
 
 ends_at : {Own : Type 0} (Tells : Type 0) (accepts : List TableView → Bool) (app : ℕ) (frame : AppFrame) (rest here : List ℕ) (seen : Seen Own) (net : NetState) (end : TurnEnd) (outcome : Outcome) → IsNext frame rest here
-    → ((left : ℕ) → turn_from {State = Asking Own} (oracle (accepts net.views)) (suc left) None Untold (Some []) (Framed frame here []) ≡ played_so [] outcome) → IsEnd end here outcome → EndsSo Tells accepts app rest here seen seen net net end
+    → ((left : ℕ) → turn_from {State = Asking Own} (oracle (accepts net.views)) (suc left) None Untold (Some []) (Framed frame here []) ≡ played_so [] outcome) → IsEnd end here outcome → (is_done end ≡ true → Passes rest here) → EndsSo Tells accepts app rest here seen seen net net end
 unfolding inputs
-ends_at {Own = Own} Tells accepts app frame rest here seen net end outcome next plays is = record {
+ends_at {Own = Own} Tells accepts app frame rest here seen net end outcome next plays is passes = record {
   is = λ left. record {
     trace = [];
     chain = (refl, refl);
@@ -173,6 +197,7 @@ ends_at {Own = Own} Tells accepts app frame rest here seen net end outcome next 
     ends = is;
     given = refl;
     within = tt;
+    speaks = λ tells since none. record { after = before rest since; converses = Converses-refl app (before rest since) seen seen refl; runs = λ done. refl; passes = passes };
   };
 }
 
@@ -190,8 +215,10 @@ ends_done_at : {Own : Type 0} (Tells : Type 0) (accepts : List TableView → Boo
     → IsNext (frames.Done stop checkpoint) rest here → EndsSo Tells accepts app rest here seen seen net net (done_as judged stop)
 ends_done_at {Own = Own} Tells accepts app stop checkpoint rest here seen net true is next =
     ends_at Tells accepts app (frames.Done stop checkpoint) rest here seen net (ends.Done stop) (Completed stop checkpoint here) next (λ left. done_plays Own (accepts net.views) left stop checkpoint here is) (refl, refl)
+    (λ done. passes_next (frames.Done stop checkpoint) rest here refl next)
 ends_done_at {Own = Own} Tells accepts app stop checkpoint rest here seen net false is next =
     ends_at Tells accepts app (frames.Done stop checkpoint) rest here seen net (ends.Failed causes.Judged) (Failed causes.Judged) next (λ left. judged_plays Own (accepts net.views) left stop checkpoint here is) refl
+    (λ done. absurd (true≢false (sym done)))
 
 pub plays_done : {Own : Type 0} (Tells : Type 0) (accepts : List TableView → Bool) (app : ℕ) (stop : Bool) (checkpoint : Option (List ℕ)) (seen : Seen Own) (net : NetState) (end : TurnEnd) → end ≡ done_as (accepts net.views) stop
     → Plays Tells accepts app (frames.Done stop checkpoint) seen seen net net (Some end)
@@ -222,7 +249,8 @@ pub plays_unbalanced : {Own : Type 0} (Tells : Type 0) (accepts : List TableView
     → Plays Tells accepts app frame seen seen net net (Some (ends.Failed causes.Unbalanced))
 plays_unbalanced {Own = Own} Tells accepts app frame seen net is = record {
   so = λ rest here next.
-      ends_at Tells accepts app frame rest here seen net (ends.Failed causes.Unbalanced) (Failed causes.Unbalanced) next (λ left. unbalanced_plays Own (accepts net.views) left frame here is) refl;
+      ends_at Tells accepts app frame rest here seen net (ends.Failed causes.Unbalanced) (Failed causes.Unbalanced) next (λ left. unbalanced_plays Own (accepts net.views) left frame here is) refl
+      (λ done. absurd (true≢false (sym done)));
 }
 
 -- ---- No frame comes, or one too many
@@ -265,6 +293,7 @@ came_over {Own = Own} Tells accepts app left (comes.Frame frame) rest here unrea
   ends = refl;
   given = refl;
   within = tt;
+  speaks = λ tells since none. record { after = before rest since; converses = Converses-refl app (before rest since) old new so.1; runs = λ done. refl; passes = λ done. absurd (true≢false (sym done)) };
 })
 came_over {Own = Own} Tells accepts app left (comes.Refused fault) rest here unread old new net over so = record {
   trace = [];
@@ -275,6 +304,7 @@ came_over {Own = Own} Tells accepts app left (comes.Refused fault) rest here unr
   ends = refl;
   given = refl;
   within = tt;
+  speaks = λ tells since none. record { after = before rest since; converses = Converses-refl app (before rest since) old new so.1; runs = λ done. refl; passes = λ done. absurd (true≢false (sym done)) };
 }
 came_over {Own = Own} Tells accepts app left comes.Closed rest here unread old new net over so = record {
   trace = Talk (Took app took.Closed) ∷ [];
@@ -285,6 +315,14 @@ came_over {Own = Own} Tells accepts app left comes.Closed rest here unread old n
   ends = refl;
   given = refl;
   within = (same app, tt);
+  speaks = λ tells since none.
+      let act = Took app took.Closed in
+      record {
+        after = besides (before rest since) act;
+        converses = converses_told Tells app act (before rest since) (besides (before rest since) act) old new so.1 tells (same app) (refl, refl);
+        runs = λ done. refl;
+        passes = λ done. absurd (true≢false (sym done));
+      };
 }
 came_over {Own = Own} Tells accepts app left comes.Silent rest here unread old new net over so = record {
   trace = Talk (Took app took.Silent) ∷ [];
@@ -295,6 +333,14 @@ came_over {Own = Own} Tells accepts app left comes.Silent rest here unread old n
   ends = refl;
   given = refl;
   within = (same app, tt);
+  speaks = λ tells since none.
+      let act = Took app took.Silent in
+      record {
+        after = besides (before rest since) act;
+        converses = converses_told Tells app act (before rest since) (besides (before rest since) act) old new so.1 tells (same app) (refl, refl);
+        runs = λ done. refl;
+        passes = λ done. absurd (true≢false (sym done));
+      };
 }
 
 pub turn_over : {Own : Type 0} (Tells : Type 0) (accepts : List TableView → Bool) (app left : ℕ) (came : Came) (rest here unread : List ℕ) (old new : Seen Own) (net : NetState) → IsOver came left → Comes Tells app rest here old new came

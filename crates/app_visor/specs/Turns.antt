@@ -8,18 +8,20 @@ use Rattle.app_frames.specs.declared.frame.Answer.{Answer}
 use Rattle.app_frames.specs.declared.frame.Answer.TheVariants.{Unknown}
 use Rattle.app_frames.specs.declared.cause.Cause.{Cause}
 use Rattle.app_frames.specs.declared.cause.Cause.TheVariants as causes
-use Rattle.lego_model.specs.Journal.{Untold, Reply, reply_of, pieces, end_from, answers_given, inputs}
+use Rattle.lego_model.specs.Journal.{Untold, Reply, reply_of, pieces, end_from, answers_given, inputs, is_event}
 use Rattle.lego_model.specs.Turns.{Outcome, Completed, Failed, Played, Table, next_of, turn_from, turn_of}
 use Rattle.lego_model.specs.Controller.{answer_frame, given_in}
 use Rattle.outside.specs.Seen.{Seen}
 use Rattle.net_txn.specs.Net.{NetState}
 use Rattle.journal_readings.specs.Readings.{Within}
+use Rattle.lego_model.specs.AtOnce.{Before, before, Passes, SendsNone}
 use Rattle.app_visor.specs.declared.came.Came.{Came}
 use Rattle.app_visor.specs.declared.came.Came.TheVariants as comes
 use Rattle.app_visor.specs.declared.state.TurnEnd.{TurnEnd}
 use Rattle.app_visor.specs.declared.state.TurnEnd.TheVariants as ends
 use Rattle.app_visor.specs.Talks.{give_act}
 use Rattle.app_visor.specs.Reads.{IsNext}
+use Rattle.app_visor.specs.Dialogues.{Speaks, is_done}
 use Rattle.app_visor.specs.Beats.{Exchange, Beat, Talk, Chain, acts_in, exchanges_in}
 
 -- ---- The oracle: messages are answered as they were
@@ -78,6 +80,8 @@ pub record TurnsFrom {Own : Type 0} (Tells : Type 0) (accepts : List TableView �
   pub given : inputs app (acts_in trace) ≡ map answer_frame answers
   -- no act begins a turn or an attempt
   pub within : Within app (acts_in trace)
+  -- where no change was sent since the frame before, this goes on with the dialogue
+  pub speaks : Tells → (since : List Act) → SendsNone since → Speaks app (before rest since) old new (is_done end) unread
 
 -- ---- The whole turn
 
@@ -99,6 +103,8 @@ pub record Turns {Own : Type 0} (Tells : Type 0) (accepts : List TableView → B
   pub inputs_so : inputs app (acts_in (Talk (give_act given app frame) ∷ trace)) ≡ given_in given frame answers
   -- behind the event no act begins a turn or an attempt
   pub within : Within app (acts_in trace)
+  -- where the application runs, the turn goes on with the dialogue: each change has reached its switch at once where its answer is given
+  pub speaks : Tells → is_event frame ≡ true → (s : Before) → s.running ≡ true → Passes s.unread rest → Speaks app s old new (is_done end) unread
 
 -- ---- One frame
 

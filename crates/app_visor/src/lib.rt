@@ -11,7 +11,10 @@ mod state;
 mod talk;
 mod turning;
 
-pub use laws::{acts_of_a_turn, attempts_are_told, turns_are_told, turns_of_the_reference};
+pub use laws::{
+    acts_of_a_turn, attempts_are_dialogues, attempts_are_told, turns_are_dialogues, turns_are_told,
+    turns_of_the_reference,
+};
 pub use starting::restart;
 pub use state::{AppState, Back, TurnEnd};
 pub use turning::turn;

@@ -31,7 +31,7 @@ use Rattle.event_dispatch.specs.Batch.{of_memory, standing_of, rest_by, IsAsBefo
 pub kept_at_first : {Own : Type 0} (seen : Seen Own) (run : Run) → KeptSoFar 0 seen seen run run
 kept_at_first seen run = record { none = λ is. (refl, (refl, refl, refl)) }
 
-some_kept : (m : ℕ × List ℕ) (kept : List (ℕ × List ℕ)) → Some m ≡ slice_get kept 0 → kept ≡ [] → ⊥
+pub some_kept : (m : ℕ × List ℕ) (kept : List (ℕ × List ℕ)) → Some m ≡ slice_get kept 0 → kept ≡ [] → ⊥
 some_kept m kept is none = let h : Some m ≡ None = is ∙ ap (λ (xs : List (ℕ × List ℕ)). slice_get xs 0) none in absurd cc
 
 pub kept_one_more : {Own : Type 0} (n : ℕ) (m : ℕ × List ℕ) (old now new : Seen Own) (run mid later : Run) → KeptSoFar n old now run mid → Some m ≡ slice_get mid.net.kept 0 → KeptSoFar (n + 1) old new run later

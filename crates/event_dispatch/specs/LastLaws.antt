@@ -137,7 +137,7 @@ views_kept d vs adds is = ap (λ (e : Engine). rows_at d e.net.views) adds.engin
 
 -- ---- A switch in a world that keeps its word
 
-some_is : (o : Option (List ViewRow)) → IsSome o → (vs : List ViewRow) × (o ≡ Some vs)
+pub some_is : (o : Option (List ViewRow)) → IsSome o → (vs : List ViewRow) × (o ≡ Some vs)
 some_is None h = absurd cc
 some_is (Some vs) h = (vs, refl)
 
@@ -224,14 +224,21 @@ flat_map-last : (f : ℕ → List ℕ) (xs : List ℕ) (x : ℕ) → flat_map f 
 flat_map-last f [] x = nothing_more (f x)
 flat_map-last f (y ∷ ys) x = ap (λ (text : List ℕ). f y ++ text) (flat_map-last f ys x) ∙ sym (append_assoc (f y) (flat_map f ys) (f x))
 
+-- after what was said all is as ready and as sound
+pub says_ready : {Own : Type 0} {text : List ℕ} {old mid : Seen Own} {a b : Run} → Says text old mid a b → Ready old a.net → Ready mid b.net
+says_ready {old = old} {mid = mid} {a = a} {b = b} says ready =
+    let views : b.net.views ≡ a.net.views = views_of (engine_of b) _ says.engine in
+    record { waits = says.waits; agrees = λ e. still_agrees e a.net.views b.net.views (state old) (state mid) views (says.switches e) (ready.agrees e) }
+
+pub says_sound : {Own : Type 0} {text : List ℕ} {old mid : Seen Own} {a b : Run} → Says text old mid a b → Sound (state old) → Sound (state mid)
+says_sound says sound = record { entries = λ e x is. sound.entries e x (sym (says.switches e) ∙ is) }
+
 pub tables_next : {Own : Type 0} (Tells : Type 0) (ds : List ℕ) (d : ℕ) (old mid new : Seen Own) (a b c : Run) → TablesShown Tells ds old mid a b → Continues Tells mid new → TableShown Tells d mid new b c → TablesShown Tells (ds ++ d ∷ []) old new a c
 tables_next Tells ds d old mid new a b c first continues next = record {
   shown = λ told keeps ready sound.
       let one = first.shown told (Conforming-before told continues keeps) ready sound in
       let views : b.net.views ≡ a.net.views = views_of (engine_of b) _ one.engine in
-      let again : Ready mid b.net = record { waits = one.waits; agrees = λ e. still_agrees e a.net.views b.net.views (state old) (state mid) views (one.switches e) (ready.agrees e) } in
-      let firm : Sound (state mid) = record { entries = λ e x is. sound.entries e x (sym (one.switches e) ∙ is) } in
-      let two = next.shown told keeps again firm in
+      let two = next.shown told keeps (says_ready one ready) (says_sound one sound) in
       let text : shown_text b.net.views (state mid) d ≡ shown_text a.net.views (state old) d =
       ap₂ (λ (vs : List TableView) (o : Option SwitchState). switch_text (option_map (owned_switch (flags_at d vs)) o)) views (one.switches d)
       in

@@ -11,3 +11,8 @@ pub mod LastShown
 pub mod LastLaws
 pub mod Batch
 pub mod BatchLaws
+pub mod Plain
+pub mod PlainLaws
+pub mod Cut
+pub mod CutLaws
+pub mod AlikeLaws

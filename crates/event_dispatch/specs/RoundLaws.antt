@@ -55,7 +55,7 @@ writes_then first second a b c r later one two = record {
 
 -- ---- The oldest event that waits
 
-first_event : (queue : List Event) (event : Event) → Some event ≡ slice_get queue 0 → queue ≡ event ∷ drop 1 queue
+pub first_event : (queue : List Event) (event : Event) → Some event ≡ slice_get queue 0 → queue ≡ event ∷ drop 1 queue
 first_event [] event is = absurd cc
 first_event (first ∷ queue) event is = cc
 
@@ -153,7 +153,7 @@ batch_is Tells rests.Idle old new r now_r continues app waits shown = record {
   happens = λ told keeps settled.
       let done = shown.shown told keeps settled.calm in
       subst (OneHappens old new (engine_of r)) (engine_behind r now_r app waits)
-      (batch-happens done.0 old new r.net now_r.net r.queue now_r.queue (engine_of r) (Conforming-before told continues keeps) keeps settled refl refl done.1);
+      (batch-happens Tells done.0 old new r.net now_r.net r.queue now_r.queue (engine_of r) told continues (Conforming-before told continues keeps) keeps settled refl refl done.1);
 }
 batch_is Tells rests.End old new r now_r continues app waits shown = record {
   over = record {

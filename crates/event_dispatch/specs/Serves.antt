@@ -1,6 +1,6 @@
 -- What the engine does, in the words of what is seen and kept: the facts of `shown_runs`, each with its text behind what waited to be
 -- written, and what was written where it was. All of this is our own.
-use Rattle.std.specs.Prelude.{◌≡◌, ℕ, ◌+◌, ◌<◌, Bool, false, List, [], ◌++◌, length, take, Option, Result, Ok, Err}
+use Rattle.std.specs.Prelude.{◌≡◌, ℕ, ◌+◌, ◌<◌, ◌⊎◌, Bool, false, List, [], ◌∷◌, ◌++◌, length, take, Option, Result, Ok, Err}
 use Rattle.std.specs.Io.KnownBytes.{append_known}
 use Rattle.flow_table.specs.declared.view.TableView.{TableView}
 use Rattle.app_frames.specs.declared.frame.Event.{Event}
@@ -9,6 +9,8 @@ use Rattle.lego_model.specs.Places.{Place}
 use Rattle.lego_model.specs.Controller.{event_frame, settle}
 use Rattle.lego_model.specs.RunReport.{turn_line}
 use Rattle.lego_model.specs.declared.turn.TurnWord.TheVariants as words
+use Rattle.outside.specs.declared.step.WorldStep.{WorldStep}
+use Rattle.outside.specs.declared.step.WorldStep.TheVariants.{NotOpened}
 use Rattle.outside.specs.Seen.{Seen, Continues}
 use Rattle.outside.specs.State.{state}
 use Rattle.outside.specs.Conforming.{Conforming}
@@ -24,6 +26,7 @@ use Rattle.shown_runs.specs.Moves.{Settled, Shown, ShownIdle, ShownOver, ShownRo
 use Rattle.shown_runs.specs.FirstLaws.{engine_at_first}
 use Rattle.shown_runs.specs.Endings.{ShownStart, ShownFinish, RanOut, RanFull}
 use Rattle.shown_runs.specs.Promise.{most_rounds, EndsAlike, LeavesAlike}
+use Rattle.shown_runs.specs.Cut.{CutAlike, CutWriting}
 use Rattle.event_dispatch.specs.declared.batch.Rest.{Rest}
 use Rattle.event_dispatch.specs.declared.batch.Rest.TheVariants as rests
 use Rattle.event_dispatch.specs.declared.run.Run.{Run}
@@ -190,11 +193,11 @@ RunsAs Tells accepts (Err (served.Ended events)) contents now_contents old new =
 RunsAs Tells accepts (Err (served.EventsLeft left)) contents now_contents old new = RunsFull Tells accepts left contents now_contents old new engine_at_first
 RunsAs Tells accepts (Err other) contents now_contents old new = Unit {0}
 
--- why a world is not opened
-abbrev pub IsUnopened : Served → Type 0
-IsUnopened served.Shut = Unit {0}
-IsUnopened served.NoMemory = Unit {0}
-IsUnopened other = ⊥
+-- why a world is not opened, and what its history tells then
+abbrev pub IsUnopened : {Own : Type 0} → Type 0 → Seen Own → Seen Own → Served → Type 0
+IsUnopened Tells old new served.Shut = Tells → new.history ≡ old.history ++ NotOpened ∷ []
+IsUnopened Tells old new served.NoMemory = Tells → new.history ≡ old.history
+IsUnopened Tells old new other = ⊥
 
 -- ---- What a whole run promises
 
@@ -208,9 +211,18 @@ pub record IsPart {Own : Type 0} (allows : List Place → Bool) (seen : Seen Own
   pub alike : LeavesAlike allows seen contents now_contents left
   pub none_to_come : (state seen).to_come ≡ []
 
--- Of a world that tells and keeps its word, on which no call was made before: in both cases the run is the reference controller's, and so
--- is what was written.
+-- The world was not opened, which its history tells, and nothing was written.
+pub record NothingDone {Own : Type 0} (steps : List WorldStep) (seen : Seen Own) (contents now_contents : Option (List ℕ)) : Type 0 where
+  pub history : seen.history ≡ steps
+  pub still : now_contents ≡ contents
+
+-- Of a world that tells and keeps its word, on which no call was made before: the run is the reference controller's, whole, or up to the
+-- place that a fault let it come to, and so is what was written.
 abbrev pub IsAlike : {Own : Type 0} → (List Place → Bool) → Seen Own → Option (List ℕ) → Option (List ℕ) → Served → Type 0
 IsAlike allows seen contents now_contents (served.Ended events) = IsWhole allows seen contents now_contents events
 IsAlike allows seen contents now_contents (served.EventsLeft left) = IsPart allows seen contents now_contents left
-IsAlike allows seen contents now_contents other = Unit {0}
+IsAlike allows seen contents now_contents served.WriteFault = CutWriting allows seen contents now_contents
+IsAlike allows seen contents now_contents served.Shut = NothingDone (NotOpened ∷ []) seen contents now_contents
+IsAlike allows seen contents now_contents served.NextFault = CutAlike allows seen contents now_contents
+IsAlike allows seen contents now_contents (served.Txn fault) = CutAlike allows seen contents now_contents
+IsAlike allows seen contents now_contents served.NoMemory = CutAlike allows seen contents now_contents ⊎ NothingDone [] seen contents now_contents

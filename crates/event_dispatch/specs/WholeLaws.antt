@@ -1,15 +1,19 @@
 -- Laws of a whole run: its start, its rounds and its end are the run that is promised.
-use Rattle.std.proofs.Common.{◌≡◌, ℕ, Bool, List, [], ◌∷◌, ◌++◌, Option, Result, Ok, Err, IsErrAnd, refl, sym, ap, ◌∙◌, subst}
+use Rattle.std.proofs.Common.{◌≡◌, ℕ, Bool, List, [], ◌∷◌, ◌++◌, Option, Result, Ok, Err, IsErrAnd, refl, sym, ap, ◌∙◌, subst, inr}
 use Rattle.std.specs.Io.KnownBytes.{append_known}
+use Rattle.std.proofs.lemmas.List.{append-nil}
 use Rattle.flow_table.specs.declared.view.TableView.{TableView}
 use Rattle.lego_model.specs.Places.{Place}
 use Rattle.outside.specs.declared.step.WorldStep.{WorldStep}
-use Rattle.outside.specs.declared.step.WorldStep.TheVariants.{Opened}
+use Rattle.outside.specs.declared.step.WorldStep.TheVariants.{Opened, NotOpened}
+use Rattle.outside.specs.declared.faults.OpenFault.{OpenFault}
+use Rattle.outside.specs.declared.faults.OpenFault.TheVariants as opening
 use Rattle.outside.specs.Seen.{Seen, Continues}
 use Rattle.outside.specs.Calls.{open_steps, ToldOpen}
 use Rattle.outside.specs.SeenLaws.{Continues-trans}
 use Rattle.outside.specs.StateLaws.{Conforming-before}
-use Rattle.shown_runs.specs.Engine.{Engine}
+use Rattle.shown_switches.specs.OrderlyLaws.{orderly-none}
+use Rattle.shown_runs.specs.Engine.{Engine, index}
 use Rattle.shown_runs.specs.FirstLaws.{IsOpened, engine_at_first, settled-first}
 use Rattle.shown_runs.specs.StimuliLaws.{none-later, fewer-before}
 use Rattle.shown_runs.specs.LastReport.{last_text}
@@ -27,6 +31,8 @@ use Rattle.event_dispatch.specs.LastShown.{LastShown}
 use Rattle.event_dispatch.specs.LastLaws.{says_leaves}
 use Rattle.event_dispatch.specs.RoundLaws.{writes_then}
 use Rattle.event_dispatch.specs.Serves.{Writes, NoneToCome, GoesToEnd, Begins, EndsReport, Finishes, RunsOut, RunsFull, GoesAs, RunsAs, IsUnopened, IsAlike}
+use Rattle.event_dispatch.specs.Cut.{CutAs}
+use Rattle.event_dispatch.specs.AlikeLaws.{alike_cut}
 
 -- ---- The end of the report
 
@@ -88,7 +94,7 @@ went_full {Own} Tells accepts left a b c d old begun last new r r1 r2 now_r on l
 }
   where
     leaves-nothing : (seen : Seen Own) → Leaves seen seen
-    leaves-nothing seen = record { given = refl; starts = refl; replies = refl; inputs = refl; stimuli = refl; marks = refl; switches = λ d. refl }
+    leaves-nothing seen = record { given = refl; starts = refl; replies = refl; inputs = refl; stimuli = refl; marks = refl; switches = λ d. refl; at_once = λ said. said; orderly = orderly-none index seen }
 
 pub went_as : {Own : Type 0} (Tells : Type 0) (accepts : List TableView → Bool) (result : Result (Unit {0}) Served) (a b c d : Option (List ℕ)) (old begun last new : Seen Own) (r r1 r2 now_r : Run) → Continues Tells begun last → Continues Tells last new → Begins Tells a b old begun r r1
     → GoesToEnd Tells accepts b c begun last r1 r2 → Finishes Tells result c d last new r2 now_r → GoesAs Tells accepts result a d old new r now_r
@@ -185,18 +191,32 @@ pub opened_by : {Own T : Type 0} {old new : Seen Own} {x : T} → ToldOpen old n
 unfolding open_steps
 opened_by told = told.history
 
-opened_so : {Own : Type 0} (old mid : Seen Own) → old.history ≡ [] → mid.history ≡ old.history ++ Opened ∷ [] → IsOpened mid
+pub opened_so : {Own : Type 0} (old mid : Seen Own) → old.history ≡ [] → mid.history ≡ old.history ++ Opened ∷ [] → IsOpened mid
 opened_so old mid untouched is = is ∙ ap (λ (h : List WorldStep). h ++ Opened ∷ []) untouched
 
+abbrev failed_open : OpenFault → Result (Unit {0}) OpenFault
+failed_open fault = Err fault
+
+-- what a failed call leaves
+pub shut_by : {Own : Type 0} (Tells : Type 0) (old new : Seen Own) (fault : OpenFault) → fault ≡ opening.Shut → (Tells → ToldOpen old new (failed_open fault)) → IsUnopened Tells old new served.Shut
+unfolding open_steps
+shut_by Tells old new opening.Shut is told = λ tells. (told tells).history
+shut_by Tells old new opening.Short is told = absurd cc
+
+pub short_by : {Own : Type 0} (Tells : Type 0) (old new : Seen Own) (fault : OpenFault) → fault ≡ opening.Short → (Tells → ToldOpen old new (failed_open fault)) → IsUnopened Tells old new served.NoMemory
+unfolding open_steps
+short_by Tells old new opening.Shut is told = absurd cc
+short_by Tells old new opening.Short is told = λ tells. (told tells).history ∙ append-nil old.history
+
 -- it could not be opened
-pub alike_unopened : {Own : Type 0} (allows : List Place → Bool) (a b : Option (List ℕ)) (seen : Seen Own) (end : Served) → IsUnopened end → IsAlike allows seen a b end
-alike_unopened allows a b seen served.Shut is = tt
-alike_unopened allows a b seen served.NoMemory is = tt
-alike_unopened allows a b seen (served.EventsLeft left) is = absurd is
-alike_unopened allows a b seen (served.Ended events) is = absurd is
-alike_unopened allows a b seen served.WriteFault is = tt
-alike_unopened allows a b seen served.NextFault is = tt
-alike_unopened allows a b seen (served.Txn fault) is = tt
+pub alike_unopened : {Own : Type 0} (Tells : Type 0) (accepts : List TableView → Bool) (contents : Option (List ℕ)) (old new : Seen Own) (end : Served) → IsUnopened Tells old new end → (allows : List Place → Bool) → Premise Tells accepts allows old new → IsAlike allows new contents contents end
+alike_unopened Tells accepts contents old new served.Shut left allows p = record { history = left p.told ∙ ap (λ (h : List WorldStep). h ++ NotOpened ∷ []) p.untouched; still = refl }
+alike_unopened Tells accepts contents old new served.NoMemory left allows p = inr (record { history = left p.told ∙ p.untouched; still = refl })
+alike_unopened Tells accepts contents old new (served.EventsLeft n) left allows p = absurd left
+alike_unopened Tells accepts contents old new (served.Ended events) left allows p = absurd left
+alike_unopened Tells accepts contents old new served.WriteFault left allows p = absurd left
+alike_unopened Tells accepts contents old new served.NextFault left allows p = absurd left
+alike_unopened Tells accepts contents old new (served.Txn fault) left allows p = absurd left
 
 pub alike_done : {Own : Type 0} (Tells : Type 0) (accepts : List TableView → Bool) (events : ℕ) (a b : Option (List ℕ)) (old mid new : Seen Own) → (Tells → mid.history ≡ old.history ++ Opened ∷ []) → RunsAs Tells accepts (Ok events) a b mid new
     → (allows : List Place → Bool) → Premise Tells accepts allows old new → IsAlike allows new a b (served.Ended events)
@@ -207,20 +227,20 @@ alike_done Tells accepts events a b old mid new opened runs allows p =
       none_to_come = runs.none_to_come.none allows p.told p.keeps p.judges (settled-first mid is) p.few;
     })
 
-pub alike_failed : {Own : Type 0} (Tells : Type 0) (accepts : List TableView → Bool) (end : Served) (a b : Option (List ℕ)) (old mid new : Seen Own) → (Tells → mid.history ≡ old.history ++ Opened ∷ []) → RunsAs Tells accepts (Err end) a b mid new
-    → (allows : List Place → Bool) → Premise Tells accepts allows old new → IsAlike allows new a b end
-alike_failed Tells accepts (served.EventsLeft left) a b old mid new opened runs allows p =
+pub alike_failed : {Own : Type 0} (Tells : Type 0) (accepts : List TableView → Bool) (end : Served) (a b : Option (List ℕ)) (old mid new : Seen Own) → (Tells → mid.history ≡ old.history ++ Opened ∷ []) → Continues Tells mid new → RunsAs Tells accepts (Err end) a b mid new
+    → CutAs Tells accepts end a b mid new engine_at_first → (allows : List Place → Bool) → Premise Tells accepts allows old new → IsAlike allows new a b end
+alike_failed Tells accepts (served.EventsLeft left) a b old mid new opened on runs cut allows p =
     let is = opened_so old mid p.untouched (opened p.told) in
     record {
       alike = ran-full Tells accepts allows left a b mid new p.told p.keeps p.judges is p.few runs.full;
       none_to_come = runs.none_to_come.none allows p.told p.keeps p.judges (settled-first mid is) p.few;
     }
-alike_failed Tells accepts (served.Ended events) a b old mid new opened runs allows p = absurd runs
-alike_failed Tells accepts served.WriteFault a b old mid new opened runs allows p = tt
-alike_failed Tells accepts served.Shut a b old mid new opened runs allows p = tt
-alike_failed Tells accepts served.NextFault a b old mid new opened runs allows p = tt
-alike_failed Tells accepts (served.Txn fault) a b old mid new opened runs allows p = tt
-alike_failed Tells accepts served.NoMemory a b old mid new opened runs allows p = tt
+alike_failed Tells accepts (served.Ended events) a b old mid new opened on runs cut allows p = absurd runs
+alike_failed Tells accepts served.WriteFault a b old mid new opened on runs cut allows p = alike_cut Tells accepts allows served.WriteFault a b mid new p.told p.keeps p.judges (opened_so old mid p.untouched (opened p.told)) p.few on cut
+alike_failed Tells accepts served.Shut a b old mid new opened on runs cut allows p = alike_cut Tells accepts allows served.Shut a b mid new p.told p.keeps p.judges (opened_so old mid p.untouched (opened p.told)) p.few on cut
+alike_failed Tells accepts served.NextFault a b old mid new opened on runs cut allows p = alike_cut Tells accepts allows served.NextFault a b mid new p.told p.keeps p.judges (opened_so old mid p.untouched (opened p.told)) p.few on cut
+alike_failed Tells accepts (served.Txn fault) a b old mid new opened on runs cut allows p = alike_cut Tells accepts allows (served.Txn fault) a b mid new p.told p.keeps p.judges (opened_so old mid p.untouched (opened p.told)) p.few on cut
+alike_failed Tells accepts served.NoMemory a b old mid new opened on runs cut allows p = alike_cut Tells accepts allows served.NoMemory a b mid new p.told p.keeps p.judges (opened_so old mid p.untouched (opened p.told)) p.few on cut
 
 -- what ends a run before its end promises nothing of it
 fault_finishes : {Own : Type 0} (Tells : Type 0) (fault : Fault) (a b : Option (List ℕ)) (old new : Seen Own) (r now_r : Run) → Finishes Tells (Err (served_by fault)) a b old new r now_r

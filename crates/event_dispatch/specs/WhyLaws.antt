@@ -227,7 +227,7 @@ stops_why {Own} {Tells} old new net now_net fault stops =
   where
     halts_why : (mid : Seen Own) (mid_net : NetState) → Halts Tells mid new mid_net now_net fault → IsWhy mid.counts new.counts 0 0 (ended_by fault)
     halts_why mid mid_net (inl wants) = subst (λ (f : TxnFault). IsWhy mid.counts new.counts 0 0 (ended_by f)) (sym wants.0) tt
-    halts_why mid mid_net (inr failed) = cause_why Tells failed.0 mid new fault failed.1.1.cause
+    halts_why mid mid_net (inr failed) = cause_why Tells failed.0 mid new fault failed.1.1.0.cause
 
 -- what came before an undo
 pub why_before : {Own : Type 0} {Tells : Type 0} (a b c : Seen Own) (end : Served) → Continues Tells a b → Continues Tells b c → IsWhy a.counts b.counts 0 0 end → IsWhy a.counts c.counts 0 0 end

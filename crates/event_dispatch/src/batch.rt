@@ -13,7 +13,8 @@ ghost use Rattle.shown_batches.specs.Knowledge.{with_event};
 ghost use Rattle.shown_batches.specs.Items.{Departs, Enters, Handles};
 ghost use Rattle.event_dispatch.specs.Runs.{Waits};
 ghost use Rattle.event_dispatch.specs.Batch.{of_memory, TakesKept, NextTaken, BatchShown};
-ghost use Rattle.event_dispatch.specs.Why.{IsReason};
+ghost use Rattle.event_dispatch.specs.Why.{IsReason, served_by};
+ghost use Rattle.event_dispatch.specs.Plain.{IsPlainEnd, PlainRead, PlainJoin, PlainItem, PlainNext, PlainKept, PlainCalm};
 
 use crate::fault::Fault;
 use crate::run::Run;
@@ -75,6 +76,7 @@ fn next_item<W: World>(world: &mut W, buf: &mut [u8]) -> Result<Item, Fault>
     ensures item { IfOk result (λ item. IsItemIn W.Tells item buf.new) }
     ensures continues { Continues W.Tells (W.seen world.old) (W.seen world.new) }
     ensures why { IfErr result (IsReason (W.seen world.old).counts (W.seen world.new).counts 0 0) }
+    ensures plain { IfErr result IsPlainEnd }
     ensures buffer { length buf.new ≡ length buf.old }
     ensures bytes { IsBytes buf.new }
     ensures nexts { IfOk result (λ item. Nexts W.Tells (W.seen world.old) (W.seen world.new) (Ok item) buf.new) }
@@ -100,6 +102,7 @@ impl Run {
         ensures lines { self.new.lines ≡ self.old.lines }
         ensures continues { Continues W.Tells (W.seen world.old) (W.seen world.new) }
         ensures why { IfErr result (IsReason (W.seen world.old).counts (W.seen world.new).counts 0 0) }
+        ensures plain { IfErr result (PlainRead frame.now) }
         ensures handles { OnOk result (Handles W.Tells (From dpid frame.now) (W.seen world.old) (W.seen world.new)
             self.old.net self.new.net self.old.queue self.new.queue) }
     {
@@ -132,6 +135,7 @@ impl Run {
         ensures lines { self.new.lines ≡ self.old.lines }
         ensures continues { Continues W.Tells (W.seen world.old) (W.seen world.new) }
         ensures why { IfErr result (IsReason (W.seen world.old).counts (W.seen world.new).counts 0 0) }
+        ensures plain { IfErr result (PlainJoin W.Tells dpid (W.seen world.old) (W.seen world.new)) }
         ensures handles { OnOk result (Handles W.Tells (Joined dpid frame.now) (W.seen world.old) (W.seen world.new)
             self.old.net self.new.net self.old.queue self.new.queue) }
     {
@@ -158,6 +162,7 @@ impl Run {
         ensures lines { self.new.lines ≡ self.old.lines }
         ensures continues { Continues W.Tells (W.seen world.old) (W.seen world.new) }
         ensures why { IfErr result (IsReason (W.seen world.old).counts (W.seen world.new).counts 0 0) }
+        ensures plain { IfErr result (PlainJoin W.Tells dpid (W.seen world.old) (W.seen world.new)) }
         ensures enters { OnOk result (Enters W.Tells dpid message.now (W.seen world.old) (W.seen world.new)
             self.old.net self.new.net self.old.queue self.new.queue) }
     {
@@ -192,6 +197,7 @@ impl Run {
         ensures lines { self.new.lines ≡ self.old.lines }
         ensures continues { Continues W.Tells (W.seen world.old) (W.seen world.new) }
         ensures why { IfErr result (IsReason (W.seen world.old).counts (W.seen world.new).counts 0 0) }
+        ensures plain { IfErr result (PlainItem W.Tells (item_step item buf.now) (W.seen world.old) (W.seen world.new)) }
         ensures handles { OnOk result (Handles W.Tells (item_step item buf.now) (W.seen world.old) (W.seen world.new)
             self.old.net self.new.net self.old.queue self.new.queue) }
     {
@@ -216,6 +222,7 @@ impl Run {
         ensures lines { self.new.lines ≡ self.old.lines }
         ensures continues { Continues W.Tells (W.seen world.old) (W.seen world.new) }
         ensures why { IfErr result (IsReason (W.seen world.old).counts (W.seen world.new).counts 0 0) }
+        ensures plain { IfErr result (PlainKept self.old.net) }
         ensures kept { IfOk result (λ left. TakesKept left (W.seen world.old) (W.seen world.new) self.old self.new) }
     {
         for taken in 0..MOST_ITEMS {
@@ -235,6 +242,7 @@ impl Run {
         ensures lines { self.new.lines ≡ self.old.lines }
         ensures continues { Continues W.Tells (W.seen world.old) (W.seen world.new) }
         ensures why { IfErr result (IsReason (W.seen world.old).counts (W.seen world.new).counts 0 0) }
+        ensures plain { IfErr result (PlainNext W.Tells (W.seen world.old) (W.seen world.new)) }
         ensures buffer { length buf.new ≡ length buf.old }
         ensures taken { IfOk result (λ rest. NextTaken W.Tells rest (W.seen world.old) (W.seen world.new) self.old self.new) }
     {
@@ -266,6 +274,9 @@ impl Run {
 
         // Where the world keeps its word and all was calm, one stimulus was begun, and its items were told and taken.
         ensures batch { IfOk result (λ rest. BatchShown W.Tells rest (W.seen world.old) (W.seen world.new) self.old self.new) }
+
+        // Where the world keeps its word and all was calm, a fault is a plain one.
+        ensures plain { IfErr result (λ fault. PlainCalm W.Tells (W.seen world.old) (W.seen world.new) self.old.net (served_by fault)) }
     {
         let left = self.take_kept(world)?;
         for _item in 0..left {

@@ -6,12 +6,14 @@ ghost use Rattle.app_frames.specs.declared.frame.HostFrame.TheVariants as host;
 ghost use Rattle.app_frames.specs.Frames.{HostFits};
 ghost use Rattle.outside.specs.Seen.{Continues};
 ghost use Rattle.event_dispatch.specs.Runs.{Going, Waits};
-ghost use Rattle.event_dispatch.specs.Why.{IsReason};
+ghost use Rattle.event_dispatch.specs.Why.{IsReason, served_by};
+ghost use Rattle.event_dispatch.specs.Plain.{PlainTurn, PlainRun};
 ghost use Rattle.lego_model.specs.RunReport.{turn_line as turn_line_of};
 ghost use Rattle.shown_runs.specs.Engine.{index};
 ghost use Rattle.shown_runs.specs.Facts.{name, starts_text};
-ghost use Rattle.event_dispatch.specs.Shows.{Adds};
+ghost use Rattle.event_dispatch.specs.Shows.{engine_of, Adds};
 ghost use Rattle.event_dispatch.specs.Serves.{Starts, PlaysTurn, Closes, HasTurn, IsDispatched, SettlesOne, Settles};
+ghost use Rattle.event_dispatch.specs.Cut.{CutOne, CutSome};
 
 use crate::fault::Fault;
 use crate::run::{NAME, Run};
@@ -54,6 +56,7 @@ fn play<W: World, J: Judge>(
         net.old net.new app.old.rest app.new.rest) }
     ensures continues { Continues W.Tells (W.seen world.old) (W.seen world.new) }
     ensures why { IfErr result (IsReason (W.seen world.old).counts (W.seen world.new).counts 0 0) }
+    ensures plain { IfErr result (PlainTurn W.Tells (W.seen world.old) (W.seen world.new) net.old) }
 {
     let mut txn = Txn::begin(net);
     match turn(alloc, world, &mut txn, judge, app, number, event, BUDGET) {
@@ -153,6 +156,7 @@ impl Run {
         ensures turn { OnOk result (HasTurn W.Tells (J.accepts judge.now) event.now (W.seen world.old) (W.seen world.new) self.old self.new) }
         ensures continues { Continues W.Tells (W.seen world.old) (W.seen world.new) }
         ensures why { IfErr result (IsReason (W.seen world.old).counts (W.seen world.new).counts 0 0) }
+        ensures plain { IfErr result (PlainTurn W.Tells (W.seen world.old) (W.seen world.new) self.old.net) }
     {
         let end = play(
             self.alloc,
@@ -181,6 +185,7 @@ impl Run {
         ensures dispatched { OnOk result (IsDispatched W.Tells (J.accepts judge.now) event.now (W.seen world.old) (W.seen world.new) self.old self.new) }
         ensures continues { Continues W.Tells (W.seen world.old) (W.seen world.new) }
         ensures why { IfErr result (IsReason (W.seen world.old).counts (W.seen world.new).counts 0 0) }
+        ensures plain { IfErr result (PlainTurn W.Tells (W.seen world.old) (W.seen world.new) self.old.net) }
     {
         self.events += 1;
         let line = event_line(self.alloc, self.events, event.kind, event.dpid)?;
@@ -209,9 +214,12 @@ impl Run {
         ensures events { OnOk result (self.new.events ≤ self.old.events + 1) }
         ensures settles { IfOk result (λ found. SettlesOne W.Tells (J.accepts judge.now) found (K.contents sink.old) (K.contents sink.new)
             (W.seen world.old) (W.seen world.new) self.old self.new) }
+        ensures cut { IfErr result (λ fault. CutOne W.Tells (J.accepts judge.now) fault (K.contents sink.old) (K.contents sink.new)
+            (W.seen world.old) (W.seen world.new) (engine_of self.old)) }
         ensures continues { Continues W.Tells (W.seen world.old) (W.seen world.new) }
         ensures never_fell { NeverFell (K.faults sink.old) (K.faults sink.new) }
         ensures why { IfErr result (IsReason (W.seen world.old).counts (W.seen world.new).counts (K.faults sink.old) (K.faults sink.new)) }
+        ensures plain { IfErr result (λ fault. PlainRun W.Tells (J.accepts judge.now) (W.seen world.old) (W.seen world.new) (engine_of self.old) (served_by fault)) }
     {
         let Some(event) = self.queue.take_first() else {
             return Ok(false);
@@ -238,9 +246,16 @@ impl Run {
         // In a world that keeps its word this is what the reference controller does with the events that wait.
         ensures settles { OnOk result (Settles W.Tells (J.accepts judge.now) (K.contents sink.old) (K.contents sink.new)
             (W.seen world.old) (W.seen world.new) self.old self.new) }
+
+        // Where a fault ends it, it is so up to an event.
+        ensures cut { IfErr result (λ fault. CutSome W.Tells (J.accepts judge.now) fault (K.contents sink.old) (K.contents sink.new)
+            (W.seen world.old) (W.seen world.new) self.old) }
         ensures continues { Continues W.Tells (W.seen world.old) (W.seen world.new) }
         ensures never_fell { NeverFell (K.faults sink.old) (K.faults sink.new) }
         ensures why { IfErr result (IsReason (W.seen world.old).counts (W.seen world.new).counts (K.faults sink.old) (K.faults sink.new)) }
+
+        // Where the world keeps its word and all was settled, a fault is a plain one.
+        ensures plain { IfErr result (λ fault. PlainRun W.Tells (J.accepts judge.now) (W.seen world.old) (W.seen world.new) (engine_of self.old) (served_by fault)) }
     {
         for _event in 0..MOST_EVENTS {
             if !self.settle_one(world, judge, sink)? {

@@ -7,7 +7,8 @@ ghost use Rattle.lego_model.specs.RunReport.{flow_line};
 ghost use Rattle.net_txn.specs.Views.{rows_at};
 ghost use Rattle.shown_runs.specs.LastReport.{engine_end};
 ghost use Rattle.event_dispatch.specs.Runs.{Waits};
-ghost use Rattle.event_dispatch.specs.Why.{IsReason};
+ghost use Rattle.event_dispatch.specs.Why.{IsReason, served_by};
+ghost use Rattle.event_dispatch.specs.Plain.{PlainTable, PlainCalm};
 ghost use Rattle.event_dispatch.specs.Shows.{engine_of, Adds};
 ghost use Rattle.event_dispatch.specs.LastShown.{FindsFlags, FlowsSaid, TableSaid, AsksShown, TableShown, LastShown};
 
@@ -109,6 +110,7 @@ impl Run {
         ensures waits { OnOk result (Waits self.old self.new) }
         ensures continues { Continues W.Tells (W.seen world.old) (W.seen world.new) }
         ensures why { IfErr result (IsReason (W.seen world.old).counts (W.seen world.new).counts 0 0) }
+        ensures plain { IfErr result (PlainTable W.Tells (W.seen world.old) (W.seen world.new) self.old.net) }
         ensures asks { IfOk result (λ rows. AsksShown W.Tells dpid (W.seen world.old) (W.seen world.new) self.old self.new rows) }
     {
         match self.net.rows(world, dpid) {
@@ -123,6 +125,7 @@ impl Run {
         ensures waits { OnOk result (Waits self.old self.new) }
         ensures continues { Continues W.Tells (W.seen world.old) (W.seen world.new) }
         ensures why { IfErr result (IsReason (W.seen world.old).counts (W.seen world.new).counts 0 0) }
+        ensures plain { IfErr result (PlainTable W.Tells (W.seen world.old) (W.seen world.new) self.old.net) }
         ensures shown { OnOk result (TableShown W.Tells dpid (W.seen world.old) (W.seen world.new) self.old self.new) }
     {
         if !is_joined(&self.net, dpid) {
@@ -164,6 +167,9 @@ impl Run {
 
         // Where the world keeps its word, this is what the reference controller says at the end.
         ensures shown { OnOk result (LastShown W.Tells (W.seen world.old) (W.seen world.new) self.old self.new) }
+
+        // There a fault is a plain one.
+        ensures plain { IfErr result (λ fault. PlainCalm W.Tells (W.seen world.old) (W.seen world.new) self.old.net (served_by fault)) }
     {
         let switches = self.switches()?;
         for dpid in switches.iter() {

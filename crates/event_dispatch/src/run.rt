@@ -2,6 +2,7 @@
 
 ghost use Rattle.std.specs.Prelude.{◌≡◌, [], IfOk, OnOk, OnErr};
 ghost use Rattle.lego_io.specs.Count.{Rose, NeverFell};
+ghost use Rattle.lego_io.specs.Sink.{TookPart};
 ghost use Rattle.event_dispatch.specs.Runs.{Going, Waits};
 ghost use Rattle.shown_runs.specs.FirstLaws.{engine_at_first};
 ghost use Rattle.event_dispatch.specs.Shows.{engine_of, Adds};
@@ -83,6 +84,7 @@ impl Run {
         ensures engine { engine_of self.new ≡ engine_of self.old }
         ensures index { self.new.app.state.index ≡ self.old.app.state.index }
         ensures writes { OnOk result (Writes self.old.lines.items (K.contents sink.old) (K.contents sink.new) self.new) }
+        ensures part { OnErr result (TookPart (K.contents sink.old) (K.contents sink.new) self.old.lines.items) }
         ensures rose { OnErr result (Rose (K.faults sink.old) (K.faults sink.new)) }
         ensures never_fell { NeverFell (K.faults sink.old) (K.faults sink.new) }
     {

@@ -5,11 +5,17 @@ ghost use Rattle.lego_io.specs.Count.{NeverFell};
 ghost use Rattle.outside.specs.Seen.{Continues};
 ghost use Rattle.outside.specs.Calls.{most_message};
 ghost use Rattle.event_dispatch.specs.Runs.{Going};
-ghost use Rattle.event_dispatch.specs.Why.{IsWhy, IsReason};
+ghost use Rattle.event_dispatch.specs.Why.{IsWhy, IsReason, served_by};
+ghost use Rattle.event_dispatch.specs.Shows.{engine_of};
+ghost use Rattle.event_dispatch.specs.Plain.{IsPlainServed, IsPlainEnd, PlainCalm, PlainRun, PlainWhole};
 ghost use Rattle.lego_model.specs.Places.{Place};
 ghost use Rattle.outside.specs.declared.step.WorldStep.TheVariants.{Opened};
 ghost use Rattle.shown_runs.specs.Endings.{ShownLeaves};
+ghost use Rattle.shown_runs.specs.FirstLaws.{engine_at_first};
 ghost use Rattle.shown_runs.specs.Promise.{Premise};
+ghost use Rattle.shown_runs.specs.FirstLaws.{engine_at_first};
+ghost use Rattle.event_dispatch.specs.Shows.{engine_of};
+ghost use Rattle.event_dispatch.specs.Cut.{CutRound, CutRounds, CutStart, CutEnd, CutFinishAs, CutAs};
 ghost use Rattle.event_dispatch.specs.Serves.{GoesRound, GoesToEnd, Begins, EndsReport, Finishes, GoesAs, RunsAs, IsUnopened, IsAlike};
 
 use crate::batch::Rest;
@@ -42,12 +48,15 @@ impl Run {
         requires none_waits { self.old.lines.items ≡ [] }
         ensures round { IfOk result (λ rest. GoesRound W.Tells (J.accepts judge.now) rest (K.contents sink.old) (K.contents sink.new)
             (W.seen world.old) (W.seen world.new) self.old self.new) }
+        ensures cut { IfErr result (λ fault. CutRound W.Tells (J.accepts judge.now) fault (K.contents sink.old) (K.contents sink.new)
+            (W.seen world.old) (W.seen world.new) self.old) }
         ensures buffer { length buf.new ≡ length buf.old }
         ensures going { OnOk result (Going self.new) }
         ensures events { OnOk result (self.new.events ≤ self.old.events + 1000) }
         ensures continues { Continues W.Tells (W.seen world.old) (W.seen world.new) }
         ensures never_fell { NeverFell (K.faults sink.old) (K.faults sink.new) }
         ensures why { IfErr result (IsReason (W.seen world.old).counts (W.seen world.new).counts (K.faults sink.old) (K.faults sink.new)) }
+        ensures plain { IfErr result (λ fault. PlainRun W.Tells (J.accepts judge.now) (W.seen world.old) (W.seen world.new) (engine_of self.old) (served_by fault)) }
     {
         let rest = self.take_batch(world, buf)?;
         self.settle(world, judge, sink)?;
@@ -69,9 +78,12 @@ impl Run {
         requires none_waits { self.old.lines.items ≡ [] }
         ensures to_end { OnOk result (GoesToEnd W.Tells (J.accepts judge.now) (K.contents sink.old) (K.contents sink.new)
             (W.seen world.old) (W.seen world.new) self.old self.new) }
+        ensures cut { IfErr result (λ fault. CutRounds W.Tells (J.accepts judge.now) fault (K.contents sink.old) (K.contents sink.new)
+            (W.seen world.old) (W.seen world.new) self.old) }
         ensures continues { Continues W.Tells (W.seen world.old) (W.seen world.new) }
         ensures never_fell { NeverFell (K.faults sink.old) (K.faults sink.new) }
         ensures why { IfErr result (IsReason (W.seen world.old).counts (W.seen world.new).counts (K.faults sink.old) (K.faults sink.new)) }
+        ensures plain { IfErr result (λ fault. PlainRun W.Tells (J.accepts judge.now) (W.seen world.old) (W.seen world.new) (engine_of self.old) (served_by fault)) }
     {
         for _round in 0..MOST_ROUNDS {
             match self.go_round(world, judge, sink, buf)? {
@@ -89,11 +101,13 @@ impl Run {
         requires none { self.old.events ≡ 0 }
         requires none_waits { self.old.lines.items ≡ [] }
         ensures begins { OnOk result (Begins W.Tells (K.contents sink.old) (K.contents sink.new) (W.seen world.old) (W.seen world.new) self.old self.new) }
+        ensures cut { IfErr result (λ fault. CutStart W.Tells fault (K.contents sink.old) (K.contents sink.new) (W.seen world.old) (W.seen world.new) (engine_of self.old)) }
         ensures going { OnOk result (Going self.new) }
         ensures none { OnOk result (self.new.events ≡ 0) }
         ensures continues { Continues W.Tells (W.seen world.old) (W.seen world.new) }
         ensures never_fell { NeverFell (K.faults sink.old) (K.faults sink.new) }
         ensures why { IfErr result (IsReason (W.seen world.old).counts (W.seen world.new).counts (K.faults sink.old) (K.faults sink.new)) }
+        ensures plain { IfErr result IsPlainEnd }
     {
         self.start(world)?;
         self.write(sink)?;
@@ -105,9 +119,11 @@ impl Run {
     fn end_report<W: World, K: Sink>(&mut self, world: &mut W, sink: &mut K) -> Result<(), Fault>
         requires none_waits { self.old.lines.items ≡ [] }
         ensures ends { OnOk result (EndsReport W.Tells (K.contents sink.old) (K.contents sink.new) (W.seen world.old) (W.seen world.new) self.old self.new) }
+        ensures cut { IfErr result (λ fault. CutEnd W.Tells fault (K.contents sink.old) (K.contents sink.new) (W.seen world.old) (W.seen world.new) (engine_of self.old)) }
         ensures continues { Continues W.Tells (W.seen world.old) (W.seen world.new) }
         ensures never_fell { NeverFell (K.faults sink.old) (K.faults sink.new) }
         ensures why { IfErr result (IsReason (W.seen world.old).counts (W.seen world.new).counts (K.faults sink.old) (K.faults sink.new)) }
+        ensures plain { IfErr result (λ fault. PlainCalm W.Tells (W.seen world.old) (W.seen world.new) self.old.net (served_by fault)) }
     {
         self.note_last(world)?;
         self.write(sink)?;
@@ -119,9 +135,11 @@ impl Run {
     fn finish<W: World, K: Sink>(&mut self, world: &mut W, sink: &mut K) -> Result<(), Served>
         requires none_waits { self.old.lines.items ≡ [] }
         ensures finishes { Finishes W.Tells result (K.contents sink.old) (K.contents sink.new) (W.seen world.old) (W.seen world.new) self.old self.new }
+        ensures cut { IfErr result (λ end. CutFinishAs W.Tells end (K.contents sink.old) (K.contents sink.new) (W.seen world.old) (W.seen world.new) (engine_of self.old)) }
         ensures continues { Continues W.Tells (W.seen world.old) (W.seen world.new) }
         ensures never_fell { NeverFell (K.faults sink.old) (K.faults sink.new) }
         ensures why { IfErr result (IsWhy (W.seen world.old).counts (W.seen world.new).counts (K.faults sink.old) (K.faults sink.new)) }
+        ensures plain { IfErr result (PlainCalm W.Tells (W.seen world.old) (W.seen world.new) self.old.net) }
     {
         if !self.queue.is_empty() {
             return Err(Served::EventsLeft(self.queue.len()));
@@ -143,9 +161,11 @@ impl Run {
         requires none { self.old.events ≡ 0 }
         requires none_waits { self.old.lines.items ≡ [] }
         ensures goes { GoesAs W.Tells (J.accepts judge.now) result (K.contents sink.old) (K.contents sink.new) (W.seen world.old) (W.seen world.new) self.old self.new }
+        ensures cut { IfErr result (λ end. CutAs W.Tells (J.accepts judge.now) end (K.contents sink.old) (K.contents sink.new) (W.seen world.old) (W.seen world.new) (engine_of self.old)) }
         ensures continues { Continues W.Tells (W.seen world.old) (W.seen world.new) }
         ensures never_fell { NeverFell (K.faults sink.old) (K.faults sink.new) }
         ensures why { IfErr result (IsWhy (W.seen world.old).counts (W.seen world.new).counts (K.faults sink.old) (K.faults sink.new)) }
+        ensures plain { IfErr result (PlainWhole W.Tells (J.accepts judge.now) (W.seen world.old) (W.seen world.new) (engine_of self.old)) }
     {
         self.begin(world, sink)?;
         self.go_on(world, judge, sink, buf)?;
@@ -156,7 +176,7 @@ impl Run {
 /// Opens the world.
 fn open<W: World>(world: &mut W) -> Result<(), Served>
     ensures opened { OnOk result (W.Tells → (W.seen world.new).history ≡ (W.seen world.old).history ++ Opened ∷ []) }
-    ensures unopened { IfErr result IsUnopened }
+    ensures unopened { IfErr result (IsUnopened W.Tells (W.seen world.old) (W.seen world.new)) }
     ensures continues { Continues W.Tells (W.seen world.old) (W.seen world.new) }
     ensures why { IfErr result (IsWhy (W.seen world.old).counts (W.seen world.new).counts 0 0) }
 {
@@ -190,9 +210,11 @@ fn go_to_end<W: World, J: Judge, K: Sink>(
     requires none { run.old.events ≡ 0 }
     requires none_waits { run.old.lines.items ≡ [] }
     ensures goes { GoesAs W.Tells (J.accepts judge.now) result (K.contents sink.old) (K.contents sink.new) (W.seen world.old) (W.seen world.new) run.old run.new }
+    ensures cut { IfErr result (λ end. CutAs W.Tells (J.accepts judge.now) end (K.contents sink.old) (K.contents sink.new) (W.seen world.old) (W.seen world.new) (engine_of run.old)) }
     ensures continues { Continues W.Tells (W.seen world.old) (W.seen world.new) }
     ensures never_fell { NeverFell (K.faults sink.old) (K.faults sink.new) }
     ensures why { IfErr result (IsWhy (W.seen world.old).counts (W.seen world.new).counts (K.faults sink.old) (K.faults sink.new)) }
+    ensures plain { IfErr result (PlainWhole W.Tells (J.accepts judge.now) (W.seen world.old) (W.seen world.new) (engine_of run.old)) }
 {
     let ended = run.go(world, judge, sink, buf);
     end(world);
@@ -207,9 +229,11 @@ fn run<W: World, J: Judge, K: Sink>(
     sink: &mut K,
 ) -> Result<u64, Served>
     ensures runs { RunsAs W.Tells (J.accepts judge.now) result (K.contents sink.old) (K.contents sink.new) (W.seen world.old) (W.seen world.new) }
+    ensures cut { IfErr result (λ end. CutAs W.Tells (J.accepts judge.now) end (K.contents sink.old) (K.contents sink.new) (W.seen world.old) (W.seen world.new) engine_at_first) }
     ensures continues { Continues W.Tells (W.seen world.old) (W.seen world.new) }
     ensures never_fell { NeverFell (K.faults sink.old) (K.faults sink.new) }
     ensures why { IfErr result (IsWhy (W.seen world.old).counts (W.seen world.new).counts (K.faults sink.old) (K.faults sink.new)) }
+    ensures plain { IfErr result (PlainWhole W.Tells (J.accepts judge.now) (W.seen world.old) (W.seen world.new) engine_at_first) }
 {
     let mut run = Run::new(alloc)?;
     let mut buf = vec![in alloc; 0; MOST_MESSAGE]?;
@@ -234,9 +258,12 @@ pub fn serve<W: World, J: Judge, K: Sink>(
     ensures why { IsWhy (W.seen world.old).counts (W.seen world.new).counts (K.faults sink.old) (K.faults sink.new) result }
     // In a world that tells and keeps its word, on which no call was made before, the run is the reference controller's over what the
     // world told: the tables agree at every quiet place, the application was given what it is given there, and what was written is the
-    // report, whole where all events were dispatched, and as far as these go where some were left.
+    // report, whole where all events were dispatched, and as far as these go where some were left. Where a fault ends the run, it is so
+    // up to a place, with the lines of all that was done up to there; and where the sink failed, with a part of the lines of the last.
     ensures alike { (allows : List Place → Bool) → Premise W.Tells (J.accepts judge.now) allows (W.seen world.old) (W.seen world.new)
         → IsAlike allows (W.seen world.new) (K.contents sink.old) (K.contents sink.new) result }
+    // There no switch is at fault for what it sent: of a switch only its link ends a run.
+    ensures plain { (allows : List Place → Bool) → Premise W.Tells (J.accepts judge.now) allows (W.seen world.old) (W.seen world.new) → IsPlainServed result }
 {
     if let Err(served) = open(world) {
         return served;

@@ -2,3 +2,4 @@ pub mod Readings
 pub mod FrameLaws
 pub mod ReadingLaws
 pub mod CallLaws
+pub mod AtOnceLaws

@@ -1,6 +1,6 @@
 -- When the switches of a run and those of the reference controller agree: at every quiet place, a switch for a switch. Serials, counters,
 -- ages and flags may differ, since an entry that was removed and given back begins these anew. This is our own.
-use Rattle.std.specs.Prelude.{◌≡◌, ℕ, ◌+◌, ◌⊎◌, List, [], ◌∷◌, Option, Some, None}
+use Rattle.std.specs.Prelude.{◌≡◌, ◌+◌, ◌⊎◌, List, [], ◌∷◌, Option, Some, None}
 use Rattle.flow_table.specs.declared.entry.Entry.{Entry}
 use Rattle.flow_table.specs.Switch.{SwitchState}
 use Rattle.lego_model.specs.Controller.{Quiet}

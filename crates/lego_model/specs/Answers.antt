@@ -1,6 +1,6 @@
 -- The answer to one message of an application: the host's own tests in their order, and then the switch. Which error the host answers
 -- with is our own choice; the names are those of OpenFlow 1.0.0, 5.4.4 Error Message.
-use Rattle.std.specs.Prelude.{◌==◌, ℕ, ◌+◌, ◌/◌, ◌*◌, Bool, true, false, not, ◌&&◌, ◌||◌, List, [], ◌∷◌, map, Option, Some, None, Result, Ok, Err, nat_lt, if◌then◌else◌}
+use Rattle.std.specs.Prelude.{◌==◌, ℕ, ◌+◌, ◌/◌, ◌*◌, Bool, not, ◌&&◌, List, [], ◌∷◌, map, Option, Some, None, Result, Ok, Err, nat_lt, if◌then◌else◌}
 use Rattle.std.specs.List.{list_any}
 use Rattle.of_types.specs.declared.errors.OfError.{OfError}
 use Rattle.of_match.specs.declared.key.Key.{Key}
@@ -12,7 +12,6 @@ use Rattle.of_action.specs.declared.fault.ActionKind.{ActionKind}
 use Rattle.of_action.specs.declared.fault.ActionKind.TheVariants as action_kinds
 use Rattle.of_action.specs.Spelling.{list_size}
 use Rattle.of_wire.specs.declared.bodies.FlowMod.{FlowMod as FlowModBody}
-use Rattle.of_wire.specs.declared.bodies.Stats.{Stats as StatsBody}
 use Rattle.of_wire.specs.declared.message.Message.{Message}
 use Rattle.of_wire.specs.declared.message.Message.TheVariants.{FlowMod, StatsRequest, BarrierRequest}
 use Rattle.of_wire.specs.declared.message.Envelope.{Envelope}
@@ -25,7 +24,6 @@ use Rattle.flow_table.specs.Errors.{bad_type, bad_len, buffer_unknown, action_ba
 use Rattle.flow_table.specs.Change.{is_modify, is_delete, checks_overlap, key_in, describes, sends_to}
 use Rattle.flow_table.specs.Refusals.{or_else, no_buffer, is_emergency, most_action_bytes, stats_refusal, message_refusal}
 use Rattle.flow_table.specs.Switch.{SwitchState}
-use Rattle.flow_table.specs.Step.{after_message}
 use Rattle.app_frames.specs.declared.frame.Answer.{Answer}
 use Rattle.app_frames.specs.declared.frame.Answer.TheVariants.{Fine, Error, Unknown}
 

@@ -1,7 +1,7 @@
 -- The reference controller: it runs stimuli over whole switches, gives each event to the applications that are alive, and never sees a
 -- turn that failed. It has no inverse message, no cache, and sends nothing for the purpose of undoing. Events are made of what switches
 -- send (OpenFlow 1.0.0, 5.4 Asynchronous Messages); all else is our own choice.
-use Rattle.std.specs.Prelude.{◌≡◌, ◌==◌, ℕ, zero, suc, ◌+◌, ◌-◌, ◌/◌, ◌%◌, ◌&&◌, Bool, true, false, not, List, [], ◌∷◌, ◌++◌, length, map, filter, filter_map, fold, drop, take, Option, Some, None, Result, Ok, Err, is_some, if◌then◌else◌, slice_get}
+use Rattle.std.specs.Prelude.{◌==◌, ℕ, zero, suc, ◌+◌, ◌/◌, ◌%◌, ◌&&◌, Bool, true, false, not, List, [], ◌∷◌, ◌++◌, map, filter_map, fold, drop, Option, Some, None, Result, Ok, Err, is_some, if◌then◌else◌}
 use Rattle.std.specs.List.{flat_map, list_any}
 use Rattle.std.specs.Option.{option_map}
 use Rattle.of_types.specs.declared.port_desc.PortDesc.{PortDesc}
@@ -18,17 +18,15 @@ use Rattle.of_wire.specs.Spelling.{message_bytes, ports_bytes}
 use Rattle.flow_table.specs.Switch.{Declared, SwitchState, joined_at, features_reply, port_desc}
 use Rattle.flow_table.specs.Step.{after_stimulus, sent_by_stimulus}
 use Rattle.app_frames.specs.declared.frame.Event.{Event}
-use Rattle.app_frames.specs.declared.frame.EventKind.{EventKind}
 use Rattle.app_frames.specs.declared.frame.EventKind.TheVariants as events
 use Rattle.app_frames.specs.declared.frame.HostFrame.TheVariants as host
 use Rattle.app_frames.specs.declared.frame.Answer.{Answer}
-use Rattle.app_frames.specs.declared.cause.Cause.{Cause}
 use Rattle.app_frames.specs.declared.cause.Tried.{Tried}
 use Rattle.app_frames.specs.declared.cause.Tried.TheVariants as tried
 use Rattle.app_frames.specs.Spelling.{host_bytes}
 use Rattle.lego_model.specs.Journal.{Reply, Start, Untold}
-use Rattle.lego_model.specs.Turns.{Outcome, Completed, Failed, Played, Table, turn_of, outcome_of}
-use Rattle.lego_model.specs.Places.{Place, switch_at, with_place, answer, undone_places}
+use Rattle.lego_model.specs.Turns.{Outcome, Completed, Failed, Table, turn_of, outcome_of}
+use Rattle.lego_model.specs.Places.{Place, answer, undone_places}
 
 -- ---- Events
 

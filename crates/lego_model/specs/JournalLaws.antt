@@ -1,11 +1,11 @@
 -- Laws of longer journals: what they tell is what their parts tell.
-use Rattle.std.proofs.Common.{◌≡◌, ℕ, Bool, true, false, List, [], ◌∷◌, ◌++◌, refl, sym, ap, ◌∙◌}
+use Rattle.std.proofs.Common.{◌≡◌, ℕ, Bool, true, false, List, [], ◌∷◌, ◌++◌, refl, ap, ◌∙◌}
 use Rattle.std.specs.Prelude.{filter}
 use Rattle.std.proofs.lemmas.List.{append-nil}
 use Rattle.std.proofs.lemmas.List.Elements.{filter-append, filter_map-append}
 use Rattle.of_types.specs.declared.journal.Act.{Act}
 use Rattle.of_types.specs.declared.journal.Act.TheVariants.{Stim, Started, Gave, Gone, Took, Ended, Sent, Got}
-use Rattle.lego_model.specs.Journal.{Journal, stimulus_in, stimuli, given_to, inputs, released_in, released, Attempt, is_of, in_attempts, attempts, Asked, is_event, in_turns}
+use Rattle.lego_model.specs.Journal.{Journal, stimulus_in, stimuli, given_to, inputs, released_in, released, is_of, in_attempts, attempts, is_event, in_turns}
 
 pub stimuli-append : (first next : Journal) → stimuli (first ++ next) ≡ stimuli first ++ stimuli next
 unfolding stimuli

@@ -15,6 +15,7 @@ pub mod Controller
 pub mod Agreement
 pub mod RunReport
 pub mod JournalLaws
+pub mod AtOnce
 pub mod Answers
 pub mod SessionFacts
 pub mod SessionWordLaws

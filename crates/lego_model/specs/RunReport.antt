@@ -20,7 +20,6 @@ use Rattle.app_frames.specs.declared.cause.Tried.{Tried}
 use Rattle.app_frames.specs.declared.cause.Tried.TheVariants as tried
 use Rattle.lego_model.specs.Report.{line_of, flow_head, cookie_text}
 use Rattle.lego_model.specs.Turns.{Outcome, Completed, Failed as FailedBy}
-use Rattle.lego_model.specs.Places.{Place}
 use Rattle.lego_model.specs.Controller.{App, Line, Started, IsGone, Dispatched, Ended, Run}
 use Rattle.lego_model.specs.declared.turn.TurnWord.{TurnWord}
 use Rattle.lego_model.specs.declared.turn.TurnWord.TheVariants.{Done, Stop, Failed}

@@ -4,4 +4,5 @@ mod Reading
 mod Statuses
 mod Loads
 mod Causes
+mod Places
 mod Runs

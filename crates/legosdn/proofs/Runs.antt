@@ -1,5 +1,6 @@
 -- The run of a session is the reference controller's.
-use Rattle.std.proofs.Common.{◌≡◌, ℕ, ◌≤◌, Bool, true, List, [], length, Option, Result, Ok, Err, IfErr, refl, sym, ap, subst, arith}
+use Rattle.std.proofs.Common.{◌≡◌, ℕ, ◌≤◌, Bool, true, false, List, [], ◌∷◌, length, Contains, Option, Some, Result, Ok, Err, IfErr, IfSome, refl, sym, ap, ◌∙◌, subst, arith, inl, inr, true≢false}
+use Rattle.std.proofs.lemmas.Bool.{cases_Bool}
 use Rattle.std.specs.Result.{IsErrAnd}
 use Rattle.of_types.specs.declared.journal.WorldStim.{WorldStim}
 use Rattle.flow_table.specs.declared.view.TableView.{TableView}
@@ -16,13 +17,20 @@ use Rattle.session_text.specs.Loading.{given_by}
 use Rattle.shown_runs.specs.Engine.{stimuli_in}
 use Rattle.shown_runs.specs.StimuliLaws.{told-few, told-all}
 use Rattle.shown_runs.specs.Promise.{Premise}
+use Rattle.shown_runs.specs.DialogueLaws.{applications_in_place}
+use Rattle.shown_runs.specs.Cut.{CutAlike}
 use Rattle.event_dispatch.specs.declared.served.Served.{Served}
 use Rattle.event_dispatch.specs.declared.served.Served.TheVariants as served
 use Rattle.event_dispatch.specs.Serves.{IsAlike}
+use Rattle.event_dispatch.specs.Plain.{IsPlainServed}
+use Rattle.legosdn.specs.declared.stop.Refusal.{Refusal}
 use Rattle.legosdn.specs.declared.stop.Stop.{Stop}
 use Rattle.legosdn.specs.declared.stop.Stop.TheVariants.{Usage, Refused, ReadFault, WriteFault, Shut, NextFault, SwitchFault, SwitchBroke, Diverged, EventsLeft, NoMemory}
-use Rattle.legosdn.specs.Stops.{stop_line, stop_of_switch}
-use Rattle.legosdn.specs.Headline.{Faults, IsReadCause, IsCause, IsLate, Wrote, all_allowed, RunsWhole, RunsPart, StopsAs, RunsAs, LeftAs}
+use Rattle.legosdn.specs.Input.{session_of}
+use Rattle.legosdn.specs.Stops.{stop_status, stop_line, stop_of_switch}
+use Rattle.legosdn.specs.Headline.{is_command, Faults, IsReadCause, IsCause, NoneFailed, IsLate, Wrote, all_allowed, RunsWhole, RunsPart, StopsAs, RunsAs, LeftAs, CutShort}
+use Rattle.legosdn.proofs.Statuses.{is_broken, is_diverged}
+use Rattle.legosdn.proofs.Places.{CountsNone, none_strays}
 use Rattle.lego_io.specs.Count.{NeverFell}
 use Rattle.net_txn.specs.declared.fault.TxnFault.{TxnFault}
 use Rattle.net_txn.specs.declared.fault.TxnFault.TheVariants as faults
@@ -56,18 +64,37 @@ premise old new none few continues keeps =
     }
 
 pub runs_whole : (old sim : WorldData) (contents now_contents : Option (List ℕ)) (events : ℕ) → (seen_of old).history ≡ [] → length (seen_of old).given.stimuli ≤ 1000000 → Continues (Unit {0}) (seen_of old) (seen_of sim)
-    → (IsReadable sim.history ≡ true → Conforming (seen_of sim)) → (end : Served) → end ≡ served.Ended events → Promises (seen_of old) (seen_of sim) contents now_contents end → IsReadable sim.history ≡ true → RunsWhole (seen_of sim) contents now_contents
-runs_whole old sim contents now_contents events none few continues word end ended promises readable =
+    → (IsReadable sim.history ≡ true → Conforming (seen_of sim)) → (end : Served) → end ≡ served.Ended events → Promises (seen_of old) (seen_of sim) contents now_contents end → CountsNone sim → IsReadable sim.history ≡ true → RunsWhole (seen_of sim) contents now_contents
+runs_whole old sim contents now_contents events none few continues word end ended promises counts readable =
     let keeps = word readable in
     let is = subst (λ (e : Served). IsAlike all_allowed (seen_of sim) contents now_contents e) ended (promises all_allowed (premise (seen_of old) (seen_of sim) none few continues keeps)) in
-    record { events = events; alike = is.alike; stimuli = told-all (seen_of sim) keeps is.none_to_come }
+    record { events = events; alike = is.alike; stimuli = told-all (seen_of sim) keeps is.none_to_come; strays = none_strays sim is.alike.in_order (applications_in_place (seen_of sim) is.alike.at_once) counts }
 
 pub runs_part : (old sim : WorldData) (contents now_contents : Option (List ℕ)) (left : ℕ) → (seen_of old).history ≡ [] → length (seen_of old).given.stimuli ≤ 1000000 → Continues (Unit {0}) (seen_of old) (seen_of sim)
-    → (IsReadable sim.history ≡ true → Conforming (seen_of sim)) → (end : Served) → end ≡ served.EventsLeft left → Promises (seen_of old) (seen_of sim) contents now_contents end → IsReadable sim.history ≡ true → RunsPart (seen_of sim) contents now_contents left
-runs_part old sim contents now_contents left none few continues word end ended promises readable =
+    → (IsReadable sim.history ≡ true → Conforming (seen_of sim)) → (end : Served) → end ≡ served.EventsLeft left → Promises (seen_of old) (seen_of sim) contents now_contents end → CountsNone sim → IsReadable sim.history ≡ true → RunsPart (seen_of sim) contents now_contents left
+runs_part old sim contents now_contents left none few continues word end ended promises counts readable =
     let keeps = word readable in
     let is = subst (λ (e : Served). IsAlike all_allowed (seen_of sim) contents now_contents e) ended (promises all_allowed (premise (seen_of old) (seen_of sim) none few continues keeps)) in
-    record { alike = is.alike; stimuli = told-all (seen_of sim) keeps is.none_to_come }
+    record { alike = is.alike; stimuli = told-all (seen_of sim) keeps is.none_to_come; strays = none_strays sim is.alike.in_order (applications_in_place (seen_of sim) is.alike.at_once) counts }
+
+-- where a fault ended the run, it is so far alike
+pub so_alike : (old sim : WorldData) (contents now_contents : Option (List ℕ)) → (seen_of old).history ≡ [] → length (seen_of old).given.stimuli ≤ 1000000 → Continues (Unit {0}) (seen_of old) (seen_of sim)
+    → (IsReadable sim.history ≡ true → Conforming (seen_of sim)) → (end fault : Served) → end ≡ fault → Promises (seen_of old) (seen_of sim) contents now_contents end → IsReadable sim.history ≡ true → IsAlike all_allowed (seen_of sim) contents now_contents fault
+so_alike old sim contents now_contents none few continues word end fault ended promises readable =
+    subst (IsAlike all_allowed (seen_of sim) contents now_contents) ended (promises all_allowed (premise (seen_of old) (seen_of sim) none few continues (word readable)))
+
+-- how the run went up to a stop
+pub cut_short : (status : ℕ) (sim : WorldData) (stop : Stop) (contents before now_contents : Option (List ℕ)) (faults_old faults faults_new : ℕ) → status ≡ stop_status stop → NeverFell faults_old faults → StopsAs stop sim contents before
+    → Wrote before now_contents faults faults_new (stop_line stop) → CutShort status sim contents now_contents faults_old faults_new
+cut_short status sim stop contents before now_contents faults_old faults faults_new is up runs written = record {
+  stop = stop;
+  is = is;
+  before = before;
+  faults = faults;
+  never_fell = up;
+  run = runs;
+  written = written;
+}
 
 -- where events are left, the last line tells how many
 pub left_as : (sim : WorldData) (left : ℕ) (stop : Stop) (contents before now_contents : Option (List ℕ)) (faults_old faults faults_new : ℕ) (words : List (List ℕ)) (told : Option (List ℕ)) (old new : Faults) → stop ≡ EventsLeft left → NeverFell faults_old faults
@@ -82,23 +109,23 @@ left_as sim left stop contents before now_contents faults_old faults faults_new 
   written = subst (λ (s : Stop). Wrote before now_contents faults faults_new (stop_line s)) is written;
 }
 
--- what stops an input from being read promises nothing of a run
-read_runs : (told : Option (List ℕ)) (k l : ℕ) (sim : WorldData) (a b : Option (List ℕ)) (stop : Stop) → IsReadCause told k l stop → StopsAs stop sim a b
-read_runs told k l sim a b Usage cause = absurd cause
-read_runs told k l sim a b (Refused refusal) cause = tt
-read_runs told k l sim a b ReadFault cause = tt
-read_runs told k l sim a b WriteFault cause = absurd cause
-read_runs told k l sim a b Shut cause = absurd cause
-read_runs told k l sim a b NextFault cause = absurd cause
-read_runs told k l sim a b (SwitchFault d) cause = absurd cause
-read_runs told k l sim a b (SwitchBroke d) cause = absurd cause
-read_runs told k l sim a b (Diverged d) cause = absurd cause
-read_runs told k l sim a b (EventsLeft left) cause = absurd cause
-read_runs told k l sim a b NoMemory cause = tt
+-- where an input is not read, nothing was done
+read_runs : (told : Option (List ℕ)) (k l : ℕ) (sim : WorldData) (contents : Option (List ℕ)) (stop : Stop) → (seen_of sim).history ≡ [] → IsReadCause told k l stop → StopsAs stop sim contents contents
+read_runs told k l sim contents Usage none cause = absurd cause
+read_runs told k l sim contents (Refused refusal) none cause = tt
+read_runs told k l sim contents ReadFault none cause = tt
+read_runs told k l sim contents WriteFault none cause = absurd cause
+read_runs told k l sim contents Shut none cause = absurd cause
+read_runs told k l sim contents NextFault none cause = absurd cause
+read_runs told k l sim contents (SwitchFault d) none cause = absurd cause
+read_runs told k l sim contents (SwitchBroke d) none cause = absurd cause
+read_runs told k l sim contents (Diverged d) none cause = absurd cause
+read_runs told k l sim contents (EventsLeft left) none cause = absurd cause
+read_runs told k l sim contents NoMemory none cause = λ readable. inr (record { history = none; still = refl })
 
-pub runs_by_read : {T : Type 0} (told : Option (List ℕ)) (k l : ℕ) (sim : WorldData) (a b : Option (List ℕ)) (stop : Stop) (result : Result T Stop) → IsErrAnd result (λ s. s ≡ stop) → IsReadCause told k l stop → RunsAs result sim a b
-runs_by_read told k l sim a b stop (Ok x) is cause = absurd is
-runs_by_read told k l sim a b stop (Err s) is cause = subst (λ (t : Stop). StopsAs t sim a b) (sym is) (read_runs told k l sim a b stop cause)
+pub runs_by_read : {T : Type 0} (told : Option (List ℕ)) (k l : ℕ) (sim : WorldData) (contents : Option (List ℕ)) (stop : Stop) (result : Result T Stop) → IsErrAnd result (λ s. s ≡ stop) → (seen_of sim).history ≡ [] → IsReadCause told k l stop → RunsAs result sim contents contents
+runs_by_read told k l sim contents stop (Ok x) is none cause = absurd is
+runs_by_read told k l sim contents stop (Err s) is none cause = subst (λ (t : Stop). StopsAs t sim contents contents) (sym is) (read_runs told k l sim contents stop none cause)
 
 -- and comes before anything runs
 read_not_late : (P : Type 0) (told : Option (List ℕ)) (k l : ℕ) (stop : Stop) → IsReadCause told k l stop → IsLate stop → P
@@ -118,13 +145,55 @@ pub lines_by_read : {T : Type 0} (P : Type 0) (told : Option (List ℕ)) (k l : 
 lines_by_read P told k l stop (Ok x) is cause = tt
 lines_by_read P told k l stop (Err s) is cause = λ late. read_not_late P told k l stop cause (subst IsLate is late)
 
--- nor does the fault of a switch promise anything of it
-switch_runs : (sim : WorldData) (a b : Option (List ℕ)) (fault : TxnFault) → StopsAs (stop_of_switch fault) sim a b
-switch_runs sim a b (faults.SwitchFault d) = tt
-switch_runs sim a b (faults.SwitchBroke d bytes) = tt
-switch_runs sim a b (faults.Flooded d n) = tt
-switch_runs sim a b (faults.Diverged d sent got) = tt
-switch_runs sim a b faults.NoMemory = tt
+-- a switch breaks or diverges only where the world did not keep its word
+never_readable : (sim : WorldData) → (IsReadable sim.history ≡ true → ⊥) → IsReadable sim.history ≡ false
+never_readable sim never = elim (cases_Bool (IsReadable sim.history)) [
+  | inl readable ↦ absurd (never readable)
+  | inr broken ↦ broken
+]
 
-pub runs_by_switch : (sim : WorldData) (a b : Option (List ℕ)) (stop : Stop) (fault : TxnFault) → stop ≡ stop_of_switch fault → StopsAs stop sim a b
-runs_by_switch sim a b stop fault is = subst (λ (s : Stop). StopsAs s sim a b) (sym is) (switch_runs sim a b fault)
+switch_runs : (sim : WorldData) (a b : Option (List ℕ)) (fault : TxnFault) → (IsReadable sim.history ≡ true → IsPlainServed (served.Txn fault)) → (IsReadable sim.history ≡ true → CutAlike all_allowed (seen_of sim) a b) → StopsAs (stop_of_switch fault) sim a b
+switch_runs sim a b (faults.SwitchFault d) plain alike = alike
+switch_runs sim a b (faults.SwitchBroke d bytes) plain alike = never_readable sim plain
+switch_runs sim a b (faults.Flooded d n) plain alike = never_readable sim plain
+switch_runs sim a b (faults.Diverged d sent got) plain alike = never_readable sim plain
+switch_runs sim a b faults.NoMemory plain alike = λ readable. inl (alike readable)
+
+-- what the engine promises of how the run ends
+abbrev pub PromisesPlain : Seen Scripts → Seen Scripts → Served → Type 0
+PromisesPlain old new end = (allows : List Place → Bool) → Premise (Unit {0}) (λ (views : List TableView). true) allows old new → IsPlainServed end
+
+pub runs_by_switch : (old sim : WorldData) (a b : Option (List ℕ)) (stop : Stop) (fault : TxnFault) → (seen_of old).history ≡ [] → length (seen_of old).given.stimuli ≤ 1000000 → Continues (Unit {0}) (seen_of old) (seen_of sim)
+    → (IsReadable sim.history ≡ true → Conforming (seen_of sim)) → (end : Served) → end ≡ served.Txn fault → PromisesPlain (seen_of old) (seen_of sim) end → stop ≡ stop_of_switch fault
+    → (IsReadable sim.history ≡ true → CutAlike all_allowed (seen_of sim) a b) → StopsAs stop sim a b
+runs_by_switch old sim a b stop fault none few continues word end ended promises is alike =
+    subst (λ (s : Stop). StopsAs s sim a b) (sym is)
+    (switch_runs sim a b fault (λ readable. subst IsPlainServed ended (promises all_allowed (premise (seen_of old) (seen_of sim) none few continues (word readable)))) alike)
+
+-- what a stop of a switch says of the run
+pub broke_as : (sim : WorldData) (stop : Stop) (a b : Option (List ℕ)) → StopsAs stop sim a b → stop_status stop ≡ 8 → IsReadable sim.history ≡ false
+broke_as sim stop a b runs eight = let is = is_broken stop eight in subst (λ (s : Stop). StopsAs s sim a b) is.1 runs
+
+pub diverged_as : (sim : WorldData) (stop : Stop) (a b : Option (List ℕ)) → StopsAs stop sim a b → stop_status stop ≡ 9 → IsReadable sim.history ≡ false
+diverged_as sim stop a b runs nine = let is = is_diverged stop nine in subst (λ (s : Stop). StopsAs s sim a b) is.1 runs
+
+-- ---- A good input is answered
+
+no_both : (session : SessionValue) (refusal : Refusal) → Ok session ≡ Err refusal → ⊥
+no_both session refusal e = absurd cc
+
+pub completes : (sim : WorldData) (words : List (List ℕ)) (told : Option (List ℕ)) (old new : Faults) (stop : Stop) (a b : Option (List ℕ)) → IsCause words told old new stop → StopsAs stop sim a b → (input : List ℕ) (session : SessionValue)
+    → is_command words ≡ true → told ≡ Some input → session_of input ≡ Ok session → IsReadable sim.history ≡ true → NoneFailed old new → Contains (0 ∷ 10 ∷ 12 ∷ []) (stop_status stop)
+completes sim words told old new Usage a b cause runs input session command whole spelled readable none = absurd (true≢false (sym command ∙ cause))
+completes sim words told old new (Refused refusal) a b cause runs input session command whole spelled readable none =
+    let refused : session_of input ≡ Err refusal = subst (λ (t : Option (List ℕ)). IfSome t (λ i. session_of i ≡ Err refusal)) whole cause in
+    absurd (no_both session refusal (sym spelled ∙ refused))
+completes sim words told old new ReadFault a b cause runs input session command whole spelled readable none = absurd (none.source cause)
+completes sim words told old new WriteFault a b cause runs input session command whole spelled readable none = absurd (none.sink cause)
+completes sim words told old new Shut a b cause runs input session command whole spelled readable none = absurd (none.shuts cause)
+completes sim words told old new NextFault a b cause runs input session command whole spelled readable none = absurd (none.next_faults cause)
+completes sim words told old new (SwitchFault d) a b cause runs input session command whole spelled readable none = absurd (none.link_faults d cause)
+completes sim words told old new (SwitchBroke d) a b cause runs input session command whole spelled readable none = absurd (true≢false (sym readable ∙ runs))
+completes sim words told old new (Diverged d) a b cause runs input session command whole spelled readable none = absurd (true≢false (sym readable ∙ runs))
+completes sim words told old new (EventsLeft left) a b cause runs input session command whole spelled readable none = (1, omega arith, refl)
+completes sim words told old new NoMemory a b cause runs input session command whole spelled readable none = (2, omega arith, refl)

@@ -110,6 +110,32 @@ is_left (Diverged d) e = absurd (omega arith)
 is_left (EventsLeft left) e = (left, refl)
 is_left NoMemory e = absurd (omega arith)
 
+pub is_broken : (stop : Stop) → stop_status stop ≡ 8 → (d : ℕ) × (stop ≡ SwitchBroke d)
+is_broken Usage e = absurd (omega arith)
+is_broken (Refused refusal) e = absurd (omega arith)
+is_broken ReadFault e = absurd (omega arith)
+is_broken WriteFault e = absurd (omega arith)
+is_broken Shut e = absurd (omega arith)
+is_broken NextFault e = absurd (omega arith)
+is_broken (SwitchFault d) e = absurd (omega arith)
+is_broken (SwitchBroke d) e = (d, refl)
+is_broken (Diverged d) e = absurd (omega arith)
+is_broken (EventsLeft left) e = absurd (omega arith)
+is_broken NoMemory e = absurd (omega arith)
+
+pub is_diverged : (stop : Stop) → stop_status stop ≡ 9 → (d : ℕ) × (stop ≡ Diverged d)
+is_diverged Usage e = absurd (omega arith)
+is_diverged (Refused refusal) e = absurd (omega arith)
+is_diverged ReadFault e = absurd (omega arith)
+is_diverged WriteFault e = absurd (omega arith)
+is_diverged Shut e = absurd (omega arith)
+is_diverged NextFault e = absurd (omega arith)
+is_diverged (SwitchFault d) e = absurd (omega arith)
+is_diverged (SwitchBroke d) e = absurd (omega arith)
+is_diverged (Diverged d) e = (d, refl)
+is_diverged (EventsLeft left) e = absurd (omega arith)
+is_diverged NoMemory e = absurd (omega arith)
+
 pub not_zero : (stop : Stop) → stop_status stop ≡ 0 → ⊥
 not_zero Usage e = omega arith
 not_zero (Refused refusal) e = omega arith

@@ -5,15 +5,18 @@ use Rattle.std.specs.Io.KnownBytes.{append_known}
 use Rattle.lego_io.specs.Count.{Rose, NeverFell}
 use Rattle.lego_io.specs.Source.{ended}
 use Rattle.lego_io.specs.Sink.{TookPart}
+use Rattle.outside.specs.declared.step.WorldStep.TheVariants.{NotOpened}
 use Rattle.outside.specs.Seen.{Counts, Seen}
 use Rattle.sim_world.specs.Told.{without_links}
 use Rattle.sim_world.specs.Scripts.{Scripts, KeepsScripts}
 use Rattle.sim_world.specs.World.{WorldData, IsReadable, seen_of}
 use Rattle.shown_runs.specs.Engine.{stimuli_in}
 use Rattle.shown_runs.specs.Promise.{EndsAlike, LeavesAlike}
+use Rattle.shown_runs.specs.Cut.{CutAlike, CutWriting}
 use Rattle.lego_model.specs.Places.{Place}
 use Rattle.net_txn.specs.declared.fault.TxnFault.{TxnFault}
 use Rattle.event_dispatch.specs.Why.{IsWhyTxn}
+use Rattle.event_dispatch.specs.Serves.{NothingDone}
 use Rattle.lego_model.specs.SessionLines.{SessionValue}
 use Rattle.session_text.specs.Loading.{given_by}
 use Rattle.legosdn.specs.Input.{session_of}
@@ -67,6 +70,14 @@ IsCause words told old new (Refused refusal) = IfSome told (λ input. session_of
 IsCause words told old new ReadFault = Rose old.source new.source
 IsCause words told old new stop = IsRunCause old.sink new.sink old.world new.world stop
 
+-- nothing failed: no count of the source, the sink or the world rose
+pub record NoneFailed (old new : Faults) : Type 0 where
+  pub source : Rose old.source new.source → ⊥
+  pub sink : Rose old.sink new.sink → ⊥
+  pub shuts : Rose old.world.shuts new.world.shuts → ⊥
+  pub next_faults : Rose old.world.next_faults new.world.next_faults → ⊥
+  pub link_faults : (d : ℕ) → Rose (old.world.link_faults d) (new.world.link_faults d) → ⊥
+
 -- the stops that come before anything runs
 abbrev pub IsEarly : Stop → Type 0
 IsEarly Usage = Unit {0}
@@ -101,20 +112,33 @@ abbrev pub all_allowed : List Place → Bool
 all_allowed places = true
 
 -- All stimuli that the world was given were told, and the run is that of the reference controller over them: at every quiet place the
--- tables agree, the application was given what it is given there, no event is left, and what was written is the whole report.
+-- tables agree, the application was given what it is given there, no event is left, and what was written is the whole report. The journal
+-- is a dialogue with the application, in which each change had reached its switch at once when it was answered.
 pub record RunsWhole (seen : Seen Scripts) (contents now_contents : Option (List ℕ)) : Type 0 where
   pub events : ℕ
   pub alike : EndsAlike all_allowed seen contents now_contents events
   pub stimuli : stimuli_in seen ≡ seen.given.stimuli
+  -- no call was made out of place, where no call of the world wanted memory
+  pub strays : seen.counts.shorts ≡ 0 → seen.counts.strays ≡ 0
 
 -- The same with so many events left, and with the lines of those that were dispatched.
 pub record RunsPart (seen : Seen Scripts) (contents now_contents : Option (List ℕ)) (left : ℕ) : Type 0 where
   pub alike : LeavesAlike all_allowed seen contents now_contents left
   pub stimuli : stimuli_in seen ≡ seen.given.stimuli
+  pub strays : seen.counts.shorts ≡ 0 → seen.counts.strays ≡ 0
 
--- how a run goes that ends so, unless a stimulus sends bytes that are no message
+-- How a run goes that ends so, unless a stimulus sends bytes that are no message. Where a fault ends it, it is that of the reference
+-- controller up to a place, with the lines of all that was done up to there, and where the sink failed with a part of the lines of the last;
+-- or nothing was done. Only where a stimulus does send such bytes, a switch breaks or diverges.
 abbrev pub StopsAs : Stop → WorldData → Option (List ℕ) → Option (List ℕ) → Type 0
 StopsAs (EventsLeft left) sim contents now_contents = IsReadable sim.history ≡ true → RunsPart (seen_of sim) contents now_contents left
+StopsAs WriteFault sim contents now_contents = IsReadable sim.history ≡ true → CutWriting all_allowed (seen_of sim) contents now_contents
+StopsAs Shut sim contents now_contents = IsReadable sim.history ≡ true → NothingDone (NotOpened ∷ []) (seen_of sim) contents now_contents
+StopsAs NextFault sim contents now_contents = IsReadable sim.history ≡ true → CutAlike all_allowed (seen_of sim) contents now_contents
+StopsAs (SwitchFault d) sim contents now_contents = IsReadable sim.history ≡ true → CutAlike all_allowed (seen_of sim) contents now_contents
+StopsAs (SwitchBroke d) sim contents now_contents = IsReadable sim.history ≡ false
+StopsAs (Diverged d) sim contents now_contents = IsReadable sim.history ≡ false
+StopsAs NoMemory sim contents now_contents = IsReadable sim.history ≡ true → CutAlike all_allowed (seen_of sim) contents now_contents ⊎ NothingDone [] (seen_of sim) contents now_contents
 StopsAs other sim contents now_contents = Unit {0}
 
 abbrev pub RunsAs : {T : Type 0} → Result T Stop → WorldData → Option (List ℕ) → Option (List ℕ) → Type 0
@@ -147,6 +171,16 @@ pub record LeftAs (sim : WorldData) (contents now_contents : Option (List ℕ)) 
   pub never_fell : NeverFell faults_old faults
   pub run : IsReadable sim.history ≡ true → RunsPart (seen_of sim) contents before left
   pub written : Wrote before now_contents faults faults_new (stop_line (EventsLeft left))
+
+-- How the run went up to a stop of this status, whose line stands behind what was written up to there.
+pub record CutShort (status : ℕ) (sim : WorldData) (contents now_contents : Option (List ℕ)) (faults_old faults_new : ℕ) : Type 0 where
+  pub stop : Stop
+  pub is : status ≡ stop_status stop
+  pub before : Option (List ℕ)
+  pub faults : ℕ
+  pub never_fell : NeverFell faults_old faults
+  pub run : StopsAs stop sim contents before
+  pub written : Wrote before now_contents faults faults_new (stop_line stop)
 
 -- a stop of this status, with its cause
 pub record Stopped (words : List (List ℕ)) (told : Option (List ℕ)) (old new : Faults) (status : ℕ) (P : Stop → Type 0) : Type 0 where

@@ -1,14 +1,15 @@
 //! The program as a call over a source, a sink and a world.
 
-ghost use Rattle.std.specs.Prelude.{◌≡◌, ◌≤◌, ◌↔◌, ◌⊎◌, ◌∷◌, [], Err, true, false, length, map, Contains, IfSome, IfOk, OnOk, IfErr, string_bytes};
+ghost use Rattle.std.specs.Prelude.{◌≡◌, ◌≤◌, ◌↔◌, ◌⊎◌, ◌∷◌, [], ℕ, List, Some, Ok, Err, true, false, length, map, Contains, IfSome, IfOk, OnOk, IfErr, string_bytes};
 ghost use Rattle.lego_io.specs.Count.{Rose, NeverFell};
 ghost use Rattle.outside.specs.Seen.{Continues};
 ghost use Rattle.sim_world.specs.World.{IsReadable, given_of, seen_of};
 ghost use Rattle.sim_world.specs.Building.{nothing_given, IsNew, Begins};
+ghost use Rattle.lego_model.specs.SessionLines.{SessionValue};
 ghost use Rattle.legosdn.specs.declared.stop.Refusal.{Refusal};
 ghost use Rattle.legosdn.specs.Input.{app_names as names_in, session_of};
 ghost use Rattle.legosdn.specs.Stops.{stop_status, stop_line, refusal_line};
-ghost use Rattle.legosdn.specs.Headline.{is_command as is_command_in, faults_of, IsReadCause, IsRunCause, IsCause, IsEarly, IsLate, Loaded, RunsWhole, RunsAs, KeepsLines, LeftAs, Wrote, WroteLast, Stopped};
+ghost use Rattle.legosdn.specs.Headline.{is_command as is_command_in, faults_of, IsReadCause, IsRunCause, IsCause, NoneFailed, IsEarly, IsLate, Loaded, RunsWhole, RunsAs, KeepsLines, LeftAs, CutShort, Wrote, WroteLast, Stopped};
 
 use crate::input::{parts_of, read_input};
 use crate::stop::Stop;
@@ -136,10 +137,16 @@ pub fn legosdn<S: Source, K: Sink>(
     requires nothing { given_of sim.old ≡ nothing_given }
     // At status 0, unless a stimulus sent bytes that are no message: all stimuli of the session happened, and the run is that of the
     // reference controller over them and over what the application did: at every quiet place the tables agree, the application was
-    // given what it is given there, no event is left, and what was written is the whole report.
+    // given what it is given there, no event is left, and what was written is the whole report. Each answer that the application was
+    // given is to its next message, and a change that passed the host's tests had then reached its switch: since the frame given before,
+    // the change was sent there, a barrier behind it, the barrier's reply came, and no other change was sent.
     ensures done { result ≡ 0 → IsReadable sim.new.history ≡ true → RunsWhole (seen_of sim.new) (K.contents sink.old) (K.contents sink.new) }
     // At status 10 the same with the lines of the events that were dispatched, and how many are left behind them.
     ensures left { result ≡ 10 → LeftAs sim.new (K.contents sink.old) (K.contents sink.new) (K.faults sink.old) (K.faults sink.new) }
+    // Where a fault ends the run, it is that of the reference controller up to a place: what was written is what this says so far, or
+    // a part of the lines of what was done last where the sink failed, and behind it stands the line that says why; or nothing was done.
+    ensures cut { Contains (5 ∷ 6 ∷ 7 ∷ 8 ∷ 9 ∷ 12 ∷ []) result
+        → CutShort result sim.new (K.contents sink.old) (K.contents sink.new) (K.faults sink.old) (K.faults sink.new) }
     // What the application did is what the lines of the session say.
     ensures lines { Contains (0 ∷ 5 ∷ 6 ∷ 7 ∷ 8 ∷ 9 ∷ 10 ∷ []) result → KeepsLines sim.new }
 
@@ -148,6 +155,16 @@ pub fn legosdn<S: Source, K: Sink>(
         (faults_of (S.faults source.old) (K.faults sink.old) (seen_of sim.old).counts)
         (faults_of (S.faults source.new) (K.faults sink.new) (seen_of sim.new).counts)
         result (λ stop. WroteLast (K.contents sink.new) (K.faults sink.old) (K.faults sink.new) (stop_line stop)) }
+
+    // A switch breaks or diverges only where a stimulus sent bytes that are no message.
+    ensures broke { result ≡ 8 → IsReadable sim.new.history ≡ false }
+    ensures diverged { result ≡ 9 → IsReadable sim.new.history ≡ false }
+    // Where the words are the command, the whole input spells a session, no stimulus sent bytes that are no message, and nothing failed,
+    // the whole report is written, or events are left, or memory is wanting.
+    ensures complete { (input : List ℕ) (session : SessionValue) → is_command_in (map string_bytes words.now) ≡ true → S.remaining source.old ≡ Some input
+        → session_of input ≡ Ok session → IsReadable sim.new.history ≡ true
+        → NoneFailed (faults_of (S.faults source.old) (K.faults sink.old) (seen_of sim.old).counts) (faults_of (S.faults source.new) (K.faults sink.new) (seen_of sim.new).counts)
+        → Contains (0 ∷ 10 ∷ 12 ∷ []) result }
 
     // Each status with its cause.
     ensures usage { (result ≡ 2) ↔ (is_command_in (map string_bytes words.now) ≡ false) }

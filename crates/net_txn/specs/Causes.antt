@@ -42,6 +42,14 @@ IsPlainFault d (SwitchBroke of bytes) = ⊥
 IsPlainFault d (Diverged of sent got) = ⊥
 IsPlainFault d (Flooded of n) = ⊥
 
+-- the same of any switch
+abbrev pub IsPlain : TxnFault → Type 0
+IsPlain (SwitchFault of) = Unit {0}
+IsPlain NoMemory = Unit {0}
+IsPlain (SwitchBroke of bytes) = ⊥
+IsPlain (Diverged of sent got) = ⊥
+IsPlain (Flooded of n) = ⊥
+
 -- any fault but Flooded
 abbrev pub IsNoFlood : TxnFault → Type 0
 IsNoFlood (SwitchFault of) = Unit {0}

@@ -70,11 +70,11 @@ floods_later Tells a front old mid new step (Err fault) before told f = flooded_
 
 -- ---- Where a world keeps its word
 
-both_ways : {X Y : Type 0} (r : Result X Y) → IsOk r → IsErr r → ⊥
+pub both_ways : {X Y : Type 0} (r : Result X Y) → IsOk r → IsErr r → ⊥
 both_ways (Ok x) ok err = absurd cc
 both_ways (Err y) ok err = absurd cc
 
-got_reads : (declared : List Declared) (d : ℕ) (bytes : List ℕ) (t : State) → MaySteps declared (Acted (Got d bytes) ∷ []) t → IsOk (reading_of bytes)
+pub got_reads : (declared : List Declared) (d : ℕ) (bytes : List ℕ) (t : State) → MaySteps declared (Acted (Got d bytes) ∷ []) t → IsOk (reading_of bytes)
 unfolding MayStep MayAct
 got_reads declared d bytes t may = may.0.1
 

@@ -38,7 +38,7 @@ greeted_flooded Tells d xid a first second old new fault is first_is second_is f
 
 -- ---- Where a world keeps its word
 
-notices_got : (a : Awaited) (ws : List (List ℕ)) → AllNotices ws → AllByRecursion (IsGotAlone a) ws
+pub notices_got : (a : Awaited) (ws : List (List ℕ)) → AllNotices ws → AllByRecursion (IsGotAlone a) ws
 notices_got a [] all = tt
 notices_got a (w ∷ ws) all = (notice_steps a w all.0, notices_got a ws all.1)
 

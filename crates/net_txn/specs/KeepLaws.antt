@@ -40,38 +40,56 @@ part_keeps declared old new d (Inverse xid k) s older t kept now_kept run none m
 part_keeps declared old new d (Settled xid got) s older t kept now_kept run none may l some = settled_keeps declared d xid got s older t kept now_kept run.0 may l some
 part_keeps declared old new d (Stuck xid fault steps) s older t kept now_kept run none may l some = absurd cc
 
+-- ---- Switches that stand ready
+
+-- each switch of these parts does
+abbrev pub AreReady : List (ℕ × Part) → State → Type 0
+AreReady parts t = (d : ℕ) → (parts_of d parts ≡ []) ⊎ StandsReady d t
+
+cons_not_none : (x : Part) (xs : List Part) → x ∷ xs ≡ [] → ⊥
+cons_not_none x xs is = cc
+
+some_ready : (p : ℕ × Part) (older : List (ℕ × Part)) (t : State) → (parts_of p.0 (p ∷ older) ≡ []) ⊎ StandsReady p.0 t → StandsReady p.0 t
+some_ready p older t (inl empty) = absurd (cons_not_none p.1 (parts_of p.0 older) (subst (λ (b : Bool). (if b then p.1 ∷ parts_of p.0 older else parts_of p.0 older) ≡ []) (eq-eqb p.0 p.0 refl) empty))
+some_ready p older t (inr s) = s
+
+older_none : (p : ℕ × Part) (older : List (ℕ × Part)) (d : ℕ) → parts_of d (p ∷ older) ≡ [] → parts_of d older ≡ []
+older_none p older d empty = elim (cases_Bool (p.0 == d)) [
+  | inl mine ↦ absurd (cons_not_none p.1 (parts_of d older) (rw mine at empty))
+  | inr other ↦ rw other at empty
+]
+
+none_or_ready : (p : ℕ × Part) (older : List (ℕ × Part)) (t : State) (d : ℕ) → (parts_of d (p ∷ older) ≡ []) ⊎ StandsReady d t → (parts_of d older ≡ []) ⊎ StandsReady d t
+none_or_ready p older t d (inl empty) = inl (older_none p older d empty)
+none_or_ready p older t d (inr s) = inr s
+
+pub ready_here : (p : ℕ × Part) (older : List (ℕ × Part)) (t : State) → AreReady (p ∷ older) t → StandsReady p.0 t
+ready_here p older t ready = some_ready p older t (ready p.0)
+
+pub ready_older : (p : ℕ × Part) (older : List (ℕ × Part)) (t : State) → AreReady (p ∷ older) t → AreReady older t
+ready_older p older t ready d = none_or_ready p older t d (ready d)
+
+-- a switch that is not joined has no parts
+pub ready_all : (views : List TableView) (parts : List (ℕ × Part)) (t : State) → ((d : ℕ) → is_viewed d views ≡ false → parts_of d parts ≡ []) → ((d : ℕ) → is_viewed d views ≡ true → StandsReady d t) → AreReady parts t
+ready_all views parts t unknown ready d = elim (cases_Bool (is_viewed d views)) [ inl known ↦ inr (ready d known) | inr not_so ↦ inl (unknown d not_so) ]
+
+-- ---- The whole
+
 all_keep : (declared : List Declared) (old new : Counts) (parts : List (ℕ × Part)) (t : State) (kept now_kept : List (ℕ × List ℕ)) → AllRun old new parts → first_fault parts ≡ None → MaySteps declared (steps_of parts) t
-    → ((d : ℕ) → (parts_of d parts ≡ []) ⊎ StandsReady d t) → Keeps kept parts now_kept → now_kept ≡ kept
+    → AreReady parts t → Keeps kept parts now_kept → now_kept ≡ kept
 all_keep declared old new [] t kept now_kept all none may ready keeps = keeps
 all_keep declared old new (p ∷ older) t kept now_kept all none may ready keeps =
     let n = both_none (first_fault older) (fault_in p.1) none in
     let may_older = MaySteps-front declared (steps_of older) (part_steps p.0 p.1) t may in
     let may_part = MaySteps-rest declared (steps_of older) (part_steps p.0 p.1) t may in
-    let rest = all_keep declared old new older t kept keeps.0 (runs_older old new p older all) n.0 may_older (λ d. older_ready d (ready d)) keeps.1 in
-    let s = here (ready p.0) in
+    let rest = all_keep declared old new older t kept keeps.0 (runs_older old new p older all) n.0 may_older (ready_older p older t ready) keeps.1 in
+    let s = ready_here p older t ready in
     let l = left_all declared old new p.0 s.switch older t (runs_older old new p older all) (free_all older p.0 n.0) may_older s.is s.waits in
     part_keeps declared old new p.0 p.1 s.switch (parts_of p.0 older) (after_steps (steps_of older) t) keeps.0 now_kept (runs_here old new p older all) n.1 may_part l keeps.2 ∙ rest
-  where
-    cons_not_none : (x : Part) (xs : List Part) → x ∷ xs ≡ [] → ⊥
-    cons_not_none x xs is = cc
-
-    here : ((parts_of p.0 (p ∷ older)) ≡ []) ⊎ StandsReady p.0 t → StandsReady p.0 t
-    here (inl empty) = absurd (cons_not_none p.1 (parts_of p.0 older) (subst (λ (b : Bool). (if b then p.1 ∷ parts_of p.0 older else parts_of p.0 older) ≡ []) (eq-eqb p.0 p.0 refl) empty))
-    here (inr s) = s
-
-    older_none : (d : ℕ) → parts_of d (p ∷ older) ≡ [] → parts_of d older ≡ []
-    older_none d empty = elim (cases_Bool (p.0 == d)) [
-      | inl mine ↦ absurd (cons_not_none p.1 (parts_of d older) (rw mine at empty))
-      | inr other ↦ rw other at empty
-    ]
-
-    older_ready : (d : ℕ) → (parts_of d (p ∷ older) ≡ []) ⊎ StandsReady d t → (parts_of d older ≡ []) ⊎ StandsReady d t
-    older_ready d (inl empty) = inl (older_none d empty)
-    older_ready d (inr s) = inr s
 
 pub none_kept : {Own : Type 0} (old new : Seen Own) (views : List TableView) (parts : List (ℕ × Part)) (result : Result (Unit {0}) TxnFault) (kept now_kept : List (ℕ × List ℕ)) → new.given ≡ old.given → new.history ≡ old.history ++ steps_of parts → AllRun old.counts new.counts parts
     → ((d : ℕ) → is_viewed d views ≡ false → parts_of d parts ≡ []) → result ≡ ended_by (first_fault parts) → IsOk result → Conforming new → ((d : ℕ) → is_viewed d views ≡ true → StandsReady d (state old)) → Keeps kept parts now_kept → now_kept ≡ kept
 none_kept old new views parts result kept now_kept given told all unknown ended ok keeps_word ready keeps =
     let may = Conforming-rest old new (steps_of parts) given told keeps_word in
     let none = no_fault (first_fault parts) (subst (λ (r : Result (Unit {0}) TxnFault). IsOk r) ended ok) in
-    all_keep old.given.declared old.counts new.counts parts (state old) kept now_kept all none may (λ d. elim (cases_Bool (is_viewed d views)) [ inl known ↦ inr (ready d known) | inr not_so ↦ inl (unknown d not_so) ]) keeps
+    all_keep old.given.declared old.counts new.counts parts (state old) kept now_kept all none may (ready_all views parts (state old) unknown ready) keeps

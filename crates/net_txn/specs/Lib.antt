@@ -52,5 +52,6 @@ pub mod AskFaultLaws
 pub mod JoiningSteps
 pub mod JoiningStepLaws
 pub mod JoiningFaultLaws
+pub mod UndoFaultLaws
 pub mod Place
 pub mod PlaceLaws

@@ -1,9 +1,10 @@
 -- What a switch makes of an inverse, and what a wait gets then: notices of the entry that went, and the reply.
-use Rattle.std.specs.Prelude.{◌≡◌, ℕ, ◌+◌, ◌<◌, false, List, [], ◌∷◌, ◌++◌, length, drop, map, Some, None, refl}
+use Rattle.std.specs.Prelude.{◌≡◌, ℕ, ◌+◌, ◌<◌, ◌≤◌, Bool, true, false, not, ◌&&◌, if◌then◌else◌, List, [], ◌∷◌, ◌++◌, length, drop, map, filter, Some, None, refl}
 use Rattle.std.specs.List.{AllByRecursion}
 use Rattle.std.specs.Str.{bytes_eq}
 use Rattle.std.proofs.Common.{sym, ap, ◌∙◌, subst, append_assoc, length-append, inl, inr, arith}
 use Rattle.std.proofs.lemmas.Bool.{cases_Bool}
+use Rattle.std.proofs.lemmas.List.{length-map}
 use Rattle.std.proofs.lemmas.Slice.Eq.{bytes_eq-Decides}
 use Rattle.of_types.specs.Fields.{number_at, number_bytes}
 use Rattle.of_types.specs.FieldLaws.{number_at-number_bytes, length-number_bytes}
@@ -14,8 +15,8 @@ use Rattle.of_wire.specs.Spelling.{match_bytes, body_bytes, message_bytes}
 use Rattle.of_wire.specs.SpellingLaws.{length-match_bytes}
 use Rattle.flow_table.specs.declared.entry.Entry.{Entry}
 use Rattle.flow_table.specs.declared.notice.Notice.{Notice}
-use Rattle.flow_table.specs.Change.{notice, notices_of}
-use Rattle.flow_table.specs.ChangeLaws.{notices_of-delete}
+use Rattle.flow_table.specs.Change.{adds, asks_notice, deletes, notice, notices_of}
+use Rattle.flow_table.specs.ChangeLaws.{tells, notices_of-delete, entries_after-delete}
 use Rattle.flow_table.specs.Switch.{Declared, SwitchState}
 use Rattle.flow_table.specs.Refusals.{flow_refusal, message_refusal}
 use Rattle.flow_table.specs.Step.{flow_removed, flow_removed_bytes, after_taken, after_message, sent_by_taken, sent_by_message}
@@ -25,7 +26,7 @@ use Rattle.outside.specs.State.{State, after_step, waits_of}
 use Rattle.outside.specs.LinkLaws.{waits_of-got}
 use Rattle.outside.specs.Conforming.{MaySteps}
 use Rattle.exact_undo.specs.Removal.{without, IsRemoval}
-use Rattle.exact_undo.specs.RemovalLaws.{removal-changed, removal-refusal}
+use Rattle.exact_undo.specs.RemovalLaws.{removal-changed, removal-entries, removal-refusal}
 use Rattle.net_txn.specs.declared.heard.Awaited.{Awaited}
 use Rattle.net_txn.specs.declared.heard.Heard.TheVariants as hearing
 use Rattle.net_txn.specs.Net.{delete_strict}
@@ -107,6 +108,26 @@ sent_by xid k s = rw (not_refused k s) refl
 -- what the switch sends then are notices
 pub inverse_sends : (xid : ℕ) (k : Key) (s : SwitchState) → AllNotices (sent_by_message xid (FlowMod (delete_strict k)) s)
 inverse_sends xid k s = subst AllNotices (sym (sent_by xid k s ∙ ap (map flow_removed_bytes) (notices_of-delete s.moment (delete_strict k) s.table.entries refl))) (notices_all s.moment _)
+
+few_if : {X : Type 0} (here tells : Bool) (x : X) (told left xs : List X) → length told + length left ≤ length xs → length (if here && tells then x ∷ told else told) + length (if not here then x ∷ left else left) ≤ length (x ∷ xs)
+few_if true true x told left xs rest = omega (arith, rest)
+few_if true false x told left xs rest = omega (arith, rest)
+few_if false tells x told left xs rest = omega (arith, rest)
+
+few_told : {X : Type 0} (goes tells : X → Bool) (xs : List X) → length (filter (λ x. goes x && tells x) xs) + length (filter (λ x. not (goes x)) xs) ≤ length xs
+few_told goes tells [] = omega arith
+few_told goes tells (x ∷ xs) = few_if (goes x) (tells x) x (filter (λ y. goes y && tells y) xs) (filter (λ y. not (goes y)) xs) xs (few_told goes tells xs)
+
+-- and no more of them than entries go
+pub inverse_sends-few : (xid : ℕ) (k : Key) (s : SwitchState) → length (sent_by_message xid (FlowMod (delete_strict k)) s) + length (without k s.table.entries) ≤ length s.table.entries
+unfolding adds
+inverse_sends-few xid k s =
+    let m = delete_strict k in
+    let es = s.table.entries in
+    let told = filter (tells m) es in
+    let sent = ap length (sent_by xid k s ∙ ap (map flow_removed_bytes) (notices_of-delete s.moment m es refl)) in
+    let left : without k es ≡ filter (λ e. not (deletes m e)) es = sym (removal-entries 0 0 k m es (delete-removal k)) ∙ entries_after-delete 0 0 m es refl refl in
+    omega (arith, sent, length-map (map (notice 2 s.moment) told) flow_removed_bytes, length-map told (notice 2 s.moment), ap length left, few_told (deletes m) (λ e. asks_notice e.flags) es)
 
 -- ---- The wait
 

@@ -26,6 +26,7 @@ use Rattle.net_txn.specs.Place.{KeptWhereFit}
 use Rattle.net_txn.specs.PlaceLaws.{where_fit_then}
 use Rattle.net_txn.specs.Waits.{KeptMore, heard, is_reply, kept_by, kept_of, steps_by, heard_steps, wait_steps, reply_got, barrier_sent}
 use Rattle.net_txn.specs.WaitLaws.{reply_is}
+use Rattle.net_txn.specs.Causes.{flood}
 use Rattle.net_txn.specs.Undos.{fault_by, link_trouble, IsStepOf, Moves, key_refused, IsFaultOf, FailsAfter, AreBefore, Settles, HearsOn, HearsNext}
 
 -- ---- Calls of the world
@@ -121,10 +122,6 @@ Fails-behind {d = d} {front = front} {first = first} {sent = sent} {old = old} {
       (IsFaultOf-behind d sent old.counts mid.counts new.counts ((front ++ first) ++ f.steps) fault m.continues.none_fell f.cause);
 }
 
--- too many messages were got
-pub Fails-flooded : {Own : Type 0} {Tells : Type 0} {d : ℕ} {sent : List (ℕ × Key)} {steps : List WorldStep} {old new : Seen Own} (front : List WorldStep) → Moves Tells d steps old new → FailsAfter Tells d sent front old new (Flooded d 65536)
-Fails-flooded {steps = steps} front m = record { steps = steps; moves = m; cause = (refl, refl) }
-
 -- ---- Waits
 
 pub none_heard : {Own : Type 0} (Tells : Type 0) (a : Awaited) (sent : List (ℕ × Key)) (seen : Seen Own) (kept : List (ℕ × List ℕ)) → HearsOn Tells a sent seen seen kept kept 0
@@ -185,6 +182,27 @@ heard_all {a = a} {kept = kept} {kept1 = kept1} {kept2 = kept2} w few h = record
 
 pub Settles-behind : {Own : Type 0} {Tells : Type 0} {a : Awaited} {first : List WorldStep} {sent : List (ℕ × Key)} {old mid new : Seen Own} {kept now_kept : List (ℕ × List ℕ)} → Moves Tells a.dpid first old mid → Settles Tells a [] sent mid new kept now_kept → Settles Tells a first sent old new kept now_kept
 Settles-behind m s = record { got = s.got; kept_so = s.kept_so; few = s.few; before = s.before; moves = Moves-then m s.moves }
+
+-- too many messages were got
+pub Fails-flooded : {Own : Type 0} {Tells : Type 0} {a : Awaited} {sent : List (ℕ × Key)} {old new : Seen Own} {kept now_kept : List (ℕ × List ℕ)} {n : ℕ} → a.barrier < 2 ^ 32 → n ≡ flood → HearsOn Tells a sent old new kept now_kept n
+    → FailsAfter Tells a.dpid sent (barrier_sent a ∷ []) old new (Flooded a.dpid flood)
+Fails-flooded {a = a} lt many w = record {
+  steps = wait_steps a w.got;
+  moves = w.moves;
+  cause = (
+    refl,
+    refl,
+    record {
+      awaited = a;
+      of_switch = refl;
+      is_xid = lt;
+      got = w.got;
+      many = w.count ∙ many;
+      before_reply = w.before.before_reply;
+      steps_so = refl;
+    },
+  );
+}
 
 -- ---- What was kept
 

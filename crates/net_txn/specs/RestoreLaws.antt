@@ -1,7 +1,7 @@
 -- What an undo leaves of a switch in a world that keeps its word: the table without the keys that were logged, and nothing waits.
-use Rattle.std.specs.Prelude.{◌≡◌, ◌≢◌, ◌⊎◌, ◌==◌, ℕ, Bool, true, false, List, [], ◌∷◌, ◌++◌, reverse, drop, map, Option, Some, None, Result, Ok, Err, if◌then◌else◌, refl}
+use Rattle.std.specs.Prelude.{◌≡◌, ◌≢◌, ◌⊎◌, ◌==◌, ℕ, ◌+◌, ◌≤◌, Bool, true, false, List, [], ◌∷◌, ◌++◌, length, reverse, drop, map, Option, Some, None, Result, Ok, Err, if◌then◌else◌, refl}
 use Rattle.std.specs.List.{AllByRecursion}
-use Rattle.std.proofs.Common.{sym, ap, ◌∙◌, subst, eq-eqb, inl, inr, arith}
+use Rattle.std.proofs.Common.{sym, ap, ◌∙◌, subst, eq-eqb, length-append, inl, inr, arith}
 use Rattle.std.proofs.lemmas.Bool.{cases_eq, ne_eqb, eqb-true}
 use Rattle.of_types.specs.Fields.{number_at}
 use Rattle.std.proofs.lemmas.List.{map-append, reverse-append}
@@ -37,7 +37,7 @@ use Rattle.net_txn.specs.HeardLaws.{IsMessage-barrier}
 use Rattle.net_txn.specs.StepLaws.{first_got, reply_is_none, told_switch, told_waits, barrier_sends, barrier_stays, gots, gots_switch, gots_empty}
 use Rattle.net_txn.specs.Undos.{key_sent, key_refused, Refuses, IsFaultOf, fault_in, first_fault_of, first_fault, ended_by, SameSwitch, Restored, IsStepOf, CanBeSent, IsSettled, alone, Part, Inverse, Settled, Stuck, part_steps, steps_of, parts_of, is_stuck, since_of, inverses_of, IsRun}
 use Rattle.net_txn.specs.PartLaws.{steps_other, reading_of-inverse}
-use Rattle.net_txn.specs.NoticeLaws.{reply_kind, notice_steps, with_entries, inverse_moves, inverse_sends, AllNotices, notices_steps, notices_alone}
+use Rattle.net_txn.specs.NoticeLaws.{reply_kind, notice_steps, with_entries, inverse_moves, inverse_sends, inverse_sends-few, AllNotices, notices_steps, notices_alone}
 
 -- ---- The steps of a part are those of its switch.
 
@@ -69,10 +69,12 @@ entries_left [] es = es
 entries_left (Inverse xid k ∷ older) es = without k (entries_left older es)
 entries_left (p ∷ older) es = entries_left older es
 
--- the switch so far: its table without keys, and notices wait, none behind a barrier whose reply was got
+-- The switch so far: its table without keys, and notices wait, no more of them than entries went, and none behind a barrier whose reply
+-- was got.
 pub record Left (d : ℕ) (s : SwitchState) (parts : List Part) (t : State) : Type 0 where
   pub switch : switch_of d t ≡ Some (with_entries (entries_left parts s.table.entries) s)
   pub notices : AllNotices (waits_of d t)
+  pub few : length (waits_of d t) + length (entries_left parts s.table.entries) ≤ length s.table.entries
   pub settled : since_of parts ≡ 0 → waits_of d t ≡ []
 
 left_inverse : (d xid : ℕ) (k : Key) (s : SwitchState) (older : List Part) (t : State) → CanBeSent xid k → Left d s older t → Left d s (Inverse xid k ∷ older) (after_step (Acted (Sent d (inverse_bytes xid k))) t)
@@ -82,6 +84,7 @@ left_inverse d xid k s older t can l =
     record {
       switch = told_switch d xid (FlowMod (delete_strict k)) (inverse_bytes xid k) t now read l.switch ∙ ap (λ (x : SwitchState). Some x) (inverse_moves k now);
       notices = subst AllNotices (sym (told_waits d xid (FlowMod (delete_strict k)) (inverse_bytes xid k) t now read l.switch)) (all_two _ (waits_of d t) (sent_by_message xid (FlowMod (delete_strict k)) now) l.notices (inverse_sends xid k now));
+      few = omega (arith, l.few, ap length (told_waits d xid (FlowMod (delete_strict k)) (inverse_bytes xid k) t now read l.switch), length-append (waits_of d t) (sent_by_message xid (FlowMod (delete_strict k)) now), inverse_sends-few xid k now);
       settled = λ none. absurd (omega (arith, none));
     }
 
@@ -104,6 +107,7 @@ left_settled declared d xid got s older t is may l =
     record {
       switch = ap (switch_of d) end ∙ gots_switch d (waits_of d t ++ reply ∷ []) u ∙ moved;
       notices = subst AllNotices (sym none) tt;
+      few = omega (arith, l.few, ap length none);
       settled = λ zero_so. none;
     }
 
@@ -142,12 +146,13 @@ left_same : (d : ℕ) (s : SwitchState) (parts : List Part) (t u : State) → Sa
 left_same d s parts t u same l = record {
   switch = same.0 ∙ l.switch;
   notices = subst AllNotices (sym same.1) l.notices;
+  few = omega (arith, l.few, ap length same.1);
   settled = λ none. same.1 ∙ l.settled none;
 }
 
 pub left_all : (declared : List Declared) (old new : Counts) (d : ℕ) (s : SwitchState) (parts : List (ℕ × Part)) (t : State) → AllRun old new parts → is_stuck (parts_of d parts) ≡ false → MaySteps declared (steps_of parts) t
     → switch_of d t ≡ Some s → waits_of d t ≡ [] → Left d s (parts_of d parts) (after_steps (steps_of parts) t)
-left_all declared old new d s [] t all free may is none = record { switch = is; notices = subst AllNotices (sym none) tt; settled = λ zero_so. none }
+left_all declared old new d s [] t all free may is none = record { switch = is; notices = subst AllNotices (sym none) tt; few = omega (arith, ap length none); settled = λ zero_so. none }
 left_all declared old new d s (p ∷ older) t all free may is none =
     let here = runs_here old new p older all in
     let each = part_of old new p.0 p.1 (parts_of p.0 older) here in
@@ -277,7 +282,7 @@ refused_error : (sent : List (ℕ × Key)) (bytes : List ℕ) (key : Key) → ke
 unfolding key_refused
 refused_error sent bytes key is = eqb-true (number_at 1 1 bytes) 1 (refused_kind (number_at 1 1 bytes == 1) (key_sent (number_at 4 4 bytes) sent) key is)
 
-left_refused : (declared : List Declared) (d : ℕ) (sent : List (ℕ × Key)) (steps : List WorldStep) (inverse bytes : List ℕ) (s : SwitchState) (older : List Part) (t : State) → Refuses d sent steps inverse bytes → MaySteps declared steps t → Left d s older t → ⊥
+pub left_refused : (declared : List Declared) (d : ℕ) (sent : List (ℕ × Key)) (steps : List WorldStep) (inverse bytes : List ℕ) (s : SwitchState) (older : List Part) (t : State) → Refuses d sent steps inverse bytes → MaySteps declared steps t → Left d s older t → ⊥
 left_refused declared d sent steps inverse bytes s older t r may l =
     let a = r.awaited in
     let here = subst (λ (n : ℕ). Left n s older t) (sym r.of_switch) l in
@@ -289,9 +294,12 @@ left_refused declared d sent steps inverse bytes s older t r may l =
     let going = subst (λ (xs : List WorldStep). MaySteps declared xs t) r.steps_so may in
     no_error declared a (waits_of a.dpid t) r.got bytes u here.notices waits going.1 r.before.before_reply (refused_error sent bytes r.key r.of_key)
 
-earlier_or : (o later : Option TxnFault) (g : TxnFault) → first_fault_of o later ≡ Some g → (o ≡ Some g) ⊎ ((o ≡ None) × (later ≡ Some g))
+pub earlier_or : (o later : Option TxnFault) (g : TxnFault) → first_fault_of o later ≡ Some g → (o ≡ Some g) ⊎ ((o ≡ None) × (later ≡ Some g))
 earlier_or None later g is = inr (refl, is)
 earlier_or (Some f) later g is = inl is
+
+pub one_fault : (f g : TxnFault) → Some f ≡ Some g → f ≡ g
+one_fault f g e = cc
 
 stuck_refused : (declared : List Declared) (old new : Counts) (d e : ℕ) (p : Part) (inverse bytes : List ℕ) (s : SwitchState) (older : List Part) (t : State) → IsRun old new e (p ∷ older) → fault_in p ≡ Some (Diverged d inverse bytes) → MaySteps declared (part_steps e p) t
     → (e ≡ d → is_stuck older ≡ false → Left e s older t) → ⊥
@@ -301,9 +309,6 @@ stuck_refused declared old new d e (Stuck xid fault steps) inverse bytes s older
     let same : fault ≡ Diverged d inverse bytes = one_fault fault (Diverged d inverse bytes) is in
     let cause = subst (λ (f : TxnFault). IsFaultOf e (inverses_of older) old new steps f) same run.0.cause in
     left_refused declared e (inverses_of older) steps inverse bytes s older t cause.1 may (l (sym cause.0) run.1)
-  where
-    one_fault : (f g : TxnFault) → Some f ≡ Some g → f ≡ g
-    one_fault f g e = cc
 
 pub none_refused : (declared : List Declared) (old new : Counts) (d : ℕ) (s : SwitchState) (inverse bytes : List ℕ) (parts : List (ℕ × Part)) (t : State) → AllRun old new parts → MaySteps declared (steps_of parts) t → switch_of d t ≡ Some s → waits_of d t ≡ []
     → first_fault parts ≡ Some (Diverged d inverse bytes) → ⊥

@@ -1,7 +1,7 @@
 -- How logged additions are undone: newest first over all switches each key is removed again (OpenFlow 1.0.0, 5.3.3 Modify State
 -- Messages: DELETE_STRICT), with barriers behind (5.3.7 Barrier Message). A switch that fails is left alone from then on. What is
 -- done is a list of parts, newest first, as the log is read from its end. All of this is our own choice.
-use Rattle.std.specs.Prelude.{◌≡◌, ◌≢◌, ◌==◌, ℕ, ◌+◌, ◌^◌, ◌<◌, ◌≤◌, Bool, true, false, List, [], ◌∷◌, ◌++◌, length, take, drop, map, reverse, ◌⊎◌, Option, Some, None, Result, Ok, Err, IsOk, IsErr, if◌then◌else◌, not, ◌&&◌, filter}
+use Rattle.std.specs.Prelude.{◌≡◌, ◌≢◌, ◌==◌, ℕ, ◌+◌, ◌^◌, ◌<◌, ◌≤◌, Bool, true, false, List, [], ◌∷◌, ◌++◌, length, take, drop, map, reverse, ◌⊎◌, Option, Some, None, Result, Ok, Err, IsOk, IsErr, IfErr, if◌then◌else◌, not, ◌&&◌, filter}
 use Rattle.std.specs.List.{AllByRecursion, list_any}
 use Rattle.std.proofs.Common.{zero, suc}
 use Rattle.lego_io.specs.Count.{Rose}
@@ -29,7 +29,7 @@ use Rattle.net_txn.specs.declared.logged.Fare.{Fare}
 use Rattle.net_txn.specs.declared.logged.Logged.{Logged}
 use Rattle.net_txn.specs.declared.trouble.Trouble.{Trouble}
 use Rattle.net_txn.specs.declared.trouble.Trouble.TheVariants as troubles
-use Rattle.net_txn.specs.Causes.{flood}
+use Rattle.net_txn.specs.Causes.{flood, IsPlain}
 use Rattle.net_txn.specs.Views.{with_rows}
 use Rattle.net_txn.specs.Arriving.{without_key}
 use Rattle.net_txn.specs.Net.{NetState, next_xid, inverse_bytes, no_fare}
@@ -102,13 +102,23 @@ pub record Refuses (d : ℕ) (sent : List (ℕ × Key)) (steps : List WorldStep)
   pub before : AreBefore awaited sent got
   pub steps_so : steps ≡ barrier_sent awaited ∷ (wait_steps awaited got ++ Acted (Got awaited.dpid bytes) ∷ [])
 
+-- so many messages were got behind a barrier, and none of them is its reply
+pub record Overruns (d : ℕ) (steps : List WorldStep) : Type 0 where
+  pub awaited : Awaited
+  pub of_switch : awaited.dpid ≡ d
+  pub is_xid : awaited.barrier < 2 ^ 32
+  pub got : List (List ℕ)
+  pub many : length got ≡ flood
+  pub before_reply : AllByRecursion (λ b. is_reply (heard awaited b) ≡ false) got
+  pub steps_so : steps ≡ barrier_sent awaited ∷ wait_steps awaited got
+
 -- Each fault is of its switch: the link's count rose; the bytes that were got last are no message, or refuse an inverse; too many
 -- messages came before the reply to a barrier. Memory was wanting only where the world's own was.
 abbrev pub IsFaultOf : ℕ → List (ℕ × Key) → Counts → Counts → List WorldStep → TxnFault → Type 0
 IsFaultOf d sent old new steps (SwitchFault e) = (e ≡ d) × Rose (old.link_faults d) (new.link_faults d)
 IsFaultOf d sent old new steps (SwitchBroke e bytes) = (e ≡ d) × IsErr (reading_of bytes) × EndsBy d bytes steps
 IsFaultOf d sent old new steps (Diverged e inverse bytes) = (e ≡ d) × Refuses d sent steps inverse bytes
-IsFaultOf d sent old new steps (Flooded e n) = (e ≡ d) × (n ≡ flood)
+IsFaultOf d sent old new steps (Flooded e n) = (e ≡ d) × (n ≡ flood) × Overruns d steps
 IsFaultOf d sent old new steps NoMemory = Rose old.shorts new.shorts × Rose (old.shorts_of d) (new.shorts_of d)
 
 -- calls of one switch behind others of it, the last of which failed
@@ -407,7 +417,7 @@ pub record AgreesAgain (d : ℕ) (views : List TableView) (new : State) : Type 0
 -- switches, and the first fault is answered; after Ok none failed. In a world that tells, no switch moves that is not joined; and
 -- where it keeps its word, each joined switch that did not fail, of which nothing waited, and whose table had but the logged keys
 -- added since an earlier one, has that table again; and where its view agreed with its table, it does so again. There no inverse is
--- refused; and after Ok no message was kept, where nothing waited of any joined switch.
+-- refused; and where nothing waited of any joined switch, no message was kept after Ok, and a fault is one of a link, or of memory.
 pub record Undoes {Own : Type 0} (Tells : Type 0) (start : ℕ) (old new : Seen Own) (net now_net : NetState) (result : Result (Unit {0}) TxnFault) : Type 0 where
   pub parts : List (ℕ × Part)
   pub continues : Continues Tells old new
@@ -432,4 +442,5 @@ pub record Undoes {Own : Type 0} (Tells : Type 0) (start : ℕ) (old new : Seen 
       → switch_of d (state old) ≡ Some s → waits_of d (state old) ≡ [] → IsTable before.entries → IsSerialed s.table
       → OnlyAdded (keys_of d (map but_fare (drop start net.log))) before.entries s.table.entries → Restored d before s (state new)
   pub none_kept : Tells → Conforming new → IsOk result → ((d : ℕ) → is_viewed d net.views ≡ true → StandsReady d (state old)) → now_net.kept ≡ net.kept
+  pub plain : Tells → Conforming new → ((d : ℕ) → is_viewed d net.views ≡ true → StandsReady d (state old)) → IfErr result IsPlain
   pub agrees : (d : ℕ) → Tells → Conforming new → is_stuck (parts_of d parts) ≡ false → waits_of d (state old) ≡ [] → Agrees d net.views (state old) → AgreesAgain d now_net.views (state new)

@@ -3,12 +3,14 @@ use Rattle.std.specs.Prelude.{◌≡◌, ◌==◌, ℕ, Bool, true, false, List,
 use Rattle.std.proofs.Common.{sym, ap, ◌∙◌}
 use Rattle.of_match.specs.declared.key.Key.{Key}
 use Rattle.outside.specs.Seen.{Counts, Seen}
+use Rattle.outside.specs.StateLaws.{Conforming-before}
 use Rattle.net_txn.specs.declared.fault.TxnFault.{TxnFault}
 use Rattle.net_txn.specs.Net.{NetState}
 use Rattle.net_txn.specs.declared.logged.Logged.{Logged}
 use Rattle.net_txn.specs.RestoreLaws.{others_stay, restored, accepted}
 use Rattle.net_txn.specs.AgreeLaws.{agrees, none_failed}
 use Rattle.net_txn.specs.KeepLaws.{none_kept}
+use Rattle.net_txn.specs.UndoFaultLaws.{plain}
 use Rattle.net_txn.specs.SentOrderLaws.{served_all}
 use Rattle.net_txn.specs.Undos.{Undoes, Further, switches_of, ended_by, without_keys, is_viewed, parts_of, Part, inverses_in, keys_of, but_fare, IsSettledIn, Stands, IsPlayedOn}
 
@@ -63,6 +65,8 @@ undoes start from old new net now_net result fault played front rest is f settle
       none_failed = λ ok d. none_failed result f.parts d (is ∙ ap ended_by f.fault_so) ok;
       none_kept = λ told conforming ok ready.
           none_kept old new net.views f.parts result net.kept now_net.kept f.undoing.continues.given (f.undoing.told told) (λ c. (each c).run) (λ c. (each c).unknown) (is ∙ ap ended_by f.fault_so) ok conforming ready f.undoing.keeps;
+      plain = λ told conforming ready.
+          plain old new net.views f.parts result f.undoing.continues.given (f.undoing.told told) (λ c. (each c).run) (λ c. (each c).unknown) (is ∙ ap ended_by f.fault_so) (Conforming-before told f.undoing.continues conforming) conforming ready;
       agrees = λ d told conforming free waits before.
           agrees old new d net.views now_net.views (map but_fare (drop start net.log)) f.parts f.undoing.continues.given (f.undoing.told told) each
           (views ∙ ap (λ (es : List Logged). without_keys (map but_fare es) net.views) rest) conforming free waits before;

@@ -1,6 +1,6 @@
 -- A batch in a world that keeps its word, while it goes on and when it is over: one stimulus was begun, its items are told one after the
 -- other, and no switch moves but by the stimulus. All of this is our own.
-use Rattle.std.specs.Prelude.{◌≡◌, ℕ, ◌+◌, ◌⊎◌, true, false, List, [], ◌∷◌, ◌++◌, length, filter, IsOk}
+use Rattle.std.specs.Prelude.{◌≡◌, ℕ, ◌+◌, ◌⊎◌, true, false, List, [], ◌∷◌, ◌++◌, length, filter, Ok, IsOk}
 use Rattle.std.specs.List.{AllByRecursion}
 use Rattle.of_types.specs.declared.journal.WorldStim.{WorldStim}
 use Rattle.of_wire.specs.Reading.{reading_of}
@@ -8,10 +8,12 @@ use Rattle.lego_model.specs.Journal.{is_of, stimuli}
 use Rattle.outside.specs.declared.item.Item.{Item}
 use Rattle.outside.specs.declared.item.Item.TheVariants as items
 use Rattle.outside.specs.declared.step.WorldStep.{WorldStep}
-use Rattle.outside.specs.declared.step.WorldStep.TheVariants.{From}
-use Rattle.outside.specs.Seen.{journal}
+use Rattle.outside.specs.declared.step.WorldStep.TheVariants.{From, Joined}
+use Rattle.outside.specs.Seen.{Seen, journal}
 use Rattle.outside.specs.State.{State, after_stim, upcoming, state, switch_of, waits_of}
-use Rattle.outside.specs.Conforming.{MayBegin}
+use Rattle.outside.specs.Calls.{Nexts, item_step}
+use Rattle.outside.specs.Conforming.{MayBegin, Conforming}
+use Rattle.shown_switches.specs.Orderly.{OrderlySince}
 use Rattle.shown_batches.specs.Knowledge.{knowledge_of, handled_all}
 use Rattle.shown_batches.specs.Batches.{Standing}
 use Rattle.shown_batches.specs.TellLaws.{FitsItem}
@@ -52,6 +54,7 @@ pub record InBatch {Own : Type 0} (x : WorldStim) (n : ℕ) (first now : Standin
   pub room : now.net.room ≡ first.net.room
   pub stimuli_so : stimuli (journal now.seen.history) ≡ stimuli (journal first.seen.history) ++ x ∷ []
   pub acts : (app : ℕ) → filter (is_of app) (journal now.seen.history) ≡ filter (is_of app) (journal first.seen.history)
+  pub orderly : (app : ℕ) → OrderlySince app first.seen now.seen
 
 -- ---- When it is over
 
@@ -73,6 +76,7 @@ pub record BatchDone {Own : Type 0} (x : WorldStim) (first now : Standing Own) :
   pub room : now.net.room ≡ first.net.room
   pub stimuli_so : stimuli (journal now.seen.history) ≡ stimuli (journal first.seen.history) ++ x ∷ []
   pub acts : (app : ℕ) → filter (is_of app) (journal now.seen.history) ≡ filter (is_of app) (journal first.seen.history)
+  pub orderly : (app : ℕ) → OrderlySince app first.seen now.seen
 
 -- End was told: no stimulus is to come, and nothing was done.
 pub record BatchOver {Own : Type 0} (first now : Standing Own) : Type 0 where
@@ -82,6 +86,7 @@ pub record BatchOver {Own : Type 0} (first now : Standing Own) : Type 0 where
   pub net : now.net ≡ first.net
   pub queue : now.queue ≡ first.queue
   pub acts : journal now.seen.history ≡ journal first.seen.history
+  pub orderly : (app : ℕ) → OrderlySince app first.seen now.seen
 
 -- ---- Item by item
 
@@ -94,3 +99,15 @@ abbrev pub GoesOn : {Own : Type 0} → Item → ℕ → Standing Own → Standin
 GoesOn items.Idle n first now = (x : WorldStim) × BatchDone x first now
 GoesOn items.End n first now = BatchOver first now
 GoesOn other n first now = (x : WorldStim) × InBatch x (n + 1) first now
+
+-- ---- What can be taken
+
+-- A message can be read, and of a switch that joins nothing waits.
+abbrev pub CanTake : WorldStep → State → Type 0
+CanTake (From d bytes) s = IsOk (reading_of bytes)
+CanTake (Joined d bytes) s = waits_of d s ≡ []
+CanTake other s = Unit {0}
+
+-- whatever a world that keeps its word tells next can be taken
+abbrev pub CanTakeNext : {Own : Type 0} → Type 0 → Seen Own → Type 0
+CanTakeNext {Own} Tells old = (item : Item) (buf : List ℕ) (mid : Seen Own) → Conforming mid → Nexts Tells old mid (Ok item) buf → CanTake (item_step item buf) (state mid)

@@ -29,6 +29,8 @@ use Rattle.outside.specs.Calls.{Nexts, stim_steps, item_step, next_steps}
 use Rattle.outside.specs.CallLaws.{MayStep-at_rest}
 use Rattle.outside.specs.Conforming.{MayBegin, IsNext, MayStep, MayAct, Conforming}
 use Rattle.net_txn.specs.Net.{NetState}
+use Rattle.shown_switches.specs.Orderly.{IsOrderly, OrderlySince}
+use Rattle.shown_switches.specs.OrderlyLaws.{orderly-then}
 use Rattle.shown_batches.specs.Knowledge.{Knowledge, knowledge_of, handled, handled_all}
 use Rattle.shown_batches.specs.Calm.{Calm}
 use Rattle.shown_batches.specs.Batches.{Standing}
@@ -36,7 +38,7 @@ use Rattle.shown_batches.specs.Items.{Handles, TakesNext}
 use Rattle.shown_batches.specs.TellLaws.{FitsItem}
 use Rattle.shown_batches.specs.StimulusLaws.{bytes-fit}
 use Rattle.shown_batches.specs.ItemLaws.{waiting, links_ascend, told_first, none_waiting, none_waits, Fresh, IsFresh, IsItem, item_done}
-use Rattle.shown_batches.specs.InBatch.{SameBesides, IsReadable, InBatch, BatchDone, BatchOver, SoFar, GoesOn}
+use Rattle.shown_batches.specs.InBatch.{SameBesides, IsReadable, InBatch, BatchDone, BatchOver, SoFar, GoesOn, CanTake, CanTakeNext}
 
 -- ---- What is upcoming
 
@@ -303,26 +305,27 @@ fresh_in {x = x} {first = first} {now = now} d bytes none waits batch is = by ba
 record TellsNone (item : WorldStep) : Type 0 where
   stimuli_so : stimuli (journal (item ∷ [])) ≡ []
   acts : (app : ℕ) → filter (is_of app) (journal (item ∷ [])) ≡ []
+  orderly : (app : ℕ) → IsOrderly app item
 
 from_none : (d : ℕ) (bytes : List ℕ) → TellsNone (From d bytes)
 unfolding stimuli journal
-from_none d bytes = record { stimuli_so = refl; acts = λ app. refl }
+from_none d bytes = record { stimuli_so = refl; acts = λ app. refl; orderly = λ app. tt }
 
 joined_none : (d : ℕ) (bytes : List ℕ) → TellsNone (Joined d bytes)
 unfolding stimuli journal
-joined_none d bytes = record { stimuli_so = refl; acts = λ app. refl }
+joined_none d bytes = record { stimuli_so = refl; acts = λ app. refl; orderly = λ app. tt }
 
 left_none : (d : ℕ) → TellsNone (Left d)
 unfolding stimuli journal
-left_none d = record { stimuli_so = refl; acts = λ app. refl }
+left_none d = record { stimuli_so = refl; acts = λ app. refl; orderly = λ app. tt }
 
 moment_none : (t : ℕ) → TellsNone (Moment t)
 unfolding stimuli journal
-moment_none t = record { stimuli_so = refl; acts = λ app. refl }
+moment_none t = record { stimuli_so = refl; acts = λ app. refl; orderly = λ app. tt }
 
 idle_none : TellsNone Idle
 unfolding stimuli journal
-idle_none = record { stimuli_so = refl; acts = λ app. refl }
+idle_none = record { stimuli_so = refl; acts = λ app. refl; orderly = λ app. tt }
 
 stimuli_later : {Own : Type 0} (old mid : Seen Own) (item : WorldStep) → TellsNone item → mid.history ≡ old.history ++ item ∷ [] → stimuli (journal mid.history) ≡ stimuli (journal old.history)
 stimuli_later old mid item none longer =
@@ -333,6 +336,10 @@ acts_later : {Own : Type 0} (old mid : Seen Own) (item : WorldStep) (app : ℕ) 
 acts_later old mid item app none longer =
     ap (λ (h : List WorldStep). filter (is_of app) (journal h)) longer ∙ ap (filter (is_of app)) (journal-append old.history (item ∷ [])) ∙ filter-append (is_of app) (journal old.history) (journal (item ∷ []))
     ∙ ap (λ (xs : List Act). filter (is_of app) (journal old.history) ++ xs) (none.acts app) ∙ append-nil (filter (is_of app) (journal old.history))
+
+orderly_later : {Own : Type 0} (first old mid new : Seen Own) (item : WorldStep) → TellsNone item → mid.history ≡ old.history ++ item ∷ [] → ((app : ℕ) → OrderlySince app first old) → ((app : ℕ) → OrderlySince app mid new) → (app : ℕ) → OrderlySince app first new
+orderly_later first old mid new item none longer before later app =
+    orderly-then app first mid new (orderly-then app first old mid (before app) (record { steps = item ∷ []; history = longer; orderly = (none.orderly app, tt) })) (later app)
 
 -- ---- A further item
 
@@ -402,6 +409,7 @@ one_more {x = x} {n = n} {first = first} {now = now} {item = item} {mid = mid} {
       room = later.handles.room ∙ batch.room;
       stimuli_so = done.done.stimuli_so ∙ stimuli_later now.seen mid item none later.longer ∙ batch.stimuli_so;
       acts = λ app. done.done.acts app ∙ acts_later now.seen mid item app none later.longer ∙ batch.acts app;
+      orderly = orderly_later first.seen now.seen mid new item none later.longer batch.orderly done.done.orderly;
     }
 
 -- the parts of what is calm
@@ -505,6 +513,7 @@ told_idle {x = x} {first = first} {now = now} {mid = mid} {new = new} batch late
       room = later.handles.room ∙ batch.room;
       stimuli_so = done.done.stimuli_so ∙ stimuli_later now.seen mid Idle idle_none later.longer ∙ batch.stimuli_so;
       acts = λ app. done.done.acts app ∙ acts_later now.seen mid Idle app idle_none later.longer ∙ batch.acts app;
+      orderly = orderly_later first.seen now.seen mid new Idle idle_none later.longer batch.orderly done.done.orderly;
     }
 
 no_end : {Own Tells : Type 0} {x : WorldStim} {n : ℕ} {first now : Standing Own} {mid new : Seen Own} {net : NetState} {queue : List Event} → InBatch x n first now → Later Tells End now mid new net queue → ⊥
@@ -572,6 +581,7 @@ begins x first still may =
       stimuli_so = ap stimuli (journal-append h (Acted (Stim x) ∷ [])) ∙ stimuli-append (journal h) (journal (Acted (Stim x) ∷ [])) ∙ ap (λ (xs : List WorldStim). stimuli (journal h) ++ xs) (stim_stimuli x);
       acts = λ app. ap (filter (is_of app)) (journal-append h (Acted (Stim x) ∷ [])) ∙ filter-append (is_of app) (journal h) (journal (Acted (Stim x) ∷ []))
           ∙ ap (λ (xs : List Act). filter (is_of app) (journal h) ++ xs) (stim_acts x app) ∙ append-nil (filter (is_of app) (journal h));
+      orderly = λ app. record { steps = Acted (Stim x) ∷ []; history = refl; orderly = (tt, tt) };
     }
 
 -- ---- What is told next
@@ -620,6 +630,7 @@ is_over {first = first} {mid = mid} {new = new} given longer none handles =
       net = handles.does.same;
       queue = ap (λ (k : Knowledge). k.queue) (handles.knowledge ∙ handled_end (knowledge_of first.net first.queue));
       acts = ap (λ (s : Seen _). journal s.history) same ∙ end_acts first.seen mid longer;
+      orderly = λ app. record { steps = End ∷ []; history = ap (λ (s : Seen _). s.history) same ∙ longer; orderly = (tt, tt) };
     }
 
 over_by : {Own Tells : Type 0} (n : ℕ) (first : Standing Own) {mid new : Seen Own} {net : NetState} {queue : List Event} (item : Item) (buf : List ℕ) → item ≡ items.End → mid.given ≡ first.seen.given → mid.history ≡ first.seen.history ++ item_step item buf ∷ []
@@ -703,3 +714,66 @@ never_so_many {x = x} {n = n} {first = first} {now = now} keeps calm batch =
     let none : length (upcoming (state first.seen)) ≡ 0 = ap length (nothing_upcoming first keeps (stills calm)) in
     let all : length (batch.told ++ upcoming (state now.seen)) ≡ length (upcoming (after_stim x (state first.seen))) = ap length batch.order in
     omega (arith, none, all, length-append batch.told (upcoming (state now.seen)), batch.count, batch.began.few)
+
+-- ---- What is told next can be taken
+
+can_from : (declared : List Declared) (d : ℕ) (bytes : List ℕ) (s t : State) → MayStep declared (From d bytes) s → CanTake (From d bytes) t
+unfolding MayStep
+can_from declared d bytes s t may = may.1
+
+can_joined : {Own : Type 0} {x : WorldStim} {n : ℕ} {first now : Standing Own} (d : ℕ) (bytes : List ℕ) (t : State) → Stills first → InBatch x n first now → MayStep now.seen.given.declared (Joined d bytes) (state now.seen)
+    → t ≡ after_step (Joined d bytes) (state now.seen) → CanTake (Joined d bytes) t
+unfolding MayStep upcoming
+can_joined {now = now} d bytes t still batch may is =
+    let s = state now.seen in
+    let due = due_in still.none_due batch in
+    let told = due_tells (Joined d bytes) s t due (no_message_joined d bytes) (is ∙ joined_step d bytes s) may in
+    let one = one_due_by s.due s.links (Joined d bytes) due (no_message_joined d bytes) may in
+    links_waits d s t told.links ∙ (fresh_in d bytes still.none_due still.waits batch one).waits d
+
+can_in : {Own : Type 0} {x : WorldStim} {n : ℕ} {first now : Standing Own} (item : Item) (buf : List ℕ) (t : State) → Stills first → InBatch x n first now → MayStep now.seen.given.declared (item_step item buf) (state now.seen)
+    → t ≡ after_step (item_step item buf) (state now.seen) → CanTake (item_step item buf) t
+unfolding item_step
+can_in {now = now} (items.From d k) buf t still batch may is = can_from now.seen.given.declared d (take k buf) (state now.seen) t may
+can_in (items.Joined d k) buf t still batch may is = can_joined d (take k buf) t still batch may is
+can_in (items.Left d) buf t still batch may is = tt
+can_in (items.Moment m) buf t still batch may is = tt
+can_in items.Idle buf t still batch may is = tt
+can_in items.End buf t still batch may is = tt
+
+can_end : (item : Item) (buf : List ℕ) (t : State) → item ≡ items.End → CanTake (item_step item buf) t
+unfolding item_step
+can_end item buf t is = rw is tt
+
+first_can : {Own Tells : Type 0} (first : Standing Own) (item : Item) (buf : List ℕ) (mid : Seen Own) (begun : Option WorldStim) (told : Tells) → Conforming mid → Stills first → (call : Nexts Tells first.seen mid (Ok item) buf)
+    → (call.told told).begun ≡ begun → CanTake (item_step item buf) (state mid)
+first_can first item buf mid None told keeps still call is =
+    let before : Conforming first.seen = Conforming-before told (Nexts-continues call) keeps in
+    let longer = next_history told call None is in
+    let may = Conforming-rest first.seen mid (item_step item buf ∷ []) call.given longer keeps in
+    let rests = MayStep-at_rest first.seen.given.declared item buf (state first.seen) still.none_begun (nothing_upcoming first before still) may.0 in
+    can_end item buf (state mid) rests.0
+first_can first item buf mid (Some x) told keeps still call is =
+    let now = begun_now x first in
+    let step = item_step item buf in
+    let longer = next_history told call (Some x) is in
+    let may = Conforming-rest first.seen mid (Acted (Stim x) ∷ step ∷ []) call.given longer keeps in
+    let behind : mid.history ≡ now.seen.history ++ step ∷ [] = longer ∙ sym (append_assoc first.seen.history (Acted (Stim x) ∷ []) (step ∷ [])) in
+    let batch = begins x first still (may_begin first.seen.given.declared x (state first.seen) may.0) in
+    can_in item buf (state mid) still batch (Conforming-rest now.seen mid (step ∷ []) call.given behind keeps).0 (state-append now.seen mid (step ∷ []) call.given behind)
+
+later_can : {Own Tells : Type 0} {x : WorldStim} {n : ℕ} {first now : Standing Own} (item : Item) (buf : List ℕ) (mid : Seen Own) (begun : Option WorldStim) (told : Tells) → Conforming mid → Stills first → InBatch x n first now
+    → (call : Nexts Tells now.seen mid (Ok item) buf) → (call.told told).begun ≡ begun → CanTake (item_step item buf) (state mid)
+later_can {now = now} item buf mid None told keeps still batch call is =
+    let longer = next_history told call None is in
+    can_in item buf (state mid) still batch (Conforming-rest now.seen mid (item_step item buf ∷ []) call.given longer keeps).0 (state-append now.seen mid (item_step item buf ∷ []) call.given longer)
+later_can {now = now} item buf mid (Some y) told keeps still batch call is =
+    let longer = next_history told call (Some y) is in
+    let may = Conforming-rest now.seen mid (Acted (Stim y) ∷ item_step item buf ∷ []) call.given longer keeps in
+    let h : true ≡ false = sym batch.begun ∙ (may_begin now.seen.given.declared y (state now.seen) may.0).none_begun in
+    absurd (true≢false h)
+
+-- Whatever is told next in a batch can be taken.
+pub next_can : {Own Tells : Type 0} (n : ℕ) (first now : Standing Own) → Tells → Calm first.seen first.net → SoFar n first now → CanTakeNext Tells now.seen
+next_can {Tells = Tells} n first now told calm (inl none) = subst (λ (s : Standing _). CanTakeNext Tells s.seen) (sym none.1) (λ item buf mid keeps call. first_can first item buf mid (call.told told).begun told keeps (stills calm) call refl)
+next_can n first now told calm (inr so_far) = λ item buf mid keeps call. later_can item buf mid (call.told told).begun told keeps (stills calm) so_far.1 call refl

@@ -2,7 +2,6 @@ pub mod Knowledge
 pub mod Calm
 pub mod Batches
 pub mod HistoryLaws
-pub mod MomentLaws
 pub mod TellLaws
 pub mod FrameTellLaws
 pub mod PortTellLaws

@@ -1,7 +1,8 @@
 -- A batch in a world that keeps its word is what the reference controller makes of its stimulus.
 use Rattle.std.proofs.Common.{◌≡◌, ℕ, List, [], ◌∷◌, ◌++◌, map, filter, Option, None, refl, sym, ap, ap₂, ◌∙◌, subst}
 use Rattle.std.specs.Option.{option_map}
-use Rattle.std.proofs.lemmas.List.{append-nil, map-append}
+use Rattle.std.proofs.lemmas.List.{append-nil, append_cancel_left, map-append}
+use Rattle.std.proofs.lemmas.List.Elements.{filter-append}
 use Rattle.of_types.specs.declared.journal.Act.{Act}
 use Rattle.of_types.specs.declared.journal.WorldStim.{WorldStim}
 use Rattle.of_types.specs.declared.journal.WorldStim.TheVariants.{Join, Leave, At, Of}
@@ -12,14 +13,18 @@ use Rattle.lego_model.specs.Journal.{Reply, Start, is_of, inputs, stimuli}
 use Rattle.lego_model.specs.Places.{Place}
 use Rattle.lego_model.specs.Controller.{Quiet, Run, quiet_of, moment_after, places_after, events_after, ports_of, happen}
 use Rattle.lego_model.specs.Agreement.{AgreeQuiet, AgreeQuiets}
-use Rattle.outside.specs.Seen.{Given, Seen, journal}
+use Rattle.outside.specs.declared.step.WorldStep.{WorldStep}
+use Rattle.outside.specs.Seen.{Given, Seen, Continues, journal}
+use Rattle.outside.specs.SeenLaws.{journal-append}
 use Rattle.outside.specs.State.{Mark, State, mark_of, after_stim, state, switch_of, waits_of}
 use Rattle.outside.specs.Conforming.{Conforming}
 use Rattle.net_txn.specs.Net.{NetState}
 use Rattle.shown_switches.specs.Shown.{shown_places}
 use Rattle.shown_switches.specs.Sound.{Sound}
+use Rattle.shown_switches.specs.OrderlyLaws.{orderly-whole}
 use Rattle.journal_readings.specs.Readings.{starts_in, replies_in, LastStands}
 use Rattle.journal_readings.specs.CallLaws.{inputs_own}
+use Rattle.lego_model.specs.AtOnce.{at_first, Dialogue}
 use Rattle.shown_batches.specs.Knowledge.{knowledge_of}
 use Rattle.shown_batches.specs.Calm.{Calm}
 use Rattle.shown_batches.specs.InBatch.{BatchDone, BatchOver}
@@ -27,6 +32,7 @@ use Rattle.shown_batches.specs.HistoryLaws.{links-declared}
 use Rattle.shown_batches.specs.StimulusLaws.{StimulusHandled, stimulus-handled}
 use Rattle.shown_runs.specs.Engine.{Engine, Stands, index, own_acts, given_in, stimuli_in, app_at, quiet_by, text_of}
 use Rattle.shown_runs.specs.Moves.{Settled, Moved, OneHappens}
+use Rattle.shown_runs.specs.DialogueLaws.{others_at_once}
 use Rattle.shown_runs.specs.QuietLaws.{quiets_more, mark_alike}
 use Rattle.shown_runs.specs.FinishLaws.{shown-still}
 
@@ -114,18 +120,34 @@ happen-text x r = sym (append-nil (text_of r))
 
 -- ---- The batch
 
+-- of the steps since then none is of the application
+none-own : {Own : Type 0} (old new : Seen Own) (steps : List WorldStep) → new.history ≡ old.history ++ steps → own_acts new ≡ own_acts old → filter (is_of index) (journal steps) ≡ []
+none-own old new steps longer own =
+    let more : own_acts new ≡ own_acts old ++ filter (is_of index) (journal steps) =
+    ap (λ (h : List WorldStep). filter (is_of index) (journal h)) longer ∙ ap (λ (acts : List Act). filter (is_of index) acts) (journal-append old.history steps) ∙ filter-append (is_of index) (journal old.history) (journal steps) in
+    append_cancel_left (own_acts old) (filter (is_of index) (journal steps)) [] (sym more ∙ own ∙ sym (append-nil (own_acts old)))
+
 -- with a stimulus
-pub batch-happens : {Own : Type 0} (x : WorldStim) (old new : Seen Own) (net now_net : NetState) (queue now_queue : List Event) (e : Engine) → Conforming old → Conforming new → Settled old e → e.net ≡ net → e.queue ≡ queue
+pub batch-happens : {Own : Type 0} (Tells : Type 0) (x : WorldStim) (old new : Seen Own) (net now_net : NetState) (queue now_queue : List Event) (e : Engine) → Tells → Continues Tells old new → Conforming old → Conforming new → Settled old e → e.net ≡ net → e.queue ≡ queue
     → BatchDone x (record { seen = old; net = net; queue = queue }) (record { seen = new; net = now_net; queue = now_queue })
     → OneHappens old new e (engine_then e now_net now_queue)
-batch-happens x old new net now_net queue now_queue e keeps_old keeps settled same_net same_queue done =
+batch-happens Tells x old new net now_net queue now_queue e told later keeps_old keeps settled same_net same_queue done =
     let calm : Calm old net = subst (λ (n : NetState). Calm old n) same_net settled.calm in
     let h = subst (StimulusHandled x old net queue) (sym done.knowledge) (stimulus-handled x old net queue keeps_old calm done.began.stimulus done.fits) in
     let own : own_acts new ≡ own_acts old = done.acts index in
+    let steps = (later.told told).0 in
     record {
       stimulus = x;
       moved = record {
-        settled = record { calm = calm-then x old new net now_net queue now_queue done h; life = λ alive. subst LastStands (sym own) (settled.life alive) };
+        settled = record {
+          calm = calm-then x old new net now_net queue now_queue done h;
+          life = λ alive. subst LastStands (sym own) (settled.life alive);
+          speaks = record {
+            at_once = others_at_once old new steps (later.told told).1 (none-own old new steps (later.told told).1 own) settled.speaks.at_once;
+            rest_so = settled.speaks.rest_so;
+          };
+          orderly = orderly-whole index old new settled.orderly (done.orderly index);
+        };
         moves = record {
           starts = [];
           replies = [];
@@ -146,9 +168,18 @@ batch-over {Own} old new net now_net queue now_queue e settled same_net same_que
     let calm : Calm old net = subst (λ (n : NetState). Calm old n) same_net settled.calm in
     let journal_same : journal new.history ≡ journal old.history = over.acts in
     let own : own_acts new ≡ own_acts old = ap (λ (js : List Act). filter (is_of index) js) journal_same in
+    let said = settled.speaks.at_once in
     let calm_now : Calm new now_net = subst (λ (n : NetState). Calm new n) (sym over.net) (calm-still old new net over.state_so calm) in
     record {
-      settled = record { calm = calm_now; life = λ alive. subst LastStands (sym own) (settled.life alive) };
+      settled = record {
+        calm = calm_now;
+        life = λ alive. subst LastStands (sym own) (settled.life alive);
+        speaks = record {
+          at_once = record { last = said.last; dialogue = subst (λ (acts : List Act). Dialogue index at_first acts said.last) (sym journal_same) said.dialogue };
+          rest_so = settled.speaks.rest_so;
+        };
+        orderly = orderly-whole index old new settled.orderly (over.orderly index);
+      };
       moves = record {
         starts = [];
         replies = [];

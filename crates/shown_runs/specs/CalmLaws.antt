@@ -148,7 +148,7 @@ none_mapped : (o : Option (List ViewRow)) → option_map rows_of_view o ≡ None
 none_mapped None h = refl
 none_mapped (Some rows) h = absurd cc
 
-stands_ready : {Own : Type 0} (d : ℕ) (seen : Seen Own) (net : NetState) → Ready seen net → is_viewed d net.views ≡ true → (o : Option SwitchState) → switch_of d (state seen) ≡ o → StandsReady d (state seen)
+pub stands_ready : {Own : Type 0} (d : ℕ) (seen : Seen Own) (net : NetState) → Ready seen net → is_viewed d net.views ≡ true → (o : Option SwitchState) → switch_of d (state seen) ≡ o → StandsReady d (state seen)
 stands_ready d seen net ready viewed (Some s) is = record { switch = s; is = is; waits = ready.waits d }
 stands_ready d seen net ready viewed None is =
     absurd (some_rows d net.views viewed (none_mapped (rows_at d net.views) (ready.agrees d ∙ ap (option_map (λ x. rows_of_table x.table.entries)) is)))

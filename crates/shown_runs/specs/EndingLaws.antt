@@ -8,7 +8,8 @@ use Rattle.lego_model.specs.Controller.{settle}
 use Rattle.outside.specs.Seen.{Seen, Continues}
 use Rattle.outside.specs.Conforming.{Conforming}
 use Rattle.outside.specs.StateLaws.{Conforming-before}
-use Rattle.shown_runs.specs.Engine.{Engine, stimuli_in}
+use Rattle.shown_switches.specs.OrderlyLaws.{orderly-then}
+use Rattle.shown_runs.specs.Engine.{Engine, index, stimuli_in}
 use Rattle.shown_runs.specs.StimuliLaws.{fewer-before}
 use Rattle.shown_runs.specs.Readings.{JudgesAlike}
 use Rattle.shown_runs.specs.Moves.{rounds, ShownToEnd}
@@ -47,6 +48,8 @@ leaves-then a b c m n = record {
   stimuli = n.stimuli ∙ m.stimuli;
   marks = n.marks ∙ m.marks;
   switches = λ d. n.switches d ∙ m.switches d;
+  at_once = λ said. n.at_once (m.at_once said);
+  orderly = orderly-then index a b c m.orderly n.orderly;
 }
 
 -- ---- Of a world that was opened
@@ -57,7 +60,7 @@ ran-out Tells accepts allows contents now_contents old new e told keeps judges o
     let few_last = fewer-before Tells out.last new told out.later few in
     let moved = out.whole_so.whole_so allows told (Conforming-before told out.later keeps) judges (settled-first old opened) few_last in
     let done = out.finish.shown told keeps moved.moved.settled.calm in
-    ends-alike allows out.text out.last new e contents now_contents keeps done.leaves (ran allows moved.stimuli out.text old out.last e opened moved.moved.moves) out.none_left
+    ends-alike allows out.text out.last new e contents now_contents keeps done.leaves moved.moved.settled (ran allows moved.stimuli out.text old out.last e opened moved.moved.moves) (done.leaves.at_once moved.moved.settled.speaks.at_once) out.none_left
     (done.written ∙ known-append contents out.text (last_text out.last e))
 
 pub ran-full : {Own : Type 0} (Tells : Type 0) (accepts : List TableView → Bool) (allows : List Place → Bool) (left : ℕ) (contents now_contents : Option (List ℕ)) (old new : Seen Own) → Tells → Conforming new → JudgesAlike Own allows accepts → IsOpened old
@@ -66,4 +69,4 @@ ran-full Tells accepts allows left contents now_contents old new told keeps judg
     let few_last = fewer-before Tells full.last new told full.later few in
     let moved = full.whole_so.whole_so allows told (Conforming-before told full.later keeps) judges (settled-first old opened) few_last in
     subst (λ (n : ℕ). LeavesAlike allows new contents now_contents n) (sym full.left_so)
-    (leaves-alike allows full.text full.last new full.now_engine contents now_contents keeps (full.leaves.shown told keeps) (ran allows moved.stimuli full.text old full.last full.now_engine opened moved.moved.moves) full.contents_so)
+    (leaves-alike allows full.text full.last new full.now_engine contents now_contents keeps (full.leaves.shown told keeps) moved.moved.settled (ran allows moved.stimuli full.text old full.last full.now_engine opened moved.moved.moves) ((full.leaves.shown told keeps).at_once moved.moved.settled.speaks.at_once) full.contents_so)

@@ -4,12 +4,14 @@ use Rattle.std.specs.Io.KnownBytes.{append_known}
 use Rattle.of_types.specs.declared.journal.WorldStim.{WorldStim}
 use Rattle.flow_table.specs.declared.view.TableView.{TableView}
 use Rattle.lego_model.specs.Places.{Place}
-use Rattle.outside.specs.Seen.{Seen, Continues}
+use Rattle.outside.specs.Seen.{Seen, Continues, journal}
 use Rattle.outside.specs.Conforming.{Conforming}
 use Rattle.outside.specs.State.{state, switch_of}
+use Rattle.shown_switches.specs.Orderly.{OrderlySince}
 use Rattle.shown_batches.specs.Calm.{Calm}
 use Rattle.journal_readings.specs.Readings.{starts_in, replies_in}
-use Rattle.shown_runs.specs.Engine.{Engine, own_acts, given_in, stimuli_in}
+use Rattle.lego_model.specs.AtOnce.{AtOnce}
+use Rattle.shown_runs.specs.Engine.{Engine, index, own_acts, given_in, stimuli_in}
 use Rattle.shown_runs.specs.Readings.{JudgesAlike}
 use Rattle.shown_runs.specs.Moves.{Settled, Moved}
 use Rattle.shown_runs.specs.LastReport.{last_text}
@@ -42,6 +44,8 @@ pub record Leaves {Own : Type 0} (last new : Seen Own) : Type 0 where
   pub stimuli : stimuli_in new ≡ stimuli_in last
   pub marks : (state new).marks ≡ (state last).marks
   pub switches : (d : ℕ) → switch_of d (state new) ≡ switch_of d (state last)
+  pub at_once : AtOnce index (journal last.history) → AtOnce index (journal new.history)
+  pub orderly : OrderlySince index last new
 
 -- the last lines were written
 pub record Finished {Own : Type 0} (held now_contents : Option (List ℕ)) (last new : Seen Own) (e : Engine) : Type 0 where

@@ -9,13 +9,16 @@ use Rattle.outside.specs.Conforming.{Conforming}
 use Rattle.app_visor.specs.ReadTurnLaws.{turn_told}
 use Rattle.app_visor.specs.ReadTryLaws.{tries_told}
 use Rattle.journal_readings.specs.FrameLaws.{event_is}
+use Rattle.shown_switches.specs.OrderlyLaws.{orderly-whole}
 use Rattle.shown_batches.specs.Calm.{Calm}
 use Rattle.shown_runs.specs.Engine.{Engine, index}
 use Rattle.shown_runs.specs.Facts.{IsTurn, Dispatches}
 use Rattle.shown_runs.specs.Readings.{AreRead, JudgesAlike}
 use Rattle.shown_runs.specs.Moves.{Settled, Moved, Shown, dispatch_next}
 use Rattle.shown_runs.specs.TurnMoveLaws.{turn_moves}
+use Rattle.shown_runs.specs.DialogueLaws.{turn_goes_on}
 use Rattle.shown_runs.specs.DispatchLaws.{dispatch-moves, dispatch-life, next-moves, none-moves}
+use Rattle.shown_runs.specs.OrderlyRunLaws.{turn-orderly}
 
 -- ---- Every turn and every restart is read
 
@@ -48,6 +51,8 @@ dispatch-moved Tells accepts allows event text old new e now_e told keeps contin
   settled = record {
     calm = calm-by Tells accepts allows event d.turn_text old new e now_e e.alive refl told keeps judges few settled d.turn;
     life = dispatch-life Tells accepts allows event text old new e now_e told keeps judges (are-read Tells accepts) few settled.life d;
+    speaks = turn_goes_on Tells accepts event e.alive d.turn_text old new (numbered_engine e) now_e told refl (record { at_once = settled.speaks.at_once; rest_so = settled.speaks.rest_so }) d.turn;
+    orderly = orderly-whole index old new settled.orderly (turn-orderly Tells accepts event e.alive d.turn_text old new (numbered_engine e) now_e told (are-read Tells accepts) d.turn);
   };
 }
 
@@ -56,7 +61,7 @@ pub next-shown : {Own : Type 0} (Tells : Type 0) (accepts : List TableView → B
     → Dispatches Tells accepts event text old new (record e { queue = queue }) now_e → Shown Tells accepts [] dispatch_next text old new e now_e
 next-shown Tells accepts event queue text old new e now_e continues few waits d = record {
   moved = λ allows told keeps judges settled.
-      let taken : Settled old (record e { queue = queue }) = record { calm = settled.calm; life = settled.life } in
+      let taken : Settled old (record e { queue = queue }) = record { calm = settled.calm; life = settled.life; speaks = record { at_once = settled.speaks.at_once; rest_so = settled.speaks.rest_so }; orderly = settled.orderly } in
       let one = dispatch-moved Tells accepts allows event text old new (record e { queue = queue }) now_e told keeps continues judges few taken d in
       record { moves = next-moves allows event queue text old new e now_e waits one.moves; settled = one.settled };
 }

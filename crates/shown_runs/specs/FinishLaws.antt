@@ -1,6 +1,7 @@
 -- How a run ends: the last part of the report, and the end of the application, leave all else as it was.
 use Rattle.std.proofs.Common.{◌≡◌, ℕ, Bool, List, [], ◌∷◌, ◌++◌, length, map, Option, None, refl, sym, ap, ap₂, ◌∙◌, subst}
 use Rattle.std.specs.Option.{option_map}
+use Rattle.std.specs.List.{AllByRecursion}
 use Rattle.std.specs.Io.KnownBytes.{append_known}
 use Rattle.of_types.specs.declared.journal.WorldStim.{WorldStim}
 use Rattle.flow_table.specs.Switch.{Declared, SwitchState}
@@ -11,19 +12,23 @@ use Rattle.lego_model.specs.Places.{Place}
 use Rattle.lego_model.specs.Controller.{App, Run, quiet_of, reference}
 use Rattle.lego_model.specs.Agreement.{AgreeQuiet, AgreeQuiets}
 use Rattle.lego_model.specs.RunReport.{run_report}
-use Rattle.outside.specs.Seen.{Given, Seen}
+use Rattle.outside.specs.Seen.{Given, Seen, journal}
 use Rattle.outside.specs.State.{Mark, State, switch_of, state}
 use Rattle.outside.specs.Conforming.{Conforming}
 use Rattle.flow_table.specs.declared.view.TableView.{TableView}
 use Rattle.shown_switches.specs.Shown.{flags_at, shown_switch, places, shown_places}
 use Rattle.shown_batches.specs.HistoryLaws.{links-declared}
 use Rattle.journal_readings.specs.Readings.{starts_in, replies_in}
-use Rattle.shown_runs.specs.Engine.{Engine, Stands, names, own_acts, stimuli_in, quiet_by, quiets_in, text_of}
+use Rattle.lego_model.specs.AtOnce.{AtOnce}
+use Rattle.shown_runs.specs.Engine.{Engine, Stands, index, names, own_acts, stimuli_in, quiet_by, quiets_in, text_of}
 use Rattle.shown_runs.specs.QuietLaws.{quiets_more, mark_alike}
 use Rattle.shown_runs.specs.LastReport.{last_text}
 use Rattle.shown_runs.specs.LastReportLaws.{report-ends, last-shown}
 use Rattle.shown_runs.specs.WholeRun.{RunsAlike, fresh, reference_of, last_quiet}
 use Rattle.shown_runs.specs.WholeLaws.{Ran}
+use Rattle.shown_switches.specs.Orderly.{IsOrderly}
+use Rattle.shown_switches.specs.OrderlyLaws.{orderly-whole, released-none}
+use Rattle.shown_runs.specs.Moves.{Settled}
 use Rattle.shown_runs.specs.Endings.{Leaves}
 use Rattle.shown_runs.specs.Promise.{EndsAlike, LeavesAlike}
 
@@ -44,7 +49,7 @@ shown-still declared views s t same =
     places-same (shown_switch views t) (shown_switch views s) declared (λ d. ap (λ (o : Option SwitchState). option_map (owned_switch (flags_at d views)) o) (same d))
 
 -- engine and reference controller ran alike
-runs-alike : {Own : Type 0} (last new : Seen Own) (e : Engine) (r : Run) → Conforming new → Leaves last new → Stands last e [] [] r → RunsAlike new r
+pub runs-alike : {Own : Type 0} (last new : Seen Own) (e : Engine) (r : Run) → Conforming new → Leaves last new → Stands last e [] [] r → RunsAlike new r
 runs-alike {Own} last new e r keeps l s =
     let declared = new.given.declared in
     let same_declared : declared ≡ last.given.declared = ap (λ (g : Given Own). g.declared) l.given in
@@ -58,31 +63,41 @@ runs-alike {Own} last new e r keeps l s =
       inputs = ap (λ (all : List App). map (λ a. a.inputs) all) s.apps ∙ ap (λ (given : List (List ℕ)). given ∷ []) (sym l.inputs);
     }
 
+-- all steps were in order
+all-in-order : {Own : Type 0} {e : Engine} (last new : Seen Own) → Settled last e → Leaves last new → AllByRecursion (IsOrderly index) new.history
+all-in-order last new settled l = orderly-whole index last new settled.orderly l.orderly
+
 -- ---- All was dispatched
 
-pub ends-alike : {Own : Type 0} (allows : List Place → Bool) (text : List ℕ) (last new : Seen Own) (e : Engine) (contents now_contents : Option (List ℕ)) → Conforming new → Leaves last new → Ran allows text last e
-    → e.queue ≡ [] → now_contents ≡ append_known contents (text ++ last_text last e) → EndsAlike allows new contents now_contents e.events
-ends-alike allows text last new e contents now_contents keeps l ran none written =
+pub ends-alike : {Own : Type 0} (allows : List Place → Bool) (text : List ℕ) (last new : Seen Own) (e : Engine) (contents now_contents : Option (List ℕ)) → Conforming new → Leaves last new → Settled last e → Ran allows text last e
+    → AtOnce index (journal new.history) → e.queue ≡ [] → now_contents ≡ append_known contents (text ++ last_text last e) → EndsAlike allows new contents now_contents e.events
+ends-alike allows text last new e contents now_contents keeps l settled ran said none written =
     let same = reference-same allows last new l in
     let r = reference_of allows last in
     let report : run_report names r ≡ text ++ last_text last e =
     report-ends r ∙ ap₂ (λ (a b : List ℕ). a ++ b) ran.text_so (last-shown last e [] [] r ran.stands) in
     record {
       alike = subst (RunsAlike new) (sym same) (runs-alike last new e r keeps l ran.stands);
+      at_once = said;
       none_left = ap (λ (q : Run). q.queue) same ∙ ran.stands.queue ∙ none;
       events_so = sym (ap (λ (q : Run). q.events) same ∙ ran.stands.events);
       report = written ∙ ap (append_known contents) (sym (ap (run_report names) same ∙ report));
+      in_order = all-in-order last new settled l;
+      released_none = released-none index new.history (all-in-order last new settled l);
     }
 
 -- ---- Some events were left
 
-pub leaves-alike : {Own : Type 0} (allows : List Place → Bool) (text : List ℕ) (last new : Seen Own) (e : Engine) (contents now_contents : Option (List ℕ)) → Conforming new → Leaves last new → Ran allows text last e
-    → now_contents ≡ append_known contents text → LeavesAlike allows new contents now_contents (length e.queue)
-leaves-alike allows text last new e contents now_contents keeps l ran written =
+pub leaves-alike : {Own : Type 0} (allows : List Place → Bool) (text : List ℕ) (last new : Seen Own) (e : Engine) (contents now_contents : Option (List ℕ)) → Conforming new → Leaves last new → Settled last e → Ran allows text last e
+    → AtOnce index (journal new.history) → now_contents ≡ append_known contents text → LeavesAlike allows new contents now_contents (length e.queue)
+leaves-alike allows text last new e contents now_contents keeps l settled ran said written =
     let same = reference-same allows last new l in
     let r = reference_of allows last in
     record {
       alike = subst (RunsAlike new) (sym same) (runs-alike last new e r keeps l ran.stands);
+      at_once = said;
       left_so = ap (λ (q : List Event). length q) (sym (ap (λ (q : Run). q.queue) same ∙ ran.stands.queue));
       report = written ∙ ap (append_known contents) (sym (ap text_of same ∙ ran.text_so));
+      in_order = all-in-order last new settled l;
+      released_none = released-none index new.history (all-in-order last new settled l);
     }

@@ -3,6 +3,7 @@
 use Rattle.std.proofs.Common.{◌≡◌, ◌==◌, ℕ, true, false, List, [], ◌∷◌, map, Option, Some, None, refl, sym, ap, ap₂, ◌∙◌, subst, inl, inr, true≢false}
 use Rattle.std.proofs.lemmas.Bool.{cases_Bool}
 use Rattle.std.specs.Option.{option_map}
+use Rattle.std.specs.List.{AllByRecursion}
 use Rattle.flow_table.specs.Switch.{Declared, SwitchState}
 use Rattle.of_types.specs.declared.journal.Act.{Act}
 use Rattle.lego_model.specs.Journal.{Reply, Start, inputs}
@@ -17,7 +18,9 @@ use Rattle.outside.specs.declared.step.WorldStep.TheVariants.{Opened}
 use Rattle.outside.specs.Seen.{Seen, journal}
 use Rattle.outside.specs.State.{State, link_at_first, at_first, link_of, waits_in, switch_in, waits_of, switch_of, after_steps, after_step, state}
 use Rattle.net_txn.specs.Net.{NetState}
+use Rattle.shown_switches.specs.Orderly.{IsOrderly}
 use Rattle.shown_switches.specs.Shown.{flags_at, places, shown_switch, shown_places}
+use Rattle.lego_model.specs.AtOnce.{at_first as nobody_yet, Dialogue}
 use Rattle.shown_batches.specs.Calm.{Calm}
 use Rattle.shown_runs.specs.Engine.{Engine, Stands, index, quiet_by, app_at, given_in}
 use Rattle.shown_runs.specs.Moves.{Settled}
@@ -84,14 +87,22 @@ calm-first seen is = record {
   none_due = ap (λ (s : State). s.due) (state-opened seen is);
 }
 
-pub settled-first : {Own : Type 0} (seen : Seen Own) → IsOpened seen → Settled seen engine_at_first
-settled-first seen is = record { calm = calm-first seen is; life = λ alive. absurd (true≢false (sym alive)) }
-
--- ---- The journal tells nothing yet
-
 pub no-acts : {Own : Type 0} (seen : Seen Own) → IsOpened seen → journal seen.history ≡ []
 unfolding journal
 no-acts seen is = ap (λ (h : List WorldStep). journal h) is
+
+pub settled-first : {Own : Type 0} (seen : Seen Own) → IsOpened seen → Settled seen engine_at_first
+settled-first seen is = record {
+  calm = calm-first seen is;
+  life = λ alive. absurd (true≢false (sym alive));
+  speaks = record {
+    at_once = record { last = nobody_yet; dialogue = subst (λ (acts : List Act). Dialogue index nobody_yet acts nobody_yet) (sym (no-acts seen is)) refl };
+    rest_so = λ alive. absurd (true≢false (sym alive));
+  };
+  orderly = subst (λ (h : List WorldStep). AllByRecursion (IsOrderly index) h) (sym is) (tt, tt);
+}
+
+-- ---- The journal tells nothing yet
 
 places-out : (f : ℕ → Option SwitchState) (ds : List Declared) → ((d : ℕ) → f d ≡ None) → places f ds ≡ map (λ d. record { declared = d; switch = None }) ds
 places-out f [] none = refl

@@ -5,11 +5,13 @@ use Rattle.of_stats.specs.declared.flow_row.FlowRow.{FlowRow}
 use Rattle.flow_table.specs.declared.view.ViewRow.{ViewRow}
 use Rattle.lego_model.specs.Controller.{Run}
 use Rattle.lego_model.specs.RunReport.{switch_line, flow_line, app_line, end_line, switch_text, apps_text}
-use Rattle.outside.specs.Seen.{Seen}
+use Rattle.outside.specs.Seen.{Seen, journal}
 use Rattle.outside.specs.State.{State, state}
+use Rattle.lego_model.specs.AtOnce.{AtOnce}
 use Rattle.flow_table.specs.declared.view.TableView.{TableView}
+use Rattle.shown_switches.specs.Orderly.{OrderlySince}
 use Rattle.shown_switches.specs.Shown.{shown_switch, shown_places}
-use Rattle.shown_runs.specs.Engine.{Engine, names, own_acts, given_in, stimuli_in}
+use Rattle.shown_runs.specs.Engine.{Engine, index, names, own_acts, given_in, stimuli_in}
 use Rattle.shown_runs.specs.Facts.{name}
 
 -- ---- A switch
@@ -58,3 +60,5 @@ pub record OnlyAsked {Own : Type 0} (old new : Seen Own) : Type 0 where
   pub inputs : given_in new ≡ given_in old
   pub stimuli : stimuli_in new ≡ stimuli_in old
   pub marks : (state new).marks ≡ (state old).marks
+  pub at_once : AtOnce index (journal old.history) → AtOnce index (journal new.history)
+  pub orderly : OrderlySince index old new

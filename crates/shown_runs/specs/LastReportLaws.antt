@@ -47,8 +47,11 @@ use Rattle.net_txn.specs.declared.heard.Refusal.{Refusal}
 use Rattle.net_txn.specs.Waits.{heard, steps_by, wait_steps, barrier_sent, reply_got, Waits}
 use Rattle.net_txn.specs.Asks.{asked_from, request_sent, GivesRows}
 use Rattle.shown_batches.specs.Calm.{ViewsAscend}
+use Rattle.shown_switches.specs.Orderly.{IsOrderly}
+use Rattle.shown_switches.specs.OrderlyLaws.{orderly-none, orderly-then, rows-orderly}
 use Rattle.shown_runs.specs.Engine.{Engine, index, names, own_acts, given_in, stimuli_in, Stands, text_of}
 use Rattle.shown_runs.specs.Facts.{name}
+use Rattle.shown_runs.specs.DialogueLaws.{others_at_once}
 use Rattle.shown_runs.specs.LastReport.{SameKeys, flow_lines, table_lines, shown_text, last_text, last_lines, OnlyAsked}
 
 -- ---- A switch
@@ -303,8 +306,8 @@ talk-marks (NextFailed ∷ steps) s are = absurd are.0
 talk-marks (SendFailed d ∷ steps) s are = absurd are.0
 talk-marks (RecvFailed d ∷ steps) s are = absurd are.0
 
-only-asked : {Own : Type 0} (old new : Seen Own) (steps : List WorldStep) → new.given ≡ old.given → new.history ≡ old.history ++ steps → AllByRecursion IsTalk steps → OnlyAsked old new
-only-asked old new steps given more are =
+only-asked : {Own : Type 0} (old new : Seen Own) (steps : List WorldStep) → new.given ≡ old.given → new.history ≡ old.history ++ steps → AllByRecursion IsTalk steps → AllByRecursion (IsOrderly index) steps → OnlyAsked old new
+only-asked old new steps given more are orderly =
     let tells = talk-tells steps are in
     let longer : journal new.history ≡ journal old.history ++ journal steps = ap journal more ∙ journal-append old.history steps in
     record {
@@ -313,6 +316,8 @@ only-asked old new steps given more are =
       inputs = ap (inputs index) longer ∙ inputs-append index (journal old.history) (journal steps) ∙ ap (λ (xs : List (List ℕ)). given_in old ++ xs) tells.given ∙ append-nil (given_in old);
       stimuli = ap stimuli longer ∙ stimuli-append (journal old.history) (journal steps) ∙ ap (λ (xs : List WorldStim). stimuli_in old ++ xs) tells.stims ∙ append-nil (stimuli_in old);
       marks = ap (λ (s : State). s.marks) (state-append old new steps given more) ∙ talk-marks steps (state old) are;
+      at_once = others_at_once old new steps more tells.acts;
+      orderly = record { steps = steps; history = more; orderly = orderly };
     }
 
 waits-asked : {Own : Type 0} (Tells : Type 0) (d xid : ℕ) (old new : Seen Own) (came : List (ℕ × List ℕ)) (refusal : Option Refusal) → Tells → Waits Tells (asked_from d xid) (request_sent d xid ∷ barrier_sent (asked_from d xid) ∷ []) old new [] came refusal
@@ -320,14 +325,14 @@ waits-asked : {Own : Type 0} (Tells : Type 0) (d xid : ℕ) (old new : Seen Own)
 waits-asked Tells d xid old new came refusal told waits =
     let a : Awaited = asked_from d xid in
     only-asked old new (request_sent d xid ∷ barrier_sent a ∷ (wait_steps a waits.got ++ reply_got a ∷ [])) waits.hears.continues.given (waits.hears.told told)
-    (tt, (tt, all_talk (wait_steps a waits.got) (reply_got a ∷ []) (wait-talk a waits.got) (tt, tt)))
+    (tt, (tt, all_talk (wait_steps a waits.got) (reply_got a ∷ []) (wait-talk a waits.got) (tt, tt))) (rows-orderly index d xid waits.got)
 
 -- To ask a switch for its rows leaves all that is told of the application.
 pub rows-asked : {Own : Type 0} (Tells : Type 0) (d xid : ℕ) (old new : Seen Own) (kept now_kept : List (ℕ × List ℕ)) (rows : List FlowRow) → Tells → GivesRows Tells d xid old new kept now_kept rows → OnlyAsked old new
 rows-asked Tells d xid old new kept now_kept rows told gives = waits-asked Tells d xid old new gives.came gives.answered.refusal told gives.answered.waits
 
 pub asked-nothing : {Own : Type 0} (seen : Seen Own) → OnlyAsked seen seen
-asked-nothing seen = record { given = refl; acts = refl; inputs = refl; stimuli = refl; marks = refl }
+asked-nothing seen = record { given = refl; acts = refl; inputs = refl; stimuli = refl; marks = refl; at_once = λ said. said; orderly = orderly-none index seen }
 
 pub asked-then : {Own : Type 0} (old mid new : Seen Own) → OnlyAsked old mid → OnlyAsked mid new → OnlyAsked old new
 asked-then old mid new first rest = record {
@@ -336,4 +341,6 @@ asked-then old mid new first rest = record {
   inputs = rest.inputs ∙ first.inputs;
   stimuli = rest.stimuli ∙ first.stimuli;
   marks = rest.marks ∙ first.marks;
+  at_once = λ said. rest.at_once (first.at_once said);
+  orderly = orderly-then index old mid new first.orderly rest.orderly;
 }

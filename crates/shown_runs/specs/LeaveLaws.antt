@@ -12,8 +12,12 @@ use Rattle.outside.specs.SeenLaws.{journal-append}
 use Rattle.outside.specs.State.{State, is_running, switch_of, after_act, after_step, after_steps, state}
 use Rattle.outside.specs.Calls.{end_steps, Ends}
 use Rattle.outside.specs.CallLaws.{Ends-state}
+use Rattle.std.specs.List.{AllByRecursion}
+use Rattle.shown_switches.specs.Orderly.{IsOrderly}
 use Rattle.journal_readings.specs.Readings.{starts_in, replies_in, ReadsSame, end_part}
 use Rattle.journal_readings.specs.ReadingLaws.{part_read}
+use Rattle.app_visor.specs.DialogueLaws.{converses_ended}
+use Rattle.shown_runs.specs.DialogueLaws.{at_once_then, runs_now}
 use Rattle.shown_runs.specs.Engine.{index, own_acts, given_in, stimuli_in}
 use Rattle.shown_runs.specs.LastReport.{OnlyAsked}
 use Rattle.shown_runs.specs.Endings.{Leaves}
@@ -28,6 +32,8 @@ asked-leaves old new asked switches = record {
   stimuli = asked.stimuli;
   marks = asked.marks;
   switches = switches;
+  at_once = asked.at_once;
+  orderly = asked.orderly;
 }
 
 -- ---- The end of the application
@@ -39,11 +45,12 @@ record IsEnd (running : Bool) : Type 0 where
   stimuli_so : stimuli (journal (end_steps index running)) ≡ []
   marks : (s : State) → (after_steps (end_steps index running) s).marks ≡ s.marks
   switches : (d : ℕ) (s : State) → switch_of d (after_steps (end_steps index running) s) ≡ switch_of d s
+  orderly : AllByRecursion (IsOrderly index) (end_steps index running)
 
 is-end : (running : Bool) → IsEnd running
 unfolding end_steps journal inputs stimuli switch_of after_act after_step
-is-end true = record { own = refl; inputs_so = refl; stimuli_so = refl; marks = λ s. refl; switches = λ d s. refl }
-is-end false = record { own = refl; inputs_so = refl; stimuli_so = refl; marks = λ s. refl; switches = λ d s. refl }
+is-end true = record { own = refl; inputs_so = refl; stimuli_so = refl; marks = λ s. refl; switches = λ d s. refl; orderly = (refl, tt) }
+is-end false = record { own = refl; inputs_so = refl; stimuli_so = refl; marks = λ s. refl; switches = λ d s. refl; orderly = tt }
 
 -- The application is ended, if it runs.
 pub end-leaves : {Own : Type 0} (Tells : Type 0) (old new : Seen Own) → Tells → Ends Tells index old new → Leaves old new
@@ -64,4 +71,6 @@ end-leaves Tells old new told ends =
       stimuli = ap (λ (acts : List Act). stimuli acts) longer ∙ stimuli-append (journal old.history) (journal steps) ∙ ap (λ (xs : List WorldStim). stimuli_in old ++ xs) is.stimuli_so ∙ append-nil (stimuli_in old);
       marks = ap (λ (s : State). s.marks) after ∙ is.marks (state old);
       switches = λ d. ap (λ (s : State). switch_of d s) after ∙ is.switches d (state old);
+      at_once = λ said. let ended = converses_ended Tells index said.last old new ends told (runs_now old said) in at_once_then ended.0 old new said ended.1.0;
+      orderly = record { steps = steps; history = (ends.told told).history; orderly = is.orderly };
     }

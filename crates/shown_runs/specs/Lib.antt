@@ -22,6 +22,7 @@ pub mod LinkStepLaws
 pub mod QuietLaws
 pub mod CalmLaws
 pub mod ChainLaws
+pub mod DialogueLaws
 pub mod TellLaws
 pub mod LineLaws
 pub mod StartMoveLaws
@@ -30,3 +31,6 @@ pub mod DispatchLaws
 pub mod EventLaws
 pub mod StimuliLaws
 pub mod StartShownLaws
+pub mod OrderlyRunLaws
+pub mod Cut
+pub mod CutLaws

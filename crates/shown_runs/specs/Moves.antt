@@ -6,11 +6,14 @@ use Rattle.lego_model.specs.Journal.{Reply, Start}
 use Rattle.lego_model.specs.Places.{Place}
 use Rattle.lego_model.specs.Controller.{Run, dispatch, settle, happen}
 use Rattle.app_frames.specs.declared.frame.Event.{Event}
-use Rattle.outside.specs.Seen.{Seen}
+use Rattle.outside.specs.Seen.{Seen, journal}
 use Rattle.outside.specs.Conforming.{Conforming}
+use Rattle.std.specs.List.{AllByRecursion}
+use Rattle.shown_switches.specs.Orderly.{IsOrderly}
 use Rattle.journal_readings.specs.Readings.{starts_in, replies_in, LastStands}
+use Rattle.lego_model.specs.AtOnce.{Passes, AtOnce}
 use Rattle.shown_batches.specs.Calm.{Calm}
-use Rattle.shown_runs.specs.Engine.{Engine, Stands, own_acts, stimuli_in, text_of}
+use Rattle.shown_runs.specs.Engine.{Engine, Stands, index, own_acts, stimuli_in, text_of}
 use Rattle.shown_runs.specs.Readings.{JudgesAlike}
 
 -- A part of a run with these stimuli and this text: what the journal tells is longer by these starts and replies, and wherever engine and
@@ -27,10 +30,18 @@ pub record Moves {Own : Type 0} (xs : List WorldStim) (f : Run → Run) (text : 
   pub says : (later_starts : List Start) (later_replies : List Reply) (r : Run) → Stands old e (starts ++ later_starts) (replies ++ later_replies) r
       → text_of (f r) ≡ text_of r ++ text
 
--- between parts all is calm, and where the application is alive its last start stands
+-- All that happened is a dialogue with the application; where it is alive, it runs, and what is unread stands behind frames that are no
+-- messages.
+pub record Conversing {Own : Type 0} (seen : Seen Own) (e : Engine) : Type 0 where
+  pub at_once : AtOnce index (journal seen.history)
+  pub rest_so : e.alive ≡ true → (at_once.last.running ≡ true) × Passes at_once.last.unread e.rest
+
+-- between parts all is calm, where the application is alive its last start stands, and all steps were in order
 pub record Settled {Own : Type 0} (seen : Seen Own) (e : Engine) : Type 0 where
   pub calm : Calm seen e.net
   pub life : e.alive ≡ true → LastStands (own_acts seen)
+  pub speaks : Conversing seen e
+  pub orderly : AllByRecursion (IsOrderly index) seen.history
 
 pub record Moved {Own : Type 0} (xs : List WorldStim) (f : Run → Run) (text : List ℕ) (old new : Seen Own) (e now_e : Engine) : Type 0 where
   pub moves : Moves xs f text old new e now_e

@@ -11,10 +11,13 @@ use Rattle.outside.specs.Seen.{Given, Seen}
 use Rattle.outside.specs.State.{Mark, state}
 use Rattle.journal_readings.specs.Readings.{replies_in}
 use Rattle.shown_switches.specs.Shown.{shown_places}
-use Rattle.shown_runs.specs.Engine.{Engine, Stands, names, own_acts, stimuli_in, given_in, quiet_by, app_at, text_of}
+use Rattle.shown_switches.specs.OrderlyLaws.{orderly-whole}
+use Rattle.shown_runs.specs.Engine.{Engine, index, Stands, names, own_acts, stimuli_in, given_in, quiet_by, app_at, text_of}
 use Rattle.shown_runs.specs.Facts.{StartsAgain}
 use Rattle.shown_runs.specs.StartMoveLaws.{starts_alike}
 use Rattle.shown_runs.specs.EventLaws.{are-read}
+use Rattle.shown_runs.specs.DialogueLaws.{starts_converse}
+use Rattle.shown_runs.specs.OrderlyRunLaws.{starts-orderly}
 use Rattle.shown_runs.specs.WholeRun.{all_started}
 use Rattle.shown_runs.specs.Endings.{ShownStart}
 
@@ -55,6 +58,6 @@ start-shown {Own} Tells text old new e now_e starts = record {
               ∙ flat_map-append (line_text names) r.lines (map (Started 0) s.tries ++ gone_line 0 now_e.alive)
               ∙ ap (λ (more : List ℕ). text_of r ++ more) (sym s.text_so);
         };
-        settled = record { calm = s.calm settled.calm; life = s.life };
+        settled = record { calm = s.calm settled.calm; life = s.life; speaks = starts_converse Tells text old new e now_e told settled.speaks.at_once starts; orderly = orderly-whole index old new settled.orderly (starts-orderly Tells (λ (views : List TableView). true) text old new e now_e told (are-read Tells (λ (views : List TableView). true)) starts) };
       };
 }

@@ -27,10 +27,10 @@ reference-whole : (allows : List Place → Bool) (declared : List Declared) (a :
 unfolding reference
 reference-whole allows declared a xs = refl
 
-no-own : {Own : Type 0} (seen : Seen Own) → IsOpened seen → own_acts seen ≡ []
+pub no-own : {Own : Type 0} (seen : Seen Own) → IsOpened seen → own_acts seen ≡ []
 no-own seen is = ap (λ (acts : List Act). filter (is_of index) acts) (no-acts seen is)
 
-no-stimuli : {Own : Type 0} (seen : Seen Own) → IsOpened seen → stimuli_in seen ≡ []
+pub no-stimuli : {Own : Type 0} (seen : Seen Own) → IsOpened seen → stimuli_in seen ≡ []
 unfolding stimuli
 no-stimuli seen is = ap (λ (acts : List Act). stimuli acts) (no-acts seen is)
 

@@ -6,4 +6,7 @@ mod events;
 mod whole;
 
 pub use events::{events_move, starts_move, turns_move};
-pub use whole::{batches_move, ends_leave, oldest_events_move, runs_are_the_references};
+pub use whole::{
+    batches_move, cut_runs_are_the_references, ends_leave, oldest_events_move,
+    runs_are_the_references,
+};

@@ -14,3 +14,5 @@ pub mod Sound
 pub mod SoundLaws
 pub mod SoundSteps
 pub mod ClockLaws
+pub mod Orderly
+pub mod OrderlyLaws

@@ -5,8 +5,10 @@
 
 mod exchange;
 mod flags;
+mod order;
 mod transaction;
 
 pub use exchange::{changes_are_shown, exchanges_are_shown};
 pub use flags::flags_are_kept;
+pub use order::steps_are_in_order;
 pub use transaction::{histories_stand, transactions_stand, undos_are_shown};

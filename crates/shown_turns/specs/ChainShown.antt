@@ -1,6 +1,6 @@
 -- What follows of the beats of a turn in a world that keeps its word: its messages were answered as the reference controller answers them,
 -- and its switches stand then as the world's do.
-use Rattle.std.proofs.Common.{◌≡◌, ◌≢◌, ℕ, Bool, true, false, List, [], ◌∷◌, ◌++◌, length, Option, Some, None, Ok, refl, sym, ap, ap₂, ◌∙◌, subst, true≢false}
+use Rattle.std.proofs.Common.{◌≡◌, ◌≢◌, ℕ, Bool, true, false, List, [], ◌∷◌, length, Option, refl, sym, ap, ap₂, ◌∙◌, subst, true≢false}
 use Rattle.std.specs.Option.{option_map}
 use Rattle.of_types.specs.declared.journal.Act.{Act}
 use Rattle.of_types.specs.declared.journal.Act.TheVariants.{Stim, Started, Gave, Gone, Took, Ended, Sent, Got}
@@ -13,7 +13,7 @@ use Rattle.lego_model.specs.Journal.{is_of, Reply}
 use Rattle.lego_model.specs.Places.{Place, answer}
 use Rattle.lego_model.specs.Turns.{Outcome, Table, turn_of}
 use Rattle.lego_model.specs.Controller.{table_of}
-use Rattle.outside.specs.Seen.{Given, Seen, Continues}
+use Rattle.outside.specs.Seen.{Given, Seen}
 use Rattle.outside.specs.State.{Link, State, link_of, switch_in, waits_in, state, switch_of, waits_of, after_act, after_step}
 use Rattle.outside.specs.StateLaws.{state-append, Conforming-before}
 use Rattle.outside.specs.Conforming.{Conforming}
@@ -22,14 +22,14 @@ use Rattle.net_txn.specs.Changes.{known_rows}
 use Rattle.net_txn.specs.Agreement.{Agrees}
 use Rattle.app_visor.specs.declared.state.TurnEnd.{TurnEnd}
 use Rattle.app_visor.specs.Talks.{step_of, Told, give_act}
-use Rattle.app_visor.specs.Beats.{Exchange, IsExchange, Beat, Talk, Asks, Chain, exchanges_in}
+use Rattle.app_visor.specs.Beats.{Exchange, Beat, Talk, Asks, Chain, exchanges_in}
 use Rattle.app_visor.specs.BeatLaws.{Chain-continues}
 use Rattle.app_visor.specs.Turns.{reply_by, Turns, Agrees as AnswersSo, played_on}
 use Rattle.app_visor.specs.TableLaws.{turn_alike}
 use Rattle.shown_switches.specs.Shown.{flags_at, shown_switch, places, shown_places}
 use Rattle.shown_switches.specs.StandLaws.{all-stand}
 use Rattle.shown_switches.specs.ExchangeShown.{exchange-shown}
-use Rattle.shown_switches.specs.Since.{Ready, Since, Goes}
+use Rattle.shown_switches.specs.Since.{Ready, Goes}
 use Rattle.shown_switches.specs.SinceLaws.{begun, goes-on}
 
 -- ---- Calls for an application move no switch
@@ -99,7 +99,7 @@ pub record Leads {Own : Type 0} (allows : List Place → Bool) (start : ℕ) (fi
   pub answers : AnswersSo (table_of allows) xs (shown_places first.given.declared net.views (state old)) (shown_places first.given.declared now_net.views (state new))
   pub goes : Goes start first new net0 now_net
 
-chain-shown : {Own : Type 0} (Tells : Type 0) (app : ℕ) (allows : List Place → Bool) (start : ℕ) (first : Seen Own) (net0 : NetState) (trace : List (Beat Own)) (old new : Seen Own) (net now_net : NetState) → Tells → Conforming new → Chain Tells app trace old new net now_net
+pub chain-shown : {Own : Type 0} (Tells : Type 0) (app : ℕ) (allows : List Place → Bool) (start : ℕ) (first : Seen Own) (net0 : NetState) (trace : List (Beat Own)) (old new : Seen Own) (net now_net : NetState) → Tells → Conforming new → Chain Tells app trace old new net now_net
     → Goes start first old net0 net → Leads allows start first old new net0 net now_net (exchanges_in trace)
 chain-shown Tells app allows start first net0 [] old new net now_net told keeps chain goes = record {
   answers = ap₂ (λ (n : NetState) (s : Seen _). shown_places first.given.declared n.views (state s)) chain.1 chain.0;

@@ -1,1 +1,2 @@
 pub mod ChainShown
+pub mod StopShown

@@ -4,4 +4,4 @@
 
 mod turns;
 
-pub use turns::turns_are_shown;
+pub use turns::{stops_are_plain, turns_are_shown};

@@ -6,12 +6,15 @@ ghost use Rattle.lego_model.specs.Places.{Place};
 ghost use Rattle.outside.specs.Seen.{Seen};
 ghost use Rattle.outside.specs.State.{state};
 ghost use Rattle.outside.specs.Conforming.{Conforming};
+ghost use Rattle.net_txn.specs.declared.fault.TxnFault.{TxnFault};
 ghost use Rattle.net_txn.specs.Net.{NetState};
 ghost use Rattle.app_visor.specs.declared.state.TurnEnd.{TurnEnd};
+ghost use Rattle.app_visor.specs.Beats.{Stops};
 ghost use Rattle.app_visor.specs.Turns.{reply_by, Turns};
 ghost use Rattle.shown_switches.specs.Shown.{shown_places};
 ghost use Rattle.shown_switches.specs.Since.{Ready};
 ghost use Rattle.shown_turns.specs.ChainShown.{PlayedAlike};
+ghost use Rattle.shown_turns.specs.StopShown.{IsPlainStop};
 
 use outside::World;
 
@@ -22,4 +25,10 @@ pub fn turns_are_shown<W: World>()
         → W.Tells → Conforming new → Ready old net → (t : Turns W.Tells accepts app budget rest frame old new net now_net end unread)
         → allows (shown_places old.given.declared now_net.views (state new)) ≡ accepts now_net.views
         → PlayedAlike allows budget rest (reply_by t.given t.trace) old new net now_net t.answers t.outcome }
+{}
+
+/// A turn that stops in a world that keeps its word, where all was ready, stops by the link of a switch or for want of memory.
+pub fn stops_are_plain<W: World>()
+    ensures { (app : ℕ) (old new : Seen W.Own) (net now_net : NetState) (fault : TxnFault) → W.Tells → Conforming new → Ready old net
+        → Stops W.Tells app old new net now_net fault → IsPlainStop fault }
 {}

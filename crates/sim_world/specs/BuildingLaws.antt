@@ -553,7 +553,7 @@ first_kept g = refl
 
 nothing_done : (g : Given Scripts) → IsHistory g []
 unfolding KeepsScripts
-nothing_done g = record { word = λ readable. tt; scripts = tt; told = tt }
+nothing_done g = record { word = tt; scripts = tt; told = tt }
 
 first_moment : (g : Given Scripts) → (at_first g).moment ≡ 0
 unfolding at_first
@@ -676,6 +676,11 @@ first_due : (g : Given Scripts) → (at_first g).due ≡ []
 unfolding at_first
 first_due g = refl
 
+-- no call was counted as out of place
+none_strayed : (w : WorldData) → IsNew w → w.tally.strays ≡ 0
+unfolding counts_of
+none_strayed w is = is.counts.strays
+
 -- a world in which nothing happened yet keeps what each world keeps
 pub Keeps-new : (w : WorldData) → IsNew w → MayBeGiven (given_of w) → Keeps w
 Keeps-new w is may = record {
@@ -684,6 +689,7 @@ Keeps-new w is may = record {
   within = omega (arith, ap (λ (s : State). s.moment) is.state, first_moment (given_of w));
   due = subst (All IsDue) (sym (ap (λ (s : State). s.due) is.state ∙ first_due (given_of w))) (All-nil IsDue);
   readable = λ readable. AllReadable-new w is;
+  places = λ are none. none_strayed w is;
 }
 
 -- ---- Both ends of a call that gives one thing more

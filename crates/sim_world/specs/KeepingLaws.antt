@@ -34,6 +34,8 @@ use Rattle.outside.specs.State.{Link, State, after_step, after_steps, after_act,
 use Rattle.outside.specs.Calls.{open_steps, next_steps, stim_steps, item_step, start_steps, give_steps, take_steps, end_steps, send_steps, receive_steps, can_receive}
 use Rattle.outside.specs.Conforming.{IsWorldStim, MayStep, MayAct, MaySteps}
 use Rattle.sim_world.specs.Tally.{TallyState, CountsFor}
+use Rattle.sim_world.specs.Places.{AreInPlace, NoneStrays}
+use Rattle.sim_world.specs.PlaceLaws.{places_move, open_places, next_places, start_places, give_places, take_places, send_places, receive_places}
 use Rattle.sim_world.specs.Scripts.{Scripts, Life, IsScripted, AreScripted}
 use Rattle.sim_world.specs.Lives.{life_in}
 use Rattle.sim_world.specs.Links.{IsDue, HasReadableRaw, IsReadableIfRaw}
@@ -42,7 +44,7 @@ use Rattle.of_wire.specs.Reading.{reading_of}
 use Rattle.sim_world.specs.LinkLaws.{Stands-more}
 use Rattle.sim_world.specs.LinkStepLaws.{AreStanding, AllReadable, AreStanding-begun, AreStanding-sent, AreStanding-got, AreStanding-failed, AreStanding-told}
 use Rattle.sim_world.specs.World.{WorldData, Moves, IsAsTold, AreAsTold, IsReadable, is_refused_stimulus, is_refused_raw, begins_refused, declared_in, CanCome}
-use Rattle.sim_world.specs.WorldLaws.{Stands_moves, IsReadable-front}
+use Rattle.sim_world.specs.WorldLaws.{Stands_moves, IsReadable-front, MayUntilRefused-all}
 use Rattle.sim_world.specs.Doing.{DoesOpen, DoesNext, DoesStart, DoesGive, DoesTake, DoesSend, DoesReceive, HasReadable}
 use Rattle.sim_world.specs.DoingLaws.{open_counted, next_counted, start_counted, give_counted, take_counted, link_counted}
 use Rattle.sim_world.specs.Keeping.{Keeps}
@@ -132,8 +134,8 @@ length_more : (xs ys : List WorldStep) → length (xs ++ ys) ≡ length xs + len
 length_more xs ys = length-append xs ys
 
 pub keeps_quiet : (old new : WorldData) (steps : List WorldStep) (counted : TallyState) → Keeps old → Moves old new steps counted → AllByRecursion IsQuiet steps
-    → AreScripted old.scripts old.told steps (λ app. life_in app old.lives) → AreAsTold old.told old.nexts steps old.state → CountsFor (declared_in old.state) counted → Keeps new
-keeps_quiet old new steps counted keeps moves quiet scripts told counts =
+    → AreScripted old.scripts old.told steps (λ app. life_in app old.lives) → AreAsTold old.told old.nexts steps old.state → CountsFor (declared_in old.state) counted → (AreInPlace steps old.state → NoneStrays old.tally counted) → Keeps new
+keeps_quiet old new steps counted keeps moves quiet scripts told counts places =
     let around = quiet_steps steps old.state quiet in
     let links : new.state.links ≡ old.state.links = ap (λ (s : State). s.links) moves.state ∙ around.links in
     let due : new.state.due ≡ old.state.due = ap (λ (s : State). s.due) moves.state ∙ around.due in
@@ -141,13 +143,14 @@ keeps_quiet old new steps counted keeps moves quiet scripts told counts =
     let to_come : new.state.to_come ≡ old.state.to_come = ap (λ (s : State). s.to_come) moves.state ∙ around.to_come in
     record {
       stands = Stands_moves old new steps counted keeps.stands moves
-          (record { word = λ readable. quiet_may_steps (declared_in old.state) steps old.state quiet; scripts = scripts; told = told })
+          (record { word = λ readable. MayUntilRefused-all (declared_in old.state) steps old.state (quiet_may_steps (declared_in old.state) steps old.state quiet); scripts = scripts; told = told })
           counts (rw (moment, to_come) keeps.stands.can_come);
       standing = rw (links, moment, moves.history, length_more old.history steps)
           (standing_more old.state.moment (length old.history) (length old.history + length steps) old.state.links (omega arith) keeps.standing);
       within = rw moment keeps.within;
       due = rw due keeps.due;
       readable = λ readable. subst AllReadable (sym links) (keeps.readable (IsReadable-front old.history steps (rw (← moves.history) readable)));
+      places = places_move old new steps counted keeps.stands moves keeps.places places;
     }
 
 -- ---- Each call
@@ -167,7 +170,7 @@ open_scripted own fails (Err opening.Short) lives = tt
 pub keeps_open : {T : Type 0} (old new : WorldData) (result : Result T OpenFault) → Keeps old → DoesOpen old new result → AreAsTold old.told old.nexts (open_steps result) old.state → Keeps new
 keeps_open old new result keeps does told =
     keeps_quiet old new (open_steps result) _ keeps does.moves (open_quiet result) (open_scripted old.scripts old.told result _) told
-    (open_counted (declared_in old.state) old.state.opened result old.tally keeps.stands.tally).for
+    (open_counted (declared_in old.state) old.state.opened result old.tally keeps.stands.tally).for (open_places result old.state old.tally does.out_of_place)
 
 start_quiet : {T : Type 0} (app : ℕ) (result : Result T StartFault) → AllByRecursion IsQuiet (start_steps app result)
 unfolding start_steps
@@ -184,7 +187,7 @@ start_told fails n app (Err starting.Short) s = tt
 pub keeps_start : {T : Type 0} (app : ℕ) (old new : WorldData) (result : Result T StartFault) → Keeps old → DoesStart app old new result → AreScripted old.scripts old.told (start_steps app result) (λ a. life_in a old.lives) → Keeps new
 keeps_start app old new result keeps does scripted =
     keeps_quiet old new (start_steps app result) _ keeps does.moves (start_quiet app result) scripted (start_told old.told old.nexts app result old.state)
-    (start_counted (declared_in old.state) (is_running app old.state) result old.tally keeps.stands.tally).for
+    (start_counted (declared_in old.state) (is_running app old.state) result old.tally keeps.stands.tally).for (start_places app result old.state old.tally does.out_of_place)
 
 give_quiet : {T : Type 0} (app : ℕ) (bytes : List ℕ) (result : Result T GiveFault) → AllByRecursion IsQuiet (give_steps app bytes result)
 unfolding give_steps
@@ -202,7 +205,7 @@ pub keeps_give : {T : Type 0} (app : ℕ) (bytes : List ℕ) (old new : WorldDat
     → AreScripted old.scripts old.told (give_steps app bytes result) (λ a. life_in a old.lives) → Keeps new
 keeps_give app bytes old new result keeps does scripted =
     keeps_quiet old new (give_steps app bytes result) _ keeps does.moves (give_quiet app bytes result) scripted (give_told old.told old.nexts app bytes result old.state)
-    (give_counted (declared_in old.state) (not (is_running app old.state)) result old.tally keeps.stands.tally).for
+    (give_counted (declared_in old.state) (not (is_running app old.state)) result old.tally keeps.stands.tally).for (give_places app bytes result old.state old.tally does.out_of_place)
 
 take_quiet : (app : ℕ) (result : Result Taken Short) (buf : List ℕ) → AllByRecursion IsQuiet (take_steps app result buf)
 unfolding take_steps
@@ -222,7 +225,7 @@ pub keeps_take : (app : ℕ) (old new : WorldData) (result : Result Taken Short)
     → AreScripted old.scripts old.told (take_steps app result buf) (λ a. life_in a old.lives) → Keeps new
 keeps_take app old new result buf keeps does scripted =
     keeps_quiet old new (take_steps app result buf) _ keeps does.moves (take_quiet app result buf) scripted (take_told old.told old.nexts app result buf old.state)
-    (take_counted (declared_in old.state) (not (is_running app old.state)) result old.tally keeps.stands.tally).for
+    (take_counted (declared_in old.state) (not (is_running app old.state)) result old.tally keeps.stands.tally).for (take_places app result buf old.state old.tally does.out_of_place)
 
 end_quiet : (app : ℕ) (runs : Bool) → AllByRecursion IsQuiet (end_steps app runs)
 unfolding end_steps
@@ -238,7 +241,7 @@ pub keeps_end : (app : ℕ) (old new : WorldData) → Keeps old → Moves old ne
     → AreScripted old.scripts old.told (end_steps app (is_running app old.state)) (λ a. life_in a old.lives) → Keeps new
 keeps_end app old new keeps moves scripted =
     keeps_quiet old new (end_steps app (is_running app old.state)) old.tally keeps moves (end_quiet app (is_running app old.state)) scripted
-    (end_told old.told old.nexts app (is_running app old.state) old.state) keeps.stands.tally
+    (end_told old.told old.nexts app (is_running app old.state) old.state) keeps.stands.tally (λ are none. (none, refl))
 
 -- ---- Calls of links
 
@@ -250,19 +253,21 @@ record LinkedBy (most : ℕ) (s t : State) : Type 0 where
   to_come : t.to_come ≡ s.to_come
 
 keeps_linked : (old new : WorldData) (steps : List WorldStep) (counted : TallyState) → Keeps old → Moves old new steps counted → LinkedBy (length (old.history ++ steps)) old.state (after_steps steps old.state)
-    → (IsReadable (old.history ++ steps) ≡ true → MaySteps (declared_in old.state) steps old.state) → ((readable : IsReadable (old.history ++ steps) ≡ true) → AllReadable new.state.links)
-    → AreScripted old.scripts old.told steps (λ app. life_in app old.lives) → AreAsTold old.told old.nexts steps old.state → CountsFor (declared_in old.state) counted → Keeps new
-keeps_linked old new steps counted keeps moves linked word readable scripts told counts =
+    → (IsReadable old.history ≡ true → MaySteps (declared_in old.state) steps old.state) → ((readable : IsReadable (old.history ++ steps) ≡ true) → AllReadable new.state.links)
+    → AreScripted old.scripts old.told steps (λ app. life_in app old.lives) → AreAsTold old.told old.nexts steps old.state → CountsFor (declared_in old.state) counted → (AreInPlace steps old.state → NoneStrays old.tally counted) → Keeps new
+keeps_linked old new steps counted keeps moves linked word readable scripts told counts places =
     let links : new.state.links ≡ (after_steps steps old.state).links = ap (λ (s : State). s.links) moves.state in
     let due : new.state.due ≡ old.state.due = ap (λ (s : State). s.due) moves.state ∙ linked.due in
     let moment : new.state.moment ≡ old.state.moment = ap (λ (s : State). s.moment) moves.state ∙ linked.moment in
     let to_come : new.state.to_come ≡ old.state.to_come = ap (λ (s : State). s.to_come) moves.state ∙ linked.to_come in
     record {
-      stands = Stands_moves old new steps counted keeps.stands moves (record { word = word; scripts = scripts; told = told }) counts (rw (moment, to_come) keeps.stands.can_come);
+      stands = Stands_moves old new steps counted keeps.stands moves (record { word = λ is. MayUntilRefused-all (declared_in old.state) steps old.state (word is); scripts = scripts; told = told }) counts
+          (rw (moment, to_come) keeps.stands.can_come);
       standing = rw (links, moment, moves.history) linked.standing;
       within = rw moment keeps.within;
       due = rw due keeps.due;
       readable = λ is. readable (rw (← moves.history) is);
+      places = places_move old new steps counted keeps.stands moves keeps.places places;
     }
 
 one_more : (history : List WorldStep) (step : WorldStep) → length (history ++ step ∷ []) ≡ length history + 1
@@ -302,7 +307,7 @@ pub keeps_send : {T : Type 0} (d : ℕ) (frame : List ℕ) (old new : WorldData)
 keeps_send d frame old new result keeps does word told readable =
     keeps_linked old new (send_steps d frame result) _ keeps does.moves (send_linked d frame result old.history old.state keeps.standing)
     (λ is. word) (λ is. readable (keeps.readable (IsReadable-front old.history _ is))) (send_scripted old.scripts old.told d frame result _) told
-    (link_counted (declared_in old.state) (not (is_joined d old.state)) d result old.tally keeps.stands.tally).for
+    (link_counted (declared_in old.state) (not (is_joined d old.state)) d result old.tally keeps.stands.tally).for (send_places d frame result old.state old.tally does.out_of_place)
 
 receive_linked : (d : ℕ) (result : Result ℕ LinkFault) (buf : List ℕ) (history : List WorldStep) (s : State) → AreStanding s.moment (length history) s.links
     → LinkedBy (length (history ++ receive_steps d result buf)) s (after_steps (receive_steps d result buf) s)
@@ -337,9 +342,9 @@ pub keeps_recv : (d : ℕ) (old new : WorldData) (result : Result ℕ LinkFault)
     → (AllReadable old.state.links → AllReadable new.state.links) → Keeps new
 keeps_recv d old new result buf keeps does word told readable =
     keeps_linked old new (receive_steps d result buf) _ keeps does.moves (receive_linked d result buf old.history old.state keeps.standing)
-    (λ is. word (keeps.readable (IsReadable-front old.history _ is))) (λ is. readable (keeps.readable (IsReadable-front old.history _ is)))
+    (λ is. word (keeps.readable is)) (λ is. readable (keeps.readable (IsReadable-front old.history _ is)))
     (receive_scripted old.scripts old.told d result buf _) told
-    (link_counted (declared_in old.state) (not (can_receive d old.state)) d result old.tally keeps.stands.tally).for
+    (link_counted (declared_in old.state) (not (can_receive d old.state)) d result old.tally keeps.stands.tally).for (receive_places d result buf old.state old.tally does.out_of_place)
 
 -- ---- next: an item that is told
 
@@ -463,7 +468,7 @@ keeps_item old new None item buf keeps to_come moves word told readable due =
     record {
       stands = Stands_moves old new (item_step item buf ∷ []) old.tally keeps.stands moves
           (record {
-            word = λ is. word tt (keeps.readable (IsReadable-front old.history _ is));
+            word = λ is. MayUntilRefused-all (declared_in old.state) (item_step item buf ∷ []) old.state (word tt (keeps.readable is));
             scripts = (item_scripted old.scripts old.told item buf _, tt);
             told = told;
           }) keeps.stands.tally (rw (moment, come) keeps.stands.can_come);
@@ -473,6 +478,7 @@ keeps_item old new None item buf keeps to_come moves word told readable due =
       readable = λ is.
           let all : IsReadable (old.history ++ item_step item buf ∷ []) ≡ true = rw (← moves.history) is in
           readable tt (keeps.readable (IsReadable-front old.history _ all));
+      places = places_move old new (item_step item buf ∷ []) old.tally keeps.stands moves keeps.places (λ are none. (none, refl));
     }
 keeps_item old new (Some x) item buf keeps to_come moves word told readable due =
     let steps = Acted (Stim x) ∷ item_step item buf ∷ [] in
@@ -487,7 +493,9 @@ keeps_item old new (Some x) item buf keeps to_come moves word told readable due 
     record {
       stands = Stands_moves old new steps old.tally keeps.stands moves
           (record {
-            word = λ is. word (begun_read old.history x (item_step item buf ∷ []) is) (keeps.readable (IsReadable-front old.history _ is));
+            word = λ is sound.
+                let may = word (stim_read x (ap not sound)) (keeps.readable is) in
+                (may.0, MayUntilRefused-all (declared_in old.state) (item_step item buf ∷ []) after may.1);
             scripts = (stim_scripted old.scripts old.told x _, (item_scripted old.scripts old.told item buf _, tt));
             told = told;
           }) keeps.stands.tally (rw (moment, come) begun.can_come);
@@ -497,6 +505,7 @@ keeps_item old new (Some x) item buf keeps to_come moves word told readable due 
       readable = λ is.
           let all : IsReadable (old.history ++ steps) ≡ true = rw (← moves.history) is in
           readable (begun_read old.history x (item_step item buf ∷ []) all) (keeps.readable (IsReadable-front old.history _ all));
+      places = places_move old new steps old.tally keeps.stands moves keeps.places (λ are none. (none, refl));
     }
 
 pub keeps_next : (old new : WorldData) (result : Result Item NextFault) (buf : List ℕ) → Keeps old → DoesNext old new result buf → Keeps new
@@ -505,6 +514,7 @@ keeps_next old new (Ok item) buf keeps does =
     keeps_item old new does.begun item buf keeps does.to_come does.moves does.word does.told does.readable does.due
 keeps_next old new (Err coming.Failed) buf keeps does =
     keeps_quiet old new (NextFailed ∷ []) _ keeps does.moves (tt, tt) (failed_scripted old.scripts old.told _, tt) does.told
-    (next_counted (declared_in old.state) (Err coming.Failed) old.tally keeps.stands.tally).for
+    (next_counted (declared_in old.state) (Err coming.Failed) old.tally keeps.stands.tally).for (λ are. next_places (Err coming.Failed) old.tally)
 keeps_next old new (Err coming.Short) buf keeps does =
     keeps_quiet old new [] _ keeps does.moves tt tt tt (next_counted (declared_in old.state) (Err coming.Short) old.tally keeps.stands.tally).for
+    (λ are. next_places (Err coming.Short) old.tally)

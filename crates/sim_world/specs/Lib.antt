@@ -16,6 +16,8 @@ pub mod WorldLaws
 pub mod TallyLaws
 pub mod Doing
 pub mod DoingLaws
+pub mod Places
+pub mod PlaceLaws
 pub mod SwitchCallLaws
 pub mod NextLaws
 pub mod TellLaws

@@ -1,5 +1,6 @@
 -- What the calls of a simulated world need follows from what it keeps.
-use Rattle.std.specs.Prelude.{◌≡◌, ℕ, ◌+◌, ◌^◌, ◌<◌, ◌≤◌, Bool, true, false, List, [], ◌∷◌, length, refl, if◌then◌else◌}
+use Rattle.std.specs.Prelude.{◌≡◌, ℕ, ◌+◌, ◌^◌, ◌<◌, ◌≤◌, Bool, true, false, List, [], ◌∷◌, ◌++◌, length, refl, if◌then◌else◌}
+use Rattle.std.proofs.lemmas.List.{append-nil}
 use Rattle.std.proofs.Common.{sym, ap, ◌∙◌, subst, arith}
 use Rattle.outside.specs.declared.step.WorldStep.{WorldStep}
 use Rattle.outside.specs.State.{state, but_marks, is_running, at_first}
@@ -11,8 +12,11 @@ use Rattle.outside.specs.declared.call.FailCall.{FailCall}
 use Rattle.sim_world.specs.Told.{without_links, TellSame-without_links}
 use Rattle.sim_world.specs.ScriptLaws.{running-through, FewCalls-history}
 use Rattle.sim_world.specs.Lives.{life_in}
+use Rattle.sim_world.specs.Tally.{counts_of}
+use Rattle.sim_world.specs.Places.{AreInPlace}
 use Rattle.sim_world.specs.LinkStepLaws.{AreStanding-stands, AreStanding-may_call}
-use Rattle.sim_world.specs.World.{WorldData, Stands, IsReadable, AreAsTold, given_of, seen_of, nexts_through, counted_next, is_next_answer, short_told}
+use Rattle.sim_world.specs.WorldLaws.{MayUntilRefused-front}
+use Rattle.sim_world.specs.World.{WorldData, Stands, IsReadable, MayUntilRefused, AreAsTold, declared_in, given_of, seen_of, nexts_through, counted_next, is_next_answer, short_told}
 use Rattle.sim_world.specs.Doing.{AppsStand, LinksStand, NextStands}
 use Rattle.sim_world.specs.Keeping.{Keeps}
 
@@ -74,9 +78,19 @@ next_stands w keeps less = record {
 
 -- ---- Its word
 
-pub conforms : (w : WorldData) → Keeps w → IsReadable w.history ≡ true → Conforming (seen_of w)
+-- a front of its history conforms where no refused stimulus was begun in it, whatever came behind it
+pub front_conforms : (w : WorldData) → Keeps w → (first rest : List WorldStep) → w.history ≡ first ++ rest → IsReadable first ≡ true → Conforming (record (seen_of w) { history = first })
 unfolding seen_of given_of
-conforms w keeps readable = record { declared = keeps.stands.declared; switches = keeps.stands.switches; steps = keeps.stands.history.word readable }
+front_conforms w keeps first rest is readable = record {
+  declared = keeps.stands.declared;
+  switches = keeps.stands.switches;
+  steps = MayUntilRefused-front (declared_in w.state) first rest (at_first (given_of w))
+      (subst (λ (h : List WorldStep). MayUntilRefused (declared_in w.state) h (at_first (given_of w))) is keeps.stands.history.word) readable;
+}
+
+pub conforms : (w : WorldData) → Keeps w → IsReadable w.history ≡ true → Conforming (seen_of w)
+unfolding seen_of
+conforms w keeps readable = front_conforms w keeps w.history [] (sym (append-nil w.history)) readable
 
 pub scripts_kept : (w : WorldData) → Keeps w → KeepsScripts w.scripts (without_links w.fails) w.history
 unfolding given_of
@@ -85,6 +99,10 @@ scripts_kept w keeps = keeps.stands.history.scripts
 pub told_kept : (w : WorldData) → Keeps w → AreAsTold (without_links w.fails) 0 w.history (at_first (given_of w))
 unfolding given_of
 told_kept w keeps = keeps.stands.history.told
+
+pub strays_kept : (w : WorldData) → Keeps w → AreInPlace w.history (at_first (given_of w)) → (seen_of w).counts.shorts ≡ 0 → (seen_of w).counts.strays ≡ 0
+unfolding seen_of counts_of
+strays_kept w keeps are none = keeps.places are none
 
 -- ---- Want of memory that is told
 

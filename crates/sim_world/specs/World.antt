@@ -17,7 +17,7 @@ use Rattle.outside.specs.declared.step.WorldStep.TheVariants.{Acted, TookInto, F
 use Rattle.flow_table.specs.Switch.{Declared}
 use Rattle.outside.specs.Seen.{Given, Seen}
 use Rattle.outside.specs.State.{State, at_first, after_step, after_steps, state, but_marks, moment_after, link_fails, is_joined, has_waiting}
-use Rattle.outside.specs.Conforming.{AreDeclaredFrom, MayDeclare, IsWorldStim, MaySteps}
+use Rattle.outside.specs.Conforming.{AreDeclaredFrom, MayDeclare, IsWorldStim, MayStep}
 use Rattle.sim_world.specs.Tally.{TallyState, CountsFor, counts_of}
 use Rattle.sim_world.specs.Told.{is_told, without_links}
 use Rattle.sim_world.specs.Scripts.{Scripts, Life, fresh, life_through, KeepsScripts}
@@ -67,6 +67,11 @@ begins_refused other = false
 -- no stimulus was begun that sends bytes which are no message
 unfoldable pub IsReadable : List WorldStep → Bool
 IsReadable history = list_all (λ step. not (begins_refused step)) history
+
+-- each step may come in the state before it, up to the first that begins such a stimulus
+abbrev pub MayUntilRefused : List Declared → List WorldStep → State → Type 0
+MayUntilRefused declared [] s = Unit {0}
+MayUntilRefused declared (step ∷ steps) s = begins_refused step ≡ false → MayStep declared step s × MayUntilRefused declared steps (after_step step s)
 
 -- ---- Calls that are told to fail
 
@@ -131,10 +136,10 @@ CanCome declared moment (x ∷ xs) = IsWorldStim declared moment x × CanCome de
 
 -- ---- The history
 
--- What a history keeps: switches keep their word unless raw bytes were refused, applications keep to their scripts, and what fails is
+-- What a history keeps: switches keep their word until raw bytes are refused, applications keep to their scripts, and what fails is
 -- what is told to.
 pub record IsHistory (given : Given Scripts) (history : List WorldStep) : Type 0 where
-  pub word : IsReadable history ≡ true → MaySteps given.declared history (at_first given)
+  pub word : MayUntilRefused given.declared history (at_first given)
   pub scripts : KeepsScripts given.own (without_links given.fails) history
   pub told : AreAsTold (without_links given.fails) 0 history (at_first given)
 

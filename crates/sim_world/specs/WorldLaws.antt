@@ -3,6 +3,7 @@
 use Rattle.std.specs.Prelude.{◌≡◌, ◌==◌, ℕ, Bool, true, false, not, ◌&&◌, List, [], ◌∷◌, ◌++◌, map, refl, if◌then◌else◌}
 use Rattle.std.specs.List.{list_all}
 use Rattle.std.proofs.Common.{sym, ap, ◌∙◌, subst, append_assoc}
+use Rattle.std.proofs.lemmas.Bool.{false≢true}
 use Rattle.of_types.specs.declared.journal.Act.{Act}
 use Rattle.of_types.specs.declared.journal.Act.TheVariants.{Stim, Started, Gave, Gone, Took, Ended, Sent, Got}
 use Rattle.of_types.specs.declared.journal.Stimulus.TheVariants.{Advance}
@@ -14,14 +15,14 @@ use Rattle.outside.specs.declared.step.WorldStep.{WorldStep}
 use Rattle.outside.specs.declared.step.WorldStep.TheVariants.{Acted, TookInto, From, Joined, Left, Moment, Idle, End, Opened, NotOpened, NextFailed, SendFailed, RecvFailed}
 use Rattle.outside.specs.Seen.{Given}
 use Rattle.outside.specs.State.{Link, State, at_first, with_link, link_joined, link_left, link_stimulated, link_sent, link_got, link_told, link_failed, after_stim, after_act, after_step, after_steps, state, but_marks, switch_of, waits_of, upcoming, link_fails}
-use Rattle.outside.specs.StateLaws.{after_steps-append, MaySteps-append, but_marks-step}
+use Rattle.outside.specs.StateLaws.{after_steps-append, but_marks-step}
 use Rattle.outside.specs.LinkLaws.{KeepsDeclared}
 use Rattle.outside.specs.Conforming.{MayBegin, MayAct, MayStep, MaySteps}
 use Rattle.sim_world.specs.Tally.{TallyState, CountsFor}
 use Rattle.sim_world.specs.Told.{without_links}
 use Rattle.sim_world.specs.Lives.{life_in}
 use Rattle.sim_world.specs.Scripts.{Scripts, Life, fresh, all_fresh, life_after, life_through, lives_after, IsScriptedAct, IsScripted, AreScripted, KeepsScripts}
-use Rattle.sim_world.specs.World.{WorldData, declared_in, given_of, seen_of, begins_refused, IsReadable, IsActAsTold, IsAsTold, AreAsTold, counted_next, nexts_through, CanCome, IsHistory, Stands, Moves}
+use Rattle.sim_world.specs.World.{WorldData, declared_in, given_of, seen_of, begins_refused, IsReadable, IsActAsTold, IsAsTold, AreAsTold, counted_next, nexts_through, MayUntilRefused, CanCome, IsHistory, Stands, Moves}
 
 -- ---- Marks steer nothing
 
@@ -113,7 +114,7 @@ step_with declared NextFailed s may = may
 step_with declared (SendFailed d) s may = may
 step_with declared (RecvFailed d) s may = may
 
-after_same : (step : WorldStep) (s t : State) → but_marks s ≡ but_marks t → but_marks (after_step step s) ≡ but_marks (after_step step t)
+pub after_same : (step : WorldStep) (s t : State) → but_marks s ≡ but_marks t → but_marks (after_step step s) ≡ but_marks (after_step step t)
 after_same step s t same =
     but_marks-step step s ∙ ap (λ (x : State). but_marks (after_step step x)) same ∙ sym (but_marks-step step t)
 
@@ -275,7 +276,7 @@ life_through-append own fails app (x ∷ xs) ys l = life_through-append own fail
 
 -- What steps may come in a world, so that it stands afterwards.
 pub record MayMove (old : WorldData) (steps : List WorldStep) : Type 0 where
-  pub word : IsReadable (old.history ++ steps) ≡ true → MaySteps (declared_in old.state) steps old.state
+  pub word : IsReadable old.history ≡ true → MayUntilRefused (declared_in old.state) steps old.state
   pub scripts : AreScripted old.scripts old.told steps (λ app. life_in app old.lives)
   pub told : AreAsTold old.told old.nexts steps old.state
 
@@ -291,20 +292,55 @@ pub IsReadable-front : (xs ys : List WorldStep) → IsReadable (xs ++ ys) ≡ tr
 unfolding IsReadable
 IsReadable-front xs ys all = readable_front xs ys all
 
+-- Steps that may all come, those that may come up to a refused stimulus, and the fronts of these.
+pub MayUntilRefused-all : (declared : List Declared) (steps : List WorldStep) (s : State) → MaySteps declared steps s → MayUntilRefused declared steps s
+MayUntilRefused-all declared [] s may = tt
+MayUntilRefused-all declared (step ∷ steps) s may = λ sound. (may.0, MayUntilRefused-all declared steps (after_step step s) may.1)
+
+MayUntilRefused-same : (declared : List Declared) (steps : List WorldStep) (s t : State) → but_marks s ≡ but_marks t → MayUntilRefused declared steps s → MayUntilRefused declared steps t
+MayUntilRefused-same declared [] s t same may = tt
+MayUntilRefused-same declared (step ∷ steps) s t same may = λ sound. (
+  step_with declared step t (subst (λ (x : State). MayStep declared step x) same (step_but declared step s (may sound).0)),
+  MayUntilRefused-same declared steps (after_step step s) (after_step step t) (after_same step s t same) (may sound).1,
+)
+
+both_sound : (refused rest : Bool) → refused ≡ false → rest ≡ true → (not refused && rest) ≡ true
+both_sound true rest is all = sym is
+both_sound false rest is all = all
+
+each_sound : (refused rest : Bool) → (not refused && rest) ≡ true → (refused ≡ false) × (rest ≡ true)
+each_sound true rest is = absurd (false≢true is)
+each_sound false rest is = (refl, is)
+
+MayUntilRefused-append : (declared : List Declared) (xs ys : List WorldStep) (s : State) → MayUntilRefused declared xs s → (IsReadable xs ≡ true → MayUntilRefused declared ys (after_steps xs s)) → MayUntilRefused declared (xs ++ ys) s
+unfolding IsReadable
+MayUntilRefused-append declared [] ys s front rest = rest refl
+MayUntilRefused-append declared (x ∷ xs) ys s front rest = λ sound. (
+  (front sound).0,
+  MayUntilRefused-append declared xs ys (after_step x s) (front sound).1 (λ all. rest (both_sound (begins_refused x) _ sound all)),
+)
+
+pub MayUntilRefused-front : (declared : List Declared) (front rest : List WorldStep) (s : State) → MayUntilRefused declared (front ++ rest) s → IsReadable front ≡ true → MaySteps declared front s
+unfolding IsReadable
+MayUntilRefused-front declared [] rest s may all = tt
+MayUntilRefused-front declared (x ∷ front) rest s may all =
+    let sound = each_sound (begins_refused x) _ all in
+    ((may sound.0).0, MayUntilRefused-front declared front rest (after_step x s) (may sound.0).1 sound.1)
+
 pub declared_but : (s : State) → declared_in (but_marks s) ≡ declared_in s
 unfolding declared_in
 declared_but s = refl
 
 IsHistory-more : (given : Given Scripts) (history steps : List WorldStep) (s : State) (lives : ℕ → Life) → but_marks (after_steps history (at_first given)) ≡ s
     → ((app : ℕ) → lives app ≡ life_through given.own (without_links given.fails) app history fresh) → IsHistory given history
-    → (IsReadable (history ++ steps) ≡ true → MaySteps given.declared steps s)
+    → (IsReadable history ≡ true → MayUntilRefused given.declared steps s)
     → AreScripted given.own (without_links given.fails) steps lives → AreAsTold (without_links given.fails) (nexts_through history 0) steps s → IsHistory given (history ++ steps)
 unfolding KeepsScripts
 IsHistory-more given history steps s lives is same before may scripts told =
     let now : but_marks s ≡ but_marks (after_steps history (at_first given)) = ap but_marks (sym is) in
     record {
-      word = λ readable. MaySteps-append given.declared history steps (at_first given) (before.word (IsReadable-front history steps readable))
-          (MaySteps-same given.declared steps s (after_steps history (at_first given)) now (may readable));
+      word = MayUntilRefused-append given.declared history steps (at_first given) before.word
+          (λ readable. MayUntilRefused-same given.declared steps s (after_steps history (at_first given)) now (may readable));
       scripts = AreScripted-append given.own (without_links given.fails) history steps all_fresh before.scripts (AreScripted-same given.own (without_links given.fails) steps lives _ same scripts);
       told = AreAsTold-append (without_links given.fails) 0 history steps (at_first given) before.told (AreAsTold-same (without_links given.fails) (nexts_through history 0) steps s _ now told);
     }

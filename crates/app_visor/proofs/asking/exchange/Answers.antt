@@ -12,7 +12,7 @@ use Rattle.app_visor.proofs.asking.exchange.Goals as goal
 pub returns-in_err-answer-clause-err : goal.returns-in_err-answer-clause-err
 returns-in_err-answer-clause-err g c =
     let p = err_from_is_err_and c.from_residual.result c.from_residual.ensures.1 in
-    rw (p.1, p.2) (stops_at_change c.args.app c.in_err-answer.field-0.0 c.in_err-answer.ensures.changes)
+    rw (p.1, p.2) (stops_at_change c.args.app c.in_err-answer.field-0.0 c.in_err-answer.ensures.changes c.in_err-answer.ensures.in_step)
 
 pub encode_answer-requires : goal.encode_answer-requires
 encode_answer-requires g c =

@@ -1,5 +1,9 @@
-use Rattle.std.proofs.Common.{rules}
+use Rattle.event_dispatch.specs.declared.fault.Fault.TheVariants as faults
+use Rattle.std.proofs.Common.{◌≡◌, rules, sym, subst, IsErrAnd}
 use Rattle.event_dispatch.specs.TurnLaws.{play_done, play_failed}
+use Rattle.event_dispatch.specs.PlainLaws.{err_is, turn_memory, turn_noted, turn_stopped, turn_not_undone}
+use Rattle.event_dispatch.specs.Plain.{PlainTurn}
+use Rattle.event_dispatch.specs.Why.{fault_of}
 use Rattle.event_dispatch.proofs.dispatch.play.Goals as goal
 
 pub returns-in_ok-commit-in-Ok-Done-clause-plays : goal.returns-in_ok-commit-in-Ok-Done-clause-plays
@@ -9,3 +13,18 @@ returns-in_ok-commit-in-Ok-Done-clause-plays g c =
 pub returns-in_ok-abort-in-Ok-Failed-clause-plays : goal.returns-in_ok-abort-in-Ok-Failed-clause-plays
 returns-in_ok-abort-in-Ok-Failed-clause-plays g c =
     play_failed c.begin-txn.ensures.net c.begin-txn.ensures.start c.in-Ok-Failed.field-0-is c.in-Ok-Failed.ensures.ok c.turn.ensures.start c.in_ok-abort-in-Ok-Failed.was (search rules) c.abort.ensures
+
+pub returns-in_err-commit-in-Ok-Done-clause-plain : goal.returns-in_err-commit-in-Ok-Done-clause-plain
+returns-in_err-commit-in-Ok-Done-clause-plain g c =
+    err_is (PlainTurn g.W.World.Tells (g.W.World.seen c.args.world.now) (g.W.World.seen c.commit.new._world) c.args.net.now) faults.NoMemory c.from_residual.result (subst (λ f. IsErrAnd c.from_residual.result (λ s. s ≡ fault_of f)) c.in_err-commit-in-Ok-Done.ensures.fault c.from_residual.ensures.1) (turn_memory (g.W.World.seen c.args.world.now) (g.W.World.seen c.commit.new._world) c.args.net.now)
+
+pub returns-in_err-abort-in-Ok-Failed-clause-plain : goal.returns-in_err-abort-in-Ok-Failed-clause-plain
+returns-in_err-abort-in-Ok-Failed-clause-plain g c =
+    err_is (PlainTurn g.W.World.Tells (g.W.World.seen c.args.world.now) (g.W.World.seen c.abort.new.world) c.args.net.now) (fault_of c.in_err-abort-in-Ok-Failed.field-0.0) c.from_residual-in_err-abort-in-Ok-Failed.result c.from_residual-in_err-abort-in-Ok-Failed.ensures.1
+    (turn_not_undone (g.W.World.seen c.args.world.now) (g.W.World.seen c.turn.new.world) (g.W.World.seen c.abort.new.world) c.args.net.now c.begin-txn.result.net.now c.turn.new.txn.net.now _ c.abort.result c.in_err-abort-in-Ok-Failed.field-0.0 c.begin-txn.ensures.net c.in-Ok-Failed.ensures.ok c.in_err-abort-in-Ok-Failed.was c.abort.ensures)
+
+pub returns-in-Err-clause-plain : goal.returns-in-Err-clause-plain
+returns-in-Err-clause-plain g c =
+    subst (PlainTurn g.W.World.Tells (g.W.World.seen c.args.world.now) (g.W.World.seen c.abort-in-Err.new.world) c.args.net.now) (sym c.from.ensures)
+    (turn_noted (g.W.World.seen c.args.world.now) (g.W.World.seen c.abort-in-Err.new.world) c.args.net.now c.begin-txn.result.net.now (fault_of c.in-Err.fault) c.begin-txn.ensures.net
+    (turn_stopped (g.W.World.seen c.args.world.now) (g.W.World.seen c.turn.new.world) (g.W.World.seen c.abort-in-Err.new.world) c.begin-txn.result.net.now c.turn.new.txn.net.now c.in-Err.fault c.abort-in-Err.ensures.continues c.in-Err.ensures.err))

@@ -1,6 +1,17 @@
 use Rattle.event_dispatch.specs.WholeLaws.{goes_then}
+use Rattle.event_dispatch.specs.PlainLaws.{whole_then}
+use Rattle.event_dispatch.specs.Shows.{engine_of}
+use Rattle.event_dispatch.specs.CutLaws.{goes_on_cut}
 use Rattle.event_dispatch.proofs.whole.go_to_end.Goals as goal
 
 pub returns-clause-goes : goal.returns-clause-goes
 returns-clause-goes g c =
     goes_then g.W.World.Tells (g.J.Judge.accepts c.args.judge.now) c.go-ended.result (g.K.Sink.contents c.args.sink.now) (g.K.Sink.contents c.go-ended.new.sink) (g.W.World.seen c.args.world.now) (g.W.World.seen c.go-ended.new.world) (g.W.World.seen c.end.new.world) c.args.run.now c.go-ended.new.self c.end.ensures.continues c.end.ensures.leaves c.go-ended.ensures.goes
+
+pub returns-clause-plain : goal.returns-clause-plain
+returns-clause-plain g c =
+    whole_then (g.J.Judge.accepts c.args.judge.now) (g.W.World.seen c.args.world.now) (g.W.World.seen c.go-ended.new.world) (g.W.World.seen c.end.new.world) (engine_of c.args.run.now) c.go-ended.result c.end.ensures.continues c.go-ended.ensures.plain
+
+pub returns-clause-cut : goal.returns-clause-cut
+returns-clause-cut g c =
+    goes_on_cut g.W.World.Tells (g.J.Judge.accepts c.args.judge.now) c.go-ended.result (g.K.Sink.contents c.args.sink.now) (g.K.Sink.contents c.go-ended.new.sink) (g.W.World.seen c.args.world.now) (g.W.World.seen c.go-ended.new.world) (g.W.World.seen c.end.new.world) (engine_of c.args.run.now) c.end.ensures.continues c.go-ended.ensures.cut

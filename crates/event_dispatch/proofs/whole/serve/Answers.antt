@@ -1,8 +1,10 @@
 use Rattle.event_dispatch.specs.WholeLaws.{alike_unopened, alike_done, alike_failed}
+use Rattle.event_dispatch.specs.PlainLaws.{unopened_plain, served_plain}
 use Rattle.event_dispatch.proofs.whole.serve.Goals as goal
 
 pub returns-in-Err-clause-alike : goal.returns-in-Err-clause-alike
-returns-in-Err-clause-alike g c = λ allows p. alike_unopened allows (g.K.Sink.contents c.args.sink.now) (g.K.Sink.contents c.args.sink.now) (g.W.World.seen c.open.new.world) c.in-Err.served c.in-Err.ensures.unopened
+returns-in-Err-clause-alike g c =
+    alike_unopened g.W.World.Tells (g.J.Judge.accepts c.args.judge.now) (g.K.Sink.contents c.args.sink.now) (g.W.World.seen c.args.world.now) (g.W.World.seen c.open.new.world) c.in-Err.served c.in-Err.ensures.unopened
 
 pub returns-in-Ok-clause-alike : goal.returns-in-Ok-clause-alike
 returns-in-Ok-clause-alike g c =
@@ -10,4 +12,16 @@ returns-in-Ok-clause-alike g c =
 
 pub returns-in-Err-run-clause-alike : goal.returns-in-Err-run-clause-alike
 returns-in-Err-run-clause-alike g c =
-    alike_failed g.W.World.Tells (g.J.Judge.accepts c.args.judge.now) c.in-Err-run.served (g.K.Sink.contents c.args.sink.now) (g.K.Sink.contents c.run.new.sink) (g.W.World.seen c.args.world.now) (g.W.World.seen c.open.new.world) (g.W.World.seen c.run.new.world) c.in_default.ensures.opened c.in-Err-run.ensures.runs
+    alike_failed g.W.World.Tells (g.J.Judge.accepts c.args.judge.now) c.in-Err-run.served (g.K.Sink.contents c.args.sink.now) (g.K.Sink.contents c.run.new.sink) (g.W.World.seen c.args.world.now) (g.W.World.seen c.open.new.world) (g.W.World.seen c.run.new.world) c.in_default.ensures.opened c.in-Err-run.ensures.continues c.in-Err-run.ensures.runs c.in-Err-run.ensures.cut
+
+pub returns-in-Err-clause-plain : goal.returns-in-Err-clause-plain
+returns-in-Err-clause-plain g c =
+    λ allows p. unopened_plain g.W.World.Tells (g.W.World.seen c.args.world.now) (g.W.World.seen c.open.new.world) c.in-Err.served c.in-Err.ensures.unopened
+
+pub returns-in-Ok-clause-plain : goal.returns-in-Ok-clause-plain
+returns-in-Ok-clause-plain g c =
+    λ allows p. tt
+
+pub returns-in-Err-run-clause-plain : goal.returns-in-Err-run-clause-plain
+returns-in-Err-run-clause-plain g c =
+    served_plain g.W.World.Tells (g.J.Judge.accepts c.args.judge.now) c.in-Err-run.served (g.W.World.seen c.args.world.now) (g.W.World.seen c.open.new.world) (g.W.World.seen c.run.new.world) c.in_default.ensures.opened c.in-Err-run.ensures.plain

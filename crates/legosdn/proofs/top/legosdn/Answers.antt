@@ -1,9 +1,9 @@
-use Rattle.std.proofs.Common.{ℕ, [], ◌∷◌, Contains, map, string_bytes, sym, subst, ◌∙◌}
+use Rattle.std.proofs.Common.{ℕ, [], ◌∷◌, Contains, map, string_bytes, refl, sym, subst, ◌∙◌, arith}
 use Rattle.sim_world.specs.World.{seen_of}
 use Rattle.legosdn.specs.Headline.{faults_of}
-use Rattle.legosdn.proofs.Causes.{refused_at_three, refuses}
+use Rattle.legosdn.proofs.Causes.{cause_then, refused_at_three, refuses}
 use Rattle.legosdn.proofs.Statuses.{is_left, is_late, not_zero}
-use Rattle.legosdn.proofs.Runs.{left_as}
+use Rattle.legosdn.proofs.Runs.{left_as, broke_as, diverged_as, completes, cut_short}
 use Rattle.legosdn.proofs.top.legosdn.Goals as goal
 
 pub returns-in-Err-clause-bad_input : goal.returns-in-Err-clause-bad_input
@@ -32,3 +32,32 @@ returns-in-Err-clause-left g c = λ ten.
 pub returns-in-Err-clause-lines : goal.returns-in-Err-clause-lines
 returns-in-Err-clause-lines g c = λ within.
     c.in-Err.ensures.late_lines (is_late c.in-Err.stop (subst (λ (status : ℕ). Contains (0 ∷ 5 ∷ 6 ∷ 7 ∷ 8 ∷ 9 ∷ 10 ∷ []) status) c.halt.ensures.status within))
+
+pub returns-in-Err-clause-broke : goal.returns-in-Err-clause-broke
+returns-in-Err-clause-broke g c = λ eight.
+    broke_as c.run.new.sim c.in-Err.stop (g.K.Sink.contents c.args.sink.now) (g.K.Sink.contents c.run.new.sink) c.in-Err.ensures.runs (sym c.halt.ensures.status ∙ eight)
+
+pub returns-in-Err-clause-diverged : goal.returns-in-Err-clause-diverged
+returns-in-Err-clause-diverged g c = λ nine.
+    diverged_as c.run.new.sim c.in-Err.stop (g.K.Sink.contents c.args.sink.now) (g.K.Sink.contents c.run.new.sink) c.in-Err.ensures.runs (sym c.halt.ensures.status ∙ nine)
+
+pub returns-in-Ok-clause-complete : goal.returns-in-Ok-clause-complete
+returns-in-Ok-clause-complete g c = λ input session command whole spelled readable none. (0, omega arith, refl)
+
+pub returns-in-Err-clause-complete : goal.returns-in-Err-clause-complete
+returns-in-Err-clause-complete g c = λ input session command whole spelled readable none.
+    let old = faults_of (g.S.Source.faults c.args.source.now) (g.K.Sink.faults c.args.sink.now) (seen_of c.args.sim.now).counts in
+    let new = faults_of (g.S.Source.faults c.run.new.source) (g.K.Sink.faults c.halt.new.sink) (seen_of c.run.new.sim).counts in
+    let cause = cause_then (map (λ s. string_bytes s) c.args.words.now) (g.S.Source.remaining c.args.source.now) (g.S.Source.faults c.args.source.now) (g.S.Source.faults c.run.new.source) (g.K.Sink.faults c.args.sink.now) (g.K.Sink.faults c.run.new.sink) (g.K.Sink.faults c.halt.new.sink)
+    (seen_of c.args.sim.now).counts (seen_of c.run.new.sim).counts c.in-Err.stop c.run.ensures.never_fell c.halt.ensures.never_fell c.in-Err.ensures.why in
+    subst (λ (status : ℕ). Contains (0 ∷ 10 ∷ 12 ∷ []) status) (sym c.halt.ensures.status)
+    (completes c.run.new.sim (map (λ s. string_bytes s) c.args.words.now) (g.S.Source.remaining c.args.source.now) old new c.in-Err.stop (g.K.Sink.contents c.args.sink.now) (g.K.Sink.contents c.run.new.sink) cause c.in-Err.ensures.runs
+    input session command whole spelled readable none)
+
+pub returns-in-Ok-clause-cut : goal.returns-in-Ok-clause-cut
+returns-in-Ok-clause-cut g c = λ within. absurd (grind (arith, within))
+
+pub returns-in-Err-clause-cut : goal.returns-in-Err-clause-cut
+returns-in-Err-clause-cut g c = λ within.
+    cut_short c.halt.result c.run.new.sim c.in-Err.stop (g.K.Sink.contents c.args.sink.now) (g.K.Sink.contents c.run.new.sink) (g.K.Sink.contents c.halt.new.sink) (g.K.Sink.faults c.args.sink.now) (g.K.Sink.faults c.run.new.sink) (g.K.Sink.faults c.halt.new.sink)
+    c.halt.ensures.status c.run.ensures.never_fell c.in-Err.ensures.runs c.halt.ensures.line

@@ -13,8 +13,8 @@ returns-clause-why g c =
 
 pub returns-in_err-load-clause-runs : goal.returns-in_err-load-clause-runs
 returns-in_err-load-clause-runs g c =
-    runs_by_read (g.S.Source.remaining c.args.source.now) (g.S.Source.faults c.args.source.now) (g.S.Source.faults c.load.new.source) c.load.new.sim (g.K.Sink.contents c.args.sink.now) (g.K.Sink.contents c.args.sink.now) c.in_err-load.field-0.0 c.from_residual.result
-    c.from_residual.ensures.1 c.in_err-load.ensures.why
+    runs_by_read (g.S.Source.remaining c.args.source.now) (g.S.Source.faults c.args.source.now) (g.S.Source.faults c.load.new.source) c.load.new.sim (g.K.Sink.contents c.args.sink.now) c.in_err-load.field-0.0 c.from_residual.result
+    c.from_residual.ensures.1 (untouched c.load.new.sim c.load.ensures.new) c.in_err-load.ensures.why
 
 pub returns-in_err-load-clause-late_lines : goal.returns-in_err-load-clause-late_lines
 returns-in_err-load-clause-late_lines g c =

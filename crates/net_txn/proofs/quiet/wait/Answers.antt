@@ -35,4 +35,4 @@ loop-heard-preserved g c = record {
 }
 
 pub returns-clause-err : goal.returns-clause-err
-returns-clause-err g c = λ lt. Fails-flooded _ c.loop-heard.invariant.heard.moves
+returns-clause-err g c = λ lt. Fails-flooded lt (omega arith) c.loop-heard.invariant.heard

@@ -6,6 +6,8 @@ use Rattle.event_dispatch.specs.Shows.{engine_of}
 use Rattle.event_dispatch.specs.Why.{IsReason}
 use Rattle.event_dispatch.specs.WhyLaws.{asks_why}
 use Rattle.event_dispatch.specs.LastLaws.{net_stays}
+use Rattle.event_dispatch.specs.PlainLaws.{table_asked}
+use Rattle.event_dispatch.specs.Plain.{PlainTable}
 use Rattle.event_dispatch.proofs.run.Run.ask_rows.Goals as goal
 
 -- src/last.rt:81:5
@@ -23,3 +25,7 @@ returns-in-Ok-clause-asks g c = record {
   index = refl;
   lines = refl;
 }
+
+pub returns-in-Err-clause-plain : goal.returns-in-Err-clause-plain
+returns-in-Err-clause-plain g c =
+    subst (PlainTable g.W.World.Tells (g.W.World.seen c.args.world.now) (g.W.World.seen c.rows.new.world) c.args.self.now.net) (sym c.from.ensures) (table_asked c.args.dpid c.args.self.now.net.kept c.rows.new.self.kept c.in-Err.fault c.requires c.in-Err.ensures.asks.continues c.in-Err.ensures.in_step)

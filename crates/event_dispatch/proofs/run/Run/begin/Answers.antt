@@ -1,7 +1,32 @@
+use Rattle.event_dispatch.specs.declared.fault.Fault.TheVariants as faults
 use Rattle.event_dispatch.specs.RoundLaws.{begins_so}
+use Rattle.event_dispatch.specs.PlainLaws.{err_is}
+use Rattle.event_dispatch.specs.Plain.{IsPlainEnd}
+use Rattle.event_dispatch.specs.declared.fault.Fault.{Fault}
+use Rattle.event_dispatch.specs.Shows.{engine_of}
+use Rattle.event_dispatch.specs.Cut.{CutStart}
+use Rattle.event_dispatch.specs.CutLaws.{if_err, start_unwritten}
+use Rattle.std.proofs.Common.{refl}
 use Rattle.event_dispatch.proofs.run.Run.begin.Goals as goal
 
 pub returns-clause-begins : goal.returns-clause-begins
 returns-clause-begins g c =
     begins_so g.W.World.Tells (g.K.Sink.contents c.args.sink.now) (g.K.Sink.contents c.write.new.sink) (g.W.World.seen c.args.world.now) (g.W.World.seen c.start.new.world) c.args.self.now c.start.new.self c.write.new.self c.requires.none_waits
     c.in_ok-start.ensures.starts c.write.ensures.engine c.in_ok-write.ensures.writes
+
+pub returns-in_err-start-clause-plain : goal.returns-in_err-start-clause-plain
+returns-in_err-start-clause-plain g c =
+    err_is IsPlainEnd faults.NoMemory c.from_residual.result c.from_residual.ensures.1 tt
+
+pub returns-in_err-write-clause-plain : goal.returns-in_err-write-clause-plain
+returns-in_err-write-clause-plain g c =
+    err_is IsPlainEnd faults.Write c.from_residual-in_err-write.result c.from_residual-in_err-write.ensures.1 tt
+
+pub returns-in_err-start-clause-cut : goal.returns-in_err-start-clause-cut
+returns-in_err-start-clause-cut g c =
+    if_err (λ (fault : Fault). CutStart g.W.World.Tells fault (g.K.Sink.contents c.args.sink.now) (g.K.Sink.contents c.args.sink.now) (g.W.World.seen c.args.world.now) (g.W.World.seen c.start.new.world) (engine_of c.args.self.now)) faults.NoMemory c.from_residual.result c.from_residual.ensures.1 refl
+
+pub returns-in_err-write-clause-cut : goal.returns-in_err-write-clause-cut
+returns-in_err-write-clause-cut g c =
+    if_err (λ (fault : Fault). CutStart g.W.World.Tells fault (g.K.Sink.contents c.args.sink.now) (g.K.Sink.contents c.write.new.sink) (g.W.World.seen c.args.world.now) (g.W.World.seen c.start.new.world) (engine_of c.args.self.now)) faults.Write c.from_residual-in_err-write.result c.from_residual-in_err-write.ensures.1
+    (start_unwritten g.W.World.Tells (g.K.Sink.contents c.args.sink.now) (g.K.Sink.contents c.write.new.sink) (g.W.World.seen c.args.world.now) (g.W.World.seen c.start.new.world) c.args.self.now c.start.new.self c.requires.none_waits c.in_ok-start.ensures.starts c.in_err-write.ensures.part)

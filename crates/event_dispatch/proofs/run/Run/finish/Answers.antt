@@ -1,5 +1,12 @@
 use Rattle.std.proofs.Common.{rules, refl}
 use Rattle.event_dispatch.specs.WholeLaws.{finishes_by}
+use Rattle.event_dispatch.specs.PlainLaws.{err_is, calm_anyway}
+use Rattle.event_dispatch.specs.Plain.{PlainCalm}
+use Rattle.event_dispatch.specs.Why.{served_by}
+use Rattle.event_dispatch.specs.declared.served.Served.{Served}
+use Rattle.event_dispatch.specs.Shows.{engine_of}
+use Rattle.event_dispatch.specs.Cut.{CutFinishAs}
+use Rattle.event_dispatch.specs.CutLaws.{if_err, finish_cut}
 use Rattle.event_dispatch.proofs.run.Run.finish.Goals as goal
 
 pub returns-then-not-is_empty-clause-finishes : goal.returns-then-not-is_empty-clause-finishes
@@ -11,3 +18,16 @@ returns-in_err-end_report-clause-finishes g c =
 
 pub returns-clause-finishes : goal.returns-clause-finishes
 returns-clause-finishes g c = ((search rules), c.in_ok-end_report.ensures.ends)
+
+pub returns-then-not-is_empty-clause-plain : goal.returns-then-not-is_empty-clause-plain
+returns-then-not-is_empty-clause-plain g c =
+    calm_anyway (g.W.World.seen c.args.world.now) (g.W.World.seen c.args.world.now) c.args.self.now.net _ tt
+
+pub returns-in_err-end_report-clause-plain : goal.returns-in_err-end_report-clause-plain
+returns-in_err-end_report-clause-plain g c =
+    err_is (PlainCalm g.W.World.Tells (g.W.World.seen c.args.world.now) (g.W.World.seen c.end_report.new.world) c.args.self.now.net) (served_by c.in_err-end_report.field-0.0) c.from_residual.result c.from_residual.ensures.1 c.in_err-end_report.ensures.plain
+
+pub returns-in_err-end_report-clause-cut : goal.returns-in_err-end_report-clause-cut
+returns-in_err-end_report-clause-cut g c =
+    if_err (λ (end : Served). CutFinishAs g.W.World.Tells end (g.K.Sink.contents c.args.sink.now) (g.K.Sink.contents c.end_report.new.sink) (g.W.World.seen c.args.world.now) (g.W.World.seen c.end_report.new.world) (engine_of c.args.self.now)) (served_by c.in_err-end_report.field-0.0) c.from_residual.result c.from_residual.ensures.1
+    (finish_cut g.W.World.Tells c.in_err-end_report.field-0.0 (g.K.Sink.contents c.args.sink.now) (g.K.Sink.contents c.end_report.new.sink) (g.W.World.seen c.args.world.now) (g.W.World.seen c.end_report.new.world) (engine_of c.args.self.now) (search rules) c.in_err-end_report.ensures.cut)

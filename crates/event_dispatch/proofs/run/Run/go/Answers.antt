@@ -1,4 +1,12 @@
 use Rattle.event_dispatch.specs.WholeLaws.{went_as, goes_by}
+use Rattle.event_dispatch.specs.PlainLaws.{err_is, whole_anyway, whole_rounds, whole_finish}
+use Rattle.event_dispatch.specs.Plain.{PlainWhole}
+use Rattle.event_dispatch.specs.Why.{served_by}
+use Rattle.event_dispatch.specs.Shows.{engine_of}
+use Rattle.event_dispatch.specs.declared.served.Served.{Served}
+use Rattle.event_dispatch.specs.Cut.{CutAs}
+use Rattle.event_dispatch.specs.CutLaws.{if_err, goes_cut, rounds_cut, went_cut}
+use Rattle.std.proofs.Common.{inl}
 use Rattle.event_dispatch.proofs.run.Run.go.Goals as goal
 
 pub returns-in_err-begin-clause-goes : goal.returns-in_err-begin-clause-goes
@@ -13,3 +21,32 @@ pub returns-clause-goes : goal.returns-clause-goes
 returns-clause-goes g c =
     went_as g.W.World.Tells (g.J.Judge.accepts c.args.judge.now) c.finish.result (g.K.Sink.contents c.args.sink.now) (g.K.Sink.contents c.begin.new.sink) (g.K.Sink.contents c.go_on.new.sink) (g.K.Sink.contents c.finish.new.sink) (g.W.World.seen c.args.world.now) (g.W.World.seen c.begin.new.world) (g.W.World.seen c.go_on.new.world) (g.W.World.seen c.finish.new.world) c.args.self.now c.begin.new.self c.go_on.new.self c.finish.new.self
     c.in_ok-go_on.ensures.continues c.finish.ensures.continues c.in_ok-begin.ensures.begins c.in_ok-go_on.ensures.to_end c.finish.ensures.finishes
+
+pub returns-in_err-begin-clause-plain : goal.returns-in_err-begin-clause-plain
+returns-in_err-begin-clause-plain g c =
+    err_is (PlainWhole g.W.World.Tells (g.J.Judge.accepts c.args.judge.now) (g.W.World.seen c.args.world.now) (g.W.World.seen c.begin.new.world) (engine_of c.args.self.now)) (served_by c.in_err-begin.field-0.0) c.from_residual.result c.from_residual.ensures.1 (whole_anyway (g.W.World.seen c.args.world.now) (g.W.World.seen c.begin.new.world) (engine_of c.args.self.now) (served_by c.in_err-begin.field-0.0) c.in_err-begin.ensures.plain)
+
+pub returns-in_err-go_on-clause-plain : goal.returns-in_err-go_on-clause-plain
+returns-in_err-go_on-clause-plain g c =
+    err_is (PlainWhole g.W.World.Tells (g.J.Judge.accepts c.args.judge.now) (g.W.World.seen c.args.world.now) (g.W.World.seen c.go_on.new.world) (engine_of c.args.self.now)) (served_by c.in_err-go_on.field-0.0) c.from_residual-in_err-go_on.result c.from_residual-in_err-go_on.ensures.1
+    (whole_rounds (g.W.World.seen c.args.world.now) (g.W.World.seen c.begin.new.world) (g.W.World.seen c.go_on.new.world) c.args.self.now c.begin.new.self (served_by c.in_err-go_on.field-0.0) c.in_ok-begin.ensures.begins c.in_err-go_on.ensures.continues c.in_err-go_on.ensures.plain)
+
+pub returns-clause-plain : goal.returns-clause-plain
+returns-clause-plain g c =
+    whole_finish (g.W.World.seen c.args.world.now) (g.W.World.seen c.begin.new.world) (g.W.World.seen c.go_on.new.world) (g.W.World.seen c.finish.new.world) c.args.self.now c.begin.new.self c.go_on.new.self c.finish.result c.in_ok-begin.ensures.begins c.in_ok-go_on.ensures.continues c.in_ok-go_on.ensures.to_end c.finish.ensures.continues c.finish.ensures.plain
+
+pub returns-in_err-begin-clause-cut : goal.returns-in_err-begin-clause-cut
+returns-in_err-begin-clause-cut g c =
+    if_err (λ (end : Served). CutAs g.W.World.Tells (g.J.Judge.accepts c.args.judge.now) end (g.K.Sink.contents c.args.sink.now) (g.K.Sink.contents c.begin.new.sink) (g.W.World.seen c.args.world.now) (g.W.World.seen c.begin.new.world) (engine_of c.args.self.now)) (served_by c.in_err-begin.field-0.0) c.from_residual.result c.from_residual.ensures.1
+    (goes_cut g.W.World.Tells (g.J.Judge.accepts c.args.judge.now) c.in_err-begin.field-0.0 (g.K.Sink.contents c.args.sink.now) (g.K.Sink.contents c.begin.new.sink) (g.W.World.seen c.args.world.now) (g.W.World.seen c.begin.new.world) (engine_of c.args.self.now) (inl c.in_err-begin.ensures.cut))
+
+pub returns-in_err-go_on-clause-cut : goal.returns-in_err-go_on-clause-cut
+returns-in_err-go_on-clause-cut g c =
+    if_err (λ (end : Served). CutAs g.W.World.Tells (g.J.Judge.accepts c.args.judge.now) end (g.K.Sink.contents c.args.sink.now) (g.K.Sink.contents c.go_on.new.sink) (g.W.World.seen c.args.world.now) (g.W.World.seen c.go_on.new.world) (engine_of c.args.self.now)) (served_by c.in_err-go_on.field-0.0) c.from_residual-in_err-go_on.result c.from_residual-in_err-go_on.ensures.1
+    (rounds_cut g.W.World.Tells (g.J.Judge.accepts c.args.judge.now) c.in_err-go_on.field-0.0 (g.K.Sink.contents c.args.sink.now) (g.K.Sink.contents c.begin.new.sink) (g.K.Sink.contents c.go_on.new.sink) (g.W.World.seen c.args.world.now) (g.W.World.seen c.begin.new.world) (g.W.World.seen c.go_on.new.world) c.args.self.now c.begin.new.self
+    c.in_ok-begin.ensures.begins c.go_on.ensures.continues c.in_err-go_on.ensures.cut)
+
+pub returns-clause-cut : goal.returns-clause-cut
+returns-clause-cut g c =
+    went_cut g.W.World.Tells (g.J.Judge.accepts c.args.judge.now) c.finish.result (g.K.Sink.contents c.args.sink.now) (g.K.Sink.contents c.begin.new.sink) (g.K.Sink.contents c.go_on.new.sink) (g.K.Sink.contents c.finish.new.sink) (g.W.World.seen c.args.world.now) (g.W.World.seen c.begin.new.world) (g.W.World.seen c.go_on.new.world) (g.W.World.seen c.finish.new.world) c.args.self.now c.begin.new.self c.go_on.new.self
+    c.in_ok-begin.ensures.begins c.in_ok-go_on.ensures.continues c.in_ok-go_on.ensures.to_end c.finish.ensures.continues c.finish.ensures.cut

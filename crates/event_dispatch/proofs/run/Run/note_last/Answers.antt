@@ -1,8 +1,12 @@
+use Rattle.event_dispatch.specs.declared.fault.Fault.TheVariants as faults
 use Rattle.std.proofs.Common.{◌∙◌, ℕ, List, get_or, take, sym, subst}
 use Rattle.std.proofs.lemmas.List.{take_more}
 use Rattle.event_dispatch.specs.WhyLaws.{waits_then, continues_then}
 use Rattle.event_dispatch.specs.LastShown.{TablesShown}
 use Rattle.event_dispatch.specs.LastLaws.{take_whole, tables_next, last_shown}
+use Rattle.event_dispatch.specs.PlainLaws.{err_is, calm_anyway, tables_then}
+use Rattle.event_dispatch.specs.Plain.{PlainCalm}
+use Rattle.event_dispatch.specs.Why.{served_by}
 use Rattle.event_dispatch.proofs.run.Run.note_last.Goals as goal
 
 -- src/last.rt:169:9
@@ -23,3 +27,16 @@ pub returns-clause-shown : goal.returns-clause-shown
 returns-clause-shown g c =
     last_shown c.loop-dpid.invariant.continues (take_whole c.deref-dpid-items.result.now _ c.loop-dpid.dpid-index c.loop-dpid-test.false (c.deref-dpid-items.ensures.value ∙ c.in_ok-switches.ensures)) c.loop-dpid.invariant.shown
     c.in_ok-note_end.ensures.adds
+
+pub returns-in_err-switches-clause-plain : goal.returns-in_err-switches-clause-plain
+returns-in_err-switches-clause-plain g c =
+    err_is (λ fault. PlainCalm g.W.World.Tells (g.W.World.seen c.args.world.now) (g.W.World.seen c.args.world.now) c.args.self.now.net (served_by fault)) faults.NoMemory c.from_residual.result c.from_residual.ensures.1 (calm_anyway (g.W.World.seen c.args.world.now) (g.W.World.seen c.args.world.now) c.args.self.now.net (served_by faults.NoMemory) tt)
+
+pub returns-in_err-note_table-clause-plain : goal.returns-in_err-note_table-clause-plain
+returns-in_err-note_table-clause-plain g c =
+    err_is (λ fault. PlainCalm g.W.World.Tells (g.W.World.seen c.args.world.now) (g.W.World.seen c.note_table.new.world) c.args.self.now.net (served_by fault)) c.in_err-note_table.field-0.0 c.from_residual-in_err-note_table.result c.from_residual-in_err-note_table.ensures.1
+    (tables_then _ (g.W.World.seen c.args.world.now) (g.W.World.seen c.loop-dpid.world) (g.W.World.seen c.note_table.new.world) c.args.self.now c.loop-dpid.self c.in_err-note_table.field-0.0 c.loop-dpid.invariant.shown c.in_err-note_table.ensures.continues c.in_err-note_table.ensures.plain)
+
+pub returns-in_err-note_end-clause-plain : goal.returns-in_err-note_end-clause-plain
+returns-in_err-note_end-clause-plain g c =
+    err_is (λ fault. PlainCalm g.W.World.Tells (g.W.World.seen c.args.world.now) (g.W.World.seen c.loop-dpid.world) c.args.self.now.net (served_by fault)) faults.NoMemory c.from_residual-in_err-note_end.result c.from_residual-in_err-note_end.ensures.1 (calm_anyway (g.W.World.seen c.args.world.now) (g.W.World.seen c.loop-dpid.world) c.args.self.now.net (served_by faults.NoMemory) tt)

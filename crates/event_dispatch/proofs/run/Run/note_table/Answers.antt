@@ -1,5 +1,8 @@
+use Rattle.event_dispatch.specs.declared.fault.Fault.TheVariants as faults
 use Rattle.std.proofs.Common.{rules}
 use Rattle.event_dispatch.specs.LastLaws.{table_told, table_out}
+use Rattle.event_dispatch.specs.PlainLaws.{err_is, table_memory}
+use Rattle.event_dispatch.specs.Plain.{PlainTable}
 use Rattle.event_dispatch.proofs.run.Run.note_table.Goals as goal
 
 -- src/last.rt:129:13
@@ -9,3 +12,11 @@ returns-then-not-is_joined-clause-shown g c = table_out g.W.World.Tells c.args.d
 -- src/last.rt:121:5
 pub returns-clause-shown : goal.returns-clause-shown
 returns-clause-shown g c = table_told (c.is_joined.ensures.joined (search rules)) c.in_ok-rows.ensures.continues c.in_ok-rows.ensures.asks c.in_ok-note_rows.ensures.said
+
+pub returns-in_err-rows-clause-plain : goal.returns-in_err-rows-clause-plain
+returns-in_err-rows-clause-plain g c =
+    err_is (PlainTable g.W.World.Tells (g.W.World.seen c.args.world.now) (g.W.World.seen c.ask_rows.new.world) c.args.self.now.net) c.in_err-rows.field-0.0 c.from_residual.result c.from_residual.ensures.1 c.in_err-rows.ensures.plain
+
+pub returns-in_err-note_rows-clause-plain : goal.returns-in_err-note_rows-clause-plain
+returns-in_err-note_rows-clause-plain g c =
+    err_is (PlainTable g.W.World.Tells (g.W.World.seen c.args.world.now) (g.W.World.seen c.ask_rows.new.world) c.args.self.now.net) faults.NoMemory c.from_residual-in_err-note_rows.result c.from_residual-in_err-note_rows.ensures.1 (table_memory (g.W.World.seen c.args.world.now) (g.W.World.seen c.ask_rows.new.world) c.args.self.now.net)

@@ -1,6 +1,13 @@
 use Rattle.std.proofs.Common.{◌+◌, rules, arith}
 use Rattle.event_dispatch.specs.WhyLaws.{continues_then, fell_then}
 use Rattle.event_dispatch.specs.RoundLaws.{some_none, some_more, settles_early, settles_all}
+use Rattle.event_dispatch.specs.PlainLaws.{err_is, run_settled}
+use Rattle.event_dispatch.specs.Plain.{PlainRun}
+use Rattle.event_dispatch.specs.Shows.{engine_of}
+use Rattle.event_dispatch.specs.Why.{served_by}
+use Rattle.event_dispatch.specs.declared.fault.Fault.{Fault}
+use Rattle.event_dispatch.specs.Cut.{CutSome}
+use Rattle.event_dispatch.specs.CutLaws.{if_err}
 use Rattle.event_dispatch.proofs.run.Run.settle.Goals as goal
 
 pub loop-event-init : goal.loop-event-init
@@ -34,3 +41,22 @@ loop-event-preserved g c = record {
 pub returns-clause-settles : goal.returns-clause-settles
 returns-clause-settles g c =
     settles_all g.W.World.Tells (g.J.Judge.accepts c.args.judge.now) c.loop-event._event (g.K.Sink.contents c.args.sink.now) (g.K.Sink.contents c.loop-event.sink) (g.W.World.seen c.args.world.now) (g.W.World.seen c.loop-event.world) c.args.self.now c.loop-event.self (omega (arith, c.loop-event-test.false, c.loop-event.auto._event-end)) c.loop-event.invariant.settles
+
+pub returns-in_err-settle_one-clause-plain : goal.returns-in_err-settle_one-clause-plain
+returns-in_err-settle_one-clause-plain g c =
+    err_is (λ fault. PlainRun g.W.World.Tells (g.J.Judge.accepts c.args.judge.now) (g.W.World.seen c.args.world.now) (g.W.World.seen c.settle_one.new.world) (engine_of c.args.self.now) (served_by fault)) c.in_err-settle_one.field-0.0 c.from_residual.result c.from_residual.ensures.1
+    (run_settled (g.W.World.seen c.args.world.now) (g.W.World.seen c.loop-event.world) (g.W.World.seen c.settle_one.new.world) c.args.self.now c.loop-event.self (served_by c.in_err-settle_one.field-0.0) c.loop-event.invariant.settles c.in_err-settle_one.ensures.continues c.in_err-settle_one.ensures.plain)
+
+pub returns-in_err-settle_one-clause-cut : goal.returns-in_err-settle_one-clause-cut
+returns-in_err-settle_one-clause-cut g c =
+    if_err (λ (fault : Fault). CutSome g.W.World.Tells (g.J.Judge.accepts c.args.judge.now) fault (g.K.Sink.contents c.args.sink.now) (g.K.Sink.contents c.settle_one.new.sink) (g.W.World.seen c.args.world.now) (g.W.World.seen c.settle_one.new.world) c.args.self.now) c.in_err-settle_one.field-0.0 c.from_residual.result c.from_residual.ensures.1
+    (record {
+      number = c.loop-event._event;
+      mid = (g.W.World.seen c.loop-event.world);
+      mid_run = c.loop-event.self;
+      held = (g.K.Sink.contents c.loop-event.sink);
+      few = omega (arith, c.loop-event-test.true);
+      some = c.loop-event.invariant.settles;
+      later = c.settle_one.ensures.continues;
+      one = c.in_err-settle_one.ensures.cut;
+    })

@@ -1,9 +1,13 @@
+use Rattle.event_dispatch.specs.declared.fault.Fault.TheVariants as faults
 use Rattle.std.specs.Prelude.{OnOk}
 use Rattle.std.proofs.Common.{subst}
 use Rattle.outside.specs.declared.step.WorldStep.{WorldStep}
 use Rattle.shown_batches.specs.Items.{Handles}
 use Rattle.shown_batches.specs.HandleLaws.{departs_handles, moment_handles}
 use Rattle.event_dispatch.specs.BatchLaws.{from_step, joined_step, left_step, moment_step, rest_handles}
+use Rattle.event_dispatch.specs.PlainLaws.{on_err, err_is, item_from, item_joined, item_memory}
+use Rattle.event_dispatch.specs.Plain.{PlainItem}
+use Rattle.outside.specs.Calls.{item_step}
 use Rattle.event_dispatch.proofs.run.Run.take_item.Goals as goal
 
 pub returns-in-From-clause-handles : goal.returns-in-From-clause-handles
@@ -32,3 +36,15 @@ returns-in-Moment-clause-handles g c =
 
 pub returns-in-Idle-clause-handles : goal.returns-in-Idle-clause-handles
 returns-in-Idle-clause-handles g c = rest_handles c.args.item c.args.buf.now (g.W.World.seen c.args.world.now) c.args.self.now.net c.args.self.now.queue c.in-Idle.is
+
+pub returns-in-From-clause-plain : goal.returns-in-From-clause-plain
+returns-in-From-clause-plain g c =
+    on_err c.take_message.result (λ fault read. item_from c.args.item c.in-From.dpid c.in-From.size c.args.buf.now (g.W.World.seen c.args.world.now) (g.W.World.seen c.take_message.new.world) fault c.in-From.is read) c.take_message.ensures.plain
+
+pub returns-in-Joined-clause-plain : goal.returns-in-Joined-clause-plain
+returns-in-Joined-clause-plain g c =
+    on_err c.take_in.result (λ fault join. item_joined c.args.item c.in-Joined.dpid c.in-Joined.size c.args.buf.now (g.W.World.seen c.args.world.now) (g.W.World.seen c.take_in.new.world) fault c.in-Joined.is join) c.take_in.ensures.plain
+
+pub returns-in_err-take_out-in-Left-clause-plain : goal.returns-in_err-take_out-in-Left-clause-plain
+returns-in_err-take_out-in-Left-clause-plain g c =
+    err_is (PlainItem g.W.World.Tells (item_step c.args.item c.args.buf.now) (g.W.World.seen c.args.world.now) (g.W.World.seen c.args.world.now)) faults.NoMemory c.from_residual.result c.from_residual.ensures.1 (item_memory c.args.item c.args.buf.now (g.W.World.seen c.args.world.now) (g.W.World.seen c.args.world.now))

@@ -1,9 +1,13 @@
+use Rattle.event_dispatch.specs.declared.fault.Fault.TheVariants as faults
 use Rattle.std.proofs.Common.{rules, refl, subst, Option, Result}
 use Rattle.of_types.specs.Fields.{IsBytes}
 use Rattle.app_frames.specs.declared.frame.Event.{Event}
 use Rattle.net_txn.specs.declared.fault.TxnFault.{TxnFault}
 use Rattle.net_txn.specs.Arriving.{Arrives}
 use Rattle.shown_batches.specs.HandleLaws.{arrived_handles, from_ignored}
+use Rattle.event_dispatch.specs.PlainLaws.{err_is, read_memory, read_arrived}
+use Rattle.event_dispatch.specs.Plain.{PlainRead}
+use Rattle.event_dispatch.specs.Why.{fault_of}
 use Rattle.event_dispatch.proofs.run.Run.take_message.Goals as goal
 
 pub returns-then-not-is_joined-clause-handles : goal.returns-then-not-is_joined-clause-handles
@@ -15,3 +19,12 @@ returns-clause-handles g c =
     let fit : IsBytes c.args.frame.now = search rules in
     arrived_handles c.args.dpid c.args.frame.now (g.W.World.seen c.args.world.now) (g.W.World.seen c.arrived.new.world) c.args.self.now.net c.arrived.new.self c.args.self.now.queue c.append.new.queue c.in_ok-event.event (c.if-not-is_joined.ensures.joined refl) fit
     (subst (λ (r : Result (Option Event) TxnFault). Arrives g.W.World.Tells c.args.dpid c.args.frame.now (g.W.World.seen c.args.world.now) (g.W.World.seen c.arrived.new.world) c.args.self.now.net c.arrived.new.self r) c.in_ok-event.was c.arrived.ensures) c.in_ok-append.ensures
+
+pub returns-in_err-event-clause-plain : goal.returns-in_err-event-clause-plain
+returns-in_err-event-clause-plain g c =
+    err_is (PlainRead c.args.frame.now) (fault_of c.in_err-event.field-0.0) c.from_residual.result c.from_residual.ensures.1
+    (read_arrived c.args.dpid c.args.frame.now (g.W.World.seen c.args.world.now) (g.W.World.seen c.arrived.new.world) c.in_err-event.field-0.0 c.in_err-event.ensures.cause)
+
+pub returns-in_err-append-clause-plain : goal.returns-in_err-append-clause-plain
+returns-in_err-append-clause-plain g c =
+    err_is (PlainRead c.args.frame.now) faults.NoMemory c.from_residual-in_err-append.result c.from_residual-in_err-append.ensures.1 (read_memory c.args.frame.now)

@@ -2,6 +2,8 @@ use Rattle.std.proofs.Common.{sym, ap, inl, inr}
 use Rattle.event_dispatch.specs.Batch.{rest_by}
 use Rattle.event_dispatch.specs.WhyLaws.{continues_then}
 use Rattle.event_dispatch.specs.BatchLaws.{rest_handles, no_rest}
+use Rattle.event_dispatch.specs.PlainLaws.{err_is, next_anyway, next_taken}
+use Rattle.event_dispatch.specs.Plain.{PlainNext}
 use Rattle.event_dispatch.proofs.run.Run.take_next.Goals as goal
 
 pub returns-in-Idle-clause-taken : goal.returns-in-Idle-clause-taken
@@ -37,6 +39,7 @@ returns-in_ok-take_item-in_default g c = record {
   lines = c.in_ok-take_item-in_default.ensures.lines;
   continues = continues_then g.W.World.Tells (g.W.World.seen c.args.world.now) (g.W.World.seen c.next_item.new.world) (g.W.World.seen c.take_item.new.world) c.in_ok-item.ensures.continues c.in_ok-take_item-in_default.ensures.continues;
   why = tt;
+  plain = tt;
   buffer = c.in_ok-item.ensures.buffer;
   taken = record {
     item = c.in_ok-item.item;
@@ -44,3 +47,12 @@ returns-in_ok-take_item-in_default g c = record {
     rest_so = no_rest c.in_ok-item.item c.in_default.not-Idle c.in_default.not-End;
   };
 }
+
+pub returns-in_err-item-clause-plain : goal.returns-in_err-item-clause-plain
+returns-in_err-item-clause-plain g c =
+    err_is (PlainNext g.W.World.Tells (g.W.World.seen c.args.world.now) (g.W.World.seen c.next_item.new.world)) c.in_err-item.field-0.0 c.from_residual.result c.from_residual.ensures.1 (next_anyway (g.W.World.seen c.args.world.now) (g.W.World.seen c.next_item.new.world) c.in_err-item.field-0.0 c.in_err-item.ensures.plain)
+
+pub returns-in_err-take_item-in_default-clause-plain : goal.returns-in_err-take_item-in_default-clause-plain
+returns-in_err-take_item-in_default-clause-plain g c =
+    err_is (PlainNext g.W.World.Tells (g.W.World.seen c.args.world.now) (g.W.World.seen c.take_item.new.world)) c.in_err-take_item-in_default.field-0.0 c.from_residual-in_err-take_item-in_default.result c.from_residual-in_err-take_item-in_default.ensures.1
+    (next_taken c.in_ok-item.item c.next_item.new.buf (g.W.World.seen c.args.world.now) (g.W.World.seen c.next_item.new.world) (g.W.World.seen c.take_item.new.world) c.in_err-take_item-in_default.field-0.0 c.in_ok-item.ensures.nexts c.in_err-take_item-in_default.ensures.continues c.in_err-take_item-in_default.ensures.plain)

@@ -1,7 +1,18 @@
+use Rattle.event_dispatch.specs.declared.fault.Fault.TheVariants as faults
 use Rattle.event_dispatch.specs.TurnLaws.{turn_so}
+use Rattle.event_dispatch.specs.PlainLaws.{err_is, turn_memory}
+use Rattle.event_dispatch.specs.Plain.{PlainTurn}
 use Rattle.event_dispatch.proofs.run.Run.take_turn.Goals as goal
 
 pub returns-clause-turn : goal.returns-clause-turn
 returns-clause-turn g c =
     turn_so g.W.World.Tells (g.J.Judge.accepts c.args.judge.now) c.args.event.now c.in_ok-end.end (g.W.World.seen c.args.world.now) (g.W.World.seen c.play.new.world) (g.W.World.seen c.close.new.world) c.play.new.net c.play.new.queue c.play.new.app c.args.self.now c.close.new.self
     c.requires.index c.in_ok-end.ensures.plays c.play.ensures.alive c.play.ensures.queue c.in_ok-close.ensures.closes
+
+pub returns-in_err-end-clause-plain : goal.returns-in_err-end-clause-plain
+returns-in_err-end-clause-plain g c =
+    err_is (PlainTurn g.W.World.Tells (g.W.World.seen c.args.world.now) (g.W.World.seen c.play.new.world) c.args.self.now.net) c.in_err-end.field-0.0 c.from_residual.result c.from_residual.ensures.1 c.in_err-end.ensures.plain
+
+pub returns-in_err-close-clause-plain : goal.returns-in_err-close-clause-plain
+returns-in_err-close-clause-plain g c =
+    err_is (PlainTurn g.W.World.Tells (g.W.World.seen c.args.world.now) (g.W.World.seen c.close.new.world) c.args.self.now.net) faults.NoMemory c.from_residual-in_err-close.result c.from_residual-in_err-close.ensures.1 (turn_memory (g.W.World.seen c.args.world.now) (g.W.World.seen c.close.new.world) c.args.self.now.net)

@@ -1,0 +1,5 @@
+use Rattle.app_visor.specs.TryLaws.{tries_speak}
+use Rattle.app_visor.proofs.laws.attempts_are_dialogues.Goals as goal
+
+pub returns : goal.returns
+returns g c = tries_speak g.W.World.Tells

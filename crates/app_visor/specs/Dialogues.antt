@@ -1,0 +1,45 @@
+-- What a turn and attempts to start are of the dialogue with the application, in a world that tells. All of this is our own.
+use Rattle.std.specs.Prelude.{◌≡◌, ℕ, Bool, true, false, List, [], ◌∷◌, ◌++◌, Option, Some, None}
+use Rattle.of_types.specs.declared.journal.Act.{Act}
+use Rattle.of_types.specs.declared.journal.Act.TheVariants.{Started}
+use Rattle.outside.specs.declared.step.WorldStep.{WorldStep}
+use Rattle.outside.specs.Seen.{Seen, act_of, journal}
+use Rattle.outside.specs.State.{State, is_running, after_step}
+use Rattle.lego_model.specs.Journal.{is_of}
+use Rattle.lego_model.specs.AtOnce.{Before, Passes, Dialogue}
+use Rattle.app_visor.specs.declared.state.TurnEnd.{TurnEnd}
+use Rattle.app_visor.specs.declared.state.TurnEnd.TheVariants as ends
+
+-- the history goes on, and its acts go on with the dialogue
+pub record Converses {Own : Type 0} (app : ℕ) (s t : Before) (old new : Seen Own) : Type 0 where
+  pub steps : List WorldStep
+  pub history : new.history ≡ old.history ++ steps
+  pub dialogue : Dialogue app s (journal steps) t
+
+-- It does so; and where this went well, the application runs then, and these bytes are unread, behind frames that are no messages.
+pub record Speaks {Own : Type 0} (app : ℕ) (s : Before) (old new : Seen Own) (well : Bool) (unread : List ℕ) : Type 0 where
+  pub after : Before
+  pub converses : Converses app s after old new
+  pub runs : well ≡ true → after.running ≡ true
+  pub passes : well ≡ true → Passes after.unread unread
+
+abbrev pub is_done : TurnEnd → Bool
+is_done (ends.Done stop) = true
+is_done (ends.Failed cause) = false
+
+-- ---- Calls in place
+
+-- whether an application runs before a call for it that is in place: it is started only where it does not run
+abbrev pub ran_before : Act → Bool
+ran_before (Started app stands) = false
+ran_before act = true
+
+abbrev pub IsInPlace : ℕ → Option Act → Bool → Type 0
+IsInPlace app None running = Unit {0}
+IsInPlace app (Some act) running = is_of app act ≡ true → running ≡ ran_before act
+
+-- No call for the application is out of place: it is started only where it does not run, and given to, taken from and ended only while it
+-- runs.
+abbrev pub AreInPlace : ℕ → List WorldStep → State → Type 0
+AreInPlace app [] s = Unit {0}
+AreInPlace app (step ∷ steps) s = IsInPlace app (act_of step) (is_running app s) × AreInPlace app steps (after_step step s)

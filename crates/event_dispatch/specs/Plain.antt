@@ -1,0 +1,90 @@
+-- How a run may end in a world that keeps its word: no switch is at fault for what it sent, so that each end but the whole one is by a link
+-- that failed, by the sink, by what comes next, by events that are left, or for want of memory. All of this is our own.
+use Rattle.std.specs.Prelude.{◌≡◌, ℕ, ◌<◌, Bool, List, [], length, IsOk}
+use Rattle.of_wire.specs.Reading.{reading_of}
+use Rattle.flow_table.specs.declared.view.TableView.{TableView}
+use Rattle.lego_model.specs.Places.{Place}
+use Rattle.outside.specs.declared.step.WorldStep.{WorldStep}
+use Rattle.outside.specs.Seen.{Seen}
+use Rattle.outside.specs.State.{state, waits_of}
+use Rattle.outside.specs.Conforming.{Conforming}
+use Rattle.net_txn.specs.declared.fault.TxnFault.{TxnFault}
+use Rattle.net_txn.specs.declared.fault.TxnFault.TheVariants.{SwitchFault, SwitchBroke, Diverged, Flooded, NoMemory}
+use Rattle.net_txn.specs.Net.{NetState}
+use Rattle.shown_switches.specs.Since.{Ready}
+use Rattle.shown_switches.specs.Sound.{Sound}
+use Rattle.shown_batches.specs.Calm.{Calm}
+use Rattle.shown_batches.specs.InBatch.{CanTake, CanTakeNext}
+use Rattle.shown_runs.specs.Engine.{Engine, stimuli_in}
+use Rattle.shown_runs.specs.Readings.{JudgesAlike}
+use Rattle.shown_runs.specs.Moves.{Settled}
+use Rattle.shown_runs.specs.Promise.{most_rounds}
+use Rattle.event_dispatch.specs.declared.fault.Fault.{Fault}
+use Rattle.event_dispatch.specs.declared.served.Served.{Served}
+use Rattle.event_dispatch.specs.declared.served.Served.TheVariants as ends
+use Rattle.event_dispatch.specs.Why.{served_by}
+
+-- of a switch only its link failed
+abbrev pub IsOfLink : TxnFault → Type 0
+IsOfLink (SwitchFault d) = Unit {0}
+IsOfLink (SwitchBroke d bytes) = ⊥
+IsOfLink (Diverged d sent got) = ⊥
+IsOfLink (Flooded d n) = ⊥
+IsOfLink NoMemory = ⊥
+
+abbrev pub IsPlainServed : Served → Type 0
+IsPlainServed (ends.Txn fault) = IsOfLink fault
+IsPlainServed (ends.Ended events) = Unit {0}
+IsPlainServed ends.WriteFault = Unit {0}
+IsPlainServed ends.Shut = Unit {0}
+IsPlainServed ends.NextFault = Unit {0}
+IsPlainServed (ends.EventsLeft left) = Unit {0}
+IsPlainServed ends.NoMemory = Unit {0}
+
+abbrev pub IsPlainEnd : Fault → Type 0
+IsPlainEnd fault = IsPlainServed (served_by fault)
+
+-- ---- A batch
+
+-- where the bytes are a message
+pub record PlainRead (bytes : List ℕ) (fault : Fault) : Type 0 where
+  pub plain : IsOk (reading_of bytes) → IsPlainEnd fault
+
+-- where nothing of the switch waits
+pub record PlainJoin {Own : Type 0} (Tells : Type 0) (d : ℕ) (old new : Seen Own) (fault : Fault) : Type 0 where
+  pub plain : Tells → Conforming new → waits_of d (state old) ≡ [] → IsPlainEnd fault
+
+-- where an item can be taken
+pub record PlainItem {Own : Type 0} (Tells : Type 0) (step : WorldStep) (old new : Seen Own) (fault : Fault) : Type 0 where
+  pub plain : Tells → Conforming new → CanTake step (state old) → IsPlainEnd fault
+
+-- where whatever is told next can be taken
+pub record PlainNext {Own : Type 0} (Tells : Type 0) (old new : Seen Own) (fault : Fault) : Type 0 where
+  pub plain : Tells → Conforming new → CanTakeNext Tells old → IsPlainEnd fault
+
+-- where no message is kept
+pub record PlainKept (net : NetState) (fault : Fault) : Type 0 where
+  pub plain : net.kept ≡ [] → IsPlainEnd fault
+
+-- where all is calm
+pub record PlainCalm {Own : Type 0} (Tells : Type 0) (old new : Seen Own) (net : NetState) (end : Served) : Type 0 where
+  pub plain : Tells → Conforming new → Calm old net → IsPlainServed end
+
+-- ---- A turn, and a question for rows
+
+-- where all is ready
+pub record PlainTurn {Own : Type 0} (Tells : Type 0) (old new : Seen Own) (net : NetState) (fault : Fault) : Type 0 where
+  pub plain : Tells → Conforming new → Ready old net → IsPlainEnd fault
+
+-- and the tables are sound
+pub record PlainTable {Own : Type 0} (Tells : Type 0) (old new : Seen Own) (net : NetState) (fault : Fault) : Type 0 where
+  pub plain : Tells → Conforming new → Ready old net → Sound (state old) → IsPlainEnd fault
+
+-- ---- Parts of a run, where all is settled and the judges judge alike
+
+pub record PlainRun {Own : Type 0} (Tells : Type 0) (accepts : List TableView → Bool) (old new : Seen Own) (e : Engine) (end : Served) : Type 0 where
+  pub plain : (allows : List Place → Bool) → Tells → Conforming new → JudgesAlike Own allows accepts → Settled old e → IsPlainServed end
+
+-- and the stimuli are fewer than the most rounds
+pub record PlainWhole {Own : Type 0} (Tells : Type 0) (accepts : List TableView → Bool) (old new : Seen Own) (e : Engine) (end : Served) : Type 0 where
+  pub plain : (allows : List Place → Bool) → Tells → Conforming new → JudgesAlike Own allows accepts → Settled old e → length (stimuli_in new) < most_rounds → IsPlainServed end

@@ -1,0 +1,140 @@
+-- The dialogue that a journal has with an application: it is answered message by message, in the order in which it gave them, and a change
+-- has reached its switch before its answer is given (OpenFlow 1.0.0, 4.2 Message Handling and 5.3.7 Barrier Message). No call for the
+-- application is out of place: it is started only where it does not run, and given to, taken from and ended only while it runs. All else
+-- is our own.
+use Rattle.std.specs.Prelude.{◌≡◌, ◌==◌, ℕ, Bool, true, false, List, [], ◌∷◌, ◌++◌, filter, drop, Option, Some, Ok, ◌⊎◌, slice_index}
+use Rattle.of_types.specs.declared.errors.OfError.{OfError}
+use Rattle.of_types.specs.declared.journal.Act.{Act}
+use Rattle.of_types.specs.declared.journal.Act.TheVariants.{Started, Gave, Gone, Took, Ended}
+use Rattle.of_types.specs.declared.journal.TookWhat.TheVariants.{Bytes}
+use Rattle.of_wire.specs.declared.message.Message.{Message}
+use Rattle.of_wire.specs.Reading.{reading_of}
+use Rattle.of_wire.specs.Grammar.{enveloped}
+use Rattle.app_frames.specs.declared.frame.AppFrame.{AppFrame}
+use Rattle.app_frames.specs.declared.frame.AppFrame.TheVariants as frames
+use Rattle.app_frames.specs.declared.frame.Answer.{Answer}
+use Rattle.app_frames.specs.Frames.{app_reading}
+use Rattle.lego_model.specs.Answers.{Rows, as_sent, host_answer, answer_by}
+use Rattle.lego_model.specs.Journal.{is_of, is_change, sends_change, ReachedAtOnce}
+use Rattle.lego_model.specs.Controller.{answer_frame}
+
+-- ---- What stands before an application
+
+-- whether it runs, the bytes that it gave in this life and that were neither answered nor passed over, and the acts since it was given a
+-- frame last
+pub record Before : Type 0 where
+  pub running : Bool
+  pub unread : List ℕ
+  pub since : List Act
+
+-- of an application that runs
+abbrev pub before : List ℕ → List Act → Before
+before unread since = record { running = true; unread = unread; since = since }
+
+-- behind an attempt to start it, which stands or does not
+abbrev pub attempted : Bool → Before
+attempted stands = record { running = stands; unread = []; since = [] }
+
+-- it was just started, or its checkpoint given
+abbrev pub nothing_said : Before
+nothing_said = attempted true
+
+abbrev pub at_first : Before
+at_first = attempted false
+
+-- an act that moves none of its bytes
+abbrev pub besides : Before → Act → Before
+besides s act = record s { since = s.since ++ act ∷ [] }
+
+-- ---- Frames that ask for nothing
+
+-- one that wants an answer
+abbrev pub is_message : AppFrame → Bool
+is_message (frames.Message dpid bytes) = true
+is_message other = false
+
+-- These frames stand at the front of the bytes, one behind the other, and then the rest; none of them is a message.
+abbrev pub StandBefore : List AppFrame → List ℕ → List ℕ → Type 0
+StandBefore [] bytes rest = rest ≡ bytes
+StandBefore (frame ∷ frames) bytes rest =
+    (is_message frame ≡ false) × ((size : ℕ) × ((app_reading bytes ≡ Ok (Some (frame, size))) × StandBefore frames (drop size bytes) rest))
+
+-- frames that are no messages are passed over
+pub record Passes (bytes rest : List ℕ) : Type 0 where
+  pub frames : List AppFrame
+  pub are : StandBefore frames bytes rest
+
+-- ---- A message and its answer
+
+-- no change was sent
+abbrev pub SendsNone : List Act → Type 0
+SendsNone acts = filter sends_change acts ≡ []
+
+-- It is the host's own answer, and no change was sent.
+pub record AnsweredByHost (bytes : List ℕ) (answer : Answer) (since : List Act) : Type 0 where
+  pub rows : Option Rows
+  pub answer_so : host_answer rows bytes ≡ Some answer
+  pub none_sent : SendsNone since
+
+-- The message is a change: it was sent to its switch, and behind it a barrier, the barrier's reply came, and no other change was sent.
+pub record AnsweredBySwitch (dpid : ℕ) (bytes : List ℕ) (answer : Answer) (since : List Act) : Type 0 where
+  pub xid : ℕ
+  pub message : Message
+  pub read : reading_of bytes ≡ Ok (enveloped xid message)
+  pub change : is_change message ≡ true
+  pub reached : ReachedAtOnce dpid (as_sent message) since
+  pub error : Option OfError
+  pub answer_so : answer ≡ answer_by error
+
+-- the host answered, or the switch did
+abbrev pub AnsweredAtOnce : ℕ → List ℕ → Answer → List Act → Type 0
+AnsweredAtOnce dpid bytes answer since = AnsweredByHost bytes answer since ⊎ AnsweredBySwitch dpid bytes answer since
+
+-- an Answer frame: its kind is 3
+abbrev pub is_answer : List ℕ → Bool
+is_answer frame = slice_index frame 4 == 3
+
+-- The frame answers the message at the front of what is unread, by what happened since the frame before it.
+pub record Answers (frame : List ℕ) (s t : Before) : Type 0 where
+  pub dpid : ℕ
+  pub bytes : List ℕ
+  pub size : ℕ
+  pub answer : Answer
+  pub read : app_reading s.unread ≡ Ok (Some (frames.Message dpid bytes, size))
+  pub frame_so : frame ≡ answer_frame answer
+  pub at_once : AnsweredAtOnce dpid bytes answer s.since
+  pub then_so : t ≡ before (drop size s.unread) []
+
+-- any other frame asks for what comes next, and what it does not answer is passed over
+pub record AsksNext (s t : Before) : Type 0 where
+  pub running_so : t.running ≡ true
+  pub passes : Passes s.unread t.unread
+  pub since_so : t.since ≡ []
+
+-- ---- The dialogue
+
+-- a frame that is an Answer, or another one
+abbrev pub GivesFrame : Bool → List ℕ → Before → Before → Type 0
+GivesFrame true frame s t = Answers frame s t
+GivesFrame false frame s t = AsksNext s t
+
+-- an act of the application, or another one
+abbrev pub Says : Bool → Act → Before → Before → Type 0
+Says true (Started app stands) s t = (s.running ≡ false) × (t ≡ attempted stands)
+Says true (Took app (Bytes bytes)) s t = (s.running ≡ true) × (t ≡ record s { unread = s.unread ++ bytes; since = s.since ++ Took app (Bytes bytes) ∷ [] })
+Says true (Took app what) s t = (s.running ≡ true) × (t ≡ besides s (Took app what))
+Says true (Gave app frame) s t = (s.running ≡ true) × GivesFrame (is_answer frame) frame s t
+Says true (Gone app frame) s t = (s.running ≡ true) × (t ≡ besides s (Gone app frame))
+Says true (Ended app) s t = (s.running ≡ true) × (t ≡ record s { running = false; since = s.since ++ Ended app ∷ [] })
+Says true act s t = t ≡ besides s act
+Says false act s t = t ≡ besides s act
+
+-- The acts go on with the dialogue, from what stood before the application to what stands then.
+abbrev pub Dialogue : ℕ → Before → List Act → Before → Type 0
+Dialogue app s [] t = t ≡ s
+Dialogue app s (act ∷ acts) t = (next : Before) × (Says (is_of app act) act s next × Dialogue app next acts t)
+
+-- The whole journal is a dialogue with the application.
+pub record AtOnce (app : ℕ) (journal : List Act) : Type 0 where
+  pub last : Before
+  pub dialogue : Dialogue app at_first journal last

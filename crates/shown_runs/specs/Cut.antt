@@ -1,0 +1,95 @@
+-- A run that a fault ends before its end: how far it is the reference controller's, and what was written. All of this is our own.
+use Rattle.std.specs.Prelude.{◌≡◌, ℕ, ◌+◌, ◌≤◌, ◌⊎◌, Bool, true, if◌then◌else◌, List, [], ◌++◌, length, fold, Option}
+use Rattle.std.specs.Io.KnownBytes.{append_known}
+use Rattle.std.specs.List.{AllByRecursion}
+use Rattle.of_types.specs.declared.journal.WorldStim.{WorldStim}
+use Rattle.lego_io.specs.Sink.{TookPart}
+use Rattle.lego_model.specs.Places.{Place}
+use Rattle.lego_model.specs.Controller.{Run, happen}
+use Rattle.lego_model.specs.RunReport.{run_report}
+use Rattle.lego_model.specs.AtOnce.{AtOnce}
+use Rattle.outside.specs.Seen.{Seen, Longer, journal}
+use Rattle.journal_readings.specs.Readings.{starts_in, replies_in}
+use Rattle.shown_switches.specs.Orderly.{IsOrderly}
+use Rattle.shown_runs.specs.Engine.{Engine, index, names, own_acts, stimuli_in, text_of}
+use Rattle.shown_runs.specs.Moves.{Moved, dispatch_next, times, rounds}
+use Rattle.shown_runs.specs.WholeRun.{RunsAlike, fresh, before_start, all_started}
+
+-- ---- The reference controller in the middle of a run
+
+-- before anything is started, with an application that does what the history tells of it
+abbrev pub start_of : {Own : Type 0} → Seen Own → Run
+start_of seen = before_start seen.given.declared (fresh (starts_in (own_acts seen)) (replies_in (own_acts seen)))
+
+-- The application is started or not yet, these stimuli happened with all that follows of each, then perhaps one more was begun, and so
+-- many of the events that wait then were dispatched.
+abbrev pub so_far : (List Place → Bool) → Bool → List WorldStim → List WorldStim → ℕ → Run → Run
+so_far allows started stimuli begun number r = times number (dispatch_next allows) (fold (λ q x. happen x q) (rounds allows stimuli (if started then all_started r else r)) begun)
+
+-- ---- A place of a run
+
+-- Up to a place the run is that of the reference controller so far: the tables agree at every quiet place, that one included, and the
+-- application was given what it is given there; the journal is a dialogue with it, and all steps were in order.
+pub record AlikeUpTo {Own : Type 0} (allows : List Place → Bool) (seen : Seen Own) : Type 0 where
+  pub last : Seen Own
+  pub given : seen.given ≡ last.given
+  pub later : Longer last.history seen.history
+  pub started : Bool
+  pub stimuli : List WorldStim
+  pub begun : List WorldStim
+  pub number : ℕ
+  pub begun_one : length begun ≤ 1
+  pub at_most : number ≤ 1000
+  pub stimuli_so : stimuli_in last ≡ stimuli ++ begun
+  pub alike : RunsAlike last (so_far allows started stimuli begun number (start_of last))
+  pub at_once : AtOnce index (journal last.history)
+  pub in_order : AllByRecursion (IsOrderly index) last.history
+
+-- the run of the reference controller up to there
+abbrev pub run_to : {Own : Type 0} (allows : List Place → Bool) (seen : Seen Own) → AlikeUpTo allows seen → Run
+run_to allows seen p = so_far allows p.started p.stimuli p.begun p.number (start_of p.last)
+
+-- ---- What was written
+
+-- The lines of all that was done up to there were written.
+pub record CutAlike {Own : Type 0} (allows : List Place → Bool) (seen : Seen Own) (contents now_contents : Option (List ℕ)) : Type 0 where
+  pub up_to : AlikeUpTo allows seen
+  pub written : now_contents ≡ append_known contents (text_of (run_to allows seen up_to))
+
+-- Where the sink failed, it did so at these lines, and had taken this text before: at the lines of the start,
+pub record StartLines {Own : Type 0} (allows : List Place → Bool) (seen : Seen Own) (p : AlikeUpTo allows seen) (text more : List ℕ) : Type 0 where
+  pub is_started : p.started ≡ true
+  pub none_happened : stimuli_in p.last ≡ []
+  pub none_dispatched : p.number ≡ 0
+  pub text_so : text ≡ []
+  pub more_so : text_of (run_to allows seen p) ≡ more
+
+-- at those of the event that was dispatched last, behind the lines of all before it,
+pub record EventLines {Own : Type 0} (allows : List Place → Bool) (seen : Seen Own) (p : AlikeUpTo allows seen) (text more : List ℕ) : Type 0 where
+  pub before : ℕ
+  pub one_more : p.number ≡ before + 1
+  pub text_so : text_of (so_far allows p.started p.stimuli p.begun before (start_of p.last)) ≡ text
+  pub more_so : text_of (run_to allows seen p) ≡ text ++ more
+
+-- or at the end of the report.
+pub record EndLines {Own : Type 0} (allows : List Place → Bool) (seen : Seen Own) (p : AlikeUpTo allows seen) (text more : List ℕ) : Type 0 where
+  pub none_left : (run_to allows seen p).queue ≡ []
+  pub text_so : text_of (run_to allows seen p) ≡ text
+  pub more_so : run_report names (run_to allows seen p) ≡ text ++ more
+
+-- The sink took a part of the lines of what was done last, behind all lines of what was done before.
+pub record CutWriting {Own : Type 0} (allows : List Place → Bool) (seen : Seen Own) (contents now_contents : Option (List ℕ)) : Type 0 where
+  pub up_to : AlikeUpTo allows seen
+  pub text : List ℕ
+  pub more : List ℕ
+  pub lines : StartLines allows seen up_to text more ⊎ EventLines allows seen up_to text more ⊎ EndLines allows seen up_to text more
+  pub part : TookPart (append_known contents text) now_contents more
+
+-- ---- What parts of a run come to
+
+-- they do what the reference controller does so far
+pub record GoneSoFar {Own : Type 0} (allows : List Place → Bool) (started : Bool) (number : ℕ) (text : List ℕ) (first last : Seen Own) (e now_e : Engine) : Type 0 where
+  pub stimuli : List WorldStim
+  pub begun : List WorldStim
+  pub begun_one : length begun ≤ 1
+  pub moved : Moved (stimuli ++ begun) (so_far allows started stimuli begun number) text first last e now_e

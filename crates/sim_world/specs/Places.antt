@@ -1,0 +1,46 @@
+-- Whether calls are in place: an application is started only where it does not run, and given to and taken from only while it runs;
+-- messages go only to switches that are joined, and are taken only where one waits; the world is opened once. A call out of place never
+-- succeeds, so that only the steps of calls that failed, or found an end closed, have to be looked at. All of this is our own choice.
+use Rattle.std.specs.Prelude.{◌≡◌, ℕ, Bool, true, false, List, [], ◌∷◌}
+use Rattle.of_types.specs.declared.journal.Act.{Act}
+use Rattle.of_types.specs.declared.journal.Act.TheVariants.{Started, Gone}
+use Rattle.of_types.specs.declared.journal.TookWhat.{TookWhat}
+use Rattle.of_types.specs.declared.journal.TookWhat.TheVariants as took
+use Rattle.outside.specs.declared.step.WorldStep.{WorldStep}
+use Rattle.outside.specs.declared.step.WorldStep.TheVariants.{Acted, TookInto, NotOpened, SendFailed, RecvFailed}
+use Rattle.outside.specs.State.{State, after_step, is_running, is_joined, has_waiting}
+use Rattle.sim_world.specs.Tally.{TallyState}
+
+-- a start that failed is in place where the application did not run
+abbrev pub IsStartInPlace : ℕ → Bool → State → Type 0
+IsStartInPlace app true s = Unit {0}
+IsStartInPlace app false s = is_running app s ≡ false
+
+-- a take that found the end closed is in place where the application ran
+abbrev pub IsTakeInPlace : ℕ → TookWhat → State → Type 0
+IsTakeInPlace app took.Closed s = is_running app s ≡ true
+IsTakeInPlace app other s = Unit {0}
+
+-- the act is of a call in place
+abbrev pub IsActInPlace : Act → State → Type 0
+IsActInPlace (Started app ok) s = IsStartInPlace app ok s
+IsActInPlace (Gone app bytes) s = is_running app s ≡ true
+IsActInPlace other s = Unit {0}
+
+-- the step is of a call in place, in the state before it
+abbrev pub IsInPlace : WorldStep → State → Type 0
+IsInPlace (Acted act) s = IsActInPlace act s
+IsInPlace (TookInto app what room) s = IsTakeInPlace app what s
+IsInPlace NotOpened s = s.opened ≡ false
+IsInPlace (SendFailed d) s = is_joined d s ≡ true
+IsInPlace (RecvFailed d) s = has_waiting d s ≡ true
+IsInPlace other s = Unit {0}
+
+-- each step is of a call in place, in the state that those before it leave
+abbrev pub AreInPlace : List WorldStep → State → Type 0
+AreInPlace [] s = Unit {0}
+AreInPlace (step ∷ steps) s = IsInPlace step s × AreInPlace steps (after_step step s)
+
+-- where no call is counted that wanted memory, none was counted before, and no more calls are counted as out of place than were before
+abbrev pub NoneStrays : TallyState → TallyState → Type 0
+NoneStrays before after = after.shorts ≡ 0 → (before.shorts ≡ 0) × (after.strays ≡ before.strays)
