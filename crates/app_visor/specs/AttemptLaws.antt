@@ -1,5 +1,5 @@
 -- Laws of attempts to start an application.
-use Rattle.std.specs.Prelude.{◌≡◌, ℕ, ◌==◌, Bool, true, false, not, List, [], ◌∷◌, ◌++◌, map, if◌then◌else◌, refl}
+use Rattle.std.specs.Prelude.{◌≡◌, ℕ, ◌==◌, Bool, true, false, not, ◌||◌, List, [], ◌∷◌, ◌++◌, map, if◌then◌else◌, refl}
 use Rattle.std.proofs.Common.{sym, ap, ◌∙◌, subst, append_assoc, true≢false}
 use Rattle.std.proofs.lemmas.List.{append-nil, map-append}
 use Rattle.std.proofs.lemmas.Map.Views.{any-filter_same}
@@ -11,6 +11,7 @@ use Rattle.app_frames.specs.declared.cause.Tried.TheVariants.{Closed}
 use Rattle.app_frames.specs.declared.frame.AppFrame.TheVariants as frames
 use Rattle.lego_model.specs.Journal.{Start, End, Untold, Closes, Stalls, inputs, start_of, in_turns, pieces, end_from, any_gone}
 use Rattle.lego_model.specs.Turns.{Next, outcome_of, first_frame, next_of}
+use Rattle.lego_model.specs.Scripted.{is_told, is_whole, is_start_heard}
 use Rattle.lego_model.specs.Controller.{restore_frame, is_ready}
 use Rattle.lego_io.specs.CountLaws.{Rose-after}
 use Rattle.outside.specs.declared.step.WorldStep.{WorldStep}
@@ -23,7 +24,7 @@ use Rattle.outside.specs.Calls.{Ends, end_steps}
 use Rattle.journal_readings.specs.Readings.{is_within, Within}
 use Rattle.journal_readings.specs.ReadingLaws.{Within-append}
 use Rattle.journal_readings.specs.FrameLaws.{restore_is_none}
-use Rattle.lego_model.specs.AtOnce.{before, nothing_said, besides}
+use Rattle.lego_model.specs.AtOnce.{before, nothing_said, besides, took_end}
 use Rattle.app_visor.specs.declared.came.Came.{Came}
 use Rattle.app_visor.specs.declared.came.Came.TheVariants as comes
 use Rattle.app_visor.specs.Talks.{Told, step_of}
@@ -175,6 +176,11 @@ unfolding start_of inputs
 gone_given app true = rw restore_is_none refl
 gone_given app false = rw restore_is_none refl
 
+gone_heard : (app : ℕ) (running : Bool) → is_start_heard (start_of (stood (gone_acts app running))) ≡ true
+unfolding start_of is_start_heard
+gone_heard app true = rw restore_is_none refl
+gone_heard app false = rw restore_is_none refl
+
 within_restored : (app : ℕ) → is_within app (Gave app restore_frame) ≡ true
 within_restored app = rw (same app, restore_is_none) refl
 
@@ -234,6 +240,7 @@ greets_gone {Tells = Tells} {app = app} {old = old} {new = new} frame unread is 
       history = told.history;
       outcome = λ running. gone_outcome app running;
       given = λ running. gone_given app running;
+      heard = λ running. gone_heard app running;
       rises = told.rises;
       within = (within_gone app, tt);
       running = runs_by Tells app (Gone app restore_frame ∷ []) old new told.continues told.history (runs_gone app);
@@ -256,6 +263,13 @@ first_so Tells app (comes.Frame (frames.Done stop checkpoint)) unread left old n
 first_so Tells app (comes.Refused fault) unread left old new so = rw (next_faulty fault unread [] so.0) refl
 first_so Tells app comes.Closed unread left old new so = rw (next_over unread so.0) refl
 first_so Tells app comes.Silent unread left old new so = rw (next_over unread so.0) refl
+
+came_heard : {Own : Type 0} (Tells : Type 0) (app : ℕ) (came : Came) (unread left : List ℕ) (old new : Seen Own) → CameSo Tells app came unread left old new
+    → (is_told (end_of came) || is_whole (next_of unread [])) ≡ true
+came_heard Tells app (comes.Frame frame) unread left old new so = ap is_whole (next_framed frame unread left [] so.0)
+came_heard Tells app (comes.Refused fault) unread left old new so = ap is_whole (next_faulty fault unread [] so.0)
+came_heard Tells app comes.Closed unread left old new so = refl
+came_heard Tells app comes.Silent unread left old new so = refl
 
 came_rises : {Own : Type 0} (Tells : Type 0) (app : ℕ) (came : Came) (unread left : List ℕ) (first old new : Seen Own) → Continues Tells first old → CameSo Tells app came unread left old new
     → TryRises (tried_by came) first.counts new.counts
@@ -289,16 +303,16 @@ speaks_came Tells app (comes.Refused fault) unread left since old new so tells =
 speaks_came Tells app comes.Closed unread left since old new so tells =
     let act = Took app took.Closed in
     record {
-      after = besides (before unread since) act;
-      converses = converses_told Tells app act (before unread since) (besides (before unread since) act) old new so.1 tells (same app) (refl, refl);
+      after = took_end (before unread since) act;
+      converses = converses_told Tells app act (before unread since) (took_end (before unread since) act) old new so.1 tells (same app) (refl, (record { not_ended = refl; none_whole = so.0 }, refl));
       runs = λ ready. refl;
       passes = λ ready. absurd (true≢false (sym ready));
     }
 speaks_came Tells app comes.Silent unread left since old new so tells =
     let act = Took app took.Silent in
     record {
-      after = besides (before unread since) act;
-      converses = converses_told Tells app act (before unread since) (besides (before unread since) act) old new so.1 tells (same app) (refl, refl);
+      after = took_end (before unread since) act;
+      converses = converses_told Tells app act (before unread since) (took_end (before unread since) act) old new so.1 tells (same app) (refl, (record { not_ended = refl; none_whole = so.0 }, refl));
       runs = λ ready. refl;
       passes = λ ready. absurd (true≢false (sym ready));
     }
@@ -306,6 +320,10 @@ speaks_came Tells app comes.Silent unread left since old new so tells =
 outcome_by : (ps : List (List ℕ)) (end : End) → outcome_of (start_by ps end) ≡ first_frame end (next_of [] ps)
 unfolding outcome_of
 outcome_by ps end = refl
+
+heard_start : (ps : List (List ℕ)) (end : End) → is_start_heard (start_by ps end) ≡ (is_told end || is_whole (next_of [] ps))
+unfolding is_start_heard
+heard_start ps end = refl
 
 -- behind all acts of the start it may be ended
 then_ended : (app : ℕ) (ps : List (List ℕ)) (came : Came) (running : Bool) → all_acts app ps (last_acts came app) ++ end_acts running app ≡ all_acts app ps (lasts came running app)
@@ -337,6 +355,8 @@ greets_came {Tells = Tells} {app = app} {rest = rest} {left = left} {old = old} 
           ∙ first_so Tells app came comes.unread left then_seen new comes.so;
       given = λ running. ap (λ (acts : List Act). inputs app acts) (then_ended app ps came running) ∙ inputs_greeted app ps (lasts came running app) (quiet_lasts came running app)
           ∙ ap (λ (s : Start). restored s) (sym (start_came app ps came running));
+      heard = λ running. ap (λ (s : Start). is_start_heard s) (start_came app ps came running) ∙ heard_start ps (end_of came) ∙ ap (λ (n : Next). is_told (end_of came) || is_whole n) next
+          ∙ came_heard Tells app came comes.unread left then_seen new comes.so;
       rises = came_rises Tells app came comes.unread left old then_seen new (Continues-trans Tells old mid then_seen told.continues taken) comes.so;
       within = within_all app ps came;
       running = runs_by Tells app (all_acts app ps (last_acts came app)) old new continues adds (runs_given app ps came);

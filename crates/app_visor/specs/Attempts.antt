@@ -9,6 +9,7 @@ use Rattle.app_frames.specs.declared.cause.Tried.TheVariants.{Ready, Refused, Cl
 use Rattle.app_frames.specs.declared.frame.AppFrame.TheVariants as frames
 use Rattle.lego_model.specs.Journal.{Attempt, Start, inputs, start_of}
 use Rattle.lego_model.specs.Turns.{outcome_of}
+use Rattle.lego_model.specs.Scripted.{is_start_heard}
 use Rattle.lego_model.specs.Controller.{App, restore_frame, is_ready, attempts, started}
 use Rattle.outside.specs.Seen.{Counts, Seen, Continues}
 use Rattle.outside.specs.State.{state, is_running}
@@ -44,6 +45,8 @@ pub record IsTry {Own : Type 0} (Tells : Type 0) (app : ℕ) (attempt : Attempt)
   pub history : Tells → new.history ≡ old.history ++ map step_of (end_acts (is_running app (state old)) app ++ Started app attempt.stands ∷ attempt.acts)
   pub outcome : outcome_of (start_of attempt) ≡ (tried, rest)
   pub given : inputs app attempt.acts ≡ restored (start_of attempt)
+  -- it did not end for the reason alone that no more was told
+  pub heard : is_start_heard (start_of attempt) ≡ true
   pub rises : TryRises tried old.counts new.counts
   -- no act begins a turn or a further attempt
   pub within : Within app attempt.acts
@@ -140,6 +143,7 @@ pub record Greets {Own : Type 0} (Tells : Type 0) (app : ℕ) (tried : Tried) (u
   pub history : Tells → new.history ≡ old.history ++ map step_of acts
   pub outcome : (running : Bool) → outcome_of (start_of (stood (acts ++ end_acts running app))) ≡ (tried, rest_of tried unread)
   pub given : (running : Bool) → inputs app (acts ++ end_acts running app) ≡ restored (start_of (stood (acts ++ end_acts running app)))
+  pub heard : (running : Bool) → is_start_heard (start_of (stood (acts ++ end_acts running app))) ≡ true
   pub rises : TryRises tried old.counts new.counts
   -- no act begins a turn or a further attempt
   pub within : Within app acts

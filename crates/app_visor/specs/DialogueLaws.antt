@@ -1,7 +1,7 @@
 -- Laws of dialogues in a world that tells: each beat of a turn goes on with the dialogue, and a change has reached its switch at once where
 -- its answer is given.
 use Rattle.std.specs.Prelude.{◌≡◌, ℕ, Bool, true, false, List, [], ◌∷◌, ◌++◌, Some, None, Ok, refl}
-use Rattle.std.proofs.Common.{sym, ap, ap₂, ◌∙◌, subst, append_assoc, inl, inr}
+use Rattle.std.proofs.Common.{sym, ap, ap₂, ◌∙◌, subst, append_assoc, inl, inr, true≢false}
 use Rattle.std.proofs.lemmas.List.{append-nil, append_cancel_left}
 use Rattle.of_types.specs.declared.journal.Act.{Act}
 use Rattle.of_types.specs.declared.journal.Act.TheVariants.{Gave, Gone, Took, Ended}
@@ -68,7 +68,7 @@ converses_takes Tells app (p ∷ ps) rest left since old new all tells =
     let act = Took app (took.Bytes p) in
     let next = before (rest ++ p) (since ++ act ∷ []) in
     Converses-then app (before rest since) next (before left (since ++ takes app (p ∷ ps))) old all.1.0 new
-    (converses_told Tells app act (before rest since) next old all.1.0 all.1.1.0 tells (same app) (refl, refl))
+    (converses_told Tells app act (before rest since) next old all.1.0 all.1.1.0 tells (same app) (refl, (record { not_ended = refl; none_whole = all.0 }, refl)))
     (subst (λ (acts : List Act). Converses app next (before left acts) all.1.0 new) (append_assoc since (act ∷ []) (takes app ps))
     (converses_takes Tells app ps (rest ++ p) left (since ++ act ∷ []) all.1.0 new all.1.1.1 tells))
 
@@ -81,13 +81,13 @@ pub converses_event : {Own : Type 0} (Tells : Type 0) (app : ℕ) (frame rest : 
     → Converses app s (before rest []) old new
 converses_event Tells app frame rest s old new told tells event runs passes =
     converses_told Tells app (Gave app frame) s (before rest []) old new told tells (same app)
-    (runs, subst (λ (b : Bool). GivesFrame b frame s (before rest [])) (sym (event_is_no_answer frame event)) (record { running_so = refl; passes = passes; since_so = refl }))
+    (runs, subst (λ (b : Bool). GivesFrame b frame s (before rest [])) (sym (event_is_no_answer frame event)) (record { not_ended = λ other. absurd (true≢false (sym event ∙ other)); running_so = refl; passes = passes; since_so = refl; ended_so = refl }))
 
 -- it is given its checkpoint
 pub converses_restored : {Own : Type 0} (Tells : Type 0) (app : ℕ) (old new : Seen Own) → Told Tells (Gave app restore_frame) old new → Tells → Converses app nothing_said nothing_said old new
 converses_restored Tells app old new told tells =
     converses_told Tells app (Gave app restore_frame) nothing_said nothing_said old new told tells (same app)
-    (refl, subst (λ (b : Bool). GivesFrame b restore_frame nothing_said nothing_said) (sym restore_is_no_answer) (record { running_so = refl; passes = passes_none []; since_so = refl }))
+    (refl, subst (λ (b : Bool). GivesFrame b restore_frame nothing_said nothing_said) (sym restore_is_no_answer) (record { not_ended = λ other. refl; running_so = refl; passes = passes_none []; since_so = refl; ended_so = refl }))
 
 -- it is ended, where it runs
 converses_ended_by : {Own : Type 0} (app : ℕ) (running : Bool) (s : Before) (old new : Seen Own) → s.running ≡ running → new.history ≡ old.history ++ end_steps app running → (t : Before) × (Converses app s t old new × (t.running ≡ false))

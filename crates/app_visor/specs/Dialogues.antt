@@ -4,7 +4,7 @@ use Rattle.of_types.specs.declared.journal.Act.{Act}
 use Rattle.of_types.specs.declared.journal.Act.TheVariants.{Started}
 use Rattle.outside.specs.declared.step.WorldStep.{WorldStep}
 use Rattle.outside.specs.Seen.{Seen, act_of, journal}
-use Rattle.outside.specs.State.{State, is_running, after_step}
+use Rattle.outside.specs.State.{State, state, is_running, after_step}
 use Rattle.lego_model.specs.Journal.{is_of}
 use Rattle.lego_model.specs.AtOnce.{Before, Passes, Dialogue}
 use Rattle.app_visor.specs.declared.state.TurnEnd.{TurnEnd}
@@ -22,6 +22,20 @@ pub record Speaks {Own : Type 0} (app : ℕ) (s : Before) (old new : Seen Own) (
   pub converses : Converses app s after old new
   pub runs : well ≡ true → after.running ≡ true
   pub passes : well ≡ true → Passes after.unread unread
+
+-- It does so, wherever that leads.
+abbrev pub LeadsOn : {Own : Type 0} → ℕ → Before → Seen Own → Seen Own → Type 0
+LeadsOn app s old new = (t : Before) × Converses app s t old new
+
+-- It does so in a world that tells, where it tells whether the application runs.
+abbrev pub TalksOn : {Own : Type 0} → Type 0 → ℕ → Seen Own → Seen Own → Type 0
+TalksOn Tells app old new = Tells → (s : Before) → s.running ≡ is_running app (state old) → LeadsOn app s old new
+
+-- It does so, and tells then whether the application runs, where it told that before.
+pub record Talks {Own : Type 0} (app : ℕ) (s : Before) (old new : Seen Own) : Type 0 where
+  pub after : Before
+  pub converses : Converses app s after old new
+  pub runs : s.running ≡ is_running app (state old) → after.running ≡ is_running app (state new)
 
 abbrev pub is_done : TurnEnd → Bool
 is_done (ends.Done stop) = true

@@ -13,6 +13,7 @@ pub mod AnswerLaws
 pub mod TableLaws
 pub mod JournalLaws
 pub mod DialogueLaws
+pub mod LeadsOnLaws
 pub mod RunningLaws
 pub mod Attempts
 pub mod AttemptLaws

@@ -1,5 +1,5 @@
 -- Laws of the loop over the frames of a turn, and of the whole turn.
-use Rattle.std.specs.Prelude.{◌≡◌, ℕ, zero, suc, Bool, true, false, List, [], ◌∷◌, Option, Some, None, Err, ◌⊎◌, refl}
+use Rattle.std.specs.Prelude.{◌≡◌, ℕ, zero, suc, Bool, true, false, List, [], ◌∷◌, ◌++◌, Option, Some, None, Err, ◌⊎◌, refl}
 use Rattle.std.proofs.Common.{sym, subst, inl, inr, true≢false}
 use Rattle.flow_table.specs.declared.view.TableView.{TableView}
 use Rattle.of_types.specs.declared.journal.Act.TheVariants.{Gave, Gone}
@@ -9,6 +9,7 @@ use Rattle.app_frames.specs.declared.frame.Answer.{Answer}
 use Rattle.app_frames.specs.declared.cause.Cause.TheVariants as causes
 use Rattle.lego_model.specs.Journal.{reply_of}
 use Rattle.lego_model.specs.Turns.{Outcome, Completed, Failed, turn_of}
+use Rattle.lego_model.specs.Scripted.{is_heard}
 use Rattle.lego_model.specs.Controller.{answer_frame}
 use Rattle.outside.specs.Seen.{Seen}
 use Rattle.net_txn.specs.declared.fault.TxnFault.{TxnFault}
@@ -21,11 +22,12 @@ use Rattle.app_visor.specs.declared.came.Came.TheVariants as comes
 use Rattle.app_visor.specs.declared.state.TurnEnd.{TurnEnd}
 use Rattle.app_visor.specs.declared.state.TurnEnd.TheVariants as ends
 use Rattle.app_visor.specs.Talks.{Told, give_act}
-use Rattle.app_visor.specs.Reads.{Taken, Comes}
+use Rattle.app_visor.specs.Reads.{takes, Taken, Comes}
 use Rattle.app_visor.specs.Beats.{Talk, Asks, acts_in, exchange_of, IsExchange, Exchanges, Leads, Stops}
 use Rattle.app_visor.specs.BeatLaws.{same, Leads-refl}
 use Rattle.app_visor.specs.Dialogues.{is_done}
-use Rattle.app_visor.specs.DialogueLaws.{Converses-then, converses_told, converses_event}
+use Rattle.journal_readings.specs.AtOnceLaws.{sends_none_both}
+use Rattle.app_visor.specs.DialogueLaws.{Converses-refl, Converses-then, converses_told, converses_takes, takes_send_none, converses_event}
 use Rattle.app_visor.specs.Turns.{IsEnd, LeavesNone, TurnsFrom, Turns, cause_of, Goes, EndsSo, FramePlayed, Plays, GoesOn, unread_after}
 use Rattle.app_visor.specs.TurnLaws.{turn_taken, goes_answered, ends_unanswered, given_more, given_none, IsUnbalanced, IsOver, turn_over}
 
@@ -60,7 +62,14 @@ pub plays_came : {Own : Type 0} (Tells : Type 0) (accepts : List TableView → B
     → Comes Tells app rest left old mid (comes.Frame frame) → Plays Tells accepts app frame mid new net now_net result → FramePlayed Tells accepts app result rest left old new net now_net
 plays_came Tells accepts app None frame rest left old mid new net now_net came plays =
     let taken : Taken Tells app rest came.unread old mid = subst (λ (s : Seen _). Taken Tells app rest came.unread old s) (sym came.so.1) came.taken in
-    record { on = λ n later later_net end unread t. turn_taken taken ((plays.so came.unread left came.so.0).on n later later_net end unread t) }
+    let one = plays.so came.unread left came.so.0 in
+    record {
+      on = λ n later later_net end unread t. turn_taken taken (one.on n later later_net end unread t);
+      speaks = λ tells since none.
+          let ps = takes app taken.pieces in
+          Converses-then app (before rest since) (before came.unread (since ++ ps)) (before left []) old mid new (converses_takes Tells app taken.pieces rest came.unread since old mid taken.all tells)
+          (one.speaks tells (since ++ ps) (sends_none_both since ps none (takes_send_none app taken.pieces)));
+    }
 plays_came Tells accepts app (Some end) frame rest left old mid new net now_net came plays =
     let taken : Taken Tells app rest came.unread old mid = subst (λ (s : Seen _). Taken Tells app rest came.unread old s) (sym came.so.1) came.taken in
     record { is = λ n. turn_taken taken ((plays.so came.unread left came.so.0).is n) }
@@ -72,14 +81,19 @@ ends_over Tells accepts app came rest here old new net over comes = record { is 
 -- ---- The loop
 
 pub goes_none : {Own : Type 0} {Tells : Type 0} {accepts : List TableView → Bool} (app budget left : ℕ) (rest : List ℕ) (seen : Seen Own) (net : NetState) → left ≡ budget → GoesOn Tells accepts app budget rest seen net left rest seen net
-goes_none {Tells = Tells} {accepts = accepts} app budget left rest seen net is =
-    record { on = λ new now_net end unread t. subst (λ (n : ℕ). TurnsFrom Tells accepts app n rest seen new net now_net end unread) is t }
+goes_none {Tells = Tells} {accepts = accepts} app budget left rest seen net is = record {
+  on = λ new now_net end unread t. subst (λ (n : ℕ). TurnsFrom Tells accepts app n rest seen new net now_net end unread) is t;
+  speaks = λ tells. ([], (refl, Converses-refl app (before rest []) seen seen refl));
+}
 
 pub goes_more : {Own : Type 0} {Tells : Type 0} {accepts : List TableView → Bool} {app budget left : ℕ} {rest here there : List ℕ} {old seen mid : Seen Own} {net at_net mid_net : NetState} (less : ℕ) → left ≡ suc less
     → GoesOn Tells accepts app budget rest old net left here seen at_net → Goes Tells accepts app here there seen mid at_net mid_net → GoesOn Tells accepts app budget rest old net less there mid mid_net
-goes_more {Tells = Tells} {accepts = accepts} {app = app} {here = here} {seen = seen} {at_net = at_net} less is all one = record {
+goes_more {Tells = Tells} {accepts = accepts} {app = app} {rest = rest} {here = here} {there = there} {old = old} {seen = seen} {mid = mid} {at_net = at_net} less is all one = record {
   on = λ new now_net end unread t.
       all.on new now_net end unread (subst (λ (n : ℕ). TurnsFrom Tells accepts app n here seen new at_net now_net end unread) (sym is) (one.on less new now_net end unread t));
+  speaks = λ tells.
+      let s = all.speaks tells in
+      ([], (refl, Converses-then app (before rest []) (before here s.0) (before there []) old seen mid s.1.1 (one.speaks tells s.0 s.1.0)));
 }
 
 pub ends_then : {Own : Type 0} {Tells : Type 0} {accepts : List TableView → Bool} {app budget left : ℕ} {rest here unread : List ℕ} {old seen new : Seen Own} {net at_net now_net : NetState} {end : TurnEnd} (less : ℕ) → left ≡ suc less
@@ -102,7 +116,7 @@ spent_then {Tells = Tells} {accepts = accepts} {app = app} {left = left} {here =
 
 gone_ends : {Own : Type 0} (Tells : Type 0) (accepts : List TableView → Bool) (app budget : ℕ) (rest frame : List ℕ) (old new : Seen Own) (net : NetState) → Told Tells (Gone app frame) old new
     → Turns Tells accepts app budget rest frame old new net net (ends.Failed causes.Closed) []
-unfolding turn_of reply_of
+unfolding turn_of reply_of is_heard
 gone_ends Tells accepts app budget rest frame old new net told = record {
   given = false;
   trace = [];
@@ -113,6 +127,7 @@ gone_ends Tells accepts app budget rest frame old new net told = record {
   ends = refl;
   leaves = refl;
   inputs_so = given_none app frame;
+  heard = refl;
   within = tt;
   speaks = λ tells event s runs passes. record {
     after = besides s (Gone app frame);
@@ -142,7 +157,7 @@ passes_after (ends.Failed cause) bytes unread passes done = absurd (true≢false
 
 given_ends : {Own : Type 0} (Tells : Type 0) (accepts : List TableView → Bool) (app budget : ℕ) (rest frame unread : List ℕ) (old mid new : Seen Own) (net now_net : NetState) (end : TurnEnd) → Told Tells (Gave app frame) old mid
     → TurnsFrom Tells accepts app budget rest mid new net now_net end unread → Turns Tells accepts app budget rest frame old new net now_net end (unread_after end unread)
-unfolding turn_of reply_of
+unfolding turn_of reply_of is_heard
 given_ends Tells accepts app budget rest frame unread old mid new net now_net end told t = record {
   given = true;
   trace = t.trace;
@@ -153,6 +168,7 @@ given_ends Tells accepts app budget rest frame unread old mid new net now_net en
   ends = ends_after end unread t.outcome t.ends;
   leaves = leaves_after end unread;
   inputs_so = given_more app frame (acts_in t.trace) _ t.given;
+  heard = t.heard;
   within = t.within;
   speaks = λ tells event s runs passes.
       let later = t.speaks tells [] refl in

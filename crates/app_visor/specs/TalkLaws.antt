@@ -25,6 +25,10 @@ pub told_not_started : {Own T : Type 0} {Tells : Type 0} {app : ℕ} {old new : 
 unfolding start_steps
 told_not_started call = record { continues = Starts-continues call; history = λ told. (call.told told).history; rises = call.not_started refl }
 
+pub wants_start : {Own T : Type 0} {Tells : Type 0} {app : ℕ} {old new : Seen Own} → Starts {T = T} Tells app old new (Err starting.Short) → Wants Tells old new
+unfolding start_steps
+wants_start {old = old} call = record { continues = Starts-continues call; history = λ told. (call.told told).history ∙ append-nil old.history }
+
 pub told_gave : {Own T : Type 0} {Tells : Type 0} {app : ℕ} {bytes : List ℕ} {old new : Seen Own} (x : T) → Gives Tells app bytes old new (Ok x) → Told Tells (Gave app bytes) old new
 unfolding give_steps
 told_gave x call = record { continues = Gives-continues call; history = λ told. (call.told told).history; rises = tt }

@@ -12,6 +12,7 @@ use Rattle.lego_io.specs.Count.{Rose}
 use Rattle.lego_io.specs.CountLaws.{Rose-after}
 use Rattle.lego_model.specs.Journal.{Start, inputs, start_of}
 use Rattle.lego_model.specs.Turns.{outcome_of}
+use Rattle.lego_model.specs.Scripted.{is_start_heard}
 use Rattle.lego_model.specs.Controller.{App, is_ready, attempts, started}
 use Rattle.outside.specs.Seen.{Counts, NoneFell, Seen, Continues}
 use Rattle.outside.specs.SeenLaws.{Continues-refl, Continues-trans, Ends-continues}
@@ -40,6 +41,10 @@ refused_given : (app : ℕ) → inputs app [] ≡ restored (start_of (record { s
 unfolding start_of inputs
 refused_given app = refl
 
+refused_heard : is_start_heard (start_of (record { stands = false; acts = [] })) ≡ true
+unfolding start_of is_start_heard
+refused_heard = refl
+
 pub try_refused : {Own : Type 0} {Tells : Type 0} {app : ℕ} {old mid new : Seen Own} (rest : List ℕ) → rest ≡ [] → Ends Tells app old mid → Told Tells (Started app false) mid new → Tries Tells app Refused rest old new
 try_refused {Tells = Tells} {app = app} {old = old} {mid = mid} {new = new} rest none ends told = record {
   attempt = record { stands = false; acts = [] };
@@ -48,6 +53,7 @@ try_refused {Tells = Tells} {app = app} {old = old} {mid = mid} {new = new} rest
     history = Adds-append Tells (end_acts (is_running app (state old)) app) (Started app false ∷ []) old mid new (Adds-ended Tells app old mid ends) told.history;
     outcome = rw none refused_outcome;
     given = refused_given app;
+    heard = refused_heard;
     rises = Rose-after old.counts.starts_failed mid.counts.starts_failed new.counts.starts_failed ends.none_fell.starts_failed told.rises;
     within = tt;
     ended = λ tells not_ready. not_started_so Tells app mid new told tells (ends_so Tells app old mid ends tells);
@@ -94,6 +100,7 @@ stood_so Tells app tried left running old mid up then_seen new ends told greets 
       (Adds-append Tells (Started app true ∷ []) (stood_acts app greets.acts running) mid up new told.history (Adds-append Tells greets.acts (end_acts running app) up then_seen new greets.history adds));
   outcome = greets.outcome running;
   given = greets.given running;
+  heard = greets.heard running;
   rises = rises_over tried old.counts up.counts then_seen.counts new.counts (Continues-trans Tells old mid up (Ends-continues ends) told.continues).none_fell greets.continues.none_fell greets.rises later.none_fell;
   within = Within-append app greets.acts (end_acts running app) greets.within (within_end app running);
   ended = ended;

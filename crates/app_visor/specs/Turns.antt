@@ -10,6 +10,7 @@ use Rattle.app_frames.specs.declared.cause.Cause.{Cause}
 use Rattle.app_frames.specs.declared.cause.Cause.TheVariants as causes
 use Rattle.lego_model.specs.Journal.{Untold, Reply, reply_of, pieces, end_from, answers_given, inputs, is_event}
 use Rattle.lego_model.specs.Turns.{Outcome, Completed, Failed, Played, Table, next_of, turn_from, turn_of}
+use Rattle.lego_model.specs.Scripted.{is_heard_from, is_heard}
 use Rattle.lego_model.specs.Controller.{answer_frame, given_in}
 use Rattle.outside.specs.Seen.{Seen}
 use Rattle.net_txn.specs.Net.{NetState}
@@ -21,7 +22,7 @@ use Rattle.app_visor.specs.declared.state.TurnEnd.{TurnEnd}
 use Rattle.app_visor.specs.declared.state.TurnEnd.TheVariants as ends
 use Rattle.app_visor.specs.Talks.{give_act}
 use Rattle.app_visor.specs.Reads.{IsNext}
-use Rattle.app_visor.specs.Dialogues.{Speaks, is_done}
+use Rattle.app_visor.specs.Dialogues.{Converses, Speaks, is_done}
 use Rattle.app_visor.specs.Beats.{Exchange, Beat, Talk, Chain, acts_in, exchanges_in}
 
 -- ---- The oracle: messages are answered as they were
@@ -69,6 +70,10 @@ abbrev pub played_by : {Own : Type 0} → Bool → ℕ → List ℕ → List Act
 played_by judged left rest acts exchanges =
     turn_from (oracle judged) left (answers_given acts) (end_from Untold acts) (Some exchanges) (next_of rest (pieces acts))
 
+-- whether these acts tell enough, with so many frames left and these bytes unread
+abbrev pub heard_by : ℕ → List ℕ → List Act → Bool
+heard_by left rest acts = is_heard_from left (answers_given acts) (end_from Untold acts) (next_of rest (pieces acts))
+
 -- The rest of a turn, behind its event: so many frames may still be taken, and these bytes are unread.
 pub record TurnsFrom {Own : Type 0} (Tells : Type 0) (accepts : List TableView → Bool) (app left : ℕ) (rest : List ℕ) (old new : Seen Own) (net now_net : NetState) (end : TurnEnd) (unread : List ℕ) : Type 0 where
   pub trace : List (Beat Own)
@@ -78,6 +83,8 @@ pub record TurnsFrom {Own : Type 0} (Tells : Type 0) (accepts : List TableView �
   pub played : played_by (accepts now_net.views) left rest (acts_in trace) (exchanges_in trace) ≡ played_so answers outcome
   pub ends : IsEnd end unread outcome
   pub given : inputs app (acts_in trace) ≡ map answer_frame answers
+  -- it did not end for the reason alone that no more was told
+  pub heard : heard_by left rest (acts_in trace) ≡ true
   -- no act begins a turn or an attempt
   pub within : Within app (acts_in trace)
   -- where no change was sent since the frame before, this goes on with the dialogue
@@ -101,6 +108,8 @@ pub record Turns {Own : Type 0} (Tells : Type 0) (accepts : List TableView → B
   pub ends : IsEnd end unread outcome
   pub leaves : LeavesNone end unread
   pub inputs_so : inputs app (acts_in (Talk (give_act given app frame) ∷ trace)) ≡ given_in given frame answers
+  -- it did not end for the reason alone that no more was told
+  pub heard : is_heard budget rest (reply_by given trace) ≡ true
   -- behind the event no act begins a turn or an attempt
   pub within : Within app (acts_in trace)
   -- where the application runs, the turn goes on with the dialogue: each change has reached its switch at once where its answer is given
@@ -119,6 +128,8 @@ cause_of comes.Silent = causes.Silent
 pub record Goes {Own : Type 0} (Tells : Type 0) (accepts : List TableView → Bool) (app : ℕ) (rest here : List ℕ) (old then_seen : Seen Own) (net then_net : NetState) : Type 0 where
   pub on : (left : ℕ) (new : Seen Own) (now_net : NetState) (end : TurnEnd) (unread : List ℕ) → TurnsFrom Tells accepts app left here then_seen new then_net now_net end unread
       → TurnsFrom Tells accepts app (suc left) rest old new net now_net end unread
+  -- where no change was sent since the frame before, this goes on with the dialogue
+  pub speaks : Tells → (since : List Act) → SendsNone since → Converses app (before rest since) (before here []) old then_seen
 
 -- A frame was played, and the turn ended with it.
 pub record EndsSo {Own : Type 0} (Tells : Type 0) (accepts : List TableView → Bool) (app : ℕ) (rest unread : List ℕ) (old new : Seen Own) (net now_net : NetState) (end : TurnEnd) : Type 0 where
@@ -138,6 +149,8 @@ pub record Plays {Own : Type 0} (Tells : Type 0) (accepts : List TableView → B
 pub record GoesOn {Own : Type 0} (Tells : Type 0) (accepts : List TableView → Bool) (app budget : ℕ) (rest : List ℕ) (old : Seen Own) (net : NetState) (left : ℕ) (here : List ℕ) (then_seen : Seen Own) (then_net : NetState) : Type 0 where
   pub on : (new : Seen Own) (now_net : NetState) (end : TurnEnd) (unread : List ℕ) → TurnsFrom Tells accepts app left here then_seen new then_net now_net end unread
       → TurnsFrom Tells accepts app budget rest old new net now_net end unread
+  -- what was played goes on with the dialogue, whatever follows; no change was sent since the last frame
+  pub speaks : Tells → (since : List Act) × (SendsNone since × Converses app (before rest []) (before here since) old then_seen)
 
 -- how it ends where the application is done, by the judge's word
 abbrev pub done_as : Bool → Bool → TurnEnd

@@ -1,9 +1,11 @@
 //! One message of an application, and its answer.
 
-ghost use Rattle.std.specs.Prelude.{◌≡◌, IfOk, IfErr};
+ghost use Rattle.std.specs.Prelude.{◌≡◌, IfOk, IfErr, OnErr};
 ghost use Rattle.app_frames.specs.declared.frame.HostFrame.TheVariants as host;
 ghost use Rattle.app_frames.specs.Frames.{HostFits};
 ghost use Rattle.lego_model.specs.Controller.{answer_frame, event_frame};
+ghost use Rattle.lego_model.specs.AtOnce.{Before};
+ghost use Rattle.app_visor.specs.Dialogues.{LeadsOn};
 ghost use Rattle.app_visor.specs.Beats.{Exchanges, Stops};
 
 use crate::talk::give;
@@ -55,6 +57,7 @@ pub(crate) fn exchange<W: World>(
     ensures start { txn.new.start ≡ txn.old.start }
     ensures ok { IfOk result (λ given. Exchanges W.Tells app dpid bytes.now given (W.seen world.old) (W.seen world.new) txn.old.net.now txn.new.net.now) }
     ensures err { IfErr result (λ fault. Stops W.Tells app (W.seen world.old) (W.seen world.new) txn.old.net.now txn.new.net.now fault) }
+    ensures talks { OnErr result (W.Tells → (s : Before) → LeadsOn app s (W.seen world.old) (W.seen world.new)) }
 {
     let answer = txn.change(world, dpid, bytes)?;
     let frame = encode_answer(alloc, answer)?;

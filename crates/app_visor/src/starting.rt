@@ -4,7 +4,10 @@ ghost use Rattle.std.specs.Prelude.{◌≡◌, false, [], Some, None, if◌then�
 ghost use Rattle.lego_model.specs.Controller.{restore_frame, is_ready as ready};
 ghost use Rattle.outside.specs.Seen.{Continues};
 ghost use Rattle.of_types.specs.declared.journal.Act.TheVariants.{Started};
-ghost use Rattle.app_visor.specs.Talks.{Told};
+ghost use Rattle.lego_model.specs.AtOnce.{Before, nothing_said};
+ghost use Rattle.outside.specs.State.{state, is_running};
+ghost use Rattle.app_visor.specs.Talks.{Told, Wants};
+ghost use Rattle.app_visor.specs.Dialogues.{LeadsOn, TalksOn, Talks};
 ghost use Rattle.app_visor.specs.Attempts.{tried_by, rest_of, Greets, EndsUnless, Tries, Restarts};
 
 use crate::came::Came;
@@ -44,6 +47,7 @@ fn judge(came: Came) -> Tried
 /// Starts the application, and answers whether it stands.
 fn start<W: World>(world: &mut W, app: u32, words: &[String]) -> Result<bool, AllocError>
     ensures ok { IfOk result (λ stands. Told W.Tells (Started app stands) (W.seen world.old) (W.seen world.new)) }
+    ensures err { OnErr result (Wants W.Tells (W.seen world.old) (W.seen world.new)) }
     ensures continues { Continues W.Tells (W.seen world.old) (W.seen world.new) }
 {
     match world.start(app, words) {
@@ -73,6 +77,7 @@ fn greet<W: World>(
     requires frame { frame.now ≡ restore_frame }
     requires intake { intake.old ≡ [] }
     ensures ok { IfOk result (λ tried. Greets W.Tells app tried intake.new (W.seen world.old) (W.seen world.new)) }
+    ensures talks { OnErr result (W.Tells → LeadsOn app nothing_said (W.seen world.old) (W.seen world.new)) }
     ensures continues { Continues W.Tells (W.seen world.old) (W.seen world.new) }
 {
     if !give(world, app, frame)? {
@@ -103,6 +108,7 @@ fn attempt<W: World>(
 ) -> Result<(Tried, ByteList), AllocError>
     requires { frame.now ≡ restore_frame }
     ensures ok { IfOk result (λ r. Tries W.Tells app r.0 r.1 (W.seen world.old) (W.seen world.new)) }
+    ensures talks { OnErr result (TalksOn W.Tells app (W.seen world.old) (W.seen world.new)) }
     ensures continues { Continues W.Tells (W.seen world.old) (W.seen world.new) }
 {
     let mut intake = Intake::new(alloc, &[])?;
@@ -129,6 +135,7 @@ fn try_all<W: World>(
     requires frame { frame.now ≡ restore_frame }
     requires none { tries.old.items ≡ [] }
     ensures ok { IfOk result (λ found. Restarts W.Tells app (W.seen world.old) (W.seen world.new) found tries.new.items) }
+    ensures talks { OnErr result (TalksOn W.Tells app (W.seen world.old) (W.seen world.new)) }
     ensures continues { Continues W.Tells (W.seen world.old) (W.seen world.new) }
 {
     for _attempt in 0..ATTEMPTS {
@@ -156,6 +163,8 @@ pub fn restart<W: World>(
     ensures rest { IfOk result (λ r. r.back ≡ false → app.new.rest ≡ []) }
     ensures index { app.new.index ≡ app.old.index }
     ensures err { OnErr result (app.new ≡ app.old) }
+    // Where memory was wanting too, the attempts go on with the dialogue.
+    ensures talks { OnErr result (W.Tells → (s : Before) → s.running ≡ is_running app.old.index (state (W.seen world.old)) → Talks app.old.index s (W.seen world.old) (W.seen world.new)) }
     ensures continues { Continues W.Tells (W.seen world.old) (W.seen world.new) }
 {
     let frame = encode_host(alloc, &HostFrame::Restore(ByteList::new(alloc)))?;

@@ -1,9 +1,12 @@
 //! The turn of an application at an event.
 
-ghost use Rattle.std.specs.Prelude.{◌≡◌, [], IfOk, IfErr, OnOk, OnErr};
+ghost use Rattle.std.specs.Prelude.{◌≡◌, true, List, [], IfOk, IfErr, OnOk, OnErr};
 ghost use Rattle.app_frames.specs.declared.frame.HostFrame.TheVariants as host;
 ghost use Rattle.app_frames.specs.Frames.{HostFits};
+ghost use Rattle.of_types.specs.declared.journal.Act.{Act};
 ghost use Rattle.lego_model.specs.Controller.{event_frame};
+ghost use Rattle.lego_model.specs.AtOnce.{Before, before, Passes};
+ghost use Rattle.app_visor.specs.Dialogues.{LeadsOn, Talks};
 ghost use Rattle.app_visor.specs.Beats.{Stops, Leads, Stays};
 ghost use Rattle.app_frames.specs.declared.frame.AppFrame.TheVariants as frames;
 ghost use Rattle.outside.specs.Seen.{Continues};
@@ -60,6 +63,7 @@ fn answer<W: World, J: Judge>(
     ensures leads { OnOk result (Leads W.Tells app (W.seen world.old) (W.seen world.new) txn.old.net.now txn.new.net.now) }
     ensures ok { IfOk result (Plays W.Tells (J.accepts judge.now) app (frames.Message dpid bytes) (W.seen world.old) (W.seen world.new) txn.old.net.now txn.new.net.now) }
     ensures err { IfErr result (λ fault. Stops W.Tells app (W.seen world.old) (W.seen world.new) txn.old.net.now txn.new.net.now fault) }
+    ensures talks { OnErr result (W.Tells → (s : Before) → LeadsOn app s (W.seen world.old) (W.seen world.new)) }
 {
     if exchange(alloc, world, txn, app, dpid, bytes.as_slice())? {
         Ok(None)
@@ -82,6 +86,7 @@ fn play<W: World, J: Judge>(
     ensures leads { OnOk result (Leads W.Tells app (W.seen world.old) (W.seen world.new) txn.old.net.now txn.new.net.now) }
     ensures ok { IfOk result (Plays W.Tells (J.accepts judge.now) app frame (W.seen world.old) (W.seen world.new) txn.old.net.now txn.new.net.now) }
     ensures err { IfErr result (λ fault. Stops W.Tells app (W.seen world.old) (W.seen world.new) txn.old.net.now txn.new.net.now fault) }
+    ensures talks { OnErr result (W.Tells → (s : Before) → LeadsOn app s (W.seen world.old) (W.seen world.new)) }
 {
     match frame {
         AppFrame::Message(dpid, bytes) => answer(alloc, world, txn, judge, app, dpid, bytes),
@@ -106,6 +111,7 @@ fn play_next<W: World, J: Judge>(
     ensures leads { OnOk result (Leads W.Tells app (W.seen world.old) (W.seen world.new) txn.old.net.now txn.new.net.now) }
     ensures ok { IfOk result (λ end. FramePlayed W.Tells (J.accepts judge.now) app end intake.old intake.new (W.seen world.old) (W.seen world.new) txn.old.net.now txn.new.net.now) }
     ensures err { IfErr result (λ fault. Stops W.Tells app (W.seen world.old) (W.seen world.new) txn.old.net.now txn.new.net.now fault) }
+    ensures talks { OnErr result (W.Tells → (since : List Act) → LeadsOn app (before intake.old since) (W.seen world.old) (W.seen world.new)) }
 {
     match next_frame(alloc, world, app, intake)? {
         Came::Frame(frame) => play(alloc, world, txn, judge, app, frame),
@@ -127,6 +133,7 @@ fn play_all<W: World, J: Judge>(
     ensures start { txn.new.start ≡ txn.old.start }
     ensures ok { IfOk result (λ end. TurnsFrom W.Tells (J.accepts judge.now) app budget intake.old (W.seen world.old) (W.seen world.new) txn.old.net.now txn.new.net.now end intake.new) }
     ensures err { IfErr result (λ fault. Stops W.Tells app (W.seen world.old) (W.seen world.new) txn.old.net.now txn.new.net.now fault) }
+    ensures talks { OnErr result (W.Tells → LeadsOn app (before intake.old []) (W.seen world.old) (W.seen world.new)) }
 {
     for _played in 0..budget {
         if let Some(end) = play_next(alloc, world, txn, judge, app, intake)? {
@@ -171,6 +178,8 @@ pub fn turn<W: World, J: Judge>(
     // Memory was wanting, or the network failed at a message; nothing is unread then.
     ensures err_rest { OnErr result (app.new.rest ≡ []) }
     ensures err { IfErr result (λ fault. Stops W.Tells app.old.index (W.seen world.old) (W.seen world.new) txn.old.net.now txn.new.net.now fault) }
+    // Then too the turn goes on with the dialogue, where the application runs.
+    ensures talks { OnErr result (W.Tells → (s : Before) → s.running ≡ true → Passes s.unread app.old.rest → Talks app.old.index s (W.seen world.old) (W.seen world.new)) }
     ensures continues { Continues W.Tells (W.seen world.old) (W.seen world.new) }
 {
     let rest = replace(&mut app.rest, ByteList::new(alloc));

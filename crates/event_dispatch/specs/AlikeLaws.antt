@@ -1,24 +1,24 @@
--- Laws of whole runs that a fault ended: they are the reference controller's as far as they go.
+-- Laws of whole runs that a fault ended: they are the reference controller's as far as they go, if the world kept its word as far as there.
 use Rattle.std.proofs.Common.{◌≡◌, ℕ, ◌<◌, Bool, true, false, List, [], ◌++◌, length, Option, sym, ap, ◌∙◌, subst, arith, inl, inr}
 use Rattle.std.specs.Io.KnownBytes.{append_known}
 use Rattle.lego_io.specs.Sink.{TookPart}
 use Rattle.lego_io.specs.ToldLaws.{append_known-nil, append_known-append}
 use Rattle.flow_table.specs.declared.view.TableView.{TableView}
 use Rattle.lego_model.specs.Places.{Place}
-use Rattle.outside.specs.Seen.{Seen, Continues}
+use Rattle.outside.specs.Seen.{Seen, Longer, Continues, journal}
+use Rattle.lego_model.specs.AtOnce.{AtOnce}
 use Rattle.outside.specs.SeenLaws.{Continues-trans}
 use Rattle.outside.specs.StateLaws.{Conforming-before}
 use Rattle.outside.specs.Conforming.{Conforming}
-use Rattle.shown_runs.specs.Engine.{Engine, stimuli_in}
+use Rattle.shown_runs.specs.Engine.{Engine, index, stimuli_in}
 use Rattle.shown_runs.specs.Readings.{JudgesAlike}
 use Rattle.shown_runs.specs.Moves.{Moved, Rounds}
 use Rattle.shown_runs.specs.FirstLaws.{IsOpened, engine_at_first, settled-first}
-use Rattle.shown_runs.specs.StimuliLaws.{fewer-before}
 use Rattle.shown_runs.specs.EndingLaws.{whole-of}
 use Rattle.shown_runs.specs.WholeRun.{all_started}
-use Rattle.shown_runs.specs.Promise.{most_rounds}
-use Rattle.shown_runs.specs.Cut.{CutAlike, CutWriting, GoneSoFar}
-use Rattle.shown_runs.specs.CutLaws.{gone-none, gone-rounds, gone-happens, gone-still, gone-more, gone-whole, cut-alike, cut-at-start, cut-at-event, cut-at-end}
+use Rattle.shown_runs.specs.Promise.{most_rounds, PremiseSoFar}
+use Rattle.shown_runs.specs.Cut.{CutSo, WritingSo, CutAlike, CutWriting, GoneSoFar}
+use Rattle.shown_runs.specs.CutLaws.{gone-none, gone-rounds, gone-happens, gone-still, gone-more, gone-whole, cut-so, start-so, event-so, end-so}
 use Rattle.event_dispatch.specs.declared.batch.Rest.{Rest}
 use Rattle.event_dispatch.specs.declared.batch.Rest.TheVariants as rests
 use Rattle.event_dispatch.specs.declared.fault.Fault.{Fault}
@@ -27,7 +27,8 @@ use Rattle.event_dispatch.specs.declared.served.Served.{Served}
 use Rattle.event_dispatch.specs.Why.{served_by}
 use Rattle.event_dispatch.specs.Shows.{engine_of}
 use Rattle.event_dispatch.specs.RoundLaws.{writes_then}
-use Rattle.event_dispatch.specs.Serves.{IsBatch, IsAlike}
+use Rattle.event_dispatch.specs.Talking.{KeepsTalking, GoesOnTalking}
+use Rattle.event_dispatch.specs.Serves.{IsBatch, IsCut}
 use Rattle.event_dispatch.specs.Cut.{IsStill, CutOne, CutBehind, CutRound, StartPart, CutStart, CutEnd, CutGoing, CutEnding, CutGoes, CutRun}
 
 -- ---- A fault that is not the sink's
@@ -44,143 +45,168 @@ still_held faults.NoMemory a b still = still
 
 one_held : {Own : Type 0} (Tells : Type 0) (accepts : List TableView → Bool) (fault : Fault) (a b : Option (List ℕ)) (old new : Seen Own) (e : Engine) → NotWrite fault → CutOne Tells accepts fault a b old new e → b ≡ a
 one_held Tells accepts faults.Write a b old new e other cut = absurd other
-one_held Tells accepts faults.Next a b old new e other cut = cut
-one_held Tells accepts (faults.Txn fault) a b old new e other cut = cut
-one_held Tells accepts faults.NoMemory a b old new e other cut = cut
+one_held Tells accepts faults.Next a b old new e other cut = cut.0
+one_held Tells accepts (faults.Txn fault) a b old new e other cut = cut.0
+one_held Tells accepts faults.NoMemory a b old new e other cut = cut.0
 
 start_held : {Own : Type 0} (Tells : Type 0) (fault : Fault) (a b : Option (List ℕ)) (old new : Seen Own) (e : Engine) → NotWrite fault → CutStart Tells fault a b old new e → b ≡ a
 start_held Tells faults.Write a b old new e other cut = absurd other
-start_held Tells faults.Next a b old new e other cut = cut
-start_held Tells (faults.Txn fault) a b old new e other cut = cut
-start_held Tells faults.NoMemory a b old new e other cut = cut
+start_held Tells faults.Next a b old new e other cut = cut.0
+start_held Tells (faults.Txn fault) a b old new e other cut = cut.0
+start_held Tells faults.NoMemory a b old new e other cut = cut.0
 
 end_held : {Own : Type 0} (Tells : Type 0) (fault : Fault) (a b : Option (List ℕ)) (old new : Seen Own) (e : Engine) → NotWrite fault → CutEnd Tells fault a b old new e → b ≡ a
 end_held Tells faults.Write a b old new e other cut = absurd other
-end_held Tells faults.Next a b old new e other cut = cut
-end_held Tells (faults.Txn fault) a b old new e other cut = cut
-end_held Tells faults.NoMemory a b old new e other cut = cut
+end_held Tells faults.Next a b old new e other cut = cut.0
+end_held Tells (faults.Txn fault) a b old new e other cut = cut.0
+end_held Tells faults.NoMemory a b old new e other cut = cut.0
+
+-- ---- Which goes on with the dialogue
+
+one_talks : {Own : Type 0} (Tells : Type 0) (accepts : List TableView → Bool) (fault : Fault) (a b : Option (List ℕ)) (old new : Seen Own) (e : Engine) → NotWrite fault → CutOne Tells accepts fault a b old new e → GoesOnTalking Tells old new e
+one_talks Tells accepts faults.Write a b old new e other cut = absurd other
+one_talks Tells accepts faults.Next a b old new e other cut = cut.1
+one_talks Tells accepts (faults.Txn fault) a b old new e other cut = cut.1
+one_talks Tells accepts faults.NoMemory a b old new e other cut = cut.1
+
+start_talks : {Own : Type 0} (Tells : Type 0) (fault : Fault) (a b : Option (List ℕ)) (old new : Seen Own) (e : Engine) → NotWrite fault → CutStart Tells fault a b old new e → KeepsTalking Tells old new
+start_talks Tells faults.Write a b old new e other cut = absurd other
+start_talks Tells faults.Next a b old new e other cut = cut.1
+start_talks Tells (faults.Txn fault) a b old new e other cut = cut.1
+start_talks Tells faults.NoMemory a b old new e other cut = cut.1
+
+end_talks : {Own : Type 0} (Tells : Type 0) (fault : Fault) (a b : Option (List ℕ)) (old new : Seen Own) (e : Engine) → NotWrite fault → CutEnd Tells fault a b old new e → KeepsTalking Tells old new
+end_talks Tells faults.Write a b old new e other cut = absurd other
+end_talks Tells faults.Next a b old new e other cut = cut.1
+end_talks Tells (faults.Txn fault) a b old new e other cut = cut.1
+end_talks Tells faults.NoMemory a b old new e other cut = cut.1
 
 -- ---- What is supposed of a world that was opened, whose run stopped somewhere
 
 record Supposed {Own : Type 0} (Tells : Type 0) (accepts : List TableView → Bool) (allows : List Place → Bool) (first stop seen : Seen Own) : Type 0 where
   told : Tells
-  keeps : Conforming seen
   judges : JudgesAlike Own allows accepts
   opened : IsOpened first
-  few : length (stimuli_in seen) < most_rounds
+  few : (front : Seen Own) → Conforming front → seen.given ≡ front.given → Longer front.history seen.history → length (stimuli_in front) < most_rounds
   whole : Continues Tells first seen
   later : Continues Tells stop seen
+  talks : KeepsTalking Tells stop seen
 
-stop_keeps : {Own : Type 0} {Tells : Type 0} {accepts : List TableView → Bool} {allows : List Place → Bool} {first stop seen : Seen Own} → Supposed Tells accepts allows first stop seen → Conforming stop
-stop_keeps p = Conforming-before p.told p.later p.keeps
+-- up to a place from which the run went on to where it stopped
+cut_at : {Own : Type 0} {Tells : Type 0} {accepts : List TableView → Bool} {allows : List Place → Bool} (a b : Option (List ℕ)) (first stop seen : Seen Own) (p : Supposed Tells accepts allows first stop seen) (last : Seen Own) → Continues Tells last stop → (Conforming last → AtOnce index (journal stop.history)) → (Conforming last → CutSo allows last a b) → CutAlike allows seen a b
+cut_at {Tells = Tells} a b first stop seen p last on said so =
+    let later = Continues-trans Tells last stop seen on p.later in
+    record { last = last; given = later.given; later = later.told p.told; so = so; at_once = λ keeps. p.talks.talks p.told (said keeps) }
 
-on_from : {Own : Type 0} {Tells : Type 0} {accepts : List TableView → Bool} {allows : List Place → Bool} {first stop seen : Seen Own} (p : Supposed Tells accepts allows first stop seen) (mid : Seen Own) → Continues Tells mid stop → Continues Tells mid seen
-on_from {Tells = Tells} {stop = stop} {seen = seen} p mid later = Continues-trans Tells mid stop seen later p.later
+-- up to where it stopped
+writing_at : {Own : Type 0} {Tells : Type 0} {accepts : List TableView → Bool} {allows : List Place → Bool} (a b : Option (List ℕ)) (first stop seen : Seen Own) (p : Supposed Tells accepts allows first stop seen) → (Conforming stop → WritingSo allows stop a b) → CutWriting allows seen a b
+writing_at a b first stop seen p so = record { last = stop; given = p.later.given; later = p.later.told p.told; so = so; at_once = λ keeps. p.talks.talks p.told (so keeps).up_to.at_once }
 
 -- ---- The start
 
-start_alike : {Own : Type 0} {Tells : Type 0} {accepts : List TableView → Bool} {allows : List Place → Bool} {a b : Option (List ℕ)} {first stop seen : Seen Own} (p : Supposed Tells accepts allows first stop seen) → b ≡ a → CutAlike allows seen a b
-start_alike {allows = allows} {a = a} {b = b} {first = first} {seen = seen} p same =
-    cut-alike allows false 0 [] a b first first seen engine_at_first p.opened (gone-none allows first engine_at_first (settled-first first p.opened)) (omega arith) (Conforming-before p.told p.whole p.keeps) p.whole.given (p.whole.told p.told)
-    (same ∙ sym (append_known-nil a))
+start_alike : {Own : Type 0} {Tells : Type 0} {accepts : List TableView → Bool} {allows : List Place → Bool} {a b : Option (List ℕ)} {first stop seen : Seen Own} (p : Supposed Tells accepts allows first stop seen) → b ≡ a → KeepsTalking Tells first stop → CutAlike allows seen a b
+start_alike {allows = allows} {a = a} {b = b} {first = first} p same talks = record {
+  last = first;
+  given = p.whole.given;
+  later = p.whole.told p.told;
+  so = λ keeps. cut-so allows false 0 [] a b first first engine_at_first p.opened (gone-none allows first engine_at_first (settled-first first p.opened)) (omega arith) keeps (same ∙ sym (append_known-nil a));
+  at_once = λ keeps. p.talks.talks p.told (talks.talks p.told (settled-first first p.opened).speaks.at_once);
+}
 
 start_writing : {Own : Type 0} {Tells : Type 0} {accepts : List TableView → Bool} {allows : List Place → Bool} {a b : Option (List ℕ)} {first stop seen : Seen Own} (p : Supposed Tells accepts allows first stop seen) → StartPart Tells a b first stop engine_at_first → CutWriting allows seen a b
 start_writing {allows = allows} {a = a} {b = b} {first = first} {stop = stop} {seen = seen} p cut =
-    cut-at-start allows cut.more a b first stop seen cut.now_engine p.opened (cut.shown.moved p.told (stop_keeps p) (settled-first first p.opened)) (stop_keeps p) p.later.given (p.later.told p.told) cut.part
+    writing_at a b first stop seen p (λ keeps. start-so allows cut.more a b first stop cut.now_engine p.opened (cut.shown.moved p.told keeps (settled-first first p.opened)) keeps cut.part)
 
 -- ---- Rounds
 
-begun_moved : {Own : Type 0} {Tells : Type 0} {accepts : List TableView → Bool} {allows : List Place → Bool} {fault : Fault} {a b : Option (List ℕ)} {first stop seen : Seen Own} (p : Supposed Tells accepts allows first stop seen) (g : CutGoing Tells accepts fault a b first stop engine_at_first) → Moved [] all_started g.text first g.begun engine_at_first (engine_of g.begun_run)
-begun_moved {first = first} p g = g.starts.moved p.told (Conforming-before p.told g.later (stop_keeps p)) (settled-first first p.opened)
+begun_moved : {Own : Type 0} {Tells : Type 0} {accepts : List TableView → Bool} {allows : List Place → Bool} {fault : Fault} {a b : Option (List ℕ)} {first stop seen : Seen Own} (p : Supposed Tells accepts allows first stop seen) (g : CutGoing Tells accepts fault a b first stop engine_at_first) → Conforming g.rounds.mid → Moved [] all_started g.text first g.begun engine_at_first (engine_of g.begun_run)
+begun_moved {first = first} p g keeps = g.starts.moved p.told (Conforming-before p.told g.rounds.on keeps) (settled-first first p.opened)
 
-mid_keeps : {Own : Type 0} {Tells : Type 0} {accepts : List TableView → Bool} {allows : List Place → Bool} {fault : Fault} {a b : Option (List ℕ)} {first stop seen : Seen Own} (p : Supposed Tells accepts allows first stop seen) (g : CutGoing Tells accepts fault a b first stop engine_at_first) → Conforming g.rounds.mid
-mid_keeps p g = Conforming-before p.told g.rounds.later (stop_keeps p)
-
-rounds_moved : {Own : Type 0} {Tells : Type 0} {accepts : List TableView → Bool} {allows : List Place → Bool} {fault : Fault} {a b : Option (List ℕ)} {first stop seen : Seen Own} (p : Supposed Tells accepts allows first stop seen) (g : CutGoing Tells accepts fault a b first stop engine_at_first) → Rounds allows g.rounds.number g.rounds.rounds.text g.begun g.rounds.mid (engine_of g.begun_run) (engine_of g.rounds.mid_run)
-rounds_moved {allows = allows} p g = g.rounds.rounds.shown.rounds_so allows p.told (mid_keeps p g) p.judges (begun_moved p g).settled
+rounds_moved : {Own : Type 0} {Tells : Type 0} {accepts : List TableView → Bool} {allows : List Place → Bool} {fault : Fault} {a b : Option (List ℕ)} {first stop seen : Seen Own} (p : Supposed Tells accepts allows first stop seen) (g : CutGoing Tells accepts fault a b first stop engine_at_first) → Conforming g.rounds.mid → Rounds allows g.rounds.number g.rounds.rounds.text g.begun g.rounds.mid (engine_of g.begun_run) (engine_of g.rounds.mid_run)
+rounds_moved {allows = allows} p g keeps = g.rounds.rounds.shown.rounds_so allows p.told keeps p.judges (begun_moved p g keeps).settled
 
 rounds_held : {Own : Type 0} {Tells : Type 0} {accepts : List TableView → Bool} {allows : List Place → Bool} {fault : Fault} {a b : Option (List ℕ)} {first stop seen : Seen Own} (p : Supposed Tells accepts allows first stop seen) (g : CutGoing Tells accepts fault a b first stop engine_at_first) → g.rounds.held ≡ append_known a (g.text ++ g.rounds.rounds.text)
 rounds_held {a = a} p g = (writes_then g.text g.rounds.rounds.text a g.held g.rounds.held g.begun_run g.rounds.mid_run g.writes g.rounds.rounds.writes).written
 
-rounds_gone : {Own : Type 0} {Tells : Type 0} {accepts : List TableView → Bool} {allows : List Place → Bool} {fault : Fault} {a b : Option (List ℕ)} {first stop seen : Seen Own} (p : Supposed Tells accepts allows first stop seen) (g : CutGoing Tells accepts fault a b first stop engine_at_first) → GoneSoFar allows true 0 (g.text ++ g.rounds.rounds.text) first g.rounds.mid engine_at_first (engine_of g.rounds.mid_run)
-rounds_gone {allows = allows} {first = first} p g =
-    gone-rounds allows g.rounds.number g.text g.rounds.rounds.text first g.begun g.rounds.mid engine_at_first (engine_of g.begun_run) (engine_of g.rounds.mid_run) (begun_moved p g) (rounds_moved p g)
+rounds_gone : {Own : Type 0} {Tells : Type 0} {accepts : List TableView → Bool} {allows : List Place → Bool} {fault : Fault} {a b : Option (List ℕ)} {first stop seen : Seen Own} (p : Supposed Tells accepts allows first stop seen) (g : CutGoing Tells accepts fault a b first stop engine_at_first) → Conforming g.rounds.mid → GoneSoFar allows true 0 (g.text ++ g.rounds.rounds.text) first g.rounds.mid engine_at_first (engine_of g.rounds.mid_run)
+rounds_gone {allows = allows} {first = first} p g keeps =
+    gone-rounds allows g.rounds.number g.text g.rounds.rounds.text first g.begun g.rounds.mid engine_at_first (engine_of g.begun_run) (engine_of g.rounds.mid_run) (begun_moved p g keeps) (rounds_moved p g keeps)
 
 -- a batch more
-batch_gone : {Own : Type 0} {Tells : Type 0} {accepts : List TableView → Bool} {allows : List Place → Bool} {fault : Fault} {a b : Option (List ℕ)} {first stop seen : Seen Own} (p : Supposed Tells accepts allows first stop seen) (g : CutGoing Tells accepts fault a b first stop engine_at_first) (rest : Rest) (behind : Seen Own) (e : Engine) → Conforming behind → IsBatch Tells rest g.rounds.mid behind (engine_of g.rounds.mid_run) e → GoneSoFar allows true 0 (g.text ++ g.rounds.rounds.text) first behind engine_at_first e
-batch_gone {allows = allows} {first = first} p g rests.Idle behind e keeps batch =
-    gone-happens allows g.rounds.number g.text g.rounds.rounds.text first g.begun g.rounds.mid behind engine_at_first (engine_of g.begun_run) (engine_of g.rounds.mid_run) e (begun_moved p g) (rounds_moved p g)
-    (batch.happens p.told keeps (rounds_moved p g).moved.settled)
-batch_gone {allows = allows} {first = first} p g rests.End behind e keeps batch =
-    gone-still allows true 0 (g.text ++ g.rounds.rounds.text) first g.rounds.mid behind engine_at_first (engine_of g.rounds.mid_run) e (rounds_gone p g) (batch.over.moved p.told keeps (rounds_moved p g).moved.settled)
+batch_gone : {Own : Type 0} {Tells : Type 0} {accepts : List TableView → Bool} {allows : List Place → Bool} {fault : Fault} {a b : Option (List ℕ)} {first stop seen : Seen Own} (p : Supposed Tells accepts allows first stop seen) (g : CutGoing Tells accepts fault a b first stop engine_at_first) (rest : Rest) (behind : Seen Own) (e : Engine) → Conforming g.rounds.mid → Conforming behind → IsBatch Tells rest g.rounds.mid behind (engine_of g.rounds.mid_run) e → GoneSoFar allows true 0 (g.text ++ g.rounds.rounds.text) first behind engine_at_first e
+batch_gone {allows = allows} {first = first} p g rests.Idle behind e keeps_mid keeps batch =
+    gone-happens allows g.rounds.number g.text g.rounds.rounds.text first g.begun g.rounds.mid behind engine_at_first (engine_of g.begun_run) (engine_of g.rounds.mid_run) e (begun_moved p g keeps_mid) (rounds_moved p g keeps_mid)
+    (batch.happens p.told keeps (rounds_moved p g keeps_mid).moved.settled)
+batch_gone {allows = allows} {first = first} p g rests.End behind e keeps_mid keeps batch =
+    gone-still allows true 0 (g.text ++ g.rounds.rounds.text) first g.rounds.mid behind engine_at_first (engine_of g.rounds.mid_run) e (rounds_gone p g keeps_mid) (batch.over.moved p.told keeps (rounds_moved p g keeps_mid).moved.settled)
 
 -- and events behind it
-some_keeps : {Own : Type 0} {Tells : Type 0} {accepts : List TableView → Bool} {allows : List Place → Bool} {fault : Fault} {a b : Option (List ℕ)} {first stop seen : Seen Own} (p : Supposed Tells accepts allows first stop seen) (g : CutGoing Tells accepts fault a b first stop engine_at_first) (h : CutBehind Tells accepts fault g.rounds.held b g.rounds.mid stop g.rounds.mid_run) → Conforming h.some.mid
-some_keeps p g h = Conforming-before p.told h.some.later (stop_keeps p)
+behind_gone : {Own : Type 0} {Tells : Type 0} {accepts : List TableView → Bool} {allows : List Place → Bool} {fault : Fault} {a b : Option (List ℕ)} {first stop seen : Seen Own} (p : Supposed Tells accepts allows first stop seen) (g : CutGoing Tells accepts fault a b first stop engine_at_first) (h : CutBehind Tells accepts fault g.rounds.held b g.rounds.mid stop g.rounds.mid_run) → Conforming h.mid → GoneSoFar allows true 0 (g.text ++ g.rounds.rounds.text) first h.mid engine_at_first (engine_of h.mid_run)
+behind_gone p g h keeps = batch_gone p g h.rest h.mid (engine_of h.mid_run) (Conforming-before p.told h.first keeps) keeps h.batch
 
-behind_gone : {Own : Type 0} {Tells : Type 0} {accepts : List TableView → Bool} {allows : List Place → Bool} {fault : Fault} {a b : Option (List ℕ)} {first stop seen : Seen Own} (p : Supposed Tells accepts allows first stop seen) (g : CutGoing Tells accepts fault a b first stop engine_at_first) (h : CutBehind Tells accepts fault g.rounds.held b g.rounds.mid stop g.rounds.mid_run) → GoneSoFar allows true 0 (g.text ++ g.rounds.rounds.text) first h.mid engine_at_first (engine_of h.mid_run)
-behind_gone p g h = batch_gone p g h.rest h.mid (engine_of h.mid_run) (Conforming-before p.told h.later (stop_keeps p)) h.batch
-
-some_gone : {Own : Type 0} {Tells : Type 0} {accepts : List TableView → Bool} {allows : List Place → Bool} {fault : Fault} {a b : Option (List ℕ)} {first stop seen : Seen Own} (p : Supposed Tells accepts allows first stop seen) (g : CutGoing Tells accepts fault a b first stop engine_at_first) (h : CutBehind Tells accepts fault g.rounds.held b g.rounds.mid stop g.rounds.mid_run) → GoneSoFar allows true h.some.number ((g.text ++ g.rounds.rounds.text) ++ h.some.some.text) first h.some.mid engine_at_first (engine_of h.some.mid_run)
-some_gone {allows = allows} {first = first} p g h =
-    gone-more allows true h.some.number (g.text ++ g.rounds.rounds.text) h.some.some.text first h.mid h.some.mid engine_at_first (engine_of h.mid_run) (engine_of h.some.mid_run) (behind_gone p g h)
-    (h.some.some.shown.moved allows p.told (some_keeps p g h) p.judges (behind_gone p g h).moved.settled)
+some_gone : {Own : Type 0} {Tells : Type 0} {accepts : List TableView → Bool} {allows : List Place → Bool} {fault : Fault} {a b : Option (List ℕ)} {first stop seen : Seen Own} (p : Supposed Tells accepts allows first stop seen) (g : CutGoing Tells accepts fault a b first stop engine_at_first) (h : CutBehind Tells accepts fault g.rounds.held b g.rounds.mid stop g.rounds.mid_run) → Conforming h.some.mid → GoneSoFar allows true h.some.number ((g.text ++ g.rounds.rounds.text) ++ h.some.some.text) first h.some.mid engine_at_first (engine_of h.some.mid_run)
+some_gone {allows = allows} {first = first} p g h keeps =
+    let before = behind_gone p g h (Conforming-before p.told h.some.on keeps) in
+    gone-more allows true h.some.number (g.text ++ g.rounds.rounds.text) h.some.some.text first h.mid h.some.mid engine_at_first (engine_of h.mid_run) (engine_of h.some.mid_run) before
+    (h.some.some.shown.moved allows p.told keeps p.judges before.moved.settled)
 
 some_held : {Own : Type 0} {Tells : Type 0} {accepts : List TableView → Bool} {allows : List Place → Bool} {fault : Fault} {a b : Option (List ℕ)} {first stop seen : Seen Own} (p : Supposed Tells accepts allows first stop seen) (g : CutGoing Tells accepts fault a b first stop engine_at_first) (h : CutBehind Tells accepts fault g.rounds.held b g.rounds.mid stop g.rounds.mid_run) → h.some.held ≡ append_known a ((g.text ++ g.rounds.rounds.text) ++ h.some.some.text)
 some_held {a = a} p g h =
     h.some.some.writes.written ∙ ap (λ (o : Option (List ℕ)). append_known o h.some.some.text) (rounds_held p g) ∙ sym (append_known-append a (g.text ++ g.rounds.rounds.text) h.some.some.text)
 
 round_alike : {Own : Type 0} {Tells : Type 0} {accepts : List TableView → Bool} {allows : List Place → Bool} {fault : Fault} {a b : Option (List ℕ)} {first stop seen : Seen Own} (p : Supposed Tells accepts allows first stop seen) (g : CutGoing Tells accepts fault a b first stop engine_at_first) → NotWrite fault → CutRound Tells accepts fault g.rounds.held b g.rounds.mid stop g.rounds.mid_run → CutAlike allows seen a b
-round_alike {allows = allows} {fault = fault} {a = a} {b = b} {first = first} {seen = seen} p g other (inl still) =
-    let on = on_from p g.rounds.mid g.rounds.later in
-    cut-alike allows true 0 (g.text ++ g.rounds.rounds.text) a b first g.rounds.mid seen (engine_of g.rounds.mid_run) p.opened (rounds_gone p g) (omega arith) (mid_keeps p g) on.given (on.told p.told)
-    (still_held fault g.rounds.held b still ∙ rounds_held p g)
+round_alike {allows = allows} {fault = fault} {a = a} {b = b} {first = first} {stop = stop} {seen = seen} p g other (inl still) =
+    cut_at a b first stop seen p g.rounds.mid g.rounds.later (λ keeps. still.1.talks p.told (rounds_gone p g keeps).moved.settled.speaks.at_once) (λ keeps.
+    cut-so allows true 0 (g.text ++ g.rounds.rounds.text) a b first g.rounds.mid (engine_of g.rounds.mid_run) p.opened (rounds_gone p g keeps) (omega arith) keeps
+    (still_held fault g.rounds.held b still.0 ∙ rounds_held p g))
 round_alike {Tells = Tells} {accepts = accepts} {allows = allows} {fault = fault} {a = a} {b = b} {first = first} {stop = stop} {seen = seen} p g other (inr h) =
-    let on = on_from p h.some.mid h.some.later in
-    cut-alike allows true h.some.number ((g.text ++ g.rounds.rounds.text) ++ h.some.some.text) a b first h.some.mid seen (engine_of h.some.mid_run) p.opened (some_gone p g h) (omega (arith, h.some.few)) (some_keeps p g h) on.given (on.told p.told)
-    (one_held Tells accepts fault h.some.held b h.some.mid stop (engine_of h.some.mid_run) other h.some.one ∙ some_held p g h)
+    cut_at a b first stop seen p h.some.mid h.some.later
+    (λ keeps. (one_talks Tells accepts fault h.some.held b h.some.mid stop (engine_of h.some.mid_run) other h.some.one).talks p.told (some_gone p g h keeps).moved.settled.speaks) (λ keeps.
+    cut-so allows true h.some.number ((g.text ++ g.rounds.rounds.text) ++ h.some.some.text) a b first h.some.mid (engine_of h.some.mid_run) p.opened (some_gone p g h keeps) (omega (arith, h.some.few)) keeps
+    (one_held Tells accepts fault h.some.held b h.some.mid stop (engine_of h.some.mid_run) other h.some.one ∙ some_held p g h))
 
 round_writing : {Own : Type 0} {Tells : Type 0} {accepts : List TableView → Bool} {allows : List Place → Bool} {a b : Option (List ℕ)} {first stop seen : Seen Own} (p : Supposed Tells accepts allows first stop seen) (g : CutGoing Tells accepts faults.Write a b first stop engine_at_first) → CutRound Tells accepts faults.Write g.rounds.held b g.rounds.mid stop g.rounds.mid_run → CutWriting allows seen a b
-round_writing p g (inl still) = absurd still
+round_writing p g (inl still) = absurd still.0
 round_writing {allows = allows} {a = a} {b = b} {first = first} {stop = stop} {seen = seen} p g (inr h) =
     let one = h.some.one in
-    let gone = some_gone p g h in
-    cut-at-event allows h.some.number ((g.text ++ g.rounds.rounds.text) ++ h.some.some.text) one.more a b first h.some.mid stop seen (engine_of h.some.mid_run) one.now_engine p.opened gone
-    (one.shown.moved allows p.told (stop_keeps p) p.judges gone.moved.settled) h.some.few (stop_keeps p) p.later.given (p.later.told p.told)
-    (subst (λ (held : Option (List ℕ)). TookPart held b one.more) (some_held p g h) one.part)
+    writing_at a b first stop seen p (λ keeps.
+    let gone = some_gone p g h (Conforming-before p.told h.some.later keeps) in
+    event-so allows h.some.number ((g.text ++ g.rounds.rounds.text) ++ h.some.some.text) one.more a b first h.some.mid stop (engine_of h.some.mid_run) one.now_engine p.opened gone
+    (one.shown.moved allows p.told keeps p.judges gone.moved.settled) h.some.few keeps
+    (subst (λ (held : Option (List ℕ)). TookPart held b one.more) (some_held p g h) one.part))
 
 -- ---- The end
 
-last_keeps : {Own : Type 0} {Tells : Type 0} {accepts : List TableView → Bool} {allows : List Place → Bool} {fault : Fault} {a b : Option (List ℕ)} {first stop seen : Seen Own} (p : Supposed Tells accepts allows first stop seen) (n : CutEnding Tells accepts fault a b first stop engine_at_first) → Conforming n.last
-last_keeps p n = Conforming-before p.told n.later (stop_keeps p)
-
-last_gone : {Own : Type 0} {Tells : Type 0} {accepts : List TableView → Bool} {allows : List Place → Bool} {fault : Fault} {a b : Option (List ℕ)} {first stop seen : Seen Own} (p : Supposed Tells accepts allows first stop seen) (n : CutEnding Tells accepts fault a b first stop engine_at_first) → GoneSoFar allows true 1000 (n.text ++ n.rounds.text) first n.last engine_at_first (engine_of n.last_run)
-last_gone {Tells = Tells} {accepts = accepts} {allows = allows} {first = first} {seen = seen} p n =
+last_gone : {Own : Type 0} {Tells : Type 0} {accepts : List TableView → Bool} {allows : List Place → Bool} {fault : Fault} {a b : Option (List ℕ)} {first stop seen : Seen Own} (p : Supposed Tells accepts allows first stop seen) (n : CutEnding Tells accepts fault a b first stop engine_at_first) → Conforming n.last → GoneSoFar allows true 1000 (n.text ++ n.rounds.text) first n.last engine_at_first (engine_of n.last_run)
+last_gone {Tells = Tells} {accepts = accepts} {allows = allows} {first = first} {stop = stop} {seen = seen} p n keeps =
+    let later = Continues-trans Tells n.last stop seen n.later p.later in
     gone-whole allows (n.text ++ n.rounds.text) first n.last engine_at_first (engine_of n.last_run)
-    ((whole-of Tells accepts most_rounds n.text n.rounds.text first n.begun n.last engine_at_first (engine_of n.begun_run) (engine_of n.last_run) n.on n.starts n.rounds.shown).whole_so allows p.told (last_keeps p n) p.judges (settled-first first p.opened)
-    (fewer-before Tells n.last seen p.told (on_from p n.last n.later) p.few))
+    ((whole-of Tells accepts most_rounds n.text n.rounds.text first n.begun n.last engine_at_first (engine_of n.begun_run) (engine_of n.last_run) n.on n.starts n.rounds.shown).whole_so allows p.told keeps p.judges (settled-first first p.opened)
+    (p.few n.last keeps later.given (later.told p.told)))
 
 last_held : {Own : Type 0} {Tells : Type 0} {accepts : List TableView → Bool} {allows : List Place → Bool} {fault : Fault} {a b : Option (List ℕ)} {first stop seen : Seen Own} (p : Supposed Tells accepts allows first stop seen) (n : CutEnding Tells accepts fault a b first stop engine_at_first) → n.last_held ≡ append_known a (n.text ++ n.rounds.text)
 last_held {a = a} p n = (writes_then n.text n.rounds.text a n.held n.last_held n.begun_run n.last_run n.writes n.rounds.writes).written
 
 end_alike : {Own : Type 0} {Tells : Type 0} {accepts : List TableView → Bool} {allows : List Place → Bool} {fault : Fault} {a b : Option (List ℕ)} {first stop seen : Seen Own} (p : Supposed Tells accepts allows first stop seen) (n : CutEnding Tells accepts fault a b first stop engine_at_first) → NotWrite fault → CutAlike allows seen a b
 end_alike {Tells = Tells} {allows = allows} {fault = fault} {a = a} {b = b} {first = first} {stop = stop} {seen = seen} p n other =
-    let on = on_from p n.last n.later in
-    cut-alike allows true 1000 (n.text ++ n.rounds.text) a b first n.last seen (engine_of n.last_run) p.opened (last_gone p n) (omega arith) (last_keeps p n) on.given (on.told p.told)
-    (end_held Tells fault n.last_held b n.last stop (engine_of n.last_run) other n.ends ∙ last_held p n)
+    cut_at a b first stop seen p n.last n.later
+    (λ keeps. (end_talks Tells fault n.last_held b n.last stop (engine_of n.last_run) other n.ends).talks p.told (last_gone p n keeps).moved.settled.speaks.at_once) (λ keeps.
+    cut-so allows true 1000 (n.text ++ n.rounds.text) a b first n.last (engine_of n.last_run) p.opened (last_gone p n keeps) (omega arith) keeps
+    (end_held Tells fault n.last_held b n.last stop (engine_of n.last_run) other n.ends ∙ last_held p n))
 
 end_writing : {Own : Type 0} {Tells : Type 0} {accepts : List TableView → Bool} {allows : List Place → Bool} {a b : Option (List ℕ)} {first stop seen : Seen Own} (p : Supposed Tells accepts allows first stop seen) (n : CutEnding Tells accepts faults.Write a b first stop engine_at_first) → CutWriting allows seen a b
-end_writing {allows = allows} {a = a} {b = b} {first = first} {seen = seen} p n =
-    let on = on_from p n.last n.later in
+end_writing {allows = allows} {a = a} {b = b} {first = first} {stop = stop} {seen = seen} p n =
     let cut = n.ends in
-    let gone = last_gone p n in
-    cut-at-end allows (n.text ++ n.rounds.text) cut.more a b first n.last seen (engine_of n.last_run) p.opened gone n.none_left (cut.shown p.told (stop_keeps p) gone.moved.settled.calm) (last_keeps p n) on.given (on.told p.told)
-    (subst (λ (held : Option (List ℕ)). TookPart held b cut.more) (last_held p n) cut.part)
+    writing_at a b first stop seen p (λ keeps.
+    let gone = last_gone p n (Conforming-before p.told n.later keeps) in
+    let shown = cut.shown p.told keeps gone.moved.settled.calm in
+    end-so allows (n.text ++ n.rounds.text) cut.more a b first n.last stop (engine_of n.last_run) p.opened gone n.none_left shown.0 shown.1 keeps
+    (subst (λ (held : Option (List ℕ)). TookPart held b cut.more) (last_held p n) cut.part))
 
 -- ---- All of it
 
 goes_alike : {Own : Type 0} {Tells : Type 0} {accepts : List TableView → Bool} {allows : List Place → Bool} {fault : Fault} {a b : Option (List ℕ)} {first stop seen : Seen Own} (p : Supposed Tells accepts allows first stop seen) → NotWrite fault → CutGoes Tells accepts fault a b first stop engine_at_first → CutAlike allows seen a b
-goes_alike {Tells = Tells} {fault = fault} {a = a} {b = b} {first = first} {stop = stop} p other (inl cut) = start_alike p (start_held Tells fault a b first stop engine_at_first other cut)
+goes_alike {Tells = Tells} {fault = fault} {a = a} {b = b} {first = first} {stop = stop} p other (inl cut) = start_alike p (start_held Tells fault a b first stop engine_at_first other cut) (start_talks Tells fault a b first stop engine_at_first other cut)
 goes_alike p other (inr (inl g)) = round_alike p g other g.rounds.round
 goes_alike p other (inr (inr n)) = end_alike p n other
 
@@ -190,15 +216,15 @@ goes_writing p (inr (inl g)) = round_writing p g g.rounds.round
 goes_writing p (inr (inr n)) = end_writing p n
 
 by_fault : {Own : Type 0} {Tells : Type 0} {accepts : List TableView → Bool} {allows : List Place → Bool} {a b : Option (List ℕ)} {first stop seen : Seen Own} (fault : Fault) (p : Supposed Tells accepts allows first stop seen) → CutGoes Tells accepts fault a b first stop engine_at_first
-    → IsAlike allows seen a b (served_by fault)
+    → IsCut allows seen a b (served_by fault)
 by_fault faults.Write p goes = goes_writing p goes
 by_fault faults.Next p goes = goes_alike p tt goes
 by_fault (faults.Txn fault) p goes = goes_alike p tt goes
 by_fault faults.NoMemory p goes = inl (goes_alike p tt goes)
 
--- Of a world that was just opened and that keeps its word.
-pub alike_cut : {Own : Type 0} (Tells : Type 0) (accepts : List TableView → Bool) (allows : List Place → Bool) (end : Served) (a b : Option (List ℕ)) (first seen : Seen Own) → Tells → Conforming seen → JudgesAlike Own allows accepts → IsOpened first → length (stimuli_in seen) < most_rounds
-    → Continues Tells first seen → CutRun Tells accepts end a b first seen engine_at_first → IsAlike allows seen a b end
-alike_cut {Own} Tells accepts allows end a b first seen told keeps judges opened few whole cut =
-    let p : Supposed Tells accepts allows first cut.stop seen = record { told = told; keeps = keeps; judges = judges; opened = opened; few = few; whole = whole; later = cut.later } in
-    subst (IsAlike allows seen a b) (sym cut.is) (by_fault cut.fault p cut.goes)
+-- Of a world that was opened, however far it keeps its word.
+pub so_cut : {Own : Type 0} (Tells : Type 0) (accepts : List TableView → Bool) (allows : List Place → Bool) (end : Served) (a b : Option (List ℕ)) (old first seen : Seen Own) → PremiseSoFar Tells accepts allows old seen → IsOpened first
+    → Continues Tells first seen → CutRun Tells accepts end a b first seen engine_at_first → IsCut allows seen a b end
+so_cut Tells accepts allows end a b old first seen premise opened whole cut =
+    let p : Supposed Tells accepts allows first cut.stop seen = record { told = premise.told; judges = premise.judges; opened = opened; few = premise.few; whole = whole; later = cut.later; talks = cut.talks } in
+    subst (IsCut allows seen a b) (sym cut.is) (by_fault cut.fault p cut.goes)

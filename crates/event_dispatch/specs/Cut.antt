@@ -1,5 +1,5 @@
--- A run that a fault ends, in the words of what is seen and kept: the parts that were done, and what was written of the one that was not.
--- All of this is our own.
+-- A run that a fault ends, in the words of what is seen and kept: the parts that were done, and what was written of the one that was not,
+-- which goes on with the dialogue with the application. All of this is our own.
 use Rattle.std.specs.Prelude.{◌≡◌, ℕ, ◌≤◌, ◌⊎◌, Bool, List, [], Option}
 use Rattle.lego_io.specs.Sink.{TookPart}
 use Rattle.flow_table.specs.declared.view.TableView.{TableView}
@@ -8,7 +8,7 @@ use Rattle.outside.specs.Conforming.{Conforming}
 use Rattle.shown_batches.specs.Calm.{Calm}
 use Rattle.shown_runs.specs.Engine.{Engine}
 use Rattle.shown_runs.specs.Moves.{Shown, dispatch_next}
-use Rattle.shown_runs.specs.Endings.{ShownStart}
+use Rattle.shown_runs.specs.Endings.{Leaves, ShownStart}
 use Rattle.shown_runs.specs.LastReport.{last_text}
 use Rattle.event_dispatch.specs.declared.batch.Rest.{Rest}
 use Rattle.event_dispatch.specs.declared.fault.Fault.{Fault}
@@ -18,6 +18,7 @@ use Rattle.event_dispatch.specs.declared.served.Served.{Served}
 use Rattle.event_dispatch.specs.declared.served.Served.TheVariants as served
 use Rattle.event_dispatch.specs.Why.{served_by}
 use Rattle.event_dispatch.specs.Shows.{engine_of}
+use Rattle.event_dispatch.specs.Talking.{KeepsTalking, GoesOnTalking}
 use Rattle.event_dispatch.specs.Serves.{Writes, SettlesSome, IsBatch, GoesRounds, GoesToEnd}
 
 -- Nothing was written, and it was not the sink that failed.
@@ -37,7 +38,7 @@ pub record EventPart {Own : Type 0} (Tells : Type 0) (accepts : List TableView �
 -- a fault ended its dispatch, or it was that
 abbrev pub CutOne : {Own : Type 0} → Type 0 → (List TableView → Bool) → Fault → Option (List ℕ) → Option (List ℕ) → Seen Own → Seen Own → Engine → Type 0
 CutOne Tells accepts faults.Write contents now_contents old new e = EventPart Tells accepts contents now_contents old new e
-CutOne Tells accepts other contents now_contents old new e = now_contents ≡ contents
+CutOne Tells accepts other contents now_contents old new e = (now_contents ≡ contents) × GoesOnTalking Tells old new e
 
 -- so many were settled before it
 pub record CutSome {Own : Type 0} (Tells : Type 0) (accepts : List TableView → Bool) (fault : Fault) (contents now_contents : Option (List ℕ)) (old new : Seen Own) (r : Run) : Type 0 where
@@ -46,6 +47,7 @@ pub record CutSome {Own : Type 0} (Tells : Type 0) (accepts : List TableView →
   pub mid_run : Run
   pub held : Option (List ℕ)
   pub few : number ≤ 999
+  pub on : Continues Tells old mid
   pub some : SettlesSome Tells accepts number contents held old mid r mid_run
   pub later : Continues Tells mid new
   pub one : CutOne Tells accepts fault held now_contents mid new (engine_of mid_run)
@@ -64,7 +66,7 @@ pub record CutBehind {Own : Type 0} (Tells : Type 0) (accepts : List TableView �
 
 -- it ended the batch, or that
 abbrev pub CutRound : {Own : Type 0} → Type 0 → (List TableView → Bool) → Fault → Option (List ℕ) → Option (List ℕ) → Seen Own → Seen Own → Run → Type 0
-CutRound Tells accepts fault contents now_contents old new r = IsStill fault contents now_contents ⊎ CutBehind Tells accepts fault contents now_contents old new r
+CutRound Tells accepts fault contents now_contents old new r = (IsStill fault contents now_contents × KeepsTalking Tells old new) ⊎ CutBehind Tells accepts fault contents now_contents old new r
 
 -- so many rounds were gone before it
 pub record CutRounds {Own : Type 0} (Tells : Type 0) (accepts : List TableView → Bool) (fault : Fault) (contents now_contents : Option (List ℕ)) (old new : Seen Own) (r : Run) : Type 0 where
@@ -72,6 +74,7 @@ pub record CutRounds {Own : Type 0} (Tells : Type 0) (accepts : List TableView �
   pub mid : Seen Own
   pub mid_run : Run
   pub held : Option (List ℕ)
+  pub on : Continues Tells old mid
   pub rounds : GoesRounds Tells accepts number contents held old mid r mid_run
   pub later : Continues Tells mid new
   pub round : CutRound Tells accepts fault held now_contents mid new mid_run
@@ -87,17 +90,17 @@ pub record StartPart {Own : Type 0} (Tells : Type 0) (contents now_contents : Op
 
 abbrev pub CutStart : {Own : Type 0} → Type 0 → Fault → Option (List ℕ) → Option (List ℕ) → Seen Own → Seen Own → Engine → Type 0
 CutStart Tells faults.Write contents now_contents old new e = StartPart Tells contents now_contents old new e
-CutStart Tells other contents now_contents old new e = now_contents ≡ contents
+CutStart Tells other contents now_contents old new e = (now_contents ≡ contents) × KeepsTalking Tells old new
 
--- the sink took a part of the lines of the end
+-- the sink took a part of the lines of the end, for which switches were asked
 pub record EndPart {Own : Type 0} (Tells : Type 0) (contents now_contents : Option (List ℕ)) (last new : Seen Own) (e : Engine) : Type 0 where
   pub more : List ℕ
-  pub shown : Tells → Conforming new → Calm last e.net → more ≡ last_text last e
+  pub shown : Tells → Conforming new → Calm last e.net → (more ≡ last_text last e) × Leaves last new
   pub part : TookPart contents now_contents more
 
 abbrev pub CutEnd : {Own : Type 0} → Type 0 → Fault → Option (List ℕ) → Option (List ℕ) → Seen Own → Seen Own → Engine → Type 0
 CutEnd Tells faults.Write contents now_contents last new e = EndPart Tells contents now_contents last new e
-CutEnd Tells other contents now_contents last new e = now_contents ≡ contents
+CutEnd Tells other contents now_contents last new e = (now_contents ≡ contents) × KeepsTalking Tells last new
 
 -- of a report to which no event is left
 pub record CutFinish {Own : Type 0} (Tells : Type 0) (end : Served) (contents now_contents : Option (List ℕ)) (last new : Seen Own) (e : Engine) : Type 0 where
@@ -149,6 +152,7 @@ pub record CutRun {Own : Type 0} (Tells : Type 0) (accepts : List TableView → 
   pub is : end ≡ served_by fault
   pub stop : Seen Own
   pub later : Continues Tells stop new
+  pub talks : KeepsTalking Tells stop new
   pub goes : CutGoes Tells accepts fault contents now_contents old stop e
 
 abbrev pub CutAs : {Own : Type 0} → Type 0 → (List TableView → Bool) → Served → Option (List ℕ) → Option (List ℕ) → Seen Own → Seen Own → Engine → Type 0

@@ -4,7 +4,7 @@ use Rattle.std.specs.Prelude.{slice_get}
 use Rattle.lego_io.specs.Sink.{TookPart}
 use Rattle.flow_table.specs.declared.view.TableView.{TableView}
 use Rattle.app_frames.specs.declared.frame.Event.{Event}
-use Rattle.outside.specs.Seen.{Counts, Seen, Continues}
+use Rattle.outside.specs.Seen.{Seen, Continues}
 use Rattle.outside.specs.SeenLaws.{Continues-refl, Continues-trans}
 use Rattle.shown_runs.specs.Engine.{Engine}
 use Rattle.shown_runs.specs.LastReport.{last_text}
@@ -21,6 +21,9 @@ use Rattle.event_dispatch.specs.Runs.{Waits}
 use Rattle.event_dispatch.specs.Batch.{BatchShown}
 use Rattle.event_dispatch.specs.Shows.{engine_of}
 use Rattle.event_dispatch.specs.LastShown.{LastShown}
+use Rattle.event_dispatch.specs.LastLaws.{says_leaves}
+use Rattle.event_dispatch.specs.Talking.{KeepsTalking, GoesOnTalking}
+use Rattle.event_dispatch.specs.TalkingLaws.{keeps_none, keeps_then}
 use Rattle.event_dispatch.specs.Serves.{Starts, IsDispatched, GoesToEnd, Begins}
 use Rattle.event_dispatch.specs.RoundLaws.{queued_run, first_event, batch_is}
 use Rattle.event_dispatch.specs.Cut.{IsStill, CutOne, CutSome, CutRound, CutRounds, CutStart, CutEnd, CutFinish, CutFinishAs, CutGoes, CutRun, CutAs}
@@ -31,20 +34,20 @@ if_err P fault (Ok x) is p = absurd is
 if_err P fault (Err e) is p = subst P (sym is) p
 
 -- a fault that has its cause where no sink was written to is not the sink's
-pub still_so : (a b : Counts) (fault : Fault) (contents now_contents : Option (List ℕ)) → IsReason a b 0 0 fault → now_contents ≡ contents → IsStill fault contents now_contents
-still_so a b faults.Write contents now_contents (inl lt) same = absurd (omega (arith, lt))
-still_so a b faults.Write contents now_contents (inr e) same = absurd (omega (arith, e))
-still_so a b faults.Next contents now_contents why same = same
-still_so a b (faults.Txn fault) contents now_contents why same = same
-still_so a b faults.NoMemory contents now_contents why same = same
+pub still_so : {Own : Type 0} (Tells : Type 0) (a b : Seen Own) (fault : Fault) (contents now_contents : Option (List ℕ)) → IsReason Tells a b 0 0 fault → now_contents ≡ contents → IsStill fault contents now_contents
+still_so Tells a b faults.Write contents now_contents (inl lt) same = absurd (omega (arith, lt))
+still_so Tells a b faults.Write contents now_contents (inr e) same = absurd (omega (arith, e))
+still_so Tells a b faults.Next contents now_contents why same = same
+still_so Tells a b (faults.Txn fault) contents now_contents why same = same
+still_so Tells a b faults.NoMemory contents now_contents why same = same
 
 -- ---- Events
 
-pub one_still : {Own : Type 0} (Tells : Type 0) (accepts : List TableView → Bool) (fault : Fault) (contents now_contents : Option (List ℕ)) (old new : Seen Own) (e : Engine) → IsStill fault contents now_contents → CutOne Tells accepts fault contents now_contents old new e
-one_still Tells accepts faults.Write contents now_contents old new e still = absurd still
-one_still Tells accepts faults.Next contents now_contents old new e still = still
-one_still Tells accepts (faults.Txn fault) contents now_contents old new e still = still
-one_still Tells accepts faults.NoMemory contents now_contents old new e still = still
+pub one_still : {Own : Type 0} (Tells : Type 0) (accepts : List TableView → Bool) (fault : Fault) (contents now_contents : Option (List ℕ)) (old new : Seen Own) (e : Engine) → IsStill fault contents now_contents → GoesOnTalking Tells old new e → CutOne Tells accepts fault contents now_contents old new e
+one_still Tells accepts faults.Write contents now_contents old new e still talks = absurd still
+one_still Tells accepts faults.Next contents now_contents old new e still talks = (still, talks)
+one_still Tells accepts (faults.Txn fault) contents now_contents old new e still talks = (still, talks)
+one_still Tells accepts faults.NoMemory contents now_contents old new e still talks = (still, talks)
 
 -- it was dispatched, and the sink failed
 pub one_unwritten : {Own : Type 0} (Tells : Type 0) (accepts : List TableView → Bool) (event : Event) (contents now_contents : Option (List ℕ)) (old new : Seen Own) (r : Run) (queue : List Event) (mid : Run) → Continues Tells old new → r.events < 2 ^ 63 → Some event ≡ slice_get r.queue 0
@@ -82,17 +85,17 @@ start_unwritten Tells contents now_contents old new r mid none starts part = rec
   part = subst (λ (text : List ℕ). TookPart contents now_contents text) (starts.notes ∙ ap (λ (xs : List ℕ). xs ++ starts.text) none) part;
 }
 
-pub end_still : {Own : Type 0} (Tells : Type 0) (fault : Fault) (contents now_contents : Option (List ℕ)) (last new : Seen Own) (e : Engine) → IsStill fault contents now_contents → CutEnd Tells fault contents now_contents last new e
-end_still Tells faults.Write contents now_contents last new e still = absurd still
-end_still Tells faults.Next contents now_contents last new e still = still
-end_still Tells (faults.Txn fault) contents now_contents last new e still = still
-end_still Tells faults.NoMemory contents now_contents last new e still = still
+pub end_still : {Own : Type 0} (Tells : Type 0) (fault : Fault) (contents now_contents : Option (List ℕ)) (last new : Seen Own) (e : Engine) → IsStill fault contents now_contents → KeepsTalking Tells last new → CutEnd Tells fault contents now_contents last new e
+end_still Tells faults.Write contents now_contents last new e still talks = absurd still
+end_still Tells faults.Next contents now_contents last new e still talks = (still, talks)
+end_still Tells (faults.Txn fault) contents now_contents last new e still talks = (still, talks)
+end_still Tells faults.NoMemory contents now_contents last new e still talks = (still, talks)
 
 -- the lines of the end are known, and the sink failed
 pub end_unwritten : {Own : Type 0} (Tells : Type 0) (contents now_contents : Option (List ℕ)) (last new : Seen Own) (r mid : Run) → r.lines.items ≡ [] → LastShown Tells last new r mid → TookPart contents now_contents mid.lines.items → CutEnd Tells faults.Write contents now_contents last new (engine_of r)
 end_unwritten Tells contents now_contents last new r mid none shown part = record {
   more = mid.lines.items;
-  shown = λ told keeps calm. (shown.shown told keeps calm).lines ∙ ap (λ (xs : List ℕ). xs ++ last_text last (engine_of r)) none;
+  shown = λ told keeps calm. let says = shown.shown told keeps calm in (says.lines ∙ ap (λ (xs : List ℕ). xs ++ last_text last (engine_of r)) none, says_leaves says);
   part = part;
 }
 
@@ -106,10 +109,10 @@ finish_cut Tells faults.NoMemory contents now_contents last new e none ends = re
 
 pub goes_cut : {Own : Type 0} (Tells : Type 0) (accepts : List TableView → Bool) (fault : Fault) (contents now_contents : Option (List ℕ)) (old new : Seen Own) (e : Engine) → CutGoes Tells accepts fault contents now_contents old new e
     → CutAs Tells accepts (served_by fault) contents now_contents old new e
-goes_cut Tells accepts faults.Write contents now_contents old new e goes = record { fault = faults.Write; is = refl; stop = new; later = Continues-refl Tells new; goes = goes }
-goes_cut Tells accepts faults.Next contents now_contents old new e goes = record { fault = faults.Next; is = refl; stop = new; later = Continues-refl Tells new; goes = goes }
-goes_cut Tells accepts (faults.Txn fault) contents now_contents old new e goes = record { fault = faults.Txn fault; is = refl; stop = new; later = Continues-refl Tells new; goes = goes }
-goes_cut Tells accepts faults.NoMemory contents now_contents old new e goes = record { fault = faults.NoMemory; is = refl; stop = new; later = Continues-refl Tells new; goes = goes }
+goes_cut Tells accepts faults.Write contents now_contents old new e goes = record { fault = faults.Write; is = refl; stop = new; later = Continues-refl Tells new; talks = keeps_none Tells new; goes = goes }
+goes_cut Tells accepts faults.Next contents now_contents old new e goes = record { fault = faults.Next; is = refl; stop = new; later = Continues-refl Tells new; talks = keeps_none Tells new; goes = goes }
+goes_cut Tells accepts (faults.Txn fault) contents now_contents old new e goes = record { fault = faults.Txn fault; is = refl; stop = new; later = Continues-refl Tells new; talks = keeps_none Tells new; goes = goes }
+goes_cut Tells accepts faults.NoMemory contents now_contents old new e goes = record { fault = faults.NoMemory; is = refl; stop = new; later = Continues-refl Tells new; talks = keeps_none Tells new; goes = goes }
 
 -- a fault ended the rounds
 pub rounds_cut : {Own : Type 0} (Tells : Type 0) (accepts : List TableView → Bool) (fault : Fault) (a b c : Option (List ℕ)) (old begun new : Seen Own) (r begun_r : Run) → Begins Tells a b old begun r begun_r → Continues Tells begun new
@@ -158,26 +161,27 @@ went_cut Tells accepts (Err (served.Txn fault)) a b c d old begun last new r r1 
 went_cut Tells accepts (Err served.NoMemory) a b c d old begun last new r r1 r2 begins on rounds later cut = end_cut Tells accepts served.NoMemory a b c d old begun last new r r1 r2 begins on rounds later cut
 
 -- the run goes on, as with the end of the application
-on_cut : {Own : Type 0} (Tells : Type 0) (accepts : List TableView → Bool) (end : Served) (a b : Option (List ℕ)) (old mid new : Seen Own) (e : Engine) → Continues Tells mid new → CutRun Tells accepts end a b old mid e → CutRun Tells accepts end a b old new e
-on_cut Tells accepts end a b old mid new e later cut = record {
+on_cut : {Own : Type 0} (Tells : Type 0) (accepts : List TableView → Bool) (end : Served) (a b : Option (List ℕ)) (old mid new : Seen Own) (e : Engine) → Continues Tells mid new → KeepsTalking Tells mid new → CutRun Tells accepts end a b old mid e → CutRun Tells accepts end a b old new e
+on_cut Tells accepts end a b old mid new e later talks cut = record {
   fault = cut.fault;
   is = cut.is;
   stop = cut.stop;
   later = Continues-trans Tells cut.stop mid new cut.later later;
+  talks = keeps_then Tells cut.stop mid new cut.talks talks;
   goes = cut.goes;
 }
 
-pub goes_on_cut : {Own : Type 0} (Tells : Type 0) (accepts : List TableView → Bool) (result : Result (Unit {0}) Served) (a b : Option (List ℕ)) (old mid new : Seen Own) (e : Engine) → Continues Tells mid new → IfErr result (λ end. CutAs Tells accepts end a b old mid e)
+pub goes_on_cut : {Own : Type 0} (Tells : Type 0) (accepts : List TableView → Bool) (result : Result (Unit {0}) Served) (a b : Option (List ℕ)) (old mid new : Seen Own) (e : Engine) → Continues Tells mid new → KeepsTalking Tells mid new → IfErr result (λ end. CutAs Tells accepts end a b old mid e)
     → IfErr result (λ end. CutAs Tells accepts end a b old new e)
-goes_on_cut Tells accepts (Ok x) a b old mid new e later cut = tt
-goes_on_cut Tells accepts (Err (served.EventsLeft left)) a b old mid new e later cut = tt
-goes_on_cut Tells accepts (Err (served.Ended events)) a b old mid new e later cut = on_cut Tells accepts (served.Ended events) a b old mid new e later cut
-goes_on_cut Tells accepts (Err served.WriteFault) a b old mid new e later cut = on_cut Tells accepts served.WriteFault a b old mid new e later cut
-goes_on_cut Tells accepts (Err served.Shut) a b old mid new e later cut = on_cut Tells accepts served.Shut a b old mid new e later cut
-goes_on_cut Tells accepts (Err served.NextFault) a b old mid new e later cut = on_cut Tells accepts served.NextFault a b old mid new e later cut
-goes_on_cut Tells accepts (Err (served.Txn fault)) a b old mid new e later cut = on_cut Tells accepts (served.Txn fault) a b old mid new e later cut
-goes_on_cut Tells accepts (Err served.NoMemory) a b old mid new e later cut = on_cut Tells accepts served.NoMemory a b old mid new e later cut
+goes_on_cut Tells accepts (Ok x) a b old mid new e later talks cut = tt
+goes_on_cut Tells accepts (Err (served.EventsLeft left)) a b old mid new e later talks cut = tt
+goes_on_cut Tells accepts (Err (served.Ended events)) a b old mid new e later talks cut = on_cut Tells accepts (served.Ended events) a b old mid new e later talks cut
+goes_on_cut Tells accepts (Err served.WriteFault) a b old mid new e later talks cut = on_cut Tells accepts served.WriteFault a b old mid new e later talks cut
+goes_on_cut Tells accepts (Err served.Shut) a b old mid new e later talks cut = on_cut Tells accepts served.Shut a b old mid new e later talks cut
+goes_on_cut Tells accepts (Err served.NextFault) a b old mid new e later talks cut = on_cut Tells accepts served.NextFault a b old mid new e later talks cut
+goes_on_cut Tells accepts (Err (served.Txn fault)) a b old mid new e later talks cut = on_cut Tells accepts (served.Txn fault) a b old mid new e later talks cut
+goes_on_cut Tells accepts (Err served.NoMemory) a b old mid new e later talks cut = on_cut Tells accepts served.NoMemory a b old mid new e later talks cut
 
 -- memory ran out before anything was done
 pub short_cut : {Own : Type 0} (Tells : Type 0) (accepts : List TableView → Bool) (contents : Option (List ℕ)) (seen : Seen Own) (e : Engine) → CutAs Tells accepts served.NoMemory contents contents seen seen e
-short_cut Tells accepts contents seen e = goes_cut Tells accepts faults.NoMemory contents contents seen seen e (inl refl)
+short_cut Tells accepts contents seen e = goes_cut Tells accepts faults.NoMemory contents contents seen seen e (inl (refl, keeps_none Tells seen))

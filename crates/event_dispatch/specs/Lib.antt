@@ -14,5 +14,10 @@ pub mod BatchLaws
 pub mod Plain
 pub mod PlainLaws
 pub mod Cut
+pub mod Talking
+pub mod TalkingLaws
 pub mod CutLaws
 pub mod AlikeLaws
+pub mod FaultLaws
+pub mod KeptLaws
+pub mod ItemLaws

@@ -118,8 +118,14 @@ settled_early {Own} Tells accepts n m text old new e now_e sum none shown = reco
           read_starts = m.moves.read_starts;
           read_replies = m.moves.read_replies;
           read_stimuli = m.moves.read_stimuli;
-          stands = λ ss rs q s. let t = m.moves.stands ss rs q s in subst (Stands new now_e ss rs) (same allows ss rs q t) t;
-          says = λ ss rs q s. let t = m.moves.stands ss rs q s in subst (λ (p : ModelRun). text_of p ≡ text_of q ++ text) (same allows ss rs q t) (m.moves.says ss rs q s);
+          stands = λ ss rs q starts_so replies_so s.
+              let later_starts = drop (length m.moves.starts) ss in
+              let later_replies = drop (length m.moves.replies) rs in
+              let t = m.moves.stands ss rs q starts_so replies_so s in
+              subst (Stands new now_e later_starts later_replies) (same allows later_starts later_replies q t) t;
+          says = λ ss rs q starts_so replies_so s.
+              let t = m.moves.stands ss rs q starts_so replies_so s in
+              subst (λ (p : ModelRun). text_of p ≡ text_of q ++ text) (same allows (drop (length m.moves.starts) ss) (drop (length m.moves.replies) rs) q t) (m.moves.says ss rs q starts_so replies_so s);
         };
         settled = m.settled;
       };

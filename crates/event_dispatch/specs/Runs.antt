@@ -1,14 +1,21 @@
--- A run so far: there is room for an undo, no more turns ended than there were events, and the one application has its index. All of this
--- is our own.
-use Rattle.std.specs.Prelude.{◌≡◌, ◌≤◌}
+-- A run so far: there is room for an undo, no more turns ended than there were events, the one application has its index, and the messages
+-- that are kept were read. All of this is our own.
+use Rattle.std.specs.Prelude.{◌≡◌, ◌≤◌, ℕ, List, IsOk}
+use Rattle.std.specs.List.{AllByRecursion}
+use Rattle.of_wire.specs.Reading.{reading_of}
 use Rattle.shown_runs.specs.Engine.{index}
 use Rattle.event_dispatch.specs.declared.run.Run.{Run}
+
+-- messages that were read
+abbrev pub AreRead : List (ℕ × List ℕ) → Type 0
+AreRead kept = AllByRecursion (λ m. IsOk (reading_of m.1)) kept
 
 pub record Going (r : Run) : Type 0 where
   pub room : 1 ≤ r.net.room
   pub done : r.app.done ≤ r.events
   pub failed : r.app.failed ≤ r.events
   pub index : r.app.state.index ≡ index
+  pub read : AreRead r.net.kept
 
 -- no event was dispatched, and the application is as it was
 pub record Waits (old new : Run) : Type 0 where

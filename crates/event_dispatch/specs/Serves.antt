@@ -216,13 +216,23 @@ pub record NothingDone {Own : Type 0} (steps : List WorldStep) (seen : Seen Own)
   pub history : seen.history ≡ steps
   pub still : now_contents ≡ contents
 
--- Of a world that tells and keeps its word, on which no call was made before: the run is the reference controller's, whole, or up to the
--- place that a fault let it come to, and so is what was written.
+-- Of a world that tells, on which no call was made before: where a fault ends the run, it is the reference controller's up to a place, if
+-- the world kept its word as far as there, and so is what was written.
+abbrev pub IsCut : {Own : Type 0} → (List Place → Bool) → Seen Own → Option (List ℕ) → Option (List ℕ) → Served → Type 0
+IsCut allows seen contents now_contents (served.Ended events) = Unit {0}
+IsCut allows seen contents now_contents (served.EventsLeft left) = Unit {0}
+IsCut allows seen contents now_contents served.WriteFault = CutWriting allows seen contents now_contents
+IsCut allows seen contents now_contents served.Shut = NothingDone (NotOpened ∷ []) seen contents now_contents
+IsCut allows seen contents now_contents served.NextFault = CutAlike allows seen contents now_contents
+IsCut allows seen contents now_contents (served.Txn fault) = CutAlike allows seen contents now_contents
+IsCut allows seen contents now_contents served.NoMemory = CutAlike allows seen contents now_contents ⊎ NothingDone [] seen contents now_contents
+
+-- Of one that keeps its word, too: the run is the reference controller's, whole, and so is what was written.
 abbrev pub IsAlike : {Own : Type 0} → (List Place → Bool) → Seen Own → Option (List ℕ) → Option (List ℕ) → Served → Type 0
 IsAlike allows seen contents now_contents (served.Ended events) = IsWhole allows seen contents now_contents events
 IsAlike allows seen contents now_contents (served.EventsLeft left) = IsPart allows seen contents now_contents left
-IsAlike allows seen contents now_contents served.WriteFault = CutWriting allows seen contents now_contents
-IsAlike allows seen contents now_contents served.Shut = NothingDone (NotOpened ∷ []) seen contents now_contents
-IsAlike allows seen contents now_contents served.NextFault = CutAlike allows seen contents now_contents
-IsAlike allows seen contents now_contents (served.Txn fault) = CutAlike allows seen contents now_contents
-IsAlike allows seen contents now_contents served.NoMemory = CutAlike allows seen contents now_contents ⊎ NothingDone [] seen contents now_contents
+IsAlike allows seen contents now_contents served.WriteFault = IsCut allows seen contents now_contents served.WriteFault
+IsAlike allows seen contents now_contents served.Shut = IsCut allows seen contents now_contents served.Shut
+IsAlike allows seen contents now_contents served.NextFault = IsCut allows seen contents now_contents served.NextFault
+IsAlike allows seen contents now_contents (served.Txn fault) = IsCut allows seen contents now_contents (served.Txn fault)
+IsAlike allows seen contents now_contents served.NoMemory = IsCut allows seen contents now_contents served.NoMemory

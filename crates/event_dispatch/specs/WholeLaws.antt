@@ -15,11 +15,11 @@ use Rattle.outside.specs.StateLaws.{Conforming-before}
 use Rattle.shown_switches.specs.OrderlyLaws.{orderly-none}
 use Rattle.shown_runs.specs.Engine.{Engine, index}
 use Rattle.shown_runs.specs.FirstLaws.{IsOpened, engine_at_first, settled-first}
-use Rattle.shown_runs.specs.StimuliLaws.{none-later, fewer-before}
+use Rattle.shown_runs.specs.StimuliLaws.{none-later, fewer-front, fewer-before}
 use Rattle.shown_runs.specs.LastReport.{last_text}
 use Rattle.shown_runs.specs.Endings.{Leaves, ShownStart, ShownFinish, ShownLeaves}
 use Rattle.shown_runs.specs.EndingLaws.{whole-of, leaves-then, ran-out, ran-full}
-use Rattle.shown_runs.specs.Promise.{most_rounds, Premise}
+use Rattle.shown_runs.specs.Promise.{most_rounds, PremiseSoFar, Premise}
 use Rattle.event_dispatch.specs.declared.fault.Fault.{Fault}
 use Rattle.event_dispatch.specs.declared.fault.Fault.TheVariants as faults
 use Rattle.event_dispatch.specs.declared.run.Run.{Run}
@@ -30,9 +30,9 @@ use Rattle.event_dispatch.specs.Shows.{engine_of}
 use Rattle.event_dispatch.specs.LastShown.{LastShown}
 use Rattle.event_dispatch.specs.LastLaws.{says_leaves}
 use Rattle.event_dispatch.specs.RoundLaws.{writes_then}
-use Rattle.event_dispatch.specs.Serves.{Writes, NoneToCome, GoesToEnd, Begins, EndsReport, Finishes, RunsOut, RunsFull, GoesAs, RunsAs, IsUnopened, IsAlike}
+use Rattle.event_dispatch.specs.Serves.{Writes, NoneToCome, GoesToEnd, Begins, EndsReport, Finishes, RunsOut, RunsFull, GoesAs, RunsAs, IsUnopened, IsCut, IsAlike}
 use Rattle.event_dispatch.specs.Cut.{CutAs}
-use Rattle.event_dispatch.specs.AlikeLaws.{alike_cut}
+use Rattle.event_dispatch.specs.AlikeLaws.{so_cut}
 
 -- ---- The end of the report
 
@@ -209,9 +209,18 @@ short_by Tells old new opening.Shut is told = absurd cc
 short_by Tells old new opening.Short is told = λ tells. (told tells).history ∙ append-nil old.history
 
 -- it could not be opened
+pub cut_unopened : {Own : Type 0} (Tells : Type 0) (contents : Option (List ℕ)) (old new : Seen Own) (end : Served) → IsUnopened Tells old new end → (allows : List Place → Bool) → Tells → old.history ≡ [] → IsCut allows new contents contents end
+cut_unopened Tells contents old new served.Shut left allows told none = record { history = left told ∙ ap (λ (h : List WorldStep). h ++ NotOpened ∷ []) none; still = refl }
+cut_unopened Tells contents old new served.NoMemory left allows told none = inr (record { history = left told ∙ none; still = refl })
+cut_unopened Tells contents old new (served.EventsLeft n) left allows told none = absurd left
+cut_unopened Tells contents old new (served.Ended events) left allows told none = absurd left
+cut_unopened Tells contents old new served.WriteFault left allows told none = absurd left
+cut_unopened Tells contents old new served.NextFault left allows told none = absurd left
+cut_unopened Tells contents old new (served.Txn fault) left allows told none = absurd left
+
 pub alike_unopened : {Own : Type 0} (Tells : Type 0) (accepts : List TableView → Bool) (contents : Option (List ℕ)) (old new : Seen Own) (end : Served) → IsUnopened Tells old new end → (allows : List Place → Bool) → Premise Tells accepts allows old new → IsAlike allows new contents contents end
-alike_unopened Tells accepts contents old new served.Shut left allows p = record { history = left p.told ∙ ap (λ (h : List WorldStep). h ++ NotOpened ∷ []) p.untouched; still = refl }
-alike_unopened Tells accepts contents old new served.NoMemory left allows p = inr (record { history = left p.told ∙ p.untouched; still = refl })
+alike_unopened Tells accepts contents old new served.Shut left allows p = cut_unopened Tells contents old new served.Shut left allows p.told p.untouched
+alike_unopened Tells accepts contents old new served.NoMemory left allows p = cut_unopened Tells contents old new served.NoMemory left allows p.told p.untouched
 alike_unopened Tells accepts contents old new (served.EventsLeft n) left allows p = absurd left
 alike_unopened Tells accepts contents old new (served.Ended events) left allows p = absurd left
 alike_unopened Tells accepts contents old new served.WriteFault left allows p = absurd left
@@ -227,6 +236,21 @@ alike_done Tells accepts events a b old mid new opened runs allows p =
       none_to_come = runs.none_to_come.none allows p.told p.keeps p.judges (settled-first mid is) p.few;
     })
 
+-- a fault ended it
+pub cut_failed : {Own : Type 0} (Tells : Type 0) (accepts : List TableView → Bool) (end : Served) (a b : Option (List ℕ)) (old mid new : Seen Own) → (Tells → mid.history ≡ old.history ++ Opened ∷ []) → Continues Tells mid new → RunsAs Tells accepts (Err end) a b mid new
+    → CutAs Tells accepts end a b mid new engine_at_first → (allows : List Place → Bool) → PremiseSoFar Tells accepts allows old new → IsCut allows new a b end
+cut_failed Tells accepts (served.EventsLeft left) a b old mid new opened on runs cut allows p = tt
+cut_failed Tells accepts (served.Ended events) a b old mid new opened on runs cut allows p = absurd runs
+cut_failed Tells accepts served.WriteFault a b old mid new opened on runs cut allows p = so_cut Tells accepts allows served.WriteFault a b old mid new p (opened_so old mid p.untouched (opened p.told)) on cut
+cut_failed Tells accepts served.Shut a b old mid new opened on runs cut allows p = so_cut Tells accepts allows served.Shut a b old mid new p (opened_so old mid p.untouched (opened p.told)) on cut
+cut_failed Tells accepts served.NextFault a b old mid new opened on runs cut allows p = so_cut Tells accepts allows served.NextFault a b old mid new p (opened_so old mid p.untouched (opened p.told)) on cut
+cut_failed Tells accepts (served.Txn fault) a b old mid new opened on runs cut allows p = so_cut Tells accepts allows (served.Txn fault) a b old mid new p (opened_so old mid p.untouched (opened p.told)) on cut
+cut_failed Tells accepts served.NoMemory a b old mid new opened on runs cut allows p = so_cut Tells accepts allows served.NoMemory a b old mid new p (opened_so old mid p.untouched (opened p.told)) on cut
+
+-- one that keeps its word to the end does so up to every place
+premise_so_far : {Own : Type 0} (Tells : Type 0) (accepts : List TableView → Bool) (allows : List Place → Bool) (old new : Seen Own) → Premise Tells accepts allows old new → PremiseSoFar Tells accepts allows old new
+premise_so_far Tells accepts allows old new p = record { told = p.told; judges = p.judges; untouched = p.untouched; few = λ front keeps given later. fewer-front front new later p.few }
+
 pub alike_failed : {Own : Type 0} (Tells : Type 0) (accepts : List TableView → Bool) (end : Served) (a b : Option (List ℕ)) (old mid new : Seen Own) → (Tells → mid.history ≡ old.history ++ Opened ∷ []) → Continues Tells mid new → RunsAs Tells accepts (Err end) a b mid new
     → CutAs Tells accepts end a b mid new engine_at_first → (allows : List Place → Bool) → Premise Tells accepts allows old new → IsAlike allows new a b end
 alike_failed Tells accepts (served.EventsLeft left) a b old mid new opened on runs cut allows p =
@@ -236,11 +260,11 @@ alike_failed Tells accepts (served.EventsLeft left) a b old mid new opened on ru
       none_to_come = runs.none_to_come.none allows p.told p.keeps p.judges (settled-first mid is) p.few;
     }
 alike_failed Tells accepts (served.Ended events) a b old mid new opened on runs cut allows p = absurd runs
-alike_failed Tells accepts served.WriteFault a b old mid new opened on runs cut allows p = alike_cut Tells accepts allows served.WriteFault a b mid new p.told p.keeps p.judges (opened_so old mid p.untouched (opened p.told)) p.few on cut
-alike_failed Tells accepts served.Shut a b old mid new opened on runs cut allows p = alike_cut Tells accepts allows served.Shut a b mid new p.told p.keeps p.judges (opened_so old mid p.untouched (opened p.told)) p.few on cut
-alike_failed Tells accepts served.NextFault a b old mid new opened on runs cut allows p = alike_cut Tells accepts allows served.NextFault a b mid new p.told p.keeps p.judges (opened_so old mid p.untouched (opened p.told)) p.few on cut
-alike_failed Tells accepts (served.Txn fault) a b old mid new opened on runs cut allows p = alike_cut Tells accepts allows (served.Txn fault) a b mid new p.told p.keeps p.judges (opened_so old mid p.untouched (opened p.told)) p.few on cut
-alike_failed Tells accepts served.NoMemory a b old mid new opened on runs cut allows p = alike_cut Tells accepts allows served.NoMemory a b mid new p.told p.keeps p.judges (opened_so old mid p.untouched (opened p.told)) p.few on cut
+alike_failed Tells accepts served.WriteFault a b old mid new opened on runs cut allows p = cut_failed Tells accepts served.WriteFault a b old mid new opened on runs cut allows (premise_so_far Tells accepts allows old new p)
+alike_failed Tells accepts served.Shut a b old mid new opened on runs cut allows p = cut_failed Tells accepts served.Shut a b old mid new opened on runs cut allows (premise_so_far Tells accepts allows old new p)
+alike_failed Tells accepts served.NextFault a b old mid new opened on runs cut allows p = cut_failed Tells accepts served.NextFault a b old mid new opened on runs cut allows (premise_so_far Tells accepts allows old new p)
+alike_failed Tells accepts (served.Txn fault) a b old mid new opened on runs cut allows p = cut_failed Tells accepts (served.Txn fault) a b old mid new opened on runs cut allows (premise_so_far Tells accepts allows old new p)
+alike_failed Tells accepts served.NoMemory a b old mid new opened on runs cut allows p = cut_failed Tells accepts served.NoMemory a b old mid new opened on runs cut allows (premise_so_far Tells accepts allows old new p)
 
 -- what ends a run before its end promises nothing of it
 fault_finishes : {Own : Type 0} (Tells : Type 0) (fault : Fault) (a b : Option (List ℕ)) (old new : Seen Own) (r now_r : Run) → Finishes Tells (Err (served_by fault)) a b old new r now_r

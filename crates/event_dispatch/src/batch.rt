@@ -11,9 +11,10 @@ ghost use Rattle.net_txn.specs.Views.{rows_at};
 ghost use Rattle.event_dispatch.specs.Joined.{is_joined as is_joined_in};
 ghost use Rattle.shown_batches.specs.Knowledge.{with_event};
 ghost use Rattle.shown_batches.specs.Items.{Departs, Enters, Handles};
-ghost use Rattle.event_dispatch.specs.Runs.{Waits};
+ghost use Rattle.event_dispatch.specs.Runs.{AreRead, Waits};
 ghost use Rattle.event_dispatch.specs.Batch.{of_memory, TakesKept, NextTaken, BatchShown};
-ghost use Rattle.event_dispatch.specs.Why.{IsReason, served_by};
+ghost use Rattle.event_dispatch.specs.Why.{IsReason, WhyItem, WhyMessage, served_by};
+ghost use Rattle.event_dispatch.specs.Talking.{KeepsTalking};
 ghost use Rattle.event_dispatch.specs.Plain.{IsPlainEnd, PlainRead, PlainJoin, PlainItem, PlainNext, PlainKept, PlainCalm};
 
 use crate::fault::Fault;
@@ -75,7 +76,8 @@ fn next_item<W: World>(world: &mut W, buf: &mut [u8]) -> Result<Item, Fault>
     requires { most_message ≤ length buf.old }
     ensures item { IfOk result (λ item. IsItemIn W.Tells item buf.new) }
     ensures continues { Continues W.Tells (W.seen world.old) (W.seen world.new) }
-    ensures why { IfErr result (IsReason (W.seen world.old).counts (W.seen world.new).counts 0 0) }
+    ensures talks { KeepsTalking W.Tells (W.seen world.old) (W.seen world.new) }
+    ensures why { IfErr result (IsReason W.Tells (W.seen world.old) (W.seen world.new) 0 0) }
     ensures plain { IfErr result IsPlainEnd }
     ensures buffer { length buf.new ≡ length buf.old }
     ensures bytes { IsBytes buf.new }
@@ -90,7 +92,7 @@ fn next_item<W: World>(world: &mut W, buf: &mut [u8]) -> Result<Item, Fault>
 
 impl Run {
     /// A message came from a switch. One of a switch that is not joined is ignored.
-    #[tactic(auto, using(crate::specs::WhyLaws::arrival_why))]
+    #[tactic(auto, using(crate::specs::FaultLaws::arrival_why, crate::specs::TalkingLaws::keeps_none, crate::specs::TalkingLaws::keeps_links))]
     pub(crate) fn take_message<W: World>(
         &mut self,
         world: &mut W,
@@ -101,7 +103,9 @@ impl Run {
         ensures app { self.new.app ≡ self.old.app }
         ensures lines { self.new.lines ≡ self.old.lines }
         ensures continues { Continues W.Tells (W.seen world.old) (W.seen world.new) }
-        ensures why { IfErr result (IsReason (W.seen world.old).counts (W.seen world.new).counts 0 0) }
+        ensures talks { KeepsTalking W.Tells (W.seen world.old) (W.seen world.new) }
+        ensures read { OnOk result (AreRead self.old.net.kept → AreRead self.new.net.kept) }
+        ensures why { IfErr result (WhyMessage W.Tells dpid frame.now (W.seen world.old) (W.seen world.new)) }
         ensures plain { IfErr result (PlainRead frame.now) }
         ensures handles { OnOk result (Handles W.Tells (From dpid frame.now) (W.seen world.old) (W.seen world.new)
             self.old.net self.new.net self.old.queue self.new.queue) }
@@ -119,6 +123,7 @@ impl Run {
         ensures waits { OnOk result (Waits self.old self.new) }
         ensures app { self.new.app ≡ self.old.app }
         ensures lines { self.new.lines ≡ self.old.lines }
+        ensures read { OnOk result (AreRead self.old.net.kept → AreRead self.new.net.kept) }
         ensures departs { OnOk result (Departs dpid self.old.net self.new.net self.old.queue self.new.queue) }
     {
         if is_joined(&self.net, dpid) {
@@ -129,12 +134,15 @@ impl Run {
     }
 
     /// A switch describes itself as it joins. One that is joined is not taken in again.
+    #[tactic(auto, using(crate::specs::TalkingLaws::keeps_none))]
     fn take_in<W: World>(&mut self, world: &mut W, dpid: Dpid, frame: &[u8]) -> Result<(), Fault>
         ensures waits { OnOk result (Waits self.old self.new) }
         ensures app { self.new.app ≡ self.old.app }
         ensures lines { self.new.lines ≡ self.old.lines }
         ensures continues { Continues W.Tells (W.seen world.old) (W.seen world.new) }
-        ensures why { IfErr result (IsReason (W.seen world.old).counts (W.seen world.new).counts 0 0) }
+        ensures talks { KeepsTalking W.Tells (W.seen world.old) (W.seen world.new) }
+        ensures read { OnOk result (AreRead self.old.net.kept → AreRead self.new.net.kept) }
+        ensures why { IfErr result (IsReason W.Tells (W.seen world.old) (W.seen world.new) 0 0) }
         ensures plain { IfErr result (PlainJoin W.Tells dpid (W.seen world.old) (W.seen world.new)) }
         ensures handles { OnOk result (Handles W.Tells (Joined dpid frame.now) (W.seen world.old) (W.seen world.new)
             self.old.net self.new.net self.old.queue self.new.queue) }
@@ -154,6 +162,7 @@ impl Run {
     }
 
     /// A switch joins with what it says of itself.
+    #[tactic(auto, using(crate::specs::KeptLaws::joins_read, crate::specs::TalkingLaws::keeps_none, crate::specs::TalkingLaws::keeps_links))]
     fn join<W: World>(&mut self, world: &mut W, dpid: Dpid, message: &Message) -> Result<(), Fault>
         requires out { rows_at dpid self.old.net.views ≡ None }
         requires fits { message_size message.now ≤ 65535 }
@@ -161,7 +170,9 @@ impl Run {
         ensures app { self.new.app ≡ self.old.app }
         ensures lines { self.new.lines ≡ self.old.lines }
         ensures continues { Continues W.Tells (W.seen world.old) (W.seen world.new) }
-        ensures why { IfErr result (IsReason (W.seen world.old).counts (W.seen world.new).counts 0 0) }
+        ensures talks { KeepsTalking W.Tells (W.seen world.old) (W.seen world.new) }
+        ensures read { OnOk result (AreRead self.old.net.kept → AreRead self.new.net.kept) }
+        ensures why { IfErr result (IsReason W.Tells (W.seen world.old) (W.seen world.new) 0 0) }
         ensures plain { IfErr result (PlainJoin W.Tells dpid (W.seen world.old) (W.seen world.new)) }
         ensures enters { OnOk result (Enters W.Tells dpid message.now (W.seen world.old) (W.seen world.new)
             self.old.net self.new.net self.old.queue self.new.queue) }
@@ -190,13 +201,16 @@ impl Run {
     }
 
     /// Takes one item. Bytes that it has stand in the buffer.
+    #[tactic(auto, using(crate::specs::TalkingLaws::keeps_none))]
     fn take_item<W: World>(&mut self, world: &mut W, item: Item, buf: &[u8]) -> Result<(), Fault>
         requires { IsItemIn W.Tells item buf.now }
         ensures waits { OnOk result (Waits self.old self.new) }
         ensures app { self.new.app ≡ self.old.app }
         ensures lines { self.new.lines ≡ self.old.lines }
         ensures continues { Continues W.Tells (W.seen world.old) (W.seen world.new) }
-        ensures why { IfErr result (IsReason (W.seen world.old).counts (W.seen world.new).counts 0 0) }
+        ensures talks { KeepsTalking W.Tells (W.seen world.old) (W.seen world.new) }
+        ensures read { OnOk result (AreRead self.old.net.kept → AreRead self.new.net.kept) }
+        ensures why { IfErr result (WhyItem W.Tells (item_step item buf.now) (W.seen world.old) (W.seen world.new)) }
         ensures plain { IfErr result (PlainItem W.Tells (item_step item buf.now) (W.seen world.old) (W.seen world.new)) }
         ensures handles { OnOk result (Handles W.Tells (item_step item buf.now) (W.seen world.old) (W.seen world.new)
             self.old.net self.new.net self.old.queue self.new.queue) }
@@ -215,13 +229,16 @@ impl Run {
 
     /// Takes the messages that were kept while something else was awaited, oldest first, and answers how many items the
     /// batch can still have.
-    #[tactic(auto, using(crate::specs::WhyLaws::continues_then, crate::specs::WhyLaws::why_then, crate::specs::WhyLaws::waits_then))]
+    #[tactic(auto, using(crate::specs::WhyLaws::continues_then, crate::specs::WhyLaws::why_then, crate::specs::WhyLaws::waits_then, crate::specs::TalkingLaws::keeps_none, crate::specs::TalkingLaws::keeps_then))]
     fn take_kept<W: World>(&mut self, world: &mut W) -> Result<u32, Fault>
+        requires read { AreRead self.old.net.kept }
         ensures waits { OnOk result (Waits self.old self.new) }
         ensures app { self.new.app ≡ self.old.app }
         ensures lines { self.new.lines ≡ self.old.lines }
         ensures continues { Continues W.Tells (W.seen world.old) (W.seen world.new) }
-        ensures why { IfErr result (IsReason (W.seen world.old).counts (W.seen world.new).counts 0 0) }
+        ensures talks { KeepsTalking W.Tells (W.seen world.old) (W.seen world.new) }
+        ensures read { OnOk result (AreRead self.new.net.kept) }
+        ensures why { IfErr result (IsReason W.Tells (W.seen world.old) (W.seen world.new) 0 0) }
         ensures plain { IfErr result (PlainKept self.old.net) }
         ensures kept { IfOk result (λ left. TakesKept left (W.seen world.old) (W.seen world.new) self.old self.new) }
     {
@@ -235,13 +252,16 @@ impl Run {
     }
 
     /// Takes what the outside tells next, and answers whether the batch is over.
+    #[tactic(auto, using(crate::specs::WhyLaws::continues_then, crate::specs::TalkingLaws::keeps_none, crate::specs::TalkingLaws::keeps_then))]
     fn take_next<W: World>(&mut self, world: &mut W, buf: &mut [u8]) -> Result<Option<Rest>, Fault>
         requires { most_message ≤ length buf.old }
         ensures waits { OnOk result (Waits self.old self.new) }
         ensures app { self.new.app ≡ self.old.app }
         ensures lines { self.new.lines ≡ self.old.lines }
         ensures continues { Continues W.Tells (W.seen world.old) (W.seen world.new) }
-        ensures why { IfErr result (IsReason (W.seen world.old).counts (W.seen world.new).counts 0 0) }
+        ensures talks { KeepsTalking W.Tells (W.seen world.old) (W.seen world.new) }
+        ensures read { OnOk result (AreRead self.old.net.kept → AreRead self.new.net.kept) }
+        ensures why { IfErr result (IsReason W.Tells (W.seen world.old) (W.seen world.new) 0 0) }
         ensures plain { IfErr result (PlainNext W.Tells (W.seen world.old) (W.seen world.new)) }
         ensures buffer { length buf.new ≡ length buf.old }
         ensures taken { IfOk result (λ rest. NextTaken W.Tells rest (W.seen world.old) (W.seen world.new) self.old self.new) }
@@ -258,18 +278,21 @@ impl Run {
     }
 
     /// Takes a batch: the messages that were kept while something else was awaited, then what the outside tells.
-    #[tactic(auto, using(crate::specs::WhyLaws::continues_then, crate::specs::WhyLaws::why_then, crate::specs::WhyLaws::waits_then))]
+    #[tactic(auto, using(crate::specs::WhyLaws::continues_then, crate::specs::WhyLaws::why_then, crate::specs::WhyLaws::waits_then, crate::specs::TalkingLaws::keeps_none, crate::specs::TalkingLaws::keeps_then))]
     pub(crate) fn take_batch<W: World>(
         &mut self,
         world: &mut W,
         buf: &mut [u8],
     ) -> Result<Rest, Fault>
-        requires { most_message ≤ length buf.old }
+        requires buffer { most_message ≤ length buf.old }
+        requires read { AreRead self.old.net.kept }
         ensures waits { OnOk result (Waits self.old self.new) }
         ensures app { self.new.app ≡ self.old.app }
         ensures lines { self.new.lines ≡ self.old.lines }
         ensures continues { Continues W.Tells (W.seen world.old) (W.seen world.new) }
-        ensures why { IfErr result (IsReason (W.seen world.old).counts (W.seen world.new).counts 0 0) }
+        ensures talks { KeepsTalking W.Tells (W.seen world.old) (W.seen world.new) }
+        ensures read { OnOk result (AreRead self.new.net.kept) }
+        ensures why { IfErr result (IsReason W.Tells (W.seen world.old) (W.seen world.new) 0 0) }
         ensures buffer { length buf.new ≡ length buf.old }
 
         // Where the world keeps its word and all was calm, one stimulus was begun, and its items were told and taken.

@@ -1,11 +1,11 @@
 //! Events, given to the application one after the other.
 
-ghost use Rattle.std.specs.Prelude.{◌≡◌, ℕ, ◌+◌, ◌^◌, ◌<◌, ◌≤◌, [], IfOk, IfErr, OnOk};
+ghost use Rattle.std.specs.Prelude.{◌≡◌, ℕ, ◌+◌, ◌^◌, ◌<◌, ◌≤◌, [], IfOk, IfErr, OnOk, OnErr};
 ghost use Rattle.lego_io.specs.Count.{NeverFell};
 ghost use Rattle.app_frames.specs.declared.frame.HostFrame.TheVariants as host;
 ghost use Rattle.app_frames.specs.Frames.{HostFits};
 ghost use Rattle.outside.specs.Seen.{Continues};
-ghost use Rattle.event_dispatch.specs.Runs.{Going, Waits};
+ghost use Rattle.event_dispatch.specs.Runs.{AreRead, Going, Waits};
 ghost use Rattle.event_dispatch.specs.Why.{IsReason, served_by};
 ghost use Rattle.event_dispatch.specs.Plain.{PlainTurn, PlainRun};
 ghost use Rattle.lego_model.specs.RunReport.{turn_line as turn_line_of};
@@ -13,6 +13,7 @@ ghost use Rattle.shown_runs.specs.Engine.{index};
 ghost use Rattle.shown_runs.specs.Facts.{name, starts_text};
 ghost use Rattle.event_dispatch.specs.Shows.{engine_of, Adds};
 ghost use Rattle.event_dispatch.specs.Serves.{Starts, PlaysTurn, Closes, HasTurn, IsDispatched, SettlesOne, Settles};
+ghost use Rattle.event_dispatch.specs.Talking.{KeepsTalking, TurnTalks, GoesOnTalking};
 ghost use Rattle.event_dispatch.specs.Cut.{CutOne, CutSome};
 
 use crate::fault::Fault;
@@ -35,7 +36,7 @@ const BUDGET: u32 = 1_000;
 const MOST_BODY: usize = 0xffff_ffff - 26;
 
 /// The turn of the application, whose changes are kept where it was done and undone where it failed.
-#[tactic(auto, using(crate::specs::WhyLaws::continues_then, crate::specs::WhyLaws::why_then, crate::specs::WhyLaws::why_before, crate::specs::WhyLaws::undo_why, crate::specs::WhyLaws::stops_why))]
+#[tactic(auto, using(crate::specs::WhyLaws::continues_then, crate::specs::WhyLaws::why_then, crate::specs::WhyLaws::why_before, crate::specs::FaultLaws::undo_why, crate::specs::FaultLaws::stops_why))]
 fn play<W: World, J: Judge>(
     alloc: Global,
     world: &mut W,
@@ -54,8 +55,10 @@ fn play<W: World, J: Judge>(
     ensures queue { queue.new ≡ queue.old }
     ensures plays { IfOk result (λ end. PlaysTurn W.Tells (J.accepts judge.now) app.old.index number event.now end (W.seen world.old) (W.seen world.new)
         net.old net.new app.old.rest app.new.rest) }
+    ensures read { OnOk result (AreRead net.old.kept → AreRead net.new.kept) }
     ensures continues { Continues W.Tells (W.seen world.old) (W.seen world.new) }
-    ensures why { IfErr result (IsReason (W.seen world.old).counts (W.seen world.new).counts 0 0) }
+    ensures talks { OnErr result (TurnTalks W.Tells app.old.index app.old.rest (W.seen world.old) (W.seen world.new)) }
+    ensures why { IfErr result (IsReason W.Tells (W.seen world.old) (W.seen world.new) 0 0) }
     ensures plain { IfErr result (PlainTurn W.Tells (W.seen world.old) (W.seen world.new) net.old) }
 {
     let mut txn = Txn::begin(net);
@@ -91,8 +94,10 @@ impl Run {
         requires { self.old.app.state.index ≡ index }
         ensures waits { OnOk result (Waits self.old self.new) }
         ensures index { OnOk result (self.new.app.state.index ≡ index) }
+        ensures net { OnOk result (self.new.net ≡ self.old.net) }
         ensures starts { OnOk result (Starts W.Tells (W.seen world.old) (W.seen world.new) self.old self.new) }
         ensures continues { Continues W.Tells (W.seen world.old) (W.seen world.new) }
+        ensures talks { KeepsTalking W.Tells (W.seen world.old) (W.seen world.new) }
     {
         let back = restart(self.alloc, world, &mut self.app.state, &[])?;
         self.note_start(back)
@@ -116,15 +121,18 @@ impl Run {
     }
 
     /// What follows of a turn that was closed: it is counted and told, and an application that failed is started again.
+    #[tactic(auto, using(crate::specs::TalkingLaws::keeps_none))]
     fn close<W: World>(&mut self, world: &mut W, end: TurnEnd) -> Result<(), AllocError>
         requires done { self.old.app.done < self.old.events }
         requires failed { self.old.app.failed < self.old.events }
         requires room { 1 ≤ self.old.net.room }
         requires index { self.old.app.state.index ≡ index }
+        requires read { AreRead self.old.net.kept }
         ensures going { OnOk result (Going self.new) }
         ensures events { OnOk result (self.new.events ≡ self.old.events) }
         ensures closes { OnOk result (Closes W.Tells end (W.seen world.old) (W.seen world.new) self.old self.new) }
         ensures continues { Continues W.Tells (W.seen world.old) (W.seen world.new) }
+        ensures talks { KeepsTalking W.Tells (W.seen world.old) (W.seen world.new) }
     {
         match end {
             TurnEnd::Done { stop } => {
@@ -150,12 +158,14 @@ impl Run {
         requires failed { self.old.app.failed < self.old.events }
         requires room { 1 ≤ self.old.net.room }
         requires index { self.old.app.state.index ≡ index }
+        requires read { AreRead self.old.net.kept }
         requires fits { HostFits (host.Event self.old.events self.old.net.moment event.now) }
         ensures going { OnOk result (Going self.new) }
         ensures events { OnOk result (self.new.events ≡ self.old.events) }
         ensures turn { OnOk result (HasTurn W.Tells (J.accepts judge.now) event.now (W.seen world.old) (W.seen world.new) self.old self.new) }
         ensures continues { Continues W.Tells (W.seen world.old) (W.seen world.new) }
-        ensures why { IfErr result (IsReason (W.seen world.old).counts (W.seen world.new).counts 0 0) }
+        ensures talks { OnErr result (TurnTalks W.Tells index self.old.app.state.rest (W.seen world.old) (W.seen world.new)) }
+        ensures why { IfErr result (IsReason W.Tells (W.seen world.old) (W.seen world.new) 0 0) }
         ensures plain { IfErr result (PlainTurn W.Tells (W.seen world.old) (W.seen world.new) self.old.net) }
     {
         let end = play(
@@ -184,7 +194,8 @@ impl Run {
         ensures events { OnOk result (self.new.events ≡ self.old.events + 1) }
         ensures dispatched { OnOk result (IsDispatched W.Tells (J.accepts judge.now) event.now (W.seen world.old) (W.seen world.new) self.old self.new) }
         ensures continues { Continues W.Tells (W.seen world.old) (W.seen world.new) }
-        ensures why { IfErr result (IsReason (W.seen world.old).counts (W.seen world.new).counts 0 0) }
+        ensures talks { OnErr result (GoesOnTalking W.Tells (W.seen world.old) (W.seen world.new) (engine_of self.old)) }
+        ensures why { IfErr result (IsReason W.Tells (W.seen world.old) (W.seen world.new) 0 0) }
         ensures plain { IfErr result (PlainTurn W.Tells (W.seen world.old) (W.seen world.new) self.old.net) }
     {
         self.events += 1;
@@ -218,7 +229,7 @@ impl Run {
             (W.seen world.old) (W.seen world.new) (engine_of self.old)) }
         ensures continues { Continues W.Tells (W.seen world.old) (W.seen world.new) }
         ensures never_fell { NeverFell (K.faults sink.old) (K.faults sink.new) }
-        ensures why { IfErr result (IsReason (W.seen world.old).counts (W.seen world.new).counts (K.faults sink.old) (K.faults sink.new)) }
+        ensures why { IfErr result (IsReason W.Tells (W.seen world.old) (W.seen world.new) (K.faults sink.old) (K.faults sink.new)) }
         ensures plain { IfErr result (λ fault. PlainRun W.Tells (J.accepts judge.now) (W.seen world.old) (W.seen world.new) (engine_of self.old) (served_by fault)) }
     {
         let Some(event) = self.queue.take_first() else {
@@ -252,7 +263,7 @@ impl Run {
             (W.seen world.old) (W.seen world.new) self.old) }
         ensures continues { Continues W.Tells (W.seen world.old) (W.seen world.new) }
         ensures never_fell { NeverFell (K.faults sink.old) (K.faults sink.new) }
-        ensures why { IfErr result (IsReason (W.seen world.old).counts (W.seen world.new).counts (K.faults sink.old) (K.faults sink.new)) }
+        ensures why { IfErr result (IsReason W.Tells (W.seen world.old) (W.seen world.new) (K.faults sink.old) (K.faults sink.new)) }
 
         // Where the world keeps its word and all was settled, a fault is a plain one.
         ensures plain { IfErr result (λ fault. PlainRun W.Tells (J.accepts judge.now) (W.seen world.old) (W.seen world.new) (engine_of self.old) (served_by fault)) }

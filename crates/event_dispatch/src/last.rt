@@ -9,6 +9,7 @@ ghost use Rattle.shown_runs.specs.LastReport.{engine_end};
 ghost use Rattle.event_dispatch.specs.Runs.{Waits};
 ghost use Rattle.event_dispatch.specs.Why.{IsReason, served_by};
 ghost use Rattle.event_dispatch.specs.Plain.{PlainTable, PlainCalm};
+ghost use Rattle.event_dispatch.specs.Talking.{KeepsTalking};
 ghost use Rattle.event_dispatch.specs.Shows.{engine_of, Adds};
 ghost use Rattle.event_dispatch.specs.LastShown.{FindsFlags, FlowsSaid, TableSaid, AsksShown, TableShown, LastShown};
 
@@ -105,11 +106,13 @@ impl Run {
     }
 
     /// Asks a joined switch for its entries.
+    #[tactic(auto, using(crate::specs::TalkingLaws::keeps_links))]
     fn ask_rows<W: World>(&mut self, world: &mut W, dpid: Dpid) -> Result<RowList, Fault>
         requires { IsSome (rows_at dpid self.old.net.views) }
         ensures waits { OnOk result (Waits self.old self.new) }
         ensures continues { Continues W.Tells (W.seen world.old) (W.seen world.new) }
-        ensures why { IfErr result (IsReason (W.seen world.old).counts (W.seen world.new).counts 0 0) }
+        ensures talks { KeepsTalking W.Tells (W.seen world.old) (W.seen world.new) }
+        ensures why { IfErr result (IsReason W.Tells (W.seen world.old) (W.seen world.new) 0 0) }
         ensures plain { IfErr result (PlainTable W.Tells (W.seen world.old) (W.seen world.new) self.old.net) }
         ensures asks { IfOk result (λ rows. AsksShown W.Tells dpid (W.seen world.old) (W.seen world.new) self.old self.new rows) }
     {
@@ -120,11 +123,12 @@ impl Run {
     }
 
     /// Asks a switch for its entries, and appends their lines. One that is not joined has none.
-    #[tactic(auto, using(crate::specs::WhyLaws::waits_then))]
+    #[tactic(auto, using(crate::specs::WhyLaws::waits_then, crate::specs::TalkingLaws::keeps_none))]
     fn note_table<W: World>(&mut self, world: &mut W, dpid: Dpid) -> Result<(), Fault>
         ensures waits { OnOk result (Waits self.old self.new) }
         ensures continues { Continues W.Tells (W.seen world.old) (W.seen world.new) }
-        ensures why { IfErr result (IsReason (W.seen world.old).counts (W.seen world.new).counts 0 0) }
+        ensures talks { KeepsTalking W.Tells (W.seen world.old) (W.seen world.new) }
+        ensures why { IfErr result (IsReason W.Tells (W.seen world.old) (W.seen world.new) 0 0) }
         ensures plain { IfErr result (PlainTable W.Tells (W.seen world.old) (W.seen world.new) self.old.net) }
         ensures shown { OnOk result (TableShown W.Tells dpid (W.seen world.old) (W.seen world.new) self.old self.new) }
     {
@@ -159,11 +163,12 @@ impl Run {
     }
 
     /// Appends the last lines: the tables of the joined switches, by number, the application, and the end.
-    #[tactic(auto, using(crate::specs::WhyLaws::continues_then, crate::specs::WhyLaws::why_then, crate::specs::WhyLaws::waits_then))]
+    #[tactic(auto, using(crate::specs::WhyLaws::continues_then, crate::specs::WhyLaws::why_then, crate::specs::WhyLaws::waits_then, crate::specs::TalkingLaws::keeps_none, crate::specs::TalkingLaws::keeps_then))]
     pub(crate) fn note_last<W: World>(&mut self, world: &mut W) -> Result<(), Fault>
         ensures waits { OnOk result (Waits self.old self.new) }
         ensures continues { Continues W.Tells (W.seen world.old) (W.seen world.new) }
-        ensures why { IfErr result (IsReason (W.seen world.old).counts (W.seen world.new).counts 0 0) }
+        ensures talks { KeepsTalking W.Tells (W.seen world.old) (W.seen world.new) }
+        ensures why { IfErr result (IsReason W.Tells (W.seen world.old) (W.seen world.new) 0 0) }
 
         // Where the world keeps its word, this is what the reference controller says at the end.
         ensures shown { OnOk result (LastShown W.Tells (W.seen world.old) (W.seen world.new) self.old self.new) }

@@ -12,11 +12,12 @@ ghost use Rattle.lego_model.specs.Places.{Place};
 ghost use Rattle.outside.specs.declared.step.WorldStep.TheVariants.{Opened};
 ghost use Rattle.shown_runs.specs.Endings.{ShownLeaves};
 ghost use Rattle.shown_runs.specs.FirstLaws.{engine_at_first};
-ghost use Rattle.shown_runs.specs.Promise.{Premise};
+ghost use Rattle.shown_runs.specs.Promise.{PremiseSoFar, Premise};
 ghost use Rattle.shown_runs.specs.FirstLaws.{engine_at_first};
 ghost use Rattle.event_dispatch.specs.Shows.{engine_of};
+ghost use Rattle.event_dispatch.specs.Talking.{KeepsTalking};
 ghost use Rattle.event_dispatch.specs.Cut.{CutRound, CutRounds, CutStart, CutEnd, CutFinishAs, CutAs};
-ghost use Rattle.event_dispatch.specs.Serves.{GoesRound, GoesToEnd, Begins, EndsReport, Finishes, GoesAs, RunsAs, IsUnopened, IsAlike};
+ghost use Rattle.event_dispatch.specs.Serves.{GoesRound, GoesToEnd, Begins, EndsReport, Finishes, GoesAs, RunsAs, IsUnopened, IsCut, IsAlike};
 
 use crate::batch::Rest;
 use crate::fault::Fault;
@@ -55,7 +56,7 @@ impl Run {
         ensures events { OnOk result (self.new.events ≤ self.old.events + 1000) }
         ensures continues { Continues W.Tells (W.seen world.old) (W.seen world.new) }
         ensures never_fell { NeverFell (K.faults sink.old) (K.faults sink.new) }
-        ensures why { IfErr result (IsReason (W.seen world.old).counts (W.seen world.new).counts (K.faults sink.old) (K.faults sink.new)) }
+        ensures why { IfErr result (IsReason W.Tells (W.seen world.old) (W.seen world.new) (K.faults sink.old) (K.faults sink.new)) }
         ensures plain { IfErr result (λ fault. PlainRun W.Tells (J.accepts judge.now) (W.seen world.old) (W.seen world.new) (engine_of self.old) (served_by fault)) }
     {
         let rest = self.take_batch(world, buf)?;
@@ -82,7 +83,7 @@ impl Run {
             (W.seen world.old) (W.seen world.new) self.old) }
         ensures continues { Continues W.Tells (W.seen world.old) (W.seen world.new) }
         ensures never_fell { NeverFell (K.faults sink.old) (K.faults sink.new) }
-        ensures why { IfErr result (IsReason (W.seen world.old).counts (W.seen world.new).counts (K.faults sink.old) (K.faults sink.new)) }
+        ensures why { IfErr result (IsReason W.Tells (W.seen world.old) (W.seen world.new) (K.faults sink.old) (K.faults sink.new)) }
         ensures plain { IfErr result (λ fault. PlainRun W.Tells (J.accepts judge.now) (W.seen world.old) (W.seen world.new) (engine_of self.old) (served_by fault)) }
     {
         for _round in 0..MOST_ROUNDS {
@@ -106,7 +107,7 @@ impl Run {
         ensures none { OnOk result (self.new.events ≡ 0) }
         ensures continues { Continues W.Tells (W.seen world.old) (W.seen world.new) }
         ensures never_fell { NeverFell (K.faults sink.old) (K.faults sink.new) }
-        ensures why { IfErr result (IsReason (W.seen world.old).counts (W.seen world.new).counts (K.faults sink.old) (K.faults sink.new)) }
+        ensures why { IfErr result (IsReason W.Tells (W.seen world.old) (W.seen world.new) (K.faults sink.old) (K.faults sink.new)) }
         ensures plain { IfErr result IsPlainEnd }
     {
         self.start(world)?;
@@ -122,7 +123,7 @@ impl Run {
         ensures cut { IfErr result (λ fault. CutEnd W.Tells fault (K.contents sink.old) (K.contents sink.new) (W.seen world.old) (W.seen world.new) (engine_of self.old)) }
         ensures continues { Continues W.Tells (W.seen world.old) (W.seen world.new) }
         ensures never_fell { NeverFell (K.faults sink.old) (K.faults sink.new) }
-        ensures why { IfErr result (IsReason (W.seen world.old).counts (W.seen world.new).counts (K.faults sink.old) (K.faults sink.new)) }
+        ensures why { IfErr result (IsReason W.Tells (W.seen world.old) (W.seen world.new) (K.faults sink.old) (K.faults sink.new)) }
         ensures plain { IfErr result (λ fault. PlainCalm W.Tells (W.seen world.old) (W.seen world.new) self.old.net (served_by fault)) }
     {
         self.note_last(world)?;
@@ -138,7 +139,7 @@ impl Run {
         ensures cut { IfErr result (λ end. CutFinishAs W.Tells end (K.contents sink.old) (K.contents sink.new) (W.seen world.old) (W.seen world.new) (engine_of self.old)) }
         ensures continues { Continues W.Tells (W.seen world.old) (W.seen world.new) }
         ensures never_fell { NeverFell (K.faults sink.old) (K.faults sink.new) }
-        ensures why { IfErr result (IsWhy (W.seen world.old).counts (W.seen world.new).counts (K.faults sink.old) (K.faults sink.new)) }
+        ensures why { IfErr result (IsWhy W.Tells (W.seen world.old) (W.seen world.new) (K.faults sink.old) (K.faults sink.new)) }
         ensures plain { IfErr result (PlainCalm W.Tells (W.seen world.old) (W.seen world.new) self.old.net) }
     {
         if !self.queue.is_empty() {
@@ -164,7 +165,7 @@ impl Run {
         ensures cut { IfErr result (λ end. CutAs W.Tells (J.accepts judge.now) end (K.contents sink.old) (K.contents sink.new) (W.seen world.old) (W.seen world.new) (engine_of self.old)) }
         ensures continues { Continues W.Tells (W.seen world.old) (W.seen world.new) }
         ensures never_fell { NeverFell (K.faults sink.old) (K.faults sink.new) }
-        ensures why { IfErr result (IsWhy (W.seen world.old).counts (W.seen world.new).counts (K.faults sink.old) (K.faults sink.new)) }
+        ensures why { IfErr result (IsWhy W.Tells (W.seen world.old) (W.seen world.new) (K.faults sink.old) (K.faults sink.new)) }
         ensures plain { IfErr result (PlainWhole W.Tells (J.accepts judge.now) (W.seen world.old) (W.seen world.new) (engine_of self.old)) }
     {
         self.begin(world, sink)?;
@@ -178,7 +179,7 @@ fn open<W: World>(world: &mut W) -> Result<(), Served>
     ensures opened { OnOk result (W.Tells → (W.seen world.new).history ≡ (W.seen world.old).history ++ Opened ∷ []) }
     ensures unopened { IfErr result (IsUnopened W.Tells (W.seen world.old) (W.seen world.new)) }
     ensures continues { Continues W.Tells (W.seen world.old) (W.seen world.new) }
-    ensures why { IfErr result (IsWhy (W.seen world.old).counts (W.seen world.new).counts 0 0) }
+    ensures why { IfErr result (IsWhy W.Tells (W.seen world.old) (W.seen world.new) 0 0) }
 {
     match world.open(0) {
         Ok(()) => Ok(()),
@@ -192,6 +193,7 @@ fn open<W: World>(world: &mut W) -> Result<(), Served>
 fn end<W: World>(world: &mut W)
     ensures continues { Continues W.Tells (W.seen world.old) (W.seen world.new) }
     ensures leaves { ShownLeaves W.Tells (W.seen world.old) (W.seen world.new) }
+    ensures talks { KeepsTalking W.Tells (W.seen world.old) (W.seen world.new) }
 {
     world.end(INDEX);
 }
@@ -213,7 +215,7 @@ fn go_to_end<W: World, J: Judge, K: Sink>(
     ensures cut { IfErr result (λ end. CutAs W.Tells (J.accepts judge.now) end (K.contents sink.old) (K.contents sink.new) (W.seen world.old) (W.seen world.new) (engine_of run.old)) }
     ensures continues { Continues W.Tells (W.seen world.old) (W.seen world.new) }
     ensures never_fell { NeverFell (K.faults sink.old) (K.faults sink.new) }
-    ensures why { IfErr result (IsWhy (W.seen world.old).counts (W.seen world.new).counts (K.faults sink.old) (K.faults sink.new)) }
+    ensures why { IfErr result (IsWhy W.Tells (W.seen world.old) (W.seen world.new) (K.faults sink.old) (K.faults sink.new)) }
     ensures plain { IfErr result (PlainWhole W.Tells (J.accepts judge.now) (W.seen world.old) (W.seen world.new) (engine_of run.old)) }
 {
     let ended = run.go(world, judge, sink, buf);
@@ -232,7 +234,7 @@ fn run<W: World, J: Judge, K: Sink>(
     ensures cut { IfErr result (λ end. CutAs W.Tells (J.accepts judge.now) end (K.contents sink.old) (K.contents sink.new) (W.seen world.old) (W.seen world.new) engine_at_first) }
     ensures continues { Continues W.Tells (W.seen world.old) (W.seen world.new) }
     ensures never_fell { NeverFell (K.faults sink.old) (K.faults sink.new) }
-    ensures why { IfErr result (IsWhy (W.seen world.old).counts (W.seen world.new).counts (K.faults sink.old) (K.faults sink.new)) }
+    ensures why { IfErr result (IsWhy W.Tells (W.seen world.old) (W.seen world.new) (K.faults sink.old) (K.faults sink.new)) }
     ensures plain { IfErr result (PlainWhole W.Tells (J.accepts judge.now) (W.seen world.old) (W.seen world.new) engine_at_first) }
 {
     let mut run = Run::new(alloc)?;
@@ -255,14 +257,19 @@ pub fn serve<W: World, J: Judge, K: Sink>(
     ensures continues { Continues W.Tells (W.seen world.old) (W.seen world.new) }
     ensures never_fell { NeverFell (K.faults sink.old) (K.faults sink.new) }
     // Each end but the whole one and want of memory has its cause in this call.
-    ensures why { IsWhy (W.seen world.old).counts (W.seen world.new).counts (K.faults sink.old) (K.faults sink.new) result }
+    ensures why { IsWhy W.Tells (W.seen world.old) (W.seen world.new) (K.faults sink.old) (K.faults sink.new) result }
     // In a world that tells and keeps its word, on which no call was made before, the run is the reference controller's over what the
     // world told: the tables agree at every quiet place, the application was given what it is given there, and what was written is the
-    // report, whole where all events were dispatched, and as far as these go where some were left. Where a fault ends the run, it is so
-    // up to a place, with the lines of all that was done up to there; and where the sink failed, with a part of the lines of the last.
+    // report, whole where all events were dispatched, and as far as these go where some were left. It is so, too, over all that was said
+    // of the application, of which the world told the front.
     ensures alike { (allows : List Place → Bool) → Premise W.Tells (J.accepts judge.now) allows (W.seen world.old) (W.seen world.new)
         → IsAlike allows (W.seen world.new) (K.contents sink.old) (K.contents sink.new) result }
-    // There no switch is at fault for what it sent: of a switch only its link ends a run.
+    // Where a fault ends the run, it is so up to a place, with the lines of all that was done up to there, and where the sink failed,
+    // with a part of the lines of the last; if the world kept its word as far as there, whatever came behind it. The whole journal is a
+    // dialogue with the application then.
+    ensures cut { (allows : List Place → Bool) → PremiseSoFar W.Tells (J.accepts judge.now) allows (W.seen world.old) (W.seen world.new)
+        → IsCut allows (W.seen world.new) (K.contents sink.old) (K.contents sink.new) result }
+    // In a world that keeps its word to the end no switch is at fault for what it sent: of a switch only its link ends a run.
     ensures plain { (allows : List Place → Bool) → Premise W.Tells (J.accepts judge.now) allows (W.seen world.old) (W.seen world.new) → IsPlainServed result }
 {
     if let Err(served) = open(world) {

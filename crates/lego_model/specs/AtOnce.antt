@@ -1,8 +1,10 @@
 -- The dialogue that a journal has with an application: it is answered message by message, in the order in which it gave them, and a change
 -- has reached its switch before its answer is given (OpenFlow 1.0.0, 4.2 Message Handling and 5.3.7 Barrier Message). No call for the
--- application is out of place: it is started only where it does not run, and given to, taken from and ended only while it runs. All else
--- is our own.
-use Rattle.std.specs.Prelude.{◌≡◌, ◌==◌, ℕ, Bool, true, false, List, [], ◌∷◌, ◌++◌, filter, drop, Option, Some, Ok, ◌⊎◌, slice_index}
+-- application is out of place: it is started only where it does not run, and given to, taken from and ended only while it runs. And it is
+-- looked at no further than needed: what it gives is taken only where no whole frame stands at the front of what is unread, nor bytes that
+-- are refused, and where no end of its bytes was taken since it was started or given another frame than an Answer last. All else is our
+-- own.
+use Rattle.std.specs.Prelude.{◌≡◌, ◌==◌, ℕ, Bool, true, false, List, [], ◌∷◌, ◌++◌, filter, drop, Option, Some, None, Ok, ◌⊎◌, slice_index}
 use Rattle.of_types.specs.declared.errors.OfError.{OfError}
 use Rattle.of_types.specs.declared.journal.Act.{Act}
 use Rattle.of_types.specs.declared.journal.Act.TheVariants.{Started, Gave, Gone, Took, Ended}
@@ -15,25 +17,26 @@ use Rattle.app_frames.specs.declared.frame.AppFrame.TheVariants as frames
 use Rattle.app_frames.specs.declared.frame.Answer.{Answer}
 use Rattle.app_frames.specs.Frames.{app_reading}
 use Rattle.lego_model.specs.Answers.{Rows, as_sent, host_answer, answer_by}
-use Rattle.lego_model.specs.Journal.{is_of, is_change, sends_change, ReachedAtOnce}
+use Rattle.lego_model.specs.Journal.{is_of, is_event, is_change, sends_change, ReachedAtOnce}
 use Rattle.lego_model.specs.Controller.{answer_frame}
 
 -- ---- What stands before an application
 
--- whether it runs, the bytes that it gave in this life and that were neither answered nor passed over, and the acts since it was given a
--- frame last
+-- whether it runs, the bytes that it gave in this life and that were neither answered nor passed over, the acts since it was given a frame
+-- last, and whether an end of its bytes was taken, closed or silent, since it was started or given another frame than an Answer last
 pub record Before : Type 0 where
   pub running : Bool
   pub unread : List ℕ
   pub since : List Act
+  pub ended : Bool
 
--- of an application that runs
+-- of an application that runs, and whose bytes have not ended
 abbrev pub before : List ℕ → List Act → Before
-before unread since = record { running = true; unread = unread; since = since }
+before unread since = record { running = true; unread = unread; since = since; ended = false }
 
 -- behind an attempt to start it, which stands or does not
 abbrev pub attempted : Bool → Before
-attempted stands = record { running = stands; unread = []; since = [] }
+attempted stands = record { running = stands; unread = []; since = []; ended = false }
 
 -- it was just started, or its checkpoint given
 abbrev pub nothing_said : Before
@@ -45,6 +48,19 @@ at_first = attempted false
 -- an act that moves none of its bytes
 abbrev pub besides : Before → Act → Before
 besides s act = record s { since = s.since ++ act ∷ [] }
+
+-- an act that takes a piece of its bytes
+abbrev pub took_piece : Before → List ℕ → Act → Before
+took_piece s bytes act = record s { unread = s.unread ++ bytes; since = s.since ++ act ∷ [] }
+
+-- an act that takes an end of its bytes
+abbrev pub took_end : Before → Act → Before
+took_end s act = record s { since = s.since ++ act ∷ []; ended = true }
+
+-- More of its bytes is looked for only here: they have not ended, and no whole frame stands at the front, nor bytes that are refused.
+pub record LooksFor (s : Before) : Type 0 where
+  pub not_ended : s.ended ≡ false
+  pub none_whole : app_reading s.unread ≡ Ok None
 
 -- ---- Frames that ask for nothing
 
@@ -105,24 +121,26 @@ pub record Answers (frame : List ℕ) (s t : Before) : Type 0 where
   pub at_once : AnsweredAtOnce dpid bytes answer s.since
   pub then_so : t ≡ before (drop size s.unread) []
 
--- any other frame asks for what comes next, and what it does not answer is passed over
-pub record AsksNext (s t : Before) : Type 0 where
+-- Any other frame asks for what comes next, and what it does not answer is passed over. Behind the end of its bytes only an Event is given.
+pub record AsksNext (frame : List ℕ) (s t : Before) : Type 0 where
+  pub not_ended : is_event frame ≡ false → s.ended ≡ false
   pub running_so : t.running ≡ true
   pub passes : Passes s.unread t.unread
   pub since_so : t.since ≡ []
+  pub ended_so : t.ended ≡ false
 
 -- ---- The dialogue
 
 -- a frame that is an Answer, or another one
 abbrev pub GivesFrame : Bool → List ℕ → Before → Before → Type 0
 GivesFrame true frame s t = Answers frame s t
-GivesFrame false frame s t = AsksNext s t
+GivesFrame false frame s t = AsksNext frame s t
 
 -- an act of the application, or another one
 abbrev pub Says : Bool → Act → Before → Before → Type 0
 Says true (Started app stands) s t = (s.running ≡ false) × (t ≡ attempted stands)
-Says true (Took app (Bytes bytes)) s t = (s.running ≡ true) × (t ≡ record s { unread = s.unread ++ bytes; since = s.since ++ Took app (Bytes bytes) ∷ [] })
-Says true (Took app what) s t = (s.running ≡ true) × (t ≡ besides s (Took app what))
+Says true (Took app (Bytes bytes)) s t = (s.running ≡ true) × (LooksFor s × (t ≡ took_piece s bytes (Took app (Bytes bytes))))
+Says true (Took app what) s t = (s.running ≡ true) × (LooksFor s × (t ≡ took_end s (Took app what)))
 Says true (Gave app frame) s t = (s.running ≡ true) × GivesFrame (is_answer frame) frame s t
 Says true (Gone app frame) s t = (s.running ≡ true) × (t ≡ besides s (Gone app frame))
 Says true (Ended app) s t = (s.running ≡ true) × (t ≡ record s { running = false; since = s.since ++ Ended app ∷ [] })

@@ -16,6 +16,8 @@ pub mod Agreement
 pub mod RunReport
 pub mod JournalLaws
 pub mod AtOnce
+pub mod Scripted
+pub mod ScriptedLaws
 pub mod Answers
 pub mod SessionFacts
 pub mod SessionWordLaws

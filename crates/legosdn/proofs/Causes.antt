@@ -2,13 +2,14 @@
 use Rattle.std.proofs.Common.{◌≡◌, ◌⊎◌, ℕ, List, [], ◌∷◌, Contains, Option, Some, None, Result, Ok, Err, OnOk, OnErr, IfErr, IfSome, refl, sym, ap, subst, ◌∙◌, arith, inl, inr}
 use Rattle.lego_io.specs.Count.{NeverFell}
 use Rattle.lego_io.specs.CountLaws.{Rose-after, Rose-before}
-use Rattle.outside.specs.Seen.{Counts, NoneFell, Seen}
+use Rattle.outside.specs.Seen.{Counts, NoneFell, Seen, Longer}
 use Rattle.sim_world.specs.Scripts.{Scripts}
 use Rattle.sim_world.specs.World.{WorldData, seen_of}
 use Rattle.sim_world.specs.Building.{AreZero, IsNew}
 use Rattle.net_txn.specs.declared.fault.TxnFault.{TxnFault}
 use Rattle.net_txn.specs.declared.fault.TxnFault.TheVariants as faults
 use Rattle.event_dispatch.specs.Why.{IsWhyTxn}
+use Rattle.event_dispatch.specs.WhyLaws.{IsWhyTxn-behind}
 use Rattle.lego_model.specs.SessionLines.{SessionValue}
 use Rattle.legosdn.specs.declared.stop.Refusal.{Refusal}
 use Rattle.legosdn.specs.declared.stop.Stop.{Stop}
@@ -18,7 +19,7 @@ use Rattle.legosdn.specs.Stops.{stop_status, stop_line, refusal_line, stop_of_sw
 use Rattle.legosdn.specs.Headline.{Faults, faults_of, IsReadCause, IsRunCause, IsCause, IsEarly, IsLate, Loaded, Wrote}
 use Rattle.legosdn.proofs.Statuses.{is_refused, not_late}
 
-pub switch_cause : (k l : ℕ) (old new : Counts) (fault : TxnFault) → IsWhyTxn old new fault → IsRunCause k l old new (stop_of_switch fault)
+pub switch_cause : (k l : ℕ) (old new : Seen Scripts) (fault : TxnFault) → IsWhyTxn (Unit {0}) old new fault → IsRunCause k l old new (stop_of_switch fault)
 switch_cause k l old new (faults.SwitchFault d) why = why
 switch_cause k l old new (faults.SwitchBroke d bytes) why = (faults.SwitchBroke d bytes, refl, why)
 switch_cause k l old new (faults.Flooded d count) why = (faults.Flooded d count, refl, why)
@@ -40,29 +41,36 @@ none_fell a b first second = record {
   strays = omega (arith, first.strays, second.strays);
 }
 
-why_behind : (a b c : Counts) (fault : TxnFault) → NoneFell a b → IsWhyTxn b c fault → IsWhyTxn a c fault
-why_behind a b c (faults.SwitchFault d) first why = Rose-after (a.link_faults d) (b.link_faults d) (c.link_faults d) (first.link_faults d) why
-why_behind a b c (faults.SwitchBroke d bytes) first why = why
-why_behind a b c (faults.Flooded d count) first why = why
-why_behind a b c (faults.Diverged d sent got) first why = why
-why_behind a b c faults.NoMemory first why = why
+-- a world of which nothing has happened
+pub record AreNew (seen : Seen Scripts) : Type 0 where
+  pub zero : AreZero seen.counts
+  pub untouched : seen.history ≡ []
+
+longer : (a b : Seen Scripts) → AreNew a → AreNew b → Longer a.history b.history
+longer a b first second = ([], rw (first.untouched, second.untouched) refl)
+
+why_behind : (a b c : Seen Scripts) (fault : TxnFault) → AreNew a → AreNew b → IsWhyTxn (Unit {0}) b c fault → IsWhyTxn (Unit {0}) a c fault
+why_behind a b c fault first second why = IsWhyTxn-behind a b c (λ told. longer a b first second) fault (none_fell a.counts b.counts first.zero second.zero) why
+
+fell : (a b : Seen Scripts) → AreNew a → AreNew b → NoneFell a.counts b.counts
+fell a b first second = none_fell a.counts b.counts first.zero second.zero
 
 -- why a run stopped, with what was counted before it
-run_cause : (words : List (List ℕ)) (told : Option (List ℕ)) (i j k l : ℕ) (a b c : Counts) (stop : Stop) → NoneFell a b → IsRunCause k l b c stop → IsCause words told (faults_of i k a) (faults_of j l c) stop
-run_cause words told i j k l a b c Usage first why = absurd why
-run_cause words told i j k l a b c (Refused refusal) first why = absurd why
-run_cause words told i j k l a b c ReadFault first why = absurd why
-run_cause words told i j k l a b c WriteFault first why = why
-run_cause words told i j k l a b c Shut first why = Rose-after a.shuts b.shuts c.shuts first.shuts why
-run_cause words told i j k l a b c NextFault first why = Rose-after a.next_faults b.next_faults c.next_faults first.next_faults why
-run_cause words told i j k l a b c (SwitchFault d) first why = Rose-after (a.link_faults d) (b.link_faults d) (c.link_faults d) (first.link_faults d) why
-run_cause words told i j k l a b c (SwitchBroke d) first why = (why.0, why.1, why_behind a b c why.0 first why.2)
-run_cause words told i j k l a b c (Diverged d) first why = (why.0, why.1, why_behind a b c why.0 first why.2)
-run_cause words told i j k l a b c (EventsLeft left) first why = why
-run_cause words told i j k l a b c NoMemory first why = tt
+run_cause : (words : List (List ℕ)) (told : Option (List ℕ)) (i j k l : ℕ) (a b c : Seen Scripts) (stop : Stop) → AreNew a → AreNew b → IsRunCause k l b c stop → IsCause words told (faults_of i k a) (faults_of j l c) stop
+run_cause words told i j k l a b c Usage first second why = absurd why
+run_cause words told i j k l a b c (Refused refusal) first second why = absurd why
+run_cause words told i j k l a b c ReadFault first second why = absurd why
+run_cause words told i j k l a b c WriteFault first second why = why
+run_cause words told i j k l a b c Shut first second why = Rose-after a.counts.shuts b.counts.shuts c.counts.shuts (fell a b first second).shuts why
+run_cause words told i j k l a b c NextFault first second why = Rose-after a.counts.next_faults b.counts.next_faults c.counts.next_faults (fell a b first second).next_faults why
+run_cause words told i j k l a b c (SwitchFault d) first second why = Rose-after (a.counts.link_faults d) (b.counts.link_faults d) (c.counts.link_faults d) ((fell a b first second).link_faults d) why
+run_cause words told i j k l a b c (SwitchBroke d) first second why = (why.0, why.1, why_behind a b c why.0 first second why.2)
+run_cause words told i j k l a b c (Diverged d) first second why = (why.0, why.1, why_behind a b c why.0 first second why.2)
+run_cause words told i j k l a b c (EventsLeft left) first second why = why
+run_cause words told i j k l a b c NoMemory first second why = tt
 
 -- why an input was not read, among all causes
-read_cause : (words : List (List ℕ)) (told : Option (List ℕ)) (i j k l : ℕ) (a c : Counts) (stop : Stop) → IsReadCause told i j stop → IsCause words told (faults_of i k a) (faults_of j l c) stop
+read_cause : (words : List (List ℕ)) (told : Option (List ℕ)) (i j k l : ℕ) (a c : Seen Scripts) (stop : Stop) → IsReadCause told i j stop → IsCause words told (faults_of i k a) (faults_of j l c) stop
 read_cause words told i j k l a c Usage why = absurd why
 read_cause words told i j k l a c (Refused refusal) why = why
 read_cause words told i j k l a c ReadFault why = why
@@ -88,7 +96,7 @@ read_is_not_late told i j (Diverged d) why late = why
 read_is_not_late told i j (EventsLeft left) why late = why
 read_is_not_late told i j NoMemory why late = late
 
-run_is_not_early : (k l : ℕ) (b c : Counts) (stop : Stop) → IsRunCause k l b c stop → IsEarly stop → ⊥
+run_is_not_early : (k l : ℕ) (b c : Seen Scripts) (stop : Stop) → IsRunCause k l b c stop → IsEarly stop → ⊥
 run_is_not_early k l b c Usage why early = why
 run_is_not_early k l b c (Refused refusal) why early = why
 run_is_not_early k l b c ReadFault why early = why
@@ -102,7 +110,7 @@ run_is_not_early k l b c (EventsLeft left) why early = early
 run_is_not_early k l b c NoMemory why early = early
 
 -- a write of the last line, behind the run
-pub cause_then : (words : List (List ℕ)) (told : Option (List ℕ)) (i j k l m : ℕ) (a c : Counts) (stop : Stop) → NeverFell k l → NeverFell l m → IsCause words told (faults_of i k a) (faults_of j l c) stop
+pub cause_then : (words : List (List ℕ)) (told : Option (List ℕ)) (i j k l m : ℕ) (a c : Seen Scripts) (stop : Stop) → NeverFell k l → NeverFell l m → IsCause words told (faults_of i k a) (faults_of j l c) stop
     → IsCause words told (faults_of i k a) (faults_of j m c) stop
 cause_then words told i j k l m a c Usage up on why = why
 cause_then words told i j k l m a c (Refused refusal) up on why = why
@@ -124,14 +132,14 @@ wrote (Err e) all rose part = inr (rose, part)
 
 -- ---- At the top call
 
-pub are_zero : (w : WorldData) → IsNew w → AreZero (seen_of w).counts
+pub are_new : (w : WorldData) → IsNew w → AreNew (seen_of w)
 unfolding seen_of
-are_zero w new = new.counts
+are_new w new = record { zero = new.counts; untouched = new.history }
 
-pub run_causes : {T : Type 0} (words : List (List ℕ)) (told : Option (List ℕ)) (i j k l : ℕ) (a b c : Counts) (result : Result T Stop) → AreZero a → AreZero b → IfErr result (IsRunCause k l b c)
+pub run_causes : {T : Type 0} (words : List (List ℕ)) (told : Option (List ℕ)) (i j k l : ℕ) (a b c : Seen Scripts) (result : Result T Stop) → AreNew a → AreNew b → IfErr result (IsRunCause k l b c)
     → IfErr result (IsCause words told (faults_of i k a) (faults_of j l c))
 run_causes words told i j k l a b c (Ok x) first second why = tt
-run_causes words told i j k l a b c (Err stop) first second why = run_cause words told i j k l a b c stop (none_fell a b first second) why
+run_causes words told i j k l a b c (Err stop) first second why = run_cause words told i j k l a b c stop first second why
 
 refused_line : {X : Type 0} (contents : X → Option (List ℕ)) (faults : X → ℕ) (old mid new : X) (words : List (List ℕ)) (told : Option (List ℕ)) (before after : Faults) (stop : Stop) (refusal : Refusal)
     → stop ≡ Refused refusal → IsCause words told before after stop → (IsEarly stop → mid ≡ old) → Wrote (contents mid) (contents new) (faults mid) (faults new) (stop_line stop)

@@ -5,4 +5,6 @@ mod Statuses
 mod Loads
 mod Causes
 mod Places
+mod Said
+mod CutRuns
 mod Runs

@@ -33,7 +33,7 @@ act_in_place (Got d bytes) s ordered so = tt
 step_in_place : (step : WorldStep) (s : State) → IsOrderly index step → IsInPlaceOf index (act_of step) (is_running index s) → IsInPlace step s
 step_in_place (Acted act) s ordered so = act_in_place act s ordered so
 step_in_place (TookInto of (took.Bytes bytes) room) s ordered so = tt
-step_in_place (TookInto of took.Closed room) s ordered so = runs_as of true s ordered so
+step_in_place (TookInto of took.Closed room) s ordered so = runs_as of true s ordered.0 so
 step_in_place (TookInto of took.Silent room) s ordered so = tt
 step_in_place (From d bytes) s ordered so = tt
 step_in_place (Joined d bytes) s ordered so = tt

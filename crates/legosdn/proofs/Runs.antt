@@ -10,15 +10,15 @@ use Rattle.lego_model.specs.SessionText.{session_text}
 use Rattle.lego_model.specs.SessionTextLaws.{session_read}
 use Rattle.outside.specs.Seen.{Seen, Continues}
 use Rattle.outside.specs.Conforming.{Conforming}
-use Rattle.sim_world.specs.Scripts.{Scripts}
-use Rattle.sim_world.specs.World.{WorldData, IsReadable, seen_of}
+use Rattle.sim_world.specs.Told.{without_links}
+use Rattle.sim_world.specs.Scripts.{Scripts, KeepsScripts}
+use Rattle.sim_world.specs.World.{WorldData, IsReadable, given_of, seen_of}
 use Rattle.sim_world.specs.Building.{IsNew, Begins}
 use Rattle.session_text.specs.Loading.{given_by}
 use Rattle.shown_runs.specs.Engine.{stimuli_in}
 use Rattle.shown_runs.specs.StimuliLaws.{told-few, told-all}
 use Rattle.shown_runs.specs.Promise.{Premise}
 use Rattle.shown_runs.specs.DialogueLaws.{applications_in_place}
-use Rattle.shown_runs.specs.Cut.{CutAlike}
 use Rattle.event_dispatch.specs.declared.served.Served.{Served}
 use Rattle.event_dispatch.specs.declared.served.Served.TheVariants as served
 use Rattle.event_dispatch.specs.Serves.{IsAlike}
@@ -28,7 +28,9 @@ use Rattle.legosdn.specs.declared.stop.Stop.{Stop}
 use Rattle.legosdn.specs.declared.stop.Stop.TheVariants.{Usage, Refused, ReadFault, WriteFault, Shut, NextFault, SwitchFault, SwitchBroke, Diverged, EventsLeft, NoMemory}
 use Rattle.legosdn.specs.Input.{session_of}
 use Rattle.legosdn.specs.Stops.{stop_status, stop_line, stop_of_switch}
-use Rattle.legosdn.specs.Headline.{is_command, Faults, IsReadCause, IsCause, NoneFailed, IsLate, Wrote, all_allowed, RunsWhole, RunsPart, StopsAs, RunsAs, LeftAs, CutShort}
+use Rattle.legosdn.specs.Headline.{is_command, Faults, IsReadCause, IsCause, NoneFailed, IsLate, KeepsLines, Wrote, RunsWhole, RunsPart, UpToPlace, StopsAs, RunsAs, LeftAs, CutShort}
+use Rattle.legosdn.specs.Said.{all_allowed, CutRun}
+use Rattle.legosdn.proofs.Said.{kept_to_lines, ends_as_said, leaves_as_said}
 use Rattle.legosdn.proofs.Statuses.{is_broken, is_diverged}
 use Rattle.legosdn.proofs.Places.{CountsNone, none_strays}
 use Rattle.lego_io.specs.Count.{NeverFell}
@@ -63,25 +65,37 @@ premise old new none few continues keeps =
       few = omega (arith, told, same, few);
     }
 
+-- the world kept to the lines that it was given
+lines_seen : (sim : WorldData) → KeepsLines sim → KeepsScripts (seen_of sim).given.own (without_links (seen_of sim).given.fails) (seen_of sim).history
+unfolding seen_of given_of
+lines_seen sim lines = lines
+
 pub runs_whole : (old sim : WorldData) (contents now_contents : Option (List ℕ)) (events : ℕ) → (seen_of old).history ≡ [] → length (seen_of old).given.stimuli ≤ 1000000 → Continues (Unit {0}) (seen_of old) (seen_of sim)
-    → (IsReadable sim.history ≡ true → Conforming (seen_of sim)) → (end : Served) → end ≡ served.Ended events → Promises (seen_of old) (seen_of sim) contents now_contents end → CountsNone sim → IsReadable sim.history ≡ true → RunsWhole (seen_of sim) contents now_contents
-runs_whole old sim contents now_contents events none few continues word end ended promises counts readable =
+    → (IsReadable sim.history ≡ true → Conforming (seen_of sim)) → (end : Served) → end ≡ served.Ended events → Promises (seen_of old) (seen_of sim) contents now_contents end → CountsNone sim → KeepsLines sim → IsReadable sim.history ≡ true → RunsWhole (seen_of sim) contents now_contents
+runs_whole old sim contents now_contents events none few continues word end ended promises counts lines readable =
     let keeps = word readable in
     let is = subst (λ (e : Served). IsAlike all_allowed (seen_of sim) contents now_contents e) ended (promises all_allowed (premise (seen_of old) (seen_of sim) none few continues keeps)) in
-    record { events = events; alike = is.alike; stimuli = told-all (seen_of sim) keeps is.none_to_come; strays = none_strays sim is.alike.in_order (applications_in_place (seen_of sim) is.alike.at_once) counts }
+    let stimuli = told-all (seen_of sim) keeps is.none_to_come in
+    record {
+      events = events;
+      alike = is.alike;
+      stimuli = stimuli;
+      as_said = λ no_call. ends_as_said (seen_of sim) contents now_contents events is.alike stimuli (kept_to_lines (seen_of sim) (without_links (seen_of sim).given.fails) (lines_seen sim lines) no_call is.alike.in_order is.alike.at_once);
+      strays = none_strays sim is.alike.in_order (applications_in_place (seen_of sim) is.alike.at_once) counts;
+    }
 
 pub runs_part : (old sim : WorldData) (contents now_contents : Option (List ℕ)) (left : ℕ) → (seen_of old).history ≡ [] → length (seen_of old).given.stimuli ≤ 1000000 → Continues (Unit {0}) (seen_of old) (seen_of sim)
-    → (IsReadable sim.history ≡ true → Conforming (seen_of sim)) → (end : Served) → end ≡ served.EventsLeft left → Promises (seen_of old) (seen_of sim) contents now_contents end → CountsNone sim → IsReadable sim.history ≡ true → RunsPart (seen_of sim) contents now_contents left
-runs_part old sim contents now_contents left none few continues word end ended promises counts readable =
+    → (IsReadable sim.history ≡ true → Conforming (seen_of sim)) → (end : Served) → end ≡ served.EventsLeft left → Promises (seen_of old) (seen_of sim) contents now_contents end → CountsNone sim → KeepsLines sim → IsReadable sim.history ≡ true → RunsPart (seen_of sim) contents now_contents left
+runs_part old sim contents now_contents left none few continues word end ended promises counts lines readable =
     let keeps = word readable in
     let is = subst (λ (e : Served). IsAlike all_allowed (seen_of sim) contents now_contents e) ended (promises all_allowed (premise (seen_of old) (seen_of sim) none few continues keeps)) in
-    record { alike = is.alike; stimuli = told-all (seen_of sim) keeps is.none_to_come; strays = none_strays sim is.alike.in_order (applications_in_place (seen_of sim) is.alike.at_once) counts }
-
--- where a fault ended the run, it is so far alike
-pub so_alike : (old sim : WorldData) (contents now_contents : Option (List ℕ)) → (seen_of old).history ≡ [] → length (seen_of old).given.stimuli ≤ 1000000 → Continues (Unit {0}) (seen_of old) (seen_of sim)
-    → (IsReadable sim.history ≡ true → Conforming (seen_of sim)) → (end fault : Served) → end ≡ fault → Promises (seen_of old) (seen_of sim) contents now_contents end → IsReadable sim.history ≡ true → IsAlike all_allowed (seen_of sim) contents now_contents fault
-so_alike old sim contents now_contents none few continues word end fault ended promises readable =
-    subst (IsAlike all_allowed (seen_of sim) contents now_contents) ended (promises all_allowed (premise (seen_of old) (seen_of sim) none few continues (word readable)))
+    let stimuli = told-all (seen_of sim) keeps is.none_to_come in
+    record {
+      alike = is.alike;
+      stimuli = stimuli;
+      as_said = λ no_call. leaves_as_said (seen_of sim) contents now_contents left is.alike stimuli (kept_to_lines (seen_of sim) (without_links (seen_of sim).given.fails) (lines_seen sim lines) no_call is.alike.in_order is.alike.at_once);
+      strays = none_strays sim is.alike.in_order (applications_in_place (seen_of sim) is.alike.at_once) counts;
+    }
 
 -- how the run went up to a stop
 pub cut_short : (status : ℕ) (sim : WorldData) (stop : Stop) (contents before now_contents : Option (List ℕ)) (faults_old faults faults_new : ℕ) → status ≡ stop_status stop → NeverFell faults_old faults → StopsAs stop sim contents before
@@ -121,7 +135,7 @@ read_runs told k l sim contents (SwitchFault d) none cause = absurd cause
 read_runs told k l sim contents (SwitchBroke d) none cause = absurd cause
 read_runs told k l sim contents (Diverged d) none cause = absurd cause
 read_runs told k l sim contents (EventsLeft left) none cause = absurd cause
-read_runs told k l sim contents NoMemory none cause = λ readable. inr (record { history = none; still = refl })
+read_runs told k l sim contents NoMemory none cause = inr (record { history = none; still = refl })
 
 pub runs_by_read : {T : Type 0} (told : Option (List ℕ)) (k l : ℕ) (sim : WorldData) (contents : Option (List ℕ)) (stop : Stop) (result : Result T Stop) → IsErrAnd result (λ s. s ≡ stop) → (seen_of sim).history ≡ [] → IsReadCause told k l stop → RunsAs result sim contents contents
 runs_by_read told k l sim contents stop (Ok x) is none cause = absurd is
@@ -152,12 +166,12 @@ never_readable sim never = elim (cases_Bool (IsReadable sim.history)) [
   | inr broken ↦ broken
 ]
 
-switch_runs : (sim : WorldData) (a b : Option (List ℕ)) (fault : TxnFault) → (IsReadable sim.history ≡ true → IsPlainServed (served.Txn fault)) → (IsReadable sim.history ≡ true → CutAlike all_allowed (seen_of sim) a b) → StopsAs (stop_of_switch fault) sim a b
-switch_runs sim a b (faults.SwitchFault d) plain alike = alike
-switch_runs sim a b (faults.SwitchBroke d bytes) plain alike = never_readable sim plain
-switch_runs sim a b (faults.Flooded d n) plain alike = never_readable sim plain
-switch_runs sim a b (faults.Diverged d sent got) plain alike = never_readable sim plain
-switch_runs sim a b faults.NoMemory plain alike = λ readable. inl (alike readable)
+switch_runs : (sim : WorldData) (a b : Option (List ℕ)) (fault : TxnFault) → (IsReadable sim.history ≡ true → IsPlainServed (served.Txn fault)) → UpToPlace sim (λ last. CutRun last a b) → StopsAs (stop_of_switch fault) sim a b
+switch_runs sim a b (faults.SwitchFault d) plain place = place
+switch_runs sim a b (faults.SwitchBroke d bytes) plain place = (never_readable sim plain, place)
+switch_runs sim a b (faults.Flooded d n) plain place = (never_readable sim plain, place)
+switch_runs sim a b (faults.Diverged d sent got) plain place = (never_readable sim plain, place)
+switch_runs sim a b faults.NoMemory plain place = inl place
 
 -- what the engine promises of how the run ends
 abbrev pub PromisesPlain : Seen Scripts → Seen Scripts → Served → Type 0
@@ -165,17 +179,17 @@ PromisesPlain old new end = (allows : List Place → Bool) → Premise (Unit {0}
 
 pub runs_by_switch : (old sim : WorldData) (a b : Option (List ℕ)) (stop : Stop) (fault : TxnFault) → (seen_of old).history ≡ [] → length (seen_of old).given.stimuli ≤ 1000000 → Continues (Unit {0}) (seen_of old) (seen_of sim)
     → (IsReadable sim.history ≡ true → Conforming (seen_of sim)) → (end : Served) → end ≡ served.Txn fault → PromisesPlain (seen_of old) (seen_of sim) end → stop ≡ stop_of_switch fault
-    → (IsReadable sim.history ≡ true → CutAlike all_allowed (seen_of sim) a b) → StopsAs stop sim a b
-runs_by_switch old sim a b stop fault none few continues word end ended promises is alike =
+    → UpToPlace sim (λ last. CutRun last a b) → StopsAs stop sim a b
+runs_by_switch old sim a b stop fault none few continues word end ended promises is place =
     subst (λ (s : Stop). StopsAs s sim a b) (sym is)
-    (switch_runs sim a b fault (λ readable. subst IsPlainServed ended (promises all_allowed (premise (seen_of old) (seen_of sim) none few continues (word readable)))) alike)
+    (switch_runs sim a b fault (λ readable. subst IsPlainServed ended (promises all_allowed (premise (seen_of old) (seen_of sim) none few continues (word readable)))) place)
 
 -- what a stop of a switch says of the run
 pub broke_as : (sim : WorldData) (stop : Stop) (a b : Option (List ℕ)) → StopsAs stop sim a b → stop_status stop ≡ 8 → IsReadable sim.history ≡ false
-broke_as sim stop a b runs eight = let is = is_broken stop eight in subst (λ (s : Stop). StopsAs s sim a b) is.1 runs
+broke_as sim stop a b runs eight = let is = is_broken stop eight in (subst (λ (s : Stop). StopsAs s sim a b) is.1 runs).0
 
 pub diverged_as : (sim : WorldData) (stop : Stop) (a b : Option (List ℕ)) → StopsAs stop sim a b → stop_status stop ≡ 9 → IsReadable sim.history ≡ false
-diverged_as sim stop a b runs nine = let is = is_diverged stop nine in subst (λ (s : Stop). StopsAs s sim a b) is.1 runs
+diverged_as sim stop a b runs nine = let is = is_diverged stop nine in (subst (λ (s : Stop). StopsAs s sim a b) is.1 runs).0
 
 -- ---- A good input is answered
 
@@ -193,7 +207,7 @@ completes sim words told old new WriteFault a b cause runs input session command
 completes sim words told old new Shut a b cause runs input session command whole spelled readable none = absurd (none.shuts cause)
 completes sim words told old new NextFault a b cause runs input session command whole spelled readable none = absurd (none.next_faults cause)
 completes sim words told old new (SwitchFault d) a b cause runs input session command whole spelled readable none = absurd (none.link_faults d cause)
-completes sim words told old new (SwitchBroke d) a b cause runs input session command whole spelled readable none = absurd (true≢false (sym readable ∙ runs))
-completes sim words told old new (Diverged d) a b cause runs input session command whole spelled readable none = absurd (true≢false (sym readable ∙ runs))
+completes sim words told old new (SwitchBroke d) a b cause runs input session command whole spelled readable none = absurd (true≢false (sym readable ∙ runs.0))
+completes sim words told old new (Diverged d) a b cause runs input session command whole spelled readable none = absurd (true≢false (sym readable ∙ runs.0))
 completes sim words told old new (EventsLeft left) a b cause runs input session command whole spelled readable none = (1, omega arith, refl)
 completes sim words told old new NoMemory a b cause runs input session command whole spelled readable none = (2, omega arith, refl)

@@ -6,20 +6,20 @@ use Rattle.lego_io.specs.Count.{Rose, NeverFell}
 use Rattle.lego_io.specs.Source.{ended}
 use Rattle.lego_io.specs.Sink.{TookPart}
 use Rattle.outside.specs.declared.step.WorldStep.TheVariants.{NotOpened}
-use Rattle.outside.specs.Seen.{Counts, Seen}
+use Rattle.outside.specs.Seen.{Seen, Longer, journal}
+use Rattle.lego_model.specs.AtOnce.{AtOnce}
 use Rattle.sim_world.specs.Told.{without_links}
 use Rattle.sim_world.specs.Scripts.{Scripts, KeepsScripts}
 use Rattle.sim_world.specs.World.{WorldData, IsReadable, seen_of}
-use Rattle.shown_runs.specs.Engine.{stimuli_in}
-use Rattle.shown_runs.specs.Promise.{EndsAlike, LeavesAlike}
-use Rattle.shown_runs.specs.Cut.{CutAlike, CutWriting}
-use Rattle.lego_model.specs.Places.{Place}
+use Rattle.shown_runs.specs.Engine.{index, stimuli_in}
+use Rattle.shown_runs.specs.Promise.{EndsAs, EndsAlike, LeavesAs, LeavesAlike}
 use Rattle.net_txn.specs.declared.fault.TxnFault.{TxnFault}
 use Rattle.event_dispatch.specs.Why.{IsWhyTxn}
 use Rattle.event_dispatch.specs.Serves.{NothingDone}
 use Rattle.lego_model.specs.SessionLines.{SessionValue}
 use Rattle.session_text.specs.Loading.{given_by}
 use Rattle.legosdn.specs.Input.{session_of}
+use Rattle.legosdn.specs.Said.{all_allowed, reference_over, WithEnough, CutRun, WritingRun}
 use Rattle.legosdn.specs.declared.stop.Stop.{Stop}
 use Rattle.legosdn.specs.declared.stop.Stop.TheVariants.{Usage, Refused, ReadFault, WriteFault, Shut, NextFault, SwitchFault, SwitchBroke, Diverged, EventsLeft, NoMemory}
 use Rattle.legosdn.specs.Stops.{stop_status, stop_line, stop_of_switch}
@@ -30,18 +30,18 @@ is_command [] = false
 is_command (word ∷ []) = bytes_eq word (codes "replay")
 is_command (word ∷ next ∷ more) = false
 
--- How often the source, the sink and the world failed.
+-- How often the source and the sink failed, and what is seen of the world, which counts how often it failed.
 pub record Faults : Type 0 where
   pub source : ℕ
   pub sink : ℕ
-  pub world : Counts
+  pub world : Seen Scripts
 
-abbrev pub faults_of : ℕ → ℕ → Counts → Faults
+abbrev pub faults_of : ℕ → ℕ → Seen Scripts → Faults
 faults_of source sink world = record { source = source; sink = sink; world = world }
 
--- a switch failed, which stops the run so
-abbrev pub IsSwitchCause : Counts → Counts → Stop → Type 0
-IsSwitchCause old new stop = (fault : TxnFault) × (stop ≡ stop_of_switch fault) × IsWhyTxn old new fault
+-- a switch failed, which stops the run so; the history of the world, which tells it, has the cause
+abbrev pub IsSwitchCause : Seen Scripts → Seen Scripts → Stop → Type 0
+IsSwitchCause old new stop = (fault : TxnFault) × (stop ≡ stop_of_switch fault) × IsWhyTxn (Unit {0}) old new fault
 
 -- why an input is not read, or refused for its size
 abbrev pub IsReadCause : Option (List ℕ) → ℕ → ℕ → Stop → Type 0
@@ -51,11 +51,11 @@ IsReadCause told old new NoMemory = Unit {0}
 IsReadCause told old new other = ⊥
 
 -- why a run ends without its whole report
-abbrev pub IsRunCause : ℕ → ℕ → Counts → Counts → Stop → Type 0
+abbrev pub IsRunCause : ℕ → ℕ → Seen Scripts → Seen Scripts → Stop → Type 0
 IsRunCause sink_old sink_new old new WriteFault = Rose sink_old sink_new
-IsRunCause sink_old sink_new old new Shut = Rose old.shuts new.shuts
-IsRunCause sink_old sink_new old new NextFault = Rose old.next_faults new.next_faults
-IsRunCause sink_old sink_new old new (SwitchFault d) = Rose (old.link_faults d) (new.link_faults d)
+IsRunCause sink_old sink_new old new Shut = Rose old.counts.shuts new.counts.shuts
+IsRunCause sink_old sink_new old new NextFault = Rose old.counts.next_faults new.counts.next_faults
+IsRunCause sink_old sink_new old new (SwitchFault d) = Rose (old.counts.link_faults d) (new.counts.link_faults d)
 IsRunCause sink_old sink_new old new (SwitchBroke d) = IsSwitchCause old new (SwitchBroke d)
 IsRunCause sink_old sink_new old new (Diverged d) = IsSwitchCause old new (Diverged d)
 IsRunCause sink_old sink_new old new (EventsLeft left) = 1 ≤ left
@@ -74,9 +74,9 @@ IsCause words told old new stop = IsRunCause old.sink new.sink old.world new.wor
 pub record NoneFailed (old new : Faults) : Type 0 where
   pub source : Rose old.source new.source → ⊥
   pub sink : Rose old.sink new.sink → ⊥
-  pub shuts : Rose old.world.shuts new.world.shuts → ⊥
-  pub next_faults : Rose old.world.next_faults new.world.next_faults → ⊥
-  pub link_faults : (d : ℕ) → Rose (old.world.link_faults d) (new.world.link_faults d) → ⊥
+  pub shuts : Rose old.world.counts.shuts new.world.counts.shuts → ⊥
+  pub next_faults : Rose old.world.counts.next_faults new.world.counts.next_faults → ⊥
+  pub link_faults : (d : ℕ) → Rose (old.world.counts.link_faults d) (new.world.counts.link_faults d) → ⊥
 
 -- the stops that come before anything runs
 abbrev pub IsEarly : Stop → Type 0
@@ -107,10 +107,6 @@ pub record Loaded (told left : Option (List ℕ)) (seen : Seen Scripts) : Type 0
 
 -- ---- What a run is
 
--- the judge lets every table be
-abbrev pub all_allowed : List Place → Bool
-all_allowed places = true
-
 -- All stimuli that the world was given were told, and the run is that of the reference controller over them: at every quiet place the
 -- tables agree, the application was given what it is given there, no event is left, and what was written is the whole report. The journal
 -- is a dialogue with the application, in which each change had reached its switch at once when it was answered.
@@ -118,6 +114,8 @@ pub record RunsWhole (seen : Seen Scripts) (contents now_contents : Option (List
   pub events : ℕ
   pub alike : EndsAlike all_allowed seen contents now_contents events
   pub stimuli : stimuli_in seen ≡ seen.given.stimuli
+  -- it is that over what the lines of the session say of the application too
+  pub as_said : without_links seen.given.fails ≡ [] → WithEnough (λ more. EndsAs seen contents now_contents events (reference_over more seen.given))
   -- no call was made out of place, where no call of the world wanted memory
   pub strays : seen.counts.shorts ≡ 0 → seen.counts.strays ≡ 0
 
@@ -125,20 +123,30 @@ pub record RunsWhole (seen : Seen Scripts) (contents now_contents : Option (List
 pub record RunsPart (seen : Seen Scripts) (contents now_contents : Option (List ℕ)) (left : ℕ) : Type 0 where
   pub alike : LeavesAlike all_allowed seen contents now_contents left
   pub stimuli : stimuli_in seen ≡ seen.given.stimuli
+  pub as_said : without_links seen.given.fails ≡ [] → WithEnough (λ more. LeavesAs seen contents now_contents left (reference_over more seen.given))
   pub strays : seen.counts.shorts ≡ 0 → seen.counts.strays ≡ 0
 
--- How a run goes that ends so, unless a stimulus sends bytes that are no message. Where a fault ends it, it is that of the reference
--- controller up to a place, with the lines of all that was done up to there, and where the sink failed with a part of the lines of the last;
--- or nothing was done. Only where a stimulus does send such bytes, a switch breaks or diverges.
+-- There is a place of the run of which this is so, if no stimulus up to there sent bytes that are no message, whatever came behind it. Then
+-- the whole journal is a dialogue with the application, in which each change had reached its switch at once when it was answered.
+pub record UpToPlace (sim : WorldData) (IsSo : Seen Scripts → Type 0) : Type 0 where
+  pub last : Seen Scripts
+  pub given : last.given ≡ (seen_of sim).given
+  pub later : Longer last.history (seen_of sim).history
+  pub so : IsReadable last.history ≡ true → IsSo last
+  pub at_once : IsReadable last.history ≡ true → AtOnce index (journal (seen_of sim).history)
+
+-- How a run goes that ends so. Where events are left it is as above, unless a stimulus sends bytes that are no message. Where a fault ends
+-- it, it is that of the reference controller up to a place, with the lines of all that was done up to there, and where the sink failed with
+-- a part of the lines of the last; or nothing was done. Only where a stimulus does send such bytes, a switch breaks or diverges.
 abbrev pub StopsAs : Stop → WorldData → Option (List ℕ) → Option (List ℕ) → Type 0
 StopsAs (EventsLeft left) sim contents now_contents = IsReadable sim.history ≡ true → RunsPart (seen_of sim) contents now_contents left
-StopsAs WriteFault sim contents now_contents = IsReadable sim.history ≡ true → CutWriting all_allowed (seen_of sim) contents now_contents
-StopsAs Shut sim contents now_contents = IsReadable sim.history ≡ true → NothingDone (NotOpened ∷ []) (seen_of sim) contents now_contents
-StopsAs NextFault sim contents now_contents = IsReadable sim.history ≡ true → CutAlike all_allowed (seen_of sim) contents now_contents
-StopsAs (SwitchFault d) sim contents now_contents = IsReadable sim.history ≡ true → CutAlike all_allowed (seen_of sim) contents now_contents
-StopsAs (SwitchBroke d) sim contents now_contents = IsReadable sim.history ≡ false
-StopsAs (Diverged d) sim contents now_contents = IsReadable sim.history ≡ false
-StopsAs NoMemory sim contents now_contents = IsReadable sim.history ≡ true → CutAlike all_allowed (seen_of sim) contents now_contents ⊎ NothingDone [] (seen_of sim) contents now_contents
+StopsAs WriteFault sim contents now_contents = UpToPlace sim (λ last. WritingRun last contents now_contents)
+StopsAs Shut sim contents now_contents = NothingDone (NotOpened ∷ []) (seen_of sim) contents now_contents
+StopsAs NextFault sim contents now_contents = UpToPlace sim (λ last. CutRun last contents now_contents)
+StopsAs (SwitchFault d) sim contents now_contents = UpToPlace sim (λ last. CutRun last contents now_contents)
+StopsAs (SwitchBroke d) sim contents now_contents = (IsReadable sim.history ≡ false) × UpToPlace sim (λ last. CutRun last contents now_contents)
+StopsAs (Diverged d) sim contents now_contents = (IsReadable sim.history ≡ false) × UpToPlace sim (λ last. CutRun last contents now_contents)
+StopsAs NoMemory sim contents now_contents = UpToPlace sim (λ last. CutRun last contents now_contents) ⊎ NothingDone [] (seen_of sim) contents now_contents
 StopsAs other sim contents now_contents = Unit {0}
 
 abbrev pub RunsAs : {T : Type 0} → Result T Stop → WorldData → Option (List ℕ) → Option (List ℕ) → Type 0

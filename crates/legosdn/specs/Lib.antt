@@ -1,3 +1,4 @@
 pub mod Stops
 pub mod Input
+pub mod Said
 pub mod Headline

@@ -8,6 +8,10 @@ ghost use Rattle.sim_world.specs.Building.{nothing_given, IsNew, Begins};
 ghost use Rattle.lego_model.specs.SessionLines.{SessionValue};
 ghost use Rattle.legosdn.specs.declared.stop.Refusal.{Refusal};
 ghost use Rattle.legosdn.specs.Input.{app_names as names_in, session_of};
+ghost use Rattle.std.specs.Io.KnownBytes.{append_known};
+ghost use Rattle.lego_model.specs.RunReport.{run_report};
+ghost use Rattle.shown_runs.specs.Engine.{names};
+ghost use Rattle.legosdn.specs.Said.{reference_of_session, WithEnough};
 ghost use Rattle.legosdn.specs.Stops.{stop_status, stop_line, refusal_line};
 ghost use Rattle.legosdn.specs.Headline.{is_command as is_command_in, faults_of, IsReadCause, IsRunCause, IsCause, NoneFailed, IsEarly, IsLate, Loaded, RunsWhole, RunsAs, KeepsLines, LeftAs, CutShort, Wrote, WroteLast, Stopped};
 
@@ -62,7 +66,7 @@ pub fn play<K: Sink>(alloc: Global, sink: &mut K, sim: &mut SimWorld) -> Result<
     ensures runs { (seen_of sim.old).history ≡ [] → length (seen_of sim.old).given.stimuli ≤ 1000000
         → RunsAs result sim.new (K.contents sink.old) (K.contents sink.new) }
     ensures lines { KeepsLines sim.new }
-    ensures why { IfErr result (IsRunCause (K.faults sink.old) (K.faults sink.new) (seen_of sim.old).counts (seen_of sim.new).counts) }
+    ensures why { IfErr result (IsRunCause (K.faults sink.old) (K.faults sink.new) (seen_of sim.old) (seen_of sim.new)) }
     ensures continues { Continues (Unit {0}) (seen_of sim.old) (seen_of sim.new) }
     ensures never_fell { NeverFell (K.faults sink.old) (K.faults sink.new) }
 {
@@ -94,8 +98,8 @@ fn run<S: Source, K: Sink>(
     ensures lines { OnOk result (KeepsLines sim.new) }
     ensures late_lines { IfErr result (λ stop. IsLate stop → KeepsLines sim.new) }
     ensures why { IfErr result (IsCause (map string_bytes words.now) (S.remaining source.old)
-        (faults_of (S.faults source.old) (K.faults sink.old) (seen_of sim.old).counts)
-        (faults_of (S.faults source.new) (K.faults sink.new) (seen_of sim.new).counts)) }
+        (faults_of (S.faults source.old) (K.faults sink.old) (seen_of sim.old))
+        (faults_of (S.faults source.new) (K.faults sink.new) (seen_of sim.new))) }
     ensures early { IfErr result (λ stop. IsEarly stop → (sim.new ≡ sim.old) × (sink.new ≡ sink.old)) }
     ensures late { IfErr result (λ stop. IsLate stop → Loaded (S.remaining source.old) (S.remaining source.new) (seen_of sim.new)) }
     ensures usage { IfErr result (λ stop. (stop ≡ Stop.Usage) ↔ (is_command_in (map string_bytes words.now) ≡ false)) }
@@ -141,19 +145,26 @@ pub fn legosdn<S: Source, K: Sink>(
     // given is to its next message, and a change that passed the host's tests had then reached its switch: since the frame given before,
     // the change was sent there, a barrier behind it, the barrier's reply came, and no other change was sent.
     ensures done { result ≡ 0 → IsReadable sim.new.history ≡ true → RunsWhole (seen_of sim.new) (K.contents sink.old) (K.contents sink.new) }
+    // And that report is the one of the reference controller over the session that the input spells: over its switches and stimuli and what
+    // its lines say of the application, with as many ready starts and plain turns behind the last line as one likes, if they are enough.
+    ensures report { (input : List ℕ) (session : SessionValue) → S.remaining source.old ≡ Some input → session_of input ≡ Ok session
+        → result ≡ 0 → IsReadable sim.new.history ≡ true
+        → WithEnough (λ more. K.contents sink.new ≡ append_known (K.contents sink.old) (run_report names (reference_of_session more session))) }
     // At status 10 the same with the lines of the events that were dispatched, and how many are left behind them.
     ensures left { result ≡ 10 → LeftAs sim.new (K.contents sink.old) (K.contents sink.new) (K.faults sink.old) (K.faults sink.new) }
-    // Where a fault ends the run, it is that of the reference controller up to a place: what was written is what this says so far, or
-    // a part of the lines of what was done last where the sink failed, and behind it stands the line that says why; or nothing was done.
+    // Where a fault ends the run, it is that of the reference controller up to a place, if no stimulus up to there sent bytes that are no
+    // message: what was written is what this says so far, or a part of the lines of what was done last where the sink failed, and behind it
+    // stands the line that says why; and the whole journal is such a dialogue. Or nothing was done.
     ensures cut { Contains (5 ∷ 6 ∷ 7 ∷ 8 ∷ 9 ∷ 12 ∷ []) result
         → CutShort result sim.new (K.contents sink.old) (K.contents sink.new) (K.faults sink.old) (K.faults sink.new) }
     // What the application did is what the lines of the session say.
     ensures lines { Contains (0 ∷ 5 ∷ 6 ∷ 7 ∷ 8 ∷ 9 ∷ 10 ∷ []) result → KeepsLines sim.new }
 
-    // Any other status than 0 is that of a stop, whose cause there is, and whose line is the last that was written.
+    // Any other status than 0 is that of a stop, whose cause there is, and whose line is the last that was written. Of a switch that broke or
+    // diverged the world's history tells what came from it, and what was sent to it before.
     ensures statuses { (result ≡ 0) ⊎ Stopped (map string_bytes words.now) (S.remaining source.old)
-        (faults_of (S.faults source.old) (K.faults sink.old) (seen_of sim.old).counts)
-        (faults_of (S.faults source.new) (K.faults sink.new) (seen_of sim.new).counts)
+        (faults_of (S.faults source.old) (K.faults sink.old) (seen_of sim.old))
+        (faults_of (S.faults source.new) (K.faults sink.new) (seen_of sim.new))
         result (λ stop. WroteLast (K.contents sink.new) (K.faults sink.old) (K.faults sink.new) (stop_line stop)) }
 
     // A switch breaks or diverges only where a stimulus sent bytes that are no message.
@@ -163,7 +174,7 @@ pub fn legosdn<S: Source, K: Sink>(
     // the whole report is written, or events are left, or memory is wanting.
     ensures complete { (input : List ℕ) (session : SessionValue) → is_command_in (map string_bytes words.now) ≡ true → S.remaining source.old ≡ Some input
         → session_of input ≡ Ok session → IsReadable sim.new.history ≡ true
-        → NoneFailed (faults_of (S.faults source.old) (K.faults sink.old) (seen_of sim.old).counts) (faults_of (S.faults source.new) (K.faults sink.new) (seen_of sim.new).counts)
+        → NoneFailed (faults_of (S.faults source.old) (K.faults sink.old) (seen_of sim.old)) (faults_of (S.faults source.new) (K.faults sink.new) (seen_of sim.new))
         → Contains (0 ∷ 10 ∷ 12 ∷ []) result }
 
     // Each status with its cause.

@@ -27,6 +27,7 @@ use Rattle.lego_io.specs.Count.{Rose}
 use Rattle.net_txn.specs.declared.fault.TxnFault.{TxnFault}
 use Rattle.net_txn.specs.declared.fault.TxnFault.TheVariants.{SwitchFault, SwitchBroke, Diverged, Flooded, NoMemory}
 use Rattle.net_txn.specs.declared.ports.KnownPorts.{KnownPorts}
+use Rattle.net_txn.specs.LinkSteps.{OnLinks, AsksInPlace}
 use Rattle.net_txn.specs.Views.{rows_at, with_rows}
 use Rattle.net_txn.specs.Net.{NetState}
 
@@ -118,8 +119,11 @@ pub record Becomes {Own : Type 0} (Tells : Type 0) (d xid : ℕ) (m : Message) (
   pub net_so : now_net ≡ net_after d m net
   pub told : Tells → new.history ≡ old.history ++ arrival_steps d xid m
 
+-- The calls are those of links alone, and in place where the world keeps its word and the switch is joined.
 pub record Arrives {Own : Type 0} (Tells : Type 0) (d : ℕ) (frame : List ℕ) (old new : Seen Own) (net now_net : NetState) (result : Result (Option Event) TxnFault) : Type 0 where
   pub continues : Continues Tells old new
+  pub links : OnLinks Tells old new
+  pub in_place : AsksInPlace Tells d old new
   pub cause : IfErr result (IsArrivalCause d frame old new)
   pub err : OnErr result (now_net ≡ net)
   pub read : IfOk result (λ event. IsOkAnd (reading_of frame) (λ e. Becomes Tells d e.xid e.message old new net now_net event))

@@ -21,6 +21,7 @@ use Rattle.net_txn.specs.declared.fault.TxnFault.{TxnFault}
 use Rattle.net_txn.specs.declared.fault.TxnFault.TheVariants.{SwitchFault, SwitchBroke, Diverged, Flooded, NoMemory}
 use Rattle.net_txn.specs.declared.heard.Awaited.{Awaited}
 use Rattle.net_txn.specs.declared.heard.Refusal.{Refusal}
+use Rattle.net_txn.specs.LinkSteps.{OnLinks, AsksInPlace}
 use Rattle.net_txn.specs.Causes.{IsCause}
 use Rattle.net_txn.specs.Waits.{Waits, IfFlooded, KeptMore, barrier_sent}
 use Rattle.net_txn.specs.Net.{next_xid}
@@ -134,9 +135,11 @@ IsAskCause Tells d xid old new kept now_kept fault =
     × IsRepliesFault d (flows_request xid) (message_bytes (next_xid xid) BarrierReply) (parts_in xid came) (refusals_in xid came) fault)
 
 -- The rows, or why there are none; more messages of the switch may be kept. Flooded comes only where 65,536 messages were got behind the
--- barrier, none of them its reply.
+-- barrier, none of them its reply. The calls are those of links alone, and in place where the world keeps its word and the switch is joined.
 pub record Asks {Own : Type 0} (Tells : Type 0) (d xid : ℕ) (old new : Seen Own) (kept now_kept : List (ℕ × List ℕ)) (result : Result (List FlowRow) TxnFault) : Type 0 where
   pub continues : Continues Tells old new
+  pub links : OnLinks Tells old new
+  pub in_place : AsksInPlace Tells d old new
   pub kept_more : KeptMore d kept now_kept
   pub answer : MatchResult result (GivesRows Tells d xid old new kept now_kept) (IsAskCause Tells d xid old new kept now_kept)
   pub flooded : IfErr result (IfFlooded Tells (asked_from d xid) (request_sent d xid ∷ barrier_sent (asked_from d xid) ∷ []) old new)

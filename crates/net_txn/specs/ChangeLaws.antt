@@ -1,6 +1,6 @@
 -- Laws of changes: how the pieces of one make the whole.
-use Rattle.std.specs.Prelude.{◌≡◌, ℕ, ◌^◌, ◌<◌, List, [], ◌∷◌, Option, Some, None, Result, Ok, Err, MatchResult, IfErr, length, take, refl}
-use Rattle.std.proofs.Common.{sym, ap, ◌∙◌, subst, arith}
+use Rattle.std.specs.Prelude.{◌≡◌, ℕ, ◌^◌, ◌<◌, List, [], ◌∷◌, Option, Some, None, Result, Ok, Err, MatchResult, IfErr, IsSome, length, take, refl}
+use Rattle.std.proofs.Common.{sym, ap, ◌∙◌, subst, inl, arith}
 use Rattle.std.proofs.lemmas.List.{take_all, take_at}
 use Rattle.of_types.specs.declared.journal.Act.TheVariants.{Sent}
 use Rattle.of_wire.specs.declared.bodies.FlowMod.{FlowMod as Change}
@@ -21,6 +21,9 @@ use Rattle.net_txn.specs.declared.fault.TxnFault.{TxnFault}
 use Rattle.net_txn.specs.declared.fault.TxnFault.TheVariants.{SwitchFault, SwitchBroke, Diverged, Flooded, NoMemory}
 use Rattle.net_txn.specs.declared.heard.Awaited.{Awaited}
 use Rattle.net_txn.specs.declared.heard.Refusal.{Refusal}
+use Rattle.net_txn.specs.LinkSteps.{OnLinks, AsksInPlace}
+use Rattle.net_txn.specs.LinkStepLaws.{OnLinks-refl}
+use Rattle.net_txn.specs.LinkPlaceLaws.{in_place_none}
 use Rattle.net_txn.specs.Causes.{IsCause}
 use Rattle.flow_table.specs.declared.view.ViewRow.{ViewRow}
 use Rattle.flow_table.specs.declared.view.TableView.{TableView}
@@ -80,12 +83,29 @@ some_is a b e = cc
 pub Changes-by_host : {Own : Type 0} {Tells : Type 0} (d : ℕ) (bytes : List ℕ) (seen : Seen Own) (net : NetState) (answer : Answer) → answer_of_host d bytes net ≡ Some answer → Changes Tells d bytes seen seen net net (Ok answer)
 Changes-by_host {Tells = Tells} d bytes seen net answer is = record {
   continues = Continues-refl Tells seen;
+  links = OnLinks-refl Tells seen;
+  in_place = λ told keeps joined. in_place_none seen;
   cause = tt;
   ports = refl;
   moment = refl;
   room = refl;
   by_host = λ other h. record { answers = some_is answer other (sym is ∙ h); fault = tt; world = refl; stays = refl };
   by_switch = λ xid m none read. absurd (no_answer answer (sym is ∙ none));
+  flooded = λ xid m none read. tt;
+}
+
+-- memory was wanting before anything was sent
+pub Changes-short : {Own : Type 0} {Tells : Type 0} (d : ℕ) (bytes : List ℕ) (seen : Seen Own) (net : NetState) → Changes Tells d bytes seen seen net net (Err NoMemory)
+Changes-short {Tells = Tells} d bytes seen net = record {
+  continues = Continues-refl Tells seen;
+  links = OnLinks-refl Tells seen;
+  in_place = λ told keeps joined. in_place_none seen;
+  cause = tt;
+  ports = refl;
+  moment = refl;
+  room = refl;
+  by_host = λ other h. record { answers = tt; fault = refl; world = refl; stays = refl };
+  by_switch = λ xid m none read. inl (record { world = refl; views = refl; log = refl; kept = refl });
   flooded = λ xid m none read. tt;
 }
 
@@ -116,12 +136,22 @@ host_knows d bytes net views rows seen same known is =
     let here : rows_at d net.views ≡ Some seen = ap (λ (vs : List TableView). rows_at d vs) (sym same) ∙ known ∙ ap (λ (rs : List ViewRow). some_rows rs) (sym is) in
     rw here refl
 
+some_rows_there : (o : Option (List ViewRow)) → (o ≡ None → ⊥) → IsSome o
+some_rows_there None some = absurd (some refl)
+some_rows_there (Some rows) some = refl
+
+-- where the host has no answer, the switch is joined
+host_known : (d : ℕ) (bytes : List ℕ) (net : NetState) → answer_of_host d bytes net ≡ None → IsSome (rows_at d net.views)
+host_known d bytes net none = some_rows_there (rows_at d net.views) (λ is. absurd (no_answer Unknown (sym (host_unknown d bytes net net.views refl is) ∙ none)))
+
 pub Changes-by_switch : {Own : Type 0} {Tells : Type 0} (d : ℕ) (bytes : List ℕ) (old new : Seen Own) (net now_net : NetState) (result : Result Answer TxnFault) (xid : ℕ) (m : Change)
     → answer_of_host d bytes net ≡ None → reading_of bytes ≡ Ok (enveloped xid (FlowMod m)) → MatchResult result (Asked Tells d m old new net now_net) (λ f. Stopped d m old new net now_net)
-    → Continues Tells old new → IfErr result (IsCause Tells d old new) → now_net.ports ≡ net.ports → now_net.moment ≡ net.moment → now_net.room ≡ net.room
+    → Continues Tells old new → OnLinks Tells old new → AsksInPlace Tells d old new → IfErr result (IsCause Tells d old new) → now_net.ports ≡ net.ports → now_net.moment ≡ net.moment → now_net.room ≡ net.room
     → IfErr result (IfGivenUp Tells d m old new net) → Changes Tells d bytes old new net now_net result
-Changes-by_switch {Tells = Tells} d bytes old new net now_net result xid m none read does continues cause ports moment room f = record {
+Changes-by_switch {Tells = Tells} d bytes old new net now_net result xid m none read does continues links in_place cause ports moment room f = record {
   continues = continues;
+  links = links;
+  in_place = λ told keeps joined. in_place told keeps (joined (host_known d bytes net none));
   cause = cause;
   ports = ports;
   moment = moment;

@@ -1,6 +1,6 @@
 -- What `change` does: the host's own answer with nothing sent, or the switch's answer behind a barrier (OpenFlow 1.0.0, 4.2 Message
 -- Handling and 5.3.7 Barrier Message). What is sent, and that it is logged before, is our own choice.
-use Rattle.std.specs.Prelude.{◌≡◌, ℕ, ◌^◌, ◌<◌, ◌≤◌, List, [], ◌∷◌, Option, Some, None, Result, Ok, IfOk, IfErr, MatchResult, ◌⊎◌}
+use Rattle.std.specs.Prelude.{◌≡◌, ℕ, ◌^◌, ◌<◌, ◌≤◌, true, List, [], ◌∷◌, Option, Some, None, Result, Ok, IfOk, IfErr, IsSome, MatchResult, ◌⊎◌}
 use Rattle.std.specs.Option.{option_map}
 use Rattle.of_types.specs.declared.errors.OfError.{OfError}
 use Rattle.of_types.specs.declared.journal.Act.TheVariants.{Sent}
@@ -15,10 +15,13 @@ use Rattle.lego_model.specs.Answers.{Rows, rows_of_view, as_sent, host_answer, a
 use Rattle.outside.specs.declared.step.WorldStep.{WorldStep}
 use Rattle.outside.specs.declared.step.WorldStep.TheVariants.{Acted}
 use Rattle.outside.specs.Seen.{Seen, Continues}
+use Rattle.outside.specs.State.{state, is_joined}
+use Rattle.outside.specs.Conforming.{Conforming}
 use Rattle.net_txn.specs.declared.fault.TxnFault.{TxnFault}
 use Rattle.net_txn.specs.declared.fault.TxnFault.TheVariants.{SwitchFault, SwitchBroke, Diverged, Flooded, NoMemory}
 use Rattle.net_txn.specs.declared.heard.Refusal.{Refusal}
 use Rattle.net_txn.specs.declared.logged.Logged.{Logged}
+use Rattle.net_txn.specs.LinkSteps.{OnLinks, StaysInPlace}
 use Rattle.net_txn.specs.Causes.{IsCause}
 use Rattle.net_txn.specs.Waits.{Waits, Floods, KeptMore, barrier_sent}
 use Rattle.net_txn.specs.Views.{rows_at, with_rows, rows_after}
@@ -101,9 +104,12 @@ pub record ByHost {Own : Type 0} (answer : Answer) (old new : Seen Own) (net now
   pub stays : now_net ≡ net
 
 -- Ports, moment and room stay, and each fault has its cause. The host's own answer is exactly that; else the switch answers. Flooded comes
--- only where 65,536 messages were got behind the barrier, none of them its reply.
+-- only where 65,536 messages were got behind the barrier, none of them its reply. The calls are those of links alone, and in place where the
+-- world keeps its word and the switch is joined.
 pub record Changes {Own : Type 0} (Tells : Type 0) (d : ℕ) (bytes : List ℕ) (old new : Seen Own) (net now_net : NetState) (result : Result Answer TxnFault) : Type 0 where
   pub continues : Continues Tells old new
+  pub links : OnLinks Tells old new
+  pub in_place : Tells → Conforming new → (IsSome (rows_at d net.views) → is_joined d (state old) ≡ true) → StaysInPlace old new
   pub cause : IfErr result (IsCause Tells d old new)
   pub ports : now_net.ports ≡ net.ports
   pub moment : now_net.moment ≡ net.moment

@@ -1,5 +1,6 @@
 pub mod Causes
 pub mod CauseLaws
+pub mod LinkSteps
 pub mod Waits
 pub mod WaitLaws
 pub mod SizeLaws
@@ -55,3 +56,6 @@ pub mod JoiningFaultLaws
 pub mod UndoFaultLaws
 pub mod Place
 pub mod PlaceLaws
+pub mod LinkStepLaws
+pub mod LinkPlaceLaws
+pub mod UndoLinkLaws

@@ -56,7 +56,7 @@ pub wait_of : (a : Awaited) (got : List (List ℕ)) → AllByRecursion (IsStepOf
 wait_of a [] = tt
 wait_of a (b ∷ bs) = (refl, all_two (IsStepOf a.dpid) (steps_by a.dpid (heard a b) b) (wait_steps a bs) (by_of a.dpid (heard a b) b) (wait_of a bs))
 
-part_of : (old new : Counts) (d : ℕ) (p : Part) (older : List Part) → IsRun old new d (p ∷ older) → AllByRecursion (IsStepOf d) (part_steps d p)
+pub part_of : (old new : Counts) (d : ℕ) (p : Part) (older : List Part) → IsRun old new d (p ∷ older) → AllByRecursion (IsStepOf d) (part_steps d p)
 part_of old new d (Inverse xid k) older run = (refl, tt)
 part_of old new d (Settled xid got) older run = (refl, all_two (IsStepOf d) (wait_steps (alone d xid) got) (reply_got (alone d xid) ∷ []) (wait_of (alone d xid) got) (refl, tt))
 part_of old new d (Stuck xid fault steps) older run = run.0.each

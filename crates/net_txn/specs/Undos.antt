@@ -30,6 +30,7 @@ use Rattle.net_txn.specs.declared.logged.Logged.{Logged}
 use Rattle.net_txn.specs.declared.trouble.Trouble.{Trouble}
 use Rattle.net_txn.specs.declared.trouble.Trouble.TheVariants as troubles
 use Rattle.net_txn.specs.Causes.{flood, IsPlain}
+use Rattle.net_txn.specs.LinkSteps.{OnLinks}
 use Rattle.net_txn.specs.Views.{with_rows}
 use Rattle.net_txn.specs.Arriving.{without_key}
 use Rattle.net_txn.specs.Net.{NetState, next_xid, inverse_bytes, no_fare}
@@ -421,6 +422,7 @@ pub record AgreesAgain (d : ℕ) (views : List TableView) (new : State) : Type 0
 pub record Undoes {Own : Type 0} (Tells : Type 0) (start : ℕ) (old new : Seen Own) (net now_net : NetState) (result : Result (Unit {0}) TxnFault) : Type 0 where
   pub parts : List (ℕ × Part)
   pub continues : Continues Tells old new
+  pub links : OnLinks Tells old new
   pub told : Tells → new.history ≡ old.history ++ steps_of parts
   pub xid : now_net.xid ≡ next_free net.xid parts
   pub numbered : AreNumbered net.xid parts

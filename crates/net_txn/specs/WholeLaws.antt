@@ -12,7 +12,9 @@ use Rattle.net_txn.specs.AgreeLaws.{agrees, none_failed}
 use Rattle.net_txn.specs.KeepLaws.{none_kept}
 use Rattle.net_txn.specs.UndoFaultLaws.{plain}
 use Rattle.net_txn.specs.SentOrderLaws.{served_all}
-use Rattle.net_txn.specs.Undos.{Undoes, Further, switches_of, ended_by, without_keys, is_viewed, parts_of, Part, inverses_in, keys_of, but_fare, IsSettledIn, Stands, IsPlayedOn}
+use Rattle.net_txn.specs.LinkStepLaws.{OnLinks-by}
+use Rattle.net_txn.specs.UndoLinkLaws.{steps_links}
+use Rattle.net_txn.specs.Undos.{Undoes, Further, steps_of, switches_of, ended_by, without_keys, is_viewed, parts_of, Part, inverses_in, keys_of, but_fare, IsSettledIn, Stands, IsPlayedOn}
 
 key_step : (here : Bool) (x : ℕ) (k : Key) (pairs : List (ℕ × Key)) (keys : List Key) → map (λ p. p.1) pairs ≡ keys → map (λ p. p.1) (if here then (x, k) ∷ pairs else pairs) ≡ (if here then k ∷ keys else keys)
 key_step true x k pairs keys is = ap (λ (ks : List Key). k ∷ ks) is
@@ -35,13 +37,14 @@ pub undoes : {Own : Type 0} {Tells : Type 0} (start from : ℕ) (old new : Seen 
     → ((d : ℕ) → is_viewed d net.views ≡ true → IsSettledIn d played) → map but_fare played ≡ map but_fare (drop from net.log)
     → now_net.views ≡ without_keys (map but_fare (drop from net.log)) net.views → now_net.log ≡ take from net.log → now_net.ports ≡ net.ports → now_net.moment ≡ net.moment
     → (net.room ≤ now_net.room + 1) × (IsOk result → now_net.room ≡ net.room) → Undoes Tells start old new net now_net result
-undoes start from old new net now_net result fault played front rest is f settled same views log ports moment room =
+undoes {Tells = Tells} start from old new net now_net result fault played front rest is f settled same views log ports moment room =
     let all : map but_fare played ≡ map but_fare (drop start net.log) = same ∙ ap (λ (es : List Logged). map but_fare es) rest in
     let each : (d : ℕ) → IsPlayedOn (is_viewed d net.views) d old.counts new.counts (keys_of d (map but_fare (drop start net.log))) (parts_of d f.parts) = λ d.
     played_on (is_viewed d net.views) d old.counts new.counts (parts_of d f.parts) played (map but_fare (drop start net.log)) all (f.undoing.stands d) (settled d) in
     record {
       parts = f.parts;
       continues = f.undoing.continues;
+      links = OnLinks-by Tells old new (steps_of f.parts) (steps_links old.counts new.counts f.parts (λ c. (each c).run)) f.undoing.told;
       told = f.undoing.told;
       xid = f.undoing.next;
       numbered = f.undoing.numbered;

@@ -8,6 +8,7 @@ ghost use Rattle.of_wire.specs.Spelling.{message_bytes};
 ghost use Rattle.of_wire.specs.Grammar.{IsMessage};
 ghost use Rattle.outside.specs.Seen.{Continues};
 ghost use Rattle.outside.specs.declared.step.WorldStep.TheVariants.{Acted};
+ghost use Rattle.net_txn.specs.LinkSteps.{OnLinks, AsksInPlace};
 ghost use Rattle.net_txn.specs.Causes.{IsLinkCause};
 ghost use Rattle.net_txn.specs.Views.{rows_at};
 ghost use Rattle.net_txn.specs.Arriving.{event_of, Becomes, Arrives};
@@ -44,6 +45,8 @@ fn answer_echo<W: World>(
 ) -> Result<(), TxnFault>
     requires { IsMessage (messages.EchoRequest payload.now) }
     ensures continues { Continues W.Tells (W.seen world.old) (W.seen world.new) }
+    ensures links { OnLinks W.Tells (W.seen world.old) (W.seen world.new) }
+    ensures in_place { AsksInPlace W.Tells dpid (W.seen world.old) (W.seen world.new) }
     ensures link { IfErr result (IsLinkCause dpid (W.seen world.old) (W.seen world.new)) }
     ensures told { W.Tells → OnOk result ((W.seen world.new).history
         ≡ (W.seen world.old).history ++ Acted (Sent dpid (message_bytes xid (messages.EchoReply payload.now))) ∷ []) }
@@ -84,6 +87,8 @@ impl Net {
         ensures ok { IfOk result (Becomes W.Tells dpid xid message.now (W.seen world.old) (W.seen world.new) self.old self.new) }
         ensures err { OnErr result (self.new ≡ self.old) }
         ensures continues { Continues W.Tells (W.seen world.old) (W.seen world.new) }
+        ensures links { OnLinks W.Tells (W.seen world.old) (W.seen world.new) }
+        ensures in_place { AsksInPlace W.Tells dpid (W.seen world.old) (W.seen world.new) }
         ensures link { IfErr result (IsLinkCause dpid (W.seen world.old) (W.seen world.new)) }
     {
         match message {

@@ -4,6 +4,7 @@ ghost use Rattle.std.specs.Prelude.{◌≡◌, IfErr, OnOk, OnErr, MatchResult};
 ghost use Rattle.of_wire.specs.declared.message.Message.TheVariants as messages;
 ghost use Rattle.of_wire.specs.Grammar.{IsMessage};
 ghost use Rattle.outside.specs.Seen.{Continues};
+ghost use Rattle.net_txn.specs.LinkSteps.{OnLinks, AsksInPlace};
 ghost use Rattle.net_txn.specs.Causes.{IsCause};
 ghost use Rattle.net_txn.specs.Changes.{Asked, Stopped, IfGivenUp, Changes};
 ghost use Rattle.net_txn.specs.Agreement.{Reaches, Steps};
@@ -45,6 +46,8 @@ impl Net {
         ensures result { MatchResult result (Asked W.Tells dpid flow (W.seen world.old) (W.seen world.new) self.old self.new)
             (λ f. Stopped dpid flow (W.seen world.old) (W.seen world.new) self.old self.new) }
         ensures continues { Continues W.Tells (W.seen world.old) (W.seen world.new) }
+        ensures links { OnLinks W.Tells (W.seen world.old) (W.seen world.new) }
+        ensures in_place { AsksInPlace W.Tells dpid (W.seen world.old) (W.seen world.new) }
         ensures cause { IfErr result (IsCause W.Tells dpid (W.seen world.old) (W.seen world.new)) }
         ensures flooded { IfErr result (IfGivenUp W.Tells dpid flow (W.seen world.old) (W.seen world.new) self.old) }
         ensures ports { self.new.ports ≡ self.old.ports }

@@ -9,6 +9,7 @@ ghost use Rattle.flow_table.specs.Switch.{first_config};
 ghost use Rattle.outside.specs.Calls.{most_message};
 ghost use Rattle.outside.specs.Seen.{Continues};
 ghost use Rattle.outside.specs.declared.step.WorldStep.TheVariants.{Acted};
+ghost use Rattle.net_txn.specs.LinkSteps.{OnLinks, AsksInPlace};
 ghost use Rattle.net_txn.specs.Causes.{IsCause};
 ghost use Rattle.net_txn.specs.Waits.{Waits, IfFlooded, KeptMore, barrier_sent};
 ghost use Rattle.net_txn.specs.Joining.{delete_all};
@@ -83,6 +84,8 @@ pub(crate) fn greet<W: World>(
     ensures ok { IfOk result (Waits W.Tells awaited.now (Acted (Sent awaited.now.dpid first.now) ∷ Acted (Sent awaited.now.dpid second.now) ∷ barrier_sent awaited.now ∷ [])
         (W.seen world.old) (W.seen world.new) kept.old kept.new) }
     ensures continues { Continues W.Tells (W.seen world.old) (W.seen world.new) }
+    ensures links { OnLinks W.Tells (W.seen world.old) (W.seen world.new) }
+    ensures in_place { AsksInPlace W.Tells awaited.now.dpid (W.seen world.old) (W.seen world.new) }
     ensures cause { IfErr result (IsCause W.Tells awaited.now.dpid (W.seen world.old) (W.seen world.new)) }
     ensures flooded { IfErr result (IfFlooded W.Tells awaited.now (Acted (Sent awaited.now.dpid first.now) ∷ Acted (Sent awaited.now.dpid second.now) ∷ barrier_sent awaited.now ∷ [])
         (W.seen world.old) (W.seen world.new)) }

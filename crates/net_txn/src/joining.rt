@@ -3,6 +3,7 @@
 ghost use Rattle.std.specs.Prelude.{◌≡◌, ◌<◌, ◌^◌, ◌++◌, [], ◌∷◌, None, IfOk, IfErr, OnOk, OnErr};
 ghost use Rattle.outside.specs.Seen.{Continues};
 ghost use Rattle.net_txn.specs.declared.ports.KnownPorts.{KnownPorts};
+ghost use Rattle.net_txn.specs.LinkSteps.{OnLinks, AsksInPlace};
 ghost use Rattle.net_txn.specs.Causes.{IsCause};
 ghost use Rattle.net_txn.specs.Waits.{IfFlooded};
 ghost use Rattle.net_txn.specs.Views.{rows_at};
@@ -106,6 +107,8 @@ impl Net {
         ensures joins { OnOk result (Joins W.Tells dpid features.now.ports (W.seen world.old) (W.seen world.new) self.old self.new) }
         ensures err { OnErr result (DoesNotJoin dpid self.old self.new) }
         ensures continues { Continues W.Tells (W.seen world.old) (W.seen world.new) }
+        ensures links { OnLinks W.Tells (W.seen world.old) (W.seen world.new) }
+        ensures in_place { AsksInPlace W.Tells dpid (W.seen world.old) (W.seen world.new) }
         ensures cause { IfErr result (IsCause W.Tells dpid (W.seen world.old) (W.seen world.new)) }
         ensures flooded { IfErr result (IfFlooded W.Tells (greeted_from dpid self.old.xid) (greeting dpid self.old.xid) (W.seen world.old) (W.seen world.new)) }
         ensures log { self.new.log ≡ self.old.log }
@@ -144,7 +147,12 @@ impl Net {
         ensures joins { OnOk result (Joins W.Tells dpid features.now.ports (W.seen world.old) (W.seen world.new) self.old self.new) }
         ensures err { OnErr result (DoesNotJoin dpid self.old self.new) }
         ensures continues { Continues W.Tells (W.seen world.old) (W.seen world.new) }
+        ensures links { OnLinks W.Tells (W.seen world.old) (W.seen world.new) }
+
+        // Where the world keeps its word and the switch is joined, each call of its link is in place, also one that fails.
+        ensures in_place { AsksInPlace W.Tells dpid (W.seen world.old) (W.seen world.new) }
         ensures cause { IfErr result (IsCause W.Tells dpid (W.seen world.old) (W.seen world.new)) }
+        ensures flooded { IfErr result (IfFlooded W.Tells (greeted_from dpid self.old.xid) (greeting dpid self.old.xid) (W.seen world.old) (W.seen world.new)) }
         ensures log { self.new.log ≡ self.old.log }
         ensures moment { self.new.moment ≡ self.old.moment }
         ensures room { self.new.room ≡ self.old.room }

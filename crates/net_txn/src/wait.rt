@@ -1,12 +1,15 @@
 //! Messages to a switch, and the wait for the reply to a barrier.
 
-ghost use Rattle.std.specs.Prelude.{◌≡◌, ◌+◌, ◌<◌, ◌≤◌, ◌++◌, [], ◌∷◌, length, take, IsOk, IfOk, IfErr, OnOk, OnErr};
+ghost use Rattle.std.specs.Prelude.{◌≡◌, true, ◌+◌, ◌<◌, ◌≤◌, ◌++◌, [], ◌∷◌, length, take, IsOk, IfOk, IfErr, OnOk, OnErr};
 ghost use Rattle.of_types.specs.Fields.{number_at, IsBytes};
 ghost use Rattle.of_types.specs.declared.journal.Act.TheVariants.{Sent, Got};
 ghost use Rattle.of_wire.specs.Reading.{reading_of};
 ghost use Rattle.outside.specs.Calls.{most_message};
 ghost use Rattle.outside.specs.Seen.{Continues};
+ghost use Rattle.outside.specs.State.{state, is_joined, has_waiting};
+ghost use Rattle.outside.specs.Conforming.{Conforming};
 ghost use Rattle.outside.specs.declared.step.WorldStep.TheVariants.{Acted};
+ghost use Rattle.net_txn.specs.LinkSteps.{OnLinks, StaysInPlace, AsksInPlace, Awaits};
 ghost use Rattle.net_txn.specs.Causes.{IsCause, IsLinkCause, IsNoFlood};
 ghost use Rattle.net_txn.specs.Waits.{heard, is_reply, echo_reply, steps_by, kept_by, refusal_in, first_of, HearsOne, Waits, IfFlooded, KeptMore, barrier_sent};
 
@@ -25,6 +28,8 @@ pub(crate) const FLOOD: u32 = 65_536;
 pub(crate) fn send<W: World>(world: &mut W, dpid: Dpid, frame: &[u8]) -> Result<(), TxnFault>
     requires { IsOk (reading_of frame.now) }
     ensures continues { Continues W.Tells (W.seen world.old) (W.seen world.new) }
+    ensures links { OnLinks W.Tells (W.seen world.old) (W.seen world.new) }
+    ensures in_place { W.Tells → is_joined dpid (state (W.seen world.old)) ≡ true → StaysInPlace (W.seen world.old) (W.seen world.new) }
     ensures cause { IfErr result (IsCause W.Tells dpid (W.seen world.old) (W.seen world.new)) }
     ensures link { IfErr result (IsLinkCause dpid (W.seen world.old) (W.seen world.new)) }
     ensures no_flood { IfErr result IsNoFlood }
@@ -46,6 +51,8 @@ pub(crate) fn receive<W: World>(
 ) -> Result<usize, TxnFault>
     requires { most_message ≤ length buf.old }
     ensures continues { Continues W.Tells (W.seen world.old) (W.seen world.new) }
+    ensures links { OnLinks W.Tells (W.seen world.old) (W.seen world.new) }
+    ensures in_place { W.Tells → has_waiting dpid (state (W.seen world.old)) ≡ true → StaysInPlace (W.seen world.old) (W.seen world.new) }
     ensures cause { IfErr result (IsCause W.Tells dpid (W.seen world.old) (W.seen world.new)) }
     ensures no_flood { IfErr result IsNoFlood }
     ensures within { IfOk result (λ n. n ≤ length buf.new) }
@@ -90,6 +97,8 @@ fn treat<W: World>(
     requires bytes { IsBytes message.old }
     requires read { IsOk (reading_of message.old) }
     ensures continues { Continues W.Tells (W.seen world.old) (W.seen world.new) }
+    ensures links { OnLinks W.Tells (W.seen world.old) (W.seen world.new) }
+    ensures in_place { W.Tells → is_joined awaited.now.dpid (state (W.seen world.old)) ≡ true → StaysInPlace (W.seen world.old) (W.seen world.new) }
     ensures cause { IfErr result (IsCause W.Tells awaited.now.dpid (W.seen world.old) (W.seen world.new)) }
     ensures no_flood { IfErr result IsNoFlood }
     ensures ends { IfOk result (λ ends. ends ≡ is_reply (heard awaited.now message.old)) }
@@ -133,6 +142,8 @@ fn hear<W: World>(
     requires { most_message ≤ length buf.old }
     ensures ok { IfOk result (HearsOne W.Tells awaited.now (W.seen world.old) (W.seen world.new) kept.old kept.new answer.old answer.new) }
     ensures continues { Continues W.Tells (W.seen world.old) (W.seen world.new) }
+    ensures links { OnLinks W.Tells (W.seen world.old) (W.seen world.new) }
+    ensures in_place { W.Tells → Awaits awaited.now (state (W.seen world.old)) → StaysInPlace (W.seen world.old) (W.seen world.new) }
     ensures cause { IfErr result (IsCause W.Tells awaited.now.dpid (W.seen world.old) (W.seen world.new)) }
     ensures no_flood { IfErr result IsNoFlood }
     ensures kept { OnErr result (kept.new ≡ kept.old) }
@@ -152,6 +163,8 @@ pub(crate) fn wait<W: World>(
     requires { most_message ≤ length buf.old }
     ensures ok { IfOk result (Waits W.Tells awaited.now [] (W.seen world.old) (W.seen world.new) kept.old kept.new) }
     ensures continues { Continues W.Tells (W.seen world.old) (W.seen world.new) }
+    ensures links { OnLinks W.Tells (W.seen world.old) (W.seen world.new) }
+    ensures in_place { W.Tells → Conforming (W.seen world.new) → Awaits awaited.now (state (W.seen world.old)) → StaysInPlace (W.seen world.old) (W.seen world.new) }
     ensures cause { IfErr result (IsCause W.Tells awaited.now.dpid (W.seen world.old) (W.seen world.new)) }
     ensures flooded { IfErr result (IfFlooded W.Tells awaited.now [] (W.seen world.old) (W.seen world.new)) }
     ensures kept { OnErr result (KeptMore awaited.now.dpid kept.old kept.new) }
@@ -176,6 +189,8 @@ pub(crate) fn settle<W: World>(
     requires { most_message ≤ length buf.old }
     ensures ok { IfOk result (Waits W.Tells awaited.now (barrier_sent awaited.now ∷ []) (W.seen world.old) (W.seen world.new) kept.old kept.new) }
     ensures continues { Continues W.Tells (W.seen world.old) (W.seen world.new) }
+    ensures links { OnLinks W.Tells (W.seen world.old) (W.seen world.new) }
+    ensures in_place { AsksInPlace W.Tells awaited.now.dpid (W.seen world.old) (W.seen world.new) }
     ensures cause { IfErr result (IsCause W.Tells awaited.now.dpid (W.seen world.old) (W.seen world.new)) }
     ensures flooded { IfErr result (IfFlooded W.Tells awaited.now (barrier_sent awaited.now ∷ []) (W.seen world.old) (W.seen world.new)) }
     ensures kept { OnErr result (KeptMore awaited.now.dpid kept.old kept.new) }

@@ -155,8 +155,8 @@ batch-happens Tells x old new net now_net queue now_queue e told later keeps_old
           read_starts = ap (λ (acts : List Act). starts_in acts) own ∙ sym (append-nil (starts_in (own_acts old)));
           read_replies = ap (λ (acts : List Act). replies_in acts) own ∙ sym (append-nil (replies_in (own_acts old)));
           read_stimuli = done.stimuli_so;
-          stands = λ ss rs r s. happens-stands x old new net now_net queue now_queue e ss rs r keeps same_net same_queue done keeps_old h s;
-          says = λ ss rs r s. happen-text x r;
+          stands = λ ss rs r starts_so replies_so s. happens-stands x old new net now_net queue now_queue e ss rs r keeps same_net same_queue done keeps_old h s;
+          says = λ ss rs r starts_so replies_so s. happen-text x r;
         };
       };
     }
@@ -187,7 +187,7 @@ batch-over {Own} old new net now_net queue now_queue e settled same_net same_que
         read_starts = ap (λ (acts : List Act). starts_in acts) own ∙ sym (append-nil (starts_in (own_acts old)));
         read_replies = ap (λ (acts : List Act). replies_in acts) own ∙ sym (append-nil (replies_in (own_acts old)));
         read_stimuli = ap (λ (js : List Act). stimuli js) journal_same ∙ sym (append-nil (stimuli_in old));
-        stands = λ ss rs r s. record {
+        stands = λ ss rs r starts_so replies_so s. record {
           calm = calm_now;
           moment = s.moment ∙ sym (ap (λ (t : State). t.moment) over.state_so);
           places = s.places
@@ -199,6 +199,6 @@ batch-over {Own} old new net now_net queue now_queue e settled same_net same_que
           quiets = subst (λ (t : State). AgreeQuiets (map quiet_by t.marks) r.quiets) (sym over.state_so) s.quiets;
           life = λ alive. subst LastStands (sym own) (s.life alive);
         };
-        says = λ ss rs r s. sym (append-nil (text_of r));
+        says = λ ss rs r starts_so replies_so s. sym (append-nil (text_of r));
       };
     }

@@ -4,8 +4,8 @@ use Rattle.std.proofs.Common.{sym, ap, ◌∙◌, subst}
 use Rattle.of_types.specs.declared.journal.Act.{Act}
 use Rattle.flow_table.specs.declared.view.TableView.{TableView}
 use Rattle.app_frames.specs.declared.frame.Event.{Event}
-use Rattle.lego_model.specs.Journal.{is_of}
-use Rattle.lego_model.specs.Controller.{attempts}
+use Rattle.lego_model.specs.Journal.{is_of, is_event}
+use Rattle.lego_model.specs.Controller.{attempts, event_frame}
 use Rattle.outside.specs.declared.step.WorldStep.{WorldStep}
 use Rattle.outside.specs.Seen.{Given, Seen, journal}
 use Rattle.outside.specs.SeenLaws.{journal-append}
@@ -78,6 +78,10 @@ starts_converse Tells text old new e now_e told a s =
     (λ alive. (sym (ap (λ (x : Engine). x.alive) s.engine ∙ ap (λ (o : Option (List ℕ)). is_some o) found) ∙ alive, ap (λ (x : Engine). x.rest) s.engine ∙ ap (λ (o : Option (List ℕ)). unwrap_or o []) found))
 
 -- ---- A turn
+
+-- it begins with an event
+pub event_told : (number moment : ℕ) (event : Event) → is_event (event_frame number moment event) ≡ true
+event_told number moment event = event_is number moment event
 
 closed_converses : {Own : Type 0} (Tells : Type 0) (end : TurnEnd) (unread text : List ℕ) (start : ℕ) (old mid new : Seen Own) (mid_net : NetState) (e now_e : Engine) → Tells → (a : AtOnce index (journal old.history))
     → Speaks index a.last old mid (is_done end) unread → IsClosed Tells end unread text start mid new mid_net e now_e → Conversing new now_e

@@ -1,10 +1,11 @@
 -- The law of an event: what the engine does at it is what the reference controller does, whether the application is alive or gone.
-use Rattle.std.proofs.Common.{◌≡◌, ℕ, ◌+◌, ◌^◌, ◌<◌, Bool, true, false, List, [], ◌∷◌, ◌++◌, length, map, if◌then◌else◌, Some, refl, sym, ap, ap₂, ◌∙◌, subst}
+use Rattle.std.proofs.Common.{◌≡◌, ℕ, ◌+◌, ◌^◌, ◌<◌, Bool, true, false, List, [], ◌∷◌, ◌++◌, length, drop, map, if◌then◌else◌, Some, refl, sym, ap, ap₂, ◌∙◌, subst}
 use Rattle.std.proofs.lemmas.List.{append-nil}
 use Rattle.flow_table.specs.declared.view.TableView.{TableView}
 use Rattle.app_frames.specs.declared.frame.Event.{Event}
 use Rattle.lego_model.specs.Journal.{Reply, Start}
 use Rattle.lego_model.specs.Places.{Place}
+use Rattle.lego_model.specs.Scripted.{IsFront, AreFronts, AreStartFronts}
 use Rattle.lego_model.specs.Controller.{Dispatched, Ended, Run, Turned, restart_lines, turn, marked, dispatch}
 use Rattle.lego_model.specs.Agreement.{AgreeQuiets}
 use Rattle.lego_model.specs.RunReport.{event_line}
@@ -42,15 +43,15 @@ turned_of {old = old} {new = new} {now_e = now_e} alike later_starts later_repli
 }
 
 module _ {Own : Type 0} (allows : List Place → Bool) (event : Event) (text : List ℕ) (old new : Seen Own) (e now_e : Engine) (starts : List Start) (reply : Reply) where
-  dispatched_so : e.alive ≡ true → (alike : TurnAlike allows event text old new (with_number e) now_e starts reply) → (later_starts : List Start) (later_replies : List Reply) (r : Run) → Stands old e (starts ++ later_starts) (reply ∷ later_replies) r
-      → dispatch allows event r ≡ after_turn (turned_of alike later_starts later_replies) (numbered event r)
-  dispatched_so alive alike later_starts later_replies r s =
-      let a = app_at e (given_in old) (starts ++ later_starts) (reply ∷ later_replies) in
-      dispatch_alive allows event a r (turned_of alike later_starts later_replies) s.apps alive
+  dispatched_so : e.alive ≡ true → (alike : TurnAlike allows event text old new (with_number e) now_e starts reply) → (said_starts : List Start) (said : Reply) (later_replies : List Reply) (r : Run) → AreStartFronts starts said_starts → IsFront reply said → Stands old e said_starts (said ∷ later_replies) r
+      → dispatch allows event r ≡ after_turn (turned_of alike (drop (length starts) said_starts) later_replies) (numbered event r)
+  dispatched_so alive alike said_starts said later_replies r starts_so front s =
+      let a = app_at e (given_in old) said_starts (said ∷ later_replies) in
+      dispatch_alive allows event a r (turned_of alike (drop (length starts) said_starts) later_replies) s.apps alive
       (ap (λ (n : ℕ). turn allows (n + 1) r.moment event r.places a) s.events
       ∙ ap (λ (m : ℕ). turn allows (e.events + 1) m event r.places a) (s.moment ∙ sym s.calm.moment)
       ∙ ap (λ (ps : List Place). turn allows (e.events + 1) e.net.moment event ps a) s.places
-      ∙ alike.turned later_starts later_replies)
+      ∙ alike.turned said_starts said later_replies starts_so front)
 
   quiets_so : Conforming old → (alike : TurnAlike allows event text old new (with_number e) now_e starts reply) → (r : Run) → r.events ≡ e.events → r.places ≡ shown_places old.given.declared e.net.views (state old) → AgreeQuiets (quiets_in old) r.quiets
       → AgreeQuiets (quiets_in new) (marked alike.given (r.events + 1) r.places r.quiets)
@@ -61,9 +62,10 @@ module _ {Own : Type 0} (allows : List Place → Bool) (event : Event) (text : L
       (quiets_at_event alike.given (e.events + 1) old.given.declared e.net.views (state old) r.quiets (state-links old).declared_so keeps.declared quiets)))
 
   stands_alive : Conforming old → e.alive ≡ true → new.given ≡ old.given → (now_e.alive ≡ true → LastStands (own_acts new)) → (alike : TurnAlike allows event text old new (with_number e) now_e starts reply)
-      → (later_starts : List Start) (later_replies : List Reply) (r : Run) → Stands old e (starts ++ later_starts) (reply ∷ later_replies) r → Stands new now_e later_starts later_replies (dispatch allows event r)
-  stands_alive keeps alive given life alike later_starts later_replies r s =
-      subst (λ (x : Run). Stands new now_e later_starts later_replies x) (sym (dispatched_so alive alike later_starts later_replies r s)) (record {
+      → (said_starts : List Start) (said_replies : List Reply) (r : Run) → AreStartFronts starts said_starts → AreFronts (reply ∷ []) said_replies → Stands old e said_starts said_replies r → Stands new now_e (drop (length starts) said_starts) (drop 1 said_replies) (dispatch allows event r)
+  stands_alive keeps alive given life alike said_starts [] r starts_so fronts s = absurd fronts
+  stands_alive keeps alive given life alike said_starts (said ∷ later_replies) r starts_so fronts s =
+      subst (λ (x : Run). Stands new now_e (drop (length starts) said_starts) later_replies x) (sym (dispatched_so alive alike said_starts said later_replies r starts_so fronts.0 s)) (record {
         calm = alike.calm;
         moment = s.moment ∙ sym alike.moment;
         places = ap (λ (g : Given _). shown_places g.declared now_e.net.views (state new)) (sym given);
@@ -74,10 +76,12 @@ module _ {Own : Type 0} (allows : List Place → Bool) (event : Event) (text : L
         life = life;
       })
 
-  says_alive : e.alive ≡ true → (alike : TurnAlike allows event text old new (with_number e) now_e starts reply) → (later_starts : List Start) (later_replies : List Reply) (r : Run) → Stands old e (starts ++ later_starts) (reply ∷ later_replies) r
+  says_alive : e.alive ≡ true → (alike : TurnAlike allows event text old new (with_number e) now_e starts reply) → (said_starts : List Start) (said_replies : List Reply) (r : Run) → AreStartFronts starts said_starts → AreFronts (reply ∷ []) said_replies → Stands old e said_starts said_replies r
       → text_of (dispatch allows event r) ≡ text_of r ++ (event_line (e.events + 1) event.kind event.dpid ++ text)
-  says_alive alive alike later_starts later_replies r s =
-      ap text_of (dispatched_so alive alike later_starts later_replies r s)
+  says_alive alive alike said_starts [] r starts_so fronts s = absurd fronts
+  says_alive alive alike said_starts (said ∷ later_replies) r starts_so fronts s =
+      let later_starts = drop (length starts) said_starts in
+      ap text_of (dispatched_so alive alike said_starts said later_replies r starts_so fronts.0 s)
       ∙ event_lines r.lines (Ended 0 alike.outcome ∷ restart_lines 0 alike.outcome (app_at now_e (given_in new) later_starts later_replies, alike.tries)) (r.events + 1) event
       ∙ ap₂ (λ (n : ℕ) (more : List ℕ). text_of r ++ (event_line (n + 1) event.kind event.dpid ++ more)) s.events (sym (alike.text_so later_starts later_replies))
 
@@ -90,9 +94,9 @@ alive_moves allows event turn_text text old new e now_e keeps alive text_is turn
   read_starts = turn.tells.read_starts;
   read_replies = turn.tells.read_replies;
   read_stimuli = turn.tells.read_stimuli ∙ sym (append-nil (stimuli_in old));
-  stands = λ later_starts later_replies r s. stands_alive allows event turn_text old new e now_e turn.starts turn.reply keeps alive turn.tells.given turn.tells.life (turn.alike s.calm) later_starts later_replies r s;
-  says = λ later_starts later_replies r s.
-      says_alive allows event turn_text old new e now_e turn.starts turn.reply alive (turn.alike s.calm) later_starts later_replies r s ∙ ap (λ (more : List ℕ). text_of r ++ more) (sym text_is);
+  stands = λ said_starts said_replies r starts_so replies_so s. stands_alive allows event turn_text old new e now_e turn.starts turn.reply keeps alive turn.tells.given turn.tells.life (turn.alike s.calm) said_starts said_replies r starts_so replies_so s;
+  says = λ said_starts said_replies r starts_so replies_so s.
+      says_alive allows event turn_text old new e now_e turn.starts turn.reply alive (turn.alike s.calm) said_starts said_replies r starts_so replies_so s ∙ ap (λ (more : List ℕ). text_of r ++ more) (sym text_is);
 }
 
 -- ---- It is gone
@@ -106,7 +110,7 @@ dead_moves allows event text seen e dead text_is = record {
   read_starts = sym (append-nil (starts_in (own_acts seen)));
   read_replies = sym (append-nil (replies_in (own_acts seen)));
   read_stimuli = sym (append-nil (stimuli_in seen));
-  stands = λ later_starts later_replies r s.
+  stands = λ later_starts later_replies r starts_so replies_so s.
       subst (λ (x : Run). Stands seen (with_number e) later_starts later_replies x) (sym (dispatch_dead allows event (app_at e (given_in seen) later_starts later_replies) r s.apps dead)) (record {
         calm = s.calm;
         moment = s.moment;
@@ -117,7 +121,7 @@ dead_moves allows event text seen e dead text_is = record {
         quiets = s.quiets;
         life = s.life;
       });
-  says = λ later_starts later_replies r s.
+  says = λ later_starts later_replies r starts_so replies_so s.
       ap text_of (dispatch_dead allows event (app_at e (given_in seen) later_starts later_replies) r s.apps dead)
       ∙ sym (append-nil (text_of (without_turn (app_at e (given_in seen) later_starts later_replies) (numbered event r))))
       ∙ event_lines_alone r s.events
@@ -210,12 +214,12 @@ next-moves allows event queue text old new e now_e waits moves = record {
   read_starts = moves.read_starts;
   read_replies = moves.read_replies;
   read_stimuli = moves.read_stimuli;
-  stands = λ later_starts later_replies r s.
-      subst (λ (x : Run). Stands new now_e later_starts later_replies x) (sym (next_so allows event queue old e (moves.starts ++ later_starts) (moves.replies ++ later_replies) r waits s))
-      (moves.stands later_starts later_replies (record r { queue = queue }) (queue_taken old e queue (moves.starts ++ later_starts) (moves.replies ++ later_replies) r s));
-  says = λ later_starts later_replies r s.
-      ap text_of (next_so allows event queue old e (moves.starts ++ later_starts) (moves.replies ++ later_replies) r waits s)
-      ∙ moves.says later_starts later_replies (record r { queue = queue }) (queue_taken old e queue (moves.starts ++ later_starts) (moves.replies ++ later_replies) r s);
+  stands = λ said_starts said_replies r starts_so replies_so s.
+      subst (λ (x : Run). Stands new now_e (drop (length moves.starts) said_starts) (drop (length moves.replies) said_replies) x) (sym (next_so allows event queue old e said_starts said_replies r waits s))
+      (moves.stands said_starts said_replies (record r { queue = queue }) starts_so replies_so (queue_taken old e queue said_starts said_replies r s));
+  says = λ said_starts said_replies r starts_so replies_so s.
+      ap text_of (next_so allows event queue old e said_starts said_replies r waits s)
+      ∙ moves.says said_starts said_replies (record r { queue = queue }) starts_so replies_so (queue_taken old e queue said_starts said_replies r s);
 }
 
 -- none waits
@@ -227,7 +231,7 @@ none-moves allows seen e none = record {
   read_starts = sym (append-nil (starts_in (own_acts seen)));
   read_replies = sym (append-nil (replies_in (own_acts seen)));
   read_stimuli = sym (append-nil (stimuli_in seen));
-  stands = λ later_starts later_replies r s.
+  stands = λ later_starts later_replies r starts_so replies_so s.
       subst (λ (x : Run). Stands seen e later_starts later_replies x) (sym (ap (λ (events : List Event). next_dispatched allows events r) (s.queue ∙ none))) s;
-  says = λ later_starts later_replies r s. ap text_of (ap (λ (events : List Event). next_dispatched allows events r) (s.queue ∙ none)) ∙ sym (append-nil (text_of r));
+  says = λ later_starts later_replies r starts_so replies_so s. ap text_of (ap (λ (events : List Event). next_dispatched allows events r) (s.queue ∙ none)) ∙ sym (append-nil (text_of r));
 }

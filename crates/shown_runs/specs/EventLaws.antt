@@ -1,11 +1,15 @@
 -- What the engine does at a start and at an event is what the reference controller does, in a world that keeps its word.
-use Rattle.std.proofs.Common.{◌≡◌, ℕ, ◌+◌, ◌^◌, ◌<◌, Bool, true, false, List, [], ◌∷◌, Option, is_some, refl, sym, ap, ◌∙◌, subst}
+use Rattle.std.proofs.Common.{◌≡◌, ℕ, zero, suc, ◌+◌, ◌^◌, ◌<◌, Bool, true, false, List, [], ◌∷◌, Option, is_some, refl, sym, ap, ◌∙◌, subst, inl, inr}
+use Rattle.std.specs.List.{AllByRecursion}
 use Rattle.flow_table.specs.declared.view.TableView.{TableView}
 use Rattle.app_frames.specs.declared.frame.Event.{Event}
+use Rattle.lego_model.specs.Journal.{start_of}
+use Rattle.lego_model.specs.Scripted.{is_start_heard}
 use Rattle.lego_model.specs.Places.{Place}
 use Rattle.lego_model.specs.Controller.{attempts, dispatch}
 use Rattle.outside.specs.Seen.{Seen, Continues}
 use Rattle.outside.specs.Conforming.{Conforming}
+use Rattle.app_visor.specs.Attempts.{OneTry, AreTries}
 use Rattle.app_visor.specs.ReadTurnLaws.{turn_told}
 use Rattle.app_visor.specs.ReadTryLaws.{tries_told}
 use Rattle.journal_readings.specs.FrameLaws.{event_is}
@@ -22,14 +26,27 @@ use Rattle.shown_runs.specs.OrderlyRunLaws.{turn-orderly}
 
 -- ---- Every turn and every restart is read
 
+-- of each attempt enough is told
+tries-heard : {Own : Type 0} (Tells : Type 0) (app n : ℕ) (ts : List (OneTry Own)) (old new : Seen Own) → AreTries Tells app n ts old new → AllByRecursion (λ t. is_start_heard (start_of t.attempt) ≡ true) ts
+tries-heard Tells app zero [] old new are = tt
+tries-heard Tells app zero (t ∷ ts) old new are = absurd are
+tries-heard Tells app (suc n) [] old new are = absurd are
+tries-heard {Own} Tells app (suc n) (t ∷ ts) old new are = (
+  are.0.heard,
+  elim are.1 [
+    | inl h ↦ subst (λ (l : List (OneTry Own)). AllByRecursion (λ x. is_start_heard (start_of x.attempt) ≡ true) l) (sym h.1) tt
+    | inr h ↦ tries-heard Tells app n ts t.after new h.1
+  ],
+)
+
 pub are-read : {Own : Type 0} (Tells : Type 0) (accepts : List TableView → Bool) → AreRead Own Tells accepts
 are-read Tells accepts = record {
   turn = λ number moment event rest old mid net mid_net end unread told t stood.
       let r = turn_told t told (event_is number moment event) stood in
-      record { starts = r.starts; replies = r.replies; life = r.life };
+      record { starts = r.starts; replies = r.replies; heard = t.heard; life = r.life };
   tries = λ old new found tries told s.
       let r = tries_told Tells index attempts s.all old new s.are told in
-      record { starts = r.starts; replies = r.replies; life = λ some. r.life (sym (ap (λ (o : Option (List ℕ)). is_some o) s.found_so) ∙ some); own = r.own };
+      record { starts = r.starts; replies = r.replies; heard = tries-heard Tells index attempts s.all old new s.are; life = λ some. r.life (sym (ap (λ (o : Option (List ℕ)). is_some o) s.found_so) ∙ some); own = r.own };
 }
 
 -- ---- An event

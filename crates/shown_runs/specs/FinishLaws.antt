@@ -9,6 +9,7 @@ use Rattle.exact_undo.specs.Owned.{owned_switch}
 use Rattle.app_frames.specs.declared.frame.Event.{Event}
 use Rattle.lego_model.specs.Journal.{Reply, Start}
 use Rattle.lego_model.specs.Places.{Place}
+use Rattle.lego_model.specs.Scripted.{AreFronts, AreStartFronts}
 use Rattle.lego_model.specs.Controller.{App, Run, quiet_of, reference}
 use Rattle.lego_model.specs.Agreement.{AgreeQuiet, AgreeQuiets}
 use Rattle.lego_model.specs.RunReport.{run_report}
@@ -20,24 +21,28 @@ use Rattle.shown_switches.specs.Shown.{flags_at, shown_switch, places, shown_pla
 use Rattle.shown_batches.specs.HistoryLaws.{links-declared}
 use Rattle.journal_readings.specs.Readings.{starts_in, replies_in}
 use Rattle.lego_model.specs.AtOnce.{AtOnce}
-use Rattle.shown_runs.specs.Engine.{Engine, Stands, index, names, own_acts, stimuli_in, quiet_by, quiets_in, text_of}
+use Rattle.shown_runs.specs.Engine.{Engine, Stands, index, names, own_acts, stimuli_in, quiet_by, quiets_in}
 use Rattle.shown_runs.specs.QuietLaws.{quiets_more, mark_alike}
 use Rattle.shown_runs.specs.LastReport.{last_text}
 use Rattle.shown_runs.specs.LastReportLaws.{report-ends, last-shown}
-use Rattle.shown_runs.specs.WholeRun.{RunsAlike, fresh, reference_of, last_quiet}
-use Rattle.shown_runs.specs.WholeLaws.{Ran}
+use Rattle.shown_runs.specs.WholeRun.{RunsAlike, fresh, reference_said, AreSaid, last_quiet}
+use Rattle.shown_runs.specs.WholeLaws.{Ran, told-said}
 use Rattle.shown_switches.specs.Orderly.{IsOrderly}
 use Rattle.shown_switches.specs.OrderlyLaws.{orderly-whole, released-none}
 use Rattle.shown_runs.specs.Moves.{Settled}
 use Rattle.shown_runs.specs.Endings.{Leaves}
-use Rattle.shown_runs.specs.Promise.{EndsAlike, LeavesAlike}
+use Rattle.shown_runs.specs.Promise.{EndsAs, LeavesAs, EndsAlike, LeavesAlike}
 
 -- the reference controller's run is the same
-reference-same : {Own : Type 0} (allows : List Place → Bool) (last new : Seen Own) → Leaves last new → reference_of allows new ≡ reference_of allows last
-reference-same {Own} allows last new l =
-    ap (λ (g : Given Own). reference allows g.declared (fresh (starts_in (own_acts new)) (replies_in (own_acts new)) ∷ []) (stimuli_in new)) l.given
-    ∙ ap₂ (λ (ss : List Start) (rs : List Reply). reference allows last.given.declared (fresh ss rs ∷ []) (stimuli_in new)) l.starts l.replies
-    ∙ ap (λ (xs : List WorldStim). reference allows last.given.declared (fresh (starts_in (own_acts last)) (replies_in (own_acts last)) ∷ []) xs) l.stimuli
+reference-same : {Own : Type 0} (allows : List Place → Bool) (last new : Seen Own) (starts : List Start) (replies : List Reply) → Leaves last new → reference_said allows new starts replies ≡ reference_said allows last starts replies
+reference-same {Own} allows last new starts replies l =
+    ap (λ (g : Given Own). reference allows g.declared (fresh starts replies ∷ []) (stimuli_in new)) l.given
+    ∙ ap (λ (xs : List WorldStim). reference allows last.given.declared (fresh starts replies ∷ []) xs) l.stimuli
+
+-- and the same was said of the application
+pub said-before : {Own : Type 0} (last new : Seen Own) (starts : List Start) (replies : List Reply) → Leaves last new → AreSaid new starts replies → AreSaid last starts replies
+said-before last new starts replies l said =
+    (subst (λ (told : List Start). AreStartFronts told starts) l.starts said.0, subst (λ (told : List Reply). AreFronts told replies) l.replies said.1)
 
 places-same : (f g : ℕ → Option SwitchState) (ds : List Declared) → ((d : ℕ) → f d ≡ g d) → places f ds ≡ places g ds
 places-same f g [] same = refl
@@ -49,8 +54,8 @@ shown-still declared views s t same =
     places-same (shown_switch views t) (shown_switch views s) declared (λ d. ap (λ (o : Option SwitchState). option_map (owned_switch (flags_at d views)) o) (same d))
 
 -- engine and reference controller ran alike
-pub runs-alike : {Own : Type 0} (last new : Seen Own) (e : Engine) (r : Run) → Conforming new → Leaves last new → Stands last e [] [] r → RunsAlike new r
-runs-alike {Own} last new e r keeps l s =
+pub runs-alike : {Own : Type 0} (last new : Seen Own) (e : Engine) (starts : List Start) (replies : List Reply) (r : Run) → Conforming new → Leaves last new → Stands last e starts replies r → RunsAlike new r
+runs-alike {Own} last new e starts replies r keeps l s =
     let declared = new.given.declared in
     let same_declared : declared ≡ last.given.declared = ap (λ (g : Given Own). g.declared) l.given in
     let here : r.places ≡ shown_places declared e.net.views (state new) =
@@ -64,40 +69,56 @@ runs-alike {Own} last new e r keeps l s =
     }
 
 -- all steps were in order
-all-in-order : {Own : Type 0} {e : Engine} (last new : Seen Own) → Settled last e → Leaves last new → AllByRecursion (IsOrderly index) new.history
+pub all-in-order : {Own : Type 0} {e : Engine} (last new : Seen Own) → Settled last e → Leaves last new → AllByRecursion (IsOrderly index) new.history
 all-in-order last new settled l = orderly-whole index last new settled.orderly l.orderly
 
 -- ---- All was dispatched
 
+ends-as : {Own : Type 0} (allows : List Place → Bool) (text : List ℕ) (last new : Seen Own) (e : Engine) (contents now_contents : Option (List ℕ)) (starts : List Start) (replies : List Reply) → Conforming new → Leaves last new → Ran allows text last e
+    → e.queue ≡ [] → now_contents ≡ append_known contents (text ++ last_text last e) → AreSaid new starts replies → EndsAs new contents now_contents e.events (reference_said allows new starts replies)
+ends-as allows text last new e contents now_contents starts replies keeps l ran none written said =
+    let r = reference_said allows last starts replies in
+    let so = ran.as_said starts replies (said-before last new starts replies l said) in
+    let report : run_report names r ≡ text ++ last_text last e =
+    report-ends r ∙ ap₂ (λ (a b : List ℕ). a ++ b) so.text_so (last-shown last e so.starts so.replies r so.stands) in
+    subst (EndsAs new contents now_contents e.events) (sym (reference-same allows last new starts replies l)) (record {
+      alike = runs-alike last new e so.starts so.replies r keeps l so.stands;
+      none_left = so.stands.queue ∙ none;
+      events_so = sym so.stands.events;
+      report = written ∙ ap (append_known contents) (sym report);
+    })
+
 pub ends-alike : {Own : Type 0} (allows : List Place → Bool) (text : List ℕ) (last new : Seen Own) (e : Engine) (contents now_contents : Option (List ℕ)) → Conforming new → Leaves last new → Settled last e → Ran allows text last e
     → AtOnce index (journal new.history) → e.queue ≡ [] → now_contents ≡ append_known contents (text ++ last_text last e) → EndsAlike allows new contents now_contents e.events
 ends-alike allows text last new e contents now_contents keeps l settled ran said none written =
-    let same = reference-same allows last new l in
-    let r = reference_of allows last in
-    let report : run_report names r ≡ text ++ last_text last e =
-    report-ends r ∙ ap₂ (λ (a b : List ℕ). a ++ b) ran.text_so (last-shown last e [] [] r ran.stands) in
     record {
-      alike = subst (RunsAlike new) (sym same) (runs-alike last new e r keeps l ran.stands);
+      as_told = ends-as allows text last new e contents now_contents (starts_in (own_acts new)) (replies_in (own_acts new)) keeps l ran none written (told-said new);
+      as_said = λ starts replies is. ends-as allows text last new e contents now_contents starts replies keeps l ran none written is;
       at_once = said;
-      none_left = ap (λ (q : Run). q.queue) same ∙ ran.stands.queue ∙ none;
-      events_so = sym (ap (λ (q : Run). q.events) same ∙ ran.stands.events);
-      report = written ∙ ap (append_known contents) (sym (ap (run_report names) same ∙ report));
       in_order = all-in-order last new settled l;
       released_none = released-none index new.history (all-in-order last new settled l);
     }
 
 -- ---- Some events were left
 
+leaves-as : {Own : Type 0} (allows : List Place → Bool) (text : List ℕ) (last new : Seen Own) (e : Engine) (contents now_contents : Option (List ℕ)) (starts : List Start) (replies : List Reply) → Conforming new → Leaves last new → Ran allows text last e
+    → now_contents ≡ append_known contents text → AreSaid new starts replies → LeavesAs new contents now_contents (length e.queue) (reference_said allows new starts replies)
+leaves-as allows text last new e contents now_contents starts replies keeps l ran written said =
+    let r = reference_said allows last starts replies in
+    let so = ran.as_said starts replies (said-before last new starts replies l said) in
+    subst (LeavesAs new contents now_contents (length e.queue)) (sym (reference-same allows last new starts replies l)) (record {
+      alike = runs-alike last new e so.starts so.replies r keeps l so.stands;
+      left_so = ap (λ (q : List Event). length q) (sym so.stands.queue);
+      report = written ∙ ap (append_known contents) (sym so.text_so);
+    })
+
 pub leaves-alike : {Own : Type 0} (allows : List Place → Bool) (text : List ℕ) (last new : Seen Own) (e : Engine) (contents now_contents : Option (List ℕ)) → Conforming new → Leaves last new → Settled last e → Ran allows text last e
     → AtOnce index (journal new.history) → now_contents ≡ append_known contents text → LeavesAlike allows new contents now_contents (length e.queue)
 leaves-alike allows text last new e contents now_contents keeps l settled ran said written =
-    let same = reference-same allows last new l in
-    let r = reference_of allows last in
     record {
-      alike = subst (RunsAlike new) (sym same) (runs-alike last new e r keeps l ran.stands);
+      as_told = leaves-as allows text last new e contents now_contents (starts_in (own_acts new)) (replies_in (own_acts new)) keeps l ran written (told-said new);
+      as_said = λ starts replies is. leaves-as allows text last new e contents now_contents starts replies keeps l ran written is;
       at_once = said;
-      left_so = ap (λ (q : List Event). length q) (sym (ap (λ (q : Run). q.queue) same ∙ ran.stands.queue));
-      report = written ∙ ap (append_known contents) (sym (ap text_of same ∙ ran.text_so));
       in_order = all-in-order last new settled l;
       released_none = released-none index new.history (all-in-order last new settled l);
     }

@@ -1,11 +1,12 @@
 -- Laws of parts of runs: one behind another is a part, and so is one that does nothing.
-use Rattle.std.proofs.Common.{◌≡◌, ℕ, Bool, List, [], ◌++◌, refl, sym, ap, ◌∙◌, subst}
+use Rattle.std.proofs.Common.{◌≡◌, ℕ, Bool, List, [], ◌++◌, length, drop, refl, sym, ap, ◌∙◌, subst}
 use Rattle.std.proofs.lemmas.List.{append-nil, append_assoc}
 use Rattle.of_types.specs.declared.journal.WorldStim.{WorldStim}
 use Rattle.lego_model.specs.Journal.{Reply, Start}
 use Rattle.flow_table.specs.declared.view.TableView.{TableView}
 use Rattle.lego_model.specs.Places.{Place}
 use Rattle.lego_model.specs.Controller.{Run}
+use Rattle.lego_model.specs.ScriptedLaws.{fronts-parts, start_fronts-parts, drop-parts}
 use Rattle.outside.specs.Seen.{Seen, Continues}
 use Rattle.outside.specs.StateLaws.{Conforming-before}
 use Rattle.journal_readings.specs.Readings.{starts_in, replies_in}
@@ -20,8 +21,8 @@ moves-none seen e = record {
   read_starts = sym (append-nil (starts_in (own_acts seen)));
   read_replies = sym (append-nil (replies_in (own_acts seen)));
   read_stimuli = sym (append-nil (stimuli_in seen));
-  stands = λ ss rs r s. s;
-  says = λ ss rs r s. sym (append-nil (text_of r));
+  stands = λ ss rs r starts_so replies_so s. s;
+  says = λ ss rs r starts_so replies_so s. sym (append-nil (text_of r));
 }
 
 pub moves-then : {Own : Type 0} (xs ys : List WorldStim) (f g : Run → Run) (first second : List ℕ) (a b c : Seen Own) (e1 e2 e3 : Engine)
@@ -33,20 +34,22 @@ moves-then {Own} xs ys f g first second a b c e1 e2 e3 m n = record {
   read_starts = longer (starts_in (own_acts a)) (starts_in (own_acts b)) (starts_in (own_acts c)) m.starts n.starts m.read_starts n.read_starts;
   read_replies = longer (replies_in (own_acts a)) (replies_in (own_acts b)) (replies_in (own_acts c)) m.replies n.replies m.read_replies n.read_replies;
   read_stimuli = longer (stimuli_in a) (stimuli_in b) (stimuli_in c) xs ys m.read_stimuli n.read_stimuli;
-  stands = λ ss rs r s. n.stands ss rs (f r) (m.stands (n.starts ++ ss) (n.replies ++ rs) r (before ss rs r s));
-  says = λ ss rs r s.
-      n.says ss rs (f r) (m.stands (n.starts ++ ss) (n.replies ++ rs) r (before ss rs r s))
-      ∙ ap (λ (t : List ℕ). t ++ second) (m.says (n.starts ++ ss) (n.replies ++ rs) r (before ss rs r s))
+  stands = λ ss rs r starts_so replies_so s.
+      let fs = start_fronts-parts m.starts n.starts ss starts_so in
+      let fr = fronts-parts m.replies n.replies rs replies_so in
+      subst (λ (l : List Reply). Stands c e3 (drop (length (m.starts ++ n.starts)) ss) l (g (f r))) (sym (drop-parts m.replies n.replies rs))
+      (subst (λ (l : List Start). Stands c e3 l (drop (length n.replies) (drop (length m.replies) rs)) (g (f r))) (sym (drop-parts m.starts n.starts ss))
+      (n.stands (drop (length m.starts) ss) (drop (length m.replies) rs) (f r) fs.1 fr.1 (m.stands ss rs r fs.0 fr.0 s)));
+  says = λ ss rs r starts_so replies_so s.
+      let fs = start_fronts-parts m.starts n.starts ss starts_so in
+      let fr = fronts-parts m.replies n.replies rs replies_so in
+      n.says (drop (length m.starts) ss) (drop (length m.replies) rs) (f r) fs.1 fr.1 (m.stands ss rs r fs.0 fr.0 s)
+      ∙ ap (λ (t : List ℕ). t ++ second) (m.says ss rs r fs.0 fr.0 s)
       ∙ append_assoc (text_of r) first second;
 }
   where
     longer : {A : Type 0} (p q r x y : List A) → q ≡ p ++ x → r ≡ q ++ y → r ≡ p ++ (x ++ y)
     longer p q r x y h k = k ∙ ap (λ (l : List _). l ++ y) h ∙ append_assoc p x y
-
-    before : (ss : List Start) (rs : List Reply) (r : Run) → Stands a e1 ((m.starts ++ n.starts) ++ ss) ((m.replies ++ n.replies) ++ rs) r → Stands a e1 (m.starts ++ (n.starts ++ ss)) (m.replies ++ (n.replies ++ rs)) r
-    before ss rs r s =
-        subst (λ (l : List Reply). Stands a e1 (m.starts ++ (n.starts ++ ss)) l r) (append_assoc m.replies n.replies rs)
-        (subst (λ (l : List Start). Stands a e1 l ((m.replies ++ n.replies) ++ rs) r) (append_assoc m.starts n.starts ss) s)
 
 -- another function that does the same wherever the two stand alike
 pub moves-as : {Own : Type 0} (xs : List WorldStim) (f g : Run → Run) (text : List ℕ) (a b : Seen Own) (e1 e2 : Engine)
@@ -58,8 +61,8 @@ moves-as xs f g text a b e1 e2 same m = record {
   read_starts = m.read_starts;
   read_replies = m.read_replies;
   read_stimuli = m.read_stimuli;
-  stands = λ ss rs r s. subst (Stands b e2 ss rs) (same (m.starts ++ ss) (m.replies ++ rs) r s) (m.stands ss rs r s);
-  says = λ ss rs r s. subst (λ (q : Run). text_of q ≡ text_of r ++ text) (same (m.starts ++ ss) (m.replies ++ rs) r s) (m.says ss rs r s);
+  stands = λ ss rs r starts_so replies_so s. subst (Stands b e2 (drop (length m.starts) ss) (drop (length m.replies) rs)) (same ss rs r s) (m.stands ss rs r starts_so replies_so s);
+  says = λ ss rs r starts_so replies_so s. subst (λ (q : Run). text_of q ≡ text_of r ++ text) (same ss rs r s) (m.says ss rs r starts_so replies_so s);
 }
 
 pub moved-none : {Own : Type 0} (seen : Seen Own) (e : Engine) → Settled seen e → Moved [] (λ r. r) [] seen seen e e

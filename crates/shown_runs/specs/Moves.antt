@@ -1,9 +1,10 @@
 -- What a part of a run does is what the reference controller does, with what the part tells of the application. All of this is our own.
-use Rattle.std.specs.Prelude.{◌≡◌, ℕ, zero, suc, Bool, true, List, [], ◌∷◌, ◌++◌, length, ◌<◌, fold}
+use Rattle.std.specs.Prelude.{◌≡◌, ℕ, zero, suc, Bool, true, List, [], ◌∷◌, ◌++◌, length, drop, ◌<◌, fold}
 use Rattle.of_types.specs.declared.journal.WorldStim.{WorldStim}
 use Rattle.flow_table.specs.declared.view.TableView.{TableView}
 use Rattle.lego_model.specs.Journal.{Reply, Start}
 use Rattle.lego_model.specs.Places.{Place}
+use Rattle.lego_model.specs.Scripted.{AreFronts, AreStartFronts}
 use Rattle.lego_model.specs.Controller.{Run, dispatch, settle, happen}
 use Rattle.app_frames.specs.declared.frame.Event.{Event}
 use Rattle.outside.specs.Seen.{Seen, journal}
@@ -17,7 +18,8 @@ use Rattle.shown_runs.specs.Engine.{Engine, Stands, index, own_acts, stimuli_in,
 use Rattle.shown_runs.specs.Readings.{JudgesAlike}
 
 -- A part of a run with these stimuli and this text: what the journal tells is longer by these starts and replies, and wherever engine and
--- reference controller stood alike, with these starts and replies before its application, they do so after the part.
+-- reference controller stood alike, with starts and replies before its application of which these are the fronts, they do so after the part,
+-- with those that follow.
 pub record Moves {Own : Type 0} (xs : List WorldStim) (f : Run → Run) (text : List ℕ) (old new : Seen Own) (e now_e : Engine) : Type 0 where
   pub starts : List Start
   pub replies : List Reply
@@ -25,9 +27,9 @@ pub record Moves {Own : Type 0} (xs : List WorldStim) (f : Run → Run) (text : 
   pub read_starts : starts_in (own_acts new) ≡ starts_in (own_acts old) ++ starts
   pub read_replies : replies_in (own_acts new) ≡ replies_in (own_acts old) ++ replies
   pub read_stimuli : stimuli_in new ≡ stimuli_in old ++ xs
-  pub stands : (later_starts : List Start) (later_replies : List Reply) (r : Run) → Stands old e (starts ++ later_starts) (replies ++ later_replies) r
-      → Stands new now_e later_starts later_replies (f r)
-  pub says : (later_starts : List Start) (later_replies : List Reply) (r : Run) → Stands old e (starts ++ later_starts) (replies ++ later_replies) r
+  pub stands : (said_starts : List Start) (said_replies : List Reply) (r : Run) → AreStartFronts starts said_starts → AreFronts replies said_replies → Stands old e said_starts said_replies r
+      → Stands new now_e (drop (length starts) said_starts) (drop (length replies) said_replies) (f r)
+  pub says : (said_starts : List Start) (said_replies : List Reply) (r : Run) → AreStartFronts starts said_starts → AreFronts replies said_replies → Stands old e said_starts said_replies r
       → text_of (f r) ≡ text_of r ++ text
 
 -- All that happened is a dialogue with the application; where it is alive, it runs, and what is unread stands behind frames that are no

@@ -1,5 +1,5 @@
 -- The start of a run is that of the reference controller, in a world that keeps its word.
-use Rattle.std.proofs.Common.{◌≡◌, ℕ, true, List, [], ◌∷◌, ◌++◌, map, refl, sym, ap, ◌∙◌, subst}
+use Rattle.std.proofs.Common.{◌≡◌, ℕ, true, List, [], ◌∷◌, ◌++◌, length, drop, map, refl, sym, ap, ◌∙◌, subst}
 use Rattle.std.proofs.lemmas.List.{append-nil}
 use Rattle.std.proofs.lemmas.List.Concat.{flat_map-append}
 use Rattle.flow_table.specs.declared.view.TableView.{TableView}
@@ -42,8 +42,9 @@ start-shown {Own} Tells text old new e now_e starts = record {
           read_starts = s.read_starts;
           read_replies = s.read_replies ∙ sym (append-nil (replies_in (own_acts old)));
           read_stimuli = s.read_stimuli ∙ sym (append-nil (stimuli_in old));
-          stands = λ ss rs r t.
-              subst (Stands new now_e ss rs) (sym (start-one r (app_at e (given_in old) (s.starts ++ ss) rs) (app_at now_e (given_in new) ss rs) s.tries t.apps (s.app ss rs))) (record {
+          stands = λ ss rs r starts_so replies_so t.
+              let later = drop (length s.starts) ss in
+              subst (Stands new now_e later rs) (sym (start-one r (app_at e (given_in old) ss rs) (app_at now_e (given_in new) later rs) s.tries t.apps (s.app ss rs starts_so))) (record {
                 calm = s.calm t.calm;
                 moment = t.moment ∙ sym s.keeps.rests.moment;
                 places = t.places ∙ sym (s.places old.given.declared) ∙ ap (λ (g : Given Own). shown_places g.declared now_e.net.views (state new)) (sym given);
@@ -53,8 +54,8 @@ start-shown {Own} Tells text old new e now_e starts = record {
                 quiets = subst (λ (ms : List Mark). AgreeQuiets (map quiet_by ms) r.quiets) (sym s.keeps.marks) t.quiets;
                 life = s.life;
               });
-          says = λ ss rs r t.
-              ap text_of (start-one r (app_at e (given_in old) (s.starts ++ ss) rs) (app_at now_e (given_in new) ss rs) s.tries t.apps (s.app ss rs))
+          says = λ ss rs r starts_so replies_so t.
+              ap text_of (start-one r (app_at e (given_in old) ss rs) (app_at now_e (given_in new) (drop (length s.starts) ss) rs) s.tries t.apps (s.app ss rs starts_so))
               ∙ flat_map-append (line_text names) r.lines (map (Started 0) s.tries ++ gone_line 0 now_e.alive)
               ∙ ap (λ (more : List ℕ). text_of r ++ more) (sym s.text_so);
         };

@@ -9,7 +9,7 @@ use Rattle.lego_model.specs.Journal.{stimuli}
 use Rattle.lego_model.specs.JournalLaws.{stimuli-append}
 use Rattle.outside.specs.declared.step.WorldStep.{WorldStep}
 use Rattle.outside.specs.declared.step.WorldStep.TheVariants.{Acted, TookInto, From, Joined, Left, Moment, Idle, End, Opened, NotOpened, NextFailed, SendFailed, RecvFailed}
-use Rattle.outside.specs.Seen.{Seen, Continues, journal}
+use Rattle.outside.specs.Seen.{Seen, Longer, Continues, journal}
 use Rattle.outside.specs.State.{State, at_first, after_stim, after_act, after_step, after_steps, state}
 use Rattle.outside.specs.SeenLaws.{journal-append}
 use Rattle.outside.specs.StateLaws.{Conforming-before}
@@ -90,13 +90,16 @@ told-all seen keeps none =
     sym (append-nil (stimuli_in seen)) ∙ ap (λ (xs : List WorldStim). stimuli_in seen ++ xs) (sym none) ∙ told-and-to_come seen keeps
 
 -- earlier they were no more
-pub fewer-before : {Own : Type 0} {most : ℕ} (Tells : Type 0) (old new : Seen Own) → Tells → Continues Tells old new → length (stimuli_in new) < most → length (stimuli_in old) < most
-fewer-before Tells old new told later few =
-    let steps = (later.told told).0 in
+pub fewer-front : {Own : Type 0} {most : ℕ} (old new : Seen Own) → Longer old.history new.history → length (stimuli_in new) < most → length (stimuli_in old) < most
+fewer-front old new later few =
+    let steps = later.0 in
     let longer : stimuli_in new ≡ stimuli_in old ++ told_in steps =
-    ap told_in (later.told told).1 ∙ ap stimuli (journal-append old.history steps) ∙ stimuli-append (journal old.history) (journal steps) in
+    ap told_in later.1 ∙ ap stimuli (journal-append old.history steps) ∙ stimuli-append (journal old.history) (journal steps) in
     let sum = ap (λ (xs : List WorldStim). length xs) longer ∙ length-append (stimuli_in old) (told_in steps) in
     omega (arith, sum, few)
+
+pub fewer-before : {Own : Type 0} {most : ℕ} (Tells : Type 0) (old new : Seen Own) → Tells → Continues Tells old new → length (stimuli_in new) < most → length (stimuli_in old) < most
+fewer-before Tells old new told later few = fewer-front old new (later.told told) few
 
 -- none is to come later where none was to come
 pub none-later : {Own : Type 0} (Tells : Type 0) (old new : Seen Own) → Tells → Continues Tells old new → Conforming new → (state old).to_come ≡ [] → (state new).to_come ≡ []

@@ -1,6 +1,6 @@
 -- The law of a turn: the engine's turn is the turn of the reference controller, whose switches and application come to the same, whether
 -- the turn was done, or failed and was undone, and the application started again.
-use Rattle.std.proofs.Common.{◌≡◌, ℕ, ◌+◌, ◌^◌, ◌<◌, Bool, true, false, List, [], ◌∷◌, ◌++◌, length, map, take, Some, Ok, if◌then◌else◌, refl, sym, ap, ap₂, ◌∙◌, subst}
+use Rattle.std.proofs.Common.{◌≡◌, ℕ, ◌+◌, ◌^◌, ◌<◌, Bool, true, false, List, [], ◌∷◌, ◌++◌, length, drop, map, take, Some, Ok, if◌then◌else◌, refl, sym, ap, ap₂, ◌∙◌, subst}
 use Rattle.std.proofs.lemmas.Bool.{eq-eqb}
 use Rattle.std.proofs.lemmas.List.{append-nil}
 use Rattle.of_types.specs.declared.journal.Act.{Act}
@@ -13,7 +13,9 @@ use Rattle.lego_model.specs.declared.turn.TurnWord.{TurnWord}
 use Rattle.lego_model.specs.Journal.{Reply, Start, inputs, reply_of}
 use Rattle.lego_model.specs.Places.{Place, undone_places}
 use Rattle.lego_model.specs.Turns.{Outcome, Completed, Failed}
-use Rattle.lego_model.specs.Controller.{App, Ended, Turned, attempts, started, event_frame, answer_frame, given_in as given_by_turn, restart_lines, turn}
+use Rattle.lego_model.specs.Scripted.{IsFront, AreStartFronts, is_heard}
+use Rattle.lego_model.specs.ScriptedLaws.{turn-front}
+use Rattle.lego_model.specs.Controller.{table_of, App, Ended, Turned, attempts, started, event_frame, answer_frame, given_in as given_by_turn, restart_lines, turn}
 use Rattle.lego_model.specs.RunReport.{turn_line, outcome_word}
 use Rattle.outside.specs.Seen.{Given, Seen}
 use Rattle.outside.specs.State.{State, Mark, state, marks_at_event}
@@ -62,8 +64,8 @@ record AtEnd {Own : Type 0} (allows : List Place → Bool) (event : Event) (old 
   ports : mid_net.ports ≡ e.net.ports
   rests : Rests (state old) (state mid)
   marks : (state mid).marks ≡ marks_by given e.events (state old)
-  turned : (starts : List Start) (replies : List Reply) → turn allows e.events e.net.moment event (places_at old old e.net) (app_at e (given_in old) starts (reply ∷ replies))
-      ≡ turned_by e.events e.net.moment event (places_at old old e.net) (app_at e (given_in old) starts (reply ∷ replies)) reply (played_on (places_at old mid mid_net) answers outcome)
+  turned : (starts : List Start) (said : Reply) (replies : List Reply) → IsFront reply said → turn allows e.events e.net.moment event (places_at old old e.net) (app_at e (given_in old) starts (said ∷ replies))
+      ≡ turned_by e.events e.net.moment event (places_at old old e.net) (app_at e (given_in old) starts (said ∷ replies)) said (played_on (places_at old mid mid_net) answers outcome)
 
 tail_so : (frame : List ℕ) (xs ys : List (List ℕ)) → frame ∷ xs ≡ frame ∷ ys → xs ≡ ys
 tail_so frame xs ys is = cc
@@ -75,9 +77,10 @@ behind_event true frame acts answers is =
 behind_event false frame acts answers is = subst NoEvents (sym is) tt
 
 at_end : {Own : Type 0} (Tells : Type 0) (accepts : List TableView → Bool) (allows : List Place → Bool) (event : Event) (old mid : Seen Own) (e : Engine) (mid_net : NetState) (end : TurnEnd) (unread : List ℕ)
-    → Tells → Conforming mid → JudgesAlike Own allows accepts → e.events < 2 ^ 64 → Calm old e.net → (t : Turns Tells accepts index budget e.rest (event_frame e.events e.net.moment event) old mid e.net mid_net end unread)
+    → Tells → Conforming mid → JudgesAlike Own allows accepts → e.events < 2 ^ 64 → Calm old e.net
+    → (t : Turns Tells accepts index budget e.rest (event_frame e.events e.net.moment event) old mid e.net mid_net end unread) → is_heard budget e.rest (reply_by t.given t.trace) ≡ true
     → AtEnd allows event old mid e mid_net t.given (reply_by t.given t.trace) t.answers t.outcome
-at_end Tells accepts allows event old mid e mid_net end unread told keeps judges few calm t =
+at_end Tells accepts allows event old mid e mid_net end unread told keeps judges few calm t heard =
     let frame = event_frame e.events e.net.moment event in
     let whole = Talk (give_act t.given index frame) ∷ t.trace in
     let first : Goes (length e.net.log) old old e.net e.net = record { since = begun old e.net; ready = calm.ready } in
@@ -92,8 +95,9 @@ at_end Tells accepts allows event old mid e mid_net end unread told keeps judges
       rests = chain_rests Tells index whole old mid e.net mid_net told t.chain;
       marks = chain_marks Tells index t.trace t.chain.1.0 mid e.net mid_net told t.chain.1.1.1 (behind_event t.given frame (acts_in t.trace) t.answers t.inputs_so)
           ∙ given_marks Tells t.given index e.events frame old t.chain.1.0 told t.chain.1.1.0 (event_numbered e.events e.net.moment event few);
-      turned = λ starts replies. turn_so allows e.events e.net.moment event (places_at old old e.net) (app_at e (given_in old) starts (reply_by t.given t.trace ∷ replies)) (reply_by t.given t.trace)
-          (played_on (places_at old mid mid_net) t.answers t.outcome) refl shown.played;
+      turned = λ starts said replies front. turn_so allows e.events e.net.moment event (places_at old old e.net) (app_at e (given_in old) starts (said ∷ replies)) said
+          (played_on (places_at old mid mid_net) t.answers t.outcome) refl
+          (turn-front (table_of allows) budget e.rest (reply_by t.given t.trace) said (places_at old old e.net) heard front ∙ shown.played);
     }
 
 -- ---- What a turn tells, and what it leaves
@@ -106,7 +110,7 @@ pub record TurnTells {Own : Type 0} (old new : Seen Own) (now_e : Engine) (start
   pub read_stimuli : stimuli_in new ≡ stimuli_in old
   pub life : now_e.alive ≡ true → LastStands (own_acts new)
 
--- the reference controller's turn leaves the same, where its application has this reply and these starts before it
+-- the reference controller's turn leaves the same, where its application has a reply and starts before it of which these are the fronts
 pub record TurnAlike {Own : Type 0} (allows : List Place → Bool) (event : Event) (text : List ℕ) (old new : Seen Own) (e now_e : Engine) (starts : List Start) (reply : Reply) : Type 0 where
   pub outcome : Outcome
   pub tries : List Tried
@@ -116,11 +120,11 @@ pub record TurnAlike {Own : Type 0} (allows : List Place → Bool) (event : Even
   pub queue : now_e.queue ≡ e.queue
   pub events : now_e.events ≡ e.events
   pub marks : (state new).marks ≡ (if given then marks_at_event (Some e.events) (state old) else (state old).marks)
-  pub turned : (later_starts : List Start) (later_replies : List Reply)
-      → turn allows e.events e.net.moment event (shown_places old.given.declared e.net.views (state old)) (app_at e (given_in old) (starts ++ later_starts) (reply ∷ later_replies))
+  pub turned : (said_starts : List Start) (said : Reply) (later_replies : List Reply) → AreStartFronts starts said_starts → IsFront reply said
+      → turn allows e.events e.net.moment event (shown_places old.given.declared e.net.views (state old)) (app_at e (given_in old) said_starts (said ∷ later_replies))
       ≡ record {
         places = shown_places old.given.declared now_e.net.views (state new);
-        app = (app_at now_e (given_in new) later_starts later_replies, tries);
+        app = (app_at now_e (given_in new) (drop (length starts) said_starts) later_replies, tries);
         outcome = outcome;
         given = given;
       }
@@ -175,8 +179,8 @@ done_alike allows event stop unread text old mid e mid_net log given trace answe
       queue = refl;
       events = refl;
       marks = at.marks;
-      turned = λ later_starts later_replies. at.turned later_starts later_replies
-          ∙ ap (λ (b : Bool). done_turn ps (done_app e later_starts later_replies (given_in old ++ given_by_turn b frame answers) rest) outcome b) (given_so given trace)
+      turned = λ later_starts said later_replies starts_so front. at.turned later_starts said later_replies front
+          ∙ ap (λ (b : Bool). done_turn ps (done_app e later_starts later_replies (given_in old ++ given_by_turn b frame answers) rest) outcome b) (front.given ∙ given_so given trace)
           ∙ ap₂ (λ (i : List (List ℕ)) (x : List ℕ). done_turn ps (done_app e later_starts later_replies i x) outcome given) (sym inputs_are) (sym is.1);
       text_so = λ later_starts later_replies. text_is ∙ ap (turn_line name) (word_so (ends.Done stop) unread outcome is) ∙ sym (append-nil (turn_line name (outcome_word outcome)));
     }
@@ -228,10 +232,10 @@ failed_alike Tells allows event cause unread text later_text old mid undone new 
       queue = again.queue;
       events = again.events;
       marks = again.keeps.marks ∙ only.marks ∙ at.marks;
-      turned = λ later_starts later_replies. at.turned (again.starts ++ later_starts) later_replies
-          ∙ ap (λ (b : Bool). failed_turn ps (started attempts (failed_app e (again.starts ++ later_starts) later_replies (given_in old ++ given_by_turn b frame answers))) outcome b) (given_so given trace)
-          ∙ ap (λ (i : List (List ℕ)). failed_turn ps (started attempts (failed_app e (again.starts ++ later_starts) later_replies i)) outcome given) (sym (tells.given ∙ inputs_are))
-          ∙ ap₂ (λ (qs : List Place) (a : App × List Tried). failed_turn qs a outcome given) same_places (again.app later_starts later_replies);
+      turned = λ said_starts said later_replies starts_so front. at.turned said_starts said later_replies front
+          ∙ ap (λ (b : Bool). failed_turn ps (started attempts (failed_app e said_starts later_replies (given_in old ++ given_by_turn b frame answers))) outcome b) (front.given ∙ given_so given trace)
+          ∙ ap (λ (i : List (List ℕ)). failed_turn ps (started attempts (failed_app e said_starts later_replies i)) outcome given) (sym (tells.given ∙ inputs_are))
+          ∙ ap₂ (λ (qs : List Place) (a : App × List Tried). failed_turn qs a outcome given) same_places (again.app said_starts later_replies starts_so);
       text_so = λ later_starts later_replies. text_is
           ∙ ap₂ (λ (word : TurnWord) (more : List ℕ). turn_line name word ++ more) (word_so (ends.Failed cause) unread outcome is) again.text_so;
     }
@@ -265,7 +269,7 @@ closed_moves Tells accepts allows event text old mid new e now_e mid_net (ends.D
         life = λ alive. read.life;
       };
       alike = λ calm. done_alike allows event stop unread text old mid e mid_net log t.given t.trace t.answers t.outcome t.ends closed.text_so told_so.given calm
-          (at_end Tells accepts allows event old mid e mid_net (ends.Done stop) unread told keeps_mid judges few calm t);
+          (at_end Tells accepts allows event old mid e mid_net (ends.Done stop) unread told keeps_mid judges few calm t read.heard);
     }))
 closed_moves Tells accepts allows event text old mid new e now_e mid_net (ends.Failed cause) unread told keeps judges reads few stands t closed =
     let read = reads.turn e.events e.net.moment event e.rest old mid e.net mid_net (ends.Failed cause) unread told t stands in
@@ -288,7 +292,7 @@ closed_moves Tells accepts allows event text old mid new e now_e mid_net (ends.F
         life = again.life;
       };
       alike = λ calm. failed_alike Tells allows event cause unread text closed.later_text old mid undone new e now_e mid_net undone_net t.given t.trace t.answers t.outcome told keeps_undone closed.undoes again t.ends closed.text_so told_so.given calm
-          (at_end Tells accepts allows event old mid e mid_net (ends.Failed cause) unread told keeps_mid judges few calm t);
+          (at_end Tells accepts allows event old mid e mid_net (ends.Failed cause) unread told keeps_mid judges few calm t read.heard);
     }
 
 pub turn_moves : {Own : Type 0} (Tells : Type 0) (accepts : List TableView → Bool) (allows : List Place → Bool) (event : Event) (text : List ℕ) (old new : Seen Own) (e now_e : Engine)

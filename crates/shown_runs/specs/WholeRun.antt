@@ -3,6 +3,7 @@ use Rattle.std.specs.Prelude.{◌≡◌, Bool, false, List, [], ◌∷◌, ◌++
 use Rattle.flow_table.specs.Switch.{Declared}
 use Rattle.lego_model.specs.Journal.{Reply, Start}
 use Rattle.lego_model.specs.Places.{Place}
+use Rattle.lego_model.specs.Scripted.{AreFronts, AreStartFronts}
 use Rattle.lego_model.specs.Controller.{App, Quiet, Run, quiet_of, start_all, reference}
 use Rattle.lego_model.specs.Agreement.{AgreeQuiets}
 use Rattle.outside.specs.Seen.{Seen}
@@ -33,9 +34,17 @@ all_started r = let begun = start_all 0 r.apps in record r { apps = begun.0; lin
 
 -- ---- What the reference controller does with what a world tells
 
+-- over the stimuli that it told, with an application that does this
+abbrev pub reference_said : {Own : Type 0} → (List Place → Bool) → Seen Own → List Start → List Reply → Run
+reference_said allows seen starts replies = reference allows seen.given.declared (fresh starts replies ∷ []) (stimuli_in seen)
+
+-- with one that does what it told of it
 abbrev pub reference_of : {Own : Type 0} → (List Place → Bool) → Seen Own → Run
-reference_of allows seen =
-    reference allows seen.given.declared (fresh (starts_in (own_acts seen)) (replies_in (own_acts seen)) ∷ []) (stimuli_in seen)
+reference_of allows seen = reference_said allows seen (starts_in (own_acts seen)) (replies_in (own_acts seen))
+
+-- what is said of the application, of which the fronts are told
+abbrev pub AreSaid : {Own : Type 0} → Seen Own → List Start → List Reply → Type 0
+AreSaid seen starts replies = AreStartFronts (starts_in (own_acts seen)) starts × AreFronts (replies_in (own_acts seen)) replies
 
 -- how the switches stand at the end
 abbrev pub last_quiet : {Own : Type 0} → Seen Own → Quiet

@@ -7,7 +7,7 @@ ghost use Rattle.of_types.specs.declared.journal.WorldStim.{WorldStim};
 ghost use Rattle.flow_table.specs.declared.view.TableView.{TableView};
 ghost use Rattle.app_frames.specs.declared.frame.Event.{Event};
 ghost use Rattle.lego_model.specs.Places.{Place};
-ghost use Rattle.outside.specs.Seen.{Seen, Continues, Longer};
+ghost use Rattle.outside.specs.Seen.{Seen, Continues};
 ghost use Rattle.outside.specs.Calls.{Ends};
 ghost use Rattle.outside.specs.Conforming.{Conforming};
 ghost use Rattle.net_txn.specs.Net.{NetState};
@@ -22,7 +22,7 @@ ghost use Rattle.shown_runs.specs.Promise.{most_rounds, EndsAlike, LeavesAlike};
 ghost use Rattle.shown_runs.specs.Endings.{Leaves, RanOut, RanFull};
 ghost use Rattle.shown_runs.specs.LastReport.{last_text};
 ghost use Rattle.shown_runs.specs.WholeRun.{all_started};
-ghost use Rattle.shown_runs.specs.Cut.{CutAlike, CutWriting, GoneSoFar};
+ghost use Rattle.shown_runs.specs.Cut.{CutSo, WritingSo, GoneSoFar};
 
 use outside::World;
 
@@ -53,7 +53,8 @@ pub fn ends_leave<W: World>()
 {}
 
 /// Of a world that was just opened and that keeps its word: a run whose parts are those of the reference controller is the run
-/// of the reference controller over what the world told. At every quiet place the tables agree, the application was given what
+/// of the reference controller over what the world told, and over all that was said of the application, of which the world
+/// told the front. At every quiet place the tables agree, the application was given what
 /// it is given there, and what was written is its report, whole where all events were dispatched. The journal is a dialogue
 /// with the application: each answer is to its next message, a change has reached its switch at once where it is answered, and
 /// no call for the application is out of place.
@@ -66,22 +67,20 @@ pub fn runs_are_the_references<W: World>()
         → RanFull W.Tells accepts most_rounds left contents now_contents old new engine_at_first → LeavesAlike allows new contents now_contents left }
 {}
 
-/// Of a world that was just opened and that keeps its word: where a fault ends a run whose parts are those of the reference
-/// controller so far, the run is the reference controller's up to there, and what was written is what this says so far; or the
-/// sink failed at the lines of the start, of an event or of the end, behind all lines before them.
+/// Of a world that was just opened and that keeps its word up to a place: where a fault ends a run whose parts are those of the
+/// reference controller so far, the run is the reference controller's up to there, and what was written is what this says so
+/// far; or the sink failed at the lines of the start, of an event or of the end, behind all lines before them.
 pub fn cut_runs_are_the_references<W: World>()
-    ensures cut { (allows : List Place → Bool) (started : Bool) (number : ℕ) (text : List ℕ) (contents now_contents : Option (List ℕ)) (first last seen : Seen W.Own) (e : Engine)
+    ensures cut { (allows : List Place → Bool) (started : Bool) (number : ℕ) (text : List ℕ) (contents now_contents : Option (List ℕ)) (first last : Seen W.Own) (e : Engine)
         → IsOpened first → GoneSoFar allows started number text first last engine_at_first e → number ≤ 1000 → Conforming last
-        → seen.given ≡ last.given → Longer last.history seen.history → now_contents ≡ append_known contents text → CutAlike allows seen contents now_contents }
-    ensures start { (allows : List Place → Bool) (more : List ℕ) (contents now_contents : Option (List ℕ)) (first last seen : Seen W.Own) (e : Engine)
-        → IsOpened first → Moved [] all_started more first last engine_at_first e → Conforming last
-        → seen.given ≡ last.given → Longer last.history seen.history → TookPart contents now_contents more → CutWriting allows seen contents now_contents }
-    ensures event { (allows : List Place → Bool) (number : ℕ) (text more : List ℕ) (contents now_contents : Option (List ℕ)) (first mid last seen : Seen W.Own) (e now_e : Engine)
+        → now_contents ≡ append_known contents text → CutSo allows last contents now_contents }
+    ensures start { (allows : List Place → Bool) (more : List ℕ) (contents now_contents : Option (List ℕ)) (first last : Seen W.Own) (e : Engine)
+        → IsOpened first → Moved [] all_started more first last engine_at_first e → Conforming last → TookPart contents now_contents more
+        → WritingSo allows last contents now_contents }
+    ensures event { (allows : List Place → Bool) (number : ℕ) (text more : List ℕ) (contents now_contents : Option (List ℕ)) (first mid last : Seen W.Own) (e now_e : Engine)
         → IsOpened first → GoneSoFar allows true number text first mid engine_at_first e → Moved [] (dispatch_next allows) more mid last e now_e → number ≤ 999
-        → Conforming last → seen.given ≡ last.given → Longer last.history seen.history → TookPart (append_known contents text) now_contents more
-        → CutWriting allows seen contents now_contents }
-    ensures end { (allows : List Place → Bool) (text more : List ℕ) (contents now_contents : Option (List ℕ)) (first last seen : Seen W.Own) (e : Engine)
-        → IsOpened first → GoneSoFar allows true 1000 text first last engine_at_first e → e.queue ≡ [] → more ≡ last_text last e → Conforming last
-        → seen.given ≡ last.given → Longer last.history seen.history → TookPart (append_known contents text) now_contents more
-        → CutWriting allows seen contents now_contents }
+        → Conforming last → TookPart (append_known contents text) now_contents more → WritingSo allows last contents now_contents }
+    ensures end { (allows : List Place → Bool) (text more : List ℕ) (contents now_contents : Option (List ℕ)) (first last stop : Seen W.Own) (e : Engine)
+        → IsOpened first → GoneSoFar allows true 1000 text first last engine_at_first e → e.queue ≡ [] → more ≡ last_text last e → Leaves last stop
+        → Conforming stop → TookPart (append_known contents text) now_contents more → WritingSo allows stop contents now_contents }
 {}

@@ -1,5 +1,5 @@
 -- Steps that are in order: no call of a link failed, nor one for what comes next, no packet was released, and the calls for applications
--- are of one. All of this is our own.
+-- are of one, whose bytes are taken up to 65,536 at once. All of this is our own.
 use Rattle.std.specs.Prelude.{◌≡◌, ℕ, List, ◌++◌, None}
 use Rattle.std.specs.List.{AllByRecursion}
 use Rattle.of_types.specs.declared.journal.Act.{Act}
@@ -21,7 +21,7 @@ IsOrderlyAct app (Got d bytes) = Unit {0}
 
 abbrev pub IsOrderly : ℕ → WorldStep → Type 0
 IsOrderly app (Acted act) = IsOrderlyAct app act
-IsOrderly app (TookInto of what room) = of ≡ app
+IsOrderly app (TookInto of what room) = (of ≡ app) × (room ≡ 65536)
 IsOrderly app NotOpened = ⊥
 IsOrderly app NextFailed = ⊥
 IsOrderly app (SendFailed d) = ⊥

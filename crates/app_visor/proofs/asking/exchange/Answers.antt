@@ -7,6 +7,7 @@ use Rattle.app_visor.specs.Beats.{IsExchange, exchange_of}
 use Rattle.app_visor.specs.BeatLaws.{stops_wanting}
 use Rattle.app_visor.specs.PlayLaws.{stops_at_change, leads_asked, exchanges_so}
 use Rattle.app_visor.specs.AnswerLaws.{answer_fits}
+use Rattle.app_visor.specs.LeadsOnLaws.{leads_on_wanting, leads_on_links, leads_on_then}
 use Rattle.app_visor.proofs.asking.exchange.Goals as goal
 
 pub returns-in_err-answer-clause-err : goal.returns-in_err-answer-clause-err
@@ -47,3 +48,22 @@ returns-clause-ok g c =
     record { changes = c.in_ok-answer.ensures.changes; reached = c.in_ok-answer.ensures.reached; in_step = c.in_ok-answer.ensures.in_step } in
     exchanges_so g.W.World.Tells c.args.app c.args.dpid c.args.bytes.now c.in_ok-give.field-0 c.in_ok-answer.answer c.as_slice.result.now old after (g.W.World.seen c.give.new.world) c.args.txn.now.net.now
     c.change.new.self.net.now is (c.as_slice.ensures ∙ c.in_ok-frame.ensures) c.in_ok-give.ensures.ok
+
+pub returns-in_err-answer-clause-talks : goal.returns-in_err-answer-clause-talks
+returns-in_err-answer-clause-talks g c =
+    let p = err_from_is_err_and c.from_residual.result c.from_residual.ensures.1 in
+    rw p.1 (λ tells s. leads_on_links c.args.app s c.in_err-answer.ensures.changes.links tells)
+
+pub returns-in_err-frame-clause-talks : goal.returns-in_err-frame-clause-talks
+returns-in_err-frame-clause-talks g c =
+    let p = err_from_is_err_and c.from_residual-in_err-frame.result c.from_residual-in_err-frame.ensures.1 in
+    rw p.1 (λ tells s. leads_on_links c.args.app s c.in_ok-answer.ensures.changes.links tells)
+
+pub returns-in_err-give-clause-talks : goal.returns-in_err-give-clause-talks
+returns-in_err-give-clause-talks g c =
+    let p = err_from_is_err_and c.from_residual-in_err-give.result c.from_residual-in_err-give.ensures.1 in
+    let old = g.W.World.seen c.args.world.now in
+    let after = g.W.World.seen c.change.new.world in
+    rw p.1 (λ tells s.
+    let asked = leads_on_links c.args.app s c.in_ok-answer.ensures.changes.links tells in
+    leads_on_then c.args.app s asked.0 old after (g.W.World.seen c.give.new.world) asked.1 (leads_on_wanting c.args.app asked.0 c.in_err-give.ensures.err tells))

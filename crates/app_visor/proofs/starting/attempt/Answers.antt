@@ -1,6 +1,8 @@
 use Rattle.app_visor.specs.TryLaws.{try_refused, try_stood, unless_continues}
 use Rattle.lego_model.specs.Controller.{is_ready}
 use Rattle.outside.specs.SeenLaws.{Continues-trans, Ends-continues}
+use Rattle.std.proofs.lemmas.Result.{err_from_is_err_and}
+use Rattle.app_visor.specs.LeadsOnLaws.{leads_on_wanting, leads_on_ended, leads_on_started, leads_on_greeted, talks_none}
 use Rattle.app_visor.proofs.starting.attempt.Goals as goal
 
 pub returns-then-not-branch-clause-ok : goal.returns-then-not-branch-clause-ok
@@ -31,3 +33,36 @@ returns-clause-continues g c =
     (Continues-trans g.W.World.Tells (g.W.World.seen c.end.new.self) (g.W.World.seen c.start.new.world) (g.W.World.seen c.end_unless_ready.new.world) c.start.ensures.continues
     (Continues-trans g.W.World.Tells (g.W.World.seen c.start.new.world) (g.W.World.seen c.greet.new.world) (g.W.World.seen c.end_unless_ready.new.world) c.greet.ensures.continues
     (unless_continues g.W.World.Tells c.args.app (is_ready c.in_ok-tried.tried) (g.W.World.seen c.greet.new.world) (g.W.World.seen c.end_unless_ready.new.world) c.end_unless_ready.ensures)))
+
+pub returns-in_err-intake-clause-talks : goal.returns-in_err-intake-clause-talks
+returns-in_err-intake-clause-talks g c =
+    let p = err_from_is_err_and c.from_residual.result c.from_residual.ensures.1 in
+    rw p.1 (talks_none c.args.app (g.W.World.seen c.args.world.now))
+
+pub returns-in_err-start-clause-talks : goal.returns-in_err-start-clause-talks
+returns-in_err-start-clause-talks g c =
+    let p = err_from_is_err_and c.from_residual-in_err-start.result c.from_residual-in_err-start.ensures.1 in
+    let old = g.W.World.seen c.args.world.now in
+    let mid = g.W.World.seen c.end.new.self in
+    let new = g.W.World.seen c.start.new.world in
+    rw p.1 (λ tells s runs. leads_on_ended g.W.World.Tells c.args.app s old mid new c.end.ensures tells runs (λ t stopped. leads_on_wanting c.args.app t c.in_err-start.ensures.err tells))
+
+pub returns-in_err-tried-clause-talks : goal.returns-in_err-tried-clause-talks
+returns-in_err-tried-clause-talks g c =
+    let p = err_from_is_err_and c.from_residual-in_err-tried.result c.from_residual-in_err-tried.ensures.1 in
+    let old = g.W.World.seen c.args.world.now in
+    let mid = g.W.World.seen c.end.new.self in
+    let up = g.W.World.seen c.start.new.world in
+    let new = g.W.World.seen c.greet.new.world in
+    rw p.1 (λ tells s runs. leads_on_ended g.W.World.Tells c.args.app s old mid new c.end.ensures tells runs
+    (λ t stopped. leads_on_started g.W.World.Tells c.args.app t mid up new (rw c.if-not-branch.false at c.in_ok-start.ensures.ok) tells stopped (c.in_err-tried.ensures.talks tells)))
+
+pub returns-in_err-rest-clause-talks : goal.returns-in_err-rest-clause-talks
+returns-in_err-rest-clause-talks g c =
+    let p = err_from_is_err_and c.from_residual-in_err-rest.result c.from_residual-in_err-rest.ensures.1 in
+    let old = g.W.World.seen c.args.world.now in
+    let mid = g.W.World.seen c.end.new.self in
+    let up = g.W.World.seen c.start.new.world in
+    let new = g.W.World.seen c.greet.new.world in
+    rw p.1 (λ tells s runs. leads_on_ended g.W.World.Tells c.args.app s old mid new c.end.ensures tells runs
+    (λ t stopped. leads_on_started g.W.World.Tells c.args.app t mid up new (rw c.if-not-branch.false at c.in_ok-start.ensures.ok) tells stopped (leads_on_greeted c.in_ok-tried.ensures.ok tells)))

@@ -1,8 +1,12 @@
-use Rattle.std.proofs.Common.{sym, subst}
+use Rattle.std.proofs.Common.{ℕ, List, [], sym, subst}
 use Rattle.app_visor.specs.Attempts.{Greets}
 use Rattle.app_visor.specs.AttemptLaws.{greets_gone, greets_came}
 use Rattle.app_visor.specs.ReadLaws.{Comes-continues, Breaks-continues}
 use Rattle.outside.specs.SeenLaws.{Continues-trans}
+use Rattle.std.proofs.lemmas.Result.{err_from_is_err_and}
+use Rattle.lego_model.specs.AtOnce.{before, nothing_said}
+use Rattle.app_visor.specs.Dialogues.{LeadsOn}
+use Rattle.app_visor.specs.LeadsOnLaws.{leads_on_wanting, leads_on_breaking, leads_on_restored}
 use Rattle.app_visor.proofs.starting.greet.Goals as goal
 
 pub returns-then-not-branch-clause-ok : goal.returns-then-not-branch-clause-ok
@@ -22,3 +26,16 @@ pub returns-clause-continues : goal.returns-clause-continues
 returns-clause-continues g c =
     Continues-trans g.W.World.Tells (g.W.World.seen c.args.world.now) (g.W.World.seen c.give.new.world) (g.W.World.seen c.next_frame.new.world) c.in_ok-give.ensures.ok.continues
     (Comes-continues c.in_ok-next_frame.ensures.ok)
+
+pub returns-in_err-next_frame-clause-talks : goal.returns-in_err-next_frame-clause-talks
+returns-in_err-next_frame-clause-talks g c =
+    let p = err_from_is_err_and c.from_residual-in_err-next_frame.result c.from_residual-in_err-next_frame.ensures.1 in
+    let given = g.W.World.seen c.give.new.world in
+    let new = g.W.World.seen c.next_frame.new.world in
+    rw p.1 (λ tells. leads_on_restored g.W.World.Tells c.args.app c.args.frame.now (g.W.World.seen c.args.world.now) given new (rw c.if-not-branch.false at c.in_ok-give.ensures.ok) tells c.requires.frame
+    (subst (λ (r : List ℕ). LeadsOn c.args.app (before r []) given new) c.requires.intake (leads_on_breaking g.W.World.Tells c.args.app c.args.intake.now [] given new c.in_err-next_frame.ensures.err tells)))
+
+pub returns-in_err-give-clause-talks : goal.returns-in_err-give-clause-talks
+returns-in_err-give-clause-talks g c =
+    let p = err_from_is_err_and c.from_residual.result c.from_residual.ensures.1 in
+    rw p.1 (λ tells. leads_on_wanting c.args.app nothing_said c.in_err-give.ensures.err tells)

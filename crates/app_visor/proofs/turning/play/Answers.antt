@@ -15,4 +15,5 @@ returns g c = record {
   leads = Leads-refl c.args.app (g.W.World.seen c.args.world.now) c.args.txn.now.net.now;
   ok = plays_unbalanced g.W.World.Tells (g.J.Judge.accepts c.args.judge.now) c.args.app c.args.frame (g.W.World.seen c.args.world.now) c.args.txn.now.net.now (is_unbalanced c.args.frame c.in-Save.is);
   err = tt;
+  talks = tt;
 }

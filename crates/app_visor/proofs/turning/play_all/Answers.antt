@@ -4,6 +4,7 @@ use Rattle.net_txn.specs.declared.fault.TxnFault.TheVariants.{NoMemory}
 use Rattle.app_visor.specs.ResultLaws.{err_so}
 use Rattle.app_visor.specs.BeatLaws.{Leads-refl, Leads-trans, stops_then, stops_breaking}
 use Rattle.app_visor.specs.PlayLaws.{goes_none, goes_more, ends_then, spent_then}
+use Rattle.app_visor.specs.LeadsOnLaws.{leads_on_breaking, leads_on_played}
 use Rattle.app_visor.proofs.turning.play_all.Goals as goal
 
 pub loop-played-init : goal.loop-played-init
@@ -43,3 +44,15 @@ pub returns-clause-ok : goal.returns-clause-ok
 returns-clause-ok g c =
     let none : c.args.budget - c.loop-played._played ≡ zero = omega arith in
     rw c.judge_came.ensures (spent_then c.in_ok-next_frame.field-0 none c.loop-played.invariant.on c.in_ok-next_frame.ensures.ok)
+
+pub returns-in_err-end-clause-talks : goal.returns-in_err-end-clause-talks
+returns-in_err-end-clause-talks g c =
+    let p = err_from_is_err_and c.from_residual.result c.from_residual.ensures.1 in
+    rw p.1 (λ tells. leads_on_played (g.W.World.seen c.play_next.new.world) c.loop-played.invariant.on tells (c.in_err-end.ensures.talks tells))
+
+pub returns-in_err-next_frame-clause-talks : goal.returns-in_err-next_frame-clause-talks
+returns-in_err-next_frame-clause-talks g c =
+    let p = err_from_is_err_and c.from_residual-in_err-next_frame.result c.from_residual-in_err-next_frame.ensures.1 in
+    let new = g.W.World.seen c.next_frame.new.world in
+    rw p.1 (λ tells. leads_on_played new c.loop-played.invariant.on tells
+    (λ since. leads_on_breaking g.W.World.Tells c.args.app c.loop-played.intake since (g.W.World.seen c.loop-played.world) new c.in_err-next_frame.ensures.err tells))

@@ -1,9 +1,10 @@
 use Rattle.std.proofs.Common.{refl}
-use Rattle.std.proofs.lemmas.Result.{err_from_is_err_and, IfOk-weaker, on_ok_weaker}
+use Rattle.std.proofs.lemmas.Result.{err_from_is_err_and, IfOk-weaker, on_ok_weaker, on_err_weaker}
 use Rattle.net_txn.specs.declared.fault.TxnFault.TheVariants.{NoMemory}
 use Rattle.app_visor.specs.ResultLaws.{err_so, err_then}
 use Rattle.app_visor.specs.BeatLaws.{Leads-trans, leads_comes, stops_then, stops_breaking}
 use Rattle.app_visor.specs.PlayLaws.{plays_came, ends_over, not_frame}
+use Rattle.app_visor.specs.LeadsOnLaws.{leads_on_breaking, leads_on_came}
 use Rattle.app_visor.proofs.turning.play_next.Goals as goal
 
 pub returns-in_err-came-clause-err : goal.returns-in_err-came-clause-err
@@ -32,4 +33,15 @@ returns-in_default g c = record {
   ok = rw c.judge_came.ensures (ends_over g.W.World.Tells (g.J.Judge.accepts c.args.judge.now) c.args.app c.in_ok-came.came c.args.intake.now c.next_frame.new.intake (g.W.World.seen c.args.world.now)
       (g.W.World.seen c.next_frame.new.world) c.args.txn.now.net.now (not_frame c.in_ok-came.came c.in_default.not-Frame) c.in_ok-came.ensures.ok);
   err = tt;
+  talks = tt;
 }
+
+pub returns-in_err-came-clause-talks : goal.returns-in_err-came-clause-talks
+returns-in_err-came-clause-talks g c =
+    let p = err_from_is_err_and c.from_residual.result c.from_residual.ensures.1 in
+    rw p.1 (λ tells since. leads_on_breaking g.W.World.Tells c.args.app c.args.intake.now since (g.W.World.seen c.args.world.now) (g.W.World.seen c.next_frame.new.world) c.in_err-came.ensures.err tells)
+
+pub returns-in-Frame-clause-talks : goal.returns-in-Frame-clause-talks
+returns-in-Frame-clause-talks g c =
+    on_err_weaker c.play.result (λ later tells since. leads_on_came g.W.World.Tells c.args.app c.in-Frame.frame c.args.intake.now c.next_frame.new.intake since (g.W.World.seen c.args.world.now) (g.W.World.seen c.next_frame.new.world)
+    (g.W.World.seen c.play.new.world) (rw c.in-Frame.is at c.in_ok-came.ensures.ok) tells (later tells)) c.play.ensures.talks

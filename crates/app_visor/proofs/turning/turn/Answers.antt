@@ -1,12 +1,14 @@
-use Rattle.std.proofs.Common.{ℕ, ap, ◌∙◌}
+use Rattle.std.proofs.Common.{ℕ, refl, ap, ◌∙◌}
 use Rattle.std.proofs.lemmas.Result.{err_from_is_err_and}
 use Rattle.lego_model.specs.Controller.{event_frame}
-use Rattle.outside.specs.SeenLaws.{Continues-trans}
+use Rattle.outside.specs.SeenLaws.{Continues-refl, Continues-trans}
 use Rattle.net_txn.specs.declared.fault.TxnFault.TheVariants.{NoMemory}
 use Rattle.app_visor.specs.ResultLaws.{err_so}
 use Rattle.app_visor.specs.ReadLaws.{Wants-refl}
 use Rattle.app_visor.specs.BeatLaws.{Leads-refl, Leads-trans, Leads-continues, stops_wanting, stops_then, Stops-continues, Leads-stays, Stops-stays}
 use Rattle.app_visor.specs.PlayLaws.{turns_gone, turns_given, leads_turn, leads_told}
+use Rattle.journal_readings.specs.FrameLaws.{event_is}
+use Rattle.app_visor.specs.LeadsOnLaws.{leads_on_here, leads_on_wanting, leads_on_event, leads_on_turned, talks_of}
 use Rattle.app_visor.proofs.turning.turn.Goals as goal
 
 pub returns-in_err-frame-clause-err : goal.returns-in_err-frame-clause-err
@@ -72,3 +74,44 @@ returns-in_err-app-clause-stays g c = Leads-stays (leads_turn c.in_ok-end.ensure
 
 pub returns-clause-stays : goal.returns-clause-stays
 returns-clause-stays g c = Leads-stays (leads_turn c.in_ok-end.ensures.ok)
+
+pub returns-in_err-frame-clause-talks : goal.returns-in_err-frame-clause-talks
+returns-in_err-frame-clause-talks g c =
+    let p = err_from_is_err_and c.from_residual.result c.from_residual.ensures.1 in
+    let seen = g.W.World.seen c.args.world.now in
+    rw p.1 (λ tells s runs passes. talks_of (Continues-refl g.W.World.Tells seen) (leads_on_here c.args.app.now.index s seen seen refl))
+
+pub returns-in_err-intake-clause-talks : goal.returns-in_err-intake-clause-talks
+returns-in_err-intake-clause-talks g c =
+    let p = err_from_is_err_and c.from_residual-in_err-intake.result c.from_residual-in_err-intake.ensures.1 in
+    let seen = g.W.World.seen c.args.world.now in
+    rw p.1 (λ tells s runs passes. talks_of (Continues-refl g.W.World.Tells seen) (leads_on_here c.args.app.now.index s seen seen refl))
+
+pub returns-in_err-give-clause-talks : goal.returns-in_err-give-clause-talks
+returns-in_err-give-clause-talks g c =
+    let p = err_from_is_err_and c.from_residual-in_err-give.result c.from_residual-in_err-give.ensures.1 in
+    rw p.1 (λ tells s runs passes. talks_of c.in_err-give.ensures.err.continues (leads_on_wanting c.args.app.now.index s c.in_err-give.ensures.err tells))
+
+pub returns-in_err-end-clause-talks : goal.returns-in_err-end-clause-talks
+returns-in_err-end-clause-talks g c =
+    let p = err_from_is_err_and c.from_residual-in_err-end.result c.from_residual-in_err-end.ensures.1 in
+    let old = g.W.World.seen c.args.world.now in
+    let mid = g.W.World.seen c.give.new.world in
+    let new = g.W.World.seen c.play_all.new.world in
+    let spelled = c.as_slice-2.ensures ∙ c.in_ok-frame.ensures ∙ ap (λ (m : ℕ). event_frame c.args.number m c.args.event.now) c.moment.ensures in
+    let told = rw c.if-not-branch.false at c.in_ok-give.ensures.ok in
+    let continues = Continues-trans g.W.World.Tells old mid new told.continues (Stops-continues c.in_err-end.ensures.err) in
+    rw p.1 (λ tells s runs passes. talks_of continues (leads_on_event g.W.World.Tells c.args.app.now.index c.as_slice-2.result.now (event_frame c.args.number c.args.txn.now.net.now.moment c.args.event.now) c.args.app.now.rest c.in_ok-intake.intake s
+    old mid new told tells spelled (event_is c.args.number c.args.txn.now.net.now.moment c.args.event.now) (c.in_ok-intake.ensures ∙ c.as_slice.ensures ∙ c.replace-rest.ensures.value) runs passes (c.in_err-end.ensures.talks tells)))
+
+pub returns-in_err-app-clause-talks : goal.returns-in_err-app-clause-talks
+returns-in_err-app-clause-talks g c =
+    let p = err_from_is_err_and c.from_residual-in_err-app.result c.from_residual-in_err-app.ensures.1 in
+    let old = g.W.World.seen c.args.world.now in
+    let mid = g.W.World.seen c.give.new.world in
+    let new = g.W.World.seen c.play_all.new.world in
+    let spelled = c.as_slice-2.ensures ∙ c.in_ok-frame.ensures ∙ ap (λ (m : ℕ). event_frame c.args.number m c.args.event.now) c.moment.ensures in
+    let told = rw c.if-not-branch.false at c.in_ok-give.ensures.ok in
+    let continues = Continues-trans g.W.World.Tells old mid new told.continues (Leads-continues (leads_turn c.in_ok-end.ensures.ok)) in
+    rw p.1 (λ tells s runs passes. talks_of continues (leads_on_event g.W.World.Tells c.args.app.now.index c.as_slice-2.result.now (event_frame c.args.number c.args.txn.now.net.now.moment c.args.event.now) c.args.app.now.rest c.in_ok-intake.intake s
+    old mid new told tells spelled (event_is c.args.number c.args.txn.now.net.now.moment c.args.event.now) (c.in_ok-intake.ensures ∙ c.as_slice.ensures ∙ c.replace-rest.ensures.value) runs passes (leads_on_turned c.in_ok-end.ensures.ok tells)))

@@ -4,6 +4,9 @@ use Rattle.event_dispatch.specs.TurnLaws.{play_done, play_failed}
 use Rattle.event_dispatch.specs.PlainLaws.{err_is, turn_memory, turn_noted, turn_stopped, turn_not_undone}
 use Rattle.event_dispatch.specs.Plain.{PlainTurn}
 use Rattle.event_dispatch.specs.Why.{fault_of}
+use Rattle.event_dispatch.specs.KeptLaws.{turn_read}
+use Rattle.event_dispatch.specs.TalkingLaws.{turn_stops, turn_ends, turn_ended, holds_on_err}
+use Rattle.shown_runs.specs.DialogueLaws.{event_told}
 use Rattle.event_dispatch.proofs.dispatch.play.Goals as goal
 
 pub returns-in_ok-commit-in-Ok-Done-clause-plays : goal.returns-in_ok-commit-in-Ok-Done-clause-plays
@@ -28,3 +31,23 @@ returns-in-Err-clause-plain g c =
     subst (PlainTurn g.W.World.Tells (g.W.World.seen c.args.world.now) (g.W.World.seen c.abort-in-Err.new.world) c.args.net.now) (sym c.from.ensures)
     (turn_noted (g.W.World.seen c.args.world.now) (g.W.World.seen c.abort-in-Err.new.world) c.args.net.now c.begin-txn.result.net.now (fault_of c.in-Err.fault) c.begin-txn.ensures.net
     (turn_stopped (g.W.World.seen c.args.world.now) (g.W.World.seen c.turn.new.world) (g.W.World.seen c.abort-in-Err.new.world) c.begin-txn.result.net.now c.turn.new.txn.net.now c.in-Err.fault c.abort-in-Err.ensures.continues c.in-Err.ensures.err))
+
+pub returns-in_ok-commit-in-Ok-Done-clause-read : goal.returns-in_ok-commit-in-Ok-Done-clause-read
+returns-in_ok-commit-in-Ok-Done-clause-read g c = turn_read _ _ _ (returns-in_ok-commit-in-Ok-Done-clause-plays g c)
+
+pub returns-in_ok-abort-in-Ok-Failed-clause-read : goal.returns-in_ok-abort-in-Ok-Failed-clause-read
+returns-in_ok-abort-in-Ok-Failed-clause-read g c = turn_read _ _ _ (returns-in_ok-abort-in-Ok-Failed-clause-plays g c)
+
+pub returns-in_err-commit-in-Ok-Done-clause-talks : goal.returns-in_err-commit-in-Ok-Done-clause-talks
+returns-in_err-commit-in-Ok-Done-clause-talks g c =
+    holds_on_err c.from_residual.result
+    (turn_ended c.args.app.now.index c.args.app.now.rest (g.W.World.seen c.args.world.now) (g.W.World.seen c.turn.new.world) (g.W.World.seen c.commit.new._world) (event_told c.args.number c.begin-txn.result.net.now.moment c.args.event.now) c.in-Ok-Done.ensures.ok c.commit.ensures.world)
+
+pub returns-in_err-abort-in-Ok-Failed-clause-talks : goal.returns-in_err-abort-in-Ok-Failed-clause-talks
+returns-in_err-abort-in-Ok-Failed-clause-talks g c =
+    holds_on_err c.from_residual-in_err-abort-in-Ok-Failed.result
+    (turn_ends c.args.app.now.index c.args.app.now.rest (g.W.World.seen c.args.world.now) (g.W.World.seen c.turn.new.world) (g.W.World.seen c.abort.new.world) (event_told c.args.number c.begin-txn.result.net.now.moment c.args.event.now) c.in-Ok-Failed.ensures.ok c.abort.ensures.links)
+
+pub returns-in-Err-clause-talks : goal.returns-in-Err-clause-talks
+returns-in-Err-clause-talks g c =
+    turn_stops g.W.World.Tells c.args.app.now.index c.args.app.now.rest (g.W.World.seen c.args.world.now) (g.W.World.seen c.turn.new.world) (g.W.World.seen c.abort-in-Err.new.world) c.in-Err.ensures.talks c.abort-in-Err.ensures.links

@@ -1,4 +1,4 @@
-use Rattle.event_dispatch.specs.WholeLaws.{alike_unopened, alike_done, alike_failed}
+use Rattle.event_dispatch.specs.WholeLaws.{cut_unopened, cut_failed, alike_unopened, alike_done, alike_failed}
 use Rattle.event_dispatch.specs.PlainLaws.{unopened_plain, served_plain}
 use Rattle.event_dispatch.proofs.whole.serve.Goals as goal
 
@@ -13,6 +13,18 @@ returns-in-Ok-clause-alike g c =
 pub returns-in-Err-run-clause-alike : goal.returns-in-Err-run-clause-alike
 returns-in-Err-run-clause-alike g c =
     alike_failed g.W.World.Tells (g.J.Judge.accepts c.args.judge.now) c.in-Err-run.served (g.K.Sink.contents c.args.sink.now) (g.K.Sink.contents c.run.new.sink) (g.W.World.seen c.args.world.now) (g.W.World.seen c.open.new.world) (g.W.World.seen c.run.new.world) c.in_default.ensures.opened c.in-Err-run.ensures.continues c.in-Err-run.ensures.runs c.in-Err-run.ensures.cut
+
+pub returns-in-Err-clause-cut : goal.returns-in-Err-clause-cut
+returns-in-Err-clause-cut g c =
+    λ allows p. cut_unopened g.W.World.Tells (g.K.Sink.contents c.args.sink.now) (g.W.World.seen c.args.world.now) (g.W.World.seen c.open.new.world) c.in-Err.served c.in-Err.ensures.unopened allows p.told p.untouched
+
+pub returns-in-Ok-clause-cut : goal.returns-in-Ok-clause-cut
+returns-in-Ok-clause-cut g c =
+    λ allows p. tt
+
+pub returns-in-Err-run-clause-cut : goal.returns-in-Err-run-clause-cut
+returns-in-Err-run-clause-cut g c =
+    cut_failed g.W.World.Tells (g.J.Judge.accepts c.args.judge.now) c.in-Err-run.served (g.K.Sink.contents c.args.sink.now) (g.K.Sink.contents c.run.new.sink) (g.W.World.seen c.args.world.now) (g.W.World.seen c.open.new.world) (g.W.World.seen c.run.new.world) c.in_default.ensures.opened c.in-Err-run.ensures.continues c.in-Err-run.ensures.runs c.in-Err-run.ensures.cut
 
 pub returns-in-Err-clause-plain : goal.returns-in-Err-clause-plain
 returns-in-Err-clause-plain g c =

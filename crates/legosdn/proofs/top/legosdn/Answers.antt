@@ -3,14 +3,15 @@ use Rattle.sim_world.specs.World.{seen_of}
 use Rattle.legosdn.specs.Headline.{faults_of}
 use Rattle.legosdn.proofs.Causes.{cause_then, refused_at_three, refuses}
 use Rattle.legosdn.proofs.Statuses.{is_left, is_late, not_zero}
+use Rattle.legosdn.proofs.Said.{reports}
 use Rattle.legosdn.proofs.Runs.{left_as, broke_as, diverged_as, completes, cut_short}
 use Rattle.legosdn.proofs.top.legosdn.Goals as goal
 
 pub returns-in-Err-clause-bad_input : goal.returns-in-Err-clause-bad_input
 returns-in-Err-clause-bad_input g c = λ three.
     refused_at_three g.K.Sink.contents g.K.Sink.faults c.args.sink.now c.run.new.sink c.halt.new.sink (map (λ s. string_bytes s) c.args.words.now) (g.S.Source.remaining c.args.source.now)
-    (faults_of (g.S.Source.faults c.args.source.now) (g.K.Sink.faults c.args.sink.now) (seen_of c.args.sim.now).counts)
-    (faults_of (g.S.Source.faults c.run.new.source) (g.K.Sink.faults c.run.new.sink) (seen_of c.run.new.sim).counts)
+    (faults_of (g.S.Source.faults c.args.source.now) (g.K.Sink.faults c.args.sink.now) (seen_of c.args.sim.now))
+    (faults_of (g.S.Source.faults c.run.new.source) (g.K.Sink.faults c.run.new.sink) (seen_of c.run.new.sim))
     c.in-Err.stop c.in-Err.ensures.why (λ early. (c.in-Err.ensures.early early).1) c.halt.ensures.line (sym c.halt.ensures.status ∙ three)
 
 pub returns-in-Err-clause-refuses : goal.returns-in-Err-clause-refuses
@@ -22,12 +23,20 @@ returns-in-Ok-clause-done g c = λ zero readable. c.in-Ok.ensures.runs readable
 pub returns-in-Err-clause-done : goal.returns-in-Err-clause-done
 returns-in-Err-clause-done g c = λ zero. absurd (not_zero c.in-Err.stop (sym c.halt.ensures.status ∙ zero))
 
+pub returns-in-Ok-clause-report : goal.returns-in-Ok-clause-report
+returns-in-Ok-clause-report g c = λ input session whole spelled zero readable.
+    reports (g.S.Source.remaining c.args.source.now) (g.S.Source.remaining c.run.new.source) (seen_of c.run.new.sim) (g.K.Sink.contents c.args.sink.now) (g.K.Sink.contents c.run.new.sink) input session
+    c.in-Ok.ensures.loaded (c.in-Ok.ensures.runs readable) whole spelled
+
+pub returns-in-Err-clause-report : goal.returns-in-Err-clause-report
+returns-in-Err-clause-report g c = λ input session whole spelled zero. absurd (not_zero c.in-Err.stop (sym c.halt.ensures.status ∙ zero))
+
 pub returns-in-Err-clause-left : goal.returns-in-Err-clause-left
 returns-in-Err-clause-left g c = λ ten.
     let is = is_left c.in-Err.stop (sym c.halt.ensures.status ∙ ten) in
     left_as c.run.new.sim is.0 c.in-Err.stop (g.K.Sink.contents c.args.sink.now) (g.K.Sink.contents c.run.new.sink) (g.K.Sink.contents c.halt.new.sink) (g.K.Sink.faults c.args.sink.now) (g.K.Sink.faults c.run.new.sink) (g.K.Sink.faults c.halt.new.sink)
-    (map (λ s. string_bytes s) c.args.words.now) (g.S.Source.remaining c.args.source.now) (faults_of (g.S.Source.faults c.args.source.now) (g.K.Sink.faults c.args.sink.now) (seen_of c.args.sim.now).counts)
-    (faults_of (g.S.Source.faults c.run.new.source) (g.K.Sink.faults c.run.new.sink) (seen_of c.run.new.sim).counts) is.1 c.run.ensures.never_fell c.in-Err.ensures.runs c.in-Err.ensures.why c.halt.ensures.line
+    (map (λ s. string_bytes s) c.args.words.now) (g.S.Source.remaining c.args.source.now) (faults_of (g.S.Source.faults c.args.source.now) (g.K.Sink.faults c.args.sink.now) (seen_of c.args.sim.now))
+    (faults_of (g.S.Source.faults c.run.new.source) (g.K.Sink.faults c.run.new.sink) (seen_of c.run.new.sim)) is.1 c.run.ensures.never_fell c.in-Err.ensures.runs c.in-Err.ensures.why c.halt.ensures.line
 
 pub returns-in-Err-clause-lines : goal.returns-in-Err-clause-lines
 returns-in-Err-clause-lines g c = λ within.
@@ -46,10 +55,10 @@ returns-in-Ok-clause-complete g c = λ input session command whole spelled reada
 
 pub returns-in-Err-clause-complete : goal.returns-in-Err-clause-complete
 returns-in-Err-clause-complete g c = λ input session command whole spelled readable none.
-    let old = faults_of (g.S.Source.faults c.args.source.now) (g.K.Sink.faults c.args.sink.now) (seen_of c.args.sim.now).counts in
-    let new = faults_of (g.S.Source.faults c.run.new.source) (g.K.Sink.faults c.halt.new.sink) (seen_of c.run.new.sim).counts in
+    let old = faults_of (g.S.Source.faults c.args.source.now) (g.K.Sink.faults c.args.sink.now) (seen_of c.args.sim.now) in
+    let new = faults_of (g.S.Source.faults c.run.new.source) (g.K.Sink.faults c.halt.new.sink) (seen_of c.run.new.sim) in
     let cause = cause_then (map (λ s. string_bytes s) c.args.words.now) (g.S.Source.remaining c.args.source.now) (g.S.Source.faults c.args.source.now) (g.S.Source.faults c.run.new.source) (g.K.Sink.faults c.args.sink.now) (g.K.Sink.faults c.run.new.sink) (g.K.Sink.faults c.halt.new.sink)
-    (seen_of c.args.sim.now).counts (seen_of c.run.new.sim).counts c.in-Err.stop c.run.ensures.never_fell c.halt.ensures.never_fell c.in-Err.ensures.why in
+    (seen_of c.args.sim.now) (seen_of c.run.new.sim) c.in-Err.stop c.run.ensures.never_fell c.halt.ensures.never_fell c.in-Err.ensures.why in
     subst (λ (status : ℕ). Contains (0 ∷ 10 ∷ 12 ∷ []) status) (sym c.halt.ensures.status)
     (completes c.run.new.sim (map (λ s. string_bytes s) c.args.words.now) (g.S.Source.remaining c.args.source.now) old new c.in-Err.stop (g.K.Sink.contents c.args.sink.now) (g.K.Sink.contents c.run.new.sink) cause c.in-Err.ensures.runs
     input session command whole spelled readable none)

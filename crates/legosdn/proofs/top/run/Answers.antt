@@ -1,6 +1,6 @@
 use Rattle.std.proofs.Common.{map, string_bytes}
 use Rattle.sim_world.specs.World.{seen_of}
-use Rattle.legosdn.proofs.Causes.{are_zero, run_causes}
+use Rattle.legosdn.proofs.Causes.{are_new, run_causes}
 use Rattle.legosdn.specs.Headline.{KeepsLines}
 use Rattle.legosdn.proofs.Runs.{untouched, runs_by_read, lines_by_read}
 use Rattle.legosdn.proofs.top.run.Goals as goal
@@ -8,8 +8,8 @@ use Rattle.legosdn.proofs.top.run.Goals as goal
 pub returns-clause-why : goal.returns-clause-why
 returns-clause-why g c =
     run_causes (map (λ s. string_bytes s) c.args.words.now) (g.S.Source.remaining c.args.source.now) (g.S.Source.faults c.args.source.now) (g.S.Source.faults c.load.new.source)
-    (g.K.Sink.faults c.args.sink.now) (g.K.Sink.faults c.play.new.sink) (seen_of c.args.sim.now).counts (seen_of c.load.new.sim).counts (seen_of c.play.new.sim).counts c.play.result
-    (are_zero c.args.sim.now c.requires.new) (are_zero c.load.new.sim c.in_ok-load.ensures.new) c.play.ensures.why
+    (g.K.Sink.faults c.args.sink.now) (g.K.Sink.faults c.play.new.sink) (seen_of c.args.sim.now) (seen_of c.load.new.sim) (seen_of c.play.new.sim) c.play.result
+    (are_new c.args.sim.now c.requires.new) (are_new c.load.new.sim c.in_ok-load.ensures.new) c.play.ensures.why
 
 pub returns-in_err-load-clause-runs : goal.returns-in_err-load-clause-runs
 returns-in_err-load-clause-runs g c =

@@ -6,6 +6,8 @@ use Rattle.net_txn.specs.CauseLaws.{cause_later}
 use Rattle.net_txn.specs.Waits.{barrier_sent}
 use Rattle.net_txn.specs.WaitLaws.{step_before}
 use Rattle.net_txn.specs.FloodLaws.{floods_not, floods_later}
+use Rattle.net_txn.specs.LinkStepLaws.{OnLinks-trans}
+use Rattle.net_txn.specs.LinkPlaceLaws.{behind_place}
 use Rattle.net_txn.proofs.ask.ask.Goals as goal
 
 pub returns-clause-ok : goal.returns-clause-ok
@@ -25,3 +27,15 @@ returns-in_err-send-clause-flooded g c =
     let p = err_from_is_err_and c.from_residual.result c.from_residual.ensures.1 in
     let a = c.args.awaited.now in
     rw (p.1, p.2) (floods_not g.W.World.Tells a (Acted (Sent a.dpid c.args.frame.now) ∷ barrier_sent a ∷ []) (g.W.World.seen c.args.world.now) (g.W.World.seen c.send.new.world) c.in_err-send.field-0.0 c.in_err-send.ensures.no_flood)
+
+pub returns-clause-links : goal.returns-clause-links
+returns-clause-links g c =
+    OnLinks-trans g.W.World.Tells (g.W.World.seen c.args.world.now) (g.W.World.seen c.send.new.world) (g.W.World.seen c.settle.new.world) c.in_ok-send.ensures.links c.settle.ensures.links
+
+pub returns-clause-in_place : goal.returns-clause-in_place
+returns-clause-in_place g c =
+    let s = c.in_ok-send.ensures in
+    behind_place c.args.awaited.now.dpid c.args.frame.now (g.W.World.seen c.args.world.now) (g.W.World.seen c.send.new.world) (g.W.World.seen c.settle.new.world) s.continues c.settle.ensures.continues s.told s.in_place c.settle.ensures.in_place
+
+pub returns-in_err-send-clause-in_place : goal.returns-in_err-send-clause-in_place
+returns-in_err-send-clause-in_place g c = λ told keeps joined. c.in_err-send.ensures.in_place told joined

@@ -3,7 +3,11 @@ use Rattle.std.proofs.lemmas.Result.{err_from_is_err_and}
 use Rattle.of_wire.specs.declared.message.Message.TheVariants.{BarrierReply}
 use Rattle.of_wire.specs.Spelling.{message_bytes}
 use Rattle.net_txn.specs.declared.heard.Awaited.{Awaited}
-use Rattle.net_txn.specs.AskLaws.{long_parts, sorted_more, sorted_some, came_more, asked_cause, asked_waits, asked_flooded, replies_no_flood, answer_by_replies}
+use Rattle.net_txn.specs.AskLaws.{long_parts, sorted_more, sorted_some, came_more, asked_cause, asked_place, asked_waits, asked_flooded, replies_no_flood, answer_by_replies}
+use Rattle.outside.specs.SeenLaws.{Continues-refl}
+use Rattle.net_txn.specs.WaitLaws.{none_kept}
+use Rattle.net_txn.specs.LinkStepLaws.{OnLinks-refl}
+use Rattle.net_txn.specs.LinkPlaceLaws.{in_place_none}
 use Rattle.net_txn.proofs.asking.request_rows.Goals as goal
 
 pub returns-in_err-replies : goal.returns-in_err-replies
@@ -14,6 +18,8 @@ returns-in_err-replies g c =
     let (n, kept) = c.in_err-replies.ensures.kept_err in
     rw (p.1, p.2) (record {
       continues = c.ask-waited.ensures.continues;
+      links = c.ask-waited.ensures.links;
+      in_place = asked_place g.W.World.Tells c.args.dpid c.args.xid c.asked-awaited.result (g.W.World.seen c.args.world.now) (g.W.World.seen c.ask-waited.new.world) c.asked-awaited.ensures c.ask-waited.ensures.in_place;
       kept_more = sorted_some c.args.dpid c.args.xid n came c.args.kept.now c.sort_out.new.kept more kept;
       answer = inl tt;
       flooded = tt;
@@ -26,6 +32,8 @@ returns-in_err-waited g c =
     let more = came_more g.W.World.Tells c.args.dpid c.args.xid c.asked-awaited.result _ (g.W.World.seen c.args.world.now) (g.W.World.seen c.ask-waited.new.world) c.in_ok-came.came came c.ask-waited.result c.asked-awaited.ensures c.in_ok-came.ensures c.ask-waited.ensures.ok c.ask-waited.ensures.kept in
     rw (p.1, p.2) (record {
       continues = c.ask-waited.ensures.continues;
+      links = c.ask-waited.ensures.links;
+      in_place = asked_place g.W.World.Tells c.args.dpid c.args.xid c.asked-awaited.result (g.W.World.seen c.args.world.now) (g.W.World.seen c.ask-waited.new.world) c.asked-awaited.ensures c.ask-waited.ensures.in_place;
       kept_more = sorted_more c.args.dpid c.args.xid came c.args.kept.now c.sort_out.new.kept more c.in_ok-replies.ensures.kept;
       flooded = asked_flooded g.W.World.Tells c.args.dpid c.args.xid c.asked-awaited.result c.as_slice.result.now (g.W.World.seen c.args.world.now) (g.W.World.seen c.ask-waited.new.world) c.in_err-waited.field-0.0 c.asked-awaited.ensures (c.as_slice.ensures ∙ c.in_ok-request.ensures.bytes) c.in_err-waited.ensures.flooded;
       answer = inl (asked_cause g.W.World.Tells c.args.dpid c.args.xid c.asked-awaited.result (g.W.World.seen c.args.world.now) (g.W.World.seen c.ask-waited.new.world) c.in_err-waited.field-0.0 c.asked-awaited.ensures c.in_err-waited.ensures.cause);
@@ -43,6 +51,8 @@ returns g c =
     let waits = asked_waits c.args.dpid c.args.xid c.asked-awaited.result c.as_slice.result.now old new c.in_ok-came.came came c.in_ok-waited.field-0 c.asked-awaited.ensures (c.as_slice.ensures ∙ c.in_ok-request.ensures.bytes) c.in_ok-came.ensures c.in_ok-waited.ensures.ok in
     record {
       continues = c.ask-waited.ensures.continues;
+      links = c.ask-waited.ensures.links;
+      in_place = asked_place g.W.World.Tells c.args.dpid c.args.xid c.asked-awaited.result (g.W.World.seen c.args.world.now) (g.W.World.seen c.ask-waited.new.world) c.asked-awaited.ensures c.ask-waited.ensures.in_place;
       kept_more = sorted_more c.args.dpid c.args.xid came c.args.kept.now c.sort_out.new.kept more c.in_ok-replies.ensures.kept;
       answer = answer_by_replies c.args.dpid c.args.xid old new c.args.kept.now c.sort_out.new.kept came c.in_ok-replies.replies.parts.items c.in_ok-replies.replies.refusals.items c.in_ok-request.request c.asked-awaited.result.barrier c.judge_replies.result
           (record { refusal = c.in_ok-waited.field-0; waits = waits; kept_so = c.in_ok-replies.ensures.kept })
@@ -50,3 +60,27 @@ returns g c =
           c.judge_replies.ensures.rows c.judge_replies.ensures.no_refusal c.judge_replies.ensures.err;
       flooded = replies_no_flood g.W.World.Tells c.args.dpid c.args.xid old new c.in_ok-request.request (message_bytes c.asked-awaited.result.barrier BarrierReply) c.in_ok-replies.replies.parts.items c.in_ok-replies.replies.refusals.items c.judge_replies.result c.judge_replies.ensures.err;
     }
+
+pub returns-in_err-request : goal.returns-in_err-request
+returns-in_err-request g c =
+    let p = err_from_is_err_and c.from_residual.result c.from_residual.ensures.1 in
+    rw (p.1, p.2) (record {
+      continues = Continues-refl g.W.World.Tells (g.W.World.seen c.args.world.now);
+      links = OnLinks-refl g.W.World.Tells (g.W.World.seen c.args.world.now);
+      in_place = λ told keeps joined. in_place_none (g.W.World.seen c.args.world.now);
+      kept_more = none_kept c.args.dpid c.args.kept.now;
+      answer = inl tt;
+      flooded = tt;
+    })
+
+pub returns-in_err-came : goal.returns-in_err-came
+returns-in_err-came g c =
+    let p = err_from_is_err_and c.from_residual-in_err-came.result c.from_residual-in_err-came.ensures.1 in
+    rw (p.1, p.2) (record {
+      continues = Continues-refl g.W.World.Tells (g.W.World.seen c.args.world.now);
+      links = OnLinks-refl g.W.World.Tells (g.W.World.seen c.args.world.now);
+      in_place = λ told keeps joined. in_place_none (g.W.World.seen c.args.world.now);
+      kept_more = none_kept c.args.dpid c.args.kept.now;
+      answer = inl tt;
+      flooded = tt;
+    })

@@ -1,5 +1,7 @@
 use Rattle.std.proofs.Common.{[], refl}
 use Rattle.outside.specs.Calls.{receive_steps}
+use Rattle.net_txn.specs.LinkStepLaws.{Receives-links}
+use Rattle.net_txn.specs.LinkPlaceLaws.{Receives-in_place}
 use Rattle.net_txn.proofs.wait.receive.Goals as goal
 
 pub returns-in-Ok-check-clause-told : goal.returns-in-Ok-check-clause-told
@@ -14,3 +16,33 @@ returns-in_ok-bytes-in-Err-clause-cause g c = (
   λ told.
       ([], rw c.in_ok-bytes-in-Err.ensures (c.in-Ok.ensures.told told).history),
 )
+
+pub returns-in-Ok-check-clause-links : goal.returns-in-Ok-check-clause-links
+returns-in-Ok-check-clause-links g c = Receives-links c.recv.ensures
+
+pub returns-in_ok-bytes-in-Err-clause-links : goal.returns-in_ok-bytes-in-Err-clause-links
+returns-in_ok-bytes-in-Err-clause-links g c = Receives-links c.recv.ensures
+
+pub returns-in_err-bytes-in-Err-clause-links : goal.returns-in_err-bytes-in-Err-clause-links
+returns-in_err-bytes-in-Err-clause-links g c = Receives-links c.recv.ensures
+
+pub returns-in-Err-Failed-clause-links : goal.returns-in-Err-Failed-clause-links
+returns-in-Err-Failed-clause-links g c = Receives-links c.recv.ensures
+
+pub returns-in-Err-Short-clause-links : goal.returns-in-Err-Short-clause-links
+returns-in-Err-Short-clause-links g c = Receives-links c.recv.ensures
+
+pub returns-in-Ok-check-clause-in_place : goal.returns-in-Ok-check-clause-in_place
+returns-in-Ok-check-clause-in_place g c = Receives-in_place c.recv.ensures
+
+pub returns-in_ok-bytes-in-Err-clause-in_place : goal.returns-in_ok-bytes-in-Err-clause-in_place
+returns-in_ok-bytes-in-Err-clause-in_place g c = Receives-in_place c.recv.ensures
+
+pub returns-in_err-bytes-in-Err-clause-in_place : goal.returns-in_err-bytes-in-Err-clause-in_place
+returns-in_err-bytes-in-Err-clause-in_place g c = Receives-in_place c.recv.ensures
+
+pub returns-in-Err-Failed-clause-in_place : goal.returns-in-Err-Failed-clause-in_place
+returns-in-Err-Failed-clause-in_place g c = Receives-in_place c.recv.ensures
+
+pub returns-in-Err-Short-clause-in_place : goal.returns-in-Err-Short-clause-in_place
+returns-in-Err-Short-clause-in_place g c = Receives-in_place c.recv.ensures

@@ -1,4 +1,4 @@
-use Rattle.std.proofs.Common.{List, ℕ, ◌++◌, ◌∷◌, [], ap, ◌∙◌}
+use Rattle.std.proofs.Common.{List, ℕ, ◌++◌, ◌∷◌, [], arith, ap, ◌∙◌}
 use Rattle.std.proofs.lemmas.Result.{IfOk-weaker, err_from_is_err_and}
 use Rattle.of_types.specs.declared.journal.Act.TheVariants.{Sent}
 use Rattle.outside.specs.declared.step.WorldStep.TheVariants.{Acted}
@@ -6,6 +6,8 @@ use Rattle.net_txn.specs.CauseLaws.{cause_later}
 use Rattle.net_txn.specs.Waits.{barrier_sent}
 use Rattle.net_txn.specs.WaitLaws.{step_before}
 use Rattle.net_txn.specs.FloodLaws.{floods_not, floods_later}
+use Rattle.net_txn.specs.LinkStepLaws.{OnLinks-trans}
+use Rattle.net_txn.specs.LinkPlaceLaws.{settled_place}
 use Rattle.net_txn.proofs.wait.settle.Goals as goal
 
 pub returns-clause-ok : goal.returns-clause-ok
@@ -29,3 +31,16 @@ returns-clause-flooded g c =
     let a = c.args.awaited.now in
     floods_later g.W.World.Tells a [] (g.W.World.seen c.args.world.now) (g.W.World.seen c.send.new.world) (g.W.World.seen c.wait.new.world) (barrier_sent a) c.wait.result c.in_ok-send.ensures.continues (λ t. c.in_ok-send.ensures.told t
     ∙ ap (λ (b : List ℕ). (g.W.World.seen c.args.world.now).history ++ Acted (Sent a.dpid b) ∷ []) c.barrier_request.ensures.bytes) c.wait.ensures.flooded
+
+pub returns-clause-links : goal.returns-clause-links
+returns-clause-links g c =
+    OnLinks-trans g.W.World.Tells (g.W.World.seen c.args.world.now) (g.W.World.seen c.send.new.world) (g.W.World.seen c.wait.new.world) c.in_ok-send.ensures.links c.wait.ensures.links
+
+pub returns-clause-in_place : goal.returns-clause-in_place
+returns-clause-in_place g c =
+    let a = c.args.awaited.now in
+    settled_place a (g.W.World.seen c.args.world.now) (g.W.World.seen c.send.new.world) (g.W.World.seen c.wait.new.world) (omega arith) c.in_ok-send.ensures.continues c.wait.ensures.continues (λ t. c.in_ok-send.ensures.told t
+    ∙ ap (λ (b : List ℕ). (g.W.World.seen c.args.world.now).history ++ Acted (Sent a.dpid b) ∷ []) c.barrier_request.ensures.bytes) c.in_ok-send.ensures.in_place c.wait.ensures.in_place
+
+pub returns-in_err-send-clause-in_place : goal.returns-in_err-send-clause-in_place
+returns-in_err-send-clause-in_place g c = λ told keeps joined. c.in_err-send.ensures.in_place told joined

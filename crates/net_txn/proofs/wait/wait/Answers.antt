@@ -3,6 +3,8 @@ use Rattle.std.proofs.lemmas.Result.{err_from_is_err_and}
 use Rattle.net_txn.specs.CauseLaws.{IsCause-later}
 use Rattle.net_txn.specs.WaitLaws.{none_yet, one_more, ended, kept_so_far}
 use Rattle.net_txn.specs.FloodLaws.{floods_not, flooded}
+use Rattle.net_txn.specs.LinkStepLaws.{OnLinks-trans, WaitsOn-links}
+use Rattle.net_txn.specs.LinkPlaceLaws.{on_place, got_in_place, told_so_far}
 use Rattle.net_txn.proofs.wait.wait.Goals as goal
 
 pub loop-heard-init : goal.loop-heard-init
@@ -35,3 +37,29 @@ pub returns-in_err-hear-clause-flooded : goal.returns-in_err-hear-clause-flooded
 returns-in_err-hear-clause-flooded g c =
     let p = err_from_is_err_and c.from_residual.result c.from_residual.ensures.1 in
     rw (p.1, p.2) (floods_not g.W.World.Tells c.args.awaited.now [] (g.W.World.seen c.args.world.now) (g.W.World.seen c.hear.new.world) c.in_err-hear.field-0.0 c.in_err-hear.ensures.no_flood)
+
+pub returns-in_err-hear-clause-links : goal.returns-in_err-hear-clause-links
+returns-in_err-hear-clause-links g c =
+    OnLinks-trans g.W.World.Tells (g.W.World.seen c.args.world.now) (g.W.World.seen c.loop-heard.world) (g.W.World.seen c.hear.new.world) (WaitsOn-links c.loop-heard.invariant) c.in_err-hear.ensures.links
+
+pub returns-then-branch-clause-links : goal.returns-then-branch-clause-links
+returns-then-branch-clause-links g c =
+    OnLinks-trans g.W.World.Tells (g.W.World.seen c.args.world.now) (g.W.World.seen c.loop-heard.world) (g.W.World.seen c.hear.new.world) (WaitsOn-links c.loop-heard.invariant) c.in_ok-hear.ensures.links
+
+pub returns-clause-links : goal.returns-clause-links
+returns-clause-links g c = WaitsOn-links c.loop-heard.invariant
+
+pub returns-in_err-hear-clause-in_place : goal.returns-in_err-hear-clause-in_place
+returns-in_err-hear-clause-in_place g c =
+    let w = c.loop-heard.invariant in
+    on_place c.args.awaited.now w.got (g.W.World.seen c.args.world.now) (g.W.World.seen c.loop-heard.world) (g.W.World.seen c.hear.new.world) w.hears.continues (told_so_far w) w.hears.before_reply c.in_err-hear.ensures.continues c.in_err-hear.ensures.in_place
+
+pub returns-then-branch-clause-in_place : goal.returns-then-branch-clause-in_place
+returns-then-branch-clause-in_place g c =
+    let w = c.loop-heard.invariant in
+    on_place c.args.awaited.now w.got (g.W.World.seen c.args.world.now) (g.W.World.seen c.loop-heard.world) (g.W.World.seen c.hear.new.world) w.hears.continues (told_so_far w) w.hears.before_reply c.in_ok-hear.ensures.continues c.in_ok-hear.ensures.in_place
+
+pub returns-clause-in_place : goal.returns-clause-in_place
+returns-clause-in_place g c = λ told keeps before.
+    let w = c.loop-heard.invariant in
+    got_in_place c.args.awaited.now w.got (g.W.World.seen c.args.world.now) (g.W.World.seen c.loop-heard.world) (told_so_far w told)

@@ -4,7 +4,7 @@ use Rattle.shown_runs.specs.LastReportLaws.{rows-asked}
 use Rattle.event_dispatch.specs.declared.fault.Fault.{Fault}
 use Rattle.event_dispatch.specs.Shows.{engine_of}
 use Rattle.event_dispatch.specs.Why.{IsReason}
-use Rattle.event_dispatch.specs.WhyLaws.{asks_why}
+use Rattle.event_dispatch.specs.FaultLaws.{asks_why}
 use Rattle.event_dispatch.specs.LastLaws.{net_stays}
 use Rattle.event_dispatch.specs.PlainLaws.{table_asked}
 use Rattle.event_dispatch.specs.Plain.{PlainTable}
@@ -13,7 +13,7 @@ use Rattle.event_dispatch.proofs.run.Run.ask_rows.Goals as goal
 -- src/last.rt:81:5
 pub returns-in-Err-clause-why : goal.returns-in-Err-clause-why
 returns-in-Err-clause-why g c =
-    subst (λ (f : Fault). IsReason (g.W.World.seen c.args.world.now).counts (g.W.World.seen c.rows.new.world).counts 0 0 f) (sym c.from.ensures)
+    subst (λ (f : Fault). IsReason g.W.World.Tells (g.W.World.seen c.args.world.now) (g.W.World.seen c.rows.new.world) 0 0 f) (sym c.from.ensures)
     (asks_why c.in-Err.fault c.in-Err.ensures.asks)
 
 -- src/last.rt:107:5

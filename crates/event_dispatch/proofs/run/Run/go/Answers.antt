@@ -1,5 +1,5 @@
 use Rattle.event_dispatch.specs.WholeLaws.{went_as, goes_by}
-use Rattle.event_dispatch.specs.PlainLaws.{err_is, whole_anyway, whole_rounds, whole_finish}
+use Rattle.event_dispatch.specs.PlainLaws.{err_is, on_err, whole_anyway, whole_rounds, whole_finish}
 use Rattle.event_dispatch.specs.Plain.{PlainWhole}
 use Rattle.event_dispatch.specs.Why.{served_by}
 use Rattle.event_dispatch.specs.Shows.{engine_of}
@@ -7,6 +7,7 @@ use Rattle.event_dispatch.specs.declared.served.Served.{Served}
 use Rattle.event_dispatch.specs.Cut.{CutAs}
 use Rattle.event_dispatch.specs.CutLaws.{if_err, goes_cut, rounds_cut, went_cut}
 use Rattle.std.proofs.Common.{inl}
+use Rattle.event_dispatch.specs.WhyLaws.{continues_then, why_behind, fell_then}
 use Rattle.event_dispatch.proofs.run.Run.go.Goals as goal
 
 pub returns-in_err-begin-clause-goes : goal.returns-in_err-begin-clause-goes
@@ -50,3 +51,11 @@ pub returns-clause-cut : goal.returns-clause-cut
 returns-clause-cut g c =
     went_cut g.W.World.Tells (g.J.Judge.accepts c.args.judge.now) c.finish.result (g.K.Sink.contents c.args.sink.now) (g.K.Sink.contents c.begin.new.sink) (g.K.Sink.contents c.go_on.new.sink) (g.K.Sink.contents c.finish.new.sink) (g.W.World.seen c.args.world.now) (g.W.World.seen c.begin.new.world) (g.W.World.seen c.go_on.new.world) (g.W.World.seen c.finish.new.world) c.args.self.now c.begin.new.self c.go_on.new.self
     c.in_ok-begin.ensures.begins c.in_ok-go_on.ensures.continues c.in_ok-go_on.ensures.to_end c.finish.ensures.continues c.finish.ensures.cut
+
+pub returns-clause-why : goal.returns-clause-why
+returns-clause-why g c =
+    let first = continues_then g.W.World.Tells (g.W.World.seen c.args.world.now) (g.W.World.seen c.begin.new.world) (g.W.World.seen c.go_on.new.world) c.in_ok-begin.ensures.continues c.in_ok-go_on.ensures.continues in
+    let fell = fell_then (g.K.Sink.faults c.args.sink.now) (g.K.Sink.faults c.begin.new.sink) (g.K.Sink.faults c.go_on.new.sink) c.in_ok-begin.ensures.never_fell c.in_ok-go_on.ensures.never_fell in
+    on_err c.finish.result
+    (λ end why. why_behind (g.W.World.seen c.args.world.now) (g.W.World.seen c.go_on.new.world) (g.W.World.seen c.finish.new.world) (g.K.Sink.faults c.args.sink.now) (g.K.Sink.faults c.go_on.new.sink) (g.K.Sink.faults c.finish.new.sink) end first fell why)
+    c.finish.ensures.why

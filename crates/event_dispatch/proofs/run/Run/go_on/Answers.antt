@@ -54,6 +54,7 @@ returns-in_err-go_round-clause-cut g c =
       mid = (g.W.World.seen c.loop-round.world);
       mid_run = c.loop-round.self;
       held = (g.K.Sink.contents c.loop-round.sink);
+      on = c.loop-round.invariant.continues;
       rounds = c.loop-round.invariant.rounds;
       later = c.go_round.ensures.continues;
       round = c.in_err-go_round.ensures.cut;

@@ -26,7 +26,7 @@ returns-in_err-settle-clause-plain g c =
 pub returns-in_err-rest-clause-cut : goal.returns-in_err-rest-clause-cut
 returns-in_err-rest-clause-cut g c =
     if_err (λ (fault : Fault). CutRound g.W.World.Tells (g.J.Judge.accepts c.args.judge.now) fault (g.K.Sink.contents c.args.sink.now) (g.K.Sink.contents c.args.sink.now) (g.W.World.seen c.args.world.now) (g.W.World.seen c.take_batch.new.world) c.args.self.now) c.in_err-rest.field-0.0 c.from_residual.result c.from_residual.ensures.1
-    (inl (still_so (g.W.World.seen c.args.world.now).counts (g.W.World.seen c.take_batch.new.world).counts c.in_err-rest.field-0.0 (g.K.Sink.contents c.args.sink.now) (g.K.Sink.contents c.args.sink.now) c.in_err-rest.ensures.why refl))
+    (inl (still_so g.W.World.Tells (g.W.World.seen c.args.world.now) (g.W.World.seen c.take_batch.new.world) c.in_err-rest.field-0.0 (g.K.Sink.contents c.args.sink.now) (g.K.Sink.contents c.args.sink.now) c.in_err-rest.ensures.why refl, c.take_batch.ensures.talks))
 
 pub returns-in_err-settle-clause-cut : goal.returns-in_err-settle-clause-cut
 returns-in_err-settle-clause-cut g c =

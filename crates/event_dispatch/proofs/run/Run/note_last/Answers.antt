@@ -7,6 +7,7 @@ use Rattle.event_dispatch.specs.LastLaws.{take_whole, tables_next, last_shown}
 use Rattle.event_dispatch.specs.PlainLaws.{err_is, calm_anyway, tables_then}
 use Rattle.event_dispatch.specs.Plain.{PlainCalm}
 use Rattle.event_dispatch.specs.Why.{served_by}
+use Rattle.event_dispatch.specs.TalkingLaws.{keeps_then}
 use Rattle.event_dispatch.proofs.run.Run.note_last.Goals as goal
 
 -- src/last.rt:169:9
@@ -17,6 +18,7 @@ loop-dpid-preserved g c =
     record {
       waits = waits_then c.args.self.now c.loop-dpid.self c.note_table.new.self c.loop-dpid.invariant.waits c.in_ok-note_table.ensures.waits;
       continues = continues_then g.W.World.Tells (g.W.World.seen c.args.world.now) (g.W.World.seen c.loop-dpid.world) (g.W.World.seen c.note_table.new.world) c.loop-dpid.invariant.continues c.in_ok-note_table.ensures.continues;
+      talks = keeps_then g.W.World.Tells (g.W.World.seen c.args.world.now) (g.W.World.seen c.loop-dpid.world) (g.W.World.seen c.note_table.new.world) c.loop-dpid.invariant.talks c.in_ok-note_table.ensures.talks;
       shown = subst (λ (xs : List ℕ). TablesShown g.W.World.Tells xs (g.W.World.seen c.args.world.now) (g.W.World.seen c.note_table.new.world) c.args.self.now c.note_table.new.self) (sym (take_more ds i 0 c.loop-dpid-test.true))
           (tables_next g.W.World.Tells (take i ds) (get_or ds i 0) (g.W.World.seen c.args.world.now) (g.W.World.seen c.loop-dpid.world) (g.W.World.seen c.note_table.new.world) c.args.self.now c.loop-dpid.self c.note_table.new.self
           c.loop-dpid.invariant.shown c.in_ok-note_table.ensures.continues c.in_ok-note_table.ensures.shown);

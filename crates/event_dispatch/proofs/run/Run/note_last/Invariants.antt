@@ -1,3 +1,4 @@
+use Rattle.event_dispatch.specs.Talking.{KeepsTalking}
 use Rattle.std.proofs.Common.{take}
 use Rattle.outside.specs.Seen.{Continues}
 use Rattle.event_dispatch.specs.Runs.{Waits}
@@ -8,5 +9,6 @@ abbrev pub invariant-loop-dpid : goal.invariant-loop-dpid
 invariant-loop-dpid g l = record {
   waits : Waits l.fn.self l.self;
   continues : Continues g.W.World.Tells (g.W.World.seen l.fn.world) (g.W.World.seen l.world);
+  talks : KeepsTalking g.W.World.Tells (g.W.World.seen l.fn.world) (g.W.World.seen l.world);
   shown : TablesShown g.W.World.Tells (take l.dpid-index l.dpid-items) (g.W.World.seen l.fn.world) (g.W.World.seen l.world) l.fn.self l.self;
 }

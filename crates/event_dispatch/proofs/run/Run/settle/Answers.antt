@@ -56,6 +56,7 @@ returns-in_err-settle_one-clause-cut g c =
       mid_run = c.loop-event.self;
       held = (g.K.Sink.contents c.loop-event.sink);
       few = omega (arith, c.loop-event-test.true);
+      on = c.loop-event.invariant.continues;
       some = c.loop-event.invariant.settles;
       later = c.settle_one.ensures.continues;
       one = c.in_err-settle_one.ensures.cut;

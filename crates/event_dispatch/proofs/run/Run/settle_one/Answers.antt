@@ -8,6 +8,7 @@ use Rattle.event_dispatch.specs.Why.{served_by}
 use Rattle.event_dispatch.specs.declared.fault.Fault.{Fault}
 use Rattle.event_dispatch.specs.Cut.{CutOne}
 use Rattle.event_dispatch.specs.CutLaws.{if_err, still_so, one_still, one_unwritten}
+use Rattle.event_dispatch.specs.TalkingLaws.{goes_as}
 use Rattle.event_dispatch.proofs.run.Run.settle_one.Goals as goal
 
 pub returns-in_default-clause-settles : goal.returns-in_default-clause-settles
@@ -31,7 +32,8 @@ pub returns-in_err-dispatch-clause-cut : goal.returns-in_err-dispatch-clause-cut
 returns-in_err-dispatch-clause-cut g c =
     if_err (λ (fault : Fault). CutOne g.W.World.Tells (g.J.Judge.accepts c.args.judge.now) fault (g.K.Sink.contents c.args.sink.now) (g.K.Sink.contents c.args.sink.now) (g.W.World.seen c.args.world.now) (g.W.World.seen c.dispatch.new.world) (engine_of c.args.self.now)) c.in_err-dispatch.field-0.0 c.from_residual.result c.from_residual.ensures.1
     (one_still g.W.World.Tells (g.J.Judge.accepts c.args.judge.now) c.in_err-dispatch.field-0.0 (g.K.Sink.contents c.args.sink.now) (g.K.Sink.contents c.args.sink.now) (g.W.World.seen c.args.world.now) (g.W.World.seen c.dispatch.new.world) (engine_of c.args.self.now)
-    (still_so (g.W.World.seen c.args.world.now).counts (g.W.World.seen c.dispatch.new.world).counts c.in_err-dispatch.field-0.0 (g.K.Sink.contents c.args.sink.now) (g.K.Sink.contents c.args.sink.now) c.in_err-dispatch.ensures.why refl))
+    (still_so g.W.World.Tells (g.W.World.seen c.args.world.now) (g.W.World.seen c.dispatch.new.world) c.in_err-dispatch.field-0.0 (g.K.Sink.contents c.args.sink.now) (g.K.Sink.contents c.args.sink.now) c.in_err-dispatch.ensures.why refl)
+    (goes_as g.W.World.Tells (g.W.World.seen c.args.world.now) (g.W.World.seen c.dispatch.new.world) (engine_of (record c.args.self.now { queue = c.take_first.new.self })) (engine_of c.args.self.now) refl refl c.in_err-dispatch.ensures.talks))
 
 pub returns-in_err-write-clause-cut : goal.returns-in_err-write-clause-cut
 returns-in_err-write-clause-cut g c =

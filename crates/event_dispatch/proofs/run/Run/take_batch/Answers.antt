@@ -6,6 +6,7 @@ use Rattle.event_dispatch.specs.BatchLaws.{batch_goes, batch_ends, batch_too_lon
 use Rattle.event_dispatch.specs.PlainLaws.{err_is, batch_kept, batch_next}
 use Rattle.event_dispatch.specs.Plain.{PlainCalm}
 use Rattle.event_dispatch.specs.Why.{served_by}
+use Rattle.event_dispatch.specs.TalkingLaws.{keeps_then}
 use Rattle.event_dispatch.proofs.run.Run.take_batch.Goals as goal
 
 pub returns-in-Some-clause-batch : goal.returns-in-Some-clause-batch
@@ -23,10 +24,12 @@ loop-item-preserved g c = record {
   waits = waits_then c.args.self.now c.loop-item.self c.take_next.new.self c.loop-item.invariant.waits c.in_ok-rest.ensures.waits;
   app = c.in_ok-rest.ensures.app ∙ c.loop-item.invariant.app;
   lines = c.in_ok-rest.ensures.lines ∙ c.loop-item.invariant.lines;
+  read = c.in_ok-rest.ensures.read c.loop-item.invariant.read;
   goes = batch_goes c.loop-item._item (g.W.World.seen c.args.world.now) (g.W.World.seen c.loop-item.world) (g.W.World.seen c.take_next.new.world) c.args.self.now c.loop-item.self c.take_next.new.self c.loop-item.invariant.goes
       (subst (λ (rest : Option Rest). NextTaken g.W.World.Tells rest (g.W.World.seen c.loop-item.world) (g.W.World.seen c.take_next.new.world) c.loop-item.self c.take_next.new.self) c.in_default.is c.in_ok-rest.ensures.taken);
   buffer = c.in_ok-rest.ensures.buffer ∙ c.loop-item.invariant.buffer;
   continues = continues_then g.W.World.Tells (g.W.World.seen c.args.world.now) (g.W.World.seen c.loop-item.world) (g.W.World.seen c.take_next.new.world) c.loop-item.invariant.continues c.in_ok-rest.ensures.continues;
+  talks = keeps_then g.W.World.Tells (g.W.World.seen c.args.world.now) (g.W.World.seen c.loop-item.world) (g.W.World.seen c.take_next.new.world) c.loop-item.invariant.talks c.in_ok-rest.ensures.talks;
 }
 
 pub returns-in_err-left-clause-plain : goal.returns-in_err-left-clause-plain

@@ -1,6 +1,7 @@
+use Rattle.event_dispatch.specs.Talking.{KeepsTalking}
 use Rattle.std.proofs.Common.{◌≡◌, length}
 use Rattle.outside.specs.Seen.{Continues}
-use Rattle.event_dispatch.specs.Runs.{Waits}
+use Rattle.event_dispatch.specs.Runs.{AreRead, Waits}
 use Rattle.event_dispatch.specs.Batch.{BatchGoes}
 use Rattle.event_dispatch.proofs.run.Run.take_batch.Given as goal
 
@@ -9,7 +10,9 @@ invariant-loop-item g l = record {
   waits : Waits l.fn.self l.self;
   app : l.self.app ≡ l.fn.self.app;
   lines : l.self.lines ≡ l.fn.self.lines;
+  read : AreRead l.self.net.kept;
   goes : BatchGoes g.W.World.Tells l._item (g.W.World.seen l.fn.world) (g.W.World.seen l.world) l.fn.self l.self;
   buffer : length l.buf ≡ length l.fn.buf;
   continues : Continues g.W.World.Tells (g.W.World.seen l.fn.world) (g.W.World.seen l.world);
+  talks : KeepsTalking g.W.World.Tells (g.W.World.seen l.fn.world) (g.W.World.seen l.world);
 }

@@ -8,6 +8,8 @@ use Rattle.event_dispatch.specs.BatchLaws.{from_step, joined_step, left_step, mo
 use Rattle.event_dispatch.specs.PlainLaws.{on_err, err_is, item_from, item_joined, item_memory}
 use Rattle.event_dispatch.specs.Plain.{PlainItem}
 use Rattle.outside.specs.Calls.{item_step}
+use Rattle.event_dispatch.specs.Why.{WhyItem}
+use Rattle.event_dispatch.specs.ItemLaws as why
 use Rattle.event_dispatch.proofs.run.Run.take_item.Goals as goal
 
 pub returns-in-From-clause-handles : goal.returns-in-From-clause-handles
@@ -48,3 +50,15 @@ returns-in-Joined-clause-plain g c =
 pub returns-in_err-take_out-in-Left-clause-plain : goal.returns-in_err-take_out-in-Left-clause-plain
 returns-in_err-take_out-in-Left-clause-plain g c =
     err_is (PlainItem g.W.World.Tells (item_step c.args.item c.args.buf.now) (g.W.World.seen c.args.world.now) (g.W.World.seen c.args.world.now)) faults.NoMemory c.from_residual.result c.from_residual.ensures.1 (item_memory c.args.item c.args.buf.now (g.W.World.seen c.args.world.now) (g.W.World.seen c.args.world.now))
+
+pub returns-in-From-clause-why : goal.returns-in-From-clause-why
+returns-in-From-clause-why g c =
+    on_err c.take_message.result (λ fault message. why.from_why c.args.item c.in-From.dpid c.in-From.size c.args.buf.now (g.W.World.seen c.args.world.now) (g.W.World.seen c.take_message.new.world) fault c.in-From.is message) c.take_message.ensures.why
+
+pub returns-in-Joined-clause-why : goal.returns-in-Joined-clause-why
+returns-in-Joined-clause-why g c =
+    on_err c.take_in.result (λ fault join. why.joined_why (item_step c.args.item c.args.buf.now) (g.W.World.seen c.args.world.now) (g.W.World.seen c.take_in.new.world) fault join) c.take_in.ensures.why
+
+pub returns-in_err-take_out-in-Left-clause-why : goal.returns-in_err-take_out-in-Left-clause-why
+returns-in_err-take_out-in-Left-clause-why g c =
+    err_is (WhyItem g.W.World.Tells (item_step c.args.item c.args.buf.now) (g.W.World.seen c.args.world.now) (g.W.World.seen c.args.world.now)) faults.NoMemory c.from_residual.result c.from_residual.ensures.1 (why.item_memory (item_step c.args.item c.args.buf.now) (g.W.World.seen c.args.world.now) (g.W.World.seen c.args.world.now))

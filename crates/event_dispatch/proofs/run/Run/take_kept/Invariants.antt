@@ -1,6 +1,7 @@
+use Rattle.event_dispatch.specs.Talking.{KeepsTalking}
 use Rattle.std.proofs.Common.{◌≡◌}
 use Rattle.outside.specs.Seen.{Continues}
-use Rattle.event_dispatch.specs.Runs.{Waits}
+use Rattle.event_dispatch.specs.Runs.{AreRead, Waits}
 use Rattle.event_dispatch.specs.Batch.{KeptSoFar}
 use Rattle.event_dispatch.proofs.run.Run.take_kept.Given as goal
 
@@ -9,6 +10,8 @@ invariant-loop-taken g l = record {
   waits : Waits l.fn.self l.self;
   app : l.self.app ≡ l.fn.self.app;
   lines : l.self.lines ≡ l.fn.self.lines;
+  read : AreRead l.self.net.kept;
   kept : KeptSoFar l.taken (g.W.World.seen l.fn.world) (g.W.World.seen l.world) l.fn.self l.self;
   continues : Continues g.W.World.Tells (g.W.World.seen l.fn.world) (g.W.World.seen l.world);
+  talks : KeepsTalking g.W.World.Tells (g.W.World.seen l.fn.world) (g.W.World.seen l.world);
 }

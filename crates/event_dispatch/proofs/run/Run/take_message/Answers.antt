@@ -8,6 +8,10 @@ use Rattle.shown_batches.specs.HandleLaws.{arrived_handles, from_ignored}
 use Rattle.event_dispatch.specs.PlainLaws.{err_is, read_memory, read_arrived}
 use Rattle.event_dispatch.specs.Plain.{PlainRead}
 use Rattle.event_dispatch.specs.Why.{fault_of}
+use Rattle.event_dispatch.specs.Why.{WhyMessage}
+use Rattle.event_dispatch.specs.FaultLaws.{arrival_why}
+use Rattle.event_dispatch.specs.KeptLaws.{arrived_read}
+use Rattle.event_dispatch.specs.ItemLaws.{message_memory}
 use Rattle.event_dispatch.proofs.run.Run.take_message.Goals as goal
 
 pub returns-then-not-is_joined-clause-handles : goal.returns-then-not-is_joined-clause-handles
@@ -28,3 +32,17 @@ returns-in_err-event-clause-plain g c =
 pub returns-in_err-append-clause-plain : goal.returns-in_err-append-clause-plain
 returns-in_err-append-clause-plain g c =
     err_is (PlainRead c.args.frame.now) faults.NoMemory c.from_residual-in_err-append.result c.from_residual-in_err-append.ensures.1 (read_memory c.args.frame.now)
+
+pub returns-in_err-event-clause-why : goal.returns-in_err-event-clause-why
+returns-in_err-event-clause-why g c =
+    err_is (WhyMessage g.W.World.Tells c.args.dpid c.args.frame.now (g.W.World.seen c.args.world.now) (g.W.World.seen c.arrived.new.world)) (fault_of c.in_err-event.field-0.0) c.from_residual.result c.from_residual.ensures.1
+    (arrival_why c.args.dpid c.args.frame.now (g.W.World.seen c.args.world.now) (g.W.World.seen c.arrived.new.world) c.in_err-event.field-0.0 c.in_err-event.ensures.continues c.in_err-event.ensures.cause)
+
+pub returns-in_err-append-clause-why : goal.returns-in_err-append-clause-why
+returns-in_err-append-clause-why g c =
+    err_is (WhyMessage g.W.World.Tells c.args.dpid c.args.frame.now (g.W.World.seen c.args.world.now) (g.W.World.seen c.arrived.new.world)) faults.NoMemory c.from_residual-in_err-append.result c.from_residual-in_err-append.ensures.1 (message_memory c.args.dpid c.args.frame.now (g.W.World.seen c.args.world.now) (g.W.World.seen c.arrived.new.world))
+
+pub returns-clause-read : goal.returns-clause-read
+returns-clause-read g c =
+    arrived_read c.args.frame.now c.args.self.now.net c.arrived.new.self c.in_ok-event.event
+    (subst (λ (r : Result (Option Event) TxnFault). Arrives g.W.World.Tells c.args.dpid c.args.frame.now (g.W.World.seen c.args.world.now) (g.W.World.seen c.arrived.new.world) c.args.self.now.net c.arrived.new.self r) c.in_ok-event.was c.arrived.ensures)

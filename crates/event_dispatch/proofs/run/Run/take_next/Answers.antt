@@ -4,6 +4,9 @@ use Rattle.event_dispatch.specs.WhyLaws.{continues_then}
 use Rattle.event_dispatch.specs.BatchLaws.{rest_handles, no_rest}
 use Rattle.event_dispatch.specs.PlainLaws.{err_is, next_anyway, next_taken}
 use Rattle.event_dispatch.specs.Plain.{PlainNext}
+use Rattle.event_dispatch.specs.Why.{IsReason}
+use Rattle.event_dispatch.specs.ItemLaws.{next_why}
+use Rattle.event_dispatch.specs.TalkingLaws.{keeps_then}
 use Rattle.event_dispatch.proofs.run.Run.take_next.Goals as goal
 
 pub returns-in-Idle-clause-taken : goal.returns-in-Idle-clause-taken
@@ -38,6 +41,8 @@ returns-in_ok-take_item-in_default g c = record {
   app = c.in_ok-take_item-in_default.ensures.app;
   lines = c.in_ok-take_item-in_default.ensures.lines;
   continues = continues_then g.W.World.Tells (g.W.World.seen c.args.world.now) (g.W.World.seen c.next_item.new.world) (g.W.World.seen c.take_item.new.world) c.in_ok-item.ensures.continues c.in_ok-take_item-in_default.ensures.continues;
+  talks = keeps_then g.W.World.Tells (g.W.World.seen c.args.world.now) (g.W.World.seen c.next_item.new.world) (g.W.World.seen c.take_item.new.world) c.in_ok-item.ensures.talks c.in_ok-take_item-in_default.ensures.talks;
+  read = c.in_ok-take_item-in_default.ensures.read;
   why = tt;
   plain = tt;
   buffer = c.in_ok-item.ensures.buffer;
@@ -56,3 +61,8 @@ pub returns-in_err-take_item-in_default-clause-plain : goal.returns-in_err-take_
 returns-in_err-take_item-in_default-clause-plain g c =
     err_is (PlainNext g.W.World.Tells (g.W.World.seen c.args.world.now) (g.W.World.seen c.take_item.new.world)) c.in_err-take_item-in_default.field-0.0 c.from_residual-in_err-take_item-in_default.result c.from_residual-in_err-take_item-in_default.ensures.1
     (next_taken c.in_ok-item.item c.next_item.new.buf (g.W.World.seen c.args.world.now) (g.W.World.seen c.next_item.new.world) (g.W.World.seen c.take_item.new.world) c.in_err-take_item-in_default.field-0.0 c.in_ok-item.ensures.nexts c.in_err-take_item-in_default.ensures.continues c.in_err-take_item-in_default.ensures.plain)
+
+pub returns-in_err-take_item-in_default-clause-why : goal.returns-in_err-take_item-in_default-clause-why
+returns-in_err-take_item-in_default-clause-why g c =
+    err_is (IsReason g.W.World.Tells (g.W.World.seen c.args.world.now) (g.W.World.seen c.take_item.new.world) 0 0) c.in_err-take_item-in_default.field-0.0 c.from_residual-in_err-take_item-in_default.result c.from_residual-in_err-take_item-in_default.ensures.1
+    (next_why c.in_ok-item.item c.next_item.new.buf (g.W.World.seen c.args.world.now) (g.W.World.seen c.next_item.new.world) (g.W.World.seen c.take_item.new.world) c.in_err-take_item-in_default.field-0.0 c.in_ok-item.ensures.nexts c.in_err-take_item-in_default.ensures.why)

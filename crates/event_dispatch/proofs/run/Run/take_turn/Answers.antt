@@ -2,6 +2,7 @@ use Rattle.event_dispatch.specs.declared.fault.Fault.TheVariants as faults
 use Rattle.event_dispatch.specs.TurnLaws.{turn_so}
 use Rattle.event_dispatch.specs.PlainLaws.{err_is, turn_memory}
 use Rattle.event_dispatch.specs.Plain.{PlainTurn}
+use Rattle.event_dispatch.specs.TalkingLaws.{turn_of, turn_closed, holds_on_err}
 use Rattle.event_dispatch.proofs.run.Run.take_turn.Goals as goal
 
 pub returns-clause-turn : goal.returns-clause-turn
@@ -16,3 +17,12 @@ returns-in_err-end-clause-plain g c =
 pub returns-in_err-close-clause-plain : goal.returns-in_err-close-clause-plain
 returns-in_err-close-clause-plain g c =
     err_is (PlainTurn g.W.World.Tells (g.W.World.seen c.args.world.now) (g.W.World.seen c.close.new.world) c.args.self.now.net) faults.NoMemory c.from_residual-in_err-close.result c.from_residual-in_err-close.ensures.1 (turn_memory (g.W.World.seen c.args.world.now) (g.W.World.seen c.close.new.world) c.args.self.now.net)
+
+pub returns-in_err-end-clause-talks : goal.returns-in_err-end-clause-talks
+returns-in_err-end-clause-talks g c =
+    holds_on_err c.from_residual.result (turn_of g.W.World.Tells c.args.self.now.app.state.index c.args.self.now.app.state.rest (g.W.World.seen c.args.world.now) (g.W.World.seen c.play.new.world) c.requires.index c.in_err-end.ensures.talks)
+
+pub returns-in_err-close-clause-talks : goal.returns-in_err-close-clause-talks
+returns-in_err-close-clause-talks g c =
+    holds_on_err c.from_residual-in_err-close.result
+    (turn_closed c.args.self.now.app.state.index c.args.self.now.app.state.rest (g.W.World.seen c.args.world.now) (g.W.World.seen c.play.new.world) (g.W.World.seen c.close.new.world) c.requires.index c.in_ok-end.ensures.plays c.close.ensures.talks)

@@ -1,7 +1,8 @@
 use Rattle.std.proofs.Common.{◌≡◌, ap, ◌∙◌}
 use Rattle.net_txn.specs.Net.{NetState}
-use Rattle.net_txn.specs.ChangeLaws.{Changes-by_host, Changes-by_switch, host_unknown, host_knows}
+use Rattle.net_txn.specs.ChangeLaws.{Changes-short, Changes-by_host, Changes-by_switch, host_unknown, host_knows}
 use Rattle.net_txn.specs.ConsequenceLaws.{Changes-reaches, Changes-steps}
+use Rattle.std.proofs.lemmas.Result.{err_from_is_err_and}
 use Rattle.net_txn.proofs.net.Net.change.Goals as goal
 
 pub returns-in_default : goal.returns-in_default
@@ -23,5 +24,10 @@ returns-in-Asks g c =
     let knows = host_knows c.args.dpid c.args.bytes.now c.args.self.now c.deref.result.now c.in-Some.view.now.rows c.as_slice.result.now v c.in-Some.ensures c.as_slice.ensures in
     let judged = rw c.in-Asks.is at c.in_ok-answer.ensures in
     let h = Changes-by_switch c.args.dpid c.args.bytes.now (g.W.World.seen c.args.world.now) (g.W.World.seen c.make.new.world) c.args.self.now c.make.new.self c.make.result judged.1.0 c.in-Asks.flow
-    (knows ∙ judged.0) judged.1.1 c.make.ensures.result c.make.ensures.continues c.make.ensures.cause c.make.ensures.ports c.make.ensures.moment c.make.ensures.room c.make.ensures.flooded in
+    (knows ∙ judged.0) judged.1.1 c.make.ensures.result c.make.ensures.continues c.make.ensures.links c.make.ensures.in_place c.make.ensures.cause c.make.ensures.ports c.make.ensures.moment c.make.ensures.room c.make.ensures.flooded in
     record { changes = h; reached = Changes-reaches h; in_step = Changes-steps h }
+
+pub returns-in_err-answer-clause-changes : goal.returns-in_err-answer-clause-changes
+returns-in_err-answer-clause-changes g c =
+    let p = err_from_is_err_and c.from_residual.result c.from_residual.ensures.1 in
+    rw (p.1, p.2) (Changes-short c.args.dpid c.args.bytes.now (g.W.World.seen c.args.world.now) c.args.self.now)

@@ -5,6 +5,7 @@ use Rattle.net_txn.specs.Views.{rows_after}
 use Rattle.net_txn.specs.Net.{NetState, next_xid, awaited_from}
 use Rattle.net_txn.specs.WaitLaws.{waits_kept}
 use Rattle.net_txn.specs.ChangeLaws.{sent_waits, given_up, kept_for, same_log, same_views, log_cut}
+use Rattle.net_txn.specs.LinkPlaceLaws.{in_place_none}
 use Rattle.net_txn.proofs.net.Net.make.Goals as goal
 
 pub returns-in_err-put_added-in-None-clause-result : goal.returns-in_err-put_added-in-None-clause-result
@@ -60,3 +61,12 @@ returns-in_err-refusal-clause-flooded g c =
     let small : c.args.self.now.xid < 2 ^ 32 = rw (← ap (λ (n : NetState). n.xid) v) (omega arith) in
     rw (p.1, p.2) (given_up g.W.World.Tells c.args.dpid c.args.flow c.args.self.now c.await_from-awaited.result c.as_slice.result.now (g.W.World.seen c.args.world.now) (g.W.World.seen c.ask.new.world) c.in_err-refusal.field-0.0
     a (c.as_slice.ensures ∙ c.in_ok-frame.ensures.frame) c.requires small c.in_err-refusal.ensures.flooded)
+
+pub returns-in_err-frame-clause-in_place : goal.returns-in_err-frame-clause-in_place
+returns-in_err-frame-clause-in_place g c = λ told keeps joined. in_place_none (g.W.World.seen c.args.world.now)
+
+pub returns-in_err-make_room-clause-in_place : goal.returns-in_err-make_room-clause-in_place
+returns-in_err-make_room-clause-in_place g c = λ told keeps joined. in_place_none (g.W.World.seen c.args.world.now)
+
+pub returns-in_err-push_logged-clause-in_place : goal.returns-in_err-push_logged-clause-in_place
+returns-in_err-push_logged-clause-in_place g c = λ told keeps joined. in_place_none (g.W.World.seen c.args.world.now)

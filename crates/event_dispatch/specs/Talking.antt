@@ -1,0 +1,19 @@
+-- What goes on with the dialogue with the application, in a world that tells: its journal was one, and it is one still. All of this is our
+-- own.
+use Rattle.std.specs.Prelude.{◌≡◌, ℕ, true, List}
+use Rattle.outside.specs.Seen.{Seen, journal}
+use Rattle.lego_model.specs.AtOnce.{Passes, AtOnce}
+use Rattle.shown_runs.specs.Engine.{Engine, index}
+use Rattle.shown_runs.specs.Moves.{Conversing}
+
+-- whatever it was
+pub record KeepsTalking {Own : Type 0} (Tells : Type 0) (old new : Seen Own) : Type 0 where
+  pub talks : Tells → AtOnce index (journal old.history) → AtOnce index (journal new.history)
+
+-- where the application runs then, and these bytes are unread, behind frames that are no messages
+pub record TurnTalks {Own : Type 0} (Tells : Type 0) (app : ℕ) (rest : List ℕ) (old new : Seen Own) : Type 0 where
+  pub talks : Tells → (a : AtOnce app (journal old.history)) → a.last.running ≡ true → Passes a.last.unread rest → AtOnce app (journal new.history)
+
+-- behind parts of a run that were done
+pub record GoesOnTalking {Own : Type 0} (Tells : Type 0) (old new : Seen Own) (e : Engine) : Type 0 where
+  pub talks : Tells → Conversing old e → AtOnce index (journal new.history)

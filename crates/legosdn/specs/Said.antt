@@ -1,0 +1,51 @@
+-- The reference controller of a session: its switches, what its lines say of the application, and its stimuli. All of this is our own.
+use Rattle.std.specs.Prelude.{◌≡◌, ℕ, ◌≤◌, Bool, true, List, [], ◌∷◌, Option}
+use Rattle.outside.specs.Seen.{Given, Seen}
+use Rattle.sim_world.specs.Told.{without_links}
+use Rattle.sim_world.specs.Scripts.{Scripts, starts_of, replies_of}
+use Rattle.lego_model.specs.Places.{Place}
+use Rattle.lego_model.specs.Controller.{Run, reference}
+use Rattle.lego_model.specs.Scripted.{starts_said, replies_said}
+use Rattle.lego_model.specs.SessionLines.{SessionValue}
+use Rattle.session_text.specs.Loading.{given_by}
+use Rattle.shown_runs.specs.Engine.{index}
+use Rattle.shown_runs.specs.WholeRun.{fresh}
+use Rattle.shown_runs.specs.Cut.{start_said, Far, CutAs, WritingAs, AlikeUpTo, CutSo, WritingSo}
+
+-- the judge lets every table be
+abbrev pub all_allowed : List Place → Bool
+all_allowed places = true
+
+-- over what a world was given; behind the last line come so many starts that are ready, and so many turns that are done at once
+abbrev pub reference_over : ℕ → Given Scripts → Run
+reference_over more given =
+    reference all_allowed given.declared (fresh (starts_said more (starts_of index given.own)) (replies_said more (replies_of index given.own)) ∷ []) given.stimuli
+
+-- of a session
+abbrev pub reference_of_session : ℕ → SessionValue → Run
+reference_of_session more session = reference_over more (given_by session)
+
+-- with as many starts and turns behind the last lines as one likes, where they are enough
+pub record WithEnough (P : ℕ → Type 0) : Type 0 where
+  pub enough : ℕ
+  pub so : (more : ℕ) → enough ≤ more → P more
+
+-- ---- A run that a fault ends
+
+-- before anything is started, with an application of which the lines say so much
+abbrev pub start_by_lines : ℕ → Seen Scripts → Run
+start_by_lines more last = start_said last (starts_said more (starts_of index last.given.own)) (replies_said more (replies_of index last.given.own))
+
+-- What is so up to a place is so over what the lines of the session say of the application, too.
+abbrev pub SaidSo : {last : Seen Scripts} → (IsSo : Far last → Run → Type 0) → AlikeUpTo last IsSo → Type 0
+SaidSo {last} IsSo up_to = without_links last.given.fails ≡ [] → WithEnough (λ more. IsSo up_to.far (start_by_lines more last))
+
+-- all lines of what was done up to there were written
+pub record CutRun (last : Seen Scripts) (contents now_contents : Option (List ℕ)) : Type 0 where
+  pub run : CutSo all_allowed last contents now_contents
+  pub as_said : SaidSo (CutAs all_allowed last contents now_contents) run
+
+-- the sink took a part of those of what was done last
+pub record WritingRun (last : Seen Scripts) (contents now_contents : Option (List ℕ)) : Type 0 where
+  pub run : WritingSo all_allowed last contents now_contents
+  pub as_said : SaidSo (WritingAs all_allowed last run.text run.more) run.up_to

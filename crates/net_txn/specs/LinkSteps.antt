@@ -1,0 +1,62 @@
+-- Steps of the links of switches: histories that go on by such steps alone, and calls of links that are in place. All of this is our own.
+use Rattle.std.specs.Prelude.{◌≡◌, ℕ, Bool, true, false, List, [], ◌∷◌, ◌++◌}
+use Rattle.std.specs.List.{AllByRecursion}
+use Rattle.of_types.specs.declared.journal.Act.TheVariants.{Sent, Got}
+use Rattle.of_wire.specs.declared.message.Message.TheVariants.{BarrierReply}
+use Rattle.of_wire.specs.Spelling.{message_bytes}
+use Rattle.outside.specs.declared.step.WorldStep.{WorldStep}
+use Rattle.outside.specs.declared.step.WorldStep.TheVariants.{Acted, SendFailed, RecvFailed}
+use Rattle.outside.specs.Seen.{Seen}
+use Rattle.outside.specs.State.{State, after_step, state, waits_of, is_joined, has_waiting}
+use Rattle.outside.specs.Conforming.{Conforming}
+use Rattle.net_txn.specs.declared.heard.Awaited.{Awaited}
+
+-- a step of the link of a switch: a message sent or got, or a call that failed
+abbrev pub is_link_step : WorldStep → Bool
+is_link_step (Acted (Sent d bytes)) = true
+is_link_step (Acted (Got d bytes)) = true
+is_link_step (SendFailed d) = true
+is_link_step (RecvFailed d) = true
+is_link_step other = false
+
+abbrev pub AreLinkSteps : List WorldStep → Type 0
+AreLinkSteps steps = AllByRecursion (λ step. is_link_step step ≡ true) steps
+
+-- The history went on by such steps alone: no call for an application, no stimulus, no item.
+pub record LinkSteps {Own : Type 0} (old new : Seen Own) : Type 0 where
+  pub steps : List WorldStep
+  pub history : new.history ≡ old.history ++ steps
+  pub all : AreLinkSteps steps
+
+-- the same in a world that tells
+abbrev pub OnLinks : {Own : Type 0} → Type 0 → Seen Own → Seen Own → Type 0
+OnLinks Tells old new = Tells → LinkSteps old new
+
+-- ---- Calls in place
+
+-- A call that failed is in place where its switch is joined, and to take a message, where one of it waits. A call out of place never
+-- succeeds, so that only the steps of calls that failed have to be looked at.
+abbrev pub IsLinkInPlace : WorldStep → State → Type 0
+IsLinkInPlace (SendFailed d) s = is_joined d s ≡ true
+IsLinkInPlace (RecvFailed d) s = has_waiting d s ≡ true
+IsLinkInPlace other s = Unit {0}
+
+-- each of them in the state that those before it leave
+abbrev pub AreLinksInPlace : List WorldStep → State → Type 0
+AreLinksInPlace [] s = Unit {0}
+AreLinksInPlace (step ∷ steps) s = IsLinkInPlace step s × AreLinksInPlace steps (after_step step s)
+
+-- the calls of links since then are in place
+abbrev pub StaysInPlace : {Own : Type 0} → Seen Own → Seen Own → Type 0
+StaysInPlace old new = (steps : List WorldStep) → new.history ≡ old.history ++ steps → AreLinksInPlace steps (state old)
+
+-- the same where a world keeps its word and the switch is joined
+abbrev pub AsksInPlace : {Own : Type 0} → Type 0 → ℕ → Seen Own → Seen Own → Type 0
+AsksInPlace Tells d old new = Tells → Conforming new → is_joined d (state old) ≡ true → StaysInPlace old new
+
+-- The switch is joined, and of what waits of it something is the reply to the barrier.
+pub record Awaits (a : Awaited) (s : State) : Type 0 where
+  pub joined : is_joined a.dpid s ≡ true
+  pub before : List (List ℕ)
+  pub behind : List (List ℕ)
+  pub waits : waits_of a.dpid s ≡ before ++ message_bytes a.barrier BarrierReply ∷ behind

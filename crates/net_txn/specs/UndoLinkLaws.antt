@@ -1,0 +1,48 @@
+-- The steps of an undo are steps of links.
+use Rattle.std.specs.Prelude.{◌≡◌, ℕ, true, List, [], ◌∷◌, refl}
+use Rattle.std.specs.List.{AllByRecursion}
+use Rattle.of_types.specs.declared.journal.Act.{Act}
+use Rattle.of_types.specs.declared.journal.Act.TheVariants.{Stim, Started, Gave, Gone, Took, Ended, Sent, Got}
+use Rattle.outside.specs.declared.step.WorldStep.{WorldStep}
+use Rattle.outside.specs.declared.step.WorldStep.TheVariants.{Acted, TookInto, From, Joined, Left, Moment, Idle, End, Opened, NotOpened, NextFailed, SendFailed, RecvFailed}
+use Rattle.outside.specs.Seen.{Counts}
+use Rattle.net_txn.specs.Undos.{IsStepOf, Part, part_steps, steps_of, parts_of}
+use Rattle.net_txn.specs.RestoreLaws.{AllRun, runs_here, runs_older, part_of}
+use Rattle.net_txn.specs.LinkSteps.{is_link_step, AreLinkSteps}
+use Rattle.net_txn.specs.LinkStepLaws.{links_append}
+
+act_link : (d : ℕ) (act : Act) → IsStepOf d (Acted act) → is_link_step (Acted act) ≡ true
+act_link d (Stim x) of = absurd of
+act_link d (Started app ok) of = absurd of
+act_link d (Gave app bytes) of = absurd of
+act_link d (Gone app bytes) of = absurd of
+act_link d (Took app what) of = absurd of
+act_link d (Ended app) of = absurd of
+act_link d (Sent e bytes) of = refl
+act_link d (Got e bytes) of = refl
+
+-- a step of one switch is one of its link
+pub one_link : (d : ℕ) (step : WorldStep) → IsStepOf d step → is_link_step step ≡ true
+one_link d (Acted act) of = act_link d act of
+one_link d (TookInto app what room) of = absurd of
+one_link d (From e bytes) of = absurd of
+one_link d (Joined e bytes) of = absurd of
+one_link d (Left e) of = absurd of
+one_link d (Moment n) of = absurd of
+one_link d Idle of = absurd of
+one_link d End of = absurd of
+one_link d Opened of = absurd of
+one_link d NotOpened of = absurd of
+one_link d NextFailed of = absurd of
+one_link d (SendFailed e) of = refl
+one_link d (RecvFailed e) of = refl
+
+all_links : (d : ℕ) (steps : List WorldStep) → AllByRecursion (IsStepOf d) steps → AreLinkSteps steps
+all_links d [] each = tt
+all_links d (x ∷ xs) each = (one_link d x each.0, all_links d xs each.1)
+
+pub steps_links : (old new : Counts) (parts : List (ℕ × Part)) → AllRun old new parts → AreLinkSteps (steps_of parts)
+steps_links old new [] run = tt
+steps_links old new (p ∷ older) run =
+    links_append (steps_of older) (part_steps p.0 p.1) (steps_links old new older (runs_older old new p older run))
+    (all_links p.0 (part_steps p.0 p.1) (part_of old new p.0 p.1 (parts_of p.0 older) (runs_here old new p older run)))

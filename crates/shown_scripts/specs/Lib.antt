@@ -1,0 +1,4 @@
+pub mod Ahead
+pub mod PieceLaws
+pub mod ReadLaws
+pub mod FollowLaws
