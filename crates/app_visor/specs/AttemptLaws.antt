@@ -126,7 +126,7 @@ Adds-append Tells xs ys a b c first second = λ told.
 pub Adds-none : {Own : Type 0} (Tells : Type 0) (a b : Seen Own) → b ≡ a → Adds Tells [] a b
 Adds-none Tells a b is = λ told. ap (λ (s : Seen _). s.history) is ∙ sym (append-nil a.history)
 
-Adds-takes : {Own : Type 0} (Tells : Type 0) (app : ℕ) (ps : List (List ℕ)) (rest left : List ℕ) (old new : Seen Own) → TakesAll Tells app ps rest left old new → Adds Tells (takes app ps) old new
+pub Adds-takes : {Own : Type 0} (Tells : Type 0) (app : ℕ) (ps : List (List ℕ)) (rest left : List ℕ) (old new : Seen Own) → TakesAll Tells app ps rest left old new → Adds Tells (takes app ps) old new
 Adds-takes Tells app [] rest left old new all = Adds-none Tells old new all.1
 Adds-takes Tells app (p ∷ ps) rest left old new all =
     Adds-append Tells (Took app (took.Bytes p) ∷ []) (takes app ps) old all.1.0 new all.1.1.0.history (Adds-takes Tells app ps (rest ++ p) left all.1.0 new all.1.1.1)

@@ -22,3 +22,7 @@ pub mod Tellings
 pub mod TellingLaws
 pub mod ReadTurnLaws
 pub mod ReadTryLaws
+pub mod CallsFor
+pub mod OwnLaws
+pub mod CalmLaws
+pub mod PlaceLaws

@@ -29,11 +29,11 @@ use Rattle.app_visor.specs.TellingLaws.{acts_longer, stimuli_longer, inputs_long
 abbrev all_of_try : ℕ → Bool → Attempt → List Act
 all_of_try app running attempt = end_acts running app ++ Started app attempt.stands ∷ attempt.acts
 
-calls_end : (app : ℕ) (running : Bool) → Calls app (end_acts running app)
+pub calls_end : (app : ℕ) (running : Bool) → Calls app (end_acts running app)
 calls_end app true = (eq-eqb app app refl, tt)
 calls_end app false = tt
 
-calls_try : (app : ℕ) (running : Bool) (attempt : Attempt) → Within app attempt.acts → Calls app (all_of_try app running attempt)
+pub calls_try : (app : ℕ) (running : Bool) (attempt : Attempt) → Within app attempt.acts → Calls app (all_of_try app running attempt)
 calls_try app running attempt all = calls_both app (end_acts running app) (Started app attempt.stands ∷ attempt.acts) (calls_end app running) (eq-eqb app app refl, calls_within app attempt.acts all)
 
 inputs_try : (app : ℕ) (running : Bool) (attempt : Attempt) → inputs app (all_of_try app running attempt) ≡ inputs app attempt.acts

@@ -63,7 +63,7 @@ kind_at (a ∷ b ∷ c ∷ []) = refl
 kind_at (a ∷ b ∷ c ∷ d ∷ []) = refl
 kind_at (a ∷ b ∷ c ∷ d ∷ e ∷ rest) = omega arith
 
-no_number : (bytes : List ℕ) → is_event bytes ≡ false → event_number bytes ≡ None
+pub no_number : (bytes : List ℕ) → is_event bytes ≡ false → event_number bytes ≡ None
 unfolding event_number
 no_number bytes is = rw (kind_at bytes, is) refl
 
@@ -104,7 +104,7 @@ beside_one app (Stim x) s is = absurd (true≢false (sym is))
 beside_one app (Sent d bytes) s is = absurd (true≢false (sym is))
 beside_one app (Got d bytes) s is = absurd (true≢false (sym is))
 
-links_one : (app : ℕ) (act : Act) (s : State) → is_of app act ≡ true → (after_step (step_of act) s).links ≡ s.links
+pub links_one : (app : ℕ) (act : Act) (s : State) → is_of app act ≡ true → (after_step (step_of act) s).links ≡ s.links
 unfolding after_step after_act
 links_one app (Started of stands) s is = refl
 links_one app (Gave to bytes) s is = refl

@@ -7,6 +7,7 @@ ghost use Rattle.lego_model.specs.Controller.{answer_frame, event_frame};
 ghost use Rattle.lego_model.specs.AtOnce.{Before};
 ghost use Rattle.app_visor.specs.Dialogues.{LeadsOn};
 ghost use Rattle.app_visor.specs.Beats.{Exchanges, Stops};
+ghost use Rattle.app_visor.specs.CallsFor.{Calmly};
 
 use crate::talk::give;
 use app_frames::{Answer, Event, HostFrame, encode_host};
@@ -58,6 +59,7 @@ pub(crate) fn exchange<W: World>(
     ensures ok { IfOk result (λ given. Exchanges W.Tells app dpid bytes.now given (W.seen world.old) (W.seen world.new) txn.old.net.now txn.new.net.now) }
     ensures err { IfErr result (λ fault. Stops W.Tells app (W.seen world.old) (W.seen world.new) txn.old.net.now txn.new.net.now fault) }
     ensures talks { OnErr result (W.Tells → (s : Before) → LeadsOn app s (W.seen world.old) (W.seen world.new)) }
+    ensures calm { W.Tells → Calmly app (W.seen world.old) (W.seen world.new) }
 {
     let answer = txn.change(world, dpid, bytes)?;
     let frame = encode_answer(alloc, answer)?;

@@ -9,6 +9,7 @@ ghost use Rattle.outside.specs.State.{state, is_running};
 ghost use Rattle.app_visor.specs.Talks.{Told, Wants};
 ghost use Rattle.app_visor.specs.Dialogues.{LeadsOn, TalksOn, Talks};
 ghost use Rattle.app_visor.specs.Attempts.{tried_by, rest_of, Greets, EndsUnless, Tries, Restarts};
+ghost use Rattle.app_visor.specs.CallsFor.{OwnSteps};
 
 use crate::came::Came;
 use crate::intake::Intake;
@@ -78,6 +79,7 @@ fn greet<W: World>(
     requires intake { intake.old ≡ [] }
     ensures ok { IfOk result (λ tried. Greets W.Tells app tried intake.new (W.seen world.old) (W.seen world.new)) }
     ensures talks { OnErr result (W.Tells → LeadsOn app nothing_said (W.seen world.old) (W.seen world.new)) }
+    ensures own { W.Tells → OwnSteps app (W.seen world.old) (W.seen world.new) }
     ensures continues { Continues W.Tells (W.seen world.old) (W.seen world.new) }
 {
     if !give(world, app, frame)? {
@@ -109,6 +111,7 @@ fn attempt<W: World>(
     requires { frame.now ≡ restore_frame }
     ensures ok { IfOk result (λ r. Tries W.Tells app r.0 r.1 (W.seen world.old) (W.seen world.new)) }
     ensures talks { OnErr result (TalksOn W.Tells app (W.seen world.old) (W.seen world.new)) }
+    ensures own { W.Tells → OwnSteps app (W.seen world.old) (W.seen world.new) }
     ensures continues { Continues W.Tells (W.seen world.old) (W.seen world.new) }
 {
     let mut intake = Intake::new(alloc, &[])?;
@@ -136,6 +139,7 @@ fn try_all<W: World>(
     requires none { tries.old.items ≡ [] }
     ensures ok { IfOk result (λ found. Restarts W.Tells app (W.seen world.old) (W.seen world.new) found tries.new.items) }
     ensures talks { OnErr result (TalksOn W.Tells app (W.seen world.old) (W.seen world.new)) }
+    ensures own { W.Tells → OwnSteps app (W.seen world.old) (W.seen world.new) }
     ensures continues { Continues W.Tells (W.seen world.old) (W.seen world.new) }
 {
     for _attempt in 0..ATTEMPTS {
@@ -165,6 +169,8 @@ pub fn restart<W: World>(
     ensures err { OnErr result (app.new ≡ app.old) }
     // Where memory was wanting too, the attempts go on with the dialogue.
     ensures talks { OnErr result (W.Tells → (s : Before) → s.running ≡ is_running app.old.index (state (W.seen world.old)) → Talks app.old.index s (W.seen world.old) (W.seen world.new)) }
+    // However it ended, there were calls for the application alone, and none gave it an event.
+    ensures own { W.Tells → OwnSteps app.old.index (W.seen world.old) (W.seen world.new) }
     ensures continues { Continues W.Tells (W.seen world.old) (W.seen world.new) }
 {
     let frame = encode_host(alloc, &HostFrame::Restore(ByteList::new(alloc)))?;

@@ -8,6 +8,7 @@ ghost use Rattle.lego_model.specs.Controller.{event_frame};
 ghost use Rattle.lego_model.specs.AtOnce.{Before, before, Passes};
 ghost use Rattle.app_visor.specs.Dialogues.{LeadsOn, Talks};
 ghost use Rattle.app_visor.specs.Beats.{Stops, Leads, Stays};
+ghost use Rattle.app_visor.specs.CallsFor.{Calmly, CalmLater};
 ghost use Rattle.app_frames.specs.declared.frame.AppFrame.TheVariants as frames;
 ghost use Rattle.outside.specs.Seen.{Continues};
 ghost use Rattle.app_visor.specs.Turns.{TurnsFrom, Turns, FramePlayed, Plays, done_as, cause_of, unread_after};
@@ -64,6 +65,7 @@ fn answer<W: World, J: Judge>(
     ensures ok { IfOk result (Plays W.Tells (J.accepts judge.now) app (frames.Message dpid bytes) (W.seen world.old) (W.seen world.new) txn.old.net.now txn.new.net.now) }
     ensures err { IfErr result (λ fault. Stops W.Tells app (W.seen world.old) (W.seen world.new) txn.old.net.now txn.new.net.now fault) }
     ensures talks { OnErr result (W.Tells → (s : Before) → LeadsOn app s (W.seen world.old) (W.seen world.new)) }
+    ensures calm { W.Tells → Calmly app (W.seen world.old) (W.seen world.new) }
 {
     if exchange(alloc, world, txn, app, dpid, bytes.as_slice())? {
         Ok(None)
@@ -87,6 +89,7 @@ fn play<W: World, J: Judge>(
     ensures ok { IfOk result (Plays W.Tells (J.accepts judge.now) app frame (W.seen world.old) (W.seen world.new) txn.old.net.now txn.new.net.now) }
     ensures err { IfErr result (λ fault. Stops W.Tells app (W.seen world.old) (W.seen world.new) txn.old.net.now txn.new.net.now fault) }
     ensures talks { OnErr result (W.Tells → (s : Before) → LeadsOn app s (W.seen world.old) (W.seen world.new)) }
+    ensures calm { W.Tells → Calmly app (W.seen world.old) (W.seen world.new) }
 {
     match frame {
         AppFrame::Message(dpid, bytes) => answer(alloc, world, txn, judge, app, dpid, bytes),
@@ -112,6 +115,7 @@ fn play_next<W: World, J: Judge>(
     ensures ok { IfOk result (λ end. FramePlayed W.Tells (J.accepts judge.now) app end intake.old intake.new (W.seen world.old) (W.seen world.new) txn.old.net.now txn.new.net.now) }
     ensures err { IfErr result (λ fault. Stops W.Tells app (W.seen world.old) (W.seen world.new) txn.old.net.now txn.new.net.now fault) }
     ensures talks { OnErr result (W.Tells → (since : List Act) → LeadsOn app (before intake.old since) (W.seen world.old) (W.seen world.new)) }
+    ensures calm { W.Tells → Calmly app (W.seen world.old) (W.seen world.new) }
 {
     match next_frame(alloc, world, app, intake)? {
         Came::Frame(frame) => play(alloc, world, txn, judge, app, frame),
@@ -134,6 +138,7 @@ fn play_all<W: World, J: Judge>(
     ensures ok { IfOk result (λ end. TurnsFrom W.Tells (J.accepts judge.now) app budget intake.old (W.seen world.old) (W.seen world.new) txn.old.net.now txn.new.net.now end intake.new) }
     ensures err { IfErr result (λ fault. Stops W.Tells app (W.seen world.old) (W.seen world.new) txn.old.net.now txn.new.net.now fault) }
     ensures talks { OnErr result (W.Tells → LeadsOn app (before intake.old []) (W.seen world.old) (W.seen world.new)) }
+    ensures calm { W.Tells → Calmly app (W.seen world.old) (W.seen world.new) }
 {
     for _played in 0..budget {
         if let Some(end) = play_next(alloc, world, txn, judge, app, intake)? {
@@ -180,6 +185,8 @@ pub fn turn<W: World, J: Judge>(
     ensures err { IfErr result (λ fault. Stops W.Tells app.old.index (W.seen world.old) (W.seen world.new) txn.old.net.now txn.new.net.now fault) }
     // Then too the turn goes on with the dialogue, where the application runs.
     ensures talks { OnErr result (W.Tells → (s : Before) → s.running ≡ true → Passes s.unread app.old.rest → Talks app.old.index s (W.seen world.old) (W.seen world.new)) }
+    // However it ended, no other application was called, and no place behind the one where it began was quiet.
+    ensures later { W.Tells → CalmLater app.old.index (W.seen world.old) (W.seen world.new) }
     ensures continues { Continues W.Tells (W.seen world.old) (W.seen world.new) }
 {
     let rest = replace(&mut app.rest, ByteList::new(alloc));

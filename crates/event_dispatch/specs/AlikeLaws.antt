@@ -1,4 +1,5 @@
--- Laws of whole runs that a fault ended: they are the reference controller's as far as they go, if the world kept its word as far as there.
+-- Laws of whole runs that a fault ended: they are the reference controller's as far as they go, if the world kept its word as far as there,
+-- and no quiet place lies behind.
 use Rattle.std.proofs.Common.{◌≡◌, ℕ, ◌<◌, Bool, true, false, List, [], ◌++◌, length, Option, sym, ap, ◌∙◌, subst, arith, inl, inr}
 use Rattle.std.specs.Io.KnownBytes.{append_known}
 use Rattle.lego_io.specs.Sink.{TookPart}
@@ -10,10 +11,16 @@ use Rattle.lego_model.specs.AtOnce.{AtOnce}
 use Rattle.outside.specs.SeenLaws.{Continues-trans}
 use Rattle.outside.specs.StateLaws.{Conforming-before}
 use Rattle.outside.specs.Conforming.{Conforming}
+use Rattle.outside.specs.InOrder.{InOrder}
+use Rattle.outside.specs.InOrderLaws.{InOrder-before, messages-of}
+use Rattle.outside.specs.Quiet.{IsLastQuiet}
+use Rattle.outside.specs.QuietLaws.{last_quiet-of, last_quiet-then}
+use Rattle.app_visor.specs.CallsFor.{CallsFor}
+use Rattle.app_visor.specs.CalmLaws.{calls_then}
 use Rattle.shown_runs.specs.Engine.{Engine, index, stimuli_in}
 use Rattle.shown_runs.specs.Readings.{JudgesAlike}
 use Rattle.shown_runs.specs.Moves.{Moved, Rounds}
-use Rattle.shown_runs.specs.FirstLaws.{IsOpened, engine_at_first, settled-first}
+use Rattle.shown_runs.specs.FirstLaws.{IsOpened, net_at_first, engine_at_first, settled-first}
 use Rattle.shown_runs.specs.EndingLaws.{whole-of}
 use Rattle.shown_runs.specs.WholeRun.{all_started}
 use Rattle.shown_runs.specs.Promise.{most_rounds, PremiseSoFar}
@@ -28,8 +35,11 @@ use Rattle.event_dispatch.specs.Why.{served_by}
 use Rattle.event_dispatch.specs.Shows.{engine_of}
 use Rattle.event_dispatch.specs.RoundLaws.{writes_then}
 use Rattle.event_dispatch.specs.Talking.{KeepsTalking, GoesOnTalking}
+use Rattle.event_dispatch.specs.Steady.{Reads, Quietly, AtMostHere}
+use Rattle.event_dispatch.specs.SteadyLaws.{reads_then}
+use Rattle.event_dispatch.specs.FrontLaws.{keeps_first, keeps_to, calm_rest}
 use Rattle.event_dispatch.specs.Serves.{IsBatch, IsCut}
-use Rattle.event_dispatch.specs.Cut.{IsStill, CutOne, CutBehind, CutRound, StartPart, CutStart, CutEnd, CutGoing, CutEnding, CutGoes, CutRun}
+use Rattle.event_dispatch.specs.Cut.{IsStill, CutOne, StopsBatch, CutBehind, CutRound, StartPart, CutStart, CutEnd, CutGoing, CutEnding, CutGoes, CutRun}
 
 -- ---- A fault that is not the sink's
 
@@ -81,6 +91,26 @@ end_talks Tells faults.Next a b old new e other cut = cut.1
 end_talks Tells (faults.Txn fault) a b old new e other cut = cut.1
 end_talks Tells faults.NoMemory a b old new e other cut = cut.1
 
+-- ---- Behind which no quiet place lies
+
+one_here : {Own : Type 0} (Tells : Type 0) (accepts : List TableView → Bool) (fault : Fault) (a b : Option (List ℕ)) (old new : Seen Own) (e : Engine) → NotWrite fault → CutOne Tells accepts fault a b old new e → AtMostHere Tells old new
+one_here Tells accepts faults.Write a b old new e other cut = absurd other
+one_here Tells accepts faults.Next a b old new e other cut = cut.2
+one_here Tells accepts (faults.Txn fault) a b old new e other cut = cut.2
+one_here Tells accepts faults.NoMemory a b old new e other cut = cut.2
+
+start_quietly : {Own : Type 0} (Tells : Type 0) (fault : Fault) (a b : Option (List ℕ)) (old new : Seen Own) (e : Engine) → NotWrite fault → CutStart Tells fault a b old new e → Quietly Tells old new
+start_quietly Tells faults.Write a b old new e other cut = absurd other
+start_quietly Tells faults.Next a b old new e other cut = cut.2
+start_quietly Tells (faults.Txn fault) a b old new e other cut = cut.2
+start_quietly Tells faults.NoMemory a b old new e other cut = cut.2
+
+end_quietly : {Own : Type 0} (Tells : Type 0) (fault : Fault) (a b : Option (List ℕ)) (old new : Seen Own) (e : Engine) → NotWrite fault → CutEnd Tells fault a b old new e → Quietly Tells old new
+end_quietly Tells faults.Write a b old new e other cut = absurd other
+end_quietly Tells faults.Next a b old new e other cut = cut.2
+end_quietly Tells (faults.Txn fault) a b old new e other cut = cut.2
+end_quietly Tells faults.NoMemory a b old new e other cut = cut.2
+
 -- ---- What is supposed of a world that was opened, whose run stopped somewhere
 
 record Supposed {Own : Type 0} (Tells : Type 0) (accepts : List TableView → Bool) (allows : List Place → Bool) (first stop seen : Seen Own) : Type 0 where
@@ -89,33 +119,59 @@ record Supposed {Own : Type 0} (Tells : Type 0) (accepts : List TableView → Bo
   opened : IsOpened first
   few : (front : Seen Own) → Conforming front → seen.given ≡ front.given → Longer front.history seen.history → length (stimuli_in front) < most_rounds
   whole : Continues Tells first seen
+  before : Continues Tells first stop
   later : Continues Tells stop seen
   talks : KeepsTalking Tells stop seen
+  quietly : Quietly Tells stop seen
 
--- up to a place from which the run went on to where it stopped
-cut_at : {Own : Type 0} {Tells : Type 0} {accepts : List TableView → Bool} {allows : List Place → Bool} (a b : Option (List ℕ)) (first stop seen : Seen Own) (p : Supposed Tells accepts allows first stop seen) (last : Seen Own) → Continues Tells last stop → (Conforming last → AtOnce index (journal stop.history)) → (Conforming last → CutSo allows last a b) → CutAlike allows seen a b
-cut_at {Tells = Tells} a b first stop seen p last on said so =
-    let later = Continues-trans Tells last stop seen on p.later in
-    record { last = last; given = later.given; later = later.told p.told; so = so; at_once = λ keeps. p.talks.talks p.told (said keeps) }
+-- A place from which the run went on to where it stopped: in a world that tells in order this kept its word as far as there, and no quiet
+-- place lies behind.
+record IsStop {Own : Type 0} (Tells : Type 0) (last stop : Seen Own) : Type 0 where
+  on : Continues Tells last stop
+  keeps : InOrder last → Conforming last
+  quiet : Conforming last → InOrder stop → IsLastQuiet last stop
+  own : CallsFor index last stop
+
+-- up to such a place
+cut_at : {Own : Type 0} {Tells : Type 0} {accepts : List TableView → Bool} {allows : List Place → Bool} (a b : Option (List ℕ)) (first stop seen : Seen Own) (p : Supposed Tells accepts allows first stop seen) (last : Seen Own) → IsStop Tells last stop → (Conforming last → AtOnce index (journal stop.history)) → (Conforming last → CutSo allows last a b) → CutAlike allows seen a b
+cut_at {Tells = Tells} a b first stop seen p last is said so =
+    let later = Continues-trans Tells last stop seen is.on p.later in
+    record {
+      last = last;
+      given = later.given;
+      later = later.told p.told;
+      so = so;
+      at_once = λ keeps. p.talks.talks p.told (said keeps);
+      read = λ order. messages-of last (is.keeps (InOrder-before p.told later order));
+      quiet = λ order. last_quiet-then (is.quiet (is.keeps (InOrder-before p.told later order)) (InOrder-before p.told p.later order)) (p.quietly.unquiet p.told);
+      own = calls_then is.own (p.quietly.own p.told);
+    }
 
 -- up to where it stopped
-writing_at : {Own : Type 0} {Tells : Type 0} {accepts : List TableView → Bool} {allows : List Place → Bool} (a b : Option (List ℕ)) (first stop seen : Seen Own) (p : Supposed Tells accepts allows first stop seen) → (Conforming stop → WritingSo allows stop a b) → CutWriting allows seen a b
-writing_at a b first stop seen p so = record { last = stop; given = p.later.given; later = p.later.told p.told; so = so; at_once = λ keeps. p.talks.talks p.told (so keeps).up_to.at_once }
+writing_at : {Own : Type 0} {Tells : Type 0} {accepts : List TableView → Bool} {allows : List Place → Bool} (a b : Option (List ℕ)) (first stop seen : Seen Own) (p : Supposed Tells accepts allows first stop seen) → (InOrder stop → Conforming stop) → (Conforming stop → WritingSo allows stop a b) → CutWriting allows seen a b
+writing_at a b first stop seen p keeps so = record {
+  last = stop;
+  given = p.later.given;
+  later = p.later.told p.told;
+  so = so;
+  at_once = λ keeps. p.talks.talks p.told (so keeps).up_to.at_once;
+  read = λ order. messages-of stop (keeps (InOrder-before p.told p.later order));
+  quiet = λ order. last_quiet-of (p.quietly.unquiet p.told);
+  own = p.quietly.own p.told;
+}
 
 -- ---- The start
 
-start_alike : {Own : Type 0} {Tells : Type 0} {accepts : List TableView → Bool} {allows : List Place → Bool} {a b : Option (List ℕ)} {first stop seen : Seen Own} (p : Supposed Tells accepts allows first stop seen) → b ≡ a → KeepsTalking Tells first stop → CutAlike allows seen a b
-start_alike {allows = allows} {a = a} {b = b} {first = first} p same talks = record {
-  last = first;
-  given = p.whole.given;
-  later = p.whole.told p.told;
-  so = λ keeps. cut-so allows false 0 [] a b first first engine_at_first p.opened (gone-none allows first engine_at_first (settled-first first p.opened)) (omega arith) keeps (same ∙ sym (append_known-nil a));
-  at_once = λ keeps. p.talks.talks p.told (talks.talks p.told (settled-first first p.opened).speaks.at_once);
-}
+start_alike : {Own : Type 0} {Tells : Type 0} {accepts : List TableView → Bool} {allows : List Place → Bool} {a b : Option (List ℕ)} {first stop seen : Seen Own} (p : Supposed Tells accepts allows first stop seen) → b ≡ a → KeepsTalking Tells first stop → Quietly Tells first stop → CutAlike allows seen a b
+start_alike {allows = allows} {a = a} {b = b} {first = first} {stop = stop} {seen = seen} p same talks quietly =
+    let is : IsStop _ first stop = record { on = p.before; keeps = keeps_first first p.opened; quiet = λ keeps order. last_quiet-of (quietly.unquiet p.told); own = quietly.own p.told } in
+    cut_at a b first stop seen p first is (λ keeps. talks.talks p.told (settled-first first p.opened).speaks.at_once) (λ keeps.
+    cut-so allows false 0 [] a b first first engine_at_first p.opened (gone-none allows first engine_at_first (settled-first first p.opened)) (omega arith) keeps (same ∙ sym (append_known-nil a)))
 
 start_writing : {Own : Type 0} {Tells : Type 0} {accepts : List TableView → Bool} {allows : List Place → Bool} {a b : Option (List ℕ)} {first stop seen : Seen Own} (p : Supposed Tells accepts allows first stop seen) → StartPart Tells a b first stop engine_at_first → CutWriting allows seen a b
 start_writing {allows = allows} {a = a} {b = b} {first = first} {stop = stop} {seen = seen} p cut =
-    writing_at a b first stop seen p (λ keeps. start-so allows cut.more a b first stop cut.now_engine p.opened (cut.shown.moved p.told keeps (settled-first first p.opened)) keeps cut.part)
+    writing_at a b first stop seen p (keeps_to first stop p.told p.opened p.before cut.reads) (λ keeps.
+    start-so allows cut.more a b first stop cut.now_engine p.opened (cut.shown.moved p.told keeps (settled-first first p.opened)) keeps cut.part)
 
 -- ---- Rounds
 
@@ -154,13 +210,47 @@ some_held : {Own : Type 0} {Tells : Type 0} {accepts : List TableView → Bool} 
 some_held {a = a} p g h =
     h.some.some.writes.written ∙ ap (λ (o : Option (List ℕ)). append_known o h.some.some.text) (rounds_held p g) ∙ sym (append_known-append a (g.text ++ g.rounds.rounds.text) h.some.some.text)
 
+-- what came up to there was read
+rounds_on : {Own : Type 0} {Tells : Type 0} {accepts : List TableView → Bool} {allows : List Place → Bool} {fault : Fault} {a b : Option (List ℕ)} {first stop seen : Seen Own} (p : Supposed Tells accepts allows first stop seen) (g : CutGoing Tells accepts fault a b first stop engine_at_first) → Continues Tells first g.rounds.mid
+rounds_on {Tells = Tells} {first = first} p g = Continues-trans Tells first g.begun g.rounds.mid g.first g.rounds.on
+
+rounds_read : {Own : Type 0} {Tells : Type 0} {accepts : List TableView → Bool} {allows : List Place → Bool} {fault : Fault} {a b : Option (List ℕ)} {first stop seen : Seen Own} (p : Supposed Tells accepts allows first stop seen) (g : CutGoing Tells accepts fault a b first stop engine_at_first) → Reads Tells first g.rounds.mid net_at_first g.rounds.mid_run.net
+rounds_read {first = first} p g = reads_then first g.begun g.rounds.mid net_at_first g.begun_run.net g.rounds.mid_run.net g.first g.rounds.on g.starts_read g.rounds.reads
+
+some_on : {Own : Type 0} {Tells : Type 0} {accepts : List TableView → Bool} {allows : List Place → Bool} {fault : Fault} {a b : Option (List ℕ)} {first stop seen : Seen Own} (p : Supposed Tells accepts allows first stop seen) (g : CutGoing Tells accepts fault a b first stop engine_at_first) (h : CutBehind Tells accepts fault g.rounds.held b g.rounds.mid stop g.rounds.mid_run) → Continues Tells first h.some.mid
+some_on {Tells = Tells} {first = first} p g h = Continues-trans Tells first h.mid h.some.mid (Continues-trans Tells first g.rounds.mid h.mid (rounds_on p g) h.first) h.some.on
+
+some_read : {Own : Type 0} {Tells : Type 0} {accepts : List TableView → Bool} {allows : List Place → Bool} {fault : Fault} {a b : Option (List ℕ)} {first stop seen : Seen Own} (p : Supposed Tells accepts allows first stop seen) (g : CutGoing Tells accepts fault a b first stop engine_at_first) (h : CutBehind Tells accepts fault g.rounds.held b g.rounds.mid stop g.rounds.mid_run) → Reads Tells first h.some.mid net_at_first h.some.mid_run.net
+some_read {Tells = Tells} {first = first} p g h =
+    let behind = reads_then first g.rounds.mid h.mid net_at_first g.rounds.mid_run.net h.mid_run.net (rounds_on p g) h.first (rounds_read p g) h.reads in
+    reads_then first h.mid h.some.mid net_at_first h.mid_run.net h.some.mid_run.net (Continues-trans Tells first g.rounds.mid h.mid (rounds_on p g) h.first) h.some.on behind h.some.reads
+
+-- a fault ended what comes next, which leaves no quiet place behind
+round_stop : {Own : Type 0} {Tells : Type 0} {accepts : List TableView → Bool} {allows : List Place → Bool} {fault : Fault} {a b : Option (List ℕ)} {first stop seen : Seen Own} (p : Supposed Tells accepts allows first stop seen) (g : CutGoing Tells accepts fault a b first stop engine_at_first) → StopsBatch Tells g.rounds.mid stop g.rounds.mid_run.net → IsStop Tells g.rounds.mid stop
+round_stop {first = first} {stop = stop} {seen = seen} p g stops = record {
+  on = g.rounds.later;
+  keeps = keeps_to first g.rounds.mid p.told p.opened (rounds_on p g) (rounds_read p g);
+  quiet = λ keeps order.
+      let calm = (rounds_gone p g keeps).moved.settled.calm in
+      (stops.here calm.kept).last p.told order (calm_rest g.rounds.mid g.rounds.mid_run.net keeps calm);
+  own = stops.own p.told;
+}
+
+some_stop : {Own : Type 0} {Tells : Type 0} {accepts : List TableView → Bool} {allows : List Place → Bool} {fault : Fault} {a b : Option (List ℕ)} {first stop seen : Seen Own} (p : Supposed Tells accepts allows first stop seen) (g : CutGoing Tells accepts fault a b first stop engine_at_first) (h : CutBehind Tells accepts fault g.rounds.held b g.rounds.mid stop g.rounds.mid_run) → AtMostHere Tells h.some.mid stop → IsStop Tells h.some.mid stop
+some_stop {first = first} {stop = stop} {seen = seen} p g h here = record {
+  on = h.some.later;
+  keeps = keeps_to first h.some.mid p.told p.opened (some_on p g h) (some_read p g h);
+  quiet = λ keeps order. here.last p.told order (calm_rest h.some.mid h.some.mid_run.net keeps (some_gone p g h keeps).moved.settled.calm);
+  own = here.own p.told;
+}
+
 round_alike : {Own : Type 0} {Tells : Type 0} {accepts : List TableView → Bool} {allows : List Place → Bool} {fault : Fault} {a b : Option (List ℕ)} {first stop seen : Seen Own} (p : Supposed Tells accepts allows first stop seen) (g : CutGoing Tells accepts fault a b first stop engine_at_first) → NotWrite fault → CutRound Tells accepts fault g.rounds.held b g.rounds.mid stop g.rounds.mid_run → CutAlike allows seen a b
 round_alike {allows = allows} {fault = fault} {a = a} {b = b} {first = first} {stop = stop} {seen = seen} p g other (inl still) =
-    cut_at a b first stop seen p g.rounds.mid g.rounds.later (λ keeps. still.1.talks p.told (rounds_gone p g keeps).moved.settled.speaks.at_once) (λ keeps.
+    cut_at a b first stop seen p g.rounds.mid (round_stop p g still.2) (λ keeps. still.1.talks p.told (rounds_gone p g keeps).moved.settled.speaks.at_once) (λ keeps.
     cut-so allows true 0 (g.text ++ g.rounds.rounds.text) a b first g.rounds.mid (engine_of g.rounds.mid_run) p.opened (rounds_gone p g keeps) (omega arith) keeps
     (still_held fault g.rounds.held b still.0 ∙ rounds_held p g))
 round_alike {Tells = Tells} {accepts = accepts} {allows = allows} {fault = fault} {a = a} {b = b} {first = first} {stop = stop} {seen = seen} p g other (inr h) =
-    cut_at a b first stop seen p h.some.mid h.some.later
+    cut_at a b first stop seen p h.some.mid (some_stop p g h (one_here Tells accepts fault h.some.held b h.some.mid stop (engine_of h.some.mid_run) other h.some.one))
     (λ keeps. (one_talks Tells accepts fault h.some.held b h.some.mid stop (engine_of h.some.mid_run) other h.some.one).talks p.told (some_gone p g h keeps).moved.settled.speaks) (λ keeps.
     cut-so allows true h.some.number ((g.text ++ g.rounds.rounds.text) ++ h.some.some.text) a b first h.some.mid (engine_of h.some.mid_run) p.opened (some_gone p g h keeps) (omega (arith, h.some.few)) keeps
     (one_held Tells accepts fault h.some.held b h.some.mid stop (engine_of h.some.mid_run) other h.some.one ∙ some_held p g h))
@@ -169,7 +259,8 @@ round_writing : {Own : Type 0} {Tells : Type 0} {accepts : List TableView → Bo
 round_writing p g (inl still) = absurd still.0
 round_writing {allows = allows} {a = a} {b = b} {first = first} {stop = stop} {seen = seen} p g (inr h) =
     let one = h.some.one in
-    writing_at a b first stop seen p (λ keeps.
+    let reads = reads_then first h.some.mid stop net_at_first h.some.mid_run.net one.now_engine.net (some_on p g h) h.some.later (some_read p g h) one.reads in
+    writing_at a b first stop seen p (keeps_to first stop p.told p.opened p.before reads) (λ keeps.
     let gone = some_gone p g h (Conforming-before p.told h.some.later keeps) in
     event-so allows h.some.number ((g.text ++ g.rounds.rounds.text) ++ h.some.some.text) one.more a b first h.some.mid stop (engine_of h.some.mid_run) one.now_engine p.opened gone
     (one.shown.moved allows p.told keeps p.judges gone.moved.settled) h.some.few keeps
@@ -187,9 +278,23 @@ last_gone {Tells = Tells} {accepts = accepts} {allows = allows} {first = first} 
 last_held : {Own : Type 0} {Tells : Type 0} {accepts : List TableView → Bool} {allows : List Place → Bool} {fault : Fault} {a b : Option (List ℕ)} {first stop seen : Seen Own} (p : Supposed Tells accepts allows first stop seen) (n : CutEnding Tells accepts fault a b first stop engine_at_first) → n.last_held ≡ append_known a (n.text ++ n.rounds.text)
 last_held {a = a} p n = (writes_then n.text n.rounds.text a n.held n.last_held n.begun_run n.last_run n.writes n.rounds.writes).written
 
+last_on : {Own : Type 0} {Tells : Type 0} {accepts : List TableView → Bool} {allows : List Place → Bool} {fault : Fault} {a b : Option (List ℕ)} {first stop seen : Seen Own} (p : Supposed Tells accepts allows first stop seen) (n : CutEnding Tells accepts fault a b first stop engine_at_first) → Continues Tells first n.last
+last_on {Tells = Tells} {first = first} p n = Continues-trans Tells first n.begun n.last n.first n.on
+
+last_read : {Own : Type 0} {Tells : Type 0} {accepts : List TableView → Bool} {allows : List Place → Bool} {fault : Fault} {a b : Option (List ℕ)} {first stop seen : Seen Own} (p : Supposed Tells accepts allows first stop seen) (n : CutEnding Tells accepts fault a b first stop engine_at_first) → Reads Tells first n.last net_at_first n.last_run.net
+last_read {first = first} p n = reads_then first n.begun n.last net_at_first n.begun_run.net n.last_run.net n.first n.on n.starts_read n.rounds_read
+
+last_stop : {Own : Type 0} {Tells : Type 0} {accepts : List TableView → Bool} {allows : List Place → Bool} {fault : Fault} {a b : Option (List ℕ)} {first stop seen : Seen Own} (p : Supposed Tells accepts allows first stop seen) (n : CutEnding Tells accepts fault a b first stop engine_at_first) → Quietly Tells n.last stop → IsStop Tells n.last stop
+last_stop {first = first} {stop = stop} {seen = seen} p n quietly = record {
+  on = n.later;
+  keeps = keeps_to first n.last p.told p.opened (last_on p n) (last_read p n);
+  quiet = λ keeps order. last_quiet-of (quietly.unquiet p.told);
+  own = quietly.own p.told;
+}
+
 end_alike : {Own : Type 0} {Tells : Type 0} {accepts : List TableView → Bool} {allows : List Place → Bool} {fault : Fault} {a b : Option (List ℕ)} {first stop seen : Seen Own} (p : Supposed Tells accepts allows first stop seen) (n : CutEnding Tells accepts fault a b first stop engine_at_first) → NotWrite fault → CutAlike allows seen a b
 end_alike {Tells = Tells} {allows = allows} {fault = fault} {a = a} {b = b} {first = first} {stop = stop} {seen = seen} p n other =
-    cut_at a b first stop seen p n.last n.later
+    cut_at a b first stop seen p n.last (last_stop p n (end_quietly Tells fault n.last_held b n.last stop (engine_of n.last_run) other n.ends))
     (λ keeps. (end_talks Tells fault n.last_held b n.last stop (engine_of n.last_run) other n.ends).talks p.told (last_gone p n keeps).moved.settled.speaks.at_once) (λ keeps.
     cut-so allows true 1000 (n.text ++ n.rounds.text) a b first n.last (engine_of n.last_run) p.opened (last_gone p n keeps) (omega arith) keeps
     (end_held Tells fault n.last_held b n.last stop (engine_of n.last_run) other n.ends ∙ last_held p n))
@@ -197,7 +302,8 @@ end_alike {Tells = Tells} {allows = allows} {fault = fault} {a = a} {b = b} {fir
 end_writing : {Own : Type 0} {Tells : Type 0} {accepts : List TableView → Bool} {allows : List Place → Bool} {a b : Option (List ℕ)} {first stop seen : Seen Own} (p : Supposed Tells accepts allows first stop seen) (n : CutEnding Tells accepts faults.Write a b first stop engine_at_first) → CutWriting allows seen a b
 end_writing {allows = allows} {a = a} {b = b} {first = first} {stop = stop} {seen = seen} p n =
     let cut = n.ends in
-    writing_at a b first stop seen p (λ keeps.
+    let reads = reads_then first n.last stop net_at_first n.last_run.net cut.now_net (last_on p n) n.later (last_read p n) cut.reads in
+    writing_at a b first stop seen p (keeps_to first stop p.told p.opened p.before reads) (λ keeps.
     let gone = last_gone p n (Conforming-before p.told n.later keeps) in
     let shown = cut.shown p.told keeps gone.moved.settled.calm in
     end-so allows (n.text ++ n.rounds.text) cut.more a b first n.last stop (engine_of n.last_run) p.opened gone n.none_left shown.0 shown.1 keeps
@@ -206,7 +312,7 @@ end_writing {allows = allows} {a = a} {b = b} {first = first} {stop = stop} {see
 -- ---- All of it
 
 goes_alike : {Own : Type 0} {Tells : Type 0} {accepts : List TableView → Bool} {allows : List Place → Bool} {fault : Fault} {a b : Option (List ℕ)} {first stop seen : Seen Own} (p : Supposed Tells accepts allows first stop seen) → NotWrite fault → CutGoes Tells accepts fault a b first stop engine_at_first → CutAlike allows seen a b
-goes_alike {Tells = Tells} {fault = fault} {a = a} {b = b} {first = first} {stop = stop} p other (inl cut) = start_alike p (start_held Tells fault a b first stop engine_at_first other cut) (start_talks Tells fault a b first stop engine_at_first other cut)
+goes_alike {Tells = Tells} {fault = fault} {a = a} {b = b} {first = first} {stop = stop} p other (inl cut) = start_alike p (start_held Tells fault a b first stop engine_at_first other cut) (start_talks Tells fault a b first stop engine_at_first other cut) (start_quietly Tells fault a b first stop engine_at_first other cut)
 goes_alike p other (inr (inl g)) = round_alike p g other g.rounds.round
 goes_alike p other (inr (inr n)) = end_alike p n other
 
@@ -226,5 +332,5 @@ by_fault faults.NoMemory p goes = inl (goes_alike p tt goes)
 pub so_cut : {Own : Type 0} (Tells : Type 0) (accepts : List TableView → Bool) (allows : List Place → Bool) (end : Served) (a b : Option (List ℕ)) (old first seen : Seen Own) → PremiseSoFar Tells accepts allows old seen → IsOpened first
     → Continues Tells first seen → CutRun Tells accepts end a b first seen engine_at_first → IsCut allows seen a b end
 so_cut Tells accepts allows end a b old first seen premise opened whole cut =
-    let p : Supposed Tells accepts allows first cut.stop seen = record { told = premise.told; judges = premise.judges; opened = opened; few = premise.few; whole = whole; later = cut.later; talks = cut.talks } in
+    let p : Supposed Tells accepts allows first cut.stop seen = record { told = premise.told; judges = premise.judges; opened = opened; few = premise.few; whole = whole; before = cut.before; later = cut.later; talks = cut.talks; quietly = cut.quietly } in
     subst (IsCut allows seen a b) (sym cut.is) (by_fault cut.fault p cut.goes)

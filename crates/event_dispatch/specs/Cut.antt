@@ -1,12 +1,16 @@
 -- A run that a fault ends, in the words of what is seen and kept: the parts that were done, and what was written of the one that was not,
--- which goes on with the dialogue with the application. All of this is our own.
-use Rattle.std.specs.Prelude.{◌≡◌, ℕ, ◌≤◌, ◌⊎◌, Bool, List, [], Option}
+-- which goes on with the dialogue with the application and leaves no quiet place behind it. All of this is our own.
+use Rattle.std.specs.Prelude.{◌≡◌, ℕ, ◌≤◌, ◌⊎◌, Bool, List, [], Option, Result, Ok, Err}
 use Rattle.lego_io.specs.Sink.{TookPart}
 use Rattle.flow_table.specs.declared.view.TableView.{TableView}
 use Rattle.outside.specs.Seen.{Seen, Continues}
 use Rattle.outside.specs.Conforming.{Conforming}
+use Rattle.outside.specs.InOrder.{InOrder, BringMessages, MessagesSince}
+use Rattle.net_txn.specs.Net.{NetState}
+use Rattle.net_txn.specs.Abreast.{Abreast}
+use Rattle.app_visor.specs.CallsFor.{CallsFor}
 use Rattle.shown_batches.specs.Calm.{Calm}
-use Rattle.shown_runs.specs.Engine.{Engine}
+use Rattle.shown_runs.specs.Engine.{Engine, index}
 use Rattle.shown_runs.specs.Moves.{Shown, dispatch_next}
 use Rattle.shown_runs.specs.Endings.{Leaves, ShownStart}
 use Rattle.shown_runs.specs.LastReport.{last_text}
@@ -19,7 +23,8 @@ use Rattle.event_dispatch.specs.declared.served.Served.TheVariants as served
 use Rattle.event_dispatch.specs.Why.{served_by}
 use Rattle.event_dispatch.specs.Shows.{engine_of}
 use Rattle.event_dispatch.specs.Talking.{KeepsTalking, GoesOnTalking}
-use Rattle.event_dispatch.specs.Serves.{Writes, SettlesSome, IsBatch, GoesRounds, GoesToEnd}
+use Rattle.event_dispatch.specs.Steady.{Reads, Quietly, AtMostHere}
+use Rattle.event_dispatch.specs.Serves.{Writes, SettlesSome, IsBatch, GoesRounds, GoesToEnd, Begins}
 
 -- Nothing was written, and it was not the sink that failed.
 abbrev pub IsStill : Fault → Option (List ℕ) → Option (List ℕ) → Type 0
@@ -33,12 +38,13 @@ pub record EventPart {Own : Type 0} (Tells : Type 0) (accepts : List TableView �
   pub more : List ℕ
   pub now_engine : Engine
   pub shown : Shown Tells accepts [] dispatch_next more old new e now_engine
+  pub reads : Reads Tells old new e.net now_engine.net
   pub part : TookPart contents now_contents more
 
 -- a fault ended its dispatch, or it was that
 abbrev pub CutOne : {Own : Type 0} → Type 0 → (List TableView → Bool) → Fault → Option (List ℕ) → Option (List ℕ) → Seen Own → Seen Own → Engine → Type 0
 CutOne Tells accepts faults.Write contents now_contents old new e = EventPart Tells accepts contents now_contents old new e
-CutOne Tells accepts other contents now_contents old new e = (now_contents ≡ contents) × GoesOnTalking Tells old new e
+CutOne Tells accepts other contents now_contents old new e = (now_contents ≡ contents) × GoesOnTalking Tells old new e × AtMostHere Tells old new
 
 -- so many were settled before it
 pub record CutSome {Own : Type 0} (Tells : Type 0) (accepts : List TableView → Bool) (fault : Fault) (contents now_contents : Option (List ℕ)) (old new : Seen Own) (r : Run) : Type 0 where
@@ -49,6 +55,7 @@ pub record CutSome {Own : Type 0} (Tells : Type 0) (accepts : List TableView →
   pub few : number ≤ 999
   pub on : Continues Tells old mid
   pub some : SettlesSome Tells accepts number contents held old mid r mid_run
+  pub reads : Reads Tells old mid r.net mid_run.net
   pub later : Continues Tells mid new
   pub one : CutOne Tells accepts fault held now_contents mid new (engine_of mid_run)
 
@@ -61,12 +68,18 @@ pub record CutBehind {Own : Type 0} (Tells : Type 0) (accepts : List TableView �
   pub mid_run : Run
   pub first : Continues Tells old mid
   pub batch : IsBatch Tells rest old mid (engine_of r) (engine_of mid_run)
+  pub reads : Reads Tells old mid r.net mid_run.net
   pub later : Continues Tells mid new
   pub some : CutSome Tells accepts fault contents now_contents mid new mid_run
 
--- it ended the batch, or that
+-- it ended the batch, where no quiet place lies behind, if nothing was kept before it
+pub record StopsBatch {Own : Type 0} (Tells : Type 0) (old new : Seen Own) (net : NetState) : Type 0 where
+  pub here : net.kept ≡ [] → AtMostHere Tells old new
+  pub own : Tells → CallsFor index old new
+
+-- the one or the other
 abbrev pub CutRound : {Own : Type 0} → Type 0 → (List TableView → Bool) → Fault → Option (List ℕ) → Option (List ℕ) → Seen Own → Seen Own → Run → Type 0
-CutRound Tells accepts fault contents now_contents old new r = (IsStill fault contents now_contents × KeepsTalking Tells old new) ⊎ CutBehind Tells accepts fault contents now_contents old new r
+CutRound Tells accepts fault contents now_contents old new r = (IsStill fault contents now_contents × KeepsTalking Tells old new × StopsBatch Tells old new r.net) ⊎ CutBehind Tells accepts fault contents now_contents old new r
 
 -- so many rounds were gone before it
 pub record CutRounds {Own : Type 0} (Tells : Type 0) (accepts : List TableView → Bool) (fault : Fault) (contents now_contents : Option (List ℕ)) (old new : Seen Own) (r : Run) : Type 0 where
@@ -76,6 +89,7 @@ pub record CutRounds {Own : Type 0} (Tells : Type 0) (accepts : List TableView �
   pub held : Option (List ℕ)
   pub on : Continues Tells old mid
   pub rounds : GoesRounds Tells accepts number contents held old mid r mid_run
+  pub reads : Reads Tells old mid r.net mid_run.net
   pub later : Continues Tells mid new
   pub round : CutRound Tells accepts fault held now_contents mid new mid_run
 
@@ -86,21 +100,24 @@ pub record StartPart {Own : Type 0} (Tells : Type 0) (contents now_contents : Op
   pub more : List ℕ
   pub now_engine : Engine
   pub shown : ShownStart Tells more old new e now_engine
+  pub reads : Reads Tells old new e.net now_engine.net
   pub part : TookPart contents now_contents more
 
 abbrev pub CutStart : {Own : Type 0} → Type 0 → Fault → Option (List ℕ) → Option (List ℕ) → Seen Own → Seen Own → Engine → Type 0
 CutStart Tells faults.Write contents now_contents old new e = StartPart Tells contents now_contents old new e
-CutStart Tells other contents now_contents old new e = (now_contents ≡ contents) × KeepsTalking Tells old new
+CutStart Tells other contents now_contents old new e = (now_contents ≡ contents) × KeepsTalking Tells old new × Quietly Tells old new
 
 -- the sink took a part of the lines of the end, for which switches were asked
 pub record EndPart {Own : Type 0} (Tells : Type 0) (contents now_contents : Option (List ℕ)) (last new : Seen Own) (e : Engine) : Type 0 where
   pub more : List ℕ
+  pub now_net : NetState
   pub shown : Tells → Conforming new → Calm last e.net → (more ≡ last_text last e) × Leaves last new
+  pub reads : Reads Tells last new e.net now_net
   pub part : TookPart contents now_contents more
 
 abbrev pub CutEnd : {Own : Type 0} → Type 0 → Fault → Option (List ℕ) → Option (List ℕ) → Seen Own → Seen Own → Engine → Type 0
 CutEnd Tells faults.Write contents now_contents last new e = EndPart Tells contents now_contents last new e
-CutEnd Tells other contents now_contents last new e = (now_contents ≡ contents) × KeepsTalking Tells last new
+CutEnd Tells other contents now_contents last new e = (now_contents ≡ contents) × KeepsTalking Tells last new × Quietly Tells last new
 
 -- of a report to which no event is left
 pub record CutFinish {Own : Type 0} (Tells : Type 0) (end : Served) (contents now_contents : Option (List ℕ)) (last new : Seen Own) (e : Engine) : Type 0 where
@@ -121,12 +138,23 @@ pub record CutGoing {Own : Type 0} (Tells : Type 0) (accepts : List TableView �
   pub begun : Seen Own
   pub begun_run : Run
   pub held : Option (List ℕ)
+  pub first : Continues Tells old begun
   pub starts : ShownStart Tells text old begun e (engine_of begun_run)
+  pub starts_read : Reads Tells old begun e.net begun_run.net
   pub writes : Writes text contents held begun_run
   pub later : Continues Tells begun new
   pub rounds : CutRounds Tells accepts fault held now_contents begun new begun_run
 
--- or all of them, and then came the end
+-- or all of them,
+pub record WentToEnd {Own : Type 0} (Tells : Type 0) (accepts : List TableView → Bool) (contents held last_held : Option (List ℕ)) (old begun last : Seen Own) (r begun_run last_run : Run) : Type 0 where
+  pub first : Continues Tells old begun
+  pub begins : Begins Tells contents held old begun r begun_run
+  pub starts_read : Reads Tells old begun r.net begun_run.net
+  pub on : Continues Tells begun last
+  pub rounds : GoesToEnd Tells accepts held last_held begun last begun_run last_run
+  pub rounds_read : Reads Tells begun last begun_run.net last_run.net
+
+-- and then came the end
 pub record CutEnding {Own : Type 0} (Tells : Type 0) (accepts : List TableView → Bool) (fault : Fault) (contents now_contents : Option (List ℕ)) (old new : Seen Own) (e : Engine) : Type 0 where
   pub text : List ℕ
   pub begun : Seen Own
@@ -135,10 +163,13 @@ pub record CutEnding {Own : Type 0} (Tells : Type 0) (accepts : List TableView �
   pub last_run : Run
   pub held : Option (List ℕ)
   pub last_held : Option (List ℕ)
+  pub first : Continues Tells old begun
   pub starts : ShownStart Tells text old begun e (engine_of begun_run)
+  pub starts_read : Reads Tells old begun e.net begun_run.net
   pub writes : Writes text contents held begun_run
   pub on : Continues Tells begun last
   pub rounds : GoesToEnd Tells accepts held last_held begun last begun_run last_run
+  pub rounds_read : Reads Tells begun last begun_run.net last_run.net
   pub later : Continues Tells last new
   pub none_left : last_run.queue ≡ []
   pub ends : CutEnd Tells fault last_held now_contents last new (engine_of last_run)
@@ -151,10 +182,33 @@ pub record CutRun {Own : Type 0} (Tells : Type 0) (accepts : List TableView → 
   pub fault : Fault
   pub is : end ≡ served_by fault
   pub stop : Seen Own
+  pub before : Continues Tells old stop
   pub later : Continues Tells stop new
   pub talks : KeepsTalking Tells stop new
+  pub quietly : Quietly Tells stop new
   pub goes : CutGoes Tells accepts fault contents now_contents old stop e
 
 abbrev pub CutAs : {Own : Type 0} → Type 0 → (List TableView → Bool) → Served → Option (List ℕ) → Option (List ℕ) → Seen Own → Seen Own → Engine → Type 0
 CutAs Tells accepts (served.EventsLeft left) contents now_contents old new e = Unit {0}
 CutAs Tells accepts end contents now_contents old new e = CutRun Tells accepts end contents now_contents old new e
+
+-- ---- What came of switches
+
+-- all bytes that came since then are messages, where the host kept up with the switches then
+pub record HasRead {Own : Type 0} (Tells : Type 0) (old new : Seen Own) (net : NetState) : Type 0 where
+  pub read : Tells → InOrder new → Abreast old net → MessagesSince old new
+
+-- so it is where no fault ended the run
+abbrev pub ReadsEnd : {Own : Type 0} → Type 0 → Served → Seen Own → Seen Own → NetState → Type 0
+ReadsEnd Tells (served.EventsLeft left) old new net = HasRead Tells old new net
+ReadsEnd Tells other old new net = Unit {0}
+
+abbrev pub ReadsAs : {Own T : Type 0} → Type 0 → Result T Served → Seen Own → Seen Own → NetState → Type 0
+ReadsAs Tells (Ok x) old new net = HasRead Tells old new net
+ReadsAs Tells (Err end) old new net = ReadsEnd Tells end old new net
+
+-- of a whole run: all bytes that ever came are messages, where no fault ended it
+abbrev pub IsReadServed : {Own : Type 0} → Seen Own → Served → Type 0
+IsReadServed seen (served.Ended events) = BringMessages seen.history
+IsReadServed seen (served.EventsLeft left) = BringMessages seen.history
+IsReadServed seen other = Unit {0}

@@ -21,3 +21,14 @@ pub mod AlikeLaws
 pub mod FaultLaws
 pub mod KeptLaws
 pub mod ItemLaws
+pub mod Steady
+pub mod SteadyLaws
+pub mod Told
+pub mod NothingWaitsLaws
+pub mod AbreastItemLaws
+pub mod NextQuietLaws
+pub mod CatchUpLaws
+pub mod BatchSteadyLaws
+pub mod DispatchPlaceLaws
+pub mod FrontLaws
+pub mod ReadLaws

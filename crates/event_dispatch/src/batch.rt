@@ -1,6 +1,6 @@
 //! A batch: what comes up to the next rest of the outside, and the events that it makes.
 
-ghost use Rattle.std.specs.Prelude.{◌≡◌, ◌≤◌, length, true, false, Ok, None, IsSome, IfOk, IfErr, OnOk, [], ◌∷◌, ◌++◌};
+ghost use Rattle.std.specs.Prelude.{◌≡◌, ◌≤◌, length, true, false, Ok, None, IsSome, IfOk, IfErr, OnOk, OnErr, [], ◌∷◌, ◌++◌};
 ghost use Rattle.of_types.specs.Fields.{IsBytes};
 ghost use Rattle.outside.specs.declared.step.WorldStep.TheVariants.{From, Joined};
 ghost use Rattle.outside.specs.Seen.{Continues};
@@ -15,6 +15,11 @@ ghost use Rattle.event_dispatch.specs.Runs.{AreRead, Waits};
 ghost use Rattle.event_dispatch.specs.Batch.{of_memory, TakesKept, NextTaken, BatchShown};
 ghost use Rattle.event_dispatch.specs.Why.{IsReason, WhyItem, WhyMessage, served_by};
 ghost use Rattle.event_dispatch.specs.Talking.{KeepsTalking};
+ghost use Rattle.net_txn.specs.LinkSteps.{OnLinks, StaysInPlace, AsksInPlace};
+ghost use Rattle.app_visor.specs.CallsFor.{CallsFor};
+ghost use Rattle.shown_runs.specs.Engine.{index};
+ghost use Rattle.event_dispatch.specs.Steady.{InPlace, Reads, AtMostHere};
+ghost use Rattle.event_dispatch.specs.Told.{OnlyMessages, PutsInPlace, NextQuietly, GoesBegun};
 ghost use Rattle.event_dispatch.specs.Plain.{IsPlainEnd, PlainRead, PlainJoin, PlainItem, PlainNext, PlainKept, PlainCalm};
 
 use crate::fault::Fault;
@@ -77,6 +82,8 @@ fn next_item<W: World>(world: &mut W, buf: &mut [u8]) -> Result<Item, Fault>
     ensures item { IfOk result (λ item. IsItemIn W.Tells item buf.new) }
     ensures continues { Continues W.Tells (W.seen world.old) (W.seen world.new) }
     ensures talks { KeepsTalking W.Tells (W.seen world.old) (W.seen world.new) }
+    ensures quietly { NextQuietly W.Tells (W.seen world.old) (W.seen world.new) }
+    ensures places { W.Tells → StaysInPlace (W.seen world.old) (W.seen world.new) }
     ensures why { IfErr result (IsReason W.Tells (W.seen world.old) (W.seen world.new) 0 0) }
     ensures plain { IfErr result IsPlainEnd }
     ensures buffer { length buf.new ≡ length buf.old }
@@ -92,7 +99,7 @@ fn next_item<W: World>(world: &mut W, buf: &mut [u8]) -> Result<Item, Fault>
 
 impl Run {
     /// A message came from a switch. One of a switch that is not joined is ignored.
-    #[tactic(auto, using(crate::specs::FaultLaws::arrival_why, crate::specs::TalkingLaws::keeps_none, crate::specs::TalkingLaws::keeps_links))]
+    #[tactic(auto, using(crate::specs::BatchSteadyLaws::links_none, crate::specs::BatchSteadyLaws::only_none, crate::specs::SteadyLaws::places_none, crate::specs::SteadyLaws::reads_none, crate::specs::FaultLaws::arrival_why, crate::specs::TalkingLaws::keeps_none, crate::specs::TalkingLaws::keeps_links))]
     pub(crate) fn take_message<W: World>(
         &mut self,
         world: &mut W,
@@ -104,6 +111,10 @@ impl Run {
         ensures lines { self.new.lines ≡ self.old.lines }
         ensures continues { Continues W.Tells (W.seen world.old) (W.seen world.new) }
         ensures talks { KeepsTalking W.Tells (W.seen world.old) (W.seen world.new) }
+        ensures links { OnLinks W.Tells (W.seen world.old) (W.seen world.new) }
+        ensures places { InPlace W.Tells (W.seen world.old) (W.seen world.new) self.old.net }
+        ensures reads { OnOk result (Reads W.Tells (W.seen world.old) (W.seen world.new) self.old.net self.new.net) }
+        ensures messages { OnOk result (OnlyMessages W.Tells (W.seen world.old) (W.seen world.new)) }
         ensures read { OnOk result (AreRead self.old.net.kept → AreRead self.new.net.kept) }
         ensures why { IfErr result (WhyMessage W.Tells dpid frame.now (W.seen world.old) (W.seen world.new)) }
         ensures plain { IfErr result (PlainRead frame.now) }
@@ -134,13 +145,16 @@ impl Run {
     }
 
     /// A switch describes itself as it joins. One that is joined is not taken in again.
-    #[tactic(auto, using(crate::specs::TalkingLaws::keeps_none))]
+    #[tactic(auto, using(crate::specs::BatchSteadyLaws::links_none, crate::specs::BatchSteadyLaws::puts_none, crate::specs::BatchSteadyLaws::only_none, crate::specs::BatchSteadyLaws::joined_puts, crate::specs::TalkingLaws::keeps_none))]
     fn take_in<W: World>(&mut self, world: &mut W, dpid: Dpid, frame: &[u8]) -> Result<(), Fault>
         ensures waits { OnOk result (Waits self.old self.new) }
         ensures app { self.new.app ≡ self.old.app }
         ensures lines { self.new.lines ≡ self.old.lines }
         ensures continues { Continues W.Tells (W.seen world.old) (W.seen world.new) }
         ensures talks { KeepsTalking W.Tells (W.seen world.old) (W.seen world.new) }
+        ensures links { OnLinks W.Tells (W.seen world.old) (W.seen world.new) }
+        ensures places { PutsInPlace W.Tells (Joined dpid frame.now) (W.seen world.old) (W.seen world.new) self.old.net }
+        ensures messages { OnOk result (OnlyMessages W.Tells (W.seen world.old) (W.seen world.new)) }
         ensures read { OnOk result (AreRead self.old.net.kept → AreRead self.new.net.kept) }
         ensures why { IfErr result (IsReason W.Tells (W.seen world.old) (W.seen world.new) 0 0) }
         ensures plain { IfErr result (PlainJoin W.Tells dpid (W.seen world.old) (W.seen world.new)) }
@@ -162,7 +176,7 @@ impl Run {
     }
 
     /// A switch joins with what it says of itself.
-    #[tactic(auto, using(crate::specs::KeptLaws::joins_read, crate::specs::TalkingLaws::keeps_none, crate::specs::TalkingLaws::keeps_links))]
+    #[tactic(auto, using(crate::specs::BatchSteadyLaws::links_none, crate::specs::BatchSteadyLaws::only_none, crate::specs::KeptLaws::joins_read, crate::specs::TalkingLaws::keeps_none, crate::specs::TalkingLaws::keeps_links))]
     fn join<W: World>(&mut self, world: &mut W, dpid: Dpid, message: &Message) -> Result<(), Fault>
         requires out { rows_at dpid self.old.net.views ≡ None }
         requires fits { message_size message.now ≤ 65535 }
@@ -171,6 +185,9 @@ impl Run {
         ensures lines { self.new.lines ≡ self.old.lines }
         ensures continues { Continues W.Tells (W.seen world.old) (W.seen world.new) }
         ensures talks { KeepsTalking W.Tells (W.seen world.old) (W.seen world.new) }
+        ensures links { OnLinks W.Tells (W.seen world.old) (W.seen world.new) }
+        ensures places { AsksInPlace W.Tells dpid (W.seen world.old) (W.seen world.new) }
+        ensures messages { OnOk result (OnlyMessages W.Tells (W.seen world.old) (W.seen world.new)) }
         ensures read { OnOk result (AreRead self.old.net.kept → AreRead self.new.net.kept) }
         ensures why { IfErr result (IsReason W.Tells (W.seen world.old) (W.seen world.new) 0 0) }
         ensures plain { IfErr result (PlainJoin W.Tells dpid (W.seen world.old) (W.seen world.new)) }
@@ -201,7 +218,7 @@ impl Run {
     }
 
     /// Takes one item. Bytes that it has stand in the buffer.
-    #[tactic(auto, using(crate::specs::TalkingLaws::keeps_none))]
+    #[tactic(auto, using(crate::specs::BatchSteadyLaws::links_none, crate::specs::BatchSteadyLaws::puts_none, crate::specs::BatchSteadyLaws::only_none, crate::specs::TalkingLaws::keeps_none))]
     fn take_item<W: World>(&mut self, world: &mut W, item: Item, buf: &[u8]) -> Result<(), Fault>
         requires { IsItemIn W.Tells item buf.now }
         ensures waits { OnOk result (Waits self.old self.new) }
@@ -209,6 +226,11 @@ impl Run {
         ensures lines { self.new.lines ≡ self.old.lines }
         ensures continues { Continues W.Tells (W.seen world.old) (W.seen world.new) }
         ensures talks { KeepsTalking W.Tells (W.seen world.old) (W.seen world.new) }
+        ensures links { OnLinks W.Tells (W.seen world.old) (W.seen world.new) }
+
+        // Where the item was told to a host that kept up with its switches, calls of links are in place.
+        ensures places { PutsInPlace W.Tells (item_step item buf.now) (W.seen world.old) (W.seen world.new) self.old.net }
+        ensures messages { OnOk result (OnlyMessages W.Tells (W.seen world.old) (W.seen world.new)) }
         ensures read { OnOk result (AreRead self.old.net.kept → AreRead self.new.net.kept) }
         ensures why { IfErr result (WhyItem W.Tells (item_step item buf.now) (W.seen world.old) (W.seen world.new)) }
         ensures plain { IfErr result (PlainItem W.Tells (item_step item buf.now) (W.seen world.old) (W.seen world.new)) }
@@ -229,7 +251,7 @@ impl Run {
 
     /// Takes the messages that were kept while something else was awaited, oldest first, and answers how many items the
     /// batch can still have.
-    #[tactic(auto, using(crate::specs::WhyLaws::continues_then, crate::specs::WhyLaws::why_then, crate::specs::WhyLaws::waits_then, crate::specs::TalkingLaws::keeps_none, crate::specs::TalkingLaws::keeps_then))]
+    #[tactic(auto, using(crate::specs::BatchSteadyLaws::links_none, crate::specs::BatchSteadyLaws::links_then, crate::specs::SteadyLaws::places_none, crate::specs::SteadyLaws::reads_none, crate::specs::WhyLaws::continues_then, crate::specs::WhyLaws::why_then, crate::specs::WhyLaws::waits_then, crate::specs::TalkingLaws::keeps_none, crate::specs::TalkingLaws::keeps_then))]
     fn take_kept<W: World>(&mut self, world: &mut W) -> Result<u32, Fault>
         requires read { AreRead self.old.net.kept }
         ensures waits { OnOk result (Waits self.old self.new) }
@@ -237,6 +259,9 @@ impl Run {
         ensures lines { self.new.lines ≡ self.old.lines }
         ensures continues { Continues W.Tells (W.seen world.old) (W.seen world.new) }
         ensures talks { KeepsTalking W.Tells (W.seen world.old) (W.seen world.new) }
+        ensures links { OnLinks W.Tells (W.seen world.old) (W.seen world.new) }
+        ensures places { InPlace W.Tells (W.seen world.old) (W.seen world.new) self.old.net }
+        ensures reads { OnOk result (Reads W.Tells (W.seen world.old) (W.seen world.new) self.old.net self.new.net) }
         ensures read { OnOk result (AreRead self.new.net.kept) }
         ensures why { IfErr result (IsReason W.Tells (W.seen world.old) (W.seen world.new) 0 0) }
         ensures plain { IfErr result (PlainKept self.old.net) }
@@ -260,6 +285,12 @@ impl Run {
         ensures lines { self.new.lines ≡ self.old.lines }
         ensures continues { Continues W.Tells (W.seen world.old) (W.seen world.new) }
         ensures talks { KeepsTalking W.Tells (W.seen world.old) (W.seen world.new) }
+        ensures places { InPlace W.Tells (W.seen world.old) (W.seen world.new) self.old.net }
+        ensures reads { OnOk result (Reads W.Tells (W.seen world.old) (W.seen world.new) self.old.net self.new.net) }
+
+        // One stimulus is begun at most, before all else, and where the batch goes on one is begun.
+        ensures quietly { NextQuietly W.Tells (W.seen world.old) (W.seen world.new) }
+        ensures begun { IfOk result (λ rest. GoesBegun W.Tells rest (W.seen world.old) (W.seen world.new)) }
         ensures read { OnOk result (AreRead self.old.net.kept → AreRead self.new.net.kept) }
         ensures why { IfErr result (IsReason W.Tells (W.seen world.old) (W.seen world.new) 0 0) }
         ensures plain { IfErr result (PlainNext W.Tells (W.seen world.old) (W.seen world.new)) }
@@ -291,6 +322,15 @@ impl Run {
         ensures lines { self.new.lines ≡ self.old.lines }
         ensures continues { Continues W.Tells (W.seen world.old) (W.seen world.new) }
         ensures talks { KeepsTalking W.Tells (W.seen world.old) (W.seen world.new) }
+
+        // Where the world tells in order and the host keeps up with its switches, calls of links are in place; where the batch was done,
+        // all that came were messages, and the host keeps up then.
+        ensures places { InPlace W.Tells (W.seen world.old) (W.seen world.new) self.old.net }
+        ensures reads { OnOk result (Reads W.Tells (W.seen world.old) (W.seen world.new) self.old.net self.new.net) }
+
+        // Where all was at rest and nothing was kept, no quiet place lies behind, and no other application was called.
+        ensures here { OnErr result (self.old.net.kept ≡ [] → AtMostHere W.Tells (W.seen world.old) (W.seen world.new)) }
+        ensures own { OnErr result (W.Tells → CallsFor index (W.seen world.old) (W.seen world.new)) }
         ensures read { OnOk result (AreRead self.new.net.kept) }
         ensures why { IfErr result (IsReason W.Tells (W.seen world.old) (W.seen world.new) 0 0) }
         ensures buffer { length buf.new ≡ length buf.old }

@@ -5,6 +5,8 @@ ghost use Rattle.lego_io.specs.Count.{NeverFell};
 ghost use Rattle.app_frames.specs.declared.frame.HostFrame.TheVariants as host;
 ghost use Rattle.app_frames.specs.Frames.{HostFits};
 ghost use Rattle.outside.specs.Seen.{Continues};
+ghost use Rattle.app_visor.specs.CallsFor.{CalmLater};
+ghost use Rattle.event_dispatch.specs.Steady.{InPlace, Reads, Quietly, AtMostHere};
 ghost use Rattle.event_dispatch.specs.Runs.{AreRead, Going, Waits};
 ghost use Rattle.event_dispatch.specs.Why.{IsReason, served_by};
 ghost use Rattle.event_dispatch.specs.Plain.{PlainTurn, PlainRun};
@@ -57,6 +59,9 @@ fn play<W: World, J: Judge>(
         net.old net.new app.old.rest app.new.rest) }
     ensures read { OnOk result (AreRead net.old.kept → AreRead net.new.kept) }
     ensures continues { Continues W.Tells (W.seen world.old) (W.seen world.new) }
+    ensures places { InPlace W.Tells (W.seen world.old) (W.seen world.new) net.old }
+    ensures reads { OnOk result (Reads W.Tells (W.seen world.old) (W.seen world.new) net.old net.new) }
+    ensures later { W.Tells → CalmLater app.old.index (W.seen world.old) (W.seen world.new) }
     ensures talks { OnErr result (TurnTalks W.Tells app.old.index app.old.rest (W.seen world.old) (W.seen world.new)) }
     ensures why { IfErr result (IsReason W.Tells (W.seen world.old) (W.seen world.new) 0 0) }
     ensures plain { IfErr result (PlainTurn W.Tells (W.seen world.old) (W.seen world.new) net.old) }
@@ -97,6 +102,9 @@ impl Run {
         ensures net { OnOk result (self.new.net ≡ self.old.net) }
         ensures starts { OnOk result (Starts W.Tells (W.seen world.old) (W.seen world.new) self.old self.new) }
         ensures continues { Continues W.Tells (W.seen world.old) (W.seen world.new) }
+        ensures places { InPlace W.Tells (W.seen world.old) (W.seen world.new) self.old.net }
+        ensures reads { OnOk result (Reads W.Tells (W.seen world.old) (W.seen world.new) self.old.net self.new.net) }
+        ensures quietly { Quietly W.Tells (W.seen world.old) (W.seen world.new) }
         ensures talks { KeepsTalking W.Tells (W.seen world.old) (W.seen world.new) }
     {
         let back = restart(self.alloc, world, &mut self.app.state, &[])?;
@@ -132,6 +140,9 @@ impl Run {
         ensures events { OnOk result (self.new.events ≡ self.old.events) }
         ensures closes { OnOk result (Closes W.Tells end (W.seen world.old) (W.seen world.new) self.old self.new) }
         ensures continues { Continues W.Tells (W.seen world.old) (W.seen world.new) }
+        ensures places { InPlace W.Tells (W.seen world.old) (W.seen world.new) self.old.net }
+        ensures reads { OnOk result (Reads W.Tells (W.seen world.old) (W.seen world.new) self.old.net self.new.net) }
+        ensures quietly { Quietly W.Tells (W.seen world.old) (W.seen world.new) }
         ensures talks { KeepsTalking W.Tells (W.seen world.old) (W.seen world.new) }
     {
         match end {
@@ -164,6 +175,9 @@ impl Run {
         ensures events { OnOk result (self.new.events ≡ self.old.events) }
         ensures turn { OnOk result (HasTurn W.Tells (J.accepts judge.now) event.now (W.seen world.old) (W.seen world.new) self.old self.new) }
         ensures continues { Continues W.Tells (W.seen world.old) (W.seen world.new) }
+        ensures places { InPlace W.Tells (W.seen world.old) (W.seen world.new) self.old.net }
+        ensures reads { OnOk result (Reads W.Tells (W.seen world.old) (W.seen world.new) self.old.net self.new.net) }
+        ensures later { W.Tells → CalmLater index (W.seen world.old) (W.seen world.new) }
         ensures talks { OnErr result (TurnTalks W.Tells index self.old.app.state.rest (W.seen world.old) (W.seen world.new)) }
         ensures why { IfErr result (IsReason W.Tells (W.seen world.old) (W.seen world.new) 0 0) }
         ensures plain { IfErr result (PlainTurn W.Tells (W.seen world.old) (W.seen world.new) self.old.net) }
@@ -194,6 +208,10 @@ impl Run {
         ensures events { OnOk result (self.new.events ≡ self.old.events + 1) }
         ensures dispatched { OnOk result (IsDispatched W.Tells (J.accepts judge.now) event.now (W.seen world.old) (W.seen world.new) self.old self.new) }
         ensures continues { Continues W.Tells (W.seen world.old) (W.seen world.new) }
+        ensures places { InPlace W.Tells (W.seen world.old) (W.seen world.new) self.old.net }
+        ensures reads { OnOk result (Reads W.Tells (W.seen world.old) (W.seen world.new) self.old.net self.new.net) }
+        ensures here { AtMostHere W.Tells (W.seen world.old) (W.seen world.new) }
+        ensures later { W.Tells → CalmLater index (W.seen world.old) (W.seen world.new) }
         ensures talks { OnErr result (GoesOnTalking W.Tells (W.seen world.old) (W.seen world.new) (engine_of self.old)) }
         ensures why { IfErr result (IsReason W.Tells (W.seen world.old) (W.seen world.new) 0 0) }
         ensures plain { IfErr result (PlainTurn W.Tells (W.seen world.old) (W.seen world.new) self.old.net) }
@@ -228,6 +246,9 @@ impl Run {
         ensures cut { IfErr result (λ fault. CutOne W.Tells (J.accepts judge.now) fault (K.contents sink.old) (K.contents sink.new)
             (W.seen world.old) (W.seen world.new) (engine_of self.old)) }
         ensures continues { Continues W.Tells (W.seen world.old) (W.seen world.new) }
+        ensures places { InPlace W.Tells (W.seen world.old) (W.seen world.new) self.old.net }
+        ensures reads { OnOk result (Reads W.Tells (W.seen world.old) (W.seen world.new) self.old.net self.new.net) }
+        ensures here { OnErr result (AtMostHere W.Tells (W.seen world.old) (W.seen world.new)) }
         ensures never_fell { NeverFell (K.faults sink.old) (K.faults sink.new) }
         ensures why { IfErr result (IsReason W.Tells (W.seen world.old) (W.seen world.new) (K.faults sink.old) (K.faults sink.new)) }
         ensures plain { IfErr result (λ fault. PlainRun W.Tells (J.accepts judge.now) (W.seen world.old) (W.seen world.new) (engine_of self.old) (served_by fault)) }
@@ -262,6 +283,8 @@ impl Run {
         ensures cut { IfErr result (λ fault. CutSome W.Tells (J.accepts judge.now) fault (K.contents sink.old) (K.contents sink.new)
             (W.seen world.old) (W.seen world.new) self.old) }
         ensures continues { Continues W.Tells (W.seen world.old) (W.seen world.new) }
+        ensures places { InPlace W.Tells (W.seen world.old) (W.seen world.new) self.old.net }
+        ensures reads { OnOk result (Reads W.Tells (W.seen world.old) (W.seen world.new) self.old.net self.new.net) }
         ensures never_fell { NeverFell (K.faults sink.old) (K.faults sink.new) }
         ensures why { IfErr result (IsReason W.Tells (W.seen world.old) (W.seen world.new) (K.faults sink.old) (K.faults sink.new)) }
 

@@ -6,6 +6,7 @@ ghost use Rattle.outside.specs.Seen.{Continues};
 ghost use Rattle.lego_model.specs.RunReport.{flow_line};
 ghost use Rattle.net_txn.specs.Views.{rows_at};
 ghost use Rattle.shown_runs.specs.LastReport.{engine_end};
+ghost use Rattle.event_dispatch.specs.Steady.{InPlace, Reads, Quietly};
 ghost use Rattle.event_dispatch.specs.Runs.{Waits};
 ghost use Rattle.event_dispatch.specs.Why.{IsReason, served_by};
 ghost use Rattle.event_dispatch.specs.Plain.{PlainTable, PlainCalm};
@@ -83,6 +84,7 @@ impl Run {
     #[tactic(auto, using(crate::specs::WhyLaws::waits_then))]
     fn note_flows(&mut self, dpid: Dpid, rows: &RowList) -> Result<(), AllocError>
         ensures waits { OnOk result (Waits self.old self.new) }
+        ensures net { OnOk result (self.new.net ≡ self.old.net) }
         ensures said { OnOk result (FlowsSaid dpid rows.now self.old self.new) }
     {
         let mut from = 0;
@@ -98,6 +100,7 @@ impl Run {
     #[tactic(auto, using(crate::specs::WhyLaws::waits_then))]
     fn note_rows(&mut self, dpid: Dpid, rows: &RowList) -> Result<(), AllocError>
         ensures waits { OnOk result (Waits self.old self.new) }
+        ensures net { OnOk result (self.new.net ≡ self.old.net) }
         ensures said { OnOk result (TableSaid dpid rows.now self.old self.new) }
     {
         let line = switch_line(self.alloc, dpid, rows.len() as u64)?;
@@ -111,6 +114,9 @@ impl Run {
         requires { IsSome (rows_at dpid self.old.net.views) }
         ensures waits { OnOk result (Waits self.old self.new) }
         ensures continues { Continues W.Tells (W.seen world.old) (W.seen world.new) }
+        ensures places { InPlace W.Tells (W.seen world.old) (W.seen world.new) self.old.net }
+        ensures reads { OnOk result (Reads W.Tells (W.seen world.old) (W.seen world.new) self.old.net self.new.net) }
+        ensures quietly { Quietly W.Tells (W.seen world.old) (W.seen world.new) }
         ensures talks { KeepsTalking W.Tells (W.seen world.old) (W.seen world.new) }
         ensures why { IfErr result (IsReason W.Tells (W.seen world.old) (W.seen world.new) 0 0) }
         ensures plain { IfErr result (PlainTable W.Tells (W.seen world.old) (W.seen world.new) self.old.net) }
@@ -127,6 +133,9 @@ impl Run {
     fn note_table<W: World>(&mut self, world: &mut W, dpid: Dpid) -> Result<(), Fault>
         ensures waits { OnOk result (Waits self.old self.new) }
         ensures continues { Continues W.Tells (W.seen world.old) (W.seen world.new) }
+        ensures places { InPlace W.Tells (W.seen world.old) (W.seen world.new) self.old.net }
+        ensures reads { OnOk result (Reads W.Tells (W.seen world.old) (W.seen world.new) self.old.net self.new.net) }
+        ensures quietly { Quietly W.Tells (W.seen world.old) (W.seen world.new) }
         ensures talks { KeepsTalking W.Tells (W.seen world.old) (W.seen world.new) }
         ensures why { IfErr result (IsReason W.Tells (W.seen world.old) (W.seen world.new) 0 0) }
         ensures plain { IfErr result (PlainTable W.Tells (W.seen world.old) (W.seen world.new) self.old.net) }
@@ -167,6 +176,9 @@ impl Run {
     pub(crate) fn note_last<W: World>(&mut self, world: &mut W) -> Result<(), Fault>
         ensures waits { OnOk result (Waits self.old self.new) }
         ensures continues { Continues W.Tells (W.seen world.old) (W.seen world.new) }
+        ensures places { InPlace W.Tells (W.seen world.old) (W.seen world.new) self.old.net }
+        ensures reads { OnOk result (Reads W.Tells (W.seen world.old) (W.seen world.new) self.old.net self.new.net) }
+        ensures quietly { Quietly W.Tells (W.seen world.old) (W.seen world.new) }
         ensures talks { KeepsTalking W.Tells (W.seen world.old) (W.seen world.new) }
         ensures why { IfErr result (IsReason W.Tells (W.seen world.old) (W.seen world.new) 0 0) }
 

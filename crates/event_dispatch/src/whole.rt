@@ -4,6 +4,8 @@ ghost use Rattle.std.specs.Prelude.{◌≡◌, ℕ, ◌+◌, ◌^◌, ◌<◌, �
 ghost use Rattle.lego_io.specs.Count.{NeverFell};
 ghost use Rattle.outside.specs.Seen.{Continues};
 ghost use Rattle.outside.specs.Calls.{most_message};
+ghost use Rattle.outside.specs.InOrder.{InOrder, MessagesSince};
+ghost use Rattle.net_txn.specs.LinkSteps.{StaysInPlace};
 ghost use Rattle.event_dispatch.specs.Runs.{Going};
 ghost use Rattle.event_dispatch.specs.Why.{IsWhy, IsReason, served_by};
 ghost use Rattle.event_dispatch.specs.Shows.{engine_of};
@@ -11,12 +13,11 @@ ghost use Rattle.event_dispatch.specs.Plain.{IsPlainServed, IsPlainEnd, PlainCal
 ghost use Rattle.lego_model.specs.Places.{Place};
 ghost use Rattle.outside.specs.declared.step.WorldStep.TheVariants.{Opened};
 ghost use Rattle.shown_runs.specs.Endings.{ShownLeaves};
-ghost use Rattle.shown_runs.specs.FirstLaws.{engine_at_first};
+ghost use Rattle.shown_runs.specs.FirstLaws.{net_at_first, engine_at_first};
 ghost use Rattle.shown_runs.specs.Promise.{PremiseSoFar, Premise};
-ghost use Rattle.shown_runs.specs.FirstLaws.{engine_at_first};
-ghost use Rattle.event_dispatch.specs.Shows.{engine_of};
 ghost use Rattle.event_dispatch.specs.Talking.{KeepsTalking};
-ghost use Rattle.event_dispatch.specs.Cut.{CutRound, CutRounds, CutStart, CutEnd, CutFinishAs, CutAs};
+ghost use Rattle.event_dispatch.specs.Steady.{InPlace, Reads, Quietly};
+ghost use Rattle.event_dispatch.specs.Cut.{CutRound, CutRounds, CutStart, CutEnd, CutFinishAs, CutAs, ReadsAs, IsReadServed};
 ghost use Rattle.event_dispatch.specs.Serves.{GoesRound, GoesToEnd, Begins, EndsReport, Finishes, GoesAs, RunsAs, IsUnopened, IsCut, IsAlike};
 
 use crate::batch::Rest;
@@ -55,6 +56,8 @@ impl Run {
         ensures going { OnOk result (Going self.new) }
         ensures events { OnOk result (self.new.events ≤ self.old.events + 1000) }
         ensures continues { Continues W.Tells (W.seen world.old) (W.seen world.new) }
+        ensures places { InPlace W.Tells (W.seen world.old) (W.seen world.new) self.old.net }
+        ensures reads { OnOk result (Reads W.Tells (W.seen world.old) (W.seen world.new) self.old.net self.new.net) }
         ensures never_fell { NeverFell (K.faults sink.old) (K.faults sink.new) }
         ensures why { IfErr result (IsReason W.Tells (W.seen world.old) (W.seen world.new) (K.faults sink.old) (K.faults sink.new)) }
         ensures plain { IfErr result (λ fault. PlainRun W.Tells (J.accepts judge.now) (W.seen world.old) (W.seen world.new) (engine_of self.old) (served_by fault)) }
@@ -82,6 +85,8 @@ impl Run {
         ensures cut { IfErr result (λ fault. CutRounds W.Tells (J.accepts judge.now) fault (K.contents sink.old) (K.contents sink.new)
             (W.seen world.old) (W.seen world.new) self.old) }
         ensures continues { Continues W.Tells (W.seen world.old) (W.seen world.new) }
+        ensures places { InPlace W.Tells (W.seen world.old) (W.seen world.new) self.old.net }
+        ensures reads { OnOk result (Reads W.Tells (W.seen world.old) (W.seen world.new) self.old.net self.new.net) }
         ensures never_fell { NeverFell (K.faults sink.old) (K.faults sink.new) }
         ensures why { IfErr result (IsReason W.Tells (W.seen world.old) (W.seen world.new) (K.faults sink.old) (K.faults sink.new)) }
         ensures plain { IfErr result (λ fault. PlainRun W.Tells (J.accepts judge.now) (W.seen world.old) (W.seen world.new) (engine_of self.old) (served_by fault)) }
@@ -106,6 +111,8 @@ impl Run {
         ensures going { OnOk result (Going self.new) }
         ensures none { OnOk result (self.new.events ≡ 0) }
         ensures continues { Continues W.Tells (W.seen world.old) (W.seen world.new) }
+        ensures places { InPlace W.Tells (W.seen world.old) (W.seen world.new) self.old.net }
+        ensures reads { OnOk result (Reads W.Tells (W.seen world.old) (W.seen world.new) self.old.net self.new.net) }
         ensures never_fell { NeverFell (K.faults sink.old) (K.faults sink.new) }
         ensures why { IfErr result (IsReason W.Tells (W.seen world.old) (W.seen world.new) (K.faults sink.old) (K.faults sink.new)) }
         ensures plain { IfErr result IsPlainEnd }
@@ -122,6 +129,8 @@ impl Run {
         ensures ends { OnOk result (EndsReport W.Tells (K.contents sink.old) (K.contents sink.new) (W.seen world.old) (W.seen world.new) self.old self.new) }
         ensures cut { IfErr result (λ fault. CutEnd W.Tells fault (K.contents sink.old) (K.contents sink.new) (W.seen world.old) (W.seen world.new) (engine_of self.old)) }
         ensures continues { Continues W.Tells (W.seen world.old) (W.seen world.new) }
+        ensures places { InPlace W.Tells (W.seen world.old) (W.seen world.new) self.old.net }
+        ensures reads { OnOk result (Reads W.Tells (W.seen world.old) (W.seen world.new) self.old.net self.new.net) }
         ensures never_fell { NeverFell (K.faults sink.old) (K.faults sink.new) }
         ensures why { IfErr result (IsReason W.Tells (W.seen world.old) (W.seen world.new) (K.faults sink.old) (K.faults sink.new)) }
         ensures plain { IfErr result (λ fault. PlainCalm W.Tells (W.seen world.old) (W.seen world.new) self.old.net (served_by fault)) }
@@ -138,6 +147,8 @@ impl Run {
         ensures finishes { Finishes W.Tells result (K.contents sink.old) (K.contents sink.new) (W.seen world.old) (W.seen world.new) self.old self.new }
         ensures cut { IfErr result (λ end. CutFinishAs W.Tells end (K.contents sink.old) (K.contents sink.new) (W.seen world.old) (W.seen world.new) (engine_of self.old)) }
         ensures continues { Continues W.Tells (W.seen world.old) (W.seen world.new) }
+        ensures places { InPlace W.Tells (W.seen world.old) (W.seen world.new) self.old.net }
+        ensures reads { ReadsAs W.Tells result (W.seen world.old) (W.seen world.new) self.old.net }
         ensures never_fell { NeverFell (K.faults sink.old) (K.faults sink.new) }
         ensures why { IfErr result (IsWhy W.Tells (W.seen world.old) (W.seen world.new) (K.faults sink.old) (K.faults sink.new)) }
         ensures plain { IfErr result (PlainCalm W.Tells (W.seen world.old) (W.seen world.new) self.old.net) }
@@ -164,6 +175,8 @@ impl Run {
         ensures goes { GoesAs W.Tells (J.accepts judge.now) result (K.contents sink.old) (K.contents sink.new) (W.seen world.old) (W.seen world.new) self.old self.new }
         ensures cut { IfErr result (λ end. CutAs W.Tells (J.accepts judge.now) end (K.contents sink.old) (K.contents sink.new) (W.seen world.old) (W.seen world.new) (engine_of self.old)) }
         ensures continues { Continues W.Tells (W.seen world.old) (W.seen world.new) }
+        ensures places { InPlace W.Tells (W.seen world.old) (W.seen world.new) self.old.net }
+        ensures reads { ReadsAs W.Tells result (W.seen world.old) (W.seen world.new) self.old.net }
         ensures never_fell { NeverFell (K.faults sink.old) (K.faults sink.new) }
         ensures why { IfErr result (IsWhy W.Tells (W.seen world.old) (W.seen world.new) (K.faults sink.old) (K.faults sink.new)) }
         ensures plain { IfErr result (PlainWhole W.Tells (J.accepts judge.now) (W.seen world.old) (W.seen world.new) (engine_of self.old)) }
@@ -192,6 +205,9 @@ fn open<W: World>(world: &mut W) -> Result<(), Served>
 #[tactic(auto, using(crate::specs::WhyLaws::ends_continue))]
 fn end<W: World>(world: &mut W)
     ensures continues { Continues W.Tells (W.seen world.old) (W.seen world.new) }
+    ensures quietly { Quietly W.Tells (W.seen world.old) (W.seen world.new) }
+    ensures places { W.Tells → StaysInPlace (W.seen world.old) (W.seen world.new) }
+    ensures messages { W.Tells → MessagesSince (W.seen world.old) (W.seen world.new) }
     ensures leaves { ShownLeaves W.Tells (W.seen world.old) (W.seen world.new) }
     ensures talks { KeepsTalking W.Tells (W.seen world.old) (W.seen world.new) }
 {
@@ -214,6 +230,8 @@ fn go_to_end<W: World, J: Judge, K: Sink>(
     ensures goes { GoesAs W.Tells (J.accepts judge.now) result (K.contents sink.old) (K.contents sink.new) (W.seen world.old) (W.seen world.new) run.old run.new }
     ensures cut { IfErr result (λ end. CutAs W.Tells (J.accepts judge.now) end (K.contents sink.old) (K.contents sink.new) (W.seen world.old) (W.seen world.new) (engine_of run.old)) }
     ensures continues { Continues W.Tells (W.seen world.old) (W.seen world.new) }
+    ensures places { InPlace W.Tells (W.seen world.old) (W.seen world.new) run.old.net }
+    ensures reads { ReadsAs W.Tells result (W.seen world.old) (W.seen world.new) run.old.net }
     ensures never_fell { NeverFell (K.faults sink.old) (K.faults sink.new) }
     ensures why { IfErr result (IsWhy W.Tells (W.seen world.old) (W.seen world.new) (K.faults sink.old) (K.faults sink.new)) }
     ensures plain { IfErr result (PlainWhole W.Tells (J.accepts judge.now) (W.seen world.old) (W.seen world.new) (engine_of run.old)) }
@@ -233,6 +251,8 @@ fn run<W: World, J: Judge, K: Sink>(
     ensures runs { RunsAs W.Tells (J.accepts judge.now) result (K.contents sink.old) (K.contents sink.new) (W.seen world.old) (W.seen world.new) }
     ensures cut { IfErr result (λ end. CutAs W.Tells (J.accepts judge.now) end (K.contents sink.old) (K.contents sink.new) (W.seen world.old) (W.seen world.new) engine_at_first) }
     ensures continues { Continues W.Tells (W.seen world.old) (W.seen world.new) }
+    ensures places { InPlace W.Tells (W.seen world.old) (W.seen world.new) net_at_first }
+    ensures reads { ReadsAs W.Tells result (W.seen world.old) (W.seen world.new) net_at_first }
     ensures never_fell { NeverFell (K.faults sink.old) (K.faults sink.new) }
     ensures why { IfErr result (IsWhy W.Tells (W.seen world.old) (W.seen world.new) (K.faults sink.old) (K.faults sink.new)) }
     ensures plain { IfErr result (PlainWhole W.Tells (J.accepts judge.now) (W.seen world.old) (W.seen world.new) engine_at_first) }
@@ -266,11 +286,16 @@ pub fn serve<W: World, J: Judge, K: Sink>(
         → IsAlike allows (W.seen world.new) (K.contents sink.old) (K.contents sink.new) result }
     // Where a fault ends the run, it is so up to a place, with the lines of all that was done up to there, and where the sink failed,
     // with a part of the lines of the last; if the world kept its word as far as there, whatever came behind it. The whole journal is a
-    // dialogue with the application then.
+    // dialogue with the application then. A world that tells in order kept its word as far as there, since all bytes that came are
+    // messages up to there. Behind it no quiet place lies in such a world, and no other application was called.
     ensures cut { (allows : List Place → Bool) → PremiseSoFar W.Tells (J.accepts judge.now) allows (W.seen world.old) (W.seen world.new)
         → IsCut allows (W.seen world.new) (K.contents sink.old) (K.contents sink.new) result }
     // In a world that keeps its word to the end no switch is at fault for what it sent: of a switch only its link ends a run.
     ensures plain { (allows : List Place → Bool) → Premise W.Tells (J.accepts judge.now) allows (W.seen world.old) (W.seen world.new) → IsPlainServed result }
+    // In a world that tells in order, though bytes that come of switches may be no messages: calls of links are in place, and at the end
+    // of a run that no fault ends all that came of switches is messages, so that the world kept its word.
+    ensures places { W.Tells → (W.seen world.old).history ≡ [] → InOrder (W.seen world.new) → StaysInPlace (W.seen world.old) (W.seen world.new) }
+    ensures read { W.Tells → (W.seen world.old).history ≡ [] → InOrder (W.seen world.new) → IsReadServed (W.seen world.new) result }
 {
     if let Err(served) = open(world) {
         return served;

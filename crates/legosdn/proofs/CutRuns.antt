@@ -1,27 +1,32 @@
 -- The run of a session that a fault ends.
-use Rattle.std.proofs.Common.{◌≡◌, ◌⊎◌, ℕ, ◌≤◌, ◌<◌, Bool, true, List, [], ◌∷◌, ◌++◌, length, Option, refl, sym, ap, ◌∙◌, subst, arith, inl, inr}
-use Rattle.std.specs.List.{AllByRecursion}
+use Rattle.std.proofs.Common.{◌≡◌, ◌⊎◌, ℕ, ◌≤◌, Bool, true, List, [], ◌∷◌, ◌++◌, length, Option, refl, sym, ap, ◌∙◌, subst, arith, inl, inr}
 use Rattle.flow_table.specs.declared.view.TableView.{TableView}
 use Rattle.outside.specs.declared.call.FailCall.{FailCall}
 use Rattle.outside.specs.declared.step.WorldStep.{WorldStep}
-use Rattle.outside.specs.declared.step.WorldStep.TheVariants.{NotOpened}
 use Rattle.outside.specs.Seen.{Given, Seen, Longer, Continues}
 use Rattle.outside.specs.State.{at_first}
-use Rattle.outside.specs.Conforming.{AreDeclaredFrom, MayDeclare, MaySteps, Conforming}
+use Rattle.outside.specs.Conforming.{Conforming}
+use Rattle.outside.specs.InOrder.{BringMessages, InOrder}
+use Rattle.outside.specs.InOrderLaws.{in_order-Conforming, InOrder-front}
+use Rattle.outside.specs.Quiet.{IsLastQuiet}
+use Rattle.net_txn.specs.LinkSteps.{AreLinksInPlace}
 use Rattle.lego_model.specs.Places.{Place}
 use Rattle.lego_model.specs.Controller.{Run}
 use Rattle.sim_world.specs.Told.{without_links}
 use Rattle.sim_world.specs.Scripts.{Scripts, Life, AreScripted, KeepsScripts, lives_after, all_fresh}
-use Rattle.sim_world.specs.World.{WorldData, IsReadable, given_of, seen_of}
+use Rattle.sim_world.specs.World.{WorldData, given_of, seen_of}
 use Rattle.shown_runs.specs.Engine.{stimuli_in}
 use Rattle.shown_runs.specs.StimuliLaws.{told-few}
-use Rattle.shown_runs.specs.Promise.{most_rounds, PremiseSoFar}
+use Rattle.shown_runs.specs.Promise.{PremiseSoFar}
 use Rattle.shown_runs.specs.Cut.{Far, CutAs, WritingAs, AlikeUpTo, CutAlike, CutWriting}
+use Rattle.shown_runs.specs.DialogueLaws.{applications_in_place}
 use Rattle.event_dispatch.specs.declared.served.Served.{Served}
+use Rattle.event_dispatch.specs.declared.served.Served.TheVariants as served
 use Rattle.event_dispatch.specs.Serves.{NothingDone, IsCut}
 use Rattle.legosdn.specs.Said.{all_allowed, SaidSo, CutRun, WritingRun}
 use Rattle.legosdn.specs.Headline.{KeepsLines, UpToPlace}
 use Rattle.legosdn.proofs.Said.{told_in, are_said, kept_to_lines}
+use Rattle.legosdn.proofs.Places.{CountsNone, behind_for, none_strays, shut_strays, idle_strays}
 
 -- ---- A front of what happened
 
@@ -39,20 +44,9 @@ unfolding seen_of given_of
 lines_at sim last lines given later =
     subst (λ (g : Given Scripts). KeepsScripts g.own (without_links g.fails) last.history) given (keeps_before sim.scripts (without_links sim.fails) last.history sim.history later lines)
 
-conforms_by : (seen last : Seen Scripts) → Conforming (record seen { history = last.history }) → seen.given ≡ last.given → Conforming last
-conforms_by seen last keeps given = record {
-  declared = subst (λ (g : Given Scripts). AreDeclaredFrom 1 g.declared) given keeps.declared;
-  switches = subst (λ (g : Given Scripts). AllByRecursion MayDeclare g.declared) given keeps.switches;
-  steps = subst (λ (g : Given Scripts). MaySteps g.declared last.history (at_first g)) given keeps.steps;
-}
-
--- what the world keeps of each front of its history
-abbrev pub KeepsFronts : WorldData → Type 0
-KeepsFronts sim = (first rest : List WorldStep) → sim.history ≡ first ++ rest → IsReadable first ≡ true → Conforming (record (seen_of sim) { history = first })
-
-conforms_at : (sim : WorldData) (last : Seen Scripts) → KeepsFronts sim → (seen_of sim).given ≡ last.given → Longer last.history (seen_of sim).history → IsReadable last.history ≡ true → Conforming last
-unfolding seen_of
-conforms_at sim last fronts given later readable = conforms_by (seen_of sim) last (fronts last.history later.0 later.1 readable) given
+-- the world kept its word as far as a place where all bytes that came are messages
+conforms_at : (sim : WorldData) (last : Seen Scripts) → InOrder (seen_of sim) → (seen_of sim).given ≡ last.given → IsLastQuiet last (seen_of sim) → BringMessages last.history → Conforming last
+conforms_at sim last order given quiet messages = in_order-Conforming last (InOrder-front last (seen_of sim) quiet.steps given quiet.history order) messages
 
 -- ---- A place of the run
 
@@ -62,31 +56,73 @@ said_so {last} IsSo up_to keeps = λ none. record {
   so = λ more few. up_to.as_said _ _ (are_said last more (kept_to_lines last (without_links last.given.fails) keeps none up_to.in_order up_to.at_once) few);
 }
 
-pub cut_at_place : (sim : WorldData) (a b : Option (List ℕ)) → KeepsFronts sim → KeepsLines sim → CutAlike all_allowed (seen_of sim) a b → UpToPlace sim (λ last. CutRun last a b)
-cut_at_place sim a b fronts lines cut = record {
-  last = cut.last;
-  given = sym cut.given;
-  later = cut.later;
-  so = λ readable.
-      let run = cut.so (conforms_at sim cut.last fronts cut.given cut.later readable) in
-      record { run = run; as_said = said_so (CutAs all_allowed cut.last a b) run (lines_at sim cut.last lines cut.given cut.later) };
-  at_once = λ readable. cut.at_once (conforms_at sim cut.last fronts cut.given cut.later readable);
-}
+pub cut_at_place : (sim : WorldData) (a b : Option (List ℕ)) → InOrder (seen_of sim) → KeepsLines sim → CutAlike all_allowed (seen_of sim) a b → UpToPlace sim (λ last. CutRun last a b)
+cut_at_place sim a b order lines cut =
+    let quiet = cut.quiet order in
+    let keeps = conforms_at sim cut.last order cut.given quiet (cut.read order) in
+    let run = cut.so keeps in
+    record {
+      last = cut.last;
+      given = sym cut.given;
+      quiet = quiet;
+      messages = cut.read order;
+      so = record { run = run; as_said = said_so (CutAs all_allowed cut.last a b) run (lines_at sim cut.last lines cut.given cut.later) };
+      at_once = cut.at_once keeps;
+    }
 
-pub writing_at_place : (sim : WorldData) (a b : Option (List ℕ)) → KeepsFronts sim → KeepsLines sim → CutWriting all_allowed (seen_of sim) a b → UpToPlace sim (λ last. WritingRun last a b)
-writing_at_place sim a b fronts lines cut = record {
-  last = cut.last;
-  given = sym cut.given;
-  later = cut.later;
-  so = λ readable.
-      let run = cut.so (conforms_at sim cut.last fronts cut.given cut.later readable) in
-      record { run = run; as_said = said_so (WritingAs all_allowed cut.last run.text run.more) run.up_to (lines_at sim cut.last lines cut.given cut.later) };
-  at_once = λ readable. cut.at_once (conforms_at sim cut.last fronts cut.given cut.later readable);
-}
+pub writing_at_place : (sim : WorldData) (a b : Option (List ℕ)) → InOrder (seen_of sim) → KeepsLines sim → CutWriting all_allowed (seen_of sim) a b → UpToPlace sim (λ last. WritingRun last a b)
+writing_at_place sim a b order lines cut =
+    let quiet = cut.quiet order in
+    let keeps = conforms_at sim cut.last order cut.given quiet (cut.read order) in
+    let run = cut.so keeps in
+    record {
+      last = cut.last;
+      given = sym cut.given;
+      quiet = quiet;
+      messages = cut.read order;
+      so = record { run = run; as_said = said_so (WritingAs all_allowed cut.last run.text run.more) run.up_to (lines_at sim cut.last lines cut.given cut.later) };
+      at_once = cut.at_once keeps;
+    }
 
-pub cut_or_nothing : (sim : WorldData) (a b : Option (List ℕ)) → KeepsFronts sim → KeepsLines sim → CutAlike all_allowed (seen_of sim) a b ⊎ NothingDone [] (seen_of sim) a b → UpToPlace sim (λ last. CutRun last a b) ⊎ NothingDone [] (seen_of sim) a b
-cut_or_nothing sim a b fronts lines (inl cut) = inl (cut_at_place sim a b fronts lines cut)
-cut_or_nothing sim a b fronts lines (inr none) = inr none
+pub cut_or_nothing : (sim : WorldData) (a b : Option (List ℕ)) → InOrder (seen_of sim) → KeepsLines sim → CutAlike all_allowed (seen_of sim) a b ⊎ NothingDone [] (seen_of sim) a b → UpToPlace sim (λ last. CutRun last a b) ⊎ NothingDone [] (seen_of sim) a b
+cut_or_nothing sim a b order lines (inl cut) = inl (cut_at_place sim a b order lines cut)
+cut_or_nothing sim a b order lines (inr none) = inr none
+
+-- ---- No call of it was out of place
+
+-- the run ended before all was done
+abbrev pub IsFaultEnd : Served → Type 0
+IsFaultEnd (served.Ended events) = ⊥
+IsFaultEnd (served.EventsLeft left) = ⊥
+IsFaultEnd other = Unit {0}
+
+cut_strays : (sim : WorldData) (a b : Option (List ℕ)) → InOrder (seen_of sim) → CountsNone sim → AreLinksInPlace (seen_of sim).history (at_first (seen_of sim).given) → CutAlike all_allowed (seen_of sim) a b
+    → (seen_of sim).counts.shorts ≡ 0 → (seen_of sim).counts.strays ≡ 0
+cut_strays sim a b order none links cut =
+    let keeps = conforms_at sim cut.last order cut.given (cut.quiet order) (cut.read order) in
+    none_strays sim none (behind_for (cut.so keeps).in_order cut.own) (applications_in_place (seen_of sim) (cut.at_once keeps)) links
+
+writing_strays : (sim : WorldData) (a b : Option (List ℕ)) → InOrder (seen_of sim) → CountsNone sim → AreLinksInPlace (seen_of sim).history (at_first (seen_of sim).given) → CutWriting all_allowed (seen_of sim) a b
+    → (seen_of sim).counts.shorts ≡ 0 → (seen_of sim).counts.strays ≡ 0
+writing_strays sim a b order none links cut =
+    let keeps = conforms_at sim cut.last order cut.given (cut.quiet order) (cut.read order) in
+    none_strays sim none (behind_for (cut.so keeps).up_to.in_order cut.own) (applications_in_place (seen_of sim) (cut.at_once keeps)) links
+
+strays_or_nothing : (sim : WorldData) (a b : Option (List ℕ)) → InOrder (seen_of sim) → CountsNone sim → AreLinksInPlace (seen_of sim).history (at_first (seen_of sim).given) → CutAlike all_allowed (seen_of sim) a b ⊎ NothingDone [] (seen_of sim) a b
+    → (seen_of sim).counts.shorts ≡ 0 → (seen_of sim).counts.strays ≡ 0
+strays_or_nothing sim a b order none links (inl cut) = cut_strays sim a b order none links cut
+strays_or_nothing sim a b order none links (inr idle) = idle_strays sim none idle.history
+
+-- by how the run ended
+pub strays_of : (sim : WorldData) (a b : Option (List ℕ)) (end : Served) → InOrder (seen_of sim) → CountsNone sim → AreLinksInPlace (seen_of sim).history (at_first (seen_of sim).given) → IsFaultEnd end → IsCut all_allowed (seen_of sim) a b end
+    → (seen_of sim).counts.shorts ≡ 0 → (seen_of sim).counts.strays ≡ 0
+strays_of sim a b (served.Ended events) order none links fault cut = absurd fault
+strays_of sim a b (served.EventsLeft left) order none links fault cut = absurd fault
+strays_of sim a b served.WriteFault order none links fault cut = writing_strays sim a b order none links cut
+strays_of sim a b served.Shut order none links fault cut = shut_strays sim none cut.history
+strays_of sim a b served.NextFault order none links fault cut = cut_strays sim a b order none links cut
+strays_of sim a b (served.Txn fault_of) order none links fault cut = cut_strays sim a b order none links cut
+strays_of sim a b served.NoMemory order none links fault cut = strays_or_nothing sim a b order none links cut
 
 -- ---- What the engine promises of a run that a fault ends
 

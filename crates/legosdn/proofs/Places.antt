@@ -1,5 +1,5 @@
 -- No call of a run was out of place.
-use Rattle.std.proofs.Common.{◌≡◌, ℕ, ◌==◌, Bool, true, false, List, [], ◌∷◌, sym, subst}
+use Rattle.std.proofs.Common.{◌≡◌, ℕ, ◌==◌, Bool, true, false, List, [], ◌∷◌, ◌++◌, refl, sym, ap, subst}
 use Rattle.std.specs.List.{AllByRecursion}
 use Rattle.std.proofs.lemmas.Bool.{eq-eqb}
 use Rattle.of_types.specs.declared.journal.Act.{Act}
@@ -7,54 +7,118 @@ use Rattle.of_types.specs.declared.journal.Act.TheVariants.{Stim, Started, Gave,
 use Rattle.of_types.specs.declared.journal.TookWhat.TheVariants as took
 use Rattle.outside.specs.declared.step.WorldStep.{WorldStep}
 use Rattle.outside.specs.declared.step.WorldStep.TheVariants.{Acted, TookInto, From, Joined, Left, Moment, Idle, End, Opened, NotOpened, NextFailed, SendFailed, RecvFailed}
-use Rattle.outside.specs.Seen.{act_of}
-use Rattle.outside.specs.State.{State, at_first, after_step, is_running}
+use Rattle.outside.specs.Seen.{Given, Seen, act_of}
+use Rattle.outside.specs.State.{State, at_first, after_step, after_steps, state, is_running}
+use Rattle.net_txn.specs.LinkSteps.{IsLinkInPlace, AreLinksInPlace, StaysInPlace}
 use Rattle.app_visor.specs.Dialogues.{IsInPlace as IsInPlaceOf, AreInPlace as AreInPlaceOf}
+use Rattle.app_visor.specs.CallsFor.{IsActFor, IsCallFor, CallsFor}
 use Rattle.shown_switches.specs.Orderly.{IsOrderlyAct, IsOrderly}
 use Rattle.shown_runs.specs.Engine.{index}
+use Rattle.sim_world.specs.Scripts.{Scripts}
 use Rattle.sim_world.specs.Places.{IsActInPlace, IsInPlace, AreInPlace}
 use Rattle.sim_world.specs.World.{WorldData, given_of, seen_of}
+
+-- ---- Calls for the one application
+
+act_for : (act : Act) → IsOrderlyAct index act → IsActFor index act
+act_for (Stim x) so = tt
+act_for (Started of stands) so = so
+act_for (Gave of bytes) so = so
+act_for (Gone of bytes) so = so
+act_for (Took of what) so = so
+act_for (Ended of) so = so
+act_for (Sent d bytes) so = tt
+act_for (Got d bytes) so = tt
+
+step_for : (step : WorldStep) → IsOrderly index step → IsCallFor index step
+step_for (Acted act) so = act_for act so
+step_for (TookInto of what room) so = so.0
+step_for (From d bytes) so = tt
+step_for (Joined d bytes) so = tt
+step_for (Left d) so = tt
+step_for (Moment t) so = tt
+step_for Idle so = tt
+step_for End so = tt
+step_for Opened so = tt
+step_for NotOpened so = so
+step_for NextFailed so = tt
+step_for (SendFailed d) so = tt
+step_for (RecvFailed d) so = tt
+
+pub all_for : (steps : List WorldStep) → AllByRecursion (IsOrderly index) steps → AllByRecursion (IsCallFor index) steps
+all_for [] so = tt
+all_for (step ∷ steps) so = (step_for step so.0, all_for steps so.1)
+
+both_for : (xs ys : List WorldStep) → AllByRecursion (IsCallFor index) xs → AllByRecursion (IsCallFor index) ys → AllByRecursion (IsCallFor index) (xs ++ ys)
+both_for [] ys first rest = rest
+both_for (x ∷ xs) ys first rest = (first.0, both_for xs ys first.1 rest)
+
+-- as far as a place all steps were in order, and behind it all calls are for the application
+pub behind_for : {last seen : Seen Scripts} → AllByRecursion (IsOrderly index) last.history → CallsFor index last seen → AllByRecursion (IsCallFor index) seen.history
+behind_for {last} {seen} ordered own = subst (AllByRecursion (IsCallFor index)) (sym own.history) (both_for last.history own.steps (all_for last.history ordered) own.all)
+
+-- ---- Each step
 
 -- a call of the one application
 runs_as : (of : ℕ) (running : Bool) (s : State) → of ≡ index → ((of == index) ≡ true → is_running index s ≡ running) → is_running of s ≡ running
 runs_as of running s is so = subst (λ (app : ℕ). is_running app s ≡ running) (sym is) (so (eq-eqb of index is))
 
-act_in_place : (act : Act) (s : State) → IsOrderlyAct index act → IsInPlaceOf index (act_of (Acted act)) (is_running index s) → IsActInPlace act s
-act_in_place (Stim x) s ordered so = tt
-act_in_place (Started of true) s ordered so = tt
-act_in_place (Started of false) s ordered so = runs_as of false s ordered so
-act_in_place (Gave of bytes) s ordered so = tt
-act_in_place (Gone of bytes) s ordered so = runs_as of true s ordered so
-act_in_place (Took of what) s ordered so = tt
-act_in_place (Ended of) s ordered so = tt
-act_in_place (Sent d bytes) s ordered so = tt
-act_in_place (Got d bytes) s ordered so = tt
+act_in_place : (act : Act) (s : State) → IsActFor index act → IsInPlaceOf index (act_of (Acted act)) (is_running index s) → IsActInPlace act s
+act_in_place (Stim x) s own so = tt
+act_in_place (Started of true) s own so = tt
+act_in_place (Started of false) s own so = runs_as of false s own so
+act_in_place (Gave of bytes) s own so = tt
+act_in_place (Gone of bytes) s own so = runs_as of true s own so
+act_in_place (Took of what) s own so = tt
+act_in_place (Ended of) s own so = tt
+act_in_place (Sent d bytes) s own so = tt
+act_in_place (Got d bytes) s own so = tt
 
-step_in_place : (step : WorldStep) (s : State) → IsOrderly index step → IsInPlaceOf index (act_of step) (is_running index s) → IsInPlace step s
-step_in_place (Acted act) s ordered so = act_in_place act s ordered so
-step_in_place (TookInto of (took.Bytes bytes) room) s ordered so = tt
-step_in_place (TookInto of took.Closed room) s ordered so = runs_as of true s ordered.0 so
-step_in_place (TookInto of took.Silent room) s ordered so = tt
-step_in_place (From d bytes) s ordered so = tt
-step_in_place (Joined d bytes) s ordered so = tt
-step_in_place (Left d) s ordered so = tt
-step_in_place (Moment t) s ordered so = tt
-step_in_place Idle s ordered so = tt
-step_in_place End s ordered so = tt
-step_in_place Opened s ordered so = tt
-step_in_place NotOpened s ordered so = absurd ordered
-step_in_place NextFailed s ordered so = tt
-step_in_place (SendFailed d) s ordered so = absurd ordered
-step_in_place (RecvFailed d) s ordered so = absurd ordered
+step_in_place : (step : WorldStep) (s : State) → IsCallFor index step → IsInPlaceOf index (act_of step) (is_running index s) → IsLinkInPlace step s → IsInPlace step s
+step_in_place (Acted act) s own so link = act_in_place act s own so
+step_in_place (TookInto of (took.Bytes bytes) room) s own so link = tt
+step_in_place (TookInto of took.Closed room) s own so link = runs_as of true s own so
+step_in_place (TookInto of took.Silent room) s own so link = tt
+step_in_place (From d bytes) s own so link = tt
+step_in_place (Joined d bytes) s own so link = tt
+step_in_place (Left d) s own so link = tt
+step_in_place (Moment t) s own so link = tt
+step_in_place Idle s own so link = tt
+step_in_place End s own so link = tt
+step_in_place Opened s own so link = tt
+step_in_place NotOpened s own so link = absurd own
+step_in_place NextFailed s own so link = tt
+step_in_place (SendFailed d) s own so link = link
+step_in_place (RecvFailed d) s own so link = link
 
-steps_in_place : (steps : List WorldStep) (s : State) → AllByRecursion (IsOrderly index) steps → AreInPlaceOf index steps s → AreInPlace steps s
-steps_in_place [] s ordered so = tt
-steps_in_place (step ∷ steps) s ordered so = (step_in_place step s ordered.0 so.0, steps_in_place steps (after_step step s) ordered.1 so.1)
+steps_in_place : (steps : List WorldStep) (s : State) → AllByRecursion (IsCallFor index) steps → AreInPlaceOf index steps s → AreLinksInPlace steps s → AreInPlace steps s
+steps_in_place [] s own so links = tt
+steps_in_place (step ∷ steps) s own so links = (step_in_place step s own.0 so.0 links.0, steps_in_place steps (after_step step s) own.1 so.1 links.1)
+
+-- ---- The whole
+
+-- calls of links since nothing had happened
+pub links_from_first : (old new : Seen Scripts) → old.history ≡ [] → new.given ≡ old.given → StaysInPlace old new → AreLinksInPlace new.history (at_first new.given)
+unfolding state
+links_from_first old new none given stays =
+    subst (λ (g : Given Scripts). AreLinksInPlace new.history (at_first g)) (sym given)
+    (subst (λ (h : List WorldStep). AreLinksInPlace new.history (after_steps h (at_first old.given))) none
+    (stays new.history (ap (λ (h : List WorldStep). h ++ new.history) (sym none))))
 
 -- what the world says of calls in place
 abbrev pub CountsNone : WorldData → Type 0
 CountsNone sim = AreInPlace sim.history (at_first (given_of sim)) → (seen_of sim).counts.shorts ≡ 0 → (seen_of sim).counts.strays ≡ 0
 
-pub none_strays : (sim : WorldData) → AllByRecursion (IsOrderly index) (seen_of sim).history → AreInPlaceOf index (seen_of sim).history (at_first (seen_of sim).given) → CountsNone sim → (seen_of sim).counts.shorts ≡ 0 → (seen_of sim).counts.strays ≡ 0
+pub none_strays : (sim : WorldData) → CountsNone sim → AllByRecursion (IsCallFor index) (seen_of sim).history → AreInPlaceOf index (seen_of sim).history (at_first (seen_of sim).given)
+    → AreLinksInPlace (seen_of sim).history (at_first (seen_of sim).given) → (seen_of sim).counts.shorts ≡ 0 → (seen_of sim).counts.strays ≡ 0
 unfolding seen_of
-none_strays sim ordered so none shorts = none (steps_in_place sim.history (at_first (given_of sim)) ordered so) shorts
+none_strays sim none own so links shorts = none (steps_in_place sim.history (at_first (given_of sim)) own so links) shorts
+
+-- where the world stayed shut, or nothing was done
+pub shut_strays : (sim : WorldData) → CountsNone sim → (seen_of sim).history ≡ NotOpened ∷ [] → (seen_of sim).counts.shorts ≡ 0 → (seen_of sim).counts.strays ≡ 0
+unfolding seen_of at_first
+shut_strays sim none is = none (subst (λ (h : List WorldStep). AreInPlace h (at_first (given_of sim))) (sym is) (refl, tt))
+
+pub idle_strays : (sim : WorldData) → CountsNone sim → (seen_of sim).history ≡ [] → (seen_of sim).counts.shorts ≡ 0 → (seen_of sim).counts.strays ≡ 0
+unfolding seen_of
+idle_strays sim none is = none (subst (λ (h : List WorldStep). AreInPlace h (at_first (given_of sim))) (sym is) tt)

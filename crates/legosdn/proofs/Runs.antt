@@ -1,6 +1,5 @@
 -- The run of a session is the reference controller's.
-use Rattle.std.proofs.Common.{◌≡◌, ℕ, ◌≤◌, Bool, true, false, List, [], ◌∷◌, length, Contains, Option, Some, Result, Ok, Err, IfErr, IfSome, refl, sym, ap, ◌∙◌, subst, arith, inl, inr, true≢false}
-use Rattle.std.proofs.lemmas.Bool.{cases_Bool}
+use Rattle.std.proofs.Common.{◌≡◌, ℕ, ◌≤◌, Bool, true, List, [], ◌∷◌, length, Contains, Option, Some, Result, Ok, Err, IfErr, IfSome, refl, sym, ap, ◌∙◌, subst, arith, inl, inr, true≢false}
 use Rattle.std.specs.Result.{IsErrAnd}
 use Rattle.of_types.specs.declared.journal.WorldStim.{WorldStim}
 use Rattle.flow_table.specs.declared.view.TableView.{TableView}
@@ -10,29 +9,35 @@ use Rattle.lego_model.specs.SessionText.{session_text}
 use Rattle.lego_model.specs.SessionTextLaws.{session_read}
 use Rattle.outside.specs.Seen.{Seen, Continues}
 use Rattle.outside.specs.Conforming.{Conforming}
+use Rattle.outside.specs.State.{at_first}
+use Rattle.outside.specs.InOrder.{BringMessages, InOrder}
+use Rattle.outside.specs.InOrderLaws.{in_order-Conforming}
+use Rattle.net_txn.specs.LinkSteps.{AreLinksInPlace}
 use Rattle.sim_world.specs.Told.{without_links}
 use Rattle.sim_world.specs.Scripts.{Scripts, KeepsScripts}
-use Rattle.sim_world.specs.World.{WorldData, IsReadable, given_of, seen_of}
+use Rattle.sim_world.specs.World.{WorldData, given_of, seen_of}
+use Rattle.sim_world.specs.Tally.{counts_of}
 use Rattle.sim_world.specs.Building.{IsNew, Begins}
 use Rattle.session_text.specs.Loading.{given_by}
 use Rattle.shown_runs.specs.Engine.{stimuli_in}
 use Rattle.shown_runs.specs.StimuliLaws.{told-few, told-all}
 use Rattle.shown_runs.specs.Promise.{Premise}
-use Rattle.shown_runs.specs.DialogueLaws.{applications_in_place}
 use Rattle.event_dispatch.specs.declared.served.Served.{Served}
 use Rattle.event_dispatch.specs.declared.served.Served.TheVariants as served
+use Rattle.shown_runs.specs.DialogueLaws.{applications_in_place}
 use Rattle.event_dispatch.specs.Serves.{IsAlike}
+use Rattle.event_dispatch.specs.Cut.{IsReadServed}
 use Rattle.event_dispatch.specs.Plain.{IsPlainServed}
 use Rattle.legosdn.specs.declared.stop.Refusal.{Refusal}
 use Rattle.legosdn.specs.declared.stop.Stop.{Stop}
 use Rattle.legosdn.specs.declared.stop.Stop.TheVariants.{Usage, Refused, ReadFault, WriteFault, Shut, NextFault, SwitchFault, SwitchBroke, Diverged, EventsLeft, NoMemory}
 use Rattle.legosdn.specs.Input.{session_of}
 use Rattle.legosdn.specs.Stops.{stop_status, stop_line, stop_of_switch}
-use Rattle.legosdn.specs.Headline.{is_command, Faults, IsReadCause, IsCause, NoneFailed, IsLate, KeepsLines, Wrote, RunsWhole, RunsPart, UpToPlace, StopsAs, RunsAs, LeftAs, CutShort}
+use Rattle.legosdn.specs.Headline.{is_command, Faults, IsReadCause, IsCause, NoneFailed, IsLate, KeepsLines, Wrote, RunsWhole, RunsPart, UpToPlace, SomeRefused, StopsAs, RunsAs, LeftAs, CutShort}
 use Rattle.legosdn.specs.Said.{all_allowed, CutRun}
 use Rattle.legosdn.proofs.Said.{kept_to_lines, ends_as_said, leaves_as_said}
 use Rattle.legosdn.proofs.Statuses.{is_broken, is_diverged}
-use Rattle.legosdn.proofs.Places.{CountsNone, none_strays}
+use Rattle.legosdn.proofs.Places.{CountsNone, all_for, none_strays}
 use Rattle.lego_io.specs.Count.{NeverFell}
 use Rattle.net_txn.specs.declared.fault.TxnFault.{TxnFault}
 use Rattle.net_txn.specs.declared.fault.TxnFault.TheVariants as faults
@@ -71,9 +76,8 @@ unfolding seen_of given_of
 lines_seen sim lines = lines
 
 pub runs_whole : (old sim : WorldData) (contents now_contents : Option (List ℕ)) (events : ℕ) → (seen_of old).history ≡ [] → length (seen_of old).given.stimuli ≤ 1000000 → Continues (Unit {0}) (seen_of old) (seen_of sim)
-    → (IsReadable sim.history ≡ true → Conforming (seen_of sim)) → (end : Served) → end ≡ served.Ended events → Promises (seen_of old) (seen_of sim) contents now_contents end → CountsNone sim → KeepsLines sim → IsReadable sim.history ≡ true → RunsWhole (seen_of sim) contents now_contents
-runs_whole old sim contents now_contents events none few continues word end ended promises counts lines readable =
-    let keeps = word readable in
+    → Conforming (seen_of sim) → (end : Served) → end ≡ served.Ended events → Promises (seen_of old) (seen_of sim) contents now_contents end → KeepsLines sim → RunsWhole (seen_of sim) contents now_contents
+runs_whole old sim contents now_contents events none few continues keeps end ended promises lines =
     let is = subst (λ (e : Served). IsAlike all_allowed (seen_of sim) contents now_contents e) ended (promises all_allowed (premise (seen_of old) (seen_of sim) none few continues keeps)) in
     let stimuli = told-all (seen_of sim) keeps is.none_to_come in
     record {
@@ -81,20 +85,17 @@ runs_whole old sim contents now_contents events none few continues word end ende
       alike = is.alike;
       stimuli = stimuli;
       as_said = λ no_call. ends_as_said (seen_of sim) contents now_contents events is.alike stimuli (kept_to_lines (seen_of sim) (without_links (seen_of sim).given.fails) (lines_seen sim lines) no_call is.alike.in_order is.alike.at_once);
-      strays = none_strays sim is.alike.in_order (applications_in_place (seen_of sim) is.alike.at_once) counts;
     }
 
 pub runs_part : (old sim : WorldData) (contents now_contents : Option (List ℕ)) (left : ℕ) → (seen_of old).history ≡ [] → length (seen_of old).given.stimuli ≤ 1000000 → Continues (Unit {0}) (seen_of old) (seen_of sim)
-    → (IsReadable sim.history ≡ true → Conforming (seen_of sim)) → (end : Served) → end ≡ served.EventsLeft left → Promises (seen_of old) (seen_of sim) contents now_contents end → CountsNone sim → KeepsLines sim → IsReadable sim.history ≡ true → RunsPart (seen_of sim) contents now_contents left
-runs_part old sim contents now_contents left none few continues word end ended promises counts lines readable =
-    let keeps = word readable in
+    → Conforming (seen_of sim) → (end : Served) → end ≡ served.EventsLeft left → Promises (seen_of old) (seen_of sim) contents now_contents end → KeepsLines sim → RunsPart (seen_of sim) contents now_contents left
+runs_part old sim contents now_contents left none few continues keeps end ended promises lines =
     let is = subst (λ (e : Served). IsAlike all_allowed (seen_of sim) contents now_contents e) ended (promises all_allowed (premise (seen_of old) (seen_of sim) none few continues keeps)) in
     let stimuli = told-all (seen_of sim) keeps is.none_to_come in
     record {
       alike = is.alike;
       stimuli = stimuli;
       as_said = λ no_call. leaves_as_said (seen_of sim) contents now_contents left is.alike stimuli (kept_to_lines (seen_of sim) (without_links (seen_of sim).given.fails) (lines_seen sim lines) no_call is.alike.in_order is.alike.at_once);
-      strays = none_strays sim is.alike.in_order (applications_in_place (seen_of sim) is.alike.at_once) counts;
     }
 
 -- how the run went up to a stop
@@ -160,17 +161,11 @@ lines_by_read P told k l stop (Ok x) is cause = tt
 lines_by_read P told k l stop (Err s) is cause = λ late. read_not_late P told k l stop cause (subst IsLate is late)
 
 -- a switch breaks or diverges only where the world did not keep its word
-never_readable : (sim : WorldData) → (IsReadable sim.history ≡ true → ⊥) → IsReadable sim.history ≡ false
-never_readable sim never = elim (cases_Bool (IsReadable sim.history)) [
-  | inl readable ↦ absurd (never readable)
-  | inr broken ↦ broken
-]
-
-switch_runs : (sim : WorldData) (a b : Option (List ℕ)) (fault : TxnFault) → (IsReadable sim.history ≡ true → IsPlainServed (served.Txn fault)) → UpToPlace sim (λ last. CutRun last a b) → StopsAs (stop_of_switch fault) sim a b
+switch_runs : (sim : WorldData) (a b : Option (List ℕ)) (fault : TxnFault) → (BringMessages sim.history → IsPlainServed (served.Txn fault)) → UpToPlace sim (λ last. CutRun last a b) → StopsAs (stop_of_switch fault) sim a b
 switch_runs sim a b (faults.SwitchFault d) plain place = place
-switch_runs sim a b (faults.SwitchBroke d bytes) plain place = (never_readable sim plain, place)
-switch_runs sim a b (faults.Flooded d n) plain place = (never_readable sim plain, place)
-switch_runs sim a b (faults.Diverged d sent got) plain place = (never_readable sim plain, place)
+switch_runs sim a b (faults.SwitchBroke d bytes) plain place = (plain, place)
+switch_runs sim a b (faults.Flooded d n) plain place = (plain, place)
+switch_runs sim a b (faults.Diverged d sent got) plain place = (plain, place)
 switch_runs sim a b faults.NoMemory plain place = inl place
 
 -- what the engine promises of how the run ends
@@ -178,17 +173,17 @@ abbrev pub PromisesPlain : Seen Scripts → Seen Scripts → Served → Type 0
 PromisesPlain old new end = (allows : List Place → Bool) → Premise (Unit {0}) (λ (views : List TableView). true) allows old new → IsPlainServed end
 
 pub runs_by_switch : (old sim : WorldData) (a b : Option (List ℕ)) (stop : Stop) (fault : TxnFault) → (seen_of old).history ≡ [] → length (seen_of old).given.stimuli ≤ 1000000 → Continues (Unit {0}) (seen_of old) (seen_of sim)
-    → (IsReadable sim.history ≡ true → Conforming (seen_of sim)) → (end : Served) → end ≡ served.Txn fault → PromisesPlain (seen_of old) (seen_of sim) end → stop ≡ stop_of_switch fault
+    → (BringMessages sim.history → Conforming (seen_of sim)) → (end : Served) → end ≡ served.Txn fault → PromisesPlain (seen_of old) (seen_of sim) end → stop ≡ stop_of_switch fault
     → UpToPlace sim (λ last. CutRun last a b) → StopsAs stop sim a b
 runs_by_switch old sim a b stop fault none few continues word end ended promises is place =
     subst (λ (s : Stop). StopsAs s sim a b) (sym is)
     (switch_runs sim a b fault (λ readable. subst IsPlainServed ended (promises all_allowed (premise (seen_of old) (seen_of sim) none few continues (word readable)))) place)
 
 -- what a stop of a switch says of the run
-pub broke_as : (sim : WorldData) (stop : Stop) (a b : Option (List ℕ)) → StopsAs stop sim a b → stop_status stop ≡ 8 → IsReadable sim.history ≡ false
+pub broke_as : (sim : WorldData) (stop : Stop) (a b : Option (List ℕ)) → StopsAs stop sim a b → stop_status stop ≡ 8 → SomeRefused sim
 broke_as sim stop a b runs eight = let is = is_broken stop eight in (subst (λ (s : Stop). StopsAs s sim a b) is.1 runs).0
 
-pub diverged_as : (sim : WorldData) (stop : Stop) (a b : Option (List ℕ)) → StopsAs stop sim a b → stop_status stop ≡ 9 → IsReadable sim.history ≡ false
+pub diverged_as : (sim : WorldData) (stop : Stop) (a b : Option (List ℕ)) → StopsAs stop sim a b → stop_status stop ≡ 9 → SomeRefused sim
 diverged_as sim stop a b runs nine = let is = is_diverged stop nine in (subst (λ (s : Stop). StopsAs s sim a b) is.1 runs).0
 
 -- ---- A good input is answered
@@ -197,7 +192,7 @@ no_both : (session : SessionValue) (refusal : Refusal) → Ok session ≡ Err re
 no_both session refusal e = absurd cc
 
 pub completes : (sim : WorldData) (words : List (List ℕ)) (told : Option (List ℕ)) (old new : Faults) (stop : Stop) (a b : Option (List ℕ)) → IsCause words told old new stop → StopsAs stop sim a b → (input : List ℕ) (session : SessionValue)
-    → is_command words ≡ true → told ≡ Some input → session_of input ≡ Ok session → IsReadable sim.history ≡ true → NoneFailed old new → Contains (0 ∷ 10 ∷ 12 ∷ []) (stop_status stop)
+    → is_command words ≡ true → told ≡ Some input → session_of input ≡ Ok session → BringMessages sim.history → NoneFailed old new → Contains (0 ∷ 10 ∷ 12 ∷ []) (stop_status stop)
 completes sim words told old new Usage a b cause runs input session command whole spelled readable none = absurd (true≢false (sym command ∙ cause))
 completes sim words told old new (Refused refusal) a b cause runs input session command whole spelled readable none =
     let refused : session_of input ≡ Err refusal = subst (λ (t : Option (List ℕ)). IfSome t (λ i. session_of i ≡ Err refusal)) whole cause in
@@ -207,7 +202,40 @@ completes sim words told old new WriteFault a b cause runs input session command
 completes sim words told old new Shut a b cause runs input session command whole spelled readable none = absurd (none.shuts cause)
 completes sim words told old new NextFault a b cause runs input session command whole spelled readable none = absurd (none.next_faults cause)
 completes sim words told old new (SwitchFault d) a b cause runs input session command whole spelled readable none = absurd (none.link_faults d cause)
-completes sim words told old new (SwitchBroke d) a b cause runs input session command whole spelled readable none = absurd (true≢false (sym readable ∙ runs.0))
-completes sim words told old new (Diverged d) a b cause runs input session command whole spelled readable none = absurd (true≢false (sym readable ∙ runs.0))
+completes sim words told old new (SwitchBroke d) a b cause runs input session command whole spelled readable none = absurd (runs.0 readable)
+completes sim words told old new (Diverged d) a b cause runs input session command whole spelled readable none = absurd (runs.0 readable)
 completes sim words told old new (EventsLeft left) a b cause runs input session command whole spelled readable none = (1, omega arith, refl)
 completes sim words told old new NoMemory a b cause runs input session command whole spelled readable none = (2, omega arith, refl)
+
+-- ---- No call was out of place
+
+pub whole_strays : (old sim : WorldData) (contents now_contents : Option (List ℕ)) (events : ℕ) → (seen_of old).history ≡ [] → length (seen_of old).given.stimuli ≤ 1000000 → Continues (Unit {0}) (seen_of old) (seen_of sim)
+    → Conforming (seen_of sim) → (end : Served) → end ≡ served.Ended events → Promises (seen_of old) (seen_of sim) contents now_contents end → CountsNone sim → AreLinksInPlace (seen_of sim).history (at_first (seen_of sim).given)
+    → (seen_of sim).counts.shorts ≡ 0 → (seen_of sim).counts.strays ≡ 0
+whole_strays old sim contents now_contents events none few continues keeps end ended promises counts links =
+    let is = subst (λ (e : Served). IsAlike all_allowed (seen_of sim) contents now_contents e) ended (promises all_allowed (premise (seen_of old) (seen_of sim) none few continues keeps)) in
+    none_strays sim counts (all_for (seen_of sim).history is.alike.in_order) (applications_in_place (seen_of sim) is.alike.at_once) links
+
+pub part_strays : (old sim : WorldData) (contents now_contents : Option (List ℕ)) (left : ℕ) → (seen_of old).history ≡ [] → length (seen_of old).given.stimuli ≤ 1000000 → Continues (Unit {0}) (seen_of old) (seen_of sim)
+    → Conforming (seen_of sim) → (end : Served) → end ≡ served.EventsLeft left → Promises (seen_of old) (seen_of sim) contents now_contents end → CountsNone sim → AreLinksInPlace (seen_of sim).history (at_first (seen_of sim).given)
+    → (seen_of sim).counts.shorts ≡ 0 → (seen_of sim).counts.strays ≡ 0
+part_strays old sim contents now_contents left none few continues keeps end ended promises counts links =
+    let is = subst (λ (e : Served). IsAlike all_allowed (seen_of sim) contents now_contents e) ended (promises all_allowed (premise (seen_of old) (seen_of sim) none few continues keeps)) in
+    none_strays sim counts (all_for (seen_of sim).history is.alike.in_order) (applications_in_place (seen_of sim) is.alike.at_once) links
+
+-- nothing was counted in a new world
+pub new_strays : (w : WorldData) → IsNew w → (seen_of w).counts.strays ≡ 0
+unfolding seen_of counts_of
+new_strays w is = is.counts.strays
+
+-- ---- The world kept its word
+
+pub keeps_with : (sim : WorldData) → InOrder (seen_of sim) → BringMessages sim.history → Conforming (seen_of sim)
+unfolding seen_of
+keeps_with sim order messages = in_order-Conforming (seen_of sim) order messages
+
+pub ended_keeps : (sim : WorldData) (end : Served) (events : ℕ) → end ≡ served.Ended events → InOrder (seen_of sim) → IsReadServed (seen_of sim) end → Conforming (seen_of sim)
+ended_keeps sim end events is order read = in_order-Conforming (seen_of sim) order (subst (λ (e : Served). IsReadServed (seen_of sim) e) is read)
+
+pub left_keeps : (sim : WorldData) (end : Served) (left : ℕ) → end ≡ served.EventsLeft left → InOrder (seen_of sim) → IsReadServed (seen_of sim) end → Conforming (seen_of sim)
+left_keeps sim end left is order read = in_order-Conforming (seen_of sim) order (subst (λ (e : Served). IsReadServed (seen_of sim) e) is read)

@@ -1,16 +1,18 @@
 -- What a command promises: how it ends, why, and what it wrote last.
-use Rattle.std.specs.Prelude.{◌≡◌, ◌⊎◌, ◌≤◌, ℕ, Bool, true, false, List, [], ◌∷◌, Option, IfSome, Result, Ok, Err, codes}
+use Rattle.std.specs.Prelude.{◌≡◌, ◌⊎◌, ◌≤◌, ℕ, Bool, false, List, [], ◌∷◌, Option, IfSome, Result, Ok, Err, codes}
 use Rattle.std.specs.Str.{bytes_eq}
 use Rattle.std.specs.Io.KnownBytes.{append_known}
 use Rattle.lego_io.specs.Count.{Rose, NeverFell}
 use Rattle.lego_io.specs.Source.{ended}
 use Rattle.lego_io.specs.Sink.{TookPart}
 use Rattle.outside.specs.declared.step.WorldStep.TheVariants.{NotOpened}
-use Rattle.outside.specs.Seen.{Seen, Longer, journal}
+use Rattle.outside.specs.Seen.{Seen, journal}
+use Rattle.outside.specs.InOrder.{BringMessages}
+use Rattle.outside.specs.Quiet.{IsLastQuiet}
 use Rattle.lego_model.specs.AtOnce.{AtOnce}
 use Rattle.sim_world.specs.Told.{without_links}
 use Rattle.sim_world.specs.Scripts.{Scripts, KeepsScripts}
-use Rattle.sim_world.specs.World.{WorldData, IsReadable, seen_of}
+use Rattle.sim_world.specs.World.{WorldData, seen_of}
 use Rattle.shown_runs.specs.Engine.{index, stimuli_in}
 use Rattle.shown_runs.specs.Promise.{EndsAs, EndsAlike, LeavesAs, LeavesAlike}
 use Rattle.net_txn.specs.declared.fault.TxnFault.{TxnFault}
@@ -116,41 +118,44 @@ pub record RunsWhole (seen : Seen Scripts) (contents now_contents : Option (List
   pub stimuli : stimuli_in seen ≡ seen.given.stimuli
   -- it is that over what the lines of the session say of the application too
   pub as_said : without_links seen.given.fails ≡ [] → WithEnough (λ more. EndsAs seen contents now_contents events (reference_over more seen.given))
-  -- no call was made out of place, where no call of the world wanted memory
-  pub strays : seen.counts.shorts ≡ 0 → seen.counts.strays ≡ 0
 
 -- The same with so many events left, and with the lines of those that were dispatched.
 pub record RunsPart (seen : Seen Scripts) (contents now_contents : Option (List ℕ)) (left : ℕ) : Type 0 where
   pub alike : LeavesAlike all_allowed seen contents now_contents left
   pub stimuli : stimuli_in seen ≡ seen.given.stimuli
   pub as_said : without_links seen.given.fails ≡ [] → WithEnough (λ more. LeavesAs seen contents now_contents left (reference_over more seen.given))
-  pub strays : seen.counts.shorts ≡ 0 → seen.counts.strays ≡ 0
 
--- There is a place of the run of which this is so, if no stimulus up to there sent bytes that are no message, whatever came behind it. Then
--- the whole journal is a dialogue with the application, in which each change had reached its switch at once when it was answered.
+-- Of the run as far as a place this is so: no place behind it is quiet, so that what lies behind it is of one stimulus, of one event, or of
+-- the end of the report; and all bytes that came of switches up to there are messages. The whole journal is a dialogue with the application,
+-- in which each change had reached its switch at once when it was answered.
 pub record UpToPlace (sim : WorldData) (IsSo : Seen Scripts → Type 0) : Type 0 where
   pub last : Seen Scripts
   pub given : last.given ≡ (seen_of sim).given
-  pub later : Longer last.history (seen_of sim).history
-  pub so : IsReadable last.history ≡ true → IsSo last
-  pub at_once : IsReadable last.history ≡ true → AtOnce index (journal (seen_of sim).history)
+  pub quiet : IsLastQuiet last (seen_of sim)
+  pub messages : BringMessages last.history
+  pub so : IsSo last
+  pub at_once : AtOnce index (journal (seen_of sim).history)
 
--- How a run goes that ends so. Where events are left it is as above, unless a stimulus sends bytes that are no message. Where a fault ends
--- it, it is that of the reference controller up to a place, with the lines of all that was done up to there, and where the sink failed with
--- a part of the lines of the last; or nothing was done. Only where a stimulus does send such bytes, a switch breaks or diverges.
+-- some bytes that came of a switch are no message
+abbrev pub SomeRefused : WorldData → Type 0
+SomeRefused sim = BringMessages sim.history → ⊥
+
+-- How a run goes that ends so. Where events are left it is as above. Where a fault ends it, it is that of the reference controller up to the
+-- last quiet place, with the lines of all that was done up to there, and where the sink failed with a part of the lines of the last; or
+-- nothing was done. Only where bytes come that are no message, a switch breaks or diverges.
 abbrev pub StopsAs : Stop → WorldData → Option (List ℕ) → Option (List ℕ) → Type 0
-StopsAs (EventsLeft left) sim contents now_contents = IsReadable sim.history ≡ true → RunsPart (seen_of sim) contents now_contents left
+StopsAs (EventsLeft left) sim contents now_contents = RunsPart (seen_of sim) contents now_contents left
 StopsAs WriteFault sim contents now_contents = UpToPlace sim (λ last. WritingRun last contents now_contents)
 StopsAs Shut sim contents now_contents = NothingDone (NotOpened ∷ []) (seen_of sim) contents now_contents
 StopsAs NextFault sim contents now_contents = UpToPlace sim (λ last. CutRun last contents now_contents)
 StopsAs (SwitchFault d) sim contents now_contents = UpToPlace sim (λ last. CutRun last contents now_contents)
-StopsAs (SwitchBroke d) sim contents now_contents = (IsReadable sim.history ≡ false) × UpToPlace sim (λ last. CutRun last contents now_contents)
-StopsAs (Diverged d) sim contents now_contents = (IsReadable sim.history ≡ false) × UpToPlace sim (λ last. CutRun last contents now_contents)
+StopsAs (SwitchBroke d) sim contents now_contents = SomeRefused sim × UpToPlace sim (λ last. CutRun last contents now_contents)
+StopsAs (Diverged d) sim contents now_contents = SomeRefused sim × UpToPlace sim (λ last. CutRun last contents now_contents)
 StopsAs NoMemory sim contents now_contents = UpToPlace sim (λ last. CutRun last contents now_contents) ⊎ NothingDone [] (seen_of sim) contents now_contents
 StopsAs other sim contents now_contents = Unit {0}
 
 abbrev pub RunsAs : {T : Type 0} → Result T Stop → WorldData → Option (List ℕ) → Option (List ℕ) → Type 0
-RunsAs (Ok x) sim contents now_contents = IsReadable sim.history ≡ true → RunsWhole (seen_of sim) contents now_contents
+RunsAs (Ok x) sim contents now_contents = RunsWhole (seen_of sim) contents now_contents
 RunsAs (Err stop) sim contents now_contents = StopsAs stop sim contents now_contents
 
 -- each start of the application, and all that it gave and was given, went as the lines of the session say
@@ -177,7 +182,7 @@ pub record LeftAs (sim : WorldData) (contents now_contents : Option (List ℕ)) 
   pub before : Option (List ℕ)
   pub faults : ℕ
   pub never_fell : NeverFell faults_old faults
-  pub run : IsReadable sim.history ≡ true → RunsPart (seen_of sim) contents before left
+  pub run : RunsPart (seen_of sim) contents before left
   pub written : Wrote before now_contents faults faults_new (stop_line (EventsLeft left))
 
 -- How the run went up to a stop of this status, whose line stands behind what was written up to there.

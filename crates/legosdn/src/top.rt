@@ -3,7 +3,8 @@
 ghost use Rattle.std.specs.Prelude.{◌≡◌, ◌≤◌, ◌↔◌, ◌⊎◌, ◌∷◌, [], ℕ, List, Some, Ok, Err, true, false, length, map, Contains, IfSome, IfOk, OnOk, IfErr, string_bytes};
 ghost use Rattle.lego_io.specs.Count.{Rose, NeverFell};
 ghost use Rattle.outside.specs.Seen.{Continues};
-ghost use Rattle.sim_world.specs.World.{IsReadable, given_of, seen_of};
+ghost use Rattle.outside.specs.InOrder.{BringMessages};
+ghost use Rattle.sim_world.specs.World.{given_of, seen_of};
 ghost use Rattle.sim_world.specs.Building.{nothing_given, IsNew, Begins};
 ghost use Rattle.lego_model.specs.SessionLines.{SessionValue};
 ghost use Rattle.legosdn.specs.declared.stop.Refusal.{Refusal};
@@ -13,7 +14,7 @@ ghost use Rattle.lego_model.specs.RunReport.{run_report};
 ghost use Rattle.shown_runs.specs.Engine.{names};
 ghost use Rattle.legosdn.specs.Said.{reference_of_session, WithEnough};
 ghost use Rattle.legosdn.specs.Stops.{stop_status, stop_line, refusal_line};
-ghost use Rattle.legosdn.specs.Headline.{is_command as is_command_in, faults_of, IsReadCause, IsRunCause, IsCause, NoneFailed, IsEarly, IsLate, Loaded, RunsWhole, RunsAs, KeepsLines, LeftAs, CutShort, Wrote, WroteLast, Stopped};
+ghost use Rattle.legosdn.specs.Headline.{is_command as is_command_in, faults_of, IsReadCause, IsRunCause, IsCause, NoneFailed, IsEarly, IsLate, Loaded, RunsWhole, RunsAs, KeepsLines, LeftAs, CutShort, SomeRefused, Wrote, WroteLast, Stopped};
 
 use crate::input::{parts_of, read_input};
 use crate::stop::Stop;
@@ -66,6 +67,8 @@ pub fn play<K: Sink>(alloc: Global, sink: &mut K, sim: &mut SimWorld) -> Result<
     ensures runs { (seen_of sim.old).history ≡ [] → length (seen_of sim.old).given.stimuli ≤ 1000000
         → RunsAs result sim.new (K.contents sink.old) (K.contents sink.new) }
     ensures lines { KeepsLines sim.new }
+    ensures strays { (seen_of sim.old).history ≡ [] → length (seen_of sim.old).given.stimuli ≤ 1000000
+        → (seen_of sim.new).counts.shorts ≡ 0 → (seen_of sim.new).counts.strays ≡ 0 }
     ensures why { IfErr result (IsRunCause (K.faults sink.old) (K.faults sink.new) (seen_of sim.old) (seen_of sim.new)) }
     ensures continues { Continues (Unit {0}) (seen_of sim.old) (seen_of sim.new) }
     ensures never_fell { NeverFell (K.faults sink.old) (K.faults sink.new) }
@@ -97,6 +100,7 @@ fn run<S: Source, K: Sink>(
     ensures runs { RunsAs result sim.new (K.contents sink.old) (K.contents sink.new) }
     ensures lines { OnOk result (KeepsLines sim.new) }
     ensures late_lines { IfErr result (λ stop. IsLate stop → KeepsLines sim.new) }
+    ensures strays { (seen_of sim.new).counts.shorts ≡ 0 → (seen_of sim.new).counts.strays ≡ 0 }
     ensures why { IfErr result (IsCause (map string_bytes words.now) (S.remaining source.old)
         (faults_of (S.faults source.old) (K.faults sink.old) (seen_of sim.old))
         (faults_of (S.faults source.new) (K.faults sink.new) (seen_of sim.new))) }
@@ -139,22 +143,22 @@ pub fn legosdn<S: Source, K: Sink>(
 ) -> u8
     requires new { IsNew sim.old }
     requires nothing { given_of sim.old ≡ nothing_given }
-    // At status 0, unless a stimulus sent bytes that are no message: all stimuli of the session happened, and the run is that of the
-    // reference controller over them and over what the application did: at every quiet place the tables agree, the application was
+    // At status 0 all stimuli of the session happened, and the run is that of the reference controller over them and over what the
+    // application did: at every quiet place the tables agree, the application was
     // given what it is given there, no event is left, and what was written is the whole report. Each answer that the application was
     // given is to its next message, and a change that passed the host's tests had then reached its switch: since the frame given before,
     // the change was sent there, a barrier behind it, the barrier's reply came, and no other change was sent.
-    ensures done { result ≡ 0 → IsReadable sim.new.history ≡ true → RunsWhole (seen_of sim.new) (K.contents sink.old) (K.contents sink.new) }
+    ensures done { result ≡ 0 → RunsWhole (seen_of sim.new) (K.contents sink.old) (K.contents sink.new) }
     // And that report is the one of the reference controller over the session that the input spells: over its switches and stimuli and what
     // its lines say of the application, with as many ready starts and plain turns behind the last line as one likes, if they are enough.
     ensures report { (input : List ℕ) (session : SessionValue) → S.remaining source.old ≡ Some input → session_of input ≡ Ok session
-        → result ≡ 0 → IsReadable sim.new.history ≡ true
+        → result ≡ 0
         → WithEnough (λ more. K.contents sink.new ≡ append_known (K.contents sink.old) (run_report names (reference_of_session more session))) }
     // At status 10 the same with the lines of the events that were dispatched, and how many are left behind them.
     ensures left { result ≡ 10 → LeftAs sim.new (K.contents sink.old) (K.contents sink.new) (K.faults sink.old) (K.faults sink.new) }
-    // Where a fault ends the run, it is that of the reference controller up to a place, if no stimulus up to there sent bytes that are no
-    // message: what was written is what this says so far, or a part of the lines of what was done last where the sink failed, and behind it
-    // stands the line that says why; and the whole journal is such a dialogue. Or nothing was done.
+    // Where a fault ends the run, it is that of the reference controller up to the last quiet place: what was written is what this says so
+    // far, or a part of the lines of what was done last where the sink failed, and behind it stands the line that says why; and the whole
+    // journal is such a dialogue. Or nothing was done.
     ensures cut { Contains (5 ∷ 6 ∷ 7 ∷ 8 ∷ 9 ∷ 12 ∷ []) result
         → CutShort result sim.new (K.contents sink.old) (K.contents sink.new) (K.faults sink.old) (K.faults sink.new) }
     // What the application did is what the lines of the session say.
@@ -167,13 +171,16 @@ pub fn legosdn<S: Source, K: Sink>(
         (faults_of (S.faults source.new) (K.faults sink.new) (seen_of sim.new))
         result (λ stop. WroteLast (K.contents sink.new) (K.faults sink.old) (K.faults sink.new) (stop_line stop)) }
 
-    // A switch breaks or diverges only where a stimulus sent bytes that are no message.
-    ensures broke { result ≡ 8 → IsReadable sim.new.history ≡ false }
-    ensures diverged { result ≡ 9 → IsReadable sim.new.history ≡ false }
-    // Where the words are the command, the whole input spells a session, no stimulus sent bytes that are no message, and nothing failed,
+    // At every status: no call of the world was made out of place, where none wanted memory.
+    ensures strays { (seen_of sim.new).counts.shorts ≡ 0 → (seen_of sim.new).counts.strays ≡ 0 }
+
+    // A switch breaks or diverges only where bytes came that are no message.
+    ensures broke { result ≡ 8 → SomeRefused sim.new }
+    ensures diverged { result ≡ 9 → SomeRefused sim.new }
+    // Where the words are the command, the whole input spells a session, all bytes that came of switches are messages, and nothing failed,
     // the whole report is written, or events are left, or memory is wanting.
     ensures complete { (input : List ℕ) (session : SessionValue) → is_command_in (map string_bytes words.now) ≡ true → S.remaining source.old ≡ Some input
-        → session_of input ≡ Ok session → IsReadable sim.new.history ≡ true
+        → session_of input ≡ Ok session → BringMessages sim.new.history
         → NoneFailed (faults_of (S.faults source.old) (K.faults sink.old) (seen_of sim.old)) (faults_of (S.faults source.new) (K.faults sink.new) (seen_of sim.new))
         → Contains (0 ∷ 10 ∷ 12 ∷ []) result }
 

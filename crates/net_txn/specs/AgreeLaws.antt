@@ -108,7 +108,7 @@ viewed_if : (here : Bool) (v : TableView) (rest : Bool) (o : Option (List ViewRo
 viewed_if true v rest o is = refl
 viewed_if false v rest o is = is
 
-viewed : (d : ℕ) (views : List TableView) → is_viewed d views ≡ is_some (rows_at d views)
+pub viewed : (d : ℕ) (views : List TableView) → is_viewed d views ≡ is_some (rows_at d views)
 viewed d [] = refl
 viewed d (v ∷ vs) = viewed_if (v.dpid == d) v (is_viewed d vs) (rows_at d vs) (viewed d vs)
 

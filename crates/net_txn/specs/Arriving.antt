@@ -119,7 +119,7 @@ pub record Becomes {Own : Type 0} (Tells : Type 0) (d xid : ℕ) (m : Message) (
   pub net_so : now_net ≡ net_after d m net
   pub told : Tells → new.history ≡ old.history ++ arrival_steps d xid m
 
--- The calls are those of links alone, and in place where the world keeps its word and the switch is joined.
+-- The calls are those of links alone, and in place where the world tells in order and the switch is joined.
 pub record Arrives {Own : Type 0} (Tells : Type 0) (d : ℕ) (frame : List ℕ) (old new : Seen Own) (net now_net : NetState) (result : Result (Option Event) TxnFault) : Type 0 where
   pub continues : Continues Tells old new
   pub links : OnLinks Tells old new

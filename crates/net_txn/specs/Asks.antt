@@ -1,6 +1,6 @@
 -- What `rows` does: a switch is asked for the statistics of all its flows, behind a barrier (OpenFlow 1.0.0, 5.3.5 Read State Messages:
 -- Individual Flow Statistics, and 5.3.7 Barrier Message). Which messages answer, and what is a fault of the switch, is our own choice.
-use Rattle.std.specs.Prelude.{◌≡◌, ◌≢◌, ◌==◌, ℕ, ◌+◌, Bool, ◌&&◌, ◌||◌, nat_le, List, [], ◌∷◌, ◌++◌, length, drop, map, slice_get, Option, Some, Result, Ok, IsErr, IfErr, MatchResult, ◌⊎◌, if◌then◌else◌}
+use Rattle.std.specs.Prelude.{◌≡◌, ◌≢◌, ◌==◌, ℕ, ◌+◌, Bool, ◌&&◌, ◌||◌, nat_le, List, [], ◌∷◌, ◌++◌, length, drop, map, slice_get, Option, Some, Result, Ok, IsOk, IsErr, IfErr, MatchResult, ◌⊎◌, if◌then◌else◌}
 use Rattle.std.specs.List.{flat_map}
 use Rattle.of_types.specs.Fields.{number_at}
 use Rattle.of_types.specs.Layout.{spelled}
@@ -17,6 +17,7 @@ use Rattle.of_stats.specs.Reading.{rows_of}
 use Rattle.outside.specs.declared.step.WorldStep.{WorldStep}
 use Rattle.outside.specs.declared.step.WorldStep.TheVariants.{Acted}
 use Rattle.outside.specs.Seen.{Seen, Continues}
+use Rattle.outside.specs.InOrder.{MessagesSince}
 use Rattle.net_txn.specs.declared.fault.TxnFault.{TxnFault}
 use Rattle.net_txn.specs.declared.fault.TxnFault.TheVariants.{SwitchFault, SwitchBroke, Diverged, Flooded, NoMemory}
 use Rattle.net_txn.specs.declared.heard.Awaited.{Awaited}
@@ -135,11 +136,13 @@ IsAskCause Tells d xid old new kept now_kept fault =
     × IsRepliesFault d (flows_request xid) (message_bytes (next_xid xid) BarrierReply) (parts_in xid came) (refusals_in xid came) fault)
 
 -- The rows, or why there are none; more messages of the switch may be kept. Flooded comes only where 65,536 messages were got behind the
--- barrier, none of them its reply. The calls are those of links alone, and in place where the world keeps its word and the switch is joined.
+-- barrier, none of them its reply. The calls are those of links alone, and in place where the world tells in order and the switch is joined;
+-- after Ok all bytes that came were messages.
 pub record Asks {Own : Type 0} (Tells : Type 0) (d xid : ℕ) (old new : Seen Own) (kept now_kept : List (ℕ × List ℕ)) (result : Result (List FlowRow) TxnFault) : Type 0 where
   pub continues : Continues Tells old new
   pub links : OnLinks Tells old new
   pub in_place : AsksInPlace Tells d old new
+  pub read : IsOk result → Tells → MessagesSince old new
   pub kept_more : KeptMore d kept now_kept
   pub answer : MatchResult result (GivesRows Tells d xid old new kept now_kept) (IsAskCause Tells d xid old new kept now_kept)
   pub flooded : IfErr result (IfFlooded Tells (asked_from d xid) (request_sent d xid ∷ barrier_sent (asked_from d xid) ∷ []) old new)

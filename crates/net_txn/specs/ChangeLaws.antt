@@ -1,6 +1,7 @@
 -- Laws of changes: how the pieces of one make the whole.
-use Rattle.std.specs.Prelude.{◌≡◌, ℕ, ◌^◌, ◌<◌, List, [], ◌∷◌, Option, Some, None, Result, Ok, Err, MatchResult, IfErr, IsSome, length, take, refl}
-use Rattle.std.proofs.Common.{sym, ap, ◌∙◌, subst, inl, arith}
+use Rattle.std.specs.Prelude.{◌≡◌, ℕ, ◌^◌, ◌<◌, Bool, List, [], ◌∷◌, Option, Some, None, Result, Ok, Err, MatchResult, IfErr, IsSome, length, take, refl}
+use Rattle.std.specs.Option.{is_some}
+use Rattle.std.proofs.Common.{sym, ap, ◌∙◌, subst, inl, inr, arith}
 use Rattle.std.proofs.lemmas.List.{take_all, take_at}
 use Rattle.of_types.specs.declared.journal.Act.TheVariants.{Sent}
 use Rattle.of_wire.specs.declared.bodies.FlowMod.{FlowMod as Change}
@@ -17,6 +18,7 @@ use Rattle.lego_model.specs.Answers.{rows_of_view, as_sent, host_answer_read, ho
 use Rattle.outside.specs.declared.step.WorldStep.TheVariants.{Acted}
 use Rattle.outside.specs.Seen.{Seen, Continues}
 use Rattle.outside.specs.SeenLaws.{Continues-refl}
+use Rattle.outside.specs.InOrderLaws.{messages-none}
 use Rattle.net_txn.specs.declared.fault.TxnFault.{TxnFault}
 use Rattle.net_txn.specs.declared.fault.TxnFault.TheVariants.{SwitchFault, SwitchBroke, Diverged, Flooded, NoMemory}
 use Rattle.net_txn.specs.declared.heard.Awaited.{Awaited}
@@ -24,14 +26,16 @@ use Rattle.net_txn.specs.declared.heard.Refusal.{Refusal}
 use Rattle.net_txn.specs.LinkSteps.{OnLinks, AsksInPlace}
 use Rattle.net_txn.specs.LinkStepLaws.{OnLinks-refl}
 use Rattle.net_txn.specs.LinkPlaceLaws.{in_place_none}
+use Rattle.net_txn.specs.ReadLaws.{asked_read}
 use Rattle.net_txn.specs.Causes.{IsCause}
 use Rattle.flow_table.specs.declared.view.ViewRow.{ViewRow}
 use Rattle.flow_table.specs.declared.view.TableView.{TableView}
 use Rattle.net_txn.specs.declared.logged.Logged.{Logged}
 use Rattle.net_txn.specs.Waits.{Waits, Floods, IfFlooded, KeptMore, barrier_sent}
-use Rattle.net_txn.specs.Views.{rows_at, with_rows, with_added}
+use Rattle.net_txn.specs.Views.{rows_at, with_rows, with_added, rows_after}
+use Rattle.net_txn.specs.ViewLaws.{rows_at-stays}
 use Rattle.net_txn.specs.Net.{NetState, awaited_from, with_logged}
-use Rattle.net_txn.specs.Changes.{answer_of_host, change_sent, Asked, Stopped, IfGivenUp, Changes}
+use Rattle.net_txn.specs.Changes.{answer_of_host, views_by, change_sent, Asked, Stopped, IfGivenUp, Changes}
 
 pub sent_waits : {Own : Type 0} {Tells : Type 0} (d : ℕ) (m : Change) (net : NetState) (a : Awaited) (frame : List ℕ) (kept now_kept : List (ℕ × List ℕ)) (old new : Seen Own) (refusal : Option Refusal)
     → a ≡ awaited_from d net.xid → frame ≡ message_bytes a.first (as_sent (FlowMod m)) → kept ≡ net.kept
@@ -85,7 +89,9 @@ Changes-by_host {Tells = Tells} d bytes seen net answer is = record {
   continues = Continues-refl Tells seen;
   links = OnLinks-refl Tells seen;
   in_place = λ told keeps joined. in_place_none seen;
+  read = λ ok told. messages-none seen;
   cause = tt;
+  switches = λ e. refl;
   ports = refl;
   moment = refl;
   room = refl;
@@ -100,7 +106,9 @@ Changes-short {Tells = Tells} d bytes seen net = record {
   continues = Continues-refl Tells seen;
   links = OnLinks-refl Tells seen;
   in_place = λ told keeps joined. in_place_none seen;
+  read = λ ok told. messages-none seen;
   cause = tt;
+  switches = λ e. refl;
   ports = refl;
   moment = refl;
   room = refl;
@@ -144,6 +152,24 @@ some_rows_there (Some rows) some = refl
 host_known : (d : ℕ) (bytes : List ℕ) (net : NetState) → answer_of_host d bytes net ≡ None → IsSome (rows_at d net.views)
 host_known d bytes net none = some_rows_there (rows_at d net.views) (λ is. absurd (no_answer Unknown (sym (host_unknown d bytes net net.views refl is) ∙ none)))
 
+-- the views keep their switches
+
+abbrev has_rows : ℕ → List TableView → Bool
+has_rows e views = is_some (rows_at e views)
+
+judged_switches : (refusal : Option Refusal) (d e : ℕ) (m : Change) (views : List TableView) → has_rows e (views_by refusal d m views) ≡ has_rows e views
+judged_switches None d e m views = rows_at-stays d e (rows_after m) views
+judged_switches (Some refusal) d e m views = refl
+
+stopped_switches : {Own : Type 0} (d e : ℕ) (m : Change) (old new : Seen Own) (net now_net : NetState) → Stopped d m old new net now_net → has_rows e now_net.views ≡ has_rows e net.views
+stopped_switches d e m old new net now_net (inl unsent) = ap (has_rows e) unsent.views
+stopped_switches d e m old new net now_net (inr cut) = elim cut.views [ inl same ↦ ap (has_rows e) same | inr moved ↦ ap (has_rows e) moved ∙ rows_at-stays d e (rows_after m) net.views ]
+
+made_switches : {Own : Type 0} (Tells : Type 0) (d e : ℕ) (m : Change) (old new : Seen Own) (net now_net : NetState) (result : Result Answer TxnFault) → MatchResult result (Asked Tells d m old new net now_net) (λ f. Stopped d m old new net now_net)
+    → has_rows e now_net.views ≡ has_rows e net.views
+made_switches Tells d e m old new net now_net (Ok answer) asked = ap (has_rows e) asked.views ∙ judged_switches asked.refusal d e m net.views
+made_switches Tells d e m old new net now_net (Err fault) stopped = stopped_switches d e m old new net now_net stopped
+
 pub Changes-by_switch : {Own : Type 0} {Tells : Type 0} (d : ℕ) (bytes : List ℕ) (old new : Seen Own) (net now_net : NetState) (result : Result Answer TxnFault) (xid : ℕ) (m : Change)
     → answer_of_host d bytes net ≡ None → reading_of bytes ≡ Ok (enveloped xid (FlowMod m)) → MatchResult result (Asked Tells d m old new net now_net) (λ f. Stopped d m old new net now_net)
     → Continues Tells old new → OnLinks Tells old new → AsksInPlace Tells d old new → IfErr result (IsCause Tells d old new) → now_net.ports ≡ net.ports → now_net.moment ≡ net.moment → now_net.room ≡ net.room
@@ -152,7 +178,9 @@ Changes-by_switch {Tells = Tells} d bytes old new net now_net result xid m none 
   continues = continues;
   links = links;
   in_place = λ told keeps joined. in_place told keeps (joined (host_known d bytes net none));
+  read = asked_read Tells d m old new net now_net result does;
   cause = cause;
+  switches = λ e. made_switches Tells d e m old new net now_net result does;
   ports = ports;
   moment = moment;
   room = room;

@@ -1,7 +1,7 @@
 -- What `change` does: the host's own answer with nothing sent, or the switch's answer behind a barrier (OpenFlow 1.0.0, 4.2 Message
 -- Handling and 5.3.7 Barrier Message). What is sent, and that it is logged before, is our own choice.
-use Rattle.std.specs.Prelude.{◌≡◌, ℕ, ◌^◌, ◌<◌, ◌≤◌, true, List, [], ◌∷◌, Option, Some, None, Result, Ok, IfOk, IfErr, IsSome, MatchResult, ◌⊎◌}
-use Rattle.std.specs.Option.{option_map}
+use Rattle.std.specs.Prelude.{◌≡◌, ℕ, ◌^◌, ◌<◌, ◌≤◌, true, List, [], ◌∷◌, Option, Some, None, Result, Ok, IsOk, IfOk, IfErr, IsSome, MatchResult, ◌⊎◌}
+use Rattle.std.specs.Option.{is_some, option_map}
 use Rattle.of_types.specs.declared.errors.OfError.{OfError}
 use Rattle.of_types.specs.declared.journal.Act.TheVariants.{Sent}
 use Rattle.of_wire.specs.declared.bodies.FlowMod.{FlowMod as Change}
@@ -16,7 +16,7 @@ use Rattle.outside.specs.declared.step.WorldStep.{WorldStep}
 use Rattle.outside.specs.declared.step.WorldStep.TheVariants.{Acted}
 use Rattle.outside.specs.Seen.{Seen, Continues}
 use Rattle.outside.specs.State.{state, is_joined}
-use Rattle.outside.specs.Conforming.{Conforming}
+use Rattle.outside.specs.InOrder.{InOrder, MessagesSince}
 use Rattle.net_txn.specs.declared.fault.TxnFault.{TxnFault}
 use Rattle.net_txn.specs.declared.fault.TxnFault.TheVariants.{SwitchFault, SwitchBroke, Diverged, Flooded, NoMemory}
 use Rattle.net_txn.specs.declared.heard.Refusal.{Refusal}
@@ -103,14 +103,16 @@ pub record ByHost {Own : Type 0} (answer : Answer) (old new : Seen Own) (net now
   pub world : new ≡ old
   pub stays : now_net ≡ net
 
--- Ports, moment and room stay, and each fault has its cause. The host's own answer is exactly that; else the switch answers. Flooded comes
--- only where 65,536 messages were got behind the barrier, none of them its reply. The calls are those of links alone, and in place where the
--- world keeps its word and the switch is joined.
+-- Ports, moment and room stay, the same switches have views, and each fault has its cause. The host's own answer is exactly that; else the
+-- switch answers. Flooded comes only where 65,536 messages were got behind the barrier, none of them its reply. The calls are those of links
+-- alone, and in place where the world tells in order and the switch is joined; after Ok all bytes that came were messages.
 pub record Changes {Own : Type 0} (Tells : Type 0) (d : ℕ) (bytes : List ℕ) (old new : Seen Own) (net now_net : NetState) (result : Result Answer TxnFault) : Type 0 where
   pub continues : Continues Tells old new
   pub links : OnLinks Tells old new
-  pub in_place : Tells → Conforming new → (IsSome (rows_at d net.views) → is_joined d (state old) ≡ true) → StaysInPlace old new
+  pub in_place : Tells → InOrder new → (IsSome (rows_at d net.views) → is_joined d (state old) ≡ true) → StaysInPlace old new
+  pub read : IsOk result → Tells → MessagesSince old new
   pub cause : IfErr result (IsCause Tells d old new)
+  pub switches : (e : ℕ) → is_some (rows_at e now_net.views) ≡ is_some (rows_at e net.views)
   pub ports : now_net.ports ≡ net.ports
   pub moment : now_net.moment ≡ net.moment
   pub room : now_net.room ≡ net.room

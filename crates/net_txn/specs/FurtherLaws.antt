@@ -98,7 +98,7 @@ Further-stuck {Tells = Tells} {views = views} {base = base} {now = now} {next = 
     record {
       parts = (d, Stuck y fault f.steps) ∷ p.parts;
       undoing = Undoing-part d (Stuck y fault f.steps) later p.undoing f.moves refl others
-          (Stands-stuck (is_viewed d views) d y base.counts now.counts next.counts (parts_of d p.parts) played later fault f.steps p.undoing.continues.none_fell f.moves.continues.none_fell s known p.free (record { each = f.moves.each; cause = cause }) failed)
+          (Stands-stuck (is_viewed d views) d y base.counts now.counts next.counts (parts_of d p.parts) played later fault f.steps p.undoing.continues.none_fell f.moves.continues.none_fell s known p.free (record { each = f.moves.each; cause = cause; places = f.places }) failed)
           some (thinned (sent_in p.parts) p.undoing.order) (ends_more d (Stuck y fault f.steps) switches more p.parts refl step p.undoing.ends);
       few = λ c. elim (cases_eq c d) [ inl mine ↦ rw (eq-eqb d c (sym mine)) (omega arith) | inr other ↦ rw (ne_eqb d c (λ is. other (sym is))) (p.few c other) ];
       fault_so = ap (λ (o : Option TxnFault). first_fault_of o (Some fault)) p.fault_so;

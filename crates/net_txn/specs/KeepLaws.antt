@@ -46,14 +46,14 @@ part_keeps declared old new d (Stuck xid fault steps) s older t kept now_kept ru
 abbrev pub AreReady : List (ℕ × Part) → State → Type 0
 AreReady parts t = (d : ℕ) → (parts_of d parts ≡ []) ⊎ StandsReady d t
 
-cons_not_none : (x : Part) (xs : List Part) → x ∷ xs ≡ [] → ⊥
+pub cons_not_none : (x : Part) (xs : List Part) → x ∷ xs ≡ [] → ⊥
 cons_not_none x xs is = cc
 
 some_ready : (p : ℕ × Part) (older : List (ℕ × Part)) (t : State) → (parts_of p.0 (p ∷ older) ≡ []) ⊎ StandsReady p.0 t → StandsReady p.0 t
 some_ready p older t (inl empty) = absurd (cons_not_none p.1 (parts_of p.0 older) (subst (λ (b : Bool). (if b then p.1 ∷ parts_of p.0 older else parts_of p.0 older) ≡ []) (eq-eqb p.0 p.0 refl) empty))
 some_ready p older t (inr s) = s
 
-older_none : (p : ℕ × Part) (older : List (ℕ × Part)) (d : ℕ) → parts_of d (p ∷ older) ≡ [] → parts_of d older ≡ []
+pub older_none : (p : ℕ × Part) (older : List (ℕ × Part)) (d : ℕ) → parts_of d (p ∷ older) ≡ [] → parts_of d older ≡ []
 older_none p older d empty = elim (cases_Bool (p.0 == d)) [
   | inl mine ↦ absurd (cons_not_none p.1 (parts_of d older) (rw mine at empty))
   | inr other ↦ rw other at empty

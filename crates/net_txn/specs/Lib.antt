@@ -59,3 +59,9 @@ pub mod PlaceLaws
 pub mod LinkStepLaws
 pub mod LinkPlaceLaws
 pub mod UndoLinkLaws
+pub mod Abreast
+pub mod ReadLaws
+pub mod JoinedLaws
+pub mod AbreastLaws
+pub mod PlacedLaws
+pub mod UndoPlaceLaws

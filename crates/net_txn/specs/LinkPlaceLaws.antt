@@ -12,7 +12,6 @@ use Rattle.of_wire.specs.Reading.{reading_of}
 use Rattle.of_wire.specs.ReadingLaws.{reading_of-message_bytes}
 use Rattle.of_wire.specs.Spelling.{message_bytes}
 use Rattle.flow_table.specs.Switch.{Declared, SwitchState}
-use Rattle.flow_table.specs.Step.{sent_by_message}
 use Rattle.outside.specs.declared.faults.LinkFault.{LinkFault}
 use Rattle.outside.specs.declared.faults.LinkFault.TheVariants as linking
 use Rattle.outside.specs.declared.step.WorldStep.{WorldStep}
@@ -21,20 +20,21 @@ use Rattle.outside.specs.Seen.{Seen, Continues}
 use Rattle.outside.specs.Calls.{Sends, Receives, send_steps, receive_steps}
 use Rattle.outside.specs.State.{State, after_step, after_steps, state, switch_of, switch_told, message_sends, waits_of, is_joined, has_waiting, is_empty}
 use Rattle.outside.specs.LinkLaws.{switch_of-sent, waits_of-sent, switch_of-got, waits_of-got}
-use Rattle.outside.specs.StateLaws.{after_steps-append, state-append, MaySteps-front, MaySteps-rest, Conforming-rest, Conforming-before}
-use Rattle.outside.specs.Conforming.{MaySteps, Conforming}
+use Rattle.outside.specs.StateLaws.{after_steps-append, state-append}
+use Rattle.outside.specs.InOrder.{MayComeAll, InOrder}
+use Rattle.outside.specs.InOrderLaws.{InOrder-rest, InOrder-before}
 use Rattle.net_txn.specs.declared.heard.Awaited.{Awaited}
 use Rattle.net_txn.specs.declared.heard.Refusal.{Refusal}
 use Rattle.net_txn.specs.declared.heard.Heard.{Heard}
 use Rattle.net_txn.specs.declared.heard.Heard.TheVariants.{Reply, Refused, Notice, Echo, Other}
 use Rattle.net_txn.specs.Waits.{heard, is_reply, echo_reply, steps_by, heard_steps, wait_steps, barrier_sent, reply_got, WaitsOn}
 use Rattle.net_txn.specs.HeardLaws.{IsMessage-barrier}
-use Rattle.net_txn.specs.StepLaws.{first_got, reply_is_none, told_waits, barrier_sends}
+use Rattle.net_txn.specs.StepLaws.{first_came, reply_is_none, told_waits, barrier_sends}
 use Rattle.net_txn.specs.LinkSteps.{IsLinkInPlace, AreLinksInPlace, StaysInPlace, AsksInPlace, Awaits}
 
 -- ---- One after the other
 
-places_append : (xs ys : List WorldStep) (s : State) → AreLinksInPlace xs s → AreLinksInPlace ys (after_steps xs s) → AreLinksInPlace (xs ++ ys) s
+pub places_append : (xs ys : List WorldStep) (s : State) → AreLinksInPlace xs s → AreLinksInPlace ys (after_steps xs s) → AreLinksInPlace (xs ++ ys) s
 places_append [] ys s all rest = rest
 places_append (x ∷ xs) ys s all rest = (all.0, places_append xs ys (after_step x s) all.1 rest)
 
@@ -144,10 +144,10 @@ awaits_barrier a s small joined =
     }
 
 -- one message was got that is not the reply
-first_not : (declared : List Declared) (a : Awaited) (b : List ℕ) (rest : List WorldStep) (before behind : List (List ℕ)) (s : State) → MaySteps declared (Acted (Got a.dpid b) ∷ rest) s → is_reply (heard a b) ≡ false
+first_not : (declared : List Declared) (a : Awaited) (b : List ℕ) (rest : List WorldStep) (before behind : List (List ℕ)) (s : State) → MayComeAll declared (Acted (Got a.dpid b) ∷ rest) s → is_reply (heard a b) ≡ false
     → waits_of a.dpid s ≡ before ++ message_bytes a.barrier BarrierReply ∷ behind → is_joined a.dpid s ≡ true → Awaits a (after_step (Acted (Got a.dpid b)) s)
 first_not declared a b rest [] behind s may other waits joined =
-    absurd (reply_is_none a b (first_got declared a.dpid b (message_bytes a.barrier BarrierReply) behind rest s waits may) other)
+    absurd (reply_is_none a b (first_came declared a.dpid b (message_bytes a.barrier BarrierReply) behind rest s waits may) other)
 first_not declared a b rest (w ∷ ws) behind s may other waits joined = record {
   joined = joined_got a.dpid b s joined;
   before = ws;
@@ -165,6 +165,14 @@ awaits_sent a bytes s w =
       waits = waits_of-sent a.dpid bytes s ∙ ap (λ (ws : List (List ℕ)). ws ++ more) w.waits ∙ append_assoc w.before (message_bytes a.barrier BarrierReply ∷ w.behind) more;
     }
 
+pub come_front : (declared : List Declared) (xs ys : List WorldStep) (s : State) → MayComeAll declared (xs ++ ys) s → MayComeAll declared xs s
+come_front declared [] ys s may = tt
+come_front declared (x ∷ xs) ys s may = (may.0, come_front declared xs ys (after_step x s) may.1)
+
+pub come_rest : (declared : List Declared) (xs ys : List WorldStep) (s : State) → MayComeAll declared (xs ++ ys) s → MayComeAll declared ys (after_steps xs s)
+come_rest declared [] ys s may = may
+come_rest declared (x ∷ xs) ys s may = come_rest declared xs ys (after_step x s) may.1
+
 awaits_by : (a : Awaited) (h : Heard) (b : List ℕ) (s : State) → Awaits a s → Awaits a (after_steps (steps_by a.dpid h b) s)
 awaits_by a Reply b s w = w
 awaits_by a (Refused r) b s w = w
@@ -173,20 +181,20 @@ awaits_by a Echo b s w = awaits_sent a (echo_reply b) s w
 awaits_by a Other b s w = w
 
 -- before the reply
-pub awaits_wait : (declared : List Declared) (a : Awaited) (got : List (List ℕ)) (s : State) → MaySteps declared (wait_steps a got) s → AllByRecursion (λ b. is_reply (heard a b) ≡ false) got → Awaits a s → Awaits a (after_steps (wait_steps a got) s)
+pub awaits_wait : (declared : List Declared) (a : Awaited) (got : List (List ℕ)) (s : State) → MayComeAll declared (wait_steps a got) s → AllByRecursion (λ b. is_reply (heard a b) ≡ false) got → Awaits a s → Awaits a (after_steps (wait_steps a got) s)
 awaits_wait declared a [] s may other w = w
 awaits_wait declared a (b ∷ bs) s may other w =
     let first = first_not declared a b _ w.before w.behind s may other.0 w.waits w.joined in
     let heard_so = awaits_by a (heard a b) b (after_step (Acted (Got a.dpid b)) s) first in
     subst (λ (t : State). Awaits a t) (sym (after_steps-append (heard_steps a b) (wait_steps a bs) s))
-    (awaits_wait declared a bs (after_steps (heard_steps a b) s) (MaySteps-rest declared (heard_steps a b) (wait_steps a bs) s may) other.1 heard_so)
+    (awaits_wait declared a bs (after_steps (heard_steps a b) s) (come_rest declared (heard_steps a b) (wait_steps a bs) s may) other.1 heard_so)
 
 -- behind messages that were got, none of which is the reply
-awaits_behind : {Own : Type 0} {Tells : Type 0} (a : Awaited) (got : List (List ℕ)) (old mid : Seen Own) → Continues Tells old mid → mid.history ≡ old.history ++ wait_steps a got → AllByRecursion (λ b. is_reply (heard a b) ≡ false) got → Conforming mid
+awaits_behind : {Own : Type 0} {Tells : Type 0} (a : Awaited) (got : List (List ℕ)) (old mid : Seen Own) → Continues Tells old mid → mid.history ≡ old.history ++ wait_steps a got → AllByRecursion (λ b. is_reply (heard a b) ≡ false) got → InOrder mid
     → Awaits a (state old) → Awaits a (state mid)
 awaits_behind a got old mid later longer other keeps before =
     let steps = wait_steps a got in
-    let may = Conforming-rest old mid steps later.given longer keeps in
+    let may = InOrder-rest old mid steps later.given longer keeps in
     subst (λ (s : State). Awaits a s) (sym (state-append old mid steps later.given longer)) (awaits_wait old.given.declared a got (state old) may other before)
 
 pub got_in_place : {Own : Type 0} (a : Awaited) (got : List (List ℕ)) (old mid : Seen Own) → mid.history ≡ old.history ++ wait_steps a got → StaysInPlace old mid
@@ -207,13 +215,13 @@ heard_place a bytes old mid new before later got first second told w =
 
 -- some were got before, and then the next
 pub on_place : {Own : Type 0} {Tells : Type 0} (a : Awaited) (got : List (List ℕ)) (old mid new : Seen Own) → Continues Tells old mid → (Tells → mid.history ≡ old.history ++ wait_steps a got) → AllByRecursion (λ b. is_reply (heard a b) ≡ false) got
-    → Continues Tells mid new → (Tells → Awaits a (state mid) → StaysInPlace mid new) → Tells → Conforming new → Awaits a (state old) → StaysInPlace old new
+    → Continues Tells mid new → (Tells → Awaits a (state mid) → StaysInPlace mid new) → Tells → InOrder new → Awaits a (state old) → StaysInPlace old new
 on_place a got old mid new before longer other later second told keeps waits =
-    in_place_then old mid new told before later (got_in_place a got old mid (longer told)) (second told (awaits_behind a got old mid before (longer told) other (Conforming-before told later keeps) waits))
+    in_place_then old mid new told before later (got_in_place a got old mid (longer told)) (second told (awaits_behind a got old mid before (longer told) other (InOrder-before told later keeps) waits))
 
 -- a barrier was sent, and its reply awaited
 pub settled_place : {Own : Type 0} {Tells : Type 0} (a : Awaited) (old mid new : Seen Own) → a.barrier < 2 ^ 32 → Continues Tells old mid → Continues Tells mid new → (Tells → mid.history ≡ old.history ++ barrier_sent a ∷ [])
-    → (Tells → is_joined a.dpid (state old) ≡ true → StaysInPlace old mid) → (Tells → Conforming new → Awaits a (state mid) → StaysInPlace mid new) → AsksInPlace Tells a.dpid old new
+    → (Tells → is_joined a.dpid (state old) ≡ true → StaysInPlace old mid) → (Tells → InOrder new → Awaits a (state mid) → StaysInPlace mid new) → AsksInPlace Tells a.dpid old new
 settled_place a old mid new small before later sent first second told keeps joined =
     let waits : Awaits a (state mid) = subst (λ (s : State). Awaits a s) (sym (state-append old mid (barrier_sent a ∷ []) before.given (sent told))) (awaits_barrier a (state old) small joined) in
     in_place_then old mid new told before later (first told joined) (second told keeps waits)

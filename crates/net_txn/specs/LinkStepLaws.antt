@@ -12,7 +12,7 @@ use Rattle.net_txn.specs.declared.heard.Refusal.{Refusal}
 use Rattle.net_txn.specs.declared.heard.Heard.{Heard}
 use Rattle.net_txn.specs.declared.heard.Heard.TheVariants.{Reply, Refused, Notice, Echo, Other}
 use Rattle.net_txn.specs.Waits.{heard, steps_by, wait_steps, WaitsOn}
-use Rattle.net_txn.specs.LinkSteps.{AreLinkSteps, LinkSteps, OnLinks}
+use Rattle.net_txn.specs.LinkSteps.{AreLinkSteps, OnLinks}
 
 -- ---- None, and one after the other
 
@@ -66,7 +66,7 @@ by_links d Notice bytes = tt
 by_links d Echo bytes = (refl, tt)
 by_links d Other bytes = tt
 
-wait_links : (a : Awaited) (got : List (List ℕ)) → AreLinkSteps (wait_steps a got)
+pub wait_links : (a : Awaited) (got : List (List ℕ)) → AreLinkSteps (wait_steps a got)
 wait_links a [] = tt
 wait_links a (b ∷ bs) = (refl, links_append (steps_by a.dpid (heard a b) b) (wait_steps a bs) (by_links a.dpid (heard a b) b) (wait_links a bs))
 

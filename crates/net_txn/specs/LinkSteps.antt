@@ -4,11 +4,12 @@ use Rattle.std.specs.List.{AllByRecursion}
 use Rattle.of_types.specs.declared.journal.Act.TheVariants.{Sent, Got}
 use Rattle.of_wire.specs.declared.message.Message.TheVariants.{BarrierReply}
 use Rattle.of_wire.specs.Spelling.{message_bytes}
+use Rattle.flow_table.specs.Switch.{Declared}
 use Rattle.outside.specs.declared.step.WorldStep.{WorldStep}
 use Rattle.outside.specs.declared.step.WorldStep.TheVariants.{Acted, SendFailed, RecvFailed}
 use Rattle.outside.specs.Seen.{Seen}
-use Rattle.outside.specs.State.{State, after_step, state, waits_of, is_joined, has_waiting}
-use Rattle.outside.specs.Conforming.{Conforming}
+use Rattle.outside.specs.State.{State, after_step, after_steps, state, waits_of, is_joined, has_waiting}
+use Rattle.outside.specs.InOrder.{MayComeAll, InOrder}
 use Rattle.net_txn.specs.declared.heard.Awaited.{Awaited}
 
 -- a step of the link of a switch: a message sent or got, or a call that failed
@@ -50,9 +51,9 @@ AreLinksInPlace (step ∷ steps) s = IsLinkInPlace step s × AreLinksInPlace ste
 abbrev pub StaysInPlace : {Own : Type 0} → Seen Own → Seen Own → Type 0
 StaysInPlace old new = (steps : List WorldStep) → new.history ≡ old.history ++ steps → AreLinksInPlace steps (state old)
 
--- the same where a world keeps its word and the switch is joined
+-- the same where a world tells in order and the switch is joined
 abbrev pub AsksInPlace : {Own : Type 0} → Type 0 → ℕ → Seen Own → Seen Own → Type 0
-AsksInPlace Tells d old new = Tells → Conforming new → is_joined d (state old) ≡ true → StaysInPlace old new
+AsksInPlace Tells d old new = Tells → InOrder new → is_joined d (state old) ≡ true → StaysInPlace old new
 
 -- The switch is joined, and of what waits of it something is the reply to the barrier.
 pub record Awaits (a : Awaited) (s : State) : Type 0 where
@@ -60,3 +61,18 @@ pub record Awaits (a : Awaited) (s : State) : Type 0 where
   pub before : List (List ℕ)
   pub behind : List (List ℕ)
   pub waits : waits_of a.dpid s ≡ before ++ message_bytes a.barrier BarrierReply ∷ behind
+
+-- ---- Steps in place, of any world that tells in order
+
+-- The calls of these steps are in place, and the switch stays joined.
+pub record Goes (d : ℕ) (steps : List WorldStep) (s : State) : Type 0 where
+  pub places : AreLinksInPlace steps s
+  pub joined : is_joined d (after_steps steps s) ≡ true
+
+-- so where they come in order and the switch is joined
+abbrev pub GoesInPlace : ℕ → List WorldStep → Type 0
+GoesInPlace d steps = (declared : List Declared) (s : State) → MayComeAll declared steps s → is_joined d s ≡ true → Goes d steps s
+
+-- there a message of it waits behind them
+abbrev pub ThenWaits : ℕ → List WorldStep → Type 0
+ThenWaits d steps = (declared : List Declared) (s : State) → MayComeAll declared steps s → is_joined d s ≡ true → has_waiting d (after_steps steps s) ≡ true

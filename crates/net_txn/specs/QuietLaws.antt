@@ -27,6 +27,8 @@ use Rattle.net_txn.specs.PlaceLaws.{where_fit_then}
 use Rattle.net_txn.specs.Waits.{KeptMore, heard, is_reply, kept_by, kept_of, steps_by, heard_steps, wait_steps, reply_got, barrier_sent}
 use Rattle.net_txn.specs.WaitLaws.{reply_is}
 use Rattle.net_txn.specs.Causes.{flood}
+use Rattle.net_txn.specs.LinkSteps.{GoesInPlace, ThenWaits}
+use Rattle.net_txn.specs.PlacedLaws.{goes_send_failed, goes_recv_failed, goes_same, goes_got, goes_barrier}
 use Rattle.net_txn.specs.Undos.{fault_by, link_trouble, IsStepOf, Moves, key_refused, IsFaultOf, FailsAfter, AreBefore, Settles, HearsOn, HearsNext}
 
 -- ---- Calls of the world
@@ -35,55 +37,60 @@ pub sent_moves : {Own T : Type 0} {Tells : Type 0} {d : ℕ} {frame : List ℕ} 
 unfolding send_steps
 sent_moves x call = record { continues = Sends-continues call; each = (refl, tt); told = λ t. (call.told t).history }
 
-send_fails : {Own : Type 0} {Tells : Type 0} {d : ℕ} {frame : List ℕ} {old new : Seen Own} (T : Type 0) → (sent : List (ℕ × Key)) (front : List WorldStep) → Sends {T = T} Tells d frame old new (Err linking.Failed) → FailsAfter Tells d sent front old new (SwitchFault d)
+send_fails : {Own : Type 0} {Tells : Type 0} {d : ℕ} {frame : List ℕ} {old new : Seen Own} (T : Type 0) → (sent : List (ℕ × Key)) (front : List WorldStep) → GoesInPlace d front → Sends {T = T} Tells d frame old new (Err linking.Failed) → FailsAfter Tells d sent front old new (SwitchFault d)
 unfolding send_steps
-send_fails {d = d} T sent front call = record {
+send_fails {d = d} T sent front placed call = record {
   steps = SendFailed d ∷ [];
   moves = record { continues = Sends-continues call; each = (refl, tt); told = λ t. (call.told t).history };
   cause = (refl, call.failed refl);
+  places = goes_send_failed d front placed;
 }
 
-send_short : {Own : Type 0} {Tells : Type 0} {d : ℕ} {frame : List ℕ} {old new : Seen Own} (T : Type 0) → (sent : List (ℕ × Key)) (front : List WorldStep) → Sends {T = T} Tells d frame old new (Err linking.Short) → FailsAfter Tells d sent front old new NoMemory
+send_short : {Own : Type 0} {Tells : Type 0} {d : ℕ} {frame : List ℕ} {old new : Seen Own} (T : Type 0) → (sent : List (ℕ × Key)) (front : List WorldStep) → GoesInPlace d front → Sends {T = T} Tells d frame old new (Err linking.Short) → FailsAfter Tells d sent front old new NoMemory
 unfolding send_steps
-send_short T sent front call = record {
+send_short {d = d} T sent front placed call = record {
   steps = [];
   moves = record { continues = Sends-continues call; each = tt; told = λ t. (call.told t).history };
   cause = (call.short refl, call.short_of refl);
+  places = goes_same d front placed;
 }
 
-pub send_stuck : {Own : Type 0} {Tells : Type 0} {d : ℕ} {frame : List ℕ} {old new : Seen Own} (T : Type 0) → (sent : List (ℕ × Key)) (front : List WorldStep) (f : LinkFault) (buf : List ℕ) → Sends {T = T} Tells d frame old new (Err f) → FailsAfter Tells d sent front old new (fault_by d (link_trouble f) buf)
-send_stuck T sent front linking.Failed buf call = send_fails T sent front call
-send_stuck T sent front linking.Short buf call = send_short T sent front call
+pub send_stuck : {Own : Type 0} {Tells : Type 0} {d : ℕ} {frame : List ℕ} {old new : Seen Own} (T : Type 0) → (sent : List (ℕ × Key)) (front : List WorldStep) → GoesInPlace d front → (f : LinkFault) (buf : List ℕ) → Sends {T = T} Tells d frame old new (Err f) → FailsAfter Tells d sent front old new (fault_by d (link_trouble f) buf)
+send_stuck T sent front placed linking.Failed buf call = send_fails T sent front placed call
+send_stuck T sent front placed linking.Short buf call = send_short T sent front placed call
 
 pub got_moves : {Own : Type 0} {Tells : Type 0} {d : ℕ} {buf : List ℕ} {old new : Seen Own} (n : ℕ) → Receives Tells d old new (Ok n) buf → Moves Tells d (Acted (Got d (take n buf)) ∷ []) old new
 unfolding receive_steps
 got_moves n call = record { continues = Receives-continues call; each = (refl, tt); told = λ t. (call.told t).history }
 
-receive_fails : {Own : Type 0} {Tells : Type 0} {d : ℕ} {buf : List ℕ} {old new : Seen Own} (sent : List (ℕ × Key)) (front : List WorldStep) → Receives Tells d old new (Err linking.Failed) buf → FailsAfter Tells d sent front old new (SwitchFault d)
+receive_fails : {Own : Type 0} {Tells : Type 0} {d : ℕ} {buf : List ℕ} {old new : Seen Own} (sent : List (ℕ × Key)) (front : List WorldStep) → GoesInPlace d front → ThenWaits d front → Receives Tells d old new (Err linking.Failed) buf → FailsAfter Tells d sent front old new (SwitchFault d)
 unfolding receive_steps
-receive_fails {d = d} sent front call = record {
+receive_fails {d = d} sent front placed waits call = record {
   steps = RecvFailed d ∷ [];
   moves = record { continues = Receives-continues call; each = (refl, tt); told = λ t. (call.told t).history };
   cause = (refl, call.failed refl);
+  places = goes_recv_failed d front placed waits;
 }
 
-receive_short : {Own : Type 0} {Tells : Type 0} {d : ℕ} {buf : List ℕ} {old new : Seen Own} (sent : List (ℕ × Key)) (front : List WorldStep) → Receives Tells d old new (Err linking.Short) buf → FailsAfter Tells d sent front old new NoMemory
+receive_short : {Own : Type 0} {Tells : Type 0} {d : ℕ} {buf : List ℕ} {old new : Seen Own} (sent : List (ℕ × Key)) (front : List WorldStep) → GoesInPlace d front → Receives Tells d old new (Err linking.Short) buf → FailsAfter Tells d sent front old new NoMemory
 unfolding receive_steps
-receive_short sent front call = record {
+receive_short {d = d} sent front placed call = record {
   steps = [];
   moves = record { continues = Receives-continues call; each = tt; told = λ t. (call.told t).history };
   cause = (call.short refl, call.short_of refl);
+  places = goes_same d front placed;
 }
 
-pub receive_stuck : {Own : Type 0} {Tells : Type 0} {d : ℕ} {buf : List ℕ} {old new : Seen Own} (sent : List (ℕ × Key)) (front : List WorldStep) (f : LinkFault) → Receives Tells d old new (Err f) buf → FailsAfter Tells d sent front old new (fault_by d (link_trouble f) buf)
-receive_stuck sent front linking.Failed call = receive_fails sent front call
-receive_stuck sent front linking.Short call = receive_short sent front call
+pub receive_stuck : {Own : Type 0} {Tells : Type 0} {d : ℕ} {buf : List ℕ} {old new : Seen Own} (sent : List (ℕ × Key)) (front : List WorldStep) → GoesInPlace d front → ThenWaits d front → (f : LinkFault) → Receives Tells d old new (Err f) buf → FailsAfter Tells d sent front old new (fault_by d (link_trouble f) buf)
+receive_stuck sent front placed waits linking.Failed call = receive_fails sent front placed waits call
+receive_stuck sent front placed waits linking.Short call = receive_short sent front placed call
 
-pub received_broke : {Own : Type 0} {Tells : Type 0} {d : ℕ} {buf : List ℕ} {old new : Seen Own} (n : ℕ) (sent : List (ℕ × Key)) (front : List WorldStep) → Receives Tells d old new (Ok n) buf → IsErr (reading_of (take n buf)) → FailsAfter Tells d sent front old new (SwitchBroke d (take n buf))
-received_broke {d = d} {buf = buf} n sent front call broke = record {
+pub received_broke : {Own : Type 0} {Tells : Type 0} {d : ℕ} {buf : List ℕ} {old new : Seen Own} (n : ℕ) (sent : List (ℕ × Key)) (front : List WorldStep) → GoesInPlace d front → Receives Tells d old new (Ok n) buf → IsErr (reading_of (take n buf)) → FailsAfter Tells d sent front old new (SwitchBroke d (take n buf))
+received_broke {d = d} {buf = buf} n sent front placed call broke = record {
   steps = Acted (Got d (take n buf)) ∷ [];
   moves = got_moves n call;
   cause = (refl, broke, (front, refl));
+  places = goes_got d (take n buf) front placed;
 }
 
 -- ---- One after the other
@@ -120,6 +127,7 @@ Fails-behind {d = d} {front = front} {first = first} {sent = sent} {old = old} {
   moves = Moves-then m f.moves;
   cause = subst (λ (s : List WorldStep). IsFaultOf d sent old.counts new.counts s fault) (append_assoc front first f.steps)
       (IsFaultOf-behind d sent old.counts mid.counts new.counts ((front ++ first) ++ f.steps) fault m.continues.none_fell f.cause);
+  places = subst (GoesInPlace d) (append_assoc front first f.steps) f.places;
 }
 
 -- ---- Waits
@@ -202,6 +210,7 @@ Fails-flooded {a = a} lt many w = record {
       steps_so = refl;
     },
   );
+  places = goes_barrier a w.got;
 }
 
 -- ---- What was kept
@@ -248,4 +257,5 @@ refused_next a sent got bytes key xid before lt m is refused = record {
       steps_so = refl;
     },
   );
+  places = goes_got a.dpid bytes (barrier_sent a ∷ wait_steps a got) (goes_barrier a got);
 }

@@ -16,6 +16,7 @@ use Rattle.outside.specs.declared.step.WorldStep.TheVariants.{Acted}
 use Rattle.outside.specs.State.{State, after_step, after_steps, switch_of, waits_of}
 use Rattle.outside.specs.LinkLaws.{switch_of-sent, waits_of-sent, switch_of-got, waits_of-got, switch_of-got_other, waits_of-got_other}
 use Rattle.outside.specs.Conforming.{MayStep, MayAct, MaySteps}
+use Rattle.outside.specs.InOrder.{MayCome, MayComeAll}
 use Rattle.net_txn.specs.declared.heard.Awaited.{Awaited}
 use Rattle.net_txn.specs.declared.heard.Refusal.{Refusal}
 use Rattle.net_txn.specs.declared.heard.Heard.TheVariants.{Reply, Refused}
@@ -67,6 +68,11 @@ some_is a b e = cc
 pub first_got : (declared : List Declared) (d : ℕ) (b w : List ℕ) (ws : List (List ℕ)) (rest : List WorldStep) (t : State) → waits_of d t ≡ w ∷ ws → MaySteps declared (Acted (Got d b) ∷ rest) t → b ≡ w
 unfolding MayStep MayAct
 first_got declared d b w ws rest t is may = some_is b w (sym may.0.0 ∙ ap (λ (xs : List (List ℕ)). slice_get xs 0) is)
+
+-- the same in a world that tells in order
+pub first_came : (declared : List Declared) (d : ℕ) (b w : List ℕ) (ws : List (List ℕ)) (rest : List WorldStep) (t : State) → waits_of d t ≡ w ∷ ws → MayComeAll declared (Acted (Got d b) ∷ rest) t → b ≡ w
+unfolding MayCome
+first_came declared d b w ws rest t is may = some_is b w (sym may.0 ∙ ap (λ (xs : List (List ℕ)). slice_get xs 0) is)
 
 pub reply_is_none : (a : Awaited) (b : List ℕ) → b ≡ message_bytes a.barrier BarrierReply → is_reply (heard a b) ≡ false → ⊥
 reply_is_none a b is other = let h : is_reply (heard a b) ≡ true = rw (is, heard-reply a) refl in absurd cc

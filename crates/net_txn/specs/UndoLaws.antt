@@ -33,7 +33,7 @@ IsRun-later d old mid new [] up after run = tt
 IsRun-later d old mid new (Inverse xid k ∷ older) up after run = (run.0, run.1, run.2, IsRun-later d old mid new older up after run.3)
 IsRun-later d old mid new (Settled xid got ∷ older) up after run = (run.0, run.1, IsRun-later d old mid new older up after run.2)
 IsRun-later d old mid new (Stuck xid fault steps ∷ older) up after run =
-    (record { each = run.0.each; cause = IsFaultOf-later d (inverses_of older) old mid new steps fault up after run.0.cause }, run.1, IsRun-later d old mid new older up after run.2)
+    (record { each = run.0.each; cause = IsFaultOf-later d (inverses_of older) old mid new steps fault up after run.0.cause; places = run.0.places }, run.1, IsRun-later d old mid new older up after run.2)
 
 Stands-later : (known : Bool) (d : ℕ) (old mid new : Counts) (parts : List Part) (played : List Logged) → NoneFell old mid → NoneFell mid new → Stands known d old mid parts played → Stands known d old new parts played
 Stands-later known d old mid new parts played up after s = record {

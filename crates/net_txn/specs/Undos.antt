@@ -18,8 +18,9 @@ use Rattle.outside.specs.declared.faults.LinkFault.TheVariants as linking
 use Rattle.outside.specs.declared.step.WorldStep.{WorldStep}
 use Rattle.outside.specs.declared.step.WorldStep.TheVariants.{Acted, SendFailed, RecvFailed}
 use Rattle.outside.specs.Seen.{Counts, Seen, Continues}
-use Rattle.outside.specs.State.{State, state, switch_of, waits_of}
+use Rattle.outside.specs.State.{State, state, switch_of, waits_of, is_joined}
 use Rattle.outside.specs.Conforming.{Conforming}
+use Rattle.outside.specs.InOrder.{InOrder, MessagesSince}
 use Rattle.exact_undo.specs.Serials.{IsSerialed}
 use Rattle.exact_undo.specs.Removal.{OnlyAdded}
 use Rattle.net_txn.specs.declared.fault.TxnFault.{TxnFault}
@@ -30,7 +31,7 @@ use Rattle.net_txn.specs.declared.logged.Logged.{Logged}
 use Rattle.net_txn.specs.declared.trouble.Trouble.{Trouble}
 use Rattle.net_txn.specs.declared.trouble.Trouble.TheVariants as troubles
 use Rattle.net_txn.specs.Causes.{flood, IsPlain}
-use Rattle.net_txn.specs.LinkSteps.{OnLinks}
+use Rattle.net_txn.specs.LinkSteps.{OnLinks, StaysInPlace, GoesInPlace}
 use Rattle.net_txn.specs.Views.{with_rows}
 use Rattle.net_txn.specs.Arriving.{without_key}
 use Rattle.net_txn.specs.Net.{NetState, next_xid, inverse_bytes, no_fare}
@@ -122,11 +123,12 @@ IsFaultOf d sent old new steps (Diverged e inverse bytes) = (e ≡ d) × Refuses
 IsFaultOf d sent old new steps (Flooded e n) = (e ≡ d) × (n ≡ flood) × Overruns d steps
 IsFaultOf d sent old new steps NoMemory = Rose old.shorts new.shorts × Rose (old.shorts_of d) (new.shorts_of d)
 
--- calls of one switch behind others of it, the last of which failed
+-- calls of one switch behind others of it, the last of which failed, all in place
 pub record FailsAfter {Own : Type 0} (Tells : Type 0) (d : ℕ) (sent : List (ℕ × Key)) (front : List WorldStep) (old new : Seen Own) (fault : TxnFault) : Type 0 where
   pub steps : List WorldStep
   pub moves : Moves Tells d steps old new
   pub cause : IsFaultOf d sent old.counts new.counts (front ++ steps) fault
+  pub places : GoesInPlace d (front ++ steps)
 
 abbrev pub Fails : {Own : Type 0} → Type 0 → ℕ → List (ℕ × Key) → Seen Own → Seen Own → TxnFault → Type 0
 Fails Tells d sent old new fault = FailsAfter Tells d sent [] old new fault
@@ -264,9 +266,10 @@ pub record CanBeSent (xid : ℕ) (k : Key) : Type 0 where
 pub record IsStuckBy (d : ℕ) (sent : List (ℕ × Key)) (old new : Counts) (fault : TxnFault) (steps : List WorldStep) : Type 0 where
   pub each : AllByRecursion (IsStepOf d) steps
   pub cause : IsFaultOf d sent old new steps fault
+  pub places : GoesInPlace d steps
 
 -- At most 4,096 inverses stand behind a barrier, no inverse was refused before the reply to a barrier, and nothing comes behind a
--- fault, which has its cause in the calls between.
+-- fault, which has its cause in the calls between; these are in place.
 abbrev pub IsRun : Counts → Counts → ℕ → List Part → Type 0
 IsRun old new d [] = Unit {0}
 IsRun old new d (Inverse xid k ∷ older) = CanBeSent xid k × (since_of older < 4096) × (is_stuck older ≡ false) × IsRun old new d older
@@ -393,6 +396,10 @@ pub record IsPlayedOn (known : Bool) (d : ℕ) (old new : Counts) (keys : List K
   pub keys_so : known ≡ true → is_stuck parts ≡ false → map (λ p. p.1) (inverses_of parts) ≡ keys
   pub settled : known ≡ true → is_stuck parts ≡ false → since_of parts ≡ 0
 
+-- each switch that has a view is joined
+abbrev pub AreJoined : List TableView → State → Type 0
+AreJoined views s = (d : ℕ) → is_viewed d views ≡ true → is_joined d s ≡ true
+
 -- the switch stands as it stood, and the same messages of it wait
 abbrev pub SameSwitch : ℕ → State → State → Type 0
 SameSwitch d old new = (switch_of d new ≡ switch_of d old) × (waits_of d new ≡ waits_of d old)
@@ -415,14 +422,16 @@ pub record AgreesAgain (d : ℕ) (views : List TableView) (new : State) : Type 0
 
 -- What was logged from a place on is undone and forgotten, and the views lose its keys. The log is undone from its end on, so that the
 -- inverses, the newest part first, stand as in the log, of each joined switch that did not fail all of them. It goes on past a fault with the other
--- switches, and the first fault is answered; after Ok none failed. In a world that tells, no switch moves that is not joined; and
--- where it keeps its word, each joined switch that did not fail, of which nothing waited, and whose table had but the logged keys
--- added since an earlier one, has that table again; and where its view agreed with its table, it does so again. There no inverse is
--- refused; and where nothing waited of any joined switch, no message was kept after Ok, and a fault is one of a link, or of memory.
+-- switches, and the first fault is answered; after Ok none failed, and all bytes that came were messages. In a world that tells, no switch
+-- moves that is not joined; and where it keeps its word, each joined switch that did not fail, of which nothing waited, and whose table had
+-- but the logged keys added since an earlier one, has that table again; and where its view agreed with its table, it does so again. There
+-- no inverse is refused; and where nothing waited of any joined switch, no message was kept after Ok, and a fault is one of a link, or of
+-- memory. Where the world tells in order and each switch that has a view is joined, each call is in place, also one that fails.
 pub record Undoes {Own : Type 0} (Tells : Type 0) (start : ℕ) (old new : Seen Own) (net now_net : NetState) (result : Result (Unit {0}) TxnFault) : Type 0 where
   pub parts : List (ℕ × Part)
   pub continues : Continues Tells old new
   pub links : OnLinks Tells old new
+  pub in_place : Tells → InOrder new → AreJoined net.views (state old) → StaysInPlace old new
   pub told : Tells → new.history ≡ old.history ++ steps_of parts
   pub xid : now_net.xid ≡ next_free net.xid parts
   pub numbered : AreNumbered net.xid parts
@@ -431,6 +440,7 @@ pub record Undoes {Own : Type 0} (Tells : Type 0) (start : ℕ) (old new : Seen 
   pub whole_order : filter (λ p. is_served net.views parts p.0) (sent_in parts) ≡ filter (λ p. is_served net.views parts p.0) (map but_fare (drop start net.log))
   pub last : EndsSettled (switches_of net.views) parts
   pub result_so : result ≡ ended_by (first_fault parts)
+  pub read : IsOk result → Tells → MessagesSince old new
   pub none_failed : IsOk result → (d : ℕ) → is_stuck (parts_of d parts) ≡ false
   pub log : now_net.log ≡ take start net.log
   pub views : now_net.views ≡ without_keys (map but_fare (drop start net.log)) net.views

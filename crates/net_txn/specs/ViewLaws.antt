@@ -1,6 +1,7 @@
 -- Laws of views: lookup, and where a change stands.
 use Rattle.std.specs.Prelude.{◌≡◌, ◌≢◌, ◌==◌, ℕ, ◌<◌, ◌≤◌, Bool, true, false, List, [], ◌∷◌, length, Option, Some, None, if◌then◌else◌, refl}
 use Rattle.std.specs.List.{insert}
+use Rattle.std.specs.Option.{is_some}
 use Rattle.std.proofs.Common.{zero, suc, get_or, set, sym, ap, ◌∙◌, eqb, ltb, arith, eq-eqb, subst}
 use Rattle.std.proofs.lemmas.Bool.{eqb-true, ne_eqb, lt-ltb, le-ltb}
 use Rattle.of_match.specs.Key.{place}
@@ -68,6 +69,25 @@ other_at d e change v vs false other is rest = ap (λ (o : Option (List ViewRow)
 pub rows_at-other : (d e : ℕ) (change : List ViewRow → List ViewRow) (vs : List TableView) → e ≢ d → rows_at e (with_rows d change vs) ≡ rows_at e vs
 rows_at-other d e change [] other = refl
 rows_at-other d e change (v ∷ vs) other = other_at d e change v vs (v.dpid == d) other refl (rows_at-other d e change vs other)
+
+-- a change leaves who has a view
+
+found_stays : (found : Bool) (a b : List ViewRow) (o : Option (List ViewRow)) → is_some (if found then Some a else o) ≡ is_some (if found then Some b else o)
+found_stays true a b o = refl
+found_stays false a b o = refl
+
+behind_stays : (found : Bool) (a : List ViewRow) (o p : Option (List ViewRow)) → is_some o ≡ is_some p → is_some (if found then Some a else o) ≡ is_some (if found then Some a else p)
+behind_stays true a o p same = refl
+behind_stays false a o p same = same
+
+stays_if : (here : Bool) (d e : ℕ) (change : List ViewRow → List ViewRow) (v : TableView) (vs : List TableView) → is_some (rows_at e (with_rows d change vs)) ≡ is_some (rows_at e vs)
+    → is_some (rows_at e (if here then record v { rows = change v.rows } ∷ vs else v ∷ with_rows d change vs)) ≡ is_some (rows_at e (v ∷ vs))
+stays_if true d e change v vs rest = found_stays (v.dpid == e) (change v.rows) v.rows (rows_at e vs)
+stays_if false d e change v vs rest = behind_stays (v.dpid == e) v.rows (rows_at e (with_rows d change vs)) (rows_at e vs) rest
+
+pub rows_at-stays : (d e : ℕ) (change : List ViewRow → List ViewRow) (vs : List TableView) → is_some (rows_at e (with_rows d change vs)) ≡ is_some (rows_at e vs)
+rows_at-stays d e change [] = refl
+rows_at-stays d e change (v ∷ vs) = stays_if (v.dpid == d) d e change v vs (rows_at-stays d e change vs)
 
 -- ---- Rows
 

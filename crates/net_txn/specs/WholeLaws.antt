@@ -1,20 +1,22 @@
 -- The law of a whole undo: what it says of each switch.
 use Rattle.std.specs.Prelude.{◌≡◌, ◌==◌, ℕ, Bool, true, false, List, [], ◌∷◌, map, take, drop, if◌then◌else◌, Option, Result, IsOk, ◌≤◌, ◌+◌, refl}
-use Rattle.std.proofs.Common.{sym, ap, ◌∙◌}
+use Rattle.std.proofs.Common.{sym, ap, ◌∙◌, subst}
 use Rattle.of_match.specs.declared.key.Key.{Key}
 use Rattle.outside.specs.Seen.{Counts, Seen}
 use Rattle.outside.specs.StateLaws.{Conforming-before}
+use Rattle.outside.specs.InOrderLaws.{messages-by}
 use Rattle.net_txn.specs.declared.fault.TxnFault.{TxnFault}
 use Rattle.net_txn.specs.Net.{NetState}
 use Rattle.net_txn.specs.declared.logged.Logged.{Logged}
 use Rattle.net_txn.specs.RestoreLaws.{others_stay, restored, accepted}
-use Rattle.net_txn.specs.AgreeLaws.{agrees, none_failed}
+use Rattle.net_txn.specs.AgreeLaws.{agrees, no_fault, none_failed}
 use Rattle.net_txn.specs.KeepLaws.{none_kept}
 use Rattle.net_txn.specs.UndoFaultLaws.{plain}
 use Rattle.net_txn.specs.SentOrderLaws.{served_all}
 use Rattle.net_txn.specs.LinkStepLaws.{OnLinks-by}
-use Rattle.net_txn.specs.UndoLinkLaws.{steps_links}
-use Rattle.net_txn.specs.Undos.{Undoes, Further, steps_of, switches_of, ended_by, without_keys, is_viewed, parts_of, Part, inverses_in, keys_of, but_fare, IsSettledIn, Stands, IsPlayedOn}
+use Rattle.net_txn.specs.UndoLinkLaws.{steps_links, parts_bring}
+use Rattle.net_txn.specs.UndoPlaceLaws.{undo_place}
+use Rattle.net_txn.specs.Undos.{Undoes, Further, steps_of, switches_of, first_fault, ended_by, without_keys, is_viewed, parts_of, Part, inverses_in, keys_of, but_fare, IsSettledIn, Stands, IsPlayedOn}
 
 key_step : (here : Bool) (x : ℕ) (k : Key) (pairs : List (ℕ × Key)) (keys : List Key) → map (λ p. p.1) pairs ≡ keys → map (λ p. p.1) (if here then (x, k) ∷ pairs else pairs) ≡ (if here then k ∷ keys else keys)
 key_step true x k pairs keys is = ap (λ (ks : List Key). k ∷ ks) is
@@ -45,6 +47,7 @@ undoes {Tells = Tells} start from old new net now_net result fault played front 
       parts = f.parts;
       continues = f.undoing.continues;
       links = OnLinks-by Tells old new (steps_of f.parts) (steps_links old.counts new.counts f.parts (λ c. (each c).run)) f.undoing.told;
+      in_place = λ told order joined. undo_place old new net.views f.parts f.undoing.continues.given (f.undoing.told told) (λ c. (each c).run) (λ c. (each c).unknown) order joined;
       told = f.undoing.told;
       xid = f.undoing.next;
       numbered = f.undoing.numbered;
@@ -65,6 +68,9 @@ undoes {Tells = Tells} start from old new net now_net result fault played front 
       restored = λ d s before told conforming known free here waits was serialed only.
           restored old new d s before (keys_of d (map but_fare (drop start net.log))) f.parts f.undoing.continues.given (f.undoing.told told) (λ c. (each c).run) conforming free
           ((each d).keys_so known free) ((each d).settled known free) here waits was serialed only;
+      read = λ ok told.
+          messages-by old new (steps_of f.parts) (f.undoing.told told)
+          (parts_bring old.counts new.counts f.parts (λ c. (each c).run) (no_fault (first_fault f.parts) (subst (λ (r : Result (Unit {0}) TxnFault). IsOk r) (is ∙ ap ended_by f.fault_so) ok)));
       none_failed = λ ok d. none_failed result f.parts d (is ∙ ap ended_by f.fault_so) ok;
       none_kept = λ told conforming ok ready.
           none_kept old new net.views f.parts result net.kept now_net.kept f.undoing.continues.given (f.undoing.told told) (λ c. (each c).run) (λ c. (each c).unknown) (is ∙ ap ended_by f.fault_so) ok conforming ready f.undoing.keeps;

@@ -2,6 +2,7 @@
 
 ghost use Rattle.std.specs.Prelude.{◌≡◌, ◌<◌, ◌^◌, ◌++◌, [], ◌∷◌, None, IfOk, IfErr, OnOk, OnErr};
 ghost use Rattle.outside.specs.Seen.{Continues};
+ghost use Rattle.outside.specs.InOrder.{MessagesSince};
 ghost use Rattle.net_txn.specs.declared.ports.KnownPorts.{KnownPorts};
 ghost use Rattle.net_txn.specs.LinkSteps.{OnLinks, AsksInPlace};
 ghost use Rattle.net_txn.specs.Causes.{IsCause};
@@ -149,8 +150,11 @@ impl Net {
         ensures continues { Continues W.Tells (W.seen world.old) (W.seen world.new) }
         ensures links { OnLinks W.Tells (W.seen world.old) (W.seen world.new) }
 
-        // Where the world keeps its word and the switch is joined, each call of its link is in place, also one that fails.
+        // Where the world tells in order and the switch is joined, each call of its link is in place, also one that fails.
         ensures in_place { AsksInPlace W.Tells dpid (W.seen world.old) (W.seen world.new) }
+
+        // All bytes that came were messages.
+        ensures read { OnOk result (W.Tells → MessagesSince (W.seen world.old) (W.seen world.new)) }
         ensures cause { IfErr result (IsCause W.Tells dpid (W.seen world.old) (W.seen world.new)) }
         ensures flooded { IfErr result (IfFlooded W.Tells (greeted_from dpid self.old.xid) (greeting dpid self.old.xid) (W.seen world.old) (W.seen world.new)) }
         ensures log { self.new.log ≡ self.old.log }

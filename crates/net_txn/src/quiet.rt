@@ -10,6 +10,7 @@ ghost use Rattle.outside.specs.declared.step.WorldStep.{WorldStep};
 ghost use Rattle.outside.specs.declared.step.WorldStep.TheVariants.{Acted};
 ghost use Rattle.net_txn.specs.Waits.{heard, is_reply, steps_by, kept_by, wait_steps, barrier_sent, KeptMore};
 ghost use Rattle.net_txn.specs.Place.{KeptWhereFit};
+ghost use Rattle.net_txn.specs.LinkSteps.{GoesInPlace, ThenWaits};
 ghost use Rattle.net_txn.specs.Undos.{link_trouble, Moves, Fails, FailsAfter, AreBefore, fault_by, inverses_in, alone, HearsNext, Settles};
 
 use crate::fares::key_refused;
@@ -36,7 +37,7 @@ fn trouble_of(fault: LinkFault) -> Trouble
 pub(crate) fn send<W: World>(world: &mut W, dpid: Dpid, frame: &[u8]) -> Result<(), Trouble>
     requires { IsOk (reading_of frame.now) }
     ensures ok { OnOk result (Moves W.Tells dpid (Acted (Sent dpid frame.now) ∷ []) (W.seen world.old) (W.seen world.new)) }
-    ensures err { (sent : List (ℕ × Key)) (front : List WorldStep) (buf : List ℕ) → IfErr result (λ t. FailsAfter W.Tells dpid sent front (W.seen world.old) (W.seen world.new) (fault_by dpid t buf)) }
+    ensures err { (sent : List (ℕ × Key)) (front : List WorldStep) (buf : List ℕ) → GoesInPlace dpid front → IfErr result (λ t. FailsAfter W.Tells dpid sent front (W.seen world.old) (W.seen world.new) (fault_by dpid t buf)) }
 {
     match world.send(dpid, frame) {
         Ok(()) => Ok(()),
@@ -52,7 +53,7 @@ pub(crate) fn receive<W: World>(world: &mut W, dpid: Dpid, buf: &mut [u8]) -> Re
     ensures within { IfOk result (λ n. n ≤ length buf.new) }
     ensures read { IfOk result (λ n. IsOk (reading_of (take n buf.new))) }
     ensures ok { IfOk result (λ n. Moves W.Tells dpid (Acted (Got dpid (take n buf.new)) ∷ []) (W.seen world.old) (W.seen world.new)) }
-    ensures err { (sent : List (ℕ × Key)) (front : List WorldStep) → IfErr result (λ t. FailsAfter W.Tells dpid sent front (W.seen world.old) (W.seen world.new) (fault_by dpid t buf.new)) }
+    ensures err { (sent : List (ℕ × Key)) (front : List WorldStep) → GoesInPlace dpid front → ThenWaits dpid front → IfErr result (λ t. FailsAfter W.Tells dpid sent front (W.seen world.old) (W.seen world.new) (fault_by dpid t buf.new)) }
 {
     let len = match world.recv(dpid, buf) {
         Ok(len) => len,
@@ -76,7 +77,7 @@ fn treat<W: World>(
     ensures ends { IfOk result (λ ends. ends ≡ is_reply (heard awaited.now message.old)) }
     ensures ok { OnOk result (Moves W.Tells awaited.now.dpid (steps_by awaited.now.dpid (heard awaited.now message.old) message.old)
         (W.seen world.old) (W.seen world.new)) }
-    ensures err { (sent : List (ℕ × Key)) (front : List WorldStep) (buf : List ℕ) → IfErr result (λ t. FailsAfter W.Tells awaited.now.dpid sent front (W.seen world.old) (W.seen world.new)
+    ensures err { (sent : List (ℕ × Key)) (front : List WorldStep) (buf : List ℕ) → GoesInPlace awaited.now.dpid front → IfErr result (λ t. FailsAfter W.Tells awaited.now.dpid sent front (W.seen world.old) (W.seen world.new)
         (fault_by awaited.now.dpid t buf)) }
     ensures kept { KeptMore awaited.now.dpid kept.old kept.new }
     ensures where_fit { OnOk result (KeptWhereFit kept.old (kept_by awaited.now.dpid (heard awaited.now message.old) message.old) kept.new) }

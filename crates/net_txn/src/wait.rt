@@ -7,7 +7,7 @@ ghost use Rattle.of_wire.specs.Reading.{reading_of};
 ghost use Rattle.outside.specs.Calls.{most_message};
 ghost use Rattle.outside.specs.Seen.{Continues};
 ghost use Rattle.outside.specs.State.{state, is_joined, has_waiting};
-ghost use Rattle.outside.specs.Conforming.{Conforming};
+ghost use Rattle.outside.specs.InOrder.{InOrder};
 ghost use Rattle.outside.specs.declared.step.WorldStep.TheVariants.{Acted};
 ghost use Rattle.net_txn.specs.LinkSteps.{OnLinks, StaysInPlace, AsksInPlace, Awaits};
 ghost use Rattle.net_txn.specs.Causes.{IsCause, IsLinkCause, IsNoFlood};
@@ -164,7 +164,7 @@ pub(crate) fn wait<W: World>(
     ensures ok { IfOk result (Waits W.Tells awaited.now [] (W.seen world.old) (W.seen world.new) kept.old kept.new) }
     ensures continues { Continues W.Tells (W.seen world.old) (W.seen world.new) }
     ensures links { OnLinks W.Tells (W.seen world.old) (W.seen world.new) }
-    ensures in_place { W.Tells → Conforming (W.seen world.new) → Awaits awaited.now (state (W.seen world.old)) → StaysInPlace (W.seen world.old) (W.seen world.new) }
+    ensures in_place { W.Tells → InOrder (W.seen world.new) → Awaits awaited.now (state (W.seen world.old)) → StaysInPlace (W.seen world.old) (W.seen world.new) }
     ensures cause { IfErr result (IsCause W.Tells awaited.now.dpid (W.seen world.old) (W.seen world.new)) }
     ensures flooded { IfErr result (IfFlooded W.Tells awaited.now [] (W.seen world.old) (W.seen world.new)) }
     ensures kept { OnErr result (KeptMore awaited.now.dpid kept.old kept.new) }

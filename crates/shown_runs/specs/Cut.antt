@@ -11,6 +11,9 @@ use Rattle.lego_model.specs.RunReport.{run_report}
 use Rattle.lego_model.specs.AtOnce.{AtOnce}
 use Rattle.outside.specs.Seen.{Seen, Longer, journal}
 use Rattle.outside.specs.Conforming.{Conforming}
+use Rattle.outside.specs.InOrder.{InOrder, BringMessages}
+use Rattle.outside.specs.Quiet.{IsLastQuiet}
+use Rattle.app_visor.specs.CallsFor.{CallsFor}
 use Rattle.journal_readings.specs.Readings.{starts_in, replies_in}
 use Rattle.shown_switches.specs.Orderly.{IsOrderly}
 use Rattle.shown_runs.specs.Engine.{Engine, index, names, own_acts, stimuli_in, text_of}
@@ -105,13 +108,17 @@ pub record WritingSo {Own : Type 0} (allows : List Place → Bool) (last : Seen 
 -- ---- What is promised of a run that a fault ends
 
 -- There is a place of it up to which it is so, where the world kept its word as far as there, whatever came behind it; and the whole journal
--- is a dialogue with the application then.
+-- is a dialogue with the application then. In a world that tells in order all bytes that came of switches up to there are messages, so that
+-- it kept its word as far as there, and no quiet place lies behind. Behind it no other application was called.
 pub record CutAlike {Own : Type 0} (allows : List Place → Bool) (seen : Seen Own) (contents now_contents : Option (List ℕ)) : Type 0 where
   pub last : Seen Own
   pub given : seen.given ≡ last.given
   pub later : Longer last.history seen.history
   pub so : Conforming last → CutSo allows last contents now_contents
   pub at_once : Conforming last → AtOnce index (journal seen.history)
+  pub read : InOrder seen → BringMessages last.history
+  pub quiet : InOrder seen → IsLastQuiet last seen
+  pub own : CallsFor index last seen
 
 -- the same where the sink failed
 pub record CutWriting {Own : Type 0} (allows : List Place → Bool) (seen : Seen Own) (contents now_contents : Option (List ℕ)) : Type 0 where
@@ -120,6 +127,9 @@ pub record CutWriting {Own : Type 0} (allows : List Place → Bool) (seen : Seen
   pub later : Longer last.history seen.history
   pub so : Conforming last → WritingSo allows last contents now_contents
   pub at_once : Conforming last → AtOnce index (journal seen.history)
+  pub read : InOrder seen → BringMessages last.history
+  pub quiet : InOrder seen → IsLastQuiet last seen
+  pub own : CallsFor index last seen
 
 -- ---- What parts of a run come to
 

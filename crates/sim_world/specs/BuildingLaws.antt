@@ -23,7 +23,7 @@ use Rattle.of_wire.specs.Reading.{reading_of}
 use Rattle.outside.specs.declared.step.WorldStep.{WorldStep}
 use Rattle.sim_world.specs.Links.{IsDue, fails_at, insert_link}
 use Rattle.sim_world.specs.LinksLaws.{declared_in-with_link, is_declared-link_of}
-use Rattle.sim_world.specs.LinkStepLaws.{AreStanding, AllReadable, AreStanding-may_call}
+use Rattle.sim_world.specs.LinkStepLaws.{AreStanding, AreStanding-may_call}
 use Rattle.sim_world.specs.Tally.{last_count, LinkCounts, TallyState, IsTally, CountsFor, counts_of, count_at, none_of, no_counts}
 use Rattle.sim_world.specs.Told.{without_links, without_links-link, without_links-other}
 use Rattle.sim_world.specs.Scripts.{Scripts, Life, fresh, life_through, KeepsScripts}
@@ -649,10 +649,6 @@ first_standing : (fails : List FailCall) (moment most : ℕ) (ds : List Declared
 first_standing fails moment most [] = tt
 first_standing fails moment most (d ∷ ds) = (record { stands = tt; serials = tt; calls = omega arith }, first_standing fails moment most ds)
 
-first_readable : (fails : List FailCall) (ds : List Declared) → AllReadable (map (link_at_first fails) ds)
-first_readable fails [] = tt
-first_readable fails (d ∷ ds) = (All-nil (λ bytes. IsOk (reading_of bytes)), first_readable fails ds)
-
 first_links : (g : Given Scripts) → (at_first g).links ≡ map (link_at_first g.fails) g.declared
 unfolding at_first
 first_links g = refl
@@ -661,10 +657,6 @@ first_links g = refl
 pub AreStanding-new : (w : WorldData) → IsNew w → (moment most : ℕ) → AreStanding moment most w.state.links
 AreStanding-new w is moment most =
     subst (AreStanding moment most) (sym (ap (λ (s : State). s.links) is.state ∙ first_links (given_of w))) (first_standing (given_of w).fails moment most (given_of w).declared)
-
-pub AllReadable-new : (w : WorldData) → IsNew w → AllReadable w.state.links
-AllReadable-new w is =
-    subst AllReadable (sym (ap (λ (s : State). s.links) is.state ∙ first_links (given_of w))) (first_readable (given_of w).fails (given_of w).declared)
 
 pub LinksStand-new : (w : WorldData) → IsNew w → LinksStand w
 LinksStand-new w is = record {
@@ -688,7 +680,6 @@ Keeps-new w is may = record {
   standing = AreStanding-new w is w.state.moment (length w.history);
   within = omega (arith, ap (λ (s : State). s.moment) is.state, first_moment (given_of w));
   due = subst (All IsDue) (sym (ap (λ (s : State). s.due) is.state ∙ first_due (given_of w))) (All-nil IsDue);
-  readable = λ readable. AllReadable-new w is;
   places = λ are none. none_strayed w is;
 }
 

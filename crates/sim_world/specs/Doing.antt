@@ -19,14 +19,13 @@ use Rattle.outside.specs.declared.item.Item.TheVariants as items
 use Rattle.outside.specs.declared.item.Taken.{Taken}
 use Rattle.outside.specs.declared.item.Taken.TheVariants as gave
 use Rattle.outside.specs.State.{but_marks, after_stim, after_steps, is_running, is_joined, link_of}
-use Rattle.outside.specs.Conforming.{MayStep, MaySteps}
+use Rattle.outside.specs.InOrder.{MayCome, MayComeAll}
 use Rattle.outside.specs.Calls.{item_step, open_steps, next_steps, stim_steps, start_steps, give_steps, take_steps, send_steps, receive_steps, can_receive, IsItemIn, IsTakenIn, IsMessageIn, IsIdle, IsOver}
-use Rattle.sim_world.specs.Links.{IsDue, StandsAt, HasReadableRaw, MayCall}
+use Rattle.sim_world.specs.Links.{IsDue, StandsAt, MayCall}
 use Rattle.sim_world.specs.Tally.{TallyState, tally_stray, tally_short, tally_short_of, tally_fault_of}
 use Rattle.sim_world.specs.Scripts.{Life}
 use Rattle.sim_world.specs.Lives.{life_in}
 use Rattle.sim_world.specs.World.{WorldData, Moves, IsAsTold, AreAsTold, next_told, declared_in, CanCome}
-use Rattle.sim_world.specs.LinkStepLaws.{AllReadable}
 
 -- ---- Counts by answers
 
@@ -85,10 +84,6 @@ pub record NextStands (w : WorldData) : Type 0 where
   pub within : w.state.moment ≤ 4294967295
   pub can_come : CanCome (declared_in w.state) w.state.moment w.state.to_come
 
--- the stimulus that is begun, if one is, sends no bytes that are refused
-abbrev pub HasReadable : Option WorldStim → Type 0
-HasReadable begun = IfSome begun HasReadableRaw
-
 -- ---- What is told in a state in which a stimulus is begun
 
 pub record Tells (old new : WorldData) (item : Item) (buf : List ℕ) : Type 0 where
@@ -96,9 +91,8 @@ pub record Tells (old new : WorldData) (item : Item) (buf : List ℕ) : Type 0 w
   pub within : IsItemIn (Unit {0}) item buf
   pub idle : (item ≡ items.Idle) ↔ IsIdle old.state
   pub over : (item ≡ items.End) ↔ IsOver old.state
-  pub may : AllReadable old.state.links → MayStep (declared_in old.state) (item_step item buf) old.state
+  pub may : MayCome (declared_in old.state) (item_step item buf) old.state
   pub told : next_told old.told old.nexts ≡ false → IsAsTold old.told old.nexts (item_step item buf) old.state
-  pub readable : AllReadable old.state.links → AllReadable new.state.links
 
 -- ---- What calls of links need: one more call of each link can be counted.
 
@@ -119,9 +113,8 @@ pub record DoesNext (old new : WorldData) (result : Result Item NextFault) (buf 
   pub item : IfOk result (λ item. IsItemIn (Unit {0}) item buf)
   pub idle : IfOk result (λ item. (item ≡ items.Idle) ↔ IsIdle (after_steps (stim_steps begun) old.state))
   pub over : IfOk result (λ item. (item ≡ items.End) ↔ IsOver (after_steps (stim_steps begun) old.state))
-  pub word : HasReadable begun → AllReadable old.state.links → MaySteps (declared_in old.state) (next_steps begun result buf) old.state
+  pub word : MayComeAll (declared_in old.state) (next_steps begun result buf) old.state
   pub told : AreAsTold old.told old.nexts (next_steps begun result buf) old.state
-  pub readable : HasReadable begun → AllReadable old.state.links → AllReadable new.state.links
   pub due : IfSome begun (λ x. All IsDue (after_stim x old.state).due)
 
 pub record DoesStart {T : Type 0} (app : ℕ) (old new : WorldData) (result : Result T StartFault) : Type 0 where

@@ -32,20 +32,20 @@ use Rattle.outside.specs.declared.step.WorldStep.TheVariants.{Acted, TookInto, O
 use Rattle.outside.specs.declared.call.FailCall.{FailCall}
 use Rattle.outside.specs.State.{Link, State, after_step, after_steps, after_act, after_stim, moment_after, is_running, is_joined}
 use Rattle.outside.specs.Calls.{open_steps, next_steps, stim_steps, item_step, start_steps, give_steps, take_steps, end_steps, send_steps, receive_steps, can_receive}
-use Rattle.outside.specs.Conforming.{IsWorldStim, MayStep, MayAct, MaySteps}
+use Rattle.outside.specs.Conforming.{IsWorldStim, MayStep, MayAct}
+use Rattle.outside.specs.InOrder.{MayCome, MayComeAll}
 use Rattle.sim_world.specs.Tally.{TallyState, CountsFor}
 use Rattle.sim_world.specs.Places.{AreInPlace, NoneStrays}
 use Rattle.sim_world.specs.PlaceLaws.{places_move, open_places, next_places, start_places, give_places, take_places, send_places, receive_places}
 use Rattle.sim_world.specs.Scripts.{Scripts, Life, IsScripted, AreScripted}
 use Rattle.sim_world.specs.Lives.{life_in}
-use Rattle.sim_world.specs.Links.{IsDue, HasReadableRaw, IsReadableIfRaw}
+use Rattle.sim_world.specs.Links.{IsDue}
 use Rattle.sim_world.specs.NextCallLaws.{can_come_next}
-use Rattle.of_wire.specs.Reading.{reading_of}
 use Rattle.sim_world.specs.LinkLaws.{Stands-more}
-use Rattle.sim_world.specs.LinkStepLaws.{AreStanding, AllReadable, AreStanding-begun, AreStanding-sent, AreStanding-got, AreStanding-failed, AreStanding-told}
-use Rattle.sim_world.specs.World.{WorldData, Moves, IsAsTold, AreAsTold, IsReadable, is_refused_stimulus, is_refused_raw, begins_refused, declared_in, CanCome}
-use Rattle.sim_world.specs.WorldLaws.{Stands_moves, IsReadable-front, MayUntilRefused-all}
-use Rattle.sim_world.specs.Doing.{DoesOpen, DoesNext, DoesStart, DoesGive, DoesTake, DoesSend, DoesReceive, HasReadable}
+use Rattle.sim_world.specs.LinkStepLaws.{AreStanding, AreStanding-begun, AreStanding-sent, AreStanding-got, AreStanding-failed, AreStanding-told}
+use Rattle.sim_world.specs.World.{WorldData, Moves, IsAsTold, AreAsTold, declared_in, CanCome}
+use Rattle.sim_world.specs.WorldLaws.{Stands_moves}
+use Rattle.sim_world.specs.Doing.{DoesOpen, DoesNext, DoesStart, DoesGive, DoesTake, DoesSend, DoesReceive}
 use Rattle.sim_world.specs.DoingLaws.{open_counted, next_counted, start_counted, give_counted, take_counted, link_counted}
 use Rattle.sim_world.specs.Keeping.{Keeps}
 
@@ -107,16 +107,16 @@ quiet_steps (step ∷ steps) s all =
       to_come = rest.to_come ∙ first.to_come;
     }
 
-quiet_may_act : (declared : List Declared) (act : Act) (s : State) → IsQuietAct act → MayAct declared act s
-unfolding MayAct
+quiet_may_act : (declared : List Declared) (act : Act) (s : State) → IsQuietAct act → MayCome declared (Acted act) s
+unfolding MayCome MayStep MayAct
 quiet_may_act declared (Started app ok) s is = tt
 quiet_may_act declared (Gave app bytes) s is = tt
 quiet_may_act declared (Gone app bytes) s is = tt
 quiet_may_act declared (Ended app) s is = tt
 quiet_may_act declared other s is = absurd is
 
-quiet_may : (declared : List Declared) (step : WorldStep) (s : State) → IsQuiet step → MayStep declared step s
-unfolding MayStep
+quiet_may : (declared : List Declared) (step : WorldStep) (s : State) → IsQuiet step → MayCome declared step s
+unfolding MayCome MayStep
 quiet_may declared (Acted act) s is = quiet_may_act declared act s is
 quiet_may declared (TookInto app what room) s is = tt
 quiet_may declared Opened s is = tt
@@ -124,7 +124,7 @@ quiet_may declared NotOpened s is = tt
 quiet_may declared NextFailed s is = tt
 quiet_may declared other s is = absurd is
 
-quiet_may_steps : (declared : List Declared) (steps : List WorldStep) (s : State) → AllByRecursion IsQuiet steps → MaySteps declared steps s
+quiet_may_steps : (declared : List Declared) (steps : List WorldStep) (s : State) → AllByRecursion IsQuiet steps → MayComeAll declared steps s
 quiet_may_steps declared [] s all = tt
 quiet_may_steps declared (step ∷ steps) s all = (quiet_may declared step s all.0, quiet_may_steps declared steps (after_step step s) all.1)
 
@@ -143,13 +143,12 @@ keeps_quiet old new steps counted keeps moves quiet scripts told counts places =
     let to_come : new.state.to_come ≡ old.state.to_come = ap (λ (s : State). s.to_come) moves.state ∙ around.to_come in
     record {
       stands = Stands_moves old new steps counted keeps.stands moves
-          (record { word = λ readable. MayUntilRefused-all (declared_in old.state) steps old.state (quiet_may_steps (declared_in old.state) steps old.state quiet); scripts = scripts; told = told })
+          (record { word = quiet_may_steps (declared_in old.state) steps old.state quiet; scripts = scripts; told = told })
           counts (rw (moment, to_come) keeps.stands.can_come);
       standing = rw (links, moment, moves.history, length_more old.history steps)
           (standing_more old.state.moment (length old.history) (length old.history + length steps) old.state.links (omega arith) keeps.standing);
       within = rw moment keeps.within;
       due = rw due keeps.due;
-      readable = λ readable. subst AllReadable (sym links) (keeps.readable (IsReadable-front old.history steps (rw (← moves.history) readable)));
       places = places_move old new steps counted keeps.stands moves keeps.places places;
     }
 
@@ -253,20 +252,18 @@ record LinkedBy (most : ℕ) (s t : State) : Type 0 where
   to_come : t.to_come ≡ s.to_come
 
 keeps_linked : (old new : WorldData) (steps : List WorldStep) (counted : TallyState) → Keeps old → Moves old new steps counted → LinkedBy (length (old.history ++ steps)) old.state (after_steps steps old.state)
-    → (IsReadable old.history ≡ true → MaySteps (declared_in old.state) steps old.state) → ((readable : IsReadable (old.history ++ steps) ≡ true) → AllReadable new.state.links)
-    → AreScripted old.scripts old.told steps (λ app. life_in app old.lives) → AreAsTold old.told old.nexts steps old.state → CountsFor (declared_in old.state) counted → (AreInPlace steps old.state → NoneStrays old.tally counted) → Keeps new
-keeps_linked old new steps counted keeps moves linked word readable scripts told counts places =
+    → MayComeAll (declared_in old.state) steps old.state → AreScripted old.scripts old.told steps (λ app. life_in app old.lives) → AreAsTold old.told old.nexts steps old.state → CountsFor (declared_in old.state) counted → (AreInPlace steps old.state → NoneStrays old.tally counted) → Keeps new
+keeps_linked old new steps counted keeps moves linked word scripts told counts places =
     let links : new.state.links ≡ (after_steps steps old.state).links = ap (λ (s : State). s.links) moves.state in
     let due : new.state.due ≡ old.state.due = ap (λ (s : State). s.due) moves.state ∙ linked.due in
     let moment : new.state.moment ≡ old.state.moment = ap (λ (s : State). s.moment) moves.state ∙ linked.moment in
     let to_come : new.state.to_come ≡ old.state.to_come = ap (λ (s : State). s.to_come) moves.state ∙ linked.to_come in
     record {
-      stands = Stands_moves old new steps counted keeps.stands moves (record { word = λ is. MayUntilRefused-all (declared_in old.state) steps old.state (word is); scripts = scripts; told = told }) counts
+      stands = Stands_moves old new steps counted keeps.stands moves (record { word = word; scripts = scripts; told = told }) counts
           (rw (moment, to_come) keeps.stands.can_come);
       standing = rw (links, moment, moves.history) linked.standing;
       within = rw moment keeps.within;
       due = rw due keeps.due;
-      readable = λ is. readable (rw (← moves.history) is);
       places = places_move old new steps counted keeps.stands moves keeps.places places;
     }
 
@@ -302,11 +299,10 @@ send_scripted own fails d frame (Err linking.Failed) lives = (tt, tt)
 send_scripted own fails d frame (Err linking.Short) lives = tt
 
 pub keeps_send : {T : Type 0} (d : ℕ) (frame : List ℕ) (old new : WorldData) (result : Result T LinkFault) → Keeps old → DoesSend d frame old new result
-    → MaySteps (declared_in old.state) (send_steps d frame result) old.state → AreAsTold old.told old.nexts (send_steps d frame result) old.state
-    → (AllReadable old.state.links → AllReadable new.state.links) → Keeps new
-keeps_send d frame old new result keeps does word told readable =
+    → MayComeAll (declared_in old.state) (send_steps d frame result) old.state → AreAsTold old.told old.nexts (send_steps d frame result) old.state → Keeps new
+keeps_send d frame old new result keeps does word told =
     keeps_linked old new (send_steps d frame result) _ keeps does.moves (send_linked d frame result old.history old.state keeps.standing)
-    (λ is. word) (λ is. readable (keeps.readable (IsReadable-front old.history _ is))) (send_scripted old.scripts old.told d frame result _) told
+    word (send_scripted old.scripts old.told d frame result _) told
     (link_counted (declared_in old.state) (not (is_joined d old.state)) d result old.tally keeps.stands.tally).for (send_places d frame result old.state old.tally does.out_of_place)
 
 receive_linked : (d : ℕ) (result : Result ℕ LinkFault) (buf : List ℕ) (history : List WorldStep) (s : State) → AreStanding s.moment (length history) s.links
@@ -338,12 +334,10 @@ receive_scripted own fails d (Err linking.Failed) buf lives = (tt, tt)
 receive_scripted own fails d (Err linking.Short) buf lives = tt
 
 pub keeps_recv : (d : ℕ) (old new : WorldData) (result : Result ℕ LinkFault) (buf : List ℕ) → Keeps old → DoesReceive d old new result buf
-    → (AllReadable old.state.links → MaySteps (declared_in old.state) (receive_steps d result buf) old.state) → AreAsTold old.told old.nexts (receive_steps d result buf) old.state
-    → (AllReadable old.state.links → AllReadable new.state.links) → Keeps new
-keeps_recv d old new result buf keeps does word told readable =
+    → MayComeAll (declared_in old.state) (receive_steps d result buf) old.state → AreAsTold old.told old.nexts (receive_steps d result buf) old.state → Keeps new
+keeps_recv d old new result buf keeps does word told =
     keeps_linked old new (receive_steps d result buf) _ keeps does.moves (receive_linked d result buf old.history old.state keeps.standing)
-    (λ is. word (keeps.readable is)) (λ is. readable (keeps.readable (IsReadable-front old.history _ is)))
-    (receive_scripted old.scripts old.told d result buf _) told
+    word (receive_scripted old.scripts old.told d result buf _) told
     (link_counted (declared_in old.state) (not (can_receive d old.state)) d result old.tally keeps.stands.tally).for (receive_places d result buf old.state old.tally does.out_of_place)
 
 -- ---- next: an item that is told
@@ -413,53 +407,17 @@ begun_by declared x most s standing within come next due =
       can_come = come_after declared s.moment s.to_come x come next;
     }
 
--- ---- next: whether refused bytes were sent
-
-second_true : (b rest : Bool) → (b && rest) ≡ true → rest ≡ true
-second_true true rest is = is
-second_true false rest is = absurd (false≢true is)
-
-not_refused : (b : Bool) → not (not b) ≡ true → b ≡ true
-not_refused true is = refl
-not_refused false is = is
-
 failed_scripted : (own : Scripts) (fails : List FailCall) (lives : ℕ → Life) → IsScripted own fails NextFailed lives
 unfolding IsScripted
 failed_scripted own fails lives = tt
-
-rest_of : (p : WorldStep → Bool) (xs ys : List WorldStep) → list_all p (xs ++ ys) ≡ true → list_all p ys ≡ true
-rest_of p [] ys all = all
-rest_of p (x ∷ xs) ys all = rest_of p xs ys (second_true (p x) _ all)
-
-raw_read : (x : Stimulus) → not (is_refused_stimulus x) ≡ true → IsReadableIfRaw x
-raw_read (Raw bytes) is = not_refused (is_ok (reading_of bytes)) is
-raw_read (Frame port bytes) is = tt
-raw_read (Advance t) is = tt
-raw_read (Port port change) is = tt
-raw_read (Counts priority packets bytes) is = tt
-
-stim_read : (x : WorldStim) → not (is_refused_raw x) ≡ true → HasReadableRaw x
-stim_read (Of d x) is = raw_read x is
-stim_read (Join d) is = tt
-stim_read (Leave d) is = tt
-stim_read (At t) is = tt
-
-first_true : (b rest : Bool) → (b && rest) ≡ true → b ≡ true
-first_true true rest is = refl
-first_true false rest is = is
-
-begun_read : (history : List WorldStep) (x : WorldStim) (steps : List WorldStep) → IsReadable (history ++ Acted (Stim x) ∷ steps) ≡ true → HasReadableRaw x
-unfolding IsReadable
-begun_read history x steps is = stim_read x (first_true (not (is_refused_raw x)) _ (rest_of (λ step. not (begins_refused step)) history (Acted (Stim x) ∷ steps) is))
 
 -- ---- next
 
 keeps_item : (old new : WorldData) (begun : Option WorldStim) (item : Item) (buf : List ℕ) → Keeps old → IfSome begun (λ x. slice_get old.state.to_come 0 ≡ Some x)
     → Moves old new (stim_steps begun ++ item_step item buf ∷ []) old.tally
-    → (HasReadable begun → AllReadable old.state.links → MaySteps (declared_in old.state) (stim_steps begun ++ item_step item buf ∷ []) old.state)
-    → AreAsTold old.told old.nexts (stim_steps begun ++ item_step item buf ∷ []) old.state
-    → (HasReadable begun → AllReadable old.state.links → AllReadable new.state.links) → IfSome begun (λ x. All IsDue (after_stim x old.state).due) → Keeps new
-keeps_item old new None item buf keeps to_come moves word told readable due =
+    → MayComeAll (declared_in old.state) (stim_steps begun ++ item_step item buf ∷ []) old.state
+    → AreAsTold old.told old.nexts (stim_steps begun ++ item_step item buf ∷ []) old.state → IfSome begun (λ x. All IsDue (after_stim x old.state).due) → Keeps new
+keeps_item old new None item buf keeps to_come moves word told due =
     let most = length (old.history ++ item_step item buf ∷ []) in
     let standing = standing_more old.state.moment (length old.history) most old.state.links (omega (arith, one_more old.history (item_step item buf))) keeps.standing in
     let by = told_by item buf most old.state standing keeps.due in
@@ -468,19 +426,16 @@ keeps_item old new None item buf keeps to_come moves word told readable due =
     record {
       stands = Stands_moves old new (item_step item buf ∷ []) old.tally keeps.stands moves
           (record {
-            word = λ is. MayUntilRefused-all (declared_in old.state) (item_step item buf ∷ []) old.state (word tt (keeps.readable is));
+            word = word;
             scripts = (item_scripted old.scripts old.told item buf _, tt);
             told = told;
           }) keeps.stands.tally (rw (moment, come) keeps.stands.can_come);
       standing = rw (ap (λ (s : State). s.links) moves.state, moment, moves.history) by.standing;
       within = rw moment keeps.within;
       due = subst (All IsDue) (sym (ap (λ (s : State). s.due) moves.state)) by.due;
-      readable = λ is.
-          let all : IsReadable (old.history ++ item_step item buf ∷ []) ≡ true = rw (← moves.history) is in
-          readable tt (keeps.readable (IsReadable-front old.history _ all));
       places = places_move old new (item_step item buf ∷ []) old.tally keeps.stands moves keeps.places (λ are none. (none, refl));
     }
-keeps_item old new (Some x) item buf keeps to_come moves word told readable due =
+keeps_item old new (Some x) item buf keeps to_come moves word told due =
     let steps = Acted (Stim x) ∷ item_step item buf ∷ [] in
     let most = length (old.history ++ steps) in
     let longer : length (old.history ++ steps) ≡ length old.history + 2 = length-append old.history steps in
@@ -493,25 +448,20 @@ keeps_item old new (Some x) item buf keeps to_come moves word told readable due 
     record {
       stands = Stands_moves old new steps old.tally keeps.stands moves
           (record {
-            word = λ is sound.
-                let may = word (stim_read x (ap not sound)) (keeps.readable is) in
-                (may.0, MayUntilRefused-all (declared_in old.state) (item_step item buf ∷ []) after may.1);
+            word = word;
             scripts = (stim_scripted old.scripts old.told x _, (item_scripted old.scripts old.told item buf _, tt));
             told = told;
           }) keeps.stands.tally (rw (moment, come) begun.can_come);
       standing = rw (ap (λ (s : State). s.links) moves.state, moment, moves.history) by.standing;
       within = rw moment begun.within;
       due = subst (All IsDue) (sym (ap (λ (s : State). s.due) moves.state)) by.due;
-      readable = λ is.
-          let all : IsReadable (old.history ++ steps) ≡ true = rw (← moves.history) is in
-          readable (begun_read old.history x (item_step item buf ∷ []) all) (keeps.readable (IsReadable-front old.history _ all));
       places = places_move old new steps old.tally keeps.stands moves keeps.places (λ are none. (none, refl));
     }
 
 pub keeps_next : (old new : WorldData) (result : Result Item NextFault) (buf : List ℕ) → Keeps old → DoesNext old new result buf → Keeps new
 unfolding next_steps
 keeps_next old new (Ok item) buf keeps does =
-    keeps_item old new does.begun item buf keeps does.to_come does.moves does.word does.told does.readable does.due
+    keeps_item old new does.begun item buf keeps does.to_come does.moves does.word does.told does.due
 keeps_next old new (Err coming.Failed) buf keeps does =
     keeps_quiet old new (NextFailed ∷ []) _ keeps does.moves (tt, tt) (failed_scripted old.scripts old.told _, tt) does.told
     (next_counted (declared_in old.state) (Err coming.Failed) old.tally keeps.stands.tally).for (λ are. next_places (Err coming.Failed) old.tally)

@@ -18,7 +18,6 @@ pub mod Doing
 pub mod DoingLaws
 pub mod Places
 pub mod PlaceLaws
-pub mod SwitchCallLaws
 pub mod NextLaws
 pub mod TellLaws
 pub mod NextCallLaws

@@ -11,12 +11,12 @@ use Rattle.of_wire.specs.Reading.{reading_of}
 use Rattle.flow_table.specs.Switch.{Declared, SwitchState}
 use Rattle.flow_table.specs.Step.{after_stimulus, sent_by_stimulus}
 use Rattle.switch_sim.specs.Possible.{IsPossible}
-use Rattle.switch_sim.specs.Readable.{IsShortIfRaw, IsNotRaw}
+use Rattle.switch_sim.specs.Readable.{IsShortIfRaw}
 use Rattle.switch_sim.specs.SerialLaws.{next_after_message, next_after_stimulus}
 use Rattle.switch_sim.specs.MomentLaws.{moment_after, moment-after_message, moment-after_stimulus, declared-after_message, declared-after_stimulus}
 use Rattle.outside.specs.State.{Link, switch_joined, switch_told, link_joined, link_left, link_stimulated, link_sent, link_got, link_told, link_failed}
 use Rattle.outside.specs.Conforming.{IsStimulus}
-use Rattle.sim_world.specs.Links.{IsDeclaredAs, AreReadable, StandsAt, StandsBy, SerialsWithin, SerialsBelow, Stands, MayCall, IsReadableIfRaw}
+use Rattle.sim_world.specs.Links.{IsDeclaredAs, StandsAt, StandsBy, SerialsWithin, SerialsBelow, Stands, MayCall}
 
 -- ---- A switch
 
@@ -98,22 +98,6 @@ IsShortIfRaw-stimulus (Advance t) is = absurd is
 IsShortIfRaw-stimulus (Port port change) is = tt
 IsShortIfRaw-stimulus (Counts priority packets bytes) is = tt
 IsShortIfRaw-stimulus (Raw bytes) is = is.1
-
--- What a stimulus makes a switch send can be read, where bytes of its own can.
-pub AreReadable-stimulus : {E : Type 0} (r : Result (List (List ℕ)) E) (x : Stimulus) (s : SwitchState) → (IsNotRaw x → IfOk r AreReadable) → IfOk r (λ list. list ≡ sent_by_stimulus x s) → IsReadableIfRaw x → IfOk r AreReadable
-unfolding sent_by_stimulus
-AreReadable-stimulus (Err e) x s read sent own = tt
-AreReadable-stimulus (Ok list) (Frame port bytes) s read sent own = read tt
-AreReadable-stimulus (Ok list) (Advance t) s read sent own = read tt
-AreReadable-stimulus (Ok list) (Port port change) s read sent own = read tt
-AreReadable-stimulus (Ok list) (Counts priority packets bytes) s read sent own = read tt
-AreReadable-stimulus (Ok list) (Raw bytes) s read sent own =
-    subst AreReadable (sym sent) (All-cons (λ bytes. IsOk (reading_of bytes)) bytes [] own (All-nil (λ bytes. IsOk (reading_of bytes))))
-
--- Where all that waits can be read, and all that is sent, all can that waits then.
-pub AreReadable-sent : (old held sent new : List (List ℕ)) → new ≡ held ++ sent → held ≡ old → AreReadable sent → AreReadable old → AreReadable new
-AreReadable-sent old held sent new all same sent_read old_read =
-    subst AreReadable (ap (λ (front : List (List ℕ)). front ++ sent) (sym same) ∙ sym all) (All-append (λ bytes. IsOk (reading_of bytes)) old sent old_read sent_read)
 
 -- ---- A link at a moment
 

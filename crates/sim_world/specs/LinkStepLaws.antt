@@ -1,25 +1,20 @@
--- Laws of all switches of a simulated world over one step: where each stands, and that what waits can be read.
-use Rattle.std.specs.Prelude.{ℕ, ◌+◌, ◌-◌, ◌^◌, ◌<◌, List, [], ◌∷◌, drop, IfSome, IsOk}
+-- Laws of all switches of a simulated world over one step: where each stands.
+use Rattle.std.specs.Prelude.{ℕ, ◌+◌, ◌-◌, ◌^◌, ◌<◌, List, [], ◌∷◌, IfSome}
 use Rattle.std.specs.List.{AllByRecursion}
 use Rattle.std.proofs.Common.{arith}
-use Rattle.std.proofs.lemmas.List.Elements.{All-tail}
 use Rattle.of_types.specs.declared.journal.Stimulus.TheVariants.{Advance}
 use Rattle.of_types.specs.declared.journal.WorldStim.{WorldStim}
 use Rattle.of_types.specs.declared.journal.WorldStim.TheVariants.{Join, Leave, At, Of}
-use Rattle.of_wire.specs.Reading.{reading_of}
 use Rattle.flow_table.specs.Switch.{Declared}
 use Rattle.outside.specs.Conforming.{IsWorldStim}
 use Rattle.outside.specs.State.{Link, link_of, with_link, moment_after, links_after, link_joined, link_left, link_stimulated, link_sent, link_got, link_told, link_failed}
-use Rattle.sim_world.specs.Links.{AreReadable, StandsAt, Stands, MayCall}
+use Rattle.sim_world.specs.Links.{StandsAt, Stands, MayCall}
 use Rattle.sim_world.specs.LinkLaws.{Stands-joined, Stands-left, Stands-stimulated, Stands-passed, Stands-sent, Stands-more, Stands-got, Stands-told, Stands-failed, MayCall-stands}
 use Rattle.sim_world.specs.LinksLaws.{All-with_link, All-map, All-link_of}
 
 -- each link stands at the moment, and neither serials nor calls went beyond the number
 abbrev pub AreStanding : ℕ → ℕ → List Link → Type 0
 AreStanding moment most ls = AllByRecursion (Stands moment most) ls
-
-abbrev pub AllReadable : List Link → Type 0
-AllReadable ls = AllByRecursion (λ l. AreReadable l.waits) ls
 
 pub AreStanding-stands : (moment most : ℕ) (ls : List Link) → AreStanding moment most ls → AllByRecursion (λ l. StandsAt moment l.switch) ls
 AreStanding-stands moment most [] are = tt
@@ -59,21 +54,3 @@ AreStanding-failed d moment most ls are =
 -- a message that is told
 pub AreStanding-told : (d moment most : ℕ) (ls : List Link) → AreStanding moment most ls → AreStanding moment most (with_link d link_told ls)
 AreStanding-told d moment most ls are = All-with_link (Stands moment most) (Stands moment most) d link_told (λ l stands. stands) (Stands-told moment most) ls are
-
--- ---- What waits can be read, also with a message less
-
-readable_less : (messages : List (List ℕ)) → AreReadable messages → AreReadable (drop 1 messages)
-readable_less [] read = read
-readable_less (message ∷ messages) read = All-tail (λ bytes. IsOk (reading_of bytes)) message messages read
-
-pub AllReadable-got : (d : ℕ) (ls : List Link) → AllReadable ls → AllReadable (with_link d link_got ls)
-unfolding link_got
-AllReadable-got d ls all = All-with_link (λ (l : Link). AreReadable l.waits) (λ (l : Link). AreReadable l.waits) d link_got (λ l read. read) (λ l read. readable_less l.waits read) ls all
-
-pub AllReadable-told : (d : ℕ) (ls : List Link) → AllReadable ls → AllReadable (with_link d link_told ls)
-unfolding link_told
-AllReadable-told d ls all = All-with_link (λ (l : Link). AreReadable l.waits) (λ (l : Link). AreReadable l.waits) d link_told (λ l read. read) (λ l read. readable_less l.waits read) ls all
-
-pub AllReadable-failed : (d : ℕ) (ls : List Link) → AllReadable ls → AllReadable (with_link d link_failed ls)
-unfolding link_failed
-AllReadable-failed d ls all = All-with_link (λ (l : Link). AreReadable l.waits) (λ (l : Link). AreReadable l.waits) d link_failed (λ l read. read) (λ l read. read) ls all

@@ -46,24 +46,12 @@ SerialsWithin most o = IfSome o (λ s. s.table.next ≤ most)
 abbrev pub SerialsBelow : ℕ → Option SwitchState → Type 0
 SerialsBelow limit o = IfSome o (λ s. s.table.next < limit)
 
-abbrev pub AreReadable : List (List ℕ) → Type 0
-AreReadable messages = All (λ bytes. IsOk (reading_of bytes)) messages
-
 -- A link at a moment: a switch that is joined stands there, and neither its serials nor the calls of the link went beyond a number,
 -- which grows by one a call.
 pub record Stands (moment most : ℕ) (l : Link) : Type 0 where
   pub stands : StandsAt moment l.switch
   pub serials : SerialsWithin most l.switch
   pub calls : l.calls ≤ most
-
--- Bytes that a switch sends of its own can be read.
-abbrev pub IsReadableIfRaw : Stimulus → Type 0
-IsReadableIfRaw (Raw bytes) = IsOk (reading_of bytes)
-IsReadableIfRaw other = Unit {0}
-
-abbrev pub HasReadableRaw : WorldStim → Type 0
-HasReadableRaw (Of d x) = IsReadableIfRaw x
-HasReadableRaw other = Unit {0}
 
 -- One more call can be counted, and one more serial be given.
 pub record MayCall (l : Link) : Type 0 where
@@ -75,7 +63,6 @@ pub record IsReady (moment : ℕ) (h : Held) : Type 0 where
   pub room : 0 < h.room
   pub due : h.due ≡ stimulus_sends (Advance moment) h.link.switch
   pub short : AreShort h.due
-  pub readable : AreReadable h.due
   pub few : length h.due ≤ h.link.declared.cap
 
 -- ---- What calls tell

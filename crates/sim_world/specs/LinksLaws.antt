@@ -20,7 +20,7 @@ use Rattle.outside.specs.Seen.{is_declared}
 use Rattle.outside.specs.LinkLaws.{KeepsDeclared}
 use Rattle.outside.specs.Conforming.{AreDeclaredFrom}
 use Rattle.sim_world.specs.LinkLaws.{StandsBy-later}
-use Rattle.sim_world.specs.Links.{Held, links_in, waiting_in, declared_in, insert_link, AreLinks, HasPlace, HasNoPlace, WaitsFirst, NoneWaits, IsReady, AreReady, AreReadable, insert_held, features_of_join, due_in, StandsAt, StandsBy, IsPlaceOf}
+use Rattle.sim_world.specs.Links.{Held, links_in, waiting_in, declared_in, insert_link, AreLinks, HasPlace, HasNoPlace, WaitsFirst, NoneWaits, IsReady, AreReady, insert_held, features_of_join, due_in, StandsAt, StandsBy, IsPlaceOf}
 
 -- ---- What holds of each
 
@@ -321,17 +321,6 @@ pub few_passed : (moment : ℕ) (held : List Held) → AreReady moment held → 
 few_passed moment held ready links =
     omega (arith, few-map (link_stimulated (Advance moment)) (links_in held) (all_few moment 1 held ready links.declared), links.few)
 
-readable_ready : (moment : ℕ) (h : Held) → IsReady moment h → AreReadable h.link.waits → AreReadable (link_stimulated (Advance moment) h.link).waits
-unfolding link_stimulated
-readable_ready moment h ready old =
-    All-append (λ bytes. IsOk (reading_of bytes)) h.link.waits (stimulus_sends (Advance moment) h.link.switch) old (subst AreReadable ready.due ready.readable)
-
--- What is sent then can be read.
-pub readable_passed : (moment : ℕ) (held : List Held) → AreReady moment held → AllByRecursion (λ l. AreReadable l.waits) (links_in held) → AllByRecursion (λ l. AreReadable l.waits) (map (link_stimulated (Advance moment)) (links_in held))
-readable_passed moment [] ready all = tt
-readable_passed moment (g ∷ gs) ready all =
-    (readable_ready moment g (ready 0 g (omega arith)) all.0, readable_passed moment gs (λ k h less. ready (suc k) h (omega arith)) all.1)
-
 -- What is due of a switch that joins, as its answer tells it.
 pub join_due-features : (d moment : ℕ) (o : Option Link) → join_due d moment o ≡ option_to_list (option_map (Joined d) (features_of_join moment o))
 join_due-features d moment None = refl
@@ -382,15 +371,6 @@ few_left d ls = few-with_link d 262144 link_left ls (none_waits (link_of d ls))
     none_waits : (o : Option Link) → IfSome o (λ l. length (link_left l).waits ≤ length l.waits + 262144)
     none_waits None = tt
     none_waits (Some l) = omega arith
-
-pub readable_joined : (d moment : ℕ) (ls : List Link) → AllByRecursion (λ l. AreReadable l.waits) ls → AllByRecursion (λ l. AreReadable l.waits) (with_link d (link_joined moment) ls)
-unfolding link_joined
-readable_joined d moment ls all = All-with_link (λ (l : Link). AreReadable l.waits) (λ (l : Link). AreReadable l.waits) d (link_joined moment) (λ l read. read) (λ l read. read) ls all
-
-pub readable_left : (d : ℕ) (ls : List Link) → AllByRecursion (λ l. AreReadable l.waits) ls → AllByRecursion (λ l. AreReadable l.waits) (with_link d link_left ls)
-unfolding link_left
-readable_left d ls all =
-    All-with_link (λ (l : Link). AreReadable l.waits) (λ (l : Link). AreReadable l.waits) d link_left (λ l read. read) (λ l read. All-nil (λ bytes. IsOk (reading_of bytes))) ls all
 
 pub StandsBy-all : (moment t : ℕ) (ls : List Link) → moment ≤ t → AllByRecursion (λ l. StandsAt moment l.switch) ls → AllByRecursion (λ l. StandsBy t l.switch) ls
 StandsBy-all moment t [] le all = tt

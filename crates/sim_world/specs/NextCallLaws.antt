@@ -15,18 +15,14 @@ use Rattle.outside.specs.declared.step.WorldStep.TheVariants.{Acted, NextFailed,
 use Rattle.outside.specs.State.{Link, State, but_marks, after_step, after_act, after_stim, upcoming, links_after}
 use Rattle.outside.specs.Calls.{item_step, next_steps, IsIdle, IsOver}
 use Rattle.outside.specs.Conforming.{IsWorldStim, MayStep, MayAct}
+use Rattle.outside.specs.InOrder.{MayCome}
 use Rattle.sim_world.specs.Tally.{tally_short}
-use Rattle.sim_world.specs.Links.{IsDue, StandsAt, HasReadableRaw, waiting_in}
+use Rattle.sim_world.specs.Links.{IsDue, StandsAt, waiting_in}
 use Rattle.sim_world.specs.LinksLaws.{few_upcoming}
-use Rattle.sim_world.specs.LinkStepLaws.{AllReadable}
 use Rattle.sim_world.specs.World.{WorldData, Moves, IsAsTold, declared_in, next_told, CanCome}
-use Rattle.sim_world.specs.WorldLaws.{Moves_both, Moves_ready, MaySteps-same, AreAsTold-same, declared_but, declared-stays}
+use Rattle.sim_world.specs.WorldLaws.{Moves_both, Moves_ready, MayComeAll-same, AreAsTold-same, declared_but, declared-stays}
 use Rattle.sim_world.specs.Doing.{Tells, NextStands, DoesNext}
 use Rattle.sim_world.specs.Lives.{life_in}
-
--- the links where no step is made
-links_same : (old new : WorldData) (t : _) → Moves old new [] t → new.state.links ≡ old.state.links
-links_same old new t moves = ap (λ (s : State). s.links) moves.state
 
 -- ---- It wants memory, or fails as it is told
 
@@ -39,14 +35,13 @@ Next_short old new buf moves = record {
   item = tt;
   idle = tt;
   over = tt;
-  word = λ raw all. tt;
+  word = tt;
   told = tt;
   due = tt;
-  readable = λ raw all. subst AllReadable (sym (links_same old new _ moves)) all;
 }
 
 pub Next_failed : (old new : WorldData) (buf : List ℕ) → next_told old.told old.nexts ≡ true → Moves old new (NextFailed ∷ []) (record old.tally { next_faults = raised old.tally.next_faults }) → DoesNext old new (Err coming.Failed) buf
-unfolding next_steps after_step MayStep IsAsTold
+unfolding next_steps after_step MayCome MayStep IsAsTold
 Next_failed old new buf told moves = record {
   begun = None;
   to_come = tt;
@@ -54,10 +49,9 @@ Next_failed old new buf told moves = record {
   item = tt;
   idle = tt;
   over = tt;
-  word = λ raw all. (tt, tt);
+  word = (tt, tt);
   told = (told, tt);
   due = tt;
-  readable = λ raw all. subst AllReadable (sym (ap (λ (s : State). s.links) moves.state)) all;
 }
 
 -- ---- No stimulus begins
@@ -71,10 +65,9 @@ Next_told old new item buf untold tells = record {
   item = tells.within;
   idle = tells.idle;
   over = tells.over;
-  word = λ raw all. (tells.may all, tt);
+  word = (tells.may, tt);
   told = (tells.told untold, tt);
   due = tt;
-  readable = λ raw all. tells.readable all;
 }
 
 not_idle_at_end : (s : State) → s.begun ≡ false → IsIdle s → ⊥
@@ -88,7 +81,7 @@ end_is_no_idle : items.End ≡ items.Idle → ⊥
 end_is_no_idle is = false≢true (sym (ap is_the_end is))
 
 pub Next_end : (old new : WorldData) (buf : List ℕ) → next_told old.told old.nexts ≡ false → old.state.begun ≡ false → old.state.to_come ≡ [] → Moves old new (End ∷ []) old.tally → DoesNext old new (Ok items.End) buf
-unfolding next_steps item_step after_step MayStep IsAsTold
+unfolding next_steps item_step after_step MayCome MayStep IsAsTold
 Next_end old new buf untold rests none moves = record {
   begun = None;
   to_come = tt;
@@ -96,10 +89,9 @@ Next_end old new buf untold rests none moves = record {
   item = tt;
   idle = (λ is. absurd (end_is_no_idle is), λ idle. absurd (not_idle_at_end old.state rests idle));
   over = (λ is. (rests, none), λ over. refl);
-  word = λ raw all. ((rests, none), tt);
+  word = ((rests, none), tt);
   told = (untold, tt);
   due = tt;
-  readable = λ raw all. subst AllReadable (sym (ap (λ (s : State). s.links) moves.state)) all;
 }
 
 -- ---- A stimulus begins
@@ -130,9 +122,9 @@ untold_stim fails n x s = tt
 pub Next_begun : (old mid new : WorldData) (x : WorldStim) (item : Item) (buf : List ℕ) → next_told old.told old.nexts ≡ false → old.state.begun ≡ false → slice_get old.state.to_come 0 ≡ Some x
     → CanCome (declared_in old.state) old.state.moment old.state.to_come → Moves old mid (Acted (Stim x) ∷ []) old.tally
     → length (waiting_in mid.state.links) ≤ length (waiting_in old.state.links) + 262144
-    → (HasReadableRaw x → AllReadable old.state.links → AllReadable mid.state.links) → All IsDue mid.state.due → Tells mid new item buf → DoesNext old new (Ok item) buf
-unfolding next_steps after_step after_act MayStep MayAct
-Next_begun old mid new x item buf untold rests next come begins few read due tells =
+    → All IsDue mid.state.due → Tells mid new item buf → DoesNext old new (Ok item) buf
+unfolding next_steps after_step after_act MayCome MayStep MayAct
+Next_begun old mid new x item buf untold rests next come begins few due tells =
     let after = after_step (Acted (Stim x)) old.state in
     let same : but_marks mid.state ≡ but_marks after = ap but_marks begins.state in
     let links : mid.state.links ≡ after.links = ap (λ (s : State). s.links) begins.state in
@@ -149,18 +141,17 @@ Next_begun old mid new x item buf untold rests next come begins few read due tel
       item = tells.within;
       idle = rw (← idle_but after) (subst (λ (s : State). (item ≡ items.Idle) ↔ IsIdle s) begins.state tells.idle);
       over = subst (λ (s : State). (item ≡ items.End) ↔ IsOver s) begins.state tells.over;
-      word = λ raw all. (
+      word = (
         record {
           stimulus = can_come_next (declared_in old.state) old.state.moment old.state.to_come x come next;
           none_begun = rests;
           to_come = next;
           few = few_upcoming x old.state (subst (λ (ls : List Link). length (waiting_in ls) ≤ length (waiting_in old.state.links) + 262144) (links ∙ stim_links x old.state) few);
         },
-        MaySteps-same (declared_in old.state) (item_step item buf ∷ []) mid.state after same
-            (subst (λ (ds : List Declared). MayStep ds (item_step item buf) mid.state) declared (tells.may (read raw all)), tt),
+        MayComeAll-same (declared_in old.state) (item_step item buf ∷ []) mid.state after same
+            (subst (λ (ds : List Declared). MayCome ds (item_step item buf) mid.state) declared tells.may, tt),
       );
       told = (untold_stim old.told old.nexts x old.state, AreAsTold-same old.told old.nexts (item_step item buf ∷ []) mid.state after same (told_here, tt));
-      readable = λ raw all. tells.readable (read raw all);
       due = subst (All IsDue) (ap (λ (s : State). s.due) begins.state ∙ stim_due x old.state) due;
     }
 

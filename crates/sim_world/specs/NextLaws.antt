@@ -16,6 +16,7 @@ use Rattle.flow_table.specs.Switch.{Declared}
 use Rattle.outside.specs.State.{State, due_of, after_step, upcoming}
 use Rattle.outside.specs.Calls.{item_step, IsIdle, IsOver}
 use Rattle.outside.specs.Conforming.{MayStep}
+use Rattle.outside.specs.InOrder.{MayCome}
 use Rattle.sim_world.specs.Scripts.{Scripts, Life, life_after}
 use Rattle.sim_world.specs.World.{IsAsTold, counted_next, next_told}
 use Rattle.sim_world.specs.Links.{IsDue, due_in, waiting_in}
@@ -68,8 +69,8 @@ due_is_told fails n (Left d) s is told = told
 due_is_told fails n (Moment t) s is told = told
 due_is_told fails n other s is told = absurd is
 
-pub due_may : (declared : List Declared) (step : WorldStep) (s : State) → IsDue step → slice_get (upcoming s) 0 ≡ Some step → MayStep declared step s
-unfolding IsDue MayStep
+pub due_may : (declared : List Declared) (step : WorldStep) (s : State) → IsDue step → slice_get (upcoming s) 0 ≡ Some step → MayCome declared step s
+unfolding IsDue MayCome MayStep
 due_may declared (Joined d bytes) s is next = next
 due_may declared (Left d) s is next = next
 due_may declared (Moment t) s is next = next

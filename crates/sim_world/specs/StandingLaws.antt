@@ -1,10 +1,9 @@
 -- What the calls of a simulated world need follows from what it keeps.
 use Rattle.std.specs.Prelude.{◌≡◌, ℕ, ◌+◌, ◌^◌, ◌<◌, ◌≤◌, Bool, true, false, List, [], ◌∷◌, ◌++◌, length, refl, if◌then◌else◌}
-use Rattle.std.proofs.lemmas.List.{append-nil}
 use Rattle.std.proofs.Common.{sym, ap, ◌∙◌, subst, arith}
 use Rattle.outside.specs.declared.step.WorldStep.{WorldStep}
 use Rattle.outside.specs.State.{state, but_marks, is_running, at_first}
-use Rattle.outside.specs.Conforming.{Conforming}
+use Rattle.outside.specs.InOrder.{InOrder}
 use Rattle.sim_world.specs.Scripts.{Life, fresh, FewCalls, KeepsScripts}
 use Rattle.lego_io.specs.Count.{raised}
 use Rattle.outside.specs.declared.call.CallKind.TheVariants as kinds
@@ -15,8 +14,7 @@ use Rattle.sim_world.specs.Lives.{life_in}
 use Rattle.sim_world.specs.Tally.{counts_of}
 use Rattle.sim_world.specs.Places.{AreInPlace}
 use Rattle.sim_world.specs.LinkStepLaws.{AreStanding-stands, AreStanding-may_call}
-use Rattle.sim_world.specs.WorldLaws.{MayUntilRefused-front}
-use Rattle.sim_world.specs.World.{WorldData, Stands, IsReadable, MayUntilRefused, AreAsTold, declared_in, given_of, seen_of, nexts_through, counted_next, is_next_answer, short_told}
+use Rattle.sim_world.specs.World.{WorldData, Stands, AreAsTold, declared_in, given_of, seen_of, nexts_through, counted_next, is_next_answer, short_told}
 use Rattle.sim_world.specs.Doing.{AppsStand, LinksStand, NextStands}
 use Rattle.sim_world.specs.Keeping.{Keeps}
 
@@ -78,19 +76,10 @@ next_stands w keeps less = record {
 
 -- ---- Its word
 
--- a front of its history conforms where no refused stimulus was begun in it, whatever came behind it
-pub front_conforms : (w : WorldData) → Keeps w → (first rest : List WorldStep) → w.history ≡ first ++ rest → IsReadable first ≡ true → Conforming (record (seen_of w) { history = first })
+-- its history tells in order what its switches send
+pub in_order : (w : WorldData) → Keeps w → InOrder (seen_of w)
 unfolding seen_of given_of
-front_conforms w keeps first rest is readable = record {
-  declared = keeps.stands.declared;
-  switches = keeps.stands.switches;
-  steps = MayUntilRefused-front (declared_in w.state) first rest (at_first (given_of w))
-      (subst (λ (h : List WorldStep). MayUntilRefused (declared_in w.state) h (at_first (given_of w))) is keeps.stands.history.word) readable;
-}
-
-pub conforms : (w : WorldData) → Keeps w → IsReadable w.history ≡ true → Conforming (seen_of w)
-unfolding seen_of
-conforms w keeps readable = front_conforms w keeps w.history [] (sym (append-nil w.history)) readable
+in_order w keeps = record { declared = keeps.stands.declared; switches = keeps.stands.switches; steps = keeps.stands.history.word }
 
 pub scripts_kept : (w : WorldData) → Keeps w → KeepsScripts w.scripts (without_links w.fails) w.history
 unfolding given_of

@@ -1,15 +1,11 @@
 -- A simulated world as data, and what holds of it: its history is one that its switches, its scripts and the calls that are told to
 -- fail make. All of this is our own choice.
-use Rattle.std.specs.Prelude.{◌≡◌, ℕ, ◌+◌, ◌≤◌, Bool, true, false, not, ◌||◌, List, [], ◌∷◌, ◌++◌, length, map, is_ok, if◌then◌else◌}
-use Rattle.std.specs.List.{AllByRecursion, list_all}
+use Rattle.std.specs.Prelude.{◌≡◌, ℕ, ◌+◌, ◌≤◌, Bool, true, false, not, ◌||◌, List, [], ◌∷◌, ◌++◌, length, map, if◌then◌else◌}
+use Rattle.std.specs.List.{AllByRecursion}
 use Rattle.lego_io.specs.Count.{raised}
 use Rattle.of_types.specs.declared.journal.Act.{Act}
-use Rattle.of_types.specs.declared.journal.Act.TheVariants.{Stim, Sent, Got}
-use Rattle.of_types.specs.declared.journal.Stimulus.{Stimulus}
-use Rattle.of_types.specs.declared.journal.Stimulus.TheVariants.{Raw}
+use Rattle.of_types.specs.declared.journal.Act.TheVariants.{Sent, Got}
 use Rattle.of_types.specs.declared.journal.WorldStim.{WorldStim}
-use Rattle.of_types.specs.declared.journal.WorldStim.TheVariants.{Of}
-use Rattle.of_wire.specs.Reading.{reading_of}
 use Rattle.outside.specs.declared.call.CallKind.TheVariants as kinds
 use Rattle.outside.specs.declared.call.FailCall.{FailCall}
 use Rattle.outside.specs.declared.step.WorldStep.{WorldStep}
@@ -17,7 +13,8 @@ use Rattle.outside.specs.declared.step.WorldStep.TheVariants.{Acted, TookInto, F
 use Rattle.flow_table.specs.Switch.{Declared}
 use Rattle.outside.specs.Seen.{Given, Seen}
 use Rattle.outside.specs.State.{State, at_first, after_step, after_steps, state, but_marks, moment_after, link_fails, is_joined, has_waiting}
-use Rattle.outside.specs.Conforming.{AreDeclaredFrom, MayDeclare, IsWorldStim, MayStep}
+use Rattle.outside.specs.Conforming.{AreDeclaredFrom, MayDeclare, IsWorldStim}
+use Rattle.outside.specs.InOrder.{MayComeAll}
 use Rattle.sim_world.specs.Tally.{TallyState, CountsFor, counts_of}
 use Rattle.sim_world.specs.Told.{is_told, without_links}
 use Rattle.sim_world.specs.Scripts.{Scripts, Life, fresh, life_through, KeepsScripts}
@@ -49,29 +46,6 @@ given_of w = record { declared = declared_in w.state; stimuli = w.stimuli; fails
 -- what is seen of it
 unfoldable pub seen_of : WorldData → Seen Scripts
 seen_of w = record { given = given_of w; history = w.history; counts = counts_of w.tally }
-
--- ---- Bytes that no switch sends of its own accord but as a stimulus says
-
-abbrev pub is_refused_stimulus : Stimulus → Bool
-is_refused_stimulus (Raw bytes) = not (is_ok (reading_of bytes))
-is_refused_stimulus other = false
-
-abbrev pub is_refused_raw : WorldStim → Bool
-is_refused_raw (Of d x) = is_refused_stimulus x
-is_refused_raw other = false
-
-abbrev pub begins_refused : WorldStep → Bool
-begins_refused (Acted (Stim x)) = is_refused_raw x
-begins_refused other = false
-
--- no stimulus was begun that sends bytes which are no message
-unfoldable pub IsReadable : List WorldStep → Bool
-IsReadable history = list_all (λ step. not (begins_refused step)) history
-
--- each step may come in the state before it, up to the first that begins such a stimulus
-abbrev pub MayUntilRefused : List Declared → List WorldStep → State → Type 0
-MayUntilRefused declared [] s = Unit {0}
-MayUntilRefused declared (step ∷ steps) s = begins_refused step ≡ false → MayStep declared step s × MayUntilRefused declared steps (after_step step s)
 
 -- ---- Calls that are told to fail
 
@@ -136,10 +110,9 @@ CanCome declared moment (x ∷ xs) = IsWorldStim declared moment x × CanCome de
 
 -- ---- The history
 
--- What a history keeps: switches keep their word until raw bytes are refused, applications keep to their scripts, and what fails is
--- what is told to.
+-- What a history keeps: what switches send is told in order, applications keep to their scripts, and what fails is what is told to.
 pub record IsHistory (given : Given Scripts) (history : List WorldStep) : Type 0 where
-  pub word : MayUntilRefused given.declared history (at_first given)
+  pub word : MayComeAll given.declared history (at_first given)
   pub scripts : KeepsScripts given.own (without_links given.fails) history
   pub told : AreAsTold (without_links given.fails) 0 history (at_first given)
 

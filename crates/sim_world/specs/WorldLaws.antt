@@ -1,9 +1,7 @@
 -- Laws of a simulated world: that the marks of quiescent points steer nothing, that what was declared stays, and that a call which does
 -- what a step says leaves a world that stands.
-use Rattle.std.specs.Prelude.{◌≡◌, ◌==◌, ℕ, Bool, true, false, not, ◌&&◌, List, [], ◌∷◌, ◌++◌, map, refl, if◌then◌else◌}
-use Rattle.std.specs.List.{list_all}
+use Rattle.std.specs.Prelude.{◌≡◌, ◌==◌, ℕ, Bool, true, false, List, [], ◌∷◌, ◌++◌, map, refl, if◌then◌else◌}
 use Rattle.std.proofs.Common.{sym, ap, ◌∙◌, subst, append_assoc}
-use Rattle.std.proofs.lemmas.Bool.{false≢true}
 use Rattle.of_types.specs.declared.journal.Act.{Act}
 use Rattle.of_types.specs.declared.journal.Act.TheVariants.{Stim, Started, Gave, Gone, Took, Ended, Sent, Got}
 use Rattle.of_types.specs.declared.journal.Stimulus.TheVariants.{Advance}
@@ -17,12 +15,14 @@ use Rattle.outside.specs.Seen.{Given}
 use Rattle.outside.specs.State.{Link, State, at_first, with_link, link_joined, link_left, link_stimulated, link_sent, link_got, link_told, link_failed, after_stim, after_act, after_step, after_steps, state, but_marks, switch_of, waits_of, upcoming, link_fails}
 use Rattle.outside.specs.StateLaws.{after_steps-append, but_marks-step}
 use Rattle.outside.specs.LinkLaws.{KeepsDeclared}
-use Rattle.outside.specs.Conforming.{MayBegin, MayAct, MayStep, MaySteps}
+use Rattle.outside.specs.Conforming.{MayBegin, MayAct, MayStep}
+use Rattle.outside.specs.InOrder.{MayCome, MayComeAll}
+use Rattle.outside.specs.InOrderLaws.{come-append}
 use Rattle.sim_world.specs.Tally.{TallyState, CountsFor}
 use Rattle.sim_world.specs.Told.{without_links}
 use Rattle.sim_world.specs.Lives.{life_in}
 use Rattle.sim_world.specs.Scripts.{Scripts, Life, fresh, all_fresh, life_after, life_through, lives_after, IsScriptedAct, IsScripted, AreScripted, KeepsScripts}
-use Rattle.sim_world.specs.World.{WorldData, declared_in, given_of, seen_of, begins_refused, IsReadable, IsActAsTold, IsAsTold, AreAsTold, counted_next, nexts_through, MayUntilRefused, CanCome, IsHistory, Stands, Moves}
+use Rattle.sim_world.specs.World.{WorldData, declared_in, given_of, seen_of, IsActAsTold, IsAsTold, AreAsTold, counted_next, nexts_through, CanCome, IsHistory, Stands, Moves}
 
 -- ---- Marks steer nothing
 
@@ -118,12 +118,59 @@ pub after_same : (step : WorldStep) (s t : State) → but_marks s ≡ but_marks 
 after_same step s t same =
     but_marks-step step s ∙ ap (λ (x : State). but_marks (after_step step x)) same ∙ sym (but_marks-step step t)
 
+-- what may come, too
+come_but : (declared : List Declared) (step : WorldStep) (s : State) → MayCome declared step s → MayCome declared step (but_marks s)
+unfolding MayCome upcoming waits_of
+come_but declared (Acted (Stim x)) s may = step_but declared (Acted (Stim x)) s may
+come_but declared (Acted (Started app ok)) s may = step_but declared (Acted (Started app ok)) s may
+come_but declared (Acted (Gave app bytes)) s may = step_but declared (Acted (Gave app bytes)) s may
+come_but declared (Acted (Gone app bytes)) s may = step_but declared (Acted (Gone app bytes)) s may
+come_but declared (Acted (Took app what)) s may = step_but declared (Acted (Took app what)) s may
+come_but declared (Acted (Ended app)) s may = step_but declared (Acted (Ended app)) s may
+come_but declared (Acted (Sent d bytes)) s may = step_but declared (Acted (Sent d bytes)) s may
+come_but declared (Acted (Got d bytes)) s may = may
+come_but declared (From d bytes) s may = may
+come_but declared (TookInto app what room) s may = step_but declared (TookInto app what room) s may
+come_but declared (Joined d bytes) s may = step_but declared (Joined d bytes) s may
+come_but declared (Left d) s may = step_but declared (Left d) s may
+come_but declared (Moment t) s may = step_but declared (Moment t) s may
+come_but declared (SendFailed d) s may = step_but declared (SendFailed d) s may
+come_but declared (RecvFailed d) s may = step_but declared (RecvFailed d) s may
+come_but declared Idle s may = step_but declared Idle s may
+come_but declared End s may = step_but declared End s may
+come_but declared Opened s may = step_but declared Opened s may
+come_but declared NotOpened s may = step_but declared NotOpened s may
+come_but declared NextFailed s may = step_but declared NextFailed s may
+
+come_with : (declared : List Declared) (step : WorldStep) (s : State) → MayCome declared step (but_marks s) → MayCome declared step s
+unfolding MayCome upcoming waits_of
+come_with declared (Acted (Stim x)) s may = step_with declared (Acted (Stim x)) s may
+come_with declared (Acted (Started app ok)) s may = step_with declared (Acted (Started app ok)) s may
+come_with declared (Acted (Gave app bytes)) s may = step_with declared (Acted (Gave app bytes)) s may
+come_with declared (Acted (Gone app bytes)) s may = step_with declared (Acted (Gone app bytes)) s may
+come_with declared (Acted (Took app what)) s may = step_with declared (Acted (Took app what)) s may
+come_with declared (Acted (Ended app)) s may = step_with declared (Acted (Ended app)) s may
+come_with declared (Acted (Sent d bytes)) s may = step_with declared (Acted (Sent d bytes)) s may
+come_with declared (Acted (Got d bytes)) s may = may
+come_with declared (From d bytes) s may = may
+come_with declared (TookInto app what room) s may = step_with declared (TookInto app what room) s may
+come_with declared (Joined d bytes) s may = step_with declared (Joined d bytes) s may
+come_with declared (Left d) s may = step_with declared (Left d) s may
+come_with declared (Moment t) s may = step_with declared (Moment t) s may
+come_with declared (SendFailed d) s may = step_with declared (SendFailed d) s may
+come_with declared (RecvFailed d) s may = step_with declared (RecvFailed d) s may
+come_with declared Idle s may = step_with declared Idle s may
+come_with declared End s may = step_with declared End s may
+come_with declared Opened s may = step_with declared Opened s may
+come_with declared NotOpened s may = step_with declared NotOpened s may
+come_with declared NextFailed s may = step_with declared NextFailed s may
+
 -- Steps may come in a state exactly where they may in one that differs in marks alone.
-pub MaySteps-same : (declared : List Declared) (steps : List WorldStep) (s t : State) → but_marks s ≡ but_marks t → MaySteps declared steps s → MaySteps declared steps t
-MaySteps-same declared [] s t same may = tt
-MaySteps-same declared (step ∷ steps) s t same may = (
-  step_with declared step t (subst (λ (x : State). MayStep declared step x) same (step_but declared step s may.0)),
-  MaySteps-same declared steps (after_step step s) (after_step step t) (after_same step s t same) may.1,
+pub MayComeAll-same : (declared : List Declared) (steps : List WorldStep) (s t : State) → but_marks s ≡ but_marks t → MayComeAll declared steps s → MayComeAll declared steps t
+MayComeAll-same declared [] s t same may = tt
+MayComeAll-same declared (step ∷ steps) s t same may = (
+  come_with declared step t (subst (λ (x : State). MayCome declared step x) same (come_but declared step s may.0)),
+  MayComeAll-same declared steps (after_step step s) (after_step step t) (after_same step s t same) may.1,
 )
 
 -- ---- Calls that are told to fail
@@ -276,56 +323,9 @@ life_through-append own fails app (x ∷ xs) ys l = life_through-append own fail
 
 -- What steps may come in a world, so that it stands afterwards.
 pub record MayMove (old : WorldData) (steps : List WorldStep) : Type 0 where
-  pub word : IsReadable old.history ≡ true → MayUntilRefused (declared_in old.state) steps old.state
+  pub word : MayComeAll (declared_in old.state) steps old.state
   pub scripts : AreScripted old.scripts old.told steps (λ app. life_in app old.lives)
   pub told : AreAsTold old.told old.nexts steps old.state
-
-both_front : (b whole front : Bool) → (whole ≡ true → front ≡ true) → (b && whole) ≡ true → (b && front) ≡ true
-both_front true whole front rest is = rest is
-both_front false whole front rest is = is
-
-readable_front : (xs ys : List WorldStep) → list_all (λ step. not (begins_refused step)) (xs ++ ys) ≡ true → list_all (λ step. not (begins_refused step)) xs ≡ true
-readable_front [] ys all = refl
-readable_front (x ∷ xs) ys all = both_front (not (begins_refused x)) _ _ (readable_front xs ys) all
-
-pub IsReadable-front : (xs ys : List WorldStep) → IsReadable (xs ++ ys) ≡ true → IsReadable xs ≡ true
-unfolding IsReadable
-IsReadable-front xs ys all = readable_front xs ys all
-
--- Steps that may all come, those that may come up to a refused stimulus, and the fronts of these.
-pub MayUntilRefused-all : (declared : List Declared) (steps : List WorldStep) (s : State) → MaySteps declared steps s → MayUntilRefused declared steps s
-MayUntilRefused-all declared [] s may = tt
-MayUntilRefused-all declared (step ∷ steps) s may = λ sound. (may.0, MayUntilRefused-all declared steps (after_step step s) may.1)
-
-MayUntilRefused-same : (declared : List Declared) (steps : List WorldStep) (s t : State) → but_marks s ≡ but_marks t → MayUntilRefused declared steps s → MayUntilRefused declared steps t
-MayUntilRefused-same declared [] s t same may = tt
-MayUntilRefused-same declared (step ∷ steps) s t same may = λ sound. (
-  step_with declared step t (subst (λ (x : State). MayStep declared step x) same (step_but declared step s (may sound).0)),
-  MayUntilRefused-same declared steps (after_step step s) (after_step step t) (after_same step s t same) (may sound).1,
-)
-
-both_sound : (refused rest : Bool) → refused ≡ false → rest ≡ true → (not refused && rest) ≡ true
-both_sound true rest is all = sym is
-both_sound false rest is all = all
-
-each_sound : (refused rest : Bool) → (not refused && rest) ≡ true → (refused ≡ false) × (rest ≡ true)
-each_sound true rest is = absurd (false≢true is)
-each_sound false rest is = (refl, is)
-
-MayUntilRefused-append : (declared : List Declared) (xs ys : List WorldStep) (s : State) → MayUntilRefused declared xs s → (IsReadable xs ≡ true → MayUntilRefused declared ys (after_steps xs s)) → MayUntilRefused declared (xs ++ ys) s
-unfolding IsReadable
-MayUntilRefused-append declared [] ys s front rest = rest refl
-MayUntilRefused-append declared (x ∷ xs) ys s front rest = λ sound. (
-  (front sound).0,
-  MayUntilRefused-append declared xs ys (after_step x s) (front sound).1 (λ all. rest (both_sound (begins_refused x) _ sound all)),
-)
-
-pub MayUntilRefused-front : (declared : List Declared) (front rest : List WorldStep) (s : State) → MayUntilRefused declared (front ++ rest) s → IsReadable front ≡ true → MaySteps declared front s
-unfolding IsReadable
-MayUntilRefused-front declared [] rest s may all = tt
-MayUntilRefused-front declared (x ∷ front) rest s may all =
-    let sound = each_sound (begins_refused x) _ all in
-    ((may sound.0).0, MayUntilRefused-front declared front rest (after_step x s) (may sound.0).1 sound.1)
 
 pub declared_but : (s : State) → declared_in (but_marks s) ≡ declared_in s
 unfolding declared_in
@@ -333,14 +333,13 @@ declared_but s = refl
 
 IsHistory-more : (given : Given Scripts) (history steps : List WorldStep) (s : State) (lives : ℕ → Life) → but_marks (after_steps history (at_first given)) ≡ s
     → ((app : ℕ) → lives app ≡ life_through given.own (without_links given.fails) app history fresh) → IsHistory given history
-    → (IsReadable history ≡ true → MayUntilRefused given.declared steps s)
-    → AreScripted given.own (without_links given.fails) steps lives → AreAsTold (without_links given.fails) (nexts_through history 0) steps s → IsHistory given (history ++ steps)
+    → MayComeAll given.declared steps s → AreScripted given.own (without_links given.fails) steps lives → AreAsTold (without_links given.fails) (nexts_through history 0) steps s → IsHistory given (history ++ steps)
 unfolding KeepsScripts
 IsHistory-more given history steps s lives is same before may scripts told =
     let now : but_marks s ≡ but_marks (after_steps history (at_first given)) = ap but_marks (sym is) in
     record {
-      word = MayUntilRefused-append given.declared history steps (at_first given) before.word
-          (λ readable. MayUntilRefused-same given.declared steps s (after_steps history (at_first given)) now (may readable));
+      word = come-append given.declared history steps (at_first given) before.word
+          (MayComeAll-same given.declared steps s (after_steps history (at_first given)) now may);
       scripts = AreScripted-append given.own (without_links given.fails) history steps all_fresh before.scripts (AreScripted-same given.own (without_links given.fails) steps lives _ same scripts);
       told = AreAsTold-append (without_links given.fails) 0 history steps (at_first given) before.told (AreAsTold-same (without_links given.fails) (nexts_through history 0) steps s _ now told);
     }

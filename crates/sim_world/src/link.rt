@@ -11,7 +11,7 @@ ghost use Rattle.outside.specs.Calls.{IsFeaturesOf};
 ghost use Rattle.outside.specs.Conforming.{IsStimulus};
 ghost use Rattle.outside.specs.State.{is_empty, is_failing, link_at_first, link_joined, link_left, link_stimulated, link_sent, link_got, link_told, link_failed, stimulus_sends, switch_told, message_sends};
 ghost use Rattle.sim_world.specs.LinkWaits.{AreShort};
-ghost use Rattle.sim_world.specs.Links.{IsDeclaredAs, StandsBy, SerialsBelow, AreReadable, IsReadableIfRaw, MayCall, IsReady, fails_at, features_at_join};
+ghost use Rattle.sim_world.specs.Links.{IsDeclaredAs, StandsBy, SerialsBelow, MayCall, IsReady, fails_at, features_at_join};
 
 use crate::fail_numbers::FailNumbers;
 use crate::waits::Waits;
@@ -84,7 +84,6 @@ fn tell(
     requires frame { IsOk (reading_of frame.now) }
     requires serials { SerialsBelow (2 ^ 64 - 1) switch.old }
     ensures sent { IfOk result (λ list. list ≡ message_sends (reading_of frame.now) switch.old) }
-    ensures readable { IfOk result AreReadable }
     ensures short { IfOk result AreShort }
     ensures ok { OnOk result (switch.new ≡ switch_told (reading_of frame.now) switch.old) }
     ensures err { OnErr result (switch.new ≡ switch.old) }
@@ -104,7 +103,6 @@ fn happen(
 ) -> Result<MessageList, AllocError>
     requires { IsStimulus x.now }
     ensures sent { IfOk result (λ list. list ≡ stimulus_sends x.now switch.old) }
-    ensures readable { IsReadableIfRaw x.now → IfOk result AreReadable }
     ensures short { IfOk result AreShort }
     ensures few { (d : Declared) → IsDeclaredAs d switch.old → d.cap ≤ 4096 → IfOk result (λ list. length list ≤ 8192) }
     ensures ok { OnOk result (switch.new ≡ option_map (after_stimulus x.now) switch.old) }
@@ -121,7 +119,6 @@ fn due_at(alloc: Global, switch: &Option<SimSwitch>, moment: u64) -> Result<Mess
     requires after { StandsBy moment switch.now }
     requires within { moment ≤ 4294967295 }
     ensures sent { IfOk result (λ list. list ≡ stimulus_sends (Advance moment) switch.now) }
-    ensures readable { IfOk result AreReadable }
     ensures short { IfOk result AreShort }
     ensures few { (d : Declared) → IsDeclaredAs d switch.now → IfOk result (λ list. length list ≤ d.cap) }
 {
@@ -239,7 +236,6 @@ impl SimLink {
         requires { IsStimulus x.now }
         ensures ok { OnOk result (self.new.link ≡ link_stimulated x.now self.old.link) }
         ensures few { self.old.link.declared.cap ≤ 4096 → OnOk result (length self.new.link.waits ≤ length self.old.link.waits + 8192) }
-        ensures readable { IsReadableIfRaw x.now → AreReadable self.old.link.waits → AreReadable self.new.link.waits }
         ensures err { OnErr result (self.new.link ≡ self.old.link) }
         ensures declared { self.new.link.declared ≡ self.old.link.declared }
     {
@@ -282,7 +278,6 @@ impl SimLink {
         requires frame { IsOk (reading_of frame.now) }
         requires may { MayCall self.old.link }
         ensures ok { OnOk result (self.new.link ≡ link_sent frame.now self.old.link) }
-        ensures readable { AreReadable self.old.link.waits → AreReadable self.new.link.waits }
         ensures err { OnErr result (self.new.link ≡ self.old.link) }
         ensures declared { self.new.link.declared ≡ self.old.link.declared }
     {

@@ -6,10 +6,9 @@ ghost use Rattle.of_wire.specs.Reading.{reading_of};
 ghost use Rattle.outside.specs.declared.step.WorldStep.TheVariants.{Acted, SendFailed, RecvFailed};
 ghost use Rattle.outside.specs.State.{link_fails, is_joined, has_waiting, waits_of, link_of, with_link, link_sent};
 ghost use Rattle.outside.specs.Calls.{send_steps, receive_steps};
-ghost use Rattle.outside.specs.Conforming.{MaySteps};
+ghost use Rattle.outside.specs.InOrder.{MayComeAll};
 ghost use Rattle.sim_world.specs.Tally.{tally_stray, tally_short_of, tally_fault_of};
-ghost use Rattle.sim_world.specs.Links.{AreReadable, MayCall};
-ghost use Rattle.sim_world.specs.LinkStepLaws.{AllReadable};
+ghost use Rattle.sim_world.specs.Links.{MayCall};
 ghost use Rattle.sim_world.specs.World.{Moves, AreAsTold, declared_in, short_told};
 ghost use Rattle.lego_io.specs.Count.{raised};
 ghost use Rattle.sim_world.specs.Doing.{LinksStand, DoesSend, DoesReceive};
@@ -57,12 +56,11 @@ impl Parts {
     }
 
     /// A call to send failed.
-    #[tactic(auto, using(crate::specs::SwitchCallLaws::failed_stay_readable), unfolding(outside::specs::State::after_step, crate::specs::Scripts::life_after))]
+    #[tactic(auto, unfolding(outside::specs::State::after_step, crate::specs::Scripts::life_after))]
     fn send_failed(&mut self, dpid: Dpid, stray: bool)
         requires may { IfSome (link_of dpid self.old.state.links) MayCall }
         requires room { length self.old.state.running + 1 ≤ self.old.room }
         ensures moves { Moves self.old self.new (SendFailed dpid ∷ []) (tally_stray stray (tally_fault_of dpid self.old.tally)) }
-        ensures readable { AllReadable self.old.state.links → AllReadable self.new.state.links }
         ensures calls { self.new.calls ≡ self.old.calls }
     {
         self.links.fail(dpid);
@@ -72,12 +70,11 @@ impl Parts {
     }
 
     /// A call to take a message failed.
-    #[tactic(auto, using(crate::specs::SwitchCallLaws::failed_stay_readable), unfolding(outside::specs::State::after_step, crate::specs::Scripts::life_after))]
+    #[tactic(auto, unfolding(outside::specs::State::after_step, crate::specs::Scripts::life_after))]
     fn recv_failed(&mut self, dpid: Dpid, stray: bool)
         requires may { IfSome (link_of dpid self.old.state.links) MayCall }
         requires room { length self.old.state.running + 1 ≤ self.old.room }
         ensures moves { Moves self.old self.new (RecvFailed dpid ∷ []) (tally_stray stray (tally_fault_of dpid self.old.tally)) }
-        ensures readable { AllReadable self.old.state.links → AllReadable self.new.state.links }
         ensures calls { self.new.calls ≡ self.old.calls }
     {
         self.links.fail(dpid);
@@ -95,7 +92,6 @@ impl Parts {
         requires room { length self.old.state.running + 1 ≤ self.old.room }
         ensures ok { OnOk result (Moves self.old self.new (Acted (Sent dpid frame.now) ∷ []) self.old.tally) }
         ensures err { OnErr result (self.new ≡ self.old) }
-        ensures readable { AllReadable self.old.state.links → AllReadable self.new.state.links }
         ensures calls { self.new.calls ≡ self.old.calls }
     {
         self.links.send(dpid, frame)?;
@@ -104,14 +100,13 @@ impl Parts {
     }
 
     /// Sends a message to a switch.
-    #[tactic(auto, unfolding(outside::specs::Calls::send_steps, outside::specs::Conforming::MayStep, outside::specs::Conforming::MayAct, crate::specs::World::IsAsTold))]
+    #[tactic(auto, unfolding(outside::specs::Calls::send_steps, outside::specs::InOrder::MayCome, outside::specs::Conforming::MayStep, outside::specs::Conforming::MayAct, crate::specs::World::IsAsTold))]
     pub(crate) fn send(&mut self, dpid: Dpid, frame: &[u8]) -> Result<(), LinkFault>
         requires frame { IsOk (reading_of frame.now) }
         requires stands { LinksStand self.old }
         ensures does { DoesSend dpid frame.now self.old self.new result }
-        ensures word { MaySteps (declared_in self.old.state) (send_steps dpid frame.now result) self.old.state }
+        ensures word { MayComeAll (declared_in self.old.state) (send_steps dpid frame.now result) self.old.state }
         ensures told { AreAsTold self.old.told self.old.nexts (send_steps dpid frame.now result) self.old.state }
-        ensures readable { AllReadable self.old.state.links → AllReadable self.new.state.links }
         ensures short { short_told self.old.told self.old.calls ≡ true → IsErrOf result LinkFault.Short }
         ensures calls { self.new.calls ≡ raised self.old.calls }
     {
@@ -138,7 +133,7 @@ impl Parts {
     }
 
     /// Notes the message that was taken, and copies it to the front of the buffer; takes no memory.
-    #[tactic(auto, using(crate::specs::SwitchCallLaws::got_stay_readable), unfolding(outside::specs::State::after_step, outside::specs::State::after_act, outside::specs::State::waits_of, crate::specs::Scripts::life_after))]
+    #[tactic(auto, unfolding(outside::specs::State::after_step, outside::specs::State::after_act, outside::specs::State::waits_of, crate::specs::Scripts::life_after))]
     fn got(&mut self, dpid: Dpid, buf: &mut [u8]) -> Option<usize>
         requires may { IfSome (link_of dpid self.old.state.links) MayCall }
         requires buf { 65535 ≤ length buf.old }
@@ -147,7 +142,6 @@ impl Parts {
         ensures message { IfSome result (λ n. slice_get (waits_of dpid self.old.state) 0 ≡ Some (take n buf.new)) }
         ensures within { IfSome result (λ n. (n ≤ length buf.new) × (n ≤ 65535)) }
         ensures none { IfNone result ((waits_of dpid self.old.state ≡ []) × (self.new ≡ self.old)) }
-        ensures readable { AllReadable self.old.state.links → AllReadable self.new.state.links }
         ensures calls { self.new.calls ≡ self.old.calls }
     {
         let message = self.links.got(dpid)?;
@@ -157,14 +151,13 @@ impl Parts {
     }
 
     /// Takes a message of a switch.
-    #[tactic(auto, using(crate::specs::SwitchCallLaws::got_is_read), unfolding(outside::specs::Calls::receive_steps, outside::specs::Conforming::MayStep, outside::specs::Conforming::MayAct, crate::specs::World::IsAsTold))]
+    #[tactic(auto, unfolding(outside::specs::Calls::receive_steps, outside::specs::InOrder::MayCome, outside::specs::Conforming::MayStep, outside::specs::Conforming::MayAct, crate::specs::World::IsAsTold))]
     pub(crate) fn recv(&mut self, dpid: Dpid, buf: &mut [u8]) -> Result<usize, LinkFault>
         requires stands { LinksStand self.old }
         requires buf { 65535 ≤ length buf.old }
         ensures does { DoesReceive dpid self.old self.new result buf.new }
-        ensures word { AllReadable self.old.state.links → MaySteps (declared_in self.old.state) (receive_steps dpid result buf.new) self.old.state }
+        ensures word { MayComeAll (declared_in self.old.state) (receive_steps dpid result buf.new) self.old.state }
         ensures told { AreAsTold self.old.told self.old.nexts (receive_steps dpid result buf.new) self.old.state }
-        ensures readable { AllReadable self.old.state.links → AllReadable self.new.state.links }
         ensures short { short_told self.old.told self.old.calls ≡ true → IsErrOf result LinkFault.Short }
         ensures calls { self.new.calls ≡ raised self.old.calls }
     {

@@ -10,7 +10,7 @@ ghost use Rattle.outside.specs.Conforming.{AreDeclaredFrom, IsStimulus, IsWorldS
 ghost use Rattle.outside.specs.Calls.{IsFeaturesOf};
 ghost use Rattle.outside.specs.Seen.{is_declared};
 ghost use Rattle.outside.specs.State.{is_empty, fails_in, join_due, links_after, link_of, switch_in, waits_in, with_link, link_joined, link_left, link_stimulated, link_sent, link_got, link_told, link_failed};
-ghost use Rattle.sim_world.specs.Links.{links_in, declared_in, waiting_in, insert_link, fails_at, features_of_join, IsDue, AreReadable, IsReadableIfRaw, HasReadableRaw, StandsAt, due_in, AreLinks, AreReady, insert_held, Held, StandsBy, MayCall, IsPlaceOf, IsFirstWaiting};
+ghost use Rattle.sim_world.specs.Links.{links_in, declared_in, waiting_in, insert_link, fails_at, features_of_join, IsDue, StandsAt, due_in, AreLinks, AreReady, insert_held, Held, StandsBy, MayCall, IsPlaceOf, IsFirstWaiting};
 
 use crate::link::SimLink;
 use of_types::{ByteList, Dpid, Stimulus, WorldStim};
@@ -168,7 +168,6 @@ fn send(links: &mut [SimLink], dpid: Dpid, frame: &[u8]) -> Result<(), AllocErro
     requires may { IfSome (link_of dpid (links_in links.old)) MayCall }
     ensures ok { OnOk result (links_in links.new ≡ with_link dpid (link_sent frame.now) (links_in links.old)) }
     ensures err { OnErr result (links_in links.new ≡ links_in links.old) }
-    ensures readable { AllByRecursion (λ l. AreReadable l.waits) (links_in links.old) → AllByRecursion (λ l. AreReadable l.waits) (links_in links.new) }
     ensures declared { declared_in (links_in links.new) ≡ declared_in (links_in links.old) }
 {
     match place_of(links, dpid) {
@@ -183,7 +182,6 @@ fn stimulate(links: &mut [SimLink], dpid: Dpid, x: &Stimulus) -> Result<(), Allo
     ensures ok { OnOk result (links_in links.new ≡ with_link dpid (link_stimulated x.now) (links_in links.old)) }
     ensures err { OnErr result (links_in links.new ≡ links_in links.old) }
     ensures few { length (waiting_in (links_in links.new)) ≤ length (waiting_in (links_in links.old)) + 262144 }
-    ensures readable { IsReadableIfRaw x.now → AllByRecursion (λ l. AreReadable l.waits) (links_in links.old) → AllByRecursion (λ l. AreReadable l.waits) (links_in links.new) }
     ensures declared { declared_in (links_in links.new) ≡ declared_in (links_in links.old) }
 {
     match place_of(links, dpid) {
@@ -240,7 +238,6 @@ fn advance(links: &mut [SimLink], moment: u64) -> Result<(), AllocError>
     ensures ok { OnOk result (links_in links.new ≡ map (link_stimulated (Advance moment)) (links_in links.old)) }
     ensures err { OnErr result (links_in links.new ≡ links_in links.old) }
     ensures few { length (waiting_in (links_in links.new)) ≤ length (waiting_in (links_in links.old)) + 262144 }
-    ensures readable { AllByRecursion (λ l. AreReadable l.waits) (links_in links.old) → AllByRecursion (λ l. AreReadable l.waits) (links_in links.new) }
     ensures declared { declared_in (links_in links.new) ≡ declared_in (links_in links.old) }
 {
     prepare(links, moment)?;
@@ -370,7 +367,6 @@ impl Links {
         requires may { IfSome (link_of dpid self.old) MayCall }
         ensures ok { OnOk result (self.new ≡ with_link dpid (link_sent frame.now) self.old) }
         ensures err { OnErr result (self.new ≡ self.old) }
-        ensures readable { AllByRecursion (λ l. AreReadable l.waits) self.old → AllByRecursion (λ l. AreReadable l.waits) self.new }
     {
         send(&mut self.links, dpid, frame)
     }
@@ -423,7 +419,6 @@ impl Links {
         ensures ok { OnOk result (self.new ≡ with_link dpid (link_stimulated x.now) self.old) }
         ensures err { OnErr result (self.new ≡ self.old) }
         ensures few { length (waiting_in self.new) ≤ length (waiting_in self.old) + 262144 }
-        ensures readable { IsReadableIfRaw x.now → AllByRecursion (λ l. AreReadable l.waits) self.old → AllByRecursion (λ l. AreReadable l.waits) self.new }
     {
         stimulate(&mut self.links, dpid, x)
     }
@@ -436,7 +431,6 @@ impl Links {
         ensures ok { OnOk result (self.new ≡ map (link_stimulated (Advance moment)) self.old) }
         ensures err { OnErr result (self.new ≡ self.old) }
         ensures few { length (waiting_in self.new) ≤ length (waiting_in self.old) + 262144 }
-        ensures readable { AllByRecursion (λ l. AreReadable l.waits) self.old → AllByRecursion (λ l. AreReadable l.waits) self.new }
     {
         advance(&mut self.links, moment)
     }
@@ -486,7 +480,6 @@ impl Links {
         ensures ok { OnOk result (self.new ≡ links_after x.now moment self.old) }
         ensures err { OnErr result (self.new ≡ self.old) }
         ensures few { length (waiting_in self.new) ≤ length (waiting_in self.old) + 262144 }
-        ensures readable { HasReadableRaw x.now → AllByRecursion (λ l. AreReadable l.waits) self.old → AllByRecursion (λ l. AreReadable l.waits) self.new }
     {
         match x {
             WorldStim::Join(dpid) => self.begin_join(*dpid, moment),

@@ -11,10 +11,9 @@ ghost use Rattle.outside.specs.State.{upcoming, moment_after};
 ghost use Rattle.outside.specs.Calls.{item_step, next_steps, IsItemIn, IsIdle, IsOver};
 ghost use Rattle.outside.specs.Conforming.{IsWorldStim, IsNext};
 ghost use Rattle.lego_io.specs.Count.{raised};
-ghost use Rattle.sim_world.specs.Links.{IsDue, HasReadableRaw, StandsAt, waiting_in};
+ghost use Rattle.sim_world.specs.Links.{IsDue, StandsAt, waiting_in};
 ghost use Rattle.sim_world.specs.NextLaws.{IsMessage};
 ghost use Rattle.sim_world.specs.Doing.{Tells, NextStands, DoesNext};
-ghost use Rattle.sim_world.specs.LinkStepLaws.{AllReadable};
 ghost use Rattle.sim_world.specs.World.{Moves, declared_in, next_told, short_told};
 
 use crate::parts::Parts;
@@ -120,7 +119,6 @@ impl Parts {
         requires room { length self.old.state.running + 1 ≤ self.old.room }
         requires few { self.old.nexts < 2 ^ 64 - 1 }
         ensures moves { Moves self.old self.new (Idle ∷ []) self.old.tally }
-        ensures links { self.new.state.links ≡ self.old.state.links }
         ensures calls { self.new.calls ≡ self.old.calls }
     {
         self.history.push(WorldStep::Idle);
@@ -142,7 +140,6 @@ impl Parts {
         ensures room { OnOk result (length self.new.state.running + 1 ≤ self.new.room) }
         ensures few { OnOk result (length (waiting_in self.new.state.links) ≤ length (waiting_in self.old.state.links) + 262144) }
         ensures due { OnOk result (All IsDue self.new.state.due) }
-        ensures readable { OnOk result (HasReadableRaw x → AllReadable self.old.state.links → AllReadable self.new.state.links) }
         ensures begun { OnOk result (self.new.state.begun ≡ true) }
         ensures nexts { OnOk result (self.new.nexts ≡ self.old.nexts) }
         ensures err { OnErr result (self.new ≡ self.old) }
@@ -169,7 +166,6 @@ impl Parts {
         ensures due { IfSome result (λ item. IsDue (item_step item buf.new)) }
         ensures first { IfSome result (λ item. slice_get self.old.state.due 0 ≡ Some (item_step item buf.new)) }
         ensures within { IfSome result (λ item. IsItemIn (Unit {0}) item buf.new) }
-        ensures links { IfSome result (λ item. self.new.state.links ≡ self.old.state.links) }
         ensures none { IfNone result ((self.old.state.due ≡ []) × (self.new ≡ self.old)) }
         ensures calls { self.new.calls ≡ self.old.calls }
     {
@@ -181,7 +177,7 @@ impl Parts {
     }
 
     /// Tells the message that waits and comes next, if any waits.
-    #[tactic(auto, using(crate::specs::SwitchCallLaws::told_stay_readable), unfolding(outside::specs::State::after_step, outside::specs::Calls::item_step, crate::specs::Scripts::life_after))]
+    #[tactic(auto, unfolding(outside::specs::State::after_step, outside::specs::Calls::item_step, crate::specs::Scripts::life_after))]
     fn tell_message(&mut self, buf: &mut [u8]) -> Option<Item>
         requires room { length self.old.state.running + 1 ≤ self.old.room }
         requires few { self.old.nexts < 2 ^ 64 - 1 }
@@ -190,7 +186,6 @@ impl Parts {
         ensures next { IfSome result (λ item. slice_get (waiting_in self.old.state.links) 0 ≡ Some (item_step item buf.new)) }
         ensures message { IfSome result (λ item. IsMessage item) }
         ensures within { IfSome result (λ item. IsItemIn (Unit {0}) item buf.new) }
-        ensures readable { AllReadable self.old.state.links → AllReadable self.new.state.links }
         ensures none { IfNone result ((waiting_in self.old.state.links ≡ []) × (self.new ≡ self.old)) }
         ensures calls { self.new.calls ≡ self.old.calls }
     {

@@ -4,12 +4,12 @@ ghost use Rattle.std.specs.Prelude.{◌≡◌, ℕ, ◌<◌, ◌≤◌, ◌++◌
 ghost use Rattle.of_wire.specs.Reading.{reading_of};
 ghost use Rattle.lego_io.specs.Count.{raised};
 ghost use Rattle.outside.specs.Calls.{most_message, Opens, Nexts, Starts, Gives, Takes, Ends, Sends, Receives};
-ghost use Rattle.outside.specs.Conforming.{Conforming};
+ghost use Rattle.outside.specs.InOrder.{InOrder};
 ghost use Rattle.outside.specs.declared.step.WorldStep.{WorldStep};
 ghost use Rattle.sim_world.specs.Told.{without_links};
 ghost use Rattle.sim_world.specs.Scripts.{KeepsScripts};
 ghost use Rattle.sim_world.specs.Places.{AreInPlace};
-ghost use Rattle.sim_world.specs.World.{IsReadable, AreAsTold, seen_of, given_of, short_told};
+ghost use Rattle.sim_world.specs.World.{AreAsTold, seen_of, given_of, short_told};
 ghost use Rattle.outside.specs.State.{at_first};
 
 use crate::parts::Parts;
@@ -37,14 +37,13 @@ impl Model for SimWorld {
 }
 
 impl SimWorld {
-    /// Finds that the world keeps its word: unless a stimulus sent bytes that are no message it conforms to what a
-    /// world of switches may do, and each front of its history before such a stimulus does so whatever came behind
-    /// it; applications do what their scripts say; calls fail where they are told to or out of place, and nowhere
-    /// else; and where each call was in place and none wanted memory, none was counted as out of place.
-    #[tactic(auto, using(crate::specs::StandingLaws::conforms, crate::specs::StandingLaws::scripts_kept, crate::specs::StandingLaws::told_kept, crate::specs::StandingLaws::strays_kept))]
+    /// Finds that the world keeps its word: what its switches send is told in order, none of it lost, so that with
+    /// messages it conforms to what a world of switches may do; applications do what their scripts say; calls fail where
+    /// they are told to or out of place, and nowhere else; and where each call was in place and none wanted memory, none
+    /// was counted as out of place.
+    #[tactic(auto, using(crate::specs::StandingLaws::in_order, crate::specs::StandingLaws::scripts_kept, crate::specs::StandingLaws::told_kept, crate::specs::StandingLaws::strays_kept))]
     pub fn keeps_word(&self)
-        ensures word { IsReadable self.now.history ≡ true → Conforming (seen_of self.now) }
-        ensures front { (first rest : List WorldStep) → self.now.history ≡ first ++ rest → IsReadable first ≡ true → Conforming (record (seen_of self.now) { history = first }) }
+        ensures word { InOrder (seen_of self.now) }
         ensures scripts { KeepsScripts self.now.scripts (without_links self.now.fails) self.now.history }
         ensures told { AreAsTold (without_links self.now.fails) 0 self.now.history (at_first (given_of self.now)) }
         ensures strays { AreInPlace self.now.history (at_first (given_of self.now)) → (seen_of self.now).counts.shorts ≡ 0 → (seen_of self.now).counts.strays ≡ 0 }

@@ -8,6 +8,7 @@ use Rattle.app_visor.specs.BeatLaws.{stops_wanting}
 use Rattle.app_visor.specs.PlayLaws.{stops_at_change, leads_asked, exchanges_so}
 use Rattle.app_visor.specs.AnswerLaws.{answer_fits}
 use Rattle.app_visor.specs.LeadsOnLaws.{leads_on_wanting, leads_on_links, leads_on_then}
+use Rattle.app_visor.specs.CalmLaws.{calm_then, calm_links, calm_wanting, calm_answered}
 use Rattle.app_visor.proofs.asking.exchange.Goals as goal
 
 pub returns-in_err-answer-clause-err : goal.returns-in_err-answer-clause-err
@@ -67,3 +68,17 @@ returns-in_err-give-clause-talks g c =
     rw p.1 (λ tells s.
     let asked = leads_on_links c.args.app s c.in_ok-answer.ensures.changes.links tells in
     leads_on_then c.args.app s asked.0 old after (g.W.World.seen c.give.new.world) asked.1 (leads_on_wanting c.args.app asked.0 c.in_err-give.ensures.err tells))
+
+pub returns-in_err-answer-clause-calm : goal.returns-in_err-answer-clause-calm
+returns-in_err-answer-clause-calm g c = λ tells. calm_links c.args.app (c.in_err-answer.ensures.changes.links tells)
+
+pub returns-in_err-frame-clause-calm : goal.returns-in_err-frame-clause-calm
+returns-in_err-frame-clause-calm g c = λ tells. calm_links c.args.app (c.in_ok-answer.ensures.changes.links tells)
+
+pub returns-in_err-give-clause-calm : goal.returns-in_err-give-clause-calm
+returns-in_err-give-clause-calm g c = λ tells. calm_then (calm_links c.args.app (c.in_ok-answer.ensures.changes.links tells)) (calm_wanting c.args.app c.in_err-give.ensures.err tells)
+
+pub returns-clause-calm : goal.returns-clause-calm
+returns-clause-calm g c = λ tells.
+    calm_then (calm_links c.args.app (c.in_ok-answer.ensures.changes.links tells))
+    (calm_answered c.args.app c.in_ok-give.field-0 c.as_slice.result.now c.in_ok-answer.answer (c.as_slice.ensures ∙ c.in_ok-frame.ensures) c.in_ok-give.ensures.ok tells)

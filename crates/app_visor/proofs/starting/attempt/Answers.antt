@@ -3,6 +3,7 @@ use Rattle.lego_model.specs.Controller.{is_ready}
 use Rattle.outside.specs.SeenLaws.{Continues-trans, Ends-continues}
 use Rattle.std.proofs.lemmas.Result.{err_from_is_err_and}
 use Rattle.app_visor.specs.LeadsOnLaws.{leads_on_wanting, leads_on_ended, leads_on_started, leads_on_greeted, talks_none}
+use Rattle.app_visor.specs.OwnLaws.{own_none, own_then, own_wanting, own_started, own_ended, own_unless}
 use Rattle.app_visor.proofs.starting.attempt.Goals as goal
 
 pub returns-then-not-branch-clause-ok : goal.returns-then-not-branch-clause-ok
@@ -66,3 +67,25 @@ returns-in_err-rest-clause-talks g c =
     let new = g.W.World.seen c.greet.new.world in
     rw p.1 (λ tells s runs. leads_on_ended g.W.World.Tells c.args.app s old mid new c.end.ensures tells runs
     (λ t stopped. leads_on_started g.W.World.Tells c.args.app t mid up new (rw c.if-not-branch.false at c.in_ok-start.ensures.ok) tells stopped (leads_on_greeted c.in_ok-tried.ensures.ok tells)))
+
+pub returns-in_err-intake-clause-own : goal.returns-in_err-intake-clause-own
+returns-in_err-intake-clause-own g c = λ tells. own_none c.args.app (g.W.World.seen c.args.world.now)
+
+pub returns-in_err-start-clause-own : goal.returns-in_err-start-clause-own
+returns-in_err-start-clause-own g c = λ tells. own_then (own_ended c.end.ensures tells) (own_wanting c.args.app c.in_err-start.ensures.err tells)
+
+pub returns-then-not-branch-clause-own : goal.returns-then-not-branch-clause-own
+returns-then-not-branch-clause-own g c = λ tells. own_then (own_ended c.end.ensures tells) (own_started c.in_ok-start.field-0 c.in_ok-start.ensures.ok tells)
+
+pub returns-in_err-tried-clause-own : goal.returns-in_err-tried-clause-own
+returns-in_err-tried-clause-own g c = λ tells.
+    own_then (own_ended c.end.ensures tells) (own_then (own_started c.in_ok-start.field-0 c.in_ok-start.ensures.ok tells) (c.greet.ensures.own tells))
+
+pub returns-in_err-rest-clause-own : goal.returns-in_err-rest-clause-own
+returns-in_err-rest-clause-own g c = λ tells.
+    own_then (own_ended c.end.ensures tells) (own_then (own_started c.in_ok-start.field-0 c.in_ok-start.ensures.ok tells) (c.greet.ensures.own tells))
+
+pub returns-clause-own : goal.returns-clause-own
+returns-clause-own g c = λ tells.
+    own_then (own_ended c.end.ensures tells) (own_then (own_started c.in_ok-start.field-0 c.in_ok-start.ensures.ok tells) (own_then (c.greet.ensures.own tells)
+    (own_unless g.W.World.Tells c.args.app (is_ready c.in_ok-tried.tried) (g.W.World.seen c.greet.new.world) (g.W.World.seen c.end_unless_ready.new.world) c.end_unless_ready.ensures tells)))

@@ -7,6 +7,7 @@ use Rattle.std.proofs.lemmas.Result.{err_from_is_err_and}
 use Rattle.lego_model.specs.AtOnce.{before, nothing_said}
 use Rattle.app_visor.specs.Dialogues.{LeadsOn}
 use Rattle.app_visor.specs.LeadsOnLaws.{leads_on_wanting, leads_on_breaking, leads_on_restored}
+use Rattle.app_visor.specs.OwnLaws.{own_then, own_wanting, own_restored, own_comes, own_breaking}
 use Rattle.app_visor.proofs.starting.greet.Goals as goal
 
 pub returns-then-not-branch-clause-ok : goal.returns-then-not-branch-clause-ok
@@ -39,3 +40,17 @@ pub returns-in_err-give-clause-talks : goal.returns-in_err-give-clause-talks
 returns-in_err-give-clause-talks g c =
     let p = err_from_is_err_and c.from_residual.result c.from_residual.ensures.1 in
     rw p.1 (λ tells. leads_on_wanting c.args.app nothing_said c.in_err-give.ensures.err tells)
+
+pub returns-in_err-give-clause-own : goal.returns-in_err-give-clause-own
+returns-in_err-give-clause-own g c = λ tells. own_wanting c.args.app c.in_err-give.ensures.err tells
+
+pub returns-then-not-branch-clause-own : goal.returns-then-not-branch-clause-own
+returns-then-not-branch-clause-own g c = λ tells. own_restored c.args.app c.in_ok-give.field-0 c.args.frame.now c.requires.frame c.in_ok-give.ensures.ok tells
+
+pub returns-in_err-next_frame-clause-own : goal.returns-in_err-next_frame-clause-own
+returns-in_err-next_frame-clause-own g c = λ tells.
+    own_then (own_restored c.args.app c.in_ok-give.field-0 c.args.frame.now c.requires.frame c.in_ok-give.ensures.ok tells) (own_breaking c.in_err-next_frame.ensures.err tells)
+
+pub returns-clause-own : goal.returns-clause-own
+returns-clause-own g c = λ tells.
+    own_then (own_restored c.args.app c.in_ok-give.field-0 c.args.frame.now c.requires.frame c.in_ok-give.ensures.ok tells) (own_comes c.in_ok-next_frame.field-0 c.in_ok-next_frame.ensures.ok tells)

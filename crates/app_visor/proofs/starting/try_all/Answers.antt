@@ -3,6 +3,7 @@ use Rattle.app_visor.specs.TryLaws.{none_tried, back_then, not_yet, none_back}
 use Rattle.outside.specs.SeenLaws.{Continues-refl, Continues-trans}
 use Rattle.std.proofs.lemmas.Result.{err_from_is_err_and}
 use Rattle.app_visor.specs.LeadsOnLaws.{talks_none, talks_then, talks_tried}
+use Rattle.app_visor.specs.OwnLaws.{own_none, own_then}
 use Rattle.app_visor.proofs.starting.try_all.Goals as goal
 
 pub returns-then-is_ready-clause-ok : goal.returns-then-is_ready-clause-ok
@@ -17,6 +18,7 @@ loop-attempt-preserved g c =
       on = not_yet (3 - (c.loop-attempt._attempt + 1)) left c.loop-attempt.invariant.on c.in_ok-tried.ensures.ok (sym c.is_ready.ensures ∙ c.if-is_ready.false) c.in_ok-push.ensures.items;
       continues = Continues-trans g.W.World.Tells (g.W.World.seen c.args.world.now) (g.W.World.seen c.loop-attempt.world) (g.W.World.seen c.attempt.new.world) c.loop-attempt.invariant.continues c.attempt.ensures.continues;
       talks = talks_then c.args.app (g.W.World.seen c.args.world.now) (g.W.World.seen c.loop-attempt.world) (g.W.World.seen c.attempt.new.world) c.loop-attempt.invariant.continues c.loop-attempt.invariant.talks (talks_tried c.in_ok-tried.ensures.ok);
+      own = λ tells. own_then (c.loop-attempt.invariant.own tells) (c.attempt.ensures.own tells);
     }
 
 pub returns-clause-ok : goal.returns-clause-ok
@@ -25,7 +27,7 @@ returns-clause-ok g c = none_back (omega arith) c.loop-attempt.invariant.on
 pub loop-attempt-init : goal.loop-attempt-init
 loop-attempt-init g c =
     let seen = g.W.World.seen c.args.world.now in
-    record { on = none_tried c.args.app seen c.args.tries.now.items c.requires.none; continues = Continues-refl g.W.World.Tells seen; talks = talks_none c.args.app seen }
+    record { on = none_tried c.args.app seen c.args.tries.now.items c.requires.none; continues = Continues-refl g.W.World.Tells seen; talks = talks_none c.args.app seen; own = λ tells. own_none c.args.app seen }
 
 pub returns-in_err-tried-clause-talks : goal.returns-in_err-tried-clause-talks
 returns-in_err-tried-clause-talks g c =
@@ -36,3 +38,12 @@ pub returns-in_err-push-clause-talks : goal.returns-in_err-push-clause-talks
 returns-in_err-push-clause-talks g c =
     let p = err_from_is_err_and c.from_residual-in_err-push.result c.from_residual-in_err-push.ensures.1 in
     rw p.1 (talks_then c.args.app (g.W.World.seen c.args.world.now) (g.W.World.seen c.loop-attempt.world) (g.W.World.seen c.attempt.new.world) c.loop-attempt.invariant.continues c.loop-attempt.invariant.talks (talks_tried c.in_ok-tried.ensures.ok))
+
+pub returns-then-is_ready-clause-own : goal.returns-then-is_ready-clause-own
+returns-then-is_ready-clause-own g c = λ tells. own_then (c.loop-attempt.invariant.own tells) (c.attempt.ensures.own tells)
+
+pub returns-in_err-tried-clause-own : goal.returns-in_err-tried-clause-own
+returns-in_err-tried-clause-own g c = λ tells. own_then (c.loop-attempt.invariant.own tells) (c.attempt.ensures.own tells)
+
+pub returns-in_err-push-clause-own : goal.returns-in_err-push-clause-own
+returns-in_err-push-clause-own g c = λ tells. own_then (c.loop-attempt.invariant.own tells) (c.attempt.ensures.own tells)

@@ -2,6 +2,7 @@ use Rattle.std.proofs.Common.{refl}
 use Rattle.app_visor.specs.TurnLaws.{plays_done, plays_unbalanced}
 use Rattle.app_visor.specs.PlayLaws.{is_unbalanced}
 use Rattle.app_visor.specs.BeatLaws.{Leads-refl}
+use Rattle.app_visor.specs.CalmLaws.{calm_none}
 use Rattle.app_visor.proofs.turning.play.Goals as goal
 
 pub returns-in-Done-clause-ok : goal.returns-in-Done-clause-ok
@@ -16,4 +17,8 @@ returns g c = record {
   ok = plays_unbalanced g.W.World.Tells (g.J.Judge.accepts c.args.judge.now) c.args.app c.args.frame (g.W.World.seen c.args.world.now) c.args.txn.now.net.now (is_unbalanced c.args.frame c.in-Save.is);
   err = tt;
   talks = tt;
+  calm = λ tells. calm_none c.args.app (g.W.World.seen c.args.world.now);
 }
+
+pub returns-in-Done-clause-calm : goal.returns-in-Done-clause-calm
+returns-in-Done-clause-calm g c = λ tells. calm_none c.args.app (g.W.World.seen c.args.world.now)

@@ -5,12 +5,14 @@ use Rattle.app_visor.specs.ResultLaws.{err_so}
 use Rattle.app_visor.specs.BeatLaws.{Leads-refl, Leads-trans, stops_then, stops_breaking}
 use Rattle.app_visor.specs.PlayLaws.{goes_none, goes_more, ends_then, spent_then}
 use Rattle.app_visor.specs.LeadsOnLaws.{leads_on_breaking, leads_on_played}
+use Rattle.app_visor.specs.CalmLaws.{calm_none, calm_then, calm_comes, calm_breaking}
 use Rattle.app_visor.proofs.turning.play_all.Goals as goal
 
 pub loop-played-init : goal.loop-played-init
 loop-played-init g c = record {
   on = goes_none c.args.app c.args.budget (c.args.budget - 0) c.args.intake.now (g.W.World.seen c.args.world.now) c.args.txn.now.net.now (omega arith);
   leads = Leads-refl c.args.app (g.W.World.seen c.args.world.now) c.args.txn.now.net.now;
+  calm = λ tells. calm_none c.args.app (g.W.World.seen c.args.world.now);
   same_reference = refl;
   start = refl;
 }
@@ -31,6 +33,7 @@ loop-played-preserved g c =
     record {
       on = goes_more (c.args.budget - (c.loop-played._played + 1)) left c.loop-played.invariant.on (rw c.in_default.is at c.in_ok-end.ensures.ok);
       leads = Leads-trans c.loop-played.invariant.leads c.in_ok-end.ensures.leads;
+      calm = λ tells. calm_then (c.loop-played.invariant.calm tells) (c.play_next.ensures.calm tells);
       same_reference = c.in_ok-end.ensures.same_reference ∙ c.loop-played.invariant.same_reference;
       start = c.in_ok-end.ensures.start ∙ c.loop-played.invariant.start;
     }
@@ -56,3 +59,15 @@ returns-in_err-next_frame-clause-talks g c =
     let new = g.W.World.seen c.next_frame.new.world in
     rw p.1 (λ tells. leads_on_played new c.loop-played.invariant.on tells
     (λ since. leads_on_breaking g.W.World.Tells c.args.app c.loop-played.intake since (g.W.World.seen c.loop-played.world) new c.in_err-next_frame.ensures.err tells))
+
+pub returns-in_err-end-clause-calm : goal.returns-in_err-end-clause-calm
+returns-in_err-end-clause-calm g c = λ tells. calm_then (c.loop-played.invariant.calm tells) (c.play_next.ensures.calm tells)
+
+pub returns-in-Some-clause-calm : goal.returns-in-Some-clause-calm
+returns-in-Some-clause-calm g c = λ tells. calm_then (c.loop-played.invariant.calm tells) (c.play_next.ensures.calm tells)
+
+pub returns-in_err-next_frame-clause-calm : goal.returns-in_err-next_frame-clause-calm
+returns-in_err-next_frame-clause-calm g c = λ tells. calm_then (c.loop-played.invariant.calm tells) (calm_breaking c.in_err-next_frame.ensures.err tells)
+
+pub returns-clause-calm : goal.returns-clause-calm
+returns-clause-calm g c = λ tells. calm_then (c.loop-played.invariant.calm tells) (calm_comes c.in_ok-next_frame.field-0 c.in_ok-next_frame.ensures.ok tells)

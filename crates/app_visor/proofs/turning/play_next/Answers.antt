@@ -5,6 +5,7 @@ use Rattle.app_visor.specs.ResultLaws.{err_so, err_then}
 use Rattle.app_visor.specs.BeatLaws.{Leads-trans, leads_comes, stops_then, stops_breaking}
 use Rattle.app_visor.specs.PlayLaws.{plays_came, ends_over, not_frame}
 use Rattle.app_visor.specs.LeadsOnLaws.{leads_on_breaking, leads_on_came}
+use Rattle.app_visor.specs.CalmLaws.{calm_then, calm_comes, calm_breaking}
 use Rattle.app_visor.proofs.turning.play_next.Goals as goal
 
 pub returns-in_err-came-clause-err : goal.returns-in_err-came-clause-err
@@ -34,6 +35,7 @@ returns-in_default g c = record {
       (g.W.World.seen c.next_frame.new.world) c.args.txn.now.net.now (not_frame c.in_ok-came.came c.in_default.not-Frame) c.in_ok-came.ensures.ok);
   err = tt;
   talks = tt;
+  calm = λ tells. calm_comes c.in_ok-came.came c.in_ok-came.ensures.ok tells;
 }
 
 pub returns-in_err-came-clause-talks : goal.returns-in_err-came-clause-talks
@@ -45,3 +47,9 @@ pub returns-in-Frame-clause-talks : goal.returns-in-Frame-clause-talks
 returns-in-Frame-clause-talks g c =
     on_err_weaker c.play.result (λ later tells since. leads_on_came g.W.World.Tells c.args.app c.in-Frame.frame c.args.intake.now c.next_frame.new.intake since (g.W.World.seen c.args.world.now) (g.W.World.seen c.next_frame.new.world)
     (g.W.World.seen c.play.new.world) (rw c.in-Frame.is at c.in_ok-came.ensures.ok) tells (later tells)) c.play.ensures.talks
+
+pub returns-in_err-came-clause-calm : goal.returns-in_err-came-clause-calm
+returns-in_err-came-clause-calm g c = λ tells. calm_breaking c.in_err-came.ensures.err tells
+
+pub returns-in-Frame-clause-calm : goal.returns-in-Frame-clause-calm
+returns-in-Frame-clause-calm g c = λ tells. calm_then (calm_comes c.in_ok-came.came c.in_ok-came.ensures.ok tells) (c.play.ensures.calm tells)

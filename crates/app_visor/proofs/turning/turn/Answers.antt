@@ -9,6 +9,7 @@ use Rattle.app_visor.specs.BeatLaws.{Leads-refl, Leads-trans, Leads-continues, s
 use Rattle.app_visor.specs.PlayLaws.{turns_gone, turns_given, leads_turn, leads_told}
 use Rattle.journal_readings.specs.FrameLaws.{event_is}
 use Rattle.app_visor.specs.LeadsOnLaws.{leads_on_here, leads_on_wanting, leads_on_event, leads_on_turned, talks_of}
+use Rattle.app_visor.specs.CalmLaws.{calm_none, calm_wanting, calm_later, later_given, later_then}
 use Rattle.app_visor.proofs.turning.turn.Goals as goal
 
 pub returns-in_err-frame-clause-err : goal.returns-in_err-frame-clause-err
@@ -115,3 +116,24 @@ returns-in_err-app-clause-talks g c =
     let continues = Continues-trans g.W.World.Tells old mid new told.continues (Leads-continues (leads_turn c.in_ok-end.ensures.ok)) in
     rw p.1 (λ tells s runs passes. talks_of continues (leads_on_event g.W.World.Tells c.args.app.now.index c.as_slice-2.result.now (event_frame c.args.number c.args.txn.now.net.now.moment c.args.event.now) c.args.app.now.rest c.in_ok-intake.intake s
     old mid new told tells spelled (event_is c.args.number c.args.txn.now.net.now.moment c.args.event.now) (c.in_ok-intake.ensures ∙ c.as_slice.ensures ∙ c.replace-rest.ensures.value) runs passes (leads_on_turned c.in_ok-end.ensures.ok tells)))
+
+pub returns-in_err-frame-clause-later : goal.returns-in_err-frame-clause-later
+returns-in_err-frame-clause-later g c = λ tells. calm_later (calm_none c.args.app.now.index (g.W.World.seen c.args.world.now))
+
+pub returns-in_err-intake-clause-later : goal.returns-in_err-intake-clause-later
+returns-in_err-intake-clause-later g c = λ tells. calm_later (calm_none c.args.app.now.index (g.W.World.seen c.args.world.now))
+
+pub returns-in_err-give-clause-later : goal.returns-in_err-give-clause-later
+returns-in_err-give-clause-later g c = λ tells. calm_later (calm_wanting c.args.app.now.index c.in_err-give.ensures.err tells)
+
+pub returns-then-not-branch-clause-later : goal.returns-then-not-branch-clause-later
+returns-then-not-branch-clause-later g c = λ tells. later_given c.args.app.now.index c.in_ok-give.field-0 c.as_slice-2.result.now c.in_ok-give.ensures.ok tells
+
+pub returns-in_err-end-clause-later : goal.returns-in_err-end-clause-later
+returns-in_err-end-clause-later g c = λ tells. later_then (later_given c.args.app.now.index c.in_ok-give.field-0 c.as_slice-2.result.now c.in_ok-give.ensures.ok tells) (c.play_all.ensures.calm tells)
+
+pub returns-in_err-app-clause-later : goal.returns-in_err-app-clause-later
+returns-in_err-app-clause-later g c = λ tells. later_then (later_given c.args.app.now.index c.in_ok-give.field-0 c.as_slice-2.result.now c.in_ok-give.ensures.ok tells) (c.play_all.ensures.calm tells)
+
+pub returns-clause-later : goal.returns-clause-later
+returns-clause-later g c = λ tells. later_then (later_given c.args.app.now.index c.in_ok-give.field-0 c.as_slice-2.result.now c.in_ok-give.ensures.ok tells) (c.play_all.ensures.calm tells)

@@ -1,5 +1,6 @@
 use Rattle.shown_runs.specs.LeaveLaws.{end-leaves}
 use Rattle.event_dispatch.specs.TalkingLaws.{keeps_ended}
+use Rattle.event_dispatch.specs.ReadLaws.{end_quietly, end_places, end_messages}
 use Rattle.event_dispatch.proofs.whole.end.Goals as goal
 
 pub returns-clause-leaves : goal.returns-clause-leaves
@@ -7,3 +8,12 @@ returns-clause-leaves g c = record { shown = λ told keeps. end-leaves g.W.World
 
 pub returns-clause-talks : goal.returns-clause-talks
 returns-clause-talks g c = keeps_ended g.W.World.Tells (g.W.World.seen c.args.world.now) (g.W.World.seen c.end.new.self) c.end.ensures
+
+pub returns-clause-quietly : goal.returns-clause-quietly
+returns-clause-quietly g c = end_quietly g.W.World.Tells (g.W.World.seen c.args.world.now) (g.W.World.seen c.end.new.self) c.end.ensures
+
+pub returns-clause-places : goal.returns-clause-places
+returns-clause-places g c = end_places g.W.World.Tells (g.W.World.seen c.args.world.now) (g.W.World.seen c.end.new.self) c.end.ensures
+
+pub returns-clause-messages : goal.returns-clause-messages
+returns-clause-messages g c = end_messages g.W.World.Tells (g.W.World.seen c.args.world.now) (g.W.World.seen c.end.new.self) c.end.ensures

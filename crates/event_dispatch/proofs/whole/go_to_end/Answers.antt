@@ -2,6 +2,7 @@ use Rattle.event_dispatch.specs.WholeLaws.{goes_then}
 use Rattle.event_dispatch.specs.PlainLaws.{whole_then}
 use Rattle.event_dispatch.specs.Shows.{engine_of}
 use Rattle.event_dispatch.specs.CutLaws.{goes_on_cut}
+use Rattle.event_dispatch.specs.ReadLaws.{ended_places, ended_read}
 use Rattle.event_dispatch.proofs.whole.go_to_end.Goals as goal
 
 pub returns-clause-goes : goal.returns-clause-goes
@@ -14,4 +15,12 @@ returns-clause-plain g c =
 
 pub returns-clause-cut : goal.returns-clause-cut
 returns-clause-cut g c =
-    goes_on_cut g.W.World.Tells (g.J.Judge.accepts c.args.judge.now) c.go-ended.result (g.K.Sink.contents c.args.sink.now) (g.K.Sink.contents c.go-ended.new.sink) (g.W.World.seen c.args.world.now) (g.W.World.seen c.go-ended.new.world) (g.W.World.seen c.end.new.world) (engine_of c.args.run.now) c.end.ensures.continues c.end.ensures.talks c.go-ended.ensures.cut
+    goes_on_cut g.W.World.Tells (g.J.Judge.accepts c.args.judge.now) c.go-ended.result (g.K.Sink.contents c.args.sink.now) (g.K.Sink.contents c.go-ended.new.sink) (g.W.World.seen c.args.world.now) (g.W.World.seen c.go-ended.new.world) (g.W.World.seen c.end.new.world) (engine_of c.args.run.now) c.end.ensures.continues c.end.ensures.talks c.end.ensures.quietly c.go-ended.ensures.cut
+
+pub returns-clause-places : goal.returns-clause-places
+returns-clause-places g c =
+    ended_places g.W.World.Tells (g.W.World.seen c.args.world.now) (g.W.World.seen c.go-ended.new.world) (g.W.World.seen c.end.new.world) c.args.run.now.net c.go-ended.ensures.continues c.end.ensures.continues c.go-ended.ensures.places c.end.ensures.places
+
+pub returns-clause-reads : goal.returns-clause-reads
+returns-clause-reads g c =
+    ended_read g.W.World.Tells c.go-ended.result (g.W.World.seen c.args.world.now) (g.W.World.seen c.go-ended.new.world) (g.W.World.seen c.end.new.world) c.args.run.now.net c.go-ended.ensures.continues c.end.ensures.continues c.end.ensures.messages c.go-ended.ensures.reads

@@ -8,6 +8,10 @@ use Rattle.shown_runs.specs.Engine.{Engine}
 use Rattle.event_dispatch.specs.declared.served.Served.{Served}
 use Rattle.event_dispatch.specs.Cut.{CutAs}
 use Rattle.event_dispatch.specs.CutLaws.{if_err, short_cut}
+use Rattle.event_dispatch.specs.Steady.{InPlace}
+use Rattle.event_dispatch.specs.Cut.{HasRead, ReadsEnd}
+use Rattle.event_dispatch.specs.SteadyLaws.{places_none}
+use Rattle.event_dispatch.specs.ReadLaws.{reads_as}
 use Rattle.event_dispatch.proofs.whole.run.Goals as goal
 
 pub returns-in_err-run-clause-runs : goal.returns-in_err-run-clause-runs
@@ -52,3 +56,32 @@ pub returns-in_err-go_to_end-clause-cut : goal.returns-in_err-go_to_end-clause-c
 returns-in_err-go_to_end-clause-cut g c =
     if_err (λ (end : Served). CutAs g.W.World.Tells (g.J.Judge.accepts c.args.judge.now) end (g.K.Sink.contents c.args.sink.now) (g.K.Sink.contents c.go_to_end.new.sink) (g.W.World.seen c.args.world.now) (g.W.World.seen c.go_to_end.new.world) engine_at_first) c.in_err-go_to_end.field-0.0 c.from_residual-in_err-go_to_end.result c.from_residual-in_err-go_to_end.ensures.1
     (subst (λ (e : Engine). CutAs g.W.World.Tells (g.J.Judge.accepts c.args.judge.now) c.in_err-go_to_end.field-0.0 (g.K.Sink.contents c.args.sink.now) (g.K.Sink.contents c.go_to_end.new.sink) (g.W.World.seen c.args.world.now) (g.W.World.seen c.go_to_end.new.world) e) c.in_ok-run.ensures.first c.in_err-go_to_end.ensures.cut)
+
+pub returns-in_err-run-clause-places : goal.returns-in_err-run-clause-places
+returns-in_err-run-clause-places g c = places_none g.W.World.Tells (g.W.World.seen c.args.world.now) engine_at_first.net
+
+pub returns-in_err-buf-clause-places : goal.returns-in_err-buf-clause-places
+returns-in_err-buf-clause-places g c = places_none g.W.World.Tells (g.W.World.seen c.args.world.now) engine_at_first.net
+
+pub returns-in_err-go_to_end-clause-places : goal.returns-in_err-go_to_end-clause-places
+returns-in_err-go_to_end-clause-places g c =
+    subst (λ (e : Engine). InPlace g.W.World.Tells (g.W.World.seen c.args.world.now) (g.W.World.seen c.go_to_end.new.world) e.net) c.in_ok-run.ensures.first c.in_err-go_to_end.ensures.places
+
+pub returns-clause-places : goal.returns-clause-places
+returns-clause-places g c =
+    subst (λ (e : Engine). InPlace g.W.World.Tells (g.W.World.seen c.args.world.now) (g.W.World.seen c.go_to_end.new.world) e.net) c.in_ok-run.ensures.first c.in_ok-go_to_end.ensures.places
+
+pub returns-in_err-run-clause-reads : goal.returns-in_err-run-clause-reads
+returns-in_err-run-clause-reads g c = reads_as g.W.World.Tells ends.NoMemory c.from_residual.result (g.W.World.seen c.args.world.now) (g.W.World.seen c.args.world.now) engine_at_first.net c.from_residual.ensures.1 tt
+
+pub returns-in_err-buf-clause-reads : goal.returns-in_err-buf-clause-reads
+returns-in_err-buf-clause-reads g c = reads_as g.W.World.Tells ends.NoMemory c.from_residual-in_err-buf.result (g.W.World.seen c.args.world.now) (g.W.World.seen c.args.world.now) engine_at_first.net c.from_residual-in_err-buf.ensures.1 tt
+
+pub returns-in_err-go_to_end-clause-reads : goal.returns-in_err-go_to_end-clause-reads
+returns-in_err-go_to_end-clause-reads g c =
+    reads_as g.W.World.Tells c.in_err-go_to_end.field-0.0 c.from_residual-in_err-go_to_end.result (g.W.World.seen c.args.world.now) (g.W.World.seen c.go_to_end.new.world) engine_at_first.net c.from_residual-in_err-go_to_end.ensures.1
+    (subst (λ (e : Engine). ReadsEnd g.W.World.Tells c.in_err-go_to_end.field-0.0 (g.W.World.seen c.args.world.now) (g.W.World.seen c.go_to_end.new.world) e.net) c.in_ok-run.ensures.first c.in_err-go_to_end.ensures.reads)
+
+pub returns-clause-reads : goal.returns-clause-reads
+returns-clause-reads g c =
+    subst (λ (e : Engine). HasRead g.W.World.Tells (g.W.World.seen c.args.world.now) (g.W.World.seen c.go_to_end.new.world) e.net) c.in_ok-run.ensures.first c.in_ok-go_to_end.ensures.reads

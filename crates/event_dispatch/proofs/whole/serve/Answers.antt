@@ -1,5 +1,6 @@
 use Rattle.event_dispatch.specs.WholeLaws.{cut_unopened, cut_failed, alike_unopened, alike_done, alike_failed}
 use Rattle.event_dispatch.specs.PlainLaws.{unopened_plain, served_plain}
+use Rattle.event_dispatch.specs.ReadLaws.{unopened_places, opened_places, unopened_read, all_read, failed_read}
 use Rattle.event_dispatch.proofs.whole.serve.Goals as goal
 
 pub returns-in-Err-clause-alike : goal.returns-in-Err-clause-alike
@@ -37,3 +38,27 @@ returns-in-Ok-clause-plain g c =
 pub returns-in-Err-run-clause-plain : goal.returns-in-Err-run-clause-plain
 returns-in-Err-run-clause-plain g c =
     served_plain g.W.World.Tells (g.J.Judge.accepts c.args.judge.now) c.in-Err-run.served (g.W.World.seen c.args.world.now) (g.W.World.seen c.open.new.world) (g.W.World.seen c.run.new.world) c.in_default.ensures.opened c.in-Err-run.ensures.plain
+
+pub returns-in-Err-clause-places : goal.returns-in-Err-clause-places
+returns-in-Err-clause-places g c =
+    λ told none order. unopened_places g.W.World.Tells (g.W.World.seen c.args.world.now) (g.W.World.seen c.open.new.world) c.in-Err.served c.in-Err.ensures.unopened told
+
+pub returns-in-Ok-clause-places : goal.returns-in-Ok-clause-places
+returns-in-Ok-clause-places g c =
+    opened_places g.W.World.Tells (g.W.World.seen c.args.world.now) (g.W.World.seen c.open.new.world) (g.W.World.seen c.run.new.world) c.open.ensures.continues c.in-Ok.ensures.continues c.in_default.ensures.opened c.in-Ok.ensures.places
+
+pub returns-in-Err-run-clause-places : goal.returns-in-Err-run-clause-places
+returns-in-Err-run-clause-places g c =
+    opened_places g.W.World.Tells (g.W.World.seen c.args.world.now) (g.W.World.seen c.open.new.world) (g.W.World.seen c.run.new.world) c.open.ensures.continues c.in-Err-run.ensures.continues c.in_default.ensures.opened c.in-Err-run.ensures.places
+
+pub returns-in-Err-clause-read : goal.returns-in-Err-clause-read
+returns-in-Err-clause-read g c =
+    λ told none order. unopened_read g.W.World.Tells (g.W.World.seen c.args.world.now) (g.W.World.seen c.open.new.world) c.in-Err.served c.in-Err.ensures.unopened
+
+pub returns-in-Ok-clause-read : goal.returns-in-Ok-clause-read
+returns-in-Ok-clause-read g c =
+    all_read g.W.World.Tells (g.W.World.seen c.args.world.now) (g.W.World.seen c.open.new.world) (g.W.World.seen c.run.new.world) c.in-Ok.ensures.continues c.in_default.ensures.opened c.in-Ok.ensures.reads
+
+pub returns-in-Err-run-clause-read : goal.returns-in-Err-run-clause-read
+returns-in-Err-run-clause-read g c =
+    failed_read g.W.World.Tells (g.J.Judge.accepts c.args.judge.now) c.in-Err-run.served (g.K.Sink.contents c.args.sink.now) (g.K.Sink.contents c.run.new.sink) (g.W.World.seen c.args.world.now) (g.W.World.seen c.open.new.world) (g.W.World.seen c.run.new.world) c.in-Err-run.ensures.continues c.in_default.ensures.opened c.in-Err-run.ensures.runs c.in-Err-run.ensures.reads

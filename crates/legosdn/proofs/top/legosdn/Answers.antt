@@ -18,15 +18,15 @@ pub returns-in-Err-clause-refuses : goal.returns-in-Err-clause-refuses
 returns-in-Err-clause-refuses g c = λ refusal. rw c.halt.ensures.status (refuses (g.S.Source.remaining c.args.source.now) _ _ c.in-Err.stop refusal c.in-Err.ensures.late)
 
 pub returns-in-Ok-clause-done : goal.returns-in-Ok-clause-done
-returns-in-Ok-clause-done g c = λ zero readable. c.in-Ok.ensures.runs readable
+returns-in-Ok-clause-done g c = λ zero. c.in-Ok.ensures.runs
 
 pub returns-in-Err-clause-done : goal.returns-in-Err-clause-done
 returns-in-Err-clause-done g c = λ zero. absurd (not_zero c.in-Err.stop (sym c.halt.ensures.status ∙ zero))
 
 pub returns-in-Ok-clause-report : goal.returns-in-Ok-clause-report
-returns-in-Ok-clause-report g c = λ input session whole spelled zero readable.
+returns-in-Ok-clause-report g c = λ input session whole spelled zero.
     reports (g.S.Source.remaining c.args.source.now) (g.S.Source.remaining c.run.new.source) (seen_of c.run.new.sim) (g.K.Sink.contents c.args.sink.now) (g.K.Sink.contents c.run.new.sink) input session
-    c.in-Ok.ensures.loaded (c.in-Ok.ensures.runs readable) whole spelled
+    c.in-Ok.ensures.loaded c.in-Ok.ensures.runs whole spelled
 
 pub returns-in-Err-clause-report : goal.returns-in-Err-clause-report
 returns-in-Err-clause-report g c = λ input session whole spelled zero. absurd (not_zero c.in-Err.stop (sym c.halt.ensures.status ∙ zero))

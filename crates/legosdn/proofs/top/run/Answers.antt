@@ -2,7 +2,7 @@ use Rattle.std.proofs.Common.{map, string_bytes}
 use Rattle.sim_world.specs.World.{seen_of}
 use Rattle.legosdn.proofs.Causes.{are_new, run_causes}
 use Rattle.legosdn.specs.Headline.{KeepsLines}
-use Rattle.legosdn.proofs.Runs.{untouched, runs_by_read, lines_by_read}
+use Rattle.legosdn.proofs.Runs.{untouched, runs_by_read, lines_by_read, new_strays}
 use Rattle.legosdn.proofs.top.run.Goals as goal
 
 pub returns-clause-why : goal.returns-clause-why
@@ -22,3 +22,12 @@ returns-in_err-load-clause-late_lines g c =
 
 pub returns-clause-runs : goal.returns-clause-runs
 returns-clause-runs g c = c.play.ensures.runs (untouched c.load.new.sim c.in_ok-load.ensures.new) c.in_ok-load.ensures.few
+
+pub returns-then-not-is_command-clause-strays : goal.returns-then-not-is_command-clause-strays
+returns-then-not-is_command-clause-strays g c = λ shorts. new_strays c.args.sim.now c.requires.new
+
+pub returns-in_err-load-clause-strays : goal.returns-in_err-load-clause-strays
+returns-in_err-load-clause-strays g c = λ shorts. new_strays c.load.new.sim c.load.ensures.new
+
+pub returns-clause-strays : goal.returns-clause-strays
+returns-clause-strays g c = c.play.ensures.strays (untouched c.load.new.sim c.in_ok-load.ensures.new) c.in_ok-load.ensures.few

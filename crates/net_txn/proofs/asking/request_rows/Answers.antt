@@ -1,4 +1,4 @@
-use Rattle.std.proofs.Common.{inl, ap, ◌∙◌}
+use Rattle.std.proofs.Common.{refl, inl, ap, ◌∙◌, arith}
 use Rattle.std.proofs.lemmas.Result.{err_from_is_err_and}
 use Rattle.of_wire.specs.declared.message.Message.TheVariants.{BarrierReply}
 use Rattle.of_wire.specs.Spelling.{message_bytes}
@@ -8,6 +8,8 @@ use Rattle.outside.specs.SeenLaws.{Continues-refl}
 use Rattle.net_txn.specs.WaitLaws.{none_kept}
 use Rattle.net_txn.specs.LinkStepLaws.{OnLinks-refl}
 use Rattle.net_txn.specs.LinkPlaceLaws.{in_place_none}
+use Rattle.net_txn.specs.HeardLaws.{next_xid-lt}
+use Rattle.net_txn.specs.ReadLaws.{waits_read}
 use Rattle.net_txn.proofs.asking.request_rows.Goals as goal
 
 pub returns-in_err-replies : goal.returns-in_err-replies
@@ -20,6 +22,7 @@ returns-in_err-replies g c =
       continues = c.ask-waited.ensures.continues;
       links = c.ask-waited.ensures.links;
       in_place = asked_place g.W.World.Tells c.args.dpid c.args.xid c.asked-awaited.result (g.W.World.seen c.args.world.now) (g.W.World.seen c.ask-waited.new.world) c.asked-awaited.ensures c.ask-waited.ensures.in_place;
+      read = λ ok. absurd cc;
       kept_more = sorted_some c.args.dpid c.args.xid n came c.args.kept.now c.sort_out.new.kept more kept;
       answer = inl tt;
       flooded = tt;
@@ -34,6 +37,7 @@ returns-in_err-waited g c =
       continues = c.ask-waited.ensures.continues;
       links = c.ask-waited.ensures.links;
       in_place = asked_place g.W.World.Tells c.args.dpid c.args.xid c.asked-awaited.result (g.W.World.seen c.args.world.now) (g.W.World.seen c.ask-waited.new.world) c.asked-awaited.ensures c.ask-waited.ensures.in_place;
+      read = λ ok. absurd cc;
       kept_more = sorted_more c.args.dpid c.args.xid came c.args.kept.now c.sort_out.new.kept more c.in_ok-replies.ensures.kept;
       flooded = asked_flooded g.W.World.Tells c.args.dpid c.args.xid c.asked-awaited.result c.as_slice.result.now (g.W.World.seen c.args.world.now) (g.W.World.seen c.ask-waited.new.world) c.in_err-waited.field-0.0 c.asked-awaited.ensures (c.as_slice.ensures ∙ c.in_ok-request.ensures.bytes) c.in_err-waited.ensures.flooded;
       answer = inl (asked_cause g.W.World.Tells c.args.dpid c.args.xid c.asked-awaited.result (g.W.World.seen c.args.world.now) (g.W.World.seen c.ask-waited.new.world) c.in_err-waited.field-0.0 c.asked-awaited.ensures c.in_err-waited.ensures.cause);
@@ -53,6 +57,7 @@ returns g c =
       continues = c.ask-waited.ensures.continues;
       links = c.ask-waited.ensures.links;
       in_place = asked_place g.W.World.Tells c.args.dpid c.args.xid c.asked-awaited.result (g.W.World.seen c.args.world.now) (g.W.World.seen c.ask-waited.new.world) c.asked-awaited.ensures c.ask-waited.ensures.in_place;
+      read = λ ok told. waits_read _ (refl, (refl, tt)) (next_xid-lt c.args.xid (omega arith)) waits told;
       kept_more = sorted_more c.args.dpid c.args.xid came c.args.kept.now c.sort_out.new.kept more c.in_ok-replies.ensures.kept;
       answer = answer_by_replies c.args.dpid c.args.xid old new c.args.kept.now c.sort_out.new.kept came c.in_ok-replies.replies.parts.items c.in_ok-replies.replies.refusals.items c.in_ok-request.request c.asked-awaited.result.barrier c.judge_replies.result
           (record { refusal = c.in_ok-waited.field-0; waits = waits; kept_so = c.in_ok-replies.ensures.kept })
@@ -68,6 +73,7 @@ returns-in_err-request g c =
       continues = Continues-refl g.W.World.Tells (g.W.World.seen c.args.world.now);
       links = OnLinks-refl g.W.World.Tells (g.W.World.seen c.args.world.now);
       in_place = λ told keeps joined. in_place_none (g.W.World.seen c.args.world.now);
+      read = λ ok. absurd cc;
       kept_more = none_kept c.args.dpid c.args.kept.now;
       answer = inl tt;
       flooded = tt;
@@ -80,6 +86,7 @@ returns-in_err-came g c =
       continues = Continues-refl g.W.World.Tells (g.W.World.seen c.args.world.now);
       links = OnLinks-refl g.W.World.Tells (g.W.World.seen c.args.world.now);
       in_place = λ told keeps joined. in_place_none (g.W.World.seen c.args.world.now);
+      read = λ ok. absurd cc;
       kept_more = none_kept c.args.dpid c.args.kept.now;
       answer = inl tt;
       flooded = tt;

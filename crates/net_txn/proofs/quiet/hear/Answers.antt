@@ -1,8 +1,10 @@
-use Rattle.std.proofs.Common.{take, sym, ◌∙◌}
-use Rattle.std.proofs.lemmas.Result.{IfErr-weaker}
+use Rattle.std.proofs.Common.{◌∷◌, take, sym, ◌∙◌}
+use Rattle.std.proofs.lemmas.Result.{IfErr-weaker, err_from_is_err_and}
 use Rattle.net_txn.specs.QuietLaws.{heard_next, refused_next, Fails-behind}
+use Rattle.net_txn.specs.Waits.{wait_steps, barrier_sent}
 use Rattle.net_txn.specs.Undos.{inverses_in}
 use Rattle.net_txn.specs.SizeLaws.{header-read}
+use Rattle.net_txn.specs.PlacedLaws.{goes_got, goes_barrier, barrier_waits}
 use Rattle.net_txn.proofs.quiet.hear.Goals as goal
 
 pub get_u32-requires : goal.get_u32-requires
@@ -19,4 +21,10 @@ returns-clause-ok g c =
 
 pub returns-clause-err : goal.returns-clause-err
 returns-clause-err g c = λ got before lt.
-    IfErr-weaker c.treat.result _ _ (λ t f. Fails-behind _ c.in_ok-len.ensures.ok f) (c.treat.ensures.err (inverses_in c.args.awaited.now.dpid c.args.played.now) _ _)
+    IfErr-weaker c.treat.result _ _ (λ t f. Fails-behind _ c.in_ok-len.ensures.ok f) (c.treat.ensures.err (inverses_in c.args.awaited.now.dpid c.args.played.now) _ _ (goes_got c.args.awaited.now.dpid (take c.in_ok-len.len c.receive.new.buf) _ (goes_barrier c.args.awaited.now got)))
+
+pub returns-in_err-len-clause-err : goal.returns-in_err-len-clause-err
+returns-in_err-len-clause-err g c = λ got before lt.
+    let p = err_from_is_err_and c.from_residual.result c.from_residual.ensures.1 in
+    let a = c.args.awaited.now in
+    rw (p.1, p.2) (c.in_err-len.ensures.err (inverses_in a.dpid c.args.played.now) (barrier_sent a ∷ wait_steps a got) (goes_barrier a got) (barrier_waits a got lt before.before_reply))

@@ -1,4 +1,4 @@
-use Rattle.sim_world.specs.LinkLaws.{IsPossible-stimulus, IsShortIfRaw-stimulus, AreReadable-stimulus}
+use Rattle.sim_world.specs.LinkLaws.{IsPossible-stimulus, IsShortIfRaw-stimulus}
 use Rattle.sim_world.proofs.link.happen.Goals as goal
 
 pub stimulus-requires : goal.stimulus-requires
@@ -6,6 +6,3 @@ stimulus-requires c = IsPossible-stimulus c.args.x.now _ c.requires
 
 pub returns-in-Some-clause-short : goal.returns-in-Some-clause-short
 returns-in-Some-clause-short c = c.stimulus.ensures.short (IsShortIfRaw-stimulus c.args.x.now c.requires)
-
-pub returns-in-Some-clause-readable : goal.returns-in-Some-clause-readable
-returns-in-Some-clause-readable c = λ own. AreReadable-stimulus c.stimulus.result c.args.x.now _ c.stimulus.ensures.readable c.stimulus.ensures.sent own

@@ -1,9 +1,8 @@
 use Rattle.std.proofs.Common.{List, length, sym, ap, subst, ◌∙◌, arith}
-use Rattle.std.specs.List.{AllByRecursion}
 use Rattle.of_types.specs.declared.journal.Stimulus.TheVariants.{Advance}
 use Rattle.outside.specs.State.{Link, link_stimulated}
-use Rattle.sim_world.specs.Links.{AreLinks, AreReadable, links_in, waiting_in, declared_in}
-use Rattle.sim_world.specs.LinksLaws.{few_passed, readable_passed, declared_in-map, keeps_stimulated}
+use Rattle.sim_world.specs.Links.{AreLinks, links_in, waiting_in, declared_in}
+use Rattle.sim_world.specs.LinksLaws.{few_passed, declared_in-map, keeps_stimulated}
 use Rattle.sim_world.proofs.links.advance.Goals as goal
 
 pub returns-clause-few : goal.returns-clause-few
@@ -11,11 +10,6 @@ returns-clause-few c =
     let same = c.in_ok-prepare.ensures.same in
     let few = few_passed c.args.moment c.prepare.new.links c.in_ok-prepare.ensures.ready (subst AreLinks (sym same) c.requires.links) in
     omega (arith, few, ap (λ (ls : List Link). length (waiting_in ls)) c.pass.ensures, ap (λ (ls : List Link). length (waiting_in ls)) same)
-
-pub returns-clause-readable : goal.returns-clause-readable
-returns-clause-readable c = λ old.
-    let All = λ (ls : List Link). AllByRecursion (λ (l : Link). AreReadable l.waits) ls in
-    subst All (sym c.pass.ensures) (readable_passed c.args.moment c.prepare.new.links c.in_ok-prepare.ensures.ready (subst All (sym c.in_ok-prepare.ensures.same) old))
 
 pub returns-clause-declared : goal.returns-clause-declared
 returns-clause-declared c =

@@ -1,7 +1,7 @@
 use Rattle.std.proofs.Common.{IfSome, sym}
 use Rattle.outside.specs.State.{Link, link_sent}
-use Rattle.sim_world.specs.Links.{MayCall, AreReadable}
-use Rattle.sim_world.specs.LinksLaws.{links_in-changed, links_in-kept, declared_in-set, with_link-not_held, All-set}
+use Rattle.sim_world.specs.Links.{MayCall}
+use Rattle.sim_world.specs.LinksLaws.{links_in-changed, links_in-kept, declared_in-set, with_link-not_held}
 use Rattle.sim_world.proofs.Places.{on_ok, on_err, from_place}
 use Rattle.std.proofs.Common.{Option}
 use Rattle.sim_world.proofs.links.send.Goals as goal
@@ -23,7 +23,3 @@ returns-in-Some-clause-err c =
 
 pub returns-in-Some-clause-declared : goal.returns-in-Some-clause-declared
 returns-in-Some-clause-declared c = declared_in-set c.args.links.now c.in-Some.place c.send.new.self c.index-links-place.result c.send.ensures.declared
-
-pub returns-in-Some-clause-readable : goal.returns-in-Some-clause-readable
-returns-in-Some-clause-readable c =
-    All-set (λ (l : Link). AreReadable l.waits) c.args.links.now c.in-Some.place c.send.new.self c.index-links-place.result c.in-Some.ensures.within c.send.ensures.readable

@@ -1,8 +1,7 @@
 use Rattle.std.proofs.Common.{sym, arith}
 use Rattle.std.proofs.Common.{slice_index_or}
-use Rattle.outside.specs.State.{Link, link_stimulated}
-use Rattle.sim_world.specs.Links.{AreReadable}
-use Rattle.sim_world.specs.LinksLaws.{links_in-changed, links_in-kept, declared_in-set, with_link-not_held, All-set, cap_at, few-set, few_after}
+use Rattle.outside.specs.State.{link_stimulated}
+use Rattle.sim_world.specs.LinksLaws.{links_in-changed, links_in-kept, declared_in-set, with_link-not_held, cap_at, few-set, few_after}
 use Rattle.sim_world.proofs.Places.{on_ok, on_err}
 use Rattle.sim_world.proofs.links.stimulate.Goals as goal
 
@@ -19,10 +18,6 @@ returns-in-Some-clause-err c =
 
 pub returns-in-Some-clause-declared : goal.returns-in-Some-clause-declared
 returns-in-Some-clause-declared c = declared_in-set c.args.links.now c.in-Some.place c.stimulate.new.self c.index-links-place.result c.stimulate.ensures.declared
-
-pub returns-in-Some-clause-readable : goal.returns-in-Some-clause-readable
-returns-in-Some-clause-readable c = λ own.
-    All-set (λ (l : Link). AreReadable l.waits) c.args.links.now c.in-Some.place c.stimulate.new.self c.index-links-place.result c.in-Some.ensures.within (c.stimulate.ensures.readable own)
 
 pub returns-in-Some-clause-few : goal.returns-in-Some-clause-few
 returns-in-Some-clause-few c =

@@ -7,6 +7,7 @@ use Rattle.event_dispatch.specs.Shows.{engine_of}
 use Rattle.event_dispatch.specs.Cut.{CutStart}
 use Rattle.event_dispatch.specs.CutLaws.{if_err, start_unwritten}
 use Rattle.std.proofs.Common.{refl}
+use Rattle.event_dispatch.specs.ReadLaws.{reads_engine}
 use Rattle.event_dispatch.proofs.run.Run.begin.Goals as goal
 
 pub returns-clause-begins : goal.returns-clause-begins
@@ -24,9 +25,12 @@ returns-in_err-write-clause-plain g c =
 
 pub returns-in_err-start-clause-cut : goal.returns-in_err-start-clause-cut
 returns-in_err-start-clause-cut g c =
-    if_err (λ (fault : Fault). CutStart g.W.World.Tells fault (g.K.Sink.contents c.args.sink.now) (g.K.Sink.contents c.args.sink.now) (g.W.World.seen c.args.world.now) (g.W.World.seen c.start.new.world) (engine_of c.args.self.now)) faults.NoMemory c.from_residual.result c.from_residual.ensures.1 (refl, c.start.ensures.talks)
+    if_err (λ (fault : Fault). CutStart g.W.World.Tells fault (g.K.Sink.contents c.args.sink.now) (g.K.Sink.contents c.args.sink.now) (g.W.World.seen c.args.world.now) (g.W.World.seen c.start.new.world) (engine_of c.args.self.now)) faults.NoMemory c.from_residual.result c.from_residual.ensures.1 (refl, c.start.ensures.talks, c.start.ensures.quietly)
 
 pub returns-in_err-write-clause-cut : goal.returns-in_err-write-clause-cut
 returns-in_err-write-clause-cut g c =
     if_err (λ (fault : Fault). CutStart g.W.World.Tells fault (g.K.Sink.contents c.args.sink.now) (g.K.Sink.contents c.write.new.sink) (g.W.World.seen c.args.world.now) (g.W.World.seen c.start.new.world) (engine_of c.args.self.now)) faults.Write c.from_residual-in_err-write.result c.from_residual-in_err-write.ensures.1
-    (start_unwritten g.W.World.Tells (g.K.Sink.contents c.args.sink.now) (g.K.Sink.contents c.write.new.sink) (g.W.World.seen c.args.world.now) (g.W.World.seen c.start.new.world) c.args.self.now c.start.new.self c.requires.none_waits c.in_ok-start.ensures.starts c.in_err-write.ensures.part)
+    (start_unwritten g.W.World.Tells (g.K.Sink.contents c.args.sink.now) (g.K.Sink.contents c.write.new.sink) (g.W.World.seen c.args.world.now) (g.W.World.seen c.start.new.world) c.args.self.now c.start.new.self c.requires.none_waits c.in_ok-start.ensures.starts c.in_ok-start.ensures.reads c.in_err-write.ensures.part)
+
+pub returns-clause-reads : goal.returns-clause-reads
+returns-clause-reads g c = reads_engine (g.W.World.seen c.args.world.now) (g.W.World.seen c.start.new.world) c.start.new.self c.write.new.self c.write.ensures.engine c.in_ok-start.ensures.reads

@@ -1,10 +1,15 @@
 use Rattle.event_dispatch.specs.declared.fault.Fault.TheVariants as faults
 use Rattle.event_dispatch.specs.PlainLaws.{err_is, on_err, turn_memory, turn_noted}
 use Rattle.event_dispatch.specs.Plain.{PlainTurn}
-use Rattle.std.proofs.Common.{ap, sym, ◌∙◌, rules}
+use Rattle.std.proofs.Common.{refl, ap, sym, ◌∙◌, rules}
 use Rattle.shown_runs.specs.Engine.{Engine}
 use Rattle.event_dispatch.specs.TalkingLaws.{goes_none, goes_turn, holds_on_err, then_on_err}
 use Rattle.event_dispatch.specs.Shows.{engine_of}
+use Rattle.std.proofs.lemmas.Result.{on_ok_weaker}
+use Rattle.app_visor.specs.CalmLaws.{calm_none, calm_later}
+use Rattle.shown_runs.specs.Engine.{index}
+use Rattle.event_dispatch.specs.SteadyLaws.{places_none, reads_none, quietly_none, quietly_here}
+use Rattle.event_dispatch.specs.DispatchPlaceLaws.{places_as, reads_over, later_here}
 use Rattle.event_dispatch.proofs.run.Run.dispatch.Goals as goal
 
 pub returns-in_err-line-clause-plain : goal.returns-in_err-line-clause-plain
@@ -37,3 +42,51 @@ returns-clause-talks g c =
     then_on_err c.take_turn.result
     (goes_turn g.W.World.Tells c.note.new.self.app.state.rest (g.W.World.seen c.args.world.now) (g.W.World.seen c.take_turn.new.world) (engine_of c.args.self.now) (sym (ap (λ (e : Engine). e.alive) c.in_ok-note.ensures.adds.engine) ∙ (search rules)) (ap (λ (e : Engine). e.rest) c.in_ok-note.ensures.adds.engine))
     c.take_turn.ensures.talks
+
+pub returns-in_err-line-clause-places : goal.returns-in_err-line-clause-places
+returns-in_err-line-clause-places g c = places_none g.W.World.Tells (g.W.World.seen c.args.world.now) c.args.self.now.net
+
+pub returns-in_err-line-clause-here : goal.returns-in_err-line-clause-here
+returns-in_err-line-clause-here g c = quietly_here (quietly_none g.W.World.Tells (g.W.World.seen c.args.world.now))
+
+pub returns-in_err-line-clause-later : goal.returns-in_err-line-clause-later
+returns-in_err-line-clause-later g c = λ told. calm_later (calm_none index (g.W.World.seen c.args.world.now))
+
+pub returns-in_err-note-clause-places : goal.returns-in_err-note-clause-places
+returns-in_err-note-clause-places g c = places_none g.W.World.Tells (g.W.World.seen c.args.world.now) c.args.self.now.net
+
+pub returns-in_err-note-clause-here : goal.returns-in_err-note-clause-here
+returns-in_err-note-clause-here g c = quietly_here (quietly_none g.W.World.Tells (g.W.World.seen c.args.world.now))
+
+pub returns-in_err-note-clause-later : goal.returns-in_err-note-clause-later
+returns-in_err-note-clause-later g c = λ told. calm_later (calm_none index (g.W.World.seen c.args.world.now))
+
+pub returns-then-len-gt-MOST_BODY-clause-places : goal.returns-then-len-gt-MOST_BODY-clause-places
+returns-then-len-gt-MOST_BODY-clause-places g c = places_none g.W.World.Tells (g.W.World.seen c.args.world.now) c.args.self.now.net
+
+pub returns-then-len-gt-MOST_BODY-clause-here : goal.returns-then-len-gt-MOST_BODY-clause-here
+returns-then-len-gt-MOST_BODY-clause-here g c = quietly_here (quietly_none g.W.World.Tells (g.W.World.seen c.args.world.now))
+
+pub returns-then-len-gt-MOST_BODY-clause-later : goal.returns-then-len-gt-MOST_BODY-clause-later
+returns-then-len-gt-MOST_BODY-clause-later g c = λ told. calm_later (calm_none index (g.W.World.seen c.args.world.now))
+
+pub returns-then-not-self-clause-places : goal.returns-then-not-self-clause-places
+returns-then-not-self-clause-places g c = places_none g.W.World.Tells (g.W.World.seen c.args.world.now) c.args.self.now.net
+
+pub returns-then-not-self-clause-here : goal.returns-then-not-self-clause-here
+returns-then-not-self-clause-here g c = quietly_here (quietly_none g.W.World.Tells (g.W.World.seen c.args.world.now))
+
+pub returns-then-not-self-clause-later : goal.returns-then-not-self-clause-later
+returns-then-not-self-clause-later g c = λ told. calm_later (calm_none index (g.W.World.seen c.args.world.now))
+
+pub returns-then-not-self-clause-reads : goal.returns-then-not-self-clause-reads
+returns-then-not-self-clause-reads g c = reads_none g.W.World.Tells (g.W.World.seen c.args.world.now) c.args.self.now.net c.note.new.self.net (ap (λ (e : Engine). e.net.views) c.in_ok-note.ensures.adds.engine)
+
+pub returns-clause-places : goal.returns-clause-places
+returns-clause-places g c = places_as c.args.self.now.net c.note.new.self.net (ap (λ (e : Engine). e.net.views) c.in_ok-note.ensures.adds.engine) c.take_turn.ensures.places
+
+pub returns-clause-reads : goal.returns-clause-reads
+returns-clause-reads g c = on_ok_weaker c.take_turn.result (λ all. reads_over c.args.self.now.net c.note.new.self.net c.take_turn.new.self.net c.take_turn.new.self.net (ap (λ (e : Engine). e.net.views) c.in_ok-note.ensures.adds.engine) refl all) c.take_turn.ensures.reads
+
+pub returns-clause-here : goal.returns-clause-here
+returns-clause-here g c = later_here c.take_turn.ensures.later

@@ -8,6 +8,7 @@ use Rattle.event_dispatch.specs.Shows.{engine_of}
 use Rattle.event_dispatch.specs.Cut.{CutEnd}
 use Rattle.event_dispatch.specs.CutLaws.{if_err, still_so, end_still, end_unwritten}
 use Rattle.std.proofs.Common.{refl}
+use Rattle.event_dispatch.specs.ReadLaws.{reads_engine}
 use Rattle.event_dispatch.proofs.run.Run.end_report.Goals as goal
 
 pub returns-clause-ends : goal.returns-clause-ends
@@ -27,9 +28,12 @@ pub returns-in_err-note_last-clause-cut : goal.returns-in_err-note_last-clause-c
 returns-in_err-note_last-clause-cut g c =
     if_err (λ (fault : Fault). CutEnd g.W.World.Tells fault (g.K.Sink.contents c.args.sink.now) (g.K.Sink.contents c.args.sink.now) (g.W.World.seen c.args.world.now) (g.W.World.seen c.note_last.new.world) (engine_of c.args.self.now)) c.in_err-note_last.field-0.0 c.from_residual.result c.from_residual.ensures.1
     (end_still g.W.World.Tells c.in_err-note_last.field-0.0 (g.K.Sink.contents c.args.sink.now) (g.K.Sink.contents c.args.sink.now) (g.W.World.seen c.args.world.now) (g.W.World.seen c.note_last.new.world) (engine_of c.args.self.now)
-    (still_so g.W.World.Tells (g.W.World.seen c.args.world.now) (g.W.World.seen c.note_last.new.world) c.in_err-note_last.field-0.0 (g.K.Sink.contents c.args.sink.now) (g.K.Sink.contents c.args.sink.now) c.in_err-note_last.ensures.why refl) c.note_last.ensures.talks)
+    (still_so g.W.World.Tells (g.W.World.seen c.args.world.now) (g.W.World.seen c.note_last.new.world) c.in_err-note_last.field-0.0 (g.K.Sink.contents c.args.sink.now) (g.K.Sink.contents c.args.sink.now) c.in_err-note_last.ensures.why refl) c.note_last.ensures.talks c.note_last.ensures.quietly)
 
 pub returns-in_err-write-clause-cut : goal.returns-in_err-write-clause-cut
 returns-in_err-write-clause-cut g c =
     if_err (λ (fault : Fault). CutEnd g.W.World.Tells fault (g.K.Sink.contents c.args.sink.now) (g.K.Sink.contents c.write.new.sink) (g.W.World.seen c.args.world.now) (g.W.World.seen c.note_last.new.world) (engine_of c.args.self.now)) faults.Write c.from_residual-in_err-write.result c.from_residual-in_err-write.ensures.1
-    (end_unwritten g.W.World.Tells (g.K.Sink.contents c.args.sink.now) (g.K.Sink.contents c.write.new.sink) (g.W.World.seen c.args.world.now) (g.W.World.seen c.note_last.new.world) c.args.self.now c.note_last.new.self c.requires.none_waits c.in_ok-note_last.ensures.shown c.in_err-write.ensures.part)
+    (end_unwritten g.W.World.Tells (g.K.Sink.contents c.args.sink.now) (g.K.Sink.contents c.write.new.sink) (g.W.World.seen c.args.world.now) (g.W.World.seen c.note_last.new.world) c.args.self.now c.note_last.new.self c.requires.none_waits c.in_ok-note_last.ensures.shown c.in_ok-note_last.ensures.reads c.in_err-write.ensures.part)
+
+pub returns-clause-reads : goal.returns-clause-reads
+returns-clause-reads g c = reads_engine (g.W.World.seen c.args.world.now) (g.W.World.seen c.note_last.new.world) c.note_last.new.self c.write.new.self c.write.ensures.engine c.in_ok-note_last.ensures.reads

@@ -7,6 +7,8 @@ use Rattle.event_dispatch.specs.declared.served.Served.{Served}
 use Rattle.event_dispatch.specs.Shows.{engine_of}
 use Rattle.event_dispatch.specs.Cut.{CutFinishAs}
 use Rattle.event_dispatch.specs.CutLaws.{if_err, finish_cut}
+use Rattle.event_dispatch.specs.SteadyLaws.{places_none}
+use Rattle.event_dispatch.specs.ReadLaws.{read_none, read_of, reads_by}
 use Rattle.event_dispatch.proofs.run.Run.finish.Goals as goal
 
 pub returns-then-not-is_empty-clause-finishes : goal.returns-then-not-is_empty-clause-finishes
@@ -31,3 +33,15 @@ pub returns-in_err-end_report-clause-cut : goal.returns-in_err-end_report-clause
 returns-in_err-end_report-clause-cut g c =
     if_err (λ (end : Served). CutFinishAs g.W.World.Tells end (g.K.Sink.contents c.args.sink.now) (g.K.Sink.contents c.end_report.new.sink) (g.W.World.seen c.args.world.now) (g.W.World.seen c.end_report.new.world) (engine_of c.args.self.now)) (served_by c.in_err-end_report.field-0.0) c.from_residual.result c.from_residual.ensures.1
     (finish_cut g.W.World.Tells c.in_err-end_report.field-0.0 (g.K.Sink.contents c.args.sink.now) (g.K.Sink.contents c.end_report.new.sink) (g.W.World.seen c.args.world.now) (g.W.World.seen c.end_report.new.world) (engine_of c.args.self.now) (search rules) c.in_err-end_report.ensures.cut)
+
+pub returns-then-not-is_empty-clause-places : goal.returns-then-not-is_empty-clause-places
+returns-then-not-is_empty-clause-places g c = places_none g.W.World.Tells (g.W.World.seen c.args.world.now) c.args.self.now.net
+
+pub returns-then-not-is_empty-clause-reads : goal.returns-then-not-is_empty-clause-reads
+returns-then-not-is_empty-clause-reads g c = read_none g.W.World.Tells (g.W.World.seen c.args.world.now) c.args.self.now.net
+
+pub returns-in_err-end_report-clause-reads : goal.returns-in_err-end_report-clause-reads
+returns-in_err-end_report-clause-reads g c = reads_by g.W.World.Tells c.in_err-end_report.field-0.0 c.from_residual.result (g.W.World.seen c.args.world.now) (g.W.World.seen c.end_report.new.world) c.args.self.now.net c.from_residual.ensures.1
+
+pub returns-clause-reads : goal.returns-clause-reads
+returns-clause-reads g c = read_of c.in_ok-end_report.ensures.reads

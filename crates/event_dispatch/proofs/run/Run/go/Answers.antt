@@ -8,6 +8,8 @@ use Rattle.event_dispatch.specs.Cut.{CutAs}
 use Rattle.event_dispatch.specs.CutLaws.{if_err, goes_cut, rounds_cut, went_cut}
 use Rattle.std.proofs.Common.{inl}
 use Rattle.event_dispatch.specs.WhyLaws.{continues_then, why_behind, fell_then}
+use Rattle.event_dispatch.specs.SteadyLaws.{places_then, reads_then}
+use Rattle.event_dispatch.specs.ReadLaws.{went_read, reads_by}
 use Rattle.event_dispatch.proofs.run.Run.go.Goals as goal
 
 pub returns-in_err-begin-clause-goes : goal.returns-in_err-begin-clause-goes
@@ -39,18 +41,25 @@ returns-clause-plain g c =
 pub returns-in_err-begin-clause-cut : goal.returns-in_err-begin-clause-cut
 returns-in_err-begin-clause-cut g c =
     if_err (λ (end : Served). CutAs g.W.World.Tells (g.J.Judge.accepts c.args.judge.now) end (g.K.Sink.contents c.args.sink.now) (g.K.Sink.contents c.begin.new.sink) (g.W.World.seen c.args.world.now) (g.W.World.seen c.begin.new.world) (engine_of c.args.self.now)) (served_by c.in_err-begin.field-0.0) c.from_residual.result c.from_residual.ensures.1
-    (goes_cut g.W.World.Tells (g.J.Judge.accepts c.args.judge.now) c.in_err-begin.field-0.0 (g.K.Sink.contents c.args.sink.now) (g.K.Sink.contents c.begin.new.sink) (g.W.World.seen c.args.world.now) (g.W.World.seen c.begin.new.world) (engine_of c.args.self.now) (inl c.in_err-begin.ensures.cut))
+    (goes_cut g.W.World.Tells (g.J.Judge.accepts c.args.judge.now) c.in_err-begin.field-0.0 (g.K.Sink.contents c.args.sink.now) (g.K.Sink.contents c.begin.new.sink) (g.W.World.seen c.args.world.now) (g.W.World.seen c.begin.new.world) (engine_of c.args.self.now) c.begin.ensures.continues (inl c.in_err-begin.ensures.cut))
 
 pub returns-in_err-go_on-clause-cut : goal.returns-in_err-go_on-clause-cut
 returns-in_err-go_on-clause-cut g c =
     if_err (λ (end : Served). CutAs g.W.World.Tells (g.J.Judge.accepts c.args.judge.now) end (g.K.Sink.contents c.args.sink.now) (g.K.Sink.contents c.go_on.new.sink) (g.W.World.seen c.args.world.now) (g.W.World.seen c.go_on.new.world) (engine_of c.args.self.now)) (served_by c.in_err-go_on.field-0.0) c.from_residual-in_err-go_on.result c.from_residual-in_err-go_on.ensures.1
     (rounds_cut g.W.World.Tells (g.J.Judge.accepts c.args.judge.now) c.in_err-go_on.field-0.0 (g.K.Sink.contents c.args.sink.now) (g.K.Sink.contents c.begin.new.sink) (g.K.Sink.contents c.go_on.new.sink) (g.W.World.seen c.args.world.now) (g.W.World.seen c.begin.new.world) (g.W.World.seen c.go_on.new.world) c.args.self.now c.begin.new.self
-    c.in_ok-begin.ensures.begins c.go_on.ensures.continues c.in_err-go_on.ensures.cut)
+    c.in_ok-begin.ensures.continues c.in_ok-begin.ensures.begins c.in_ok-begin.ensures.reads c.go_on.ensures.continues c.in_err-go_on.ensures.cut)
 
 pub returns-clause-cut : goal.returns-clause-cut
 returns-clause-cut g c =
     went_cut g.W.World.Tells (g.J.Judge.accepts c.args.judge.now) c.finish.result (g.K.Sink.contents c.args.sink.now) (g.K.Sink.contents c.begin.new.sink) (g.K.Sink.contents c.go_on.new.sink) (g.K.Sink.contents c.finish.new.sink) (g.W.World.seen c.args.world.now) (g.W.World.seen c.begin.new.world) (g.W.World.seen c.go_on.new.world) (g.W.World.seen c.finish.new.world) c.args.self.now c.begin.new.self c.go_on.new.self
-    c.in_ok-begin.ensures.begins c.in_ok-go_on.ensures.continues c.in_ok-go_on.ensures.to_end c.finish.ensures.continues c.finish.ensures.cut
+    (record {
+      first = c.in_ok-begin.ensures.continues;
+      begins = c.in_ok-begin.ensures.begins;
+      starts_read = c.in_ok-begin.ensures.reads;
+      on = c.in_ok-go_on.ensures.continues;
+      rounds = c.in_ok-go_on.ensures.to_end;
+      rounds_read = c.in_ok-go_on.ensures.reads;
+    }) c.finish.ensures.continues c.finish.ensures.cut
 
 pub returns-clause-why : goal.returns-clause-why
 returns-clause-why g c =
@@ -59,3 +68,25 @@ returns-clause-why g c =
     on_err c.finish.result
     (λ end why. why_behind (g.W.World.seen c.args.world.now) (g.W.World.seen c.go_on.new.world) (g.W.World.seen c.finish.new.world) (g.K.Sink.faults c.args.sink.now) (g.K.Sink.faults c.go_on.new.sink) (g.K.Sink.faults c.finish.new.sink) end first fell why)
     c.finish.ensures.why
+
+pub returns-in_err-go_on-clause-places : goal.returns-in_err-go_on-clause-places
+returns-in_err-go_on-clause-places g c = places_then (g.W.World.seen c.args.world.now) (g.W.World.seen c.begin.new.world) (g.W.World.seen c.go_on.new.world) c.args.self.now.net c.begin.new.self.net c.in_ok-begin.ensures.continues c.go_on.ensures.continues c.in_ok-begin.ensures.places c.in_ok-begin.ensures.reads c.go_on.ensures.places
+
+pub returns-clause-places : goal.returns-clause-places
+returns-clause-places g c =
+    let before = continues_then g.W.World.Tells (g.W.World.seen c.args.world.now) (g.W.World.seen c.begin.new.world) (g.W.World.seen c.go_on.new.world) c.in_ok-begin.ensures.continues c.in_ok-go_on.ensures.continues in
+    let first = places_then (g.W.World.seen c.args.world.now) (g.W.World.seen c.begin.new.world) (g.W.World.seen c.go_on.new.world) c.args.self.now.net c.begin.new.self.net c.in_ok-begin.ensures.continues c.go_on.ensures.continues c.in_ok-begin.ensures.places c.in_ok-begin.ensures.reads c.go_on.ensures.places in
+    let reads = reads_then (g.W.World.seen c.args.world.now) (g.W.World.seen c.begin.new.world) (g.W.World.seen c.go_on.new.world) c.args.self.now.net c.begin.new.self.net c.go_on.new.self.net c.in_ok-begin.ensures.continues c.go_on.ensures.continues c.in_ok-begin.ensures.reads c.in_ok-go_on.ensures.reads in
+    places_then (g.W.World.seen c.args.world.now) (g.W.World.seen c.go_on.new.world) (g.W.World.seen c.finish.new.world) c.args.self.now.net c.go_on.new.self.net before c.finish.ensures.continues first reads c.finish.ensures.places
+
+pub returns-in_err-begin-clause-reads : goal.returns-in_err-begin-clause-reads
+returns-in_err-begin-clause-reads g c = reads_by g.W.World.Tells c.in_err-begin.field-0.0 c.from_residual.result (g.W.World.seen c.args.world.now) (g.W.World.seen c.begin.new.world) c.args.self.now.net c.from_residual.ensures.1
+
+pub returns-in_err-go_on-clause-reads : goal.returns-in_err-go_on-clause-reads
+returns-in_err-go_on-clause-reads g c = reads_by g.W.World.Tells c.in_err-go_on.field-0.0 c.from_residual-in_err-go_on.result (g.W.World.seen c.args.world.now) (g.W.World.seen c.go_on.new.world) c.args.self.now.net c.from_residual-in_err-go_on.ensures.1
+
+pub returns-clause-reads : goal.returns-clause-reads
+returns-clause-reads g c =
+    let before = continues_then g.W.World.Tells (g.W.World.seen c.args.world.now) (g.W.World.seen c.begin.new.world) (g.W.World.seen c.go_on.new.world) c.in_ok-begin.ensures.continues c.in_ok-go_on.ensures.continues in
+    let reads = reads_then (g.W.World.seen c.args.world.now) (g.W.World.seen c.begin.new.world) (g.W.World.seen c.go_on.new.world) c.args.self.now.net c.begin.new.self.net c.go_on.new.self.net c.in_ok-begin.ensures.continues c.go_on.ensures.continues c.in_ok-begin.ensures.reads c.in_ok-go_on.ensures.reads in
+    went_read g.W.World.Tells c.finish.result (g.W.World.seen c.args.world.now) (g.W.World.seen c.go_on.new.world) (g.W.World.seen c.finish.new.world) c.args.self.now.net c.go_on.new.self.net before c.finish.ensures.continues reads c.finish.ensures.reads

@@ -1,4 +1,4 @@
-use Rattle.std.proofs.Common.{rules, arith, subst, ◌∙◌}
+use Rattle.std.proofs.Common.{rules, arith, refl, subst, ◌∙◌}
 use Rattle.event_dispatch.specs.declared.batch.Rest.{Rest}
 use Rattle.event_dispatch.specs.Serves.{GoesRound}
 use Rattle.event_dispatch.specs.WhyLaws.{continues_then, fell_then}
@@ -10,6 +10,7 @@ use Rattle.event_dispatch.specs.Why.{served_by}
 use Rattle.event_dispatch.specs.declared.fault.Fault.{Fault}
 use Rattle.event_dispatch.specs.Cut.{CutRounds}
 use Rattle.event_dispatch.specs.CutLaws.{if_err}
+use Rattle.event_dispatch.specs.SteadyLaws.{places_none, reads_none, places_then, reads_then}
 use Rattle.event_dispatch.proofs.run.Run.go_on.Goals as goal
 
 pub loop-round-init : goal.loop-round-init
@@ -18,6 +19,8 @@ loop-round-init g c = record {
   going = c.requires.going;
   events = (search rules);
   continues = (search rules);
+  places = places_none g.W.World.Tells (g.W.World.seen c.args.world.now) c.args.self.now.net;
+  reads = reads_none g.W.World.Tells (g.W.World.seen c.args.world.now) c.args.self.now.net c.args.self.now.net refl;
   rounds = rounds_none g.W.World.Tells (g.J.Judge.accepts c.args.judge.now) (g.K.Sink.contents c.args.sink.now) (g.W.World.seen c.args.world.now) c.args.self.now c.requires.none_waits;
   never_fell = (search rules);
 }
@@ -34,6 +37,8 @@ loop-round-preserved g c = record {
   going = c.in_ok-go_round.ensures.going;
   events = omega (arith, c.loop-round.invariant.events, c.in_ok-go_round.ensures.events);
   continues = continues_then g.W.World.Tells (g.W.World.seen c.args.world.now) (g.W.World.seen c.loop-round.world) (g.W.World.seen c.go_round.new.world) c.loop-round.invariant.continues c.in_ok-go_round.ensures.continues;
+  places = places_then (g.W.World.seen c.args.world.now) (g.W.World.seen c.loop-round.world) (g.W.World.seen c.go_round.new.world) c.args.self.now.net c.loop-round.self.net c.loop-round.invariant.continues c.go_round.ensures.continues c.loop-round.invariant.places c.loop-round.invariant.reads c.go_round.ensures.places;
+  reads = reads_then (g.W.World.seen c.args.world.now) (g.W.World.seen c.loop-round.world) (g.W.World.seen c.go_round.new.world) c.args.self.now.net c.loop-round.self.net c.go_round.new.self.net c.loop-round.invariant.continues c.go_round.ensures.continues c.loop-round.invariant.reads c.in_ok-go_round.ensures.reads;
   rounds = rounds_next g.W.World.Tells (g.J.Judge.accepts c.args.judge.now) c.loop-round._round (g.K.Sink.contents c.args.sink.now) (g.K.Sink.contents c.loop-round.sink) (g.K.Sink.contents c.go_round.new.sink) (g.W.World.seen c.args.world.now) (g.W.World.seen c.loop-round.world) (g.W.World.seen c.go_round.new.world) c.args.self.now c.loop-round.self c.go_round.new.self c.loop-round.invariant.rounds (subst (λ (rest : Rest). GoesRound g.W.World.Tells (g.J.Judge.accepts c.args.judge.now) rest (g.K.Sink.contents c.loop-round.sink) (g.K.Sink.contents c.go_round.new.sink) (g.W.World.seen c.loop-round.world) (g.W.World.seen c.go_round.new.world) c.loop-round.self c.go_round.new.self) c.in-Idle.is c.in_ok-go_round.ensures.round);
   never_fell = fell_then (g.K.Sink.faults c.args.sink.now) (g.K.Sink.faults c.loop-round.sink) (g.K.Sink.faults c.go_round.new.sink) c.loop-round.invariant.never_fell c.in_ok-go_round.ensures.never_fell;
 }
@@ -56,6 +61,16 @@ returns-in_err-go_round-clause-cut g c =
       held = (g.K.Sink.contents c.loop-round.sink);
       on = c.loop-round.invariant.continues;
       rounds = c.loop-round.invariant.rounds;
+      reads = c.loop-round.invariant.reads;
       later = c.go_round.ensures.continues;
       round = c.in_err-go_round.ensures.cut;
     })
+
+pub returns-in_err-go_round-clause-places : goal.returns-in_err-go_round-clause-places
+returns-in_err-go_round-clause-places g c = places_then (g.W.World.seen c.args.world.now) (g.W.World.seen c.loop-round.world) (g.W.World.seen c.go_round.new.world) c.args.self.now.net c.loop-round.self.net c.loop-round.invariant.continues c.go_round.ensures.continues c.loop-round.invariant.places c.loop-round.invariant.reads c.go_round.ensures.places
+
+pub returns-in-End-clause-places : goal.returns-in-End-clause-places
+returns-in-End-clause-places g c = places_then (g.W.World.seen c.args.world.now) (g.W.World.seen c.loop-round.world) (g.W.World.seen c.go_round.new.world) c.args.self.now.net c.loop-round.self.net c.loop-round.invariant.continues c.go_round.ensures.continues c.loop-round.invariant.places c.loop-round.invariant.reads c.go_round.ensures.places
+
+pub returns-in-End-clause-reads : goal.returns-in-End-clause-reads
+returns-in-End-clause-reads g c = reads_then (g.W.World.seen c.args.world.now) (g.W.World.seen c.loop-round.world) (g.W.World.seen c.go_round.new.world) c.args.self.now.net c.loop-round.self.net c.go_round.new.self.net c.loop-round.invariant.continues c.go_round.ensures.continues c.loop-round.invariant.reads c.in_ok-go_round.ensures.reads

@@ -5,6 +5,10 @@ use Rattle.event_dispatch.specs.Why.{IsReason, fault_of}
 use Rattle.event_dispatch.specs.FaultLaws.{join_why}
 use Rattle.std.proofs.Common.{sym, ap, subst}
 use Rattle.outside.specs.Seen.{Seen}
+use Rattle.net_txn.specs.LinkSteps.{AsksInPlace}
+use Rattle.net_txn.specs.LinkPlaceLaws.{in_place_none}
+use Rattle.event_dispatch.specs.Told.{OnlyMessages}
+use Rattle.event_dispatch.specs.BatchSteadyLaws.{only_none}
 use Rattle.event_dispatch.specs.Talking.{KeepsTalking}
 use Rattle.event_dispatch.specs.TalkingLaws.{keeps_none, keeps_links}
 use Rattle.event_dispatch.proofs.run.Run.join.Goals.{in-FeaturesReply+in_ok-joined+in_ok-announce, in_default}
@@ -31,4 +35,22 @@ returns-clause-talks g c =
           subst (λ (s : Seen _). KeepsTalking g.W.World.Tells (g.W.World.seen c.args.world.now) s) (sym (ap g.W.World.seen w.world-is)) (keeps_links g.W.World.Tells (g.W.World.seen c.args.world.now) (g.W.World.seen w.joined.new.world) w.joined.ensures.links)
       | in_default w ↦
           subst (λ (s : Seen _). KeepsTalking g.W.World.Tells (g.W.World.seen c.args.world.now) s) (sym (ap g.W.World.seen w.world-is)) (keeps_none g.W.World.Tells (g.W.World.seen c.args.world.now))
+    ]
+
+pub returns-clause-places : goal.returns-clause-places
+returns-clause-places g c =
+    elim c.match-message.branch [
+      | in-FeaturesReply+in_ok-joined+in_ok-announce w ↦
+          subst (λ (s : Seen _). AsksInPlace g.W.World.Tells c.args.dpid (g.W.World.seen c.args.world.now) s) (sym (ap g.W.World.seen w.world-is)) w.joined.ensures.in_place
+      | in_default w ↦
+          subst (λ (s : Seen _). AsksInPlace g.W.World.Tells c.args.dpid (g.W.World.seen c.args.world.now) s) (sym (ap g.W.World.seen w.world-is)) (λ told order joined. in_place_none (g.W.World.seen c.args.world.now))
+    ]
+
+pub returns-clause-messages : goal.returns-clause-messages
+returns-clause-messages g c =
+    elim c.match-message.branch [
+      | in-FeaturesReply+in_ok-joined+in_ok-announce w ↦
+          subst (λ (s : Seen _). OnlyMessages g.W.World.Tells (g.W.World.seen c.args.world.now) s) (sym (ap g.W.World.seen w.world-is)) (record { read = w.in_ok-joined.ensures.read })
+      | in_default w ↦
+          subst (λ (s : Seen _). OnlyMessages g.W.World.Tells (g.W.World.seen c.args.world.now) s) (sym (ap g.W.World.seen w.world-is)) (only_none g.W.World.Tells (g.W.World.seen c.args.world.now))
     ]

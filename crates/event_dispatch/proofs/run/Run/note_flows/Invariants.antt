@@ -9,5 +9,6 @@ use Rattle.event_dispatch.proofs.run.Run.note_flows.Given as goal
 abbrev pub invariant-loop-row : goal.invariant-loop-row
 invariant-loop-row l = record {
   waits : Waits l.fn.self l.self;
+  net : l.self.net ≡ l.fn.self.net;
   said : (vs : List ViewRow) → rows_at l.dpid l.fn.self.net.views ≡ Some vs → SameKeys l.rows vs → FlowsSoFar l.rows vs l.row-index l.from l.fn.self l.self;
 }

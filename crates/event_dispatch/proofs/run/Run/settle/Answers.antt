@@ -1,4 +1,4 @@
-use Rattle.std.proofs.Common.{◌+◌, rules, arith}
+use Rattle.std.proofs.Common.{◌+◌, rules, arith, refl}
 use Rattle.event_dispatch.specs.WhyLaws.{continues_then, fell_then}
 use Rattle.event_dispatch.specs.RoundLaws.{some_none, some_more, settles_early, settles_all}
 use Rattle.event_dispatch.specs.PlainLaws.{err_is, run_settled}
@@ -8,6 +8,7 @@ use Rattle.event_dispatch.specs.Why.{served_by}
 use Rattle.event_dispatch.specs.declared.fault.Fault.{Fault}
 use Rattle.event_dispatch.specs.Cut.{CutSome}
 use Rattle.event_dispatch.specs.CutLaws.{if_err}
+use Rattle.event_dispatch.specs.SteadyLaws.{places_none, reads_none, places_then, reads_then}
 use Rattle.event_dispatch.proofs.run.Run.settle.Goals as goal
 
 pub loop-event-init : goal.loop-event-init
@@ -15,6 +16,8 @@ loop-event-init g c = record {
   going = c.requires.going;
   events = (search rules);
   continues = (search rules);
+  places = places_none g.W.World.Tells (g.W.World.seen c.args.world.now) c.args.self.now.net;
+  reads = reads_none g.W.World.Tells (g.W.World.seen c.args.world.now) c.args.self.now.net c.args.self.now.net refl;
   settles = some_none g.W.World.Tells (g.J.Judge.accepts c.args.judge.now) (g.K.Sink.contents c.args.sink.now) (g.W.World.seen c.args.world.now) c.args.self.now c.requires.none_waits;
   never_fell = (search rules);
 }
@@ -33,6 +36,8 @@ loop-event-preserved g c = record {
   going = c.in_ok-settle_one.ensures.going;
   events = omega (arith, c.loop-event.invariant.events, c.in_ok-settle_one.ensures.events);
   continues = continues_then g.W.World.Tells (g.W.World.seen c.args.world.now) (g.W.World.seen c.loop-event.world) (g.W.World.seen c.settle_one.new.world) c.loop-event.invariant.continues c.in_ok-settle_one.ensures.continues;
+  places = places_then (g.W.World.seen c.args.world.now) (g.W.World.seen c.loop-event.world) (g.W.World.seen c.settle_one.new.world) c.args.self.now.net c.loop-event.self.net c.loop-event.invariant.continues c.settle_one.ensures.continues c.loop-event.invariant.places c.loop-event.invariant.reads c.settle_one.ensures.places;
+  reads = reads_then (g.W.World.seen c.args.world.now) (g.W.World.seen c.loop-event.world) (g.W.World.seen c.settle_one.new.world) c.args.self.now.net c.loop-event.self.net c.settle_one.new.self.net c.loop-event.invariant.continues c.settle_one.ensures.continues c.loop-event.invariant.reads c.in_ok-settle_one.ensures.reads;
   settles = (some_more g.W.World.Tells (g.J.Judge.accepts c.args.judge.now) c.loop-event._event _ (g.K.Sink.contents c.args.sink.now) (g.K.Sink.contents c.loop-event.sink) (g.K.Sink.contents c.settle_one.new.sink) (g.W.World.seen c.args.world.now) (g.W.World.seen c.loop-event.world) (g.W.World.seen c.settle_one.new.world) c.args.self.now c.loop-event.self c.settle_one.new.self
       c.in_ok-settle_one.ensures.continues c.loop-event.invariant.settles c.in_ok-settle_one.ensures.settles);
   never_fell = fell_then (g.K.Sink.faults c.args.sink.now) (g.K.Sink.faults c.loop-event.sink) (g.K.Sink.faults c.settle_one.new.sink) c.loop-event.invariant.never_fell c.in_ok-settle_one.ensures.never_fell;
@@ -58,6 +63,16 @@ returns-in_err-settle_one-clause-cut g c =
       few = omega (arith, c.loop-event-test.true);
       on = c.loop-event.invariant.continues;
       some = c.loop-event.invariant.settles;
+      reads = c.loop-event.invariant.reads;
       later = c.settle_one.ensures.continues;
       one = c.in_err-settle_one.ensures.cut;
     })
+
+pub returns-in_err-settle_one-clause-places : goal.returns-in_err-settle_one-clause-places
+returns-in_err-settle_one-clause-places g c = places_then (g.W.World.seen c.args.world.now) (g.W.World.seen c.loop-event.world) (g.W.World.seen c.settle_one.new.world) c.args.self.now.net c.loop-event.self.net c.loop-event.invariant.continues c.settle_one.ensures.continues c.loop-event.invariant.places c.loop-event.invariant.reads c.settle_one.ensures.places
+
+pub returns-then-not-branch-clause-places : goal.returns-then-not-branch-clause-places
+returns-then-not-branch-clause-places g c = places_then (g.W.World.seen c.args.world.now) (g.W.World.seen c.loop-event.world) (g.W.World.seen c.settle_one.new.world) c.args.self.now.net c.loop-event.self.net c.loop-event.invariant.continues c.settle_one.ensures.continues c.loop-event.invariant.places c.loop-event.invariant.reads c.settle_one.ensures.places
+
+pub returns-then-not-branch-clause-reads : goal.returns-then-not-branch-clause-reads
+returns-then-not-branch-clause-reads g c = reads_then (g.W.World.seen c.args.world.now) (g.W.World.seen c.loop-event.world) (g.W.World.seen c.settle_one.new.world) c.args.self.now.net c.loop-event.self.net c.settle_one.new.self.net c.loop-event.invariant.continues c.settle_one.ensures.continues c.loop-event.invariant.reads c.in_ok-settle_one.ensures.reads

@@ -1,4 +1,8 @@
 use Rattle.event_dispatch.specs.TalkingLaws.{keeps_tried, keeps_restarted}
+use Rattle.std.proofs.lemmas.Result.{on_ok_weaker}
+use Rattle.event_dispatch.specs.DispatchPlaceLaws.{started_quietly, started_places, started_reads}
+use Rattle.std.proofs.Common.{ap}
+use Rattle.shown_runs.specs.Engine.{Engine}
 use Rattle.event_dispatch.proofs.run.Run.start.Goals as goal
 
 pub returns-in_err-back-clause-talks : goal.returns-in_err-back-clause-talks
@@ -6,3 +10,19 @@ returns-in_err-back-clause-talks g c = keeps_tried g.W.World.Tells c.args.self.n
 
 pub returns-clause-talks : goal.returns-clause-talks
 returns-clause-talks g c = keeps_restarted g.W.World.Tells c.args.self.now.app.state.index (g.W.World.seen c.args.world.now) (g.W.World.seen c.restart.new.world) c.requires c.in_ok-back.ensures.ok
+
+pub returns-in_err-back-clause-places : goal.returns-in_err-back-clause-places
+returns-in_err-back-clause-places g c = started_places c.args.self.now.app.state.index c.args.self.now.net c.restart.ensures.own
+
+pub returns-in_err-back-clause-quietly : goal.returns-in_err-back-clause-quietly
+returns-in_err-back-clause-quietly g c = started_quietly c.args.self.now.app.state.index c.requires c.restart.ensures.own
+
+pub returns-clause-places : goal.returns-clause-places
+returns-clause-places g c = started_places c.args.self.now.app.state.index c.args.self.now.net c.restart.ensures.own
+
+pub returns-clause-quietly : goal.returns-clause-quietly
+returns-clause-quietly g c = started_quietly c.args.self.now.app.state.index c.requires c.restart.ensures.own
+
+pub returns-clause-reads : goal.returns-clause-reads
+returns-clause-reads g c = on_ok_weaker c.note_start.result
+    (λ adds. started_reads c.args.self.now.app.state.index c.args.self.now.net c.note_start.new.self.net (ap (λ (e : Engine). e.net.views) adds.engine) c.restart.ensures.continues c.restart.ensures.own) c.note_start.ensures.adds

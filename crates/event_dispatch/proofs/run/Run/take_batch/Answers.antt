@@ -6,7 +6,11 @@ use Rattle.event_dispatch.specs.BatchLaws.{batch_goes, batch_ends, batch_too_lon
 use Rattle.event_dispatch.specs.PlainLaws.{err_is, batch_kept, batch_next}
 use Rattle.event_dispatch.specs.Plain.{PlainCalm}
 use Rattle.event_dispatch.specs.Why.{served_by}
-use Rattle.event_dispatch.specs.TalkingLaws.{keeps_then}
+use Rattle.event_dispatch.specs.TalkingLaws.{keeps_then, holds_on_err}
+use Rattle.event_dispatch.specs.Told.{GoesBegun}
+use Rattle.app_visor.specs.CalmLaws.{calls_then}
+use Rattle.event_dispatch.specs.SteadyLaws.{places_then, reads_then}
+use Rattle.event_dispatch.specs.BatchSteadyLaws.{here_goes, here_ends, here_kept}
 use Rattle.event_dispatch.proofs.run.Run.take_batch.Goals as goal
 
 pub returns-in-Some-clause-batch : goal.returns-in-Some-clause-batch
@@ -30,6 +34,10 @@ loop-item-preserved g c = record {
   buffer = c.in_ok-rest.ensures.buffer ∙ c.loop-item.invariant.buffer;
   continues = continues_then g.W.World.Tells (g.W.World.seen c.args.world.now) (g.W.World.seen c.loop-item.world) (g.W.World.seen c.take_next.new.world) c.loop-item.invariant.continues c.in_ok-rest.ensures.continues;
   talks = keeps_then g.W.World.Tells (g.W.World.seen c.args.world.now) (g.W.World.seen c.loop-item.world) (g.W.World.seen c.take_next.new.world) c.loop-item.invariant.talks c.in_ok-rest.ensures.talks;
+  places = places_then (g.W.World.seen c.args.world.now) (g.W.World.seen c.loop-item.world) (g.W.World.seen c.take_next.new.world) c.args.self.now.net c.loop-item.self.net c.loop-item.invariant.continues c.in_ok-rest.ensures.continues c.loop-item.invariant.places c.loop-item.invariant.reads c.in_ok-rest.ensures.places;
+  reads = reads_then (g.W.World.seen c.args.world.now) (g.W.World.seen c.loop-item.world) (g.W.World.seen c.take_next.new.world) c.args.self.now.net c.loop-item.self.net c.take_next.new.self.net c.loop-item.invariant.continues c.in_ok-rest.ensures.continues c.loop-item.invariant.reads c.in_ok-rest.ensures.reads;
+  here = here_goes (g.W.World.seen c.args.world.now) (g.W.World.seen c.loop-item.world) (g.W.World.seen c.take_next.new.world) c.args.self.now.net c.in_ok-rest.ensures.continues c.loop-item.invariant.here c.in_ok-rest.ensures.quietly
+      (subst (λ (rest : Option Rest). GoesBegun g.W.World.Tells rest (g.W.World.seen c.loop-item.world) (g.W.World.seen c.take_next.new.world)) c.in_default.is c.in_ok-rest.ensures.begun);
 }
 
 pub returns-in_err-left-clause-plain : goal.returns-in_err-left-clause-plain
@@ -40,3 +48,26 @@ pub returns-in_err-rest-clause-plain : goal.returns-in_err-rest-clause-plain
 returns-in_err-rest-clause-plain g c =
     err_is (λ fault. PlainCalm g.W.World.Tells (g.W.World.seen c.args.world.now) (g.W.World.seen c.take_next.new.world) c.args.self.now.net (served_by fault)) c.in_err-rest.field-0.0 c.from_residual-in_err-rest.result c.from_residual-in_err-rest.ensures.1
     (batch_next c.loop-item._item (g.W.World.seen c.args.world.now) (g.W.World.seen c.loop-item.world) (g.W.World.seen c.take_next.new.world) c.args.self.now c.loop-item.self c.in_err-rest.field-0.0 c.loop-item.invariant.goes c.in_err-rest.ensures.continues c.in_err-rest.ensures.plain)
+
+pub returns-in-Some-clause-places : goal.returns-in-Some-clause-places
+returns-in-Some-clause-places g c = places_then (g.W.World.seen c.args.world.now) (g.W.World.seen c.loop-item.world) (g.W.World.seen c.take_next.new.world) c.args.self.now.net c.loop-item.self.net c.loop-item.invariant.continues c.in_ok-rest.ensures.continues c.loop-item.invariant.places c.loop-item.invariant.reads c.in_ok-rest.ensures.places
+
+pub returns-in-Some-clause-reads : goal.returns-in-Some-clause-reads
+returns-in-Some-clause-reads g c = reads_then (g.W.World.seen c.args.world.now) (g.W.World.seen c.loop-item.world) (g.W.World.seen c.take_next.new.world) c.args.self.now.net c.loop-item.self.net c.take_next.new.self.net c.loop-item.invariant.continues c.in_ok-rest.ensures.continues c.loop-item.invariant.reads c.in_ok-rest.ensures.reads
+
+pub returns-in_err-rest-clause-places : goal.returns-in_err-rest-clause-places
+returns-in_err-rest-clause-places g c = places_then (g.W.World.seen c.args.world.now) (g.W.World.seen c.loop-item.world) (g.W.World.seen c.take_next.new.world) c.args.self.now.net c.loop-item.self.net c.loop-item.invariant.continues c.in_err-rest.ensures.continues c.loop-item.invariant.places c.loop-item.invariant.reads c.in_err-rest.ensures.places
+
+pub returns-in_err-left-clause-here : goal.returns-in_err-left-clause-here
+returns-in_err-left-clause-here g c = holds_on_err c.from_residual.result (λ none. here_kept (g.W.World.seen c.args.world.now) (g.W.World.seen c.take_kept.new.world) c.in_err-left.ensures.links)
+
+pub returns-in_err-rest-clause-here : goal.returns-in_err-rest-clause-here
+returns-in_err-rest-clause-here g c =
+    holds_on_err c.from_residual-in_err-rest.result (λ none. here_ends (g.W.World.seen c.args.world.now) (g.W.World.seen c.loop-item.world) (g.W.World.seen c.take_next.new.world) c.args.self.now.net c.in_err-rest.ensures.continues c.loop-item.invariant.here c.in_err-rest.ensures.quietly none)
+
+pub returns-in_err-left-clause-own : goal.returns-in_err-left-clause-own
+returns-in_err-left-clause-own g c = holds_on_err c.from_residual.result (here_kept (g.W.World.seen c.args.world.now) (g.W.World.seen c.take_kept.new.world) c.in_err-left.ensures.links).own
+
+pub returns-in_err-rest-clause-own : goal.returns-in_err-rest-clause-own
+returns-in_err-rest-clause-own g c =
+    holds_on_err c.from_residual-in_err-rest.result (λ told. calls_then (c.loop-item.invariant.here.own told) (c.in_err-rest.ensures.quietly.own told))

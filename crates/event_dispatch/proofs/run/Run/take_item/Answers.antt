@@ -10,6 +10,7 @@ use Rattle.event_dispatch.specs.Plain.{PlainItem}
 use Rattle.outside.specs.Calls.{item_step}
 use Rattle.event_dispatch.specs.Why.{WhyItem}
 use Rattle.event_dispatch.specs.ItemLaws as why
+use Rattle.event_dispatch.specs.BatchSteadyLaws.{from_puts, joined_item}
 use Rattle.event_dispatch.proofs.run.Run.take_item.Goals as goal
 
 pub returns-in-From-clause-handles : goal.returns-in-From-clause-handles
@@ -62,3 +63,11 @@ returns-in-Joined-clause-why g c =
 pub returns-in_err-take_out-in-Left-clause-why : goal.returns-in_err-take_out-in-Left-clause-why
 returns-in_err-take_out-in-Left-clause-why g c =
     err_is (WhyItem g.W.World.Tells (item_step c.args.item c.args.buf.now) (g.W.World.seen c.args.world.now) (g.W.World.seen c.args.world.now)) faults.NoMemory c.from_residual.result c.from_residual.ensures.1 (why.item_memory (item_step c.args.item c.args.buf.now) (g.W.World.seen c.args.world.now) (g.W.World.seen c.args.world.now))
+
+pub returns-in-From-clause-places : goal.returns-in-From-clause-places
+returns-in-From-clause-places g c =
+    from_puts g.W.World.Tells c.args.item c.in-From.dpid c.in-From.size c.args.buf.now (g.W.World.seen c.args.world.now) (g.W.World.seen c.take_message.new.world) c.args.self.now.net c.in-From.is c.take_message.ensures.places
+
+pub returns-in-Joined-clause-places : goal.returns-in-Joined-clause-places
+returns-in-Joined-clause-places g c =
+    joined_item g.W.World.Tells c.args.item c.in-Joined.dpid c.in-Joined.size c.args.buf.now (g.W.World.seen c.args.world.now) (g.W.World.seen c.take_in.new.world) c.args.self.now.net c.in-Joined.is c.take_in.ensures.places

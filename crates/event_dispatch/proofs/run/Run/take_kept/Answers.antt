@@ -1,10 +1,15 @@
 use Rattle.event_dispatch.specs.declared.fault.Fault.TheVariants as faults
 use Rattle.std.proofs.Common.{refl, sym, ◌∙◌}
-use Rattle.event_dispatch.specs.BatchLaws.{kept_ends, kept_all}
+use Rattle.outside.specs.SeenLaws.{Continues-refl}
+use Rattle.event_dispatch.specs.BatchLaws.{kept_at_first, kept_one_more, kept_ends, kept_all}
 use Rattle.event_dispatch.specs.PlainLaws.{err_is, kept_memory, kept_none}
 use Rattle.event_dispatch.specs.Plain.{PlainKept}
 use Rattle.event_dispatch.specs.Why.{IsReason}
 use Rattle.event_dispatch.specs.ItemLaws.{kept_why}
+use Rattle.event_dispatch.specs.WhyLaws.{continues_then}
+use Rattle.event_dispatch.specs.TalkingLaws.{keeps_none, keeps_then}
+use Rattle.event_dispatch.specs.SteadyLaws.{places_none, reads_none}
+use Rattle.event_dispatch.specs.BatchSteadyLaws.{links_none, links_then, taken_read, taken_waits, taken_places, taken_reads}
 use Rattle.event_dispatch.proofs.run.Run.take_kept.Goals as goal
 
 pub returns-in_default-clause-kept : goal.returns-in_default-clause-kept
@@ -28,3 +33,39 @@ pub returns-in_err-take_message-clause-why : goal.returns-in_err-take_message-cl
 returns-in_err-take_message-clause-why g c =
     err_is (IsReason g.W.World.Tells (g.W.World.seen c.args.world.now) (g.W.World.seen c.take_message.new.world) 0 0) c.in_err-take_message.field-0.0 c.from_residual-in_err-take_message.result c.from_residual-in_err-take_message.ensures.1
     (kept_why c.loop-taken.self.net.kept _ _ _ (g.W.World.seen c.args.world.now) (g.W.World.seen c.loop-taken.world) (g.W.World.seen c.take_message.new.world) c.in_err-take_message.field-0.0 c.loop-taken.invariant.read (sym c.in_ok-dpid.ensures.first ∙ c.in-Some.is) c.as_slice.ensures c.loop-taken.invariant.continues c.in_err-take_message.ensures.why)
+
+pub loop-taken-init : goal.loop-taken-init
+loop-taken-init g c = record {
+  waits = record { room = refl; events = refl; done = refl; failed = refl };
+  app = refl;
+  lines = refl;
+  read = c.requires.read;
+  kept = kept_at_first (g.W.World.seen c.args.world.now) c.args.self.now;
+  continues = Continues-refl g.W.World.Tells (g.W.World.seen c.args.world.now);
+  talks = keeps_none g.W.World.Tells (g.W.World.seen c.args.world.now);
+  links = links_none g.W.World.Tells (g.W.World.seen c.args.world.now);
+  places = places_none g.W.World.Tells (g.W.World.seen c.args.world.now) c.args.self.now.net;
+  reads = reads_none g.W.World.Tells (g.W.World.seen c.args.world.now) c.args.self.now.net c.args.self.now.net refl;
+}
+
+pub loop-taken-preserved : goal.loop-taken-preserved
+loop-taken-preserved g c =
+    let since = c.in_ok-take_message.ensures in
+    let before = c.loop-taken.invariant in
+    record {
+      waits = taken_waits c.args.self.now c.loop-taken.self c.take_message.new.self c.waiting.new.self c.in_ok-dpid.ensures.rest before.waits since.waits;
+      app = since.app ∙ before.app;
+      lines = since.lines ∙ before.lines;
+      read = since.read (taken_read c.loop-taken.self.net c.waiting.new.self c.in_ok-dpid.ensures.rest before.read);
+      kept = kept_one_more c.loop-taken.taken _ (g.W.World.seen c.args.world.now) (g.W.World.seen c.loop-taken.world) (g.W.World.seen c.take_message.new.world) c.args.self.now c.loop-taken.self c.take_message.new.self before.kept (sym c.in-Some.is ∙ c.in_ok-dpid.ensures.first);
+      continues = continues_then g.W.World.Tells (g.W.World.seen c.args.world.now) (g.W.World.seen c.loop-taken.world) (g.W.World.seen c.take_message.new.world) before.continues since.continues;
+      talks = keeps_then g.W.World.Tells (g.W.World.seen c.args.world.now) (g.W.World.seen c.loop-taken.world) (g.W.World.seen c.take_message.new.world) before.talks since.talks;
+      links = links_then g.W.World.Tells (g.W.World.seen c.args.world.now) (g.W.World.seen c.loop-taken.world) (g.W.World.seen c.take_message.new.world) before.links since.links;
+      places = taken_places g.W.World.Tells (g.W.World.seen c.args.world.now) (g.W.World.seen c.loop-taken.world) (g.W.World.seen c.take_message.new.world) c.args.self.now.net c.loop-taken.self.net c.waiting.new.self c.in_ok-dpid.ensures.rest before.continues since.continues before.places before.reads since.places;
+      reads = taken_reads g.W.World.Tells (g.W.World.seen c.args.world.now) (g.W.World.seen c.loop-taken.world) (g.W.World.seen c.take_message.new.world) c.args.self.now.net c.loop-taken.self.net c.waiting.new.self c.take_message.new.self.net c.in_ok-dpid.ensures.rest before.continues since.continues before.reads since.reads;
+    }
+
+pub returns-in_err-take_message-clause-places : goal.returns-in_err-take_message-clause-places
+returns-in_err-take_message-clause-places g c =
+    taken_places g.W.World.Tells (g.W.World.seen c.args.world.now) (g.W.World.seen c.loop-taken.world) (g.W.World.seen c.take_message.new.world) c.args.self.now.net c.loop-taken.self.net c.waiting.new.self c.in_ok-dpid.ensures.rest c.loop-taken.invariant.continues c.in_err-take_message.ensures.continues
+    c.loop-taken.invariant.places c.loop-taken.invariant.reads c.in_err-take_message.ensures.places

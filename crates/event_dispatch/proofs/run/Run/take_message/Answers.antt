@@ -11,6 +11,7 @@ use Rattle.event_dispatch.specs.Why.{fault_of}
 use Rattle.event_dispatch.specs.Why.{WhyMessage}
 use Rattle.event_dispatch.specs.FaultLaws.{arrival_why}
 use Rattle.event_dispatch.specs.KeptLaws.{arrived_read}
+use Rattle.event_dispatch.specs.BatchSteadyLaws.{arrived_places, arrived_reads, arrived_only}
 use Rattle.event_dispatch.specs.ItemLaws.{message_memory}
 use Rattle.event_dispatch.proofs.run.Run.take_message.Goals as goal
 
@@ -45,4 +46,26 @@ returns-in_err-append-clause-why g c =
 pub returns-clause-read : goal.returns-clause-read
 returns-clause-read g c =
     arrived_read c.args.frame.now c.args.self.now.net c.arrived.new.self c.in_ok-event.event
+    (subst (λ (r : Result (Option Event) TxnFault). Arrives g.W.World.Tells c.args.dpid c.args.frame.now (g.W.World.seen c.args.world.now) (g.W.World.seen c.arrived.new.world) c.args.self.now.net c.arrived.new.self r) c.in_ok-event.was c.arrived.ensures)
+
+pub returns-in_err-event-clause-places : goal.returns-in_err-event-clause-places
+returns-in_err-event-clause-places g c =
+    arrived_places g.W.World.Tells c.args.dpid c.args.frame.now (g.W.World.seen c.args.world.now) (g.W.World.seen c.arrived.new.world) c.args.self.now.net c.arrived.new.self c.arrived.result (c.if-not-is_joined.ensures.joined refl) c.arrived.ensures
+
+pub returns-in_err-append-clause-places : goal.returns-in_err-append-clause-places
+returns-in_err-append-clause-places g c =
+    arrived_places g.W.World.Tells c.args.dpid c.args.frame.now (g.W.World.seen c.args.world.now) (g.W.World.seen c.arrived.new.world) c.args.self.now.net c.arrived.new.self c.arrived.result (c.if-not-is_joined.ensures.joined refl) c.arrived.ensures
+
+pub returns-clause-places : goal.returns-clause-places
+returns-clause-places g c =
+    arrived_places g.W.World.Tells c.args.dpid c.args.frame.now (g.W.World.seen c.args.world.now) (g.W.World.seen c.arrived.new.world) c.args.self.now.net c.arrived.new.self c.arrived.result (c.if-not-is_joined.ensures.joined refl) c.arrived.ensures
+
+pub returns-clause-reads : goal.returns-clause-reads
+returns-clause-reads g c =
+    arrived_reads g.W.World.Tells c.args.dpid c.args.frame.now (g.W.World.seen c.args.world.now) (g.W.World.seen c.arrived.new.world) c.args.self.now.net c.arrived.new.self c.in_ok-event.event
+    (subst (λ (r : Result (Option Event) TxnFault). Arrives g.W.World.Tells c.args.dpid c.args.frame.now (g.W.World.seen c.args.world.now) (g.W.World.seen c.arrived.new.world) c.args.self.now.net c.arrived.new.self r) c.in_ok-event.was c.arrived.ensures)
+
+pub returns-clause-messages : goal.returns-clause-messages
+returns-clause-messages g c =
+    arrived_only g.W.World.Tells c.args.dpid c.args.frame.now (g.W.World.seen c.args.world.now) (g.W.World.seen c.arrived.new.world) c.args.self.now.net c.arrived.new.self c.in_ok-event.event
     (subst (λ (r : Result (Option Event) TxnFault). Arrives g.W.World.Tells c.args.dpid c.args.frame.now (g.W.World.seen c.args.world.now) (g.W.World.seen c.arrived.new.world) c.args.self.now.net c.arrived.new.self r) c.in_ok-event.was c.arrived.ensures)

@@ -7,6 +7,7 @@ use Rattle.event_dispatch.specs.Plain.{PlainNext}
 use Rattle.event_dispatch.specs.Why.{IsReason}
 use Rattle.event_dispatch.specs.ItemLaws.{next_why}
 use Rattle.event_dispatch.specs.TalkingLaws.{keeps_then}
+use Rattle.event_dispatch.specs.BatchSteadyLaws.{next_places, handled_places, handled_reads, over_reads, handled_quietly, over_begun, goes_begun}
 use Rattle.event_dispatch.proofs.run.Run.take_next.Goals as goal
 
 pub returns-in-Idle-clause-taken : goal.returns-in-Idle-clause-taken
@@ -42,6 +43,11 @@ returns-in_ok-take_item-in_default g c = record {
   lines = c.in_ok-take_item-in_default.ensures.lines;
   continues = continues_then g.W.World.Tells (g.W.World.seen c.args.world.now) (g.W.World.seen c.next_item.new.world) (g.W.World.seen c.take_item.new.world) c.in_ok-item.ensures.continues c.in_ok-take_item-in_default.ensures.continues;
   talks = keeps_then g.W.World.Tells (g.W.World.seen c.args.world.now) (g.W.World.seen c.next_item.new.world) (g.W.World.seen c.take_item.new.world) c.in_ok-item.ensures.talks c.in_ok-take_item-in_default.ensures.talks;
+  places = handled_places g.W.World.Tells c.in_ok-item.item c.next_item.new.buf (g.W.World.seen c.args.world.now) (g.W.World.seen c.next_item.new.world) (g.W.World.seen c.take_item.new.world) c.args.self.now.net c.in_ok-item.ensures.nexts c.in_ok-take_item-in_default.ensures.continues c.in_ok-take_item-in_default.ensures.places;
+  reads = handled_reads g.W.World.Tells c.in_ok-item.item c.next_item.new.buf (g.W.World.seen c.args.world.now) (g.W.World.seen c.next_item.new.world) (g.W.World.seen c.take_item.new.world) c.args.self.now.net c.take_item.new.self.net c.args.self.now.queue c.take_item.new.self.queue c.in_ok-item.ensures.nexts c.in_ok-take_item-in_default.ensures.handles
+      c.in_ok-take_item-in_default.ensures.links c.in_ok-take_item-in_default.ensures.messages;
+  quietly = handled_quietly g.W.World.Tells (g.W.World.seen c.args.world.now) (g.W.World.seen c.next_item.new.world) (g.W.World.seen c.take_item.new.world) c.in_ok-take_item-in_default.ensures.continues c.in_ok-item.ensures.quietly c.in_ok-take_item-in_default.ensures.links;
+  begun = goes_begun g.W.World.Tells c.in_ok-item.item c.next_item.new.buf (g.W.World.seen c.args.world.now) (g.W.World.seen c.next_item.new.world) (g.W.World.seen c.take_item.new.world) c.in_ok-item.ensures.nexts c.in_ok-take_item-in_default.ensures.continues c.in_ok-take_item-in_default.ensures.links (no_rest c.in_ok-item.item c.in_default.not-Idle c.in_default.not-End);
   read = c.in_ok-take_item-in_default.ensures.read;
   why = tt;
   plain = tt;
@@ -66,3 +72,32 @@ pub returns-in_err-take_item-in_default-clause-why : goal.returns-in_err-take_it
 returns-in_err-take_item-in_default-clause-why g c =
     err_is (IsReason g.W.World.Tells (g.W.World.seen c.args.world.now) (g.W.World.seen c.take_item.new.world) 0 0) c.in_err-take_item-in_default.field-0.0 c.from_residual-in_err-take_item-in_default.result c.from_residual-in_err-take_item-in_default.ensures.1
     (next_why c.in_ok-item.item c.next_item.new.buf (g.W.World.seen c.args.world.now) (g.W.World.seen c.next_item.new.world) (g.W.World.seen c.take_item.new.world) c.in_err-take_item-in_default.field-0.0 c.in_ok-item.ensures.nexts c.in_err-take_item-in_default.ensures.why)
+
+pub returns-in-Idle-clause-places : goal.returns-in-Idle-clause-places
+returns-in-Idle-clause-places g c = next_places g.W.World.Tells (g.W.World.seen c.args.world.now) (g.W.World.seen c.next_item.new.world) c.args.self.now.net c.in_ok-item.ensures.places
+
+pub returns-in-Idle-clause-reads : goal.returns-in-Idle-clause-reads
+returns-in-Idle-clause-reads g c = over_reads g.W.World.Tells c.in_ok-item.item c.next_item.new.buf (g.W.World.seen c.args.world.now) (g.W.World.seen c.next_item.new.world) c.args.self.now.net (inl c.in-Idle.is) c.in_ok-item.ensures.nexts
+
+pub returns-in-Idle-clause-begun : goal.returns-in-Idle-clause-begun
+returns-in-Idle-clause-begun g c = over_begun g.W.World.Tells _ (g.W.World.seen c.args.world.now) (g.W.World.seen c.next_item.new.world)
+
+pub returns-in-End-clause-places : goal.returns-in-End-clause-places
+returns-in-End-clause-places g c = next_places g.W.World.Tells (g.W.World.seen c.args.world.now) (g.W.World.seen c.next_item.new.world) c.args.self.now.net c.in_ok-item.ensures.places
+
+pub returns-in-End-clause-reads : goal.returns-in-End-clause-reads
+returns-in-End-clause-reads g c = over_reads g.W.World.Tells c.in_ok-item.item c.next_item.new.buf (g.W.World.seen c.args.world.now) (g.W.World.seen c.next_item.new.world) c.args.self.now.net (inr c.in-End.is) c.in_ok-item.ensures.nexts
+
+pub returns-in-End-clause-begun : goal.returns-in-End-clause-begun
+returns-in-End-clause-begun g c = over_begun g.W.World.Tells _ (g.W.World.seen c.args.world.now) (g.W.World.seen c.next_item.new.world)
+
+pub returns-in_err-item-clause-places : goal.returns-in_err-item-clause-places
+returns-in_err-item-clause-places g c = next_places g.W.World.Tells (g.W.World.seen c.args.world.now) (g.W.World.seen c.next_item.new.world) c.args.self.now.net c.in_err-item.ensures.places
+
+pub returns-in_err-take_item-in_default-clause-places : goal.returns-in_err-take_item-in_default-clause-places
+returns-in_err-take_item-in_default-clause-places g c =
+    handled_places g.W.World.Tells c.in_ok-item.item c.next_item.new.buf (g.W.World.seen c.args.world.now) (g.W.World.seen c.next_item.new.world) (g.W.World.seen c.take_item.new.world) c.args.self.now.net c.in_ok-item.ensures.nexts c.in_err-take_item-in_default.ensures.continues c.in_err-take_item-in_default.ensures.places
+
+pub returns-in_err-take_item-in_default-clause-quietly : goal.returns-in_err-take_item-in_default-clause-quietly
+returns-in_err-take_item-in_default-clause-quietly g c =
+    handled_quietly g.W.World.Tells (g.W.World.seen c.args.world.now) (g.W.World.seen c.next_item.new.world) (g.W.World.seen c.take_item.new.world) c.in_err-take_item-in_default.ensures.continues c.in_ok-item.ensures.quietly c.in_err-take_item-in_default.ensures.links

@@ -3,6 +3,8 @@ use Rattle.event_dispatch.specs.TurnLaws.{turn_so}
 use Rattle.event_dispatch.specs.PlainLaws.{err_is, turn_memory}
 use Rattle.event_dispatch.specs.Plain.{PlainTurn}
 use Rattle.event_dispatch.specs.TalkingLaws.{turn_of, turn_closed, holds_on_err}
+use Rattle.event_dispatch.specs.SteadyLaws.{places_then, reads_then}
+use Rattle.event_dispatch.specs.DispatchPlaceLaws.{later_of, later_quietly}
 use Rattle.event_dispatch.proofs.run.Run.take_turn.Goals as goal
 
 pub returns-clause-turn : goal.returns-clause-turn
@@ -26,3 +28,21 @@ pub returns-in_err-close-clause-talks : goal.returns-in_err-close-clause-talks
 returns-in_err-close-clause-talks g c =
     holds_on_err c.from_residual-in_err-close.result
     (turn_closed c.args.self.now.app.state.index c.args.self.now.app.state.rest (g.W.World.seen c.args.world.now) (g.W.World.seen c.play.new.world) (g.W.World.seen c.close.new.world) c.requires.index c.in_ok-end.ensures.plays c.close.ensures.talks)
+
+pub returns-in_err-end-clause-later : goal.returns-in_err-end-clause-later
+returns-in_err-end-clause-later g c = later_of c.args.self.now.app.state.index c.requires.index c.play.ensures.later
+
+pub returns-in_err-close-clause-later : goal.returns-in_err-close-clause-later
+returns-in_err-close-clause-later g c = later_quietly c.args.self.now.app.state.index c.requires.index c.play.ensures.later c.close.ensures.quietly
+
+pub returns-clause-later : goal.returns-clause-later
+returns-clause-later g c = later_quietly c.args.self.now.app.state.index c.requires.index c.play.ensures.later c.close.ensures.quietly
+
+pub returns-in_err-close-clause-places : goal.returns-in_err-close-clause-places
+returns-in_err-close-clause-places g c = places_then (g.W.World.seen c.args.world.now) (g.W.World.seen c.play.new.world) (g.W.World.seen c.close.new.world) c.args.self.now.net c.play.new.net c.play.ensures.continues c.close.ensures.continues c.play.ensures.places c.in_ok-end.ensures.reads c.close.ensures.places
+
+pub returns-clause-places : goal.returns-clause-places
+returns-clause-places g c = places_then (g.W.World.seen c.args.world.now) (g.W.World.seen c.play.new.world) (g.W.World.seen c.close.new.world) c.args.self.now.net c.play.new.net c.play.ensures.continues c.close.ensures.continues c.play.ensures.places c.in_ok-end.ensures.reads c.close.ensures.places
+
+pub returns-clause-reads : goal.returns-clause-reads
+returns-clause-reads g c = reads_then (g.W.World.seen c.args.world.now) (g.W.World.seen c.play.new.world) (g.W.World.seen c.close.new.world) c.args.self.now.net c.play.new.net c.close.new.self.net c.play.ensures.continues c.close.ensures.continues c.in_ok-end.ensures.reads c.in_ok-close.ensures.reads

@@ -1,8 +1,7 @@
 use Rattle.std.proofs.Common.{◌≤◌, ◌+◌, List, length, sym, subst, arith}
-use Rattle.std.specs.List.{AllByRecursion}
 use Rattle.outside.specs.State.{Link, with_link, link_joined}
-use Rattle.sim_world.specs.Links.{AreReadable, waiting_in}
-use Rattle.sim_world.specs.LinksLaws.{few_joined, few_left, readable_joined, readable_left}
+use Rattle.sim_world.specs.Links.{waiting_in}
+use Rattle.sim_world.specs.LinksLaws.{few_joined, few_left}
 use Rattle.sim_world.proofs.Places.{either_way}
 use Rattle.sim_world.proofs.links.Links.begin.Goals as goal
 
@@ -13,18 +12,7 @@ returns-in-Join-clause-few c =
     either_way c.begin_join.result (λ (ls : List Link). length (waiting_in ls) ≤ length (waiting_in old) + 262144) old c.begin_join.new.self (with_link d (link_joined c.args.moment) old) c.begin_join.ensures.ok c.begin_join.ensures.err
     (few_joined d c.args.moment old) (omega arith)
 
-pub returns-in-Join-clause-readable : goal.returns-in-Join-clause-readable
-returns-in-Join-clause-readable c = λ own read.
-    let old = c.args.self.now in
-    let d = c.in-Join.dpid in
-    either_way c.begin_join.result (λ (ls : List Link). AllByRecursion (λ (l : Link). AreReadable l.waits) ls) old c.begin_join.new.self (with_link d (link_joined c.args.moment) old) c.begin_join.ensures.ok c.begin_join.ensures.err
-    (readable_joined d c.args.moment old read) read
-
 pub returns-in-Leave-clause-few : goal.returns-in-Leave-clause-few
 returns-in-Leave-clause-few c =
     let old = c.args.self.now in
     subst (λ (ls : List Link). length (waiting_in ls) ≤ length (waiting_in old) + 262144) (sym c.begin_leave.ensures.left) (few_left c.in-Leave.dpid old)
-
-pub returns-in-Leave-clause-readable : goal.returns-in-Leave-clause-readable
-returns-in-Leave-clause-readable c = λ own read.
-    subst (λ (ls : List Link). AllByRecursion (λ (l : Link). AreReadable l.waits) ls) (sym c.begin_leave.ensures.left) (readable_left c.in-Leave.dpid c.args.self.now read)

@@ -1,4 +1,4 @@
-use Rattle.std.proofs.Common.{◌≡◌, [], ◌∷◌, ap, subst, ◌∙◌}
+use Rattle.std.proofs.Common.{◌≡◌, [], ◌∷◌, subst, ◌∙◌}
 use Rattle.outside.specs.declared.step.WorldStep.TheVariants.{Idle}
 use Rattle.sim_world.specs.Links.{waiting_in}
 use Rattle.sim_world.specs.World.{WorldData, Moves}
@@ -15,4 +15,3 @@ returns-clause-tells c =
     (subst (λ (w : WorldData). Moves w new (Idle ∷ []) w.tally) same c.tell_idle.ensures.moves)
     first.0
     (subst (λ (w : WorldData). waiting_in w.state.links ≡ []) first.1 second.0)
-    (c.tell_idle.ensures.links ∙ ap (λ (w : WorldData). w.state.links) same)

@@ -1,0 +1,48 @@
+-- Histories that go on with calls for one application, and none for another. All of this is our own.
+use Rattle.std.specs.Prelude.{◌≡◌, ℕ, List, ◌++◌, map}
+use Rattle.std.specs.List.{AllByRecursion}
+use Rattle.of_types.specs.declared.journal.Act.{Act}
+use Rattle.of_types.specs.declared.journal.Act.TheVariants.{Started, Gave, Gone, Took, Ended}
+use Rattle.outside.specs.declared.step.WorldStep.{WorldStep}
+use Rattle.outside.specs.declared.step.WorldStep.TheVariants.{Acted, TookInto, NotOpened}
+use Rattle.outside.specs.Seen.{Seen}
+use Rattle.outside.specs.Quiet.{Unquiet, IsLastQuiet}
+use Rattle.journal_readings.specs.Readings.{Calls}
+use Rattle.app_visor.specs.Talks.{step_of}
+
+abbrev pub IsActFor : ℕ → Act → Type 0
+IsActFor app (Started of stands) = of ≡ app
+IsActFor app (Gave of bytes) = of ≡ app
+IsActFor app (Gone of bytes) = of ≡ app
+IsActFor app (Took of what) = of ≡ app
+IsActFor app (Ended of) = of ≡ app
+IsActFor app other = Unit {0}
+
+-- no call for another application, and no opening that failed
+abbrev pub IsCallFor : ℕ → WorldStep → Type 0
+IsCallFor app (Acted act) = IsActFor app act
+IsCallFor app (TookInto of what room) = of ≡ app
+IsCallFor app NotOpened = ⊥
+IsCallFor app other = Unit {0}
+
+-- The history went on so.
+pub record CallsFor {Own : Type 0} (app : ℕ) (old new : Seen Own) : Type 0 where
+  pub steps : List WorldStep
+  pub history : new.history ≡ old.history ++ steps
+  pub all : AllByRecursion (IsCallFor app) steps
+
+-- It went on with calls for the application alone, none of which gave it an event.
+pub record OwnSteps {Own : Type 0} (app : ℕ) (old new : Seen Own) : Type 0 where
+  pub acts : List Act
+  pub history : new.history ≡ old.history ++ map step_of acts
+  pub all : Calls app acts
+
+-- It went on with no call for another application, and no place was quiet since then.
+pub record Calmly {Own : Type 0} (app : ℕ) (old new : Seen Own) : Type 0 where
+  pub unquiet : Unquiet old new
+  pub own : CallsFor app old new
+
+-- It went on with no call for another application, and no place behind that one was quiet.
+pub record CalmLater {Own : Type 0} (app : ℕ) (old new : Seen Own) : Type 0 where
+  pub last : IsLastQuiet old new
+  pub own : CallsFor app old new

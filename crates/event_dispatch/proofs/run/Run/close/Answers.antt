@@ -1,0 +1,15 @@
+use Rattle.std.proofs.Common.{ap}
+use Rattle.std.proofs.lemmas.Result.{on_ok_weaker}
+use Rattle.shown_runs.specs.Engine.{Engine}
+use Rattle.event_dispatch.specs.SteadyLaws.{places_none, reads_none}
+use Rattle.event_dispatch.proofs.run.Run.close.Goals as goal
+
+pub returns-in_err-note_turn-in-Failed-clause-places : goal.returns-in_err-note_turn-in-Failed-clause-places
+returns-in_err-note_turn-in-Failed-clause-places g c = places_none g.W.World.Tells (g.W.World.seen c.args.world.now) c.args.self.now.net
+
+pub returns-after-stop-clause-places : goal.returns-after-stop-clause-places
+returns-after-stop-clause-places g c = places_none g.W.World.Tells (g.W.World.seen c.args.world.now) c.args.self.now.net
+
+pub returns-after-stop-clause-reads : goal.returns-after-stop-clause-reads
+returns-after-stop-clause-reads g c =
+    on_ok_weaker c.note_turn.result (λ adds. reads_none g.W.World.Tells (g.W.World.seen c.args.world.now) c.args.self.now.net c.note_turn.new.self.net (ap (λ (e : Engine). e.net.views) adds.engine)) c.note_turn.ensures.adds

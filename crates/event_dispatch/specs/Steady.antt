@@ -1,0 +1,36 @@
+-- What the engine keeps of a world that tells in order: calls of links are in place, all bytes that came of switches were read where a part
+-- of a run was done, and no quiet place lies behind the one where a part began that was not. All of this is our own.
+use Rattle.std.specs.Prelude.{◌≡◌, false, []}
+use Rattle.outside.specs.Seen.{Seen}
+use Rattle.outside.specs.State.{State, state, upcoming}
+use Rattle.outside.specs.InOrder.{InOrder, MessagesSince}
+use Rattle.outside.specs.Quiet.{Unquiet, IsLastQuiet}
+use Rattle.net_txn.specs.Net.{NetState}
+use Rattle.net_txn.specs.LinkSteps.{StaysInPlace}
+use Rattle.net_txn.specs.Abreast.{Abreast}
+use Rattle.app_visor.specs.CallsFor.{CallsFor}
+use Rattle.shown_runs.specs.Engine.{index}
+
+-- however it ended: calls of links were in place
+pub record InPlace {Own : Type 0} (Tells : Type 0) (old new : Seen Own) (net : NetState) : Type 0 where
+  pub places : Tells → InOrder new → Abreast old net → StaysInPlace old new
+
+-- where it was done: the host keeps up with the switches, and what came of them are messages
+pub record Reads {Own : Type 0} (Tells : Type 0) (old new : Seen Own) (net now_net : NetState) : Type 0 where
+  pub abreast : Tells → InOrder new → Abreast old net → Abreast new now_net
+  pub read : Tells → InOrder new → Abreast old net → MessagesSince old new
+
+-- no stimulus is begun, and nothing is to be told
+pub record IsAtRest (s : State) : Type 0 where
+  pub none_begun : s.begun ≡ false
+  pub none_upcoming : upcoming s ≡ []
+
+-- however it ended: no quiet place since then, and no call for another application
+pub record Quietly {Own : Type 0} (Tells : Type 0) (old new : Seen Own) : Type 0 where
+  pub unquiet : Tells → Unquiet old new
+  pub own : Tells → CallsFor index old new
+
+-- no quiet place behind that one, where all was at rest there
+pub record AtMostHere {Own : Type 0} (Tells : Type 0) (old new : Seen Own) : Type 0 where
+  pub last : Tells → InOrder new → IsAtRest (state old) → IsLastQuiet old new
+  pub own : Tells → CallsFor index old new

@@ -1,0 +1,176 @@
+-- Laws of hosts that keep up with their switches: calls of links move no switch in or out and make nothing due, so that a host whose views
+-- keep their switches goes on to keep up.
+use Rattle.std.specs.Prelude.{◌≡◌, ◌≢◌, ◌==◌, ℕ, Bool, true, false, not, ◌||◌, List, [], ◌∷◌, map, filter, drop, Option, Result, Ok, Err, IsOkAnd, if◌then◌else◌, refl}
+use Rattle.std.specs.Option.{is_some}
+use Rattle.std.proofs.Common.{sym, ap, ◌∙◌, subst, inl, inr}
+use Rattle.std.proofs.lemmas.Bool.{cases_eq, ne_eqb, eqb-true}
+use Rattle.of_types.specs.declared.port_desc.PortDesc.{PortDesc}
+use Rattle.of_match.specs.declared.key.Key.{Key}
+use Rattle.of_wire.specs.declared.message.Envelope.{Envelope}
+use Rattle.of_wire.specs.declared.message.Message.{Message}
+use Rattle.of_wire.specs.declared.message.Message.TheVariants as messages
+use Rattle.of_wire.specs.declared.fault.WireFault.{WireFault}
+use Rattle.of_wire.specs.Reading.{reading_of}
+use Rattle.flow_table.specs.declared.view.ViewRow.{ViewRow}
+use Rattle.flow_table.specs.declared.view.TableView.{TableView}
+use Rattle.app_frames.specs.declared.frame.Answer.{Answer}
+use Rattle.app_frames.specs.declared.frame.Event.{Event}
+use Rattle.outside.specs.declared.step.WorldStep.{WorldStep}
+use Rattle.outside.specs.Seen.{Seen, Continues}
+use Rattle.outside.specs.State.{State, state, is_joined}
+use Rattle.outside.specs.StateLaws.{state-append}
+use Rattle.outside.specs.Quiet.{NoneQuiet, Unquiet}
+use Rattle.outside.specs.QuietLaws.{unquiet-by}
+use Rattle.net_txn.specs.declared.fault.TxnFault.{TxnFault}
+use Rattle.net_txn.specs.LinkSteps.{AreLinkSteps, LinkSteps, OnLinks}
+use Rattle.net_txn.specs.Views.{with_rows}
+use Rattle.net_txn.specs.Net.{NetState}
+use Rattle.net_txn.specs.Joining.{with_view, Joins}
+use Rattle.net_txn.specs.JoiningLaws.{rows_at-with_view, rows_at-with_view-other}
+use Rattle.net_txn.specs.Leaving.{without}
+use Rattle.net_txn.specs.Arriving.{without_key, net_after, Becomes, Arrives}
+use Rattle.net_txn.specs.Changes.{Changes}
+use Rattle.net_txn.specs.Undos.{is_viewed, without_keys, but_fare, Undoes}
+use Rattle.net_txn.specs.AgreeLaws.{viewed}
+use Rattle.net_txn.specs.Abreast.{Abreast}
+use Rattle.net_txn.specs.JoinedLaws.{LeavesSo, step_leaves, steps_leave}
+
+-- ---- Steps of links alone
+
+links_leave : {Own : Type 0} {Tells : Type 0} {old new : Seen Own} → Continues Tells old new → LinkSteps old new → LeavesSo (state old) (state new)
+links_leave {old = old} {new = new} later links =
+    subst (λ (s : State). LeavesSo (state old) s) (sym (state-append old new links.steps later.given links.history)) (steps_leave links.steps (state old) links.all)
+
+pub links-joined : {Own : Type 0} {Tells : Type 0} {old new : Seen Own} → Continues Tells old new → LinkSteps old new → (d : ℕ) → is_joined d (state new) ≡ is_joined d (state old)
+links-joined later links d = (links_leave later links).joined d
+
+pub links-due : {Own : Type 0} {Tells : Type 0} {old new : Seen Own} → Continues Tells old new → LinkSteps old new → (state new).due ≡ (state old).due
+links-due later links = (links_leave later links).due
+
+pub links-begun : {Own : Type 0} {Tells : Type 0} {old new : Seen Own} → Continues Tells old new → LinkSteps old new → (state new).begun ≡ (state old).begun
+links-begun later links = (links_leave later links).begun
+
+-- what a step is does not depend on the state
+none_quiet : (steps : List WorldStep) (s : State) → AreLinkSteps steps → NoneQuiet steps
+none_quiet [] s all = tt
+none_quiet (x ∷ xs) s all = ((step_leaves x s all.0).unquiet, none_quiet xs s all.1)
+
+pub links-unquiet : {Own : Type 0} {old new : Seen Own} → LinkSteps old new → Unquiet old new
+links-unquiet {old = old} {new = new} links = unquiet-by old new links.steps links.history (none_quiet links.steps (state old) links.all)
+
+-- ---- Views that keep their switches
+
+row_viewed : (e : ℕ) (change : List ViewRow → List ViewRow) (v : TableView) (vs changed : List TableView) (here : Bool) → is_viewed e changed ≡ is_viewed e vs
+    → is_viewed e (if here then record v { rows = change v.rows } ∷ vs else v ∷ changed) ≡ is_viewed e (v ∷ vs)
+row_viewed e change v vs changed true rest = refl
+row_viewed e change v vs changed false rest = ap (λ (b : Bool). (v.dpid == e) || b) rest
+
+pub with_rows-viewed : (d e : ℕ) (change : List ViewRow → List ViewRow) (vs : List TableView) → is_viewed e (with_rows d change vs) ≡ is_viewed e vs
+with_rows-viewed d e change [] = refl
+with_rows-viewed d e change (v ∷ vs) = row_viewed e change v vs (with_rows d change vs) (v.dpid == d) (with_rows-viewed d e change vs)
+
+pub without_keys-viewed : (e : ℕ) (ps : List (ℕ × Key)) (vs : List TableView) → is_viewed e (without_keys ps vs) ≡ is_viewed e vs
+without_keys-viewed e [] vs = refl
+without_keys-viewed e (p ∷ ps) vs = without_keys-viewed e ps (with_rows p.0 (without_key p.1) vs) ∙ with_rows-viewed p.0 e (without_key p.1) vs
+
+abbrev rows_there : Option (List ViewRow) → Bool
+rows_there o = is_some o
+
+pub with_view-viewed : (d : ℕ) (vs : List TableView) → is_viewed d (with_view d vs) ≡ true
+with_view-viewed d vs = viewed d (with_view d vs) ∙ ap rows_there (rows_at-with_view d vs)
+
+pub with_view-viewed-other : (d e : ℕ) (vs : List TableView) → e ≢ d → is_viewed e (with_view d vs) ≡ is_viewed e vs
+with_view-viewed-other d e vs other = viewed e (with_view d vs) ∙ ap rows_there (rows_at-with_view-other d e vs other) ∙ sym (viewed e vs)
+
+left_if : (d : ℕ) (v : TableView) (kept : List TableView) (here : Bool) → (v.dpid == d) ≡ here → is_viewed d kept ≡ false → is_viewed d (if not here then v ∷ kept else kept) ≡ false
+left_if d v kept true is rest = rest
+left_if d v kept false is rest = rw is rest
+
+-- without the views of a switch
+pub left_viewed : (d : ℕ) (vs : List TableView) → is_viewed d (filter (λ v. not (v.dpid == d)) vs) ≡ false
+left_viewed d [] = refl
+left_viewed d (v ∷ vs) = left_if d v (filter (λ w. not (w.dpid == d)) vs) (v.dpid == d) refl (left_viewed d vs)
+
+left_other_if : (d e : ℕ) (v : TableView) (vs kept : List TableView) (here : Bool) → e ≢ d → (v.dpid == d) ≡ here → is_viewed e kept ≡ is_viewed e vs → is_viewed e (if not here then v ∷ kept else kept) ≡ is_viewed e (v ∷ vs)
+left_other_if d e v vs kept true other is rest = let apart : (v.dpid == e) ≡ false = ne_eqb v.dpid e (λ same. other (sym same ∙ eqb-true v.dpid d is)) in rw apart rest
+left_other_if d e v vs kept false other is rest = ap (λ (b : Bool). (v.dpid == e) || b) rest
+
+pub left_viewed-other : (d e : ℕ) (vs : List TableView) → e ≢ d → is_viewed e (filter (λ v. not (v.dpid == d)) vs) ≡ is_viewed e vs
+left_viewed-other d e [] other = refl
+left_viewed-other d e (v ∷ vs) other = left_other_if d e v vs (filter (λ w. not (w.dpid == d)) vs) (v.dpid == d) other refl (left_viewed-other d e vs other)
+
+abbrev in_views : ℕ → List TableView → Bool
+in_views e vs = is_viewed e vs
+
+arrival_viewed : (d e : ℕ) (m : Message) (net : NetState) → is_viewed e (net_after d m net).views ≡ is_viewed e net.views
+arrival_viewed d e (messages.FlowRemoved f) net = with_rows-viewed d e _ net.views
+arrival_viewed d e (messages.PortStatus status) net = refl
+arrival_viewed d e (messages.Hello payload) net = refl
+arrival_viewed d e (messages.Error kind code payload) net = refl
+arrival_viewed d e (messages.EchoRequest payload) net = refl
+arrival_viewed d e (messages.EchoReply payload) net = refl
+arrival_viewed d e (messages.Vendor payload) net = refl
+arrival_viewed d e messages.FeaturesRequest net = refl
+arrival_viewed d e (messages.FeaturesReply features) net = refl
+arrival_viewed d e messages.GetConfigRequest net = refl
+arrival_viewed d e (messages.GetConfigReply config) net = refl
+arrival_viewed d e (messages.SetConfig config) net = refl
+arrival_viewed d e (messages.PacketIn packet) net = refl
+arrival_viewed d e (messages.PacketOut packet) net = refl
+arrival_viewed d e (messages.FlowMod m) net = refl
+arrival_viewed d e (messages.PortMod port) net = refl
+arrival_viewed d e (messages.StatsRequest m) net = refl
+arrival_viewed d e (messages.StatsReply m) net = refl
+arrival_viewed d e messages.BarrierRequest net = refl
+arrival_viewed d e messages.BarrierReply net = refl
+arrival_viewed d e (messages.QueueGetConfigRequest payload) net = refl
+arrival_viewed d e (messages.QueueGetConfigReply payload) net = refl
+
+-- ---- The host keeps up
+
+pub abreast-by : {Own : Type 0} {Tells : Type 0} {old new : Seen Own} (net now_net : NetState) → Continues Tells old new → LinkSteps old new → ((e : ℕ) → is_viewed e now_net.views ≡ is_viewed e net.views) → Abreast old net → Abreast new now_net
+abreast-by net now_net later links views abreast = record {
+  joined = λ e. links-joined later links e ∙ abreast.joined e ∙ sym (views e);
+  none_due = links-due later links ∙ abreast.none_due;
+}
+
+-- a call that leaves the views
+pub asks_abreast : {Own : Type 0} {Tells : Type 0} {old new : Seen Own} (net now_net : NetState) → Continues Tells old new → LinkSteps old new → now_net.views ≡ net.views → Abreast old net → Abreast new now_net
+asks_abreast net now_net later links views abreast = abreast-by net now_net later links (λ e. ap (in_views e) views) abreast
+
+pub changes_abreast : {Own : Type 0} {Tells : Type 0} {d : ℕ} {bytes : List ℕ} {old new : Seen Own} {net now_net : NetState} {result : Result Answer TxnFault} → Changes Tells d bytes old new net now_net result → Tells → Abreast old net → Abreast new now_net
+changes_abreast {net = net} {now_net = now_net} c told abreast =
+    abreast-by net now_net c.continues (c.links told) (λ e. viewed e now_net.views ∙ c.switches e ∙ sym (viewed e net.views)) abreast
+
+pub undoes_abreast : {Own : Type 0} {Tells : Type 0} {start : ℕ} {old new : Seen Own} {net now_net : NetState} {result : Result (Unit {0}) TxnFault} → Undoes Tells start old new net now_net result → Tells → Abreast old net → Abreast new now_net
+undoes_abreast {start = start} {net = net} {now_net = now_net} u told abreast = abreast-by net now_net u.continues (u.links told) (λ e. ap (in_views e) u.views ∙ without_keys-viewed e (map but_fare (drop start net.log)) net.views) abreast
+
+became_viewed : {Own : Type 0} (Tells : Type 0) (d e : ℕ) (r : Result Envelope WireFault) (old new : Seen Own) (net now_net : NetState) (event : Option Event) → IsOkAnd r (λ x. Becomes Tells d x.xid x.message old new net now_net event) → is_viewed e now_net.views ≡ is_viewed e net.views
+became_viewed Tells d e (Ok x) old new net now_net event b = ap (λ (n : NetState). is_viewed e n.views) b.net_so ∙ arrival_viewed d e x.message net
+became_viewed Tells d e (Err fault) old new net now_net event b = absurd b
+
+pub arrives_abreast : {Own : Type 0} {Tells : Type 0} {d : ℕ} {frame : List ℕ} {old new : Seen Own} {net now_net : NetState} {result : Result (Option Event) TxnFault} → Arrives Tells d frame old new net now_net result → Tells → Abreast old net → Abreast new now_net
+arrives_abreast {Tells = Tells} {d = d} {frame = frame} {old = old} {new = new} {net = net} {now_net = now_net} {result = Ok event} a told abreast =
+    abreast-by net now_net a.continues (a.links told) (λ e. became_viewed Tells d e (reading_of frame) old new net now_net event a.read) abreast
+arrives_abreast {net = net} {now_net = now_net} {result = Err fault} a told abreast = abreast-by net now_net a.continues (a.links told) (λ e. ap (λ (n : NetState). is_viewed e n.views) a.err) abreast
+
+-- a switch joined, the only one that had no view
+pub joins_abreast : {Own : Type 0} {Tells : Type 0} {d : ℕ} {ports : List PortDesc} {old new : Seen Own} {net now_net : NetState} → Joins Tells d ports old new net now_net → OnLinks Tells old new → Tells → is_joined d (state old) ≡ true
+    → ((e : ℕ) → e ≢ d → is_joined e (state old) ≡ is_viewed e net.views) → (state old).due ≡ [] → Abreast new now_net
+joins_abreast {d = d} {old = old} {net = net} {now_net = now_net} j links told here others none = record {
+  joined = λ e. links-joined j.waits.hears.continues (links told) e ∙ elim (cases_eq e d) [
+    | inl same ↦ ap (λ (n : ℕ). is_joined n (state old)) same ∙ here ∙ sym (ap (in_views e) j.views ∙ ap (λ (n : ℕ). is_viewed n (with_view d net.views)) same ∙ with_view-viewed d net.views)
+    | inr other ↦ others e other ∙ sym (ap (in_views e) j.views ∙ with_view-viewed-other d e net.views other)
+  ];
+  none_due = links-due j.waits.hears.continues (links told) ∙ none;
+}
+
+-- a switch left, the only one out that had a view
+pub leaves_abreast : {Own : Type 0} (seen : Seen Own) (d : ℕ) (net : NetState) → is_joined d (state seen) ≡ false → ((e : ℕ) → e ≢ d → is_joined e (state seen) ≡ is_viewed e net.views) → (state seen).due ≡ [] → Abreast seen (without d net)
+leaves_abreast seen d net out others none = record {
+  joined = λ e. elim (cases_eq e d) [
+    | inl same ↦ ap (λ (n : ℕ). is_joined n (state seen)) same ∙ out ∙ sym (ap (λ (n : ℕ). is_viewed n (without d net).views) same ∙ left_viewed d net.views)
+    | inr other ↦ others e other ∙ sym (left_viewed-other d e net.views other)
+  ];
+  none_due = none;
+}
