@@ -21,9 +21,9 @@ use Rattle.outside.specs.SeenLaws.{Continues-trans}
 use Rattle.outside.specs.State.{State, state, is_running, marks_after_gave, after_act, after_step, after_steps}
 use Rattle.outside.specs.StateLaws.{state-append}
 use Rattle.outside.specs.Calls.{Ends, end_steps}
-use Rattle.journal_readings.specs.Readings.{is_within, Within}
-use Rattle.journal_readings.specs.ReadingLaws.{Within-append}
-use Rattle.journal_readings.specs.FrameLaws.{restore_is_none}
+use Rattle.journal_laws.specs.Readings.{is_within, Within}
+use Rattle.journal_laws.specs.ReadingLaws.{Within-append}
+use Rattle.journal_laws.specs.FrameLaws.{restore_is_none}
 use Rattle.lego_model.specs.AtOnce.{before, nothing_said, besides, took_end}
 use Rattle.app_visor.specs.declared.came.Came.{Came}
 use Rattle.app_visor.specs.declared.came.Came.TheVariants as comes

@@ -14,7 +14,7 @@ use Rattle.lego_model.specs.Controller.{App, restore_frame, is_ready, attempts, 
 use Rattle.outside.specs.Seen.{Counts, Seen, Continues}
 use Rattle.outside.specs.State.{state, is_running}
 use Rattle.outside.specs.Calls.{Ends}
-use Rattle.journal_readings.specs.Readings.{Within}
+use Rattle.journal_laws.specs.Readings.{Within}
 use Rattle.lego_model.specs.AtOnce.{Before, nothing_said}
 use Rattle.app_visor.specs.declared.came.Came.{Came}
 use Rattle.app_visor.specs.declared.came.Came.TheVariants as comes

@@ -7,7 +7,7 @@ use Rattle.outside.specs.declared.step.WorldStep.{WorldStep}
 use Rattle.outside.specs.declared.step.WorldStep.TheVariants.{Acted, TookInto, NotOpened}
 use Rattle.outside.specs.Seen.{Seen}
 use Rattle.outside.specs.Quiet.{Unquiet, IsLastQuiet}
-use Rattle.journal_readings.specs.Readings.{Calls}
+use Rattle.journal_laws.specs.Readings.{Calls}
 use Rattle.app_visor.specs.Talks.{step_of}
 
 abbrev pub IsActFor : ℕ → Act → Type 0

@@ -12,7 +12,7 @@ use Rattle.outside.specs.Seen.{Seen}
 use Rattle.outside.specs.Quiet.{is_quiet, NoneQuiet}
 use Rattle.outside.specs.QuietLaws.{unquiet-none, unquiet-then, last_quiet-of, last_quiet-then}
 use Rattle.net_txn.specs.LinkSteps.{is_link_step, AreLinkSteps, LinkSteps}
-use Rattle.journal_readings.specs.FrameLaws.{answer_is_none}
+use Rattle.journal_laws.specs.FrameLaws.{answer_is_none}
 use Rattle.app_visor.specs.Talks.{step_of, Told, Wants, give_act}
 use Rattle.app_visor.specs.Reads.{Comes, Breaks}
 use Rattle.app_visor.specs.declared.came.Came.{Came}

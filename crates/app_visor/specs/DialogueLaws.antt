@@ -24,7 +24,7 @@ use Rattle.net_txn.specs.Net.{NetState, awaited_from}
 use Rattle.net_txn.specs.Waits.{wait_steps, reply_got, barrier_sent}
 use Rattle.net_txn.specs.Changes.{known_rows, answer_of_host, change_sent, error_in, ByHost}
 use Rattle.lego_model.specs.AtOnce.{Before, before, nothing_said, besides, is_message, Passes, SendsNone, AnsweredAtOnce, GivesFrame, Says, Dialogue}
-use Rattle.journal_readings.specs.AtOnceLaws.{answer_is_one, restore_is_no_answer, event_is_no_answer, passes_none, Dialogue-append, others_say, host_since, switch_since}
+use Rattle.journal_laws.specs.AtOnceLaws.{answer_is_one, restore_is_no_answer, event_is_no_answer, passes_none, Dialogue-append, others_say, host_since, switch_since}
 use Rattle.app_visor.specs.Talks.{step_of, Told}
 use Rattle.app_visor.specs.Reads.{takes, TakesAll, IsNext}
 use Rattle.app_visor.specs.Beats.{Exchange, IsExchange, exchange_of, Exchanges, acts_of}

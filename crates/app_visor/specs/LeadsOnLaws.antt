@@ -18,7 +18,7 @@ use Rattle.outside.specs.State.{state, is_running}
 use Rattle.outside.specs.Calls.{Ends}
 use Rattle.net_txn.specs.LinkSteps.{AreLinkSteps, OnLinks}
 use Rattle.net_txn.specs.Net.{NetState}
-use Rattle.journal_readings.specs.AtOnceLaws.{others_say}
+use Rattle.journal_laws.specs.AtOnceLaws.{others_say}
 use Rattle.app_visor.specs.declared.came.Came.TheVariants.{Frame}
 use Rattle.app_visor.specs.declared.state.TurnEnd.{TurnEnd}
 use Rattle.app_visor.specs.Talks.{Told, Wants}

@@ -16,9 +16,9 @@ use Rattle.outside.specs.Seen.{Seen}
 use Rattle.outside.specs.State.{state, is_running}
 use Rattle.outside.specs.Calls.{Ends}
 use Rattle.outside.specs.Quiet.{is_quiet, NoneQuiet, Unquiet}
-use Rattle.journal_readings.specs.Readings.{is_call, Calls}
-use Rattle.journal_readings.specs.CallLaws.{both_second, call_of, calls_both, calls_within}
-use Rattle.journal_readings.specs.FrameLaws.{restore_is_none}
+use Rattle.journal_laws.specs.Readings.{is_call, Calls}
+use Rattle.journal_laws.specs.CallLaws.{both_second, call_of, calls_both, calls_within}
+use Rattle.journal_laws.specs.FrameLaws.{restore_is_none}
 use Rattle.app_visor.specs.declared.came.Came.{Came}
 use Rattle.app_visor.specs.declared.came.Came.TheVariants as comes
 use Rattle.app_visor.specs.Talks.{step_of, Told, Wants, give_act}

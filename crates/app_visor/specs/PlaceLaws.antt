@@ -21,8 +21,8 @@ use Rattle.net_txn.specs.LinkPlaceLaws.{in_place_by, in_place_none, in_place_the
 use Rattle.net_txn.specs.AgreeLaws.{viewed}
 use Rattle.net_txn.specs.Abreast.{Abreast}
 use Rattle.net_txn.specs.AbreastLaws.{changes_abreast}
-use Rattle.journal_readings.specs.Readings.{Calls}
-use Rattle.journal_readings.specs.CallLaws.{calls_own}
+use Rattle.journal_laws.specs.Readings.{Calls}
+use Rattle.journal_laws.specs.CallLaws.{calls_own}
 use Rattle.app_visor.specs.declared.state.TurnEnd.{TurnEnd}
 use Rattle.app_visor.specs.Talks.{step_of, Told, give_act}
 use Rattle.app_visor.specs.Beats.{Beat, Talk, Asks, Chain, Halts, Stops}

@@ -26,7 +26,7 @@ use Rattle.app_visor.specs.Reads.{takes, Taken, Comes}
 use Rattle.app_visor.specs.Beats.{Talk, Asks, acts_in, exchange_of, IsExchange, Exchanges, Leads, Stops}
 use Rattle.app_visor.specs.BeatLaws.{same, Leads-refl}
 use Rattle.app_visor.specs.Dialogues.{is_done}
-use Rattle.journal_readings.specs.AtOnceLaws.{sends_none_both}
+use Rattle.journal_laws.specs.AtOnceLaws.{sends_none_both}
 use Rattle.app_visor.specs.DialogueLaws.{Converses-refl, Converses-then, converses_told, converses_takes, takes_send_none, converses_event}
 use Rattle.app_visor.specs.Turns.{IsEnd, LeavesNone, TurnsFrom, Turns, cause_of, Goes, EndsSo, FramePlayed, Plays, GoesOn, unread_after}
 use Rattle.app_visor.specs.TurnLaws.{turn_taken, goes_answered, ends_unanswered, given_more, given_none, IsUnbalanced, IsOver, turn_over}

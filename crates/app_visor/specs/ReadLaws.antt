@@ -13,7 +13,7 @@ use Rattle.lego_model.specs.Journal.{Untold, pieces, end_from, any_gone, gave, i
 use Rattle.lego_model.specs.Turns.{Framed, Faulty, Over, next_of}
 use Rattle.outside.specs.Seen.{Seen, Continues}
 use Rattle.outside.specs.SeenLaws.{Continues-refl, Continues-trans}
-use Rattle.journal_readings.specs.Readings.{Within}
+use Rattle.journal_laws.specs.Readings.{Within}
 use Rattle.app_visor.specs.declared.came.Came.{Came}
 use Rattle.app_visor.specs.declared.came.Came.TheVariants.{Frame, Refused, Closed, Silent}
 use Rattle.app_visor.specs.Talks.{Wants}

@@ -15,9 +15,9 @@ use Rattle.outside.specs.declared.step.WorldStep.{WorldStep}
 use Rattle.outside.specs.Seen.{Seen, journal}
 use Rattle.outside.specs.State.{State, state, is_running}
 use Rattle.outside.specs.StateLaws.{state-append}
-use Rattle.journal_readings.specs.Readings.{Within, Calls, LastStands, starts_in, replies_in}
-use Rattle.journal_readings.specs.ReadingLaws.{attempt_read}
-use Rattle.journal_readings.specs.CallLaws.{calls_within, calls_both, calls_own}
+use Rattle.journal_laws.specs.Readings.{Within, Calls, LastStands, starts_in, replies_in}
+use Rattle.journal_laws.specs.ReadingLaws.{attempt_read}
+use Rattle.journal_laws.specs.CallLaws.{calls_within, calls_both, calls_own}
 use Rattle.app_visor.specs.Talks.{step_of}
 use Rattle.app_visor.specs.Beats.{acts_of}
 use Rattle.app_visor.specs.Attempts.{end_acts, restored, IsTry, OneTry, AreTries, ready_rest, starts_of, given_by}

@@ -14,8 +14,8 @@ use Rattle.outside.specs.declared.step.WorldStep.TheVariants.{Acted}
 use Rattle.outside.specs.Seen.{journal}
 use Rattle.outside.specs.SeenLaws.{journal-append}
 use Rattle.outside.specs.State.{State, event_number, marks_after_gave, after_act, after_step, after_steps}
-use Rattle.journal_readings.specs.Readings.{is_call, Calls}
-use Rattle.journal_readings.specs.CallLaws.{both_second, call_of, calls_of, stimulus_called, no_stimuli}
+use Rattle.journal_laws.specs.Readings.{is_call, Calls}
+use Rattle.journal_laws.specs.CallLaws.{both_second, call_of, calls_of, stimulus_called, no_stimuli}
 use Rattle.app_visor.specs.Talks.{step_of}
 use Rattle.app_visor.specs.Beats.{acts_of}
 use Rattle.app_visor.specs.JournalLaws.{journal_told}

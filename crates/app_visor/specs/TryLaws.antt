@@ -18,8 +18,8 @@ use Rattle.outside.specs.Seen.{Counts, NoneFell, Seen, Continues}
 use Rattle.outside.specs.SeenLaws.{Continues-refl, Continues-trans, Ends-continues}
 use Rattle.outside.specs.State.{state, is_running}
 use Rattle.outside.specs.Calls.{Ends}
-use Rattle.journal_readings.specs.Readings.{Within}
-use Rattle.journal_readings.specs.ReadingLaws.{Within-append}
+use Rattle.journal_laws.specs.Readings.{Within}
+use Rattle.journal_laws.specs.ReadingLaws.{Within-append}
 use Rattle.lego_model.specs.AtOnce.{Before, nothing_said, attempted, Passes}
 use Rattle.app_visor.specs.Talks.{Told}
 use Rattle.app_visor.specs.Dialogues.{Converses, Speaks}

@@ -16,11 +16,11 @@ use Rattle.lego_model.specs.Turns.{Next, Framed, Faulty, Over, Outcome, Complete
 use Rattle.lego_model.specs.Scripted.{is_told, settles}
 use Rattle.lego_model.specs.Controller.{answer_frame}
 use Rattle.outside.specs.Seen.{Seen}
-use Rattle.journal_readings.specs.Readings.{is_within, Within}
-use Rattle.journal_readings.specs.ReadingLaws.{Within-append}
-use Rattle.journal_readings.specs.FrameLaws.{answer_is_none}
+use Rattle.journal_laws.specs.Readings.{is_within, Within}
+use Rattle.journal_laws.specs.ReadingLaws.{Within-append}
+use Rattle.journal_laws.specs.FrameLaws.{answer_is_none}
 use Rattle.lego_model.specs.AtOnce.{before, is_message, took_end, Passes}
-use Rattle.journal_readings.specs.AtOnceLaws.{sends_none_both}
+use Rattle.journal_laws.specs.AtOnceLaws.{sends_none_both}
 use Rattle.net_txn.specs.Net.{NetState}
 use Rattle.app_visor.specs.declared.came.Came.{Came}
 use Rattle.app_visor.specs.declared.came.Came.TheVariants as comes

@@ -14,7 +14,7 @@ use Rattle.lego_model.specs.Scripted.{is_heard_from, is_heard}
 use Rattle.lego_model.specs.Controller.{answer_frame, given_in}
 use Rattle.outside.specs.Seen.{Seen}
 use Rattle.net_txn.specs.Net.{NetState}
-use Rattle.journal_readings.specs.Readings.{Within}
+use Rattle.journal_laws.specs.Readings.{Within}
 use Rattle.lego_model.specs.AtOnce.{Before, before, Passes, SendsNone}
 use Rattle.app_visor.specs.declared.came.Came.{Came}
 use Rattle.app_visor.specs.declared.came.Came.TheVariants as comes

@@ -9,7 +9,7 @@ ghost use Rattle.lego_model.specs.Controller.{table_of, given_in};
 ghost use Rattle.outside.specs.Seen.{Seen};
 ghost use Rattle.outside.specs.State.{state, is_running};
 ghost use Rattle.net_txn.specs.Net.{NetState};
-ghost use Rattle.journal_readings.specs.Readings.{LastStands};
+ghost use Rattle.journal_laws.specs.Readings.{LastStands};
 ghost use Rattle.lego_model.specs.AtOnce.{Before, Passes};
 ghost use Rattle.app_visor.specs.declared.state.TurnEnd.{TurnEnd};
 ghost use Rattle.app_visor.specs.Beats.{Beat, Chain, acts_in, exchanges_in, acts_of, ActsTold};

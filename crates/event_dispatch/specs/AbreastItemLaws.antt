@@ -29,8 +29,8 @@ use Rattle.outside.specs.InOrderLaws.{InOrder-rest, InOrder-before}
 use Rattle.net_txn.specs.Net.{NetState}
 use Rattle.net_txn.specs.Undos.{is_viewed}
 use Rattle.net_txn.specs.Abreast.{Abreast}
-use Rattle.shown_switches.specs.StandLaws.{state-links}
-use Rattle.shown_batches.specs.ItemLaws.{waiting, Ascend}
+use Rattle.switch_laws.specs.StandLaws.{state-links}
+use Rattle.batch_laws.specs.ItemLaws.{waiting, Ascend}
 use Rattle.event_dispatch.specs.Told.{IsTold}
 use Rattle.event_dispatch.specs.NothingWaitsLaws.{AllEmptyOut, state_empty, steps_empty, out_is_empty}
 

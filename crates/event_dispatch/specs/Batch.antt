@@ -7,10 +7,10 @@ use Rattle.outside.specs.declared.item.Item.{Item}
 use Rattle.outside.specs.declared.item.Item.TheVariants as items
 use Rattle.outside.specs.Seen.{Seen}
 use Rattle.outside.specs.Conforming.{Conforming}
-use Rattle.shown_batches.specs.Calm.{Calm}
-use Rattle.shown_batches.specs.Batches.{Standing}
-use Rattle.shown_batches.specs.Items.{TakesNext}
-use Rattle.shown_batches.specs.InBatch.{BatchDone, BatchOver, SoFar}
+use Rattle.batch_laws.specs.Calm.{Calm}
+use Rattle.batch_laws.specs.Batches.{Standing}
+use Rattle.batch_laws.specs.Items.{TakesNext}
+use Rattle.batch_laws.specs.InBatch.{BatchDone, BatchOver, SoFar}
 use Rattle.event_dispatch.specs.declared.batch.Rest.{Rest}
 use Rattle.event_dispatch.specs.declared.batch.Rest.TheVariants as rests
 use Rattle.event_dispatch.specs.declared.run.Run.{Run}

@@ -16,11 +16,11 @@ use Rattle.outside.specs.StateLaws.{Conforming-before}
 use Rattle.outside.specs.Calls.{item_step}
 use Rattle.outside.specs.Conforming.{Conforming}
 use Rattle.net_txn.specs.Net.{NetState}
-use Rattle.shown_batches.specs.Calm.{Calm}
-use Rattle.shown_batches.specs.Items.{Handles, TakesNext}
-use Rattle.shown_batches.specs.HandleLaws.{idle_handles, end_handles}
-use Rattle.shown_batches.specs.InBatch.{SoFar, GoesOn}
-use Rattle.shown_batches.specs.InBatchLaws.{next_goes_on, never_so_many}
+use Rattle.batch_laws.specs.Calm.{Calm}
+use Rattle.batch_laws.specs.Items.{Handles, TakesNext}
+use Rattle.batch_laws.specs.HandleLaws.{idle_handles, end_handles}
+use Rattle.batch_laws.specs.InBatch.{SoFar, GoesOn}
+use Rattle.batch_laws.specs.InBatchLaws.{next_goes_on, never_so_many}
 use Rattle.event_dispatch.specs.declared.batch.Rest.{Rest}
 use Rattle.event_dispatch.specs.declared.batch.Rest.TheVariants as rests
 use Rattle.event_dispatch.specs.declared.run.Run.{Run}

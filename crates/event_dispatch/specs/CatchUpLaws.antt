@@ -24,8 +24,8 @@ use Rattle.net_txn.specs.Joining.{with_view}
 use Rattle.net_txn.specs.Undos.{is_viewed}
 use Rattle.net_txn.specs.AgreeLaws.{viewed}
 use Rattle.net_txn.specs.AbreastLaws.{links-joined, links-due, with_rows-viewed, with_view-viewed, with_view-viewed-other}
-use Rattle.shown_batches.specs.Knowledge.{Knowledge, knowledge_of, is_known, views_by, told_read, joined_read, left_by, handled}
-use Rattle.shown_batches.specs.Items.{DoesFrom, Handles}
+use Rattle.batch_laws.specs.Knowledge.{Knowledge, knowledge_of, is_known, views_by, told_read, joined_read, left_by, handled}
+use Rattle.batch_laws.specs.Items.{DoesFrom, Handles}
 use Rattle.event_dispatch.specs.Told.{IsTold, CatchesUp}
 
 -- ---- The views behind an item

@@ -9,11 +9,11 @@ use Rattle.outside.specs.InOrder.{InOrder, BringMessages, MessagesSince}
 use Rattle.net_txn.specs.Net.{NetState}
 use Rattle.net_txn.specs.Abreast.{Abreast}
 use Rattle.app_visor.specs.CallsFor.{CallsFor}
-use Rattle.shown_batches.specs.Calm.{Calm}
-use Rattle.shown_runs.specs.Engine.{Engine, index}
-use Rattle.shown_runs.specs.Moves.{Shown, dispatch_next}
-use Rattle.shown_runs.specs.Endings.{Leaves, ShownStart}
-use Rattle.shown_runs.specs.LastReport.{last_text}
+use Rattle.batch_laws.specs.Calm.{Calm}
+use Rattle.run_laws.specs.Engine.{Engine, index}
+use Rattle.run_laws.specs.Moves.{Shown, dispatch_next}
+use Rattle.run_laws.specs.Endings.{Leaves, ShownStart}
+use Rattle.run_laws.specs.LastReport.{last_text}
 use Rattle.event_dispatch.specs.declared.batch.Rest.{Rest}
 use Rattle.event_dispatch.specs.declared.fault.Fault.{Fault}
 use Rattle.event_dispatch.specs.declared.fault.Fault.TheVariants as faults

@@ -6,10 +6,10 @@ use Rattle.flow_table.specs.declared.view.TableView.{TableView}
 use Rattle.app_frames.specs.declared.frame.Event.{Event}
 use Rattle.outside.specs.Seen.{Seen, Continues}
 use Rattle.outside.specs.SeenLaws.{Continues-refl, Continues-trans}
-use Rattle.shown_runs.specs.Engine.{Engine}
-use Rattle.shown_runs.specs.LastReport.{last_text}
-use Rattle.shown_runs.specs.StartShownLaws.{start-shown}
-use Rattle.shown_runs.specs.EventLaws.{next-shown}
+use Rattle.run_laws.specs.Engine.{Engine}
+use Rattle.run_laws.specs.LastReport.{last_text}
+use Rattle.run_laws.specs.StartShownLaws.{start-shown}
+use Rattle.run_laws.specs.EventLaws.{next-shown}
 use Rattle.event_dispatch.specs.declared.batch.Rest.{Rest}
 use Rattle.event_dispatch.specs.declared.fault.Fault.{Fault}
 use Rattle.event_dispatch.specs.declared.fault.Fault.TheVariants as faults

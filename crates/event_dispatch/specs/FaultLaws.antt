@@ -32,7 +32,7 @@ use Rattle.net_txn.specs.Asks.{is_about, all_flows, flows_request, request_sent,
 use Rattle.net_txn.specs.Undos.{key_sent, key_refused, Part, Inverse, Settled, Stuck, part_steps, steps_of, parts_of, fault_in, first_fault_of, first_fault, inverses_of, IsFaultOf, IsRun, ended_by as undo_ended, Undoes}
 use Rattle.app_visor.specs.Beats.{Halts, Stops}
 use Rattle.app_visor.specs.BeatLaws.{Leads-continues}
-use Rattle.shown_switches.specs.AskedLaws.{asked}
+use Rattle.switch_laws.specs.AskedLaws.{asked}
 use Rattle.event_dispatch.specs.Why.{Happened, CameFrom, SentThenGot, rows_steps, came_for, IsBadPart, IsUnanswered, IsErrorFor, IsFlood, IsWhyTxn, IsWhy, fault_of, ended_by, IsReason, WhyMessage}
 use Rattle.event_dispatch.specs.WhyLaws.{happened_before, IsWhy-behind}
 

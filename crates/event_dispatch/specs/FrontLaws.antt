@@ -10,9 +10,9 @@ use Rattle.outside.specs.InOrder.{InOrder, BringMessages}
 use Rattle.outside.specs.InOrderLaws.{InOrder-before, in_order-Conforming, Conforming-on}
 use Rattle.net_txn.specs.Net.{NetState}
 use Rattle.net_txn.specs.Abreast.{Abreast}
-use Rattle.shown_batches.specs.Calm.{Calm}
-use Rattle.shown_batches.specs.ItemLaws.{waiting, links_ascend, none_waiting}
-use Rattle.shown_runs.specs.FirstLaws.{IsOpened, net_at_first, none-joined, calm-first}
+use Rattle.batch_laws.specs.Calm.{Calm}
+use Rattle.batch_laws.specs.ItemLaws.{waiting, links_ascend, none_waiting}
+use Rattle.run_laws.specs.FirstLaws.{IsOpened, net_at_first, none-joined, calm-first}
 use Rattle.event_dispatch.specs.Steady.{Reads, IsAtRest}
 
 -- ---- A world that was just opened

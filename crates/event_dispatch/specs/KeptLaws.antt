@@ -31,8 +31,8 @@ use Rattle.app_visor.specs.declared.state.TurnEnd.{TurnEnd}
 use Rattle.app_visor.specs.declared.state.TurnEnd.TheVariants as ends
 use Rattle.app_visor.specs.Beats.{Beat, Talk, Asks as AskedNow, Chain}
 use Rattle.app_visor.specs.Talks.{give_act}
-use Rattle.shown_switches.specs.AskedLaws.{asked}
-use Rattle.shown_runs.specs.Engine.{Engine}
+use Rattle.switch_laws.specs.AskedLaws.{asked}
+use Rattle.run_laws.specs.Engine.{Engine}
 use Rattle.event_dispatch.specs.declared.run.Run.{Run}
 use Rattle.event_dispatch.specs.Runs.{AreRead}
 use Rattle.event_dispatch.specs.Shows.{engine_of}

@@ -10,7 +10,7 @@ use Rattle.of_stats.specs.declared.flow_row.FlowRow.{FlowRow}
 use Rattle.flow_table.specs.declared.view.ViewRow.{ViewRow}
 use Rattle.flow_table.specs.declared.view.TableView.{TableView}
 use Rattle.flow_table.specs.Switch.{SwitchState}
-use Rattle.exact_undo.specs.Owned.{owned_switch}
+use Rattle.undo_laws.specs.Owned.{owned_switch}
 use Rattle.lego_model.specs.RunReport.{flow_line, switch_text}
 use Rattle.net_txn.specs.Net.{NetState}
 use Rattle.net_txn.specs.Views.{rows_at}
@@ -20,17 +20,17 @@ use Rattle.outside.specs.Seen.{Seen, Continues}
 use Rattle.outside.specs.State.{State, state, switch_of, waits_of}
 use Rattle.outside.specs.Conforming.{Conforming}
 use Rattle.outside.specs.StateLaws.{Conforming-before}
-use Rattle.shown_switches.specs.Shown.{flags_at, shown_places}
-use Rattle.shown_switches.specs.Since.{Ready}
-use Rattle.shown_switches.specs.Sound.{Sound}
-use Rattle.shown_switches.specs.SoundLaws.{rows-are}
-use Rattle.shown_switches.specs.StandLaws.{all-stand}
-use Rattle.shown_switches.specs.ClockLaws.{switch-in_time, moment-within}
-use Rattle.shown_runs.specs.Engine.{Engine}
-use Rattle.shown_runs.specs.LastReport.{SameKeys, flow_lines, table_lines, shown_text, engine_end, OnlyAsked}
-use Rattle.shown_runs.specs.LastReportLaws.{keys-same, table-shown, joined-with, out-with, places-shown, asked-nothing, asked-then}
-use Rattle.shown_runs.specs.Endings.{Leaves}
-use Rattle.shown_runs.specs.LeaveLaws.{asked-leaves}
+use Rattle.switch_laws.specs.Shown.{flags_at, shown_places}
+use Rattle.switch_laws.specs.Since.{Ready}
+use Rattle.switch_laws.specs.Sound.{Sound}
+use Rattle.switch_laws.specs.SoundLaws.{rows-are}
+use Rattle.switch_laws.specs.StandLaws.{all-stand}
+use Rattle.switch_laws.specs.ClockLaws.{switch-in_time, moment-within}
+use Rattle.run_laws.specs.Engine.{Engine}
+use Rattle.run_laws.specs.LastReport.{SameKeys, flow_lines, table_lines, shown_text, engine_end, OnlyAsked}
+use Rattle.run_laws.specs.LastReportLaws.{keys-same, table-shown, joined-with, out-with, places-shown, asked-nothing, asked-then}
+use Rattle.run_laws.specs.Endings.{Leaves}
+use Rattle.run_laws.specs.LeaveLaws.{asked-leaves}
 use Rattle.event_dispatch.specs.declared.run.Run.{Run}
 use Rattle.event_dispatch.specs.Shows.{engine_of, Adds}
 use Rattle.event_dispatch.specs.LastShown.{FindsFlags, FlowsSoFar, TableSaid, AsksShown, Says, TableShown, TablesShown, LastShown}

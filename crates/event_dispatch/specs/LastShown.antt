@@ -10,10 +10,10 @@ use Rattle.net_txn.specs.AskSteps.{RowsInStep}
 use Rattle.outside.specs.Seen.{Seen}
 use Rattle.outside.specs.State.{state, switch_of, waits_of}
 use Rattle.outside.specs.Conforming.{Conforming}
-use Rattle.shown_switches.specs.Since.{Ready}
-use Rattle.shown_switches.specs.Sound.{Sound}
-use Rattle.shown_batches.specs.Calm.{Calm}
-use Rattle.shown_runs.specs.LastReport.{SameKeys, flow_lines, table_lines, shown_text, last_text, OnlyAsked}
+use Rattle.switch_laws.specs.Since.{Ready}
+use Rattle.switch_laws.specs.Sound.{Sound}
+use Rattle.batch_laws.specs.Calm.{Calm}
+use Rattle.run_laws.specs.LastReport.{SameKeys, flow_lines, table_lines, shown_text, last_text, OnlyAsked}
 use Rattle.event_dispatch.specs.declared.run.Run.{Run}
 use Rattle.event_dispatch.specs.Shows.{engine_of, Adds}
 

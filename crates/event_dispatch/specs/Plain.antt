@@ -11,14 +11,14 @@ use Rattle.outside.specs.Conforming.{Conforming}
 use Rattle.net_txn.specs.declared.fault.TxnFault.{TxnFault}
 use Rattle.net_txn.specs.declared.fault.TxnFault.TheVariants.{SwitchFault, SwitchBroke, Diverged, Flooded, NoMemory}
 use Rattle.net_txn.specs.Net.{NetState}
-use Rattle.shown_switches.specs.Since.{Ready}
-use Rattle.shown_switches.specs.Sound.{Sound}
-use Rattle.shown_batches.specs.Calm.{Calm}
-use Rattle.shown_batches.specs.InBatch.{CanTake, CanTakeNext}
-use Rattle.shown_runs.specs.Engine.{Engine, stimuli_in}
-use Rattle.shown_runs.specs.Readings.{JudgesAlike}
-use Rattle.shown_runs.specs.Moves.{Settled}
-use Rattle.shown_runs.specs.Promise.{most_rounds}
+use Rattle.switch_laws.specs.Since.{Ready}
+use Rattle.switch_laws.specs.Sound.{Sound}
+use Rattle.batch_laws.specs.Calm.{Calm}
+use Rattle.batch_laws.specs.InBatch.{CanTake, CanTakeNext}
+use Rattle.run_laws.specs.Engine.{Engine, stimuli_in}
+use Rattle.run_laws.specs.Readings.{JudgesAlike}
+use Rattle.run_laws.specs.Moves.{Settled}
+use Rattle.run_laws.specs.Promise.{most_rounds}
 use Rattle.event_dispatch.specs.declared.fault.Fault.{Fault}
 use Rattle.event_dispatch.specs.declared.served.Served.{Served}
 use Rattle.event_dispatch.specs.declared.served.Served.TheVariants as ends

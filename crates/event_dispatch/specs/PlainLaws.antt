@@ -25,17 +25,17 @@ use Rattle.net_txn.specs.Views.{rows_at}
 use Rattle.app_visor.specs.declared.state.TurnEnd.{TurnEnd}
 use Rattle.app_visor.specs.Beats.{Stops}
 use Rattle.app_visor.specs.Turns.{Turns}
-use Rattle.shown_switches.specs.SoundLaws.{rows-are}
-use Rattle.shown_switches.specs.ClockLaws.{switch-in_time, moment-within}
-use Rattle.shown_turns.specs.StopShown.{IsPlainStop, stop-plain, turn-ready}
-use Rattle.shown_batches.specs.InBatchLaws.{next_can}
-use Rattle.shown_runs.specs.Engine.{Engine}
-use Rattle.shown_runs.specs.CalmLaws.{stands_ready}
-use Rattle.shown_runs.specs.FirstLaws.{engine_at_first, settled-first}
-use Rattle.shown_runs.specs.StimuliLaws.{fewer-before}
-use Rattle.shown_runs.specs.Promise.{Premise}
-use Rattle.shown_runs.specs.LastReportLaws.{joined-with}
-use Rattle.shown_runs.specs.Moves.{Settled}
+use Rattle.switch_laws.specs.SoundLaws.{rows-are}
+use Rattle.switch_laws.specs.ClockLaws.{switch-in_time, moment-within}
+use Rattle.turn_laws.specs.StopShown.{IsPlainStop, stop-plain, turn-ready}
+use Rattle.batch_laws.specs.InBatchLaws.{next_can}
+use Rattle.run_laws.specs.Engine.{Engine}
+use Rattle.run_laws.specs.CalmLaws.{stands_ready}
+use Rattle.run_laws.specs.FirstLaws.{engine_at_first, settled-first}
+use Rattle.run_laws.specs.StimuliLaws.{fewer-before}
+use Rattle.run_laws.specs.Promise.{Premise}
+use Rattle.run_laws.specs.LastReportLaws.{joined-with}
+use Rattle.run_laws.specs.Moves.{Settled}
 use Rattle.event_dispatch.specs.declared.fault.Fault.{Fault}
 use Rattle.event_dispatch.specs.declared.fault.Fault.TheVariants as faults
 use Rattle.event_dispatch.specs.declared.batch.Rest.{Rest}

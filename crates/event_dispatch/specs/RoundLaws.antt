@@ -13,18 +13,18 @@ use Rattle.outside.specs.Seen.{Seen, Continues}
 use Rattle.outside.specs.SeenLaws.{Continues-trans}
 use Rattle.outside.specs.StateLaws.{Conforming-before}
 use Rattle.outside.specs.Conforming.{Conforming}
-use Rattle.shown_runs.specs.Engine.{Engine, Stands, stimuli_in, text_of}
-use Rattle.shown_runs.specs.Facts.{StartsAgain}
-use Rattle.shown_runs.specs.Moves.{Settled, Moved, Shown, OneHappens, dispatch_next, times}
-use Rattle.shown_runs.specs.BatchMoveLaws.{engine_then, batch-happens, batch-over}
-use Rattle.shown_runs.specs.Readings.{JudgesAlike}
-use Rattle.shown_runs.specs.StimuliLaws.{none-later}
-use Rattle.shown_runs.specs.MoveLaws.{shown-none, shown-then, shown-as}
-use Rattle.shown_runs.specs.SettleLaws.{settle-times, times-more, times-stop}
-use Rattle.shown_runs.specs.RoundLaws.{rounds-none, rounds-more, rounds-end}
-use Rattle.shown_runs.specs.StartShownLaws.{start-shown}
-use Rattle.shown_runs.specs.EventLaws.{next-shown, rest-shown}
-use Rattle.shown_runs.specs.Promise.{most_rounds}
+use Rattle.run_laws.specs.Engine.{Engine, Stands, stimuli_in, text_of}
+use Rattle.run_laws.specs.Facts.{StartsAgain}
+use Rattle.run_laws.specs.Moves.{Settled, Moved, Shown, OneHappens, dispatch_next, times}
+use Rattle.run_laws.specs.BatchMoveLaws.{engine_then, batch-happens, batch-over}
+use Rattle.run_laws.specs.Readings.{JudgesAlike}
+use Rattle.run_laws.specs.StimuliLaws.{none-later}
+use Rattle.run_laws.specs.MoveLaws.{shown-none, shown-then, shown-as}
+use Rattle.run_laws.specs.SettleLaws.{settle-times, times-more, times-stop}
+use Rattle.run_laws.specs.RoundLaws.{rounds-none, rounds-more, rounds-end}
+use Rattle.run_laws.specs.StartShownLaws.{start-shown}
+use Rattle.run_laws.specs.EventLaws.{next-shown, rest-shown}
+use Rattle.run_laws.specs.Promise.{most_rounds}
 use Rattle.event_dispatch.specs.declared.batch.Rest.{Rest}
 use Rattle.event_dispatch.specs.declared.batch.Rest.TheVariants as rests
 use Rattle.event_dispatch.specs.declared.run.Managed.{Managed}

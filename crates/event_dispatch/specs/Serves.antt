@@ -1,4 +1,4 @@
--- What the engine does, in the words of what is seen and kept: the facts of `shown_runs`, each with its text behind what waited to be
+-- What the engine does, in the words of what is seen and kept: the facts of `run_laws`, each with its text behind what waited to be
 -- written, and what was written where it was. All of this is our own.
 use Rattle.std.specs.Prelude.{◌≡◌, ℕ, ◌+◌, ◌<◌, ◌⊎◌, Bool, false, List, [], ◌∷◌, ◌++◌, length, take, Option, Result, Ok, Err}
 use Rattle.std.specs.Io.KnownBytes.{append_known}
@@ -19,14 +19,14 @@ use Rattle.net_txn.specs.Undos.{Undoes}
 use Rattle.app_visor.specs.declared.state.TurnEnd.{TurnEnd}
 use Rattle.app_visor.specs.declared.state.TurnEnd.TheVariants as ends
 use Rattle.app_visor.specs.Turns.{Turns}
-use Rattle.shown_runs.specs.Engine.{Engine, budget, stimuli_in}
-use Rattle.shown_runs.specs.Readings.{JudgesAlike}
-use Rattle.shown_runs.specs.Facts.{name, turn_word, StartsAgain, TakesTurn, Dispatches}
-use Rattle.shown_runs.specs.Moves.{Settled, Shown, ShownIdle, ShownOver, ShownRounds, ShownToEnd, dispatch_next, times}
-use Rattle.shown_runs.specs.FirstLaws.{engine_at_first}
-use Rattle.shown_runs.specs.Endings.{ShownStart, ShownFinish, RanOut, RanFull}
-use Rattle.shown_runs.specs.Promise.{most_rounds, EndsAlike, LeavesAlike}
-use Rattle.shown_runs.specs.Cut.{CutAlike, CutWriting}
+use Rattle.run_laws.specs.Engine.{Engine, budget, stimuli_in}
+use Rattle.run_laws.specs.Readings.{JudgesAlike}
+use Rattle.run_laws.specs.Facts.{name, turn_word, StartsAgain, TakesTurn, Dispatches}
+use Rattle.run_laws.specs.Moves.{Settled, Shown, ShownIdle, ShownOver, ShownRounds, ShownToEnd, dispatch_next, times}
+use Rattle.run_laws.specs.FirstLaws.{engine_at_first}
+use Rattle.run_laws.specs.Endings.{ShownStart, ShownFinish, RanOut, RanFull}
+use Rattle.run_laws.specs.Promise.{most_rounds, EndsAlike, LeavesAlike}
+use Rattle.run_laws.specs.Cut.{CutAlike, CutWriting}
 use Rattle.event_dispatch.specs.declared.batch.Rest.{Rest}
 use Rattle.event_dispatch.specs.declared.batch.Rest.TheVariants as rests
 use Rattle.event_dispatch.specs.declared.run.Run.{Run}

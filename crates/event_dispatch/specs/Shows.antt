@@ -1,6 +1,6 @@
 -- What the engine does, in the words of what is seen and kept: the text that it notes, and how the run stands then. All of this is our own.
 use Rattle.std.specs.Prelude.{◌≡◌, ℕ, List, ◌++◌}
-use Rattle.shown_runs.specs.Engine.{Engine}
+use Rattle.run_laws.specs.Engine.{Engine}
 use Rattle.event_dispatch.specs.declared.run.Run.{Run}
 
 abbrev pub engine_of : Run → Engine

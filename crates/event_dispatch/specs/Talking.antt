@@ -3,8 +3,8 @@
 use Rattle.std.specs.Prelude.{◌≡◌, ℕ, true, List}
 use Rattle.outside.specs.Seen.{Seen, journal}
 use Rattle.lego_model.specs.AtOnce.{Passes, AtOnce}
-use Rattle.shown_runs.specs.Engine.{Engine, index}
-use Rattle.shown_runs.specs.Moves.{Conversing}
+use Rattle.run_laws.specs.Engine.{Engine, index}
+use Rattle.run_laws.specs.Moves.{Conversing}
 
 -- whatever it was
 pub record KeepsTalking {Own : Type 0} (Tells : Type 0) (old new : Seen Own) : Type 0 where

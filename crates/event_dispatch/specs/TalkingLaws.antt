@@ -26,8 +26,8 @@ use Rattle.app_visor.specs.Dialogues.{Converses, LeadsOn, TalksOn, Talks}
 use Rattle.app_visor.specs.LeadsOnLaws.{leads_on_links, leads_on_then}
 use Rattle.app_visor.specs.Turns.{Turns}
 use Rattle.app_visor.specs.DialogueLaws.{Converses-then, converses_ended}
-use Rattle.shown_runs.specs.DialogueLaws.{at_once_then, runs_now, others_at_once, event_told}
-use Rattle.shown_runs.specs.Engine.{Engine, index}
+use Rattle.run_laws.specs.DialogueLaws.{at_once_then, runs_now, others_at_once, event_told}
+use Rattle.run_laws.specs.Engine.{Engine, index}
 use Rattle.event_dispatch.specs.Serves.{PlaysTurn}
 use Rattle.event_dispatch.specs.Talking.{KeepsTalking, TurnTalks, GoesOnTalking}
 

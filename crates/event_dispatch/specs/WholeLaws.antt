@@ -12,14 +12,14 @@ use Rattle.outside.specs.Seen.{Seen, Continues}
 use Rattle.outside.specs.Calls.{open_steps, ToldOpen}
 use Rattle.outside.specs.SeenLaws.{Continues-trans}
 use Rattle.outside.specs.StateLaws.{Conforming-before}
-use Rattle.shown_switches.specs.OrderlyLaws.{orderly-none}
-use Rattle.shown_runs.specs.Engine.{Engine, index}
-use Rattle.shown_runs.specs.FirstLaws.{IsOpened, engine_at_first, settled-first}
-use Rattle.shown_runs.specs.StimuliLaws.{none-later, fewer-front, fewer-before}
-use Rattle.shown_runs.specs.LastReport.{last_text}
-use Rattle.shown_runs.specs.Endings.{Leaves, ShownStart, ShownFinish, ShownLeaves}
-use Rattle.shown_runs.specs.EndingLaws.{whole-of, leaves-then, ran-out, ran-full}
-use Rattle.shown_runs.specs.Promise.{most_rounds, PremiseSoFar, Premise}
+use Rattle.switch_laws.specs.OrderlyLaws.{orderly-none}
+use Rattle.run_laws.specs.Engine.{Engine, index}
+use Rattle.run_laws.specs.FirstLaws.{IsOpened, engine_at_first, settled-first}
+use Rattle.run_laws.specs.StimuliLaws.{none-later, fewer-front, fewer-before}
+use Rattle.run_laws.specs.LastReport.{last_text}
+use Rattle.run_laws.specs.Endings.{Leaves, ShownStart, ShownFinish, ShownLeaves}
+use Rattle.run_laws.specs.EndingLaws.{whole-of, leaves-then, ran-out, ran-full}
+use Rattle.run_laws.specs.Promise.{most_rounds, PremiseSoFar, Premise}
 use Rattle.event_dispatch.specs.declared.fault.Fault.{Fault}
 use Rattle.event_dispatch.specs.declared.fault.Fault.TheVariants as faults
 use Rattle.event_dispatch.specs.declared.run.Run.{Run}

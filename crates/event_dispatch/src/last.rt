@@ -5,7 +5,7 @@ ghost use Rattle.flow_table.specs.declared.view.ViewRow.{ViewRow};
 ghost use Rattle.outside.specs.Seen.{Continues};
 ghost use Rattle.lego_model.specs.RunReport.{flow_line};
 ghost use Rattle.net_txn.specs.Views.{rows_at};
-ghost use Rattle.shown_runs.specs.LastReport.{engine_end};
+ghost use Rattle.run_laws.specs.LastReport.{engine_end};
 ghost use Rattle.event_dispatch.specs.Steady.{InPlace, Reads, Quietly};
 ghost use Rattle.event_dispatch.specs.Runs.{Waits};
 ghost use Rattle.event_dispatch.specs.Why.{IsReason, served_by};

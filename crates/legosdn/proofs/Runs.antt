@@ -19,12 +19,12 @@ use Rattle.sim_world.specs.World.{WorldData, given_of, seen_of}
 use Rattle.sim_world.specs.Tally.{counts_of}
 use Rattle.sim_world.specs.Building.{IsNew, Begins}
 use Rattle.session_text.specs.Loading.{given_by}
-use Rattle.shown_runs.specs.Engine.{stimuli_in}
-use Rattle.shown_runs.specs.StimuliLaws.{told-few, told-all}
-use Rattle.shown_runs.specs.Promise.{Premise}
+use Rattle.run_laws.specs.Engine.{stimuli_in}
+use Rattle.run_laws.specs.StimuliLaws.{told-few, told-all}
+use Rattle.run_laws.specs.Promise.{Premise}
 use Rattle.event_dispatch.specs.declared.served.Served.{Served}
 use Rattle.event_dispatch.specs.declared.served.Served.TheVariants as served
-use Rattle.shown_runs.specs.DialogueLaws.{applications_in_place}
+use Rattle.run_laws.specs.DialogueLaws.{applications_in_place}
 use Rattle.event_dispatch.specs.Serves.{IsAlike}
 use Rattle.event_dispatch.specs.Cut.{IsReadServed}
 use Rattle.event_dispatch.specs.Plain.{IsPlainServed}

@@ -13,8 +13,8 @@ use Rattle.lego_model.specs.AtOnce.{AtOnce}
 use Rattle.sim_world.specs.Told.{without_links}
 use Rattle.sim_world.specs.Scripts.{Scripts, KeepsScripts}
 use Rattle.sim_world.specs.World.{WorldData, seen_of}
-use Rattle.shown_runs.specs.Engine.{index, stimuli_in}
-use Rattle.shown_runs.specs.Promise.{EndsAs, EndsAlike, LeavesAs, LeavesAlike}
+use Rattle.run_laws.specs.Engine.{index, stimuli_in}
+use Rattle.run_laws.specs.Promise.{EndsAs, EndsAlike, LeavesAs, LeavesAlike}
 use Rattle.net_txn.specs.declared.fault.TxnFault.{TxnFault}
 use Rattle.event_dispatch.specs.Why.{IsWhyTxn}
 use Rattle.event_dispatch.specs.Serves.{NothingDone}

@@ -25,8 +25,8 @@ use Rattle.outside.specs.declared.step.WorldStep.TheVariants.{Acted}
 use Rattle.outside.specs.State.{State, after_step, waits_of}
 use Rattle.outside.specs.LinkLaws.{waits_of-got}
 use Rattle.outside.specs.Conforming.{MaySteps}
-use Rattle.exact_undo.specs.Removal.{without, IsRemoval}
-use Rattle.exact_undo.specs.RemovalLaws.{removal-changed, removal-entries, removal-refusal}
+use Rattle.undo_laws.specs.Removal.{without, IsRemoval}
+use Rattle.undo_laws.specs.RemovalLaws.{removal-changed, removal-entries, removal-refusal}
 use Rattle.net_txn.specs.declared.heard.Awaited.{Awaited}
 use Rattle.net_txn.specs.declared.heard.Heard.TheVariants as hearing
 use Rattle.net_txn.specs.Net.{delete_strict}

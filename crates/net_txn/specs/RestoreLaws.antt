@@ -22,10 +22,10 @@ use Rattle.outside.specs.State.{State, at_first, after_step, after_steps, state,
 use Rattle.outside.specs.LinkLaws.{waits_of-got}
 use Rattle.outside.specs.StateLaws.{after_steps-append, MaySteps-front, MaySteps-rest, Conforming-rest}
 use Rattle.outside.specs.Conforming.{MaySteps, Conforming}
-use Rattle.exact_undo.specs.Removal.{without, without_all, OnlyAdded}
-use Rattle.exact_undo.specs.RemovalLaws.{without_added, is_among-reverse}
-use Rattle.exact_undo.specs.AddedLaws.{undone-added}
-use Rattle.exact_undo.specs.Serials.{IsSerialed}
+use Rattle.undo_laws.specs.Removal.{without, without_all, OnlyAdded}
+use Rattle.undo_laws.specs.RemovalLaws.{without_added, is_among-reverse}
+use Rattle.undo_laws.specs.AddedLaws.{undone-added}
+use Rattle.undo_laws.specs.Serials.{IsSerialed}
 use Rattle.net_txn.specs.declared.heard.Awaited.{Awaited}
 use Rattle.net_txn.specs.declared.heard.Heard.{Heard}
 use Rattle.net_txn.specs.declared.heard.Heard.TheVariants as hearing

@@ -21,8 +21,8 @@ use Rattle.outside.specs.Seen.{Counts, Seen, Continues}
 use Rattle.outside.specs.State.{State, state, switch_of, waits_of, is_joined}
 use Rattle.outside.specs.Conforming.{Conforming}
 use Rattle.outside.specs.InOrder.{InOrder, MessagesSince}
-use Rattle.exact_undo.specs.Serials.{IsSerialed}
-use Rattle.exact_undo.specs.Removal.{OnlyAdded}
+use Rattle.undo_laws.specs.Serials.{IsSerialed}
+use Rattle.undo_laws.specs.Removal.{OnlyAdded}
 use Rattle.net_txn.specs.declared.fault.TxnFault.{TxnFault}
 use Rattle.net_txn.specs.declared.fault.TxnFault.TheVariants.{SwitchFault, SwitchBroke, Diverged, Flooded, NoMemory}
 use Rattle.net_txn.specs.declared.heard.Awaited.{Awaited}

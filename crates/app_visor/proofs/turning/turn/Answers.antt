@@ -7,7 +7,7 @@ use Rattle.app_visor.specs.ResultLaws.{err_so}
 use Rattle.app_visor.specs.ReadLaws.{Wants-refl}
 use Rattle.app_visor.specs.BeatLaws.{Leads-refl, Leads-trans, Leads-continues, stops_wanting, stops_then, Stops-continues, Leads-stays, Stops-stays}
 use Rattle.app_visor.specs.PlayLaws.{turns_gone, turns_given, leads_turn, leads_told}
-use Rattle.journal_readings.specs.FrameLaws.{event_is}
+use Rattle.journal_laws.specs.FrameLaws.{event_is}
 use Rattle.app_visor.specs.LeadsOnLaws.{leads_on_here, leads_on_wanting, leads_on_event, leads_on_turned, talks_of}
 use Rattle.app_visor.specs.CalmLaws.{calm_none, calm_wanting, calm_later, later_given, later_then}
 use Rattle.app_visor.proofs.turning.turn.Goals as goal

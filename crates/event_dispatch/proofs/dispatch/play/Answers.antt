@@ -6,7 +6,7 @@ use Rattle.event_dispatch.specs.Plain.{PlainTurn}
 use Rattle.event_dispatch.specs.Why.{fault_of}
 use Rattle.event_dispatch.specs.KeptLaws.{turn_read}
 use Rattle.event_dispatch.specs.TalkingLaws.{turn_stops, turn_ends, turn_ended, holds_on_err}
-use Rattle.shown_runs.specs.DialogueLaws.{event_told}
+use Rattle.run_laws.specs.DialogueLaws.{event_told}
 use Rattle.event_dispatch.specs.DispatchPlaceLaws.{later_same, later_undone, turn_kept, turn_undone, stop_undone, played_places, played_reads}
 use Rattle.event_dispatch.proofs.dispatch.play.Goals as goal
 

@@ -1,4 +1,4 @@
-use Rattle.shown_runs.specs.LeaveLaws.{end-leaves}
+use Rattle.run_laws.specs.LeaveLaws.{end-leaves}
 use Rattle.event_dispatch.specs.TalkingLaws.{keeps_ended}
 use Rattle.event_dispatch.specs.ReadLaws.{end_quietly, end_places, end_messages}
 use Rattle.event_dispatch.proofs.whole.end.Goals as goal

@@ -1,6 +1,6 @@
 use Rattle.std.proofs.Common.{refl, sym, ap, subst}
 use Rattle.net_txn.specs.Net.{NetState}
-use Rattle.shown_runs.specs.LastReportLaws.{rows-asked}
+use Rattle.run_laws.specs.LastReportLaws.{rows-asked}
 use Rattle.event_dispatch.specs.declared.fault.Fault.{Fault}
 use Rattle.event_dispatch.specs.Shows.{engine_of}
 use Rattle.event_dispatch.specs.Why.{IsReason}

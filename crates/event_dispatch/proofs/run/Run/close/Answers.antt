@@ -1,6 +1,6 @@
 use Rattle.std.proofs.Common.{ap}
 use Rattle.std.proofs.lemmas.Result.{on_ok_weaker}
-use Rattle.shown_runs.specs.Engine.{Engine}
+use Rattle.run_laws.specs.Engine.{Engine}
 use Rattle.event_dispatch.specs.SteadyLaws.{places_none, reads_none}
 use Rattle.event_dispatch.proofs.run.Run.close.Goals as goal
 

@@ -2,12 +2,12 @@ use Rattle.event_dispatch.specs.declared.fault.Fault.TheVariants as faults
 use Rattle.event_dispatch.specs.PlainLaws.{err_is, on_err, turn_memory, turn_noted}
 use Rattle.event_dispatch.specs.Plain.{PlainTurn}
 use Rattle.std.proofs.Common.{refl, ap, sym, ◌∙◌, rules}
-use Rattle.shown_runs.specs.Engine.{Engine}
+use Rattle.run_laws.specs.Engine.{Engine}
 use Rattle.event_dispatch.specs.TalkingLaws.{goes_none, goes_turn, holds_on_err, then_on_err}
 use Rattle.event_dispatch.specs.Shows.{engine_of}
 use Rattle.std.proofs.lemmas.Result.{on_ok_weaker}
 use Rattle.app_visor.specs.CalmLaws.{calm_none, calm_later}
-use Rattle.shown_runs.specs.Engine.{index}
+use Rattle.run_laws.specs.Engine.{index}
 use Rattle.event_dispatch.specs.SteadyLaws.{places_none, reads_none, quietly_none, quietly_here}
 use Rattle.event_dispatch.specs.DispatchPlaceLaws.{places_as, reads_over, later_here}
 use Rattle.event_dispatch.proofs.run.Run.dispatch.Goals as goal

@@ -1,5 +1,5 @@
 use Rattle.std.proofs.Common.{◌≡◌, ◌∷◌, suc, List, drop, subst, ap, ◌∙◌}
-use Rattle.shown_runs.specs.Engine.{Engine}
+use Rattle.run_laws.specs.Engine.{Engine}
 use Rattle.of_stats.specs.declared.flow_row.FlowRow.{FlowRow}
 use Rattle.event_dispatch.specs.WhyLaws.{waits_then}
 use Rattle.event_dispatch.specs.LastLaws.{drop_first, flows_next, views_kept}

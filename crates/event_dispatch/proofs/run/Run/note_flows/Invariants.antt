@@ -1,7 +1,7 @@
 use Rattle.std.proofs.Common.{◌≡◌, List, Some}
 use Rattle.flow_table.specs.declared.view.ViewRow.{ViewRow}
 use Rattle.net_txn.specs.Views.{rows_at}
-use Rattle.shown_runs.specs.LastReport.{SameKeys}
+use Rattle.run_laws.specs.LastReport.{SameKeys}
 use Rattle.event_dispatch.specs.Runs.{Waits}
 use Rattle.event_dispatch.specs.LastShown.{FlowsSoFar}
 use Rattle.event_dispatch.proofs.run.Run.note_flows.Given as goal

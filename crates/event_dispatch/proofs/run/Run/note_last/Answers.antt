@@ -9,7 +9,7 @@ use Rattle.event_dispatch.specs.Plain.{PlainCalm}
 use Rattle.event_dispatch.specs.Why.{served_by}
 use Rattle.event_dispatch.specs.TalkingLaws.{keeps_none, keeps_then}
 use Rattle.std.proofs.Common.{refl, ap, rules}
-use Rattle.shown_runs.specs.Engine.{Engine}
+use Rattle.run_laws.specs.Engine.{Engine}
 use Rattle.event_dispatch.specs.SteadyLaws.{places_none, reads_none, quietly_none, places_then, reads_then, quietly_then}
 use Rattle.event_dispatch.specs.DispatchPlaceLaws.{reads_over}
 use Rattle.event_dispatch.proofs.run.Run.note_last.Goals as goal

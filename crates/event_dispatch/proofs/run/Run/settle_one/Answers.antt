@@ -10,7 +10,7 @@ use Rattle.event_dispatch.specs.Cut.{CutOne}
 use Rattle.event_dispatch.specs.CutLaws.{if_err, still_so, one_still, one_unwritten}
 use Rattle.event_dispatch.specs.TalkingLaws.{goes_as}
 use Rattle.std.proofs.Common.{ap}
-use Rattle.shown_runs.specs.Engine.{Engine}
+use Rattle.run_laws.specs.Engine.{Engine}
 use Rattle.event_dispatch.specs.SteadyLaws.{places_none, reads_none}
 use Rattle.event_dispatch.specs.DispatchPlaceLaws.{reads_over}
 use Rattle.event_dispatch.proofs.run.Run.settle_one.Goals as goal

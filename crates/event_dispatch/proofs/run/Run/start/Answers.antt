@@ -2,7 +2,7 @@ use Rattle.event_dispatch.specs.TalkingLaws.{keeps_tried, keeps_restarted}
 use Rattle.std.proofs.lemmas.Result.{on_ok_weaker}
 use Rattle.event_dispatch.specs.DispatchPlaceLaws.{started_quietly, started_places, started_reads}
 use Rattle.std.proofs.Common.{ap}
-use Rattle.shown_runs.specs.Engine.{Engine}
+use Rattle.run_laws.specs.Engine.{Engine}
 use Rattle.event_dispatch.proofs.run.Run.start.Goals as goal
 
 pub returns-in_err-back-clause-talks : goal.returns-in_err-back-clause-talks

@@ -1,5 +1,5 @@
 use Rattle.std.proofs.Common.{refl, sym}
-use Rattle.shown_batches.specs.HandleLaws.{joined_ignored, enters_handles, unread_handles}
+use Rattle.batch_laws.specs.HandleLaws.{joined_ignored, enters_handles, unread_handles}
 use Rattle.event_dispatch.specs.BatchLaws.{on_ok, unread}
 use Rattle.event_dispatch.specs.PlainLaws.{join_memory}
 use Rattle.event_dispatch.proofs.run.Run.take_in.Goals as goal

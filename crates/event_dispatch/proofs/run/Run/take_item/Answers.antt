@@ -2,8 +2,8 @@ use Rattle.event_dispatch.specs.declared.fault.Fault.TheVariants as faults
 use Rattle.std.specs.Prelude.{OnOk}
 use Rattle.std.proofs.Common.{subst}
 use Rattle.outside.specs.declared.step.WorldStep.{WorldStep}
-use Rattle.shown_batches.specs.Items.{Handles}
-use Rattle.shown_batches.specs.HandleLaws.{departs_handles, moment_handles}
+use Rattle.batch_laws.specs.Items.{Handles}
+use Rattle.batch_laws.specs.HandleLaws.{departs_handles, moment_handles}
 use Rattle.event_dispatch.specs.BatchLaws.{from_step, joined_step, left_step, moment_step, rest_handles}
 use Rattle.event_dispatch.specs.PlainLaws.{on_err, err_is, item_from, item_joined, item_memory}
 use Rattle.event_dispatch.specs.Plain.{PlainItem}

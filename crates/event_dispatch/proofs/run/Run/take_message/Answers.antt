@@ -4,7 +4,7 @@ use Rattle.of_types.specs.Fields.{IsBytes}
 use Rattle.app_frames.specs.declared.frame.Event.{Event}
 use Rattle.net_txn.specs.declared.fault.TxnFault.{TxnFault}
 use Rattle.net_txn.specs.Arriving.{Arrives}
-use Rattle.shown_batches.specs.HandleLaws.{arrived_handles, from_ignored}
+use Rattle.batch_laws.specs.HandleLaws.{arrived_handles, from_ignored}
 use Rattle.event_dispatch.specs.PlainLaws.{err_is, read_memory, read_arrived}
 use Rattle.event_dispatch.specs.Plain.{PlainRead}
 use Rattle.event_dispatch.specs.Why.{fault_of}

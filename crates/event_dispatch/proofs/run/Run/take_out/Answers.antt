@@ -1,5 +1,5 @@
 use Rattle.std.proofs.Common.{refl}
-use Rattle.shown_batches.specs.HandleLaws.{left_departs, left_ignored}
+use Rattle.batch_laws.specs.HandleLaws.{left_departs, left_ignored}
 use Rattle.net_txn.specs.Leaving.{without}
 use Rattle.event_dispatch.specs.KeptLaws.{read_left, read_same}
 use Rattle.event_dispatch.proofs.run.Run.take_out.Goals as goal

@@ -1,0 +1,5 @@
+use Rattle.batch_laws.specs.StimulusLaws.{stimulus-handled}
+use Rattle.batch_laws.proofs.laws.stimuli_are_handled.Goals as goal
+
+pub returns : goal.returns
+returns g c = stimulus-handled

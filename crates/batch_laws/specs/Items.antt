@@ -1,0 +1,123 @@
+-- What the engine does with one item that the outside told, in every world: what it then knows, what it has sent, and which messages it
+-- keeps (OpenFlow 1.0.0, 5.3.1 Handshake and 5.5.2 Echo Request). All of this is our own.
+use Rattle.std.specs.Prelude.{◌≡◌, ◌==◌, ℕ, Bool, true, false, not, List, [], ◌++◌, filter, Result, Ok, Err, IsOk, is_some}
+use Rattle.of_types.specs.Fields.{IsBytes}
+use Rattle.of_types.specs.declared.port_desc.PortDesc.{PortDesc}
+use Rattle.of_wire.specs.declared.message.Message.{Message}
+use Rattle.of_wire.specs.declared.message.Message.TheVariants.{FeaturesReply}
+use Rattle.of_wire.specs.declared.message.Envelope.{Envelope}
+use Rattle.of_wire.specs.declared.fault.WireFault.{WireFault}
+use Rattle.of_wire.specs.Reading.{reading_of}
+use Rattle.app_frames.specs.declared.frame.Event.{Event}
+use Rattle.outside.specs.declared.item.Item.{Item}
+use Rattle.outside.specs.declared.step.WorldStep.{WorldStep}
+use Rattle.outside.specs.declared.step.WorldStep.TheVariants.{From, Joined, Left, Moment}
+use Rattle.outside.specs.Seen.{Seen, Continues}
+use Rattle.outside.specs.State.{state, waits_of}
+use Rattle.outside.specs.Calls.{Nexts, item_step}
+use Rattle.outside.specs.Conforming.{Conforming}
+use Rattle.net_txn.specs.Net.{NetState}
+use Rattle.net_txn.specs.Views.{rows_at}
+use Rattle.net_txn.specs.Arriving.{arrival_steps}
+use Rattle.net_txn.specs.Joining.{Joins}
+use Rattle.net_txn.specs.JoiningSteps.{JoinsInStep}
+use Rattle.batch_laws.specs.Knowledge.{knowledge_of, joined_by, handled}
+
+-- ---- What is done
+
+-- no call was made, and the same messages are kept
+pub record Untouched {Own : Type 0} (old new : Seen Own) (net now_net : NetState) : Type 0 where
+  pub seen : new ≡ old
+  pub kept : now_net.kept ≡ net.kept
+
+-- nothing was done at all
+pub record Rests {Own : Type 0} (old new : Seen Own) (net now_net : NetState) : Type 0 where
+  pub seen : new ≡ old
+  pub same : now_net ≡ net
+
+-- what is sent for a message
+abbrev pub answers : ℕ → Result Envelope WireFault → List WorldStep
+answers d (Ok e) = arrival_steps d e.xid e.message
+answers d (Err fault) = []
+
+-- A message of a joined switch is read; an ECHO_REQUEST is answered.
+pub record TakesMessage {Own : Type 0} (Tells : Type 0) (d : ℕ) (bytes : List ℕ) (old new : Seen Own) (net now_net : NetState) : Type 0 where
+  pub fit : IsBytes bytes
+  pub read : IsOk (reading_of bytes)
+  pub told : Tells → new.history ≡ old.history ++ answers d (reading_of bytes)
+  pub kept : now_net.kept ≡ net.kept
+
+-- A switch joins.
+pub record TakesIn {Own : Type 0} (Tells : Type 0) (d : ℕ) (ports : List PortDesc) (old new : Seen Own) (net now_net : NetState) : Type 0 where
+  pub joins : Joins Tells d ports old new net now_net
+  pub in_step : Tells → Conforming new → waits_of d (state old) ≡ [] → JoinsInStep d old new net now_net
+
+abbrev pub TakesInBy : {Own : Type 0} → Type 0 → ℕ → Message → Seen Own → Seen Own → NetState → NetState → Type 0
+TakesInBy Tells d (FeaturesReply features) old new net now_net = TakesIn Tells d features.ports old new net now_net
+TakesInBy Tells d other old new net now_net = Untouched old new net now_net
+
+abbrev pub TakesInAs : {Own : Type 0} → Type 0 → ℕ → Result Envelope WireFault → Seen Own → Seen Own → NetState → NetState → Type 0
+TakesInAs Tells d (Ok e) old new net now_net = TakesInBy Tells d e.message old new net now_net
+TakesInAs Tells d (Err fault) old new net now_net = Untouched old new net now_net
+
+-- A switch leaves, with the messages of it that were kept.
+pub record TakesOut {Own : Type 0} (d : ℕ) (old new : Seen Own) (net now_net : NetState) : Type 0 where
+  pub seen : new ≡ old
+  pub kept : now_net.kept ≡ filter (λ m. not (m.0 == d)) net.kept
+
+-- ---- By whether the switch has a view
+
+abbrev pub DoesFrom : {Own : Type 0} → Type 0 → ℕ → List ℕ → Bool → Seen Own → Seen Own → NetState → NetState → Type 0
+DoesFrom Tells d bytes true old new net now_net = TakesMessage Tells d bytes old new net now_net
+DoesFrom Tells d bytes false old new net now_net = Untouched old new net now_net
+
+abbrev pub DoesJoined : {Own : Type 0} → Type 0 → ℕ → List ℕ → Bool → Seen Own → Seen Own → NetState → NetState → Type 0
+DoesJoined Tells d bytes true old new net now_net = Untouched old new net now_net
+DoesJoined Tells d bytes false old new net now_net = TakesInAs Tells d (reading_of bytes) old new net now_net
+
+abbrev pub DoesLeft : {Own : Type 0} → ℕ → Bool → Seen Own → Seen Own → NetState → NetState → Type 0
+DoesLeft d true old new net now_net = TakesOut d old new net now_net
+DoesLeft d false old new net now_net = Untouched old new net now_net
+
+abbrev pub Does : {Own : Type 0} → Type 0 → WorldStep → Seen Own → Seen Own → NetState → NetState → Type 0
+Does Tells (From d bytes) old new net now_net = DoesFrom Tells d bytes (is_some (rows_at d net.views)) old new net now_net
+Does Tells (Joined d bytes) old new net now_net = DoesJoined Tells d bytes (is_some (rows_at d net.views)) old new net now_net
+Does Tells (Left d) old new net now_net = DoesLeft d (is_some (rows_at d net.views)) old new net now_net
+Does Tells (Moment t) old new net now_net = Untouched old new net now_net
+Does Tells other old new net now_net = Rests old new net now_net
+
+-- ---- Parts of it, as the functions say them
+
+-- messages that are kept, but for those of a switch that left
+abbrev pub kept_left : Bool → ℕ → List (ℕ × List ℕ) → List (ℕ × List ℕ)
+kept_left true d kept = filter (λ m. not (m.0 == d)) kept
+kept_left false d kept = kept
+
+pub record Departs (d : ℕ) (net now_net : NetState) (queue now_queue : List Event) : Type 0 where
+  pub knowledge : knowledge_of now_net now_queue ≡ handled (Left d) (knowledge_of net queue)
+  pub log : now_net.log ≡ net.log
+  pub room : now_net.room ≡ net.room
+  pub kept : now_net.kept ≡ kept_left (is_some (rows_at d net.views)) d net.kept
+
+pub record Enters {Own : Type 0} (Tells : Type 0) (d : ℕ) (m : Message) (old new : Seen Own) (net now_net : NetState) (queue now_queue : List Event) : Type 0 where
+  pub knowledge : knowledge_of now_net now_queue ≡ joined_by d m (knowledge_of net queue)
+  pub log : now_net.log ≡ net.log
+  pub room : now_net.room ≡ net.room
+  pub takes : TakesInBy Tells d m old new net now_net
+
+-- ---- The whole
+
+pub record Handles {Own : Type 0} (Tells : Type 0) (item : WorldStep) (old new : Seen Own) (net now_net : NetState) (queue now_queue : List Event) : Type 0 where
+  pub continues : Continues Tells old new
+  pub knowledge : knowledge_of now_net now_queue ≡ handled item (knowledge_of net queue)
+  pub log : now_net.log ≡ net.log
+  pub room : now_net.room ≡ net.room
+  pub does : Does Tells item old new net now_net
+
+-- The outside told an item, whose bytes stand in a buffer of bytes, and the engine did this with it.
+pub record TakesNext {Own : Type 0} (Tells : Type 0) (item : Item) (old new : Seen Own) (net now_net : NetState) (queue now_queue : List Event) : Type 0 where
+  pub mid : Seen Own
+  pub buf : List ℕ
+  pub fit : IsBytes buf
+  pub nexts : Nexts Tells old mid (Ok item) buf
+  pub handles : Handles Tells (item_step item buf) mid new net now_net queue now_queue

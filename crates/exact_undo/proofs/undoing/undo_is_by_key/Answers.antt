@@ -1,8 +1,0 @@
-use Rattle.exact_undo.specs.LogLaws.{undo-image, IsSerialed-undo}
-use Rattle.exact_undo.proofs.undoing.undo_is_by_key.Goals as goal
-
-pub returns-clause-image : goal.returns-clause-image
-returns-clause-image c = undo-image
-
-pub returns-clause-serials : goal.returns-clause-serials
-returns-clause-serials c = IsSerialed-undo

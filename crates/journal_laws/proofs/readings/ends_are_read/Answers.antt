@@ -1,0 +1,5 @@
+use Rattle.journal_laws.specs.ReadingLaws.{end_read}
+use Rattle.journal_laws.proofs.readings.ends_are_read.Goals as goal
+
+pub returns : goal.returns
+returns c = end_read

@@ -1,5 +1,0 @@
-use Rattle.journal_readings.specs.FrameLaws.{event_is, answer_is_none, restore_is_none}
-use Rattle.journal_readings.proofs.readings.events_are_frames.Goals as goal
-
-pub returns : goal.returns
-returns c = record { event = event_is; answer = answer_is_none; restore = restore_is_none }

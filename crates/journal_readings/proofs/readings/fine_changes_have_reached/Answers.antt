@@ -1,5 +1,0 @@
-use Rattle.journal_readings.specs.AtOnceLaws.{fine_reached}
-use Rattle.journal_readings.proofs.readings.fine_changes_have_reached.Goals as goal
-
-pub returns : goal.returns
-returns c = fine_reached

@@ -1,9 +1,0 @@
-use Rattle.std.specs.Prelude.{true, false}
-use Rattle.journal_readings.specs.ReadingLaws.{turn_read}
-use Rattle.journal_readings.proofs.readings.turns_are_read.Goals as goal
-
-pub returns : goal.returns
-returns c = record {
-  given = λ app frame acts more stood event all. turn_read app true frame acts more stood event all;
-  gone = λ app frame acts more stood event all. turn_read app false frame acts more stood event all;
-}

@@ -1,0 +1,14 @@
+use Rattle.run_laws.specs.CutLaws.{cut-so, start-so, event-so, end-so}
+use Rattle.run_laws.proofs.whole.cut_runs_are_the_references.Goals as goal
+
+pub returns-clause-cut : goal.returns-clause-cut
+returns-clause-cut g c = cut-so
+
+pub returns-clause-start : goal.returns-clause-start
+returns-clause-start g c = start-so
+
+pub returns-clause-event : goal.returns-clause-event
+returns-clause-event g c = event-so
+
+pub returns-clause-end : goal.returns-clause-end
+returns-clause-end g c = end-so

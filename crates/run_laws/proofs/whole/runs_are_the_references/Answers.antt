@@ -1,0 +1,8 @@
+use Rattle.run_laws.specs.EndingLaws.{ran-out, ran-full}
+use Rattle.run_laws.proofs.whole.runs_are_the_references.Goals as goal
+
+pub returns-clause-out : goal.returns-clause-out
+returns-clause-out g c = ran-out g.W.World.Tells
+
+pub returns-clause-full : goal.returns-clause-full
+returns-clause-full g c = ran-full g.W.World.Tells

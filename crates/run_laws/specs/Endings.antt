@@ -1,0 +1,82 @@
+-- How a whole run ends: with the last part of the report, or with events left. All of this is our own.
+use Rattle.std.specs.Prelude.{◌≡◌, ℕ, ◌<◌, Bool, List, [], length, Option}
+use Rattle.std.specs.Io.KnownBytes.{append_known}
+use Rattle.of_types.specs.declared.journal.WorldStim.{WorldStim}
+use Rattle.flow_table.specs.declared.view.TableView.{TableView}
+use Rattle.lego_model.specs.Places.{Place}
+use Rattle.outside.specs.Seen.{Seen, Continues, journal}
+use Rattle.outside.specs.Conforming.{Conforming}
+use Rattle.outside.specs.State.{state, switch_of}
+use Rattle.switch_laws.specs.Orderly.{OrderlySince}
+use Rattle.batch_laws.specs.Calm.{Calm}
+use Rattle.journal_laws.specs.Readings.{starts_in, replies_in}
+use Rattle.lego_model.specs.AtOnce.{AtOnce}
+use Rattle.run_laws.specs.Engine.{Engine, index, own_acts, given_in, stimuli_in}
+use Rattle.run_laws.specs.Readings.{JudgesAlike}
+use Rattle.run_laws.specs.Moves.{Settled, Moved}
+use Rattle.run_laws.specs.LastReport.{last_text}
+use Rattle.run_laws.specs.WholeRun.{all_started}
+use Rattle.run_laws.specs.WholeLaws.{whole}
+
+-- ---- The start
+
+pub record ShownStart {Own : Type 0} (Tells : Type 0) (text : List ℕ) (old new : Seen Own) (e now_e : Engine) : Type 0 where
+  pub moved : Tells → Conforming new → Settled old e → Moved [] all_started text old new e now_e
+
+-- ---- From the start to the last batch
+
+pub record WholeMoves {Own : Type 0} (allows : List Place → Bool) (text : List ℕ) (old new : Seen Own) (e now_e : Engine) : Type 0 where
+  pub stimuli : List WorldStim
+  pub moved : Moved stimuli (whole allows stimuli) text old new e now_e
+
+-- the same in a world that keeps its word, where the stimuli are fewer than this number of rounds
+pub record ShownWhole {Own : Type 0} (Tells : Type 0) (accepts : List TableView → Bool) (most : ℕ) (text : List ℕ) (old new : Seen Own) (e now_e : Engine) : Type 0 where
+  pub whole_so : (allows : List Place → Bool) → Tells → Conforming new → JudgesAlike Own allows accepts → Settled old e → length (stimuli_in new) < most → WholeMoves allows text old new e now_e
+
+-- ---- The last part
+
+-- what it leaves as it was
+pub record Leaves {Own : Type 0} (last new : Seen Own) : Type 0 where
+  pub given : new.given ≡ last.given
+  pub starts : starts_in (own_acts new) ≡ starts_in (own_acts last)
+  pub replies : replies_in (own_acts new) ≡ replies_in (own_acts last)
+  pub inputs : given_in new ≡ given_in last
+  pub stimuli : stimuli_in new ≡ stimuli_in last
+  pub marks : (state new).marks ≡ (state last).marks
+  pub switches : (d : ℕ) → switch_of d (state new) ≡ switch_of d (state last)
+  pub at_once : AtOnce index (journal last.history) → AtOnce index (journal new.history)
+  pub orderly : OrderlySince index last new
+
+-- the last lines were written
+pub record Finished {Own : Type 0} (held now_contents : Option (List ℕ)) (last new : Seen Own) (e : Engine) : Type 0 where
+  pub written : now_contents ≡ append_known held (last_text last e)
+  pub leaves : Leaves last new
+
+pub record ShownFinish {Own : Type 0} (Tells : Type 0) (held now_contents : Option (List ℕ)) (last new : Seen Own) (e : Engine) : Type 0 where
+  pub shown : Tells → Conforming new → Calm last e.net → Finished held now_contents last new e
+
+-- nothing was written, and nothing else changed
+pub record ShownLeaves {Own : Type 0} (Tells : Type 0) (last new : Seen Own) : Type 0 where
+  pub shown : Tells → Conforming new → Leaves last new
+
+-- ---- The whole
+
+-- all events were dispatched, and the report was ended
+pub record RanOut {Own : Type 0} (Tells : Type 0) (accepts : List TableView → Bool) (most : ℕ) (held now_contents : Option (List ℕ)) (old new : Seen Own) (e now_e : Engine) : Type 0 where
+  pub last : Seen Own
+  pub text : List ℕ
+  pub later : Continues Tells last new
+  pub whole_so : ShownWhole Tells accepts most text old last e now_e
+  pub none_left : now_e.queue ≡ []
+  pub finish : ShownFinish Tells (append_known held text) now_contents last new now_e
+
+-- some were left
+pub record RanFull {Own : Type 0} (Tells : Type 0) (accepts : List TableView → Bool) (most left : ℕ) (held now_contents : Option (List ℕ)) (old new : Seen Own) (e : Engine) : Type 0 where
+  pub last : Seen Own
+  pub now_engine : Engine
+  pub text : List ℕ
+  pub later : Continues Tells last new
+  pub whole_so : ShownWhole Tells accepts most text old last e now_engine
+  pub left_so : left ≡ length now_engine.queue
+  pub contents_so : now_contents ≡ append_known held text
+  pub leaves : ShownLeaves Tells last new

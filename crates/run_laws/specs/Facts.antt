@@ -1,0 +1,89 @@
+-- What the engine does at one event: the application, if it is alive, has its turn, whose changes are kept where it was done, and undone
+-- where it failed, after which it is started again. All of this is our own.
+use Rattle.std.specs.Prelude.{◌≡◌, ℕ, ◌+◌, Bool, true, false, List, [], ◌++◌, length, take, Option, Ok, is_some, unwrap_or}
+use Rattle.std.specs.List.{flat_map}
+use Rattle.flow_table.specs.declared.view.TableView.{TableView}
+use Rattle.app_frames.specs.declared.frame.Event.{Event}
+use Rattle.app_frames.specs.declared.cause.Cause.{Cause}
+use Rattle.app_frames.specs.declared.cause.Tried.{Tried}
+use Rattle.lego_model.specs.declared.turn.TurnWord.{TurnWord}
+use Rattle.lego_model.specs.declared.turn.TurnWord.TheVariants as words
+use Rattle.lego_model.specs.Controller.{event_frame}
+use Rattle.lego_model.specs.RunReport.{event_line, turn_line, start_line, gone_line}
+use Rattle.outside.specs.Seen.{Seen}
+use Rattle.net_txn.specs.Net.{NetState}
+use Rattle.net_txn.specs.Undos.{Undoes}
+use Rattle.app_visor.specs.declared.state.TurnEnd.{TurnEnd}
+use Rattle.app_visor.specs.declared.state.TurnEnd.TheVariants as ends
+use Rattle.app_visor.specs.Turns.{Turns}
+use Rattle.app_visor.specs.Attempts.{Restarts}
+use Rattle.std.specs.Prelude.{codes}
+use Rattle.run_laws.specs.Engine.{Engine, index, budget}
+
+abbrev pub name : List ℕ
+name = codes "app"
+
+-- ---- Starting
+
+abbrev pub gone_text : Bool → List ℕ
+gone_text true = []
+gone_text false = gone_line name
+
+-- the lines of the attempts, and that it is gone where none was ready
+abbrev pub starts_text : List Tried → Bool → List ℕ
+starts_text tries back = flat_map (start_line name) tries ++ gone_text back
+
+-- it was started, in some attempts
+pub record StartsAgain {Own : Type 0} (Tells : Type 0) (text : List ℕ) (old new : Seen Own) (e now_e : Engine) : Type 0 where
+  pub found : Option (List ℕ)
+  pub tries : List Tried
+  pub restarts : Restarts Tells index old new found tries
+  pub engine : now_e ≡ record e { alive = is_some found; rest = unwrap_or found [] }
+  pub text_so : text ≡ starts_text tries (is_some found)
+
+-- ---- How a turn was closed
+
+abbrev pub turn_word : TurnEnd → TurnWord
+turn_word (ends.Done true) = words.Stop
+turn_word (ends.Done false) = words.Done
+turn_word (ends.Failed cause) = words.Failed cause
+
+-- what it did stays
+pub record StaysDone {Own : Type 0} (unread : List ℕ) (stop : Bool) (text : List ℕ) (start : ℕ) (mid new : Seen Own) (mid_net : NetState) (e now_e : Engine) : Type 0 where
+  pub seen : new ≡ mid
+  pub engine : now_e ≡ record e { net = record mid_net { log = take start mid_net.log }; rest = unread; done = e.done + 1 }
+  pub text_so : text ≡ turn_line name (turn_word (ends.Done stop))
+
+-- it was undone, and the application started again
+pub record IsUndone {Own : Type 0} (Tells : Type 0) (cause : Cause) (text : List ℕ) (start : ℕ) (mid new : Seen Own) (mid_net : NetState) (e now_e : Engine) : Type 0 where
+  pub undone : Seen Own
+  pub undone_net : NetState
+  pub undoes : Undoes Tells start mid undone mid_net undone_net (Ok tt)
+  pub later_text : List ℕ
+  pub starts : StartsAgain Tells later_text undone new (record e { net = undone_net; rest = []; failed = e.failed + 1 }) now_e
+  pub text_so : text ≡ turn_line name (words.Failed cause) ++ later_text
+
+abbrev pub IsClosed : {Own : Type 0} → Type 0 → TurnEnd → List ℕ → List ℕ → ℕ → Seen Own → Seen Own → NetState → Engine → Engine → Type 0
+IsClosed Tells (ends.Done stop) unread text start mid new mid_net e now_e = StaysDone unread stop text start mid new mid_net e now_e
+IsClosed Tells (ends.Failed cause) unread text start mid new mid_net e now_e = IsUndone Tells cause text start mid new mid_net e now_e
+
+-- ---- A turn, from its event on; it has the number of the event
+
+pub record TakesTurn {Own : Type 0} (Tells : Type 0) (accepts : List TableView → Bool) (event : Event) (text : List ℕ) (old new : Seen Own) (e now_e : Engine) : Type 0 where
+  pub mid : Seen Own
+  pub mid_net : NetState
+  pub end : TurnEnd
+  pub unread : List ℕ
+  pub turns : Turns Tells accepts index budget e.rest (event_frame e.events e.net.moment event) old mid e.net mid_net end unread
+  pub closed : IsClosed Tells end unread text (length e.net.log) mid new mid_net e now_e
+
+abbrev pub IsTurn : {Own : Type 0} → Type 0 → (List TableView → Bool) → Event → Bool → List ℕ → Seen Own → Seen Own → Engine → Engine → Type 0
+IsTurn Tells accepts event true text old new e now_e = TakesTurn Tells accepts event text old new e now_e
+IsTurn Tells accepts event false text old new e now_e = (new ≡ old) × (now_e ≡ e) × (text ≡ [])
+
+-- ---- The whole: the event has the next number
+
+pub record Dispatches {Own : Type 0} (Tells : Type 0) (accepts : List TableView → Bool) (event : Event) (text : List ℕ) (old new : Seen Own) (e now_e : Engine) : Type 0 where
+  pub turn_text : List ℕ
+  pub turn : IsTurn Tells accepts event e.alive turn_text old new (record e { events = e.events + 1 }) now_e
+  pub text_so : text ≡ event_line (e.events + 1) event.kind event.dpid ++ turn_text

@@ -1,0 +1,127 @@
+-- Where a run begins: a world that was just opened, and an engine before anything happened, stand as the reference controller does before it
+-- starts its application.
+use Rattle.std.proofs.Common.{◌≡◌, ◌==◌, ℕ, true, false, List, [], ◌∷◌, map, Option, Some, None, refl, sym, ap, ap₂, ◌∙◌, subst, inl, inr, true≢false}
+use Rattle.std.proofs.lemmas.Bool.{cases_Bool}
+use Rattle.std.specs.Option.{option_map}
+use Rattle.std.specs.List.{AllByRecursion}
+use Rattle.flow_table.specs.Switch.{Declared, SwitchState}
+use Rattle.of_types.specs.declared.journal.Act.{Act}
+use Rattle.lego_model.specs.Journal.{Reply, Start, inputs}
+use Rattle.lego_model.specs.Agreement.{AgreeQuiets}
+use Rattle.undo_laws.specs.Owned.{owned_switch}
+use Rattle.lego_model.specs.Answers.{rows_of_table}
+use Rattle.lego_model.specs.Places.{Place}
+use Rattle.lego_model.specs.Controller.{ports_of}
+use Rattle.outside.specs.declared.call.FailCall.{FailCall}
+use Rattle.outside.specs.declared.step.WorldStep.{WorldStep}
+use Rattle.outside.specs.declared.step.WorldStep.TheVariants.{Opened}
+use Rattle.outside.specs.Seen.{Seen, journal}
+use Rattle.outside.specs.State.{State, link_at_first, at_first, link_of, waits_in, switch_in, waits_of, switch_of, after_steps, after_step, state}
+use Rattle.net_txn.specs.Net.{NetState}
+use Rattle.switch_laws.specs.Orderly.{IsOrderly}
+use Rattle.switch_laws.specs.Shown.{flags_at, places, shown_switch, shown_places}
+use Rattle.lego_model.specs.AtOnce.{at_first as nobody_yet, Dialogue}
+use Rattle.batch_laws.specs.Calm.{Calm}
+use Rattle.run_laws.specs.Engine.{Engine, Stands, index, quiet_by, app_at, given_in}
+use Rattle.run_laws.specs.Moves.{Settled}
+use Rattle.run_laws.specs.WholeRun.{fresh, before_start}
+
+-- a world that was opened, and nothing more
+abbrev pub IsOpened : {Own : Type 0} → Seen Own → Type 0
+IsOpened seen = seen.history ≡ Opened ∷ []
+
+abbrev pub net_at_first : NetState
+net_at_first = record { views = []; ports = []; log = []; xid = 1; moment = 0; kept = []; room = 2 }
+
+abbrev pub engine_at_first : Engine
+engine_at_first = record { net = net_at_first; queue = []; events = 0; alive = false; rest = []; done = 0; failed = 0 }
+
+-- ---- The world
+
+state-opened : {Own : Type 0} (seen : Seen Own) → IsOpened seen → state seen ≡ record (at_first seen.given) { opened = true }
+unfolding state after_step
+state-opened seen is = ap (λ (h : List WorldStep). after_steps h (at_first seen.given)) is
+
+links-wait : (d : ℕ) (fails : List FailCall) (ds : List Declared) → waits_in (link_of d (map (link_at_first fails) ds)) ≡ []
+links-wait d fails [] = refl
+links-wait d fails (x ∷ xs) =
+    elim (cases_Bool (x.dpid == d)) [
+      | inl here ↦ rw here refl
+      | inr other ↦ rw other (links-wait d fails xs)
+    ]
+
+links-out : (d : ℕ) (fails : List FailCall) (ds : List Declared) → switch_in (link_of d (map (link_at_first fails) ds)) ≡ None
+links-out d fails [] = refl
+links-out d fails (x ∷ xs) =
+    elim (cases_Bool (x.dpid == d)) [
+      | inl here ↦ rw here refl
+      | inr other ↦ rw other (links-out d fails xs)
+    ]
+
+pub none-waits : {Own : Type 0} (seen : Seen Own) → IsOpened seen → (d : ℕ) → waits_of d (state seen) ≡ []
+unfolding waits_of at_first
+none-waits seen is d = ap (λ (s : State). waits_of d s) (state-opened seen is) ∙ links-wait d seen.given.fails seen.given.declared
+
+pub none-joined : {Own : Type 0} (seen : Seen Own) → IsOpened seen → (d : ℕ) → switch_of d (state seen) ≡ None
+unfolding switch_of at_first
+none-joined seen is d = ap (λ (s : State). switch_of d s) (state-opened seen is) ∙ links-out d seen.given.fails seen.given.declared
+
+-- ---- All is calm
+
+no_some : (s : SwitchState) → None ≡ Some s → ⊥
+no_some s h = cc
+
+pub calm-first : {Own : Type 0} (seen : Seen Own) → IsOpened seen → Calm seen net_at_first
+unfolding at_first
+calm-first seen is = record {
+  ready = record {
+    waits = none-waits seen is;
+    agrees = λ d. sym (ap (λ (o : Option SwitchState). option_map (λ x. rows_of_table x.table.entries) o) (none-joined seen is d));
+  };
+  sound = record { entries = λ d x here. absurd (no_some x (sym (none-joined seen is d) ∙ here)) };
+  order = tt;
+  ports = λ d. sym (ap (λ (o : Option SwitchState). option_map ports_of o) (none-joined seen is d));
+  kept = refl;
+  moment = sym (ap (λ (s : State). s.moment) (state-opened seen is));
+  none_begun = ap (λ (s : State). s.begun) (state-opened seen is);
+  none_due = ap (λ (s : State). s.due) (state-opened seen is);
+}
+
+pub no-acts : {Own : Type 0} (seen : Seen Own) → IsOpened seen → journal seen.history ≡ []
+unfolding journal
+no-acts seen is = ap (λ (h : List WorldStep). journal h) is
+
+pub settled-first : {Own : Type 0} (seen : Seen Own) → IsOpened seen → Settled seen engine_at_first
+settled-first seen is = record {
+  calm = calm-first seen is;
+  life = λ alive. absurd (true≢false (sym alive));
+  speaks = record {
+    at_once = record { last = nobody_yet; dialogue = subst (λ (acts : List Act). Dialogue index nobody_yet acts nobody_yet) (sym (no-acts seen is)) refl };
+    rest_so = λ alive. absurd (true≢false (sym alive));
+  };
+  orderly = subst (λ (h : List WorldStep). AllByRecursion (IsOrderly index) h) (sym is) (tt, tt);
+}
+
+-- ---- The journal tells nothing yet
+
+places-out : (f : ℕ → Option SwitchState) (ds : List Declared) → ((d : ℕ) → f d ≡ None) → places f ds ≡ map (λ d. record { declared = d; switch = None }) ds
+places-out f [] none = refl
+places-out f (d ∷ ds) none = ap₂ (λ (o : Option SwitchState) (ps : List Place). record { declared = d; switch = o } ∷ ps) (none d.dpid) (places-out f ds none)
+
+given-first : {Own : Type 0} (seen : Seen Own) → IsOpened seen → given_in seen ≡ []
+unfolding inputs
+given-first seen is = ap (λ (js : List Act). inputs index js) (no-acts seen is)
+
+-- The two stand alike before anything is started.
+pub stands-first : {Own : Type 0} (seen : Seen Own) (starts : List Start) (replies : List Reply) → IsOpened seen → Stands seen engine_at_first starts replies (before_start seen.given.declared (fresh starts replies))
+unfolding shown_places at_first
+stands-first seen starts replies is = record {
+  calm = calm-first seen is;
+  moment = sym (ap (λ (s : State). s.moment) (state-opened seen is));
+  places = sym (places-out (shown_switch [] (state seen)) seen.given.declared (λ d. ap (λ (o : Option SwitchState). option_map (owned_switch (flags_at d [])) o) (none-joined seen is d)));
+  queue = refl;
+  events = refl;
+  apps = sym (ap (λ (given : List (List ℕ)). app_at engine_at_first given starts replies ∷ []) (given-first seen is));
+  quiets = subst (λ (s : State). AgreeQuiets (map quiet_by s.marks) []) (sym (state-opened seen is)) tt;
+  life = λ alive. absurd (true≢false (sym alive));
+}

@@ -1,0 +1,64 @@
+-- The last lines of a report, of the engine and of the reference controller. All of this is our own.
+use Rattle.std.specs.Prelude.{◌≡◌, ℕ, List, [], ◌∷◌, ◌++◌, length}
+use Rattle.std.specs.List.{flat_map}
+use Rattle.of_stats.specs.declared.flow_row.FlowRow.{FlowRow}
+use Rattle.flow_table.specs.declared.view.ViewRow.{ViewRow}
+use Rattle.lego_model.specs.Controller.{Run}
+use Rattle.lego_model.specs.RunReport.{switch_line, flow_line, app_line, end_line, switch_text, apps_text}
+use Rattle.outside.specs.Seen.{Seen, journal}
+use Rattle.outside.specs.State.{State, state}
+use Rattle.lego_model.specs.AtOnce.{AtOnce}
+use Rattle.flow_table.specs.declared.view.TableView.{TableView}
+use Rattle.switch_laws.specs.Orderly.{OrderlySince}
+use Rattle.switch_laws.specs.Shown.{shown_switch, shown_places}
+use Rattle.run_laws.specs.Engine.{Engine, index, names, own_acts, given_in, stimuli_in}
+use Rattle.run_laws.specs.Facts.{name}
+
+-- ---- A switch
+
+-- rows and the rows of a view have the same keys in the same order
+abbrev pub SameKeys : List FlowRow → List ViewRow → Type 0
+SameKeys [] [] = Unit {0}
+SameKeys (row ∷ rows) (v ∷ vs) = (v.key ≡ row.key) × SameKeys rows vs
+SameKeys [] (v ∷ vs) = ⊥
+SameKeys (row ∷ rows) [] = ⊥
+
+-- the lines of rows, each with the flags of the view's row beside it
+abbrev pub flow_lines : List FlowRow → List ViewRow → List ℕ
+flow_lines [] vs = []
+flow_lines (row ∷ rows) [] = []
+flow_lines (row ∷ rows) (v ∷ vs) = flow_line row v.flags ++ flow_lines rows vs
+
+-- how many there are, and each
+abbrev pub table_lines : ℕ → List FlowRow → List ViewRow → List ℕ
+table_lines d rows vs = switch_line d (length rows) ++ flow_lines rows vs
+
+-- ---- All that have a view, in the order of the views
+
+-- what is said of a switch of a world, as its owner sees it
+abbrev pub shown_text : List TableView → State → ℕ → List ℕ
+shown_text views s d = switch_text (shown_switch views s d)
+
+-- ---- The end
+
+abbrev pub engine_end : Engine → List ℕ
+engine_end e = app_line name e.alive e.done e.failed ++ end_line e.net.moment e.events
+
+-- what the engine says at the end
+abbrev pub last_text : {Own : Type 0} → Seen Own → Engine → List ℕ
+last_text seen e = flat_map (λ p. switch_text p.switch) (shown_places seen.given.declared e.net.views (state seen)) ++ engine_end e
+
+-- what the reference controller says at the end
+abbrev pub last_lines : Run → List ℕ
+last_lines r = flat_map (λ p. switch_text p.switch) r.places ++ apps_text names r.apps ++ end_line r.moment r.events
+
+-- ---- What it leaves: switches were asked, which tells nothing of an application and is no stimulus
+
+pub record OnlyAsked {Own : Type 0} (old new : Seen Own) : Type 0 where
+  pub given : new.given ≡ old.given
+  pub acts : own_acts new ≡ own_acts old
+  pub inputs : given_in new ≡ given_in old
+  pub stimuli : stimuli_in new ≡ stimuli_in old
+  pub marks : (state new).marks ≡ (state old).marks
+  pub at_once : AtOnce index (journal old.history) → AtOnce index (journal new.history)
+  pub orderly : OrderlySince index old new

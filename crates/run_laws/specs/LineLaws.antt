@@ -1,0 +1,49 @@
+-- Laws of the lines of a run: the text of the reference controller's lines is what the engine prints.
+use Rattle.std.proofs.Common.{◌≡◌, ℕ, Bool, true, false, List, [], ◌∷◌, ◌++◌, map, Option, refl, sym, ap, ◌∙◌, subst, append_assoc}
+use Rattle.std.proofs.lemmas.List.{append-nil}
+use Rattle.std.proofs.lemmas.List.Concat.{flat_map-append}
+use Rattle.std.specs.List.{flat_map}
+use Rattle.app_frames.specs.declared.frame.Event.{Event}
+use Rattle.app_frames.specs.declared.cause.Tried.{Tried}
+use Rattle.lego_model.specs.declared.turn.TurnWord.TheVariants as words
+use Rattle.lego_model.specs.Turns.{Outcome, Completed, Failed}
+use Rattle.lego_model.specs.Controller.{Line, Started, Dispatched, gone_line}
+use Rattle.lego_model.specs.RunReport.{event_line, start_line, gone_line as gone_line_of, outcome_word, line_text}
+use Rattle.app_visor.specs.declared.state.TurnEnd.{TurnEnd}
+use Rattle.app_visor.specs.declared.state.TurnEnd.TheVariants as ends
+use Rattle.app_visor.specs.Turns.{IsEnd}
+use Rattle.run_laws.specs.Engine.{names}
+use Rattle.run_laws.specs.Facts.{name, gone_text, starts_text, turn_word}
+
+abbrev pub lines_text : List Line → List ℕ
+lines_text lines = flat_map (line_text names) lines
+
+gone_lines : (back : Bool) → lines_text (gone_line 0 back) ≡ gone_text back
+gone_lines true = refl
+gone_lines false = append-nil (gone_line_of name)
+
+-- the lines of attempts
+pub starts_lines : (tries : List Tried) (back : Bool) → lines_text (map (Started 0) tries ++ gone_line 0 back) ≡ starts_text tries back
+starts_lines [] back = gone_lines back
+starts_lines (t ∷ tries) back =
+    ap (λ (text : List ℕ). start_line name t ++ text) (starts_lines tries back) ∙ sym (append_assoc (start_line name t) (flat_map (start_line name) tries) (gone_text back))
+
+done_word : (stop : Bool) (checkpoint : Option (List ℕ)) (rest : List ℕ) → turn_word (ends.Done stop) ≡ outcome_word (Completed stop checkpoint rest)
+done_word true checkpoint rest = refl
+done_word false checkpoint rest = refl
+
+-- how a turn ended
+pub word_so : (end : TurnEnd) (unread : List ℕ) (outcome : Outcome) → IsEnd end unread outcome → turn_word end ≡ outcome_word outcome
+word_so (ends.Done stop) unread (Completed stops checkpoint rest) is =
+    subst (λ (b : Bool). turn_word (ends.Done stop) ≡ outcome_word (Completed b checkpoint rest)) is.0 (done_word stop checkpoint rest)
+word_so (ends.Done stop) unread (Failed cause) is = absurd is
+word_so (ends.Failed why) unread (Completed stops checkpoint rest) is = absurd is
+word_so (ends.Failed why) unread (Failed cause) is = ap (λ c. words.Failed c) is
+
+-- an event's line, and the lines behind it
+pub event_lines : (lines more : List Line) (number : ℕ) (event : Event) → lines_text ((lines ++ Dispatched number event ∷ []) ++ more) ≡ lines_text lines ++ (event_line number event.kind event.dpid ++ lines_text more)
+event_lines lines more number event =
+    let here = event_line number event.kind event.dpid in
+    flat_map-append (line_text names) (lines ++ Dispatched number event ∷ []) more
+    ∙ ap (λ (text : List ℕ). text ++ lines_text more) (flat_map-append (line_text names) lines (Dispatched number event ∷ []) ∙ ap (λ (text : List ℕ). lines_text lines ++ text) (append-nil here))
+    ∙ append_assoc (lines_text lines) here (lines_text more)

@@ -1,0 +1,108 @@
+-- What a part of a run does is what the reference controller does, with what the part tells of the application. All of this is our own.
+use Rattle.std.specs.Prelude.{◌≡◌, ℕ, zero, suc, Bool, true, List, [], ◌∷◌, ◌++◌, length, drop, ◌<◌, fold}
+use Rattle.of_types.specs.declared.journal.WorldStim.{WorldStim}
+use Rattle.flow_table.specs.declared.view.TableView.{TableView}
+use Rattle.lego_model.specs.Journal.{Reply, Start}
+use Rattle.lego_model.specs.Places.{Place}
+use Rattle.lego_model.specs.Scripted.{AreFronts, AreStartFronts}
+use Rattle.lego_model.specs.Controller.{Run, dispatch, settle, happen}
+use Rattle.app_frames.specs.declared.frame.Event.{Event}
+use Rattle.outside.specs.Seen.{Seen, journal}
+use Rattle.outside.specs.Conforming.{Conforming}
+use Rattle.std.specs.List.{AllByRecursion}
+use Rattle.switch_laws.specs.Orderly.{IsOrderly}
+use Rattle.journal_laws.specs.Readings.{starts_in, replies_in, LastStands}
+use Rattle.lego_model.specs.AtOnce.{Passes, AtOnce}
+use Rattle.batch_laws.specs.Calm.{Calm}
+use Rattle.run_laws.specs.Engine.{Engine, Stands, index, own_acts, stimuli_in, text_of}
+use Rattle.run_laws.specs.Readings.{JudgesAlike}
+
+-- A part of a run with these stimuli and this text: what the journal tells is longer by these starts and replies, and wherever engine and
+-- reference controller stood alike, with starts and replies before its application of which these are the fronts, they do so after the part,
+-- with those that follow.
+pub record Moves {Own : Type 0} (xs : List WorldStim) (f : Run → Run) (text : List ℕ) (old new : Seen Own) (e now_e : Engine) : Type 0 where
+  pub starts : List Start
+  pub replies : List Reply
+  pub given : new.given ≡ old.given
+  pub read_starts : starts_in (own_acts new) ≡ starts_in (own_acts old) ++ starts
+  pub read_replies : replies_in (own_acts new) ≡ replies_in (own_acts old) ++ replies
+  pub read_stimuli : stimuli_in new ≡ stimuli_in old ++ xs
+  pub stands : (said_starts : List Start) (said_replies : List Reply) (r : Run) → AreStartFronts starts said_starts → AreFronts replies said_replies → Stands old e said_starts said_replies r
+      → Stands new now_e (drop (length starts) said_starts) (drop (length replies) said_replies) (f r)
+  pub says : (said_starts : List Start) (said_replies : List Reply) (r : Run) → AreStartFronts starts said_starts → AreFronts replies said_replies → Stands old e said_starts said_replies r
+      → text_of (f r) ≡ text_of r ++ text
+
+-- All that happened is a dialogue with the application; where it is alive, it runs, and what is unread stands behind frames that are no
+-- messages.
+pub record Conversing {Own : Type 0} (seen : Seen Own) (e : Engine) : Type 0 where
+  pub at_once : AtOnce index (journal seen.history)
+  pub rest_so : e.alive ≡ true → (at_once.last.running ≡ true) × Passes at_once.last.unread e.rest
+
+-- between parts all is calm, where the application is alive its last start stands, and all steps were in order
+pub record Settled {Own : Type 0} (seen : Seen Own) (e : Engine) : Type 0 where
+  pub calm : Calm seen e.net
+  pub life : e.alive ≡ true → LastStands (own_acts seen)
+  pub speaks : Conversing seen e
+  pub orderly : AllByRecursion (IsOrderly index) seen.history
+
+pub record Moved {Own : Type 0} (xs : List WorldStim) (f : Run → Run) (text : List ℕ) (old new : Seen Own) (e now_e : Engine) : Type 0 where
+  pub moves : Moves xs f text old new e now_e
+  pub settled : Settled new now_e
+
+-- In a world that keeps its word a part does what the reference controller does, whatever its judge is, if the two judge alike.
+pub record Shown {Own : Type 0} (Tells : Type 0) (accepts : List TableView → Bool) (xs : List WorldStim) (f : (List Place → Bool) → Run → Run) (text : List ℕ) (old new : Seen Own) (e now_e : Engine) : Type 0 where
+  pub moved : (allows : List Place → Bool) → Tells → Conforming new → JudgesAlike Own allows accepts → Settled old e → Moved xs (f allows) text old new e now_e
+
+-- ---- The parts of a run of the reference controller
+
+-- the oldest event that waits is dispatched, where there is one
+abbrev pub next_dispatched : (List Place → Bool) → List Event → Run → Run
+next_dispatched allows [] r = r
+next_dispatched allows (event ∷ queue) r = dispatch allows event (record r { queue = queue })
+
+abbrev pub dispatch_next : (List Place → Bool) → Run → Run
+dispatch_next allows r = next_dispatched allows r.queue r
+
+-- so often
+abbrev pub times : ℕ → (Run → Run) → Run → Run
+times zero f r = r
+times (suc n) f r = times n f (f r)
+
+-- a stimulus, and then the events that wait
+abbrev pub round : (List Place → Bool) → Run → WorldStim → Run
+round allows r x = settle allows (happen x r)
+
+abbrev pub rounds : (List Place → Bool) → List WorldStim → Run → Run
+rounds allows xs r = fold (round allows) r xs
+
+-- ---- Batch after batch
+
+-- a batch with one stimulus
+pub record OneHappens {Own : Type 0} (old new : Seen Own) (e now_e : Engine) : Type 0 where
+  pub stimulus : WorldStim
+  pub moved : Moved (stimulus ∷ []) (happen stimulus) [] old new e now_e
+
+-- so many rounds, with a stimulus each
+pub record Rounds {Own : Type 0} (allows : List Place → Bool) (number : ℕ) (text : List ℕ) (old new : Seen Own) (e now_e : Engine) : Type 0 where
+  pub stimuli : List WorldStim
+  pub number_so : length stimuli ≡ number
+  pub moved : Moved stimuli (rounds allows stimuli) text old new e now_e
+
+-- all rounds, and the last batch, that has no stimulus
+pub record ToEnd {Own : Type 0} (allows : List Place → Bool) (text : List ℕ) (old new : Seen Own) (e now_e : Engine) : Type 0 where
+  pub stimuli : List WorldStim
+  pub moved : Moved stimuli (λ r. settle allows (rounds allows stimuli r)) text old new e now_e
+
+-- the same in a world that keeps its word
+pub record ShownIdle {Own : Type 0} (Tells : Type 0) (old new : Seen Own) (e now_e : Engine) : Type 0 where
+  pub happens : Tells → Conforming new → Settled old e → OneHappens old new e now_e
+
+pub record ShownOver {Own : Type 0} (Tells : Type 0) (old new : Seen Own) (e now_e : Engine) : Type 0 where
+  pub moved : Tells → Conforming new → Settled old e → Moved [] (λ r. r) [] old new e now_e
+
+pub record ShownRounds {Own : Type 0} (Tells : Type 0) (accepts : List TableView → Bool) (number : ℕ) (text : List ℕ) (old new : Seen Own) (e now_e : Engine) : Type 0 where
+  pub rounds_so : (allows : List Place → Bool) → Tells → Conforming new → JudgesAlike Own allows accepts → Settled old e → Rounds allows number text old new e now_e
+
+-- where the stimuli are fewer than this number of rounds
+pub record ShownToEnd {Own : Type 0} (Tells : Type 0) (accepts : List TableView → Bool) (most : ℕ) (text : List ℕ) (old new : Seen Own) (e now_e : Engine) : Type 0 where
+  pub to_end : (allows : List Place → Bool) → Tells → Conforming new → JudgesAlike Own allows accepts → Settled old e → length (stimuli_in new) < most → ToEnd allows text old new e now_e

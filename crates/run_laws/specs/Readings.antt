@@ -1,0 +1,47 @@
+-- What the journal tells of the application by a turn and by attempts to start it. All of this is our own.
+use Rattle.std.specs.Prelude.{◌≡◌, ℕ, Bool, true, List, [], ◌∷◌, ◌++◌, Option, is_some}
+use Rattle.std.specs.List.{AllByRecursion}
+use Rattle.flow_table.specs.declared.view.TableView.{TableView}
+use Rattle.app_frames.specs.declared.frame.Event.{Event}
+use Rattle.app_frames.specs.declared.cause.Tried.{Tried}
+use Rattle.lego_model.specs.Journal.{is_of, start_of}
+use Rattle.lego_model.specs.Scripted.{is_heard, is_start_heard}
+use Rattle.lego_model.specs.Places.{Place}
+use Rattle.lego_model.specs.Controller.{event_frame}
+use Rattle.outside.specs.Seen.{Seen}
+use Rattle.outside.specs.State.{state}
+use Rattle.net_txn.specs.Net.{NetState}
+use Rattle.app_visor.specs.declared.state.TurnEnd.{TurnEnd}
+use Rattle.app_visor.specs.Beats.{Beat}
+use Rattle.app_visor.specs.Turns.{reply_by, Turns}
+use Rattle.app_visor.specs.Attempts.{OneTry, starts_of, Restarts}
+use Rattle.switch_laws.specs.Shown.{shown_places}
+use Rattle.journal_laws.specs.Readings.{starts_in, replies_in, LastStands}
+use Rattle.run_laws.specs.Engine.{index, budget, own_acts}
+
+-- a turn: one reply more, which tells enough of it, and the last attempt stands still
+pub record TurnRead {Own : Type 0} (rest : List ℕ) (old mid : Seen Own) (given : Bool) (trace : List (Beat Own)) : Type 0 where
+  pub starts : starts_in (own_acts mid) ≡ starts_in (own_acts old)
+  pub replies : replies_in (own_acts mid) ≡ replies_in (own_acts old) ++ reply_by given trace ∷ []
+  pub heard : is_heard budget rest (reply_by given trace) ≡ true
+  pub life : LastStands (own_acts mid)
+
+-- attempts: a start more for each, which tells enough of it, and of which the last stands where one was ready; and each act of an attempt
+-- is of the application
+pub record TriesRead {Own : Type 0} (old new : Seen Own) (all : List (OneTry Own)) (found : Option (List ℕ)) : Type 0 where
+  pub starts : starts_in (own_acts new) ≡ starts_in (own_acts old) ++ starts_of all
+  pub replies : replies_in (own_acts new) ≡ replies_in (own_acts old)
+  pub heard : AllByRecursion (λ t. is_start_heard (start_of t.attempt) ≡ true) all
+  pub life : is_some found ≡ true → LastStands (own_acts new)
+  pub own : AllByRecursion (λ t. AllByRecursion (λ act. is_of index act ≡ true) t.attempt.acts) all
+
+-- so is every turn and every restart read
+pub record AreRead (Own : Type 0) (Tells : Type 0) (accepts : List TableView → Bool) : Type 0 where
+  pub turn : (number moment : ℕ) (event : Event) (rest : List ℕ) (old mid : Seen Own) (net mid_net : NetState) (end : TurnEnd) (unread : List ℕ) → Tells
+      → (t : Turns Tells accepts index budget rest (event_frame number moment event) old mid net mid_net end unread) → LastStands (own_acts old)
+      → TurnRead rest old mid t.given t.trace
+  pub tries : (old new : Seen Own) (found : Option (List ℕ)) (tries : List Tried) → Tells → (s : Restarts Tells index old new found tries) → TriesRead old new s.all found
+
+-- the judge of the engine says what that of the reference controller says of the switches that it shows
+pub record JudgesAlike (Own : Type 0) (allows : List Place → Bool) (accepts : List TableView → Bool) : Type 0 where
+  pub alike : (seen : Seen Own) (net : NetState) → allows (shown_places seen.given.declared net.views (state seen)) ≡ accepts net.views

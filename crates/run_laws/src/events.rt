@@ -1,0 +1,52 @@
+//! Laws of one event, each the contract of a function that does nothing.
+
+ghost use Rattle.std.specs.Prelude.{◌≡◌, ℕ, ◌+◌, ◌^◌, ◌<◌, Bool, true, List, [], ◌∷◌};
+ghost use Rattle.flow_table.specs.declared.view.TableView.{TableView};
+ghost use Rattle.app_frames.specs.declared.frame.Event.{Event};
+ghost use Rattle.lego_model.specs.Places.{Place};
+ghost use Rattle.lego_model.specs.Controller.{dispatch};
+ghost use Rattle.outside.specs.Seen.{Seen, Continues};
+ghost use Rattle.outside.specs.Conforming.{Conforming};
+ghost use Rattle.journal_laws.specs.Readings.{LastStands};
+ghost use Rattle.run_laws.specs.Engine.{Engine, own_acts};
+ghost use Rattle.run_laws.specs.Facts.{StartsAgain, TakesTurn, Dispatches};
+ghost use Rattle.run_laws.specs.Moves.{Moves, dispatch_next};
+ghost use Rattle.run_laws.specs.Readings.{AreRead, JudgesAlike};
+ghost use Rattle.run_laws.specs.StartMoveLaws.{StartsAlike};
+ghost use Rattle.run_laws.specs.TurnMoveLaws.{TurnMoves};
+
+use outside::World;
+
+/// The application is started in the attempts of the reference controller, which comes to the same by them.
+pub fn starts_move<W: World>()
+    ensures { (accepts : List TableView → Bool) (text : List ℕ) (old new : Seen W.Own) (e now_e : Engine) → W.Tells → AreRead W.Own W.Tells accepts
+        → StartsAgain W.Tells text old new e now_e → StartsAlike W.Tells text old new e now_e }
+{}
+
+/// In a world that keeps its word the turn of the engine leaves what that of the reference controller leaves, whether it was
+/// done, or failed and was undone, and the application started again.
+pub fn turns_move<W: World>()
+    ensures { (accepts : List TableView → Bool) (allows : List Place → Bool) (event : Event) (text : List ℕ) (old new : Seen W.Own) (e now_e : Engine)
+        → W.Tells → Conforming new → JudgesAlike W.Own allows accepts → AreRead W.Own W.Tells accepts → e.events < 2 ^ 64 → LastStands (own_acts old)
+        → TakesTurn W.Tells accepts event text old new e now_e → TurnMoves allows event text old new e now_e }
+{}
+
+/// In a world that keeps its word: what the engine does at an event is what the reference controller does at it, and so it is
+/// with the oldest event that waits. Where the application is alive then, its last start stands; one event more was
+/// dispatched, and those that wait stay.
+pub fn events_move<W: World>()
+    ensures dispatched { (accepts : List TableView → Bool) (allows : List Place → Bool) (event : Event) (text : List ℕ) (old new : Seen W.Own) (e now_e : Engine)
+        → W.Tells → Conforming new → Continues W.Tells old new → JudgesAlike W.Own allows accepts → AreRead W.Own W.Tells accepts → e.events + 1 < 2 ^ 64
+        → (e.alive ≡ true → LastStands (own_acts old)) → Dispatches W.Tells accepts event text old new e now_e
+        → Moves [] (dispatch allows event) text old new e now_e }
+    ensures life { (accepts : List TableView → Bool) (allows : List Place → Bool) (event : Event) (text : List ℕ) (old new : Seen W.Own) (e now_e : Engine)
+        → W.Tells → Conforming new → JudgesAlike W.Own allows accepts → AreRead W.Own W.Tells accepts → e.events + 1 < 2 ^ 64
+        → (e.alive ≡ true → LastStands (own_acts old)) → Dispatches W.Tells accepts event text old new e now_e
+        → now_e.alive ≡ true → LastStands (own_acts new) }
+    ensures counted { (accepts : List TableView → Bool) (event : Event) (text : List ℕ) (old new : Seen W.Own) (e now_e : Engine)
+        → Dispatches W.Tells accepts event text old new e now_e → (now_e.events ≡ e.events + 1) × (now_e.queue ≡ e.queue) }
+    ensures next { (allows : List Place → Bool) (event : Event) (queue : List Event) (text : List ℕ) (old new : Seen W.Own) (e now_e : Engine)
+        → e.queue ≡ event ∷ queue → Moves [] (dispatch allows event) text old new (record e { queue = queue }) now_e
+        → Moves [] (dispatch_next allows) text old new e now_e }
+    ensures rests { (allows : List Place → Bool) (seen : Seen W.Own) (e : Engine) → e.queue ≡ [] → Moves [] (dispatch_next allows) [] seen seen e e }
+{}

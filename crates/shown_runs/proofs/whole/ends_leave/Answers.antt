@@ -1,9 +1,0 @@
-use Rattle.shown_runs.specs.EndingLaws.{leaves-then}
-use Rattle.shown_runs.specs.LeaveLaws.{end-leaves}
-use Rattle.shown_runs.proofs.whole.ends_leave.Goals as goal
-
-pub returns-clause-end : goal.returns-clause-end
-returns-clause-end g c = end-leaves g.W.World.Tells
-
-pub returns-clause-both : goal.returns-clause-both
-returns-clause-both g c = leaves-then

@@ -1,8 +1,0 @@
-use Rattle.shown_runs.specs.EndingLaws.{ran-out, ran-full}
-use Rattle.shown_runs.proofs.whole.runs_are_the_references.Goals as goal
-
-pub returns-clause-out : goal.returns-clause-out
-returns-clause-out g c = ran-out g.W.World.Tells
-
-pub returns-clause-full : goal.returns-clause-full
-returns-clause-full g c = ran-full g.W.World.Tells

@@ -1,5 +1,0 @@
-use Rattle.shown_scripts.specs.FollowLaws.{tells_fronts}
-use Rattle.shown_scripts.proofs.scripts.journals_tell_fronts.Goals as goal
-
-pub returns : goal.returns
-returns c = λ app own seen more. tells_fronts own app seen.history more

@@ -1,8 +1,0 @@
-use Rattle.shown_switches.specs.StandLaws.{all-stand, table-serialed}
-use Rattle.shown_switches.proofs.transaction.histories_stand.Goals as goal
-
-pub returns-clause-all : goal.returns-clause-all
-returns-clause-all g c = all-stand
-
-pub returns-clause-serials : goal.returns-clause-serials
-returns-clause-serials g c = table-serialed

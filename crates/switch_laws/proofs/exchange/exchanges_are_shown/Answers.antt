@@ -1,0 +1,5 @@
+use Rattle.switch_laws.specs.ExchangeShown.{exchange-shown}
+use Rattle.switch_laws.proofs.exchange.exchanges_are_shown.Goals as goal
+
+pub returns : goal.returns
+returns g c = exchange-shown

@@ -1,0 +1,58 @@
+-- The switches of a world as the owners of their entries see them: what the reference controller has in their places. All of this is
+-- our own.
+use Rattle.std.specs.Prelude.{◌≡◌, ◌==◌, ℕ, Bool, false, List, [], ◌∷◌, map, Option, Some, None, if◌then◌else◌}
+use Rattle.std.specs.Option.{option_map}
+use Rattle.of_match.specs.declared.key.Key.{Key}
+use Rattle.of_match.specs.Key.{place}
+use Rattle.of_wire.specs.declared.bodies.FlowMod.{FlowMod as Change}
+use Rattle.flow_table.specs.declared.view.ViewRow.{ViewRow}
+use Rattle.flow_table.specs.declared.view.TableView.{TableView}
+use Rattle.flow_table.specs.Table.{IsTable}
+use Rattle.flow_table.specs.Switch.{Declared, SwitchState}
+use Rattle.undo_laws.specs.Owned.{owned_switch}
+use Rattle.outside.specs.Seen.{is_declared}
+use Rattle.outside.specs.State.{State, switch_of}
+use Rattle.lego_model.specs.Answers.{Rows, flow_mod_refused, would_touch}
+use Rattle.lego_model.specs.Places.{Place}
+use Rattle.net_txn.specs.Views.{rows_at, rows_after}
+
+-- the flags with which the owner of a key's entry asked for it, or 0 where there is none
+abbrev pub flags_in : List ViewRow → Key → ℕ
+flags_in [] k = 0
+flags_in (r ∷ rs) k = if place r.key == place k then r.flags else flags_in rs k
+
+abbrev pub rows_or_none : Option (List ViewRow) → List ViewRow
+rows_or_none None = []
+rows_or_none (Some rows) = rows
+
+abbrev pub flags_at : ℕ → List TableView → Key → ℕ
+flags_at d views = flags_in (rows_or_none (rows_at d views))
+
+-- a switch of a world, while it is joined, with the flags of the owners
+abbrev pub shown_switch : List TableView → State → ℕ → Option SwitchState
+shown_switch views s d = option_map (owned_switch (flags_at d views)) (switch_of d s)
+
+-- declared switches that stand so
+abbrev pub places : (ℕ → Option SwitchState) → List Declared → List Place
+places f ds = map (λ d. record { declared = d; switch = f d.dpid }) ds
+
+unfoldable pub shown_places : List Declared → List TableView → State → List Place
+shown_places ds views s = places (shown_switch views s) ds
+
+-- ---- A change that the host lets pass
+
+-- nothing stands against it beside the table, and it touches no row
+pub record Passes (m : Change) (rows : Rows) : Type 0 where
+  pub unrefused : flow_mod_refused m ≡ None
+  pub untouched : would_touch m rows ≡ false
+
+-- the flags of the owners after a change that was not refused
+abbrev pub flags_after : Change → List ViewRow → Key → ℕ
+flags_after m rows = flags_in (rows_after m rows)
+
+-- ---- What stands, of a world that keeps its word
+
+-- a switch that is joined is declared, and its table is in key order
+pub record Stand (declared : List Declared) (s : State) : Type 0 where
+  pub undeclared : (d : ℕ) → is_declared d declared ≡ false → switch_of d s ≡ None
+  pub table : (d : ℕ) (x : SwitchState) → switch_of d s ≡ Some x → IsTable x.table.entries

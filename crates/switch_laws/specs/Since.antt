@@ -1,0 +1,45 @@
+-- How a world and what the host keeps of it stand to where a transaction began: the logged keys were added since, and nothing else
+-- changed. All of this is our own.
+use Rattle.std.specs.Prelude.{◌≡◌, ℕ, ◌≤◌, List, [], length, drop, map, Option, Some, None}
+use Rattle.of_match.specs.declared.key.Key.{Key}
+use Rattle.flow_table.specs.Switch.{SwitchState}
+use Rattle.undo_laws.specs.Removal.{OnlyAdded}
+use Rattle.outside.specs.Seen.{Seen}
+use Rattle.outside.specs.State.{State, state, switch_of, waits_of}
+use Rattle.net_txn.specs.Net.{NetState}
+use Rattle.net_txn.specs.Agreement.{Agrees}
+use Rattle.net_txn.specs.Undos.{but_fare, without_keys, keys_of}
+
+-- nothing of any switch waits, and each view shows its table
+pub record Ready {Own : Type 0} (seen : Seen Own) (net : NetState) : Type 0 where
+  pub waits : (d : ℕ) → waits_of d (state seen) ≡ []
+  pub agrees : (d : ℕ) → Agrees d net.views (state seen)
+
+-- the keys that were logged from a place on, with their switches
+abbrev pub logged_since : ℕ → NetState → List (ℕ × Key)
+logged_since start net = map but_fare (drop start net.log)
+
+-- a switch to whose table these keys were added since
+pub record SwitchSince (keys : List Key) (before now : SwitchState) : Type 0 where
+  pub rest : now ≡ record before { table = now.table }
+  pub added : OnlyAdded keys before.table.entries now.table.entries
+
+-- a switch that stood so, and stands so now
+pub record JoinedSince (keys : List Key) (before : SwitchState) (now : Option SwitchState) : Type 0 where
+  pub switch : SwitchState
+  pub is : now ≡ Some switch
+  pub since : SwitchSince keys before switch
+
+pub record Since {Own : Type 0} (start : ℕ) (first now : Seen Own) (net0 net : NetState) : Type 0 where
+  pub started : start ≤ length net.log
+  pub given : now.given ≡ first.given
+  pub moment : net.moment ≡ net0.moment
+  pub kept : net.kept ≡ net0.kept
+  pub views : without_keys (logged_since start net) net.views ≡ net0.views
+  pub joined : (d : ℕ) (s : SwitchState) → switch_of d (state first) ≡ Some s → JoinedSince (keys_of d (logged_since start net)) s (switch_of d (state now))
+  pub out : (d : ℕ) → switch_of d (state first) ≡ None → switch_of d (state now) ≡ None
+
+-- a transaction stands so, and all is ready
+pub record Goes {Own : Type 0} (start : ℕ) (first now : Seen Own) (net0 net : NetState) : Type 0 where
+  pub since : Since start first now net0 net
+  pub ready : Ready now net

@@ -1,0 +1,43 @@
+//! Laws of transactions, each the contract of a function that does nothing.
+
+ghost use Rattle.std.specs.Prelude.{◌≡◌, ℕ, List, length, Ok, Some};
+ghost use Rattle.flow_table.specs.Switch.{Declared, SwitchState};
+ghost use Rattle.undo_laws.specs.Serials.{IsSerialed};
+ghost use Rattle.app_frames.specs.declared.frame.Answer.{Answer};
+ghost use Rattle.lego_model.specs.Places.{undone_places};
+ghost use Rattle.outside.specs.Seen.{Seen};
+ghost use Rattle.outside.specs.State.{state, switch_of};
+ghost use Rattle.outside.specs.Conforming.{Conforming};
+ghost use Rattle.net_txn.specs.Net.{NetState};
+ghost use Rattle.net_txn.specs.Changes.{Changes};
+ghost use Rattle.net_txn.specs.Agreement.{Steps};
+ghost use Rattle.net_txn.specs.Undos.{Undoes};
+ghost use Rattle.switch_laws.specs.Shown.{Stand, shown_places};
+ghost use Rattle.switch_laws.specs.Since.{Ready, Since, Goes};
+
+use outside::World;
+
+/// In every history the switches that are joined are declared, and their tables stand in key order with serials that differ.
+pub fn histories_stand<W: World>()
+    ensures all { (seen : Seen W.Own) → Stand seen.given.declared (state seen) }
+    ensures serials { (seen : Seen W.Own) (d : ℕ) (s : SwitchState) → switch_of d (state seen) ≡ Some s → IsSerialed s.table }
+{}
+
+/// A transaction stands to where it began as one may that can be undone: at first, and after each message that was answered
+/// in a world that keeps its word; and then all is ready for the next one.
+pub fn transactions_stand<W: World>()
+    ensures begun { (seen : Seen W.Own) (net : NetState) → Since (length net.log) seen seen net net }
+    ensures goes_on { (d : ℕ) (bytes : List ℕ) (start : ℕ) (first old new : Seen W.Own) (net0 net now_net : NetState) (given : Answer) → W.Tells
+        → Conforming new → Changes W.Tells d bytes old new net now_net (Ok given) → Steps W.Tells d bytes old new net now_net (Ok given)
+        → Goes start first old net0 net → Goes start first new net0 now_net }
+{}
+
+/// An undo that succeeded in a world that keeps its word: with the flags of the owners the switches are those of the reference
+/// controller that gets the earlier tables back, and all is ready again.
+pub fn undos_are_shown<W: World>()
+    ensures shown { (start : ℕ) (first old new : Seen W.Own) (net0 net now_net : NetState) → W.Tells → Conforming new → Since start first old net0 net
+        → Ready old net → Undoes W.Tells start old new net now_net (Ok tt) → (declared : List Declared)
+        → shown_places declared now_net.views (state new) ≡ undone_places (shown_places declared net0.views (state first)) (shown_places declared net.views (state old)) }
+    ensures ready { (start : ℕ) (old new : Seen W.Own) (net now_net : NetState) → W.Tells → Conforming new → Ready old net
+        → Undoes W.Tells start old new net now_net (Ok tt) → Ready new now_net }
+{}

@@ -1,0 +1,5 @@
+use Rattle.turn_laws.specs.StopShown.{stop-plain}
+use Rattle.turn_laws.proofs.turns.stops_are_plain.Goals as goal
+
+pub returns : goal.returns
+returns g c = stop-plain g.W.World.Tells

@@ -1,0 +1,5 @@
+use Rattle.turn_laws.specs.ChainShown.{turn-shown}
+use Rattle.turn_laws.proofs.turns.turns_are_shown.Goals as goal
+
+pub returns : goal.returns
+returns g c = turn-shown g.W.World.Tells

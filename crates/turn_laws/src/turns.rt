@@ -1,0 +1,34 @@
+//! Laws of turns, each the contract of a function that does nothing.
+
+ghost use Rattle.std.specs.Prelude.{◌≡◌, ℕ, Bool, List, Some};
+ghost use Rattle.flow_table.specs.declared.view.TableView.{TableView};
+ghost use Rattle.lego_model.specs.Places.{Place};
+ghost use Rattle.outside.specs.Seen.{Seen};
+ghost use Rattle.outside.specs.State.{state};
+ghost use Rattle.outside.specs.Conforming.{Conforming};
+ghost use Rattle.net_txn.specs.declared.fault.TxnFault.{TxnFault};
+ghost use Rattle.net_txn.specs.Net.{NetState};
+ghost use Rattle.app_visor.specs.declared.state.TurnEnd.{TurnEnd};
+ghost use Rattle.app_visor.specs.Beats.{Stops};
+ghost use Rattle.app_visor.specs.Turns.{reply_by, Turns};
+ghost use Rattle.switch_laws.specs.Shown.{shown_places};
+ghost use Rattle.switch_laws.specs.Since.{Ready};
+ghost use Rattle.turn_laws.specs.ChainShown.{PlayedAlike};
+ghost use Rattle.turn_laws.specs.StopShown.{IsPlainStop};
+
+use outside::World;
+
+/// In a world that keeps its word, where all was ready: a turn goes as the reference controller plays it on its own switches,
+/// and these stand then as the world's do, with the flags of the owners. What may have to be undone of it stands so.
+pub fn turns_are_shown<W: World>()
+    ensures { (accepts : List TableView → Bool) (allows : List Place → Bool) (app budget : ℕ) (rest frame : List ℕ) (old new : Seen W.Own) (net now_net : NetState) (end : TurnEnd) (unread : List ℕ)
+        → W.Tells → Conforming new → Ready old net → (t : Turns W.Tells accepts app budget rest frame old new net now_net end unread)
+        → allows (shown_places old.given.declared now_net.views (state new)) ≡ accepts now_net.views
+        → PlayedAlike allows budget rest (reply_by t.given t.trace) old new net now_net t.answers t.outcome }
+{}
+
+/// A turn that stops in a world that keeps its word, where all was ready, stops by the link of a switch or for want of memory.
+pub fn stops_are_plain<W: World>()
+    ensures { (app : ℕ) (old new : Seen W.Own) (net now_net : NetState) (fault : TxnFault) → W.Tells → Conforming new → Ready old net
+        → Stops W.Tells app old new net now_net fault → IsPlainStop fault }
+{}

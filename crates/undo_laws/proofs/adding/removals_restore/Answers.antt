@@ -1,0 +1,12 @@
+use Rattle.undo_laws.specs.RemovalLaws.{removals-restore, is_among-reverse}
+use Rattle.undo_laws.specs.AddedLaws.{undone-added}
+use Rattle.undo_laws.proofs.adding.removals_restore.Goals as goal
+
+pub returns-clause-restores : goal.returns-clause-restores
+returns-clause-restores c = removals-restore
+
+pub returns-clause-newest_first : goal.returns-clause-newest_first
+returns-clause-newest_first c = is_among-reverse
+
+pub returns-clause-undone : goal.returns-clause-undone
+returns-clause-undone c = undone-added
