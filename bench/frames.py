@@ -2,7 +2,7 @@
 """How fast packet keys are read and frames are edited, how fast a stream is cut into messages, and how fast
 frames of applications are read, and how fast a simulated switch forwards.
 
-bench/frames.py [PROGRAM]: PROGRAM is the built lego_bench. Prints, for frames of 64 and of 1,500 bytes,
+bench/frames.py [PROGRAM]: PROGRAM is lego_bench as bench/build leaves it. Prints, for frames of 64 and of 1,500 bytes,
 keys and edits a second (an edit writes the network destination and the destination port, with both
 checksums, and sends the frame out); and, for one stream that comes in pieces of 1, 64 and 65,536 bytes,
 the seconds for each 64 MiB, MiB a second, and how much longer twice as long a stream takes, which is
@@ -16,7 +16,7 @@ import sys
 import time
 
 HERE = os.path.dirname(os.path.abspath(__file__))
-PROGRAM = os.path.join(HERE, "..", "crates", "lego_bench", "out", "lego_bench")
+PROGRAM = os.path.join(HERE, "out", "lego_bench")
 ROUNDS = {"key": 20_000_000, "edit": 1_000_000}
 MEBIBYTES = {"1": 64, "64": 640, "65536": 1280}
 SAID = {"save": 20_000_000, "message": 5_000_000, "64k": 20_000, "1m": 1_000, "part": 20_000_000}

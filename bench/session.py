@@ -13,7 +13,7 @@ import tempfile
 import time
 
 HERE = os.path.dirname(os.path.abspath(__file__))
-PROGRAM = [os.path.join(HERE, "..", "crates", "lego_bench", "out", "lego_bench"), "session"]
+PROGRAM = [os.path.join(HERE, "out", "lego_bench"), "session"]
 
 HEAD = b"session 1\nswitch 1 8 -\n"
 SWITCHES = b"session 1\n" + b"".join(b"switch %d 1 -\n" % dpid for dpid in range(1, 65))

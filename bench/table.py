@@ -1,7 +1,7 @@
 #!/usr/bin/env python3
 """What a call on a flow table of 100, 1,000 and 4,096 entries takes, and how that grows.
 
-bench/table.py [PROGRAM]: PROGRAM is the built lego_bench. Prints microseconds a call: of a change that puts
+bench/table.py [PROGRAM]: PROGRAM is lego_bench as bench/build leaves it. Prints microseconds a call: of a change that puts
 an entry in over one with its key, of a lookup and a hit, each entry in turn, of an expiry at which no entry
 goes, and of one DELETE that removes all entries; behind each from 1,000 entries on, how many times that of
 the size before it.
@@ -13,7 +13,7 @@ import sys
 import time
 
 HERE = os.path.dirname(os.path.abspath(__file__))
-PROGRAM = os.path.join(HERE, "..", "crates", "lego_bench", "out", "lego_bench")
+PROGRAM = os.path.join(HERE, "out", "lego_bench")
 SIZES = (100, 1_000, 4_096)
 CALLS = {"change": 400_000, "lookup": 40_000, "hit": 40_000, "expire": 20_000_000}
 

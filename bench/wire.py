@@ -1,7 +1,7 @@
 #!/usr/bin/env python3
 """How fast of_wire reads, checks and writes messages, beside a plain Rust codec of the same messages.
 
-bench/wire.py [PROGRAM]: PROGRAM is the built lego_bench. Builds bench/wire.rs with rustc into a temporary
+bench/wire.py [PROGRAM]: PROGRAM is lego_bench as bench/build leaves it. Builds bench/wire.rs with rustc into a temporary
 folder. Prints, for each operation and corpus, messages and MiB a second of both, and the part of the
 plain codec's rate that of_wire reaches.
 """
@@ -13,7 +13,7 @@ import tempfile
 import time
 
 HERE = os.path.dirname(os.path.abspath(__file__))
-PROGRAM = os.path.join(HERE, "..", "crates", "lego_bench", "out", "lego_bench")
+PROGRAM = os.path.join(HERE, "out", "lego_bench")
 CORPORA = ("small", "large", "actions")
 
 

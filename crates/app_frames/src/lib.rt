@@ -22,6 +22,3 @@ pub use frame::{Answer, AppFrame, Event, EventKind, HostFrame};
 pub use host::{decode_host, encode_host};
 pub use laws::{laws_of_app_frames, laws_of_host_frames};
 pub use script::{Script, ScriptStep, StartScript};
-
-#[cfg(test)]
-mod tests;

@@ -1,4 +1,4 @@
-//! Whole sessions run by the engine over simulated worlds. Tests alone.
+//! Runs of the engine over worlds and sinks that fail, as no session can say. Tests alone.
 #![tactic(auto)]
 
 #[cfg(test)]

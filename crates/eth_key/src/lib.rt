@@ -10,6 +10,3 @@ mod network;
 pub use ethernet::{ETHERNET_LEN, Payload, is_tagged, payload_of};
 pub use ipv4::{Ipv4Header, TCP, UDP, has_ports, ipv4_header, is_fragment, protocol};
 pub use key::key_of;
-
-#[cfg(test)]
-mod tests;

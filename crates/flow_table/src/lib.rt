@@ -24,6 +24,3 @@ pub use judge::{AllowAll, Judge};
 pub use notice::{Notice, NoticeList};
 pub use table::Table;
 pub use view::{TableView, ViewList, ViewRow};
-
-#[cfg(test)]
-mod tests;

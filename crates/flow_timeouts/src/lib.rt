@@ -7,6 +7,3 @@ mod timeouts;
 
 pub use laws::hard_deadline_stays;
 pub use timeouts::{LAST_MOMENT, Reason, deadline, remaining};
-
-#[cfg(test)]
-mod tests;

@@ -13,6 +13,3 @@ mod tag;
 pub use applying::{Edited, apply};
 pub use laws::{laws_of_checksums, laws_of_edits};
 pub use outputs::OutList;
-
-#[cfg(test)]
-mod tests;

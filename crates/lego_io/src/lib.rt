@@ -18,6 +18,3 @@ pub use sink::{Sink, WriteFault};
 pub use source::{ReadFault, Source};
 pub use standard::{StdSink, StdSource};
 pub use transfer::{ReadAllFault, read_all, write_all};
-
-#[cfg(test)]
-mod tests;

@@ -3,8 +3,6 @@
 
 mod input;
 mod stop;
-#[cfg(test)]
-mod tests;
 mod top;
 
 use crate::top::legosdn;

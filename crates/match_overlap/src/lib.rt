@@ -9,6 +9,3 @@ mod relations;
 
 pub use laws::{meet_is_greatest_lower_bound, overlap_is_symmetric, subsumes_is_an_order};
 pub use relations::{meet, overlaps, subsumes};
-
-#[cfg(test)]
-mod tests;

@@ -5,6 +5,7 @@ use std::test::Fail;
 
 mod calls;
 mod ended;
+mod failing;
 mod messages;
 mod plays;
 mod worlds;

@@ -15,6 +15,3 @@ pub use list::{ActionList, outputs_to};
 pub use opaque::Opaque;
 pub use reading::{check_list, decode_list, laws_of_lists};
 pub use writing::{encode_list, size};
-
-#[cfg(test)]
-mod tests;

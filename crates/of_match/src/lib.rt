@@ -18,6 +18,3 @@ pub use key::Key;
 pub use laws::{decode_after_encode, fields_of_matches, one_normal_form, places_of_keys};
 pub use packet_key::PacketKey;
 pub use printing::text;
-
-#[cfg(test)]
-mod tests;

@@ -24,6 +24,3 @@ pub use row_list::RowList;
 pub use sum::{Sum, read_sum, write_sum};
 pub use table_row::{TableRow, read_table_row, write_table_row};
 pub use writing::{write_flow_row, write_flow_rows};
-
-#[cfg(test)]
-mod tests;

@@ -10,6 +10,3 @@ mod streams;
 pub use cutter::Cutter;
 pub use fault::CutFault;
 pub use streams::{Cut, cut_pieces, laws_of_streams};
-
-#[cfg(test)]
-mod tests;

@@ -30,6 +30,3 @@ pub type PortNo = u16;
 
 /// What ties an answer to its request (OpenFlow 1.0.0, 5.1 OpenFlow Header: `xid`).
 pub type Xid = u32;
-
-#[cfg(test)]
-mod tests;

@@ -25,6 +25,3 @@ pub use message::{Envelope, Message};
 pub use port_list::PortList;
 pub use reading::decode;
 pub use writing::{encode, encode_into, size};
-
-#[cfg(test)]
-mod tests;

@@ -2,14 +2,10 @@
 #![tactic(auto)]
 
 mod loading;
-#[cfg(test)]
-mod loading_tests;
 mod text_fault;
 mod text_lines;
 mod text_so_far;
 mod text_steps;
-#[cfg(test)]
-mod text_tests;
 mod text_words;
 mod whole_text;
 mod words;

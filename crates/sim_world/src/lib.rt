@@ -22,6 +22,3 @@ mod world;
 
 pub use script_laws::{links_move_no_life, lives_of_a_history, longer_scripted_history};
 pub use world::SimWorld;
-
-#[cfg(test)]
-mod tests;

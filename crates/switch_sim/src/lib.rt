@@ -22,6 +22,3 @@ mod table;
 pub use laws::{declarations_stay, features_are_answered, moments_stay};
 pub use message_list::MessageList;
 pub use switch::SimSwitch;
-
-#[cfg(test)]
-mod tests;

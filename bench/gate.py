@@ -1,0 +1,177 @@
+#!/usr/bin/env python3
+"""What the gate costs: bench/gate.py [--write] [CRATE ..]
+
+Clones the last commit into a temporary folder and runs `rt ci --anew` there, of these crates and those below them if any are named.
+Prints, for each crate, the processor minutes of its proof, of its tests' proof, of what its edits begin with, and of its edits; then
+the whole, and how busy the machine was with other work. With --write the figures go into docs/GATE.md too.
+
+How the figures are made: four times a second it reads from /proc the processor time of each process below `rt`, and adds it to what
+the words and the folder of the `rattle` process above it tell: which crate, and which of the four. So of each process the last
+quarter of a second can be missing. The whole is the kernel's own sum over all processes that have ended, and is exact; `rest` is what
+no crate was seen to take: `rt` itself, compilers and links, tests and programs that run.
+"""
+
+import os
+import subprocess
+import sys
+import tempfile
+import threading
+import time
+
+HERE = os.path.dirname(os.path.abspath(__file__))
+TOP = os.path.join(HERE, "..")
+PAGE = os.path.join(TOP, "docs", "GATE.md")
+BEGIN, END = "<!-- figures: bench/gate.py --write -->\n", "<!-- end of figures -->\n"
+TICKS = os.sysconf("SC_CLK_TCK")
+KINDS = ("proof", "tests", "start", "edits")
+PAUSE = 0.25
+
+
+def stat_of(pid):
+    """Of a process: the one above it, when it began, its own seconds, and those of its children that have ended."""
+    with open("/proc/%d/stat" % pid, encoding="utf-8", errors="replace") as file:
+        said = file.read()
+    words = said[said.rindex(")") + 2:].split()
+    return int(words[1]), words[19], (int(words[11]) + int(words[12])) / TICKS, (int(words[13]) + int(words[14])) / TICKS
+
+
+def work_of(pid):
+    """The crate and the kind of work of a process of rattle, or None."""
+    with open("/proc/%d/cmdline" % pid, "rb") as file:
+        words = file.read().decode(errors="replace").split("\0")
+    folder = os.readlink("/proc/%d/cwd" % pid)
+    if not words[0].endswith("/rattle") or "--crate-name" not in words:
+        return None
+    crate = words[words.index("--crate-name") + 1]
+    if "/rt-edit-" in folder:
+        over = words[words.index("--incremental") + 1] if "--incremental" in words else ""
+        return crate, "start" if over.endswith("/seed") else "edits"
+    return crate, "tests" if "--test" in words else "proof"
+
+
+class Watch(threading.Thread):
+    """Adds up what the processes below one take."""
+
+    def __init__(self, root):
+        super().__init__(daemon=True)
+        self.root, self.ended, self.works, self.most = root, threading.Event(), {}, {}
+
+    def look(self):
+        above, began, seconds = {}, {}, {}
+        for name in os.listdir("/proc"):
+            if name.isdigit():
+                try:
+                    above[int(name)], began[int(name)], own, waited = stat_of(int(name))
+                    seconds[int(name)] = own + waited
+                except OSError:
+                    pass
+        sums = {}
+        for pid in seconds:
+            chain, at = [], pid
+            while at in above and at != self.root:
+                chain.append(at)
+                at = above[at]
+            if at != self.root:
+                continue
+            # (the uppermost process of rattle tells what those below it do)
+            for at in reversed(chain):
+                one = at, began[at]
+                if self.works.get(one) is None:
+                    try:
+                        self.works[one] = work_of(at)
+                    except (OSError, IndexError, ValueError):
+                        pass
+                if self.works.get(one):
+                    key = one, self.works[one]
+                    sums[key] = sums.get(key, 0) + seconds[pid]
+                    break
+        for key, taken in sums.items():
+            self.most[key] = max(self.most.get(key, 0), taken)
+
+    def run(self):
+        while not self.ended.wait(PAUSE):
+            self.look()
+
+    def figures(self):
+        """Seconds by crate and kind."""
+        found = {}
+        for (_, (crate, kind)), taken in self.most.items():
+            row = found.setdefault(crate, dict.fromkeys(KINDS, 0))
+            row[kind] += taken
+        return found
+
+
+def busy():
+    """The seconds for which all processors of the machine have worked."""
+    with open("/proc/stat", encoding="utf-8") as file:
+        words = [int(word) for word in file.readline().split()[1:9]]
+    return (sum(words) - words[3] - words[4]) / TICKS
+
+
+def edits_in(crate):
+    folder = os.path.join(TOP, "crates", crate, "must-fail")
+    return len([name for name in os.listdir(folder) if name.endswith(".edit")]) if os.path.isdir(folder) else 0
+
+
+def table(found, whole):
+    """The figures as lines of a table."""
+    minutes = lambda seconds: "%.1f" % (seconds / 60) if seconds else ""
+    lines = ["| crate | proof | tests | start of edits | edits | number of edits | sum |", "|---|---|---|---|---|---|---|"]
+    total = dict.fromkeys(KINDS, 0)
+    for crate, row in sorted(found.items(), key=lambda it: -sum(it[1].values())):
+        lines.append("| `%s` | %s | %s | %s |" % (crate, " | ".join(minutes(row[kind]) for kind in KINDS), edits_in(crate) or "", minutes(sum(row.values()))))
+        for kind in KINDS:
+            total[kind] += row[kind]
+    rest = max(whole - sum(total.values()), 0)
+    lines.append("| rest | | | | | | %s |" % minutes(rest))
+    lines.append("| whole | %s | %d | %s |" % (" | ".join(minutes(total[kind]) for kind in KINDS), sum(map(edits_in, found)), minutes(whole)))
+    return lines
+
+
+def measured(names, room):
+    """Runs the gate in a clone: the status, the last line, and the text of the figures."""
+    clone = os.path.join(room, "repo")
+    subprocess.run(["git", "clone", "-q", TOP, clone], check=True)
+    commit = subprocess.run(["git", "-C", clone, "log", "-1", "--format=%h"], check=True, stdout=subprocess.PIPE).stdout.decode().strip()
+    start, before = time.monotonic(), busy()
+    last = ""
+    with subprocess.Popen(["rt", "ci", "--anew"] + names, cwd=clone, stdout=subprocess.PIPE, stderr=subprocess.STDOUT, errors="replace") as ran:
+        watch = Watch(ran.pid)
+        watch.start()
+        for line in ran.stdout:
+            if line.startswith("rt: "):
+                print(line, end="", flush=True)
+            last = line.strip() or last
+        _, status, used = os.wait4(ran.pid, 0)
+        ran.returncode = os.WEXITSTATUS(status) if os.WIFEXITED(status) else 1
+    watch.ended.set()
+    watch.join()
+    seconds, whole = time.monotonic() - start, used.ru_utime + used.ru_stime
+    others = max(busy() - before - whole, 0)
+    text = ["Commit %s, `rt ci --anew%s`: %s." % (commit, "".join(" " + name for name in names), last), ""]
+    text += ["%.0f processor seconds in all, %.0f minutes by the clock on %d processors. Other work kept %.1f of the processors busy meanwhile, so that %s." % (
+        whole, seconds / 60, os.cpu_count(), others / seconds, "the figures are those of a quiet machine" if others < seconds / 10 else "they are higher than on a quiet machine"), ""]
+    text += ["Processor minutes:", ""] + table(watch.figures(), whole)
+    return ran.returncode, "\n".join(text) + "\n"
+
+
+def write(text):
+    """Puts the figures into the page."""
+    with open(PAGE, encoding="utf-8") as file:
+        page = file.read()
+    front, back = page.index(BEGIN) + len(BEGIN), page.index(END)
+    with open(PAGE, "w", encoding="utf-8") as file:
+        file.write(page[:front] + "\n" + text + "\n" + page[back:])
+
+
+def main(words):
+    names = [word for word in words if word != "--write"]
+    with tempfile.TemporaryDirectory(prefix="gate-") as room:
+        status, text = measured(names, room)
+    print(text)
+    if "--write" in words:
+        write(text)
+    return status
+
+
+sys.exit(main(sys.argv[1:]))

@@ -1,0 +1,6 @@
+mod drawn;
+mod edits;
+mod entries;
+mod hits;
+mod messages;
+mod switch;

@@ -1,0 +1,6 @@
+mod applications;
+mod bytes;
+mod keys;
+mod messages;
+mod statistics;
+mod streams;

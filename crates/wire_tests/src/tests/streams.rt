@@ -1,0 +1,97 @@
+//! A stream of messages, cut anywhere.
+
+use of_stream::cut_pieces;
+use of_types::ByteList;
+use std::alloc::Global;
+use std::process::Abort;
+use std::test::Fail;
+
+/// A dozen messages of both sides, written by the tables of OpenFlow 1.0.0, 5.
+const HELLO: [u8; 8] = [1, 0, 0, 8, 0, 0, 0, 1];
+
+const FEATURES_REQUEST: [u8; 8] = [1, 5, 0, 8, 0, 0, 0, 2];
+
+const FEATURES_REPLY: [u8; 32] = [
+    1, 6, 0, 32, 0, 0, 0, 2, // header
+    0, 0, 0, 0, 0, 0, 0, 7, // datapath_id
+    0, 0, 1, 0, 1, 0, 0, 0, // n_buffers, n_tables
+    0, 0, 0, 0x87, 0, 0, 0x0f, 0xff, // capabilities, actions
+];
+
+const SET_CONFIG: [u8; 12] = [1, 9, 0, 12, 0, 0, 0, 3, 0, 0, 0, 128];
+
+const ECHO_REQUEST: [u8; 11] = [1, 2, 0, 11, 0, 0, 0, 4, b'a', b'b', b'c'];
+
+const ERROR: [u8; 14] = [1, 1, 0, 14, 0, 0, 0, 5, 0, 1, 0, 6, 1, 0];
+
+const PACKET_IN: [u8; 32] = [
+    1, 10, 0, 32, 0, 0, 0, 6, // header
+    0xff, 0xff, 0xff, 0xff, 0, 14, 0, 3, 0, 0, // buffer_id, total_len, in_port, reason
+    2, 0, 0, 0, 0, 1, 2, 0, 0, 0, 0, 2, 8, 0, // an Ethernet header
+];
+
+const PACKET_OUT: [u8; 24] = [
+    1, 13, 0, 24, 0, 0, 0, 7, // header
+    0, 0, 0, 9, 0, 3, 0, 8, // buffer_id, in_port, actions_len
+    0, 0, 0, 8, 0xff, 0xfb, 0, 0, // OUTPUT to FLOOD
+];
+
+const FLOW_MOD: [u8; 72] = [
+    1, 14, 0, 72, 0, 0, 0, 8, // header
+    0, 0x38, 0x20, 0xff, 0, 0, 0, 0, 0, 0, 0, 0, 0, 0, 0, 0, 0, 0, 0, 0, // a match of all
+    0, 0, 0, 0, 0, 0, 0, 0, 0, 0, 0, 0, 0, 0, 0, 0, 0, 0, 0, 0, // packets
+    0, 0, 0, 0, 0, 0, 0, 0, 0, 3, 0, 0, 0, 0, 0, 0, // cookie, command, timeouts, priority
+    0xff, 0xff, 0xff, 0xff, 0xff, 0xff, 0, 0, // buffer_id, out_port, flags
+];
+
+const STATS_REPLY: [u8; 36] = [
+    1, 17, 0, 36, 0, 0, 0, 9, 0, 2, 0, 0, // header, type, flags
+    0, 0, 0, 0, 0, 0, 0, 5, 0, 0, 0, 0, 0, 0, 1, 44, 0, 0, 0, 2, 0, 0, 0, 0, // sums
+];
+
+const BARRIER_REQUEST: [u8; 8] = [1, 18, 0, 8, 0, 0, 0, 10];
+
+const BARRIER_REPLY: [u8; 8] = [1, 19, 0, 8, 0, 0, 0, 10];
+
+const MESSAGES: [&[u8]; 12] = [
+    &HELLO,
+    &FEATURES_REQUEST,
+    &FEATURES_REPLY,
+    &SET_CONFIG,
+    &ECHO_REQUEST,
+    &ERROR,
+    &PACKET_IN,
+    &PACKET_OUT,
+    &FLOW_MOD,
+    &STATS_REPLY,
+    &BARRIER_REQUEST,
+    &BARRIER_REPLY,
+];
+
+fn stream(alloc: Global) -> Result<Vec<u8>, Fail> {
+    let mut bytes = Vec::new(alloc);
+    for message in MESSAGES {
+        bytes.extend_from_slice(message)?;
+    }
+    Ok(bytes)
+}
+
+fn expect_messages(rt: &impl Abort, frames: &[ByteList]) {
+    assert_eq!(rt; frames.len(), MESSAGES.len());
+    for (frame, message) in frames.iter().zip(MESSAGES) {
+        assert_eq!(rt; frame.as_slice(), message);
+    }
+}
+
+#[test]
+fn one_stream_cut_at_every_place(rt: HostRuntime) -> Result<(), Fail> {
+    let bytes = stream(rt.alloc())?;
+    for place in 0..bytes.len() {
+        let front = ByteList::from_slice(rt.alloc(), &bytes[..place])?;
+        let back = ByteList::from_slice(rt.alloc(), &bytes[place..])?;
+        let cut = cut_pieces(rt.alloc(), &[front, back])?;
+        expect_messages(&rt, cut.frames.as_slice());
+        assert!(rt; cut.rest.is_empty());
+    }
+    Ok(())
+}
