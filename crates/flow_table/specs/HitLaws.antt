@@ -6,7 +6,7 @@ use Rattle.std.specs.List.{Contains}
 use Rattle.of_match.specs.Covers.{is_covering}
 use Rattle.of_match.specs.declared.key.Key.{Key}
 use Rattle.of_match.specs.declared.packet_key.PacketKey.{PacketKey}
-use Rattle.of_match.specs.Key.{place}
+use Rattle.of_match.specs.Key.{key_number}
 use Rattle.flow_table.specs.declared.entry.Entry.{Entry}
 use Rattle.flow_table.specs.Table.{place_of, AscendsFrom, IsTable}
 use Rattle.flow_table.specs.TableLaws.{with_entry-found}
@@ -24,8 +24,8 @@ ascends-keys (e ∷ es) [] least same h = absurd cc
 ascends-keys (e ∷ es) (f ∷ fs) least same h =
     let here : e.key ≡ f.key = cc in
     let rest : keys es ≡ keys fs = cc in
-    let at : place e.key ≡ place f.key = ap place here in
-    (rw (sym at) h.0, ascends-keys es fs (place f.key + 1) rest (rw at at h.1))
+    let at : key_number e.key ≡ key_number f.key = ap key_number here in
+    (rw (sym at) h.0, ascends-keys es fs (key_number f.key + 1) rest (rw at at h.1))
 
 -- order is one of keys
 pub IsTable-keys : (es fs : List Entry) → keys es ≡ keys fs → IsTable es → IsTable fs

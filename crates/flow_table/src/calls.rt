@@ -136,7 +136,7 @@ fn rises(calls: &[TableCall], from: u64) -> bool
     true
 }
 
-/// Whether the moments of calls do not go back, and none is before an entry of the table was put in or used.
+/// Tells whether the moments of calls do not go back, and none is before an entry of the table was put in or used.
 pub fn is_plan(table: &Table, calls: &[TableCall]) -> bool
     ensures { IsTrue result ↔ IsPlan calls.now table.now }
 {

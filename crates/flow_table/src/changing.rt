@@ -32,7 +32,7 @@ pub(crate) fn entry_of(
         cookie: m.cookie,
         idle: m.idle,
         hard: m.hard,
-        flags: m.flags % 2,
+        flags: flows::kept_flags(m.flags),
         installed: now,
         used: now,
         packets: 0,
@@ -166,7 +166,7 @@ fn notices_among(
     now: u64,
 ) -> Result<Vec<Notice>, AllocError>
     ensures ok { IfOk result (λ ns. ns.items ≡ map (notice 2 now) (filter (tells m.now) entries.now)) }
-    ensures quiet { OnErr result (filter (tells m.now) entries.now ≢ []) }
+    ensures without_notices { OnErr result (filter (tells m.now) entries.now ≢ []) }
 {
     let mut notices = Vec::new(alloc);
     for entry in entries {
@@ -231,7 +231,7 @@ pub(crate) fn delete(
     ensures notices { IfOk result (λ ns. ns ≡ map (notice 2 now) (filter (tells m.now) entries.old.items)) }
     ensures ok { OnOk result (entries.new.items ≡ filter (λ e. not (deletes m.now e)) entries.old.items) }
     ensures err { OnErr result (entries.new.items ≡ entries.old.items) }
-    ensures quiet { OnErr result (filter (tells m.now) entries.old.items ≢ []) }
+    ensures without_notices { OnErr result (filter (tells m.now) entries.old.items ≢ []) }
 {
     let notices = notices_among(alloc, candidates(entries, m), m, now)?;
     if m.command == flows::DELETE_STRICT {
@@ -262,7 +262,7 @@ pub(crate) fn apply(
     ensures err { OnErr result (entries.new.items ≡ entries.old.items) }
     ensures next_err { OnErr result (next.new ≡ next.old) }
     ensures rise { next.new ≤ next.old + 1 }
-    ensures quiet { OnErr result (IsTrue (is_delete m.now) → notices_of now m.now entries.old.items ≢ []) }
+    ensures without_notices { OnErr result (IsTrue (is_delete m.now) → notices_of now m.now entries.old.items ≢ []) }
 {
     if adding {
         add(alloc, entries, m, now, *next)?;

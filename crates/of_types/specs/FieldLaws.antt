@@ -31,10 +31,6 @@ IsBytes-high_first zero x i = omega arith
 IsBytes-high_first (suc n) x zero = byte_at-lt n x
 IsBytes-high_first (suc n) x (suc i) = IsBytes-high_first n x i
 
-pub IsBytes-number_bytes : (n x : ℕ) → IsBytes (number_bytes n x)
-unfolding number_bytes
-IsBytes-number_bytes n x = IsBytes-high_first n x
-
 -- bytes of one length that spell one number are the same
 same_from_number : (n : ℕ) (xs ys : List ℕ) → length xs ≡ n → length ys ≡ n → IsBytes xs → IsBytes ys → big_from 0 n xs ≡ big_from 0 n ys → xs ≡ ys
 same_from_number zero xs ys p q h g e = nil_from_length xs p ∙ sym (nil_from_length ys q)

@@ -29,13 +29,6 @@ use Rattle.switch_sim.specs.Sound.{IsEntryAt, IsSound}
 
 -- ---- What the table's calls need
 
-pub IsMoment-sound : (cap moment : ℕ) (entries : List Entry) (ports : List PortState) → IsSound cap moment entries ports → IsMoment moment entries
-IsMoment-sound cap moment entries ports sound = record {
-  within = sound.moment;
-  installed = All-weaker (IsEntryAt moment) (λ e. e.installed ≤ moment) (λ e is. is.installed) entries sound.entries;
-  used = All-weaker (IsEntryAt moment) (λ e. e.used ≤ moment) (λ e is. is.used) entries sound.entries;
-}
-
 -- ---- Actions that are not refused are edits and outputs.
 
 first_none : (a b : Option OfError) → or_else a b ≡ None → (a ≡ None) × (b ≡ None)

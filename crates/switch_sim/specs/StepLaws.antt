@@ -102,10 +102,6 @@ pub on_ok : {A E P : Type 0} (r : Result A E) → P → OnOk r P
 on_ok (Ok l) p = p
 on_ok (Err e) p = tt
 
-pub on_err : {A E P : Type 0} (r : Result A E) → P → OnErr r P
-on_err (Ok l) p = tt
-on_err (Err e) p = p
-
 known : (b : Bool) (e : OfError) (o : Option OfError) → cond b (Some e) o ≡ None → b ≡ false
 known true e o none = absurd cc
 known false e o none = refl
