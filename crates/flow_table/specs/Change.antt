@@ -58,6 +58,14 @@ sends_to out_port actions = out_port == 0xffff || list_any (is_output_to out_por
 abbrev pub deletes : FlowMod → Entry → Bool
 deletes m e = describes m e.key && sends_to m.out_port e.actions
 
+-- a description means the entry
+abbrev pub means : FlowMod → Entry → Bool
+means m e = describes m e.key
+
+-- an entry goes by a DELETE and asks for a notice
+abbrev pub tells : FlowMod → Entry → Bool
+tells m e = deletes m e && asks_notice e.flags
+
 -- ADD, and a MODIFY that meets no entry
 unfoldable pub adds : FlowMod → List Entry → Bool
 adds m es = m.command == 0 || (is_modify m && not (list_any (λ e. describes m e.key) es))
@@ -69,6 +77,10 @@ unfoldable pub clashes : FlowMod → List Entry → Bool
 clashes m es =
     checks_overlap m.flags
     && list_any (λ e. e.key.priority == m.priority && (not (has_key (key_in m) e) && is_overlapping e.key.matching m.matching)) es
+
+-- an entry has the priority of a key, another match, and some packet in common with it
+abbrev pub clashes_with : Key → Entry → Bool
+clashes_with k e = e.key.priority == k.priority && (not (has_key k e) && is_overlapping e.key.matching k.matching)
 
 -- the key is new, and there is no place for it
 unfoldable pub is_full : ℕ → FlowMod → List Entry → Bool

@@ -9,19 +9,7 @@ use Rattle.of_wire.specs.declared.bodies.FlowMod.{FlowMod}
 use Rattle.flow_table.specs.declared.entry.Entry.{Entry}
 use Rattle.flow_table.specs.Table.{place_of, has_key, IsTable, with_entry}
 use Rattle.flow_table.specs.TableLaws.{IsOnlyAt, IsTable-with_entry, IsTable-filter, IsTable-map}
-use Rattle.flow_table.specs.Change.{key_in, is_strict, is_modify, is_delete, describes, sends_to, deletes, adds, asks_notice, modified, new_entry, refusal, notice, notices_of, entries_after}
-
--- a description means the entry
-abbrev pub means : FlowMod → Entry → Bool
-means m e = describes m e.key
-
--- an entry goes by a DELETE and asks for a notice
-abbrev pub tells : FlowMod → Entry → Bool
-tells m e = deletes m e && asks_notice e.flags
-
--- an entry has the priority of a key, another match, and some packet in common with it
-abbrev pub clashes_with : Key → Entry → Bool
-clashes_with k e = e.key.priority == k.priority && (not (has_key k e) && is_overlapping e.key.matching k.matching)
+use Rattle.flow_table.specs.Change.{key_in, is_strict, is_modify, is_delete, describes, sends_to, deletes, adds, asks_notice, modified, new_entry, refusal, notice, notices_of, entries_after, means, tells, clashes_with}
 
 -- ---- A strict description
 

@@ -8,14 +8,11 @@ use Rattle.of_match.specs.declared.key.Key.{Key}
 use Rattle.of_match.specs.declared.packet_key.PacketKey.{PacketKey}
 use Rattle.of_match.specs.Key.{key_number}
 use Rattle.flow_table.specs.declared.entry.Entry.{Entry}
-use Rattle.flow_table.specs.Table.{place_of, AscendsFrom, IsTable}
+use Rattle.flow_table.specs.Table.{place_of, AscendsFrom, IsTable, keys}
 use Rattle.flow_table.specs.TableLaws.{with_entry-found}
 use Rattle.flow_table.specs.Hit.{rank, best, better, counted, hit, with_counts}
 
 -- ---- Entries with the same keys
-
-abbrev pub keys : List Entry → List Key
-keys es = map (λ e. e.key) es
 
 ascends-keys : (es fs : List Entry) (least : ℕ) → keys es ≡ keys fs → AscendsFrom least es → AscendsFrom least fs
 ascends-keys [] [] least same h = tt

@@ -1,6 +1,6 @@
 -- A flow table (OpenFlow 1.0.0, 3.1 Flow Table): its entries, and which number the next new one gets. The order of the list
 -- and the numbers are our own choice.
-use Rattle.std.specs.Prelude.{◌≡◌, ◌==◌, ℕ, ◌+◌, ◌<◌, ◌≤◌, Bool, List, [], ◌∷◌, length, slice_index_or, slice_get, Option, Some, None, Result, Ok, Err, All, filter, not, nat_lt, if◌then◌else◌}
+use Rattle.std.specs.Prelude.{◌≡◌, ◌==◌, ℕ, ◌+◌, ◌<◌, ◌≤◌, Bool, List, [], ◌∷◌, length, slice_index_or, slice_get, Option, Some, None, Result, Ok, Err, All, map, nat_lt, if◌then◌else◌}
 use Rattle.of_match.specs.declared.key.Key.{Key}
 use Rattle.of_match.specs.Key.{key_number}
 use Rattle.flow_table.specs.declared.entry.Entry.{Entry}
@@ -30,6 +30,10 @@ empty_table = record { entries = []; next = 0 }
 -- whether an entry is that of a key
 abbrev pub has_key : Key → Entry → Bool
 has_key k e = place_of e == key_number k
+
+-- the keys of entries, in the order in which these stand
+abbrev pub keys : List Entry → List Key
+keys es = map (λ e. e.key) es
 
 -- the entry of a key
 abbrev pub entry_at : Key → List Entry → Option Entry

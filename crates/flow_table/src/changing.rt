@@ -4,8 +4,7 @@ ghost use Rattle.std.specs.Prelude.{◌≡◌, ◌≢◌, ◌≤◌, ◌<◌, �
 ghost use Rattle.std.specs.List.{count_by, remove};
 ghost use Rattle.flow_table.specs.declared.entry.Entry.{Entry};
 ghost use Rattle.flow_table.specs.Table.{IsTable, with_entry};
-ghost use Rattle.flow_table.specs.Change.{is_delete, adds, deletes, modified, new_entry, notice, entries_after, notices_of};
-ghost use Rattle.flow_table.specs.ChangeLaws.{means, tells};
+ghost use Rattle.flow_table.specs.Change.{is_delete, adds, deletes, modified, new_entry, notice, entries_after, notices_of, means, tells};
 
 use crate::copying::{copy_actions, copy_entry};
 use crate::describing::{asks, is_deleted, is_described, is_modifying, key_of, position};

@@ -22,16 +22,7 @@ use Rattle.frame_edit.specs.Edits.{AreEdits, IsEdit, edited, tagged, with_contro
 use Rattle.frame_edit.specs.FieldLaws.{length-with_field, number_at-with_field_later, number_at-with_field_earlier}
 use Rattle.frame_edit.specs.Written.{IsOutside, Keeps, segment_checksum_fields, checksum_fields, IsDatagramEdit, field_of}
 use Rattle.frame_edit.specs.WrittenLaws.{edited-renews}
-
--- the addresses of actions have six bytes
-abbrev pub HasAddress : Action → Type 0
-HasAddress (SetDlSrc address) = length address ≡ 6
-HasAddress (SetDlDst address) = length address ≡ 6
-HasAddress other = Unit {0}
-
--- the most bytes that edits make of a frame: four more than it has, unless it has a tag
-unfoldable pub reach : List ℕ → ℕ
-reach frame = if is_tagged frame then length frame else length frame + 4
+use Rattle.switch_sim.specs.Words.{HasAddress, reach}
 
 pub reach-least : (frame : List ℕ) → length frame ≤ reach frame
 unfolding reach

@@ -10,9 +10,7 @@ use Rattle.flow_table.specs.declared.entry.Entry.{Entry}
 use Rattle.flow_table.specs.declared.notice.Notice.{Notice}
 use Rattle.flow_table.specs.Change.{is_delete, deletes, asks_notice, notice, notices_of}
 use Rattle.flow_table.specs.Expiry.{deadline, has_come, is_due, notice_at, end_of, among, by_deadline, expiry_notices}
-
-abbrev pub IsShort : Notice → Type 0
-IsShort n = n.duration < 2 ^ 32
+use Rattle.switch_sim.specs.Words.{IsShort}
 
 -- ---- Notices of a DELETE
 

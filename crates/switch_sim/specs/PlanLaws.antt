@@ -17,7 +17,8 @@ use Rattle.of_wire.specs.Spelling.{message_size}
 use Rattle.frame_edit.specs.Edits.{AreEdits}
 use Rattle.flow_table.specs.Errors.{buffer_unknown}
 use Rattle.flow_table.specs.Refusals.{no_buffer, actions_refusal, packet_out_refusal}
-use Rattle.switch_sim.specs.EditLaws.{reach, reach-least}
+use Rattle.switch_sim.specs.EditLaws.{reach-least}
+use Rattle.switch_sim.specs.Words.{reach}
 use Rattle.switch_sim.specs.SoundLaws.{AreEdits-actions}
 
 -- one output more

@@ -15,11 +15,7 @@ use Rattle.flow_table.specs.Switch.{SwitchState, features_reply}
 use Rattle.flow_table.specs.Refusals.{or_else, flow_refusal, query_size, stats_refusal, message_refusal}
 use Rattle.flow_table.specs.Step.{after_taken, sent_by_taken, error_bytes, answered, after_message, sent_by_message}
 use Rattle.switch_sim.specs.Words.{IsQuestion}
-
--- the refusal of a message as far as it does not look at the table's entries
-abbrev pub early_refusal : SwitchState → Message → Option OfError
-early_refusal s (FlowMod m) = flow_refusal s.had m
-early_refusal s other = message_refusal s other
+use Rattle.switch_sim.specs.Words.{early_refusal}
 
 -- ---- A message that is refused, and one that is not
 

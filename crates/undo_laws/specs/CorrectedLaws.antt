@@ -11,8 +11,8 @@ use Rattle.of_wire.specs.declared.bodies.FlowMod.{FlowMod}
 use Rattle.flow_table.specs.declared.entry.Entry.{Entry}
 use Rattle.flow_table.specs.Table.{TableState, place_of, has_key, entry_at, AscendsFrom, IsTable, with_entry}
 use Rattle.flow_table.specs.TableLaws.{IsTable-map, with_entry-before, with_entry-same, with_entry-after}
-use Rattle.flow_table.specs.Change.{key_in, is_modify, describes, sends_to, deletes, adds, checks_overlap, clashes, is_full, modified, new_entry, refusal, entries_after, changed}
-use Rattle.flow_table.specs.ChangeLaws.{means, list_any-same, clashes_with, entries_after-adds, entries_after-modify, entries_after-delete}
+use Rattle.flow_table.specs.Change.{key_in, is_modify, describes, sends_to, deletes, adds, checks_overlap, clashes, is_full, modified, new_entry, refusal, entries_after, changed, means, clashes_with}
+use Rattle.flow_table.specs.ChangeLaws.{list_any-same, entries_after-adds, entries_after-modify, entries_after-delete}
 use Rattle.undo_laws.specs.LookupLaws.{filter-same}
 use Rattle.undo_laws.specs.Serials.{IsSerialed}
 use Rattle.undo_laws.specs.SerialsLaws.{IsSerialed-from, ComeFrom-map}

@@ -10,8 +10,7 @@ use Rattle.of_wire.specs.declared.bodies.FlowMod.{FlowMod}
 use Rattle.flow_table.specs.declared.entry.Entry.{Entry}
 use Rattle.flow_table.specs.Table.{TableState, place_of, entry_at, AscendsFrom}
 use Rattle.flow_table.specs.TableLaws.{ascends-filter}
-use Rattle.flow_table.specs.Change.{key_in, is_modify, deletes, adds}
-use Rattle.flow_table.specs.ChangeLaws.{means}
+use Rattle.flow_table.specs.Change.{key_in, is_modify, deletes, adds, means}
 use Rattle.undo_laws.specs.Serials.{IsSerialed}
 use Rattle.undo_laws.specs.Log.{Inverse, Remove, Image, Untouched, Absent, Gone, Acted, old_entry, old_actions, logged_addition, logged, with_actions, back, undo_one, undo, image_at, image_of, seen}
 use Rattle.undo_laws.specs.LogLaws.{merge-untouched, image_of-one, undo-append, Undoes, leaves, removes, puts, gives, Undoes-one, IsSerialed-undo, next-undo_one}

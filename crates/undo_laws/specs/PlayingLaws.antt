@@ -15,10 +15,10 @@ use Rattle.flow_table.specs.declared.entry.Entry.{Entry}
 use Rattle.flow_table.specs.Table.{TableState, place_of, has_key, entry_at, AscendsFrom, IsTable, with_entry}
 use Rattle.flow_table.specs.TableLaws.{IsTable-with_entry, with_entry-before, with_entry-after, length-with_entry-le, entry_at-same, entry_at-other, entry_at-below, entry_at-map, entry_at-with_entry-same, entry_at-with_entry-other}
 use Rattle.flow_table.specs.Errors.{bad_command, overlap, all_tables_full}
-use Rattle.flow_table.specs.Change.{key_in, is_strict, is_modify, describes, deletes, adds, checks_overlap, clashes, is_full, modified, new_entry, refusal, notices_of, entries_after, changed, change}
+use Rattle.flow_table.specs.Change.{key_in, is_strict, is_modify, describes, deletes, adds, checks_overlap, clashes, is_full, modified, new_entry, refusal, notices_of, entries_after, changed, change, means}
 use Rattle.flow_timeouts.specs.Timeouts.{end_of, first_end, deadline_of, remaining_of}
 use Rattle.flow_table.specs.Expiry.{deadline}
-use Rattle.flow_table.specs.ChangeLaws.{notices_of-kept, means, describes-strict, list_any-strict, place_of-modified, entries_after-adds, entries_after-modify, entries_after-delete}
+use Rattle.flow_table.specs.ChangeLaws.{notices_of-kept, describes-strict, list_any-strict, place_of-modified, entries_after-adds, entries_after-modify, entries_after-delete}
 use Rattle.undo_laws.specs.LookupLaws.{cases_Option, entry_at-same_place, entry_at-contains}
 use Rattle.undo_laws.specs.RemovalLaws.{removal-refusal, removal-changed}
 use Rattle.undo_laws.specs.Serials.{IsSerialed}

@@ -9,8 +9,8 @@ use Rattle.of_wire.specs.declared.bodies.FlowMod.{FlowMod}
 use Rattle.flow_table.specs.declared.entry.Entry.{Entry}
 use Rattle.flow_table.specs.Table.{TableState, place_of, has_key, entry_at, IsTable}
 use Rattle.flow_table.specs.TableLaws.{if_passes, IsTable-filter, entry_at-filter, entry_at-with_entry-other}
-use Rattle.flow_table.specs.Change.{key_in, is_strict, is_modify, is_delete, describes, sends_to, deletes, adds, asks_notice, new_entry, refusal, notice, notices_of, entries_after, changed, change}
-use Rattle.flow_table.specs.ChangeLaws.{tells, describes-strict, notices_of-delete, entries_after-adds, entries_after-delete, refusal-delete}
+use Rattle.flow_table.specs.Change.{key_in, is_strict, is_modify, is_delete, describes, sends_to, deletes, adds, asks_notice, new_entry, refusal, notice, notices_of, entries_after, changed, change, tells}
+use Rattle.flow_table.specs.ChangeLaws.{describes-strict, notices_of-delete, entries_after-adds, entries_after-delete, refusal-delete}
 use Rattle.undo_laws.specs.LookupLaws.{at_key, listed, entry_at-same_place, entry_at-key_number, table_from_lookups, filter-same, filter-at_key}
 use Rattle.undo_laws.specs.Removal.{without, without_all, IsRemoval, AreRemovals, removal_notices, after_all, is_among, OnlyAdded}
 

@@ -1,7 +1,7 @@
 use Rattle.std.proofs.Common.{◌≡◌, ◌≢◌, ◌<◌, ℕ, true, List, [], Result, Ok, Err, OnErr, filter, length, get_or, zero, suc, ◌∷◌, sym, ap, ◌∙◌, arith}
 use Rattle.std.proofs.lemmas.Bool.{cases_Bool}
 use Rattle.flow_table.specs.declared.entry.Entry.{Entry}
-use Rattle.flow_table.specs.ChangeLaws.{tells}
+use Rattle.flow_table.specs.Change.{tells}
 use Rattle.flow_table.specs.TableLaws.{filter-some}
 use Rattle.flow_table.proofs.changing.notices_among.Goals as goal
 
