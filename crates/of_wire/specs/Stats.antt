@@ -1,12 +1,10 @@
 -- Bodies of statistics, as functions of their values (OpenFlow 1.0.0, 5.3.5 Read State Messages): the description of a switch
 -- and the requests for flows. The rows stand in of_stats.
-use Rattle.std.specs.Prelude.{ℕ, ◌+◌, List, [], ◌∷◌, ◌++◌}
-use Rattle.of_types.specs.Layout.{Field, number, raw, pad, spelled}
+use Rattle.std.specs.Prelude.{ℕ, List, [], ◌∷◌}
+use Rattle.of_types.specs.Layout.{Field, number, raw, pad}
 use Rattle.of_match.specs.declared.flow_match.Match.{Match}
 use Rattle.of_match.specs.Fields.{bytes_of}
 use Rattle.of_match.specs.Match.{fields_in}
-use Rattle.of_action.specs.declared.action.Action.{Action}
-use Rattle.of_action.specs.Spelling.{list_bytes, list_size}
 
 -- ---- DESC: texts, each padded with zero bytes. Its request has no body, as that of TABLE.
 
