@@ -72,11 +72,11 @@ hit-set k len now es i e is found within here =
     let there : place_of (get_or es i c) ≡ place_of c = ap place_of (get_or_default es i c e within ∙ here) in
     rw found (with_entry-found es c 0 i is within there)
 
-hit-none : (k : PacketKey) (len now : ℕ) (es : List Entry) → best k es ≡ None → hit k len now es ≡ es
+pub hit-none : (k : PacketKey) (len now : ℕ) (es : List Entry) → best k es ≡ None → hit k len now es ≡ es
 unfolding hit
 hit-none k len now es none = rw none refl
 
-cases_Option : (o : Option Entry) → (o ≡ None) ⊎ ((e : Entry) × (o ≡ Some e))
+pub cases_Option : (o : Option Entry) → (o ≡ None) ⊎ ((e : Entry) × (o ≡ Some e))
 cases_Option None = inl refl
 cases_Option (Some e) = inr (e, refl)
 

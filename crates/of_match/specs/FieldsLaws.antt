@@ -93,7 +93,7 @@ address_kept : (o : Option (List ℕ)) → IfSome o IsAddress → IfSome o (λ y
 address_kept None h = tt
 address_kept (Some a) h = address_again a h
 
-clear_is : (p : ℕ × ℕ) → IsPrefix p → p.0 / 2 ^ (32 - p.1) * 2 ^ (32 - p.1) ≡ p.0
+pub clear_is : (p : ℕ × ℕ) → IsPrefix p → p.0 / 2 ^ (32 - p.1) * 2 ^ (32 - p.1) ≡ p.0
 clear_is p is = omega (arith, shr_split p.0 (32 - p.1), is.clear)
 
 prefix_again : (o : Option (ℕ × ℕ)) (i x : ℕ) → i ≡ ignored_bits o → IfSome o (λ p. x ≡ p.0) → IfSome o IsPrefix → prefix i x ≡ o

@@ -15,12 +15,10 @@ use Rattle.eth_key.specs.PacketFields.{key_of}
 use Rattle.flow_table.specs.declared.entry.Entry.{Entry}
 use Rattle.flow_table.specs.Table.{IsTable, IsPositionOf}
 use Rattle.flow_table.specs.Hit.{rank, best, better, counted, hit}
-use Rattle.flow_table.specs.HitLaws.{Contains-best, hit-set, IsTable-hit}
+use Rattle.flow_table.specs.HitLaws.{Contains-best, hit-set, IsTable-hit, hit-none, cases_Option}
 use Rattle.flow_table.specs.Switch.{PortState, SwitchState, has_bit, is_down, has_no_fwd, port_at}
 use Rattle.flow_table.specs.Frames.{goes_out_by, after_frame_out, ports_after_output, after_output, after_outputs, sent_by_outputs, hit_outputs, entry_hit, after_counts, after_lookup, is_silent, sent_by_miss, sent_by_hit, sent_by_lookup, after_packet_output, sent_by_packet_output, sent_by_packet_outputs}
 use Rattle.switch_sim.specs.Words.{ports_after_outputs}
-
--- ---- The position that a lookup gives
 
 -- ---- An entry without what a hit changes
 
@@ -43,18 +41,10 @@ best-bare k (e ∷ es) = elim (cases_Bool (is_covering e.key.matching k)) [
   | inr other ↦ rw other (best-bare k es)
 ]
 
-cases_Option : (o : Option Entry) → (o ≡ None) ⊎ ((e : Entry) × (o ≡ Some e))
-cases_Option None = inl refl
-cases_Option (Some e) = inr (e, refl)
-
-unhit : (k : PacketKey) (len now : ℕ) (es : List Entry) → best k es ≡ None → hit k len now es ≡ es
-unfolding hit
-unhit k len now es none = rw none refl
-
 map-bare-hit : (k : PacketKey) (len now : ℕ) (es : List Entry) → IsTable es → map bare (hit k len now es) ≡ map bare es
 map-bare-hit k len now es is =
     elim (cases_Option (best k es)) [
-      | inl none ↦ ap (map bare) (unhit k len now es none)
+      | inl none ↦ ap (map bare) (hit-none k len now es none)
       | inr (e, found) ↦
           let (i, within, here) = Contains-best k es e found in
           ap (map bare) (hit-set k len now es i e is found within here) ∙ map-set_same bare es i (counted len now e) e (ap bare (sym here))

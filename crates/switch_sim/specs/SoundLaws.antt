@@ -27,8 +27,6 @@ use Rattle.flow_table.specs.Switch.{PortState}
 use Rattle.flow_table.specs.Refusals.{or_else, action_refusal, actions_refusal, flow_actions_refusal, flow_refusal, is_emergency, no_buffer, most_action_bytes}
 use Rattle.switch_sim.specs.Sound.{IsEntryAt, IsSound}
 
--- ---- What the table's calls need
-
 -- ---- Actions that are not refused are edits and outputs.
 
 first_none : (a b : Option OfError) → or_else a b ≡ None → (a ≡ None) × (b ≡ None)
