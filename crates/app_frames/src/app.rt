@@ -111,7 +111,7 @@ fn front_frame(alloc: Global, bytes: &[u8]) -> Result<Option<(AppFrame, usize)>,
     Ok(Some((frame, size)))
 }
 
-/// The frame at the front of the bytes that an application has given so far, and how many bytes it takes.
+/// Reads the frame at the front of the bytes that an application has given so far, and how many bytes it takes.
 ///
 /// `None` while it is yet to come. Bytes are refused by the first of these tests: a length above
 /// 1,048,579; a length of 0, or a kind other than 1 to 6; a body that the kind does not have.
@@ -171,7 +171,8 @@ fn put_alone(alloc: Global, kind: AppKind) -> Result<ByteList, AllocError>
     frame_around(alloc, kind.number(), &[], &[])
 }
 
-/// The frame's bytes. A message has 8 to 65,535 bytes, a checkpoint at most 1,048,576.
+/// Writes the frame. A message has 8 to 65,535 bytes, a checkpoint at most 1,048,576. `AllocError` where there is no
+/// memory for it.
 #[tactic(auto, unfolding(crate::specs::Spelling::app_body_bytes, crate::specs::Spelling::app_bytes))]
 pub fn encode_app(alloc: Global, frame: &AppFrame) -> Result<ByteList, AllocError>
     requires { AppFits frame.now }

@@ -3,14 +3,15 @@
 ghost use Rattle.std.specs.Prelude.{◌≡◌, ◌↔◌, IsTrue};
 ghost use Rattle.app_frames.specs.Frames.{AppFits, HostFits};
 
-use of_types::{ByteList, OfError};
+use of_types::limits::MOST_MESSAGE_BYTES;
+use of_types::{ByteList, Dpid, OfError};
 
 /// What an application tells the host.
 #[derive(Drop, Debug, Clone, PartialEq, Eq)]
 pub enum AppFrame {
     /// A message of OpenFlow 1.0, of 8 to 65,535 bytes, for the switch of that datapath id.
-    Message(u64, ByteList),
-    /// Marks the state of the switches as it is now.
+    Message(Dpid, ByteList),
+    /// Marks the state of the switches as it is now; at most 7 marks are open.
     Save,
     /// Forgets the newest mark.
     Keep,
@@ -58,9 +59,10 @@ pub enum Answer {
 /// What happened at a switch.
 #[derive(Drop, Debug, Clone, PartialEq, Eq)]
 pub struct Event {
+    /// What kind of thing happened.
     pub kind: EventKind,
     /// The switch's datapath id.
-    pub dpid: u64,
+    pub dpid: Dpid,
     /// A message with xid 0, the ports of a switch that left, or an error's kind and code.
     pub body: ByteList,
 }
@@ -68,35 +70,44 @@ pub struct Event {
 /// What kind of thing happened.
 #[derive(Clone, Copy, Debug, PartialEq, Eq)]
 pub enum EventKind {
+    /// The switch joined; the body is its FEATURES_REPLY.
     Join = 1,
+    /// The switch left; the body has its ports.
     Leave,
+    /// A PACKET_IN came.
     PacketIn,
+    /// A FLOW_REMOVED came.
     FlowRemoved,
+    /// A PORT_STATUS came.
     PortStatus,
+    /// An ERROR came that answers nothing that is awaited.
     SwitchError,
 }
+
+/// How many bytes a checkpoint has at most: 1 MiB, our own choice.
+pub const MOST_CHECKPOINT_BYTES: usize = 1_048_576;
 
 /// How many bytes a frame of the host can have behind its length: as many as four bytes say.
 const ROOM: usize = 0xffff_ffff;
 
 impl AppFrame {
-    /// The frame can be written: a message has 8 to 65,535 bytes, a checkpoint at most 1,048,576.
+    /// Tells whether the frame can be written: a message has 8 to 65,535 bytes, a checkpoint at most 1,048,576.
     pub fn fits(&self) -> bool
         ensures { IsTrue result ↔ AppFits self.now }
     {
         match self {
-            AppFrame::Message(_, bytes) => (8..=65_535).contains(&bytes.len()),
+            AppFrame::Message(_, bytes) => (8..=MOST_MESSAGE_BYTES).contains(&bytes.len()),
             AppFrame::Done {
                 checkpoint: Some(checkpoint),
                 ..
-            } => checkpoint.len() <= 1_048_576,
+            } => checkpoint.len() <= MOST_CHECKPOINT_BYTES,
             _ => true,
         }
     }
 }
 
 impl HostFrame {
-    /// The frame can be written: four bytes can say its length.
+    /// Tells whether the frame can be written: four bytes can say its length.
     pub fn fits(&self) -> bool
         ensures { IsTrue result ↔ HostFits self.now }
     {

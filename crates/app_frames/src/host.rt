@@ -108,7 +108,7 @@ fn front_frame(alloc: Global, bytes: &[u8]) -> Result<Option<(HostFrame, usize)>
     Ok(Some((frame, size)))
 }
 
-/// The frame at the front of the bytes that the host has given so far, and how many bytes it takes.
+/// Reads the frame at the front of the bytes that the host has given so far, and how many bytes it takes.
 ///
 /// `None` while it is yet to come. Bytes are refused by the first of these tests: a length of 0, or a
 /// kind other than 1 to 3; a body that the kind does not have.
@@ -197,7 +197,7 @@ fn put_answer(alloc: Global, answer: &Answer) -> Result<ByteList, AllocError>
     }
 }
 
-/// The frame's bytes. The length of kind and body is to fit four bytes.
+/// Writes the frame. The length of kind and body is to fit four bytes. `AllocError` where there is no memory for it.
 #[tactic(auto, unfolding(crate::specs::Spelling::host_body_bytes, crate::specs::Spelling::host_bytes))]
 pub fn encode_host(alloc: Global, frame: &HostFrame) -> Result<ByteList, AllocError>
     requires { HostFits frame.now }

@@ -8,7 +8,7 @@ ghost use Rattle.app_frames.specs.declared.frame.HostFrame.{HostFrame};
 ghost use Rattle.app_frames.specs.Spelling.{app_bytes, host_bytes};
 ghost use Rattle.app_frames.specs.Frames.{app_reading, IsAppPartial, IsAppFrame, IsAppAtFront, host_reading, IsHostPartial, IsHostFrame, IsHostAtFront};
 
-/// Laws of the frames of applications.
+/// States the laws of the frames of applications.
 pub fn laws_of_app_frames()
     // What is written is read again, whatever follows; and frames in a row are told apart in one way.
     ensures again { (frame : AppFrame) (more : List ℕ) → IsAppFrame frame
@@ -37,7 +37,7 @@ pub fn laws_of_app_frames()
     ensures ends { (bytes : List ℕ) → app_reading bytes ≡ Ok None → length bytes < 1048583 }
 {}
 
-/// Laws of the frames of the host.
+/// States the laws of the frames of the host.
 pub fn laws_of_host_frames()
     // What is written is read again, whatever follows; and frames in a row are told apart in one way.
     ensures again { (frame : HostFrame) (more : List ℕ) → IsHostFrame frame

@@ -18,7 +18,7 @@ mod script;
 pub use app::{decode_app, encode_app};
 pub use cause::{Cause, Tried};
 pub use fault::{AppFrameError, FrameFault};
-pub use frame::{Answer, AppFrame, Event, EventKind, HostFrame};
+pub use frame::{Answer, AppFrame, Event, EventKind, HostFrame, MOST_CHECKPOINT_BYTES};
 pub use host::{decode_host, encode_host};
 pub use laws::{laws_of_app_frames, laws_of_host_frames};
 pub use script::{Script, ScriptStep, StartScript};

@@ -1,11 +1,13 @@
 //! What an application of a session does: its starts, and the steps of a turn.
 
 ghost use Rattle.std.specs.Prelude.{◌≡◌, ◌↔◌, [], length, IsTrue};
+ghost use Rattle.std.specs.Slice.Iter.{iter_rest};
 
 use of_types::ByteList;
 use std::alloc::Global;
 use std::cmp::{Eq, PartialEq};
 use std::marker::Model;
+use std::slice;
 
 /// What an application gives when it is asked.
 #[derive(Drop, Debug, Clone, PartialEq, Eq)]
@@ -49,7 +51,7 @@ impl Model for Script {
 }
 
 impl Script {
-    /// No steps; takes no memory.
+    /// Makes an empty list; takes no memory.
     pub fn new(alloc: Global) -> Script
         ensures { result ≡ [] }
     {
@@ -58,35 +60,42 @@ impl Script {
         }
     }
 
-    /// The steps of a vector, which becomes the list; takes no memory.
+    /// Makes a vector into the list of its steps; takes no memory.
     pub fn from_vec(steps: Vec<ScriptStep>) -> Script
         ensures { result ≡ steps.items }
     {
         Script { steps }
     }
 
-    /// The vector back; takes no memory.
+    /// Gives the vector back; takes no memory.
     pub fn into_vec(self) -> Vec<ScriptStep>
         ensures { result.items ≡ self }
     {
         self.steps
     }
 
-    /// The steps.
+    /// Lends the steps as a slice.
     pub fn as_slice(&self) -> &[ScriptStep]
         ensures { result.now ≡ self.now }
     {
         self.steps.as_slice()
     }
 
-    /// How many steps there are.
+    /// Goes over the steps, from the first to the last.
+    pub fn iter(&self) -> slice::Iter<'_, ScriptStep>
+        ensures { iter_rest result ≡ self.now }
+    {
+        self.steps.iter()
+    }
+
+    /// Counts the steps.
     pub fn len(&self) -> usize
         ensures { result ≡ length self.now }
     {
         self.steps.len()
     }
 
-    /// There are no steps.
+    /// Tells whether there are no steps.
     pub fn is_empty(&self) -> bool
         ensures { IsTrue result ↔ (self.now ≡ []) }
     {

@@ -3,7 +3,7 @@ use Rattle.std.proofs.Common.{◌≡◌, ◌==◌, ℕ, ◌+◌, ◌<◌, ◌≤
 use Rattle.std.proofs.lemmas.Bool.{cases_Bool, eqb-true, eqb-false, eq-eqb, ne_eqb}
 use Rattle.std.specs.List.{AllByRecursion, list_any}
 use Rattle.of_match.specs.declared.key.Key.{Key}
-use Rattle.of_match.specs.Key.{place}
+use Rattle.of_match.specs.Key.{key_number}
 use Rattle.of_action.specs.declared.action.Action.{Action}
 use Rattle.flow_table.specs.declared.entry.Entry.{Entry}
 use Rattle.flow_table.specs.declared.notice.Notice.{Notice}
@@ -57,7 +57,7 @@ filter-alike p q (x ∷ xs) h =
 -- ---- Keys
 
 abbrev pub has_place : Key → List Key → Bool
-has_place k ks = list_any (λ j. place k == place j) ks
+has_place k ks = list_any (λ j. key_number k == key_number j) ks
 
 abbrev pub Distinct : List Key → Type 0
 Distinct [] = Unit {0}
@@ -85,14 +85,14 @@ has-among k e (f ∷ fs) =
       | inl first ↦ rw first refl
       | inr later ↦
           rw later
-          (ap (λ (b : Bool). (place k == place f.key) || b) (has-among k e fs)
-          ∙ or-swap (place k == place f.key) (place k == place e.key) (has_place k (entry_keys fs)))
+          (ap (λ (b : Bool). (key_number k == key_number f.key) || b) (has-among k e fs)
+          ∙ or-swap (key_number k == key_number f.key) (key_number k == key_number e.key) (has_place k (entry_keys fs)))
     ]
 
 pub has-by_deadline : (k : Key) (es : List Entry) → has_place k (entry_keys (by_deadline es)) ≡ has_place k (entry_keys es)
 unfolding by_deadline
 has-by_deadline k [] = refl
-has-by_deadline k (e ∷ es) = has-among k e (by_deadline es) ∙ ap (λ (b : Bool). (place k == place e.key) || b) (has-by_deadline k es)
+has-by_deadline k (e ∷ es) = has-among k e (by_deadline es) ∙ ap (λ (b : Bool). (key_number k == key_number e.key) || b) (has-by_deadline k es)
 
 distinct-among : (e : Entry) (es : List Entry) → has_place e.key (entry_keys es) ≡ false → Distinct (entry_keys es) → Distinct (entry_keys (among e es))
 distinct-among e [] new h = (refl, tt)
@@ -100,8 +100,8 @@ distinct-among e (f ∷ fs) new h =
     elim (cases_Bool (nat_le (end_of e) (end_of f))) [
       | inl first ↦ rw first (new, h)
       | inr later ↦
-          let n = neither (place e.key == place f.key) (has_place e.key (entry_keys fs)) new in
-          let apart : (place f.key == place e.key) ≡ false = ne_eqb (place f.key) (place e.key) (λ same. eqb-false (place e.key) (place f.key) n.0 (sym same)) in
+          let n = neither (key_number e.key == key_number f.key) (has_place e.key (entry_keys fs)) new in
+          let apart : (key_number f.key == key_number e.key) ≡ false = ne_eqb (key_number f.key) (key_number e.key) (λ same. eqb-false (key_number e.key) (key_number f.key) n.0 (sym same)) in
           rw later (has-among f.key e fs ∙ ap (λ (b : Bool). b || has_place f.key (entry_keys fs)) apart ∙ h.0, distinct-among e fs n.1 h.1)
     ]
 
@@ -112,10 +112,10 @@ distinct-by_deadline (e ∷ es) h = distinct-among e (by_deadline es) (has-by_de
 
 -- ---- Keys of entries in key order
 
-has-below : (test : Entry → Bool) (k : Key) (least : ℕ) (es : List Entry) → AscendsFrom least es → place k < least → has_place k (entry_keys (filter test es)) ≡ false
+has-below : (test : Entry → Bool) (k : Key) (least : ℕ) (es : List Entry) → AscendsFrom least es → key_number k < least → has_place k (entry_keys (filter test es)) ≡ false
 has-below test k least [] h lt = refl
 has-below test k least (e ∷ es) h lt =
-    let apart : (place k == place e.key) ≡ false = ne_eqb (place k) (place e.key) (λ same. omega (arith, same, h.0, lt)) in
+    let apart : (key_number k == key_number e.key) ≡ false = ne_eqb (key_number k) (key_number e.key) (λ same. omega (arith, same, h.0, lt)) in
     let rest = has-below test k (place_of e + 1) es h.1 (omega (arith, h.0, lt)) in
     elim (cases_Bool (test e)) [
       | inl passes ↦ rw passes (rw apart rest)
@@ -145,7 +145,7 @@ has-filter test least (e ∷ es) h =
       | inl passes ↦
           let same : filter test (e ∷ es) ≡ e ∷ filter test es = rw passes refl in
           subst (λ (xs : List Entry). AllByRecursion (λ x. has_place x.key (entry_keys xs) ≡ test x) (e ∷ es)) (sym same) (
-            ap (λ (b : Bool). b || has_place e.key (entry_keys (filter test es))) (eq-eqb (place e.key) (place e.key) refl) ∙ sym passes,
+            ap (λ (b : Bool). b || has_place e.key (entry_keys (filter test es))) (eq-eqb (key_number e.key) (key_number e.key) refl) ∙ sym passes,
             all-both (λ x. has_place x.key (entry_keys (filter test es)) ≡ test x) (λ x. place_of e + 1 ≤ place_of x)
                 (λ x. has_place x.key (entry_keys (e ∷ filter test es)) ≡ test x)
                 (λ x has low. ap (λ (b : Bool). b || has_place x.key (entry_keys (filter test es))) (apart x low) ∙ has) es rest above,
@@ -156,8 +156,8 @@ has-filter test least (e ∷ es) h =
           (has-below test e.key (place_of e + 1) es h.1 (omega arith) ∙ sym fails, rest)
     ]
   where
-    apart : (x : Entry) → place_of e + 1 ≤ place_of x → (place x.key == place e.key) ≡ false
-    apart x low = ne_eqb (place x.key) (place e.key) (λ same. omega (arith, same, low))
+    apart : (x : Entry) → place_of e + 1 ≤ place_of x → (key_number x.key == key_number e.key) ≡ false
+    apart x low = ne_eqb (key_number x.key) (key_number e.key) (λ same. omega (arith, same, low))
 
 -- ---- Rows
 
@@ -172,7 +172,7 @@ filter_none (r ∷ rs) = ap (λ (xs : List ViewRow). r ∷ xs) (filter_none rs)
 filter_twice : (k : Key) (ks : List Key) (rows : List ViewRow) → filter (λ r. not (has_place r.key ks)) (without_key k rows) ≡ filter (λ r. not (has_place r.key (k ∷ ks))) rows
 filter_twice k ks [] = refl
 filter_twice k ks (r ∷ rs) =
-    elim (cases_Bool (place r.key == place k)) [
+    elim (cases_Bool (key_number r.key == key_number k)) [
       | inl gone ↦ rw gone (filter_twice k ks rs)
       | inr stays ↦ rw stays (elim (cases_Bool (has_place r.key ks)) [
         | inl has ↦ rw has (filter_twice k ks rs)
@@ -203,9 +203,9 @@ table-filter q (e ∷ es) =
 pub flags-kept : (ks : List Key) (k : Key) (rows : List ViewRow) → has_place k ks ≡ false → flags_in (filter (λ r. not (has_place r.key ks)) rows) k ≡ flags_in rows k
 flags-kept ks k [] new = refl
 flags-kept ks k (r ∷ rs) new =
-    elim (cases_Bool (place r.key == place k)) [
+    elim (cases_Bool (key_number r.key == key_number k)) [
       | inl here ↦
-          let kept : has_place r.key ks ≡ false = ap (λ (n : ℕ). list_any (λ j. n == place j) ks) (eqb-true (place r.key) (place k) here) ∙ new in
+          let kept : has_place r.key ks ≡ false = ap (λ (n : ℕ). list_any (λ j. n == key_number j) ks) (eqb-true (key_number r.key) (key_number k) here) ∙ new in
           rw kept (rw here refl)
       | inr other ↦ elim (cases_Bool (has_place r.key ks)) [
         | inl gone ↦ rw gone (rw other (flags-kept ks k rs new))
@@ -216,17 +216,17 @@ flags-kept ks k (r ∷ rs) new =
 -- rows in key order
 abbrev pub AscendRows : ℕ → List (Key × List Action) → Type 0
 AscendRows least [] = Unit {0}
-AscendRows least (p ∷ ps) = (least ≤ place p.0) × AscendRows (place p.0 + 1) ps
+AscendRows least (p ∷ ps) = (least ≤ key_number p.0) × AscendRows (key_number p.0 + 1) ps
 
 pub rows-ascend : (least : ℕ) (es : List Entry) → AscendsFrom least es → AscendRows least (rows_of_table es)
 rows-ascend least [] h = tt
 rows-ascend least (e ∷ es) h = (h.0, rows-ascend (place_of e + 1) es h.1)
 
-asked-below : (k : Key) (least : ℕ) (rows : List ViewRow) → AscendRows least (rows_of_view rows) → place k < least → is_asked k (Some rows) ≡ false
+asked-below : (k : Key) (least : ℕ) (rows : List ViewRow) → AscendRows least (rows_of_view rows) → key_number k < least → is_asked k (Some rows) ≡ false
 asked-below k least [] h lt = refl
 asked-below k least (r ∷ rs) h lt =
-    let apart : (place r.key == place k) ≡ false = ne_eqb (place r.key) (place k) (λ same. omega (arith, same, h.0, lt)) in
-    rw apart (asked-below k (place r.key + 1) rs h.1 (omega (arith, h.0, lt)))
+    let apart : (key_number r.key == key_number k) ≡ false = ne_eqb (key_number r.key) (key_number k) (λ same. omega (arith, same, h.0, lt)) in
+    rw apart (asked-below k (key_number r.key + 1) rs h.1 (omega (arith, h.0, lt)))
 
 or-false : (a : Bool) → (a || false) ≡ a
 or-false true = refl
@@ -236,20 +236,20 @@ or-false false = refl
 pub asked-flags : (k : Key) (least : ℕ) (rows : List ViewRow) → AscendRows least (rows_of_view rows) → is_asked k (Some rows) ≡ asks_notice (flags_in rows k)
 asked-flags k least [] h = refl
 asked-flags k least (r ∷ rs) h =
-    elim (cases_Bool (place r.key == place k)) [
+    elim (cases_Bool (key_number r.key == key_number k)) [
       | inl here ↦
-          let none = asked-below k (place r.key + 1) rs h.1 (omega (arith, eqb-true (place r.key) (place k) here)) in
+          let none = asked-below k (key_number r.key + 1) rs h.1 (omega (arith, eqb-true (key_number r.key) (key_number k) here)) in
           rw here (ap (λ (b : Bool). asks_notice r.flags || b) none ∙ or-false (asks_notice r.flags))
-      | inr other ↦ rw other (asked-flags k (place r.key + 1) rs h.1)
+      | inr other ↦ rw other (asked-flags k (key_number r.key + 1) rs h.1)
     ]
 
 -- the removal of one key does not disturb another
-pub asked-without : (k j : Key) (rows : List ViewRow) → (place j == place k) ≡ false → is_asked k (Some (without_key j rows)) ≡ is_asked k (Some rows)
+pub asked-without : (k j : Key) (rows : List ViewRow) → (key_number j == key_number k) ≡ false → is_asked k (Some (without_key j rows)) ≡ is_asked k (Some rows)
 asked-without k j [] apart = refl
 asked-without k j (r ∷ rs) apart =
-    elim (cases_Bool (place r.key == place j)) [
+    elim (cases_Bool (key_number r.key == key_number j)) [
       | inl gone ↦
-          let other : (place r.key == place k) ≡ false = ap (λ (n : ℕ). n == place k) (eqb-true (place r.key) (place j) gone) ∙ apart in
+          let other : (key_number r.key == key_number k) ≡ false = ap (λ (n : ℕ). n == key_number k) (eqb-true (key_number r.key) (key_number j) gone) ∙ apart in
           rw gone (asked-without k j rs apart ∙ ap (λ (b : Bool). (b && asks_notice r.flags) || is_asked k (Some rs)) (sym other))
-      | inr stays ↦ rw stays (ap (λ (b : Bool). (place r.key == place k && asks_notice r.flags) || b) (asked-without k j rs apart))
+      | inr stays ↦ rw stays (ap (λ (b : Bool). (key_number r.key == key_number k && asks_notice r.flags) || b) (asked-without k j rs apart))
     ]

@@ -7,7 +7,7 @@ use Rattle.std.proofs.lemmas.List.Elements.{filter_map-append}
 use Rattle.std.specs.List.{AllByRecursion}
 use Rattle.of_types.specs.declared.journal.Stimulus.TheVariants.{Advance}
 use Rattle.of_match.specs.declared.key.Key.{Key}
-use Rattle.of_match.specs.Key.{place}
+use Rattle.of_match.specs.Key.{key_number}
 use Rattle.of_wire.specs.declared.bodies.FlowRemoved.{FlowRemoved as Removed}
 use Rattle.of_wire.specs.declared.message.Message.TheVariants.{FlowRemoved}
 use Rattle.of_wire.specs.Spelling.{message_bytes}
@@ -84,7 +84,7 @@ AskedAs flags rows n = is_asked n.removed.key (Some rows) ≡ asks_notice (flags
 asked-later : (flags : Key → ℕ) (j : Key) (rows : List ViewRow) (ns : List Notice) → has_place j (notice_keys ns) ≡ false → AllByRecursion (AskedAs flags rows) ns → AllByRecursion (AskedAs flags (without_key j rows)) ns
 asked-later flags j rows [] new h = tt
 asked-later flags j rows (n ∷ ns) new h =
-    let parts = neither (place j == place n.removed.key) (has_place j (notice_keys ns)) new in
+    let parts = neither (key_number j == key_number n.removed.key) (has_place j (notice_keys ns)) new in
     (asked-without n.removed.key j rows parts.0 ∙ h.0, asked-later flags j rows ns parts.1 h.1)
 
 abbrev queue_after : Bool → Event → List Event → List Event

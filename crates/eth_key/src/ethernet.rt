@@ -11,8 +11,8 @@ pub const ETHERNET_LEN: usize = 14;
 /// The bytes of the addresses, a VLAN tag and the type.
 const TAGGED_LEN: usize = 18;
 
-/// Where the type stands in a frame without a tag.
-const TYPE_PLACE: usize = 12;
+/// The offset of the type in a frame without a tag.
+const TYPE_OFFSET: usize = 12;
 
 /// The type of a VLAN tag (IEEE 802.1Q, 9.4).
 const VLAN_TAG: u16 = 0x8100;
@@ -28,17 +28,17 @@ const NO_TYPE: u16 = 0x05ff;
 pub struct Payload {
     /// Its type; 0x05ff where the frame has a length and no SNAP header (OpenFlow 1.0.0, 3.4).
     pub dl_type: u16,
-    /// The place of its first byte in the frame.
+    /// The offset of its first byte in the frame.
     pub start: usize,
 }
 
-/// Whether the frame has a VLAN tag: the type 0x8100 at byte 12, and six more bytes (IEEE 802.1Q, 9).
+/// Tells whether the frame has a VLAN tag: the type 0x8100 at byte 12, and six more bytes (IEEE 802.1Q, 9).
 #[tactic(auto, unfolding(crate::specs::Ethernet::is_tagged))]
 pub fn is_tagged(frame: &[u8]) -> bool
     ensures value { result ≡ is_tagged frame.now }
     ensures within { IsTrue result → 18 ≤ length frame.now }
 {
-    frame.len() >= TAGGED_LEN && get_u16(frame, TYPE_PLACE) == VLAN_TAG
+    frame.len() >= TAGGED_LEN && get_u16(frame, TYPE_OFFSET) == VLAN_TAG
 }
 
 #[tactic(auto, unfolding(crate::specs::Ethernet::vlan_of))]
@@ -47,7 +47,7 @@ pub(crate) fn vlan_of(frame: &[u8]) -> u16
     ensures { result ≡ vlan_of frame.now }
 {
     if is_tagged(frame) {
-        get_u16(frame, 14) % 4096
+        get_u16(frame, 14) & 0x0fff
     } else {
         0xffff
     }
@@ -59,7 +59,7 @@ pub(crate) fn priority_of(frame: &[u8]) -> u8
     ensures { result ≡ priority_of frame.now }
 {
     if is_tagged(frame) {
-        (get_u16(frame, 14) / 8192) as u8
+        (get_u16(frame, 14) >> 13) as u8
     } else {
         0
     }
@@ -99,7 +99,7 @@ fn payload_behind(frame: &[u8], at: usize) -> Payload
     }
 }
 
-/// What the frame has behind its Ethernet header; none where it is shorter than the 14 bytes of one.
+/// Finds what the frame has behind its Ethernet header; `None` where it is shorter than the 14 bytes of one.
 ///
 /// The type of an IEEE 802.3 frame, which has a length in its place, stands in a SNAP header (RFC 1042).
 pub fn payload_of(frame: &[u8]) -> Option<Payload>
@@ -110,9 +110,9 @@ pub fn payload_of(frame: &[u8]) -> Option<Payload>
         return None;
     }
     let at = if is_tagged(frame) {
-        TYPE_PLACE + 4
+        TYPE_OFFSET + 4
     } else {
-        TYPE_PLACE
+        TYPE_OFFSET
     };
     Some(payload_behind(frame, at))
 }

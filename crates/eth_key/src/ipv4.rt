@@ -27,9 +27,9 @@ pub const UDP: u8 = 17;
 /// Where an IPv4 header stands in a frame (RFC 791, 3.1).
 #[derive(Clone, Copy, Debug, PartialEq, Eq)]
 pub struct Ipv4Header {
-    /// The place of its first byte.
+    /// The offset of its first byte.
     pub start: usize,
-    /// The place behind its last byte, options among them.
+    /// The offset behind its last byte, options among them.
     pub end: usize,
 }
 
@@ -44,8 +44,8 @@ pub(crate) fn header_at(frame: &[u8], start: usize) -> Option<Ipv4Header>
         return None;
     }
     let first = get_u8(frame, start);
-    let len = 4 * (first % 16) as usize;
-    if first / 16 == 4 && len >= MIN_HEADER_LEN && len <= room {
+    let len = 4 * (first & 0x0f) as usize;
+    if first >> 4 == 4 && len >= MIN_HEADER_LEN && len <= room {
         Some(Ipv4Header {
             start,
             end: start + len,
@@ -55,7 +55,7 @@ pub(crate) fn header_at(frame: &[u8], start: usize) -> Option<Ipv4Header>
     }
 }
 
-/// The IPv4 header that the frame has: its payload is of the type 0x0800, and begins with a whole
+/// Finds the IPv4 header that the frame has: its payload is of the type 0x0800, and begins with a whole
 /// header of version 4 and at least 20 bytes.
 pub fn ipv4_header(frame: &[u8]) -> Option<Ipv4Header>
     ensures value { result ≡ ipv4_header frame.now }
@@ -69,7 +69,7 @@ pub fn ipv4_header(frame: &[u8]) -> Option<Ipv4Header>
     }
 }
 
-/// The protocol behind the header.
+/// Reads the number of the protocol behind the header.
 pub fn protocol(frame: &[u8], header: &Ipv4Header) -> u8
     requires { IsWithin header.now frame.now }
     ensures { result ≡ protocol header.now frame.now }
@@ -77,7 +77,7 @@ pub fn protocol(frame: &[u8], header: &Ipv4Header) -> u8
     get_u8(frame, header.start + 9)
 }
 
-/// Whether the datagram is a fragment: more follow, or it is not the first.
+/// Tells whether the datagram is a fragment: more follow, or it is not the first.
 #[tactic(auto, unfolding(crate::specs::Ipv4::is_fragment))]
 pub fn is_fragment(frame: &[u8], header: &Ipv4Header) -> bool
     requires { IsWithin header.now frame.now }
@@ -86,7 +86,7 @@ pub fn is_fragment(frame: &[u8], header: &Ipv4Header) -> bool
     get_u16(frame, header.start + 6) & FRAGMENT != 0
 }
 
-/// Whether the datagram is no fragment, and has the ports of TCP or UDP, which stand where the header
+/// Tells whether the datagram is no fragment, and has the ports of TCP or UDP, which stand where the header
 /// ends (RFC 793, 3.1; RFC 768).
 #[tactic(auto, unfolding(crate::specs::Ipv4::has_ports))]
 pub fn has_ports(frame: &[u8], header: &Ipv4Header) -> bool

@@ -7,12 +7,12 @@ ghost use Rattle.eth_key.specs.PacketFields.{key_of, key_without_header};
 use crate::ethernet::{payload_of, priority_of, vlan_of};
 use crate::network::network_in;
 use of_match::PacketKey;
-use of_types::get_array;
+use of_types::{PortNo, get_array};
 
-/// The fields of a frame that came in by a port, against which matches are held (OpenFlow 1.0.0, 3.4
+/// Reads the fields of a frame that came in by a port, against which matches are held (OpenFlow 1.0.0, 3.4
 /// Matching). A field of a layer that the frame does not have is 0, but for `dl_vlan`, which is 0xffff.
 #[tactic(auto, unfolding(crate::specs::PacketFields::key_from, crate::specs::PacketFields::key_without_header))]
-pub fn key_of(port: u16, frame: &[u8]) -> PacketKey
+pub fn key_of(port: PortNo, frame: &[u8]) -> PacketKey
     ensures value { result ≡ key_of port frame.now }
     ensures within { IsPacketKey result }
 {
@@ -37,7 +37,7 @@ pub fn key_of(port: u16, frame: &[u8]) -> PacketKey
 }
 
 #[tactic(auto, unfolding(crate::specs::PacketFields::key_without_header))]
-fn key_without_header(port: u16) -> PacketKey
+fn key_without_header(port: PortNo) -> PacketKey
     ensures { result ≡ key_without_header port }
 {
     PacketKey {

@@ -71,7 +71,7 @@ fn ipv4_fields(frame: &[u8], header: &Ipv4Header) -> Network
     ensures { result ≡ ipv4_fields header.now frame.now }
 {
     Network {
-        nw_tos: get_u8(frame, header.start + 1) / 4 * 4,
+        nw_tos: get_u8(frame, header.start + 1) & 0xfc,
         nw_proto: protocol(frame, header),
         nw_src: get_u32(frame, header.start + 12),
         nw_dst: get_u32(frame, header.start + 16),

@@ -6,7 +6,7 @@ use Rattle.std.specs.List.{list_any}
 use Rattle.std.specs.Option.{is_some}
 use Rattle.of_types.specs.declared.errors.OfError.{OfError}
 use Rattle.of_match.specs.declared.key.Key.{Key}
-use Rattle.of_match.specs.Key.{place}
+use Rattle.of_match.specs.Key.{key_number}
 use Rattle.match_overlap.specs.Relations.{is_subsuming, is_overlapping}
 use Rattle.of_action.specs.declared.action.Action.{Action}
 use Rattle.of_action.specs.declared.action.Action.TheVariants.{Output}
@@ -44,7 +44,7 @@ key_in m = record { priority = m.priority; matching = m.matching }
 
 -- a strict description means the entry with its key, another one each entry whose match it subsumes
 unfoldable pub describes : FlowMod → Key → Bool
-describes m k = if is_strict m then place k == place (key_in m) else is_subsuming m.matching k.matching
+describes m k = if is_strict m then key_number k == key_number (key_in m) else is_subsuming m.matching k.matching
 
 abbrev pub is_output_to : ℕ → Action → Bool
 is_output_to port (Output to max_len) = to == port
@@ -58,6 +58,14 @@ sends_to out_port actions = out_port == 0xffff || list_any (is_output_to out_por
 abbrev pub deletes : FlowMod → Entry → Bool
 deletes m e = describes m e.key && sends_to m.out_port e.actions
 
+-- a description means the entry
+abbrev pub means : FlowMod → Entry → Bool
+means m e = describes m e.key
+
+-- an entry goes by a DELETE and asks for a notice
+abbrev pub tells : FlowMod → Entry → Bool
+tells m e = deletes m e && asks_notice e.flags
+
 -- ADD, and a MODIFY that meets no entry
 unfoldable pub adds : FlowMod → List Entry → Bool
 adds m es = m.command == 0 || (is_modify m && not (list_any (λ e. describes m e.key) es))
@@ -69,6 +77,10 @@ unfoldable pub clashes : FlowMod → List Entry → Bool
 clashes m es =
     checks_overlap m.flags
     && list_any (λ e. e.key.priority == m.priority && (not (has_key (key_in m) e) && is_overlapping e.key.matching m.matching)) es
+
+-- an entry has the priority of a key, another match, and some packet in common with it
+abbrev pub clashes_with : Key → Entry → Bool
+clashes_with k e = e.key.priority == k.priority && (not (has_key k e) && is_overlapping e.key.matching k.matching)
 
 -- the key is new, and there is no place for it
 unfoldable pub is_full : ℕ → FlowMod → List Entry → Bool
@@ -133,9 +145,6 @@ unless_refused (Some e) before after = before
 
 unfoldable pub change : ℕ → ℕ → FlowMod → TableState → TableState
 change cap now m t = unless_refused (refusal cap m t.entries) t (changed now m t)
-
-unfoldable pub notices_after : ℕ → ℕ → FlowMod → TableState → List Notice
-notices_after cap now m t = unless_refused (refusal cap m t.entries) [] (notices_of now m t.entries)
 
 -- What a call answers: its notices, or the first refusal; want of memory is free.
 abbrev pub Answers : Result (List Notice) ChangeFault → Option OfError → List Notice → Type 0

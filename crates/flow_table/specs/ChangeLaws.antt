@@ -3,39 +3,27 @@ use Rattle.std.proofs.Common.{◌≡◌, ◌≢◌, ◌==◌, ℕ, ◌≤◌, Bo
 use Rattle.std.proofs.lemmas.Bool.{cond-true, cond-false, cond_both, ne_eqb, and_left, and_parts, or_cases, or_parts, eqb-true, eqb-false, cases_eq, cases_Bool}
 use Rattle.std.specs.List.{list_any}
 use Rattle.of_match.specs.declared.key.Key.{Key}
-use Rattle.of_match.specs.Key.{place}
+use Rattle.of_match.specs.Key.{key_number}
 use Rattle.match_overlap.specs.Relations.{is_subsuming, is_overlapping}
 use Rattle.of_wire.specs.declared.bodies.FlowMod.{FlowMod}
 use Rattle.flow_table.specs.declared.entry.Entry.{Entry}
 use Rattle.flow_table.specs.Table.{place_of, has_key, IsTable, with_entry}
 use Rattle.flow_table.specs.TableLaws.{IsOnlyAt, IsTable-with_entry, IsTable-filter, IsTable-map}
-use Rattle.flow_table.specs.Change.{key_in, is_strict, is_modify, is_delete, describes, sends_to, deletes, adds, asks_notice, modified, new_entry, refusal, notice, notices_of, entries_after}
-
--- a description means the entry
-abbrev pub means : FlowMod → Entry → Bool
-means m e = describes m e.key
-
--- an entry goes by a DELETE and asks for a notice
-abbrev pub tells : FlowMod → Entry → Bool
-tells m e = deletes m e && asks_notice e.flags
-
--- an entry has the priority of a key, another match, and some packet in common with it
-abbrev pub clashes_with : Key → Entry → Bool
-clashes_with k e = e.key.priority == k.priority && (not (has_key k e) && is_overlapping e.key.matching k.matching)
+use Rattle.flow_table.specs.Change.{key_in, is_strict, is_modify, is_delete, describes, sends_to, deletes, adds, asks_notice, modified, new_entry, refusal, notice, notices_of, entries_after, means, tells, clashes_with}
 
 -- ---- A strict description
 
-pub describes-strict : (m : FlowMod) (k : Key) → is_strict m ≡ true → describes m k ≡ (place k == place (key_in m))
+pub describes-strict : (m : FlowMod) (k : Key) → is_strict m ≡ true → describes m k ≡ (key_number k == key_number (key_in m))
 unfolding describes
-describes-strict m k strict = cond-true (is_strict m) (place k == place (key_in m)) (is_subsuming m.matching k.matching) strict
+describes-strict m k strict = cond-true (is_strict m) (key_number k == key_number (key_in m)) (is_subsuming m.matching k.matching) strict
 
-pub IsOnlyAt-means : (m : FlowMod) → is_strict m ≡ true → IsOnlyAt (place (key_in m)) (means m)
-IsOnlyAt-means m strict = record { others = λ e other. describes-strict m e.key strict ∙ ne_eqb (place_of e) (place (key_in m)) other }
+pub IsOnlyAt-means : (m : FlowMod) → is_strict m ≡ true → IsOnlyAt (key_number (key_in m)) (means m)
+IsOnlyAt-means m strict = record { others = λ e other. describes-strict m e.key strict ∙ ne_eqb (place_of e) (key_number (key_in m)) other }
 
-pub IsOnlyAt-deletes : (m : FlowMod) → is_strict m ≡ true → IsOnlyAt (place (key_in m)) (deletes m)
+pub IsOnlyAt-deletes : (m : FlowMod) → is_strict m ≡ true → IsOnlyAt (key_number (key_in m)) (deletes m)
 IsOnlyAt-deletes m strict = record { others = λ e other. and_left (means m e) (sends_to m.out_port e.actions) ((IsOnlyAt-means m strict).others e other) }
 
-pub IsOnlyAt-tells : (m : FlowMod) → is_strict m ≡ true → IsOnlyAt (place (key_in m)) (tells m)
+pub IsOnlyAt-tells : (m : FlowMod) → is_strict m ≡ true → IsOnlyAt (key_number (key_in m)) (tells m)
 IsOnlyAt-tells m strict = record { others = λ e other. and_left (deletes m e) (asks_notice e.flags) ((IsOnlyAt-deletes m strict).others e other) }
 
 pub list_any-same : {X : Type 0} (p q : X → Bool) → ((x : X) → p x ≡ q x) → (xs : List X) → list_any p xs ≡ list_any q xs

@@ -6,16 +6,13 @@ use Rattle.std.specs.List.{Contains}
 use Rattle.of_match.specs.Covers.{is_covering}
 use Rattle.of_match.specs.declared.key.Key.{Key}
 use Rattle.of_match.specs.declared.packet_key.PacketKey.{PacketKey}
-use Rattle.of_match.specs.Key.{place}
+use Rattle.of_match.specs.Key.{key_number}
 use Rattle.flow_table.specs.declared.entry.Entry.{Entry}
-use Rattle.flow_table.specs.Table.{place_of, AscendsFrom, IsTable}
+use Rattle.flow_table.specs.Table.{place_of, AscendsFrom, IsTable, keys}
 use Rattle.flow_table.specs.TableLaws.{with_entry-found}
 use Rattle.flow_table.specs.Hit.{rank, best, better, counted, hit, with_counts}
 
 -- ---- Entries with the same keys
-
-abbrev pub keys : List Entry → List Key
-keys es = map (λ e. e.key) es
 
 ascends-keys : (es fs : List Entry) (least : ℕ) → keys es ≡ keys fs → AscendsFrom least es → AscendsFrom least fs
 ascends-keys [] [] least same h = tt
@@ -24,8 +21,8 @@ ascends-keys (e ∷ es) [] least same h = absurd cc
 ascends-keys (e ∷ es) (f ∷ fs) least same h =
     let here : e.key ≡ f.key = cc in
     let rest : keys es ≡ keys fs = cc in
-    let at : place e.key ≡ place f.key = ap place here in
-    (rw (sym at) h.0, ascends-keys es fs (place f.key + 1) rest (rw at at h.1))
+    let at : key_number e.key ≡ key_number f.key = ap key_number here in
+    (rw (sym at) h.0, ascends-keys es fs (key_number f.key + 1) rest (rw at at h.1))
 
 -- order is one of keys
 pub IsTable-keys : (es fs : List Entry) → keys es ≡ keys fs → IsTable es → IsTable fs
@@ -75,11 +72,11 @@ hit-set k len now es i e is found within here =
     let there : place_of (get_or es i c) ≡ place_of c = ap place_of (get_or_default es i c e within ∙ here) in
     rw found (with_entry-found es c 0 i is within there)
 
-hit-none : (k : PacketKey) (len now : ℕ) (es : List Entry) → best k es ≡ None → hit k len now es ≡ es
+pub hit-none : (k : PacketKey) (len now : ℕ) (es : List Entry) → best k es ≡ None → hit k len now es ≡ es
 unfolding hit
 hit-none k len now es none = rw none refl
 
-cases_Option : (o : Option Entry) → (o ≡ None) ⊎ ((e : Entry) × (o ≡ Some e))
+pub cases_Option : (o : Option Entry) → (o ≡ None) ⊎ ((e : Entry) × (o ≡ Some e))
 cases_Option None = inl refl
 cases_Option (Some e) = inr (e, refl)
 

@@ -8,7 +8,6 @@ pub mod HitLaws
 pub mod Expiry
 pub mod ExpiryLaws
 pub mod Rows
-pub mod RowsLaws
 pub mod MomentLaws
 pub mod Run
 pub mod RunLaws

@@ -1,5 +1,5 @@
 -- What a list of calls makes of a flow table: each call as its definition says, one after another.
-use Rattle.std.specs.Prelude.{◌≡◌, ℕ, ◌≤◌, List, [], ◌∷◌, Option, Some, None}
+use Rattle.std.specs.Prelude.{◌≡◌, ℕ, ◌-◌, ◌^◌, ◌<◌, ◌≤◌, List, [], ◌∷◌, Option, Some, None}
 use Rattle.of_types.specs.declared.errors.OfError.{OfError}
 use Rattle.of_wire.specs.declared.bodies.FlowMod.{FlowMod}
 use Rattle.flow_table.specs.declared.notice.Notice.{Notice}
@@ -68,3 +68,10 @@ pub record IsPlan (cs : List TableCall) (t : TableState) : Type 0 where
   pub start : ℕ
   pub before : IsMoment start t.entries
   pub moments : MomentsFrom start cs
+
+-- what one call needs of the table
+unfoldable pub IsAllowed : TableCall → TableState → Type 0
+IsAllowed (Change m now cap) t = IsMoment now t.entries × (t.next < 2 ^ 64 - 1)
+IsAllowed (Hit k len now) t = Unit {0}
+IsAllowed (Expire now) t = IsMoment now t.entries
+IsAllowed (AddCounts priority packets bytes) t = Unit {0}

@@ -9,15 +9,8 @@ use Rattle.flow_table.specs.declared.calls.TableCall.TheVariants.{Change, Hit, E
 use Rattle.flow_table.specs.Table.{TableState, IsMoment, last_moment}
 use Rattle.flow_table.specs.Change.{adds, refusal, serial_after, changed, change, unless_refused}
 use Rattle.flow_table.specs.Expiry.{expire}
-use Rattle.flow_table.specs.Run.{after_call, after_calls, IsAnswer, AreAnswers, moment_after, MomentsFrom, IsPlan}
+use Rattle.flow_table.specs.Run.{after_call, after_calls, IsAnswer, AreAnswers, moment_after, MomentsFrom, IsPlan, IsAllowed}
 use Rattle.flow_table.specs.MomentLaws.{IsMoment-later, IsMoment-hit, IsMoment-with_counts, IsMoment-expire, IsMoment-change}
-
--- what one call needs of the table
-unfoldable pub IsAllowed : TableCall → TableState → Type 0
-IsAllowed (Change m now cap) t = IsMoment now t.entries × (t.next < 2 ^ 64 - 1)
-IsAllowed (Hit k len now) t = Unit {0}
-IsAllowed (Expire now) t = IsMoment now t.entries
-IsAllowed (AddCounts priority packets bytes) t = Unit {0}
 
 pub IsAllowed-first : (c : TableCall) (cs : List TableCall) (t : TableState) → IsPlan (c ∷ cs) t → t.next < 2 ^ 64 - 1 → IsAllowed c t
 unfolding IsAllowed

@@ -1,13 +1,13 @@
 -- A flow table (OpenFlow 1.0.0, 3.1 Flow Table): its entries, and which number the next new one gets. The order of the list
 -- and the numbers are our own choice.
-use Rattle.std.specs.Prelude.{◌≡◌, ◌==◌, ℕ, ◌+◌, ◌<◌, ◌≤◌, Bool, List, [], ◌∷◌, length, slice_index_or, slice_get, Option, Some, None, Result, Ok, Err, All, filter, not, nat_lt, if◌then◌else◌}
+use Rattle.std.specs.Prelude.{◌≡◌, ◌==◌, ℕ, ◌+◌, ◌<◌, ◌≤◌, Bool, List, [], ◌∷◌, length, slice_index_or, slice_get, Option, Some, None, Result, Ok, Err, All, map, nat_lt, if◌then◌else◌}
 use Rattle.of_match.specs.declared.key.Key.{Key}
-use Rattle.of_match.specs.Key.{place}
+use Rattle.of_match.specs.Key.{key_number}
 use Rattle.flow_table.specs.declared.entry.Entry.{Entry}
 
 -- where an entry stands in key order
 abbrev pub place_of : Entry → ℕ
-place_of e = place e.key
+place_of e = key_number e.key
 
 -- strictly ascending, from a place on
 abbrev pub AscendsFrom : ℕ → List Entry → Type 0
@@ -29,7 +29,11 @@ empty_table = record { entries = []; next = 0 }
 
 -- whether an entry is that of a key
 abbrev pub has_key : Key → Entry → Bool
-has_key k e = place_of e == place k
+has_key k e = place_of e == key_number k
+
+-- the keys of entries, in the order in which these stand
+abbrev pub keys : List Entry → List Key
+keys es = map (λ e. e.key) es
 
 -- the entry of a key
 abbrev pub entry_at : Key → List Entry → Option Entry
@@ -65,11 +69,11 @@ IsPositionOf None es (Some i) = ⊥
 IsPositionOf (Some e) es None = ⊥
 
 -- the entries before the i-th stand below a place, and those from the j-th on above it
-pub record Parts (place i j : ℕ) (es : List Entry) : Type 0 where
-  pub below : (k : ℕ) (e : Entry) → k < i → place_of (slice_index_or es k e) < place
-  pub above : (k : ℕ) (e : Entry) → j ≤ k → k < length es → place < place_of (slice_index_or es k e)
+pub record Parts (key_number i j : ℕ) (es : List Entry) : Type 0 where
+  pub below : (k : ℕ) (e : Entry) → k < i → place_of (slice_index_or es k e) < key_number
+  pub above : (k : ℕ) (e : Entry) → j ≤ k → k < length es → key_number < place_of (slice_index_or es k e)
 
 -- where the entry at a place stands, or where it would stand
 abbrev pub IsPlaceOf : ℕ → List Entry → Result ℕ ℕ → Type 0
-IsPlaceOf place es (Ok i) = (i < length es) × ((e : Entry) → place_of (slice_index_or es i e) ≡ place)
-IsPlaceOf place es (Err i) = (i ≤ length es) × Parts place i i es
+IsPlaceOf key_number es (Ok i) = (i < length es) × ((e : Entry) → place_of (slice_index_or es i e) ≡ key_number)
+IsPlaceOf key_number es (Err i) = (i ≤ length es) × Parts key_number i i es

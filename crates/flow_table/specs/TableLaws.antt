@@ -5,22 +5,22 @@ use Rattle.std.proofs.lemmas.Bool.Decides.{nat_tests}
 use Rattle.std.specs.List.{insert, remove, list_any}
 use Rattle.std.specs.Option.{option_map}
 use Rattle.of_match.specs.declared.key.Key.{Key}
-use Rattle.of_match.specs.Key.{place}
+use Rattle.of_match.specs.Key.{key_number}
 use Rattle.flow_table.specs.declared.entry.Entry.{Entry}
 use Rattle.flow_table.specs.Table.{place_of, has_key, entry_at, AscendsFrom, IsTable, Parts, with_entry}
 
 -- ---- Places rise along a table.
 
-pub place-get : (es : List Entry) (least i : ℕ) (d : Entry) → AscendsFrom least es → i < length es → least ≤ place_of (get_or es i d)
-place-get [] least i d h within = absurd (omega arith)
-place-get (e ∷ es) least zero d h within = h.0
-place-get (e ∷ es) least (suc i) d h within = omega (arith, h.0, place-get es (place_of e + 1) i d h.1 (omega arith))
+pub key_number-get : (es : List Entry) (least i : ℕ) (d : Entry) → AscendsFrom least es → i < length es → least ≤ place_of (get_or es i d)
+key_number-get [] least i d h within = absurd (omega arith)
+key_number-get (e ∷ es) least zero d h within = h.0
+key_number-get (e ∷ es) least (suc i) d h within = omega (arith, h.0, key_number-get es (place_of e + 1) i d h.1 (omega arith))
 
-pub place-rises : (es : List Entry) (least i j : ℕ) (d : Entry) → AscendsFrom least es → i < j → j < length es → place_of (get_or es i d) < place_of (get_or es j d)
-place-rises [] least i j d h rise within = absurd (omega arith)
-place-rises (e ∷ es) least i zero d h rise within = absurd (omega arith)
-place-rises (e ∷ es) least zero (suc j) d h rise within = omega (arith, place-get es (place_of e + 1) j d h.1 (omega arith))
-place-rises (e ∷ es) least (suc i) (suc j) d h rise within = place-rises es (place_of e + 1) i j d h.1 (omega arith) (omega arith)
+pub key_number-rises : (es : List Entry) (least i j : ℕ) (d : Entry) → AscendsFrom least es → i < j → j < length es → place_of (get_or es i d) < place_of (get_or es j d)
+key_number-rises [] least i j d h rise within = absurd (omega arith)
+key_number-rises (e ∷ es) least i zero d h rise within = absurd (omega arith)
+key_number-rises (e ∷ es) least zero (suc j) d h rise within = omega (arith, key_number-get es (place_of e + 1) j d h.1 (omega arith))
+key_number-rises (e ∷ es) least (suc i) (suc j) d h rise within = key_number-rises es (place_of e + 1) i j d h.1 (omega arith) (omega arith)
 
 pub ascends-less : (es : List Entry) (least most : ℕ) → AscendsFrom most es → least ≤ most → AscendsFrom least es
 ascends-less [] least most h le = tt
@@ -61,7 +61,7 @@ pub with_entry-found : (es : List Entry) (e : Entry) (least i : ℕ) → Ascends
 with_entry-found [] e least i h within same = absurd (omega arith)
 with_entry-found (f ∷ fs) e least zero h within same = with_entry-same e f fs (sym same)
 with_entry-found (f ∷ fs) e least (suc i) h within same =
-    let above = place-get fs (place_of f + 1) i e h.1 (omega arith) in
+    let above = key_number-get fs (place_of f + 1) i e h.1 (omega arith) in
     with_entry-after e f fs (omega arith) ∙ ap (λ xs. f ∷ xs) (with_entry-found fs e (place_of f + 1) i h.1 (omega arith) same)
 
 behind : (f : Entry) (fs : List Entry) (p i : ℕ) → Parts p (suc i) (suc i) (f ∷ fs) → Parts p i i fs
@@ -79,7 +79,7 @@ with_entry-absent (f ∷ fs) e (suc i) within parts =
     with_entry-after e f fs (parts.below 0 e (omega arith)) ∙ ap (λ xs. f ∷ xs) (with_entry-absent fs e i (omega arith) (behind f fs (place_of e) i parts))
 
 -- no entry stands at a place between two neighbours
-other_places : (es : List Entry) (k : Key) (i : ℕ) → Parts (place k) i i es → (j : ℕ) (e : Entry) → j < length es → place_of (get_or es j e) ≢ place k
+other_places : (es : List Entry) (k : Key) (i : ℕ) → Parts (key_number k) i i es → (j : ℕ) (e : Entry) → j < length es → place_of (get_or es j e) ≢ key_number k
 other_places es k i parts j e lt =
     elim (cases_lt j i) [
       | inl before ↦ let b = parts.below j e before in omega arith
@@ -99,20 +99,11 @@ length-with_entry-le (f ∷ fs) e =
       ]
     ]
 
-pub entry_at-same : (k : Key) (f : Entry) (fs : List Entry) → place_of f ≡ place k → entry_at k (f ∷ fs) ≡ Some f
+pub entry_at-same : (k : Key) (f : Entry) (fs : List Entry) → place_of f ≡ key_number k → entry_at k (f ∷ fs) ≡ Some f
 entry_at-same k f fs same = grind (arith, nat_tests)
 
-pub entry_at-other : (k : Key) (f : Entry) (fs : List Entry) → place_of f ≢ place k → entry_at k (f ∷ fs) ≡ entry_at k fs
+pub entry_at-other : (k : Key) (f : Entry) (fs : List Entry) → place_of f ≢ key_number k → entry_at k (f ∷ fs) ≡ entry_at k fs
 entry_at-other k f fs other = grind (arith, nat_tests)
-
--- where each place is another, the key is not there
-pub entry_at-none : (es : List Entry) (k : Key) → ((i : ℕ) (e : Entry) → i < length es → place_of (get_or es i e) ≢ place k) → entry_at k es ≡ None
-entry_at-none [] k others = refl
-entry_at-none (f ∷ fs) k others =
-    entry_at-other k f fs (others 0 f (omega arith)) ∙ entry_at-none fs k (λ i e lt. others (suc i) e (omega arith))
-
-pub entry_at-absent : (es : List Entry) (k : Key) (i : ℕ) → Parts (place k) i i es → entry_at k es ≡ None
-entry_at-absent es k i parts = entry_at-none es k (other_places es k i parts)
 
 -- ---- What is found at a key.
 
@@ -127,14 +118,14 @@ entry_at-with_entry-same (f ∷ fs) e =
       ]
     ]
 
-pub entry_at-with_entry-other : (es : List Entry) (e : Entry) (k : Key) → place_of e ≢ place k → entry_at k (with_entry e es) ≡ entry_at k es
+pub entry_at-with_entry-other : (es : List Entry) (e : Entry) (k : Key) → place_of e ≢ key_number k → entry_at k (with_entry e es) ≡ entry_at k es
 entry_at-with_entry-other [] e k other = entry_at-other k e [] other
 entry_at-with_entry-other (f ∷ fs) e k other =
     elim (cases_lt (place_of e) (place_of f)) [
       | inl lt ↦ rw (with_entry-before e f fs lt) (entry_at-other k e (f ∷ fs) other)
       | inr ge ↦ elim (cases_lt (place_of f) (place_of e)) [
         | inl gt ↦ rw (with_entry-after e f fs gt)
-            (elim (cases_eq (place_of f) (place k)) [
+            (elim (cases_eq (place_of f) (key_number k)) [
               | inl here ↦ entry_at-same k f (with_entry e fs) here ∙ sym (entry_at-same k f fs here)
               | inr there ↦ entry_at-other k f (with_entry e fs) there ∙ entry_at-with_entry-other fs e k other ∙ sym (entry_at-other k f fs there)
             ])
@@ -175,14 +166,14 @@ if_passes test None = None
 if_passes test (Some e) = if test e then Some e else None
 
 -- above its places a table has no entry
-pub entry_at-below : (es : List Entry) (k : Key) (least : ℕ) → AscendsFrom least es → place k < least → entry_at k es ≡ None
+pub entry_at-below : (es : List Entry) (k : Key) (least : ℕ) → AscendsFrom least es → key_number k < least → entry_at k es ≡ None
 entry_at-below [] k least h lt = refl
 entry_at-below (f ∷ fs) k least h lt = entry_at-other k f fs (omega (arith, h.0)) ∙ entry_at-below fs k (place_of f + 1) h.1 (omega (arith, h.0))
 
 entry_at-filter_from : (test : Entry → Bool) (es : List Entry) (k : Key) (least : ℕ) → AscendsFrom least es → entry_at k (filter test es) ≡ if_passes test (entry_at k es)
 entry_at-filter_from test [] k least h = refl
 entry_at-filter_from test (f ∷ fs) k least h =
-    elim (cases_eq (place_of f) (place k)) [
+    elim (cases_eq (place_of f) (key_number k)) [
       | inl same ↦ rw (entry_at-same k f fs same) (elim (cases_Bool (test f)) [
         | inl passes ↦ rw (filter-takes test f fs passes) (entry_at-same k f (filter test fs) same ∙ sym (cond-true (test f) (Some f) None passes))
         | inr fails ↦ rw (filter-skips test f fs fails)
@@ -200,7 +191,7 @@ entry_at-filter test es k h = entry_at-filter_from test es k 0 h
 pub entry_at-map : (g : Entry → Entry) → ((e : Entry) → place_of (g e) ≡ place_of e) → (es : List Entry) (k : Key) → entry_at k (map g es) ≡ option_map g (entry_at k es)
 entry_at-map g keeps [] k = refl
 entry_at-map g keeps (f ∷ fs) k =
-    elim (cases_eq (place_of f) (place k)) [
+    elim (cases_eq (place_of f) (key_number k)) [
       | inl same ↦ rw (entry_at-same k f fs same) (entry_at-same k (g f) (map g fs) (keeps f ∙ same))
       | inr other ↦ rw (entry_at-other k f fs other)
           (entry_at-other k (g f) (map g fs) (λ same. other (sym (keeps f) ∙ same)) ∙ entry_at-map g keeps fs k)
@@ -247,18 +238,18 @@ map-none test g (f ∷ fs) none =
 pub record IsOnlyAt (p : ℕ) (test : Entry → Bool) : Type 0 where
   pub others : (e : Entry) → place_of e ≢ p → test e ≡ false
 
-pub IsOnlyAt-has_key : (k : Key) → IsOnlyAt (place k) (has_key k)
-IsOnlyAt-has_key k = record { others = λ e other. ne_eqb (place_of e) (place k) other }
+pub IsOnlyAt-has_key : (k : Key) → IsOnlyAt (key_number k) (has_key k)
+IsOnlyAt-has_key k = record { others = λ e other. ne_eqb (place_of e) (key_number k) other }
 
-pub NonePass-absent : (test : Entry → Bool) (es : List Entry) (k : Key) (i : ℕ) → IsOnlyAt (place k) test → Parts (place k) i i es → NonePass test es
+pub NonePass-absent : (test : Entry → Bool) (es : List Entry) (k : Key) (i : ℕ) → IsOnlyAt (key_number k) test → Parts (key_number k) i i es → NonePass test es
 NonePass-absent test es k i only parts j e lt = only.others (get_or es j e) (other_places es k i parts j e lt)
 
 behind-pass : (test : Entry → Bool) (p : ℕ) (f : Entry) (fs : List Entry) (least : ℕ) → IsOnlyAt p test → AscendsFrom least (f ∷ fs) → place_of f ≡ p → NonePass test fs
-behind-pass test p f fs least only h same i e lt = only.others (get_or fs i e) (let above = place-get fs (place_of f + 1) i e h.1 lt in omega arith)
+behind-pass test p f fs least only h same i e lt = only.others (get_or fs i e) (let above = key_number-get fs (place_of f + 1) i e h.1 lt in omega arith)
 
 before-fails : (test : Entry → Bool) (p : ℕ) (f : Entry) (fs : List Entry) (least i : ℕ) → IsOnlyAt p test → AscendsFrom least (f ∷ fs) → i < length fs → ((e : Entry) → place_of (get_or fs i e) ≡ p) → test f ≡ false
 before-fails test p f fs least i only h within same =
-    only.others f (let above = place-get fs (place_of f + 1) i f h.1 within in let there : place_of (get_or fs i f) ≡ p = same f in omega arith)
+    only.others f (let above = key_number-get fs (place_of f + 1) i f h.1 within in let there : place_of (get_or fs i f) ≡ p = same f in omega arith)
 
 pub list_any-found : (test : Entry → Bool) (es : List Entry) (i : ℕ) → i < length es → ((e : Entry) → test (get_or es i e) ≡ true) → list_any test es ≡ true
 list_any-found test [] i within passes = absurd (omega arith)
@@ -286,9 +277,9 @@ filter_not-found test p (f ∷ fs) least (suc i) only h within same passes =
 pub NonePass-found : (test : Entry → Bool) (p : ℕ) (es : List Entry) (i : ℕ) → IsOnlyAt p test → IsTable es → i < length es → ((e : Entry) → place_of (get_or es i e) ≡ p) → ((e : Entry) → test (get_or es i e) ≡ false) → NonePass test es
 NonePass-found test p es i only is within same fails j e lt =
     elim (cases_lt j i) [
-      | inl before ↦ only.others (get_or es j e) (let rises = place-rises es 0 j i e is before within in let there = same e in omega arith)
+      | inl before ↦ only.others (get_or es j e) (let rises = key_number-rises es 0 j i e is before within in let there = same e in omega arith)
       | inr le ↦ elim (cases_lt i j) [
-        | inl after ↦ only.others (get_or es j e) (let rises = place-rises es 0 i j e is after lt in let there = same e in omega arith)
+        | inl after ↦ only.others (get_or es j e) (let rises = key_number-rises es 0 i j e is after lt in let there = same e in omega arith)
         | inr ge ↦ let here : j ≡ i = omega arith in ap (λ k. test (get_or es k e)) here ∙ fails e
       ]
     ]

@@ -3,8 +3,7 @@
 ghost use Rattle.std.specs.Prelude.{◌≡◌, ◌↔◌, ℕ, ◌+◌, ◌-◌, ◌^◌, ◌<◌, ◌≤◌, length, take, All, IsTrue, IfOk, OnOk, OnErr};
 ghost use Rattle.flow_table.specs.Table.{IsMoment};
 ghost use Rattle.flow_table.specs.Change.{change, refusal, notices_of};
-ghost use Rattle.flow_table.specs.Run.{IsChangeAnswer, IsAnswer, AreAnswers, IsPlan, MomentsFrom, moment_after, after_call, after_calls};
-ghost use Rattle.flow_table.specs.RunLaws.{IsAllowed};
+ghost use Rattle.flow_table.specs.Run.{IsChangeAnswer, IsAnswer, AreAnswers, IsPlan, MomentsFrom, moment_after, after_call, after_calls, IsAllowed};
 
 use crate::entry::Entry;
 use crate::fault::ChangeFault;
@@ -75,7 +74,7 @@ fn change(table: &mut Table, flow: &FlowMod, now: u64, cap: u32) -> Result<Table
 }
 
 /// Makes one call.
-#[tactic(auto, unfolding(crate::specs::Run::after_call, crate::specs::Run::IsAnswer, crate::specs::RunLaws::IsAllowed))]
+#[tactic(auto, unfolding(crate::specs::Run::after_call, crate::specs::Run::IsAnswer, crate::specs::Run::IsAllowed))]
 fn make(table: &mut Table, call: &TableCall) -> Result<TableAnswer, AllocError>
     requires { IsAllowed call.now table.old }
     ensures answer { IfOk result (IsAnswer call.now table.old) }
@@ -136,7 +135,7 @@ fn rises(calls: &[TableCall], from: u64) -> bool
     true
 }
 
-/// Whether the moments of calls do not go back, and none is before an entry of the table was put in or used.
+/// Tells whether the moments of calls do not go back, and none is before an entry of the table was put in or used.
 pub fn is_plan(table: &Table, calls: &[TableCall]) -> bool
     ensures { IsTrue result ↔ IsPlan calls.now table.now }
 {

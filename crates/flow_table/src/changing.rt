@@ -4,8 +4,7 @@ ghost use Rattle.std.specs.Prelude.{◌≡◌, ◌≢◌, ◌≤◌, ◌<◌, �
 ghost use Rattle.std.specs.List.{count_by, remove};
 ghost use Rattle.flow_table.specs.declared.entry.Entry.{Entry};
 ghost use Rattle.flow_table.specs.Table.{IsTable, with_entry};
-ghost use Rattle.flow_table.specs.Change.{is_delete, adds, deletes, modified, new_entry, notice, entries_after, notices_of};
-ghost use Rattle.flow_table.specs.ChangeLaws.{means, tells};
+ghost use Rattle.flow_table.specs.Change.{is_delete, adds, deletes, modified, new_entry, notice, entries_after, notices_of, means, tells};
 
 use crate::copying::{copy_actions, copy_entry};
 use crate::describing::{asks, is_deleted, is_described, is_modifying, key_of, position};
@@ -32,7 +31,7 @@ pub(crate) fn entry_of(
         cookie: m.cookie,
         idle: m.idle,
         hard: m.hard,
-        flags: m.flags % 2,
+        flags: flows::kept_flags(m.flags),
         installed: now,
         used: now,
         packets: 0,
@@ -166,7 +165,7 @@ fn notices_among(
     now: u64,
 ) -> Result<Vec<Notice>, AllocError>
     ensures ok { IfOk result (λ ns. ns.items ≡ map (notice 2 now) (filter (tells m.now) entries.now)) }
-    ensures quiet { OnErr result (filter (tells m.now) entries.now ≢ []) }
+    ensures without_notices { OnErr result (filter (tells m.now) entries.now ≢ []) }
 {
     let mut notices = Vec::new(alloc);
     for entry in entries {
@@ -231,7 +230,7 @@ pub(crate) fn delete(
     ensures notices { IfOk result (λ ns. ns ≡ map (notice 2 now) (filter (tells m.now) entries.old.items)) }
     ensures ok { OnOk result (entries.new.items ≡ filter (λ e. not (deletes m.now e)) entries.old.items) }
     ensures err { OnErr result (entries.new.items ≡ entries.old.items) }
-    ensures quiet { OnErr result (filter (tells m.now) entries.old.items ≢ []) }
+    ensures without_notices { OnErr result (filter (tells m.now) entries.old.items ≢ []) }
 {
     let notices = notices_among(alloc, candidates(entries, m), m, now)?;
     if m.command == flows::DELETE_STRICT {
@@ -262,7 +261,7 @@ pub(crate) fn apply(
     ensures err { OnErr result (entries.new.items ≡ entries.old.items) }
     ensures next_err { OnErr result (next.new ≡ next.old) }
     ensures rise { next.new ≤ next.old + 1 }
-    ensures quiet { OnErr result (IsTrue (is_delete m.now) → notices_of now m.now entries.old.items ≢ []) }
+    ensures without_notices { OnErr result (IsTrue (is_delete m.now) → notices_of now m.now entries.old.items ≢ []) }
 {
     if adding {
         add(alloc, entries, m, now, *next)?;

@@ -2,10 +2,10 @@
 
 ghost use Rattle.std.specs.Prelude.{◌≡◌, ◌==◌, ◌≤◌, IfNone};
 ghost use Rattle.std.specs.List.{list_any};
-ghost use Rattle.of_match.specs.Key.{place};
+ghost use Rattle.of_match.specs.Key.{key_number};
 ghost use Rattle.match_overlap.specs.Relations.{is_overlapping};
 ghost use Rattle.flow_table.specs.Table.{IsTable, IsPlaceOf, has_key};
-ghost use Rattle.flow_table.specs.ChangeLaws.{clashes_with};
+ghost use Rattle.flow_table.specs.Change.{clashes_with};
 ghost use Rattle.flow_table.specs.Change.{key_in, is_modify, is_output_to, describes, sends_to, deletes, adds, clashes, is_full, refusal, asks_notice};
 
 use crate::entry::Entry;
@@ -29,7 +29,7 @@ pub(crate) fn key_of(m: &FlowMod) -> Key
 /// Where the entry of a key stands, or where it would stand.
 pub(crate) fn position(entries: &[Entry], key: &Key) -> Result<usize, usize>
     requires { IsTable entries.now }
-    ensures { IsPlaceOf (place key.now) entries.now result }
+    ensures { IsPlaceOf (key_number key.now) entries.now result }
 {
     let mut low = 0;
     let mut high = entries.len();
@@ -96,7 +96,7 @@ pub(crate) fn is_deleted(m: &FlowMod, entry: &Entry) -> bool
 pub(crate) fn asks(flags: u16) -> bool
     ensures { result ≡ asks_notice flags }
 {
-    flags % 2 == 1
+    flows::sends_flow_removed(flags)
 }
 
 /// Whether a MODIFY meets an entry: a strict one by a search for its key, another one by a look at each.
@@ -148,12 +148,12 @@ fn has_overlap(entries: &[Entry], key: &Key) -> bool
 pub(crate) fn is_clashing(m: &FlowMod, entries: &[Entry]) -> bool
     ensures { result ≡ clashes m.now entries.now }
 {
-    m.flags / 2 % 2 == 1 && has_overlap(entries, &key_of(m))
+    flows::checks_overlap(m.flags) && has_overlap(entries, &key_of(m))
 }
 
-/// Whether a new key has no place in a table of `cap` entries.
+/// Whether there is no room for a new key in a table of `cap` entries.
 #[tactic(auto, unfolding(crate::specs::Change::is_full))]
-fn lacks_place(m: &FlowMod, entries: &[Entry], cap: u32) -> bool
+fn lacks_room(m: &FlowMod, entries: &[Entry], cap: u32) -> bool
     requires { IsTable entries.now }
     ensures { result ≡ is_full cap m.now entries.now }
 {
@@ -180,7 +180,7 @@ pub(crate) fn find_refusal(
         None
     } else if is_clashing(m, entries) {
         Some(errors::FLOW_OVERLAP)
-    } else if lacks_place(m, entries, cap) {
+    } else if lacks_room(m, entries, cap) {
         Some(errors::FLOW_TABLES_FULL)
     } else {
         None

@@ -2,7 +2,7 @@
 
 ghost use Rattle.std.specs.Prelude.{◌≡◌, ◌==◌};
 ghost use Rattle.std.specs.Ordering.{nat_cmp};
-ghost use Rattle.of_match.specs.Key.{place};
+ghost use Rattle.of_match.specs.Key.{key_number};
 ghost use Rattle.flow_table.specs.Table.{place_of};
 
 use of_action::ActionList;
@@ -39,7 +39,7 @@ pub struct Entry {
 
 /// How a key stands to another in key order.
 fn key_order(a: &Key, b: &Key) -> Ordering
-    ensures { result ≡ nat_cmp (place a.now) (place b.now) }
+    ensures { result ≡ nat_cmp (key_number a.now) (key_number b.now) }
 {
     let _first = a.priority;
     let _second = b.priority;
@@ -49,14 +49,14 @@ fn key_order(a: &Key, b: &Key) -> Ordering
 impl Entry {
     /// How the entry stands to a key in key order: priority descending, then the bytes of the match ascending.
     pub(crate) fn compare(&self, key: &Key) -> Ordering
-        ensures { result ≡ nat_cmp (place_of self.now) (place key.now) }
+        ensures { result ≡ nat_cmp (place_of self.now) (key_number key.now) }
     {
         key_order(&self.key, key)
     }
 
-    /// Whether this is the entry of the key: both have one priority and one match.
+    /// Tells whether this is the entry of the key: both have one priority and one match.
     pub fn has_key(&self, key: &Key) -> bool
-        ensures { result ≡ (place_of self.now == place key.now) }
+        ensures { result ≡ (place_of self.now == key_number key.now) }
     {
         self.compare(key) == Ordering::Equal
     }

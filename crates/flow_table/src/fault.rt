@@ -5,13 +5,16 @@ ghost use Rattle.flow_table.specs.declared.fault.ChangeFault.TheVariants.{NoMemo
 
 use of_types::OfError;
 use std::alloc::{AllocError, AllocFailed};
+use thiserror::Error;
 
 /// Why a table was not changed.
-#[derive(Clone, Copy, Debug, PartialEq, Eq)]
+#[derive(Clone, Copy, Debug, PartialEq, Eq, Error)]
 pub enum ChangeFault {
     /// The switch refuses the change: a bad command, an overlap, or a full table.
+    #[error("{0}")]
     Refused(OfError),
     /// There is no memory.
+    #[error("out of memory")]
     NoMemory,
 }
 

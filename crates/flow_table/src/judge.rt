@@ -11,7 +11,7 @@ pub trait Judge {
     // Which tables it lets stand.
     ghost accepts: { Self → List TableView → Bool };
 
-    /// Whether these tables may stand.
+    /// Tells whether these tables may stand; takes no memory.
     fn allows(&self, tables: &[TableView]) -> bool
         ensures { result ≡ accepts self.now tables.now };
 }

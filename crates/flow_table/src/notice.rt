@@ -1,11 +1,13 @@
 //! What a table tells of an entry that goes.
 
 ghost use Rattle.std.specs.Prelude.{◌≡◌, ◌↔◌, [], length, IsTrue};
+ghost use Rattle.std.specs.Slice.Iter.{iter_rest};
 
 use crate::entry::Entry;
 use std::alloc::Global;
 use std::cmp::{Eq, PartialEq};
 use std::marker::Model;
+use std::slice;
 
 /// An entry that went and asked for a notice (OpenFlow 1.0.0, 5.4.2 Flow Removed Message).
 #[derive(Drop, Debug, Clone, PartialEq, Eq)]
@@ -14,11 +16,11 @@ pub struct Notice {
     pub removed: Entry,
     /// IDLE_TIMEOUT 0, HARD_TIMEOUT 1 or DELETE 2.
     pub reason: u8,
-    /// How many seconds it stood.
+    /// How many whole seconds it stood.
     pub duration: u64,
 }
 
-/// Notices in order. Contracts see a list.
+/// Notices in order. Contracts see the list of them.
 #[derive(Drop, Debug, Clone)]
 pub struct NoticeList {
     notices: Vec<Notice>,
@@ -34,7 +36,7 @@ impl Model for NoticeList {
 }
 
 impl NoticeList {
-    /// No notices; takes no memory.
+    /// Makes an empty list; takes no memory.
     pub fn new(alloc: Global) -> NoticeList
         ensures { result ≡ [] }
     {
@@ -43,35 +45,42 @@ impl NoticeList {
         }
     }
 
-    /// The notices of a vector, which becomes the list; takes no memory.
+    /// Makes a vector into the list of its notices; takes no memory.
     pub fn from_vec(notices: Vec<Notice>) -> NoticeList
         ensures { result ≡ notices.items }
     {
         NoticeList { notices }
     }
 
-    /// The vector back; takes no memory.
+    /// Gives the vector back; takes no memory.
     pub fn into_vec(self) -> Vec<Notice>
         ensures { result.items ≡ self }
     {
         self.notices
     }
 
-    /// The notices.
+    /// Lends the notices as a slice.
     pub fn as_slice(&self) -> &[Notice]
         ensures { result.now ≡ self.now }
     {
         self.notices.as_slice()
     }
 
-    /// How many notices there are.
+    /// Goes over the notices, from the first to the last.
+    pub fn iter(&self) -> slice::Iter<'_, Notice>
+        ensures { iter_rest result ≡ self.now }
+    {
+        self.notices.iter()
+    }
+
+    /// Counts the notices.
     pub fn len(&self) -> usize
         ensures { result ≡ length self.now }
     {
         self.notices.len()
     }
 
-    /// There are no notices.
+    /// Tells whether there are no notices.
     pub fn is_empty(&self) -> bool
         ensures { IsTrue result ↔ (self.now ≡ []) }
     {

@@ -44,7 +44,7 @@ impl Model for Table {
 }
 
 impl Table {
-    /// An empty table.
+    /// Makes an empty table; takes no memory.
     pub fn new(alloc: Global) -> Result<Table, AllocError>
         ensures { IfOk result (λ t. t ≡ empty_table) }
     {
@@ -67,12 +67,12 @@ impl Table {
         ensures ok { OnOk result (self.new ≡ changed now m.now self.old) }
         ensures err { OnErr result (self.new ≡ self.old) }
         ensures rise { self.new.next ≤ self.old.next + 1 }
-        ensures quiet { IsTrue (is_delete m.now) → notices_of now m.now self.old.entries ≡ [] → IsOk result }
+        ensures without_notices { IsTrue (is_delete m.now) → notices_of now m.now self.old.entries ≡ [] → IsOk result }
     {
         change_entries(self.alloc, &mut self.entries, &mut self.next, m, now, cap)
     }
 
-    /// Where the entry stands that a packet with these fields hits (OpenFlow 1.0.0, 3.4 Matching): of those that
+    /// Finds where the entry stands that a packet with these fields hits (OpenFlow 1.0.0, 3.4 Matching): of those that
     /// cover it the one of greatest rank, and among equals the least key. `None` exactly where none covers it.
     pub fn lookup(&self, k: &PacketKey) -> Option<usize>
         ensures { IsPositionOf (best k.now self.now.entries) self.now.entries result }
@@ -89,21 +89,21 @@ impl Table {
         hit(&mut self.entries, k, len, now)
     }
 
-    /// How many entries there are.
+    /// Counts the entries.
     pub fn len(&self) -> usize
         ensures { result ≡ length self.now.entries }
     {
         self.entries.len()
     }
 
-    /// Whether there is no entry.
+    /// Tells whether there is no entry.
     pub fn is_empty(&self) -> bool
         ensures { IsTrue result ↔ (self.now.entries ≡ []) }
     {
         self.entries.is_empty()
     }
 
-    /// The i-th entry in key order, counted from 0.
+    /// Lends the i-th entry in key order, counted from 0.
     pub fn at(&self, i: usize) -> &Entry
         requires { i < length self.now.entries }
         ensures { slice_get self.now.entries i ≡ Some result.now }
@@ -111,7 +111,7 @@ impl Table {
         &self.entries[i]
     }
 
-    /// The entries, in key order.
+    /// Lends the entries, in key order.
     pub fn entries(&self) -> &[Entry]
         ensures all { result.now ≡ self.now.entries }
         ensures in_order { IsTable self.now.entries }
@@ -130,7 +130,8 @@ impl Table {
         expire(self.alloc, &mut self.entries, now)
     }
 
-    /// The notices that `expire` gives at this moment; the table stays.
+    /// Gives the notices that `expire` gives at this moment; the table stays. `AllocError` where there is no memory for
+    /// them.
     pub fn due(&self, now: u64) -> Result<NoticeList, AllocError>
         requires { IsMoment now self.now.entries }
         ensures { IfOk result (λ notices. notices ≡ expiry_notices now self.now.entries) }
@@ -147,7 +148,7 @@ impl Table {
         drop_due(&mut self.entries, now);
     }
 
-    /// Where the entries stand whose match `m` subsumes and which, unless `out_port` is NONE, have an OUTPUT to
+    /// Finds where the entries stand whose match `m` subsumes and which, unless `out_port` is NONE, have an OUTPUT to
     /// it; ascending.
     pub fn select(&self, m: &Match, out_port: PortNo) -> Result<Vec<usize>, AllocError>
         ensures { IfOk result (λ places. places.items ≡ positions m.now out_port self.now.entries) }
@@ -181,7 +182,7 @@ fn change_entries(
     ensures err { OnErr result (entries.new.items ≡ entries.old.items) }
     ensures next_err { OnErr result (next.new ≡ next.old) }
     ensures rise { next.new ≤ next.old + 1 }
-    ensures quiet { OnErr result (IsTrue (is_delete m.now) → notices_of now m.now entries.old.items ≢ []) }
+    ensures without_notices { OnErr result (IsTrue (is_delete m.now) → notices_of now m.now entries.old.items ≢ []) }
 {
     let adding = is_adding(m, entries);
     if let Some(error) = find_refusal(m, entries, cap, adding) {

@@ -1,6 +1,7 @@
 //! What an application's owner sees of a table.
 
 ghost use Rattle.std.specs.Prelude.{◌≡◌, ◌↔◌, [], length, IsTrue};
+ghost use Rattle.std.specs.Slice.Iter.{iter_rest};
 
 use of_action::ActionList;
 use of_match::Key;
@@ -8,19 +9,26 @@ use of_types::Dpid;
 use std::alloc::Global;
 use std::cmp::{Eq, PartialEq};
 use std::marker::Model;
+use std::slice;
 
 /// A flow entry as it was asked for: without counters and moments. Timeouts are in seconds.
 #[derive(Drop, Debug, Clone, PartialEq, Eq)]
 pub struct ViewRow {
+    /// The entry's priority and match.
     pub key: Key,
+    /// What is done to a packet that hits the entry.
     pub actions: ActionList,
+    /// The application's own mark.
     pub cookie: u64,
+    /// Seconds without a hit after which the entry goes; 0: never.
     pub idle: u16,
+    /// Seconds after which the entry goes; 0: never.
     pub hard: u16,
+    /// The flags that the application gave.
     pub flags: u16,
 }
 
-/// Rows in key order, each key once. Contracts see a list.
+/// Rows in key order, each key once. Contracts see the list of them.
 #[derive(Drop, Debug, Clone)]
 pub struct ViewList {
     rows: Vec<ViewRow>,
@@ -29,7 +37,9 @@ pub struct ViewList {
 /// The table of one switch as applications see it.
 #[derive(Drop, Debug, Clone, PartialEq, Eq)]
 pub struct TableView {
+    /// The switch's number.
     pub dpid: Dpid,
+    /// Its entries.
     pub rows: ViewList,
 }
 
@@ -43,7 +53,7 @@ impl Model for ViewList {
 }
 
 impl ViewList {
-    /// No rows; takes no memory.
+    /// Makes an empty list; takes no memory.
     pub fn new(alloc: Global) -> ViewList
         ensures { result ≡ [] }
     {
@@ -52,35 +62,42 @@ impl ViewList {
         }
     }
 
-    /// The rows of a vector, which becomes the list; takes no memory.
+    /// Makes a vector into the list of its rows; takes no memory.
     pub fn from_vec(rows: Vec<ViewRow>) -> ViewList
         ensures { result ≡ rows.items }
     {
         ViewList { rows }
     }
 
-    /// The vector back; takes no memory.
+    /// Gives the vector back; takes no memory.
     pub fn into_vec(self) -> Vec<ViewRow>
         ensures { result.items ≡ self }
     {
         self.rows
     }
 
-    /// The rows.
+    /// Lends the rows as a slice.
     pub fn as_slice(&self) -> &[ViewRow]
         ensures { result.now ≡ self.now }
     {
         self.rows.as_slice()
     }
 
-    /// How many rows there are.
+    /// Goes over the rows, from the first to the last.
+    pub fn iter(&self) -> slice::Iter<'_, ViewRow>
+        ensures { iter_rest result ≡ self.now }
+    {
+        self.rows.iter()
+    }
+
+    /// Counts the rows.
     pub fn len(&self) -> usize
         ensures { result ≡ length self.now }
     {
         self.rows.len()
     }
 
-    /// There are no rows.
+    /// Tells whether there are no rows.
     pub fn is_empty(&self) -> bool
         ensures { IsTrue result ↔ (self.now ≡ []) }
     {

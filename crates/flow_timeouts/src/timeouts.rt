@@ -6,7 +6,7 @@ ghost use Rattle.flow_timeouts.specs.Timeouts.{end_of, earlier_of, deadline_of, 
 /// The last moment, in seconds: the limit of every moment, our own choice.
 pub const LAST_MOMENT: u64 = 4_294_967_295;
 
-/// Why an entry goes (OpenFlow 1.0.0, 5.4.3 Flow Removed Message).
+/// Why an entry goes (OpenFlow 1.0.0, 5.4.2 Flow Removed Message).
 #[derive(Clone, Copy, Debug, PartialEq, Eq)]
 pub enum Reason {
     /// It was not used for as long as its idle timeout.
@@ -26,7 +26,7 @@ fn end(start: u64, timeout: u16) -> Option<u64>
     }
 }
 
-/// The moment at which an entry goes, and why: the earlier of the moment it was installed plus its hard
+/// Finds the moment at which an entry goes, and why: the earlier of the moment it was installed plus its hard
 /// timeout and the moment it was used plus its idle timeout, all in seconds (OpenFlow 1.0.0, 3.3).
 ///
 /// A timeout of 0 does not count; `None` where neither counts. At a tie it is the hard one.
@@ -56,7 +56,7 @@ fn earlier(hard_end: u64, idle_end: u64) -> (u64, Reason)
     }
 }
 
-/// What is left of a hard timeout, in seconds, for an entry of the given age, which has to be below it.
+/// Tells what is left of a hard timeout, in seconds, for an entry of the given age, which has to be below it.
 ///
 /// 0 for a hard timeout of 0, which does not count.
 pub fn remaining(hard: u16, age: u64) -> u16

@@ -215,7 +215,7 @@ with_address-keeps at address frame low width =
       | inr p ↦ Keeps-none ((at, 6) ∷ []) frame _ p.1
     ]
 
-tagged-long : (frame : List ℕ) → is_tagged frame ≡ true → 18 ≤ length frame
+pub tagged-long : (frame : List ℕ) → is_tagged frame ≡ true → 18 ≤ length frame
 unfolding is_tagged
 tagged-long frame e = leb-true _ _ (and_parts (leb 18 (length frame)) (eqb (number_at 2 12 frame) 0x8100) e).0
 
@@ -227,7 +227,7 @@ with_control-keeps change frame is =
     subst (λ (new : List ℕ). Keeps ((14, 2) ∷ []) frame new) (sym (on_true (is_tagged frame) (with_field 14 (number_bytes 2 control) frame) _ is))
     (Keeps-field 14 2 (number_bytes 2 control) frame (length-number_bytes 2 control) (omega arith))
 
-is_tagged-tagged : (control : ℕ) (frame : List ℕ) → 14 ≤ length frame → is_tagged (tagged control frame) ≡ true
+pub is_tagged-tagged : (control : ℕ) (frame : List ℕ) → 14 ≤ length frame → is_tagged (tagged control frame) ≡ true
 unfolding is_tagged
 is_tagged-tagged control frame long =
     let front = length-take 12 frame in

@@ -53,10 +53,10 @@ fn send(
     Ok(())
 }
 
-/// Does the actions in order: for each OUTPUT its port, and the frame as edited so far (OpenFlow 1.0.0,
+/// Does the actions in order, and gives for each OUTPUT its port, and the frame as edited so far (OpenFlow 1.0.0,
 /// 3.3 Actions and 5.2.4 Flow Action Structures). Neither ENQUEUE nor VENDOR is among them.
 ///
-/// An action whose field the frame does not have changes nothing.
+/// An action whose field the frame does not have changes nothing. `AllocError` where there is no memory for the copies.
 pub fn apply(alloc: Global, actions: &ActionList, frame: &[u8]) -> Result<Edited, AllocError>
     requires { AreEdits actions.now }
     ensures { IfOk result (λ edited. edited.frames ≡ outputs actions.now frame.now) }

@@ -8,13 +8,13 @@ use crate::checksum::{checksum, word_sum};
 use eth_key::{Ipv4Header, TCP, UDP, is_fragment, protocol};
 use of_types::{get_u16, get_u32, put_u16};
 
-/// The place of the checksum in an IPv4 header (RFC 791, 3.1).
+/// The offset of the checksum in an IPv4 header (RFC 791, 3.1).
 const HEADER_CHECKSUM: usize = 10;
 
-/// The place of the checksum in a TCP header (RFC 793, 3.1).
+/// The offset of the checksum in a TCP header (RFC 793, 3.1).
 const TCP_CHECKSUM: usize = 16;
 
-/// The place of the checksum in a UDP header (RFC 768).
+/// The offset of the checksum in a UDP header (RFC 768).
 const UDP_CHECKSUM: usize = 6;
 
 #[tactic(auto, using(crate::specs::FieldLaws::with_field_again), unfolding(crate::specs::Datagram::with_header_checksum, crate::specs::Datagram::header_checksum))]

@@ -11,7 +11,7 @@ ghost use Rattle.frame_edit.specs.Datagram.{Verifies, with_checksums};
 ghost use Rattle.frame_edit.specs.Edits.{edited, with_address, with_control, without_tag};
 ghost use Rattle.frame_edit.specs.Written.{IsDatagramEdit, Keeps, Renews, field_of};
 
-/// The laws of checksums: what is computed anew verifies, and the definition is the standard's
+/// States the laws of checksums: what is computed anew verifies, and the definition is the standard's
 /// procedure, which adds words one by one with end-around carry (RFC 1071, 1).
 pub fn laws_of_checksums()
     ensures complement { (sum : ℕ) → checksum (sum + checksum sum) ≡ 0 }
@@ -19,7 +19,7 @@ pub fn laws_of_checksums()
     ensures procedure { (bytes : List ℕ) → IsBytes bytes → ones_complement_sum (word_sum bytes) ≡ carried_sum bytes }
 {}
 
-/// The laws of edits: which bytes they leave, and that a datagram verifies that an edit has changed.
+/// States the laws of edits: which bytes they leave, and that a datagram verifies that an edit has changed.
 pub fn laws_of_edits()
     // Of the five edits of a datagram, a byte outside the field and the checksums stays, and the checksums verify.
     ensures datagram { (action : Action) (header : Ipv4Header) (frame : List ℕ) → IsDatagramEdit action → ipv4_header frame ≡ Some header

@@ -1,12 +1,14 @@
 //! What is sent out, and by which ports.
 
 ghost use Rattle.std.specs.Prelude.{◌≡◌, ◌↔◌, [], length, IsTrue};
+ghost use Rattle.std.specs.Slice.Iter.{iter_rest};
 
 use of_types::{ByteList, PortNo};
 use std::alloc::Global;
 use std::marker::Model;
+use std::slice;
 
-/// Frames in the order in which they are sent out, each with its port. Contracts see a list of pairs of
+/// Frames in the order in which they are sent out, each with its port. Contracts see the list of pairs of
 /// a port and bytes.
 #[derive(Drop, Debug, Clone)]
 pub struct OutList {
@@ -22,7 +24,7 @@ impl Model for OutList {
 }
 
 impl OutList {
-    /// No frames; takes no memory.
+    /// Makes an empty list; takes no memory.
     pub fn new(alloc: Global) -> OutList
         ensures { result ≡ [] }
     {
@@ -31,35 +33,42 @@ impl OutList {
         }
     }
 
-    /// The frames of a vector, which becomes the list; takes no memory.
+    /// Makes a vector into the list of its frames; takes no memory.
     pub fn from_vec(frames: Vec<(PortNo, ByteList)>) -> OutList
         ensures { result ≡ frames.items }
     {
         OutList { frames }
     }
 
-    /// The vector back; takes no memory.
+    /// Gives the vector back; takes no memory.
     pub fn into_vec(self) -> Vec<(PortNo, ByteList)>
         ensures { result.items ≡ self }
     {
         self.frames
     }
 
-    /// The frames with their ports.
+    /// Lends the frames with their ports as a slice.
     pub fn as_slice(&self) -> &[(PortNo, ByteList)]
         ensures { result.now ≡ self.now }
     {
         self.frames.as_slice()
     }
 
-    /// How many frames there are.
+    /// Goes over the frames, from the first to the last.
+    pub fn iter(&self) -> slice::Iter<'_, (PortNo, ByteList)>
+        ensures { iter_rest result ≡ self.now }
+    {
+        self.frames.iter()
+    }
+
+    /// Counts the frames.
     pub fn len(&self) -> usize
         ensures { result ≡ length self.now }
     {
         self.frames.len()
     }
 
-    /// There are no frames.
+    /// Tells whether there are no frames.
     pub fn is_empty(&self) -> bool
         ensures { IsTrue result ↔ (self.now ≡ []) }
     {

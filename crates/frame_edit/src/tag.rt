@@ -7,10 +7,10 @@ use eth_key::{ETHERNET_LEN, is_tagged};
 use of_types::{get_u16, put_u16};
 use std::alloc::AllocError;
 
-/// The place of the tag, behind the addresses.
+/// The offset of the tag, behind the addresses.
 const TAG: usize = 12;
 
-/// The place of its control information: priority and identifier.
+/// The offset of its control information: priority and identifier.
 const CONTROL: usize = 14;
 
 #[tactic(auto, using(crate::specs::TagLaws::insert_here), unfolding(of_types::specs::Fields::number_bytes))]
@@ -35,10 +35,10 @@ pub(crate) fn set_identifier(frame: &mut Vec<u8>, vid: u16) -> Result<(), AllocE
         put_u16(
             frame.as_mut_slice(),
             CONTROL,
-            control / 4096 * 4096 + vid % 4096,
+            (control & 0xf000) | (vid & 0x0fff),
         );
     } else if frame.len() >= ETHERNET_LEN {
-        insert_tag(frame, vid % 4096)?;
+        insert_tag(frame, vid & 0x0fff)?;
     }
     Ok(())
 }
@@ -47,10 +47,10 @@ pub(crate) fn set_identifier(frame: &mut Vec<u8>, vid: u16) -> Result<(), AllocE
 pub(crate) fn set_priority(frame: &mut Vec<u8>, pcp: u8) -> Result<(), AllocError>
     ensures { OnOk result (frame.new.items ≡ with_control (with_priority pcp) frame.old.items) }
 {
-    let high = u16::from(pcp % 8) * 8192;
+    let high = u16::from(pcp & 0x07) << 13;
     if is_tagged(frame.as_slice()) {
         let control = get_u16(frame.as_slice(), CONTROL);
-        put_u16(frame.as_mut_slice(), CONTROL, high + control % 8192);
+        put_u16(frame.as_mut_slice(), CONTROL, high | (control & 0x1fff));
     } else if frame.len() >= ETHERNET_LEN {
         insert_tag(frame, high)?;
     }

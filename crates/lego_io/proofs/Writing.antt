@@ -1,6 +1,6 @@
 -- Bytes that go to a sink piece by piece.
 use Rattle.std.proofs.Common.{◌≡◌, ℕ, ◌+◌, ◌-◌, ◌<◌, List, [], ◌++◌, length, take, drop, Option, refl, sym, ap, ◌∙◌, append_assoc, append-nil, arith, length-append, length-drop}
-use Rattle.std.proofs.lemmas.List.{take_at, take-append-drop}
+use Rattle.std.proofs.lemmas.List.{take_at, take-append-drop, take_rest}
 use Rattle.std.proofs.Math.Seq.{take-length}
 use Rattle.std.specs.Io.KnownBytes.{append_known}
 use Rattle.lego_io.specs.Sink.{TookPart}
@@ -12,17 +12,13 @@ pub record Written (old new : Option (List ℕ)) (bytes rest : List ℕ) : Type 
   pub parts : bytes ≡ taken ++ rest
   pub holds : new ≡ append_known old taken
 
--- the rest of a slice, as code takes it
-pub take-drop_rest : (n : ℕ) (xs : List ℕ) → take (length xs - n) (drop n xs) ≡ drop n xs
-take-drop_rest n xs = ap (λ (k : ℕ). take k (drop n xs)) (sym (length-drop n xs)) ∙ take-length (drop n xs)
-
 pub Written-start : (told : Option (List ℕ)) (bytes : List ℕ) → Written told told bytes bytes
 Written-start told bytes = record { taken = []; parts = refl; holds = sym (append_known-nil told) }
 
 pub Written-more : (old mid new : Option (List ℕ)) (bytes rest : List ℕ) (n : ℕ) → Written old mid bytes rest → new ≡ append_known mid (take n rest) → Written old new bytes (take (length rest - n) (drop n rest))
 Written-more old mid new bytes rest n so_far e = record {
   taken = so_far.taken ++ take n rest;
-  parts = rw take-drop_rest (so_far.parts ∙ ap (λ (r : List ℕ). so_far.taken ++ r) (sym (take-append-drop n rest)) ∙ sym (append_assoc so_far.taken (take n rest) (drop n rest)));
+  parts = rw take_rest (so_far.parts ∙ ap (λ (r : List ℕ). so_far.taken ++ r) (sym (take-append-drop n rest)) ∙ sym (append_assoc so_far.taken (take n rest) (drop n rest)));
   holds = e ∙ ap (λ (t : Option (List ℕ)). append_known t (take n rest)) so_far.holds ∙ sym (append_known-append old so_far.taken (take n rest));
 }
 

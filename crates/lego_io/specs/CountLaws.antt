@@ -1,5 +1,5 @@
 -- What follows about counts.
-use Rattle.std.specs.Prelude.{◌≡◌, ℕ, ◌-◌, ◌^◌, ◌<◌}
+use Rattle.std.specs.Prelude.{ℕ, ◌-◌, ◌^◌, ◌<◌}
 use Rattle.std.proofs.Common.{inl, inr, arith}
 use Rattle.std.proofs.lemmas.Bool.{cases_lt}
 use Rattle.lego_io.specs.Count.{raised, Rose, NeverFell}
@@ -17,7 +17,3 @@ Rose-after a b c before (inr e) = inr e
 pub Rose-before : (a b c : ℕ) → NeverFell a b → Rose a b → NeverFell b c → Rose a c
 Rose-before a b c up (inl lt) after = inl (omega arith)
 Rose-before a b c up (inr e) after = elim (cases_lt a c) [ inl lt ↦ inl lt | inr le ↦ inr (omega arith) ]
-
--- a count that did not rise stands as it was
-pub NeverFell-kept : (a b : ℕ) → NeverFell a b → (Rose a b → ⊥) → b ≡ a
-NeverFell-kept a b up still = elim (cases_lt a b) [ inl lt ↦ absurd (still (inl lt)) | inr le ↦ omega arith ]

@@ -1,16 +1,14 @@
--- What follows about the lines of a text: its lines are known where the text is put together of lines,
--- and lines without LF and CR that are ended by LF each are read back as they are.
-use Rattle.std.specs.Prelude.{◌≡◌, ◌≢◌, ℕ, suc, ◌-◌, ◌<◌, ◌≤◌, ◌+◌, Bool, true, false, List, [], ◌∷◌, ◌++◌, length, slice_index, All, refl, if◌then◌else◌}
-use Rattle.std.specs.List.{flat_map, AllByRecursion}
-use Rattle.std.proofs.Common.{inl, inr, ap, ◌∙◌, arith, eqb, append_assoc}
+-- What follows about the lines of a text: its lines are known where the text is put together of lines.
+use Rattle.std.specs.Prelude.{◌≡◌, ◌≢◌, ℕ, suc, ◌<◌, false, List, [], ◌∷◌, ◌++◌, length, All, refl}
+use Rattle.std.proofs.Common.{inl, inr, arith, eqb, ◌+◌, ◌-◌, ◌≤◌, Bool, true, get_or, take, drop, None, Some, sym, ap, ◌∙◌, take-append-drop, drop-cons, add-one}
 use Rattle.std.proofs.lemmas.Bool.Decides.{eqb_tells}
-use Rattle.std.proofs.lemmas.List.{length-map}
-use Rattle.std.proofs.lemmas.List.Concat.{flat_map-cons}
-use Rattle.lego_io.specs.Lines.{with_byte, cut_at_lf, without_cr, lines_of}
-
--- a line that a text can hold as it is: neither LF nor CR is in it
-abbrev pub IsPlain : List ℕ → Type 0
-IsPlain line = All (λ byte. (byte ≢ 10) × (byte ≢ 13)) line
+use Rattle.lego_io.specs.Lines.{cut_at_lf, without_cr, lines_of}
+use Rattle.std.specs.List.{position, position_or_len}
+use Rattle.std.proofs.lemmas.Grind.{common_steps, get_or_default_zero}
+use Rattle.std.proofs.lemmas.List.{get_or-take, length-take, take_rest}
+use Rattle.std.proofs.lemmas.List.Quantifiers.{position-Some}
+use Rattle.std.proofs.lemmas.List.Sums.{fails_before_first}
+use Rattle.std.proofs.lemmas.Bool.{eqb-true, eqb-false}
 
 eqb-no : (a b : ℕ) → a ≢ b → eqb a b ≡ false
 eqb-no a b ne = elim (eqb_tells a b) [ inl same ↦ absurd (ne same.1) | inr other ↦ other.0 ]
@@ -36,18 +34,6 @@ cut_at_lf-last (byte ∷ []) some each = rw (eqb-no byte 10 (All-first (λ b. b 
 cut_at_lf-last (byte ∷ next ∷ line) some each =
     rw (eqb-no byte 10 (All-first (λ b. b ≢ 10) byte (next ∷ line) each), cut_at_lf-last (next ∷ line) (omega arith) (All-rest (λ b. b ≢ 10) byte (next ∷ line) each)) refl
 
--- ---- the CR
-
-without_cr-kept : (line : List ℕ) → eqb (slice_index line (length line - 1)) 13 ≡ false → without_cr line ≡ line
-unfolding without_cr
-without_cr-kept line other = rw other refl
-
-pub without_cr-plain : (line : List ℕ) → All (λ byte. byte ≢ 13) line → without_cr line ≡ line
-without_cr-plain [] each = without_cr-kept [] refl
-without_cr-plain (byte ∷ line) each =
-    let last : ℕ = length (byte ∷ line) - 1 in
-    without_cr-kept (byte ∷ line) (eqb-no (slice_index (byte ∷ line) last) 13 (each last 0 (omega arith)))
-
 -- ---- the lines
 
 pub lines_of-nil : lines_of [] ≡ []
@@ -64,42 +50,30 @@ pub lines_of-last : (line : List ℕ) → 0 < length line → All (λ byte. byte
 unfolding lines_of
 lines_of-last line some each = rw (cut_at_lf-last line some each) refl
 
-pub lines_of-plain : (line rest : List ℕ) → IsPlain line → lines_of (line ++ 10 ∷ rest) ≡ line ∷ lines_of rest
-lines_of-plain line rest each =
-    lines_of-line line rest (λ k d lt. (each k d lt).0) ∙ ap (λ (l : List ℕ). l ∷ lines_of rest) (without_cr-plain line (λ k d lt. (each k d lt).1))
+-- ---- where the first LF stands
 
-pub lines_of-plain_last : (line : List ℕ) → 0 < length line → IsPlain line → lines_of line ≡ line ∷ []
-lines_of-plain_last line some each =
-    lines_of-last line some (λ k d lt. (each k d lt).0) ∙ ap (λ (l : List ℕ). l ∷ []) (without_cr-plain line (λ k d lt. (each k d lt).1))
+abbrev pub is_lf : ℕ → Bool
+is_lf byte = eqb byte 10
 
--- lines that are written one after the other, each ended by LF, are read again
-pub lines_of-flat_map : (lines : List (List ℕ)) → AllByRecursion IsPlain lines → lines_of (flat_map (λ line. line ++ 10 ∷ []) lines) ≡ lines
-lines_of-flat_map [] each = lines_of-nil
-lines_of-flat_map (line ∷ lines) each =
-    ap lines_of (flat_map-cons (λ l. l ++ 10 ∷ []) line lines ∙ append_assoc line (10 ∷ []) (flat_map (λ l. l ++ 10 ∷ []) lines))
-    ∙ lines_of-plain line (flat_map (λ l. l ++ 10 ∷ []) lines) each.0 ∙ ap (λ (ls : List (List ℕ)). line ∷ ls) (lines_of-flat_map lines each.1)
+is_other : (text : List ℕ) (k d : ℕ) → k < length text → is_lf (get_or text k 0) ≡ false → get_or text k d ≢ 10
+is_other text k d lt other e = eqb-false (get_or text k 0) 10 other (sym (get_or_default_zero text k d lt) ∙ e)
 
--- no byte below the space is in the line
-pub IsPlain-printable : (line : List ℕ) → All (λ byte. 32 ≤ byte) line → IsPlain line
-IsPlain-printable line each k d lt = (let high = each k d lt in omega arith, let high = each k d lt in omega arith)
+no_lf_before : (text : List ℕ) (end : ℕ) → end ≤ length text → ((k : ℕ) → k < end → is_lf (get_or text k 0) ≡ false) → All (λ byte. byte ≢ 10) (take end text)
+no_lf_before text end within before k d lt =
+    let below : k < end = omega (arith, length-take end text) in
+    rw (get_or-take end text k d below) (is_other text k d (omega arith) (before k below))
 
--- ---- how many
+cut_there : (text : List ℕ) (end : ℕ) → end < length text → is_lf (get_or text end 0) ≡ true → text ≡ take end text ++ 10 ∷ drop (end + 1) text
+cut_there text end within here =
+    rw add-one (sym (take-append-drop end text) ∙ ap (λ (rest : List ℕ). take end text ++ rest) (drop-cons text end 0 within ∙ ap (λ (byte : ℕ). byte ∷ drop (suc end) text) (eqb-true _ _ here)))
 
-length-with_byte : (byte : ℕ) (lines : List (List ℕ)) → length (with_byte byte lines) ≤ length lines + 1
-length-with_byte byte [] = omega arith
-length-with_byte byte (line ∷ lines) = omega arith
+pub lines_of-some : (text : List ℕ) (end : ℕ) → position is_lf text ≡ Some end → lines_of text ≡ without_cr (take end text) ∷ lines_of (take (length text - (end + 1)) (drop (end + 1) text))
+lines_of-some text end found =
+    let at = position-Some is_lf text end 0 found in
+    ap lines_of (cut_there text end at.0 at.1) ∙ lines_of-line (take end text) (drop (end + 1) text) (no_lf_before text end (omega (arith, at.0)) at.2)
+    ∙ ap (λ (rest : List ℕ). without_cr (take end text) ∷ lines_of rest) (sym (take_rest text (end + 1)))
 
-length-cut_first : (byte : ℕ) (text : List ℕ) (ends : Bool) → length (cut_at_lf text) ≤ length text → length (if ends then [] ∷ cut_at_lf text else with_byte byte (cut_at_lf text)) ≤ length (byte ∷ text)
-length-cut_first byte text true below = omega arith
-length-cut_first byte text false below = omega (arith, length-with_byte byte (cut_at_lf text))
-
-length-cut_at_lf : (text : List ℕ) → length (cut_at_lf text) ≤ length text
-unfolding cut_at_lf
-length-cut_at_lf [] = omega arith
-length-cut_at_lf (byte ∷ text) =
-    length-cut_first byte text (eqb byte 10) (length-cut_at_lf text)
-
--- a text has no more lines than bytes
-pub length-lines_of : (text : List ℕ) → length (lines_of text) ≤ length text
-unfolding lines_of
-length-lines_of text = omega (arith, length-map (cut_at_lf text) without_cr, length-cut_at_lf text)
+pub lines_of-none : (text : List ℕ) → 0 < length text → position is_lf text ≡ None → lines_of text ≡ without_cr text ∷ lines_of []
+lines_of-none text some none =
+    let past : length text ≤ position_or_len is_lf text = grind (arith, common_steps) in
+    lines_of-last text some (λ k d lt. is_other text k d lt (fails_before_first is_lf text k 0 (omega arith))) ∙ ap (λ (ls : List (List ℕ)). without_cr text ∷ ls) (sym lines_of-nil)

@@ -3,10 +3,6 @@ use Rattle.std.specs.Prelude.{◌≡◌, List, [], ◌++◌, ℕ, Option, Some, 
 use Rattle.std.specs.Io.KnownBytes.{prepend_known, append_known}
 use Rattle.std.proofs.Common.{ap, sym, append_assoc, append-nil}
 
-pub prepend_known-nil : (told : Option (List ℕ)) → prepend_known [] told ≡ told
-prepend_known-nil None = refl
-prepend_known-nil (Some bytes) = refl
-
 pub prepend_known-append : (a b : List ℕ) (told : Option (List ℕ)) → prepend_known (a ++ b) told ≡ prepend_known a (prepend_known b told)
 prepend_known-append a b None = refl
 prepend_known-append a b (Some bytes) = ap (λ (all : List ℕ). Some all) (append_assoc a b bytes)

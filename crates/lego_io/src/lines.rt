@@ -6,7 +6,7 @@ ghost use Rattle.lego_io.specs.Lines.{lines_of, most_line, without_cr};
 use std::marker::Model;
 use thiserror::Error;
 
-/// How many bytes a line may have, without its end and the CR before it.
+/// How many bytes a line may have, 4 MiB, without its end and the CR before it.
 pub const MOST_LINE: usize = 4_194_304;
 
 /// The line has more than `MOST_LINE` bytes.
@@ -31,7 +31,7 @@ impl<'a> Model for Lines<'a> {
 }
 
 impl<'a> Lines<'a> {
-    /// The lines of `text`.
+    /// Begins at the front of `text`.
     pub fn new(text: &'a [u8]) -> Lines<'a>
         ensures { result ≡ lines_of text.now }
     {

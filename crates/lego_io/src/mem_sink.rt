@@ -30,7 +30,8 @@ impl Model for MemSink {
 }
 
 impl MemSink {
-    /// An empty sink that takes `room` bytes. The writes whose numbers, from 1 on, are in `fails` will fail.
+    /// Makes an empty sink that takes `room` bytes in all. The writes whose numbers, from 1 on, are in `fails` will fail.
+    /// `AllocError` where there is no memory for the room.
     pub fn new(alloc: Global, room: usize, fails: &[u64]) -> Result<MemSink, AllocError>
         ensures { IfOk result (λ sink. sink ≡ store_of room fails.now) }
     {
@@ -43,7 +44,7 @@ impl MemSink {
         })
     }
 
-    /// The bytes taken.
+    /// Lends the bytes that were taken.
     pub fn bytes(&self) -> &[u8]
         ensures { result.now ≡ self.now.taken }
     {

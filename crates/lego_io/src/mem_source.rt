@@ -30,7 +30,7 @@ impl Model for MemSource {
 }
 
 impl MemSource {
-    /// A source of these bytes. The reads whose numbers, from 1 on, are in `fails` will fail.
+    /// Makes a source of a copy of these bytes. The reads whose numbers, from 1 on, are in `fails` will fail.
     pub fn new(alloc: Global, bytes: &[u8], fails: &[u64]) -> Result<MemSource, AllocError>
         ensures { IfOk result (λ source. source ≡ supply_of bytes.now fails.now) }
     {

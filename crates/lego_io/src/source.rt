@@ -6,6 +6,9 @@ ghost use Rattle.lego_io.specs.Count.{Rose, NeverFell};
 
 use thiserror::Error;
 
+/// How many bytes are asked for in one read.
+pub(crate) const PIECE_BYTES: usize = 65_536;
+
 /// A read failed. Nothing was read, and the source's count of faults rose.
 #[derive(Clone, Copy, Debug, PartialEq, Eq, Error)]
 #[error("a read failed")]

@@ -5,15 +5,12 @@ ghost use Rattle.std.specs.Io.KnownBytes.{ReadConsumes};
 ghost use Rattle.lego_io.specs.Count.{Rose, NeverFell};
 
 use crate::sink::{Sink, WriteFault};
-use crate::source::{ReadFault, Source};
+use crate::source::{PIECE_BYTES, ReadFault, Source};
 use std::alloc::{AllocError, Global};
 use std::io;
 use std::io::Read;
 
-/// How many bytes one read takes at most.
-const PIECE: usize = 65_536;
-
-/// A runtime's standard input. It does not tell what is left.
+/// Reads a runtime's standard input, at most 65,536 bytes a call. It does not tell what is left.
 #[derive(Drop)]
 pub struct StdSource<R> {
     reader: R,
@@ -23,13 +20,13 @@ pub struct StdSource<R> {
 }
 
 impl<R: Read + Drop> StdSource<R> {
-    /// The standard input of this runtime.
+    /// Opens the standard input of this runtime. `AllocError` where there is no memory for a piece.
     pub fn new<I: Input<Reader = R>>(rt: &I, alloc: Global) -> Result<StdSource<R>, AllocError>
         ensures { IfOk result (λ source. ⟦<StdSource<R> as Source>⟧.faults source ≡ 0) }
     {
         Ok(StdSource {
             reader: rt.reader(),
-            piece: vec![in alloc; 0u8; PIECE]?,
+            piece: vec![in alloc; 0u8; PIECE_BYTES]?,
             faults: 0,
         })
     }
@@ -74,7 +71,7 @@ fn read_through<R: Read>(reader: &mut R, piece: &mut [u8], buf: &mut [u8]) -> io
     Ok(count)
 }
 
-/// A runtime's standard output. It does not tell what it took.
+/// Writes to a runtime's standard output. It does not tell what it took.
 #[derive(Drop)]
 pub struct StdSink<P> {
     printer: P,
@@ -82,7 +79,7 @@ pub struct StdSink<P> {
 }
 
 impl<P: Print + Drop> StdSink<P> {
-    /// The standard output of this runtime. It keeps nothing back, so it takes no memory.
+    /// Opens the standard output of this runtime. It keeps nothing back, so it takes no memory and does not fail.
     pub fn new(rt: P, _alloc: Global) -> Result<StdSink<P>, AllocError>
         ensures { IfOk result (λ sink. ⟦<StdSink<P> as Sink>⟧.faults sink ≡ 0) }
     {

@@ -8,17 +8,14 @@ ghost use Rattle.lego_io.specs.Sink.{TookPart};
 ghost use Rattle.lego_io.specs.declared.transfer.ReadAllFault.TheVariants.{NoMemory};
 
 use crate::sink::{Sink, WriteFault};
-use crate::source::{ReadFault, Source};
+use crate::source::{PIECE_BYTES, ReadFault, Source};
 use std::alloc::{AllocError, Global};
 use thiserror::Error;
-
-/// How many bytes are asked for at a time.
-const PIECE: usize = 65_536;
 
 /// Why the bytes of a source were not read to their end.
 #[derive(Clone, Copy, Debug, PartialEq, Eq, Error)]
 pub enum ReadAllFault {
-    /// A read failed.
+    /// A read failed, and the source's count of faults rose.
     #[error("a read failed")]
     Read,
     /// The source holds more bytes than were allowed.
@@ -37,7 +34,8 @@ impl From<AllocError> for ReadAllFault {
     }
 }
 
-/// All bytes of the source to its end, which are at most `most`.
+/// Reads all bytes of the source to its end. `TooLong` where they are more than `most`, `Read` where a read failed,
+/// `NoMemory` where there is no memory for them.
 pub fn read_all<S: Source>(
     alloc: Global,
     source: &mut S,
@@ -52,7 +50,7 @@ pub fn read_all<S: Source>(
     ensures read_rose { IsErrOf result ReadAllFault.Read → Rose (S.faults source.old) (S.faults source.new) }
     ensures never_fell { NeverFell (S.faults source.old) (S.faults source.new) }
 {
-    let mut piece = vec![in alloc; 0u8; PIECE]?;
+    let mut piece = vec![in alloc; 0u8; PIECE_BYTES]?;
     read_in_pieces(alloc, source, most, &mut piece)
 }
 
@@ -98,7 +96,7 @@ fn append(bytes: &mut Vec<u8>, piece: &[u8], most: usize) -> Result<(), ReadAllF
     Ok(())
 }
 
-/// Writes all of the bytes.
+/// Writes all of the bytes. After a fault a front of them was taken, and not all.
 pub fn write_all<K: Sink>(sink: &mut K, bytes: &[u8]) -> Result<(), WriteFault>
     ensures all { OnOk result (K.contents sink.new ≡ append_known (K.contents sink.old) bytes.now) }
     ensures part { OnErr result (TookPart (K.contents sink.old) (K.contents sink.new) bytes.now) }

@@ -2,7 +2,7 @@
 use Rattle.std.specs.Prelude.{◌==◌, ℕ, Bool, true, false, not, ◌&&◌, List, [], ◌∷◌, length, Option, Some, None, Result, Ok, nat_le, nat_lt, if◌then◌else◌, codes, map}
 use Rattle.std.specs.List.{slice_split, list_any}
 use Rattle.lego_io.specs.Lines.{lines_of}
-use Rattle.of_match.specs.Key.{place}
+use Rattle.of_match.specs.Key.{key_number}
 use Rattle.of_wire.specs.declared.bodies.FlowMod.{FlowMod}
 use Rattle.flow_table.specs.Change.{key_in}
 use Rattle.lego_model.specs.declared.turn.Addition.{Addition}
@@ -92,7 +92,7 @@ abbrev pub flows_of : List Addition → List FlowMod
 flows_of additions = map (λ a. a.flow) additions
 
 abbrev pub has_key_of : FlowMod → List FlowMod → Bool
-has_key_of flow others = list_any (λ other. place (key_in other) == place (key_in flow)) others
+has_key_of flow others = list_any (λ other. key_number (key_in other) == key_number (key_in flow)) others
 
 abbrev pub are_distinct : List FlowMod → Bool
 are_distinct [] = true

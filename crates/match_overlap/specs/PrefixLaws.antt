@@ -8,6 +8,7 @@ use Rattle.std.specs.Prelude.{IfSome}
 use Rattle.of_match.specs.Fields.{IsPrefix}
 use Rattle.of_match.specs.Covers.{AgreesOnPrefix}
 use Rattle.match_overlap.specs.Fieldwise.{first_bits, prefix_subsumes, prefix_overlaps, prefix_meet}
+use Rattle.of_match.specs.FieldsLaws.{clear_is}
 
 -- addresses that agree on a prefix agree on a shorter one
 pub shorter : (m n x y : ℕ) → m ≤ n → first_bits n x ≡ first_bits n y → first_bits m x ≡ first_bits m y
@@ -26,9 +27,6 @@ high_address (Some p) = p.0 + (2 ^ (32 - p.1) - 1)
 
 positive : (k : ℕ) → 0 < 2 ^ k
 positive k = pow_mono {i = 0} {j = k} (omega arith)
-
-clear_is : (p : ℕ × ℕ) → IsPrefix p → p.0 / 2 ^ (32 - p.1) * 2 ^ (32 - p.1) ≡ p.0
-clear_is p is = omega (arith, shr_split p.0 (32 - p.1), is.clear)
 
 pub low_address-taken : (o : Option (ℕ × ℕ)) → AgreesOnPrefix o (low_address o)
 low_address-taken None = tt

@@ -7,7 +7,7 @@ use crate::fieldwise::subsumes_fields;
 use crate::overlapping::{meet_fields, overlaps_fields};
 use of_match::Match;
 
-/// Whether `a` covers each packet that `b` covers.
+/// Tells whether `a` covers each packet that `b` covers.
 #[tactic(auto, unfolding(crate::specs::Relations::is_subsuming))]
 pub fn subsumes(a: &Match, b: &Match) -> bool
     ensures subsumes { IsTrue result ↔ Subsumes a.now b.now }
@@ -16,7 +16,7 @@ pub fn subsumes(a: &Match, b: &Match) -> bool
     subsumes_fields(a.fields(), b.fields())
 }
 
-/// Whether some packet is covered by both (OpenFlow 1.0.0, 4.6, the check for overlapping entries).
+/// Tells whether some packet is covered by both (OpenFlow 1.0.0, 4.6, the check for overlapping entries).
 #[tactic(auto, unfolding(crate::specs::Relations::is_overlapping))]
 pub fn overlaps(a: &Match, b: &Match) -> bool
     ensures overlaps { IsTrue result ↔ Overlaps a.now b.now }
@@ -36,7 +36,7 @@ fn meeting(a: &Match, b: &Match) -> Option<Match>
     }
 }
 
-/// The match of the packets that both cover; `None` exactly where no packet is.
+/// Finds the match of the packets that both cover; `None` exactly where no packet is.
 pub fn meet(a: &Match, b: &Match) -> Option<Match>
     ensures some { IsSome result ↔ Overlaps a.now b.now }
     ensures covers { IfSome result (IsMeet a.now b.now) }

@@ -1,13 +1,15 @@
 //! A list of actions.
 
 ghost use Rattle.std.specs.Prelude.{◌≡◌, ◌↔◌, ℕ, [], length, IfOk, IsTrue, Contains};
+ghost use Rattle.std.specs.Slice.Iter.{iter_rest};
 
 use crate::action::Action;
 use std::alloc::Global;
 use std::cmp::{Eq, PartialEq};
 use std::marker::Model;
+use std::slice;
 
-/// Actions in the order in which they are done. Contracts see a list.
+/// Actions in the order in which they are done. Contracts see the list of them.
 #[derive(Drop, Debug, Clone)]
 pub struct ActionList {
     actions: Vec<Action>,
@@ -23,7 +25,7 @@ impl Model for ActionList {
 }
 
 impl ActionList {
-    /// No actions; takes no memory.
+    /// Makes an empty list; takes no memory.
     pub fn new(alloc: Global) -> ActionList
         ensures { result ≡ [] }
     {
@@ -32,35 +34,42 @@ impl ActionList {
         }
     }
 
-    /// The actions of a vector, which becomes the list; takes no memory.
+    /// Makes a vector into the list of its actions; takes no memory.
     pub fn from_vec(actions: Vec<Action>) -> ActionList
         ensures { result ≡ actions.items }
     {
         ActionList { actions }
     }
 
-    /// The vector back; takes no memory.
+    /// Gives the vector back; takes no memory.
     pub fn into_vec(self) -> Vec<Action>
         ensures { result.items ≡ self }
     {
         self.actions
     }
 
-    /// The actions.
+    /// Lends the actions as a slice.
     pub fn as_slice(&self) -> &[Action]
         ensures { result.now ≡ self.now }
     {
         self.actions.as_slice()
     }
 
-    /// How many actions there are.
+    /// Goes over the actions, from the first to the last.
+    pub fn iter(&self) -> slice::Iter<'_, Action>
+        ensures { iter_rest result ≡ self.now }
+    {
+        self.actions.iter()
+    }
+
+    /// Counts the actions.
     pub fn len(&self) -> usize
         ensures { result ≡ length self.now }
     {
         self.actions.len()
     }
 
-    /// There are no actions.
+    /// Tells whether there are no actions.
     pub fn is_empty(&self) -> bool
         ensures { IsTrue result ↔ (self.now ≡ []) }
     {
@@ -89,7 +98,7 @@ impl Eq for ActionList {
     ghost laws = { lists_equiv laws-law };
 }
 
-/// Some OUTPUT of the list goes to the port. An ENQUEUE is none.
+/// Tells whether some OUTPUT of the list goes to the port. An ENQUEUE is none. Takes no memory.
 pub fn outputs_to(list: &ActionList, port: u16) -> bool
     ensures { IsTrue result ↔ ((max_len : ℕ) × Contains list.now (Action.Output port max_len)) }
 {

@@ -6,8 +6,8 @@ use of_types::ByteList;
 use std::cmp::{Eq, PartialEq};
 use std::marker::Model;
 
-/// The bytes after the four-byte head of a vendor's action, its vendor number first (OpenFlow 1.0.0,
-/// 5.2.4 Flow Action Structures). Contracts see a list of bytes.
+/// The bytes after the four-byte head of a vendor's action, its vendor number of four bytes first (OpenFlow
+/// 1.0.0, 5.2.4 Flow Action Structures). Contracts see the list of their values.
 #[derive(Drop, Debug, Clone)]
 pub struct Opaque {
     body: ByteList,
@@ -22,21 +22,21 @@ impl Model for Opaque {
 }
 
 impl Opaque {
-    /// An action's bytes after its head; takes no memory.
+    /// Takes an action's bytes after its head; takes no memory.
     pub fn from_list(body: ByteList) -> Opaque
         ensures { result ≡ body }
     {
         Opaque { body }
     }
 
-    /// The bytes back; takes no memory.
+    /// Gives the bytes back; takes no memory.
     pub fn into_list(self) -> ByteList
         ensures { result ≡ self }
     {
         self.body
     }
 
-    /// The bytes.
+    /// Lends the bytes as a slice.
     pub fn as_slice(&self) -> &[u8]
         ensures { result.now ≡ self.now }
     {

@@ -74,7 +74,7 @@ fn value_of(alloc: Global, kind: u16, bytes: &[u8]) -> Result<Action, AllocError
     })
 }
 
-/// The action at `place`, and its length.
+/// The action at offset `place`, and its length.
 #[tactic(auto, unfolding(crate::specs::Reading::action_at))]
 fn next_action(alloc: Global, bytes: &[u8], place: usize) -> Result<(Action, usize), ActionFault>
     requires { place ≤ length bytes.now }
@@ -104,8 +104,8 @@ fn list_of(alloc: Global, bytes: &[u8]) -> Result<ActionList, ActionFault>
     Ok(ActionList::from_vec(actions))
 }
 
-/// The actions that the bytes spell, all of the bytes. `Bad` has the place at which the first action that
-/// is at fault begins, and what is wrong with it.
+/// Reads the actions that the bytes spell, all of the bytes. `Bad` has the offset at which the first action that
+/// is at fault begins, and what is wrong with it; `NoMemory` where there is no memory for the list.
 pub fn decode_list(alloc: Global, bytes: &[u8]) -> Result<ActionList, ActionFault>
     // The value or the first fault, unless memory runs out.
     ensures exact { Gives (λ list. list) result (actions_of bytes.now) }
@@ -132,7 +132,7 @@ pub fn check_list(bytes: &[u8]) -> Result<(), ActionFault>
     Ok(())
 }
 
-/// The laws of lists: what is written is spelled so and is read again, bytes spell one list at most, and
+/// States the laws of lists: what is written is spelled so and is read again, bytes spell one list at most, and
 /// what was read is written as it was but in pads.
 pub fn laws_of_lists()
     ensures written { (list : List Action) → AreActions list → Spell list (list_bytes list) }

@@ -124,7 +124,7 @@ fn size_of_action(action: &Action) -> usize
     }
 }
 
-/// How many bytes the list takes, or the type's greatest value above it. Takes no memory.
+/// Counts the bytes that the list takes; the type's greatest value where they are more. Takes no memory.
 pub fn size(list: &ActionList) -> usize
     ensures { result ≡ min (list_size list.now) (2 ^ 64 - 1) }
 {

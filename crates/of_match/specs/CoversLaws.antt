@@ -5,10 +5,8 @@ use Rattle.std.proofs.lemmas.Bool.Decides.{Decides-eqb}
 use Rattle.std.proofs.lemmas.Slice.Eq.{bytes_eq-Decides}
 use Rattle.std.specs.Bool.{Decides}
 use Rattle.of_match.specs.declared.fields.Fields.{Fields}
-use Rattle.of_match.specs.declared.flow_match.Match.{Match}
 use Rattle.of_match.specs.declared.packet_key.PacketKey.{PacketKey}
-use Rattle.of_match.specs.Match.{fields_in}
-use Rattle.of_match.specs.Covers.{Agrees, AgreesOnPrefix, LinkCovers, FrameCovers, NetworkCovers, FieldsCover, Covers, agrees, address_agrees, agrees_on_prefix, link_agrees, frame_agrees, network_agrees, fields_agree, is_covering}
+use Rattle.of_match.specs.Covers.{Agrees, AgreesOnPrefix, LinkCovers, FrameCovers, NetworkCovers, FieldsCover, agrees, address_agrees, agrees_on_prefix, link_agrees, frame_agrees, network_agrees, fields_agree}
 
 agrees-Decides : (o : Option ℕ) (x : ℕ) → Decides (agrees o x) (Agrees o x)
 agrees-Decides None x = (λ _. tt, λ _. refl)
@@ -67,6 +65,3 @@ unfolding fields_agree
 fields_agree-Decides f k =
     let d = three-Decides _ _ _ (link-Decides f k) (frame-Decides f k) (network-Decides f k) in
     (λ e. let t = d.0 e in record { link = t.p; frame = t.q; network = t.r }, λ c. d.1 (record { p = c.link; q = c.frame; r = c.network }))
-
-pub is_covering-Decides : (m : Match) (k : PacketKey) → Decides (is_covering m k) (Covers m k)
-is_covering-Decides m k = fields_agree-Decides (fields_in m) k

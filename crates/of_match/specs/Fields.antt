@@ -19,11 +19,11 @@ word_in bytes at = 65536 * half_in bytes at + half_in bytes (at + 2)
 abbrev pub address_in : List ℕ → ℕ → List ℕ
 address_in bytes at = byte_in bytes at ∷ byte_in bytes (at + 1) ∷ byte_in bytes (at + 2) ∷ byte_in bytes (at + 3) ∷ byte_in bytes (at + 4) ∷ byte_in bytes (at + 5) ∷ []
 
--- Bit `place` of the wildcards set: the field is any.
+-- Bit `bit` of the wildcards set: the field is any.
 abbrev pub field : {A : Type 0} → ℕ → ℕ → A → Option A
-field wildcards place value = if wildcards / 2 ^ place % 2 == 1 then None else Some value
+field wildcards bit value = if wildcards / 2 ^ bit % 2 == 1 then None else Some value
 
--- Six bits of the wildcards, from `place` on, count the low bits of an address that are ignored: 32 or more are the whole of it.
+-- Six bits of the wildcards count the low bits of an address that are ignored: 32 or more are the whole of it.
 abbrev pub prefix : ℕ → ℕ → Option (ℕ × ℕ)
 prefix ignored address = if nat_le 32 ignored then None else Some (address / 2 ^ ignored * 2 ^ ignored, 32 - ignored)
 

@@ -93,7 +93,7 @@ address_kept : (o : Option (List ℕ)) → IfSome o IsAddress → IfSome o (λ y
 address_kept None h = tt
 address_kept (Some a) h = address_again a h
 
-clear_is : (p : ℕ × ℕ) → IsPrefix p → p.0 / 2 ^ (32 - p.1) * 2 ^ (32 - p.1) ≡ p.0
+pub clear_is : (p : ℕ × ℕ) → IsPrefix p → p.0 / 2 ^ (32 - p.1) * 2 ^ (32 - p.1) ≡ p.0
 clear_is p is = omega (arith, shr_split p.0 (32 - p.1), is.clear)
 
 prefix_again : (o : Option (ℕ × ℕ)) (i x : ℕ) → i ≡ ignored_bits o → IfSome o (λ p. x ≡ p.0) → IfSome o IsPrefix → prefix i x ≡ o
@@ -249,14 +249,6 @@ fields_of-bytes_of_any f w h = ap fields_of (sym (bytes_of-normal_fields f)) ∙
 
 pub bytes_of-normal : (f : Fields) → IsWithin f → HasPrefixes f → bytes_of (fields_of (bytes_of f)) ≡ bytes_of f
 bytes_of-normal f w h = ap bytes_of (fields_of-bytes_of_any f w h) ∙ bytes_of-normal_fields f
-
-cleared-clear : (o : Option (ℕ × ℕ)) → IfSome o IsPrefix → option_map cleared o ≡ o
-cleared-clear None h = refl
-cleared-clear (Some p) h = rw (clear_is p h) refl
-
--- fields of a match are their own normal form
-pub normal_fields-is : (f : Fields) → IsFields f → normal_fields f ≡ f
-normal_fields-is f is = λ i. record f { nw_src = cleared-clear f.nw_src is.nw_src i; nw_dst = cleared-clear f.nw_dst is.nw_dst i }
 
 pub value_within : (o : Option ℕ) (limit n : ℕ) → n ≡ unwrap_or o 0 → n < limit → IfSome o (λ m. m < limit)
 value_within None limit n e lt = tt

@@ -14,9 +14,9 @@ unfoldable pub number : List ℕ → ℕ
 number [] = 0
 number (b ∷ bytes) = b * 256 ^ length bytes + number bytes
 
--- The place of a key in the order of a table: keys ascend as these numbers do.
-unfoldable pub place : Key → ℕ
-place k = (65535 - k.priority) * 256 ^ 40 + number k.matching.bytes
+-- The number of a key in the order of a table: keys ascend as these numbers do.
+unfoldable pub key_number : Key → ℕ
+key_number k = (65535 - k.priority) * 256 ^ 40 + number k.matching.bytes
 
 -- what each key of the program is
 pub record IsKey (k : Key) : Type 0 where

@@ -1,21 +1,18 @@
--- Keys ascend as their places do, and keys with the same place are one key.
-use Rattle.std.proofs.Common.{◌≡◌, ◌==◌, ◌&&◌, ℕ, suc, ◌+◌, ◌-◌, ◌*◌, ◌^◌, ◌<◌, ◌≤◌, List, [], ◌∷◌, length, refl, sym, ap, subst, ◌∙◌, arith, inl, inr}
+-- Keys ascend as their numbers do, and keys with the same number are one key.
+use Rattle.std.proofs.Common.{◌≡◌, ℕ, suc, ◌+◌, ◌-◌, ◌*◌, ◌^◌, ◌<◌, ◌≤◌, List, [], ◌∷◌, length, refl, sym, ap, subst, ◌∙◌, arith, inl, inr}
 use Rattle.std.proofs.lemmas.Bool.{cases_lt}
 use Rattle.std.proofs.lemmas.Map.Lookups.{exact_bytes, exact_unsigned}
 use Rattle.std.proofs.Math.Nat.{mul-le-mul_right, pow-suc}
 use Rattle.std.specs.Ordering.{nat_cmp, ordering_then}
 use Rattle.std.specs.Cmp.{nat_cmp_is}
-use Rattle.std.specs.Cmp.Lexicographic.{slice_cmp, pointwise}
-use Rattle.std.specs.Bool.{Decides}
-use Rattle.std.specs.Prelude.{nat_eq}
-use Rattle.std.proofs.lemmas.Bool.Decides.{Decides-like, Decides-and, Decides-eqb}
+use Rattle.std.specs.Cmp.Lexicographic.{slice_cmp}
 use Rattle.std.specs.declared.cmp.Ordering.{Ordering}
 use Rattle.std.specs.declared.cmp.Ordering.TheVariants.{Less, Equal, Greater}
 use Rattle.of_match.specs.declared.flow_match.Match.{Match}
 use Rattle.of_match.specs.declared.key.Key.{Key}
 use Rattle.of_match.specs.FieldsLaws.{AreBytes}
-use Rattle.of_match.specs.MatchLaws.{bytes-injective, match_eq-Decides, match-length, match-AreBytes}
-use Rattle.of_match.specs.Key.{key_cmp, number, place, IsKey}
+use Rattle.of_match.specs.MatchLaws.{bytes-injective, match-length, match-AreBytes}
+use Rattle.of_match.specs.Key.{key_cmp, number, key_number, IsKey}
 
 -- ---- The order of numbers in a base.
 
@@ -85,9 +82,9 @@ priority-cmp p q hp hq =
       ]
     ]
 
-pub place-cmp : (a b : Key) → IsKey a → IsKey b → nat_cmp (place a) (place b) ≡ key_cmp a b
-unfolding place
-place-cmp a b ha hb =
+pub key_number-cmp : (a b : Key) → IsKey a → IsKey b → nat_cmp (key_number a) (key_number b) ≡ key_cmp a b
+unfolding key_number
+key_number-cmp a b ha hb =
     digits-cmp (65535 - a.priority) (65535 - b.priority) (number a.matching.bytes) (number b.matching.bytes) (256 ^ 40) (match-number-lt a.matching) (match-number-lt b.matching)
     ∙ ap (λ o. ordering_then o (nat_cmp (number a.matching.bytes) (number b.matching.bytes))) (priority-cmp a.priority b.priority ha.priority hb.priority)
     ∙ ap (ordering_then (nat_cmp b.priority a.priority)) (number-cmp a.matching.bytes b.matching.bytes (match-length a.matching ∙ sym (match-length b.matching)) (match-AreBytes a.matching) (match-AreBytes b.matching))
@@ -110,14 +107,5 @@ key_cmp-equal a b e =
     let matching : a.matching ≡ b.matching = bytes-injective a.matching b.matching bytes in
     λ i. record { priority = sym priority i; matching = matching i }
 
-pub place-injective : (a b : Key) → IsKey a → IsKey b → place a ≡ place b → a ≡ b
-place-injective a b ha hb e = key_cmp-equal a b (sym (place-cmp a b ha hb) ∙ same-equal (place a) (place b) e)
-
-key_eq-parts : (a b : Key) → (a.priority ≡ b.priority) × (a.matching ≡ b.matching) → a ≡ b
-key_eq-parts a b e = λ i. record { priority = e.0 i; matching = e.1 i }
-
--- what `==` of keys answers
-pub key_eq-Decides : (a b : Key) → Decides (a.priority == b.priority && pointwise nat_eq a.matching.bytes b.matching.bytes) (a ≡ b)
-key_eq-Decides a b =
-    Decides-like (a.priority == b.priority && pointwise nat_eq a.matching.bytes b.matching.bytes) (key_eq-parts a b) (λ e. (ap (λ (k : Key). k.priority) e, ap (λ (k : Key). k.matching) e))
-    (Decides-and (a.priority == b.priority) (pointwise nat_eq a.matching.bytes b.matching.bytes) (Decides-eqb a.priority b.priority) (match_eq-Decides a.matching b.matching))
+pub key_number-injective : (a b : Key) → IsKey a → IsKey b → key_number a ≡ key_number b → a ≡ b
+key_number-injective a b ha hb e = key_cmp-equal a b (sym (key_number-cmp a b ha hb) ∙ same-equal (key_number a) (key_number b) e)

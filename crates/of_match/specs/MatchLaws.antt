@@ -1,15 +1,11 @@
 -- Matches with the same bytes, or the same fields, are one match; what is decoded of a match's bytes is that match.
 use Rattle.std.proofs.Common.{◌≡◌, ℕ, List, length, subst, sym, ap, ◌∙◌}
 use Rattle.std.proofs.Props.{props}
-use Rattle.std.proofs.lemmas.Bool.Decides.{Decides-like}
-use Rattle.std.specs.Prelude.{nat_eq}
-use Rattle.std.specs.Bool.{Decides}
-use Rattle.std.specs.Cmp.Lexicographic.{pointwise, bytes_decides}
 use mathlib.Core.HLevel.{is_prop→PathP}
 use Rattle.of_match.specs.declared.fields.Fields.{Fields}
 use Rattle.of_match.specs.declared.flow_match.Match.{Match}
-use Rattle.of_match.specs.Fields.{fields_of, bytes_of, normal_fields, IsNormal, IsFields, IsWithin, HasPrefixes}
-use Rattle.of_match.specs.FieldsLaws.{fields_of-bytes_of, fields_of-bytes_of_any, fields_within, AreBytes, bytes_of-length, bytes_of-AreBytes}
+use Rattle.of_match.specs.Fields.{fields_of, bytes_of, IsNormal, IsFields}
+use Rattle.of_match.specs.FieldsLaws.{fields_of-bytes_of, fields_within, AreBytes, bytes_of-length, bytes_of-AreBytes}
 use Rattle.of_match.specs.Match.{match_of, fields_in}
 
 IsNormal-prop : (bytes : List ℕ) → IsProp (IsNormal bytes)
@@ -47,14 +43,6 @@ match_of-same a b e = fields_in-injective (match_of a) (match_of b) (fields_in-m
 -- decoding what was encoded
 pub match_of-bytes_of : (m : Match) → match_of (bytes_of (fields_in m)) ≡ m
 match_of-bytes_of m = fields_in-injective (match_of (bytes_of (fields_in m))) m (fields_in-match_of-bytes_of (fields_in m) (fields_in-within m))
-
--- the fields of the match that is made of any fields that a program may name
-pub fields_in-match_of-normal : (f : Fields) → IsWithin f → HasPrefixes f → fields_in (match_of (bytes_of f)) ≡ normal_fields f
-fields_in-match_of-normal f w h = fields_in-match_of (bytes_of f) ∙ fields_of-bytes_of_any f w h
-
--- what `==` of matches answers
-pub match_eq-Decides : (m n : Match) → Decides (pointwise nat_eq m.bytes n.bytes) (m ≡ n)
-match_eq-Decides m n = Decides-like (pointwise nat_eq m.bytes n.bytes) (bytes-injective m n) (ap (λ (o : Match). o.bytes)) (bytes_decides m.bytes n.bytes)
 
 -- what a match keeps are 40 bytes
 pub match-length : (m : Match) → length m.bytes ≡ 40

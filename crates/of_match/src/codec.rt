@@ -5,7 +5,7 @@ ghost use Rattle.of_match.specs.Fields.{byte_in, half_in, word_in, address_in, a
 
 use crate::fields::Fields;
 
-/// The bits of the wildcards (OpenFlow 1.0.0, 5.2.3, `ofp_flow_wildcards`).
+/// The bits of the wildcards, each by its number (OpenFlow 1.0.0, 5.2.3, `ofp_flow_wildcards`).
 const IN_PORT: u32 = 0;
 
 const DL_VLAN: u32 = 1;
@@ -107,7 +107,7 @@ fn prefix_field(bytes: &[u8; 40], wildcards: u32, first_bit: u32, at: usize) -> 
     requires within { at < 37 }
     ensures { result ≡ prefix (wildcards / 2 ^ first_bit % 64) (word_in bytes.now at) }
 {
-    let ignored = (wildcards >> first_bit) % 64;
+    let ignored = (wildcards >> first_bit) & 0x3f;
     if ignored >= 32 {
         return None;
     }

@@ -79,7 +79,8 @@ fn fields_cover(f: Fields, k: PacketKey) -> bool
     link_covers(f, k) && frame_covers(f, k) && network_covers(f, k)
 }
 
-/// Whether a packet with these fields is covered by the match (OpenFlow 1.0.0, 3.4 Matching).
+/// Tells whether the match covers a packet with these fields: each field that is not any agrees (OpenFlow 1.0.0,
+/// 3.4 Matching).
 pub fn covers(m: &Match, k: &PacketKey) -> bool
     ensures covers { IsTrue result ↔ Covers m.now k.now }
     ensures value { result ≡ is_covering m.now k.now }

@@ -19,7 +19,7 @@ impl Match {
     ghost use Rattle.of_match.specs.Fields.{bytes_of, IsFields, HasPrefixes, normal_fields, any_fields, is_exact};
     ghost use Rattle.of_match.specs.Match.{match_of, fields_in};
 
-    /// The match with the given fields, whose prefixes are 1 to 32 bits long.
+    /// Makes the match with the given fields, whose prefixes are 1 to 32 bits long.
     ///
     /// The bits of an address that its prefix ignores are cleared.
     #[tactic(auto, unfolding(crate::specs::Match::match_of))]
@@ -33,7 +33,7 @@ impl Match {
         }
     }
 
-    /// The match of every packet: each field is any.
+    /// Makes the match of every packet: each field is any.
     pub fn any() -> Match
         ensures fields { fields_in result ≡ any_fields }
         ensures value { result ≡ match_of (bytes_of any_fields) }
@@ -41,7 +41,7 @@ impl Match {
         Match::new(&Fields::ANY)
     }
 
-    /// The match that 40 bytes of the wire stand for; any bytes do.
+    /// Reads the match that 40 bytes of the wire stand for; any bytes do.
     ///
     /// Ignored bits, pads and the wildcard bits above 21 count for nothing.
     #[tactic(auto, unfolding(crate::specs::Match::match_of))]
@@ -53,7 +53,7 @@ impl Match {
         }
     }
 
-    /// The 40 bytes of the normal form.
+    /// Writes the 40 bytes of the normal form.
     #[tactic(auto, unfolding(crate::specs::Match::fields_in))]
     pub fn encode(&self) -> [u8; 40]
         ensures normal { result ≡ bytes_of (fields_in self.now) }
@@ -62,7 +62,7 @@ impl Match {
         self.bytes
     }
 
-    /// The twelve fields.
+    /// Reads the twelve fields.
     #[tactic(auto, unfolding(crate::specs::Match::fields_in))]
     pub fn fields(&self) -> Fields
         ensures value { result ≡ fields_in self.now }
@@ -71,7 +71,7 @@ impl Match {
         read_fields(&self.bytes)
     }
 
-    /// Whether no bit of the wildcards is set (OpenFlow 1.0.0, 3.4): no field is any, and the prefixes
+    /// Tells whether no bit of the wildcards is set (OpenFlow 1.0.0, 3.4): no field is any, and the prefixes
     /// are whole addresses.
     pub fn is_exact(&self) -> bool
         ensures { result ≡ is_exact (fields_in self.now) }

@@ -8,7 +8,7 @@ ghost use Rattle.of_match.specs.declared.key.Key.{Key};
 ghost use Rattle.of_match.specs.declared.packet_key.PacketKey.{PacketKey};
 ghost use Rattle.of_match.specs.Fields.{fields_of, bytes_of, IsFields};
 ghost use Rattle.of_match.specs.Match.{match_of, fields_in};
-ghost use Rattle.of_match.specs.Key.{key_cmp, place, IsKey};
+ghost use Rattle.of_match.specs.Key.{key_cmp, key_number, IsKey};
 ghost use Rattle.of_match.specs.Covers.{Covers, is_covering};
 
 /// Decoding what a match was encoded as gives that match again.
@@ -28,8 +28,8 @@ pub fn one_normal_form()
     ensures fields { (m n : Match) → fields_in m ≡ fields_in n → m ≡ n }
 {}
 
-/// Keys ascend as their places do, and no two keys share a place.
-pub fn places_of_keys()
-    ensures order { (a b : Key) → IsKey a → IsKey b → nat_cmp (place a) (place b) ≡ key_cmp a b }
-    ensures one { (a b : Key) → IsKey a → IsKey b → place a ≡ place b → a ≡ b }
+/// Keys ascend as their numbers do, and no two keys share a number.
+pub fn numbers_of_keys()
+    ensures order { (a b : Key) → IsKey a → IsKey b → nat_cmp (key_number a) (key_number b) ≡ key_cmp a b }
+    ensures one { (a b : Key) → IsKey a → IsKey b → key_number a ≡ key_number b → a ≡ b }
 {}

@@ -15,6 +15,6 @@ pub use covering::covers;
 pub use fields::Fields;
 pub use flow_match::Match;
 pub use key::Key;
-pub use laws::{decode_after_encode, fields_of_matches, one_normal_form, places_of_keys};
+pub use laws::{decode_after_encode, fields_of_matches, numbers_of_keys, one_normal_form};
 pub use packet_key::PacketKey;
 pub use printing::text;

@@ -64,8 +64,9 @@ fn put_frame_type(out: &mut String, value: u16) -> Result<(), AllocError>
     ensures { OnOk result (string_bytes out.new ≡ string_bytes out.old ++ type_text value) }
 {
     out.push_str("0x")?;
-    put_pair(out, (value / 256) as u8)?;
-    put_pair(out, (value % 256) as u8)
+    let [high, low] = value.to_be_bytes();
+    put_pair(out, high)?;
+    put_pair(out, low)
 }
 
 fn put_type(out: &mut String, name: &str, value: Option<u16>) -> Result<(), AllocError>
@@ -204,7 +205,8 @@ fn put_any(out: &mut String) -> Result<(), AllocError>
     }
 }
 
-/// The text of a match: `any`, or its fields that are not any, as `in_port=1,nw_src=10.0.0.0/24`.
+/// Writes a match as text: `any`, or its fields that are not any, as `in_port=1,nw_src=10.0.0.0/24`. `AllocError`
+/// where there is no memory for it.
 pub fn text(alloc: Global, m: &Match) -> Result<String, AllocError>
     ensures { IfOk result (λ s. string_bytes s ≡ match_text (fields_in m.now)) }
 {

@@ -21,12 +21,9 @@ use Rattle.of_stats.specs.declared.fault.StatsFault.{StatsFault}
 use Rattle.of_stats.specs.Flows.{row_size, front_fields, count_fields, row_bytes, rows_bytes, IsRow, AreRows, SpellRow, SpellRows}
 use Rattle.of_stats.specs.Reading.{Gives, row_length_at, row_with, row_of, row_at, rows_from, rows_of}
 use Rattle.of_stats.specs.ReadingLaws.{IsRowLength, IsRowLength-row_length_at, IsReadRow, IsReadRow-row_at}
+use Rattle.of_match.specs.FieldsLaws.{bytes_of-length}
 
 -- ---- what is written is spelled so
-
-length-bytes_of : (f : Fields) → length (bytes_of f) ≡ 40
-unfolding bytes_of
-length-bytes_of f = refl
 
 -- a row's bytes, from its parts
 record IsMade (row : FlowRow) (bytes : List ℕ) : Type 0 where
@@ -44,7 +41,7 @@ IsMade-row_bytes row is =
     let actions = list_bytes row.actions in
     let front_fit : AreFields (front_fields row) = (is.size, tt) in
     let front_len : length front ≡ 4 = length-spelled (front_fields row) front_fit in
-    let match_len : length matching ≡ 40 = length-bytes_of (fields_in row.key.matching) in
+    let match_len : length matching ≡ 40 = bytes_of-length (fields_in row.key.matching) in
     let counts_len : length counts ≡ 44 = length-spelled (count_fields row) is.fields in
     let actions_len = length-list_bytes row.actions is.actions in
     let regrouped : (front ++ matching) ++ (counts ++ actions) ≡ front ++ (matching ++ (counts ++ actions)) = append_assoc front matching (counts ++ actions) in

@@ -8,12 +8,12 @@ ghost use Rattle.of_stats.specs.Reading.{rows_of};
 ghost use Rattle.of_stats.specs.Parts.{Part, room, IsFull, AreParts, IsInPlace, IsWhole, IsFirstBad, joined};
 
 use crate::fault::StatsFault;
+use of_types::limits::MOST_PART_BYTES;
 use of_types::{ByteList, stats};
 use std::alloc::{AllocError, Global};
 
-/// The bytes of rows that fit a part: the longest message has 65,535, and 12 of them stand in front of
-/// the body.
-const ROOM: usize = 65_523;
+/// How many bytes of rows fit a part.
+const ROOM: usize = MOST_PART_BYTES;
 
 /// How many rows from the front on fit a part.
 fn count_fitting(rows: &[ByteList]) -> usize
@@ -43,7 +43,7 @@ fn concat_rows(alloc: Global, rows: &[ByteList]) -> Result<ByteList, AllocError>
     Ok(ByteList::from_vec(bytes))
 }
 
-/// The part at a place has the first one's type, and says that more follow exactly where they do.
+/// The part of an index has the first one's type, and says that more follow exactly where they do.
 fn is_in_place(parts: &[(u16, u16, ByteList)], place: usize) -> bool
     requires { place < length parts.now }
     ensures { IsTrue result ↔ IsInPlace place parts.now }
@@ -80,9 +80,9 @@ fn concat_bodies(alloc: Global, parts: &[(u16, u16, ByteList)]) -> Result<ByteLi
     Ok(ByteList::from_vec(bytes))
 }
 
-/// The body of a reply that came in these parts: type, flags, body of each.
+/// Joins the parts in which a reply came, each with its type, flags and body, to one body.
 ///
-/// `Bad` has the index of the first part that has not the first one's type, or whose flags do not say that
+/// `NoMemory` where there is no memory for it. `Bad` has the index of the first part that has not the first one's type, or whose flags do not say that
 /// more follow exactly where they do; it is 0 where there is no part.
 pub fn join_replies(alloc: Global, parts: &[(u16, u16, ByteList)]) -> Result<ByteList, StatsFault>
     ensures joined { IfOk result (λ body. IsWhole parts.now × (body ≡ joined parts.now)) }
@@ -94,8 +94,8 @@ pub fn join_replies(alloc: Global, parts: &[(u16, u16, ByteList)]) -> Result<Byt
     }
 }
 
-/// A reply of these rows in parts: type, flags, body of each. There is one part at least; a part has
-/// as many whole rows as fit 65,523 bytes, and each row is to fit.
+/// Splits a reply of these rows into parts, each with its type, flags and body. There is one part at least; a part
+/// has as many whole rows as fit 65,523 bytes, and each row is to fit. `AllocError` where there is no memory for them.
 pub fn split_reply(
     alloc: Global,
     kind: u16,
@@ -118,7 +118,7 @@ pub fn split_reply(
     }
 }
 
-/// Joining what was split gives the rows in order, and rows are split in one way. So rows of flows that were
+/// States that joining what was split gives the rows in order, and that rows are split in one way. So rows of flows that were
 /// written, split and joined are read again.
 pub fn laws_of_parts()
     ensures whole { (kind : ℕ) (rows : List (List ℕ)) (parts : List Part) → AreParts kind rows parts → IsWhole parts }

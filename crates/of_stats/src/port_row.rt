@@ -4,27 +4,40 @@ ghost use Rattle.std.specs.Prelude.{◌≡◌, []};
 ghost use Rattle.of_types.specs.Layout.{spelled, IsLaidOut};
 ghost use Rattle.of_stats.specs.Layouts.{port_fields};
 
-use of_types::{get_u16, get_u64, put_array, put_u16, put_u64};
+use of_types::{PortNo, get_u16, get_u64, put_array, put_u16, put_u64};
 
 /// A port and its counts (OpenFlow 1.0.0, 5.3.5 Read State Messages: Port Statistics).
 #[derive(Clone, Copy, Debug, PartialEq, Eq)]
 pub struct PortRow {
-    pub port_no: u16,
+    /// The port's number.
+    pub port_no: PortNo,
+    /// How many packets came in.
     pub rx_packets: u64,
+    /// How many packets went out.
     pub tx_packets: u64,
+    /// How many bytes came in.
     pub rx_bytes: u64,
+    /// How many bytes went out.
     pub tx_bytes: u64,
+    /// How many packets that came in were dropped.
     pub rx_dropped: u64,
+    /// How many packets that were to go out were dropped.
     pub tx_dropped: u64,
+    /// How many errors there were when packets came in, the three below among them.
     pub rx_errors: u64,
+    /// How many errors there were when packets went out.
     pub tx_errors: u64,
+    /// How many frames were not aligned.
     pub rx_frame_err: u64,
+    /// How many packets came in too fast.
     pub rx_over_err: u64,
+    /// How many checksums were wrong.
     pub rx_crc_err: u64,
+    /// How many collisions there were.
     pub collisions: u64,
 }
 
-/// The row that 104 bytes of a PORT reply spell; any bytes do.
+/// Reads the row that 104 bytes of a PORT reply spell; any bytes do.
 pub fn read_port_row(bytes: &[u8; 104]) -> PortRow
     ensures { IsLaidOut 0 (port_fields result) [] bytes.now }
 {
@@ -45,7 +58,7 @@ pub fn read_port_row(bytes: &[u8; 104]) -> PortRow
     }
 }
 
-/// The row's bytes in a PORT reply.
+/// Writes the row as 104 bytes of a PORT reply; the pad is 0.
 pub fn write_port_row(row: &PortRow) -> [u8; 104]
     ensures { result ≡ spelled (port_fields row.now) }
 {

@@ -52,7 +52,7 @@ fn row_with(bytes: &[u8], actions: ActionList) -> FlowRow
     }
 }
 
-/// The row that a row's bytes spell; the row stands at `place`.
+/// The row that a row's bytes spell; the row stands at offset `place`.
 #[tactic(auto, unfolding(crate::specs::Reading::row_of))]
 fn read_row(alloc: Global, bytes: &[u8], place: usize) -> Result<FlowRow, StatsFault>
     requires { 88 ≤ length bytes.now }
@@ -65,7 +65,7 @@ fn read_row(alloc: Global, bytes: &[u8], place: usize) -> Result<FlowRow, StatsF
     }
 }
 
-/// The row at `place`, and its length.
+/// The row at offset `place`, and its length.
 #[tactic(auto, unfolding(crate::specs::Reading::row_at))]
 fn next_row(alloc: Global, bytes: &[u8], place: usize) -> Result<(FlowRow, usize), StatsFault>
     requires { place ≤ length bytes.now }
@@ -95,8 +95,9 @@ fn list_of(alloc: Global, bytes: &[u8]) -> Result<RowList, StatsFault>
     Ok(RowList::from_vec(rows))
 }
 
-/// The rows that the body of a FLOW reply spells. `Bad` has the byte at which the first row that is at
-/// fault begins: its length is below 88 or above what is left, or its actions are at fault.
+/// Reads the rows that the body of a FLOW reply spells, all of the body. `Bad` has the offset at which the first row
+/// that is at fault begins: its length is below 88 or above what is left, or its actions are at fault. `NoMemory`
+/// where there is no memory for the rows.
 pub fn read_flow_rows(alloc: Global, body: &[u8]) -> Result<RowList, StatsFault>
     // The value or the first fault, unless memory runs out.
     ensures exact { Gives result (rows_of body.now) }

@@ -1,13 +1,15 @@
 //! A list of flow rows.
 
 ghost use Rattle.std.specs.Prelude.{◌≡◌, ◌↔◌, [], length, IsTrue};
+ghost use Rattle.std.specs.Slice.Iter.{iter_rest};
 
 use crate::flow_row::FlowRow;
 use std::alloc::Global;
 use std::cmp::{Eq, PartialEq};
 use std::marker::Model;
+use std::slice;
 
-/// Rows in the order of a reply. Contracts see a list.
+/// Rows in the order of a reply. Contracts see the list of them.
 #[derive(Drop, Debug, Clone)]
 pub struct RowList {
     rows: Vec<FlowRow>,
@@ -23,7 +25,7 @@ impl Model for RowList {
 }
 
 impl RowList {
-    /// No rows; takes no memory.
+    /// Makes an empty list; takes no memory.
     pub fn new(alloc: Global) -> RowList
         ensures { result ≡ [] }
     {
@@ -32,35 +34,42 @@ impl RowList {
         }
     }
 
-    /// The rows of a vector, which becomes the list; takes no memory.
+    /// Makes a vector into the list of its rows; takes no memory.
     pub fn from_vec(rows: Vec<FlowRow>) -> RowList
         ensures { result ≡ rows.items }
     {
         RowList { rows }
     }
 
-    /// The vector back; takes no memory.
+    /// Gives the vector back; takes no memory.
     pub fn into_vec(self) -> Vec<FlowRow>
         ensures { result.items ≡ self }
     {
         self.rows
     }
 
-    /// The rows.
+    /// Lends the rows as a slice.
     pub fn as_slice(&self) -> &[FlowRow]
         ensures { result.now ≡ self.now }
     {
         self.rows.as_slice()
     }
 
-    /// How many rows there are.
+    /// Goes over the rows, from the first to the last.
+    pub fn iter(&self) -> slice::Iter<'_, FlowRow>
+        ensures { iter_rest result ≡ self.now }
+    {
+        self.rows.iter()
+    }
+
+    /// Counts the rows.
     pub fn len(&self) -> usize
         ensures { result ≡ length self.now }
     {
         self.rows.len()
     }
 
-    /// There are no rows.
+    /// Tells whether there are no rows.
     pub fn is_empty(&self) -> bool
         ensures { IsTrue result ↔ (self.now ≡ []) }
     {

@@ -9,13 +9,15 @@ use of_types::{get_u32, get_u64, put_array, put_u32, put_u64};
 /// The counts of many flows (OpenFlow 1.0.0, 5.3.5 Read State Messages: Aggregate Flow Statistics).
 #[derive(Clone, Copy, Debug, PartialEq, Eq)]
 pub struct Sum {
+    /// How many packets the flows counted.
     pub packets: u64,
+    /// How many bytes they counted.
     pub bytes: u64,
     /// How many flows there are.
     pub flows: u32,
 }
 
-/// The sum that the body of an AGGREGATE reply spells; each body of 24 bytes does.
+/// Reads the sum that the body of an AGGREGATE reply spells; any 24 bytes do.
 pub fn read_sum(body: &[u8; 24]) -> Sum
     ensures { IsLaidOut 0 (sum_fields result) [] body.now }
 {
@@ -26,7 +28,7 @@ pub fn read_sum(body: &[u8; 24]) -> Sum
     }
 }
 
-/// The body of an AGGREGATE reply.
+/// Writes the body of an AGGREGATE reply: 24 bytes, the last four of them 0.
 pub fn write_sum(sum: &Sum) -> [u8; 24]
     ensures { result ≡ spelled (sum_fields sum.now) }
 {

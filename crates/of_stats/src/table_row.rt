@@ -9,18 +9,23 @@ use of_types::{get_array, get_u8, get_u32, get_u64, put_array, put_u8, put_u32, 
 /// A table and its counts (OpenFlow 1.0.0, 5.3.5 Read State Messages: Table Statistics).
 #[derive(Clone, Copy, Debug, PartialEq, Eq)]
 pub struct TableRow {
+    /// The table's number.
     pub table_id: u8,
-    /// Padded with zero bytes.
+    /// Its name in ASCII, padded with zero bytes.
     pub name: [u8; 32],
     /// The wildcards that the table supports.
     pub wildcards: u32,
+    /// How many flows it takes.
     pub max_entries: u32,
+    /// How many flows it has.
     pub active_count: u32,
+    /// How many packets were looked up in it.
     pub lookup_count: u64,
+    /// How many packets hit a flow of it.
     pub matched_count: u64,
 }
 
-/// The row that 64 bytes of a TABLE reply spell; any bytes do.
+/// Reads the row that 64 bytes of a TABLE reply spell; any bytes do.
 pub fn read_table_row(bytes: &[u8; 64]) -> TableRow
     ensures { IsLaidOut 0 (table_fields result) [] bytes.now }
 {
@@ -35,7 +40,7 @@ pub fn read_table_row(bytes: &[u8; 64]) -> TableRow
     }
 }
 
-/// The row's bytes in a TABLE reply.
+/// Writes the row as 64 bytes of a TABLE reply; the pad is 0.
 pub fn write_table_row(row: &TableRow) -> [u8; 64]
     ensures { result ≡ spelled (table_fields row.now) }
 {

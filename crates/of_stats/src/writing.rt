@@ -41,7 +41,8 @@ fn put_row(out: &mut [u8], row: &FlowRow)
     put_list_at(out, 88, &row.actions);
 }
 
-/// The bytes of one row, which are at most 65,535.
+/// Writes one row, of at most 65,535 bytes: its 88 bytes, pads 0, and its actions. `AllocError` where there is no
+/// memory for it.
 pub fn write_flow_row(alloc: Global, row: &FlowRow) -> Result<ByteList, AllocError>
     requires { row_size row.now ≤ 65535 }
     ensures { IfOk result (λ bytes. bytes ≡ row_bytes row.now) }
@@ -51,7 +52,8 @@ pub fn write_flow_row(alloc: Global, row: &FlowRow) -> Result<ByteList, AllocErr
     Ok(ByteList::from_vec(bytes))
 }
 
-/// The body of a FLOW reply that has these rows, of at most 65,535 bytes each.
+/// Writes the body of a FLOW reply that has these rows, of at most 65,535 bytes each. `AllocError` where there is no
+/// memory for it.
 pub fn write_flow_rows(alloc: Global, rows: &RowList) -> Result<ByteList, AllocError>
     requires { All (λ row. row_size row ≤ 65535) rows.now }
     ensures { IfOk result (λ bytes. bytes ≡ rows_bytes rows.now) }

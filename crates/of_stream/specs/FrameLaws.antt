@@ -46,9 +46,6 @@ frame_not_over : (frame more : List ℕ) → IsFrame frame → IsPartial (frame 
 frame_not_over frame more is (inl partial) = frame_not_partial frame more is partial
 frame_not_over frame more is (inr broken) = frame_not_broken frame more is broken
 
-pub partial_not_broken : (held : List ℕ) → IsPartial held → IsBroken held → ⊥
-partial_not_broken held partial broken = let bounds = partial broken.said in omega (arith, bounds.0, broken.short)
-
 -- ---- one way to cut
 
 -- two streams that begin with a frame each, and are one

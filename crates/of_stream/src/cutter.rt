@@ -14,7 +14,7 @@ use std::marker::Model;
 const HEADER: usize = 8;
 
 /// The room for bytes that a cutter begins with; it grows as it needs.
-const ROOM: usize = 4096;
+const ROOM: usize = 4_096;
 
 /// What stands next on a stream.
 enum Front {
@@ -60,7 +60,7 @@ impl Model for Cutter {
 }
 
 impl Cutter {
-    /// A cutter at the beginning of a stream: nothing is held.
+    /// Begins a stream: nothing is held. `AllocError` where there is no memory for 4,096 bytes.
     pub fn new(alloc: Global) -> Result<Cutter, AllocError>
         ensures { IfOk result (λ cutter. cutter ≡ []) }
     {
@@ -69,14 +69,15 @@ impl Cutter {
         })
     }
 
-    /// The bytes held.
+    /// Lends the bytes held.
     pub fn held(&self) -> &[u8]
         ensures { result.now ≡ self.now }
     {
         self.buffer.as_slice()
     }
 
-    /// Takes the next bytes of the stream, as many as have come.
+    /// Takes the next bytes of the stream, as many as have come. `AllocError` where there is no room for them; then
+    /// none is taken.
     pub fn feed(&mut self, bytes: &[u8]) -> Result<(), AllocError>
         ensures ok { OnOk result (self.new ≡ self.old ++ bytes.now) }
         ensures err { OnErr result (self.new ≡ self.old) }
@@ -86,7 +87,8 @@ impl Cutter {
         self.buffer.extend_from_slice(bytes)
     }
 
-    /// Hands out the next frame of the stream, once it is whole. `NoMemory` comes only where it is whole.
+    /// Hands out the next frame of the stream, 8 to 65,535 bytes, once it is whole; `None` while it is still to come.
+    /// `BadLength` where a length below 8 stands next, now and later; `NoMemory` comes only where a frame is whole.
     pub fn next(&mut self) -> Result<Option<ByteList>, CutFault>
         ensures frame { IfOk result (λ next. IfSome next (λ frame.
             IsFrame frame × (self.old ≡ frame ++ self.new))) }

@@ -35,7 +35,7 @@ fn take_frames(cutter: &mut Cutter, frames: &mut Vec<ByteList>) -> Result<(), Al
     }
 }
 
-/// The frames of a stream that comes in these pieces.
+/// Cuts a stream that comes in these pieces into its frames. `AllocError` where there is no memory for them.
 pub fn cut_pieces(alloc: Global, pieces: &[ByteList]) -> Result<Cut, AllocError>
     // The stream is these frames and then no further one.
     ensures split { IfOk result (λ cut. Cuts (concat pieces.now) cut.frames.items cut.rest) }
@@ -53,7 +53,7 @@ pub fn cut_pieces(alloc: Global, pieces: &[ByteList]) -> Result<Cut, AllocError>
     Ok(Cut { frames, rest })
 }
 
-/// The laws of streams: whatever calls a cutter has had, the stream so far is the frames that it handed out
+/// States the laws of streams: whatever calls a cutter has had, the stream so far is the frames that it handed out
 /// and then the bytes held; these frames are the first of the whole stream, whatever comes later; and a stream
 /// is cut in one way.
 pub fn laws_of_streams()

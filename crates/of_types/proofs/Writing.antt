@@ -1,4 +1,4 @@
--- A field that is written at a place, through the part of the bytes from that place on.
+-- A field that is written at an offset, through the part of the bytes from that place on.
 use Rattle.std.proofs.Common.{◌≡◌, ℕ, ◌+◌, ◌-◌, ◌≤◌, List, [], ◌++◌, length, take, drop, refl, ap, append_assoc, arith}
 use Rattle.std.proofs.lemmas.List.{append-nil, take_rest, drop-drop, drop_all, length-take, length-drop, length-append, take_at}
 use Rattle.std.proofs.Common.{suc, get_or, set, ◌%◌, ◌<◌, add-zero, ◌∙◌}

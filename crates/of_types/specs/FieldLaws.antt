@@ -1,4 +1,4 @@
--- Laws of numbers at places: a number that was written is read again, and the bytes of one that was read are those that were there.
+-- Laws of numbers at offsets: a number that was written is read again, and the bytes of one that was read are those that were there.
 use Rattle.std.proofs.Common.{◌≡◌, ℕ, zero, suc, ◌+◌, ◌*◌, ◌/◌, ◌^◌, ◌<◌, ◌≤◌, ◌-◌, List, [], ◌∷◌, ◌++◌, length, take, drop, refl, sym, ap, ◌∙◌, arith}
 use Rattle.std.specs.Int.{byte_at, bytes_high_first}
 use Rattle.std.proofs.Common.{inl, inr}
@@ -30,10 +30,6 @@ IsBytes-high_first : (n x : ℕ) → IsBytes (bytes_high_first n x)
 IsBytes-high_first zero x i = omega arith
 IsBytes-high_first (suc n) x zero = byte_at-lt n x
 IsBytes-high_first (suc n) x (suc i) = IsBytes-high_first n x i
-
-pub IsBytes-number_bytes : (n x : ℕ) → IsBytes (number_bytes n x)
-unfolding number_bytes
-IsBytes-number_bytes n x = IsBytes-high_first n x
 
 -- bytes of one length that spell one number are the same
 same_from_number : (n : ℕ) (xs ys : List ℕ) → length xs ≡ n → length ys ≡ n → IsBytes xs → IsBytes ys → big_from 0 n xs ≡ big_from 0 n ys → xs ≡ ys
@@ -70,7 +66,7 @@ number_bytes-number_at n at bytes h within =
     let there : big_from 0 n (piece n at bytes) ≡ v = big_from-take 0 n n (drop at bytes) (omega arith) in
     same_from_number n (bytes_high_first n v) (piece n at bytes) (length-bytes_high_first n v) (omega (arith, length-take n (drop at bytes), length-drop at bytes)) (IsBytes-high_first n v) (IsBytes-piece n at bytes h) (written ∙ sym there)
 
--- a field that is written at a place is read there
+-- a field that is written at an offset is read there
 pub number_at-with_field : (n at x : ℕ) (bytes : List ℕ) → at + n ≤ length bytes → x < 256 ^ n → number_at n at (with_field at (number_bytes n x) bytes) ≡ x
 number_at-with_field n at x bytes within lt =
     number_at-number_bytes n at x (take at bytes) (drop (at + length (number_bytes n x)) bytes) (omega (arith, length-take at bytes)) lt

@@ -31,7 +31,7 @@ AreFields (number n x ∷ fields) = (x < 256 ^ n) × AreFields fields
 AreFields (raw n bytes ∷ fields) = (length bytes ≡ n) × AreFields fields
 AreFields (pad n ∷ fields) = AreFields fields
 
--- What is read: from place at on the bytes hold the fields, whatever stands in pads, and then the rest.
+-- What is read: from offset at on the bytes hold the fields, whatever stands in pads, and then the rest.
 abbrev pub IsLaidOut : ℕ → List Field → List ℕ → List ℕ → Type 0
 IsLaidOut at [] rest bytes = drop at bytes ≡ rest
 IsLaidOut at (number n x ∷ fields) rest bytes = (number_at n at bytes ≡ x) × IsLaidOut (at + n) fields rest bytes
@@ -45,7 +45,7 @@ HasNoPads (number n x ∷ fields) = HasNoPads fields
 HasNoPads (raw n bytes ∷ fields) = HasNoPads fields
 HasNoPads (pad n ∷ fields) = ⊥
 
--- the place i lies in a pad
+-- the offset i lies in a pad
 abbrev pub InPad : ℕ → List Field → ℕ → Type 0
 InPad at [] i = ⊥
 InPad at (number n x ∷ fields) i = InPad (at + n) fields i

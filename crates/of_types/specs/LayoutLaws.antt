@@ -45,7 +45,7 @@ spelled-IsLaidOut at (raw n xs ∷ fields) rest bytes fit within none h =
     ap (λ (ys : List ℕ). ys ++ spelled fields) (sym h.0) ∙ ap (λ (ys : List ℕ). piece n at bytes ++ ys) others ∙ piece-append n (width fields) at bytes
 spelled-IsLaidOut at (pad n ∷ fields) rest bytes fit within none h = absurd none
 
--- a place within a piece, and one behind it
+-- an offset within a piece, and one behind it
 piece_at : (n at i : ℕ) (bytes : List ℕ) → at ≤ i → i < at + n → get_or (piece n at bytes) (i - at) 0 ≡ get_or bytes i 0
 piece_at n at i bytes le lt =
     let there : at + (i - at) ≡ i = omega arith in

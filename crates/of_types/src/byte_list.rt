@@ -1,12 +1,14 @@
 //! A list of bytes.
 
 ghost use Rattle.std.specs.Prelude.{◌≡◌, ◌==◌, ◌↔◌, [], length, IfOk, IsTrue};
+ghost use Rattle.std.specs.Slice.Iter.{iter_rest};
 
 use std::alloc::{AllocError, Global};
 use std::cmp::{Eq, PartialEq};
 use std::marker::Model;
+use std::slice;
 
-/// Bytes that contracts see as a list: they say nothing of capacity and place.
+/// Bytes in order. Contracts see the list of their values, and nothing of capacity or address.
 #[derive(Drop, Debug, Clone)]
 pub struct ByteList {
     bytes: Vec<u8>,
@@ -21,7 +23,7 @@ impl Model for ByteList {
 }
 
 impl ByteList {
-    /// No bytes; takes no memory.
+    /// Makes an empty list; takes no memory.
     pub fn new(alloc: Global) -> ByteList
         ensures { result ≡ [] }
     {
@@ -30,14 +32,14 @@ impl ByteList {
         }
     }
 
-    /// The bytes of a vector, which becomes the list; takes no memory.
+    /// Makes a vector into the list of its bytes; takes no memory.
     pub fn from_vec(bytes: Vec<u8>) -> ByteList
         ensures { result ≡ bytes.items }
     {
         ByteList { bytes }
     }
 
-    /// A copy of the bytes of a slice.
+    /// Copies the bytes of a slice. `AllocError` where there is no memory for them.
     pub fn from_slice(alloc: Global, bytes: &[u8]) -> Result<ByteList, AllocError>
         ensures { IfOk result (λ c. c ≡ bytes.now) }
     {
@@ -46,28 +48,35 @@ impl ByteList {
         })
     }
 
-    /// The vector back; takes no memory.
+    /// Gives the vector back; takes no memory.
     pub fn into_vec(self) -> Vec<u8>
         ensures { result.items ≡ self }
     {
         self.bytes
     }
 
-    /// The bytes.
+    /// Lends the bytes as a slice.
     pub fn as_slice(&self) -> &[u8]
         ensures { result.now ≡ self.now }
     {
         self.bytes.as_slice()
     }
 
-    /// How many bytes there are.
+    /// Goes over the bytes, from the first to the last.
+    pub fn iter(&self) -> slice::Iter<'_, u8>
+        ensures { iter_rest result ≡ self.now }
+    {
+        self.bytes.iter()
+    }
+
+    /// Counts the bytes.
     pub fn len(&self) -> usize
         ensures { result ≡ length self.now }
     {
         self.bytes.len()
     }
 
-    /// There are no bytes.
+    /// Tells whether there are no bytes.
     pub fn is_empty(&self) -> bool
         ensures { IsTrue result ↔ (self.now ≡ []) }
     {

@@ -1,9 +1,14 @@
 //! Errors that switches send, as a kind and a code (OpenFlow 1.0.0, 5.4.4 Error Message).
 
-/// An error's kind, which the standard calls its type, and its code.
-#[derive(Clone, Copy, Debug, PartialEq, Eq, PartialOrd, Ord, Hash)]
+use thiserror::Error;
+
+/// An error that a switch sends (OpenFlow 1.0.0, 5.4.4 Error Message).
+#[derive(Clone, Copy, Debug, PartialEq, Eq, PartialOrd, Ord, Hash, Error)]
+#[error("the switch answered with error {kind}, code {code}")]
 pub struct OfError {
+    /// What was at fault, which the standard calls the error's type: one of the kinds below.
     pub kind: u16,
+    /// What was wrong with it, by kind.
     pub code: u16,
 }
 

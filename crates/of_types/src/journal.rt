@@ -1,6 +1,7 @@
 //! What happens to switches and what passes between the engine and the outside, as plain data.
 
 use crate::byte_list::ByteList;
+use crate::{Dpid, PortNo};
 
 /// What happens to a port.
 #[derive(Clone, Copy, Debug, PartialEq, Eq)]
@@ -18,39 +19,39 @@ pub enum PortChange {
 /// What happens to a switch.
 #[derive(Drop, Debug, Clone, PartialEq, Eq)]
 pub enum Stimulus {
-    /// A frame arrives at a port.
+    /// A frame arrives at a port: its bytes from the Ethernet header on.
     Frame {
-        port: u16,
+        port: PortNo,
         bytes: ByteList,
     },
     /// The moment, in seconds from the start, moves on to this one.
     Advance(u64),
     /// A port changes.
     Port {
-        port: u16,
+        port: PortNo,
         change: PortChange,
     },
-    /// Each flow of the priority counts so many packets and bytes more.
+    /// Each flow of the priority counts so many packets and bytes more, modulo 2^64.
     Counts {
         priority: u16,
         packets: u64,
         bytes: u64,
     },
-    /// The switch sends these bytes.
+    /// The switch sends these bytes, whatever they are.
     Raw(ByteList),
 }
 
-/// What happens to the world; a number is that of a switch, at `At` the moment in seconds.
+/// What happens to the world, with the switch to which it happens.
 #[derive(Drop, Debug, Clone, PartialEq, Eq)]
 pub enum WorldStim {
     /// The switch joins.
-    Join(u64),
+    Join(Dpid),
     /// The switch leaves.
-    Leave(u64),
-    /// The moment of all joined switches is this one.
+    Leave(Dpid),
+    /// The moment of all joined switches is this one, in seconds from the start.
     At(u64),
     /// Something happens to the switch.
-    Of(u64, Stimulus),
+    Of(Dpid, Stimulus),
 }
 
 /// What an application gave.
@@ -64,7 +65,7 @@ pub enum TookWhat {
     Silent,
 }
 
-/// One act of the journal. A `u32` is the application's index, a `u64` the switch's number.
+/// One act of the journal. A `u32` is the application's index, a `Dpid` the switch's number.
 #[derive(Drop, Debug, Clone, PartialEq, Eq)]
 pub enum Act {
     /// A stimulus begins.
@@ -80,7 +81,7 @@ pub enum Act {
     /// The application was ended.
     Ended(u32),
     /// The bytes were sent to the switch.
-    Sent(u64, ByteList),
+    Sent(Dpid, ByteList),
     /// The bytes came from the switch.
-    Got(u64, ByteList),
+    Got(Dpid, ByteList),
 }

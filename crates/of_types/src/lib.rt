@@ -1,5 +1,5 @@
-//! The plain words that every OpenFlow 1.0 crate shares: constants, errors, ports, numbers at places
-//! in bytes, and lists of bytes. It also holds the acts and stimuli that a journal is made of.
+//! The plain words that every OpenFlow 1.0 crate shares: constants, limits, errors, ports, numbers at
+//! offsets in bytes, and lists of bytes. It also holds the acts and stimuli that a journal is made of.
 #![tactic(auto)]
 
 pub mod actions;
@@ -9,6 +9,7 @@ mod fields;
 pub mod flows;
 mod journal;
 pub mod kinds;
+pub mod limits;
 mod port_desc;
 pub mod ports;
 pub mod stats;

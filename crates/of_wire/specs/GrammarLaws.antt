@@ -25,7 +25,7 @@ use Rattle.of_wire.specs.Kinds.{number_of_kind, kind_of_number}
 use Rattle.of_wire.specs.Spelling.{kind_of, matching_in, port_fields, body_fields, ports_bytes, message_size, message_bytes}
 use Rattle.of_wire.specs.Reading.{Gives, has_length, if_sized, front_of, port_of, ports_of, config_of, flow_removed_of, port_status_of, port_mod_of, stats_of, of_actions, packet_out_of, flow_mod_of, body_of, reading_of}
 use Rattle.of_wire.specs.Grammar.{IsTail, IsMessage, SpellMatch, SpellTail, fields_place, tail_place, SpellMessage}
-use Rattle.of_wire.specs.ReadingLaws.{reading_of-message_bytes}
+use Rattle.of_wire.specs.ReadingLaws.{reading_of-message_bytes, same_envelope}
 
 -- ---- the front
 
@@ -444,12 +444,6 @@ read_as kind message bytes fit front was =
         tail = was.tail;
       };
     }
-
-abbrev the_envelope : Envelope → Result Envelope WireFault
-the_envelope envelope = Ok envelope
-
-same_envelope : (x y : Envelope) → the_envelope x ≡ the_envelope y → x ≡ y
-same_envelope x y e = cc
 
 pub IsRead-reading_of : (bytes : List ℕ) (envelope : Envelope) → IsBytes bytes → reading_of bytes ≡ Ok envelope → IsRead envelope bytes
 unfolding reading_of

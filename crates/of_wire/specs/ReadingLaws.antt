@@ -185,10 +185,10 @@ reading_of-SpellMessage xid message bytes is h =
 pub reading_of-message_bytes : (xid : ℕ) (message : Message) → xid < 2 ^ 32 → IsMessage message → reading_of (message_bytes xid message) ≡ Ok (enveloped xid message)
 reading_of-message_bytes xid message small is = reading_of-SpellMessage xid message (message_bytes xid message) is (SpellMessage-message_bytes xid message small is)
 
-abbrev the_envelope : Envelope → Result Envelope WireFault
+abbrev pub the_envelope : Envelope → Result Envelope WireFault
 the_envelope envelope = Ok envelope
 
-same_envelope : (x y : Envelope) → the_envelope x ≡ the_envelope y → x ≡ y
+pub same_envelope : (x y : Envelope) → the_envelope x ≡ the_envelope y → x ≡ y
 same_envelope x y e = cc
 
 pub same_from_SpellMessage : (xid other_xid : ℕ) (message other : Message) (bytes : List ℕ) → IsMessage message → IsMessage other → SpellMessage xid message bytes → SpellMessage other_xid other bytes → enveloped xid message ≡ enveloped other_xid other

@@ -20,6 +20,7 @@ use Rattle.of_wire.specs.declared.message.Message.TheVariants.{Hello, Error, Ech
 use Rattle.of_wire.specs.Kinds.{number_of_kind}
 use Rattle.of_wire.specs.Spelling.{kind_of, matching_in, match_bytes, match_size, header_fields, port_fields, body_fields, ports_bytes, tail_bytes, tail_size, message_size, body_bytes, message_bytes}
 use Rattle.of_wire.specs.Grammar.{IsTail, IsMessage, SpellMatch, SpellTail, fields_place, tail_place, SpellMessage}
+use Rattle.of_match.specs.FieldsLaws.{bytes_of-length}
 
 pub number_of_kind-lt : (kind : MessageKind) → number_of_kind kind < 256
 number_of_kind-lt kinds.Hello = omega arith
@@ -47,13 +48,9 @@ number_of_kind-lt kinds.QueueGetConfigReply = omega arith
 
 -- ---- lengths
 
-length-bytes_of : (f : Fields) → length (bytes_of f) ≡ 40
-unfolding bytes_of
-length-bytes_of f = refl
-
 pub length-match_bytes : (matching : Option Match) → length (match_bytes matching) ≡ match_size matching
 length-match_bytes None = refl
-length-match_bytes (Some matching) = length-bytes_of (fields_in matching)
+length-match_bytes (Some matching) = bytes_of-length (fields_in matching)
 
 pub length-ports_bytes : (ports : List PortDesc) → AllByRecursion (λ port. AreFields (port_fields port)) ports → length (ports_bytes ports) ≡ 48 * length ports
 length-ports_bytes [] fit = refl
@@ -121,7 +118,7 @@ SpellMatch-match_bytes None front rest len = tt
 SpellMatch-match_bytes (Some matching) front rest len =
     let there : piece 40 8 (front ++ (bytes_of (fields_in matching) ++ rest)) ≡ bytes_of (fields_in matching) =
     ap (λ (b : List ℕ). take 40 b) (drop_at front (bytes_of (fields_in matching) ++ rest) 8 len)
-    ∙ take_at (bytes_of (fields_in matching)) rest 40 (length-bytes_of (fields_in matching)) in
+    ∙ take_at (bytes_of (fields_in matching)) rest 40 (bytes_of-length (fields_in matching)) in
     ap match_of there ∙ match_of-bytes_of matching
 
 -- ---- the message

@@ -33,7 +33,7 @@ pub enum MessageKind {
 }
 
 impl MessageKind {
-    /// The type of a number; `None` exactly above 21.
+    /// Reads a type from its number; `None` exactly above 21.
     #[tactic(auto, unfolding(crate::specs::Kinds::kind_of_number))]
     pub fn from_number(number: u8) -> Option<MessageKind>
         ensures { result ≡ kind_of_number number }
@@ -65,7 +65,7 @@ impl MessageKind {
         })
     }
 
-    /// The type's number.
+    /// Tells the type's number, 0 to 21.
     pub fn number(self) -> u8
         ensures { result ≡ number_of_kind self }
     {

@@ -5,57 +5,80 @@ use crate::bodies::{
     SwitchConfig,
 };
 use crate::kind::MessageKind;
-use of_types::ByteList;
+use of_types::{ByteList, Xid};
 
 /// A message without its `xid`, one variant for each type of the standard (OpenFlow 1.0.0, 5.1 OpenFlow
 /// Header).
 #[derive(Drop, Debug, Clone, PartialEq, Eq)]
 pub enum Message {
+    /// The first message of each side (5.5.1); its payload says nothing.
     Hello {
         payload: ByteList,
     },
+    /// A switch refuses a request (5.4.4). The payload is the request, or a front of 64 bytes at least.
     Error {
         kind: u16,
         code: u16,
         payload: ByteList,
     },
+    /// Asks the other side to answer with the payload (5.5.2).
     EchoRequest {
         payload: ByteList,
     },
+    /// Answers an EchoRequest with its payload (5.5.3).
     EchoReply {
         payload: ByteList,
     },
-    /// The payload begins with the vendor's four bytes.
+    /// A message of a vendor's own (5.5.4). The payload begins with the vendor's four bytes.
     Vendor {
         payload: ByteList,
     },
+    /// Asks what the switch is (5.3.1).
     FeaturesRequest,
+    /// Says what the switch is (5.3.1).
     FeaturesReply(FeaturesReply),
+    /// Asks for the configuration (5.3.2).
     GetConfigRequest,
+    /// Tells the configuration (5.3.2).
     GetConfigReply(SwitchConfig),
+    /// Sets the configuration (5.3.2).
     SetConfig(SwitchConfig),
+    /// A packet that the switch sends (5.4.1).
     PacketIn(PacketIn),
+    /// A flow is gone (5.4.2).
     FlowRemoved(FlowRemoved),
+    /// A port came, went or changed (5.4.3).
     PortStatus(PortStatus),
+    /// A packet that the switch is to send (5.3.6).
     PacketOut(PacketOut),
+    /// Changes the flow table (5.3.3).
     FlowMod(FlowMod),
+    /// Changes a port (5.3.3).
     PortMod(PortMod),
+    /// Asks for statistics (5.3.5).
     StatsRequest(Stats),
+    /// A part of the statistics that were asked for (5.3.5).
     StatsReply(Stats),
+    /// Asks for an answer once all that came before it is done (5.3.7).
     BarrierRequest,
+    /// All that came before the request is done (5.3.7).
     BarrierReply,
+    /// Asks for a port's queues (5.3.4). The payload is kept as it is.
     QueueGetConfigRequest {
         payload: ByteList,
     },
+    /// Tells a port's queues (5.3.4). The payload is kept as it is.
     QueueGetConfigReply {
         payload: ByteList,
     },
 }
 
-/// A message and what ties an answer to its request.
+/// A message with its `xid`.
 #[derive(Drop, Debug, Clone, PartialEq, Eq)]
 pub struct Envelope {
-    pub xid: u32,
+    /// What ties an answer to its request.
+    pub xid: Xid,
+    /// The message.
     pub message: Message,
 }
 
@@ -63,7 +86,7 @@ impl Message {
     ghost use Rattle.std.specs.Prelude.{◌≡◌};
     ghost use Rattle.of_wire.specs.Spelling.{kind_of};
 
-    /// The message's type.
+    /// Tells the message's type.
     pub fn kind(&self) -> MessageKind
         ensures { result ≡ kind_of self.now }
     {

@@ -1,13 +1,15 @@
 //! A list of ports.
 
 ghost use Rattle.std.specs.Prelude.{◌≡◌, ◌↔◌, [], length, IsTrue};
+ghost use Rattle.std.specs.Slice.Iter.{iter_rest};
 
 use of_types::PortDesc;
 use std::alloc::Global;
 use std::cmp::{Eq, PartialEq};
 use std::marker::Model;
+use std::slice;
 
-/// Descriptions of ports. Contracts see a list.
+/// Descriptions of ports, in the order of the message. Contracts see the list of them.
 #[derive(Drop, Debug, Clone)]
 pub struct PortList {
     ports: Vec<PortDesc>,
@@ -23,7 +25,7 @@ impl Model for PortList {
 }
 
 impl PortList {
-    /// No ports; takes no memory.
+    /// Makes an empty list; takes no memory.
     pub fn new(alloc: Global) -> PortList
         ensures { result ≡ [] }
     {
@@ -32,35 +34,42 @@ impl PortList {
         }
     }
 
-    /// The ports of a vector, which becomes the list; takes no memory.
+    /// Makes a vector into the list of its ports; takes no memory.
     pub fn from_vec(ports: Vec<PortDesc>) -> PortList
         ensures { result ≡ ports.items }
     {
         PortList { ports }
     }
 
-    /// The vector back; takes no memory.
+    /// Gives the vector back; takes no memory.
     pub fn into_vec(self) -> Vec<PortDesc>
         ensures { result.items ≡ self }
     {
         self.ports
     }
 
-    /// The ports.
+    /// Lends the ports as a slice.
     pub fn as_slice(&self) -> &[PortDesc]
         ensures { result.now ≡ self.now }
     {
         self.ports.as_slice()
     }
 
-    /// How many ports there are.
+    /// Goes over the ports, from the first to the last.
+    pub fn iter(&self) -> slice::Iter<'_, PortDesc>
+        ensures { iter_rest result ≡ self.now }
+    {
+        self.ports.iter()
+    }
+
+    /// Counts the ports.
     pub fn len(&self) -> usize
         ensures { result ≡ length self.now }
     {
         self.ports.len()
     }
 
-    /// There are no ports.
+    /// Tells whether there are no ports.
     pub fn is_empty(&self) -> bool
         ensures { IsTrue result ↔ (self.now ≡ []) }
     {

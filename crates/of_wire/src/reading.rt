@@ -281,8 +281,9 @@ fn envelope(alloc: Global, bytes: &[u8]) -> Result<Envelope, WireFault>
     })
 }
 
-/// The message that the bytes spell, all of the bytes. Where they spell none, the first fault: fewer than
-/// 8 bytes, the version, the type, the length, then the actions, with their place in the list.
+/// Reads the message that the bytes spell, all of the bytes. Where they spell none, the first fault: fewer than
+/// 8 bytes, the version, the type, the length, then the actions, with the offset in their list; `NoMemory` where
+/// there is no memory for the message.
 pub fn decode(alloc: Global, bytes: &[u8]) -> Result<Envelope, WireFault>
     // The value or the first fault, unless memory runs out.
     ensures exact { Gives result (reading_of bytes.now) }

@@ -13,7 +13,7 @@ use crate::kind::MessageKind;
 use crate::message::Message;
 use of_action::{ActionList, encode_list, size as size_of_list};
 use of_types::{
-    ByteList, PortDesc, kinds, put_array, put_bytes, put_u8, put_u16, put_u32, put_u64,
+    ByteList, PortDesc, Xid, kinds, put_array, put_bytes, put_u8, put_u16, put_u32, put_u64,
 };
 use std::alloc::{AllocError, Global};
 
@@ -240,7 +240,8 @@ fn put_body(out: &mut [u8], message: &Message)
     }
 }
 
-/// How many bytes the message takes, or the type's greatest value above it. Takes no memory.
+/// Counts the bytes that the message takes, its header included; the type's greatest value where they are more.
+/// Takes no memory.
 #[tactic(auto, unfolding(crate::specs::Spelling::message_size))]
 pub fn size(message: &Message) -> usize
     ensures { result ≡ min (message_size message.now) (2 ^ 64 - 1) }
@@ -281,9 +282,9 @@ pub fn size(message: &Message) -> usize
     }
 }
 
-/// Writes the message over all of `out`, which has its size. Takes no memory.
+/// Writes the message, of at most 65,535 bytes, over all of `out`, which has its size. Takes no memory.
 #[tactic(auto, unfolding(crate::specs::Spelling::message_bytes))]
-pub fn encode_into(xid: u32, message: &Message, out: &mut [u8])
+pub fn encode_into(xid: Xid, message: &Message, out: &mut [u8])
     requires fits { message_size message.now ≤ 65535 }
     requires size { length out.old ≡ message_size message.now }
     ensures { out.new ≡ message_bytes xid message.now }
@@ -292,8 +293,8 @@ pub fn encode_into(xid: u32, message: &Message, out: &mut [u8])
     put_body(out, message);
 }
 
-/// The message's bytes.
-pub fn encode(alloc: Global, xid: u32, message: &Message) -> Result<ByteList, AllocError>
+/// Writes the message, of at most 65,535 bytes, in its one spelling. `AllocError` where there is no memory for it.
+pub fn encode(alloc: Global, xid: Xid, message: &Message) -> Result<ByteList, AllocError>
     requires { message_size message.now ≤ 65535 }
     ensures { IfOk result (λ bytes. bytes ≡ message_bytes xid message.now) }
 {

@@ -11,7 +11,7 @@ use Rattle.of_types.specs.declared.journal.Act.{Act}
 use Rattle.of_types.specs.declared.journal.Act.TheVariants.{Stim, Started, Gave, Gone, Took, Ended, Sent, Got}
 use Rattle.of_types.specs.declared.journal.WorldStim.{WorldStim}
 use Rattle.of_match.specs.declared.key.Key.{Key}
-use Rattle.of_match.specs.Key.{place}
+use Rattle.of_match.specs.Key.{key_number}
 use Rattle.of_action.specs.declared.action.Action.{Action}
 use Rattle.of_stats.specs.declared.flow_row.FlowRow.{FlowRow}
 use Rattle.flow_table.specs.declared.entry.Entry.{Entry}
@@ -69,17 +69,17 @@ keys-same moment (e ∷ es) [] h = absurd cc
 keys-same moment (e ∷ es) (v ∷ vs) h =
     (first_key v.key e.key v.actions e.actions (rows_of_view vs) (rows_of_table es) h, keys-same moment es vs (other_rows (v.key, v.actions) (e.key, e.actions) (rows_of_view vs) (rows_of_table es) h))
 
-lines-owned : (moment least : ℕ) (f : Key → ℕ) (es : List Entry) (vs : List ViewRow) → AscendsFrom least es → rows_of_view vs ≡ rows_of_table es → ((k : Key) → least ≤ place k → f k ≡ flags_in vs k)
+lines-owned : (moment least : ℕ) (f : Key → ℕ) (es : List Entry) (vs : List ViewRow) → AscendsFrom least es → rows_of_view vs ≡ rows_of_table es → ((k : Key) → least ≤ key_number k → f k ≡ flags_in vs k)
     → flow_lines (map (flow_row moment) es) vs ≡ flat_map (entry_text moment) (map (owned f) es)
 lines-owned moment least f [] [] up h flags = refl
 lines-owned moment least f [] (v ∷ vs) up h flags = refl
 lines-owned moment least f (e ∷ es) [] up h flags = absurd cc
 lines-owned moment least f (e ∷ es) (v ∷ vs) up h flags =
     let key : v.key ≡ e.key = first_key v.key e.key v.actions e.actions (rows_of_view vs) (rows_of_table es) h in
-    let there : place v.key ≡ place e.key = ap place key in
+    let there : key_number v.key ≡ key_number e.key = ap key_number key in
     let own : f e.key ≡ v.flags = flags e.key up.0 ∙ flags_in-here v vs e.key there in
     ap₂ (λ (n : ℕ) (text : List ℕ). flow_line (flow_row moment e) n ++ text) (sym own)
-    (lines-owned moment (place e.key + 1) f es vs up.1 (other_rows (v.key, v.actions) (e.key, e.actions) (rows_of_view vs) (rows_of_table es) h)
+    (lines-owned moment (key_number e.key + 1) f es vs up.1 (other_rows (v.key, v.actions) (e.key, e.actions) (rows_of_view vs) (rows_of_table es) h)
     (λ k above. flags k (omega (arith, above, up.0)) ∙ flags_in-there v vs k (λ same. omega (arith, above, there, same))))
 
 -- the lines of a switch's own rows, with the flags of its view, are those of the switch as its owner sees it
@@ -87,7 +87,7 @@ pub table-shown : (d : ℕ) (views : List TableView) (vs : List ViewRow) (s : Sw
     → table_lines d (own_rows s) vs ≡ switch_text (Some (owned_switch (flags_at d views) s))
 table-shown d views vs s is same table number =
     let count : length (own_rows s) ≡ length (map (owned (flags_at d views)) s.table.entries) = length-map s.table.entries (flow_row s.moment) ∙ sym (length-map s.table.entries (owned (flags_at d views))) in
-    let flags : (k : Key) → 0 ≤ place k → flags_at d views k ≡ flags_in vs k = λ k le. ap (λ (o : Option (List ViewRow)). flags_in (rows_or_none o) k) is in
+    let flags : (k : Key) → 0 ≤ key_number k → flags_at d views k ≡ flags_in vs k = λ k le. ap (λ (o : Option (List ViewRow)). flags_in (rows_or_none o) k) is in
     ap₂ (λ (a b : List ℕ). a ++ b) (ap₂ switch_line (sym number) count) (lines-owned s.moment 0 (flags_at d views) s.table.entries vs table same flags)
 
 -- ---- All of them

@@ -13,7 +13,8 @@ use Rattle.flow_table.specs.Step.{after_stimulus, sent_by_stimulus}
 use Rattle.switch_sim.specs.Possible.{IsPossible}
 use Rattle.switch_sim.specs.Readable.{IsShortIfRaw}
 use Rattle.switch_sim.specs.SerialLaws.{next_after_message, next_after_stimulus}
-use Rattle.switch_sim.specs.MomentLaws.{moment_after, moment-after_message, moment-after_stimulus, declared-after_message, declared-after_stimulus}
+use Rattle.switch_sim.specs.MomentLaws.{moment-after_message, moment-after_stimulus, declared-after_message, declared-after_stimulus}
+use Rattle.switch_sim.specs.Words.{moment_after}
 use Rattle.outside.specs.State.{Link, switch_joined, switch_told, link_joined, link_left, link_stimulated, link_sent, link_got, link_told, link_failed}
 use Rattle.outside.specs.Conforming.{IsStimulus}
 use Rattle.sim_world.specs.Links.{IsDeclaredAs, StandsAt, StandsBy, SerialsWithin, SerialsBelow, Stands, MayCall}

@@ -6,8 +6,8 @@ use Rattle.std.specs.List.{list_any}
 use Rattle.of_types.specs.declared.errors.OfError.{OfError}
 use Rattle.of_match.specs.declared.flow_match.Match.{Match}
 use Rattle.of_match.specs.declared.key.Key.{Key}
-use Rattle.of_match.specs.Key.{place, number, IsKey}
-use Rattle.of_match.specs.KeyLaws.{place-injective}
+use Rattle.of_match.specs.Key.{key_number, number, IsKey}
+use Rattle.of_match.specs.KeyLaws.{key_number-injective}
 use Rattle.match_overlap.specs.Relations.{is_subsuming, Subsumes}
 use Rattle.match_overlap.specs.RelationsLaws.{is_subsuming-Decides, Subsumes-refl}
 use Rattle.of_action.specs.declared.action.Action.{Action}
@@ -30,15 +30,15 @@ fitting k = record { priority = 65535 - (65535 - k.priority); matching = k.match
 is_key : (k : Key) → IsKey (fitting k)
 is_key k = record { priority = omega arith }
 
-fitting-place : (k : Key) → place (fitting k) ≡ place k
-unfolding place
-fitting-place k =
+fitting-key_number : (k : Key) → key_number (fitting k) ≡ key_number k
+unfolding key_number
+fitting-key_number k =
     let same : 65535 - (65535 - (65535 - k.priority)) ≡ 65535 - k.priority = omega arith in
     ap (λ (n : ℕ). n * 256 ^ 40 + number k.matching.bytes) same
 
-one_match : (a b : Key) → place a ≡ place b → a.matching ≡ b.matching
+one_match : (a b : Key) → key_number a ≡ key_number b → a.matching ≡ b.matching
 one_match a b same =
-    ap (λ (k : Key). k.matching) (place-injective (fitting a) (fitting b) (is_key a) (is_key b) (fitting-place a ∙ same ∙ sym (fitting-place b)))
+    ap (λ (k : Key). k.matching) (key_number-injective (fitting a) (fitting b) (is_key a) (is_key b) (fitting-key_number a ∙ same ∙ sym (fitting-key_number b)))
 
 -- ---- Tests of lists
 
@@ -69,7 +69,7 @@ none_at k (e ∷ es) h =
 -- ---- An ADD
 
 abbrev at_key : Key → Key × List Action → Bool
-at_key k r = place r.0 == place k
+at_key k r = key_number r.0 == key_number k
 
 clash-same : (m : Change) (es : List Entry) → would_clash m (rows_of_table es) ≡ clashes m es
 unfolding clashes
@@ -117,12 +117,12 @@ absent-add cap_of m es p add none =
 
 -- ---- A MODIFY
 
-describes-own : (m : Change) (k : Key) → (place k == place (key_in m)) ≡ true → describes m k ≡ true
+describes-own : (m : Change) (k : Key) → (key_number k == key_number (key_in m)) ≡ true → describes m k ≡ true
 unfolding describes
 describes-own m k here =
     elim (cases_Bool (is_strict m)) [
       | inl strict ↦ rw strict here
-      | inr wide ↦ rw wide (subsumes-own m.matching k.matching (one_match k (key_in m) (eqb-true (place k) (place (key_in m)) here)))
+      | inr wide ↦ rw wide (subsumes-own m.matching k.matching (one_match k (key_in m) (eqb-true (key_number k) (key_number (key_in m)) here)))
     ]
   where
     subsumes-own : (a b : Match) → b ≡ a → is_subsuming a b ≡ true

@@ -3,7 +3,7 @@
 use Rattle.std.specs.Prelude.{◌≡◌, ◌==◌, ℕ, Bool, false, List, [], ◌∷◌, map, Option, Some, None, if◌then◌else◌}
 use Rattle.std.specs.Option.{option_map}
 use Rattle.of_match.specs.declared.key.Key.{Key}
-use Rattle.of_match.specs.Key.{place}
+use Rattle.of_match.specs.Key.{key_number}
 use Rattle.of_wire.specs.declared.bodies.FlowMod.{FlowMod as Change}
 use Rattle.flow_table.specs.declared.view.ViewRow.{ViewRow}
 use Rattle.flow_table.specs.declared.view.TableView.{TableView}
@@ -19,7 +19,7 @@ use Rattle.net_txn.specs.Views.{rows_at, rows_after}
 -- the flags with which the owner of a key's entry asked for it, or 0 where there is none
 abbrev pub flags_in : List ViewRow → Key → ℕ
 flags_in [] k = 0
-flags_in (r ∷ rs) k = if place r.key == place k then r.flags else flags_in rs k
+flags_in (r ∷ rs) k = if key_number r.key == key_number k then r.flags else flags_in rs k
 
 abbrev pub rows_or_none : Option (List ViewRow) → List ViewRow
 rows_or_none None = []

@@ -3,7 +3,7 @@ use Rattle.std.proofs.Common.{◌≡◌, ◌≢◌, ◌==◌, ℕ, Bool, true, f
 use Rattle.std.proofs.lemmas.Bool.{cases_Bool, eqb-true, eqb-false, eq-eqb, ne_eqb}
 use Rattle.std.specs.List.{list_any}
 use Rattle.of_match.specs.declared.key.Key.{Key}
-use Rattle.of_match.specs.Key.{place}
+use Rattle.of_match.specs.Key.{key_number}
 use Rattle.flow_table.specs.declared.view.ViewRow.{ViewRow}
 use Rattle.flow_table.specs.declared.view.TableView.{TableView}
 use Rattle.net_txn.specs.Views.{rows_at, with_rows, with_row}
@@ -29,7 +29,7 @@ swap p q (x ∷ xs) =
 
 -- no row has the key
 abbrev pub has_row : Key → List ViewRow → Bool
-has_row k rows = list_any (λ r. place r.key == place k) rows
+has_row k rows = list_any (λ r. key_number r.key == key_number k) rows
 
 neither : (a b : Bool) → (a || b) ≡ false → (a ≡ false) × (b ≡ false)
 neither true b h = absurd (true≢false h)
@@ -38,19 +38,19 @@ neither false b h = (refl, h)
 without_none : (k : Key) (rows : List ViewRow) → has_row k rows ≡ false → without_key k rows ≡ rows
 without_none k [] h = refl
 without_none k (r ∷ rs) h =
-    let n = neither (place r.key == place k) (has_row k rs) h in
+    let n = neither (key_number r.key == key_number k) (has_row k rs) h in
     rw n.0 (ap (λ (xs : List ViewRow). r ∷ xs) (without_none k rs n.1))
 
 -- a row that was added is taken out again
 without_added : (r : ViewRow) (rows : List ViewRow) → has_row r.key rows ≡ false → without_key r.key (with_row r rows) ≡ rows
-without_added r [] h = rw (eq-eqb (place r.key) (place r.key) refl) refl
+without_added r [] h = rw (eq-eqb (key_number r.key) (key_number r.key) refl) refl
 without_added r (s ∷ ss) h =
-    let n = neither (place s.key == place r.key) (has_row r.key ss) h in
-    let here : (place r.key == place r.key) ≡ true = eq-eqb (place r.key) (place r.key) refl in
-    elim (cases_Bool (nat_lt (place r.key) (place s.key))) [
+    let n = neither (key_number s.key == key_number r.key) (has_row r.key ss) h in
+    let here : (key_number r.key == key_number r.key) ≡ true = eq-eqb (key_number r.key) (key_number r.key) refl in
+    elim (cases_Bool (nat_lt (key_number r.key) (key_number s.key))) [
       | inl before ↦ rw before (rw (here, n.0) (ap (λ (xs : List ViewRow). s ∷ xs) (without_none r.key ss n.1)))
       | inr behind ↦
-          let apart : (place r.key == place s.key) ≡ false = ne_eqb (place r.key) (place s.key) (λ same. eqb-false (place s.key) (place r.key) n.0 (sym same)) in
+          let apart : (key_number r.key == key_number s.key) ≡ false = ne_eqb (key_number r.key) (key_number s.key) (λ same. eqb-false (key_number s.key) (key_number r.key) n.0 (sym same)) in
           rw (behind, apart) (rw n.0 (ap (λ (xs : List ViewRow). s ∷ xs) (without_added r ss n.1)))
     ]
 
@@ -109,7 +109,7 @@ remove-remove p q views =
           let same : p.0 ≡ q.0 = eqb-true p.0 q.0 one in
           ap (λ (d : ℕ). with_rows d (without_key p.1) (with_rows q.0 (without_key q.1) views)) same
           ∙ fuse q.0 (without_key q.1) (without_key p.1) views
-          ∙ pointwise q.0 (λ rows. without_key p.1 (without_key q.1 rows)) (λ rows. without_key q.1 (without_key p.1 rows)) (λ rows. swap (λ r. not (place r.key == place p.1)) (λ r. not (place r.key == place q.1)) rows) views
+          ∙ pointwise q.0 (λ rows. without_key p.1 (without_key q.1 rows)) (λ rows. without_key q.1 (without_key p.1 rows)) (λ rows. swap (λ r. not (key_number r.key == key_number p.1)) (λ r. not (key_number r.key == key_number q.1)) rows) views
           ∙ sym (fuse q.0 (without_key p.1) (without_key q.1) views)
           ∙ ap (λ (d : ℕ). with_rows q.0 (without_key q.1) (with_rows d (without_key p.1) views)) (sym same)
       | inr two ↦ apart p.0 q.0 (without_key p.1) (without_key q.1) (eqb-false p.0 q.0 two) views

@@ -21,17 +21,8 @@ use Rattle.frame_edit.specs.Datagram.{tcp_checksum_place, udp_checksum_place}
 use Rattle.frame_edit.specs.Edits.{AreEdits, IsEdit, edited, tagged, with_control, with_identifier, with_priority, without_tag, with_address, with_network_address, with_service, with_port, output_of, outputs}
 use Rattle.frame_edit.specs.FieldLaws.{length-with_field, number_at-with_field_later, number_at-with_field_earlier}
 use Rattle.frame_edit.specs.Written.{IsOutside, Keeps, segment_checksum_fields, checksum_fields, IsDatagramEdit, field_of}
-use Rattle.frame_edit.specs.WrittenLaws.{edited-renews}
-
--- the addresses of actions have six bytes
-abbrev pub HasAddress : Action → Type 0
-HasAddress (SetDlSrc address) = length address ≡ 6
-HasAddress (SetDlDst address) = length address ≡ 6
-HasAddress other = Unit {0}
-
--- the most bytes that edits make of a frame: four more than it has, unless it has a tag
-unfoldable pub reach : List ℕ → ℕ
-reach frame = if is_tagged frame then length frame else length frame + 4
+use Rattle.frame_edit.specs.WrittenLaws.{edited-renews, tagged-long, is_tagged-tagged}
+use Rattle.switch_sim.specs.Words.{HasAddress, reach}
 
 pub reach-least : (frame : List ℕ) → length frame ≤ reach frame
 unfolding reach
@@ -53,24 +44,14 @@ is_tagged-same old new len kind = rw (len, kind) refl
 
 -- ---- Tags
 
-long_tagged : (frame : List ℕ) → is_tagged frame ≡ true → 18 ≤ length frame
-unfolding is_tagged
-long_tagged frame e = leb-true _ _ (and_parts (leb 18 (length frame)) (eqb (number_at 2 12 frame) 0x8100) e).0
-
 length-tagged : (control : ℕ) (frame : List ℕ) → 14 ≤ length frame → length (tagged control frame) ≡ length frame + 4
 length-tagged control frame long =
     let behind = number_bytes 2 control ++ drop 12 frame in
     omega (arith, length-append (take 12 frame) (number_bytes 2 0x8100 ++ behind), length-append (number_bytes 2 0x8100) behind, length-append (number_bytes 2 control) (drop 12 frame), length-number_bytes 2 0x8100, length-number_bytes 2 control, length-take 12 frame, length-drop 12 frame)
 
-is_tagged-new : (control : ℕ) (frame : List ℕ) → 14 ≤ length frame → is_tagged (tagged control frame) ≡ true
-unfolding is_tagged
-is_tagged-new control frame long =
-    let kind : number_at 2 12 (tagged control frame) ≡ 0x8100 = number_at-number_bytes 2 12 0x8100 (take 12 frame) (number_bytes 2 control ++ drop 12 frame) (omega (arith, length-take 12 frame)) (omega arith) in
-    and_from (leb 18 (length (tagged control frame))) (eqb (number_at 2 12 (tagged control frame)) 0x8100) (le-leb _ _ (omega (arith, length-tagged control frame long))) (eq-eqb _ _ kind)
-
 reach-new_tag : (control : ℕ) (frame : List ℕ) → is_tagged frame ≡ false → 14 ≤ length frame → reach (tagged control frame) ≤ reach frame
 unfolding reach
-reach-new_tag control frame none long = rw (none, is_tagged-new control frame long) (omega (arith, length-tagged control frame long))
+reach-new_tag control frame none long = rw (none, is_tagged-tagged control frame long) (omega (arith, length-tagged control frame long))
 
 reach-field : (at : ℕ) (field frame : List ℕ) → 14 ≤ at → at + length field ≤ length frame → reach (with_field at field frame) ≤ reach frame
 reach-field at field frame behind within =
@@ -82,7 +63,7 @@ unfolding with_control
 reach-control change frame =
     let field = number_bytes 2 (change (number_at 2 14 frame)) in
     cond_both (is_tagged frame) (with_field 14 field frame) (if has_header frame then tagged (change 0) frame else frame) (λ (new : List ℕ). reach new ≤ reach frame)
-    (λ is. reach-field 14 field frame (omega arith) (omega (arith, long_tagged frame is, length-number_bytes 2 (change (number_at 2 14 frame)))))
+    (λ is. reach-field 14 field frame (omega arith) (omega (arith, tagged-long frame is, length-number_bytes 2 (change (number_at 2 14 frame)))))
     (λ none. cond_both (has_header frame) (tagged (change 0) frame) frame (λ (new : List ℕ). reach new ≤ reach frame)
     (λ has. reach-new_tag (change 0) frame none (leb-true _ _ has))
     (λ _. omega arith))
@@ -90,7 +71,7 @@ reach-control change frame =
 reach-stripped : (frame : List ℕ) → is_tagged frame ≡ true → reach (take 12 frame ++ drop 16 frame) ≤ reach frame
 reach-stripped frame is =
     let new = take 12 frame ++ drop 16 frame in
-    omega (arith, reach-most new, reach-least frame, long_tagged frame is, length-append (take 12 frame) (drop 16 frame), length-take 12 frame, length-drop 16 frame)
+    omega (arith, reach-most new, reach-least frame, tagged-long frame is, length-append (take 12 frame) (drop 16 frame), length-take 12 frame, length-drop 16 frame)
 
 reach-strip : (frame : List ℕ) → reach (without_tag frame) ≤ reach frame
 unfolding without_tag

@@ -15,34 +15,15 @@ use Rattle.eth_key.specs.PacketFields.{key_of}
 use Rattle.flow_table.specs.declared.entry.Entry.{Entry}
 use Rattle.flow_table.specs.Table.{IsTable, IsPositionOf}
 use Rattle.flow_table.specs.Hit.{rank, best, better, counted, hit}
-use Rattle.flow_table.specs.HitLaws.{Contains-best, hit-set, IsTable-hit}
+use Rattle.flow_table.specs.HitLaws.{Contains-best, hit-set, IsTable-hit, hit-none, cases_Option}
 use Rattle.flow_table.specs.Switch.{PortState, SwitchState, has_bit, is_down, has_no_fwd, port_at}
 use Rattle.flow_table.specs.Frames.{goes_out_by, after_frame_out, ports_after_output, after_output, after_outputs, sent_by_outputs, hit_outputs, entry_hit, after_counts, after_lookup, is_silent, sent_by_miss, sent_by_hit, sent_by_lookup, after_packet_output, sent_by_packet_output, sent_by_packet_outputs}
 use Rattle.switch_sim.specs.Words.{ports_after_outputs}
-
--- ---- The position that a lookup gives
-
-pub position_none : (o : Option Entry) (es : List Entry) → IsPositionOf o es None → o ≡ None
-position_none None es is = refl
-position_none (Some e) es is = absurd is
-
-pub record IsAt (o : Option Entry) (es : List Entry) (i : ℕ) : Type 0 where
-  pub entry : Entry
-  pub is : o ≡ Some entry
-  pub there : slice_get es i ≡ Some entry
-
-pub position_some : (o : Option Entry) (es : List Entry) (i : ℕ) → IsPositionOf o es (Some i) → IsAt o es i
-position_some None es i is = absurd is
-position_some (Some e) es i is = record { entry = e; is = refl; there = is }
 
 -- ---- An entry without what a hit changes
 
 abbrev bare : Entry → Entry
 bare e = record e { packets = 0; bytes = 0; used = 0 }
-
-rank-bare : (e : Entry) → rank (bare e) ≡ rank e
-unfolding rank
-rank-bare e = refl
 
 better-bare : (e : Entry) (o : Option Entry) → better (bare e) (option_map bare o) ≡ option_map bare (better e o)
 unfolding rank
@@ -60,18 +41,10 @@ best-bare k (e ∷ es) = elim (cases_Bool (is_covering e.key.matching k)) [
   | inr other ↦ rw other (best-bare k es)
 ]
 
-cases_Option : (o : Option Entry) → (o ≡ None) ⊎ ((e : Entry) × (o ≡ Some e))
-cases_Option None = inl refl
-cases_Option (Some e) = inr (e, refl)
-
-unhit : (k : PacketKey) (len now : ℕ) (es : List Entry) → best k es ≡ None → hit k len now es ≡ es
-unfolding hit
-unhit k len now es none = rw none refl
-
 map-bare-hit : (k : PacketKey) (len now : ℕ) (es : List Entry) → IsTable es → map bare (hit k len now es) ≡ map bare es
 map-bare-hit k len now es is =
     elim (cases_Option (best k es)) [
-      | inl none ↦ ap (map bare) (unhit k len now es none)
+      | inl none ↦ ap (map bare) (hit-none k len now es none)
       | inr (e, found) ↦
           let (i, within, here) = Contains-best k es e found in
           ap (map bare) (hit-set k len now es i e is found within here) ∙ map-set_same bare es i (counted len now e) e (ap bare (sym here))
@@ -97,10 +70,6 @@ pub after_outputs-ports : (in_port : ℕ) (sent : List (ℕ × List ℕ)) (s : S
 unfolding after_outputs
 after_outputs-ports in_port [] s = refl
 after_outputs-ports in_port (output ∷ more) s = after_outputs-ports in_port more (after_output in_port output s)
-
-pub length-ports_after_output : (in_port to len : ℕ) (ports : List PortState) → length (ports_after_output in_port to len ports) ≡ length ports
-unfolding ports_after_output
-length-ports_after_output in_port to len ports = length-map ports (λ p. if goes_out_by in_port to p then after_frame_out len p else p)
 
 -- the number and the config of a port stay
 record KeepsPort (old new : PortState) : Type 0 where
@@ -143,15 +112,6 @@ pub record LooksLike (s t : SwitchState) : Type 0 where
 
 pub LooksLike-itself : (s : SwitchState) → IsTable s.table.entries → LooksLike s s
 LooksLike-itself s is = record { in_order = is; hits = λ k. refl; silent = λ number. refl }
-
-same_outputs : (o p : Option Entry) (frame : List ℕ) → actions_of o ≡ actions_of p → hit_outputs o frame ≡ hit_outputs p frame
-same_outputs None None frame same = refl
-same_outputs None (Some e) frame same = absurd cc
-same_outputs (Some e) None frame same = absurd cc
-same_outputs (Some e) (Some f) frame same = ap (λ (actions : List Action). outputs actions frame) cc
-
-pub same_hit : (in_port : ℕ) (frame : List ℕ) (s t : SwitchState) → LooksLike s t → hit_outputs (entry_hit in_port frame s) frame ≡ hit_outputs (entry_hit in_port frame t) frame
-same_hit in_port frame s t like = same_outputs (entry_hit in_port frame s) (entry_hit in_port frame t) frame (like.hits (key_of in_port frame))
 
 same_miss : (in_port : ℕ) (frame : List ℕ) (ports others : List PortState) → is_silent (port_at in_port ports) ≡ is_silent (port_at in_port others) → sent_by_miss in_port frame ports ≡ sent_by_miss in_port frame others
 unfolding sent_by_miss

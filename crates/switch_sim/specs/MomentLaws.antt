@@ -15,11 +15,7 @@ use Rattle.flow_table.specs.Refusals.{message_refusal}
 use Rattle.flow_table.specs.Frames.{after_output, hit_outputs, entry_hit, after_counts, after_lookup, after_packet_output, after_packet_outputs, takes, after_arrival, after_frame}
 use Rattle.flow_table.specs.Step.{after_taken, after_message, can_add, after_port_change, after_stimulus}
 use Rattle.switch_sim.specs.LookLaws.{after_outputs-ports}
-
--- the moment after a stimulus
-abbrev pub moment_after : Stimulus → ℕ → ℕ
-moment_after (Advance moment) last = moment
-moment_after other last = last
+use Rattle.switch_sim.specs.Words.{moment_after}
 
 -- the same switch at the same moment
 record StaysAt (s u : SwitchState) : Type 0 where

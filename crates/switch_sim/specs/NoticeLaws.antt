@@ -10,9 +10,8 @@ use Rattle.flow_table.specs.declared.entry.Entry.{Entry}
 use Rattle.flow_table.specs.declared.notice.Notice.{Notice}
 use Rattle.flow_table.specs.Change.{is_delete, deletes, asks_notice, notice, notices_of}
 use Rattle.flow_table.specs.Expiry.{deadline, has_come, is_due, notice_at, end_of, among, by_deadline, expiry_notices}
-
-abbrev pub IsShort : Notice → Type 0
-IsShort n = n.duration < 2 ^ 32
+use Rattle.switch_sim.specs.Words.{IsShort}
+use Rattle.flow_table.specs.ExpiryLaws.{All-by_deadline}
 
 -- ---- Notices of a DELETE
 
@@ -50,18 +49,6 @@ unfolding expiry_notices
 length-expiry_notices now es =
     let going = filter (λ e. is_due now e && asks_notice e.flags) es in
     length-map (by_deadline going) (λ e. notice_at (deadline e) e) ∙ length-by_deadline going
-
-All-among : (P : Entry → Type 0) (e : Entry) (es : List Entry) → P e → All P es → All P (among e es)
-All-among P e [] here all = All-cons P e [] here (All-nil P)
-All-among P e (f ∷ fs) here all =
-    cond_both (nat_le (end_of e) (end_of f)) (e ∷ f ∷ fs) (f ∷ among e fs) (All P)
-    (λ _. All-cons P e (f ∷ fs) here all)
-    (λ _. All-cons P f (among e fs) (All-head P f fs all) (All-among P e fs here (All-tail P f fs all)))
-
-All-by_deadline : (P : Entry → Type 0) (es : List Entry) → All P es → All P (by_deadline es)
-unfolding by_deadline
-All-by_deadline P [] all = All-nil P
-All-by_deadline P (e ∷ es) all = All-among P e (by_deadline es) (All-head P e es all) (All-by_deadline P es (All-tail P e es all))
 
 IsShort-at : (now : ℕ) (d : Option (ℕ × Reason)) (e : Entry) → now < 2 ^ 32 → has_come now d ≡ true → IsShort (notice_at d e)
 IsShort-at now None e within due = absurd cc

@@ -6,7 +6,7 @@ use Rattle.flow_table.specs.Switch.{SwitchState}
 use Rattle.flow_table.specs.Frames.{after_packet_output, after_packet_outputs}
 use Rattle.switch_sim.specs.declared.packet_out.Planned.{Planned}
 use Rattle.switch_sim.specs.Plan.{planned_output, IsPlanned}
-use Rattle.switch_sim.specs.LookLaws.{LooksLike, same_hit}
+use Rattle.switch_sim.specs.LookLaws.{LooksLike}
 use Rattle.std.specs.Prelude.{All}
 use Rattle.std.proofs.lemmas.List.Elements.{All-nil, All-cons, All-head, All-tail, All-weaker}
 use Rattle.of_types.specs.declared.errors.OfError.{OfError}
@@ -17,14 +17,9 @@ use Rattle.of_wire.specs.Spelling.{message_size}
 use Rattle.frame_edit.specs.Edits.{AreEdits}
 use Rattle.flow_table.specs.Errors.{buffer_unknown}
 use Rattle.flow_table.specs.Refusals.{no_buffer, actions_refusal, packet_out_refusal}
-use Rattle.switch_sim.specs.EditLaws.{reach, reach-least}
+use Rattle.switch_sim.specs.EditLaws.{reach-least}
+use Rattle.switch_sim.specs.Words.{reach}
 use Rattle.switch_sim.specs.SoundLaws.{AreEdits-actions}
-
-pub IsPlanned-like : (in_port : ℕ) (s t : SwitchState) (p : Planned) → LooksLike s t → IsPlanned in_port t p → IsPlanned in_port s p
-IsPlanned-like in_port s t p like planned = planned ∙ elim (cases_Bool (p.to == 0xfff9)) [
-  | inl table ↦ rw table (sym (same_hit in_port p.frame s t like))
-  | inr other ↦ rw other refl
-]
 
 -- one output more
 pub performed_more : (in_port : ℕ) (steps : List Planned) (i : ℕ) (step : Planned) (s u : SwitchState) (whole : SwitchState) → i < length steps → step ≡ get_or steps i step → u ≡ after_packet_output in_port (planned_output step) s

@@ -56,12 +56,6 @@ features_read (Err e) f xid is = tt
 pub AreReadable-none : AreReadable []
 AreReadable-none = All-nil IsReadable
 
-pub AreReadable-one : (bytes : List ℕ) → IsReadable bytes → AreReadable (bytes ∷ [])
-AreReadable-one bytes is = All-cons IsReadable bytes [] is AreReadable-none
-
-pub AreReadable-append : (front back : List (List ℕ)) → AreReadable front → AreReadable back → AreReadable (front ++ back)
-AreReadable-append front back first second = All-append IsReadable front back first second
-
 pub all_read : {E : Type 0} (r : Result (List (List ℕ)) E) → IfOk r AreReadable → IfOk r (λ list. All (λ bytes. IsOk (reading_of bytes)) list)
 all_read (Ok list) are = All-weaker IsReadable (λ bytes. IsOk (reading_of bytes)) (λ bytes is. is.read) list are
 all_read (Err e) are = tt

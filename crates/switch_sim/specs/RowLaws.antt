@@ -10,10 +10,7 @@ use Rattle.of_match.specs.declared.fields.Fields.{Fields}
 use Rattle.of_stats.specs.declared.flow_row.FlowRow.{FlowRow}
 use Rattle.of_stats.specs.Flows.{row_size, row_bytes, front_fields, count_fields}
 use Rattle.of_stats.specs.Parts.{room}
-
-length-bytes_of : (f : Fields) → length (bytes_of f) ≡ 40
-unfolding bytes_of
-length-bytes_of f = refl
+use Rattle.of_match.specs.FieldsLaws.{bytes_of-length}
 
 length-front : (row : FlowRow) → length (spelled (front_fields row)) ≡ 4
 length-front row = simp (length-append, length-number_bytes)
@@ -27,7 +24,7 @@ length-row_bytes row actions =
     let front = spelled (front_fields row) in
     let matching = bytes_of (fields_in row.key.matching) in
     let counts = spelled (count_fields row) in
-    omega (arith, length-append front (matching ++ (counts ++ list_bytes row.actions)), length-append matching (counts ++ list_bytes row.actions), length-append counts (list_bytes row.actions), length-front row, length-counts row, length-bytes_of (fields_in row.key.matching), actions)
+    omega (arith, length-append front (matching ++ (counts ++ list_bytes row.actions)), length-append matching (counts ++ list_bytes row.actions), length-append counts (list_bytes row.actions), length-front row, length-counts row, bytes_of-length (fields_in row.key.matching), actions)
 
 pub row_fits : {E : Type 0} (written : Result (List ℕ) E) (row : FlowRow) → length (list_bytes row.actions) ≡ list_size row.actions → list_size row.actions ≤ 65432
     → IfOk written (λ bytes. bytes ≡ row_bytes row) → IfOk written (λ bytes. length bytes ≤ room)

@@ -14,27 +14,18 @@ use Rattle.of_match.specs.declared.packet_key.PacketKey.{PacketKey}
 use Rattle.of_wire.specs.declared.bodies.FlowMod.{FlowMod}
 use Rattle.frame_edit.specs.Edits.{AreEdits, IsEdit}
 use Rattle.flow_table.specs.declared.entry.Entry.{Entry}
-use Rattle.flow_table.specs.Table.{TableState, IsTable, IsMoment, place_of, has_key, with_entry}
+use Rattle.flow_table.specs.Table.{TableState, IsTable, IsMoment, place_of, has_key, with_entry, keys}
 use Rattle.flow_table.specs.TableLaws.{with_entry-found, length-with_entry-le, length-filter-le}
 use Rattle.flow_table.specs.Change.{is_delete, is_modify, key_in, describes, adds, clashes, is_full, deletes, modified, new_entry, refusal, entries_after, changed}
 use Rattle.flow_table.specs.ChangeLaws.{is_delete-adds, is_delete-modify}
 use Rattle.flow_table.specs.Hit.{best, counted, hit, hit_by, with_more, with_counts}
-use Rattle.flow_table.specs.HitLaws.{keys, keys-hit, Contains-best}
+use Rattle.flow_table.specs.HitLaws.{keys-hit, Contains-best}
 use Rattle.flow_table.specs.Errors.{bad_len, buffer_unknown, flow_eperm, bad_command, overlap, all_tables_full}
 use Rattle.flow_table.specs.Expiry.{is_due, expire}
 use Rattle.flow_table.specs.MomentLaws.{All-with_entry}
 use Rattle.flow_table.specs.Switch.{PortState}
 use Rattle.flow_table.specs.Refusals.{or_else, action_refusal, actions_refusal, flow_actions_refusal, flow_refusal, is_emergency, no_buffer, most_action_bytes}
 use Rattle.switch_sim.specs.Sound.{IsEntryAt, IsSound}
-
--- ---- What the table's calls need
-
-pub IsMoment-sound : (cap moment : ℕ) (entries : List Entry) (ports : List PortState) → IsSound cap moment entries ports → IsMoment moment entries
-IsMoment-sound cap moment entries ports sound = record {
-  within = sound.moment;
-  installed = All-weaker (IsEntryAt moment) (λ e. e.installed ≤ moment) (λ e is. is.installed) entries sound.entries;
-  used = All-weaker (IsEntryAt moment) (λ e. e.used ≤ moment) (λ e is. is.used) entries sound.entries;
-}
 
 -- ---- Actions that are not refused are edits and outputs.
 

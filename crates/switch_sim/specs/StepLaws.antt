@@ -15,11 +15,7 @@ use Rattle.flow_table.specs.Switch.{SwitchState, features_reply}
 use Rattle.flow_table.specs.Refusals.{or_else, flow_refusal, query_size, stats_refusal, message_refusal}
 use Rattle.flow_table.specs.Step.{after_taken, sent_by_taken, error_bytes, answered, after_message, sent_by_message}
 use Rattle.switch_sim.specs.Words.{IsQuestion}
-
--- the refusal of a message as far as it does not look at the table's entries
-abbrev pub early_refusal : SwitchState → Message → Option OfError
-early_refusal s (FlowMod m) = flow_refusal s.had m
-early_refusal s other = message_refusal s other
+use Rattle.switch_sim.specs.Words.{early_refusal}
 
 -- ---- A message that is refused, and one that is not
 
@@ -101,10 +97,6 @@ if_gives (Err e) x y same is = tt
 pub on_ok : {A E P : Type 0} (r : Result A E) → P → OnOk r P
 on_ok (Ok l) p = p
 on_ok (Err e) p = tt
-
-pub on_err : {A E P : Type 0} (r : Result A E) → P → OnErr r P
-on_err (Ok l) p = tt
-on_err (Err e) p = p
 
 known : (b : Bool) (e : OfError) (o : Option OfError) → cond b (Some e) o ≡ None → b ≡ false
 known true e o none = absurd cc

@@ -2,13 +2,20 @@
 use Rattle.std.specs.Prelude.{◌≡◌, ℕ, ◌+◌, ◌%◌, ◌^◌, ◌<◌, Bool, List, [], ◌∷◌, length, Option, Some, None, Result, Ok, Err, All, if◌then◌else◌}
 use Rattle.std.specs.List.{sum_by}
 use Rattle.of_types.specs.declared.errors.OfError.{OfError}
+use Rattle.of_types.specs.declared.journal.Stimulus.{Stimulus}
+use Rattle.of_types.specs.declared.journal.Stimulus.TheVariants.{Advance}
+use Rattle.of_action.specs.declared.action.Action.{Action}
+use Rattle.of_action.specs.declared.action.Action.TheVariants.{SetDlSrc, SetDlDst}
+use Rattle.eth_key.specs.Ethernet.{is_tagged}
 use Rattle.of_wire.specs.declared.message.Message.{Message}
-use Rattle.of_wire.specs.declared.message.Message.TheVariants.{Hello, EchoRequest, EchoReply, FeaturesRequest, GetConfigRequest, BarrierRequest}
+use Rattle.of_wire.specs.declared.message.Message.TheVariants.{FlowMod, Hello, EchoRequest, EchoReply, FeaturesRequest, GetConfigRequest, BarrierRequest}
 use Rattle.of_stats.specs.declared.sum.Sum.{Sum}
 use Rattle.flow_table.specs.declared.entry.Entry.{Entry}
 use Rattle.flow_table.specs.declared.fault.ChangeFault.{ChangeFault}
 use Rattle.flow_table.specs.declared.fault.ChangeFault.TheVariants.{Refused, NoMemory}
-use Rattle.flow_table.specs.Switch.{PortState}
+use Rattle.flow_table.specs.declared.notice.Notice.{Notice}
+use Rattle.flow_table.specs.Switch.{PortState, SwitchState}
+use Rattle.flow_table.specs.Refusals.{flow_refusal, message_refusal}
 use Rattle.flow_table.specs.Frames.{goes_out_by, after_frame_out, ports_after_output}
 
 -- a port after an output, by which the frame goes out or not
@@ -58,3 +65,27 @@ IsQuestion other = ⊥
 abbrev pub ports_after_outputs : ℕ → List (ℕ × List ℕ) → List PortState → List PortState
 ports_after_outputs in_port [] ports = ports
 ports_after_outputs in_port (output ∷ more) ports = ports_after_outputs in_port more (ports_after_output in_port output.0 (length output.1) ports)
+
+-- the addresses of actions have six bytes
+abbrev pub HasAddress : Action → Type 0
+HasAddress (SetDlSrc address) = length address ≡ 6
+HasAddress (SetDlDst address) = length address ≡ 6
+HasAddress other = Unit {0}
+
+-- the most bytes that edits make of a frame: four more than it has, unless it has a tag
+unfoldable pub reach : List ℕ → ℕ
+reach frame = if is_tagged frame then length frame else length frame + 4
+
+-- the moment after a stimulus
+abbrev pub moment_after : Stimulus → ℕ → ℕ
+moment_after (Advance moment) last = moment
+moment_after other last = last
+
+-- how long an entry stood fits the field of a FLOW_REMOVED
+abbrev pub IsShort : Notice → Type 0
+IsShort n = n.duration < 2 ^ 32
+
+-- the refusal of a message as far as it does not look at the table's entries
+abbrev pub early_refusal : SwitchState → Message → Option OfError
+early_refusal s (FlowMod m) = flow_refusal s.had m
+early_refusal s other = message_refusal s other

@@ -7,7 +7,7 @@ ghost use Rattle.flow_table.specs.Table.{IsTable};
 ghost use Rattle.flow_table.specs.Hit.{best, hit};
 ghost use Rattle.flow_table.specs.Switch.{port_at, with_port};
 ghost use Rattle.flow_table.specs.Frames.{takes, after_frame_in, is_silent, hit_count, hit_outputs, entry_hit, after_counts, after_lookup, sent_by_miss, sent_by_lookup, sent_by_outputs, ports_after_output, after_frame, sent_by_frame};
-ghost use Rattle.switch_sim.specs.EditLaws.{reach};
+ghost use Rattle.switch_sim.specs.Words.{reach};
 ghost use Rattle.switch_sim.specs.Readable.{AreReadable};
 ghost use Rattle.switch_sim.specs.Words.{ports_after_outputs};
 

@@ -8,7 +8,7 @@ ghost use Rattle.flow_table.specs.Switch.{with_port};
 ghost use Rattle.flow_table.specs.Refusals.{flow_refusal, stats_refusal};
 ghost use Rattle.flow_table.specs.Statistics.{statistics_replies};
 ghost use Rattle.flow_table.specs.Step.{flow_removed_bytes, with_config, error_bytes, sent_by_taken, after_message, sent_by_message};
-ghost use Rattle.switch_sim.specs.StepLaws.{early_refusal};
+ghost use Rattle.switch_sim.specs.Words.{early_refusal};
 ghost use Rattle.switch_sim.specs.Readable.{AreReadable};
 ghost use Rattle.switch_sim.specs.Words.{AnswersWith, IsQuestion};
 
@@ -188,7 +188,7 @@ impl SimSwitch {
         }
     }
 
-    /// What a message makes of the switch, and what the switch sends then: an ERROR where it refuses the message
+    /// Takes a message, and gives what the switch sends then: its answer, or an ERROR where it refuses the message
     /// (OpenFlow 1.0.0, 5.3 to 5.5).
     ///
     /// After a refusal and want of memory the switch is as before. The message has at most 65,535 bytes, and fewer than

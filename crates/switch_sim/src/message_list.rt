@@ -1,15 +1,17 @@
 //! A list of whole messages.
 
 ghost use Rattle.std.specs.Prelude.{◌≡◌, ◌↔◌, [], ◌∷◌, length, IsTrue, IfOk};
+ghost use Rattle.std.specs.Slice.Iter.{iter_rest};
 ghost use Rattle.switch_sim.specs.Readable.{IsReadable, AreReadable};
 
 use of_types::ByteList;
 use std::alloc::{AllocError, Global};
 use std::cmp::{Eq, PartialEq};
 use std::marker::Model;
+use std::slice;
 
-/// Messages as bytes, each with its header, in the order in which they are sent. Contracts see a list of lists of
-/// bytes.
+/// Messages as bytes, each with its header, in the order in which they are sent. Contracts see the list of lists of
+/// their bytes.
 #[derive(Drop, Debug, Clone)]
 pub struct MessageList {
     messages: Vec<ByteList>,
@@ -24,7 +26,7 @@ impl Model for MessageList {
 }
 
 impl MessageList {
-    /// No messages; takes no memory.
+    /// Makes an empty list; takes no memory.
     pub fn new(alloc: Global) -> MessageList
         ensures { result ≡ [] }
     {
@@ -43,35 +45,42 @@ impl MessageList {
         Ok(MessageList { messages })
     }
 
-    /// The messages of a vector, which becomes the list; takes no memory.
+    /// Makes a vector into the list of its messages; takes no memory.
     pub fn from_vec(messages: Vec<ByteList>) -> MessageList
         ensures { result ≡ messages.items }
     {
         MessageList { messages }
     }
 
-    /// The vector back; takes no memory.
+    /// Gives the vector back; takes no memory.
     pub fn into_vec(self) -> Vec<ByteList>
         ensures { result.items ≡ self }
     {
         self.messages
     }
 
-    /// The messages.
+    /// Lends the messages as a slice.
     pub fn as_slice(&self) -> &[ByteList]
         ensures { result.now ≡ self.now }
     {
         self.messages.as_slice()
     }
 
-    /// How many messages there are.
+    /// Goes over the messages, from the first to the last.
+    pub fn iter(&self) -> slice::Iter<'_, ByteList>
+        ensures { iter_rest result ≡ self.now }
+    {
+        self.messages.iter()
+    }
+
+    /// Counts the messages.
     pub fn len(&self) -> usize
         ensures { result ≡ length self.now }
     {
         self.messages.len()
     }
 
-    /// There are no messages.
+    /// Tells whether there are no messages.
     pub fn is_empty(&self) -> bool
         ensures { IsTrue result ↔ (self.now ≡ []) }
     {

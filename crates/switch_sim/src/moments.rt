@@ -31,7 +31,7 @@ impl SimSwitch {
         due(self.alloc, &self.table, moment)
     }
 
-    /// What the switch sends when the moment moves on to this one (OpenFlow 1.0.0, 3.3 Flow Removal): a FLOW_REMOVED
+    /// Gives what the switch sends when the moment moves on to this one (OpenFlow 1.0.0, 3.3 Flow Removal): a FLOW_REMOVED
     /// for each entry that is due and asks for it, at most as many as the table takes. The switch stays; `pass` moves it.
     ///
     /// A moment is in seconds, not before the last and at most 4,294,967,295.
@@ -47,7 +47,7 @@ impl SimSwitch {
         self.due_messages(moment)
     }
 
-    /// The moment moves on to this one, and the entries that are due go, as a stimulus does it, but nothing is sent;
+    /// Moves the moment on to this one, and the entries that are due go, as a stimulus does it, but nothing is sent;
     /// takes no memory. `due` gives before what is to be sent.
     ///
     /// A moment is in seconds, not before the last and at most 4,294,967,295.

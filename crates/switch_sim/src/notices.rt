@@ -6,7 +6,7 @@ ghost use Rattle.of_wire.specs.Spelling.{message_bytes};
 ghost use Rattle.flow_table.specs.Change.{is_delete, describes, deletes, asks_notice, notices_of};
 ghost use Rattle.flow_table.specs.Expiry.{is_due};
 ghost use Rattle.flow_table.specs.Step.{flow_removed_bytes};
-ghost use Rattle.switch_sim.specs.NoticeLaws.{IsShort};
+ghost use Rattle.switch_sim.specs.Words.{IsShort};
 ghost use Rattle.switch_sim.specs.Readable.{IsReadable, AreReadable};
 ghost use Rattle.switch_sim.specs.Sound.{IsEntryAt};
 ghost use Rattle.switch_sim.specs.Words.{AreSpares};
@@ -126,7 +126,7 @@ pub(crate) fn write_all(room: NoticeRoom, notices: &[Notice]) -> MessageList
 fn asks(flags: u16) -> bool
     ensures { result ≡ asks_notice flags }
 {
-    flags % 2 == 1
+    flows::sends_flow_removed(flags)
 }
 
 /// Whether a DELETE, strict or not, removes an entry.

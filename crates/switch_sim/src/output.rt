@@ -2,7 +2,7 @@
 
 ghost use Rattle.std.specs.Prelude.{◌≡◌, ◌≤◌, ◌++◌, length, All, IfOk, OnOk};
 ghost use Rattle.flow_table.specs.Frames.{ports_after_output, sent_by_output, sent_by_outputs};
-ghost use Rattle.switch_sim.specs.EditLaws.{HasAddress};
+ghost use Rattle.switch_sim.specs.Words.{HasAddress};
 ghost use Rattle.switch_sim.specs.Readable.{AreReadable};
 ghost use Rattle.switch_sim.specs.Words.{after_output_at, ports_after_outputs};
 

@@ -7,7 +7,7 @@ ghost use Rattle.of_wire.specs.Spelling.{message_size};
 ghost use Rattle.flow_table.specs.Table.{IsTable};
 ghost use Rattle.flow_table.specs.Refusals.{packet_out_refusal};
 ghost use Rattle.flow_table.specs.Frames.{sent_by_packet_output, after_packet_output, after_packet_outputs, after_packet_out, sent_by_packet_out, sent_by_packet_outputs};
-ghost use Rattle.switch_sim.specs.EditLaws.{reach};
+ghost use Rattle.switch_sim.specs.Words.{reach};
 ghost use Rattle.switch_sim.specs.Readable.{AreReadable};
 ghost use Rattle.switch_sim.specs.Plan.{IsPlanned, planned_output};
 

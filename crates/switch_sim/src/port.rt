@@ -11,7 +11,7 @@ ghost use Rattle.flow_table.specs.Statistics.{port_row};
 ghost use Rattle.flow_table.specs.Step.{kept_bits, with_bits, set_link};
 
 use of_stats::PortRow;
-use of_types::{PortDesc, PortNo, ports, put_bytes, put_u16};
+use of_types::{Dpid, PortDesc, PortNo, ports, put_bytes, put_u16};
 use std::alloc::{AllocError, Global};
 use std::marker::Model;
 
@@ -199,7 +199,7 @@ impl Port {
     }
 
     /// The port as its switch describes it; the fields fit the wire.
-    pub(crate) fn describe(&self, alloc: Global, dpid: u64) -> Result<PortDesc, AllocError>
+    pub(crate) fn describe(&self, alloc: Global, dpid: Dpid) -> Result<PortDesc, AllocError>
         ensures desc { IfOk result (λ desc. desc ≡ port_desc dpid self.now) }
         ensures fields { IfOk result (λ desc. AreFields (port_fields desc)) }
     {
@@ -208,7 +208,7 @@ impl Port {
         Ok(desc)
     }
 
-    fn description(&self, alloc: Global, dpid: u64) -> Result<PortDesc, AllocError>
+    fn description(&self, alloc: Global, dpid: Dpid) -> Result<PortDesc, AllocError>
         ensures { IfOk result (λ desc. desc ≡ port_desc dpid self.now) }
     {
         Ok(PortDesc {
@@ -235,7 +235,7 @@ fn measure(desc: PortDesc)
 
 /// The address of a port: 02 and 00, the low 16 bits of the switch's number, and the port's.
 #[tactic(auto, unfolding(flow_table::specs::Switch::hw_addr))]
-pub(crate) fn address(dpid: u64, number: PortNo) -> [u8; 6]
+pub(crate) fn address(dpid: Dpid, number: PortNo) -> [u8; 6]
     ensures { result ≡ hw_addr dpid number }
 {
     let mut out = [2, 0, 0, 0, 0, 0];

@@ -7,11 +7,9 @@ ghost use Rattle.flow_table.specs.Refusals.{is_output, action_refusal, actions_r
 
 use crate::port::{Port, address};
 use of_action::{Action, ActionList, size};
-use of_types::{OfError, PortNo, errors, flows, ports, stats};
+use of_types::limits::MOST_ACTION_BYTES;
+use of_types::{Dpid, OfError, PortNo, errors, flows, ports, stats};
 use of_wire::{FlowMod, PacketOut, PortMod, Stats, SwitchConfig};
-
-/// The most bytes of actions that a row of flow statistics can show.
-const MOST_ACTION_BYTES: usize = 65_432;
 
 /// Whether an OUTPUT may go to a number: one that was a port since the switch joined (`had`), IN_PORT, FLOOD, ALL,
 /// CONTROLLER, and TABLE where that is allowed.
@@ -77,7 +75,7 @@ fn refuse_flow_actions(had: &[PortNo], m: &FlowMod) -> Option<OfError>
 pub(crate) fn refuse_flow(had: &[PortNo], m: &FlowMod) -> Option<OfError>
     ensures { result ≡ flow_refusal had.now m.now }
 {
-    if m.flags / flows::EMERG % 2 == 1 {
+    if flows::is_emergency(m.flags) {
         Some(errors::FLOW_EPERM)
     } else if m.command > flows::DELETE_STRICT {
         Some(errors::FLOW_BAD_COMMAND)
@@ -113,7 +111,7 @@ pub(crate) fn port_of(all: &[Port], number: PortNo) -> Option<&Port>
 }
 
 /// A port that is not there, or another address than the port's.
-pub(crate) fn refuse_port_mod(dpid: u64, all: &[Port], m: &PortMod) -> Option<OfError>
+pub(crate) fn refuse_port_mod(dpid: Dpid, all: &[Port], m: &PortMod) -> Option<OfError>
     ensures { result ≡ port_refusal dpid m.now.hw_addr (port_at m.now.port_no all.now) }
 {
     match port_of(all, m.port_no) {

@@ -13,7 +13,7 @@ ghost use Rattle.switch_sim.specs.Readable.{IsReadable, features_message};
 
 use crate::port::Port;
 use flow_table::Notice;
-use of_types::{ByteList, OfError, PortDesc, PortNo, flows};
+use of_types::{ByteList, Dpid, OfError, PortDesc, PortNo, Xid, flows};
 use of_wire::{
     FeaturesReply, FlowRemoved, Message, PacketIn, PortList, PortStatus, SwitchConfig, encode,
 };
@@ -23,7 +23,7 @@ use std::alloc::{AllocError, Global};
 pub(crate) const MOST_FRAME: usize = 65_517;
 
 /// The bytes of a message of the grammar, which is read again.
-pub(crate) fn spell(alloc: Global, xid: u32, message: &Message) -> Result<ByteList, AllocError>
+pub(crate) fn spell(alloc: Global, xid: Xid, message: &Message) -> Result<ByteList, AllocError>
     requires { IsMessage message.now }
     ensures bytes { IfOk result (λ bytes. bytes ≡ message_bytes xid message.now) }
     ensures read { IfOk result (λ bytes. reading_of bytes ≡ Ok (enveloped xid message.now)) }
@@ -79,7 +79,7 @@ fn front(bytes: &[u8]) -> &[u8]
 #[tactic(auto, unfolding(flow_table::specs::Step::error_bytes, of_wire::specs::Spelling::message_size))]
 pub(crate) fn error(
     alloc: Global,
-    xid: u32,
+    xid: Xid,
     message: &Message,
     error: OfError,
 ) -> Result<ByteList, AllocError>
@@ -95,7 +95,7 @@ pub(crate) fn error(
 #[tactic(auto, unfolding(of_wire::specs::Spelling::message_size))]
 fn spell_error(
     alloc: Global,
-    xid: u32,
+    xid: Xid,
     error: OfError,
     payload: ByteList,
 ) -> Result<ByteList, AllocError>
@@ -137,7 +137,7 @@ pub(crate) fn flow_removed(notice: &Notice) -> FlowRemoved
 pub(crate) fn port_status(
     alloc: Global,
     reason: u8,
-    dpid: u64,
+    dpid: Dpid,
     port: &Port,
 ) -> Result<ByteList, AllocError>
     ensures bytes { IfOk result (λ bytes. bytes ≡ port_status reason dpid port.now) }
@@ -148,7 +148,7 @@ pub(crate) fn port_status(
 }
 
 /// The descriptions of ports.
-fn describe_all(alloc: Global, dpid: u64, ports: &[Port]) -> Result<PortList, AllocError>
+fn describe_all(alloc: Global, dpid: Dpid, ports: &[Port]) -> Result<PortList, AllocError>
     ensures ports { IfOk result (λ list. list ≡ map (port_desc dpid) ports.now) }
     ensures fields { IfOk result (λ list. All (λ port. AreFields (port_fields port)) list) }
 {
@@ -163,8 +163,8 @@ fn describe_all(alloc: Global, dpid: u64, ports: &[Port]) -> Result<PortList, Al
 #[tactic(auto, unfolding(of_wire::specs::Spelling::message_size))]
 pub(crate) fn features(
     alloc: Global,
-    xid: u32,
-    dpid: u64,
+    xid: Xid,
+    dpid: Dpid,
     ports: &[Port],
 ) -> Result<ByteList, AllocError>
     requires { length ports.now ≤ 64 }
@@ -186,7 +186,7 @@ pub(crate) fn features(
 
 /// The BARRIER_REPLY (OpenFlow 1.0.0, 5.3.7 Barrier Message).
 #[tactic(auto, unfolding(of_wire::specs::Spelling::message_size))]
-pub(crate) fn barrier(alloc: Global, xid: u32) -> Result<ByteList, AllocError>
+pub(crate) fn barrier(alloc: Global, xid: Xid) -> Result<ByteList, AllocError>
     ensures bytes { IfOk result (λ bytes. bytes ≡ message_bytes xid Message.BarrierReply) }
     ensures readable { IfOk result IsReadable }
 {
@@ -195,7 +195,7 @@ pub(crate) fn barrier(alloc: Global, xid: u32) -> Result<ByteList, AllocError>
 
 /// The ECHO_REPLY with the request's data (OpenFlow 1.0.0, 5.5.3 Echo Reply).
 #[tactic(auto, unfolding(of_wire::specs::Spelling::message_size))]
-pub(crate) fn echo(alloc: Global, xid: u32, payload: &ByteList) -> Result<ByteList, AllocError>
+pub(crate) fn echo(alloc: Global, xid: Xid, payload: &ByteList) -> Result<ByteList, AllocError>
     requires { message_size (Message.EchoRequest payload.now) ≤ 65535 }
     ensures bytes { IfOk result (λ bytes. bytes ≡ message_bytes xid (Message.EchoReply payload.now)) }
     ensures readable { IfOk result IsReadable }
@@ -205,7 +205,7 @@ pub(crate) fn echo(alloc: Global, xid: u32, payload: &ByteList) -> Result<ByteLi
 }
 
 #[tactic(auto, unfolding(of_wire::specs::Spelling::message_size))]
-fn spell_echo(alloc: Global, xid: u32, payload: ByteList) -> Result<ByteList, AllocError>
+fn spell_echo(alloc: Global, xid: Xid, payload: ByteList) -> Result<ByteList, AllocError>
     requires { length payload ≤ 65527 }
     ensures bytes { IfOk result (λ bytes. bytes ≡ message_bytes xid (Message.EchoReply payload)) }
     ensures readable { IfOk result IsReadable }
@@ -215,7 +215,7 @@ fn spell_echo(alloc: Global, xid: u32, payload: ByteList) -> Result<ByteList, Al
 
 /// The GET_CONFIG_REPLY (OpenFlow 1.0.0, 5.3.2 Switch Configuration).
 #[tactic(auto, unfolding(of_wire::specs::Spelling::message_size))]
-pub(crate) fn config(alloc: Global, xid: u32, config: SwitchConfig) -> Result<ByteList, AllocError>
+pub(crate) fn config(alloc: Global, xid: Xid, config: SwitchConfig) -> Result<ByteList, AllocError>
     ensures bytes { IfOk result (λ bytes. bytes ≡ message_bytes xid (Message.GetConfigReply config)) }
     ensures readable { IfOk result IsReadable }
 {

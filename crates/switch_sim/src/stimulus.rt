@@ -14,7 +14,8 @@ use crate::port::Port;
 use crate::refusal::port_of;
 use crate::reply::port_status;
 use crate::switch::SimSwitch;
-use of_types::{ByteList, PortChange, PortNo, Stimulus, ports};
+use of_types::limits::MOST_PORTS;
+use of_types::{ByteList, Dpid, PortChange, PortNo, Stimulus, ports};
 use std::alloc::{AllocError, Global};
 
 fn set_link_at(port: &mut Port, number: PortNo, up: bool)
@@ -35,7 +36,7 @@ fn set_links(all: &mut [Port], number: PortNo, up: bool)
 }
 
 /// What a change of a port sends: a PORT_STATUS with its description.
-fn tell(alloc: Global, reason: u8, dpid: u64, port: &Port) -> Result<MessageList, AllocError>
+fn tell(alloc: Global, reason: u8, dpid: Dpid, port: &Port) -> Result<MessageList, AllocError>
     ensures sent { IfOk result (λ list. list ≡ port_status reason dpid port.now ∷ []) }
     ensures readable { IfOk result AreReadable }
 {
@@ -45,7 +46,7 @@ fn tell(alloc: Global, reason: u8, dpid: u64, port: &Port) -> Result<MessageList
 /// What a link sends that comes or goes: nothing, where it is so already.
 fn tell_link(
     alloc: Global,
-    dpid: u64,
+    dpid: Dpid,
     all: &[Port],
     number: PortNo,
     up: bool,
@@ -68,7 +69,7 @@ fn tell_link(
 /// What a port sends that goes.
 fn tell_deletion(
     alloc: Global,
-    dpid: u64,
+    dpid: Dpid,
     all: &[Port],
     number: PortNo,
 ) -> Result<MessageList, AllocError>
@@ -86,7 +87,7 @@ fn can_add(all: &[Port], number: PortNo) -> bool
     ensures value { result ≡ can_add number all.now }
     ensures room { result ≡ true → length all.now < 64 }
 {
-    port_of(all, number).is_none() && all.len() < 64
+    port_of(all, number).is_none() && all.len() < MOST_PORTS
 }
 
 /// The numbers that were ports, with one more.
@@ -222,7 +223,7 @@ impl SimSwitch {
         }
     }
 
-    /// What happens to the switch beside messages: a frame that arrives, time, a port that changes, flows that count,
+    /// Takes what happens to the switch beside messages: a frame that arrives, time, a port that changes, flows that count,
     /// or bytes that it sends. Gives what it sends then. After want of memory the switch is as before.
     ///
     /// A moment is not before the last and at most 4,294,967,295 seconds; a frame has 14 to 9,216 bytes. What is sent can

@@ -68,7 +68,7 @@ fn copy_numbers(alloc: Global, numbers: &[PortNo]) -> Result<Vec<PortNo>, AllocE
 }
 
 impl SimSwitch {
-    /// A switch that has just joined at moment 0: with an empty table that takes `cap` entries, and its ports, at most
+    /// Makes a switch that has just joined at moment 0: with an empty table that takes `cap` entries, and its ports, at most
     /// 64, with a link each.
     pub fn new(
         alloc: Global,
@@ -82,7 +82,7 @@ impl SimSwitch {
         SimSwitch::joined(alloc, 0, dpid, cap, ports)
     }
 
-    /// A switch that has just joined at a moment, in seconds and at most 4,294,967,295: with an empty table that takes
+    /// Makes a switch that has just joined at a moment, in seconds and at most 4,294,967,295: with an empty table that takes
     /// `cap` entries, and its ports, at most 64, with a link each.
     pub fn joined(
         alloc: Global,
@@ -121,7 +121,7 @@ impl SimSwitch {
         features(self.alloc, 0, self.dpid, &self.ports)
     }
 
-    /// The FEATURES_REPLY of the switch with the `xid` 0 (OpenFlow 1.0.0, 5.3.1 Handshake), as it answers a
+    /// Writes the FEATURES_REPLY of the switch with the `xid` 0 (OpenFlow 1.0.0, 5.3.1 Handshake), as it answers a
     /// FEATURES_REQUEST.
     pub fn features(&self) -> Result<ByteList, AllocError>
         ensures bytes { IfOk result (λ bytes. bytes ≡ features_reply 0 self.now) }
@@ -132,21 +132,21 @@ impl SimSwitch {
         self.features_message()
     }
 
-    /// The number with which it was made; takes no memory.
+    /// Tells the number with which it was made; takes no memory.
     pub fn dpid(&self) -> Dpid
         ensures { result ≡ self.now.declared.dpid }
     {
         self.dpid
     }
 
-    /// How many entries its table takes; takes no memory.
+    /// Tells how many entries its table takes; takes no memory.
     pub fn cap(&self) -> u32
         ensures { result ≡ self.now.declared.cap }
     {
         self.cap
     }
 
-    /// The ports with which it was made; takes no memory.
+    /// Lends the ports with which it was made; takes no memory.
     pub fn declared(&self) -> &[PortNo]
         ensures { result.now ≡ self.now.declared.ports }
     {

@@ -3,8 +3,8 @@ use Rattle.std.proofs.lemmas.Bool.{false_from_ne_true, or_parts}
 use Rattle.of_wire.specs.declared.bodies.FlowMod.{FlowMod}
 use Rattle.flow_table.specs.declared.entry.Entry.{Entry}
 use Rattle.flow_table.specs.declared.notice.Notice.{Notice}
-use Rattle.flow_table.specs.Change.{is_modify, is_delete, adds, deletes, notice, notices_of, entries_after}
-use Rattle.flow_table.specs.ChangeLaws.{tells, is_delete-adds, is_delete-modify, is_delete-rest, notices_of-kept, notices_of-delete, entries_after-adds, entries_after-modify, entries_after-delete}
+use Rattle.flow_table.specs.Change.{is_modify, is_delete, adds, deletes, notice, notices_of, entries_after, tells}
+use Rattle.flow_table.specs.ChangeLaws.{is_delete-adds, is_delete-modify, is_delete-rest, notices_of-kept, notices_of-delete, entries_after-adds, entries_after-modify, entries_after-delete}
 use Rattle.flow_table.proofs.changing.apply.Goals as goal
 
 no_map : (f : Entry → Notice) (es : List Entry) → map f es ≡ [] → es ≡ []
@@ -15,8 +15,8 @@ never : {T E : Type 0} (r : Result T E) (m : FlowMod) (P : Type 0) → is_delete
 never (Ok x) m P other = tt
 never (Err x) m P other = λ does. absurd cc
 
-pub returns-in_err-add-clause-quiet : goal.returns-in_err-add-clause-quiet
-returns-in_err-add-clause-quiet c =
+pub returns-in_err-add-clause-without_notices : goal.returns-in_err-add-clause-without_notices
+returns-in_err-add-clause-without_notices c =
     let adding : adds c.args.m.now c.args.entries.now.items ≡ true = sym c.requires.adding ∙ c.if-adding.true in
     never c.from_residual.result c.args.m.now _ (is_delete-adds c.args.m.now c.args.entries.now.items adding)
 
@@ -59,9 +59,9 @@ due : {T E : Type 0} (r : Result T E) (now : ℕ) (m : FlowMod) (es : List Entry
 due (Ok x) now m es removes some = tt
 due (Err x) now m es removes some = λ _ none. some (no_map (notice 2 now) (filter (tells m) es) (sym (notices_of-delete now m es removes) ∙ none))
 
-pub returns-else-is_modifying-clause-quiet : goal.returns-else-is_modifying-clause-quiet
-returns-else-is_modifying-clause-quiet c =
+pub returns-else-is_modifying-clause-without_notices : goal.returns-else-is_modifying-clause-without_notices
+returns-else-is_modifying-clause-without_notices c =
     let adding : adds c.args.m.now c.args.entries.now.items ≡ false = sym c.requires.adding ∙ c.if-adding.false in
     let modifying : is_modify c.args.m.now ≡ false = sym c.is_modifying.ensures ∙ c.if-is_modifying.false in
     let removes = is_delete-rest c.args.m.now c.args.entries.now.items c.requires.known adding modifying in
-    due c.delete.result c.args.now c.args.m.now c.args.entries.now.items removes c.delete.ensures.quiet
+    due c.delete.result c.args.now c.args.m.now c.args.entries.now.items removes c.delete.ensures.without_notices

@@ -3,7 +3,7 @@ use Rattle.std.specs.List.{count_by}
 use Rattle.std.proofs.lemmas.Grind.{common_steps}
 use Rattle.std.proofs.lemmas.List.Sums.{count_by_more_yes, count_by_more_no}
 use Rattle.std.proofs.lemmas.List.Elements.{All-push}
-use Rattle.flow_table.specs.ChangeLaws.{means}
+use Rattle.flow_table.specs.Change.{means}
 use Rattle.flow_table.proofs.changing.copies.Goals as goal
 use Rattle.flow_table.proofs.changing.copies.Goals.{then-is_described+in_ok-copy_actions+in_ok-push, else-is_described}
 

@@ -1,6 +1,6 @@
 use Rattle.std.proofs.Common.{◌≡◌, ◌≤◌, take, length, All}
 use Rattle.std.specs.List.{count_by}
-use Rattle.flow_table.specs.ChangeLaws.{means}
+use Rattle.flow_table.specs.Change.{means}
 use Rattle.flow_table.proofs.changing.copies.Given as goal
 
 abbrev pub invariant-loop-entry : goal.invariant-loop-entry

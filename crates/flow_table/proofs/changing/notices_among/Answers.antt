@@ -1,7 +1,7 @@
 use Rattle.std.proofs.Common.{◌≡◌, ◌≢◌, ◌<◌, ℕ, true, List, [], Result, Ok, Err, OnErr, filter, length, get_or, zero, suc, ◌∷◌, sym, ap, ◌∙◌, arith}
 use Rattle.std.proofs.lemmas.Bool.{cases_Bool}
 use Rattle.flow_table.specs.declared.entry.Entry.{Entry}
-use Rattle.flow_table.specs.ChangeLaws.{tells}
+use Rattle.flow_table.specs.Change.{tells}
 use Rattle.flow_table.specs.TableLaws.{filter-some}
 use Rattle.flow_table.proofs.changing.notices_among.Goals as goal
 
@@ -9,10 +9,10 @@ on_err : {T E P : Type 0} (r : Result T E) → P → OnErr r P
 on_err (Ok x) p = tt
 on_err (Err x) p = p
 
-pub returns-in_err-notice_of-clause-quiet : goal.returns-in_err-notice_of-clause-quiet
-returns-in_err-notice_of-clause-quiet c =
+pub returns-in_err-notice_of-clause-without_notices : goal.returns-in_err-notice_of-clause-without_notices
+returns-in_err-notice_of-clause-without_notices c =
     on_err c.from_residual.result (filter-some (tells c.args.m.now) c.args.entries.now c.loop-entry.entry-index c.entry-item.result (omega arith) c.entry-item.is (sym c.is_told.ensures ∙ c.if-is_told.true))
 
-pub returns-in_err-push-clause-quiet : goal.returns-in_err-push-clause-quiet
-returns-in_err-push-clause-quiet c =
+pub returns-in_err-push-clause-without_notices : goal.returns-in_err-push-clause-without_notices
+returns-in_err-push-clause-without_notices c =
     on_err c.from_residual-in_err-push.result (filter-some (tells c.args.m.now) c.args.entries.now c.loop-entry.entry-index c.entry-item.result (omega arith) c.entry-item.is (sym c.is_told.ensures ∙ c.if-is_told.true))

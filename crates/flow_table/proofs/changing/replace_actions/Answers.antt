@@ -4,8 +4,7 @@ use Rattle.std.proofs.lemmas.List.{drop_more, take_more_set, drop-set-lt, length
 use Rattle.of_wire.specs.declared.bodies.FlowMod.{FlowMod}
 use Rattle.flow_table.specs.declared.entry.Entry.{Entry}
 use Rattle.flow_table.specs.TableLaws.{an_entry}
-use Rattle.flow_table.specs.Change.{modified}
-use Rattle.flow_table.specs.ChangeLaws.{means}
+use Rattle.flow_table.specs.Change.{modified, means}
 use Rattle.flow_table.proofs.changing.replace_actions.Goals as goal
 
 -- what is left of a map moves to what is done

@@ -1,7 +1,6 @@
 use Rattle.std.proofs.Common.{◌≡◌, ◌≤◌, ◌++◌, map, take, drop, length, All}
 use Rattle.std.specs.List.{count_by}
-use Rattle.flow_table.specs.Change.{modified}
-use Rattle.flow_table.specs.ChangeLaws.{means}
+use Rattle.flow_table.specs.Change.{modified, means}
 use Rattle.flow_table.proofs.changing.replace_actions.Given as goal
 
 abbrev pub invariant-loop-i : goal.invariant-loop-i

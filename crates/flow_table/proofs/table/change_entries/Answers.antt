@@ -2,8 +2,8 @@ use Rattle.std.proofs.Common.{◌≡◌, None, sym, ◌∙◌}
 use Rattle.flow_table.specs.ChangeLaws.{refusal-delete}
 use Rattle.flow_table.proofs.table.change_entries.Goals as goal
 
-pub returns-in-Some-clause-quiet : goal.returns-in-Some-clause-quiet
-returns-in-Some-clause-quiet c = λ deletes none.
+pub returns-in-Some-clause-without_notices : goal.returns-in-Some-clause-without_notices
+returns-in-Some-clause-without_notices c = λ deletes none.
     let free = refusal-delete c.args.cap c.args.m.now c.args.entries.now.items deletes in
     let refused = c.in-Some.ensures.value in
     let same = c.deref-2.ensures.value in

@@ -1,7 +1,8 @@
 use Rattle.std.proofs.Common.{◌≤◌, ◌∙◌, ℕ, List, length, subst, sym}
 use Rattle.std.specs.Prelude.{All}
 use Rattle.of_action.specs.declared.action.Action.{Action}
-use Rattle.switch_sim.specs.EditLaws.{HasAddress, outputs_short}
+use Rattle.switch_sim.specs.EditLaws.{outputs_short}
+use Rattle.switch_sim.specs.Words.{HasAddress}
 use Rattle.switch_sim.proofs.looking.act.Goals as goal
 
 pub packet_ins-requires : goal.packet_ins-requires

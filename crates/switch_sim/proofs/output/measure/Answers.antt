@@ -3,7 +3,7 @@ use Rattle.std.specs.Prelude.{All}
 use Rattle.std.proofs.lemmas.List.{take_all}
 use Rattle.std.proofs.lemmas.List.Elements.{All-more}
 use Rattle.of_action.specs.declared.action.Action.{Action}
-use Rattle.switch_sim.specs.EditLaws.{HasAddress}
+use Rattle.switch_sim.specs.Words.{HasAddress}
 use Rattle.switch_sim.proofs.output.measure.Goals as goal
 
 pub loop-action-preserved : goal.loop-action-preserved
