@@ -1,8 +1,8 @@
-//! The frames between the host and its applications, as values and as bytes. Applications are told of
-//! events, send messages to switches, and hand over checkpoints.
+//! The frames between the host and its applications, as values and as bytes.
 //!
-//! A frame is a length, a kind and a body. It is read from the front of the bytes that have come so far:
-//! whole, yet to come, or refused, by tests in one stated order.
+//! `decode_app` and `decode_host` answer the frame at the front (`exact`), None exactly where it is yet to come (`none`),
+//! or the first fault by one stated order (`found`, `only`). `encode_app` and `encode_host` write the one spelling of a
+//! frame that `fits`. Laws: `laws_of_app_frames`, `laws_of_host_frames`. See docs/FRAMES.md.
 #![tactic(auto)]
 
 mod app;

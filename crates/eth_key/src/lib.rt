@@ -1,5 +1,8 @@
-//! The fields of an Ethernet frame that flow matches are held against, and where its layers stand:
-//! Ethernet with a VLAN tag or SNAP, IPv4 with options and fragments, TCP, UDP, ICMP and ARP.
+//! The packet key of an Ethernet frame, and where its layers stand.
+//!
+//! `key_of` is the definition by layers, total and without memory (`value`, `within`): Ethernet with a VLAN tag or SNAP,
+//! IPv4 with options and fragments, TCP, UDP, ICMP and ARP. `payload_of`, `ipv4_header`, `protocol`, `is_fragment` and
+//! `has_ports` are exact too. See docs/PACKETS.md.
 #![tactic(auto)]
 
 mod ethernet;

@@ -1,5 +1,10 @@
-//! Flow tables of OpenFlow 1.0.0: the entries of a switch, in key order, each key once; what FLOW_MODs,
-//! packets and time make of them. The definitions of a switch stand here too.
+//! Flow tables of OpenFlow 1.0.0: the entries of a switch, in key order, each key once; and the definitions of a whole
+//! switch.
+//!
+//! `Table::change` is answered by its notices, or by the first of BAD_COMMAND, OVERLAP and ALL_TABLES_FULL that stands
+//! against it (`answer`); the table after it is the definition's (`ok`, `err`, `rise`); a delete without notices takes no
+//! memory (`without_notices`). `hit` (`found`, `entries`, `next`), `lookup`, `expire` (`notices`, `ok`, `err`), `select` and
+//! `add_counts` equal their definitions over the whole list; over any list of calls: `run` (`answers`, `ok`, `err`).
 #![tactic(auto)]
 
 mod calls;

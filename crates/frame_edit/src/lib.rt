@@ -1,5 +1,8 @@
-//! What the actions of a flow make of a frame: VLAN tags, addresses, types of service and ports are
-//! written, with the IPv4, TCP and UDP checksums computed anew, and each output gets its copy.
+//! What the actions of a flow make of a frame.
+//!
+//! `apply` gives for each OUTPUT its port and the frame as edited so far; it writes VLAN tags, addresses, types of
+//! service and ports, and computes the IPv4, TCP and UDP checksums anew. Laws: `laws_of_checksums` (what is computed anew
+//! verifies), `laws_of_edits` (bytes outside the field and the checksums stay). See docs/PACKETS.md.
 #![tactic(auto)]
 
 mod applying;

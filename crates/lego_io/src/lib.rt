@@ -1,6 +1,10 @@
-//! Bytes in and bytes out: the traits that the program reads and writes through, with sources and
-//! sinks in memory and over the standard streams, and the lines of a text. A fault of the outside
-//! comes only with a count that rose.
+//! Bytes in and bytes out: sources, sinks, and the lines of a text.
+//!
+//! A fault of the outside comes only with a count that rose. `read_all` reads all bytes to the end (`all`, `end`,
+//! `at_most`), or says that they are too many (`too_long`) or that a read failed (`read_rose`). `write_all` writes all
+//! bytes, or a front of them if the sink fails (`all`, `part`, `fault_rose`). `Lines::next` gives the next line (`line`,
+//! `too_long`). `MemSource` and `MemSink` fail exactly at the calls that they are told; `StdSource` and `StdSink` are the
+//! standard streams.
 #![tactic(auto)]
 
 mod lines;

@@ -1,5 +1,9 @@
-//! How flow matches stand to one another: whether one covers all that another covers, whether two cover
-//! a packet together, and the match of what both cover. The code compares fields and visits no packet.
+//! Relations of flow matches: whether one covers all that another covers, whether two cover a packet together, and their
+//! meet.
+//!
+//! `subsumes`, `overlaps` and `meet` hold of all packet keys (clauses of these names, and `value`; of `meet` also `some`
+//! and `covers`). The code compares fields and visits no packet. Laws: `subsumes_is_an_order`, `overlap_is_symmetric`,
+//! `meet_is_greatest_lower_bound`.
 #![tactic(auto)]
 
 mod fieldwise;

@@ -1,5 +1,8 @@
-//! Actions of OpenFlow 1.0 as values and as bytes: lists of them are read, with the first fault by the
-//! standard's order, and written, each in one spelling.
+//! Actions of OpenFlow 1.0 as values and as bytes.
+//!
+//! `decode_list` answers Ok exactly on the grammar, else the first fault by the standard's order, with its offset
+//! (`exact`, `found`, `only`); `check_list` answers the same without memory. `encode_list` writes the one spelling,
+//! `size` is its length, `outputs_to` says whether one of them outputs to a port. Law: `laws_of_lists`.
 #![tactic(auto)]
 
 mod action;

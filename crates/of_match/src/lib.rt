@@ -1,5 +1,8 @@
-//! Flow matches of OpenFlow 1.0.0 in their normal form: the twelve fields, the 40 bytes on the wire,
-//! the text of a match, and the keys of flow entries in the order of a table.
+//! Flow matches of OpenFlow 1.0.0 in normal form: twelve fields, 40 bytes, a text, and the keys of flow entries.
+//!
+//! `Match::decode` and `Match::encode` are the normal form (`normal`, `kept`); `Match::new`, `Match::fields` (`value`,
+//! `within`) and `text` are exact. `covers` says of each packet key whether the match covers it (`covers`, `value`).
+//! Laws: `decode_after_encode`, `fields_of_matches`, `one_normal_form`, `places_of_keys`.
 #![tactic(auto)]
 
 mod codec;

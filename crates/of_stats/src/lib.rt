@@ -1,6 +1,9 @@
 //! Statistics of OpenFlow 1.0: rows and sums as values and as bytes, and replies in parts.
 //!
-//! Rows are read with the first fault by place; a reply is split into as few parts as its rows fill.
+//! `read_flow_rows` answers Ok exactly on the grammar, else `Bad` with the offset of the first row at fault (`exact`,
+//! `found`, `only`); `write_flow_rows`, sums, rows of tables and of ports are exact. `split_reply` makes full parts,
+//! `join_replies` joins them or tells the first that does not belong (`joined`, `bad`). Laws: `laws_of_rows`,
+//! `laws_of_layouts`, `laws_of_parts`.
 #![tactic(auto)]
 
 mod fault;

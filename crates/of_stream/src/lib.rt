@@ -1,6 +1,8 @@
 //! The bytes of a connection, which come in pieces of any size, cut into OpenFlow messages.
 //!
-//! The cutter goes by the length in each header alone, and looks at nothing else of a message.
+//! `Cutter::next` hands out the front of what is held if that is a whole frame (`frame`, `none`, `bad_length`, `kept`,
+//! `err`), by the length in the header alone; `Cutter::feed` appends (`ok`, `err`, `stays`). `cut_pieces` gives the same
+//! frames however the stream was cut (`split`, `only`). Law: `laws_of_streams`.
 #![tactic(auto)]
 
 mod cutter;

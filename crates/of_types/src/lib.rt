@@ -1,5 +1,8 @@
-//! The plain words that every OpenFlow 1.0 crate shares: constants, limits, errors, ports, numbers at
-//! offsets in bytes, and lists of bytes. It also holds the acts and stimuli that a journal is made of.
+//! The plain words that all OpenFlow 1.0 crates share: constants, errors, ports, numbers in bytes, lists of bytes, and
+//! acts.
+//!
+//! `get_u16`, `put_u16` and their kin read and write exactly the field at its offset, and change no other byte (`field`,
+//! `front`). `ByteList` is seen as a list of bytes. Laws: `laws_of_fields`, `law_of_layouts`.
 #![tactic(auto)]
 
 pub mod actions;

@@ -1,5 +1,8 @@
-//! Messages of OpenFlow 1.0 as values and as bytes: each is read, with the first fault by one stated
-//! order, and written in its one spelling. Matches are kept in their normal form.
+//! Messages of OpenFlow 1.0 as values and as bytes.
+//!
+//! `decode` answers Ok exactly on the grammar, else the first fault by one stated order (`exact`, `found`, `only`);
+//! `check` answers the same without memory. `encode`, `encode_into` and `size` are the one spelling. Matches are in
+//! normal form. Laws: `decode_after_encode`, `one_reading`, `encode_after_decode`. See docs/WIRE.md.
 #![tactic(auto)]
 
 mod bodies;

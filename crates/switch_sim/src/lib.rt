@@ -1,5 +1,9 @@
-//! A simulated switch of OpenFlow 1.0.0: what messages, frames, time and changes of ports make of it, and what it
-//! sends then, exactly by the definitions of `flow_table`.
+//! A simulated switch of OpenFlow 1.0.0.
+//!
+//! `SimSwitch::message` and `SimSwitch::stimulus` send and leave exactly what the definitions of `flow_table` say
+//! (`sent`, `ok`, `serials`); want of memory leaves the switch as it was (`err`); what it sends can be read and is not
+//! too long or too much (`readable`, `short`, `few`). `due` and `pass` are what a moment sends, and the moment itself,
+//! which takes no memory. `features` is its FEATURES_REPLY (`bytes`, `read`, `own`). See docs/SWITCH.md.
 #![tactic(auto)]
 
 mod laws;
