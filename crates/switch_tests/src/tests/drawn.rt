@@ -1,6 +1,6 @@
 //! A table, and the plain body of the same definitions, over calls that look drawn.
 
-ghost use Rattle.std.specs.Prelude.{IsTrue};
+ghost use Rattle.std.specs.Prelude.{◌≤◌, All, IsTrue};
 ghost use Rattle.flow_table.specs.Table.{IsMoment};
 
 use super::entries::{ANY, PORT_1, PORT_2, flow_mod, matching};
@@ -87,14 +87,23 @@ struct Plain {
     next: u64,
 }
 
+/// The last moment at which an entry was put in or used; 0 in an empty table.
+fn latest(entries: &[Entry]) -> u64
+    ensures installed { All (λ e. e.installed ≤ result) entries.now }
+    ensures used { All (λ e. e.used ≤ result) entries.now }
+{
+    let mut last = 0u64;
+    for entry in entries {
+        last = last.max(entry.installed).max(entry.used);
+    }
+    last
+}
+
 /// Whether a moment is within the last one, and no entry was put in or used after it.
 fn is_moment(entries: &[Entry], now: u64) -> bool
     ensures { IsTrue result → IsMoment now entries.now }
 {
-    now <= LAST_MOMENT
-        && entries
-            .iter()
-            .all(|entry| entry.installed <= now && entry.used <= now)
+    now <= LAST_MOMENT && latest(entries) <= now
 }
 
 /// What the plain body makes of a call; `None` where it may not be made.
