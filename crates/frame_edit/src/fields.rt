@@ -71,7 +71,7 @@ pub(crate) fn set_service(frame: &mut [u8], tos: u8)
     if let Some(header) = ipv4_header(frame) {
         let at = header.start + 1;
         let low_bits = get_u8(frame, at) & 0x03;
-        rewrite_u8(frame, &header, at, (tos & 0xfc) | low_bits);
+        rewrite_u8(frame, &header, at, (tos >> 2 << 2) | low_bits);
     }
 }
 

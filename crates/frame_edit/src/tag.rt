@@ -35,7 +35,7 @@ pub(crate) fn set_identifier(frame: &mut Vec<u8>, vid: u16) -> Result<(), AllocE
         put_u16(
             frame.as_mut_slice(),
             CONTROL,
-            (control & 0xf000) | (vid & 0x0fff),
+            (control >> 12 << 12) | (vid & 0x0fff),
         );
     } else if frame.len() >= ETHERNET_LEN {
         insert_tag(frame, vid & 0x0fff)?;
