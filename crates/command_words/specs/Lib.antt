@@ -1,0 +1,4 @@
+pub mod Plain
+pub mod PlainApp
+pub mod Numbers
+pub mod Commands

@@ -1,0 +1,78 @@
+//! The commands of the program.
+
+ghost use Rattle.std.specs.Prelude.{◌≡◌, map, IfSome};
+ghost use Rattle.command_words.specs.Commands.{replay_with, run_with, command_with, command_named, usage_line, IsWithin};
+
+use crate::numbers::number;
+
+/// What the program is asked to do.
+#[derive(Drop, Debug, Clone, Copy, PartialEq, Eq)]
+pub enum Command {
+    /// Run a session that is read from standard input.
+    Replay,
+    /// Control switches that connect.
+    Run {
+        /// The TCP port to listen at, from 1 on.
+        port: u16,
+        /// How many stimuli are taken at most, from 1 to 1,000,000,000.
+        rounds: u64,
+    },
+}
+
+/// What is written where the words are no command.
+const USAGE: &str = "usage: legosdn replay, run PORT ROUNDS";
+
+/// The line that says which words are commands, without its end.
+pub fn usage_line() -> &'static str
+    ensures { result.now ≡ usage_line }
+{
+    USAGE
+}
+
+/// `replay`
+fn replay_with(arguments: &[&str]) -> Option<Command>
+    ensures value { result ≡ replay_with (map (λ a. a.now) arguments.now) }
+    ensures within { IfSome result IsWithin }
+{
+    match arguments {
+        [] => Some(Command::Replay),
+        _ => None,
+    }
+}
+
+/// `run PORT ROUNDS`
+#[tactic(auto, unfolding(crate::specs::Commands::run_with))]
+fn run_with(arguments: &[&str]) -> Option<Command>
+    ensures value { result ≡ run_with (map (λ a. a.now) arguments.now) }
+    ensures within { IfSome result IsWithin }
+{
+    match arguments {
+        [port, rounds] => Some(Command::Run {
+            port: number(port, 1, 65_535)? as u16,
+            rounds: number(rounds, 1, 1_000_000_000)?,
+        }),
+        _ => None,
+    }
+}
+
+/// The command of a name with its arguments.
+#[tactic(auto, unfolding(crate::specs::Commands::command_with))]
+fn command_with(name: &str, arguments: &[&str]) -> Option<Command>
+    ensures value { result ≡ command_with name.now (map (λ a. a.now) arguments.now) }
+    ensures within { IfSome result IsWithin }
+{
+    match name {
+        "replay" => replay_with(arguments),
+        "run" => run_with(arguments),
+        _ => None,
+    }
+}
+
+/// The command that plain words name.
+pub(crate) fn command_named(words: &[&str]) -> Option<Command>
+    ensures value { result ≡ command_named (map (λ w. w.now) words.now) }
+    ensures within { IfSome result IsWithin }
+{
+    let (name, arguments) = words.split_first()?;
+    command_with(name, arguments)
+}
