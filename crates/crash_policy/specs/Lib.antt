@@ -1,0 +1,6 @@
+pub mod Policies
+pub mod Faults
+pub mod Keys
+pub mod Steps
+pub mod Asking
+pub mod Replacing
