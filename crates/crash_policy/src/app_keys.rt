@@ -1,6 +1,7 @@
 //! The keys of an application, each with its values and what holds where it is not there.
 
-ghost use Rattle.std.specs.Prelude.{◌≡◌, ◌==◌, map, option_map, option_copied, option_and_then, string_bytes, IfOk};
+ghost use Rattle.std.specs.Prelude.{◌≡◌, ◌==◌, nat_le, map, option_map, option_copied, option_and_then, string_bytes, IfOk};
+ghost use Rattle.std.specs.List.{list_all};
 ghost use Rattle.toml.specs.Data.{as_str};
 ghost use Rattle.toml.specs.View.{view, array_view, table_view};
 ghost use Rattle.crash_policy.specs.Faults.{Gives};
@@ -144,13 +145,27 @@ fn counts(items: &Array) -> [usize; 6]
     ]
 }
 
+/// Whether each kind of event is named at most once.
+fn are_single(counts: &[usize]) -> bool
+    ensures { result ≡ list_all (λ n. nat_le n 1) counts.now }
+{
+    counts.iter().all(|n| *n <= 1)
+}
+
+/// Which kinds of events are named once.
+fn named_once(counts: [usize; 6]) -> [bool; 6]
+    ensures { result ≡ map (λ n. n == 1) counts }
+{
+    counts.map(|n| n == 1)
+}
+
 fn events_in(value: &Value) -> Option<[bool; 6]>
     ensures { result ≡ spec.events_in (view value.now) }
 {
     let items = value.as_array()?;
     let counts = counts(items);
-    if are_event_texts(items) && counts.iter().all(|n| *n <= 1) {
-        Some(counts.map(|n| n == 1))
+    if are_event_texts(items) && are_single(&counts) {
+        Some(named_once(counts))
     } else {
         None
     }
