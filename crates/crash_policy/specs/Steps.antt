@@ -60,14 +60,14 @@ document_answer ms = do
   Ok (record { quota = quota; apps = apps })
 
 -- what TOML makes of bytes: they are UTF-8, and a document
-unfoldable pub document_of : List ℕ → Option Members
-document_of bytes = if is_utf8 bytes then parse_document bytes else None
+abbrev pub or_no_text : Option Members → Result Members Fault
+or_no_text None = Err no_text
+or_no_text (Some ms) = Ok ms
 
-abbrev pub read_document : Option Members → Result PolicyValue Fault
-read_document None = Err no_text
-read_document (Some ms) = document_answer ms
+unfoldable pub document_of : List ℕ → Result Members Fault
+document_of bytes = if is_utf8 bytes then or_no_text (parse_document bytes) else Err no_text
 
 -- No byte at all stands for one application `app` with all defaults.
 unfoldable pub policy_steps : List ℕ → Result PolicyValue Fault
 policy_steps [] = Ok default_policy
-policy_steps (b ∷ bytes) = read_document (document_of (b ∷ bytes))
+policy_steps (b ∷ bytes) = document_of (b ∷ bytes) >>= document_answer

@@ -156,7 +156,15 @@ fn are_single(counts: &[usize]) -> bool
 fn named_once(counts: [usize; 6]) -> [bool; 6]
     ensures { result ≡ map (λ n. n == 1) counts }
 {
-    counts.map(|n| n == 1)
+    let [join, leave, packet_in, flow_removed, port_status, error] = counts;
+    [
+        join == 1,
+        leave == 1,
+        packet_in == 1,
+        flow_removed == 1,
+        port_status == 1,
+        error == 1,
+    ]
 }
 
 fn events_in(value: &Value) -> Option<[bool; 6]>

@@ -8,6 +8,7 @@ mod document;
 mod members;
 mod policy_fault;
 mod policy_file;
+mod reading;
 
 mod replacing;
 mod top_keys;
@@ -17,6 +18,7 @@ pub use asking::{listens, rule};
 pub use policy_fault::PolicyFault;
 pub use policy_file::{AppRule, Policy, PolicyFile};
 
+pub use reading::read_policy;
 pub use replacing::replacements;
 
 
