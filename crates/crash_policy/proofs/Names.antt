@@ -7,7 +7,7 @@ use Rattle.std.specs.Map.{keys_of, lookup, values_of}
 use Rattle.std.specs.Str.{bytes_eq}
 use Rattle.crash_policy.specs.declared.policy_file.AppRule.{AppRule}
 use Rattle.crash_policy.specs.Policies.{app_value}
-use Rattle.crash_policy.specs.Steps.{is_taken}
+use Rattle.crash_policy.specs.Order.{is_taken}
 use Rattle.crash_policy.specs.Named.{values_in, AreNamed}
 
 abbrev pub Entry : Type 0

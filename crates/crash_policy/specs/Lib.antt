@@ -1,7 +1,9 @@
 pub mod Policies
 pub mod Faults
 pub mod Keys
+pub mod Order
 pub mod Steps
+pub mod OrderLaws
 pub mod Named
 pub mod Asking
 pub mod Replacing

@@ -1,12 +1,11 @@
--- A policy read step by step: each step is a key's word, and the first fault is the answer. All of this is our own.
-use Rattle.std.specs.Prelude.{ℕ, ◌==◌, if◌then◌else◌, Bool, List, [], ◌∷◌, ◌++◌, codes, Option, Some, None, Result, Ok, Err}
-use Rattle.std.specs.List.{list_any}
-use Rattle.std.specs.Str.{bytes_eq, is_utf8}
+-- A policy read step by step, as the parts of the reader do it. `OrderLaws` has that this is the first fault of the list of
+-- tests, or the value. All of this is our own.
+use Rattle.std.specs.Prelude.{if◌then◌else◌, List, [], ◌∷◌, ◌++◌, Result, Ok, Err}
 use Rattle.toml.specs.Data.{Members}
-use Rattle.toml.specs.Parse.{parse_document}
 use Rattle.crash_policy.specs.declared.words.Place.TheVariants as place
-use Rattle.crash_policy.specs.Policies.{AppValue, PolicyValue, default_policy}
-use Rattle.crash_policy.specs.Faults.{Fault, no_text, double, ◌>>=◌}
+use Rattle.crash_policy.specs.Policies.{AppValue, PolicyValue}
+use Rattle.crash_policy.specs.Faults.{Fault, double, ◌>>=◌}
+use Rattle.crash_policy.specs.Order.{is_taken}
 use Rattle.crash_policy.specs.Keys.{known_keys, budget_answer, command_answer, events_answer, needed_name, name_answer, policy_answer, rules_answer, rules_keys, judge_answer, quota_answer, needed_apps, apps_answer}
 
 -- the keys of an application, and that it has a name
@@ -32,10 +31,6 @@ app_answer ms = do
   keys ← app_keys ms
   app_values ms
 
--- an earlier application has the name
-abbrev pub is_taken : List ℕ → List AppValue → Bool
-is_taken name done = list_any (λ app. bytes_eq name app.name) done
-
 abbrev pub added : AppValue → List AppValue → Result (List AppValue) Fault
 added app done = if is_taken app.name done then Err (double app.name) else Ok (done ++ app ∷ [])
 
@@ -58,16 +53,3 @@ document_answer ms = do
   quota ← quota_answer judge ms
   apps ← apps_after [] tables
   Ok (record { quota = quota; apps = apps })
-
--- what TOML makes of bytes: they are UTF-8, and a document
-abbrev pub or_no_text : Option Members → Result Members Fault
-or_no_text None = Err no_text
-or_no_text (Some ms) = Ok ms
-
-unfoldable pub document_of : List ℕ → Result Members Fault
-document_of bytes = if is_utf8 bytes then or_no_text (parse_document bytes) else Err no_text
-
--- No byte at all stands for one application `app` with all defaults.
-unfoldable pub policy_steps : List ℕ → Result PolicyValue Fault
-policy_steps [] = Ok default_policy
-policy_steps (b ∷ bytes) = document_of (b ∷ bytes) >>= document_answer

@@ -5,6 +5,7 @@ ghost use Rattle.indexmap.specs.IndexMap.{values};
 ghost use Rattle.toml.specs.View.{table_view};
 ghost use Rattle.crash_policy.specs.Policies.{app_value, policy_value};
 ghost use Rattle.crash_policy.specs.Faults.{Gives};
+ghost use Rattle.crash_policy.specs.Order.{document_policy};
 ghost use Rattle.crash_policy.specs.Steps as spec;
 ghost use Rattle.crash_policy.specs.Named.{values_in, AreNamed};
 
@@ -102,9 +103,9 @@ fn apps(alloc: Global, tables: &[&Table]) -> Result<Vec<AppRule>, PolicyFault>
     Ok(in_order(alloc, apps)?)
 }
 
-/// The policy of a document.
+/// The policy of a document, step by step.
 #[tactic(auto, unfolding(crate::specs::Steps::document_answer))]
-pub(crate) fn file(alloc: Global, table: &Table) -> Result<PolicyFile, PolicyFault>
+fn by_steps(alloc: Global, table: &Table) -> Result<PolicyFile, PolicyFault>
     ensures { Gives policy_value result (spec.document_answer (table_view table.now)) }
 {
     top_keys(alloc, table)?;
@@ -113,4 +114,11 @@ pub(crate) fn file(alloc: Global, table: &Table) -> Result<PolicyFile, PolicyFau
     let quota = quota(alloc, judge, table)?;
     let apps = apps(alloc, &tables)?;
     Ok(PolicyFile { quota, apps })
+}
+
+/// The policy of a document: the first fault of the tests, or the value.
+pub(crate) fn file(alloc: Global, table: &Table) -> Result<PolicyFile, PolicyFault>
+    ensures { Gives policy_value result (document_policy (table_view table.now)) }
+{
+    by_steps(alloc, table)
 }

@@ -4,7 +4,7 @@ ghost use Rattle.std.specs.Prelude.{◌≡◌, IfOk};
 ghost use Rattle.toml.specs.View.{table_view};
 ghost use Rattle.crash_policy.specs.Policies.{policy_value, default_policy};
 ghost use Rattle.crash_policy.specs.Faults.{Gives};
-ghost use Rattle.crash_policy.specs.Steps.{document_of, policy_steps};
+ghost use Rattle.crash_policy.specs.Order.{document_of, policy_of};
 
 use crate::document::file;
 use crate::policy_fault::PolicyFault;
@@ -42,9 +42,9 @@ fn document(alloc: Global, text: &[u8]) -> Result<Table, PolicyFault>
 
 /// The policy that a text says, or the first thing that is wrong with it. A text of no bytes stands for
 /// one application `app` with all defaults.
-#[tactic(auto, unfolding(crate::specs::Steps::policy_steps))]
+#[tactic(auto, unfolding(crate::specs::Order::policy_of))]
 pub fn read_policy(alloc: Global, text: &[u8]) -> Result<PolicyFile, PolicyFault>
-    ensures { Gives policy_value result (policy_steps text.now) }
+    ensures { Gives policy_value result (policy_of text.now) }
 {
     if text.is_empty() {
         return Ok(default_file(alloc)?);

@@ -3,7 +3,7 @@ use Rattle.std.proofs.lemmas.Bool.{cases_Bool, false≢true}
 use Rattle.std.proofs.lemmas.Str.{IsUtf8-from_is_utf8, is_utf8-from_IsUtf8}
 use Rattle.std.specs.Str.{is_utf8}
 use Rattle.toml.specs.Parse.{parse_document}
-use Rattle.crash_policy.specs.Steps.{document_of}
+use Rattle.crash_policy.specs.Order.{document_of}
 use Rattle.crash_policy.proofs.reading.document.Goals as goal
 
 pub returns-in-Ok : goal.returns-in-Ok
