@@ -1,8 +1,9 @@
--- The keys of a policy text, one word each: the value that a table gives the key, or the key's fault. A key is read from the
--- members of a table, which ascend by the bytes of their keys. All of this is our own.
+-- The keys of a policy text, one word each: the value that a table gives the key, or the key's fault. All of this is our own.
 use Rattle.std.specs.Prelude.{ℕ, ◌+◌, ◌-◌, ◌^◌, ◌==◌, ◌&&◌, ◌||◌, ℤ, pos, negsuc, nat_le, nat_lt, if◌then◌else◌, Bool, true, false, List, [], ◌∷◌, map, length, replicate, codes, Option, Some, None, is_some, option_map, option_and_then, Result, Ok, Err}
 use Rattle.std.specs.List.{list_all, list_any}
 use Rattle.std.specs.Str.{bytes_eq}
+use Rattle.std.specs.Ordering.{nat_cmp, is_lt}
+use Rattle.std.specs.Cmp.Lexicographic.{slice_cmp}
 use Rattle.toml.specs.Data.{Data, string, integer, array, table, Items, no_items, item, Members, no_members, member, get_member, as_str, as_integer, as_array, as_table}
 use Rattle.crash_policy.specs.declared.policy_file.Policy.{Policy}
 use Rattle.crash_policy.specs.declared.policy_file.Policy.TheVariants as policy
@@ -45,10 +46,19 @@ abbrev pub keys_in : Members → List (List ℕ)
 keys_in no_members = []
 keys_in (member k d ms) = k ∷ keys_in ms
 
--- the first key that is not known
-abbrev pub all_known : (List ℕ → Bool) → List (List ℕ) → Result (Unit {0}) Fault
-all_known is_known [] = Ok tt
-all_known is_known (k ∷ ks) = if is_known k then all_known is_known ks else Err (unknown k)
+-- the least of the keys that are not known, by their bytes
+abbrev pub lesser : List ℕ → Option (List ℕ) → List ℕ
+lesser key None = key
+lesser key (Some other) = if is_lt (slice_cmp nat_cmp other key) then other else key
+
+abbrev pub least_unknown : (List ℕ → Bool) → List (List ℕ) → Option (List ℕ)
+least_unknown is_known [] = None
+least_unknown is_known (key ∷ keys) =
+    if is_known key then least_unknown is_known keys else Some (lesser key (least_unknown is_known keys))
+
+abbrev pub unless_unknown : Option (List ℕ) → Result (Unit {0}) Fault
+unless_unknown None = Ok tt
+unless_unknown (Some key) = Err (unknown key)
 
 -- the keys that a place of the text may have
 abbrev pub is_known : Place → List ℕ → Bool
@@ -56,8 +66,8 @@ is_known place.Top key = is_top_key key
 is_known place.App key = is_app_key key
 is_known place.Rules key = is_event_name key
 
-abbrev pub known_keys : Place → Members → Result (Unit {0}) Fault
-known_keys at ms = all_known (is_known at) (keys_in ms)
+unfoldable pub known_keys : Place → Members → Result (Unit {0}) Fault
+known_keys at ms = unless_unknown (least_unknown (is_known at) (keys_in ms))
 
 -- the key is there
 abbrev pub needed : List ℕ → Members → Result (Unit {0}) Fault
@@ -170,7 +180,7 @@ rule_for default event ms = or_default default policy_in (get_member event ms)
 unfoldable pub rules_items : Policy → Members → Option (List Policy)
 rules_items default ms =
     option_and_then (λ a. option_and_then (λ b. option_and_then (λ c. option_and_then (λ d. option_and_then (λ e. option_map (λ f.
-      a ∷ b ∷ c ∷ d ∷ e ∷ f ∷ [])
+    a ∷ b ∷ c ∷ d ∷ e ∷ f ∷ [])
     (rule_for default (codes "error") ms))
     (rule_for default (codes "port_status") ms))
     (rule_for default (codes "flow_removed") ms))

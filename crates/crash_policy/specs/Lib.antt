@@ -1,6 +1,7 @@
 pub mod Policies
 pub mod Faults
 pub mod Keys
+pub mod Ascending
 pub mod Order
 pub mod Steps
 pub mod OrderLaws

@@ -54,9 +54,9 @@ app_values-tests ms =
     bind_first (events_answer ms) _ _ _ (λ events is_events.
     bind_first (name_answer ms) _ _ _ (λ name is_name.
     bind_first (policy_answer ms) _ _ _ (λ own is_own.
-      let same : own ≡ policy_given ms = sym (ap (given policy.Absolute) is_own) in
-      rw same (bind_first (rules_answer (policy_given ms) ms) _ _ _ (λ kinds are_kinds.
-        rw (is_budget, is_command, is_events, is_name, are_kinds)))
+    let same : own ≡ policy_given ms = sym (ap (given policy.Absolute) is_own) in
+    rw same (bind_first (rules_answer (policy_given ms) ms) _ _ _ (λ kinds are_kinds.
+    rw (is_budget, is_command, is_events, is_name, are_kinds)))
     )))))
 
 app_answer-tests : (ms : Members) → app_answer ms ≡ unless_fault (first_of (app_tests ms)) (app_given ms)
@@ -108,19 +108,19 @@ rest_tests ms =
 abbrev rest_answer : Members → Result PolicyValue Fault
 rest_answer ms =
     apps_answer ms >>= (λ tables. judge_answer ms >>= (λ j. quota_answer j ms >>= (λ quota. apps_after [] tables >>= (λ apps.
-      Ok (record { quota = quota; apps = apps })))))
+    Ok (record { quota = quota; apps = apps })))))
 
 rest_answer-tests : (ms : Members) → rest_answer ms ≡ unless_fault (first_of (rest_tests ms)) (document_given ms)
 unfolding document_given
 rest_answer-tests ms =
     bind_first (apps_answer ms) _ _ _ (λ tables are_tables.
     bind_first (judge_answer ms) _ _ _ (λ j is_judge.
-      let named : j ≡ judge_given ms = sym (ap (given judge.All) is_judge) in
-      rw named (bind_first (quota_answer (judge_given ms) ms) _ _ _ (λ quota is_quota.
-        let all : tables ≡ tables_given ms = sym (ap (given []) are_tables) in
-        let most : quota ≡ given None (quota_answer (judge_given ms) ms) = sym (ap (given None) is_quota) in
-        rw (all, most) (ap (λ (r : Result (List AppValue) Fault). r >>= (λ apps. Ok (record { quota = given None (quota_answer (judge_given ms) ms); apps = apps }))) (apps_after-tests [] (tables_given ms))
-          ∙ bind_last (first_of (apps_tests [] (tables_given ms))) (map app_given (tables_given ms)) (λ apps. record { quota = given None (quota_answer (judge_given ms) ms); apps = apps }))))))
+    let named : j ≡ judge_given ms = sym (ap (given judge.All) is_judge) in
+    rw named (bind_first (quota_answer (judge_given ms) ms) _ _ _ (λ quota is_quota.
+    let all : tables ≡ tables_given ms = sym (ap (given []) are_tables) in
+    let most : quota ≡ given None (quota_answer (judge_given ms) ms) = sym (ap (given None) is_quota) in
+    rw (all, most) (ap (λ (r : Result (List AppValue) Fault). r >>= (λ apps. Ok (record { quota = given None (quota_answer (judge_given ms) ms); apps = apps }))) (apps_after-tests [] (tables_given ms))
+    ∙ bind_last (first_of (apps_tests [] (tables_given ms))) (map app_given (tables_given ms)) (λ apps. record { quota = given None (quota_answer (judge_given ms) ms); apps = apps }))))))
 
 pub document_answer-tests : (ms : Members) → document_answer ms ≡ document_policy ms
 unfolding document_answer document_policy document_tests

@@ -9,8 +9,9 @@ ghost use Rattle.crash_policy.specs.Order.{document_policy};
 ghost use Rattle.crash_policy.specs.Steps as spec;
 ghost use Rattle.crash_policy.specs.Named.{values_in, AreNamed};
 
-
-use crate::app_keys::{budget, command, events, known_in_rules, name, needed_name, policy, rule_list};
+use crate::app_keys::{
+    budget, command, events, known_in_rules, name, needed_name, policy, rule_list,
+};
 use crate::members::known_keys;
 use crate::policy_fault::PolicyFault;
 use crate::policy_file::{AppRule, PolicyFile};

@@ -9,7 +9,6 @@ mod members;
 mod policy_fault;
 mod policy_file;
 mod reading;
-
 mod replacing;
 mod top_keys;
 mod words;
@@ -17,9 +16,8 @@ mod words;
 pub use asking::{listens, rule};
 pub use policy_fault::PolicyFault;
 pub use policy_file::{AppRule, Policy, PolicyFile};
-
 pub use reading::read_policy;
 pub use replacing::replacements;
 
-
-
+#[cfg(test)]
+mod tests;

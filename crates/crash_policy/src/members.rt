@@ -1,10 +1,14 @@
 //! The keys of a table, and what is wrong with them.
 
-ghost use Rattle.std.specs.Prelude.{◌≡◌, option_map, Err};
+ghost use Rattle.std.specs.Prelude.{◌≡◌, map, option_map, string_bytes, Err};
+ghost use Rattle.std.specs.BTreeMap.{IsOrdered, keys};
+ghost use Rattle.std.specs.String.{string_cmp};
 ghost use Rattle.toml.specs.Data.{get_member};
 ghost use Rattle.toml.specs.View.{view, array_view, table_view};
 ghost use Rattle.crash_policy.specs.Faults.{Gives, Refuses, out_of_range as range_of};
 ghost use Rattle.crash_policy.specs.Keys as spec;
+ghost use Rattle.crash_policy.specs.Keys.{is_known};
+ghost use Rattle.crash_policy.specs.Ascending.{first_unknown};
 
 use crate::policy_fault::PolicyFault;
 use crate::words::{Place, is_known, number_within};
@@ -29,16 +33,28 @@ pub(crate) fn out_of_range(alloc: Global, key: &str) -> PolicyFault
     }
 }
 
-/// That each key is one that the place may have. The first other one is the fault.
-pub(crate) fn known_keys(table: &Table, place: Place) -> Result<(), PolicyFault>
-    ensures { Gives (λ u. u) result (spec.known_keys place (table_view table.now)) }
+/// The first key that the place may not have.
+fn first_unknown(table: &Table, place: Place) -> Option<&String>
+    ensures first { option_map (λ k. string_bytes k.now) result
+        ≡ first_unknown (is_known place) (map string_bytes (keys table.now)) }
+    ensures ascending { IsOrdered string_cmp table.now }
 {
     for key in table.keys() {
         if !is_known(place, key.as_str()) {
-            return Err(PolicyFault::UnknownKey(key.clone()?));
+            return Some(key);
         }
     }
-    Ok(())
+    None
+}
+
+/// That each key is one that the place may have. The least other one is the fault.
+pub(crate) fn known_keys(table: &Table, place: Place) -> Result<(), PolicyFault>
+    ensures { Gives (λ u. u) result (spec.known_keys place (table_view table.now)) }
+{
+    match first_unknown(table, place) {
+        None => Ok(()),
+        Some(key) => Err(PolicyFault::UnknownKey(key.clone()?)),
+    }
 }
 
 /// That the key is there.

@@ -41,7 +41,9 @@ fn apps_in(alloc: Global, value: Option<&Value>) -> Result<Option<Vec<&Table>>, 
         (λ o. option_map (λ v. map (λ t. table_view t.now) v.items) o ≡ spec.apps_in (option_map (λ v. view v.now) value.entry)) }
 {
     match value {
-        Some(Value::Array(items)) if 1 <= count(items) && count(items) <= 32 => tables_of(alloc, items),
+        Some(Value::Array(items)) if 1 <= count(items) && count(items) <= 32 => tables_of(
+            alloc, items,
+        ),
         _ => Ok(None),
     }
 }
