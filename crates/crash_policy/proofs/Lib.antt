@@ -1,3 +1,4 @@
+pub mod Sorting
 pub mod Least
 pub mod Names
 pub mod Items
