@@ -1,6 +1,5 @@
 -- The items of an array one after the other, as a loop reads them, and the keys of a table.
-use Rattle.std.proofs.Common.{◌≡◌, ℕ, suc, ◌+◌, ◌<◌, ◌&&◌, Bool, List, [], ◌∷◌, length, get_or, drop, map, Option, option_map, option_and_then, if◌then◌else◌, String, Global, string_bytes, refl, sym, ap, ◌∙◌, arith}
-use Rattle.std.proofs.lemmas.List.{drop_more}
+use Rattle.std.proofs.Common.{◌≡◌, ℕ, ◌+◌, ◌<◌, ◌&&◌, List, [], ◌∷◌, length, get_or, drop, map, option_map, option_and_then, if◌then◌else◌, string_bytes, refl, ap, arith}
 use Rattle.std.specs.Map.{keys_of}
 use Rattle.toml.specs.declared.value.Value.{Value}
 use Rattle.toml.specs.Data.{as_str, as_table}

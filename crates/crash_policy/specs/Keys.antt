@@ -1,10 +1,10 @@
 -- The keys of a policy text, one word each: the value that a table gives the key, or the key's fault. All of this is our own.
-use Rattle.std.specs.Prelude.{ℕ, ◌+◌, ◌-◌, ◌^◌, ◌==◌, ◌&&◌, ◌||◌, ℤ, pos, negsuc, nat_le, nat_lt, if◌then◌else◌, Bool, true, false, List, [], ◌∷◌, map, length, replicate, codes, Option, Some, None, is_some, option_map, option_and_then, Result, Ok, Err}
-use Rattle.std.specs.List.{list_all, list_any}
+use Rattle.std.specs.Prelude.{ℕ, ◌+◌, ◌==◌, ◌&&◌, ◌||◌, ℤ, pos, negsuc, nat_le, if◌then◌else◌, Bool, true, false, List, [], ◌∷◌, map, length, replicate, codes, Option, Some, None, is_some, option_map, option_and_then, Result, Ok, Err}
+use Rattle.std.specs.List.{list_all}
 use Rattle.std.specs.Str.{bytes_eq}
 use Rattle.std.specs.Ordering.{nat_cmp, is_lt}
 use Rattle.std.specs.Cmp.Lexicographic.{slice_cmp}
-use Rattle.toml.specs.Data.{Data, string, integer, array, table, Items, no_items, item, Members, no_members, member, get_member, as_str, as_integer, as_array, as_table}
+use Rattle.toml.specs.Data.{Data, string, Items, no_items, item, Members, no_members, member, get_member, as_str, as_integer, as_array, as_table}
 use Rattle.crash_policy.specs.declared.policy_file.Policy.{Policy}
 use Rattle.crash_policy.specs.declared.policy_file.Policy.TheVariants as policy
 use Rattle.crash_policy.specs.declared.policy_file.Judge.{Judge}

@@ -1,10 +1,9 @@
 -- Reading step by step gives the first fault of the list of tests, or the value.
-use Rattle.std.specs.Prelude.{◌≡◌, ℕ, Bool, true, false, List, [], ◌∷◌, ◌++◌, map, Option, Some, None, Result, Ok, Err, if◌then◌else◌}
+use Rattle.std.specs.Prelude.{◌≡◌, Bool, true, false, List, [], ◌∷◌, ◌++◌, map, Option, Some, None, Result, Ok, Err, if◌then◌else◌}
 use Rattle.std.proofs.Common.{refl, sym, ap, ◌∙◌, append_assoc}
 use Rattle.std.proofs.lemmas.List.{append-nil}
 use Rattle.toml.specs.Data.{Members}
 use Rattle.crash_policy.specs.declared.words.Place.TheVariants as place
-use Rattle.crash_policy.specs.declared.policy_file.Policy.{Policy}
 use Rattle.crash_policy.specs.declared.policy_file.Policy.TheVariants as policy
 use Rattle.crash_policy.specs.declared.policy_file.Judge.TheVariants as judge
 use Rattle.crash_policy.specs.Policies.{AppValue, PolicyValue}

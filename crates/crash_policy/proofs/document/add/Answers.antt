@@ -5,7 +5,7 @@ use Rattle.indexmap.proofs.CallerLemmas.{insert_entry-new}
 use Rattle.std.specs.String.{string_eq}
 use Rattle.crash_policy.specs.Faults.{double}
 use Rattle.crash_policy.specs.Order.{is_taken}
-use Rattle.crash_policy.specs.Named.{values_in, AreNamed}
+use Rattle.crash_policy.specs.Named.{values_in}
 use Rattle.crash_policy.proofs.Names.{is_taken-lookup, none_from_false, AreNamed-push, values_in-push}
 use Rattle.crash_policy.proofs.document.add.Goals as goal
 

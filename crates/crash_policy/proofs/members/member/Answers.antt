@@ -1,5 +1,3 @@
-use Rattle.std.proofs.Common.{option_map, ap, ◌∙◌}
-use Rattle.toml.specs.View.{view}
 use Rattle.toml.proofs.Views.{table_get}
 use Rattle.crash_policy.proofs.members.member.Goals as goal
 
