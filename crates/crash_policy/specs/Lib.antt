@@ -8,3 +8,4 @@ pub mod OrderLaws
 pub mod Named
 pub mod Asking
 pub mod Replacing
+pub mod BoundLaws

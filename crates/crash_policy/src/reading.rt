@@ -5,6 +5,7 @@ ghost use Rattle.toml.specs.View.{table_view};
 ghost use Rattle.crash_policy.specs.Policies.{policy_value, default_policy};
 ghost use Rattle.crash_policy.specs.Faults.{Gives};
 ghost use Rattle.crash_policy.specs.Order.{document_of, policy_of};
+ghost use Rattle.crash_policy.specs.BoundLaws.{IsSized};
 
 use crate::document::file;
 use crate::policy_fault::PolicyFault;
@@ -40,10 +41,8 @@ fn document(alloc: Global, text: &[u8]) -> Result<Table, PolicyFault>
     }
 }
 
-/// The policy that a text says, or the first thing that is wrong with it. A text of no bytes stands for
-/// one application `app` with all defaults.
 #[tactic(auto, unfolding(crate::specs::Order::policy_of))]
-pub fn read_policy(alloc: Global, text: &[u8]) -> Result<PolicyFile, PolicyFault>
+fn policy(alloc: Global, text: &[u8]) -> Result<PolicyFile, PolicyFault>
     ensures { Gives policy_value result (policy_of text.now) }
 {
     if text.is_empty() {
@@ -51,4 +50,15 @@ pub fn read_policy(alloc: Global, text: &[u8]) -> Result<PolicyFile, PolicyFault
     }
     let document = document(alloc, text)?;
     file(alloc, &document)
+}
+
+/// The policy that a text says, or the first thing that is wrong with it. A text of no bytes stands for
+/// one application `app` with all defaults.
+pub fn read_policy(alloc: Global, text: &[u8]) -> Result<PolicyFile, PolicyFault>
+    // The value or the first fault, unless memory runs out.
+    ensures exact { Gives policy_value result (policy_of text.now) }
+    // 1 to 32 applications.
+    ensures sized { IfOk result (λ file. IsSized (policy_value file)) }
+{
+    policy(alloc, text)
 }
