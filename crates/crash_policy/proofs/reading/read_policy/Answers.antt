@@ -1,0 +1,5 @@
+use Rattle.crash_policy.specs.BoundLaws.{IsSized-Gives}
+use Rattle.crash_policy.proofs.reading.read_policy.Goals as goal
+
+pub returns-clause-sized : goal.returns-clause-sized
+returns-clause-sized c = IsSized-Gives c.policy.result c.args.text.now c.policy.ensures

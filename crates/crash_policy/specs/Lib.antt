@@ -1,0 +1,11 @@
+pub mod Policies
+pub mod Faults
+pub mod Keys
+pub mod Ascending
+pub mod Order
+pub mod Steps
+pub mod OrderLaws
+pub mod Named
+pub mod Asking
+pub mod Replacing
+pub mod BoundLaws

@@ -1,0 +1,23 @@
+//! What an operator says of applications and of their crashes: the policy text, and the events that an
+//! application is given in place of one that it failed at.
+#![tactic(auto)]
+
+mod app_keys;
+mod asking;
+mod document;
+mod members;
+mod policy_fault;
+mod policy_file;
+mod reading;
+mod replacing;
+mod top_keys;
+mod words;
+
+pub use asking::{listens, rule};
+pub use policy_fault::PolicyFault;
+pub use policy_file::{AppRule, Policy, PolicyFile};
+pub use reading::read_policy;
+pub use replacing::replacements;
+
+#[cfg(test)]
+mod tests;
