@@ -1,9 +1,4 @@
-pub mod Session
 pub mod Words
-pub mod Messages
-pub mod Grammar
-pub mod Reference
-pub mod Report
 pub mod SessionWords
 pub mod SessionSteps
 pub mod SessionLines

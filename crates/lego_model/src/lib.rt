@@ -7,4 +7,4 @@ mod session;
 mod turn;
 
 pub use session::{Session, SessionFault, SessionKind};
-pub use turn::{Addition, Ending, TurnWord};
+pub use turn::TurnWord;

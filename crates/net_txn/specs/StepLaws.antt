@@ -25,9 +25,6 @@ use Rattle.net_txn.specs.HeardLaws.{heard-reply}
 
 -- ---- A message to a switch that reads it
 
-abbrev sent_step : ℕ → List ℕ → WorldStep
-sent_step d bytes = Acted (Sent d bytes)
-
 pub told_switch : (d xid : ℕ) (m : Message) (bytes : List ℕ) (t : State) (s : SwitchState) → reading_of bytes ≡ Ok (enveloped xid m) → switch_of d t ≡ Some s → switch_of d (after_step (Acted (Sent d bytes)) t) ≡ Some (after_message m s)
 told_switch d xid m bytes t s read is = switch_of-sent d bytes t ∙ (rw (read, is) refl)
 
