@@ -12,13 +12,11 @@ use Rattle.of_wire.specs.declared.message.Message.TheVariants.{BarrierReply}
 use Rattle.outside.specs.declared.step.WorldStep.{WorldStep}
 use Rattle.outside.specs.declared.step.WorldStep.TheVariants.{Acted, From}
 use Rattle.outside.specs.Seen.{Seen, Continues}
-use Rattle.net_txn.specs.declared.fault.TxnFault.{TxnFault}
-use Rattle.net_txn.specs.declared.fault.TxnFault.TheVariants.{SwitchFault, SwitchBroke, Diverged, Flooded, NoMemory}
-use Rattle.net_txn.specs.declared.heard.Awaited.{Awaited}
-use Rattle.net_txn.specs.Causes.{flood}
-use Rattle.net_txn.specs.Net.{next_xid}
-use Rattle.net_txn.specs.Waits.{heard, is_reply, kept_of, wait_steps, barrier_sent, reply_got}
-use Rattle.net_txn.specs.Asks.{flows_request, request_sent, asked_from, parts_in, refusals_in, IsBroken}
+use Rattle.lego_model.specs.declared.fault.TxnFault.{TxnFault}
+use Rattle.lego_model.specs.declared.fault.TxnFault.TheVariants.{SwitchFault, SwitchBroke, Diverged, Flooded, NoMemory}
+use Rattle.lego_model.specs.declared.wait.Awaited.{Awaited}
+use Rattle.lego_model.specs.BarrierWaits.{flood, next_xid, heard, is_reply, kept_of, wait_steps, barrier_sent, reply_got}
+use Rattle.lego_model.specs.FlowQueries.{flows_request, request_sent, asked_from, parts_in, refusals_in, IsBroken}
 use Rattle.event_dispatch.specs.declared.fault.Fault.{Fault}
 use Rattle.event_dispatch.specs.declared.fault.Fault.TheVariants as faults
 use Rattle.event_dispatch.specs.declared.served.Served.{Served}

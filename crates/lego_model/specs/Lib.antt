@@ -17,3 +17,5 @@ pub mod Answers
 pub mod SessionFacts
 pub mod SessionWordLaws
 pub mod SessionTextLaws
+pub mod BarrierWaits
+pub mod FlowQueries

@@ -15,7 +15,7 @@ use Rattle.sim_world.specs.Scripts.{Scripts, KeepsScripts}
 use Rattle.sim_world.specs.World.{WorldData, seen_of}
 use Rattle.run_laws.specs.Engine.{index, stimuli_in}
 use Rattle.run_laws.specs.Promise.{EndsAs, EndsAlike, LeavesAs, LeavesAlike}
-use Rattle.net_txn.specs.declared.fault.TxnFault.{TxnFault}
+use Rattle.lego_model.specs.declared.fault.TxnFault.{TxnFault}
 use Rattle.event_dispatch.specs.Why.{IsWhyTxn}
 use Rattle.event_dispatch.specs.Serves.{NothingDone}
 use Rattle.lego_model.specs.SessionLines.{SessionValue}

@@ -19,7 +19,7 @@ use Rattle.outside.specs.State.{State, state, is_joined}
 use Rattle.outside.specs.StateLaws.{state-append}
 use Rattle.outside.specs.Quiet.{NoneQuiet, Unquiet}
 use Rattle.outside.specs.QuietLaws.{unquiet-by}
-use Rattle.net_txn.specs.declared.fault.TxnFault.{TxnFault}
+use Rattle.lego_model.specs.declared.fault.TxnFault.{TxnFault}
 use Rattle.net_txn.specs.LinkSteps.{AreLinkSteps, LinkSteps}
 use Rattle.net_txn.specs.Views.{with_rows}
 use Rattle.net_txn.specs.Net.{NetState}
