@@ -185,7 +185,7 @@ pub fn turn<W: World, J: Judge>(
     ensures err { IfErr result (λ fault. Stops W.Tells app.old.index (W.seen world.old) (W.seen world.new) txn.old.net.now txn.new.net.now fault) }
     // Then too the turn goes on with the dialogue, where the application runs.
     ensures talks { OnErr result (W.Tells → (s : Before) → s.running ≡ true → Passes s.unread app.old.rest → Talks app.old.index s (W.seen world.old) (W.seen world.new)) }
-    // However it ended, no other application was called, and no place behind the one where it began was quiet.
+    // However it ended, no other application was called, and no point behind the one where it began was quiescent.
     ensures later { W.Tells → CalmLater app.old.index (W.seen world.old) (W.seen world.new) }
     ensures continues { Continues W.Tells (W.seen world.old) (W.seen world.new) }
 {

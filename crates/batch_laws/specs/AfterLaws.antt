@@ -18,18 +18,18 @@ use Rattle.lego_model.specs.Controller.{ports_of, at_place, stimulated, events_a
 use Rattle.outside.specs.declared.step.WorldStep.{WorldStep}
 use Rattle.outside.specs.declared.step.WorldStep.TheVariants.{From, Moment}
 use Rattle.outside.specs.Seen.{is_declared}
-use Rattle.outside.specs.State.{Link, State, link_of, switch_in, switch_of, link_stimulated, stimulus_sends, after_stim, upcoming}
+use Rattle.outside.specs.State.{Link, State, link_of, switch_in, switch_of, link_stimulated, stimulus_sends, after_stim, upcoming, declared_in}
 use Rattle.outside.specs.LinkLaws.{link_of-same, link_of-other}
 use Rattle.outside.specs.Conforming.{AreDeclaredFrom, IsStimulus}
-use Rattle.net_txn.specs.Views.{rows_at}
+use Rattle.net_txn.specs.Views.{rows_at, ViewsAscend}
 use Rattle.switch_laws.specs.Shown.{flags_in, rows_or_none, flags_at, shown_switch, shown_places}
 use Rattle.switch_laws.specs.Sound.{AllSound}
 use Rattle.switch_laws.specs.SoundLaws.{stimulus-sound}
 use Rattle.batch_laws.specs.Knowledge.{Knowledge, handled, handled_all}
-use Rattle.batch_laws.specs.Calm.{known_ports, ViewsAscend}
+use Rattle.batch_laws.specs.Calm.{known_ports}
 use Rattle.batch_laws.specs.HistoryLaws.{AllLast}
 use Rattle.batch_laws.specs.TellLaws.{FitsItem}
-use Rattle.batch_laws.specs.LinkTellLaws.{KnownIn, StandsIn, HappensIn, table_rows, KnownThen, SwitchStep, switch-step, declared_in, items_of, seen_events, LinkReady, LinkThen, LinksStep, links-step}
+use Rattle.batch_laws.specs.LinkTellLaws.{KnownIn, StandsIn, HappensIn, table_rows, KnownThen, SwitchStep, switch-step, items_of, seen_events, LinkReady, LinkThen, LinksStep, links-step}
 use Rattle.batch_laws.specs.ReferenceLaws.{all-of, all-each, place_at, place-map, flat-one, events-links, links-found, all-at, link_of-map, NoneWait, waiting-all, waiting-one}
 
 -- ---- Before and after

@@ -25,19 +25,19 @@ use Rattle.lego_model.specs.Controller.{or_joined, join_event, joined, at_place,
 use Rattle.outside.specs.declared.step.WorldStep.{WorldStep}
 use Rattle.outside.specs.declared.step.WorldStep.TheVariants.{Joined}
 use Rattle.outside.specs.Seen.{is_declared}
-use Rattle.outside.specs.State.{Link, State, link_of, switch_in, switch_of, with_link, switch_joined, link_joined, join_due, after_stim, upcoming}
+use Rattle.outside.specs.State.{Link, State, link_of, switch_in, switch_of, with_link, switch_joined, link_joined, join_due, after_stim, upcoming, declared_in}
 use Rattle.outside.specs.LinkLaws.{link_of-same, link_of-other}
 use Rattle.outside.specs.Conforming.{MayDeclare}
 use Rattle.net_txn.specs.declared.ports.KnownPorts.{KnownPorts}
-use Rattle.net_txn.specs.Views.{rows_at}
+use Rattle.net_txn.specs.Views.{rows_at, ViewsAscend}
 use Rattle.net_txn.specs.Joining.{with_view}
 use Rattle.net_txn.specs.JoiningLaws.{rows_at-with_view, rows_at-with_view-other}
 use Rattle.switch_laws.specs.Shown.{flags_at, shown_switch, places, shown_places}
 use Rattle.batch_laws.specs.Knowledge.{Knowledge, handled, handled_all, joined_by}
-use Rattle.batch_laws.specs.Calm.{known_ports, ViewsAscend}
+use Rattle.batch_laws.specs.Calm.{known_ports}
 use Rattle.batch_laws.specs.HistoryLaws.{AscendPorts, Lasts, joined-lasts, LinkLasts}
 use Rattle.batch_laws.specs.PortTellLaws.{desc-fits}
-use Rattle.batch_laws.specs.LinkTellLaws.{KnownIn, declared_in}
+use Rattle.batch_laws.specs.LinkTellLaws.{KnownIn}
 use Rattle.batch_laws.specs.ReferenceLaws.{all-each, place_at, place-map, events_of_one, flat-one, flat-alike, declared-found, has-link, all-at, none-waiting, waiting-silent}
 use Rattle.batch_laws.specs.AfterLaws.{Facts, SoundIn, After, sound-stands}
 use Rattle.batch_laws.specs.LeaveTellLaws.{OnlyOne, all-known, all-sound, place-of-one}

@@ -20,13 +20,13 @@ use Rattle.lego_model.specs.Answers.{Rows, rows_of_table, rows_of_view}
 use Rattle.lego_model.specs.Controller.{ports_of, events_of, sent_events}
 use Rattle.outside.specs.declared.step.WorldStep.{WorldStep}
 use Rattle.outside.specs.declared.step.WorldStep.TheVariants.{From}
-use Rattle.outside.specs.State.{Link, link_of, stimulus_sends}
+use Rattle.outside.specs.State.{Link, link_of, stimulus_sends, declared_in}
 use Rattle.outside.specs.Conforming.{AreDeclaredFrom, may_be_raw}
-use Rattle.net_txn.specs.Views.{rows_at}
+use Rattle.net_txn.specs.Views.{rows_at, ViewsAscend}
 use Rattle.switch_laws.specs.Shown.{flags_in, rows_or_none, flags_at}
 use Rattle.switch_laws.specs.Sound.{AllSound}
 use Rattle.batch_laws.specs.Knowledge.{Knowledge, handled, handled_all}
-use Rattle.batch_laws.specs.Calm.{known_ports, ViewsAscend}
+use Rattle.batch_laws.specs.Calm.{known_ports}
 use Rattle.batch_laws.specs.HistoryLaws.{Lasts}
 use Rattle.batch_laws.specs.TellLaws.{FitsRead, SwitchHandled, SwitchKnown}
 use Rattle.batch_laws.specs.FrameTellLaws.{frame-switch, counts-switch, raw-switch}
@@ -139,9 +139,6 @@ switch-step d x (Some s) k known stands may =
 pub handled_all-append : (xs ys : List WorldStep) (k : Knowledge) → handled_all (xs ++ ys) k ≡ handled_all ys (handled_all xs k)
 handled_all-append [] ys k = refl
 handled_all-append (x ∷ xs) ys k = handled_all-append xs ys (handled x k)
-
-abbrev pub declared_in : List Link → List Declared
-declared_in ls = map (λ l. l.declared) ls
 
 abbrev pub items_of : Stimulus → Link → List WorldStep
 items_of x l = map (From l.declared.dpid) (stimulus_sends x l.switch)

@@ -31,14 +31,14 @@ use Rattle.app_frames.specs.declared.frame.Event.{Event}
 use Rattle.lego_model.specs.Answers.{rows_of_table, rows_of_view}
 use Rattle.lego_model.specs.Controller.{event_of_read, events_of}
 use Rattle.outside.specs.declared.step.WorldStep.TheVariants.{From}
-use Rattle.net_txn.specs.Views.{rows_at, with_rows}
+use Rattle.net_txn.specs.Views.{rows_at, with_rows, ViewsAscend}
 use Rattle.net_txn.specs.ViewLaws.{rows_at-same, rows_at-other}
 use Rattle.net_txn.specs.Arriving.{is_asked, without_key}
 use Rattle.switch_laws.specs.Shown.{flags_in}
 use Rattle.switch_laws.specs.Sound.{SoundEntry, AllSound}
 use Rattle.switch_laws.specs.SoundLaws.{notice-message}
 use Rattle.batch_laws.specs.Knowledge.{Knowledge, told_read, handled, handled_all}
-use Rattle.batch_laws.specs.Calm.{known_ports, ViewsAscend}
+use Rattle.batch_laws.specs.Calm.{known_ports}
 use Rattle.batch_laws.specs.KeyLaws.{all-both, all-filter, all-map, all-by_deadline, filter-alike, neither, has_place, Distinct, entry_keys, notice_keys, has-by_deadline, distinct-by_deadline, distinct-filter, has-filter, without_all, without_all-filter, view-filter, table-filter, flags-kept, AscendRows, rows-ascend, asked-flags, asked-without}
 use Rattle.batch_laws.specs.TellLaws.{ViewChanged, SwitchHandled, SwitchKnown, known-handled, is-known}
 

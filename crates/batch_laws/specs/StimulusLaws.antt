@@ -18,7 +18,7 @@ use Rattle.app_frames.specs.declared.frame.Event.{Event}
 use Rattle.lego_model.specs.Controller.{ports_of, places_after, events_after}
 use Rattle.outside.specs.declared.step.WorldStep.TheVariants.{From}
 use Rattle.outside.specs.Seen.{Seen}
-use Rattle.outside.specs.State.{Link, State, link_of, waits_in, waits_of, switch_of, after_stim, upcoming, state}
+use Rattle.outside.specs.State.{Link, State, link_of, waits_in, waits_of, switch_of, after_stim, upcoming, state, declared_in}
 use Rattle.outside.specs.Conforming.{AreDeclaredFrom, IsWorldStim, Conforming}
 use Rattle.net_txn.specs.Net.{NetState}
 use Rattle.net_txn.specs.Agreement.{Agrees}
@@ -26,10 +26,11 @@ use Rattle.switch_laws.specs.Shown.{shown_places}
 use Rattle.switch_laws.specs.Sound.{AllSound, Sound}
 use Rattle.switch_laws.specs.StandLaws.{all-stand}
 use Rattle.batch_laws.specs.Knowledge.{Knowledge, knowledge_of, handled_all}
-use Rattle.batch_laws.specs.Calm.{known_ports, ViewsAscend, Calm}
+use Rattle.batch_laws.specs.Calm.{known_ports, Calm}
+use Rattle.net_txn.specs.Views.{ViewsAscend}
 use Rattle.batch_laws.specs.HistoryLaws.{links-last, links-declared, switch-lasts}
 use Rattle.batch_laws.specs.TellLaws.{FitsMessage, FitsRead, FitsItem}
-use Rattle.batch_laws.specs.LinkTellLaws.{StandsIn, declared_in}
+use Rattle.batch_laws.specs.LinkTellLaws.{StandsIn}
 use Rattle.batch_laws.specs.ReferenceLaws.{all-each, NoneWait, links-found}
 use Rattle.batch_laws.specs.AfterLaws.{Facts, SoundIn, After, after-moment, after-happened}
 use Rattle.batch_laws.specs.LeaveTellLaws.{after-leave}

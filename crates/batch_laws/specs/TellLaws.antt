@@ -20,10 +20,10 @@ use Rattle.lego_model.specs.Answers.{rows_of_table, rows_of_view}
 use Rattle.lego_model.specs.Controller.{two_bytes, ports_of, event_of_message, event_of_read, events_of}
 use Rattle.outside.specs.declared.step.WorldStep.{WorldStep}
 use Rattle.outside.specs.declared.step.WorldStep.TheVariants.{From}
-use Rattle.net_txn.specs.Views.{rows_at}
+use Rattle.net_txn.specs.Views.{rows_at, ViewsAscend}
 use Rattle.switch_laws.specs.Shown.{flags_in}
 use Rattle.batch_laws.specs.Knowledge.{Knowledge, is_known, with_event, told_message, told_read, handled, handled_all}
-use Rattle.batch_laws.specs.Calm.{known_ports, ViewsAscend}
+use Rattle.batch_laws.specs.Calm.{known_ports}
 
 -- ---- Numbers of an ERROR that fit their fields, as those of bytes do
 

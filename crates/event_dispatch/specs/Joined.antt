@@ -5,9 +5,6 @@ use Rattle.std.specs.List.{list_any}
 use Rattle.flow_table.specs.declared.view.TableView.{TableView}
 use Rattle.net_txn.specs.Views.{rows_at}
 
-abbrev pub is_joined : ℕ → List TableView → Bool
-is_joined d views = list_any (λ v. v.dpid == d) views
-
 pub joined_rows : (d : ℕ) (views : List TableView) → is_joined d views ≡ true → IsSome (rows_at d views)
 joined_rows d [] h = absurd (true≢false (sym h))
 joined_rows d (v ∷ vs) h =

@@ -7,11 +7,6 @@ use Rattle.flow_table.specs.declared.view.TableView.{TableView}
 use Rattle.net_txn.specs.Views.{rows_at, with_rows}
 use Rattle.net_txn.specs.Joining.{with_view}
 
--- strictly ascending by switch, from a number on
-abbrev pub ViewsFrom : ℕ → List TableView → Type 0
-ViewsFrom least [] = Unit {0}
-ViewsFrom least (v ∷ vs) = (least ≤ v.dpid) × ViewsFrom (v.dpid + 1) vs
-
 lower : (low least : ℕ) (vs : List TableView) → low ≤ least → ViewsFrom least vs → ViewsFrom low vs
 lower low least [] le is = tt
 lower low least (v ∷ vs) le is = (omega (arith, is.0, le), is.1)

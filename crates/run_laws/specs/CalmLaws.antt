@@ -15,14 +15,14 @@ use Rattle.outside.specs.State.{Link, State, state, link_of, switch_in, waits_in
 use Rattle.outside.specs.Conforming.{Conforming}
 use Rattle.net_txn.specs.declared.logged.Logged.{Logged}
 use Rattle.net_txn.specs.Net.{NetState}
-use Rattle.net_txn.specs.Views.{rows_at, with_rows}
+use Rattle.net_txn.specs.Views.{rows_at, with_rows, is_viewed, ViewsAscend}
 use Rattle.net_txn.specs.Arriving.{without_key}
-use Rattle.net_txn.specs.Undos.{is_viewed, without_keys, StandsReady, Undoes}
+use Rattle.net_txn.specs.Undos.{without_keys, StandsReady, Undoes}
 use Rattle.switch_laws.specs.Since.{Ready, logged_since, Since, Goes}
 use Rattle.switch_laws.specs.Sound.{Sound}
 use Rattle.switch_laws.specs.SoundSteps.{undo-sound}
 use Rattle.switch_laws.specs.UndoShown.{again, out-again, undo-ready}
-use Rattle.batch_laws.specs.Calm.{known_ports, ViewsAscend, Calm}
+use Rattle.batch_laws.specs.Calm.{known_ports, Calm}
 
 -- ---- Where the switches stay
 

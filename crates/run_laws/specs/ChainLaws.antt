@@ -25,11 +25,12 @@ use Rattle.lego_model.specs.declared.wait.Heard.TheVariants.{Reply, Refused, Not
 use Rattle.net_txn.specs.Net.{NetState, awaited_from}
 use Rattle.lego_model.specs.BarrierWaits.{heard, steps_by, wait_steps, reply_got, barrier_sent}
 use Rattle.net_txn.specs.Changes.{known_rows, answer_of_host, change_sent}
-use Rattle.net_txn.specs.Undos.{Part, Inverse, Settled, Stuck, alone, part_steps, steps_of, fault_in, first_fault_of, first_fault, ended_by, Undoes}
+use Rattle.net_txn.specs.Undos.{Part, Inverse, BarrierPassed, Stuck, alone, part_steps, steps_of, fault_in, first_fault_of, first_fault, ended_by, Undoes}
 use Rattle.app_visor.specs.Talks.{step_of, Told, give_act}
 use Rattle.app_visor.specs.Beats.{Exchange, Beat, Talk, Asks, IsExchange, Chain, acts_in}
 use Rattle.app_visor.specs.BeatLaws.{Chain-continues}
-use Rattle.app_visor.specs.Attempts.{end_acts, IsTry, OneTry, AreTries}
+use Rattle.app_visor.specs.Attempts.{IsTry, OneTry, AreTries}
+use Rattle.journal_laws.specs.Readings.{end_acts}
 use Rattle.switch_laws.specs.AskedLaws.{asked}
 use Rattle.switch_laws.specs.Sound.{Sound}
 use Rattle.switch_laws.specs.SoundSteps.{exchange-sound}
@@ -90,7 +91,7 @@ none_second (Some fault) b h = absurd cc
 
 part_links : (d : ℕ) (p : Part) → fault_in p ≡ None → AllByRecursion IsLinkStep (part_steps d p)
 part_links d (Inverse xid k) none = (tt, tt)
-part_links d (Settled xid got) none = (tt, all_append IsLinkStep (wait_steps (alone d xid) got) (reply_got (alone d xid) ∷ []) (wait_links (alone d xid) got) (tt, tt))
+part_links d (BarrierPassed xid got) none = (tt, all_append IsLinkStep (wait_steps (alone d xid) got) (reply_got (alone d xid) ∷ []) (wait_links (alone d xid) got) (tt, tt))
 part_links d (Stuck xid fault steps) none = absurd cc
 
 parts_links : (parts : List (ℕ × Part)) → first_fault parts ≡ None → AllByRecursion IsLinkStep (steps_of parts)

@@ -12,7 +12,7 @@ use Rattle.lego_model.specs.AtOnce.{AtOnce}
 use Rattle.outside.specs.Seen.{Seen, Longer, journal}
 use Rattle.outside.specs.Conforming.{Conforming}
 use Rattle.outside.specs.InOrder.{InOrder, BringMessages}
-use Rattle.outside.specs.Quiet.{IsLastQuiet}
+use Rattle.outside.specs.Quiescence.{IsLastQuiescent}
 use Rattle.app_visor.specs.CallsFor.{CallsFor}
 use Rattle.journal_laws.specs.Readings.{starts_in, replies_in}
 use Rattle.switch_laws.specs.Orderly.{IsOrderly}
@@ -117,7 +117,7 @@ pub record CutAlike {Own : Type 0} (allows : List Place → Bool) (seen : Seen O
   pub so : Conforming last → CutSo allows last contents now_contents
   pub at_once : Conforming last → AtOnce index (journal seen.history)
   pub read : InOrder seen → BringMessages last.history
-  pub quiet : InOrder seen → IsLastQuiet last seen
+  pub quiet : InOrder seen → IsLastQuiescent last seen
   pub own : CallsFor index last seen
 
 -- the same where the sink failed
@@ -128,7 +128,7 @@ pub record CutWriting {Own : Type 0} (allows : List Place → Bool) (seen : Seen
   pub so : Conforming last → WritingSo allows last contents now_contents
   pub at_once : Conforming last → AtOnce index (journal seen.history)
   pub read : InOrder seen → BringMessages last.history
-  pub quiet : InOrder seen → IsLastQuiet last seen
+  pub quiet : InOrder seen → IsLastQuiescent last seen
   pub own : CallsFor index last seen
 
 -- ---- What parts of a run come to

@@ -5,8 +5,8 @@ use Rattle.of_types.specs.declared.journal.Act.{Act}
 use Rattle.of_types.specs.declared.journal.WorldStim.{WorldStim}
 use Rattle.app_frames.specs.declared.frame.Event.{Event}
 use Rattle.lego_model.specs.Journal.{Reply, Start, is_of, inputs, stimuli}
-use Rattle.lego_model.specs.Controller.{App, Quiet, Run}
-use Rattle.lego_model.specs.Agreement.{AgreeQuiets}
+use Rattle.lego_model.specs.Controller.{App, Run}
+use Rattle.lego_model.specs.Agreement.{AgreeMarks}
 use Rattle.lego_model.specs.RunReport.{line_text}
 use Rattle.outside.specs.Seen.{Seen, journal}
 use Rattle.outside.specs.State.{Mark, state}
@@ -51,10 +51,10 @@ abbrev pub stimuli_in : {Own : Type 0} → Seen Own → List WorldStim
 stimuli_in seen = stimuli (journal seen.history)
 
 -- the quiet places of a world, in order
-abbrev pub quiet_by : Mark → Quiet
+abbrev pub quiet_by : Mark → Mark
 quiet_by m = record { event = m.event; switches = m.switches }
 
-abbrev pub quiets_in : {Own : Type 0} → Seen Own → List Quiet
+abbrev pub quiets_in : {Own : Type 0} → Seen Own → List Mark
 quiets_in seen = map quiet_by (state seen).marks
 
 -- ---- The application of the reference controller, with what it will do
@@ -80,7 +80,7 @@ pub record Stands {Own : Type 0} (seen : Seen Own) (e : Engine) (starts : List S
   pub queue : r.queue ≡ e.queue
   pub events : r.events ≡ e.events
   pub apps : r.apps ≡ app_at e (given_in seen) starts replies ∷ []
-  pub quiets : AgreeQuiets (quiets_in seen) r.quiets
+  pub marks : AgreeMarks (quiets_in seen) r.marks
   pub life : e.alive ≡ true → LastStands (own_acts seen)
 
 -- the text of the lines so far

@@ -27,7 +27,7 @@ use Rattle.lego_model.specs.RunReport.{switch_line, flow_line, app_line, end_lin
 use Rattle.outside.specs.Seen.{Seen, is_declared}
 use Rattle.outside.specs.State.{State, state, switch_of}
 use Rattle.outside.specs.Conforming.{AreDeclaredFrom}
-use Rattle.net_txn.specs.Views.{rows_at}
+use Rattle.net_txn.specs.Views.{rows_at, ViewsAscend}
 use Rattle.net_txn.specs.Agreement.{Agrees}
 use Rattle.net_txn.specs.AskSteps.{own_rows}
 use Rattle.switch_laws.specs.Shown.{rows_or_none, flags_in, flags_at, shown_switch, places, shown_places, Stand}
@@ -48,7 +48,6 @@ use Rattle.net_txn.specs.Waits.{Waits}
 use Rattle.lego_model.specs.BarrierWaits.{heard, steps_by, wait_steps, barrier_sent, reply_got}
 use Rattle.net_txn.specs.Asks.{GivesRows}
 use Rattle.lego_model.specs.FlowQueries.{asked_from, request_sent}
-use Rattle.batch_laws.specs.Calm.{ViewsAscend}
 use Rattle.switch_laws.specs.Orderly.{IsOrderly}
 use Rattle.switch_laws.specs.OrderlyLaws.{orderly-none, orderly-then, rows-orderly}
 use Rattle.run_laws.specs.Engine.{Engine, index, names, own_acts, given_in, stimuli_in, Stands, text_of}

@@ -16,7 +16,8 @@ use Rattle.app_visor.specs.declared.state.TurnEnd.{TurnEnd}
 use Rattle.app_visor.specs.declared.state.TurnEnd.TheVariants as ends
 use Rattle.app_visor.specs.Talks.{Told, step_of, give_act}
 use Rattle.app_visor.specs.Beats.{Beat, Talk, Asks, Chain}
-use Rattle.app_visor.specs.Attempts.{IsTry, OneTry, AreTries, end_acts}
+use Rattle.app_visor.specs.Attempts.{IsTry, OneTry, AreTries}
+use Rattle.journal_laws.specs.Readings.{end_acts}
 use Rattle.switch_laws.specs.Orderly.{IsOrderly, OrderlySince}
 use Rattle.switch_laws.specs.OrderlyLaws.{orderly-same, orderly-then, exchange-orderly, undo-orderly}
 use Rattle.run_laws.specs.Engine.{Engine, index}

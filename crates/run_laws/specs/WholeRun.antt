@@ -4,10 +4,10 @@ use Rattle.flow_table.specs.Switch.{Declared}
 use Rattle.lego_model.specs.Journal.{Reply, Start}
 use Rattle.lego_model.specs.Places.{Place}
 use Rattle.lego_model.specs.Scripted.{AreFronts, AreStartFronts}
-use Rattle.lego_model.specs.Controller.{App, Quiet, Run, quiet_of, start_all, reference}
-use Rattle.lego_model.specs.Agreement.{AgreeQuiets}
+use Rattle.lego_model.specs.Controller.{App, Run, reference_mark, start_all, reference}
+use Rattle.lego_model.specs.Agreement.{AgreeMarks}
 use Rattle.outside.specs.Seen.{Seen}
-use Rattle.outside.specs.State.{Link, state}
+use Rattle.outside.specs.State.{Link, state, Mark}
 use Rattle.journal_laws.specs.Readings.{starts_in, replies_in}
 use Rattle.run_laws.specs.Engine.{own_acts, given_in, stimuli_in, quiets_in, budget}
 
@@ -25,7 +25,7 @@ before_start declared a = record {
   events = 0;
   apps = a ∷ [];
   lines = [];
-  quiets = [];
+  marks = [];
 }
 
 -- all applications are started
@@ -47,11 +47,11 @@ abbrev pub AreSaid : {Own : Type 0} → Seen Own → List Start → List Reply �
 AreSaid seen starts replies = AreStartFronts (starts_in (own_acts seen)) starts × AreFronts (replies_in (own_acts seen)) replies
 
 -- how the switches stand at the end
-abbrev pub last_quiet : {Own : Type 0} → Seen Own → Quiet
+abbrev pub last_quiet : {Own : Type 0} → Seen Own → Mark
 last_quiet seen = record { event = None; switches = map (λ (l : Link). l.switch) (state seen).links }
 
 -- The run is that of the reference controller: at every quiet place, the end included, the switches agree; and the application was given
 -- what the reference controller gives it.
 pub record RunsAlike {Own : Type 0} (seen : Seen Own) (r : Run) : Type 0 where
-  pub tables : AgreeQuiets (quiets_in seen ++ last_quiet seen ∷ []) (r.quiets ++ quiet_of None r.places ∷ [])
+  pub tables : AgreeMarks (quiets_in seen ++ last_quiet seen ∷ []) (r.marks ++ reference_mark None r.places ∷ [])
   pub inputs : map (λ (a : App). a.inputs) r.apps ≡ given_in seen ∷ []

@@ -19,10 +19,10 @@ use Rattle.lego_model.specs.Places.{Place, switch_undone, undone_places}
 use Rattle.outside.specs.Seen.{Seen}
 use Rattle.outside.specs.State.{State, state, switch_of, waits_of}
 use Rattle.outside.specs.Conforming.{Conforming}
-use Rattle.net_txn.specs.Views.{rows_at}
+use Rattle.net_txn.specs.Views.{rows_at, is_viewed}
 use Rattle.net_txn.specs.Net.{NetState}
 use Rattle.net_txn.specs.Agreement.{Agrees}
-use Rattle.net_txn.specs.Undos.{but_fare, keys_of, is_viewed, SameSwitch, Restored, Undoes}
+use Rattle.net_txn.specs.Undos.{key_logged, keys_of, SameSwitch, Restored, Undoes}
 use Rattle.switch_laws.specs.Shown.{flags_at, shown_switch, places, shown_places}
 use Rattle.switch_laws.specs.StandLaws.{table-serialed}
 use Rattle.switch_laws.specs.Since.{Ready, logged_since, SwitchSince, JoinedSince, Since}
