@@ -3,9 +3,9 @@ use Rattle.std.proofs.Common.{◌≡◌, ◌==◌, ℕ, Bool, true, false, List,
 use Rattle.std.proofs.lemmas.Bool.{cases_Bool}
 use Rattle.std.specs.List.{list_any}
 use Rattle.flow_table.specs.declared.view.TableView.{TableView}
-use Rattle.net_txn.specs.Views.{rows_at}
+use Rattle.net_txn.specs.Views.{rows_at, is_viewed}
 
-pub joined_rows : (d : ℕ) (views : List TableView) → is_joined d views ≡ true → IsSome (rows_at d views)
+pub joined_rows : (d : ℕ) (views : List TableView) → is_viewed d views ≡ true → IsSome (rows_at d views)
 joined_rows d [] h = absurd (true≢false (sym h))
 joined_rows d (v ∷ vs) h =
     elim (cases_Bool (v.dpid == d)) [
@@ -13,7 +13,7 @@ joined_rows d (v ∷ vs) h =
       | inr other ↦ rw other (joined_rows d vs (rw other at h))
     ]
 
-pub out_rows : (d : ℕ) (views : List TableView) → is_joined d views ≡ false → rows_at d views ≡ None
+pub out_rows : (d : ℕ) (views : List TableView) → is_viewed d views ≡ false → rows_at d views ≡ None
 out_rows d [] h = refl
 out_rows d (v ∷ vs) h =
     elim (cases_Bool (v.dpid == d)) [

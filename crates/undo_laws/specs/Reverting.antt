@@ -24,10 +24,10 @@ pub record IsModification (k : Key) (given : List Action) (m : FlowMod) : Type 0
   pub key : key_in m ≡ k
   pub actions : m.actions ≡ given
 
-abbrev pub Plays : Inverse → FlowMod → Type 0
-Plays (Remove k) m = IsRemoval k m
-Plays (PutBack e) m = IsAddition e m
-Plays (GiveActions k actions) m = IsModification k actions m
+abbrev pub Reverts : Inverse → FlowMod → Type 0
+Reverts (Remove k) m = IsRemoval k m
+Reverts (PutBack e) m = IsAddition e m
+Reverts (GiveActions k actions) m = IsModification k actions m
 
 -- ---- Whether a log can be reverted
 
