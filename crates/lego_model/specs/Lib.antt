@@ -19,3 +19,4 @@ pub mod SessionWordLaws
 pub mod SessionTextLaws
 pub mod BarrierWaits
 pub mod FlowQueries
+pub mod History

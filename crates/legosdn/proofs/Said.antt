@@ -12,7 +12,7 @@ use Rattle.lego_model.specs.Scripted.{starts_said, replies_said}
 use Rattle.lego_model.specs.Controller.{reference}
 use Rattle.lego_model.specs.RunReport.{run_report}
 use Rattle.lego_model.specs.SessionLines.{SessionValue}
-use Rattle.journal_laws.specs.Readings.{starts_in, replies_in}
+use Rattle.lego_model.specs.History.{starts_in, replies_in}
 use Rattle.sim_world.specs.Told.{without_links}
 use Rattle.sim_world.specs.Scripts.{Scripts, starts_of, replies_of, KeepsScripts}
 use Rattle.switch_laws.specs.Orderly.{IsOrderly}

@@ -22,7 +22,8 @@ use Rattle.net_txn.specs.Net.{NetState}
 use Rattle.switch_laws.specs.Shown.{shown_places}
 use Rattle.switch_laws.specs.Sound.{Sound}
 use Rattle.switch_laws.specs.OrderlyLaws.{orderly-whole}
-use Rattle.journal_laws.specs.Readings.{starts_in, replies_in, LastStands}
+use Rattle.journal_laws.specs.Readings.{LastStands}
+use Rattle.lego_model.specs.History.{starts_in, replies_in}
 use Rattle.journal_laws.specs.CallLaws.{inputs_own}
 use Rattle.lego_model.specs.AtOnce.{at_first, Dialogue}
 use Rattle.batch_laws.specs.Knowledge.{knowledge_of}

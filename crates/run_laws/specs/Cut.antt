@@ -14,7 +14,7 @@ use Rattle.outside.specs.Conforming.{Conforming}
 use Rattle.outside.specs.InOrder.{InOrder, BringMessages}
 use Rattle.outside.specs.Quiescence.{IsLastQuiescent}
 use Rattle.app_visor.specs.CallsFor.{CallsFor}
-use Rattle.journal_laws.specs.Readings.{starts_in, replies_in}
+use Rattle.lego_model.specs.History.{starts_in, replies_in}
 use Rattle.switch_laws.specs.Orderly.{IsOrderly}
 use Rattle.run_laws.specs.Engine.{Engine, index, names, own_acts, stimuli_in, text_of}
 use Rattle.run_laws.specs.Moves.{Moved, dispatch_next, times, rounds}

@@ -11,7 +11,7 @@ use Rattle.lego_model.specs.ScriptedLaws.{fronts-parts, start_fronts-parts}
 use Rattle.lego_model.specs.Controller.{Run, happen}
 use Rattle.outside.specs.Seen.{Given, Seen}
 use Rattle.outside.specs.Conforming.{Conforming}
-use Rattle.journal_laws.specs.Readings.{starts_in, replies_in}
+use Rattle.lego_model.specs.History.{starts_in, replies_in}
 use Rattle.switch_laws.specs.OrderlyLaws.{orderly-none}
 use Rattle.run_laws.specs.Engine.{index, Engine, Stands, own_acts, stimuli_in, text_of}
 use Rattle.run_laws.specs.Moves.{Settled, Moves, Moved, Rounds, OneHappens, dispatch_next, times, rounds}

@@ -18,7 +18,8 @@ use Rattle.app_visor.specs.declared.state.TurnEnd.{TurnEnd}
 use Rattle.app_visor.specs.declared.state.TurnEnd.TheVariants as ends
 use Rattle.switch_laws.specs.Shown.{shown_places}
 use Rattle.switch_laws.specs.StandLaws.{state-links}
-use Rattle.journal_laws.specs.Readings.{starts_in, replies_in, LastStands}
+use Rattle.journal_laws.specs.Readings.{LastStands}
+use Rattle.lego_model.specs.History.{starts_in, replies_in}
 use Rattle.run_laws.specs.Engine.{Engine, own_acts, given_in, stimuli_in, quiet_by, quiets_in, app_at, Stands, text_of}
 use Rattle.run_laws.specs.Facts.{IsClosed, IsTurn, Dispatches}
 use Rattle.run_laws.specs.Moves.{Moves, next_dispatched, dispatch_next}

@@ -19,7 +19,7 @@ use Rattle.outside.specs.Conforming.{Conforming}
 use Rattle.flow_table.specs.declared.view.TableView.{TableView}
 use Rattle.switch_laws.specs.Shown.{flags_at, shown_switch, places, shown_places}
 use Rattle.batch_laws.specs.HistoryLaws.{links-declared}
-use Rattle.journal_laws.specs.Readings.{starts_in, replies_in}
+use Rattle.lego_model.specs.History.{starts_in, replies_in}
 use Rattle.lego_model.specs.AtOnce.{AtOnce}
 use Rattle.run_laws.specs.Engine.{Engine, Stands, index, names, own_acts, stimuli_in, quiet_by, quiets_in}
 use Rattle.run_laws.specs.QuietLaws.{quiets_more, mark_alike}

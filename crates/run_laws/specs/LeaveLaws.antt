@@ -14,7 +14,8 @@ use Rattle.outside.specs.Calls.{end_steps, Ends}
 use Rattle.outside.specs.CallLaws.{Ends-state}
 use Rattle.std.specs.List.{AllByRecursion}
 use Rattle.switch_laws.specs.Orderly.{IsOrderly}
-use Rattle.journal_laws.specs.Readings.{starts_in, replies_in, ReadsSame, end_acts}
+use Rattle.journal_laws.specs.Readings.{ReadsSame, end_acts}
+use Rattle.lego_model.specs.History.{starts_in, replies_in}
 use Rattle.journal_laws.specs.ReadingLaws.{part_read}
 use Rattle.app_visor.specs.DialogueLaws.{converses_ended}
 use Rattle.run_laws.specs.DialogueLaws.{at_once_then, runs_now}

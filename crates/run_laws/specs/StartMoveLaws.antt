@@ -18,7 +18,8 @@ use Rattle.app_visor.specs.Attempts.{OneTry, AreTries, restored, restarted, star
 use Rattle.switch_laws.specs.Shown.{shown_places}
 use Rattle.turn_laws.specs.ChainShown.{shown-same}
 use Rattle.batch_laws.specs.Calm.{Calm}
-use Rattle.journal_laws.specs.Readings.{starts_in, replies_in, LastStands}
+use Rattle.journal_laws.specs.Readings.{LastStands}
+use Rattle.lego_model.specs.History.{starts_in, replies_in}
 use Rattle.run_laws.specs.Engine.{Engine, index, budget, own_acts, given_in, stimuli_in, app_at}
 use Rattle.run_laws.specs.Facts.{StartsAgain}
 use Rattle.run_laws.specs.Readings.{AreRead}

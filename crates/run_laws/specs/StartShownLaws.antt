@@ -9,7 +9,7 @@ use Rattle.lego_model.specs.Controller.{App, Line, Run, Started, gone_line, star
 use Rattle.lego_model.specs.RunReport.{line_text}
 use Rattle.outside.specs.Seen.{Given, Seen}
 use Rattle.outside.specs.State.{Mark, state}
-use Rattle.journal_laws.specs.Readings.{replies_in}
+use Rattle.lego_model.specs.History.{replies_in}
 use Rattle.switch_laws.specs.Shown.{shown_places}
 use Rattle.switch_laws.specs.OrderlyLaws.{orderly-whole}
 use Rattle.run_laws.specs.Engine.{Engine, index, Stands, names, own_acts, stimuli_in, given_in, quiet_by, app_at, text_of}

@@ -37,7 +37,8 @@ use Rattle.switch_laws.specs.Sound.{Sound}
 use Rattle.switch_laws.specs.UndoShown.{undo-shown}
 use Rattle.turn_laws.specs.ChainShown.{turn-shown}
 use Rattle.batch_laws.specs.Calm.{Calm}
-use Rattle.journal_laws.specs.Readings.{starts_in, replies_in, LastStands}
+use Rattle.journal_laws.specs.Readings.{LastStands}
+use Rattle.lego_model.specs.History.{starts_in, replies_in}
 use Rattle.run_laws.specs.Engine.{Engine, index, budget, own_acts, given_in, stimuli_in, app_at}
 use Rattle.run_laws.specs.Facts.{name, turn_word, IsClosed, TakesTurn}
 use Rattle.run_laws.specs.Readings.{AreRead, JudgesAlike}

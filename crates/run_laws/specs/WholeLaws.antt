@@ -9,7 +9,7 @@ use Rattle.lego_model.specs.Scripted.{AreFronts, AreStartFronts}
 use Rattle.lego_model.specs.ScriptedLaws.{fronts-refl, start_fronts-refl}
 use Rattle.lego_model.specs.Controller.{App, Run, settle, reference}
 use Rattle.outside.specs.Seen.{Given, Seen}
-use Rattle.journal_laws.specs.Readings.{starts_in, replies_in}
+use Rattle.lego_model.specs.History.{starts_in, replies_in}
 use Rattle.run_laws.specs.Engine.{Engine, Stands, index, own_acts, stimuli_in, text_of}
 use Rattle.run_laws.specs.Moves.{Moves, rounds}
 use Rattle.run_laws.specs.WholeRun.{fresh, before_start, all_started, reference_said, AreSaid}

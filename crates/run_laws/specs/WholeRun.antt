@@ -8,7 +8,7 @@ use Rattle.lego_model.specs.Controller.{App, Run, reference_mark, start_all, ref
 use Rattle.lego_model.specs.Agreement.{AgreeMarks}
 use Rattle.outside.specs.Seen.{Seen}
 use Rattle.outside.specs.State.{Link, state, Mark}
-use Rattle.journal_laws.specs.Readings.{starts_in, replies_in}
+use Rattle.lego_model.specs.History.{starts_in, replies_in}
 use Rattle.run_laws.specs.Engine.{own_acts, given_in, stimuli_in, quiets_in, budget}
 
 -- ---- The application of the reference controller at first, with what it will do
