@@ -25,7 +25,7 @@ use of_types::{Dpid, Xid, get_u32};
 use of_wire::check;
 use outside::{LinkFault, World};
 
-/// Why a call of a link failed.
+/// Tells why a call of a link failed.
 fn trouble_of(fault: LinkFault) -> Trouble
     ensures { result ≡ link_trouble fault }
 {
