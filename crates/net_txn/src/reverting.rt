@@ -15,12 +15,12 @@ ghost use Rattle.net_txn.specs.Waits.{KeptMore};
 ghost use Rattle.net_txn.specs.Undos.{HasPassedBarrier, Further, first_fault_of, fault_of, progress_of, Moves, Fails, AwaitsReplies, fault_by, inverses_in, alone, with_progress, key_logged};
 ghost use Rattle.net_txn.specs.Views.{is_viewed};
 
-use crate::undo_progress::{progress_of, position_of};
-use crate::logged::{UndoProgress, Logged, inverse_of};
+use crate::logged::{Logged, UndoProgress, inverse_of};
 use crate::net::following;
 use crate::queue::MessageQueue;
-use crate::undo_wait::{send, await_barrier};
 use crate::trouble::Trouble;
+use crate::undo_progress::{position_of, progress_of};
+use crate::undo_wait::{await_barrier, send};
 use flow_table::TableView;
 use of_types::{Dpid, Xid};
 use outside::World;
@@ -206,7 +206,16 @@ pub(crate) fn revert<W: World>(
     let dpid = log[at].dpid;
     let progress = progress_of(behind(log, at + 1), dpid);
     if reverts(progress, views, dpid) {
-        revert_to(world, alloc, buf, kept, log, at, one_more(progress.since), xid)
+        revert_to(
+            world,
+            alloc,
+            buf,
+            kept,
+            log,
+            at,
+            one_more(progress.since),
+            xid,
+        )
     } else {
         let left_alone = UndoProgress {
             xid: 0,

@@ -9,8 +9,8 @@ ghost use Rattle.net_txn.specs.Undos.{ended_by, without_keys, switches_of, Furth
 ghost use Rattle.net_txn.specs.Views.{is_viewed};
 
 use crate::logged::Logged;
-use crate::reverting::{behind, revert, await_switch};
 use crate::queue::MessageQueue;
+use crate::reverting::{await_switch, behind, revert};
 use crate::room::{Room, note};
 use crate::views::remove_in;
 use flow_table::TableView;

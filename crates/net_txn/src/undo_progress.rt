@@ -4,7 +4,7 @@ ghost use Rattle.std.specs.Prelude.{◌≡◌, ◌<◌, [], length, None, Some, 
 ghost use Rattle.of_wire.specs.Reading.{reading_of};
 ghost use Rattle.net_txn.specs.Undos.{progress_of, inverses_in, key_sent, key_refused, keys_in, IsProgressAt};
 
-use crate::logged::{UndoProgress, Logged};
+use crate::logged::{Logged, UndoProgress};
 use of_match::Key;
 use of_types::{Dpid, Xid, get_u8, get_u32, kinds};
 
