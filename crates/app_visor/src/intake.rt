@@ -118,7 +118,7 @@ impl Model for TakeBuffer {
 }
 
 impl Debug for TakeBuffer {
-    fn fmt(&self, f: &mut Formatter<'_>) -> fmt::Result {
+    fn fmt<W: fmt::Write>(&self, f: &mut Formatter<W>) -> fmt::Result {
         f.write_str("TakeBuffer")
     }
 }
