@@ -29,7 +29,8 @@ use Rattle.outside.specs.Calls.{Nexts, stim_steps, item_step, next_steps}
 use Rattle.outside.specs.CallLaws.{MayStep-at_rest}
 use Rattle.outside.specs.Conforming.{MayBegin, IsNext, MayStep, MayAct, Conforming}
 use Rattle.net_txn.specs.Net.{NetState}
-use Rattle.switch_laws.specs.Orderly.{IsOrderly, OrderlySince}
+use Rattle.switch_laws.specs.Orderly.{OrderlySince}
+use Rattle.promise.specs.Orderly.{IsOrderly}
 use Rattle.switch_laws.specs.OrderlyLaws.{orderly-then}
 use Rattle.batch_laws.specs.Knowledge.{Knowledge, knowledge_of, handled, handled_all}
 use Rattle.batch_laws.specs.Calm.{Calm}

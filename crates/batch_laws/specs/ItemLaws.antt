@@ -43,7 +43,8 @@ use Rattle.net_txn.specs.Arriving.{arrival_steps}
 use Rattle.net_txn.specs.Joining.{greeting, greeted_from}
 use Rattle.net_txn.specs.JoiningSteps.{JoinsInStep}
 use Rattle.switch_laws.specs.StandLaws.{state-links}
-use Rattle.switch_laws.specs.Orderly.{IsOrderly, OrderlySince}
+use Rattle.switch_laws.specs.Orderly.{OrderlySince}
+use Rattle.promise.specs.Orderly.{IsOrderly}
 use Rattle.switch_laws.specs.OrderlyLaws.{orderly-none, echo-orderly, join-steps-orderly}
 use Rattle.batch_laws.specs.Items.{answers, Untouched, Rests, TakesMessage, TakesIn, TakesInBy, TakesInAs, DoesFrom, DoesJoined, DoesLeft, Handles}
 use Rattle.batch_laws.specs.InBatch.{SameBesides}

@@ -10,8 +10,10 @@ use Rattle.net_txn.specs.Net.{NetState}
 use Rattle.net_txn.specs.Abreast.{Abreast}
 use Rattle.app_visor.specs.CallsFor.{CallsFor}
 use Rattle.batch_laws.specs.Calm.{Calm}
-use Rattle.run_laws.specs.Engine.{Engine, index}
-use Rattle.run_laws.specs.Moves.{Shown, dispatch_next}
+use Rattle.run_laws.specs.Engine.{Engine}
+use Rattle.promise.specs.Application.{index}
+use Rattle.run_laws.specs.Moves.{Shown}
+use Rattle.promise.specs.ReferenceRun.{dispatch_next}
 use Rattle.run_laws.specs.Endings.{Leaves, ShownStart}
 use Rattle.run_laws.specs.LastReport.{last_text}
 use Rattle.event_dispatch.specs.declared.batch.Rest.{Rest}

@@ -13,9 +13,11 @@ use Rattle.outside.specs.Seen.{Seen, Continues}
 use Rattle.outside.specs.SeenLaws.{Continues-trans}
 use Rattle.outside.specs.StateLaws.{Conforming-before}
 use Rattle.outside.specs.Conforming.{Conforming}
-use Rattle.run_laws.specs.Engine.{Engine, Stands, stimuli_in, text_of}
+use Rattle.run_laws.specs.Engine.{Engine, Stands}
+use Rattle.promise.specs.History.{stimuli_in}
+use Rattle.promise.specs.ReferenceRun.{text_of, dispatch_next, times}
 use Rattle.run_laws.specs.Facts.{StartsAgain}
-use Rattle.run_laws.specs.Moves.{Settled, Moved, Shown, OneHappens, dispatch_next, times}
+use Rattle.run_laws.specs.Moves.{Settled, Moved, Shown, OneHappens}
 use Rattle.run_laws.specs.BatchMoveLaws.{engine_then, batch-happens, batch-over}
 use Rattle.run_laws.specs.Readings.{JudgesAlike}
 use Rattle.run_laws.specs.StimuliLaws.{none-later}

@@ -9,7 +9,6 @@ use Rattle.lego_model.specs.Places.{Place}
 use Rattle.lego_model.specs.Controller.{event_frame, settle}
 use Rattle.lego_model.specs.RunReport.{turn_line}
 use Rattle.lego_model.specs.declared.turn.TurnWord.TheVariants as words
-use Rattle.outside.specs.declared.step.WorldStep.{WorldStep}
 use Rattle.outside.specs.declared.step.WorldStep.TheVariants.{NotOpened}
 use Rattle.outside.specs.Seen.{Seen, Continues}
 use Rattle.outside.specs.State.{state}
@@ -19,13 +18,17 @@ use Rattle.net_txn.specs.Undos.{Undoes}
 use Rattle.app_visor.specs.declared.state.TurnEnd.{TurnEnd}
 use Rattle.app_visor.specs.declared.state.TurnEnd.TheVariants as ends
 use Rattle.app_visor.specs.Turns.{Turns}
-use Rattle.run_laws.specs.Engine.{Engine, budget, stimuli_in}
+use Rattle.run_laws.specs.Engine.{Engine}
+use Rattle.promise.specs.Application.{budget, name}
+use Rattle.promise.specs.History.{stimuli_in}
 use Rattle.run_laws.specs.Readings.{JudgesAlike}
-use Rattle.run_laws.specs.Facts.{name, turn_word, StartsAgain, TakesTurn, Dispatches}
-use Rattle.run_laws.specs.Moves.{Settled, Shown, ShownIdle, ShownOver, ShownRounds, ShownToEnd, dispatch_next, times}
+use Rattle.run_laws.specs.Facts.{turn_word, StartsAgain, TakesTurn, Dispatches}
+use Rattle.run_laws.specs.Moves.{Settled, Shown, ShownIdle, ShownOver, ShownRounds, ShownToEnd}
+use Rattle.promise.specs.ReferenceRun.{dispatch_next, times}
 use Rattle.run_laws.specs.FirstLaws.{engine_at_first}
 use Rattle.run_laws.specs.Endings.{ShownStart, ShownFinish, RanOut, RanFull}
-use Rattle.run_laws.specs.Promise.{most_rounds, EndsAlike, LeavesAlike}
+use Rattle.run_laws.specs.Promise.{most_rounds}
+use Rattle.promise.specs.WholeRun.{EndsAlike, LeavesAlike}
 use Rattle.run_laws.specs.Cut.{CutAlike, CutWriting}
 use Rattle.event_dispatch.specs.declared.batch.Rest.{Rest}
 use Rattle.event_dispatch.specs.declared.batch.Rest.TheVariants as rests
@@ -33,6 +36,7 @@ use Rattle.event_dispatch.specs.declared.run.Run.{Run}
 use Rattle.event_dispatch.specs.declared.served.Served.{Served}
 use Rattle.event_dispatch.specs.declared.served.Served.TheVariants as served
 use Rattle.event_dispatch.specs.Shows.{engine_of}
+use Rattle.promise.specs.CutRun.{NothingDone}
 
 -- text was noted behind what waits to be written
 abbrev pub Notes : List ℕ → Run → Run → Type 0
@@ -210,11 +214,6 @@ pub record IsWhole {Own : Type 0} (allows : List Place → Bool) (seen : Seen Ow
 pub record IsPart {Own : Type 0} (allows : List Place → Bool) (seen : Seen Own) (contents now_contents : Option (List ℕ)) (left : ℕ) : Type 0 where
   pub alike : LeavesAlike allows seen contents now_contents left
   pub none_to_come : (state seen).to_come ≡ []
-
--- The world was not opened, which its history tells, and nothing was written.
-pub record NothingDone {Own : Type 0} (steps : List WorldStep) (seen : Seen Own) (contents now_contents : Option (List ℕ)) : Type 0 where
-  pub history : seen.history ≡ steps
-  pub still : now_contents ≡ contents
 
 -- Of a world that tells, on which no call was made before: where a fault ends the run, it is the reference controller's up to a place, if
 -- the world kept its word as far as there, and so is what was written.

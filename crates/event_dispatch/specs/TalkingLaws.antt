@@ -27,7 +27,8 @@ use Rattle.app_visor.specs.LeadsOnLaws.{leads_on_links, leads_on_then}
 use Rattle.app_visor.specs.Turns.{Turns}
 use Rattle.app_visor.specs.DialogueLaws.{Converses-then, converses_ended}
 use Rattle.run_laws.specs.DialogueLaws.{at_once_then, runs_now, others_at_once, event_told}
-use Rattle.run_laws.specs.Engine.{Engine, index}
+use Rattle.run_laws.specs.Engine.{Engine}
+use Rattle.promise.specs.Application.{index}
 use Rattle.event_dispatch.specs.Serves.{PlaysTurn}
 use Rattle.event_dispatch.specs.Talking.{KeepsTalking, TurnTalks, GoesOnTalking}
 

@@ -14,8 +14,9 @@ use Rattle.app_visor.specs.declared.state.AppState.{AppState}
 use Rattle.app_visor.specs.declared.state.TurnEnd.{TurnEnd}
 use Rattle.app_visor.specs.declared.state.TurnEnd.TheVariants as ends
 use Rattle.app_visor.specs.Turns.{Turns}
-use Rattle.run_laws.specs.Engine.{Engine, index, budget}
-use Rattle.run_laws.specs.Facts.{name, turn_word, StartsAgain}
+use Rattle.run_laws.specs.Engine.{Engine}
+use Rattle.promise.specs.Application.{index, budget, name}
+use Rattle.run_laws.specs.Facts.{turn_word, StartsAgain}
 use Rattle.event_dispatch.specs.declared.run.Run.{Run}
 use Rattle.event_dispatch.specs.Shows.{engine_of}
 use Rattle.event_dispatch.specs.Serves.{PlaysTurn, Closes, HasTurn}

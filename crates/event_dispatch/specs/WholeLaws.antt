@@ -13,7 +13,8 @@ use Rattle.outside.specs.Calls.{open_steps, ToldOpen}
 use Rattle.outside.specs.SeenLaws.{Continues-trans}
 use Rattle.outside.specs.StateLaws.{Conforming-before}
 use Rattle.switch_laws.specs.OrderlyLaws.{orderly-none}
-use Rattle.run_laws.specs.Engine.{Engine, index}
+use Rattle.run_laws.specs.Engine.{Engine}
+use Rattle.promise.specs.Application.{index}
 use Rattle.run_laws.specs.FirstLaws.{IsOpened, engine_at_first, settled-first}
 use Rattle.run_laws.specs.StimuliLaws.{none-later, fewer-front, fewer-before}
 use Rattle.run_laws.specs.LastReport.{last_text}

@@ -15,14 +15,15 @@ use Rattle.lego_model.specs.Controller.{Run}
 use Rattle.sim_world.specs.Told.{without_links}
 use Rattle.sim_world.specs.Scripts.{Scripts, Life, AreScripted, KeepsScripts, lives_after, all_fresh}
 use Rattle.sim_world.specs.World.{WorldData, given_of, seen_of}
-use Rattle.run_laws.specs.Engine.{stimuli_in}
+use Rattle.promise.specs.History.{stimuli_in}
 use Rattle.run_laws.specs.StimuliLaws.{told-few}
 use Rattle.run_laws.specs.Promise.{PremiseSoFar}
-use Rattle.run_laws.specs.Cut.{Far, CutAs, WritingAs, AlikeUpTo, CutAlike, CutWriting}
+use Rattle.run_laws.specs.Cut.{CutAlike, CutWriting}
+use Rattle.promise.specs.CutRun.{Far, CutAs, WritingAs, AlikeUpTo, NothingDone}
 use Rattle.run_laws.specs.DialogueLaws.{applications_in_place}
 use Rattle.event_dispatch.specs.declared.served.Served.{Served}
 use Rattle.event_dispatch.specs.declared.served.Served.TheVariants as served
-use Rattle.event_dispatch.specs.Serves.{NothingDone, IsCut}
+use Rattle.event_dispatch.specs.Serves.{IsCut}
 use Rattle.legosdn.specs.Said.{all_allowed, SaidSo, CutRun, WritingRun}
 use Rattle.legosdn.specs.Headline.{KeepsLines, UpToPlace}
 use Rattle.legosdn.proofs.Said.{told_in, are_said, kept_to_lines}

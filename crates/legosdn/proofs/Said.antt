@@ -15,12 +15,13 @@ use Rattle.lego_model.specs.SessionLines.{SessionValue}
 use Rattle.journal_laws.specs.Readings.{starts_in, replies_in}
 use Rattle.sim_world.specs.Told.{without_links}
 use Rattle.sim_world.specs.Scripts.{Scripts, starts_of, replies_of, KeepsScripts}
-use Rattle.switch_laws.specs.Orderly.{IsOrderly}
+use Rattle.promise.specs.Orderly.{IsOrderly}
 use Rattle.script_laws.specs.Ahead.{HasRoom}
 use Rattle.script_laws.specs.FollowLaws.{tells_fronts}
-use Rattle.run_laws.specs.Engine.{index, names, own_acts, stimuli_in}
-use Rattle.run_laws.specs.WholeRun.{fresh, AreSaid}
-use Rattle.run_laws.specs.Promise.{EndsAs, EndsAlike, LeavesAs, LeavesAlike}
+use Rattle.promise.specs.Application.{index, names}
+use Rattle.promise.specs.History.{own_acts, stimuli_in}
+use Rattle.promise.specs.ReferenceRun.{fresh, AreSaid}
+use Rattle.promise.specs.WholeRun.{EndsAs, EndsAlike, LeavesAs, LeavesAlike}
 use Rattle.session_text.specs.Loading.{fail_of, given_by}
 use Rattle.legosdn.specs.declared.stop.Refusal.{Refusal}
 use Rattle.legosdn.specs.Input.{session_of}

@@ -8,10 +8,10 @@ ghost use Rattle.sim_world.specs.World.{given_of, seen_of};
 ghost use Rattle.sim_world.specs.Building.{nothing_given, IsNew, Begins};
 ghost use Rattle.lego_model.specs.SessionLines.{SessionValue};
 ghost use Rattle.legosdn.specs.declared.stop.Refusal.{Refusal};
-ghost use Rattle.legosdn.specs.Input.{app_names as names_in, session_of};
+ghost use Rattle.legosdn.specs.Input.{session_of};
 ghost use Rattle.std.specs.Io.KnownBytes.{append_known};
 ghost use Rattle.lego_model.specs.RunReport.{run_report};
-ghost use Rattle.run_laws.specs.Engine.{names};
+ghost use Rattle.promise.specs.Application.{names};
 ghost use Rattle.legosdn.specs.Said.{reference_of_session, WithEnough};
 ghost use Rattle.legosdn.specs.Stops.{stop_status, stop_line, refusal_line};
 ghost use Rattle.legosdn.specs.Headline.{is_command as is_command_in, faults_of, IsReadCause, IsRunCause, IsCause, NoneFailed, IsEarly, IsLate, Loaded, RunsWhole, RunsAs, KeepsLines, LeftAs, CutShort, SomeRefused, Wrote, WroteLast, Stopped};
@@ -37,7 +37,7 @@ fn is_command(words: &[String]) -> bool
 
 /// The names of the applications: without a policy there is one, `app`.
 fn app_names(alloc: Global) -> Result<Vec<String>, AllocError>
-    ensures { IfOk result (λ names. map string_bytes names.items ≡ names_in) }
+    ensures { IfOk result (λ all. map string_bytes all.items ≡ names) }
 {
     let mut names = Vec::new(alloc);
     names.push(String::from_str(alloc, "app")?)?;

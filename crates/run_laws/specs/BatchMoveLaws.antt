@@ -30,7 +30,10 @@ use Rattle.batch_laws.specs.Calm.{Calm}
 use Rattle.batch_laws.specs.InBatch.{BatchDone, BatchOver}
 use Rattle.batch_laws.specs.HistoryLaws.{links-declared}
 use Rattle.batch_laws.specs.StimulusLaws.{StimulusHandled, stimulus-handled}
-use Rattle.run_laws.specs.Engine.{Engine, Stands, index, own_acts, given_in, stimuli_in, app_at, quiet_by, text_of}
+use Rattle.run_laws.specs.Engine.{Engine, Stands, app_at}
+use Rattle.promise.specs.Application.{index}
+use Rattle.promise.specs.History.{own_acts, given_in, stimuli_in, quiet_by}
+use Rattle.promise.specs.ReferenceRun.{text_of}
 use Rattle.run_laws.specs.Moves.{Settled, Moved, OneHappens}
 use Rattle.run_laws.specs.DialogueLaws.{others_at_once}
 use Rattle.run_laws.specs.QuietLaws.{quiets_more, mark_alike}

@@ -36,7 +36,8 @@ use Rattle.switch_laws.specs.SoundSteps.{exchange-sound}
 use Rattle.switch_laws.specs.Since.{Goes}
 use Rattle.switch_laws.specs.SinceLaws.{goes-on}
 use Rattle.turn_laws.specs.ChainShown.{goes-same}
-use Rattle.run_laws.specs.Engine.{index, own_acts, given_in, stimuli_in}
+use Rattle.promise.specs.Application.{index}
+use Rattle.promise.specs.History.{own_acts, given_in, stimuli_in}
 use Rattle.run_laws.specs.FrameLaws.{answer_number, restore_number}
 use Rattle.run_laws.specs.LinkStepLaws.{all_append, OnlyLinks, IsLinkStep, link_steps, link_steps-tell, OnlyTalk, talk_step, talk_steps, NoEvents, event_marks, gone_marks, talk_marks, talks_mark}
 use Rattle.run_laws.specs.CalmLaws.{switch_stays, Rests, Rests-refl, Rests-trans}

@@ -13,18 +13,21 @@ use Rattle.outside.specs.Seen.{Given, Seen}
 use Rattle.outside.specs.Conforming.{Conforming}
 use Rattle.journal_laws.specs.Readings.{starts_in, replies_in}
 use Rattle.switch_laws.specs.OrderlyLaws.{orderly-none}
-use Rattle.run_laws.specs.Engine.{index, Engine, Stands, own_acts, stimuli_in, text_of}
-use Rattle.run_laws.specs.Moves.{Settled, Moves, Moved, Rounds, OneHappens, dispatch_next, times, rounds}
+use Rattle.run_laws.specs.Engine.{Engine, Stands}
+use Rattle.promise.specs.Application.{index}
+use Rattle.promise.specs.History.{own_acts, stimuli_in}
+use Rattle.promise.specs.ReferenceRun.{text_of, dispatch_next, times, rounds, AreSaid, fresh, before_start, all_started, RunsAlike}
+use Rattle.run_laws.specs.Moves.{Settled, Moves, Moved, Rounds, OneHappens}
 use Rattle.run_laws.specs.MoveLaws.{moved-none, moved-then, moved-as}
 use Rattle.run_laws.specs.SettleLaws.{settle-times, times-more}
 use Rattle.run_laws.specs.LastReport.{last_text}
 use Rattle.run_laws.specs.LastReportLaws.{report-ends, last-shown}
-use Rattle.run_laws.specs.WholeRun.{RunsAlike, AreSaid, fresh, before_start, all_started}
 use Rattle.run_laws.specs.WholeLaws.{whole, no-stimuli, RanAs, said-of, told-said}
 use Rattle.run_laws.specs.FirstLaws.{IsOpened, engine_at_first, stands-first}
 use Rattle.run_laws.specs.Endings.{WholeMoves, Leaves}
 use Rattle.run_laws.specs.FinishLaws.{said-before, runs-alike, all-in-order}
-use Rattle.run_laws.specs.Cut.{start_said, so_far, Far, CutAs, WritingAs, AlikeUpTo, CutSo, WritingSo, GoneSoFar}
+use Rattle.run_laws.specs.Cut.{GoneSoFar}
+use Rattle.promise.specs.CutRun.{start_said, so_far, Far, CutAs, WritingAs, AlikeUpTo, CutSo, WritingSo}
 
 -- ---- Parts of a run, one behind the other
 

@@ -11,11 +11,13 @@ use Rattle.switch_laws.specs.Orderly.{OrderlySince}
 use Rattle.batch_laws.specs.Calm.{Calm}
 use Rattle.journal_laws.specs.Readings.{starts_in, replies_in}
 use Rattle.lego_model.specs.AtOnce.{AtOnce}
-use Rattle.run_laws.specs.Engine.{Engine, index, own_acts, given_in, stimuli_in}
+use Rattle.run_laws.specs.Engine.{Engine}
+use Rattle.promise.specs.Application.{index}
+use Rattle.promise.specs.History.{own_acts, given_in, stimuli_in}
 use Rattle.run_laws.specs.Readings.{JudgesAlike}
 use Rattle.run_laws.specs.Moves.{Settled, Moved}
 use Rattle.run_laws.specs.LastReport.{last_text}
-use Rattle.run_laws.specs.WholeRun.{all_started}
+use Rattle.promise.specs.ReferenceRun.{all_started}
 use Rattle.run_laws.specs.WholeLaws.{whole}
 
 -- ---- The start

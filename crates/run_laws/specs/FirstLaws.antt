@@ -18,13 +18,15 @@ use Rattle.outside.specs.declared.step.WorldStep.TheVariants.{Opened}
 use Rattle.outside.specs.Seen.{Seen, journal}
 use Rattle.outside.specs.State.{State, link_at_first, at_first, link_of, waits_in, switch_in, waits_of, switch_of, after_steps, after_step, state}
 use Rattle.net_txn.specs.Net.{NetState}
-use Rattle.switch_laws.specs.Orderly.{IsOrderly}
+use Rattle.promise.specs.Orderly.{IsOrderly}
 use Rattle.switch_laws.specs.Shown.{flags_at, places, shown_switch, shown_places}
 use Rattle.lego_model.specs.AtOnce.{at_first as nobody_yet, Dialogue}
 use Rattle.batch_laws.specs.Calm.{Calm}
-use Rattle.run_laws.specs.Engine.{Engine, Stands, index, quiet_by, app_at, given_in}
+use Rattle.run_laws.specs.Engine.{Engine, Stands, app_at}
+use Rattle.promise.specs.Application.{index}
+use Rattle.promise.specs.History.{quiet_by, given_in}
 use Rattle.run_laws.specs.Moves.{Settled}
-use Rattle.run_laws.specs.WholeRun.{fresh, before_start}
+use Rattle.promise.specs.ReferenceRun.{fresh, before_start}
 
 -- a world that was opened, and nothing more
 abbrev pub IsOpened : {Own : Type 0} → Seen Own → Type 0

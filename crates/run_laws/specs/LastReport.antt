@@ -11,8 +11,9 @@ use Rattle.lego_model.specs.AtOnce.{AtOnce}
 use Rattle.flow_table.specs.declared.view.TableView.{TableView}
 use Rattle.switch_laws.specs.Orderly.{OrderlySince}
 use Rattle.switch_laws.specs.Shown.{shown_switch, shown_places}
-use Rattle.run_laws.specs.Engine.{Engine, index, names, own_acts, given_in, stimuli_in}
-use Rattle.run_laws.specs.Facts.{name}
+use Rattle.run_laws.specs.Engine.{Engine}
+use Rattle.promise.specs.Application.{index, names, name}
+use Rattle.promise.specs.History.{own_acts, given_in, stimuli_in}
 
 -- ---- A switch
 

@@ -24,8 +24,8 @@ use Rattle.undo_laws.specs.Owned.{owned, owned_switch}
 use Rattle.lego_model.specs.Answers.{Rows, rows_of_table, rows_of_view}
 use Rattle.lego_model.specs.Controller.{Run}
 use Rattle.lego_model.specs.RunReport.{switch_line, flow_line, app_line, end_line, entry_text, switch_text, apps_text, run_report}
-use Rattle.outside.specs.Seen.{Seen, is_declared}
-use Rattle.outside.specs.State.{State, state, switch_of}
+use Rattle.outside.specs.Seen.{Seen, is_declared, journal}
+use Rattle.outside.specs.State.{State, state, switch_of, after_act, after_step, after_steps}
 use Rattle.outside.specs.Conforming.{AreDeclaredFrom}
 use Rattle.net_txn.specs.Views.{rows_at}
 use Rattle.net_txn.specs.Agreement.{Agrees}
@@ -36,9 +36,7 @@ use Rattle.lego_model.specs.Journal.{Reply, Start, is_of, inputs, stimuli}
 use Rattle.lego_model.specs.JournalLaws.{inputs-append, stimuli-append}
 use Rattle.outside.specs.declared.step.WorldStep.{WorldStep}
 use Rattle.outside.specs.declared.step.WorldStep.TheVariants.{Acted, TookInto, From, Joined, Left, Moment, Idle, End, Opened, NotOpened, NextFailed, SendFailed, RecvFailed}
-use Rattle.outside.specs.Seen.{journal}
 use Rattle.outside.specs.SeenLaws.{journal-append}
-use Rattle.outside.specs.State.{after_act, after_step, after_steps}
 use Rattle.outside.specs.StateLaws.{state-append}
 use Rattle.net_txn.specs.declared.heard.Awaited.{Awaited}
 use Rattle.net_txn.specs.declared.heard.Heard.{Heard}
@@ -47,10 +45,12 @@ use Rattle.net_txn.specs.declared.heard.Refusal.{Refusal}
 use Rattle.net_txn.specs.Waits.{heard, steps_by, wait_steps, barrier_sent, reply_got, Waits}
 use Rattle.net_txn.specs.Asks.{asked_from, request_sent, GivesRows}
 use Rattle.batch_laws.specs.Calm.{ViewsAscend}
-use Rattle.switch_laws.specs.Orderly.{IsOrderly}
+use Rattle.promise.specs.Orderly.{IsOrderly}
 use Rattle.switch_laws.specs.OrderlyLaws.{orderly-none, orderly-then, rows-orderly}
-use Rattle.run_laws.specs.Engine.{Engine, index, names, own_acts, given_in, stimuli_in, Stands, text_of}
-use Rattle.run_laws.specs.Facts.{name}
+use Rattle.run_laws.specs.Engine.{Engine, Stands}
+use Rattle.promise.specs.Application.{index, names, name}
+use Rattle.promise.specs.History.{own_acts, given_in, stimuli_in}
+use Rattle.promise.specs.ReferenceRun.{text_of}
 use Rattle.run_laws.specs.DialogueLaws.{others_at_once}
 use Rattle.run_laws.specs.LastReport.{SameKeys, flow_lines, table_lines, shown_text, last_text, last_lines, OnlyAsked}
 

@@ -4,7 +4,6 @@ pub mod Facts
 pub mod MoveLaws
 pub mod SettleLaws
 pub mod RoundLaws
-pub mod WholeRun
 pub mod FirstLaws
 pub mod WholeLaws
 pub mod Promise

@@ -1,20 +1,22 @@
 -- What a part of a run does is what the reference controller does, with what the part tells of the application. All of this is our own.
-use Rattle.std.specs.Prelude.{◌≡◌, ℕ, zero, suc, Bool, true, List, [], ◌∷◌, ◌++◌, length, drop, ◌<◌, fold}
+use Rattle.std.specs.Prelude.{◌≡◌, ℕ, Bool, true, List, [], ◌∷◌, ◌++◌, length, drop, ◌<◌}
 use Rattle.of_types.specs.declared.journal.WorldStim.{WorldStim}
 use Rattle.flow_table.specs.declared.view.TableView.{TableView}
 use Rattle.lego_model.specs.Journal.{Reply, Start}
 use Rattle.lego_model.specs.Places.{Place}
 use Rattle.lego_model.specs.Scripted.{AreFronts, AreStartFronts}
-use Rattle.lego_model.specs.Controller.{Run, dispatch, settle, happen}
-use Rattle.app_frames.specs.declared.frame.Event.{Event}
+use Rattle.lego_model.specs.Controller.{Run, settle, happen}
 use Rattle.outside.specs.Seen.{Seen, journal}
 use Rattle.outside.specs.Conforming.{Conforming}
 use Rattle.std.specs.List.{AllByRecursion}
-use Rattle.switch_laws.specs.Orderly.{IsOrderly}
+use Rattle.promise.specs.Orderly.{IsOrderly}
 use Rattle.journal_laws.specs.Readings.{starts_in, replies_in, LastStands}
 use Rattle.lego_model.specs.AtOnce.{Passes, AtOnce}
 use Rattle.batch_laws.specs.Calm.{Calm}
-use Rattle.run_laws.specs.Engine.{Engine, Stands, index, own_acts, stimuli_in, text_of}
+use Rattle.run_laws.specs.Engine.{Engine, Stands}
+use Rattle.promise.specs.Application.{index}
+use Rattle.promise.specs.History.{own_acts, stimuli_in}
+use Rattle.promise.specs.ReferenceRun.{text_of, rounds}
 use Rattle.run_laws.specs.Readings.{JudgesAlike}
 
 -- A part of a run with these stimuli and this text: what the journal tells is longer by these starts and replies, and wherever engine and
@@ -52,28 +54,6 @@ pub record Moved {Own : Type 0} (xs : List WorldStim) (f : Run → Run) (text : 
 -- In a world that keeps its word a part does what the reference controller does, whatever its judge is, if the two judge alike.
 pub record Shown {Own : Type 0} (Tells : Type 0) (accepts : List TableView → Bool) (xs : List WorldStim) (f : (List Place → Bool) → Run → Run) (text : List ℕ) (old new : Seen Own) (e now_e : Engine) : Type 0 where
   pub moved : (allows : List Place → Bool) → Tells → Conforming new → JudgesAlike Own allows accepts → Settled old e → Moved xs (f allows) text old new e now_e
-
--- ---- The parts of a run of the reference controller
-
--- the oldest event that waits is dispatched, where there is one
-abbrev pub next_dispatched : (List Place → Bool) → List Event → Run → Run
-next_dispatched allows [] r = r
-next_dispatched allows (event ∷ queue) r = dispatch allows event (record r { queue = queue })
-
-abbrev pub dispatch_next : (List Place → Bool) → Run → Run
-dispatch_next allows r = next_dispatched allows r.queue r
-
--- so often
-abbrev pub times : ℕ → (Run → Run) → Run → Run
-times zero f r = r
-times (suc n) f r = times n f (f r)
-
--- a stimulus, and then the events that wait
-abbrev pub round : (List Place → Bool) → Run → WorldStim → Run
-round allows r x = settle allows (happen x r)
-
-abbrev pub rounds : (List Place → Bool) → List WorldStim → Run → Run
-rounds allows xs r = fold (round allows) r xs
 
 -- ---- Batch after batch
 

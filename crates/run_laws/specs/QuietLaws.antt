@@ -15,7 +15,7 @@ use Rattle.lego_model.specs.Agreement.{AgreeTables, AgreeSwitches, AgreeAt, Agre
 use Rattle.outside.specs.State.{Link, State, Mark, link_of, switch_in, switch_of, mark_of, has_mark, marks_at_event, is_event as is_event_of}
 use Rattle.outside.specs.Conforming.{AreDeclaredFrom}
 use Rattle.switch_laws.specs.Shown.{flags_at, places, shown_places}
-use Rattle.run_laws.specs.Engine.{quiet_by}
+use Rattle.promise.specs.History.{quiet_by}
 
 -- ---- Lists of quiet places
 

@@ -19,7 +19,9 @@ use Rattle.switch_laws.specs.Shown.{shown_places}
 use Rattle.turn_laws.specs.ChainShown.{shown-same}
 use Rattle.batch_laws.specs.Calm.{Calm}
 use Rattle.journal_laws.specs.Readings.{starts_in, replies_in, LastStands}
-use Rattle.run_laws.specs.Engine.{Engine, index, budget, own_acts, given_in, stimuli_in, app_at}
+use Rattle.run_laws.specs.Engine.{Engine, app_at}
+use Rattle.promise.specs.Application.{index, budget}
+use Rattle.promise.specs.History.{own_acts, given_in, stimuli_in}
 use Rattle.run_laws.specs.Facts.{StartsAgain}
 use Rattle.run_laws.specs.Readings.{AreRead}
 use Rattle.run_laws.specs.CalmLaws.{calm_talk}

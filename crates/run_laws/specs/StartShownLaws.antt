@@ -12,13 +12,15 @@ use Rattle.outside.specs.State.{Mark, state}
 use Rattle.journal_laws.specs.Readings.{replies_in}
 use Rattle.switch_laws.specs.Shown.{shown_places}
 use Rattle.switch_laws.specs.OrderlyLaws.{orderly-whole}
-use Rattle.run_laws.specs.Engine.{Engine, index, Stands, names, own_acts, stimuli_in, given_in, quiet_by, app_at, text_of}
+use Rattle.run_laws.specs.Engine.{Engine, Stands, app_at}
+use Rattle.promise.specs.Application.{index, names}
+use Rattle.promise.specs.History.{own_acts, stimuli_in, given_in, quiet_by}
+use Rattle.promise.specs.ReferenceRun.{text_of, all_started}
 use Rattle.run_laws.specs.Facts.{StartsAgain}
 use Rattle.run_laws.specs.StartMoveLaws.{starts_alike}
 use Rattle.run_laws.specs.EventLaws.{are-read}
 use Rattle.run_laws.specs.DialogueLaws.{starts_converse}
 use Rattle.run_laws.specs.OrderlyRunLaws.{starts-orderly}
-use Rattle.run_laws.specs.WholeRun.{all_started}
 use Rattle.run_laws.specs.Endings.{ShownStart}
 
 -- the reference controller's one application is started

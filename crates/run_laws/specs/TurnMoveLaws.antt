@@ -38,8 +38,10 @@ use Rattle.switch_laws.specs.UndoShown.{undo-shown}
 use Rattle.turn_laws.specs.ChainShown.{turn-shown}
 use Rattle.batch_laws.specs.Calm.{Calm}
 use Rattle.journal_laws.specs.Readings.{starts_in, replies_in, LastStands}
-use Rattle.run_laws.specs.Engine.{Engine, index, budget, own_acts, given_in, stimuli_in, app_at}
-use Rattle.run_laws.specs.Facts.{name, turn_word, IsClosed, TakesTurn}
+use Rattle.run_laws.specs.Engine.{Engine, app_at}
+use Rattle.promise.specs.Application.{index, budget, name}
+use Rattle.promise.specs.History.{own_acts, given_in, stimuli_in}
+use Rattle.run_laws.specs.Facts.{turn_word, IsClosed, TakesTurn}
 use Rattle.run_laws.specs.Readings.{AreRead, JudgesAlike}
 use Rattle.run_laws.specs.FrameLaws.{event_numbered}
 use Rattle.run_laws.specs.ReferenceLaws.{turned_by, turn_so}

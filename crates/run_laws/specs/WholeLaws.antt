@@ -10,9 +10,11 @@ use Rattle.lego_model.specs.ScriptedLaws.{fronts-refl, start_fronts-refl}
 use Rattle.lego_model.specs.Controller.{App, Run, settle, reference}
 use Rattle.outside.specs.Seen.{Given, Seen}
 use Rattle.journal_laws.specs.Readings.{starts_in, replies_in}
-use Rattle.run_laws.specs.Engine.{Engine, Stands, index, own_acts, stimuli_in, text_of}
-use Rattle.run_laws.specs.Moves.{Moves, rounds}
-use Rattle.run_laws.specs.WholeRun.{fresh, before_start, all_started, reference_said, AreSaid}
+use Rattle.run_laws.specs.Engine.{Engine, Stands}
+use Rattle.promise.specs.Application.{index}
+use Rattle.promise.specs.History.{own_acts, stimuli_in}
+use Rattle.promise.specs.ReferenceRun.{text_of, rounds, fresh, before_start, all_started, reference_said, AreSaid}
+use Rattle.run_laws.specs.Moves.{Moves}
 use Rattle.run_laws.specs.FirstLaws.{IsOpened, engine_at_first, no-acts, stands-first}
 
 -- the whole run of the reference controller

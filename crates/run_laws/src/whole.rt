@@ -12,17 +12,21 @@ ghost use Rattle.outside.specs.Calls.{Ends};
 ghost use Rattle.outside.specs.Conforming.{Conforming};
 ghost use Rattle.net_txn.specs.Net.{NetState};
 ghost use Rattle.batch_laws.specs.InBatch.{BatchDone, BatchOver};
-ghost use Rattle.run_laws.specs.Engine.{Engine, index, stimuli_in};
+ghost use Rattle.run_laws.specs.Engine.{Engine};
+ghost use Rattle.promise.specs.Application.{index};
+ghost use Rattle.promise.specs.History.{stimuli_in};
 ghost use Rattle.run_laws.specs.Facts.{Dispatches};
 ghost use Rattle.run_laws.specs.Readings.{JudgesAlike};
-ghost use Rattle.run_laws.specs.Moves.{Settled, Moved, Shown, OneHappens, dispatch_next};
+ghost use Rattle.run_laws.specs.Moves.{Settled, Moved, Shown, OneHappens};
+ghost use Rattle.promise.specs.ReferenceRun.{dispatch_next, all_started};
 ghost use Rattle.run_laws.specs.BatchMoveLaws.{engine_then};
 ghost use Rattle.run_laws.specs.FirstLaws.{IsOpened, engine_at_first};
-ghost use Rattle.run_laws.specs.Promise.{most_rounds, EndsAlike, LeavesAlike};
+ghost use Rattle.run_laws.specs.Promise.{most_rounds};
+ghost use Rattle.promise.specs.WholeRun.{EndsAlike, LeavesAlike};
 ghost use Rattle.run_laws.specs.Endings.{Leaves, RanOut, RanFull};
 ghost use Rattle.run_laws.specs.LastReport.{last_text};
-ghost use Rattle.run_laws.specs.WholeRun.{all_started};
-ghost use Rattle.run_laws.specs.Cut.{CutSo, WritingSo, GoneSoFar};
+ghost use Rattle.run_laws.specs.Cut.{GoneSoFar};
+ghost use Rattle.promise.specs.CutRun.{CutSo, WritingSo};
 
 use outside::World;
 

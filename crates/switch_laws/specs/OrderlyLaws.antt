@@ -41,7 +41,8 @@ use Rattle.net_txn.specs.Joining.{Joins, greeting, greeted_from, delete_all}
 use Rattle.net_txn.specs.Undos.{Part, Inverse, Settled, Stuck, part_steps, steps_of, alone, fault_in, first_fault, first_fault_of, ended_by, Undoes}
 use Rattle.net_txn.specs.NoticeLaws.{kind_of_header}
 use Rattle.switch_laws.specs.AskedLaws.{asked}
-use Rattle.switch_laws.specs.Orderly.{IsOrderlyAct, IsOrderly, OrderlySince}
+use Rattle.switch_laws.specs.Orderly.{OrderlySince}
+use Rattle.promise.specs.Orderly.{IsOrderlyAct, IsOrderly}
 
 -- ---- Messages of another type than PACKET_OUT (13)
 

@@ -1,15 +1,19 @@
--- A whole run, from the world that was opened on. All of this is our own.
-use Rattle.std.specs.Prelude.{◌≡◌, Bool, false, List, [], ◌∷◌, ◌++◌, map, None}
+-- The run of the reference controller over what a world told, whole and in parts. All of this is our own.
+use Rattle.std.specs.Prelude.{◌≡◌, Bool, false, List, [], ◌∷◌, ◌++◌, map, None, ℕ, zero, suc, fold}
+use Rattle.std.specs.List.{flat_map}
 use Rattle.flow_table.specs.Switch.{Declared}
 use Rattle.lego_model.specs.Journal.{Reply, Start}
 use Rattle.lego_model.specs.Places.{Place}
 use Rattle.lego_model.specs.Scripted.{AreFronts, AreStartFronts}
-use Rattle.lego_model.specs.Controller.{App, Quiet, Run, quiet_of, start_all, reference}
-use Rattle.lego_model.specs.Agreement.{AgreeQuiets}
+use Rattle.lego_model.specs.Controller.{App, Run, quiet_of, start_all, reference, dispatch, settle, happen}
 use Rattle.outside.specs.Seen.{Seen}
-use Rattle.outside.specs.State.{Link, state}
 use Rattle.journal_laws.specs.Readings.{starts_in, replies_in}
-use Rattle.run_laws.specs.Engine.{own_acts, given_in, stimuli_in, quiets_in, budget}
+use Rattle.lego_model.specs.Agreement.{AgreeQuiets}
+use Rattle.promise.specs.History.{own_acts, stimuli_in, given_in, quiets_in, last_quiet}
+use Rattle.promise.specs.Application.{budget, names}
+use Rattle.of_types.specs.declared.journal.WorldStim.{WorldStim}
+use Rattle.app_frames.specs.declared.frame.Event.{Event}
+use Rattle.lego_model.specs.RunReport.{line_text}
 
 -- ---- The application of the reference controller at first, with what it will do
 
@@ -46,9 +50,35 @@ reference_of allows seen = reference_said allows seen (starts_in (own_acts seen)
 abbrev pub AreSaid : {Own : Type 0} → Seen Own → List Start → List Reply → Type 0
 AreSaid seen starts replies = AreStartFronts (starts_in (own_acts seen)) starts × AreFronts (replies_in (own_acts seen)) replies
 
--- how the switches stand at the end
-abbrev pub last_quiet : {Own : Type 0} → Seen Own → Quiet
-last_quiet seen = record { event = None; switches = map (λ (l : Link). l.switch) (state seen).links }
+-- ---- The parts of its run
+
+-- the oldest event that waits is dispatched, where there is one
+abbrev pub next_dispatched : (List Place → Bool) → List Event → Run → Run
+next_dispatched allows [] r = r
+next_dispatched allows (event ∷ queue) r = dispatch allows event (record r { queue = queue })
+
+abbrev pub dispatch_next : (List Place → Bool) → Run → Run
+dispatch_next allows r = next_dispatched allows r.queue r
+
+-- so often
+abbrev pub times : ℕ → (Run → Run) → Run → Run
+times zero f r = r
+times (suc n) f r = times n f (f r)
+
+-- a stimulus, and then the events that wait
+abbrev pub round : (List Place → Bool) → Run → WorldStim → Run
+round allows r x = settle allows (happen x r)
+
+abbrev pub rounds : (List Place → Bool) → List WorldStim → Run → Run
+rounds allows xs r = fold (round allows) r xs
+
+-- ---- What it writes
+
+-- the text of the lines so far
+abbrev pub text_of : Run → List ℕ
+text_of r = flat_map (line_text names) r.lines
+
+-- ---- A run of a world stands alike to one of it
 
 -- The run is that of the reference controller: at every quiet place, the end included, the switches agree; and the application was given
 -- what the reference controller gives it.
