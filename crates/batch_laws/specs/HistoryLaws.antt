@@ -34,13 +34,9 @@ use Rattle.outside.specs.Seen.{Seen}
 use Rattle.outside.specs.State.{Link, State, link_at_first, at_first, link_of, switch_in, switch_of, with_link, switch_joined, link_joined, link_left, link_stimulated, switch_told, link_sent, link_got, link_told, link_failed, links_after, after_stim, after_act, after_step, after_steps, state}
 use Rattle.outside.specs.Conforming.{ArePortsFrom, MayDeclare, IsStimulus, IsWorldStim, MayAct, MayStep, MaySteps, Conforming}
 use Rattle.switch_laws.specs.StandLaws.{state-links}
+use Rattle.batch_laws.specs.Lasting.{AscendPorts, Lasts, PortWithin, LastsIn, LinkLasts, AllLast}
 
 -- ---- Ports
-
--- strictly ascending by number, within 65,280, and with configs of 32 bits
-abbrev pub AscendPorts : ℕ → List PortState → Type 0
-AscendPorts least [] = Unit {0}
-AscendPorts least (p ∷ ps) = (least ≤ p.number) × (p.number ≤ 65280) × (p.config < 2 ^ 32) × AscendPorts (p.number + 1) ps
 
 -- a change of a port that keeps its number, and a config of 32 bits
 record KeepsPort (g : PortState → PortState) : Type 0 where
@@ -110,12 +106,6 @@ ascend-new least [] h = tt
 ascend-new least (n ∷ ns) h = (h.0, h.1, omega arith, ascend-new (n + 1) ns h.2)
 
 -- ---- One switch
-
--- it is the declared one, with ports that stand so
-pub record Lasts (d : Declared) (s : SwitchState) : Type 0 where
-  pub declared : s.declared ≡ d
-  pub ports : AscendPorts 1 s.ports
-  pub few : length s.ports ≤ 64
 
 -- changes of each port
 lasts-ports : (g : PortState → PortState) → KeepsPort g → (d : Declared) (s : SwitchState) → Lasts d s → Lasts d (record s { ports = map g s.ports })
@@ -210,11 +200,6 @@ port-lasts port changes.Delete d s within is = record {
   few = omega (arith, is.few, length-filtered (λ p. not (p.number == port)) s.ports);
 }
 
--- a port that changes has a number from 1 to 65,280
-abbrev pub PortWithin : Stimulus → Type 0
-PortWithin (Port port change) = (1 ≤ port) × (port ≤ 65280)
-PortWithin other = Unit {0}
-
 pub within-stimulus : (x : Stimulus) → IsStimulus x → PortWithin x
 unfolding IsStimulus
 within-stimulus (Frame port bytes) h = tt
@@ -270,18 +255,6 @@ unfolding after_message
 message-lasts m d s is = unless-lasts (message_refusal s m) d s (after_taken m s) is (taken-lasts m d s is)
 
 -- ---- Links
-
-abbrev pub LastsIn : Declared → Option SwitchState → Type 0
-LastsIn d None = Unit {0}
-LastsIn d (Some s) = Lasts d s
-
--- a switch that may be declared, and stands so while it is joined
-pub record LinkLasts (l : Link) : Type 0 where
-  pub may : MayDeclare l.declared
-  pub switch : LastsIn l.declared l.switch
-
-abbrev pub AllLast : List Link → Type 0
-AllLast ls = AllByRecursion LinkLasts ls
 
 record Keeps (change : Link → Link) : Type 0 where
   keeps : (l : Link) → LinkLasts l → LinkLasts (change l)

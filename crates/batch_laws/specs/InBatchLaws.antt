@@ -35,11 +35,11 @@ use Rattle.switch_laws.specs.OrderlyLaws.{orderly-then}
 use Rattle.batch_laws.specs.Knowledge.{Knowledge, knowledge_of, handled, handled_all}
 use Rattle.batch_laws.specs.Calm.{Calm}
 use Rattle.batch_laws.specs.Batches.{Standing}
-use Rattle.batch_laws.specs.Items.{Handles, TakesNext}
-use Rattle.batch_laws.specs.TellLaws.{FitsItem}
+use Rattle.batch_laws.specs.Items.{Handles, TakesNext, waiting, Fresh, IsFresh, IsItem}
+use Rattle.batch_laws.specs.Tells.{FitsItem}
 use Rattle.batch_laws.specs.StimulusLaws.{bytes-fit}
-use Rattle.batch_laws.specs.ItemLaws.{waiting, links_ascend, told_first, none_waiting, none_waits, Fresh, IsFresh, IsItem, item_done}
-use Rattle.batch_laws.specs.InBatch.{SameBesides, IsReadable, InBatch, BatchDone, BatchOver, SoFar, GoesOn, CanTake, CanTakeNext}
+use Rattle.batch_laws.specs.ItemLaws.{links_ascend, told_first, none_waiting, none_waits, item_done}
+use Rattle.batch_laws.specs.InBatch.{SameBesides, IsReadable, InBatch, BatchDone, BatchOver, SoFar, GoesOn, CanTake, CanTakeNext, standing}
 
 -- ---- What is upcoming
 
@@ -356,9 +356,6 @@ besides_then r s t first later = record {
 all_more : (P : WorldStep → Type 0) (xs : List WorldStep) (x : WorldStep) → AllByRecursion P xs → P x → AllByRecursion P (xs ++ x ∷ [])
 all_more P [] x all last = (last, tt)
 all_more P (y ∷ ys) x all last = (all.0, all_more P ys x all.1 last)
-
-abbrev pub standing : {Own : Type 0} → Seen Own → NetState → List Event → Standing Own
-standing seen net queue = record { seen = seen; net = net; queue = queue }
 
 -- the numbers of an item whose bytes stand in a buffer of bytes
 item_fits : (item : Item) (buf : List ℕ) → IsBytes buf → FitsItem (item_step item buf)

@@ -1,7 +1,7 @@
 -- What an item that the outside tells leaves of the state of a world that keeps its word: what was upcoming before it is the item and what
 -- is upcoming behind it; and what the engine does at it moves no switch.
 use Rattle.std.specs.Prelude.{◌≡◌, ◌==◌, ℕ, ◌+◌, ◌≤◌, ◌<◌, ◌^◌, ◌⊎◌, Bool, true, false, not, List, [], ◌∷◌, ◌++◌, map, filter, Option, Some, None, Result, Ok, Err, is_some, slice_get, if◌then◌else◌, refl}
-use Rattle.std.specs.List.{AllByRecursion, flat_map}
+use Rattle.std.specs.List.{AllByRecursion}
 use Rattle.std.proofs.Common.{sym, ap, ap₂, ◌∙◌, subst, arith, inl, inr}
 use Rattle.std.proofs.lemmas.Bool.{cases_Bool, eqb-true, eqb-false, eq-eqb, ne_eqb}
 use Rattle.std.proofs.lemmas.List.{append-nil}
@@ -20,7 +20,7 @@ use Rattle.of_wire.specs.Spelling.{message_size, message_bytes}
 use Rattle.of_wire.specs.Grammar.{IsMessage, enveloped}
 use Rattle.of_wire.specs.GrammarLaws.{IsRead-reading_of}
 use Rattle.of_wire.specs.ReadingLaws.{reading_of-message_bytes}
-use Rattle.flow_table.specs.Switch.{Declared, SwitchState, first_config}
+use Rattle.flow_table.specs.Switch.{Declared, SwitchState}
 use Rattle.flow_table.specs.Refusals.{message_refusal}
 use Rattle.flow_table.specs.Step.{after_taken, after_message, sent_by_taken, sent_by_message}
 use Rattle.app_frames.specs.declared.frame.Event.{Event}
@@ -43,19 +43,12 @@ use Rattle.net_txn.specs.Arriving.{arrival_steps}
 use Rattle.net_txn.specs.Joining.{greeting, greeted_from}
 use Rattle.net_txn.specs.JoiningSteps.{JoinsInStep}
 use Rattle.switch_laws.specs.StandLaws.{state-links}
-use Rattle.switch_laws.specs.Orderly.{OrderlySince}
 use Rattle.promise.specs.Orderly.{IsOrderly}
 use Rattle.switch_laws.specs.OrderlyLaws.{orderly-none, echo-orderly, join-steps-orderly}
-use Rattle.batch_laws.specs.Items.{answers, Untouched, Rests, TakesMessage, TakesIn, TakesInBy, TakesInAs, DoesFrom, DoesJoined, DoesLeft, Handles}
+use Rattle.batch_laws.specs.Items.{answers, Untouched, Rests, TakesMessage, TakesIn, TakesInBy, TakesInAs, DoesFrom, DoesJoined, DoesLeft, Handles, waiting, Ascend, Leaves, IsLinkStep, ItemDone, Fresh, IsFresh, Done, IsItem}
 use Rattle.batch_laws.specs.InBatch.{SameBesides}
 
 -- ---- What waits, of the switches with lower numbers first
-
-abbrev pub waiting : List Link → List WorldStep
-waiting ls = flat_map (λ l. map (From l.declared.dpid) l.waits) ls
-
-abbrev pub Ascend : ℕ → List Link → Type 0
-Ascend least ls = AreDeclaredFrom least (map (λ l. l.declared) ls)
 
 -- the links of a world that keeps its word are in order
 pub links_ascend : {Own : Type 0} (seen : Seen Own) → Conforming seen → Ascend 1 (state seen).links
@@ -169,13 +162,6 @@ still_switch d e change still (l ∷ ls) =
 
 -- ---- What the engine does leaves this of a state
 
-pub record Leaves (s t : State) : Type 0 where
-  pub besides : SameBesides t s
-  pub begun : t.begun ≡ s.begun
-  pub due : t.due ≡ s.due
-  pub switches : (d : ℕ) → switch_of d t ≡ switch_of d s
-  pub upcoming_so : upcoming t ≡ upcoming s
-
 pub leaves_all : (s : State) → Leaves s s
 leaves_all s = record {
   besides = record { opened = refl; running = refl; moment = refl; to_come = refl; marks = refl };
@@ -186,9 +172,6 @@ leaves_all s = record {
 }
 
 -- ---- Calls of links
-
-abbrev pub IsLinkStep : WorldStep → Type 0
-IsLinkStep step = (d : ℕ) × (bytes : List ℕ) × ((step ≡ Acted (Sent d bytes)) ⊎ (step ≡ Acted (Got d bytes)))
 
 sent_is : (d : ℕ) (bytes : List ℕ) → IsLinkStep (Acted (Sent d bytes))
 sent_is d bytes = (d, bytes, inl refl)
@@ -267,13 +250,6 @@ acts_none app [] all = no_acts app
 acts_none app (step ∷ steps) all = (tells_by step all.0.0 all.0.1 all.0.2 steps app).1 ∙ acts_none app steps all.1
 
 -- ---- What an item leaves, from where it was told
-
-pub record ItemDone {Own : Type 0} (mid new : Seen Own) : Type 0 where
-  pub given : new.given ≡ mid.given
-  pub leaves : Leaves (state mid) (state new)
-  pub stimuli_so : stimuli (journal new.history) ≡ stimuli (journal mid.history)
-  pub acts : (app : ℕ) → filter (is_of app) (journal new.history) ≡ filter (is_of app) (journal mid.history)
-  pub orderly : (app : ℕ) → OrderlySince app mid new
 
 none_done : {Own : Type 0} (mid : Seen Own) → ItemDone mid mid
 none_done mid = record { given = refl; leaves = leaves_all (state mid); stimuli_so = refl; acts = λ app. refl; orderly = λ app. orderly-none app mid }
@@ -375,13 +351,6 @@ message_done {d = d} {bytes = bytes} {mid = mid} {new = new} told given takes =
 
 -- ---- A switch joins that is empty
 
-pub record Fresh (d : ℕ) (s : State) : Type 0 where
-  pub waits : (e : ℕ) → waits_of e s ≡ []
-  pub switch : SwitchState
-  pub joined : switch_of d s ≡ Some switch
-  pub empty : switch.table.entries ≡ []
-  pub config : switch.config ≡ first_config
-
 all_join : (P : WorldStep → Type 0) (xs ys : List WorldStep) → AllByRecursion P xs → AllByRecursion P ys → AllByRecursion P (xs ++ ys)
 all_join P [] ys first later = later
 all_join P (x ∷ xs) ys first later = (first.0, all_join P xs ys first.1 later)
@@ -439,14 +408,6 @@ join_done {d = d} {mid = mid} {new = new} {net = net} told kept keeps given fres
 
 -- ---- The whole
 
-abbrev pub IsFresh : WorldStep → State → Type 0
-IsFresh (Joined d bytes) s = Fresh d s
-IsFresh other s = Unit {0}
-
-pub record Done {Own : Type 0} (mid new : Seen Own) (now_net : NetState) : Type 0 where
-  pub done : ItemDone mid new
-  pub kept : now_net.kept ≡ []
-
 untouched : {Own : Type 0} {mid new : Seen Own} {net now_net : NetState} → net.kept ≡ [] → Untouched mid new net now_net → Done mid new now_net
 untouched {mid = mid} {new = new} none is = record { done = untouched_done mid new is.seen; kept = is.kept ∙ none }
 
@@ -495,16 +456,6 @@ joined_done : {Own Tells : Type 0} {mid new : Seen Own} (net now_net : NetState)
     → DoesJoined Tells d bytes known mid new net now_net → Done mid new now_net
 joined_done net now_net d bytes true told kept keeps given none fresh does = untouched none does
 joined_done net now_net d bytes false told kept keeps given none fresh does = joined_as net now_net d (reading_of bytes) told kept keeps given none fresh does
-
--- What the engine does at an item that may be told moves no switch, and no message is kept.
-abbrev pub IsItem : WorldStep → Type 0
-IsItem (From d bytes) = Unit {0}
-IsItem (Joined d bytes) = Unit {0}
-IsItem (Left d) = Unit {0}
-IsItem (Moment t) = Unit {0}
-IsItem Idle = Unit {0}
-IsItem End = Unit {0}
-IsItem other = ⊥
 
 pub item_done : {Own Tells : Type 0} {mid new : Seen Own} {net now_net : NetState} {queue now_queue : List Event} (item : WorldStep) → IsItem item → Tells → Conforming mid → Conforming new → net.kept ≡ [] → IsFresh item (state mid)
     → Handles Tells item mid new net now_net queue now_queue → Done mid new now_net

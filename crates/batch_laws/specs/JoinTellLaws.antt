@@ -35,12 +35,17 @@ use Rattle.net_txn.specs.JoiningLaws.{rows_at-with_view, rows_at-with_view-other
 use Rattle.switch_laws.specs.Shown.{flags_at, shown_switch, places, shown_places}
 use Rattle.batch_laws.specs.Knowledge.{Knowledge, handled, handled_all, joined_by}
 use Rattle.batch_laws.specs.Calm.{known_ports, ViewsAscend}
-use Rattle.batch_laws.specs.HistoryLaws.{AscendPorts, Lasts, joined-lasts, LinkLasts}
+use Rattle.batch_laws.specs.HistoryLaws.{joined-lasts}
+use Rattle.batch_laws.specs.Lasting.{AscendPorts, Lasts, LinkLasts}
 use Rattle.batch_laws.specs.PortTellLaws.{desc-fits}
-use Rattle.batch_laws.specs.LinkTellLaws.{KnownIn, declared_in}
-use Rattle.batch_laws.specs.ReferenceLaws.{all-each, place_at, place-map, events_of_one, flat-one, flat-alike, declared-found, has-link, all-at, none-waiting, waiting-silent}
-use Rattle.batch_laws.specs.AfterLaws.{Facts, SoundIn, After, sound-stands}
-use Rattle.batch_laws.specs.LeaveTellLaws.{OnlyOne, all-known, all-sound, place-of-one}
+use Rattle.batch_laws.specs.LinkTells.{KnownIn}
+use Rattle.switch_laws.specs.Standing.{declared_in}
+use Rattle.batch_laws.specs.ReferenceLaws.{all-each, place-map, flat-one, flat-alike, declared-found, has-link, all-at, none-waiting, waiting-silent}
+use Rattle.batch_laws.specs.Waiting.{place_at, events_of_one}
+use Rattle.batch_laws.specs.AfterLaws.{sound-stands}
+use Rattle.batch_laws.specs.After.{Facts, SoundIn, After}
+use Rattle.batch_laws.specs.LeaveTellLaws.{all-known, all-sound, place-of-one}
+use Rattle.batch_laws.specs.Tells.{OnlyOne}
 
 abbrev some : SwitchState → Option SwitchState
 some s = Some s

@@ -39,8 +39,10 @@ use Rattle.switch_laws.specs.Sound.{SoundEntry, AllSound}
 use Rattle.switch_laws.specs.SoundLaws.{notice-message}
 use Rattle.batch_laws.specs.Knowledge.{Knowledge, told_read, handled, handled_all}
 use Rattle.batch_laws.specs.Calm.{known_ports, ViewsAscend}
-use Rattle.batch_laws.specs.KeyLaws.{all-both, all-filter, all-map, all-by_deadline, filter-alike, neither, has_place, Distinct, entry_keys, notice_keys, has-by_deadline, distinct-by_deadline, distinct-filter, has-filter, without_all, without_all-filter, view-filter, table-filter, flags-kept, AscendRows, rows-ascend, asked-flags, asked-without}
-use Rattle.batch_laws.specs.TellLaws.{ViewChanged, SwitchHandled, SwitchKnown, known-handled, is-known}
+use Rattle.batch_laws.specs.KeyLaws.{all-both, all-filter, all-map, all-by_deadline, filter-alike, neither, has-by_deadline, distinct-by_deadline, distinct-filter, has-filter, without_all-filter, view-filter, table-filter, flags-kept, rows-ascend, asked-flags, asked-without}
+use Rattle.batch_laws.specs.Keys.{has_place, Distinct, entry_keys, notice_keys, without_all, AscendRows}
+use Rattle.batch_laws.specs.TellLaws.{known-handled, is-known}
+use Rattle.batch_laws.specs.Tells.{ViewChanged, SwitchHandled, SwitchKnown}
 
 -- ---- Views
 

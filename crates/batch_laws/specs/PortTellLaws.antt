@@ -28,13 +28,13 @@ use Rattle.lego_model.specs.Answers.{rows_of_table}
 use Rattle.lego_model.specs.Controller.{ports_of, events_of}
 use Rattle.outside.specs.declared.step.WorldStep.TheVariants.{From}
 use Rattle.net_txn.specs.declared.ports.KnownPorts.{KnownPorts}
-use Rattle.net_txn.specs.Arriving.{ports_after, known_after}
-use Rattle.net_txn.specs.Arriving.{with_port as put_port}
+use Rattle.net_txn.specs.Arriving.{ports_after, known_after, with_port as put_port}
 use Rattle.switch_laws.specs.Shown.{flags_in}
 use Rattle.batch_laws.specs.Knowledge.{Knowledge, handled_all}
 use Rattle.batch_laws.specs.Calm.{known_ports}
-use Rattle.batch_laws.specs.HistoryLaws.{AscendPorts, Lasts}
-use Rattle.batch_laws.specs.TellLaws.{SwitchHandled, SwitchKnown, known-handled, is-known, view-kept}
+use Rattle.batch_laws.specs.Lasting.{AscendPorts, Lasts}
+use Rattle.batch_laws.specs.TellLaws.{known-handled, is-known, view-kept}
+use Rattle.batch_laws.specs.Tells.{SwitchHandled, SwitchKnown}
 
 -- ---- News of a port can be read
 

@@ -30,9 +30,10 @@ use Rattle.net_txn.specs.Net.{NetState}
 use Rattle.net_txn.specs.Undos.{is_viewed}
 use Rattle.net_txn.specs.Abreast.{Abreast}
 use Rattle.switch_laws.specs.StandLaws.{state-links}
-use Rattle.batch_laws.specs.ItemLaws.{waiting, Ascend}
+use Rattle.batch_laws.specs.Items.{waiting, Ascend}
 use Rattle.event_dispatch.specs.Told.{IsTold}
-use Rattle.event_dispatch.specs.NothingWaitsLaws.{AllEmptyOut, state_empty, steps_empty, out_is_empty}
+use Rattle.event_dispatch.specs.NothingWaitsLaws.{state_empty, steps_empty, out_is_empty}
+use Rattle.event_dispatch.specs.NothingWaits.{AllEmptyOut}
 
 -- ---- What waits are messages of switches, and a switch of which one is told is joined
 

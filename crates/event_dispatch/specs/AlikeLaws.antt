@@ -22,7 +22,8 @@ use Rattle.promise.specs.Application.{index}
 use Rattle.promise.specs.History.{stimuli_in}
 use Rattle.run_laws.specs.Readings.{JudgesAlike}
 use Rattle.run_laws.specs.Moves.{Moved, Rounds}
-use Rattle.run_laws.specs.FirstLaws.{IsOpened, net_at_first, engine_at_first, settled-first}
+use Rattle.run_laws.specs.FirstLaws.{settled-first}
+use Rattle.run_laws.specs.First.{IsOpened, net_at_first, engine_at_first}
 use Rattle.run_laws.specs.EndingLaws.{whole-of}
 use Rattle.promise.specs.ReferenceRun.{all_started}
 use Rattle.run_laws.specs.Promise.{most_rounds, PremiseSoFar}

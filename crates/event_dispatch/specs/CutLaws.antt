@@ -19,7 +19,7 @@ use Rattle.event_dispatch.specs.declared.served.Served.TheVariants as served
 use Rattle.event_dispatch.specs.Why.{IsReason, served_by}
 use Rattle.event_dispatch.specs.Runs.{Waits}
 use Rattle.event_dispatch.specs.Batch.{BatchShown}
-use Rattle.event_dispatch.specs.Shows.{engine_of}
+use Rattle.event_dispatch.specs.Shows.{engine_of, queued_run}
 use Rattle.event_dispatch.specs.LastShown.{LastShown}
 use Rattle.event_dispatch.specs.LastLaws.{says_leaves}
 use Rattle.event_dispatch.specs.Talking.{KeepsTalking, GoesOnTalking}
@@ -27,7 +27,7 @@ use Rattle.event_dispatch.specs.Steady.{Reads, Quietly, AtMostHere}
 use Rattle.event_dispatch.specs.SteadyLaws.{quietly_none, quietly_then}
 use Rattle.event_dispatch.specs.TalkingLaws.{keeps_none, keeps_then}
 use Rattle.event_dispatch.specs.Serves.{Starts, IsDispatched, Begins}
-use Rattle.event_dispatch.specs.RoundLaws.{queued_run, first_event, batch_is}
+use Rattle.event_dispatch.specs.RoundLaws.{first_event, batch_is}
 use Rattle.event_dispatch.specs.Cut.{IsStill, CutOne, CutSome, CutRound, CutRounds, CutStart, CutEnd, CutFinish, CutFinishAs, WentToEnd, CutGoes, CutRun, CutAs}
 
 -- what a `?` answers is the fault

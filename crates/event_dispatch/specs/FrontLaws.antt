@@ -11,8 +11,10 @@ use Rattle.outside.specs.InOrderLaws.{InOrder-before, in_order-Conforming, Confo
 use Rattle.net_txn.specs.Net.{NetState}
 use Rattle.net_txn.specs.Abreast.{Abreast}
 use Rattle.batch_laws.specs.Calm.{Calm}
-use Rattle.batch_laws.specs.ItemLaws.{waiting, links_ascend, none_waiting}
-use Rattle.run_laws.specs.FirstLaws.{IsOpened, net_at_first, none-joined, calm-first}
+use Rattle.batch_laws.specs.ItemLaws.{links_ascend, none_waiting}
+use Rattle.batch_laws.specs.Items.{waiting}
+use Rattle.run_laws.specs.FirstLaws.{none-joined, calm-first}
+use Rattle.run_laws.specs.First.{IsOpened, net_at_first}
 use Rattle.event_dispatch.specs.Steady.{Reads, IsAtRest}
 
 -- ---- A world that was just opened

@@ -33,7 +33,7 @@ use Rattle.run_laws.specs.Endings.{Leaves}
 use Rattle.run_laws.specs.LeaveLaws.{asked-leaves}
 use Rattle.event_dispatch.specs.declared.run.Run.{Run}
 use Rattle.event_dispatch.specs.Shows.{engine_of, Adds}
-use Rattle.event_dispatch.specs.LastShown.{FindsFlags, FlowsSoFar, TableSaid, AsksShown, Says, TableShown, TablesShown, LastShown}
+use Rattle.event_dispatch.specs.LastShown.{FindsFlags, FlowsSoFar, TableSaid, AsksShown, Says, TableShown, TablesShown, LastShown, NextRow}
 
 -- ---- Text that is noted
 
@@ -74,14 +74,6 @@ same_bytes (x ∷ xs) = rw (eq-eqb x x refl) (same_bytes xs)
 pub key_same : (k l : Key) → k ≡ l → ((k.priority == l.priority) && pointwise nat_eq k.matching.bytes l.matching.bytes) ≡ true
 key_same k l same =
     subst (λ (m : Key). ((k.priority == m.priority) && pointwise nat_eq k.matching.bytes m.matching.bytes) ≡ true) same (rw (eq-eqb k.priority k.priority refl) (same_bytes k.matching.bytes))
-
--- one row more
-pub record NextRow (row : FlowRow) (ws : List ViewRow) (rest : List FlowRow) : Type 0 where
-  pub first : ViewRow
-  pub later : List ViewRow
-  pub is : ws ≡ first ∷ later
-  pub key : first.key ≡ row.key
-  pub same : SameKeys rest later
 
 next_row : (row : FlowRow) (ws : List ViewRow) (rest : List FlowRow) → SameKeys (row ∷ rest) ws → NextRow row ws rest
 next_row row [] rest h = absurd h

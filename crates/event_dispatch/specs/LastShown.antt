@@ -65,3 +65,11 @@ pub record TablesShown {Own : Type 0} (Tells : Type 0) (ds : List ℕ) (old new 
 -- the whole end
 pub record LastShown {Own : Type 0} (Tells : Type 0) (old new : Seen Own) (r now_r : Run) : Type 0 where
   pub shown : Tells → Conforming new → Calm old r.net → Says (last_text old (engine_of r)) old new r now_r
+
+-- one row more
+pub record NextRow (row : FlowRow) (ws : List ViewRow) (rest : List FlowRow) : Type 0 where
+  pub first : ViewRow
+  pub later : List ViewRow
+  pub is : ws ≡ first ∷ later
+  pub key : first.key ≡ row.key
+  pub same : SameKeys rest later

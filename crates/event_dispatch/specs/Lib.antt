@@ -6,7 +6,7 @@ pub mod TurnLaws
 pub mod RoundLaws
 pub mod WholeLaws
 pub mod WhyLaws
-pub mod Joined
+pub mod ViewedLaws
 pub mod LastShown
 pub mod LastLaws
 pub mod Batch
@@ -32,3 +32,4 @@ pub mod BatchSteadyLaws
 pub mod DispatchPlaceLaws
 pub mod FrontLaws
 pub mod ReadLaws
+pub mod NothingWaits

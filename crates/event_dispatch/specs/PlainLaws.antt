@@ -27,11 +27,13 @@ use Rattle.app_visor.specs.Beats.{Stops}
 use Rattle.app_visor.specs.Turns.{Turns}
 use Rattle.switch_laws.specs.SoundLaws.{rows-are}
 use Rattle.switch_laws.specs.ClockLaws.{switch-in_time, moment-within}
-use Rattle.turn_laws.specs.StopShown.{IsPlainStop, stop-plain, turn-ready}
+use Rattle.turn_laws.specs.StopLaws.{stop-plain, turn-ready}
+use Rattle.turn_laws.specs.Stop.{IsPlainStop}
 use Rattle.batch_laws.specs.InBatchLaws.{next_can}
 use Rattle.run_laws.specs.Engine.{Engine}
 use Rattle.run_laws.specs.CalmLaws.{stands_ready}
-use Rattle.run_laws.specs.FirstLaws.{engine_at_first, settled-first}
+use Rattle.run_laws.specs.FirstLaws.{settled-first}
+use Rattle.run_laws.specs.First.{engine_at_first}
 use Rattle.run_laws.specs.StimuliLaws.{fewer-before}
 use Rattle.run_laws.specs.Promise.{Premise}
 use Rattle.run_laws.specs.LastReportLaws.{joined-with}

@@ -13,12 +13,12 @@ use Rattle.outside.specs.Seen.{Seen, Continues}
 use Rattle.outside.specs.SeenLaws.{Continues-trans}
 use Rattle.outside.specs.StateLaws.{Conforming-before}
 use Rattle.outside.specs.Conforming.{Conforming}
-use Rattle.run_laws.specs.Engine.{Engine, Stands}
+use Rattle.run_laws.specs.Engine.{Engine, Stands, engine_then}
 use Rattle.promise.specs.History.{stimuli_in}
 use Rattle.promise.specs.ReferenceRun.{text_of, dispatch_next, times}
 use Rattle.run_laws.specs.Facts.{StartsAgain}
 use Rattle.run_laws.specs.Moves.{Settled, Moved, Shown, OneHappens}
-use Rattle.run_laws.specs.BatchMoveLaws.{engine_then, batch-happens, batch-over}
+use Rattle.run_laws.specs.BatchMoveLaws.{batch-happens, batch-over}
 use Rattle.run_laws.specs.Readings.{JudgesAlike}
 use Rattle.run_laws.specs.StimuliLaws.{none-later}
 use Rattle.run_laws.specs.MoveLaws.{shown-none, shown-then, shown-as}
@@ -33,7 +33,7 @@ use Rattle.event_dispatch.specs.declared.run.Managed.{Managed}
 use Rattle.event_dispatch.specs.declared.run.Run.{Run}
 use Rattle.event_dispatch.specs.Runs.{Waits}
 use Rattle.event_dispatch.specs.Batch.{BatchShown}
-use Rattle.event_dispatch.specs.Shows.{engine_of}
+use Rattle.event_dispatch.specs.Shows.{engine_of, queued_run}
 use Rattle.event_dispatch.specs.Serves.{Writes, Starts, IsDispatched, SettlesOne, SettlesSome, Settles, IsBatch, GoesRound, GoesRounds, GoesToEnd, Begins}
 
 -- ---- What is written
@@ -64,10 +64,6 @@ first_event (first ∷ queue) event is = cc
 no_event : (queue : List Event) → None ≡ slice_get queue 0 → queue ≡ []
 no_event [] is = refl
 no_event (first ∷ queue) is = absurd cc
-
--- the run with other events that wait
-abbrev pub queued_run : List Event → Run → Run
-queued_run queue r = record r { queue = queue }
 
 pub one_settled : {Own : Type 0} (Tells : Type 0) (accepts : List TableView → Bool) (event : Event) (contents now_contents : Option (List ℕ)) (old new : Seen Own) (r : Run) (queue : List Event) (mid now_r : Run) → Continues Tells old new → r.events < 2 ^ 63 → Some event ≡ slice_get r.queue 0
     → queue ≡ drop 1 r.queue → r.lines.items ≡ [] → IsDispatched Tells accepts event old new (queued_run queue r) mid → engine_of now_r ≡ engine_of mid → Writes mid.lines.items contents now_contents now_r → SettlesOne Tells accepts true contents now_contents old new r now_r

@@ -25,7 +25,7 @@ use Rattle.run_laws.specs.Readings.{JudgesAlike}
 use Rattle.run_laws.specs.Facts.{turn_word, StartsAgain, TakesTurn, Dispatches}
 use Rattle.run_laws.specs.Moves.{Settled, Shown, ShownIdle, ShownOver, ShownRounds, ShownToEnd}
 use Rattle.promise.specs.ReferenceRun.{dispatch_next, times}
-use Rattle.run_laws.specs.FirstLaws.{engine_at_first}
+use Rattle.run_laws.specs.First.{engine_at_first}
 use Rattle.run_laws.specs.Endings.{ShownStart, ShownFinish, RanOut, RanFull}
 use Rattle.run_laws.specs.Promise.{most_rounds}
 use Rattle.promise.specs.WholeRun.{EndsAlike, LeavesAlike}

@@ -18,14 +18,10 @@ use Rattle.run_laws.specs.Engine.{Engine}
 use Rattle.promise.specs.Application.{index, budget, name}
 use Rattle.run_laws.specs.Facts.{turn_word, StartsAgain}
 use Rattle.event_dispatch.specs.declared.run.Run.{Run}
-use Rattle.event_dispatch.specs.Shows.{engine_of}
+use Rattle.event_dispatch.specs.Shows.{engine_of, played_run}
 use Rattle.event_dispatch.specs.Serves.{PlaysTurn, Closes, HasTurn}
 
 -- ---- A turn, from its event on
-
--- what the engine keeps behind a turn that was played
-abbrev pub played_run : NetState → List Event → AppState → Run → Run
-played_run net queue app r = record r { net = net; queue = queue; app = record r.app { state = app } }
 
 pub turn_so : {Own : Type 0} (Tells : Type 0) (accepts : List TableView → Bool) (event : Event) (end : TurnEnd) (old mid new : Seen Own) (net : NetState) (queue : List Event) (app : AppState) (r now_r : Run) → r.app.state.index ≡ index
     → PlaysTurn Tells accepts r.app.state.index r.events event end old mid r.net net r.app.state.rest app.rest → app.alive ≡ r.app.state.alive → queue ≡ r.queue → Closes Tells end mid new (played_run net queue app r) now_r

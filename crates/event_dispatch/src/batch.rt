@@ -8,7 +8,7 @@ ghost use Rattle.outside.specs.Calls.{most_message, item_step, IsItemIn, Nexts};
 ghost use Rattle.of_wire.specs.Spelling.{message_size, message_bytes};
 ghost use Rattle.app_frames.specs.declared.frame.EventKind.TheVariants as kinds;
 ghost use Rattle.net_txn.specs.Views.{rows_at};
-ghost use Rattle.event_dispatch.specs.Joined.{is_joined as is_joined_in};
+ghost use Rattle.net_txn.specs.Undos.{is_viewed};
 ghost use Rattle.batch_laws.specs.Knowledge.{with_event};
 ghost use Rattle.batch_laws.specs.Items.{Departs, Enters, Handles};
 ghost use Rattle.event_dispatch.specs.Runs.{AreRead, Waits};
@@ -45,13 +45,13 @@ pub(crate) enum Rest {
 
 /// Whether a switch has a view.
 fn has_view(net: &Net, dpid: Dpid) -> bool
-    ensures { result ≡ is_joined_in dpid net.now.views }
+    ensures { result ≡ is_viewed dpid net.now.views }
 {
     net.views().iter().any(|view| view.dpid == dpid)
 }
 
 /// Whether a switch is joined.
-#[tactic(auto, using(crate::specs::Joined::joined_rows, crate::specs::Joined::out_rows))]
+#[tactic(auto, using(crate::specs::ViewedLaws::joined_rows, crate::specs::ViewedLaws::out_rows))]
 pub(crate) fn is_joined(net: &Net, dpid: Dpid) -> bool
     ensures joined { result ≡ true → IsSome (rows_at dpid net.now.views) }
     ensures out { result ≡ false → rows_at dpid net.now.views ≡ None }

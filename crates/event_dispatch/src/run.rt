@@ -4,7 +4,7 @@ ghost use Rattle.std.specs.Prelude.{◌≡◌, [], IfOk, OnOk, OnErr};
 ghost use Rattle.lego_io.specs.Count.{Rose, NeverFell};
 ghost use Rattle.lego_io.specs.Sink.{TookPart};
 ghost use Rattle.event_dispatch.specs.Runs.{Going, Waits};
-ghost use Rattle.run_laws.specs.FirstLaws.{engine_at_first};
+ghost use Rattle.run_laws.specs.First.{engine_at_first};
 ghost use Rattle.event_dispatch.specs.Shows.{engine_of, Adds};
 ghost use Rattle.event_dispatch.specs.Serves.{Writes};
 

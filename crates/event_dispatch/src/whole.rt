@@ -13,7 +13,7 @@ ghost use Rattle.event_dispatch.specs.Plain.{IsPlainServed, IsPlainEnd, PlainCal
 ghost use Rattle.lego_model.specs.Places.{Place};
 ghost use Rattle.outside.specs.declared.step.WorldStep.TheVariants.{Opened};
 ghost use Rattle.run_laws.specs.Endings.{ShownLeaves};
-ghost use Rattle.run_laws.specs.FirstLaws.{net_at_first, engine_at_first};
+ghost use Rattle.run_laws.specs.First.{net_at_first, engine_at_first};
 ghost use Rattle.run_laws.specs.Promise.{PremiseSoFar, Premise};
 ghost use Rattle.event_dispatch.specs.Talking.{KeepsTalking};
 ghost use Rattle.event_dispatch.specs.Steady.{InPlace, Reads, Quietly};

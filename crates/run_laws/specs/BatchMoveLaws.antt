@@ -29,8 +29,9 @@ use Rattle.batch_laws.specs.Knowledge.{knowledge_of}
 use Rattle.batch_laws.specs.Calm.{Calm}
 use Rattle.batch_laws.specs.InBatch.{BatchDone, BatchOver}
 use Rattle.batch_laws.specs.HistoryLaws.{links-declared}
-use Rattle.batch_laws.specs.StimulusLaws.{StimulusHandled, stimulus-handled}
-use Rattle.run_laws.specs.Engine.{Engine, Stands, app_at}
+use Rattle.batch_laws.specs.StimulusLaws.{stimulus-handled}
+use Rattle.batch_laws.specs.Tells.{StimulusHandled}
+use Rattle.run_laws.specs.Engine.{Engine, Stands, app_at, engine_then}
 use Rattle.promise.specs.Application.{index}
 use Rattle.promise.specs.History.{own_acts, given_in, stimuli_in, quiet_by}
 use Rattle.promise.specs.ReferenceRun.{text_of}
@@ -39,9 +40,6 @@ use Rattle.run_laws.specs.DialogueLaws.{others_at_once}
 use Rattle.run_laws.specs.QuietLaws.{quiets_more, mark_alike}
 use Rattle.run_laws.specs.FinishLaws.{shown-still}
 
--- the engine with another network and other events that wait
-abbrev pub engine_then : Engine → NetState → List Event → Engine
-engine_then e net queue = record e { net = net; queue = queue }
 
 -- ---- All is calm again
 

@@ -20,9 +20,10 @@ use Rattle.net_txn.specs.Arriving.{without_key}
 use Rattle.net_txn.specs.Undos.{is_viewed, without_keys, StandsReady, Undoes}
 use Rattle.switch_laws.specs.Since.{Ready, logged_since, Since, Goes}
 use Rattle.switch_laws.specs.Sound.{Sound}
-use Rattle.switch_laws.specs.SoundSteps.{undo-sound}
-use Rattle.switch_laws.specs.UndoShown.{again, out-again, undo-ready}
+use Rattle.switch_laws.specs.SoundStepLaws.{undo-sound}
+use Rattle.switch_laws.specs.ShownUndoLaws.{again, out-again, undo-ready}
 use Rattle.batch_laws.specs.Calm.{known_ports, ViewsAscend, Calm}
+use Rattle.run_laws.specs.LinkSteps.{Rests}
 
 -- ---- Where the switches stay
 
@@ -33,12 +34,6 @@ switch_stays d s t same = ap (λ (ls : List Link). switch_in (link_of d ls)) sam
 waits_stay : (d : ℕ) (s t : State) → t.links ≡ s.links → waits_of d t ≡ waits_of d s
 unfolding waits_of
 waits_stay d s t same = ap (λ (ls : List Link). waits_in (link_of d ls)) same
-
--- nothing was begun since, and the moment stays
-pub record Rests (s t : State) : Type 0 where
-  pub begun : t.begun ≡ s.begun
-  pub due : t.due ≡ s.due
-  pub moment : t.moment ≡ s.moment
 
 pub Rests-refl : (s : State) → Rests s s
 Rests-refl s = record { begun = refl; due = refl; moment = refl }

@@ -12,7 +12,6 @@ use Rattle.app_frames.specs.declared.frame.Answer.{Answer}
 use Rattle.lego_model.specs.Journal.{is_of, inputs, stimuli}
 use Rattle.lego_model.specs.JournalLaws.{inputs-append, stimuli-append}
 use Rattle.lego_model.specs.Controller.{answer_frame, restore_frame}
-use Rattle.outside.specs.declared.step.WorldStep.{WorldStep}
 use Rattle.outside.specs.Seen.{Seen, Continues, journal}
 use Rattle.outside.specs.SeenLaws.{journal-append, Continues-refl, Continues-trans}
 use Rattle.outside.specs.State.{State, state, event_number, marks_at_event, is_running, after_step, after_steps}
@@ -32,15 +31,16 @@ use Rattle.app_visor.specs.BeatLaws.{Chain-continues}
 use Rattle.app_visor.specs.Attempts.{end_acts, IsTry, OneTry, AreTries}
 use Rattle.switch_laws.specs.AskedLaws.{asked}
 use Rattle.switch_laws.specs.Sound.{Sound}
-use Rattle.switch_laws.specs.SoundSteps.{exchange-sound}
+use Rattle.switch_laws.specs.SoundStepLaws.{exchange-sound}
 use Rattle.switch_laws.specs.Since.{Goes}
 use Rattle.switch_laws.specs.SinceLaws.{goes-on}
-use Rattle.turn_laws.specs.ChainShown.{goes-same}
+use Rattle.turn_laws.specs.ChainLaws.{goes-same}
 use Rattle.promise.specs.Application.{index}
 use Rattle.promise.specs.History.{own_acts, given_in, stimuli_in}
 use Rattle.run_laws.specs.FrameLaws.{answer_number, restore_number}
-use Rattle.run_laws.specs.LinkStepLaws.{all_append, OnlyLinks, IsLinkStep, link_steps, link_steps-tell, OnlyTalk, talk_step, talk_steps, NoEvents, event_marks, gone_marks, talk_marks, talks_mark}
-use Rattle.run_laws.specs.CalmLaws.{switch_stays, Rests, Rests-refl, Rests-trans}
+use Rattle.run_laws.specs.LinkStepLaws.{all_append, link_steps, link_steps-tell, talk_step, talk_steps, event_marks, gone_marks, talk_marks, talks_mark}
+use Rattle.run_laws.specs.LinkSteps.{OnlyLinks, IsLinkStep, OnlyTalk, NoEvents, Rests, LinksOnly, TellsSame, TriesKeep}
+use Rattle.run_laws.specs.CalmLaws.{switch_stays, Rests-refl, Rests-trans}
 
 -- ---- One message
 
@@ -54,12 +54,6 @@ heard_links d bytes Other = tt
 pub wait_links : (a : Awaited) (got : List (List ℕ)) → AllByRecursion IsLinkStep (wait_steps a got)
 wait_links a [] = tt
 wait_links a (bytes ∷ got) = (tt, all_append IsLinkStep (steps_by a.dpid (heard a bytes) bytes) (wait_steps a got) (heard_links a.dpid bytes (heard a bytes)) (wait_links a got))
-
--- a world that tells went on by calls of links alone
-pub record LinksOnly {Own : Type 0} (old new : Seen Own) : Type 0 where
-  pub steps : List WorldStep
-  pub history : new.history ≡ old.history ++ steps
-  pub are : AllByRecursion IsLinkStep steps
 
 links_none : {Own : Type 0} (old new : Seen Own) → new ≡ old → LinksOnly old new
 links_none old new is = record { steps = []; history = ap (λ (s : Seen _). s.history) is ∙ sym (append-nil old.history); are = tt }
@@ -115,12 +109,6 @@ links_state old new given only =
 
 pub links_rest : {Own : Type 0} (old new : Seen Own) → OnlyLinks (state old) (state new) → Rests (state old) (state new)
 links_rest old new only = record { begun = only.begun; due = only.due; moment = only.moment }
-
--- the journal tells the same of the application
-pub record TellsSame {Own : Type 0} (old new : Seen Own) : Type 0 where
-  pub acts : own_acts new ≡ own_acts old
-  pub given : given_in new ≡ given_in old
-  pub stims : stimuli_in new ≡ stimuli_in old
 
 pub links_tell : {Own : Type 0} (old new : Seen Own) → LinksOnly old new → TellsSame old new
 links_tell old new only =
@@ -198,12 +186,6 @@ answers_no_events [] = tt
 answers_no_events (a ∷ answers) = (answer_number a, answers_no_events answers)
 
 -- ---- Attempts to start
-
--- what no attempt changes
-pub record TriesKeep (s t : State) : Type 0 where
-  pub links : t.links ≡ s.links
-  pub rests : Rests s t
-  pub marks : t.marks ≡ s.marks
 
 TriesKeep-refl : (s : State) → TriesKeep s s
 TriesKeep-refl s = record { links = refl; rests = Rests-refl s; marks = refl }

@@ -11,7 +11,11 @@ use Rattle.app_visor.specs.CallsFor.{CallsFor}
 use Rattle.run_laws.specs.Engine.{Engine}
 use Rattle.promise.specs.Application.{index}
 use Rattle.run_laws.specs.Moves.{Moved}
-use Rattle.promise.specs.CutRun.{so_far, CutSo, WritingSo}
+use Rattle.promise.specs.CutRun.{so_far, CutSo, WritingSo, start_said}
+use Rattle.lego_model.specs.Journal.{Reply, Start}
+use Rattle.lego_model.specs.Controller.{Run}
+use Rattle.promise.specs.ReferenceRun.{AreSaid}
+use Rattle.run_laws.specs.Whole.{RanAs}
 
 -- ---- What is promised of a run that a fault ends
 
@@ -47,3 +51,7 @@ pub record GoneSoFar {Own : Type 0} (allows : List Place → Bool) (started : Bo
   pub begun : List WorldStim
   pub begun_one : length begun ≤ 1
   pub moved : Moved (stimuli ++ begun) (so_far allows started stimuli begun number) text first last e now_e
+
+-- engine and reference controller stand alike, and what this said so far was noted; so it is over what is said of the application
+pub record RanTo {Own : Type 0} (f : Run → Run) (text : List ℕ) (last : Seen Own) (e : Engine) : Type 0 where
+  pub as_said : (starts : List Start) (replies : List Reply) → AreSaid last starts replies → RanAs text last e (f (start_said last starts replies))

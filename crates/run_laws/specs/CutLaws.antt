@@ -22,11 +22,13 @@ use Rattle.run_laws.specs.MoveLaws.{moved-none, moved-then, moved-as}
 use Rattle.run_laws.specs.SettleLaws.{settle-times, times-more}
 use Rattle.run_laws.specs.LastReport.{last_text}
 use Rattle.run_laws.specs.LastReportLaws.{report-ends, last-shown}
-use Rattle.run_laws.specs.WholeLaws.{whole, no-stimuli, RanAs, said-of, told-said}
-use Rattle.run_laws.specs.FirstLaws.{IsOpened, engine_at_first, stands-first}
+use Rattle.run_laws.specs.WholeLaws.{no-stimuli, said-of, told-said}
+use Rattle.run_laws.specs.Whole.{whole, RanAs}
+use Rattle.run_laws.specs.FirstLaws.{stands-first}
+use Rattle.run_laws.specs.First.{IsOpened, engine_at_first}
 use Rattle.run_laws.specs.Endings.{WholeMoves, Leaves}
 use Rattle.run_laws.specs.FinishLaws.{said-before, runs-alike, all-in-order}
-use Rattle.run_laws.specs.Cut.{GoneSoFar}
+use Rattle.run_laws.specs.Cut.{GoneSoFar, RanTo}
 use Rattle.promise.specs.CutRun.{start_said, so_far, Far, CutAs, WritingAs, AlikeUpTo, CutSo, WritingSo}
 
 -- ---- Parts of a run, one behind the other
@@ -101,10 +103,6 @@ gone-whole allows text a b e1 e2 w = record {
 }
 
 -- ---- From a world that was just opened
-
--- engine and reference controller stand alike, and what this said so far was noted; so it is over what is said of the application
-pub record RanTo {Own : Type 0} (f : Run → Run) (text : List ℕ) (last : Seen Own) (e : Engine) : Type 0 where
-  pub as_said : (starts : List Start) (replies : List Reply) → AreSaid last starts replies → RanAs text last e (f (start_said last starts replies))
 
 begun-same : {Own : Type 0} (first last : Seen Own) (starts : List Start) (replies : List Reply) → last.given ≡ first.given → before_start first.given.declared (fresh starts replies) ≡ start_said last starts replies
 begun-same {Own} first last starts replies given = ap (λ (g : Given Own). before_start g.declared (fresh starts replies)) (sym given)

@@ -19,20 +19,20 @@ use Rattle.app_visor.specs.declared.state.TurnEnd.TheVariants as ends
 use Rattle.switch_laws.specs.Shown.{shown_places}
 use Rattle.switch_laws.specs.StandLaws.{state-links}
 use Rattle.journal_laws.specs.Readings.{starts_in, replies_in, LastStands}
-use Rattle.run_laws.specs.Engine.{Engine, app_at, Stands}
+use Rattle.run_laws.specs.Engine.{Engine, app_at, Stands, with_number}
 use Rattle.promise.specs.History.{own_acts, given_in, stimuli_in, quiet_by, quiets_in}
 use Rattle.promise.specs.ReferenceRun.{text_of, next_dispatched, dispatch_next}
 use Rattle.run_laws.specs.Facts.{IsClosed, IsTurn, Dispatches}
 use Rattle.run_laws.specs.Moves.{Moves}
 use Rattle.run_laws.specs.Readings.{AreRead, JudgesAlike}
-use Rattle.run_laws.specs.ReferenceLaws.{numbered, after_turn, without_turn, dispatch_alive, dispatch_dead}
+use Rattle.run_laws.specs.ReferenceLaws.{dispatch_alive, dispatch_dead}
+use Rattle.run_laws.specs.ReferenceTurn.{numbered, after_turn, without_turn}
 use Rattle.run_laws.specs.QuietLaws.{quiets_at_event}
-use Rattle.run_laws.specs.LineLaws.{lines_text, event_lines}
-use Rattle.run_laws.specs.TurnMoveLaws.{TurnAlike, TurnMoves, turn_moves}
+use Rattle.run_laws.specs.LineLaws.{event_lines}
+use Rattle.run_laws.specs.LastReport.{lines_text}
+use Rattle.run_laws.specs.TurnMoveLaws.{turn_moves}
+use Rattle.run_laws.specs.EventMoves.{TurnAlike, TurnMoves}
 
--- the event has its number
-abbrev pub with_number : Engine → Engine
-with_number e = record e { events = e.events + 1 }
 
 -- ---- The application is alive
 

@@ -19,7 +19,8 @@ use Rattle.promise.specs.ReferenceRun.{rounds, all_started}
 use Rattle.run_laws.specs.MoveLaws.{moved-then}
 use Rattle.run_laws.specs.LastReport.{last_text}
 use Rattle.run_laws.specs.WholeLaws.{ran}
-use Rattle.run_laws.specs.FirstLaws.{IsOpened, engine_at_first, settled-first}
+use Rattle.run_laws.specs.FirstLaws.{settled-first}
+use Rattle.run_laws.specs.First.{IsOpened, engine_at_first}
 use Rattle.run_laws.specs.Promise.{most_rounds}
 use Rattle.promise.specs.WholeRun.{EndsAlike, LeavesAlike}
 use Rattle.run_laws.specs.FinishLaws.{ends-alike, leaves-alike}

@@ -18,7 +18,7 @@ use Rattle.run_laws.specs.Readings.{JudgesAlike}
 use Rattle.run_laws.specs.Moves.{Settled, Moved}
 use Rattle.run_laws.specs.LastReport.{last_text}
 use Rattle.promise.specs.ReferenceRun.{all_started}
-use Rattle.run_laws.specs.WholeLaws.{whole}
+use Rattle.run_laws.specs.Whole.{whole}
 
 -- ---- The start
 

@@ -1,5 +1,5 @@
 -- How a run of the engine stands to one of the reference controller, where the world keeps its word. All of this is our own.
-use Rattle.std.specs.Prelude.{◌≡◌, ℕ, Bool, true, List, [], ◌∷◌}
+use Rattle.std.specs.Prelude.{◌≡◌, ℕ, Bool, true, List, [], ◌∷◌, ◌+◌}
 use Rattle.app_frames.specs.declared.frame.Event.{Event}
 use Rattle.lego_model.specs.Journal.{Reply, Start, inputs}
 use Rattle.lego_model.specs.Controller.{App, Run}
@@ -51,3 +51,11 @@ pub record Stands {Own : Type 0} (seen : Seen Own) (e : Engine) (starts : List S
   pub apps : r.apps ≡ app_at e (given_in seen) starts replies ∷ []
   pub quiets : AgreeQuiets (quiets_in seen) r.quiets
   pub life : e.alive ≡ true → LastStands (own_acts seen)
+
+-- the engine with another network and other events that wait
+abbrev pub engine_then : Engine → NetState → List Event → Engine
+engine_then e net queue = record e { net = net; queue = queue }
+
+-- the event has its number
+abbrev pub with_number : Engine → Engine
+with_number e = record e { events = e.events + 1 }

@@ -28,7 +28,8 @@ use Rattle.run_laws.specs.QuietLaws.{quiets_more, mark_alike}
 use Rattle.run_laws.specs.LastReport.{last_text}
 use Rattle.run_laws.specs.LastReportLaws.{report-ends, last-shown}
 use Rattle.promise.specs.ReferenceRun.{RunsAlike, fresh, reference_said, AreSaid}
-use Rattle.run_laws.specs.WholeLaws.{Ran, told-said}
+use Rattle.run_laws.specs.WholeLaws.{told-said}
+use Rattle.run_laws.specs.Whole.{Ran}
 use Rattle.promise.specs.Orderly.{IsOrderly}
 use Rattle.switch_laws.specs.OrderlyLaws.{orderly-whole, released-none}
 use Rattle.run_laws.specs.Moves.{Settled}

@@ -1,6 +1,6 @@
 -- Where a run begins: a world that was just opened, and an engine before anything happened, stand as the reference controller does before it
 -- starts its application.
-use Rattle.std.proofs.Common.{◌≡◌, ◌==◌, ℕ, true, false, List, [], ◌∷◌, map, Option, Some, None, refl, sym, ap, ap₂, ◌∙◌, subst, inl, inr, true≢false}
+use Rattle.std.proofs.Common.{◌≡◌, ◌==◌, ℕ, true, List, [], ◌∷◌, map, Option, Some, None, refl, sym, ap, ap₂, ◌∙◌, subst, inl, inr, true≢false}
 use Rattle.std.proofs.lemmas.Bool.{cases_Bool}
 use Rattle.std.specs.Option.{option_map}
 use Rattle.std.specs.List.{AllByRecursion}
@@ -14,29 +14,19 @@ use Rattle.lego_model.specs.Places.{Place}
 use Rattle.lego_model.specs.Controller.{ports_of}
 use Rattle.outside.specs.declared.call.FailCall.{FailCall}
 use Rattle.outside.specs.declared.step.WorldStep.{WorldStep}
-use Rattle.outside.specs.declared.step.WorldStep.TheVariants.{Opened}
 use Rattle.outside.specs.Seen.{Seen, journal}
 use Rattle.outside.specs.State.{State, link_at_first, at_first, link_of, waits_in, switch_in, waits_of, switch_of, after_steps, after_step, state}
-use Rattle.net_txn.specs.Net.{NetState}
 use Rattle.promise.specs.Orderly.{IsOrderly}
 use Rattle.switch_laws.specs.Shown.{flags_at, places, shown_switch, shown_places}
 use Rattle.lego_model.specs.AtOnce.{at_first as nobody_yet, Dialogue}
 use Rattle.batch_laws.specs.Calm.{Calm}
-use Rattle.run_laws.specs.Engine.{Engine, Stands, app_at}
+use Rattle.run_laws.specs.Engine.{Stands, app_at}
 use Rattle.promise.specs.Application.{index}
 use Rattle.promise.specs.History.{quiet_by, given_in}
 use Rattle.run_laws.specs.Moves.{Settled}
 use Rattle.promise.specs.ReferenceRun.{fresh, before_start}
+use Rattle.run_laws.specs.First.{IsOpened, net_at_first, engine_at_first}
 
--- a world that was opened, and nothing more
-abbrev pub IsOpened : {Own : Type 0} → Seen Own → Type 0
-IsOpened seen = seen.history ≡ Opened ∷ []
-
-abbrev pub net_at_first : NetState
-net_at_first = record { views = []; ports = []; log = []; xid = 1; moment = 0; kept = []; room = 2 }
-
-abbrev pub engine_at_first : Engine
-engine_at_first = record { net = net_at_first; queue = []; events = 0; alive = false; rest = []; done = 0; failed = 0 }
 
 -- ---- The world
 

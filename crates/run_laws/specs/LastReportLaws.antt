@@ -52,7 +52,7 @@ use Rattle.promise.specs.Application.{index, names, name}
 use Rattle.promise.specs.History.{own_acts, given_in, stimuli_in}
 use Rattle.promise.specs.ReferenceRun.{text_of}
 use Rattle.run_laws.specs.DialogueLaws.{others_at_once}
-use Rattle.run_laws.specs.LastReport.{SameKeys, flow_lines, table_lines, shown_text, last_text, last_lines, OnlyAsked}
+use Rattle.run_laws.specs.LastReport.{SameKeys, flow_lines, table_lines, shown_text, last_text, last_lines, OnlyAsked, JoinedWith}
 
 -- ---- A switch
 
@@ -94,12 +94,6 @@ table-shown d views vs s is same table number =
 
 one_rows : (a b : Rows) → Some a ≡ Some b → a ≡ b
 one_rows a b h = cc
-
--- a switch that has a view is joined, and its table has these rows
-pub record JoinedWith (vs : List ViewRow) (o : Option SwitchState) : Type 0 where
-  pub switch : SwitchState
-  pub is : o ≡ Some switch
-  pub rows : rows_of_view vs ≡ rows_of_table switch.table.entries
 
 pub joined-with : (d : ℕ) (views : List TableView) (s : State) (vs : List ViewRow) → Agrees d views s → rows_at d views ≡ Some vs → JoinedWith vs (switch_of d s)
 joined-with d views s vs agrees is = joined_with (switch_of d s) (sym (ap (λ (o : Option (List ViewRow)). option_map rows_of_view o) is) ∙ agrees)

@@ -33,3 +33,8 @@ pub mod StartShownLaws
 pub mod OrderlyRunLaws
 pub mod Cut
 pub mod CutLaws
+pub mod LinkSteps
+pub mod First
+pub mod ReferenceTurn
+pub mod EventMoves
+pub mod Whole

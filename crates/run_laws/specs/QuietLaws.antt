@@ -14,6 +14,7 @@ use Rattle.lego_model.specs.Controller.{Quiet, quiet_of, is_event, is_marked, ma
 use Rattle.lego_model.specs.Agreement.{AgreeTables, AgreeSwitches, AgreeAt, AgreeAll, AgreeQuiet, AgreeQuiets}
 use Rattle.outside.specs.State.{Link, State, Mark, link_of, switch_in, switch_of, mark_of, has_mark, marks_at_event, is_event as is_event_of}
 use Rattle.outside.specs.Conforming.{AreDeclaredFrom}
+use Rattle.switch_laws.specs.Standing.{declared_in}
 use Rattle.switch_laws.specs.Shown.{flags_at, places, shown_places}
 use Rattle.promise.specs.History.{quiet_by}
 
@@ -50,9 +51,6 @@ at_alike f None = tt
 at_alike f (Some s) = switch_alike f s
 
 -- ---- All declared switches, by number
-
-abbrev declared_in : List Link → List Declared
-declared_in ls = map (λ l. l.declared) ls
 
 abbrev Finds : List Link → Link → Type 0
 Finds whole l = switch_in (link_of l.declared.dpid whole) ≡ l.switch

@@ -18,6 +18,7 @@ use Rattle.app_visor.specs.Attempts.{end_acts, restored, IsTry, OneTry, AreTries
 use Rattle.promise.specs.Application.{index}
 use Rattle.promise.specs.History.{given_in, stimuli_in}
 use Rattle.run_laws.specs.ChainLaws.{exchange_links, links_tell, try_own, try_given}
+use Rattle.run_laws.specs.LinkSteps.{TellsGiven}
 
 abbrev AreOwn : List Act → Type 0
 AreOwn acts = AllByRecursion (λ act. is_of index act ≡ true) acts
@@ -47,11 +48,6 @@ no_stimuli (Took app what ∷ acts) own = no_stimuli acts own.1
 no_stimuli (Ended app ∷ acts) own = no_stimuli acts own.1
 no_stimuli (Sent d bytes ∷ acts) own = no_stimuli acts own.1
 no_stimuli (Got d bytes ∷ acts) own = no_stimuli acts own.1
-
--- what the application was given more, and no stimulus
-pub record TellsGiven {Own : Type 0} (old new : Seen Own) (frames : List (List ℕ)) : Type 0 where
-  pub given : given_in new ≡ given_in old ++ frames
-  pub stims : stimuli_in new ≡ stimuli_in old
 
 tells_none : {Own : Type 0} (seen : Seen Own) → TellsGiven seen seen []
 tells_none seen = record { given = sym (append-nil (given_in seen)); stims = refl }

@@ -14,8 +14,7 @@ ghost use Rattle.run_laws.specs.Facts.{StartsAgain, TakesTurn, Dispatches};
 ghost use Rattle.run_laws.specs.Moves.{Moves};
 ghost use Rattle.promise.specs.ReferenceRun.{dispatch_next};
 ghost use Rattle.run_laws.specs.Readings.{AreRead, JudgesAlike};
-ghost use Rattle.run_laws.specs.StartMoveLaws.{StartsAlike};
-ghost use Rattle.run_laws.specs.TurnMoveLaws.{TurnMoves};
+ghost use Rattle.run_laws.specs.EventMoves.{StartsAlike, TurnMoves};
 
 use outside::World;
 

@@ -1,5 +1,5 @@
 -- Laws of what is read of an application's acts: where each came as its lines say, its starts and replies are the fronts of them.
-use Rattle.std.proofs.Common.{◌≡◌, ◌≤◌, ℕ, zero, suc, Bool, true, false, not, List, [], ◌∷◌, ◌++◌, length, map, drop, refl, sym, ap, ◌∙◌, subst, true≢false, arith, inl, if◌then◌else◌}
+use Rattle.std.proofs.Common.{◌≡◌, ℕ, zero, suc, Bool, true, false, not, List, [], ◌∷◌, ◌++◌, map, drop, refl, sym, ap, ◌∙◌, subst, true≢false, arith, inl, if◌then◌else◌}
 use Rattle.of_types.specs.declared.journal.Act.{Act}
 use Rattle.of_types.specs.declared.journal.Act.TheVariants.{Stim, Started, Gave, Gone, Took, Ended, Sent, Got}
 use Rattle.of_types.specs.declared.journal.TookWhat.{TookWhat}
@@ -8,35 +8,15 @@ use Rattle.app_frames.specs.declared.script.ScriptStep.TheVariants.{Bytes}
 use Rattle.app_frames.specs.declared.script.StartScript.{StartScript}
 use Rattle.app_frames.specs.declared.script.StartScript.TheVariants as start
 use Rattle.lego_model.specs.Journal.{Asked, Start, Reply, in_attempts, in_turns, is_event, any_gone, start_of, reply_of}
-use Rattle.lego_model.specs.Scripted.{reply_said, start_said, starts_said, replies_said, IsFront, IsStartFront, AreFronts, AreStartFronts}
+use Rattle.lego_model.specs.Scripted.{reply_said, start_said, starts_said, replies_said, IsFront, IsStartFront}
 use Rattle.journal_laws.specs.Readings.{starts_in, replies_in}
 use Rattle.sim_world.specs.Scripts.{steps_of_start, is_refused, given_of}
 use Rattle.sim_world.specs.ScriptLaws.{done_bytes-spelled}
-use Rattle.script_laws.specs.Ahead.{Ahead, start_ahead, turn_ahead, after, May, Goes}
-use Rattle.script_laws.specs.PieceLaws.{Quiet, Looks, LooksAt, looks_none, looks_took, start_front}
+use Rattle.script_laws.specs.Ahead.{Ahead, start_ahead, turn_ahead, after, May, Goes, hand, replies_now, StartsSo, RepliesSo, Reads}
+use Rattle.script_laws.specs.PieceLaws.{looks_none, looks_took, start_front}
+use Rattle.script_laws.specs.Looks.{Quiet, Looks, LooksAt}
 
 -- ---- What is read from a place on
-
--- the acts of the start or turn in hand
-abbrev hand : List Act → List Act
-hand acts = (in_turns (in_attempts acts).0).0
-
--- the replies behind it
-abbrev replies_now : List Act → List Reply
-replies_now acts = map reply_of (in_turns (in_attempts acts).0).1 ++ replies_in acts
-
-abbrev StartsSo : List StartScript → List Start → Type 0
-StartsSo lines told = (more : ℕ) → length told ≤ more → AreStartFronts told (starts_said more lines)
-
-abbrev RepliesSo : List (List ScriptStep) → List Reply → Type 0
-RepliesSo lines told = (more : ℕ) → length told ≤ more → AreFronts told (replies_said more lines)
-
-pub record Reads (p : Ahead) (acts : List Act) : Type 0 where
-  pub idle : p.running ≡ false → (in_attempts acts).0 ≡ []
-  pub none_gone : any_gone (hand acts) ≡ false
-  pub looks : Looks p.ended p.left (hand acts)
-  pub replies : RepliesSo p.replies (replies_now acts)
-  pub starts : StartsSo p.starts (starts_in acts)
 
 nothing_quiet : Quiet []
 nothing_quiet = record { pieces_so = refl; end_so = λ before. refl }

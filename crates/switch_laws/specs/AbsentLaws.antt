@@ -18,8 +18,7 @@ use Rattle.flow_table.specs.Table.{has_key, entry_at, place_of}
 use Rattle.flow_table.specs.Change.{key_in, is_modify, is_delete, is_strict, describes, adds, clashes, refusal}
 use Rattle.lego_model.specs.Answers.{Rows, rows_of_table, rows_of_view, would_clash, would_touch, flow_mod_refused}
 use Rattle.net_txn.specs.RowLaws.{known_command}
-use Rattle.switch_laws.specs.Shown.{Passes}
-use Rattle.switch_laws.specs.ViewLaws.{has_row}
+use Rattle.switch_laws.specs.Shown.{Passes, has_row}
 
 -- ---- Keys of one place have one match
 

@@ -1,6 +1,6 @@
 -- What follows about a transaction that is open: it stands so where it began, and each message that was answered keeps it so.
-use Rattle.std.proofs.Common.{◌≡◌, ◌≢◌, ◌==◌, ℕ, ◌≤◌, Bool, true, false, not, ◌&&◌, ◌||◌, List, [], ◌∷◌, ◌++◌, length, drop, map, filter, Option, Some, None, Ok, if◌then◌else◌, refl, sym, ap, ap₂, ◌∙◌, subst, inl, inr, arith, true≢false}
-use Rattle.std.proofs.lemmas.Bool.{cases_Bool, cases_eq, eqb-true, eqb-false, eq-eqb, ne_eqb}
+use Rattle.std.proofs.Common.{◌≡◌, ◌≢◌, ◌==◌, ℕ, ◌≤◌, Bool, true, false, not, ◌&&◌, ◌||◌, List, [], ◌∷◌, ◌++◌, length, drop, map, filter, Option, Some, None, Ok, refl, sym, ap, ◌∙◌, subst, inl, inr, arith, true≢false}
+use Rattle.std.proofs.lemmas.Bool.{cases_Bool, cases_eq, eqb-true, eq-eqb, ne_eqb}
 use Rattle.std.proofs.lemmas.List.{drop-append-le, map-append, length-append, append-nil}
 use Rattle.std.specs.List.{list_any}
 use Rattle.std.specs.Option.{option_map}
@@ -12,7 +12,6 @@ use Rattle.of_wire.specs.declared.message.Message.TheVariants.{FlowMod}
 use Rattle.flow_table.specs.declared.entry.Entry.{Entry}
 use Rattle.flow_table.specs.declared.view.ViewRow.{ViewRow}
 use Rattle.flow_table.specs.declared.view.TableView.{TableView}
-use Rattle.flow_table.specs.Table.{TableState, IsTable}
 use Rattle.flow_table.specs.Change.{key_in, is_modify, is_delete, describes, sends_to, deletes, adds, entries_after, changed, refusal}
 use Rattle.flow_table.specs.Switch.{SwitchState}
 use Rattle.flow_table.specs.Refusals.{or_else, message_refusal}
@@ -21,26 +20,26 @@ use Rattle.undo_laws.specs.Removal.{OnlyAdded}
 use Rattle.undo_laws.specs.RemovalLaws.{OnlyAdded-nothing, OnlyAdded-more}
 use Rattle.undo_laws.specs.CorrectedLaws.{refusal-asked}
 use Rattle.app_frames.specs.declared.frame.Answer.{Answer}
-use Rattle.lego_model.specs.Answers.{Rows, rows_of_table, rows_of_view, would_touch, as_sent}
+use Rattle.lego_model.specs.Answers.{rows_of_table, rows_of_view, would_touch, as_sent}
 use Rattle.outside.specs.Seen.{Seen}
-use Rattle.outside.specs.State.{State, state, switch_of, waits_of}
+use Rattle.outside.specs.State.{state, switch_of, waits_of}
 use Rattle.outside.specs.Conforming.{Conforming}
 use Rattle.net_txn.specs.declared.heard.Refusal.{Refusal}
 use Rattle.net_txn.specs.declared.logged.Logged.{Logged}
 use Rattle.net_txn.specs.Views.{rows_at, with_rows, with_row, row_in, rows_after}
 use Rattle.net_txn.specs.ViewLaws.{with_rows-kept}
 use Rattle.net_txn.specs.RowLaws.{sent, sent_adds, known_command}
-use Rattle.net_txn.specs.Net.{NetState, logged_at, logged_by, with_logged}
+use Rattle.net_txn.specs.Net.{NetState, logged_at}
 use Rattle.net_txn.specs.Changes.{known_rows, answer_of_host, error_in, views_by, log_by, Asked, Changes}
 use Rattle.net_txn.specs.Agreement.{Agrees, InStep, Steps}
 use Rattle.net_txn.specs.Undos.{but_fare, without_keys, keys_of}
-use Rattle.switch_laws.specs.Shown.{Passes, Stand}
-use Rattle.switch_laws.specs.ChangeShown.{asks_the_same}
+use Rattle.switch_laws.specs.Shown.{Passes, has_row, Known}
+use Rattle.switch_laws.specs.ShownChangeLaws.{asks_the_same}
 use Rattle.switch_laws.specs.AskedLaws.{asked}
-use Rattle.switch_laws.specs.ViewLaws.{has_row, without-added}
+use Rattle.switch_laws.specs.ViewLaws.{without-added}
 use Rattle.switch_laws.specs.AbsentLaws.{absent-entry, absent-row}
-use Rattle.switch_laws.specs.ExchangeShown.{Known, known, judged}
-use Rattle.switch_laws.specs.Since.{Ready, logged_since, SwitchSince, JoinedSince, Since, Goes}
+use Rattle.switch_laws.specs.ShownExchangeLaws.{known, judged}
+use Rattle.switch_laws.specs.Since.{Ready, logged_since, SwitchSince, JoinedSince, Since, Goes, keys_by}
 
 -- ---- Where it begins
 
@@ -122,10 +121,6 @@ delete_leaves now serial m es is none =
     rw (c.0, c.1) (filter_all (deletes (sent m)) es (deletes_none m es is none))
 
 -- ---- The table of a switch that took a change
-
--- the keys that a change logs
-abbrev pub keys_by : Change → List Key
-keys_by m = if is_delete m then [] else key_in m ∷ []
 
 table_refusal : (a b : Option OfError) → or_else a b ≡ None → b ≡ None
 table_refusal None b h = h

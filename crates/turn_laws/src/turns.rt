@@ -13,8 +13,8 @@ ghost use Rattle.app_visor.specs.Beats.{Stops};
 ghost use Rattle.app_visor.specs.Turns.{reply_by, Turns};
 ghost use Rattle.switch_laws.specs.Shown.{shown_places};
 ghost use Rattle.switch_laws.specs.Since.{Ready};
-ghost use Rattle.turn_laws.specs.ChainShown.{PlayedAlike};
-ghost use Rattle.turn_laws.specs.StopShown.{IsPlainStop};
+ghost use Rattle.turn_laws.specs.Chain.{PlayedAlike};
+ghost use Rattle.turn_laws.specs.Stop.{IsPlainStop};
 
 use outside::World;
 

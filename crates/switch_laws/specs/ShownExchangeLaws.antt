@@ -1,14 +1,12 @@
 -- What follows where an application's message was answered in a world that keeps its word: the reference controller answers the same, and
 -- its switches move as the world's do, with the flags of the owners.
-use Rattle.std.proofs.Common.{◌≡◌, ◌≢◌, ℕ, Bool, true, false, List, [], ◌∷◌, map, Option, Some, None, Result, Ok, refl, sym, ap, ap₂, ◌∙◌, subst, inl, inr}
+use Rattle.std.specs.Prelude.{◌≡◌, ◌≢◌, ℕ, true, List, [], ◌∷◌, map, Option, Some, None, Ok, refl, sym, ap, ap₂, ◌∙◌, subst, inl, inr}
 use Rattle.std.proofs.lemmas.Bool.{cases_Bool}
 use Rattle.std.specs.Option.{option_map}
 use Rattle.of_types.specs.declared.errors.OfError.{OfError}
 use Rattle.of_match.specs.declared.key.Key.{Key}
 use Rattle.of_wire.specs.declared.bodies.FlowMod.{FlowMod as Change}
-use Rattle.of_wire.specs.declared.message.Message.{Message}
 use Rattle.of_wire.specs.declared.message.Message.TheVariants.{FlowMod}
-use Rattle.of_wire.specs.declared.message.Envelope.{Envelope}
 use Rattle.of_wire.specs.Reading.{reading_of}
 use Rattle.of_wire.specs.Grammar.{enveloped}
 use Rattle.flow_table.specs.declared.entry.Entry.{Entry}
@@ -20,7 +18,6 @@ use Rattle.flow_table.specs.Refusals.{message_refusal}
 use Rattle.flow_table.specs.Step.{after_message}
 use Rattle.undo_laws.specs.Owned.{owned, owned_switch}
 use Rattle.app_frames.specs.declared.frame.Answer.{Answer}
-use Rattle.app_frames.specs.declared.frame.Answer.TheVariants.{Fine, Error}
 use Rattle.lego_model.specs.Answers.{Rows, rows_of_table, rows_of_view, host_answer, as_sent, answer_by, switch_answer}
 use Rattle.lego_model.specs.Places.{Place, switch_at, with_place, rows_at as rows_in, by_switch, by_host, answer}
 use Rattle.outside.specs.Seen.{Given, Seen, is_declared}
@@ -29,13 +26,13 @@ use Rattle.outside.specs.Conforming.{AreDeclaredFrom, Conforming}
 use Rattle.net_txn.specs.declared.heard.Refusal.{Refusal}
 use Rattle.net_txn.specs.Views.{rows_at, rows_after}
 use Rattle.net_txn.specs.Net.{NetState}
-use Rattle.net_txn.specs.Changes.{known_rows, answer_of_host, error_in, views_by, Asked, ByHost, Changes}
+use Rattle.net_txn.specs.Changes.{known_rows, answer_of_host, error_in, views_by, Asked, Changes}
 use Rattle.net_txn.specs.Agreement.{Agrees, InStep, Steps}
 use Rattle.net_txn.specs.ViewLaws.{rows_at-same, rows_at-other}
-use Rattle.switch_laws.specs.Shown.{rows_or_none, flags_in, flags_at, shown_switch, places, shown_places, Stand, Passes, flags_after}
+use Rattle.switch_laws.specs.Shown.{rows_or_none, flags_in, flags_at, shown_switch, places, shown_places, Stand, Passes, Known}
 use Rattle.switch_laws.specs.PlaceLaws.{switch_at-declared, switch_at-undeclared, with_place-places}
-use Rattle.switch_laws.specs.ChangeShown.{passes, refusal-shown, taken-shown, refused-shown}
-use Rattle.switch_laws.specs.AskedLaws.{ReadAsChange, asked}
+use Rattle.switch_laws.specs.ShownChangeLaws.{passes, refusal-shown, taken-shown, refused-shown}
+use Rattle.switch_laws.specs.AskedLaws.{asked}
 
 -- ---- What the host knows
 
@@ -106,14 +103,6 @@ moved-shown (Some r) m rows s is p refused = refused-shown m rows s r.error p (s
 
 abbrev some_switch : SwitchState → Option SwitchState
 some_switch s = Some s
-
--- what is known of the switch before
-pub record Known (d : ℕ) (m : Change) (views : List TableView) (s : State) : Type 0 where
-  pub switch : SwitchState
-  pub rows : List ViewRow
-  pub switch_is : switch_of d s ≡ Some switch
-  pub rows_are : rows_at d views ≡ Some rows
-  pub passes : Passes m (rows_of_table switch.table.entries)
 
 known-from : (d : ℕ) (bytes : List ℕ) (m : Change) (xid : ℕ) (views : List TableView) (s : State) (o : Option (List ViewRow)) (x : Option SwitchState) → rows_at d views ≡ o → switch_of d s ≡ x
     → option_map rows_of_view o ≡ option_map (λ y. rows_of_table y.table.entries) x → host_answer (option_map rows_of_view o) bytes ≡ None → reading_of bytes ≡ Ok (enveloped xid (FlowMod m)) → Known d m views s

@@ -1,6 +1,6 @@
 -- What follows of the beats of a turn in a world that keeps its word: its messages were answered as the reference controller answers them,
 -- and its switches stand then as the world's do.
-use Rattle.std.proofs.Common.{◌≡◌, ◌≢◌, ℕ, Bool, true, false, List, [], ◌∷◌, length, Option, refl, sym, ap, ap₂, ◌∙◌, subst, true≢false}
+use Rattle.std.specs.Prelude.{◌≡◌, ℕ, Bool, true, List, [], ◌∷◌, length, Option, refl, sym, ap, ap₂, ◌∙◌, subst, true≢false}
 use Rattle.std.specs.Option.{option_map}
 use Rattle.of_types.specs.declared.journal.Act.{Act}
 use Rattle.of_types.specs.declared.journal.Act.TheVariants.{Stim, Started, Gave, Gone, Took, Ended, Sent, Got}
@@ -9,9 +9,8 @@ use Rattle.flow_table.specs.Switch.{Declared, SwitchState}
 use Rattle.undo_laws.specs.Owned.{owned_switch}
 use Rattle.app_frames.specs.declared.frame.Answer.{Answer}
 use Rattle.lego_model.specs.Answers.{rows_of_table}
-use Rattle.lego_model.specs.Journal.{is_of, Reply}
+use Rattle.lego_model.specs.Journal.{is_of}
 use Rattle.lego_model.specs.Places.{Place, answer}
-use Rattle.lego_model.specs.Turns.{Outcome, Table, turn_of}
 use Rattle.lego_model.specs.Controller.{table_of}
 use Rattle.outside.specs.Seen.{Given, Seen}
 use Rattle.outside.specs.State.{Link, State, link_of, switch_in, waits_in, state, switch_of, waits_of, after_act, after_step}
@@ -22,15 +21,16 @@ use Rattle.net_txn.specs.Changes.{known_rows}
 use Rattle.net_txn.specs.Agreement.{Agrees}
 use Rattle.app_visor.specs.declared.state.TurnEnd.{TurnEnd}
 use Rattle.app_visor.specs.Talks.{step_of, Told, give_act}
-use Rattle.app_visor.specs.Beats.{Exchange, Beat, Talk, Asks, Chain, exchanges_in}
+use Rattle.app_visor.specs.Beats.{Beat, Talk, Asks, Chain, exchanges_in}
 use Rattle.app_visor.specs.BeatLaws.{Chain-continues}
-use Rattle.app_visor.specs.Turns.{reply_by, Turns, Agrees as AnswersSo, played_on}
+use Rattle.app_visor.specs.Turns.{reply_by, Turns, Agrees as AnswersSo}
 use Rattle.app_visor.specs.TableLaws.{turn_alike}
 use Rattle.switch_laws.specs.Shown.{flags_at, shown_switch, places, shown_places}
 use Rattle.switch_laws.specs.StandLaws.{all-stand}
-use Rattle.switch_laws.specs.ExchangeShown.{exchange-shown}
+use Rattle.switch_laws.specs.ShownExchangeLaws.{exchange-shown}
 use Rattle.switch_laws.specs.Since.{Ready, Goes}
 use Rattle.switch_laws.specs.SinceLaws.{begun, goes-on}
+use Rattle.turn_laws.specs.Chain.{Leads, PlayedAlike}
 
 -- ---- Calls for an application move no switch
 
@@ -94,11 +94,6 @@ goes-same start first old new net0 net given same goes = record {
 
 -- ---- The beats
 
--- where the beats lead
-pub record Leads {Own : Type 0} (allows : List Place → Bool) (start : ℕ) (first old new : Seen Own) (net0 net now_net : NetState) (xs : List (Exchange Own)) : Type 0 where
-  pub answers : AnswersSo (table_of allows) xs (shown_places first.given.declared net.views (state old)) (shown_places first.given.declared now_net.views (state new))
-  pub goes : Goes start first new net0 now_net
-
 pub chain-shown : {Own : Type 0} (Tells : Type 0) (app : ℕ) (allows : List Place → Bool) (start : ℕ) (first : Seen Own) (net0 : NetState) (trace : List (Beat Own)) (old new : Seen Own) (net now_net : NetState) → Tells → Conforming new → Chain Tells app trace old new net now_net
     → Goes start first old net0 net → Leads allows start first old new net0 net now_net (exchanges_in trace)
 chain-shown Tells app allows start first net0 [] old new net now_net told keeps chain goes = record {
@@ -135,12 +130,6 @@ chain-shown Tells app allows start first net0 (Asks x ∷ trace) old new net now
     }
 
 -- ---- A turn
-
--- A turn as the reference controller plays it: on its own switches, with the same answers and the same end.
-pub record PlayedAlike {Own : Type 0} (allows : List Place → Bool) (budget : ℕ) (rest : List ℕ) (reply : Reply) (old new : Seen Own) (net now_net : NetState) (given : List Answer) (outcome : Outcome) : Type 0 where
-  pub goes : Goes (length net.log) old new net now_net
-  pub played : turn_of (table_of allows) budget rest reply (shown_places old.given.declared net.views (state old))
-      ≡ played_on (shown_places old.given.declared now_net.views (state new)) given outcome
 
 pub turn-shown : {Own : Type 0} (Tells : Type 0) (accepts : List TableView → Bool) (allows : List Place → Bool) (app budget : ℕ) (rest frame : List ℕ) (old new : Seen Own) (net now_net : NetState) (end : TurnEnd) (unread : List ℕ) → Tells → Conforming new → Ready old net
     → (t : Turns Tells accepts app budget rest frame old new net now_net end unread) → allows (shown_places old.given.declared now_net.views (state new)) ≡ accepts now_net.views

@@ -1,14 +1,11 @@
--- Whether a switch is joined: it has a view exactly then.
-use Rattle.std.proofs.Common.{◌≡◌, ◌==◌, ℕ, Bool, true, false, List, [], ◌∷◌, None, IsSome, refl, sym, inl, inr, true≢false}
+-- A switch that is joined has a view, and its rows are found there.
+use Rattle.std.proofs.Common.{◌≡◌, ◌==◌, ℕ, true, false, List, [], ◌∷◌, None, IsSome, refl, sym, inl, inr, true≢false}
 use Rattle.std.proofs.lemmas.Bool.{cases_Bool}
-use Rattle.std.specs.List.{list_any}
 use Rattle.flow_table.specs.declared.view.TableView.{TableView}
 use Rattle.net_txn.specs.Views.{rows_at}
+use Rattle.net_txn.specs.Undos.{is_viewed}
 
-abbrev pub is_joined : ℕ → List TableView → Bool
-is_joined d views = list_any (λ v. v.dpid == d) views
-
-pub joined_rows : (d : ℕ) (views : List TableView) → is_joined d views ≡ true → IsSome (rows_at d views)
+pub joined_rows : (d : ℕ) (views : List TableView) → is_viewed d views ≡ true → IsSome (rows_at d views)
 joined_rows d [] h = absurd (true≢false (sym h))
 joined_rows d (v ∷ vs) h =
     elim (cases_Bool (v.dpid == d)) [
@@ -16,7 +13,7 @@ joined_rows d (v ∷ vs) h =
       | inr other ↦ rw other (joined_rows d vs (rw other at h))
     ]
 
-pub out_rows : (d : ℕ) (views : List TableView) → is_joined d views ≡ false → rows_at d views ≡ None
+pub out_rows : (d : ℕ) (views : List TableView) → is_viewed d views ≡ false → rows_at d views ≡ None
 out_rows d [] h = refl
 out_rows d (v ∷ vs) h =
     elim (cases_Bool (v.dpid == d)) [

@@ -19,7 +19,7 @@ use Rattle.net_txn.specs.Agreement.{Agrees, InStep, Steps}
 use Rattle.net_txn.specs.Undos.{Undoes}
 use Rattle.switch_laws.specs.AskedLaws.{asked}
 use Rattle.switch_laws.specs.Since.{Ready, Since}
-use Rattle.switch_laws.specs.UndoShown.{again, out-again}
+use Rattle.switch_laws.specs.ShownUndoLaws.{again, out-again}
 use Rattle.switch_laws.specs.Sound.{AllSound, Sound}
 use Rattle.switch_laws.specs.SoundLaws.{change-sound, undone-sound}
 

@@ -1,5 +1,5 @@
 -- What follows of a turn that stops in a world that keeps its word, where all was ready: a link failed, or memory was wanting.
-use Rattle.std.proofs.Common.{◌≡◌, ℕ, Bool, true, List, ◌∷◌, length, Option, Some, None, Err, refl, sym, subst, inl, inr}
+use Rattle.std.specs.Prelude.{◌≡◌, ℕ, Bool, true, List, ◌∷◌, length, Option, Some, None, Err, refl, sym, subst, inl, inr}
 use Rattle.flow_table.specs.declared.view.TableView.{TableView}
 use Rattle.app_frames.specs.declared.frame.Answer.{Answer}
 use Rattle.outside.specs.Seen.{Seen}
@@ -7,7 +7,6 @@ use Rattle.outside.specs.StateLaws.{Conforming-before}
 use Rattle.outside.specs.Conforming.{Conforming}
 use Rattle.net_txn.specs.declared.fault.TxnFault.{TxnFault}
 use Rattle.net_txn.specs.declared.fault.TxnFault.TheVariants.{NoMemory}
-use Rattle.net_txn.specs.Causes.{IsPlainFault}
 use Rattle.net_txn.specs.Net.{NetState}
 use Rattle.net_txn.specs.Changes.{known_rows, answer_of_host, Changes}
 use Rattle.net_txn.specs.Agreement.{Steps}
@@ -19,11 +18,9 @@ use Rattle.app_visor.specs.Turns.{Turns}
 use Rattle.switch_laws.specs.AskedLaws.{asked}
 use Rattle.switch_laws.specs.Since.{Ready, Goes}
 use Rattle.switch_laws.specs.SinceLaws.{begun}
-use Rattle.turn_laws.specs.ChainShown.{chain-shown}
+use Rattle.turn_laws.specs.ChainLaws.{chain-shown}
+use Rattle.turn_laws.specs.Stop.{IsPlainStop}
 
--- a fault of the link of some switch, or want of memory
-abbrev pub IsPlainStop : TxnFault → Type 0
-IsPlainStop fault = (d : ℕ) × IsPlainFault d fault
 
 no_memory : (fault : TxnFault) → fault ≡ NoMemory → IsPlainStop fault
 no_memory fault is = subst IsPlainStop (sym is) (0, tt)
