@@ -15,7 +15,8 @@ use Rattle.outside.specs.declared.step.WorldStep.{WorldStep}
 use Rattle.outside.specs.Seen.{Seen, journal}
 use Rattle.outside.specs.State.{State, state, is_running}
 use Rattle.outside.specs.StateLaws.{state-append}
-use Rattle.journal_laws.specs.Readings.{Within, Calls, LastStands, starts_in, replies_in}
+use Rattle.journal_laws.specs.Readings.{Within, Calls, LastStands}
+use Rattle.lego_model.specs.History.{starts_in, replies_in}
 use Rattle.journal_laws.specs.ReadingLaws.{attempt_read}
 use Rattle.journal_laws.specs.CallLaws.{calls_within, calls_both, calls_own}
 use Rattle.app_visor.specs.Talks.{step_of}

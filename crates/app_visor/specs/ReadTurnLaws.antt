@@ -17,7 +17,8 @@ use Rattle.net_txn.specs.declared.heard.Heard.TheVariants as hearing
 use Rattle.net_txn.specs.Net.{NetState, awaited_from}
 use Rattle.net_txn.specs.Waits.{heard, steps_by, wait_steps, echo_reply, reply_got, barrier_sent}
 use Rattle.net_txn.specs.Changes.{known_rows, change_sent}
-use Rattle.journal_laws.specs.Readings.{Within, LastStands, starts_in, replies_in}
+use Rattle.journal_laws.specs.Readings.{Within, LastStands}
+use Rattle.lego_model.specs.History.{starts_in, replies_in}
 use Rattle.journal_laws.specs.ReadingLaws.{turn_read}
 use Rattle.journal_laws.specs.CallLaws.{inputs_own, call_within}
 use Rattle.app_visor.specs.declared.state.TurnEnd.{TurnEnd}

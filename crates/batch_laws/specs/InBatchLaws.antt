@@ -30,7 +30,7 @@ use Rattle.outside.specs.CallLaws.{MayStep-at_rest}
 use Rattle.outside.specs.Conforming.{MayBegin, IsNext, MayStep, MayAct, Conforming}
 use Rattle.net_txn.specs.Net.{NetState}
 use Rattle.switch_laws.specs.Orderly.{OrderlySince}
-use Rattle.promise.specs.Orderly.{IsOrderly}
+use Rattle.lego_model.specs.OrderlySteps.{IsOrderly}
 use Rattle.switch_laws.specs.OrderlyLaws.{orderly-then}
 use Rattle.batch_laws.specs.Knowledge.{Knowledge, knowledge_of, handled, handled_all}
 use Rattle.batch_laws.specs.Calm.{Calm}

@@ -43,7 +43,7 @@ use Rattle.net_txn.specs.Arriving.{arrival_steps}
 use Rattle.net_txn.specs.Joining.{greeting, greeted_from}
 use Rattle.net_txn.specs.JoiningSteps.{JoinsInStep}
 use Rattle.switch_laws.specs.StandLaws.{state-links}
-use Rattle.promise.specs.Orderly.{IsOrderly}
+use Rattle.lego_model.specs.OrderlySteps.{IsOrderly}
 use Rattle.switch_laws.specs.OrderlyLaws.{orderly-none, echo-orderly, join-steps-orderly}
 use Rattle.batch_laws.specs.Items.{answers, Untouched, Rests, TakesMessage, TakesIn, TakesInBy, TakesInAs, DoesFrom, DoesJoined, DoesLeft, Handles, waiting, Ascend, Leaves, IsLinkStep, ItemDone, Fresh, IsFresh, Done, IsItem}
 use Rattle.batch_laws.specs.InBatch.{SameBesides}

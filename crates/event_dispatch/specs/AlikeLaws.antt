@@ -18,17 +18,17 @@ use Rattle.outside.specs.QuietLaws.{last_quiet-of, last_quiet-then}
 use Rattle.app_visor.specs.CallsFor.{CallsFor}
 use Rattle.app_visor.specs.CalmLaws.{calls_then}
 use Rattle.run_laws.specs.Engine.{Engine}
-use Rattle.promise.specs.Application.{index}
-use Rattle.promise.specs.History.{stimuli_in}
+use Rattle.lego_model.specs.Application.{index}
+use Rattle.lego_model.specs.History.{stimuli_in}
 use Rattle.run_laws.specs.Readings.{JudgesAlike}
 use Rattle.run_laws.specs.Moves.{Moved, Rounds}
 use Rattle.run_laws.specs.FirstLaws.{settled-first}
 use Rattle.run_laws.specs.First.{IsOpened, net_at_first, engine_at_first}
 use Rattle.run_laws.specs.EndingLaws.{whole-of}
-use Rattle.promise.specs.ReferenceRun.{all_started}
+use Rattle.lego_model.specs.ReferenceRun.{all_started}
 use Rattle.run_laws.specs.Promise.{most_rounds, PremiseSoFar}
 use Rattle.run_laws.specs.Cut.{CutAlike, CutWriting, GoneSoFar}
-use Rattle.promise.specs.CutRun.{CutSo, WritingSo}
+use Rattle.lego_model.specs.CutRun.{CutSo, WritingSo}
 use Rattle.run_laws.specs.CutLaws.{gone-none, gone-rounds, gone-happens, gone-still, gone-more, gone-whole, cut-so, start-so, event-so, end-so}
 use Rattle.event_dispatch.specs.declared.batch.Rest.{Rest}
 use Rattle.event_dispatch.specs.declared.batch.Rest.TheVariants as rests

@@ -25,7 +25,7 @@ use Rattle.net_txn.specs.AgreeLaws.{viewed}
 use Rattle.net_txn.specs.AbreastLaws.{links-begun, links-unquiet, arrives_abreast}
 use Rattle.net_txn.specs.ReadLaws.{arrives_read}
 use Rattle.app_visor.specs.CallsFor.{CallsFor}
-use Rattle.promise.specs.Application.{index}
+use Rattle.lego_model.specs.Application.{index}
 use Rattle.batch_laws.specs.Items.{Handles}
 use Rattle.event_dispatch.specs.declared.batch.Rest.{Rest}
 use Rattle.event_dispatch.specs.declared.run.Run.{Run}

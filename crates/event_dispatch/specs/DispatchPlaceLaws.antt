@@ -27,7 +27,7 @@ use Rattle.app_visor.specs.CallsFor.{CallsFor, OwnSteps, CalmLater}
 use Rattle.app_visor.specs.OwnLaws.{own_calls, own_unquiet}
 use Rattle.app_visor.specs.CalmLaws.{calm_links, later_then}
 use Rattle.app_visor.specs.PlaceLaws.{own_places, own_messages, own_abreast, abreast_joined, turn_abreast, turn_places, turn_messages, stops_abreast, stops_places}
-use Rattle.promise.specs.Application.{index}
+use Rattle.lego_model.specs.Application.{index}
 use Rattle.event_dispatch.specs.Serves.{PlaysTurn}
 use Rattle.event_dispatch.specs.Steady.{InPlace, Reads, Quietly, AtMostHere}
 use Rattle.event_dispatch.specs.SteadyLaws.{abreast_as}

@@ -23,7 +23,7 @@ use Rattle.outside.specs.Quiet.{is_quiet, NoneQuiet, NoneQuietLater}
 use Rattle.net_txn.specs.LinkSteps.{AreLinksInPlace, StaysInPlace}
 use Rattle.net_txn.specs.LinkPlaceLaws.{in_place_by}
 use Rattle.app_visor.specs.CallsFor.{IsCallFor}
-use Rattle.promise.specs.Application.{index}
+use Rattle.lego_model.specs.Application.{index}
 use Rattle.event_dispatch.specs.Batch.{rest_by}
 use Rattle.event_dispatch.specs.Steady.{IsAtRest}
 use Rattle.event_dispatch.specs.Told.{NextQuietly}

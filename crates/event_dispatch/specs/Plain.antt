@@ -16,7 +16,7 @@ use Rattle.switch_laws.specs.Sound.{Sound}
 use Rattle.batch_laws.specs.Calm.{Calm}
 use Rattle.batch_laws.specs.InBatch.{CanTake, CanTakeNext}
 use Rattle.run_laws.specs.Engine.{Engine}
-use Rattle.promise.specs.History.{stimuli_in}
+use Rattle.lego_model.specs.History.{stimuli_in}
 use Rattle.run_laws.specs.Readings.{JudgesAlike}
 use Rattle.run_laws.specs.Moves.{Settled}
 use Rattle.run_laws.specs.Promise.{most_rounds}

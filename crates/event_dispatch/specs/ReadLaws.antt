@@ -18,7 +18,7 @@ use Rattle.net_txn.specs.LinkSteps.{AreLinksInPlace, StaysInPlace}
 use Rattle.net_txn.specs.LinkPlaceLaws.{in_place_by, in_place_then}
 use Rattle.app_visor.specs.CallsFor.{IsCallFor}
 use Rattle.run_laws.specs.Engine.{Engine}
-use Rattle.promise.specs.Application.{index}
+use Rattle.lego_model.specs.Application.{index}
 use Rattle.run_laws.specs.First.{IsOpened, net_at_first}
 use Rattle.event_dispatch.specs.declared.fault.Fault.{Fault}
 use Rattle.event_dispatch.specs.declared.fault.Fault.TheVariants as faults

@@ -14,8 +14,8 @@ use Rattle.outside.specs.SeenLaws.{Continues-trans}
 use Rattle.outside.specs.StateLaws.{Conforming-before}
 use Rattle.outside.specs.Conforming.{Conforming}
 use Rattle.run_laws.specs.Engine.{Engine, Stands, engine_then}
-use Rattle.promise.specs.History.{stimuli_in}
-use Rattle.promise.specs.ReferenceRun.{text_of, dispatch_next, times}
+use Rattle.lego_model.specs.History.{stimuli_in}
+use Rattle.lego_model.specs.ReferenceRun.{text_of, dispatch_next, times}
 use Rattle.run_laws.specs.Facts.{StartsAgain}
 use Rattle.run_laws.specs.Moves.{Settled, Moved, Shown, OneHappens}
 use Rattle.run_laws.specs.BatchMoveLaws.{batch-happens, batch-over}

@@ -19,16 +19,16 @@ use Rattle.app_visor.specs.declared.state.TurnEnd.{TurnEnd}
 use Rattle.app_visor.specs.declared.state.TurnEnd.TheVariants as ends
 use Rattle.app_visor.specs.Turns.{Turns}
 use Rattle.run_laws.specs.Engine.{Engine}
-use Rattle.promise.specs.Application.{budget, name}
-use Rattle.promise.specs.History.{stimuli_in}
+use Rattle.lego_model.specs.Application.{budget, name}
+use Rattle.lego_model.specs.History.{stimuli_in}
 use Rattle.run_laws.specs.Readings.{JudgesAlike}
 use Rattle.run_laws.specs.Facts.{turn_word, StartsAgain, TakesTurn, Dispatches}
 use Rattle.run_laws.specs.Moves.{Settled, Shown, ShownIdle, ShownOver, ShownRounds, ShownToEnd}
-use Rattle.promise.specs.ReferenceRun.{dispatch_next, times}
+use Rattle.lego_model.specs.ReferenceRun.{dispatch_next, times}
 use Rattle.run_laws.specs.First.{engine_at_first}
 use Rattle.run_laws.specs.Endings.{ShownStart, ShownFinish, RanOut, RanFull}
 use Rattle.run_laws.specs.Promise.{most_rounds}
-use Rattle.promise.specs.WholeRun.{EndsAlike, LeavesAlike}
+use Rattle.lego_model.specs.WholeRun.{EndsAlike, LeavesAlike}
 use Rattle.run_laws.specs.Cut.{CutAlike, CutWriting}
 use Rattle.event_dispatch.specs.declared.batch.Rest.{Rest}
 use Rattle.event_dispatch.specs.declared.batch.Rest.TheVariants as rests
@@ -36,7 +36,7 @@ use Rattle.event_dispatch.specs.declared.run.Run.{Run}
 use Rattle.event_dispatch.specs.declared.served.Served.{Served}
 use Rattle.event_dispatch.specs.declared.served.Served.TheVariants as served
 use Rattle.event_dispatch.specs.Shows.{engine_of}
-use Rattle.promise.specs.CutRun.{NothingDone}
+use Rattle.lego_model.specs.CutRun.{NothingDone}
 
 -- text was noted behind what waits to be written
 abbrev pub Notes : List ℕ → Run → Run → Type 0

@@ -9,7 +9,7 @@ use Rattle.net_txn.specs.Net.{NetState}
 use Rattle.net_txn.specs.LinkSteps.{StaysInPlace}
 use Rattle.net_txn.specs.Abreast.{Abreast}
 use Rattle.app_visor.specs.CallsFor.{CallsFor}
-use Rattle.promise.specs.Application.{index}
+use Rattle.lego_model.specs.Application.{index}
 
 -- however it ended: calls of links were in place
 pub record InPlace {Own : Type 0} (Tells : Type 0) (old new : Seen Own) (net : NetState) : Type 0 where

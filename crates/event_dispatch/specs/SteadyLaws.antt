@@ -10,7 +10,7 @@ use Rattle.net_txn.specs.LinkPlaceLaws.{in_place_none, in_place_then}
 use Rattle.net_txn.specs.Undos.{is_viewed}
 use Rattle.net_txn.specs.Abreast.{Abreast}
 pub use Rattle.app_visor.specs.CalmLaws.{calls_none, calls_then}
-use Rattle.promise.specs.Application.{index}
+use Rattle.lego_model.specs.Application.{index}
 use Rattle.event_dispatch.specs.Steady.{InPlace, Reads, Quietly, AtMostHere}
 
 -- ---- Nothing was done

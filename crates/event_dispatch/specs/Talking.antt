@@ -4,7 +4,7 @@ use Rattle.std.specs.Prelude.{◌≡◌, ℕ, true, List}
 use Rattle.outside.specs.Seen.{Seen, journal}
 use Rattle.lego_model.specs.AtOnce.{Passes, AtOnce}
 use Rattle.run_laws.specs.Engine.{Engine}
-use Rattle.promise.specs.Application.{index}
+use Rattle.lego_model.specs.Application.{index}
 use Rattle.run_laws.specs.Moves.{Conversing}
 
 -- whatever it was

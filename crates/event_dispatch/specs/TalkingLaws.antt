@@ -28,7 +28,7 @@ use Rattle.app_visor.specs.Turns.{Turns}
 use Rattle.app_visor.specs.DialogueLaws.{Converses-then, converses_ended}
 use Rattle.run_laws.specs.DialogueLaws.{at_once_then, runs_now, others_at_once, event_told}
 use Rattle.run_laws.specs.Engine.{Engine}
-use Rattle.promise.specs.Application.{index}
+use Rattle.lego_model.specs.Application.{index}
 use Rattle.event_dispatch.specs.Serves.{PlaysTurn}
 use Rattle.event_dispatch.specs.Talking.{KeepsTalking, TurnTalks, GoesOnTalking}
 

@@ -14,7 +14,7 @@ use Rattle.net_txn.specs.LinkSteps.{StaysInPlace}
 use Rattle.net_txn.specs.Undos.{is_viewed}
 use Rattle.net_txn.specs.Abreast.{Abreast}
 use Rattle.app_visor.specs.CallsFor.{CallsFor}
-use Rattle.promise.specs.Application.{index}
+use Rattle.lego_model.specs.Application.{index}
 use Rattle.event_dispatch.specs.declared.batch.Rest.{Rest}
 use Rattle.event_dispatch.specs.Steady.{IsAtRest}
 

@@ -17,7 +17,7 @@ ghost use Rattle.event_dispatch.specs.Why.{IsReason, WhyItem, WhyMessage, served
 ghost use Rattle.event_dispatch.specs.Talking.{KeepsTalking};
 ghost use Rattle.net_txn.specs.LinkSteps.{OnLinks, StaysInPlace, AsksInPlace};
 ghost use Rattle.app_visor.specs.CallsFor.{CallsFor};
-ghost use Rattle.promise.specs.Application.{index};
+ghost use Rattle.lego_model.specs.Application.{index};
 ghost use Rattle.event_dispatch.specs.Steady.{InPlace, Reads, AtMostHere};
 ghost use Rattle.event_dispatch.specs.Told.{OnlyMessages, PutsInPlace, NextQuietly, GoesBegun};
 ghost use Rattle.event_dispatch.specs.Plain.{IsPlainEnd, PlainRead, PlainJoin, PlainItem, PlainNext, PlainKept, PlainCalm};

@@ -11,7 +11,7 @@ ghost use Rattle.event_dispatch.specs.Runs.{AreRead, Going, Waits};
 ghost use Rattle.event_dispatch.specs.Why.{IsReason, served_by};
 ghost use Rattle.event_dispatch.specs.Plain.{PlainTurn, PlainRun};
 ghost use Rattle.lego_model.specs.RunReport.{turn_line as turn_line_of};
-ghost use Rattle.promise.specs.Application.{index, name};
+ghost use Rattle.lego_model.specs.Application.{index, name};
 ghost use Rattle.run_laws.specs.Facts.{starts_text};
 ghost use Rattle.event_dispatch.specs.Shows.{engine_of, Adds};
 ghost use Rattle.event_dispatch.specs.Serves.{Starts, PlaysTurn, Closes, HasTurn, IsDispatched, SettlesOne, Settles};

@@ -9,7 +9,8 @@ use Rattle.of_types.specs.declared.journal.Act.{Act}
 use Rattle.of_types.specs.declared.journal.Act.TheVariants.{Stim, Started, Gave, Gone, Took, Ended, Sent, Got}
 use Rattle.lego_model.specs.Journal.{End, Untold, Attempt, Start, Reply, Asked, in_attempts, is_event, in_turns, piece_of, pieces, end_by, end_from, gave, was_gone, any_gone, start_of, reply_of}
 use Rattle.lego_model.specs.JournalLaws.{in_attempts-started}
-use Rattle.journal_laws.specs.Readings.{starts_in, replies_at, replies_in, LastStands, is_within, Within, event_act, end_part, ReadsSame, ReadsTurn, ReadsAttempt}
+use Rattle.journal_laws.specs.Readings.{LastStands, is_within, Within, event_act, end_part, ReadsSame, ReadsTurn, ReadsAttempt}
+use Rattle.lego_model.specs.History.{starts_in, replies_at, replies_in}
 
 -- ---- Acts within a turn or an attempt begin none
 

@@ -1,22 +1,13 @@
 -- What the acts of one application tell: its starts and its replies, and which acts belong to a turn or an attempt that was begun. All of
 -- this is our own.
-use Rattle.std.specs.Prelude.{◌≡◌, ◌==◌, ℕ, Bool, true, false, not, ◌&&◌, List, [], ◌∷◌, ◌++◌, map, filter, if◌then◌else◌}
-use Rattle.std.specs.List.{flat_map, AllByRecursion}
+use Rattle.std.specs.Prelude.{◌≡◌, ◌==◌, ℕ, Bool, true, false, not, ◌&&◌, List, [], ◌∷◌, ◌++◌, if◌then◌else◌}
+use Rattle.std.specs.List.{AllByRecursion}
 use Rattle.of_types.specs.declared.journal.Act.{Act}
 use Rattle.of_types.specs.declared.journal.Act.TheVariants.{Stim, Started, Gave, Gone, Took, Ended, Sent, Got}
-use Rattle.lego_model.specs.Journal.{Reply, Start, Attempt, in_attempts, is_event, in_turns, start_of, reply_of}
+use Rattle.lego_model.specs.Journal.{Reply, Attempt, in_attempts, is_event, start_of}
+use Rattle.lego_model.specs.History.{starts_in, replies_in}
 
 -- ---- What the acts of an application tell
-
-abbrev pub starts_in : List Act → List Start
-starts_in acts = map start_of (in_attempts acts).1
-
--- the replies of one attempt, and of all of them, life after life
-abbrev pub replies_at : Attempt → List Reply
-replies_at attempt = map reply_of (in_turns attempt.acts).1
-
-abbrev pub replies_in : List Act → List Reply
-replies_in acts = flat_map replies_at (filter (λ a. a.stands) (in_attempts acts).1)
 
 -- the last attempt to start it stands
 pub record LastStands (acts : List Act) : Type 0 where

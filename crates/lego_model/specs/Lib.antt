@@ -22,3 +22,9 @@ pub mod Answers
 pub mod SessionFacts
 pub mod SessionWordLaws
 pub mod SessionTextLaws
+pub mod Application
+pub mod History
+pub mod ReferenceRun
+pub mod WholeRun
+pub mod CutRun
+pub mod OrderlySteps

@@ -15,11 +15,11 @@ use Rattle.lego_model.specs.Controller.{Run}
 use Rattle.sim_world.specs.Told.{without_links}
 use Rattle.sim_world.specs.Scripts.{Scripts, Life, AreScripted, KeepsScripts, lives_after, all_fresh}
 use Rattle.sim_world.specs.World.{WorldData, given_of, seen_of}
-use Rattle.promise.specs.History.{stimuli_in}
+use Rattle.lego_model.specs.History.{stimuli_in}
 use Rattle.run_laws.specs.StimuliLaws.{told-few}
 use Rattle.run_laws.specs.Promise.{PremiseSoFar}
 use Rattle.run_laws.specs.Cut.{CutAlike, CutWriting}
-use Rattle.promise.specs.CutRun.{Far, CutAs, WritingAs, AlikeUpTo, NothingDone}
+use Rattle.lego_model.specs.CutRun.{Far, CutAs, WritingAs, AlikeUpTo, NothingDone}
 use Rattle.run_laws.specs.DialogueLaws.{applications_in_place}
 use Rattle.event_dispatch.specs.declared.served.Served.{Served}
 use Rattle.event_dispatch.specs.declared.served.Served.TheVariants as served

@@ -17,7 +17,7 @@ use Rattle.legosdn.specs.declared.stop.Refusal.{Refusal}
 use Rattle.legosdn.specs.declared.stop.Refusal.TheVariants.{Session}
 use Rattle.legosdn.specs.declared.stop.Stop.{Stop}
 use Rattle.legosdn.specs.declared.stop.Stop.TheVariants.{Refused}
-use Rattle.promise.specs.Application.{names as app_names}
+use Rattle.lego_model.specs.Application.{names as app_names}
 use Rattle.legosdn.specs.Input.{or_refused, session_lines, session_of}
 use Rattle.legosdn.specs.Stops.{stop_of_session}
 use Rattle.legosdn.specs.Headline.{IsReadCause, IsEarly, Loaded}

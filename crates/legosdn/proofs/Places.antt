@@ -12,8 +12,8 @@ use Rattle.outside.specs.State.{State, at_first, after_step, after_steps, state,
 use Rattle.net_txn.specs.LinkSteps.{IsLinkInPlace, AreLinksInPlace, StaysInPlace}
 use Rattle.app_visor.specs.Dialogues.{IsInPlace as IsInPlaceOf, AreInPlace as AreInPlaceOf}
 use Rattle.app_visor.specs.CallsFor.{IsActFor, IsCallFor, CallsFor}
-use Rattle.promise.specs.Orderly.{IsOrderlyAct, IsOrderly}
-use Rattle.promise.specs.Application.{index}
+use Rattle.lego_model.specs.OrderlySteps.{IsOrderlyAct, IsOrderly}
+use Rattle.lego_model.specs.Application.{index}
 use Rattle.sim_world.specs.Scripts.{Scripts}
 use Rattle.sim_world.specs.Places.{IsActInPlace, IsInPlace, AreInPlace}
 use Rattle.sim_world.specs.World.{WorldData, given_of, seen_of}

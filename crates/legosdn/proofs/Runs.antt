@@ -19,7 +19,7 @@ use Rattle.sim_world.specs.World.{WorldData, given_of, seen_of}
 use Rattle.sim_world.specs.Tally.{counts_of}
 use Rattle.sim_world.specs.Building.{IsNew, Begins}
 use Rattle.session_text.specs.Loading.{given_by}
-use Rattle.promise.specs.History.{stimuli_in}
+use Rattle.lego_model.specs.History.{stimuli_in}
 use Rattle.run_laws.specs.StimuliLaws.{told-few, told-all}
 use Rattle.run_laws.specs.Promise.{Premise}
 use Rattle.event_dispatch.specs.declared.served.Served.{Served}

@@ -12,16 +12,15 @@ use Rattle.lego_model.specs.Scripted.{starts_said, replies_said}
 use Rattle.lego_model.specs.Controller.{reference}
 use Rattle.lego_model.specs.RunReport.{run_report}
 use Rattle.lego_model.specs.SessionLines.{SessionValue}
-use Rattle.journal_laws.specs.Readings.{starts_in, replies_in}
+use Rattle.lego_model.specs.History.{starts_in, replies_in, own_acts, stimuli_in}
 use Rattle.sim_world.specs.Told.{without_links}
 use Rattle.sim_world.specs.Scripts.{Scripts, starts_of, replies_of, KeepsScripts}
-use Rattle.promise.specs.Orderly.{IsOrderly}
+use Rattle.lego_model.specs.OrderlySteps.{IsOrderly}
 use Rattle.script_laws.specs.Ahead.{HasRoom}
 use Rattle.script_laws.specs.FollowLaws.{tells_fronts}
-use Rattle.promise.specs.Application.{index, names}
-use Rattle.promise.specs.History.{own_acts, stimuli_in}
-use Rattle.promise.specs.ReferenceRun.{fresh, AreSaid}
-use Rattle.promise.specs.WholeRun.{EndsAs, EndsAlike, LeavesAs, LeavesAlike}
+use Rattle.lego_model.specs.Application.{index, names}
+use Rattle.lego_model.specs.ReferenceRun.{fresh, AreSaid}
+use Rattle.lego_model.specs.WholeRun.{EndsAs, EndsAlike, LeavesAs, LeavesAlike}
 use Rattle.session_text.specs.Loading.{fail_of, given_by}
 use Rattle.legosdn.specs.declared.stop.Refusal.{Refusal}
 use Rattle.legosdn.specs.Input.{session_of}

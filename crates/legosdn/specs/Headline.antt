@@ -13,12 +13,12 @@ use Rattle.lego_model.specs.AtOnce.{AtOnce}
 use Rattle.sim_world.specs.Told.{without_links}
 use Rattle.sim_world.specs.Scripts.{Scripts, KeepsScripts}
 use Rattle.sim_world.specs.World.{WorldData, seen_of}
-use Rattle.promise.specs.Application.{index}
-use Rattle.promise.specs.History.{stimuli_in}
-use Rattle.promise.specs.WholeRun.{EndsAs, EndsAlike, LeavesAs, LeavesAlike}
+use Rattle.lego_model.specs.Application.{index}
+use Rattle.lego_model.specs.History.{stimuli_in}
+use Rattle.lego_model.specs.WholeRun.{EndsAs, EndsAlike, LeavesAs, LeavesAlike}
 use Rattle.net_txn.specs.declared.fault.TxnFault.{TxnFault}
 use Rattle.event_dispatch.specs.Why.{IsWhyTxn}
-use Rattle.promise.specs.CutRun.{NothingDone}
+use Rattle.lego_model.specs.CutRun.{NothingDone}
 use Rattle.lego_model.specs.SessionLines.{SessionValue}
 use Rattle.session_text.specs.Loading.{given_by}
 use Rattle.legosdn.specs.Input.{session_of}

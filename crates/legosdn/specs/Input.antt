@@ -5,7 +5,7 @@ use Rattle.lego_model.specs.declared.session.SessionFault.{SessionFault}
 use Rattle.lego_model.specs.Words.{is_word}
 use Rattle.lego_model.specs.SessionLines.{SessionValue}
 use Rattle.lego_model.specs.SessionText.{at_first, lines_from, ◌>>=◌}
-use Rattle.promise.specs.Application.{names}
+use Rattle.lego_model.specs.Application.{names}
 use Rattle.legosdn.specs.declared.stop.Refusal.{Refusal}
 use Rattle.legosdn.specs.declared.stop.Refusal.TheVariants.{Size, Separator, PolicyLater, Session}
 

@@ -8,9 +8,9 @@ use Rattle.lego_model.specs.Controller.{Run, reference}
 use Rattle.lego_model.specs.Scripted.{starts_said, replies_said}
 use Rattle.lego_model.specs.SessionLines.{SessionValue}
 use Rattle.session_text.specs.Loading.{given_by}
-use Rattle.promise.specs.Application.{index}
-use Rattle.promise.specs.ReferenceRun.{fresh}
-use Rattle.promise.specs.CutRun.{start_said, Far, CutAs, WritingAs, AlikeUpTo, CutSo, WritingSo}
+use Rattle.lego_model.specs.Application.{index}
+use Rattle.lego_model.specs.ReferenceRun.{fresh}
+use Rattle.lego_model.specs.CutRun.{start_said, Far, CutAs, WritingAs, AlikeUpTo, CutSo, WritingSo}
 
 -- the judge lets every table be
 abbrev pub all_allowed : List Place → Bool

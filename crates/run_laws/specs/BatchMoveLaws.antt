@@ -22,7 +22,8 @@ use Rattle.net_txn.specs.Net.{NetState}
 use Rattle.switch_laws.specs.Shown.{shown_places}
 use Rattle.switch_laws.specs.Sound.{Sound}
 use Rattle.switch_laws.specs.OrderlyLaws.{orderly-whole}
-use Rattle.journal_laws.specs.Readings.{starts_in, replies_in, LastStands}
+use Rattle.journal_laws.specs.Readings.{LastStands}
+use Rattle.lego_model.specs.History.{starts_in, replies_in, own_acts, given_in, stimuli_in, quiet_by}
 use Rattle.journal_laws.specs.CallLaws.{inputs_own}
 use Rattle.lego_model.specs.AtOnce.{at_first, Dialogue}
 use Rattle.batch_laws.specs.Knowledge.{knowledge_of}
@@ -32,9 +33,8 @@ use Rattle.batch_laws.specs.HistoryLaws.{links-declared}
 use Rattle.batch_laws.specs.StimulusLaws.{stimulus-handled}
 use Rattle.batch_laws.specs.Tells.{StimulusHandled}
 use Rattle.run_laws.specs.Engine.{Engine, Stands, app_at, engine_then}
-use Rattle.promise.specs.Application.{index}
-use Rattle.promise.specs.History.{own_acts, given_in, stimuli_in, quiet_by}
-use Rattle.promise.specs.ReferenceRun.{text_of}
+use Rattle.lego_model.specs.Application.{index}
+use Rattle.lego_model.specs.ReferenceRun.{text_of}
 use Rattle.run_laws.specs.Moves.{Settled, Moved, OneHappens}
 use Rattle.run_laws.specs.DialogueLaws.{others_at_once}
 use Rattle.run_laws.specs.QuietLaws.{quiets_more, mark_alike}

@@ -35,8 +35,8 @@ use Rattle.switch_laws.specs.SoundStepLaws.{exchange-sound}
 use Rattle.switch_laws.specs.Since.{Goes}
 use Rattle.switch_laws.specs.SinceLaws.{goes-on}
 use Rattle.turn_laws.specs.ChainLaws.{goes-same}
-use Rattle.promise.specs.Application.{index}
-use Rattle.promise.specs.History.{own_acts, given_in, stimuli_in}
+use Rattle.lego_model.specs.Application.{index}
+use Rattle.lego_model.specs.History.{own_acts, given_in, stimuli_in}
 use Rattle.run_laws.specs.FrameLaws.{answer_number, restore_number}
 use Rattle.run_laws.specs.LinkStepLaws.{all_append, link_steps, link_steps-tell, talk_step, talk_steps, event_marks, gone_marks, talk_marks, talks_mark}
 use Rattle.run_laws.specs.LinkSteps.{OnlyLinks, IsLinkStep, OnlyTalk, NoEvents, Rests, LinksOnly, TellsSame, TriesKeep}

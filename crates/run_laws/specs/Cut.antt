@@ -9,12 +9,12 @@ use Rattle.outside.specs.InOrder.{InOrder, BringMessages}
 use Rattle.outside.specs.Quiet.{IsLastQuiet}
 use Rattle.app_visor.specs.CallsFor.{CallsFor}
 use Rattle.run_laws.specs.Engine.{Engine}
-use Rattle.promise.specs.Application.{index}
+use Rattle.lego_model.specs.Application.{index}
 use Rattle.run_laws.specs.Moves.{Moved}
-use Rattle.promise.specs.CutRun.{so_far, CutSo, WritingSo, start_said}
+use Rattle.lego_model.specs.CutRun.{so_far, CutSo, WritingSo, start_said}
 use Rattle.lego_model.specs.Journal.{Reply, Start}
 use Rattle.lego_model.specs.Controller.{Run}
-use Rattle.promise.specs.ReferenceRun.{AreSaid}
+use Rattle.lego_model.specs.ReferenceRun.{AreSaid}
 use Rattle.run_laws.specs.Whole.{RanAs}
 
 -- ---- What is promised of a run that a fault ends

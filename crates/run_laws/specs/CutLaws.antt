@@ -11,12 +11,11 @@ use Rattle.lego_model.specs.ScriptedLaws.{fronts-parts, start_fronts-parts}
 use Rattle.lego_model.specs.Controller.{Run, happen}
 use Rattle.outside.specs.Seen.{Given, Seen}
 use Rattle.outside.specs.Conforming.{Conforming}
-use Rattle.journal_laws.specs.Readings.{starts_in, replies_in}
+use Rattle.lego_model.specs.History.{starts_in, replies_in, own_acts, stimuli_in}
 use Rattle.switch_laws.specs.OrderlyLaws.{orderly-none}
 use Rattle.run_laws.specs.Engine.{Engine, Stands}
-use Rattle.promise.specs.Application.{index}
-use Rattle.promise.specs.History.{own_acts, stimuli_in}
-use Rattle.promise.specs.ReferenceRun.{text_of, dispatch_next, times, rounds, AreSaid, fresh, before_start, all_started, RunsAlike}
+use Rattle.lego_model.specs.Application.{index}
+use Rattle.lego_model.specs.ReferenceRun.{text_of, dispatch_next, times, rounds, AreSaid, fresh, before_start, all_started, RunsAlike}
 use Rattle.run_laws.specs.Moves.{Settled, Moves, Moved, Rounds, OneHappens}
 use Rattle.run_laws.specs.MoveLaws.{moved-none, moved-then, moved-as}
 use Rattle.run_laws.specs.SettleLaws.{settle-times, times-more}
@@ -29,7 +28,7 @@ use Rattle.run_laws.specs.First.{IsOpened, engine_at_first}
 use Rattle.run_laws.specs.Endings.{WholeMoves, Leaves}
 use Rattle.run_laws.specs.FinishLaws.{said-before, runs-alike, all-in-order}
 use Rattle.run_laws.specs.Cut.{GoneSoFar, RanTo}
-use Rattle.promise.specs.CutRun.{start_said, so_far, Far, CutAs, WritingAs, AlikeUpTo, CutSo, WritingSo}
+use Rattle.lego_model.specs.CutRun.{start_said, so_far, Far, CutAs, WritingAs, AlikeUpTo, CutSo, WritingSo}
 
 -- ---- Parts of a run, one behind the other
 

@@ -21,7 +21,7 @@ use Rattle.app_visor.specs.RunningLaws.{dialogue_runs, dialogue_in_place}
 use Rattle.app_visor.specs.Attempts.{ready_rest}
 use Rattle.app_visor.specs.TryLaws.{tries_speak}
 use Rattle.run_laws.specs.Engine.{Engine}
-use Rattle.promise.specs.Application.{index}
+use Rattle.lego_model.specs.Application.{index}
 use Rattle.run_laws.specs.Facts.{StartsAgain, IsClosed, TakesTurn, IsTurn}
 use Rattle.run_laws.specs.LinkStepLaws.{link_steps-tell}
 use Rattle.run_laws.specs.ChainLaws.{undo_links}

@@ -18,10 +18,10 @@ use Rattle.app_visor.specs.declared.state.TurnEnd.{TurnEnd}
 use Rattle.app_visor.specs.declared.state.TurnEnd.TheVariants as ends
 use Rattle.switch_laws.specs.Shown.{shown_places}
 use Rattle.switch_laws.specs.StandLaws.{state-links}
-use Rattle.journal_laws.specs.Readings.{starts_in, replies_in, LastStands}
+use Rattle.journal_laws.specs.Readings.{LastStands}
+use Rattle.lego_model.specs.History.{starts_in, replies_in, own_acts, given_in, stimuli_in, quiet_by, quiets_in}
 use Rattle.run_laws.specs.Engine.{Engine, app_at, Stands, with_number}
-use Rattle.promise.specs.History.{own_acts, given_in, stimuli_in, quiet_by, quiets_in}
-use Rattle.promise.specs.ReferenceRun.{text_of, next_dispatched, dispatch_next}
+use Rattle.lego_model.specs.ReferenceRun.{text_of, next_dispatched, dispatch_next}
 use Rattle.run_laws.specs.Facts.{IsClosed, IsTurn, Dispatches}
 use Rattle.run_laws.specs.Moves.{Moves}
 use Rattle.run_laws.specs.Readings.{AreRead, JudgesAlike}

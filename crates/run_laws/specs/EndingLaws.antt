@@ -10,19 +10,19 @@ use Rattle.outside.specs.Conforming.{Conforming}
 use Rattle.outside.specs.StateLaws.{Conforming-before}
 use Rattle.switch_laws.specs.OrderlyLaws.{orderly-then}
 use Rattle.run_laws.specs.Engine.{Engine}
-use Rattle.promise.specs.Application.{index}
-use Rattle.promise.specs.History.{stimuli_in}
+use Rattle.lego_model.specs.Application.{index}
+use Rattle.lego_model.specs.History.{stimuli_in}
 use Rattle.run_laws.specs.StimuliLaws.{fewer-before}
 use Rattle.run_laws.specs.Readings.{JudgesAlike}
 use Rattle.run_laws.specs.Moves.{ShownToEnd}
-use Rattle.promise.specs.ReferenceRun.{rounds, all_started}
+use Rattle.lego_model.specs.ReferenceRun.{rounds, all_started}
 use Rattle.run_laws.specs.MoveLaws.{moved-then}
 use Rattle.run_laws.specs.LastReport.{last_text}
 use Rattle.run_laws.specs.WholeLaws.{ran}
 use Rattle.run_laws.specs.FirstLaws.{settled-first}
 use Rattle.run_laws.specs.First.{IsOpened, engine_at_first}
 use Rattle.run_laws.specs.Promise.{most_rounds}
-use Rattle.promise.specs.WholeRun.{EndsAlike, LeavesAlike}
+use Rattle.lego_model.specs.WholeRun.{EndsAlike, LeavesAlike}
 use Rattle.run_laws.specs.FinishLaws.{ends-alike, leaves-alike}
 use Rattle.run_laws.specs.Endings.{ShownStart, ShownWhole, Leaves, RanOut, RanFull}
 

@@ -9,15 +9,14 @@ use Rattle.outside.specs.Conforming.{Conforming}
 use Rattle.outside.specs.State.{state, switch_of}
 use Rattle.switch_laws.specs.Orderly.{OrderlySince}
 use Rattle.batch_laws.specs.Calm.{Calm}
-use Rattle.journal_laws.specs.Readings.{starts_in, replies_in}
+use Rattle.lego_model.specs.History.{starts_in, replies_in, own_acts, given_in, stimuli_in}
 use Rattle.lego_model.specs.AtOnce.{AtOnce}
 use Rattle.run_laws.specs.Engine.{Engine}
-use Rattle.promise.specs.Application.{index}
-use Rattle.promise.specs.History.{own_acts, given_in, stimuli_in}
+use Rattle.lego_model.specs.Application.{index}
 use Rattle.run_laws.specs.Readings.{JudgesAlike}
 use Rattle.run_laws.specs.Moves.{Settled, Moved}
 use Rattle.run_laws.specs.LastReport.{last_text}
-use Rattle.promise.specs.ReferenceRun.{all_started}
+use Rattle.lego_model.specs.ReferenceRun.{all_started}
 use Rattle.run_laws.specs.Whole.{whole}
 
 -- ---- The start

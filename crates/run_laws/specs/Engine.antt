@@ -10,8 +10,8 @@ use Rattle.net_txn.specs.Net.{NetState}
 use Rattle.journal_laws.specs.Readings.{LastStands}
 use Rattle.switch_laws.specs.Shown.{shown_places}
 use Rattle.batch_laws.specs.Calm.{Calm}
-use Rattle.promise.specs.Application.{budget}
-use Rattle.promise.specs.History.{own_acts, given_in, quiets_in}
+use Rattle.lego_model.specs.Application.{budget}
+use Rattle.lego_model.specs.History.{own_acts, given_in, quiets_in}
 
 -- ---- What the engine keeps of a run
 

@@ -16,11 +16,11 @@ use Rattle.journal_laws.specs.FrameLaws.{event_is}
 use Rattle.switch_laws.specs.OrderlyLaws.{orderly-whole}
 use Rattle.batch_laws.specs.Calm.{Calm}
 use Rattle.run_laws.specs.Engine.{Engine}
-use Rattle.promise.specs.Application.{index}
+use Rattle.lego_model.specs.Application.{index}
 use Rattle.run_laws.specs.Facts.{IsTurn, Dispatches}
 use Rattle.run_laws.specs.Readings.{AreRead, JudgesAlike}
 use Rattle.run_laws.specs.Moves.{Settled, Moved, Shown}
-use Rattle.promise.specs.ReferenceRun.{dispatch_next}
+use Rattle.lego_model.specs.ReferenceRun.{dispatch_next}
 use Rattle.run_laws.specs.TurnMoveLaws.{turn_moves}
 use Rattle.run_laws.specs.DialogueLaws.{turn_goes_on}
 use Rattle.run_laws.specs.DispatchLaws.{dispatch-moves, dispatch-life, next-moves, none-moves}

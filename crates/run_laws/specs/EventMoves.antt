@@ -9,9 +9,9 @@ use Rattle.outside.specs.Seen.{Seen, Continues}
 use Rattle.outside.specs.State.{state, marks_at_event}
 use Rattle.switch_laws.specs.Shown.{shown_places}
 use Rattle.batch_laws.specs.Calm.{Calm}
-use Rattle.journal_laws.specs.Readings.{starts_in, replies_in, LastStands}
+use Rattle.journal_laws.specs.Readings.{LastStands}
+use Rattle.lego_model.specs.History.{starts_in, replies_in, own_acts, given_in, stimuli_in}
 use Rattle.run_laws.specs.Engine.{Engine, app_at}
-use Rattle.promise.specs.History.{own_acts, given_in, stimuli_in}
 use Rattle.run_laws.specs.LinkSteps.{TriesKeep}
 use Rattle.run_laws.specs.LastReport.{lines_text}
 use Rattle.app_frames.specs.declared.frame.Event.{Event}

@@ -18,7 +18,7 @@ use Rattle.app_visor.specs.declared.state.TurnEnd.TheVariants as ends
 use Rattle.app_visor.specs.Turns.{Turns}
 use Rattle.app_visor.specs.Attempts.{Restarts}
 use Rattle.run_laws.specs.Engine.{Engine}
-use Rattle.promise.specs.Application.{index, budget, name}
+use Rattle.lego_model.specs.Application.{index, budget, name}
 
 -- ---- Starting
 

@@ -19,22 +19,21 @@ use Rattle.outside.specs.Conforming.{Conforming}
 use Rattle.flow_table.specs.declared.view.TableView.{TableView}
 use Rattle.switch_laws.specs.Shown.{flags_at, shown_switch, places, shown_places}
 use Rattle.batch_laws.specs.HistoryLaws.{links-declared}
-use Rattle.journal_laws.specs.Readings.{starts_in, replies_in}
+use Rattle.lego_model.specs.History.{starts_in, replies_in, own_acts, stimuli_in, quiet_by, quiets_in, last_quiet}
 use Rattle.lego_model.specs.AtOnce.{AtOnce}
 use Rattle.run_laws.specs.Engine.{Engine, Stands}
-use Rattle.promise.specs.Application.{index, names}
-use Rattle.promise.specs.History.{own_acts, stimuli_in, quiet_by, quiets_in, last_quiet}
+use Rattle.lego_model.specs.Application.{index, names}
 use Rattle.run_laws.specs.QuietLaws.{quiets_more, mark_alike}
 use Rattle.run_laws.specs.LastReport.{last_text}
 use Rattle.run_laws.specs.LastReportLaws.{report-ends, last-shown}
-use Rattle.promise.specs.ReferenceRun.{RunsAlike, fresh, reference_said, AreSaid}
+use Rattle.lego_model.specs.ReferenceRun.{RunsAlike, fresh, reference_said, AreSaid}
 use Rattle.run_laws.specs.WholeLaws.{told-said}
 use Rattle.run_laws.specs.Whole.{Ran}
-use Rattle.promise.specs.Orderly.{IsOrderly}
+use Rattle.lego_model.specs.OrderlySteps.{IsOrderly}
 use Rattle.switch_laws.specs.OrderlyLaws.{orderly-whole, released-none}
 use Rattle.run_laws.specs.Moves.{Settled}
 use Rattle.run_laws.specs.Endings.{Leaves}
-use Rattle.promise.specs.WholeRun.{EndsAs, LeavesAs, EndsAlike, LeavesAlike}
+use Rattle.lego_model.specs.WholeRun.{EndsAs, LeavesAs, EndsAlike, LeavesAlike}
 
 -- the reference controller's run is the same
 reference-same : {Own : Type 0} (allows : List Place → Bool) (last new : Seen Own) (starts : List Start) (replies : List Reply) → Leaves last new → reference_said allows new starts replies ≡ reference_said allows last starts replies

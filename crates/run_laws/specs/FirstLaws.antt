@@ -16,15 +16,15 @@ use Rattle.outside.specs.declared.call.FailCall.{FailCall}
 use Rattle.outside.specs.declared.step.WorldStep.{WorldStep}
 use Rattle.outside.specs.Seen.{Seen, journal}
 use Rattle.outside.specs.State.{State, link_at_first, at_first, link_of, waits_in, switch_in, waits_of, switch_of, after_steps, after_step, state}
-use Rattle.promise.specs.Orderly.{IsOrderly}
+use Rattle.lego_model.specs.OrderlySteps.{IsOrderly}
 use Rattle.switch_laws.specs.Shown.{flags_at, places, shown_switch, shown_places}
 use Rattle.lego_model.specs.AtOnce.{at_first as nobody_yet, Dialogue}
 use Rattle.batch_laws.specs.Calm.{Calm}
 use Rattle.run_laws.specs.Engine.{Stands, app_at}
-use Rattle.promise.specs.Application.{index}
-use Rattle.promise.specs.History.{quiet_by, given_in}
+use Rattle.lego_model.specs.Application.{index}
+use Rattle.lego_model.specs.History.{quiet_by, given_in}
 use Rattle.run_laws.specs.Moves.{Settled}
-use Rattle.promise.specs.ReferenceRun.{fresh, before_start}
+use Rattle.lego_model.specs.ReferenceRun.{fresh, before_start}
 use Rattle.run_laws.specs.First.{IsOpened, net_at_first, engine_at_first}
 
 

@@ -12,8 +12,8 @@ use Rattle.flow_table.specs.declared.view.TableView.{TableView}
 use Rattle.switch_laws.specs.Orderly.{OrderlySince}
 use Rattle.switch_laws.specs.Shown.{shown_switch, shown_places}
 use Rattle.run_laws.specs.Engine.{Engine}
-use Rattle.promise.specs.Application.{index, names, name}
-use Rattle.promise.specs.History.{own_acts, given_in, stimuli_in}
+use Rattle.lego_model.specs.Application.{index, names, name}
+use Rattle.lego_model.specs.History.{own_acts, given_in, stimuli_in}
 use Rattle.flow_table.specs.Switch.{SwitchState}
 use Rattle.lego_model.specs.Answers.{rows_of_table, rows_of_view}
 

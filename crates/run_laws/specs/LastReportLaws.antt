@@ -45,12 +45,12 @@ use Rattle.net_txn.specs.declared.heard.Refusal.{Refusal}
 use Rattle.net_txn.specs.Waits.{heard, steps_by, wait_steps, barrier_sent, reply_got, Waits}
 use Rattle.net_txn.specs.Asks.{asked_from, request_sent, GivesRows}
 use Rattle.batch_laws.specs.Calm.{ViewsAscend}
-use Rattle.promise.specs.Orderly.{IsOrderly}
+use Rattle.lego_model.specs.OrderlySteps.{IsOrderly}
 use Rattle.switch_laws.specs.OrderlyLaws.{orderly-none, orderly-then, rows-orderly}
 use Rattle.run_laws.specs.Engine.{Engine, Stands}
-use Rattle.promise.specs.Application.{index, names, name}
-use Rattle.promise.specs.History.{own_acts, given_in, stimuli_in}
-use Rattle.promise.specs.ReferenceRun.{text_of}
+use Rattle.lego_model.specs.Application.{index, names, name}
+use Rattle.lego_model.specs.History.{own_acts, given_in, stimuli_in}
+use Rattle.lego_model.specs.ReferenceRun.{text_of}
 use Rattle.run_laws.specs.DialogueLaws.{others_at_once}
 use Rattle.run_laws.specs.LastReport.{SameKeys, flow_lines, table_lines, shown_text, last_text, last_lines, OnlyAsked, JoinedWith}
 

@@ -13,13 +13,13 @@ use Rattle.outside.specs.State.{State, is_running, switch_of, after_act, after_s
 use Rattle.outside.specs.Calls.{end_steps, Ends}
 use Rattle.outside.specs.CallLaws.{Ends-state}
 use Rattle.std.specs.List.{AllByRecursion}
-use Rattle.promise.specs.Orderly.{IsOrderly}
-use Rattle.journal_laws.specs.Readings.{starts_in, replies_in, ReadsSame, end_part}
+use Rattle.lego_model.specs.OrderlySteps.{IsOrderly}
+use Rattle.journal_laws.specs.Readings.{ReadsSame, end_part}
+use Rattle.lego_model.specs.History.{starts_in, replies_in, own_acts, given_in, stimuli_in}
 use Rattle.journal_laws.specs.ReadingLaws.{part_read}
 use Rattle.app_visor.specs.DialogueLaws.{converses_ended}
 use Rattle.run_laws.specs.DialogueLaws.{at_once_then, runs_now}
-use Rattle.promise.specs.Application.{index}
-use Rattle.promise.specs.History.{own_acts, given_in, stimuli_in}
+use Rattle.lego_model.specs.Application.{index}
 use Rattle.run_laws.specs.LastReport.{OnlyAsked}
 use Rattle.run_laws.specs.Endings.{Leaves}
 

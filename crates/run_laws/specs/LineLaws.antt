@@ -12,7 +12,7 @@ use Rattle.lego_model.specs.RunReport.{event_line, start_line, gone_line as gone
 use Rattle.app_visor.specs.declared.state.TurnEnd.{TurnEnd}
 use Rattle.app_visor.specs.declared.state.TurnEnd.TheVariants as ends
 use Rattle.app_visor.specs.Turns.{IsEnd}
-use Rattle.promise.specs.Application.{names, name}
+use Rattle.lego_model.specs.Application.{names, name}
 use Rattle.run_laws.specs.Facts.{gone_text, starts_text, turn_word}
 use Rattle.run_laws.specs.LastReport.{lines_text}
 

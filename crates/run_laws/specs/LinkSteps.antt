@@ -9,7 +9,7 @@ use Rattle.outside.specs.declared.step.WorldStep.TheVariants.{Acted, SendFailed,
 use Rattle.outside.specs.Seen.{journal, Seen}
 use Rattle.outside.specs.State.{State, event_number, after_step}
 use Rattle.app_visor.specs.Talks.{step_of}
-use Rattle.promise.specs.History.{own_acts, given_in, stimuli_in}
+use Rattle.lego_model.specs.History.{own_acts, given_in, stimuli_in}
 
 -- all but the switches stands as it stood
 pub record OnlyLinks (s t : State) : Type 0 where

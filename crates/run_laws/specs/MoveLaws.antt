@@ -9,10 +9,9 @@ use Rattle.lego_model.specs.Controller.{Run}
 use Rattle.lego_model.specs.ScriptedLaws.{fronts-parts, start_fronts-parts, drop-parts}
 use Rattle.outside.specs.Seen.{Seen, Continues}
 use Rattle.outside.specs.StateLaws.{Conforming-before}
-use Rattle.journal_laws.specs.Readings.{starts_in, replies_in}
+use Rattle.lego_model.specs.History.{starts_in, replies_in, own_acts, stimuli_in}
 use Rattle.run_laws.specs.Engine.{Engine, Stands}
-use Rattle.promise.specs.History.{own_acts, stimuli_in}
-use Rattle.promise.specs.ReferenceRun.{text_of}
+use Rattle.lego_model.specs.ReferenceRun.{text_of}
 use Rattle.run_laws.specs.Moves.{Settled, Moves, Moved, Shown}
 
 pub moves-none : {Own : Type 0} (seen : Seen Own) (e : Engine) → Moves [] (λ r. r) [] seen seen e e

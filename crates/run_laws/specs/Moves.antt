@@ -9,14 +9,14 @@ use Rattle.lego_model.specs.Controller.{Run, settle, happen}
 use Rattle.outside.specs.Seen.{Seen, journal}
 use Rattle.outside.specs.Conforming.{Conforming}
 use Rattle.std.specs.List.{AllByRecursion}
-use Rattle.promise.specs.Orderly.{IsOrderly}
-use Rattle.journal_laws.specs.Readings.{starts_in, replies_in, LastStands}
+use Rattle.lego_model.specs.OrderlySteps.{IsOrderly}
+use Rattle.journal_laws.specs.Readings.{LastStands}
+use Rattle.lego_model.specs.History.{starts_in, replies_in, own_acts, stimuli_in}
 use Rattle.lego_model.specs.AtOnce.{Passes, AtOnce}
 use Rattle.batch_laws.specs.Calm.{Calm}
 use Rattle.run_laws.specs.Engine.{Engine, Stands}
-use Rattle.promise.specs.Application.{index}
-use Rattle.promise.specs.History.{own_acts, stimuli_in}
-use Rattle.promise.specs.ReferenceRun.{text_of, rounds}
+use Rattle.lego_model.specs.Application.{index}
+use Rattle.lego_model.specs.ReferenceRun.{text_of, rounds}
 use Rattle.run_laws.specs.Readings.{JudgesAlike}
 
 -- A part of a run with these stimuli and this text: what the journal tells is longer by these starts and replies, and wherever engine and

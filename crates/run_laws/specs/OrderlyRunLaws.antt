@@ -18,10 +18,10 @@ use Rattle.app_visor.specs.Talks.{Told, step_of, give_act}
 use Rattle.app_visor.specs.Beats.{Beat, Talk, Asks, Chain}
 use Rattle.app_visor.specs.Attempts.{IsTry, OneTry, AreTries, end_acts}
 use Rattle.switch_laws.specs.Orderly.{OrderlySince}
-use Rattle.promise.specs.Orderly.{IsOrderly}
+use Rattle.lego_model.specs.OrderlySteps.{IsOrderly}
 use Rattle.switch_laws.specs.OrderlyLaws.{orderly-same, orderly-then, exchange-orderly, undo-orderly}
 use Rattle.run_laws.specs.Engine.{Engine}
-use Rattle.promise.specs.Application.{index}
+use Rattle.lego_model.specs.Application.{index}
 use Rattle.run_laws.specs.Facts.{StartsAgain, IsClosed, TakesTurn, IsTurn}
 use Rattle.run_laws.specs.Readings.{AreRead}
 use Rattle.run_laws.specs.ChainLaws.{try_own}

@@ -6,7 +6,7 @@ use Rattle.flow_table.specs.declared.view.TableView.{TableView}
 use Rattle.lego_model.specs.Places.{Place}
 use Rattle.outside.specs.Seen.{Seen, Longer}
 use Rattle.outside.specs.Conforming.{Conforming}
-use Rattle.promise.specs.History.{stimuli_in}
+use Rattle.lego_model.specs.History.{stimuli_in}
 use Rattle.run_laws.specs.Readings.{JudgesAlike}
 
 -- a run takes fewer stimuli than this

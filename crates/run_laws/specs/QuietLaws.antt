@@ -16,7 +16,7 @@ use Rattle.outside.specs.State.{Link, State, Mark, link_of, switch_in, switch_of
 use Rattle.outside.specs.Conforming.{AreDeclaredFrom}
 use Rattle.switch_laws.specs.Standing.{declared_in}
 use Rattle.switch_laws.specs.Shown.{flags_at, places, shown_places}
-use Rattle.promise.specs.History.{quiet_by}
+use Rattle.lego_model.specs.History.{quiet_by}
 
 -- ---- Lists of quiet places
 

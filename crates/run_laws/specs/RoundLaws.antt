@@ -8,9 +8,9 @@ use Rattle.lego_model.specs.Controller.{settle, happen}
 use Rattle.outside.specs.Seen.{Seen, Continues}
 use Rattle.outside.specs.StateLaws.{Conforming-before}
 use Rattle.run_laws.specs.Engine.{Engine}
-use Rattle.promise.specs.History.{stimuli_in}
+use Rattle.lego_model.specs.History.{stimuli_in}
 use Rattle.run_laws.specs.Moves.{Moved, Shown, ShownIdle, ShownOver, ShownRounds, ShownToEnd}
-use Rattle.promise.specs.ReferenceRun.{round, rounds}
+use Rattle.lego_model.specs.ReferenceRun.{round, rounds}
 use Rattle.run_laws.specs.MoveLaws.{moved-none, moved-then, moved-as}
 
 -- no round

@@ -3,7 +3,7 @@ use Rattle.std.proofs.Common.{◌≡◌, ℕ, zero, suc, ◌+◌, Bool, true, fa
 use Rattle.app_frames.specs.declared.frame.Event.{Event}
 use Rattle.lego_model.specs.Places.{Place}
 use Rattle.lego_model.specs.Controller.{App, Run, turn, says_stop, given_to, restart_lines, marked, dispatch, settle_first, settle, per_batch, Ended, Dispatched}
-use Rattle.promise.specs.ReferenceRun.{next_dispatched, dispatch_next, times}
+use Rattle.lego_model.specs.ReferenceRun.{next_dispatched, dispatch_next, times}
 
 abbrev queued : List Event → Run → Run
 queued q r = record r { queue = q }

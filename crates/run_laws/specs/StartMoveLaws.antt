@@ -16,8 +16,8 @@ use Rattle.outside.specs.State.{state}
 use Rattle.app_visor.specs.Attempts.{OneTry, AreTries, restored, restarted, starts_of, given_by, tries_of}
 use Rattle.turn_laws.specs.ChainLaws.{shown-same}
 use Rattle.run_laws.specs.Engine.{Engine, app_at}
-use Rattle.promise.specs.Application.{index, budget}
-use Rattle.promise.specs.History.{given_in}
+use Rattle.lego_model.specs.Application.{index, budget}
+use Rattle.lego_model.specs.History.{given_in}
 use Rattle.run_laws.specs.Facts.{StartsAgain}
 use Rattle.run_laws.specs.Readings.{AreRead}
 use Rattle.run_laws.specs.CalmLaws.{calm_talk}

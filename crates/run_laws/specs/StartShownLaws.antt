@@ -9,13 +9,12 @@ use Rattle.lego_model.specs.Controller.{App, Line, Run, Started, gone_line, star
 use Rattle.lego_model.specs.RunReport.{line_text}
 use Rattle.outside.specs.Seen.{Given, Seen}
 use Rattle.outside.specs.State.{Mark, state}
-use Rattle.journal_laws.specs.Readings.{replies_in}
+use Rattle.lego_model.specs.History.{replies_in, own_acts, stimuli_in, given_in, quiet_by}
 use Rattle.switch_laws.specs.Shown.{shown_places}
 use Rattle.switch_laws.specs.OrderlyLaws.{orderly-whole}
 use Rattle.run_laws.specs.Engine.{Engine, Stands, app_at}
-use Rattle.promise.specs.Application.{index, names}
-use Rattle.promise.specs.History.{own_acts, stimuli_in, given_in, quiet_by}
-use Rattle.promise.specs.ReferenceRun.{text_of, all_started}
+use Rattle.lego_model.specs.Application.{index, names}
+use Rattle.lego_model.specs.ReferenceRun.{text_of, all_started}
 use Rattle.run_laws.specs.Facts.{StartsAgain}
 use Rattle.run_laws.specs.StartMoveLaws.{starts_alike}
 use Rattle.run_laws.specs.EventLaws.{are-read}

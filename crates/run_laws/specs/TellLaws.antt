@@ -15,8 +15,8 @@ use Rattle.net_txn.specs.Net.{NetState}
 use Rattle.app_visor.specs.Talks.{step_of}
 use Rattle.app_visor.specs.Beats.{Beat, Talk, Asks, Chain, acts_in}
 use Rattle.app_visor.specs.Attempts.{end_acts, restored, IsTry, OneTry, AreTries, given_by}
-use Rattle.promise.specs.Application.{index}
-use Rattle.promise.specs.History.{given_in, stimuli_in}
+use Rattle.lego_model.specs.Application.{index}
+use Rattle.lego_model.specs.History.{given_in, stimuli_in}
 use Rattle.run_laws.specs.ChainLaws.{exchange_links, links_tell, try_own, try_given}
 use Rattle.run_laws.specs.LinkSteps.{TellsGiven}
 

@@ -37,10 +37,10 @@ use Rattle.switch_laws.specs.Sound.{Sound}
 use Rattle.switch_laws.specs.ShownUndoLaws.{undo-shown}
 use Rattle.turn_laws.specs.ChainLaws.{turn-shown}
 use Rattle.batch_laws.specs.Calm.{Calm}
-use Rattle.journal_laws.specs.Readings.{starts_in, replies_in, LastStands}
+use Rattle.journal_laws.specs.Readings.{LastStands}
+use Rattle.lego_model.specs.History.{starts_in, replies_in, own_acts, given_in}
 use Rattle.run_laws.specs.Engine.{Engine, app_at}
-use Rattle.promise.specs.Application.{index, budget, name}
-use Rattle.promise.specs.History.{own_acts, given_in}
+use Rattle.lego_model.specs.Application.{index, budget, name}
 use Rattle.run_laws.specs.Facts.{turn_word, IsClosed, TakesTurn}
 use Rattle.run_laws.specs.Readings.{AreRead, JudgesAlike}
 use Rattle.run_laws.specs.FrameLaws.{event_numbered}

@@ -6,7 +6,7 @@ use Rattle.lego_model.specs.Places.{Place}
 use Rattle.lego_model.specs.Controller.{Run, settle}
 use Rattle.outside.specs.Seen.{Seen}
 use Rattle.run_laws.specs.Engine.{Engine, Stands}
-use Rattle.promise.specs.ReferenceRun.{text_of, rounds, all_started, reference_said, AreSaid}
+use Rattle.lego_model.specs.ReferenceRun.{text_of, rounds, all_started, reference_said, AreSaid}
 
 -- the whole run of the reference controller
 abbrev pub whole : (List Place → Bool) → List WorldStim → Run → Run

@@ -9,11 +9,10 @@ use Rattle.lego_model.specs.Scripted.{AreFronts, AreStartFronts}
 use Rattle.lego_model.specs.ScriptedLaws.{fronts-refl, start_fronts-refl}
 use Rattle.lego_model.specs.Controller.{App, Run, reference}
 use Rattle.outside.specs.Seen.{Given, Seen}
-use Rattle.journal_laws.specs.Readings.{starts_in, replies_in}
+use Rattle.lego_model.specs.History.{starts_in, replies_in, own_acts, stimuli_in}
 use Rattle.run_laws.specs.Engine.{Engine, Stands}
-use Rattle.promise.specs.Application.{index}
-use Rattle.promise.specs.History.{own_acts, stimuli_in}
-use Rattle.promise.specs.ReferenceRun.{text_of, fresh, before_start, reference_said, AreSaid}
+use Rattle.lego_model.specs.Application.{index}
+use Rattle.lego_model.specs.ReferenceRun.{text_of, fresh, before_start, reference_said, AreSaid}
 use Rattle.run_laws.specs.Moves.{Moves}
 use Rattle.run_laws.specs.FirstLaws.{no-acts, stands-first}
 use Rattle.run_laws.specs.First.{IsOpened, engine_at_first}

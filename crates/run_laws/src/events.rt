@@ -9,10 +9,10 @@ ghost use Rattle.outside.specs.Seen.{Seen, Continues};
 ghost use Rattle.outside.specs.Conforming.{Conforming};
 ghost use Rattle.journal_laws.specs.Readings.{LastStands};
 ghost use Rattle.run_laws.specs.Engine.{Engine};
-ghost use Rattle.promise.specs.History.{own_acts};
+ghost use Rattle.lego_model.specs.History.{own_acts};
 ghost use Rattle.run_laws.specs.Facts.{StartsAgain, TakesTurn, Dispatches};
 ghost use Rattle.run_laws.specs.Moves.{Moves};
-ghost use Rattle.promise.specs.ReferenceRun.{dispatch_next};
+ghost use Rattle.lego_model.specs.ReferenceRun.{dispatch_next};
 ghost use Rattle.run_laws.specs.Readings.{AreRead, JudgesAlike};
 ghost use Rattle.run_laws.specs.EventMoves.{StartsAlike, TurnMoves};
 

@@ -13,19 +13,19 @@ ghost use Rattle.outside.specs.Conforming.{Conforming};
 ghost use Rattle.net_txn.specs.Net.{NetState};
 ghost use Rattle.batch_laws.specs.InBatch.{BatchDone, BatchOver};
 ghost use Rattle.run_laws.specs.Engine.{Engine, engine_then};
-ghost use Rattle.promise.specs.Application.{index};
-ghost use Rattle.promise.specs.History.{stimuli_in};
+ghost use Rattle.lego_model.specs.Application.{index};
+ghost use Rattle.lego_model.specs.History.{stimuli_in};
 ghost use Rattle.run_laws.specs.Facts.{Dispatches};
 ghost use Rattle.run_laws.specs.Readings.{JudgesAlike};
 ghost use Rattle.run_laws.specs.Moves.{Settled, Moved, Shown, OneHappens};
-ghost use Rattle.promise.specs.ReferenceRun.{dispatch_next, all_started};
+ghost use Rattle.lego_model.specs.ReferenceRun.{dispatch_next, all_started};
 ghost use Rattle.run_laws.specs.First.{IsOpened, engine_at_first};
 ghost use Rattle.run_laws.specs.Promise.{most_rounds};
-ghost use Rattle.promise.specs.WholeRun.{EndsAlike, LeavesAlike};
+ghost use Rattle.lego_model.specs.WholeRun.{EndsAlike, LeavesAlike};
 ghost use Rattle.run_laws.specs.Endings.{Leaves, RanOut, RanFull};
 ghost use Rattle.run_laws.specs.LastReport.{last_text};
 ghost use Rattle.run_laws.specs.Cut.{GoneSoFar};
-ghost use Rattle.promise.specs.CutRun.{CutSo, WritingSo};
+ghost use Rattle.lego_model.specs.CutRun.{CutSo, WritingSo};
 
 use outside::World;
 

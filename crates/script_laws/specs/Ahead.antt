@@ -11,7 +11,7 @@ use Rattle.outside.specs.declared.step.WorldStep.{WorldStep}
 use Rattle.outside.specs.declared.step.WorldStep.TheVariants.{TookInto}
 use Rattle.sim_world.specs.Scripts.{start_or_ready, turn_or_plain, steps_of_start, is_refused, given_of, left_of, taken_bytes}
 use Rattle.lego_model.specs.Scripted.{starts_said, replies_said, AreFronts, AreStartFronts}
-use Rattle.journal_laws.specs.Readings.{starts_in, replies_in}
+use Rattle.lego_model.specs.History.{starts_in, replies_in}
 use Rattle.script_laws.specs.Looks.{Looks}
 
 -- ---- How much is taken at once

@@ -9,7 +9,7 @@ use Rattle.app_frames.specs.declared.script.StartScript.{StartScript}
 use Rattle.app_frames.specs.declared.script.StartScript.TheVariants as start
 use Rattle.lego_model.specs.Journal.{Asked, Start, Reply, in_attempts, in_turns, is_event, any_gone, start_of, reply_of}
 use Rattle.lego_model.specs.Scripted.{reply_said, start_said, starts_said, replies_said, IsFront, IsStartFront}
-use Rattle.journal_laws.specs.Readings.{starts_in, replies_in}
+use Rattle.lego_model.specs.History.{starts_in, replies_in}
 use Rattle.sim_world.specs.Scripts.{steps_of_start, is_refused, given_of}
 use Rattle.sim_world.specs.ScriptLaws.{done_bytes-spelled}
 use Rattle.script_laws.specs.Ahead.{Ahead, start_ahead, turn_ahead, after, May, Goes, hand, replies_now, StartsSo, RepliesSo, Reads}

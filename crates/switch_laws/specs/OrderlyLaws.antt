@@ -42,7 +42,7 @@ use Rattle.net_txn.specs.Undos.{Part, Inverse, Settled, Stuck, part_steps, steps
 use Rattle.net_txn.specs.NoticeLaws.{kind_of_header}
 use Rattle.switch_laws.specs.AskedLaws.{asked}
 use Rattle.switch_laws.specs.Orderly.{OrderlySince}
-use Rattle.promise.specs.Orderly.{IsOrderlyAct, IsOrderly}
+use Rattle.lego_model.specs.OrderlySteps.{IsOrderlyAct, IsOrderly}
 
 -- ---- Messages of another type than PACKET_OUT (13)
 

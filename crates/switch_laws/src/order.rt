@@ -10,7 +10,7 @@ ghost use Rattle.net_txn.specs.Net.{NetState};
 ghost use Rattle.net_txn.specs.Changes.{Changes};
 ghost use Rattle.net_txn.specs.Undos.{Undoes};
 ghost use Rattle.switch_laws.specs.Orderly.{OrderlySince};
-ghost use Rattle.promise.specs.Orderly.{IsOrderly};
+ghost use Rattle.lego_model.specs.OrderlySteps.{IsOrderly};
 
 use outside::World;
 

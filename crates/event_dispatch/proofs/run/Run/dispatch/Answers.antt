@@ -7,7 +7,7 @@ use Rattle.event_dispatch.specs.TalkingLaws.{goes_none, goes_turn, holds_on_err,
 use Rattle.event_dispatch.specs.Shows.{engine_of}
 use Rattle.std.proofs.lemmas.Result.{on_ok_weaker}
 use Rattle.app_visor.specs.CalmLaws.{calm_none, calm_later}
-use Rattle.promise.specs.Application.{index}
+use Rattle.lego_model.specs.Application.{index}
 use Rattle.event_dispatch.specs.SteadyLaws.{places_none, reads_none, quietly_none, quietly_here}
 use Rattle.event_dispatch.specs.DispatchPlaceLaws.{places_as, reads_over, later_here}
 use Rattle.event_dispatch.proofs.run.Run.dispatch.Goals as goal

@@ -11,11 +11,10 @@ use Rattle.lego_model.specs.Controller.{Run, happen}
 use Rattle.lego_model.specs.RunReport.{run_report}
 use Rattle.lego_model.specs.AtOnce.{AtOnce}
 use Rattle.outside.specs.Seen.{Seen, journal}
-use Rattle.journal_laws.specs.Readings.{starts_in, replies_in}
-use Rattle.promise.specs.Orderly.{IsOrderly}
-use Rattle.promise.specs.Application.{index, names}
-use Rattle.promise.specs.History.{own_acts, stimuli_in}
-use Rattle.promise.specs.ReferenceRun.{text_of, dispatch_next, times, rounds, AreSaid, fresh, before_start, all_started, RunsAlike}
+use Rattle.lego_model.specs.History.{starts_in, replies_in, own_acts, stimuli_in}
+use Rattle.lego_model.specs.OrderlySteps.{IsOrderly}
+use Rattle.lego_model.specs.Application.{index, names}
+use Rattle.lego_model.specs.ReferenceRun.{text_of, dispatch_next, times, rounds, AreSaid, fresh, before_start, all_started, RunsAlike}
 use Rattle.outside.specs.declared.step.WorldStep.{WorldStep}
 
 -- ---- The reference controller in the middle of a run

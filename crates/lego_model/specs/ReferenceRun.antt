@@ -7,10 +7,9 @@ use Rattle.lego_model.specs.Places.{Place}
 use Rattle.lego_model.specs.Scripted.{AreFronts, AreStartFronts}
 use Rattle.lego_model.specs.Controller.{App, Run, quiet_of, start_all, reference, dispatch, settle, happen}
 use Rattle.outside.specs.Seen.{Seen}
-use Rattle.journal_laws.specs.Readings.{starts_in, replies_in}
+use Rattle.lego_model.specs.History.{starts_in, replies_in, own_acts, stimuli_in, given_in, quiets_in, last_quiet}
 use Rattle.lego_model.specs.Agreement.{AgreeQuiets}
-use Rattle.promise.specs.History.{own_acts, stimuli_in, given_in, quiets_in, last_quiet}
-use Rattle.promise.specs.Application.{budget, names}
+use Rattle.lego_model.specs.Application.{budget, names}
 use Rattle.of_types.specs.declared.journal.WorldStim.{WorldStim}
 use Rattle.app_frames.specs.declared.frame.Event.{Event}
 use Rattle.lego_model.specs.RunReport.{line_text}

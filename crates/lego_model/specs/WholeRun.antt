@@ -9,10 +9,10 @@ use Rattle.lego_model.specs.RunReport.{run_report}
 use Rattle.lego_model.specs.Journal.{Reply, Start, released}
 use Rattle.lego_model.specs.Controller.{Run}
 use Rattle.outside.specs.Seen.{Seen, journal}
-use Rattle.promise.specs.Orderly.{IsOrderly}
+use Rattle.lego_model.specs.OrderlySteps.{IsOrderly}
 use Rattle.lego_model.specs.AtOnce.{AtOnce}
-use Rattle.promise.specs.Application.{index, names}
-use Rattle.promise.specs.ReferenceRun.{text_of, reference_of, reference_said, AreSaid, RunsAlike}
+use Rattle.lego_model.specs.Application.{index, names}
+use Rattle.lego_model.specs.ReferenceRun.{text_of, reference_of, reference_said, AreSaid, RunsAlike}
 
 -- All was dispatched, as in this run of the reference controller, and the report is its whole one.
 pub record EndsAs {Own : Type 0} (seen : Seen Own) (contents now_contents : Option (List ℕ)) (events : ℕ) (r : Run) : Type 0 where
