@@ -8,7 +8,6 @@ use Rattle.std.proofs.lemmas.Bool.{eq-eqb, eqb-true}
 use Rattle.of_types.specs.declared.journal.Act.{Act}
 use Rattle.of_types.specs.declared.journal.Act.TheVariants.{Stim, Started, Gave, Gone, Took, Ended, Sent, Got}
 use Rattle.of_types.specs.declared.journal.TookWhat.TheVariants as took
-use Rattle.app_frames.specs.declared.cause.Tried.{Tried}
 use Rattle.lego_model.specs.Journal.{is_of, is_event}
 use Rattle.lego_model.specs.Controller.{restore_frame}
 use Rattle.outside.specs.declared.step.WorldStep.{WorldStep}
@@ -24,9 +23,9 @@ use Rattle.app_visor.specs.declared.came.Came.TheVariants as comes
 use Rattle.app_visor.specs.Talks.{step_of, Told, Wants, give_act}
 use Rattle.app_visor.specs.Reads.{takes, Taken, CameSo, Comes, Breaks}
 use Rattle.app_visor.specs.ReadLaws.{within_takes}
-use Rattle.app_visor.specs.Attempts.{end_acts, Greets, EndsUnless, Tries}
+use Rattle.app_visor.specs.Attempts.{end_acts, EndsUnless}
 use Rattle.app_visor.specs.AttemptLaws.{Adds-takes, Adds-ended}
-use Rattle.app_visor.specs.ReadTryLaws.{calls_end, calls_try}
+use Rattle.app_visor.specs.ReadTryLaws.{calls_end}
 use Rattle.app_visor.specs.TellingLaws.{no_number}
 use Rattle.app_visor.specs.CallsFor.{IsCallFor, CallsFor, OwnSteps, Calmly}
 
@@ -96,14 +95,6 @@ pub own_breaking : {Own : Type 0} {Tells : Type 0} {app : ℕ} {rest : List ℕ}
 own_breaking {app = app} breaks tells = own_then (own_taken breaks.taken tells) (own_wanting app breaks.wants tells)
 
 -- ---- Attempts to start
-
-pub own_greeted : {Own : Type 0} {Tells : Type 0} {app : ℕ} {tried : Tried} {unread : List ℕ} {old new : Seen Own} → Greets Tells app tried unread old new → Tells → OwnSteps app old new
-own_greeted {app = app} {old = old} {new = new} greets tells = own_by app greets.acts old new (greets.history tells) (calls_within app greets.acts greets.within)
-
-pub own_tried : {Own : Type 0} {Tells : Type 0} {app : ℕ} {tried : Tried} {rest : List ℕ} {old new : Seen Own} → Tries Tells app tried rest old new → Tells → OwnSteps app old new
-own_tried {app = app} {old = old} {new = new} tries tells =
-    let runs = is_running app (state old) in
-    own_by app (end_acts runs app ++ Started app tries.attempt.stands ∷ tries.attempt.acts) old new (tries.is.history tells) (calls_try app runs tries.attempt tries.is.within)
 
 -- ---- What they are not
 

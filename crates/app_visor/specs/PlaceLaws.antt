@@ -13,7 +13,7 @@ use Rattle.outside.specs.State.{Link, State, state, after_step, is_joined, switc
 use Rattle.outside.specs.StateLaws.{state-append}
 use Rattle.outside.specs.InOrder.{brings_message, BringMessages, MessagesSince, InOrder}
 use Rattle.outside.specs.InOrderLaws.{InOrder-before, messages-by, messages-none, messages-then}
-use Rattle.net_txn.specs.declared.fault.TxnFault.{TxnFault}
+use Rattle.lego_model.specs.declared.fault.TxnFault.{TxnFault}
 use Rattle.net_txn.specs.Net.{NetState}
 use Rattle.net_txn.specs.Views.{rows_at}
 use Rattle.net_txn.specs.LinkSteps.{IsLinkInPlace, AreLinksInPlace, StaysInPlace}

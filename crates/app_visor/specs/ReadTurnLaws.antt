@@ -11,11 +11,11 @@ use Rattle.outside.specs.declared.step.WorldStep.{WorldStep}
 use Rattle.outside.specs.Seen.{Seen, journal}
 use Rattle.outside.specs.State.{State, state, after_act, after_step}
 use Rattle.outside.specs.StateLaws.{state-append}
-use Rattle.net_txn.specs.declared.heard.Awaited.{Awaited}
-use Rattle.net_txn.specs.declared.heard.Heard.{Heard}
-use Rattle.net_txn.specs.declared.heard.Heard.TheVariants as hearing
+use Rattle.lego_model.specs.declared.wait.Awaited.{Awaited}
+use Rattle.lego_model.specs.declared.wait.Heard.{Heard}
+use Rattle.lego_model.specs.declared.wait.Heard.TheVariants as hearing
 use Rattle.net_txn.specs.Net.{NetState, awaited_from}
-use Rattle.net_txn.specs.Waits.{heard, steps_by, wait_steps, echo_reply, reply_got, barrier_sent}
+use Rattle.lego_model.specs.BarrierWaits.{heard, steps_by, wait_steps, echo_reply, reply_got, barrier_sent}
 use Rattle.net_txn.specs.Changes.{known_rows, change_sent}
 use Rattle.journal_laws.specs.Readings.{Within, LastStands}
 use Rattle.lego_model.specs.History.{starts_in, replies_in}

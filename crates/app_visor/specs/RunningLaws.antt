@@ -144,8 +144,3 @@ dialogue_in_place app steps s t st d runs = (dialogue_tells app steps s t st d r
 -- what it tells then, where it told so before
 pub converses_runs : {Own : Type 0} (app : ℕ) (s t : Before) (old new : Seen Own) → Converses app s t old new → new.given ≡ old.given → s.running ≡ is_running app (state old) → t.running ≡ is_running app (state new)
 converses_runs app s t old new c given runs = dialogue_runs app c.steps s t (state old) c.dialogue runs ∙ ap (λ (st : State). is_running app st) (sym (state-append old new c.steps given c.history))
-
--- the step behind some steps is in place
-pub in_place_behind : (app : ℕ) (front : List WorldStep) (step : WorldStep) (rest : List WorldStep) (s : State) → AreInPlace app (front ++ step ∷ rest) s → IsInPlace app (act_of step) (is_running app (after_steps front s))
-in_place_behind app [] step rest s are = are.0
-in_place_behind app (x ∷ front) step rest s are = in_place_behind app front step rest (after_step x s) are.1

@@ -33,11 +33,11 @@ use Rattle.outside.specs.SeenLaws.{journal-append}
 use Rattle.outside.specs.State.{Link, State, link_of, waits_in, switch_in, waits_of, switch_of, upcoming, with_link, switch_told, message_sends, link_sent, link_told, after_act, after_step, after_steps, state}
 use Rattle.outside.specs.StateLaws.{state-append}
 use Rattle.outside.specs.Conforming.{AreDeclaredFrom, Conforming}
-use Rattle.net_txn.specs.declared.heard.Awaited.{Awaited}
-use Rattle.net_txn.specs.declared.heard.Heard.{Heard}
-use Rattle.net_txn.specs.declared.heard.Heard.TheVariants.{Reply, Refused, Notice, Echo, Other}
+use Rattle.lego_model.specs.declared.wait.Awaited.{Awaited}
+use Rattle.lego_model.specs.declared.wait.Heard.{Heard}
+use Rattle.lego_model.specs.declared.wait.Heard.TheVariants.{Reply, Refused, Notice, Echo, Other}
 use Rattle.net_txn.specs.Net.{NetState}
-use Rattle.net_txn.specs.Waits.{heard, steps_by, echo_reply, wait_steps, reply_got}
+use Rattle.lego_model.specs.BarrierWaits.{heard, steps_by, echo_reply, wait_steps, reply_got}
 use Rattle.net_txn.specs.Views.{rows_at}
 use Rattle.net_txn.specs.Arriving.{arrival_steps}
 use Rattle.net_txn.specs.Joining.{greeting, greeted_from}

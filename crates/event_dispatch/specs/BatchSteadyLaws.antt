@@ -14,7 +14,7 @@ use Rattle.outside.specs.InOrder.{InOrder}
 use Rattle.outside.specs.InOrderLaws.{InOrder-before, messages-none, messages-then}
 use Rattle.outside.specs.Quiet.{IsLastQuiet}
 use Rattle.outside.specs.QuietLaws.{unquiet-then, last_quiet-then}
-use Rattle.net_txn.specs.declared.fault.TxnFault.{TxnFault}
+use Rattle.lego_model.specs.declared.fault.TxnFault.{TxnFault}
 use Rattle.net_txn.specs.Net.{NetState}
 use Rattle.net_txn.specs.Views.{rows_at}
 use Rattle.net_txn.specs.LinkSteps.{OnLinks, StaysInPlace, AsksInPlace}

@@ -8,7 +8,7 @@ use Rattle.outside.specs.Seen.{Seen, Continues}
 use Rattle.outside.specs.State.{state}
 use Rattle.outside.specs.InOrder.{MessagesSince}
 use Rattle.outside.specs.InOrderLaws.{InOrder-before, messages-then}
-use Rattle.net_txn.specs.declared.fault.TxnFault.{TxnFault}
+use Rattle.lego_model.specs.declared.fault.TxnFault.{TxnFault}
 use Rattle.net_txn.specs.Net.{NetState}
 use Rattle.net_txn.specs.Views.{rows_at}
 use Rattle.net_txn.specs.LinkSteps.{OnLinks}

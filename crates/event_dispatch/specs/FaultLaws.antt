@@ -17,23 +17,26 @@ use Rattle.app_frames.specs.declared.frame.Answer.{Answer}
 use Rattle.outside.specs.declared.step.WorldStep.{WorldStep}
 use Rattle.outside.specs.declared.step.WorldStep.TheVariants.{Acted, From}
 use Rattle.outside.specs.Seen.{Counts, Seen, Continues}
-use Rattle.net_txn.specs.declared.fault.TxnFault.{TxnFault}
-use Rattle.net_txn.specs.declared.fault.TxnFault.TheVariants.{SwitchFault, SwitchBroke, Diverged, Flooded, NoMemory}
-use Rattle.net_txn.specs.declared.heard.Awaited.{Awaited}
-use Rattle.net_txn.specs.declared.heard.Heard.{Heard}
-use Rattle.net_txn.specs.declared.heard.Heard.TheVariants.{Reply, Refused, Notice, Echo, Other}
-use Rattle.net_txn.specs.Net.{NetState, next_xid, delete_strict, inverse_bytes}
+use Rattle.lego_model.specs.declared.fault.TxnFault.{TxnFault}
+use Rattle.lego_model.specs.declared.fault.TxnFault.TheVariants.{SwitchFault, SwitchBroke, Diverged, Flooded, NoMemory}
+use Rattle.lego_model.specs.declared.wait.Awaited.{Awaited}
+use Rattle.lego_model.specs.declared.wait.Heard.{Heard}
+use Rattle.lego_model.specs.declared.wait.Heard.TheVariants.{Reply, Refused, Notice, Echo, Other}
+use Rattle.net_txn.specs.Net.{NetState, delete_strict, inverse_bytes}
+use Rattle.lego_model.specs.BarrierWaits.{next_xid, flood, heard, kept_by, kept_of, steps_by, heard_steps, wait_steps, barrier_sent, reply_got}
 use Rattle.net_txn.specs.Arriving.{IsArrivalCause}
-use Rattle.net_txn.specs.Causes.{flood, EndsByGot, IsCause}
+use Rattle.net_txn.specs.Causes.{EndsByGot, IsCause}
 use Rattle.net_txn.specs.Joining.{greeting, greeted_from}
-use Rattle.net_txn.specs.Waits.{heard, kept_by, kept_of, steps_by, heard_steps, wait_steps, barrier_sent, reply_got, Floods, IfFlooded}
+use Rattle.net_txn.specs.Waits.{Floods, IfFlooded}
 use Rattle.net_txn.specs.Changes.{known_rows, answer_of_host, change_sent, IfGivenUp, Changes}
-use Rattle.net_txn.specs.Asks.{is_about, all_flows, flows_request, request_sent, asked_from, parts_in, refusals_in, IsRefusal, IsRepliesFault, IsAskCause, Asks}
+use Rattle.net_txn.specs.Asks.{IsRefusal, IsRepliesFault, IsAskCause, Asks}
+use Rattle.lego_model.specs.FlowQueries.{is_about, all_flows, flows_request, request_sent, asked_from, parts_in, refusals_in}
 use Rattle.net_txn.specs.Undos.{key_sent, key_refused, Part, Inverse, Settled, Stuck, part_steps, steps_of, parts_of, fault_in, first_fault_of, first_fault, inverses_of, IsFaultOf, IsRun, ended_by as undo_ended, Undoes}
 use Rattle.app_visor.specs.Beats.{Halts, Stops}
 use Rattle.app_visor.specs.BeatLaws.{Leads-continues}
 use Rattle.switch_laws.specs.AskedLaws.{asked}
-use Rattle.event_dispatch.specs.Why.{Happened, CameFrom, SentThenGot, rows_steps, came_for, IsBadPart, IsUnanswered, IsErrorFor, IsFlood, IsWhyTxn, IsWhy, fault_of, ended_by, IsReason, WhyMessage}
+use Rattle.event_dispatch.specs.Why.{IsWhy, fault_of, ended_by, IsReason, WhyMessage}
+use Rattle.lego_model.specs.SwitchFaults.{Happened, CameFrom, SentThenGot, rows_steps, came_for, IsBadPart, IsUnanswered, IsErrorFor, IsFlood, IsWhyTxn}
 use Rattle.event_dispatch.specs.WhyLaws.{happened_before, IsWhy-behind}
 
 -- ---- A flood

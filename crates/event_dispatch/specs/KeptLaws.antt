@@ -13,19 +13,21 @@ use Rattle.of_stats.specs.declared.flow_row.FlowRow.{FlowRow}
 use Rattle.app_frames.specs.declared.frame.Answer.{Answer}
 use Rattle.app_frames.specs.declared.frame.Event.{Event}
 use Rattle.outside.specs.Seen.{Counts, Seen}
-use Rattle.net_txn.specs.declared.fault.TxnFault.{TxnFault}
-use Rattle.net_txn.specs.declared.heard.Awaited.{Awaited}
-use Rattle.net_txn.specs.declared.heard.Heard.{Heard}
-use Rattle.net_txn.specs.declared.heard.Heard.TheVariants.{Reply, Refused, Notice, Echo, Other}
-use Rattle.net_txn.specs.declared.heard.Refusal.{Refusal}
+use Rattle.lego_model.specs.declared.fault.TxnFault.{TxnFault}
+use Rattle.lego_model.specs.declared.wait.Awaited.{Awaited}
+use Rattle.lego_model.specs.declared.wait.Heard.{Heard}
+use Rattle.lego_model.specs.declared.wait.Heard.TheVariants.{Reply, Refused, Notice, Echo, Other}
+use Rattle.lego_model.specs.declared.wait.Refusal.{Refusal}
 use Rattle.net_txn.specs.Net.{NetState}
 use Rattle.net_txn.specs.Place.{KeptWhereFit}
-use Rattle.net_txn.specs.Waits.{heard, kept_by, kept_of, IsRead, Waits as WaitsFor}
+use Rattle.net_txn.specs.Waits.{IsRead, Waits as WaitsFor}
+use Rattle.lego_model.specs.BarrierWaits.{heard, kept_by, kept_of}
 use Rattle.outside.specs.declared.step.WorldStep.{WorldStep}
 use Rattle.net_txn.specs.Changes.{known_rows, answer_of_host, Changes}
 use Rattle.net_txn.specs.Arriving.{net_after, Becomes, Arrives}
 use Rattle.net_txn.specs.Joining.{Joins}
-use Rattle.net_txn.specs.Asks.{is_about, other_in, others_in, Asks}
+use Rattle.net_txn.specs.Asks.{other_in, others_in, Asks}
+use Rattle.lego_model.specs.FlowQueries.{is_about}
 use Rattle.net_txn.specs.Undos.{Part, Inverse, Settled, Stuck, alone, parts_of, fault_in, first_fault_of, first_fault, IsRun, KeepsOne, Keeps, ended_by, Undoes}
 use Rattle.app_visor.specs.declared.state.TurnEnd.{TurnEnd}
 use Rattle.app_visor.specs.declared.state.TurnEnd.TheVariants as ends

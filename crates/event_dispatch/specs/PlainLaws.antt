@@ -13,8 +13,8 @@ use Rattle.outside.specs.Calls.{Nexts, item_step}
 use Rattle.outside.specs.State.{state, switch_of}
 use Rattle.outside.specs.StateLaws.{Conforming-before}
 use Rattle.outside.specs.Conforming.{Conforming}
-use Rattle.net_txn.specs.declared.fault.TxnFault.{TxnFault}
-use Rattle.net_txn.specs.declared.fault.TxnFault.TheVariants.{SwitchFault, SwitchBroke, Diverged, Flooded, NoMemory}
+use Rattle.lego_model.specs.declared.fault.TxnFault.{TxnFault}
+use Rattle.lego_model.specs.declared.fault.TxnFault.TheVariants.{SwitchFault, SwitchBroke, Diverged, Flooded, NoMemory}
 use Rattle.net_txn.specs.Causes.{IsPlainFault, IsPlain}
 use Rattle.net_txn.specs.Arriving.{IsArrivalCause}
 use Rattle.net_txn.specs.JoiningSteps.{JoinSteps}

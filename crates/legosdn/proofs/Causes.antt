@@ -6,9 +6,9 @@ use Rattle.outside.specs.Seen.{Counts, NoneFell, Seen, Longer}
 use Rattle.sim_world.specs.Scripts.{Scripts}
 use Rattle.sim_world.specs.World.{WorldData, seen_of}
 use Rattle.sim_world.specs.Building.{AreZero, IsNew}
-use Rattle.net_txn.specs.declared.fault.TxnFault.{TxnFault}
-use Rattle.net_txn.specs.declared.fault.TxnFault.TheVariants as faults
-use Rattle.event_dispatch.specs.Why.{IsWhyTxn}
+use Rattle.lego_model.specs.declared.fault.TxnFault.{TxnFault}
+use Rattle.lego_model.specs.declared.fault.TxnFault.TheVariants as faults
+use Rattle.lego_model.specs.SwitchFaults.{IsWhyTxn}
 use Rattle.event_dispatch.specs.WhyLaws.{IsWhyTxn-behind}
 use Rattle.lego_model.specs.SessionLines.{SessionValue}
 use Rattle.legosdn.specs.declared.stop.Refusal.{Refusal}

@@ -5,7 +5,7 @@ use Rattle.std.proofs.Math.Seq.{take-append-add}
 use Rattle.std.specs.Io.KnownBytes.{append_known}
 use Rattle.std.specs.Fmt.{decimal}
 use Rattle.lego_model.specs.declared.session.SessionFault.{SessionFault}
-use Rattle.lego_model.specs.Report.{line_of}
+use Rattle.lego_model.specs.RunReport.{line_of}
 use Rattle.legosdn.specs.declared.stop.Refusal.{Refusal}
 use Rattle.legosdn.specs.declared.stop.Refusal.TheVariants.{Session}
 use Rattle.legosdn.specs.Stops.{refusal_line, kind_word}

@@ -16,8 +16,8 @@ use Rattle.sim_world.specs.World.{WorldData, seen_of}
 use Rattle.lego_model.specs.Application.{index}
 use Rattle.lego_model.specs.History.{stimuli_in}
 use Rattle.lego_model.specs.WholeRun.{EndsAs, EndsAlike, LeavesAs, LeavesAlike}
-use Rattle.net_txn.specs.declared.fault.TxnFault.{TxnFault}
-use Rattle.event_dispatch.specs.Why.{IsWhyTxn}
+use Rattle.lego_model.specs.declared.fault.TxnFault.{TxnFault}
+use Rattle.lego_model.specs.SwitchFaults.{IsWhyTxn}
 use Rattle.lego_model.specs.CutRun.{NothingDone}
 use Rattle.lego_model.specs.SessionLines.{SessionValue}
 use Rattle.session_text.specs.Loading.{given_by}

@@ -3,7 +3,7 @@
 ghost use Rattle.std.specs.Prelude.{◌≡◌, ◌++◌, codes, OnOk, OnErr, decimal};
 ghost use Rattle.std.specs.Io.KnownBytes.{append_known};
 ghost use Rattle.lego_io.specs.Count.{Rose, NeverFell};
-ghost use Rattle.lego_model.specs.Report.{line_of};
+ghost use Rattle.lego_model.specs.RunReport.{line_of};
 ghost use Rattle.lego_io.specs.Sink.{TookPart};
 ghost use Rattle.legosdn.specs.Stops.{stop_status, stop_line, refusal_line, kind_word, stop_of_reading, stop_of_session, stop_of_switch};
 ghost use Rattle.legosdn.specs.declared.stop.Stop.TheVariants as stops;
@@ -76,7 +76,7 @@ impl Stop {
     }
 
     /// Writes the line, which takes no memory.
-    #[tactic(auto, unfolding(crate::specs::Stops::stop_line, lego_model::specs::Report::line_of))]
+    #[tactic(auto, unfolding(crate::specs::Stops::stop_line, lego_model::specs::RunReport::line_of))]
     pub fn write_line<K: Sink>(self, sink: &mut K) -> Result<(), WriteFault>
         ensures all { OnOk result (K.contents sink.new ≡ append_known (K.contents sink.old) (stop_line self)) }
         ensures part { OnErr result (TookPart (K.contents sink.old) (K.contents sink.new) (stop_line self)) }
@@ -101,7 +101,7 @@ impl Stop {
 
 impl Refusal {
     /// Writes the line, which takes no memory.
-    #[tactic(auto, unfolding(crate::specs::Stops::refusal_line, lego_model::specs::Report::line_of))]
+    #[tactic(auto, unfolding(crate::specs::Stops::refusal_line, lego_model::specs::RunReport::line_of))]
     fn write_line<K: Sink>(self, sink: &mut K) -> Result<(), WriteFault>
         ensures all { OnOk result (K.contents sink.new ≡ append_known (K.contents sink.old) (refusal_line self)) }
         ensures part { OnErr result (TookPart (K.contents sink.old) (K.contents sink.new) (refusal_line self)) }
@@ -148,7 +148,7 @@ fn write_numbered<K: Sink>(
 }
 
 /// What is wrong with a line of a session, as the end of a line.
-#[tactic(auto, unfolding(lego_model::specs::Report::line_of))]
+#[tactic(auto, unfolding(lego_model::specs::RunReport::line_of))]
 fn kind_end(kind: SessionKind) -> &'static str
     ensures { result.now ≡ line_of (codes " " ++ kind_word kind) }
 {

@@ -16,7 +16,7 @@ use Rattle.outside.specs.State.{state, switch_of, waits_of}
 use Rattle.outside.specs.StateLaws.{Conforming-rest}
 use Rattle.outside.specs.Conforming.{Conforming}
 use Rattle.undo_laws.specs.Removal.{without}
-use Rattle.net_txn.specs.declared.fault.TxnFault.{TxnFault}
+use Rattle.lego_model.specs.declared.fault.TxnFault.{TxnFault}
 use Rattle.net_txn.specs.Views.{rows_at, with_rows}
 use Rattle.net_txn.specs.ViewLaws.{rows_at-same, rows_at-other, with_rows-none}
 use Rattle.net_txn.specs.Arriving.{without_key}

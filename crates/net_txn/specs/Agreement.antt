@@ -16,7 +16,7 @@ use Rattle.outside.specs.declared.step.WorldStep.{WorldStep}
 use Rattle.outside.specs.Seen.{Seen, journal}
 use Rattle.outside.specs.State.{State, state, switch_of, waits_of}
 use Rattle.outside.specs.Conforming.{Conforming}
-use Rattle.net_txn.specs.declared.fault.TxnFault.{TxnFault}
+use Rattle.lego_model.specs.declared.fault.TxnFault.{TxnFault}
 use Rattle.net_txn.specs.Causes.{IsPlainFault}
 use Rattle.net_txn.specs.Net.{NetState}
 use Rattle.net_txn.specs.Changes.{known_rows, answer_of_host}

@@ -14,17 +14,18 @@ use Rattle.of_stats.specs.Parts.{IsFirstBad}
 use Rattle.outside.specs.declared.step.WorldStep.{WorldStep}
 use Rattle.outside.specs.declared.step.WorldStep.TheVariants.{Acted}
 use Rattle.outside.specs.Seen.{Seen}
-use Rattle.net_txn.specs.declared.fault.TxnFault.{TxnFault}
-use Rattle.net_txn.specs.declared.fault.TxnFault.TheVariants.{SwitchFault, SwitchBroke, Diverged, Flooded, NoMemory}
-use Rattle.net_txn.specs.declared.heard.Awaited.{Awaited}
-use Rattle.net_txn.specs.declared.heard.Refusal.{Refusal}
+use Rattle.lego_model.specs.declared.fault.TxnFault.{TxnFault}
+use Rattle.lego_model.specs.declared.fault.TxnFault.TheVariants.{SwitchFault, SwitchBroke, Diverged, Flooded, NoMemory}
+use Rattle.lego_model.specs.declared.wait.Awaited.{Awaited}
+use Rattle.lego_model.specs.declared.wait.Refusal.{Refusal}
 use Rattle.net_txn.specs.LinkSteps.{AsksInPlace}
 use Rattle.net_txn.specs.Causes.{IsCause}
-use Rattle.net_txn.specs.Waits.{Waits, IfFlooded, KeptMore, barrier_sent}
+use Rattle.net_txn.specs.Waits.{Waits, IfFlooded, KeptMore}
+use Rattle.lego_model.specs.BarrierWaits.{barrier_sent, next_xid}
 use Rattle.net_txn.specs.WaitLaws.{waits_kept}
 use Rattle.net_txn.specs.ChangeLaws.{kept_for}
-use Rattle.net_txn.specs.Net.{next_xid}
-use Rattle.net_txn.specs.Asks.{flows_request, request_sent, asked_from, is_about, part_in, parts_in, refusals_in, others_in, part_of, all_parts, WhyBroken, AreRowsOf, IsPartsFault, IsRepliesFault, Answered, GivesRows, IsAskCause}
+use Rattle.net_txn.specs.Asks.{others_in, AreRowsOf, IsPartsFault, IsRepliesFault, Answered, GivesRows, IsAskCause}
+use Rattle.lego_model.specs.FlowQueries.{flows_request, request_sent, asked_from, is_about, part_in, parts_in, refusals_in, part_of, all_parts, WhyBroken}
 
 abbrev of_switch : ℕ → List ℕ → ℕ × List ℕ
 of_switch d b = (d, b)

@@ -18,62 +18,28 @@ use Rattle.outside.specs.declared.step.WorldStep.{WorldStep}
 use Rattle.outside.specs.declared.step.WorldStep.TheVariants.{Acted}
 use Rattle.outside.specs.Seen.{Seen, Continues}
 use Rattle.outside.specs.InOrder.{MessagesSince}
-use Rattle.net_txn.specs.declared.fault.TxnFault.{TxnFault}
-use Rattle.net_txn.specs.declared.fault.TxnFault.TheVariants.{SwitchFault, SwitchBroke, Diverged, Flooded, NoMemory}
-use Rattle.net_txn.specs.declared.heard.Awaited.{Awaited}
-use Rattle.net_txn.specs.declared.heard.Refusal.{Refusal}
+use Rattle.lego_model.specs.declared.fault.TxnFault.{TxnFault}
+use Rattle.lego_model.specs.declared.fault.TxnFault.TheVariants.{SwitchFault, SwitchBroke, Diverged, Flooded, NoMemory}
+use Rattle.lego_model.specs.declared.wait.Awaited.{Awaited}
+use Rattle.lego_model.specs.declared.wait.Refusal.{Refusal}
 use Rattle.net_txn.specs.LinkSteps.{OnLinks, AsksInPlace}
 use Rattle.net_txn.specs.Causes.{IsCause}
-use Rattle.net_txn.specs.Waits.{Waits, IfFlooded, KeptMore, barrier_sent}
-use Rattle.net_txn.specs.Net.{next_xid}
+use Rattle.net_txn.specs.Waits.{Waits, IfFlooded, KeptMore}
+use Rattle.lego_model.specs.BarrierWaits.{barrier_sent, next_xid}
+use Rattle.lego_model.specs.FlowQueries.{flows_request, request_sent, asked_from, is_about, parts_in, refusals_in, all_parts, IsBroken}
 
 -- ---- The request: flows of any match, in all tables, whatever their outputs
-
-unfoldable pub all_flows : List ℕ
-all_flows = spelled (flow_query_fields (record { matching = match_of (bytes_of any_fields); table_id = 0xff; out_port = 0xffff }))
-
-abbrev pub flows_request : ℕ → List ℕ
-flows_request xid = message_bytes xid (StatsRequest (record { kind = 1; flags = 0; body = all_flows }))
-
-abbrev pub request_sent : ℕ → ℕ → WorldStep
-request_sent d xid = Acted (Sent d (flows_request xid))
-
--- the request is sent, and then a barrier; no refusal is awaited, so that an ERROR comes as a part does
-abbrev pub asked_from : ℕ → ℕ → Awaited
-asked_from d xid = record { dpid = d; first = next_xid xid; barrier = next_xid xid }
 
 -- ---- Which of the messages that came answer it: those of its transaction id that are a STATS_REPLY (17) or an ERROR (1), which both
 -- have 12 bytes at least.
 
-unfoldable pub is_about : ℕ → ℕ → List ℕ → Bool
-is_about xid kind bytes = nat_le 12 (length bytes) && (number_at 4 4 bytes == xid && number_at 1 1 bytes == kind)
-
-abbrev pub part_in : ℕ → ℕ × List ℕ → List (List ℕ)
-part_in xid m = if is_about xid 17 m.1 then m.1 ∷ [] else []
-
-abbrev pub refusal_in : ℕ → ℕ × List ℕ → List (List ℕ)
-refusal_in xid m = if is_about xid 1 m.1 then m.1 ∷ [] else []
-
 abbrev pub other_in : ℕ → ℕ × List ℕ → List (ℕ × List ℕ)
 other_in xid m = if is_about xid 17 m.1 || is_about xid 1 m.1 then [] else m ∷ []
-
-abbrev pub parts_in : ℕ → List (ℕ × List ℕ) → List (List ℕ)
-parts_in xid came = flat_map (part_in xid) came
-
-abbrev pub refusals_in : ℕ → List (ℕ × List ℕ) → List (List ℕ)
-refusals_in xid came = flat_map (refusal_in xid) came
 
 abbrev pub others_in : ℕ → List (ℕ × List ℕ) → List (ℕ × List ℕ)
 others_in xid came = flat_map (other_in xid) came
 
 -- ---- What parts say
-
--- type, flags and body
-unfoldable pub part_of : List ℕ → Part
-part_of bytes = (number_at 2 8 bytes, number_at 2 10 bytes, drop 12 bytes)
-
-abbrev pub all_parts : List (List ℕ) → List Part
-all_parts messages = map part_of messages
 
 -- a whole reply of flows, which spells these rows
 pub record AreRowsOf (messages : List (List ℕ)) (rows : List FlowRow) : Type 0 where
@@ -82,16 +48,6 @@ pub record AreRowsOf (messages : List (List ℕ)) (rows : List FlowRow) : Type 0
   pub read : rows_of (joined (all_parts messages)) ≡ Ok rows
   pub fit : AreRows rows
   pub spelled_so : SpellRows rows (joined (all_parts messages))
-
--- why a message is at fault: as a part, or by its type, or as the last one of a whole that spells no rows
-abbrev pub WhyBroken : List (List ℕ) → ℕ → Type 0
-WhyBroken messages place =
-    IsFirstBad place (all_parts messages)
-    ⊎ (IsWhole (all_parts messages) × ((part_at place (all_parts messages)).0 ≢ 1))
-    ⊎ (IsWhole (all_parts messages) × (place + 1 ≡ length messages) × IsErr (rows_of (joined (all_parts messages))))
-
-abbrev pub IsBroken : List (List ℕ) → List ℕ → Type 0
-IsBroken messages bytes = (place : ℕ) × (slice_get messages place ≡ Some bytes) × WhyBroken messages place
 
 -- of parts, one at least; memory may be wanting at any time
 abbrev pub IsPartsFault : ℕ → List (List ℕ) → TxnFault → Type 0

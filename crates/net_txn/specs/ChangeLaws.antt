@@ -19,10 +19,10 @@ use Rattle.outside.specs.declared.step.WorldStep.TheVariants.{Acted}
 use Rattle.outside.specs.Seen.{Seen, Continues}
 use Rattle.outside.specs.SeenLaws.{Continues-refl}
 use Rattle.outside.specs.InOrderLaws.{messages-none}
-use Rattle.net_txn.specs.declared.fault.TxnFault.{TxnFault}
-use Rattle.net_txn.specs.declared.fault.TxnFault.TheVariants.{SwitchFault, SwitchBroke, Diverged, Flooded, NoMemory}
-use Rattle.net_txn.specs.declared.heard.Awaited.{Awaited}
-use Rattle.net_txn.specs.declared.heard.Refusal.{Refusal}
+use Rattle.lego_model.specs.declared.fault.TxnFault.{TxnFault}
+use Rattle.lego_model.specs.declared.fault.TxnFault.TheVariants.{SwitchFault, SwitchBroke, Diverged, Flooded, NoMemory}
+use Rattle.lego_model.specs.declared.wait.Awaited.{Awaited}
+use Rattle.lego_model.specs.declared.wait.Refusal.{Refusal}
 use Rattle.net_txn.specs.LinkSteps.{OnLinks, AsksInPlace}
 use Rattle.net_txn.specs.LinkStepLaws.{OnLinks-refl}
 use Rattle.net_txn.specs.LinkPlaceLaws.{in_place_none}
@@ -31,7 +31,8 @@ use Rattle.net_txn.specs.Causes.{IsCause}
 use Rattle.flow_table.specs.declared.view.ViewRow.{ViewRow}
 use Rattle.flow_table.specs.declared.view.TableView.{TableView}
 use Rattle.net_txn.specs.declared.logged.Logged.{Logged}
-use Rattle.net_txn.specs.Waits.{Waits, Floods, IfFlooded, KeptMore, barrier_sent}
+use Rattle.net_txn.specs.Waits.{Waits, Floods, IfFlooded, KeptMore}
+use Rattle.lego_model.specs.BarrierWaits.{barrier_sent}
 use Rattle.net_txn.specs.Views.{rows_at, with_rows, with_added, rows_after}
 use Rattle.net_txn.specs.ViewLaws.{rows_at-stays}
 use Rattle.net_txn.specs.Net.{NetState, awaited_from, with_logged}

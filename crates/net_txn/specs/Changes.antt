@@ -17,15 +17,16 @@ use Rattle.outside.specs.declared.step.WorldStep.TheVariants.{Acted}
 use Rattle.outside.specs.Seen.{Seen, Continues}
 use Rattle.outside.specs.State.{state, is_joined}
 use Rattle.outside.specs.InOrder.{InOrder, MessagesSince}
-use Rattle.net_txn.specs.declared.fault.TxnFault.{TxnFault}
-use Rattle.net_txn.specs.declared.fault.TxnFault.TheVariants.{SwitchFault, SwitchBroke, Diverged, Flooded, NoMemory}
-use Rattle.net_txn.specs.declared.heard.Refusal.{Refusal}
+use Rattle.lego_model.specs.declared.fault.TxnFault.{TxnFault}
+use Rattle.lego_model.specs.declared.fault.TxnFault.TheVariants.{SwitchFault, SwitchBroke, Diverged, Flooded, NoMemory}
+use Rattle.lego_model.specs.declared.wait.Refusal.{Refusal}
 use Rattle.net_txn.specs.declared.logged.Logged.{Logged}
 use Rattle.net_txn.specs.LinkSteps.{OnLinks, StaysInPlace}
 use Rattle.net_txn.specs.Causes.{IsCause}
-use Rattle.net_txn.specs.Waits.{Waits, Floods, KeptMore, barrier_sent}
+use Rattle.net_txn.specs.Waits.{Waits, Floods, KeptMore}
+use Rattle.lego_model.specs.BarrierWaits.{barrier_sent, next_xid}
 use Rattle.net_txn.specs.Views.{rows_at, with_rows, rows_after}
-use Rattle.net_txn.specs.Net.{NetState, next_xid, awaited_from, logged_by, with_logged}
+use Rattle.net_txn.specs.Net.{NetState, awaited_from, logged_by, with_logged}
 
 -- ---- What the host knows of a switch
 

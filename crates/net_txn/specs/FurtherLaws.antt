@@ -7,10 +7,11 @@ use Rattle.of_match.specs.declared.key.Key.{Key}
 use Rattle.flow_table.specs.declared.view.TableView.{TableView}
 use Rattle.outside.specs.declared.step.WorldStep.TheVariants.{Acted}
 use Rattle.outside.specs.Seen.{Seen}
-use Rattle.net_txn.specs.declared.fault.TxnFault.{TxnFault}
+use Rattle.lego_model.specs.declared.fault.TxnFault.{TxnFault}
 use Rattle.net_txn.specs.declared.logged.Logged.{Logged}
-use Rattle.net_txn.specs.Net.{next_xid, inverse_bytes}
-use Rattle.net_txn.specs.Waits.{barrier_sent, KeptMore}
+use Rattle.net_txn.specs.Net.{inverse_bytes}
+use Rattle.lego_model.specs.BarrierWaits.{next_xid, barrier_sent}
+use Rattle.net_txn.specs.Waits.{KeptMore}
 use Rattle.net_txn.specs.FareLaws.{fare_of-other, inverses_in-other}
 use Rattle.net_txn.specs.QuietLaws.{IsFaultOf-behind}
 use Rattle.net_txn.specs.Undos.{CanBeSent, alone, AreBefore, Moves, Fails, Settles, Inverse, Settled, Stuck, parts_of, since_of, inverses_of, first_fault, first_fault_of, fare_of, inverses_in, is_viewed, but_fare, Further, Pending, IsRoomLeft, IsThinned, sent_in}

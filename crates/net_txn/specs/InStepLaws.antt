@@ -27,12 +27,13 @@ use Rattle.outside.specs.State.{State, after_step, after_steps, state, switch_of
 use Rattle.outside.specs.StateLaws.{state-append, Conforming-rest}
 use Rattle.outside.specs.LinkLaws.{switch_of-sent_other, waits_of-sent_other}
 use Rattle.outside.specs.Conforming.{MaySteps, Conforming}
-use Rattle.net_txn.specs.declared.heard.Refusal.{Refusal}
-use Rattle.net_txn.specs.declared.heard.Heard.TheVariants.{Refused}
-use Rattle.net_txn.specs.Waits.{heard, is_reply, kept_of, answer_of, wait_steps, barrier_sent, reply_got}
+use Rattle.lego_model.specs.declared.wait.Refusal.{Refusal}
+use Rattle.lego_model.specs.declared.wait.Heard.TheVariants.{Refused}
+use Rattle.net_txn.specs.Waits.{answer_of}
+use Rattle.lego_model.specs.BarrierWaits.{heard, is_reply, kept_of, wait_steps, barrier_sent, reply_got, next_xid}
 use Rattle.net_txn.specs.Views.{rows_at, rows_after}
 use Rattle.net_txn.specs.ViewLaws.{rows_at-same, rows_at-other}
-use Rattle.net_txn.specs.Net.{NetState, next_xid, awaited_from}
+use Rattle.net_txn.specs.Net.{NetState, awaited_from}
 use Rattle.net_txn.specs.SentLaws.{reading_of-as_sent}
 use Rattle.net_txn.specs.RowLaws.{sent, known_command, rows_agree, no_notices}
 use Rattle.net_txn.specs.HeardLaws.{IsMessage-barrier, IsSmall, small_refusal, next_xid-lt, heard-error}

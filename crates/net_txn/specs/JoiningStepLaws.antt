@@ -34,9 +34,9 @@ use Rattle.outside.specs.State.{State, after_step, after_steps, state, switch_of
 use Rattle.outside.specs.StateLaws.{state-append, Conforming-rest}
 use Rattle.outside.specs.LinkLaws.{switch_of-sent, waits_of-sent}
 use Rattle.outside.specs.Conforming.{MayStep, MayAct, MaySteps, Conforming}
-use Rattle.net_txn.specs.declared.heard.Awaited.{Awaited}
-use Rattle.net_txn.specs.Net.{NetState, next_xid}
-use Rattle.net_txn.specs.Waits.{heard, is_reply, wait_steps, kept_of, reply_got}
+use Rattle.lego_model.specs.declared.wait.Awaited.{Awaited}
+use Rattle.net_txn.specs.Net.{NetState}
+use Rattle.lego_model.specs.BarrierWaits.{next_xid, heard, is_reply, wait_steps, kept_of, reply_got}
 use Rattle.net_txn.specs.Views.{rows_at}
 use Rattle.net_txn.specs.HeardLaws.{IsMessage-barrier, next_xid-lt}
 use Rattle.net_txn.specs.StepLaws.{told_switch, told_waits, barrier_sends, barrier_stays, gots, gots_switch, gots_empty}

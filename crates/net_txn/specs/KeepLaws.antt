@@ -11,9 +11,9 @@ use Rattle.outside.specs.State.{State, after_step, after_steps, state, waits_of}
 use Rattle.outside.specs.StateLaws.{Conforming-rest, MaySteps-front, MaySteps-rest}
 use Rattle.outside.specs.Conforming.{MaySteps, Conforming}
 use Rattle.flow_table.specs.declared.view.TableView.{TableView}
-use Rattle.net_txn.specs.declared.fault.TxnFault.{TxnFault}
+use Rattle.lego_model.specs.declared.fault.TxnFault.{TxnFault}
 use Rattle.net_txn.specs.Place.{KeptWhereFit}
-use Rattle.net_txn.specs.Waits.{kept_of, barrier_sent}
+use Rattle.lego_model.specs.BarrierWaits.{kept_of, barrier_sent}
 use Rattle.net_txn.specs.HeardLaws.{IsMessage-barrier}
 use Rattle.net_txn.specs.StepLaws.{told_waits, barrier_sends}
 use Rattle.net_txn.specs.NoticeLaws.{with_entries, notices_alone, notices_kept}

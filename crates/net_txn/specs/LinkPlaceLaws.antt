@@ -23,11 +23,12 @@ use Rattle.outside.specs.LinkLaws.{switch_of-sent, waits_of-sent, switch_of-got,
 use Rattle.outside.specs.StateLaws.{after_steps-append, state-append}
 use Rattle.outside.specs.InOrder.{MayComeAll, InOrder}
 use Rattle.outside.specs.InOrderLaws.{InOrder-rest, InOrder-before}
-use Rattle.net_txn.specs.declared.heard.Awaited.{Awaited}
-use Rattle.net_txn.specs.declared.heard.Refusal.{Refusal}
-use Rattle.net_txn.specs.declared.heard.Heard.{Heard}
-use Rattle.net_txn.specs.declared.heard.Heard.TheVariants.{Reply, Refused, Notice, Echo, Other}
-use Rattle.net_txn.specs.Waits.{heard, is_reply, echo_reply, steps_by, heard_steps, wait_steps, barrier_sent, reply_got, WaitsOn}
+use Rattle.lego_model.specs.declared.wait.Awaited.{Awaited}
+use Rattle.lego_model.specs.declared.wait.Refusal.{Refusal}
+use Rattle.lego_model.specs.declared.wait.Heard.{Heard}
+use Rattle.lego_model.specs.declared.wait.Heard.TheVariants.{Reply, Refused, Notice, Echo, Other}
+use Rattle.net_txn.specs.Waits.{WaitsOn}
+use Rattle.lego_model.specs.BarrierWaits.{heard, is_reply, echo_reply, steps_by, heard_steps, wait_steps, barrier_sent, reply_got}
 use Rattle.net_txn.specs.HeardLaws.{IsMessage-barrier}
 use Rattle.net_txn.specs.StepLaws.{first_came, reply_is_none, told_waits, barrier_sends}
 use Rattle.net_txn.specs.LinkSteps.{IsLinkInPlace, AreLinksInPlace, StaysInPlace, AsksInPlace, Awaits}

@@ -10,7 +10,7 @@ use Rattle.outside.specs.declared.step.WorldStep.TheVariants.{Acted, SendFailed,
 use Rattle.outside.specs.Seen.{Seen}
 use Rattle.outside.specs.State.{State, after_step, after_steps, state, waits_of, is_joined, has_waiting}
 use Rattle.outside.specs.InOrder.{MayComeAll, InOrder}
-use Rattle.net_txn.specs.declared.heard.Awaited.{Awaited}
+use Rattle.lego_model.specs.declared.wait.Awaited.{Awaited}
 
 -- a step of the link of a switch: a message sent or got, or a call that failed
 abbrev pub is_link_step : WorldStep → Bool

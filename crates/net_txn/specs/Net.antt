@@ -9,10 +9,11 @@ use Rattle.of_wire.specs.Spelling.{message_bytes}
 use Rattle.flow_table.specs.declared.view.TableView.{TableView}
 use Rattle.flow_table.specs.Change.{key_in, is_delete}
 use Rattle.flow_table.specs.Refusals.{no_buffer}
-use Rattle.net_txn.specs.declared.heard.Awaited.{Awaited}
+use Rattle.lego_model.specs.declared.wait.Awaited.{Awaited}
 use Rattle.net_txn.specs.declared.logged.Fare.{Fare}
 use Rattle.net_txn.specs.declared.logged.Logged.{Logged}
 use Rattle.net_txn.specs.declared.ports.KnownPorts.{KnownPorts}
+use Rattle.lego_model.specs.BarrierWaits.{next_xid}
 
 pub record NetState : Type 0 where
   pub views : List TableView
@@ -24,9 +25,6 @@ pub record NetState : Type 0 where
   pub room : ℕ
 
 -- ---- Transaction ids: 1, 2, .., and behind the last one 1 again
-
-abbrev pub next_xid : ℕ → ℕ
-next_xid xid = if xid == 4294967295 then 1 else xid + 1
 
 -- what is awaited where one message was sent with this id, and then a barrier
 abbrev pub awaited_from : ℕ → ℕ → Awaited

@@ -1,7 +1,6 @@
 -- Messages that come behind others, one after the other.
 use Rattle.std.specs.Prelude.{◌≡◌, ◌⊎◌, ℕ, Bool, true, false, List, [], ◌∷◌, ◌++◌, refl}
-use Rattle.std.proofs.Common.{sym, ◌∙◌, subst, append_assoc, inl, inr}
-use Rattle.std.proofs.lemmas.List.{append-nil}
+use Rattle.std.proofs.Common.{subst, inl, inr}
 use Rattle.net_txn.specs.Place.{fits, KeptWhereFit}
 
 pub where_fit_then : (ms ns : List (ℕ × List ℕ)) (kept mid now : List (ℕ × List ℕ)) → KeptWhereFit kept ms mid → KeptWhereFit mid ns now → KeptWhereFit kept (ms ++ ns) now
@@ -17,9 +16,3 @@ one_by false m kept now is (inr none) when = inr (is, none)
 -- one message was kept or dropped
 pub where_fit_one : (m : ℕ × List ℕ) (kept now : List (ℕ × List ℕ)) → (now ≡ kept ++ m ∷ []) ⊎ (now ≡ kept) → (fits kept m.1 ≡ true → now ≡ kept ++ m ∷ []) → KeptWhereFit kept (m ∷ []) now
 where_fit_one m kept now either when = one_by (fits kept m.1) m kept now refl either when
-
--- some of them were kept
-pub where_fit_some : (ms kept now : List (ℕ × List ℕ)) → KeptWhereFit kept ms now → (more : List (ℕ × List ℕ)) × (now ≡ kept ++ more)
-where_fit_some [] kept now is = ([], is ∙ sym (append-nil kept))
-where_fit_some (m ∷ ms) kept now (inl one) = let rest = where_fit_some ms (kept ++ m ∷ []) now one in (m ∷ rest.0, rest.1 ∙ append_assoc kept (m ∷ []) rest.0)
-where_fit_some (m ∷ ms) kept now (inr none) = where_fit_some ms kept now none.1

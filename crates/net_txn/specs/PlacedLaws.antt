@@ -7,8 +7,8 @@ use Rattle.outside.specs.declared.step.WorldStep.{WorldStep}
 use Rattle.outside.specs.declared.step.WorldStep.TheVariants.{Acted, SendFailed, RecvFailed}
 use Rattle.outside.specs.State.{State, after_step, after_steps, is_joined}
 use Rattle.outside.specs.StateLaws.{after_steps-append}
-use Rattle.net_txn.specs.declared.heard.Awaited.{Awaited}
-use Rattle.net_txn.specs.Waits.{heard, is_reply, wait_steps, barrier_sent}
+use Rattle.lego_model.specs.declared.wait.Awaited.{Awaited}
+use Rattle.lego_model.specs.BarrierWaits.{heard, is_reply, wait_steps, barrier_sent}
 use Rattle.net_txn.specs.LinkSteps.{AreLinkSteps, GoesInPlace, ThenWaits}
 use Rattle.net_txn.specs.LinkStepLaws.{wait_links}
 use Rattle.net_txn.specs.LinkPlaceLaws.{places_append, come_front, come_rest, IsSure, sure_places, sure_wait, awaits_waiting, awaits_barrier, awaits_wait}

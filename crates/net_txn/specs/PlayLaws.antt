@@ -8,12 +8,13 @@ use Rattle.of_types.specs.declared.journal.Act.TheVariants.{Sent}
 use Rattle.flow_table.specs.declared.view.TableView.{TableView}
 use Rattle.outside.specs.declared.step.WorldStep.TheVariants.{Acted}
 use Rattle.outside.specs.Seen.{Seen}
-use Rattle.net_txn.specs.declared.fault.TxnFault.{TxnFault}
+use Rattle.lego_model.specs.declared.fault.TxnFault.{TxnFault}
 use Rattle.net_txn.specs.declared.logged.Fare.{Fare}
 use Rattle.net_txn.specs.declared.logged.Logged.{Logged}
 use Rattle.net_txn.specs.declared.trouble.Trouble.{Trouble}
-use Rattle.net_txn.specs.Net.{next_xid, inverse_bytes}
-use Rattle.net_txn.specs.Waits.{barrier_sent, KeptMore}
+use Rattle.net_txn.specs.Net.{inverse_bytes}
+use Rattle.lego_model.specs.BarrierWaits.{next_xid, barrier_sent}
+use Rattle.net_txn.specs.Waits.{KeptMore}
 use Rattle.net_txn.specs.WaitLaws.{none_kept}
 use Rattle.net_txn.specs.FareLaws.{fare_of-same, fare_of-other, inverses_in-other, fare_of-set, fare_of-set_other, inverses_in-set, IsFareAt-within, IsFareAt-dpid, fare_of-at, fare_of-none, keys_in-none}
 use Rattle.net_txn.specs.Undos.{fault_by, fault_of, alone, Moves, Fails, Settles, first_fault_of, fare_of, inverses_in, is_viewed, keys_in, with_fare, IsFareAt, IsSettledIn, but_fare, Further, Pending, parts_of, is_stuck, inverses_of}

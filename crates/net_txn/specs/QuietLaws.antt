@@ -17,16 +17,16 @@ use Rattle.outside.specs.declared.step.WorldStep.TheVariants.{Acted, SendFailed,
 use Rattle.outside.specs.Calls.{Sends, Receives, send_steps, receive_steps}
 use Rattle.outside.specs.Seen.{Counts, NoneFell, Seen}
 use Rattle.outside.specs.SeenLaws.{Continues-refl, Continues-trans, Sends-continues, Receives-continues}
-use Rattle.net_txn.specs.declared.fault.TxnFault.{TxnFault}
-use Rattle.net_txn.specs.declared.fault.TxnFault.TheVariants.{SwitchFault, SwitchBroke, Diverged, Flooded, NoMemory}
-use Rattle.net_txn.specs.declared.heard.Awaited.{Awaited}
-use Rattle.net_txn.specs.declared.heard.Heard.{Heard}
-use Rattle.net_txn.specs.declared.heard.Heard.TheVariants.{Reply, Refused, Notice, Echo, Other}
+use Rattle.lego_model.specs.declared.fault.TxnFault.{TxnFault}
+use Rattle.lego_model.specs.declared.fault.TxnFault.TheVariants.{SwitchFault, SwitchBroke, Diverged, Flooded, NoMemory}
+use Rattle.lego_model.specs.declared.wait.Awaited.{Awaited}
+use Rattle.lego_model.specs.declared.wait.Heard.{Heard}
+use Rattle.lego_model.specs.declared.wait.Heard.TheVariants.{Reply, Refused, Notice, Echo, Other}
 use Rattle.net_txn.specs.Place.{KeptWhereFit}
 use Rattle.net_txn.specs.PlaceLaws.{where_fit_then}
-use Rattle.net_txn.specs.Waits.{KeptMore, heard, is_reply, kept_by, kept_of, steps_by, heard_steps, wait_steps, reply_got, barrier_sent}
+use Rattle.net_txn.specs.Waits.{KeptMore}
+use Rattle.lego_model.specs.BarrierWaits.{heard, is_reply, kept_by, kept_of, steps_by, heard_steps, wait_steps, reply_got, barrier_sent, flood}
 use Rattle.net_txn.specs.WaitLaws.{reply_is}
-use Rattle.net_txn.specs.Causes.{flood}
 use Rattle.net_txn.specs.LinkSteps.{GoesInPlace, ThenWaits}
 use Rattle.net_txn.specs.PlacedLaws.{goes_send_failed, goes_recv_failed, goes_same, goes_got, goes_barrier}
 use Rattle.net_txn.specs.Undos.{fault_by, link_trouble, IsStepOf, Moves, key_refused, IsFaultOf, FailsAfter, AreBefore, Settles, HearsOn, HearsNext}

@@ -18,14 +18,15 @@ use Rattle.outside.specs.declared.step.WorldStep.{WorldStep}
 use Rattle.outside.specs.Seen.{Seen}
 use Rattle.outside.specs.InOrder.{brings_message, BringMessages, MessagesSince}
 use Rattle.outside.specs.InOrderLaws.{messages-append, messages-by}
-use Rattle.net_txn.specs.declared.fault.TxnFault.{TxnFault}
-use Rattle.net_txn.specs.declared.heard.Awaited.{Awaited}
-use Rattle.net_txn.specs.declared.heard.Refusal.{Refusal}
-use Rattle.net_txn.specs.declared.heard.Heard.{Heard}
-use Rattle.net_txn.specs.declared.heard.Heard.TheVariants.{Reply, Refused, Notice, Echo, Other}
-use Rattle.net_txn.specs.Net.{NetState, next_xid}
+use Rattle.lego_model.specs.declared.fault.TxnFault.{TxnFault}
+use Rattle.lego_model.specs.declared.wait.Awaited.{Awaited}
+use Rattle.lego_model.specs.declared.wait.Refusal.{Refusal}
+use Rattle.lego_model.specs.declared.wait.Heard.{Heard}
+use Rattle.lego_model.specs.declared.wait.Heard.TheVariants.{Reply, Refused, Notice, Echo, Other}
+use Rattle.net_txn.specs.Net.{NetState}
+use Rattle.lego_model.specs.BarrierWaits.{next_xid, heard, steps_by, wait_steps, reply_got}
 use Rattle.net_txn.specs.HeardLaws.{next_xid-lt}
-use Rattle.net_txn.specs.Waits.{heard, steps_by, wait_steps, reply_got, IsRead, Waits}
+use Rattle.net_txn.specs.Waits.{IsRead, Waits}
 use Rattle.net_txn.specs.Changes.{Asked, Stopped}
 use Rattle.net_txn.specs.Arriving.{arrival_steps, Becomes, Arrives}
 use Rattle.net_txn.specs.Joining.{Joins}

@@ -26,13 +26,13 @@ use Rattle.undo_laws.specs.Removal.{without, without_all, OnlyAdded}
 use Rattle.undo_laws.specs.RemovalLaws.{without_added, is_among-reverse}
 use Rattle.undo_laws.specs.AddedLaws.{undone-added}
 use Rattle.undo_laws.specs.Serials.{IsSerialed}
-use Rattle.net_txn.specs.declared.heard.Awaited.{Awaited}
-use Rattle.net_txn.specs.declared.heard.Heard.{Heard}
-use Rattle.net_txn.specs.declared.heard.Heard.TheVariants as hearing
-use Rattle.net_txn.specs.declared.fault.TxnFault.{TxnFault}
-use Rattle.net_txn.specs.declared.fault.TxnFault.TheVariants.{Diverged}
+use Rattle.lego_model.specs.declared.wait.Awaited.{Awaited}
+use Rattle.lego_model.specs.declared.wait.Heard.{Heard}
+use Rattle.lego_model.specs.declared.wait.Heard.TheVariants as hearing
+use Rattle.lego_model.specs.declared.fault.TxnFault.{TxnFault}
+use Rattle.lego_model.specs.declared.fault.TxnFault.TheVariants.{Diverged}
 use Rattle.net_txn.specs.Net.{delete_strict, inverse_bytes}
-use Rattle.net_txn.specs.Waits.{heard, is_reply, steps_by, heard_steps, wait_steps, barrier_sent, reply_got}
+use Rattle.lego_model.specs.BarrierWaits.{heard, is_reply, steps_by, heard_steps, wait_steps, barrier_sent, reply_got}
 use Rattle.net_txn.specs.HeardLaws.{IsMessage-barrier}
 use Rattle.net_txn.specs.StepLaws.{first_got, reply_is_none, told_switch, told_waits, barrier_sends, barrier_stays, gots, gots_switch, gots_empty}
 use Rattle.net_txn.specs.Undos.{key_sent, key_refused, Refuses, IsFaultOf, fault_in, first_fault_of, first_fault, ended_by, SameSwitch, Restored, IsStepOf, CanBeSent, IsSettled, alone, Part, Inverse, Settled, Stuck, part_steps, steps_of, parts_of, is_stuck, since_of, inverses_of, IsRun}

@@ -15,10 +15,10 @@ use Rattle.outside.specs.Seen.{Counts, Seen}
 use Rattle.outside.specs.State.{State, after_step, after_steps, state, switch_of, waits_of}
 use Rattle.outside.specs.StateLaws.{Conforming-rest, MaySteps-front, MaySteps-rest}
 use Rattle.outside.specs.Conforming.{MaySteps, Conforming}
-use Rattle.net_txn.specs.declared.fault.TxnFault.{TxnFault}
-use Rattle.net_txn.specs.declared.fault.TxnFault.TheVariants.{SwitchFault, SwitchBroke, Diverged, Flooded, NoMemory}
+use Rattle.lego_model.specs.declared.fault.TxnFault.{TxnFault}
+use Rattle.lego_model.specs.declared.fault.TxnFault.TheVariants.{SwitchFault, SwitchBroke, Diverged, Flooded, NoMemory}
 use Rattle.net_txn.specs.Causes.{IsPlain}
-use Rattle.net_txn.specs.Waits.{barrier_sent}
+use Rattle.lego_model.specs.BarrierWaits.{barrier_sent}
 use Rattle.net_txn.specs.HeardLaws.{IsMessage-barrier}
 use Rattle.net_txn.specs.StepLaws.{told_waits, barrier_sends}
 use Rattle.net_txn.specs.FloodLaws.{both_ways, got_reads, few_got}

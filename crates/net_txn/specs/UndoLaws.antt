@@ -9,11 +9,11 @@ use Rattle.flow_table.specs.declared.view.TableView.{TableView}
 use Rattle.outside.specs.declared.step.WorldStep.{WorldStep}
 use Rattle.outside.specs.Seen.{Counts, NoneFell, Seen}
 use Rattle.outside.specs.SeenLaws.{Continues-refl, Continues-trans}
-use Rattle.net_txn.specs.declared.fault.TxnFault.{TxnFault}
-use Rattle.net_txn.specs.declared.fault.TxnFault.TheVariants.{SwitchFault, SwitchBroke, Diverged, Flooded, NoMemory}
+use Rattle.lego_model.specs.declared.fault.TxnFault.{TxnFault}
+use Rattle.lego_model.specs.declared.fault.TxnFault.TheVariants.{SwitchFault, SwitchBroke, Diverged, Flooded, NoMemory}
 use Rattle.net_txn.specs.declared.logged.Fare.{Fare}
 use Rattle.net_txn.specs.declared.logged.Logged.{Logged}
-use Rattle.net_txn.specs.Net.{next_xid}
+use Rattle.lego_model.specs.BarrierWaits.{next_xid}
 use Rattle.net_txn.specs.FareLaws.{fare_of-same, fare_of-other, inverses_in-same, inverses_in-other}
 use Rattle.net_txn.specs.Undos.{CanBeSent, IsFaultOf, IsStuckBy, IsSettled, Moves, Part, Inverse, Settled, Stuck, part_steps, steps_of, parts_of, xid_of, is_stuck, since_of, inverses_of, IsRun, fare_of, inverses_in, is_viewed, but_fare, Stands, Undoing, KeepsOne, IsThinned, inverse_in, sent_in, EndsSettled}
 use Rattle.net_txn.specs.PartOrderLaws.{thinned_more, ends_none}

@@ -8,7 +8,7 @@ use Rattle.outside.specs.Seen.{Counts, Seen}
 use Rattle.outside.specs.State.{State, after_steps, state, is_joined}
 use Rattle.outside.specs.InOrder.{MayComeAll, InOrder}
 use Rattle.outside.specs.InOrderLaws.{InOrder-rest}
-use Rattle.net_txn.specs.Waits.{wait_steps, reply_got}
+use Rattle.lego_model.specs.BarrierWaits.{wait_steps, reply_got}
 use Rattle.net_txn.specs.LinkSteps.{AreLinksInPlace, StaysInPlace, GoesInPlace}
 use Rattle.net_txn.specs.LinkStepLaws.{links_append, wait_links}
 use Rattle.net_txn.specs.LinkPlaceLaws.{places_append, come_front, come_rest, in_place_by, sure_settled}

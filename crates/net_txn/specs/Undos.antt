@@ -23,19 +23,20 @@ use Rattle.outside.specs.Conforming.{Conforming}
 use Rattle.outside.specs.InOrder.{InOrder, MessagesSince}
 use Rattle.undo_laws.specs.Serials.{IsSerialed}
 use Rattle.undo_laws.specs.Removal.{OnlyAdded}
-use Rattle.net_txn.specs.declared.fault.TxnFault.{TxnFault}
-use Rattle.net_txn.specs.declared.fault.TxnFault.TheVariants.{SwitchFault, SwitchBroke, Diverged, Flooded, NoMemory}
-use Rattle.net_txn.specs.declared.heard.Awaited.{Awaited}
+use Rattle.lego_model.specs.declared.fault.TxnFault.{TxnFault}
+use Rattle.lego_model.specs.declared.fault.TxnFault.TheVariants.{SwitchFault, SwitchBroke, Diverged, Flooded, NoMemory}
+use Rattle.lego_model.specs.declared.wait.Awaited.{Awaited}
 use Rattle.net_txn.specs.declared.logged.Fare.{Fare}
 use Rattle.net_txn.specs.declared.logged.Logged.{Logged}
 use Rattle.net_txn.specs.declared.trouble.Trouble.{Trouble}
 use Rattle.net_txn.specs.declared.trouble.Trouble.TheVariants as troubles
-use Rattle.net_txn.specs.Causes.{flood, IsPlain}
+use Rattle.net_txn.specs.Causes.{IsPlain}
+use Rattle.lego_model.specs.BarrierWaits.{flood, next_xid, heard, is_reply, kept_by, kept_of, wait_steps, barrier_sent, reply_got}
 use Rattle.net_txn.specs.LinkSteps.{OnLinks, StaysInPlace, GoesInPlace}
 use Rattle.net_txn.specs.Views.{with_rows}
 use Rattle.net_txn.specs.Arriving.{without_key}
-use Rattle.net_txn.specs.Net.{NetState, next_xid, inverse_bytes, no_fare}
-use Rattle.net_txn.specs.Waits.{heard, is_reply, kept_by, kept_of, wait_steps, barrier_sent, reply_got, KeptMore}
+use Rattle.net_txn.specs.Net.{NetState, inverse_bytes, no_fare}
+use Rattle.net_txn.specs.Waits.{KeptMore}
 use Rattle.net_txn.specs.Place.{KeptWhereFit}
 use Rattle.net_txn.specs.Agreement.{Agrees}
 

@@ -14,12 +14,13 @@ use Rattle.outside.specs.declared.step.WorldStep.{WorldStep}
 use Rattle.outside.specs.declared.step.WorldStep.TheVariants.{Acted}
 use Rattle.outside.specs.Seen.{Seen, Continues}
 use Rattle.outside.specs.SeenLaws.{Continues-refl, Continues-trans}
-use Rattle.net_txn.specs.declared.fault.TxnFault.{TxnFault}
-use Rattle.net_txn.specs.declared.heard.Awaited.{Awaited}
-use Rattle.net_txn.specs.declared.heard.Refusal.{Refusal}
-use Rattle.net_txn.specs.declared.heard.Heard.{Heard}
-use Rattle.net_txn.specs.declared.heard.Heard.TheVariants.{Reply, Refused, Notice, Echo, Other}
-use Rattle.net_txn.specs.Waits.{is_awaited, refusal_of, heard, is_reply, kept_by, steps_by, refusal_in, first_of, heard_steps, wait_steps, kept_of, answer_of, reply_got, Waits, WaitsOn, HearsOne, KeptMore, IsRead}
+use Rattle.lego_model.specs.declared.fault.TxnFault.{TxnFault}
+use Rattle.lego_model.specs.declared.wait.Awaited.{Awaited}
+use Rattle.lego_model.specs.declared.wait.Refusal.{Refusal}
+use Rattle.lego_model.specs.declared.wait.Heard.{Heard}
+use Rattle.lego_model.specs.declared.wait.Heard.TheVariants.{Reply, Refused, Notice, Echo, Other}
+use Rattle.net_txn.specs.Waits.{refusal_in, first_of, answer_of, Waits, WaitsOn, HearsOne, KeptMore, IsRead}
+use Rattle.lego_model.specs.BarrierWaits.{is_awaited, refusal_of, heard, is_reply, kept_by, steps_by, heard_steps, wait_steps, kept_of, reply_got}
 
 -- ---- The reply
 

@@ -5,7 +5,7 @@ use Rattle.of_match.specs.declared.key.Key.{Key}
 use Rattle.outside.specs.Seen.{Counts, Seen}
 use Rattle.outside.specs.StateLaws.{Conforming-before}
 use Rattle.outside.specs.InOrderLaws.{messages-by}
-use Rattle.net_txn.specs.declared.fault.TxnFault.{TxnFault}
+use Rattle.lego_model.specs.declared.fault.TxnFault.{TxnFault}
 use Rattle.net_txn.specs.Net.{NetState}
 use Rattle.net_txn.specs.declared.logged.Logged.{Logged}
 use Rattle.net_txn.specs.RestoreLaws.{others_stay, restored, accepted}

@@ -3,10 +3,10 @@
 ghost use Rattle.std.specs.Prelude.{◌≡◌, ◌≤◌, length, take, drop};
 ghost use Rattle.net_txn.specs.Undos.{Undoes};
 
-use crate::fault::TxnFault;
 use crate::logged::Logged;
 use crate::net::Net;
 use crate::undo::undo_log;
+use lego_model::TxnFault;
 use outside::World;
 
 /// A place of the log, its end where it is past it.

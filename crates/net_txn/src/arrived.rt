@@ -14,12 +14,12 @@ ghost use Rattle.net_txn.specs.Views.{rows_at};
 ghost use Rattle.net_txn.specs.Arriving.{event_of, Becomes, Arrives};
 
 use crate::arriving::{change_known, error_event, event_with, removed_key, tells};
-use crate::fault::TxnFault;
 use crate::net::Net;
 use crate::views::remove_in;
 use crate::wait::send;
 use app_frames::{Event, EventKind};
 use flow_table::TableView;
+use lego_model::TxnFault;
 use of_types::{ByteList, Dpid, Xid};
 use of_wire::{FlowRemoved, Message, WireFault, decode, encode};
 use outside::World;

@@ -8,12 +8,12 @@ ghost use Rattle.outside.specs.Seen.{Continues};
 ghost use Rattle.outside.specs.declared.step.WorldStep.TheVariants.{Acted};
 ghost use Rattle.net_txn.specs.LinkSteps.{OnLinks, AsksInPlace};
 ghost use Rattle.net_txn.specs.Causes.{IsCause};
-ghost use Rattle.net_txn.specs.Waits.{Waits, IfFlooded, KeptMore, barrier_sent};
+ghost use Rattle.net_txn.specs.Waits.{Waits, IfFlooded, KeptMore};
+ghost use Rattle.lego_model.specs.BarrierWaits.{barrier_sent};
 
-use crate::fault::TxnFault;
-use crate::heard::{Awaited, Refusal};
 use crate::queue::MessageQueue;
 use crate::wait::{send, settle};
+use lego_model::{Awaited, Refusal, TxnFault};
 use outside::World;
 use std::alloc::Global;
 

@@ -4,16 +4,16 @@ ghost use Rattle.std.specs.Prelude.{◌≡◌, ◌≤◌, length, IfOk, IsOk, Is
 ghost use Rattle.of_wire.specs.Reading.{reading_of};
 ghost use Rattle.outside.specs.Calls.{most_message};
 ghost use Rattle.net_txn.specs.Views.{rows_at};
-ghost use Rattle.net_txn.specs.Net.{next_xid};
-ghost use Rattle.net_txn.specs.Asks.{all_flows, flows_request, asked_from, Asks};
+ghost use Rattle.lego_model.specs.BarrierWaits.{next_xid};
+ghost use Rattle.net_txn.specs.Asks.{Asks};
+ghost use Rattle.lego_model.specs.FlowQueries.{all_flows, flows_request, asked_from};
 ghost use Rattle.net_txn.specs.AskSteps.{AskSteps};
 
 use crate::ask::ask;
-use crate::fault::TxnFault;
-use crate::heard::Awaited;
 use crate::net::{Net, following};
 use crate::queue::MessageQueue;
 use crate::replies::{judge_replies, sort_out};
+use lego_model::{Awaited, TxnFault};
 use of_match::Match;
 use of_stats::RowList;
 use of_types::{ByteList, Dpid, Xid, ports, put_array, put_u8, put_u16, stats};
@@ -37,7 +37,7 @@ fn asked(dpid: Dpid, xid: Xid) -> Awaited
 }
 
 /// The body of a request of flows: of any match, in all tables, whatever their outputs.
-#[tactic(auto, unfolding(crate::specs::Asks::all_flows))]
+#[tactic(auto, unfolding(lego_model::specs::FlowQueries::all_flows))]
 fn all_flows() -> [u8; 44]
     ensures { result ≡ all_flows }
 {

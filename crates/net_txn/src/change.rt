@@ -11,13 +11,13 @@ ghost use Rattle.net_txn.specs.Agreement.{Reaches, Steps};
 ghost use Rattle.net_txn.specs.Net.{with_logged};
 
 use crate::ask::ask;
-use crate::fault::TxnFault;
 use crate::host::{Judged, judge_bytes};
 use crate::logged::Logged;
 use crate::net::{Net, await_from, following};
 use crate::prepared::{Prepared, prepare};
 use crate::views::{find, make_room, put_added};
 use app_frames::Answer;
+use lego_model::TxnFault;
 use of_types::Dpid;
 use of_wire::FlowMod;
 use outside::World;

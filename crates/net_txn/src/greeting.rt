@@ -11,14 +11,14 @@ ghost use Rattle.outside.specs.Seen.{Continues};
 ghost use Rattle.outside.specs.declared.step.WorldStep.TheVariants.{Acted};
 ghost use Rattle.net_txn.specs.LinkSteps.{OnLinks, AsksInPlace};
 ghost use Rattle.net_txn.specs.Causes.{IsCause};
-ghost use Rattle.net_txn.specs.Waits.{Waits, IfFlooded, KeptMore, barrier_sent};
+ghost use Rattle.net_txn.specs.Waits.{Waits, IfFlooded, KeptMore};
+ghost use Rattle.lego_model.specs.BarrierWaits.{barrier_sent};
 ghost use Rattle.net_txn.specs.Joining.{delete_all};
 
 use crate::ask::ask;
-use crate::fault::TxnFault;
-use crate::heard::{Awaited, Refusal};
 use crate::queue::MessageQueue;
 use crate::wait::send;
+use lego_model::{Awaited, Refusal, TxnFault};
 use of_action::ActionList;
 use of_match::Match;
 use of_types::{ByteList, Xid, flows, ports};

@@ -8,16 +8,15 @@ ghost use Rattle.net_txn.specs.LinkSteps.{OnLinks, AsksInPlace};
 ghost use Rattle.net_txn.specs.Causes.{IsCause};
 ghost use Rattle.net_txn.specs.Waits.{IfFlooded};
 ghost use Rattle.net_txn.specs.Views.{rows_at};
-ghost use Rattle.net_txn.specs.Net.{next_xid};
+ghost use Rattle.lego_model.specs.BarrierWaits.{next_xid};
 ghost use Rattle.net_txn.specs.Joining.{greeted_from, greeting, with_view, IsViewPlace, Joins, DoesNotJoin};
 ghost use Rattle.net_txn.specs.JoiningSteps.{JoinSteps};
 
-use crate::fault::TxnFault;
 use crate::greeting::{configuring, emptying, greet};
-use crate::heard::Awaited;
 use crate::net::{Net, following};
 use crate::ports::KnownPorts;
 use flow_table::{TableView, ViewList};
+use lego_model::{Awaited, TxnFault};
 use of_types::{Dpid, Xid};
 use of_wire::{FeaturesReply, PortList};
 use outside::World;

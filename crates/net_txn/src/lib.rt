@@ -8,7 +8,6 @@ mod ask;
 mod asking;
 mod change;
 mod fares;
-mod fault;
 mod greeting;
 mod heard;
 mod host;
@@ -32,8 +31,8 @@ mod undo;
 mod views;
 mod wait;
 
-pub use fault::TxnFault;
 pub use laws::views_stay_in_order;
+pub use lego_model::TxnFault;
 pub use logged::{Fare, Logged};
 pub use net::Net;
 pub use ports::KnownPorts;

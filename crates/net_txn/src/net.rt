@@ -1,14 +1,15 @@
 //! The network of the host.
 
 ghost use Rattle.std.specs.Prelude.{◌≡◌, ◌≤◌, [], length, take, drop, slice_get, IfOk, OnOk, OnErr};
-ghost use Rattle.net_txn.specs.Net.{next_xid, awaited_from};
+ghost use Rattle.net_txn.specs.Net.{awaited_from};
+ghost use Rattle.lego_model.specs.BarrierWaits.{next_xid};
 
-use crate::heard::Awaited;
 use crate::logged::Logged;
 use crate::ports::KnownPorts;
 use crate::queue::MessageQueue;
 use crate::room::Room;
 use flow_table::TableView;
+use lego_model::Awaited;
 use of_types::{ByteList, Dpid, Xid};
 use std::alloc::{AllocError, Global};
 use std::marker::Model;

@@ -3,14 +3,15 @@
 ghost use Rattle.std.specs.Prelude.{◌≡◌, ◌+◌, ◌^◌, ◌<◌, ◌≤◌, ℕ, true, false, List, [], ◌∷◌, length, drop, map, Option, IfErr, OnOk, is_err, slice_index_or, slice_set};
 ghost use Rattle.outside.specs.Seen.{Seen};
 ghost use Rattle.flow_table.specs.declared.view.TableView.{TableView};
-ghost use Rattle.net_txn.specs.declared.fault.TxnFault.{TxnFault};
+ghost use Rattle.lego_model.specs.declared.fault.TxnFault.{TxnFault};
 ghost use Rattle.of_types.specs.declared.journal.Act.TheVariants.{Sent};
 ghost use Rattle.of_match.specs.declared.key.Key.{Key};
 ghost use Rattle.outside.specs.Calls.{most_message};
 ghost use Rattle.outside.specs.declared.step.WorldStep.TheVariants.{Acted};
 ghost use Rattle.net_txn.specs.declared.logged.Logged.{Logged};
-ghost use Rattle.net_txn.specs.Net.{next_xid, inverse_bytes};
-ghost use Rattle.net_txn.specs.Waits.{barrier_sent, KeptMore};
+ghost use Rattle.net_txn.specs.Net.{inverse_bytes};
+ghost use Rattle.lego_model.specs.BarrierWaits.{next_xid, barrier_sent};
+ghost use Rattle.net_txn.specs.Waits.{KeptMore};
 ghost use Rattle.net_txn.specs.Undos.{IsSettledIn, Further, first_fault_of, fault_of, fare_of, Moves, Fails, Settles, fault_by, inverses_in, alone, is_viewed, with_fare, but_fare};
 
 use crate::fares::{fare_of, place_of};

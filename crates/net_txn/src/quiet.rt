@@ -8,17 +8,19 @@ ghost use Rattle.of_wire.specs.Reading.{reading_of};
 ghost use Rattle.outside.specs.Calls.{most_message};
 ghost use Rattle.outside.specs.declared.step.WorldStep.{WorldStep};
 ghost use Rattle.outside.specs.declared.step.WorldStep.TheVariants.{Acted};
-ghost use Rattle.net_txn.specs.Waits.{heard, is_reply, steps_by, kept_by, wait_steps, barrier_sent, KeptMore};
+ghost use Rattle.net_txn.specs.Waits.{KeptMore};
+ghost use Rattle.lego_model.specs.BarrierWaits.{heard, is_reply, steps_by, kept_by, wait_steps, barrier_sent};
 ghost use Rattle.net_txn.specs.Place.{KeptWhereFit};
 ghost use Rattle.net_txn.specs.LinkSteps.{GoesInPlace, ThenWaits};
 ghost use Rattle.net_txn.specs.Undos.{link_trouble, Moves, Fails, FailsAfter, AreBefore, fault_by, inverses_in, alone, HearsNext, Settles};
 
 use crate::fares::key_refused;
-use crate::heard::{Awaited, Heard, barrier_request, judge};
+use crate::heard::{barrier_request, classify};
 use crate::logged::Logged;
 use crate::queue::MessageQueue;
 use crate::trouble::Trouble;
 use crate::wait::{FLOOD, make_reply};
+use lego_model::{Awaited, Heard};
 use of_types::{Dpid, Xid, get_u32};
 use of_wire::check;
 use outside::{LinkFault, World};
@@ -82,7 +84,7 @@ fn treat<W: World>(
     ensures kept { KeptMore awaited.now.dpid kept.old kept.new }
     ensures where_fit { OnOk result (KeptWhereFit kept.old (kept_by awaited.now.dpid (heard awaited.now message.old) message.old) kept.new) }
 {
-    match judge(message, awaited) {
+    match classify(message, awaited) {
         Heard::Reply => return Ok(true),
         Heard::Refused(_) | Heard::Notice => {}
         Heard::Echo => {

@@ -4,12 +4,13 @@ ghost use Rattle.std.specs.Prelude.{◌≡◌, ◌==◌, ℕ, ◌<◌, ◌≤◌
 ghost use Rattle.of_wire.specs.declared.message.Message.TheVariants.{BarrierReply};
 ghost use Rattle.of_wire.specs.Spelling.{message_bytes};
 ghost use Rattle.of_stats.specs.Parts.{part_at};
-ghost use Rattle.net_txn.specs.declared.fault.TxnFault.TheVariants.{SwitchBroke};
-ghost use Rattle.net_txn.specs.Asks.{is_about, part_in, refusal_in, other_in, parts_in, refusals_in, others_in, part_of, all_parts, AreRowsOf, IsPartsFault, IsRepliesFault};
+ghost use Rattle.lego_model.specs.declared.fault.TxnFault.TheVariants.{SwitchBroke};
+ghost use Rattle.net_txn.specs.Asks.{other_in, others_in, AreRowsOf, IsPartsFault, IsRepliesFault};
+ghost use Rattle.lego_model.specs.FlowQueries.{is_about, part_in, refusal_in, parts_in, refusals_in, part_of, all_parts};
 
-use crate::fault::TxnFault;
 use crate::heard::barrier_reply;
 use crate::queue::MessageQueue;
+use lego_model::TxnFault;
 use of_stats::{RowList, StatsFault, join_replies, read_flow_rows};
 use of_types::{ByteList, Dpid, Xid, get_u8, get_u16, get_u32, kinds, stats};
 use std::alloc::{AllocError, Global};
@@ -22,7 +23,7 @@ pub(crate) struct Replies {
 }
 
 /// Whether a message has this transaction id and this type, one of those that have 12 bytes at least.
-#[tactic(auto, unfolding(crate::specs::Asks::is_about))]
+#[tactic(auto, unfolding(lego_model::specs::FlowQueries::is_about))]
 fn is_about(xid: Xid, kind: u8, message: &[u8]) -> bool
     ensures { result ≡ is_about xid kind message.now }
 {
@@ -78,7 +79,7 @@ pub(crate) fn sort_out(
 }
 
 /// What a STATS_REPLY says: type, flags, body.
-#[tactic(auto, unfolding(crate::specs::Asks::part_of))]
+#[tactic(auto, unfolding(lego_model::specs::FlowQueries::part_of))]
 fn part_of(alloc: Global, message: &[u8]) -> Result<(u16, u16, ByteList), AllocError>
     requires { 12 ≤ length message.now }
     ensures { IfOk result (λ p. p ≡ part_of message.now) }

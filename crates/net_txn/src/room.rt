@@ -3,10 +3,10 @@
 ghost use Rattle.std.specs.Prelude.{◌≡◌, ◌≢◌, ◌+◌, ◌≤◌, length, take, vec_len, None, Some};
 ghost use Rattle.net_txn.specs.Undos.{fault_by, first_fault_of};
 
-use crate::fault::TxnFault;
 use crate::logged::{INVERSE, inverse_of};
 use crate::trouble::Trouble;
 use crate::wait::FLOOD;
+use lego_model::TxnFault;
 use of_types::{ByteList, Dpid};
 use std::alloc::{AllocError, Global};
 use std::marker::Model;

@@ -1,16 +1,16 @@
 //! A transaction over the network: changes that are kept together or not at all.
 
 ghost use Rattle.std.specs.Prelude.{◌≡◌, ◌≤◌, [], length, take, IfOk, IfErr};
-ghost use Rattle.net_txn.specs.declared.fault.TxnFault.TheVariants.{NoMemory};
+ghost use Rattle.lego_model.specs.declared.fault.TxnFault.TheVariants.{NoMemory};
 ghost use Rattle.net_txn.specs.Changes.{Changes};
 ghost use Rattle.net_txn.specs.Undos.{Undoes};
 ghost use Rattle.net_txn.specs.Agreement.{Reaches, Steps};
 
-use crate::fault::TxnFault;
 use crate::net::Net;
 use crate::queue::EventQueue;
 use app_frames::Answer;
 use flow_table::TableView;
+use lego_model::TxnFault;
 use of_types::Dpid;
 use outside::World;
 

@@ -1,19 +1,19 @@
 //! The undo of what was logged from a place on.
 
 ghost use Rattle.std.specs.Prelude.{◌≡◌, ◌+◌, ◌<◌, ◌≤◌, ℕ, true, List, [], ◌∷◌, length, take, drop, map, Option, None, IsOk, vec_len};
-ghost use Rattle.net_txn.specs.declared.fault.TxnFault.{TxnFault};
+ghost use Rattle.lego_model.specs.declared.fault.TxnFault.{TxnFault};
 ghost use Rattle.outside.specs.Seen.{Seen};
 ghost use Rattle.flow_table.specs.declared.view.TableView.{TableView};
 ghost use Rattle.net_txn.specs.declared.logged.Logged.{Logged};
 ghost use Rattle.net_txn.specs.Undos.{ended_by, without_keys, switches_of, Further, IsSettledIn, IsRoomLeft, is_viewed, but_fare};
 
-use crate::fault::TxnFault;
 use crate::logged::Logged;
 use crate::playing::{behind, play, settle_switch};
 use crate::queue::MessageQueue;
 use crate::room::{Room, note};
 use crate::views::remove_in;
 use flow_table::TableView;
+use lego_model::TxnFault;
 use of_types::{Dpid, Xid};
 use outside::World;
 use std::alloc::Global;

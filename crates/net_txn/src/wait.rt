@@ -11,11 +11,12 @@ ghost use Rattle.outside.specs.InOrder.{InOrder};
 ghost use Rattle.outside.specs.declared.step.WorldStep.TheVariants.{Acted};
 ghost use Rattle.net_txn.specs.LinkSteps.{OnLinks, StaysInPlace, AsksInPlace, Awaits};
 ghost use Rattle.net_txn.specs.Causes.{IsCause, IsLinkCause, IsNoFlood};
-ghost use Rattle.net_txn.specs.Waits.{heard, is_reply, echo_reply, steps_by, kept_by, refusal_in, first_of, HearsOne, Waits, IfFlooded, KeptMore, barrier_sent};
+ghost use Rattle.net_txn.specs.Waits.{refusal_in, first_of, HearsOne, Waits, IfFlooded, KeptMore};
+ghost use Rattle.lego_model.specs.BarrierWaits.{heard, is_reply, echo_reply, steps_by, kept_by, barrier_sent};
 
-use crate::fault::TxnFault;
-use crate::heard::{Awaited, Heard, Refusal, barrier_request, judge};
+use crate::heard::{barrier_request, classify};
 use crate::queue::MessageQueue;
+use lego_model::{Awaited, Heard, Refusal, TxnFault};
 use of_types::{ByteList, Dpid, kinds, put_u8};
 use of_wire::check;
 use outside::{LinkFault, World};
@@ -108,7 +109,7 @@ fn treat<W: World>(
     ensures told { W.Tells → OnOk result ((W.seen world.new).history
         ≡ (W.seen world.old).history ++ steps_by awaited.now.dpid (heard awaited.now message.old) message.old) }
 {
-    match judge(message, awaited) {
+    match classify(message, awaited) {
         Heard::Reply => return Ok(true),
         Heard::Refused(refusal) => note(answer, refusal),
         Heard::Notice => {}

@@ -17,12 +17,12 @@ use Rattle.outside.specs.SeenLaws.{journal-append, Continues-refl, Continues-tra
 use Rattle.outside.specs.State.{State, state, event_number, marks_at_event, is_running, after_step, after_steps}
 use Rattle.outside.specs.StateLaws.{state-append, Conforming-before}
 use Rattle.outside.specs.Conforming.{Conforming}
-use Rattle.net_txn.specs.declared.fault.TxnFault.{TxnFault}
-use Rattle.net_txn.specs.declared.heard.Awaited.{Awaited}
-use Rattle.net_txn.specs.declared.heard.Heard.{Heard}
-use Rattle.net_txn.specs.declared.heard.Heard.TheVariants.{Reply, Refused, Notice, Echo, Other}
+use Rattle.lego_model.specs.declared.fault.TxnFault.{TxnFault}
+use Rattle.lego_model.specs.declared.wait.Awaited.{Awaited}
+use Rattle.lego_model.specs.declared.wait.Heard.{Heard}
+use Rattle.lego_model.specs.declared.wait.Heard.TheVariants.{Reply, Refused, Notice, Echo, Other}
 use Rattle.net_txn.specs.Net.{NetState, awaited_from}
-use Rattle.net_txn.specs.Waits.{heard, steps_by, wait_steps, reply_got, barrier_sent}
+use Rattle.lego_model.specs.BarrierWaits.{heard, steps_by, wait_steps, reply_got, barrier_sent}
 use Rattle.net_txn.specs.Changes.{known_rows, answer_of_host, change_sent}
 use Rattle.net_txn.specs.Undos.{Part, Inverse, Settled, Stuck, alone, part_steps, steps_of, fault_in, first_fault_of, first_fault, ended_by, Undoes}
 use Rattle.app_visor.specs.Talks.{step_of, Told, give_act}

@@ -38,12 +38,14 @@ use Rattle.outside.specs.declared.step.WorldStep.{WorldStep}
 use Rattle.outside.specs.declared.step.WorldStep.TheVariants.{Acted, TookInto, From, Joined, Left, Moment, Idle, End, Opened, NotOpened, NextFailed, SendFailed, RecvFailed}
 use Rattle.outside.specs.SeenLaws.{journal-append}
 use Rattle.outside.specs.StateLaws.{state-append}
-use Rattle.net_txn.specs.declared.heard.Awaited.{Awaited}
-use Rattle.net_txn.specs.declared.heard.Heard.{Heard}
-use Rattle.net_txn.specs.declared.heard.Heard.TheVariants as kinds
-use Rattle.net_txn.specs.declared.heard.Refusal.{Refusal}
-use Rattle.net_txn.specs.Waits.{heard, steps_by, wait_steps, barrier_sent, reply_got, Waits}
-use Rattle.net_txn.specs.Asks.{asked_from, request_sent, GivesRows}
+use Rattle.lego_model.specs.declared.wait.Awaited.{Awaited}
+use Rattle.lego_model.specs.declared.wait.Heard.{Heard}
+use Rattle.lego_model.specs.declared.wait.Heard.TheVariants as kinds
+use Rattle.lego_model.specs.declared.wait.Refusal.{Refusal}
+use Rattle.net_txn.specs.Waits.{Waits}
+use Rattle.lego_model.specs.BarrierWaits.{heard, steps_by, wait_steps, barrier_sent, reply_got}
+use Rattle.net_txn.specs.Asks.{GivesRows}
+use Rattle.lego_model.specs.FlowQueries.{asked_from, request_sent}
 use Rattle.batch_laws.specs.Calm.{ViewsAscend}
 use Rattle.lego_model.specs.OrderlySteps.{IsOrderly}
 use Rattle.switch_laws.specs.OrderlyLaws.{orderly-none, orderly-then, rows-orderly}

@@ -29,13 +29,14 @@ use Rattle.lego_model.specs.Journal.{packet_read, released_in, released}
 use Rattle.outside.specs.declared.step.WorldStep.{WorldStep}
 use Rattle.outside.specs.declared.step.WorldStep.TheVariants.{Acted, TookInto, From, Joined, Left, Moment, Idle, End, Opened, NotOpened, NextFailed, SendFailed, RecvFailed}
 use Rattle.outside.specs.Seen.{Seen, act_of, journal}
-use Rattle.net_txn.specs.declared.fault.TxnFault.{TxnFault}
-use Rattle.net_txn.specs.declared.heard.Awaited.{Awaited}
-use Rattle.net_txn.specs.declared.heard.Heard.{Heard}
-use Rattle.net_txn.specs.declared.heard.Heard.TheVariants.{Reply, Refused, Notice, Echo, Other}
-use Rattle.net_txn.specs.Net.{NetState, next_xid, awaited_from, inverse_bytes, delete_strict}
-use Rattle.net_txn.specs.Waits.{heard, steps_by, echo_reply, heard_steps, wait_steps, barrier_sent, reply_got}
-use Rattle.net_txn.specs.Asks.{GivesRows, asked_from, request_sent, flows_request}
+use Rattle.lego_model.specs.declared.fault.TxnFault.{TxnFault}
+use Rattle.lego_model.specs.declared.wait.Awaited.{Awaited}
+use Rattle.lego_model.specs.declared.wait.Heard.{Heard}
+use Rattle.lego_model.specs.declared.wait.Heard.TheVariants.{Reply, Refused, Notice, Echo, Other}
+use Rattle.net_txn.specs.Net.{NetState, awaited_from, inverse_bytes, delete_strict}
+use Rattle.lego_model.specs.BarrierWaits.{next_xid, heard, steps_by, echo_reply, heard_steps, wait_steps, barrier_sent, reply_got}
+use Rattle.net_txn.specs.Asks.{GivesRows}
+use Rattle.lego_model.specs.FlowQueries.{asked_from, request_sent, flows_request}
 use Rattle.net_txn.specs.Changes.{Changes, answer_of_host, known_rows, change_sent}
 use Rattle.net_txn.specs.Joining.{Joins, greeting, greeted_from, delete_all}
 use Rattle.net_txn.specs.Undos.{Part, Inverse, Settled, Stuck, part_steps, steps_of, alone, fault_in, first_fault, first_fault_of, ended_by, Undoes}

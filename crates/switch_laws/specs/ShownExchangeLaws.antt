@@ -23,7 +23,7 @@ use Rattle.lego_model.specs.Places.{Place, switch_at, with_place, rows_at as row
 use Rattle.outside.specs.Seen.{Given, Seen, is_declared}
 use Rattle.outside.specs.State.{State, state, switch_of, waits_of}
 use Rattle.outside.specs.Conforming.{AreDeclaredFrom, Conforming}
-use Rattle.net_txn.specs.declared.heard.Refusal.{Refusal}
+use Rattle.lego_model.specs.declared.wait.Refusal.{Refusal}
 use Rattle.net_txn.specs.Views.{rows_at, rows_after}
 use Rattle.net_txn.specs.Net.{NetState}
 use Rattle.net_txn.specs.Changes.{known_rows, answer_of_host, error_in, views_by, Asked, Changes}

@@ -24,7 +24,7 @@ use Rattle.lego_model.specs.Answers.{rows_of_table, rows_of_view, would_touch, a
 use Rattle.outside.specs.Seen.{Seen}
 use Rattle.outside.specs.State.{state, switch_of, waits_of}
 use Rattle.outside.specs.Conforming.{Conforming}
-use Rattle.net_txn.specs.declared.heard.Refusal.{Refusal}
+use Rattle.lego_model.specs.declared.wait.Refusal.{Refusal}
 use Rattle.net_txn.specs.declared.logged.Logged.{Logged}
 use Rattle.net_txn.specs.Views.{rows_at, with_rows, with_row, row_in, rows_after}
 use Rattle.net_txn.specs.ViewLaws.{with_rows-kept}

@@ -5,8 +5,8 @@ use Rattle.app_frames.specs.declared.frame.Answer.{Answer}
 use Rattle.outside.specs.Seen.{Seen}
 use Rattle.outside.specs.StateLaws.{Conforming-before}
 use Rattle.outside.specs.Conforming.{Conforming}
-use Rattle.net_txn.specs.declared.fault.TxnFault.{TxnFault}
-use Rattle.net_txn.specs.declared.fault.TxnFault.TheVariants.{NoMemory}
+use Rattle.lego_model.specs.declared.fault.TxnFault.{TxnFault}
+use Rattle.lego_model.specs.declared.fault.TxnFault.TheVariants.{NoMemory}
 use Rattle.net_txn.specs.Net.{NetState}
 use Rattle.net_txn.specs.Changes.{known_rows, answer_of_host, Changes}
 use Rattle.net_txn.specs.Agreement.{Steps}

@@ -1,6 +1,6 @@
 use Rattle.std.proofs.Common.{◌≡◌, ◌+◌, ◌-◌, zero, suc, refl, ◌∙◌, arith}
 use Rattle.std.proofs.lemmas.Result.{err_from_is_err_and}
-use Rattle.net_txn.specs.declared.fault.TxnFault.TheVariants.{NoMemory}
+use Rattle.lego_model.specs.declared.fault.TxnFault.TheVariants.{NoMemory}
 use Rattle.app_visor.specs.ResultLaws.{err_so}
 use Rattle.app_visor.specs.BeatLaws.{Leads-refl, Leads-trans, stops_then, stops_breaking}
 use Rattle.app_visor.specs.PlayLaws.{goes_none, goes_more, ends_then, spent_then}

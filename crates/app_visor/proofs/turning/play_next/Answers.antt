@@ -1,6 +1,6 @@
 use Rattle.std.proofs.Common.{refl}
 use Rattle.std.proofs.lemmas.Result.{err_from_is_err_and, IfOk-weaker, on_ok_weaker, on_err_weaker}
-use Rattle.net_txn.specs.declared.fault.TxnFault.TheVariants.{NoMemory}
+use Rattle.lego_model.specs.declared.fault.TxnFault.TheVariants.{NoMemory}
 use Rattle.app_visor.specs.ResultLaws.{err_so, err_then}
 use Rattle.app_visor.specs.BeatLaws.{Leads-trans, leads_comes, stops_then, stops_breaking}
 use Rattle.app_visor.specs.PlayLaws.{plays_came, ends_over, not_frame}

@@ -1,7 +1,7 @@
 use Rattle.std.proofs.Common.{◌≡◌, ◌++◌, take, append_assoc, arith}
 use Rattle.std.proofs.lemmas.List.{take_all, append-nil}
 use Rattle.of_types.specs.Fields.{number_bytes}
-use Rattle.net_txn.specs.Asks.{all_flows}
+use Rattle.lego_model.specs.FlowQueries.{all_flows}
 use Rattle.net_txn.proofs.asking.all_flows.Goals as goal
 
 pub returns : goal.returns

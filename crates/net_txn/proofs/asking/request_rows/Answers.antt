@@ -2,7 +2,7 @@ use Rattle.std.proofs.Common.{refl, inl, ap, ◌∙◌, arith}
 use Rattle.std.proofs.lemmas.Result.{err_from_is_err_and}
 use Rattle.of_wire.specs.declared.message.Message.TheVariants.{BarrierReply}
 use Rattle.of_wire.specs.Spelling.{message_bytes}
-use Rattle.net_txn.specs.declared.heard.Awaited.{Awaited}
+use Rattle.lego_model.specs.declared.wait.Awaited.{Awaited}
 use Rattle.net_txn.specs.AskLaws.{long_parts, sorted_more, sorted_some, came_more, asked_cause, asked_place, asked_waits, asked_flooded, replies_no_flood, answer_by_replies}
 use Rattle.outside.specs.SeenLaws.{Continues-refl}
 use Rattle.net_txn.specs.WaitLaws.{none_kept}

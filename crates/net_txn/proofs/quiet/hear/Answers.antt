@@ -1,7 +1,7 @@
 use Rattle.std.proofs.Common.{◌∷◌, take, sym, ◌∙◌}
 use Rattle.std.proofs.lemmas.Result.{IfErr-weaker, err_from_is_err_and}
 use Rattle.net_txn.specs.QuietLaws.{heard_next, refused_next, Fails-behind}
-use Rattle.net_txn.specs.Waits.{wait_steps, barrier_sent}
+use Rattle.lego_model.specs.BarrierWaits.{wait_steps, barrier_sent}
 use Rattle.net_txn.specs.Undos.{inverses_in}
 use Rattle.net_txn.specs.SizeLaws.{header-read}
 use Rattle.net_txn.specs.PlacedLaws.{goes_got, goes_barrier, barrier_waits}

@@ -2,7 +2,7 @@ use Rattle.event_dispatch.specs.declared.fault.Fault.TheVariants as faults
 use Rattle.std.proofs.Common.{rules, refl, subst, Option, Result}
 use Rattle.of_types.specs.Fields.{IsBytes}
 use Rattle.app_frames.specs.declared.frame.Event.{Event}
-use Rattle.net_txn.specs.declared.fault.TxnFault.{TxnFault}
+use Rattle.lego_model.specs.declared.fault.TxnFault.{TxnFault}
 use Rattle.net_txn.specs.Arriving.{Arrives}
 use Rattle.batch_laws.specs.HandleLaws.{arrived_handles, from_ignored}
 use Rattle.event_dispatch.specs.PlainLaws.{err_is, read_memory, read_arrived}

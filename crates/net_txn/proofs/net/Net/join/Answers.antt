@@ -3,7 +3,7 @@ use Rattle.std.proofs.lemmas.Result.{err_from_is_err_and}
 use Rattle.of_wire.specs.declared.message.Message.TheVariants.{SetConfig}
 use Rattle.of_wire.specs.Spelling.{message_bytes}
 use Rattle.flow_table.specs.Switch.{first_config}
-use Rattle.net_txn.specs.declared.heard.Awaited.{Awaited}
+use Rattle.lego_model.specs.declared.wait.Awaited.{Awaited}
 use Rattle.net_txn.specs.Net.{NetState}
 use Rattle.net_txn.specs.WaitLaws.{waits_kept}
 use Rattle.net_txn.specs.ChangeLaws.{kept_for}

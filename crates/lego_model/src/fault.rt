@@ -1,7 +1,7 @@
 //! Why a call on the network failed.
 
 ghost use Rattle.std.specs.Prelude.{◌≡◌};
-ghost use Rattle.net_txn.specs.declared.fault.TxnFault.TheVariants.{NoMemory};
+ghost use Rattle.lego_model.specs.declared.fault.TxnFault.TheVariants.{NoMemory};
 
 use of_types::{ByteList, Dpid};
 use std::alloc::{AllocError, AllocFailed};
