@@ -9,7 +9,8 @@ use Rattle.net_txn.specs.Views.{rows_at}
 use Rattle.switch_laws.specs.Shown.{shown_places}
 use Rattle.switch_laws.specs.Sound.{AllSound}
 use Rattle.batch_laws.specs.Knowledge.{Knowledge}
-use Rattle.batch_laws.specs.Calm.{known_ports, ViewsAscend}
+use Rattle.batch_laws.specs.Calm.{known_ports}
+use Rattle.net_txn.specs.OrderLaws.{ViewsFrom}
 use Rattle.batch_laws.specs.Lasting.{AllLast}
 use Rattle.batch_laws.specs.LinkTells.{KnownIn, StandsIn}
 use Rattle.switch_laws.specs.Standing.{declared_in}
@@ -21,7 +22,7 @@ pub record Facts (s : State) (k : Knowledge) : Type 0 where
   pub waits : NoneWait s.links
   pub due : s.due ≡ []
   pub known : (d : ℕ) → KnownIn (switch_of d s) (rows_at d k.views) (known_ports d k.ports)
-  pub order : ViewsAscend 0 k.views
+  pub order : ViewsFrom 0 k.views
   pub moment : k.moment ≡ s.moment
   pub stands : (d : ℕ) → StandsIn d (switch_of d s)
   pub last : AllLast s.links
@@ -35,6 +36,6 @@ pub record After (x : WorldStim) (s : State) (before k : Knowledge) : Type 0 whe
   pub queue : k.queue ≡ before.queue ++ events_after x s.moment (shown_places (declared_in s.links) before.views s)
   pub places : shown_places (declared_in s.links) k.views (after_stim x s) ≡ places_after x s.moment (shown_places (declared_in s.links) before.views s)
   pub known : (d : ℕ) → KnownIn (switch_of d (after_stim x s)) (rows_at d k.views) (known_ports d k.ports)
-  pub order : ViewsAscend 0 k.views
+  pub order : ViewsFrom 0 k.views
   pub moment : k.moment ≡ (after_stim x s).moment
   pub sound : (d : ℕ) → SoundIn (switch_of d (after_stim x s))

@@ -157,7 +157,7 @@ desc-map g same n (p ∷ ps) = ap₂ (λ (x : PortDesc) xs. x ∷ xs) (same.desc
 desc-some : (test : PortState → Bool) (g : PortState → PortState) → SameDesc g → SameDesc (λ p. if test p then g p else p)
 desc-some test g same = record { desc = λ n p. elim (cases_Bool (test p)) [ inl passes ↦ rw passes (same.desc n p) | inr fails ↦ rw fails refl ] }
 
-abbrev goes : PortState → Bool
+abbrev pub goes : PortState → Bool
 goes p = p.link && not (is_down p) && not (has_no_fwd p)
 
 desc-frame_out : (len : ℕ) → SameDesc (after_frame_out len)

@@ -35,6 +35,7 @@ use Rattle.outside.specs.State.{Link, State, link_at_first, at_first, link_of, s
 use Rattle.outside.specs.Conforming.{ArePortsFrom, MayDeclare, IsStimulus, IsWorldStim, MayAct, MayStep, MaySteps, Conforming}
 use Rattle.switch_laws.specs.StandLaws.{state-links}
 use Rattle.batch_laws.specs.Lasting.{AscendPorts, Lasts, PortWithin, LastsIn, LinkLasts, AllLast}
+use Rattle.batch_laws.specs.FrameTellLaws.{goes}
 
 -- ---- Ports
 
@@ -69,7 +70,7 @@ length-filtered test (p ∷ ps) =
       | inr fails ↦ rw fails (omega (arith, length-filtered test ps))
     ]
 
-none_is : (o : Option PortState) → is_none o ≡ true → o ≡ None
+pub none_is : (o : Option PortState) → is_none o ≡ true → o ≡ None
 none_is None h = refl
 none_is (Some p) h = absurd cc
 
@@ -116,9 +117,6 @@ keeps-some test g keeps = record {
   number = λ p. elim (cases_Bool (test p)) [ inl passes ↦ rw passes (keeps.number p) | inr fails ↦ rw fails refl ];
   config = λ p small. elim (cases_Bool (test p)) [ inl passes ↦ rw passes (keeps.config p small) | inr fails ↦ rw fails small ];
 }
-
-abbrev goes : PortState → Bool
-goes p = p.link && not (is_down p) && not (has_no_fwd p)
 
 keeps-frame_out : (len : ℕ) → KeepsPort (after_frame_out len)
 unfolding after_frame_out

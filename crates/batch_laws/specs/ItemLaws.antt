@@ -54,10 +54,10 @@ use Rattle.batch_laws.specs.InBatch.{SameBesides}
 pub links_ascend : {Own : Type 0} (seen : Seen Own) → Conforming seen → Ascend 1 (state seen).links
 links_ascend seen keeps = subst (λ (ds : List Declared). AreDeclaredFrom 1 ds) (sym (state-links seen).declared_so) keeps.declared
 
-lower_number : (d e : ℕ) (a b : List ℕ) → Some (From d a) ≡ Some (From e b) → d ≡ e
+pub lower_number : (d e : ℕ) (a b : List ℕ) → Some (From d a) ≡ Some (From e b) → d ≡ e
 lower_number d e a b same = cc
 
-same_bytes : (d e : ℕ) (a b : List ℕ) → Some (From d a) ≡ Some (From e b) → a ≡ b
+pub same_bytes : (d e : ℕ) (a b : List ℕ) → Some (From d a) ≡ Some (From e b) → a ≡ b
 same_bytes d e a b same = cc
 
 -- The next message is that of the first switch of which one waits.

@@ -34,7 +34,8 @@ use Rattle.net_txn.specs.Joining.{with_view}
 use Rattle.net_txn.specs.JoiningLaws.{rows_at-with_view, rows_at-with_view-other}
 use Rattle.switch_laws.specs.Shown.{flags_at, shown_switch, places, shown_places}
 use Rattle.batch_laws.specs.Knowledge.{Knowledge, handled, handled_all, joined_by}
-use Rattle.batch_laws.specs.Calm.{known_ports, ViewsAscend}
+use Rattle.batch_laws.specs.Calm.{known_ports}
+use Rattle.net_txn.specs.OrderLaws.{ViewsFrom}
 use Rattle.batch_laws.specs.HistoryLaws.{joined-lasts}
 use Rattle.batch_laws.specs.Lasting.{AscendPorts, Lasts, LinkLasts}
 use Rattle.batch_laws.specs.PortTellLaws.{desc-fits}
@@ -46,9 +47,7 @@ use Rattle.batch_laws.specs.AfterLaws.{sound-stands}
 use Rattle.batch_laws.specs.After.{Facts, SoundIn, After}
 use Rattle.batch_laws.specs.LeaveTellLaws.{all-known, all-sound, place-of-one}
 use Rattle.batch_laws.specs.Tells.{OnlyOne}
-
-abbrev some : SwitchState → Option SwitchState
-some s = Some s
+use Rattle.switch_laws.specs.ShownExchangeLaws.{some_switch}
 
 -- ---- Its FEATURES_REPLY can be read
 
@@ -137,12 +136,12 @@ join-places d s k after l facts found only here =
     (all-each (λ (y : Declared). y.dpid ≡ d → y ≡ l.declared) (λ y. at_place d (joined s.moment) (place_at g y) ≡ place_at (shown_switch after.views now) y)
     (λ y is. place-of-one d s now k after facts only (joined s.moment) y (λ same.
     ap (λ (o : Option SwitchState). record { declared = y; switch = o })
-    (ap₂ (λ (x : Declared) (n : ℕ). some (or_joined s.moment x (g n))) (is same) same ∙ sym here ∙ ap (shown_switch after.views now) (sym same)))) (declared_in s.links)
+    (ap₂ (λ (x : Declared) (n : ℕ). some_switch (or_joined s.moment x (g n))) (is same) same ∙ sym here ∙ ap (shown_switch after.views now) (sym same)))) (declared_in s.links)
     (declared-found d 1 s.links l facts.ascend found)))
 
 -- ---- What the engine knows then
 
-view-order : (d least : ℕ) (views : List TableView) → least ≤ d → rows_at d views ≡ None → ViewsAscend least views → ViewsAscend least (with_view d views)
+view-order : (d least : ℕ) (views : List TableView) → least ≤ d → rows_at d views ≡ None → ViewsFrom least views → ViewsFrom least (with_view d views)
 view-order d least [] low none h = (low, tt)
 view-order d least (v ∷ vs) low none h =
     elim (cases_Bool (v.dpid == d)) [
@@ -174,7 +173,7 @@ added-other : (d e : ℕ) (ps : List PortDesc) (ks : List KnownPorts) → e ≢ 
 added-other d e ps [] other = rw (ne_eqb d e (λ same. other (sym same))) refl
 added-other d e ps (k ∷ ks) other = ap (λ (o : Option (List PortDesc)). if k.dpid == e then Some k.ports else o) (added-other d e ps ks other)
 
-no-rows : (rows : Option (List ViewRow)) → option_map rows_of_view rows ≡ None → rows ≡ None
+pub no-rows : (rows : Option (List ViewRow)) → option_map rows_of_view rows ≡ None → rows ≡ None
 no-rows None h = refl
 no-rows (Some rows) h = absurd cc
 
@@ -195,7 +194,7 @@ stays-joined d s k l y facts declared found is =
       queue =
           sym (append-nil k.queue)
           ∙ ap (λ (es : List Event). k.queue ++ es) (sym (join-events d s k l facts declared found ∙ ap (λ (o : Option SwitchState). joins_at s.moment (record { declared = l.declared; switch = o })) shown));
-      places = join-places d s k k l facts found only (ap (option_map (owned_switch (flags_at d k.views))) here ∙ ap (λ (o : Option SwitchState). some (or_joined s.moment l.declared o)) (sym shown));
+      places = join-places d s k k l facts found only (ap (option_map (owned_switch (flags_at d k.views))) here ∙ ap (λ (o : Option SwitchState). some_switch (or_joined s.moment l.declared o)) (sym shown));
       known = all-known d s now k k facts only (subst (λ (o : Option SwitchState). KnownIn o (rows_at d k.views) (known_ports d k.ports)) (before ∙ sym here) (facts.known d));
       order = facts.order;
       moment = facts.moment;
@@ -225,7 +224,7 @@ comes d s k l facts declared found number may is =
       queue =
           ap (λ (e : Event). k.queue ++ e ∷ []) (sym event)
           ∙ ap (λ (es : List Event). k.queue ++ es) (sym (join-events d s k l facts declared found ∙ ap (λ (o : Option SwitchState). joins_at s.moment (record { declared = l.declared; switch = o })) shown));
-      places = join-places d s k after l facts found only (ap (option_map (owned_switch (flags_at d after.views))) here ∙ ap (λ (o : Option SwitchState). some (or_joined s.moment l.declared o)) (sym shown));
+      places = join-places d s k after l facts found only (ap (option_map (owned_switch (flags_at d after.views))) here ∙ ap (λ (o : Option SwitchState). some_switch (or_joined s.moment l.declared o)) (sym shown));
       known = all-known d s now k after facts only (subst (λ (o : Option SwitchState). KnownIn o (rows_at d after.views) (known_ports d after.ports)) (sym here) (record {
         agrees = ap (option_map rows_of_view) (rows_at-with_view d k.views);
         ports = added-here d (features_of j).ports k.ports known.ports;

@@ -13,6 +13,7 @@ use Rattle.lego_model.specs.Answers.{rows_of_table, rows_of_view}
 use Rattle.net_txn.specs.Arriving.{is_asked, without_key}
 use Rattle.switch_laws.specs.Shown.{flags_in}
 use Rattle.batch_laws.specs.Keys.{has_place, Distinct, entry_keys, without_all, AscendRows}
+use Rattle.switch_laws.specs.AbsentLaws.{neither}
 
 -- ---- Lists
 
@@ -54,10 +55,6 @@ filter-alike p q (x ∷ xs) h =
     ]
 
 -- ---- Keys
-
-pub neither : (a b : Bool) → (a || b) ≡ false → (a ≡ false) × (b ≡ false)
-neither true b h = absurd (true≢false h)
-neither false b h = (refl, h)
 
 or-swap : (a b c : Bool) → (a || (b || c)) ≡ (b || (a || c))
 or-swap true true c = refl

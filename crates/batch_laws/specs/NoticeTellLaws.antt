@@ -38,15 +38,17 @@ use Rattle.switch_laws.specs.Shown.{flags_in}
 use Rattle.switch_laws.specs.Sound.{SoundEntry, AllSound}
 use Rattle.switch_laws.specs.SoundLaws.{notice-message}
 use Rattle.batch_laws.specs.Knowledge.{Knowledge, told_read, handled, handled_all}
-use Rattle.batch_laws.specs.Calm.{known_ports, ViewsAscend}
-use Rattle.batch_laws.specs.KeyLaws.{all-both, all-filter, all-map, all-by_deadline, filter-alike, neither, has-by_deadline, distinct-by_deadline, distinct-filter, has-filter, without_all-filter, view-filter, table-filter, flags-kept, rows-ascend, asked-flags, asked-without}
+use Rattle.batch_laws.specs.Calm.{known_ports}
+use Rattle.net_txn.specs.OrderLaws.{ViewsFrom}
+use Rattle.batch_laws.specs.KeyLaws.{all-both, all-filter, all-map, all-by_deadline, filter-alike, has-by_deadline, distinct-by_deadline, distinct-filter, has-filter, without_all-filter, view-filter, table-filter, flags-kept, rows-ascend, asked-flags, asked-without}
+use Rattle.switch_laws.specs.AbsentLaws.{neither}
 use Rattle.batch_laws.specs.Keys.{has_place, Distinct, entry_keys, notice_keys, without_all, AscendRows}
 use Rattle.batch_laws.specs.TellLaws.{known-handled, is-known}
 use Rattle.batch_laws.specs.Tells.{ViewChanged, SwitchHandled, SwitchKnown}
 
 -- ---- Views
 
-pub views-with_rows : (d : ℕ) (change : List ViewRow → List ViewRow) (least : ℕ) (views : List TableView) → ViewsAscend least views → ViewsAscend least (with_rows d change views)
+pub views-with_rows : (d : ℕ) (change : List ViewRow → List ViewRow) (least : ℕ) (views : List TableView) → ViewsFrom least views → ViewsFrom least (with_rows d change views)
 views-with_rows d change least [] h = tt
 views-with_rows d change least (v ∷ vs) h =
     elim (cases_Bool (v.dpid == d)) [

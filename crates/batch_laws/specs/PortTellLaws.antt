@@ -35,6 +35,7 @@ use Rattle.batch_laws.specs.Calm.{known_ports}
 use Rattle.batch_laws.specs.Lasting.{AscendPorts, Lasts}
 use Rattle.batch_laws.specs.TellLaws.{known-handled, is-known, view-kept}
 use Rattle.batch_laws.specs.Tells.{SwitchHandled, SwitchKnown}
+use Rattle.batch_laws.specs.HistoryLaws.{none_is}
 
 -- ---- News of a port can be read
 
@@ -101,7 +102,7 @@ known-other d e status (k ∷ ks) other =
 abbrev changed_at : ℕ → (PortState → PortState) → PortState → PortState
 changed_at n g p = if p.number == n then g p else p
 
-some_is_none : {X : Type 0} (x : X) → Some x ≡ None → ⊥
+pub some_is_none : {X : Type 0} (x : X) → Some x ≡ None → ⊥
 some_is_none x e = cc
 
 one_port : (p q : PortState) → Some p ≡ Some q → p ≡ q
@@ -220,10 +221,6 @@ without-absent n (p ∷ ps) none =
       | inl here ↦ absurd (some_is_none p (rw here at none))
       | inr other ↦ rw other (ap (λ (xs : List PortState). p ∷ xs) (without-absent n ps (rw other at none)))
     ]
-
-none_is : (o : Option PortState) → is_none o ≡ true → o ≡ None
-none_is None h = refl
-none_is (Some p) h = absurd cc
 
 -- ---- One switch
 

@@ -56,6 +56,7 @@ use Rattle.event_dispatch.specs.Serves.{SettlesSome, IsBatch, GoesRounds, GoesTo
 use Rattle.event_dispatch.specs.RoundLaws.{batch_is}
 use Rattle.event_dispatch.specs.WholeLaws.{opened_so}
 use Rattle.event_dispatch.specs.Plain.{IsPlainServed, IsPlainEnd, PlainRead, PlainJoin, PlainItem, PlainNext, PlainKept, PlainCalm, PlainTurn, PlainTable, PlainRun, PlainWhole}
+use Rattle.event_dispatch.specs.CutLaws.{if_err}
 
 -- ---- Want of memory, and faults of the network
 
@@ -280,11 +281,6 @@ unopened_plain Tells old new ends.NoMemory is = tt
 pub served_plain : {Own : Type 0} (Tells : Type 0) (accepts : List TableView → Bool) (end : Served) (old mid new : Seen Own) → (Tells → mid.history ≡ old.history ++ Opened ∷ []) → PlainWhole Tells accepts mid new engine_at_first end
     → (allows : List Place → Bool) → Premise Tells accepts allows old new → IsPlainServed end
 served_plain Tells accepts end old mid new opened whole allows p = whole.plain allows p.told p.keeps p.judges (settled-first mid (opened_so old mid p.untouched (opened p.told))) p.few
-
--- what a `?` answers
-pub err_is : {T E : Type 0} (P : E → Type 0) (e : E) (r : Result T E) → IsErrAnd r (λ s. s ≡ e) → P e → IfErr r P
-err_is P e (Ok x) is p = tt
-err_is P e (Err s) is p = subst P (sym is) p
 
 pub on_err : {T E : Type 0} {P Q : E → Type 0} (r : Result T E) → ((e : E) → P e → Q e) → IfErr r P → IfErr r Q
 on_err (Ok x) f p = tt

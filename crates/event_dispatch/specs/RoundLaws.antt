@@ -35,6 +35,7 @@ use Rattle.event_dispatch.specs.Runs.{Waits}
 use Rattle.event_dispatch.specs.Batch.{BatchShown}
 use Rattle.event_dispatch.specs.Shows.{engine_of, queued_run}
 use Rattle.event_dispatch.specs.Serves.{Writes, Starts, IsDispatched, SettlesOne, SettlesSome, Settles, IsBatch, GoesRound, GoesRounds, GoesToEnd, Begins}
+use Rattle.run_laws.specs.EndingLaws.{known-append}
 
 -- ---- What is written
 
@@ -42,16 +43,12 @@ nothing_written : (o : Option (List ℕ)) → o ≡ append_known o []
 nothing_written None = refl
 nothing_written (Some xs) = ap (λ (l : List ℕ). Some l) (sym (append-nil xs))
 
-known_append : (o : Option (List ℕ)) (s t : List ℕ) → append_known (append_known o s) t ≡ append_known o (s ++ t)
-known_append None s t = refl
-known_append (Some xs) s t = ap (λ (l : List ℕ). Some l) (append_assoc xs s t)
-
 writes_none : (contents : Option (List ℕ)) (r : Run) → r.lines.items ≡ [] → Writes [] contents contents r
 writes_none contents r none = record { written = nothing_written contents; none_waits = none }
 
 pub writes_then : (first second : List ℕ) (a b c : Option (List ℕ)) (r later : Run) → Writes first a b r → Writes second b c later → Writes (first ++ second) a c later
 writes_then first second a b c r later one two = record {
-  written = two.written ∙ ap (λ (o : Option (List ℕ)). append_known o second) one.written ∙ known_append a first second;
+  written = two.written ∙ ap (λ (o : Option (List ℕ)). append_known o second) one.written ∙ known-append a first second;
   none_waits = two.none_waits;
 }
 

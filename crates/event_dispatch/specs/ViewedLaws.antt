@@ -4,6 +4,7 @@ use Rattle.std.proofs.lemmas.Bool.{cases_Bool}
 use Rattle.flow_table.specs.declared.view.TableView.{TableView}
 use Rattle.net_txn.specs.Views.{rows_at}
 use Rattle.net_txn.specs.Undos.{is_viewed}
+use Rattle.switch_laws.specs.ShownUndoLaws.{viewed-rows}
 
 pub joined_rows : (d : ℕ) (views : List TableView) → is_viewed d views ≡ true → IsSome (rows_at d views)
 joined_rows d [] h = absurd (true≢false (sym h))
@@ -13,10 +14,3 @@ joined_rows d (v ∷ vs) h =
       | inr other ↦ rw other (joined_rows d vs (rw other at h))
     ]
 
-pub out_rows : (d : ℕ) (views : List TableView) → is_viewed d views ≡ false → rows_at d views ≡ None
-out_rows d [] h = refl
-out_rows d (v ∷ vs) h =
-    elim (cases_Bool (v.dpid == d)) [
-      | inl here ↦ absurd (true≢false (rw here at h))
-      | inr other ↦ rw other (out_rows d vs (rw other at h))
-    ]

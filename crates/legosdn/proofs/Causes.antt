@@ -158,7 +158,7 @@ refused_at_three contents faults old mid new words told before after stop why ea
     let both = refused_line contents faults old mid new words told before after stop r.0 r.1 why early line in
     (r.0, both.0, both.1)
 
-no_both : (session : SessionValue) (refusal : Refusal) → Ok session ≡ Err refusal → ⊥
+pub no_both : (session : SessionValue) (refusal : Refusal) → Ok session ≡ Err refusal → ⊥
 no_both session refusal e = absurd cc
 
 refused_or_loaded : {left : Option (List ℕ)} {seen : Seen Scripts} {bytes : List ℕ} {refusal : Refusal} → Loaded (Some bytes) left seen → session_of bytes ≡ Err refusal → ⊥

@@ -28,16 +28,13 @@ use Rattle.legosdn.specs.Said.{all_allowed, SaidSo, CutRun, WritingRun}
 use Rattle.legosdn.specs.Headline.{KeepsLines, UpToPlace}
 use Rattle.legosdn.proofs.Said.{told_in, are_said, kept_to_lines}
 use Rattle.legosdn.proofs.Places.{CountsNone, behind_for, none_strays, shut_strays, idle_strays}
+use Rattle.sim_world.specs.ScriptLaws.{AreScripted-front}
 
 -- ---- A front of what happened
 
-scripted_front : (own : Scripts) (fails : List FailCall) (xs ys : List WorldStep) (lives : ℕ → Life) → AreScripted own fails (xs ++ ys) lives → AreScripted own fails xs lives
-scripted_front own fails [] ys lives are = tt
-scripted_front own fails (x ∷ xs) ys lives are = (are.0, scripted_front own fails xs ys (lives_after own fails x lives) are.1)
-
 keeps_before : (own : Scripts) (fails : List FailCall) (first whole : List WorldStep) → Longer first whole → KeepsScripts own fails whole → KeepsScripts own fails first
 unfolding KeepsScripts
-keeps_before own fails first whole later keeps = scripted_front own fails first later.0 all_fresh (subst (λ (h : List WorldStep). AreScripted own fails h all_fresh) later.1 keeps)
+keeps_before own fails first whole later keeps = AreScripted-front own fails first later.0 all_fresh (subst (λ (h : List WorldStep). AreScripted own fails h all_fresh) later.1 keeps)
 
 -- the lines of the session were kept to as far as there
 lines_at : (sim : WorldData) (last : Seen Scripts) → KeepsLines sim → (seen_of sim).given ≡ last.given → Longer last.history (seen_of sim).history → KeepsScripts last.given.own (without_links last.given.fails) last.history

@@ -11,6 +11,7 @@ use Rattle.legosdn.specs.declared.stop.Refusal.TheVariants.{Session}
 use Rattle.legosdn.specs.Stops.{refusal_line, kind_word}
 use Rattle.lego_io.specs.Sink.{TookPart}
 use Rattle.lego_io.specs.ToldLaws.{append_known-append}
+use Rattle.event_dispatch.specs.TalkingLaws.{holds_on_err}
 
 -- a part of the first of two
 pub part_of_two : (old new : Option (List ℕ)) (a b : List ℕ) → TookPart old new a → TookPart old new (a ++ b)
@@ -31,10 +32,6 @@ part_of_second old mid new a b c first part = part_of_two old new (a ++ b) c (pa
 pub part_of_third : (old mid late new : Option (List ℕ)) (a b c : List ℕ) → mid ≡ append_known old a → late ≡ append_known mid b → TookPart late new c → TookPart old new (a ++ b ++ c)
 part_of_third old mid late new a b c first second part =
     part_behind old late new (a ++ b) c (second ∙ ap (λ (told : Option (List ℕ)). append_known told b) first ∙ sym (append_known-append old a b)) part
-
-pub whenever : {T E P : Type 0} (r : Result T E) → P → OnErr r P
-whenever (Ok x) p = tt
-whenever (Err e) p = p
 
 -- the line of a session's fault, in its pieces
 pub session_line : (refusal : Refusal) (fault : SessionFault) (end : List ℕ) → refusal ≡ Session fault → end ≡ line_of (codes " " ++ kind_word fault.kind)

@@ -41,6 +41,7 @@ use Rattle.legosdn.proofs.Places.{CountsNone, all_for, none_strays}
 use Rattle.lego_io.specs.Count.{NeverFell}
 use Rattle.lego_model.specs.declared.fault.TxnFault.{TxnFault}
 use Rattle.lego_model.specs.declared.fault.TxnFault.TheVariants as faults
+use Rattle.legosdn.proofs.Causes.{no_both}
 
 -- a session that was read has so many stimuli at most
 pub loads_few : (names : List (List ℕ)) (n : ℕ) (bytes : List ℕ) (seen : Seen Scripts) → (s : SessionValue) × (session_text names n bytes ≡ Ok s) × Begins (given_by s) seen → length seen.given.stimuli ≤ 1000000
@@ -187,9 +188,6 @@ pub diverged_as : (sim : WorldData) (stop : Stop) (a b : Option (List ℕ)) → 
 diverged_as sim stop a b runs nine = let is = is_diverged stop nine in (subst (λ (s : Stop). StopsAs s sim a b) is.1 runs).0
 
 -- ---- A good input is answered
-
-no_both : (session : SessionValue) (refusal : Refusal) → Ok session ≡ Err refusal → ⊥
-no_both session refusal e = absurd cc
 
 pub completes : (sim : WorldData) (words : List (List ℕ)) (told : Option (List ℕ)) (old new : Faults) (stop : Stop) (a b : Option (List ℕ)) → IsCause words told old new stop → StopsAs stop sim a b → (input : List ℕ) (session : SessionValue)
     → is_command words ≡ true → told ≡ Some input → session_of input ≡ Ok session → BringMessages sim.history → NoneFailed old new → Contains (0 ∷ 10 ∷ 12 ∷ []) (stop_status stop)

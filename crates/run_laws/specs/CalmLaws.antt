@@ -22,18 +22,13 @@ use Rattle.switch_laws.specs.Since.{Ready, logged_since, Since, Goes}
 use Rattle.switch_laws.specs.Sound.{Sound}
 use Rattle.switch_laws.specs.SoundStepLaws.{undo-sound}
 use Rattle.switch_laws.specs.ShownUndoLaws.{again, out-again, undo-ready}
-use Rattle.batch_laws.specs.Calm.{known_ports, ViewsAscend, Calm}
+use Rattle.batch_laws.specs.Calm.{known_ports, Calm}
+use Rattle.net_txn.specs.OrderLaws.{ViewsFrom}
 use Rattle.run_laws.specs.LinkSteps.{Rests}
+use Rattle.batch_laws.specs.InBatchLaws.{links_switch, links_waits}
+use Rattle.batch_laws.specs.JoinTellLaws.{no-rows}
 
 -- ---- Where the switches stay
-
-pub switch_stays : (d : ℕ) (s t : State) → t.links ≡ s.links → switch_of d t ≡ switch_of d s
-unfolding switch_of
-switch_stays d s t same = ap (λ (ls : List Link). switch_in (link_of d ls)) same
-
-waits_stay : (d : ℕ) (s t : State) → t.links ≡ s.links → waits_of d t ≡ waits_of d s
-unfolding waits_of
-waits_stay d s t same = ap (λ (ls : List Link). waits_in (link_of d ls)) same
 
 pub Rests-refl : (s : State) → Rests s s
 Rests-refl s = record { begun = refl; due = refl; moment = refl }
@@ -44,12 +39,12 @@ Rests-trans s t u first second = record { begun = second.begun ∙ first.begun; 
 pub calm_talk : {Own : Type 0} (old new : Seen Own) (net : NetState) → (state new).links ≡ (state old).links → Rests (state old) (state new) → Calm old net → Calm new net
 calm_talk old new net same rests calm = record {
   ready = record {
-    waits = λ d. waits_stay d (state old) (state new) same ∙ calm.ready.waits d;
-    agrees = λ d. calm.ready.agrees d ∙ ap (option_map (λ x. rows_of_table x.table.entries)) (sym (switch_stays d (state old) (state new) same));
+    waits = λ d. links_waits d (state old) (state new) same ∙ calm.ready.waits d;
+    agrees = λ d. calm.ready.agrees d ∙ ap (option_map (λ x. rows_of_table x.table.entries)) (sym (links_switch d (state old) (state new) same));
   };
-  sound = record { entries = λ d x is. calm.sound.entries d x (sym (switch_stays d (state old) (state new) same) ∙ is) };
+  sound = record { entries = λ d x is. calm.sound.entries d x (sym (links_switch d (state old) (state new) same) ∙ is) };
   order = calm.order;
-  ports = λ d. calm.ports d ∙ ap (option_map ports_of) (sym (switch_stays d (state old) (state new) same));
+  ports = λ d. calm.ports d ∙ ap (option_map ports_of) (sym (links_switch d (state old) (state new) same));
   kept = calm.kept;
   moment = calm.moment ∙ sym rests.moment;
   none_begun = rests.begun ∙ calm.none_begun;
@@ -92,13 +87,13 @@ first_of a b xs ys is = cc
 rest_of : (a b : ℕ) (xs ys : List ℕ) → a ∷ xs ≡ b ∷ ys → xs ≡ ys
 rest_of a b xs ys is = cc
 
-ascend_same : (least : ℕ) (vs ws : List TableView) → dpids vs ≡ dpids ws → ViewsAscend least ws → ViewsAscend least vs
+ascend_same : (least : ℕ) (vs ws : List TableView) → dpids vs ≡ dpids ws → ViewsFrom least ws → ViewsFrom least vs
 ascend_same least [] ws same all = tt
 ascend_same least (v ∷ vs) [] same all = absurd cc
 ascend_same least (v ∷ vs) (w ∷ ws) same all =
     let one = first_of v.dpid w.dpid (dpids vs) (dpids ws) same in
     let more = rest_of v.dpid w.dpid (dpids vs) (dpids ws) same in
-    (subst (λ (n : ℕ). least ≤ n) (sym one) all.0, subst (λ (n : ℕ). ViewsAscend (n + 1) vs) (sym one) (ascend_same (w.dpid + 1) vs ws more all.1))
+    (subst (λ (n : ℕ). least ≤ n) (sym one) all.0, subst (λ (n : ℕ). ViewsFrom (n + 1) vs) (sym one) (ascend_same (w.dpid + 1) vs ws more all.1))
 
 -- ---- Ports
 
@@ -139,14 +134,10 @@ some_rows d (v ∷ vs) viewed none =
     no_rows : (rows : List ViewRow) → Some rows ≡ None → ⊥
     no_rows rows h = cc
 
-none_mapped : (o : Option (List ViewRow)) → option_map rows_of_view o ≡ None → o ≡ None
-none_mapped None h = refl
-none_mapped (Some rows) h = absurd cc
-
 pub stands_ready : {Own : Type 0} (d : ℕ) (seen : Seen Own) (net : NetState) → Ready seen net → is_viewed d net.views ≡ true → (o : Option SwitchState) → switch_of d (state seen) ≡ o → StandsReady d (state seen)
 stands_ready d seen net ready viewed (Some s) is = record { switch = s; is = is; waits = ready.waits d }
 stands_ready d seen net ready viewed None is =
-    absurd (some_rows d net.views viewed (none_mapped (rows_at d net.views) (ready.agrees d ∙ ap (option_map (λ x. rows_of_table x.table.entries)) is)))
+    absurd (some_rows d net.views viewed (no-rows (rows_at d net.views) (ready.agrees d ∙ ap (option_map (λ x. rows_of_table x.table.entries)) is)))
 
 module _ {Own : Type 0} (Tells : Type 0) (start : ℕ) (first old new : Seen Own) (net0 net now_net : NetState) where
   ports_again : Tells → Conforming new → Since start first old net0 net → Ready old net → Undoes Tells start old new net now_net (Ok tt) → (d : ℕ) (o : Option SwitchState) → switch_of d (state first) ≡ o
@@ -160,7 +151,7 @@ module _ {Own : Type 0} (Tells : Type 0) (start : ℕ) (first old new : Seen Own
   calm_undone told keeps since ready undoes ports rests calm = record {
     ready = undo-ready Tells start first old new net0 net now_net told keeps ready undoes;
     sound = undo-sound Tells start first old new net0 net now_net told keeps since ready undoes calm.sound;
-    order = subst (ViewsAscend 0) (sym (undoes.views ∙ since.views)) calm.order;
+    order = subst (ViewsFrom 0) (sym (undoes.views ∙ since.views)) calm.order;
     ports = λ d. ap (known_ports d) (undoes.ports ∙ ports) ∙ calm.ports d ∙ sym (ports_again told keeps since ready undoes d (switch_of d (state first)) refl);
     kept = undoes.none_kept told keeps refl (λ d viewed. stands_ready d old net ready viewed (switch_of d (state old)) refl) ∙ since.kept ∙ calm.kept;
     moment = undoes.moment ∙ since.moment ∙ calm.moment ∙ sym rests.moment;

@@ -38,9 +38,11 @@ use Rattle.turn_laws.specs.ChainLaws.{goes-same}
 use Rattle.lego_model.specs.Application.{index}
 use Rattle.lego_model.specs.History.{own_acts, given_in, stimuli_in}
 use Rattle.run_laws.specs.FrameLaws.{answer_number, restore_number}
-use Rattle.run_laws.specs.LinkStepLaws.{all_append, link_steps, link_steps-tell, talk_step, talk_steps, event_marks, gone_marks, talk_marks, talks_mark}
+use Rattle.run_laws.specs.LinkStepLaws.{link_steps, link_steps-tell, talk_step, talk_steps, event_marks, gone_marks, talk_marks, talks_mark}
+use Rattle.net_txn.specs.RestoreLaws.{all_two}
 use Rattle.run_laws.specs.LinkSteps.{OnlyLinks, IsLinkStep, OnlyTalk, NoEvents, Rests, LinksOnly, TellsSame, TriesKeep}
-use Rattle.run_laws.specs.CalmLaws.{switch_stays, Rests-refl, Rests-trans}
+use Rattle.run_laws.specs.CalmLaws.{Rests-refl, Rests-trans}
+use Rattle.batch_laws.specs.InBatchLaws.{links_switch}
 
 -- ---- One message
 
@@ -53,7 +55,7 @@ heard_links d bytes Other = tt
 
 pub wait_links : (a : Awaited) (got : List (List ℕ)) → AllByRecursion IsLinkStep (wait_steps a got)
 wait_links a [] = tt
-wait_links a (bytes ∷ got) = (tt, all_append IsLinkStep (steps_by a.dpid (heard a bytes) bytes) (wait_steps a got) (heard_links a.dpid bytes (heard a bytes)) (wait_links a got))
+wait_links a (bytes ∷ got) = (tt, all_two IsLinkStep (steps_by a.dpid (heard a bytes) bytes) (wait_steps a got) (heard_links a.dpid bytes (heard a bytes)) (wait_links a got))
 
 links_none : {Own : Type 0} (old new : Seen Own) → new ≡ old → LinksOnly old new
 links_none old new is = record { steps = []; history = ap (λ (s : Seen _). s.history) is ∙ sym (append-nil old.history); are = tt }
@@ -67,7 +69,7 @@ exchange_by Tells x is told None host =
     record {
       steps = (change_sent x.dpid x.net.xid read.change ∷ barrier_sent a ∷ []) ++ (wait_steps a asks.waits.got ++ reply_got a ∷ []);
       history = asks.waits.hears.told told;
-      are = (tt, (tt, all_append IsLinkStep (wait_steps a asks.waits.got) (reply_got a ∷ []) (wait_links a asks.waits.got) (tt, tt)));
+      are = (tt, (tt, all_two IsLinkStep (wait_steps a asks.waits.got) (reply_got a ∷ []) (wait_links a asks.waits.got) (tt, tt)));
     }
 
 pub exchange_links : {Own : Type 0} (Tells : Type 0) (x : Exchange Own) → IsExchange Tells x → Tells → LinksOnly x.before x.after
@@ -85,15 +87,15 @@ none_second (Some fault) b h = absurd cc
 
 part_links : (d : ℕ) (p : Part) → fault_in p ≡ None → AllByRecursion IsLinkStep (part_steps d p)
 part_links d (Inverse xid k) none = (tt, tt)
-part_links d (Settled xid got) none = (tt, all_append IsLinkStep (wait_steps (alone d xid) got) (reply_got (alone d xid) ∷ []) (wait_links (alone d xid) got) (tt, tt))
+part_links d (Settled xid got) none = (tt, all_two IsLinkStep (wait_steps (alone d xid) got) (reply_got (alone d xid) ∷ []) (wait_links (alone d xid) got) (tt, tt))
 part_links d (Stuck xid fault steps) none = absurd cc
 
 parts_links : (parts : List (ℕ × Part)) → first_fault parts ≡ None → AllByRecursion IsLinkStep (steps_of parts)
 parts_links [] none = tt
 parts_links (p ∷ older) none =
-    all_append IsLinkStep (steps_of older) (part_steps p.0 p.1) (parts_links older (none_first (first_fault older) (fault_in p.1) none)) (part_links p.0 p.1 (none_second (first_fault older) (fault_in p.1) none))
+    all_two IsLinkStep (steps_of older) (part_steps p.0 p.1) (parts_links older (none_first (first_fault older) (fault_in p.1) none)) (part_links p.0 p.1 (none_second (first_fault older) (fault_in p.1) none))
 
-no_fault : (o : Option TxnFault) → Ok tt ≡ ended_by o → o ≡ None
+pub no_fault : (o : Option TxnFault) → Ok tt ≡ ended_by o → o ≡ None
 no_fault None is = refl
 no_fault (Some fault) is = absurd cc
 
@@ -164,7 +166,7 @@ chain_sound Tells app start first net0 (Talk act ∷ trace) old new net now_net 
     let t = chain.1.1.0 in
     let same : (state next).links ≡ (state old).links = ap (λ (s : State). s.links) (told_state Tells act old next told t) ∙ (talk_step app act (state old) chain.0).links in
     chain_sound Tells app start first net0 trace next new net now_net told keeps chain.1.1.1 (goes-same start first old next net0 net t.continues.given same goes)
-    (record { entries = λ d x is. sound.entries d x (sym (switch_stays d (state old) (state next) same) ∙ is) })
+    (record { entries = λ d x is. sound.entries d x (sym (links_switch d (state old) (state next) same) ∙ is) })
 chain_sound Tells app start first net0 (Asks x ∷ trace) old new net now_net told keeps chain goes sound =
     let is = chain.1.0 in
     let kept = Conforming-before told (Chain-continues Tells app trace x.after new x.now_net now_net chain.1.1) keeps in

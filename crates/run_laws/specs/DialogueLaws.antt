@@ -80,10 +80,6 @@ starts_converse Tells text old new e now_e told a s =
 
 -- ---- A turn
 
--- it begins with an event
-pub event_told : (number moment : ℕ) (event : Event) → is_event (event_frame number moment event) ≡ true
-event_told number moment event = event_is number moment event
-
 closed_converses : {Own : Type 0} (Tells : Type 0) (end : TurnEnd) (unread text : List ℕ) (start : ℕ) (old mid new : Seen Own) (mid_net : NetState) (e now_e : Engine) → Tells → (a : AtOnce index (journal old.history))
     → Speaks index a.last old mid (is_done end) unread → IsClosed Tells end unread text start mid new mid_net e now_e → Conversing new now_e
 closed_converses Tells (ends.Done stop) unread text start old mid new mid_net e now_e told a says closed =

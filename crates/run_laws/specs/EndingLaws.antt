@@ -26,7 +26,7 @@ use Rattle.lego_model.specs.WholeRun.{EndsAlike, LeavesAlike}
 use Rattle.run_laws.specs.FinishLaws.{ends-alike, leaves-alike}
 use Rattle.run_laws.specs.Endings.{ShownStart, ShownWhole, Leaves, RanOut, RanFull}
 
-known-append : (o : Option (List ℕ)) (s t : List ℕ) → append_known (append_known o s) t ≡ append_known o (s ++ t)
+pub known-append : (o : Option (List ℕ)) (s t : List ℕ) → append_known (append_known o s) t ≡ append_known o (s ++ t)
 known-append None s t = refl
 known-append (Some xs) s t = ap (λ (l : List ℕ). Some l) (append_assoc xs s t)
 

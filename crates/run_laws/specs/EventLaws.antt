@@ -15,7 +15,7 @@ use Rattle.app_visor.specs.ReadTryLaws.{tries_told}
 use Rattle.journal_laws.specs.FrameLaws.{event_is}
 use Rattle.switch_laws.specs.OrderlyLaws.{orderly-whole}
 use Rattle.batch_laws.specs.Calm.{Calm}
-use Rattle.run_laws.specs.Engine.{Engine}
+use Rattle.run_laws.specs.Engine.{Engine, with_number}
 use Rattle.lego_model.specs.Application.{index}
 use Rattle.run_laws.specs.Facts.{IsTurn, Dispatches}
 use Rattle.run_laws.specs.Readings.{AreRead, JudgesAlike}
@@ -53,13 +53,10 @@ are-read Tells accepts = record {
 
 -- ---- An event
 
-abbrev numbered_engine : Engine → Engine
-numbered_engine e = record e { events = e.events + 1 }
-
 calm-by : {Own : Type 0} (Tells : Type 0) (accepts : List TableView → Bool) (allows : List Place → Bool) (event : Event) (text : List ℕ) (old new : Seen Own) (e now_e : Engine) (alive : Bool) → e.alive ≡ alive → Tells → Conforming new → JudgesAlike Own allows accepts
-    → e.events + 1 < 2 ^ 64 → Settled old e → IsTurn Tells accepts event alive text old new (numbered_engine e) now_e → Calm new now_e.net
+    → e.events + 1 < 2 ^ 64 → Settled old e → IsTurn Tells accepts event alive text old new (with_number e) now_e → Calm new now_e.net
 calm-by Tells accepts allows event text old new e now_e true is told keeps judges few settled turn =
-    ((turn_moves Tells accepts allows event text old new (numbered_engine e) now_e told keeps judges (are-read Tells accepts) few (settled.life is) turn).alike settled.calm).calm
+    ((turn_moves Tells accepts allows event text old new (with_number e) now_e told keeps judges (are-read Tells accepts) few (settled.life is) turn).alike settled.calm).calm
 calm-by Tells accepts allows event text old new e now_e false is told keeps judges few settled turn =
     subst (λ (s : Seen _). Calm s now_e.net) (sym turn.0) (subst (λ (x : Engine). Calm old x.net) (sym turn.1) settled.calm)
 
@@ -70,8 +67,8 @@ dispatch-moved Tells accepts allows event text old new e now_e told keeps contin
   settled = record {
     calm = calm-by Tells accepts allows event d.turn_text old new e now_e e.alive refl told keeps judges few settled d.turn;
     life = dispatch-life Tells accepts allows event text old new e now_e told keeps judges (are-read Tells accepts) few settled.life d;
-    speaks = turn_goes_on Tells accepts event e.alive d.turn_text old new (numbered_engine e) now_e told refl (record { at_once = settled.speaks.at_once; rest_so = settled.speaks.rest_so }) d.turn;
-    orderly = orderly-whole index old new settled.orderly (turn-orderly Tells accepts event e.alive d.turn_text old new (numbered_engine e) now_e told (are-read Tells accepts) d.turn);
+    speaks = turn_goes_on Tells accepts event e.alive d.turn_text old new (with_number e) now_e told refl (record { at_once = settled.speaks.at_once; rest_so = settled.speaks.rest_so }) d.turn;
+    orderly = orderly-whole index old new settled.orderly (turn-orderly Tells accepts event e.alive d.turn_text old new (with_number e) now_e told (are-read Tells accepts) d.turn);
   };
 }
 

@@ -46,7 +46,7 @@ use Rattle.net_txn.specs.Waits.{Waits}
 use Rattle.lego_model.specs.BarrierWaits.{heard, steps_by, wait_steps, barrier_sent, reply_got}
 use Rattle.net_txn.specs.Asks.{GivesRows}
 use Rattle.lego_model.specs.FlowQueries.{asked_from, request_sent}
-use Rattle.batch_laws.specs.Calm.{ViewsAscend}
+use Rattle.net_txn.specs.OrderLaws.{ViewsFrom}
 use Rattle.lego_model.specs.OrderlySteps.{IsOrderly}
 use Rattle.switch_laws.specs.OrderlyLaws.{orderly-none, orderly-then, rows-orderly}
 use Rattle.run_laws.specs.Engine.{Engine, Stands}
@@ -55,6 +55,7 @@ use Rattle.lego_model.specs.History.{own_acts, given_in, stimuli_in}
 use Rattle.lego_model.specs.ReferenceRun.{text_of}
 use Rattle.run_laws.specs.DialogueLaws.{others_at_once}
 use Rattle.run_laws.specs.LastReport.{SameKeys, flow_lines, table_lines, shown_text, last_text, last_lines, OnlyAsked, JoinedWith}
+use Rattle.batch_laws.specs.PortTellLaws.{some_is_none}
 
 -- ---- A switch
 
@@ -121,7 +122,7 @@ none-viewed d views s agrees out = none_viewed (rows_at d views) (agrees ∙ ap 
     none_viewed (Some x) h = absurd cc
 
 -- no view stands below the first
-none_below : (d least : ℕ) (views : List TableView) → ViewsAscend least views → d < least → rows_at d views ≡ None
+none_below : (d least : ℕ) (views : List TableView) → ViewsFrom least views → d < least → rows_at d views ≡ None
 none_below d least [] up below = refl
 none_below d least (v ∷ vs) up below =
     rw (ne_eqb v.dpid d (λ same. omega (arith, same, below, up.0))) (none_below d (v.dpid + 1) vs up.1 (omega (arith, below, up.0)))
@@ -141,16 +142,13 @@ declared_text g ds = flat_map (λ x. g x.dpid) ds
 abbrev viewed_text : (ℕ → List ℕ) → List TableView → List ℕ
 viewed_text g vs = flat_map (λ v. g v.dpid) vs
 
-some_rows : {X : Type 0} (x : X) → Some x ≡ None → ⊥
-some_rows x h = cc
-
 -- What has text only where there is a view, over the declared switches: it is that over the views.
-over-views : (g : ℕ → List ℕ) (first least : ℕ) (vs : List TableView) (ds : List Declared) → ViewsAscend first vs → AreDeclaredFrom least ds → ((d : ℕ) → is_declared d ds ≡ false → rows_at d vs ≡ None)
+over-views : (g : ℕ → List ℕ) (first least : ℕ) (vs : List TableView) (ds : List Declared) → ViewsFrom first vs → AreDeclaredFrom least ds → ((d : ℕ) → is_declared d ds ≡ false → rows_at d vs ≡ None)
     → ((d : ℕ) → least ≤ d → rows_at d vs ≡ None → g d ≡ []) → viewed_text g vs ≡ declared_text g ds
 over-views g first least [] [] up are known quiet = refl
 over-views g first least (v ∷ vs) [] up are known quiet =
     let none : (if v.dpid == v.dpid then Some v.rows else rows_at v.dpid vs) ≡ None = known v.dpid refl in
-    absurd (some_rows v.rows (rw (eq-eqb v.dpid v.dpid refl) at none))
+    absurd (some_is_none v.rows (rw (eq-eqb v.dpid v.dpid refl) at none))
 over-views g first least [] (x ∷ xs) up are known quiet =
     over-views g first (x.dpid + 1) [] xs tt are.2 (λ d h. refl) (λ d le h. quiet d (omega (arith, le, are.0)) refl) ∙ ap (λ (text : List ℕ). text ++ declared_text g xs) (sym (quiet x.dpid are.0 refl))
 over-views g first least (v ∷ vs) (x ∷ xs) up are known quiet =
@@ -188,7 +186,7 @@ over-views g first least (v ∷ vs) (x ∷ xs) up are known quiet =
       | inl is ↦ is
       | inr not ↦
           let none : rows_at v.dpid (v ∷ vs) ≡ None = known (rw (ne_eqb x.dpid v.dpid (λ e. apart (sym e))) not) in
-          absurd (some_rows v.rows (rw (eq-eqb v.dpid v.dpid refl) at none))
+          absurd (some_is_none v.rows (rw (eq-eqb v.dpid v.dpid refl) at none))
     ]
 
 places-text : (f : ℕ → Option SwitchState) (ds : List Declared) → flat_map (λ p. switch_text p.switch) (places f ds) ≡ declared_text (λ d. switch_text (f d)) ds
@@ -196,7 +194,7 @@ places-text f [] = refl
 places-text f (x ∷ xs) = ap (λ (text : List ℕ). switch_text (f x.dpid) ++ text) (places-text f xs)
 
 -- Over the views is over the places of the declared switches.
-pub places-shown : (declared : List Declared) (views : List TableView) (s : State) → ViewsAscend 0 views → AreDeclaredFrom 1 declared → Stand declared s → ((d : ℕ) → Agrees d views s)
+pub places-shown : (declared : List Declared) (views : List TableView) (s : State) → ViewsFrom 0 views → AreDeclaredFrom 1 declared → Stand declared s → ((d : ℕ) → Agrees d views s)
     → flat_map (λ v. shown_text views s v.dpid) views ≡ flat_map (λ p. switch_text p.switch) (shown_places declared views s)
 unfolding shown_places
 places-shown declared views s up are stand agrees =

@@ -10,10 +10,7 @@ use Rattle.outside.specs.Seen.{journal}
 use Rattle.outside.specs.State.{State, event_number, marks_at_event, marks_after_gave, after_act, after_step, after_steps}
 use Rattle.app_visor.specs.Talks.{step_of}
 use Rattle.run_laws.specs.LinkSteps.{OnlyLinks, IsLinkStep, TellsNothing, OnlyTalk, NoEvents, MarksNothing}
-
-pub all_append : {X : Type 0} (P : X → Type 0) (xs ys : List X) → AllByRecursion P xs → AllByRecursion P ys → AllByRecursion P (xs ++ ys)
-all_append P [] ys all rest = rest
-all_append P (x ∷ xs) ys all rest = (all.0, all_append P xs ys all.1 rest)
+use Rattle.net_txn.specs.RestoreLaws.{all_two}
 
 -- ---- Calls of links
 

@@ -57,7 +57,7 @@ passes rows bytes m xid host read =
     let both = first_none (flow_mod_refused m) (not_yet (would_touch m rows)) (no_refusal (or_else (flow_mod_refused m) (not_yet (would_touch m rows))) (rw read at host)) in
     record { unrefused = both.0; untouched = no_touch (would_touch m rows) both.1 }
 
-addition_passed : (first second deletes : Bool) (x y : OfError) (rest : Option OfError) → (if first then Some x else if second then Some y else if deletes then None else rest) ≡ None → deletes ≡ false → rest ≡ None
+pub addition_passed : (first second deletes : Bool) (x y : OfError) (rest : Option OfError) → (if first then Some x else if second then Some y else if deletes then None else rest) ≡ None → deletes ≡ false → rest ≡ None
 addition_passed true second deletes x y rest h other = absurd cc
 addition_passed false true deletes x y rest h other = absurd cc
 addition_passed false false true x y rest h other = absurd cc

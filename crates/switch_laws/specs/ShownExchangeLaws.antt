@@ -101,7 +101,7 @@ moved-shown (Some r) m rows s is p refused = refused-shown m rows s r.error p (s
 
 -- ---- A change that the switch judged
 
-abbrev some_switch : SwitchState → Option SwitchState
+abbrev pub some_switch : SwitchState → Option SwitchState
 some_switch s = Some s
 
 known-from : (d : ℕ) (bytes : List ℕ) (m : Change) (xid : ℕ) (views : List TableView) (s : State) (o : Option (List ViewRow)) (x : Option SwitchState) → rows_at d views ≡ o → switch_of d s ≡ x

@@ -49,13 +49,13 @@ unfolding undone_places
 undone-all f g [] = refl
 undone-all f g (d ∷ ds) = ap (λ (ps : List Place). record { declared = d; switch = switch_undone (f d.dpid) (g d.dpid) } ∷ ps) (undone-all f g ds)
 
-places-same : (f g : ℕ → Option SwitchState) → ((d : ℕ) → f d ≡ g d) → (ds : List Declared) → places f ds ≡ places g ds
+pub places-same : (f g : ℕ → Option SwitchState) → ((d : ℕ) → f d ≡ g d) → (ds : List Declared) → places f ds ≡ places g ds
 places-same f g same [] = refl
 places-same f g same (d ∷ ds) = ap₂ (λ (s : Option SwitchState) (ps : List Place). record { declared = d; switch = s } ∷ ps) (same d.dpid) (places-same f g same ds)
 
 -- ---- Which switches are joined
 
-viewed-rows : (d : ℕ) (views : List TableView) → is_viewed d views ≡ false → rows_at d views ≡ None
+pub viewed-rows : (d : ℕ) (views : List TableView) → is_viewed d views ≡ false → rows_at d views ≡ None
 viewed-rows d [] h = refl
 viewed-rows d (v ∷ vs) h =
     elim (cases_Bool (v.dpid == d)) [

@@ -37,7 +37,7 @@ use Rattle.switch_laws.specs.Shown.{Passes, has_row, Known}
 use Rattle.switch_laws.specs.ShownChangeLaws.{asks_the_same}
 use Rattle.switch_laws.specs.AskedLaws.{asked}
 use Rattle.switch_laws.specs.ViewLaws.{without-added}
-use Rattle.switch_laws.specs.AbsentLaws.{absent-entry, absent-row}
+use Rattle.switch_laws.specs.AbsentLaws.{absent-entry, absent-row, any-map, neither}
 use Rattle.switch_laws.specs.ShownExchangeLaws.{known, judged}
 use Rattle.switch_laws.specs.Since.{Ready, logged_since, SwitchSince, JoinedSince, Since, Goes, keys_by}
 
@@ -85,14 +85,6 @@ logged_more : (start : ℕ) (log : List Logged) (x : Logged) → start ≤ lengt
 logged_more start log x le = ap (map but_fare) (drop-append-le start log (x ∷ []) le) ∙ map-append but_fare (drop start log) (x ∷ [])
 
 -- ---- A DELETE that touches no row
-
-any-map : {X Y : Type 0} (f : Y → Bool) (g : X → Y) (xs : List X) → list_any f (map g xs) ≡ list_any (λ x. f (g x)) xs
-any-map f g [] = refl
-any-map f g (x ∷ xs) = ap (λ (b : Bool). f (g x) || b) (any-map f g xs)
-
-neither : (a b : Bool) → (a || b) ≡ false → (a ≡ false) × (b ≡ false)
-neither true b h = absurd (true≢false h)
-neither false b h = (refl, h)
 
 filter_all : (p : Entry → Bool) (es : List Entry) → list_any p es ≡ false → filter (λ e. not (p e)) es ≡ es
 filter_all p [] none = refl

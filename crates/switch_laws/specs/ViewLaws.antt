@@ -9,6 +9,7 @@ use Rattle.net_txn.specs.Views.{rows_at, with_rows, with_row}
 use Rattle.net_txn.specs.Arriving.{without_key}
 use Rattle.net_txn.specs.Undos.{without_keys}
 use Rattle.switch_laws.specs.Shown.{has_row}
+use Rattle.switch_laws.specs.AbsentLaws.{neither}
 
 -- ---- Rows without a key
 
@@ -25,10 +26,6 @@ swap p q (x ∷ xs) =
         | inr not_second ↦ rw (not_first, not_second) (swap p q xs)
       ]
     ]
-
-neither : (a b : Bool) → (a || b) ≡ false → (a ≡ false) × (b ≡ false)
-neither true b h = absurd (true≢false h)
-neither false b h = (refl, h)
 
 without_none : (k : Key) (rows : List ViewRow) → has_row k rows ≡ false → without_key k rows ≡ rows
 without_none k [] h = refl

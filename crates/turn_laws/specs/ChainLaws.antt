@@ -31,6 +31,7 @@ use Rattle.switch_laws.specs.ShownExchangeLaws.{exchange-shown}
 use Rattle.switch_laws.specs.Since.{Ready, Goes}
 use Rattle.switch_laws.specs.SinceLaws.{begun, goes-on}
 use Rattle.turn_laws.specs.Chain.{Leads, PlayedAlike}
+use Rattle.switch_laws.specs.ShownUndoLaws.{places-same}
 
 -- ---- Calls for an application move no switch
 
@@ -57,15 +58,11 @@ waits-same : (d : ℕ) (s t : State) → t.links ≡ s.links → waits_of d t �
 unfolding waits_of
 waits-same d s t same = ap (λ (ls : List Link). waits_in (link_of d ls)) same
 
-places-pointwise : (f g : ℕ → Option SwitchState) → ((d : ℕ) → f d ≡ g d) → (ds : List Declared) → places f ds ≡ places g ds
-places-pointwise f g same [] = refl
-places-pointwise f g same (d ∷ ds) = ap₂ (λ (s : Option SwitchState) (ps : List Place). record { declared = d; switch = s } ∷ ps) (same d.dpid) (places-pointwise f g same ds)
-
 -- the reference controller's switches stay where links do
 pub shown-same : (declared : List Declared) (views : List TableView) (s t : State) → t.links ≡ s.links → shown_places declared views t ≡ shown_places declared views s
 unfolding shown_places
 shown-same declared views s t same =
-    places-pointwise (shown_switch views t) (shown_switch views s)
+    places-same (shown_switch views t) (shown_switch views s)
     (λ d. ap (λ (o : Option SwitchState). option_map_owned views d o) (switch-same d s t same)) declared
   where
     option_map_owned : List TableView → ℕ → Option SwitchState → Option SwitchState

@@ -1,12 +1,13 @@
 use Rattle.event_dispatch.specs.declared.fault.Fault.TheVariants as faults
 use Rattle.std.proofs.Common.{◌≡◌, rules, sym, subst, IsErrAnd}
 use Rattle.event_dispatch.specs.TurnLaws.{play_done, play_failed}
-use Rattle.event_dispatch.specs.PlainLaws.{err_is, turn_memory, turn_noted, turn_stopped, turn_not_undone}
+use Rattle.event_dispatch.specs.PlainLaws.{turn_memory, turn_noted, turn_stopped, turn_not_undone}
+use Rattle.event_dispatch.specs.CutLaws.{if_err}
 use Rattle.event_dispatch.specs.Plain.{PlainTurn}
 use Rattle.event_dispatch.specs.Why.{fault_of}
 use Rattle.event_dispatch.specs.KeptLaws.{turn_read}
 use Rattle.event_dispatch.specs.TalkingLaws.{turn_stops, turn_ends, turn_ended, holds_on_err}
-use Rattle.run_laws.specs.DialogueLaws.{event_told}
+use Rattle.journal_laws.specs.FrameLaws.{event_is}
 use Rattle.event_dispatch.specs.DispatchPlaceLaws.{later_same, later_undone, turn_kept, turn_undone, stop_undone, played_places, played_reads}
 use Rattle.event_dispatch.proofs.dispatch.play.Goals as goal
 
@@ -20,11 +21,11 @@ returns-in_ok-abort-in-Ok-Failed-clause-plays g c =
 
 pub returns-in_err-commit-in-Ok-Done-clause-plain : goal.returns-in_err-commit-in-Ok-Done-clause-plain
 returns-in_err-commit-in-Ok-Done-clause-plain g c =
-    err_is (PlainTurn g.W.World.Tells (g.W.World.seen c.args.world.now) (g.W.World.seen c.commit.new._world) c.args.net.now) faults.NoMemory c.from_residual.result (subst (λ f. IsErrAnd c.from_residual.result (λ s. s ≡ fault_of f)) c.in_err-commit-in-Ok-Done.ensures.fault c.from_residual.ensures.1) (turn_memory (g.W.World.seen c.args.world.now) (g.W.World.seen c.commit.new._world) c.args.net.now)
+    if_err (PlainTurn g.W.World.Tells (g.W.World.seen c.args.world.now) (g.W.World.seen c.commit.new._world) c.args.net.now) faults.NoMemory c.from_residual.result (subst (λ f. IsErrAnd c.from_residual.result (λ s. s ≡ fault_of f)) c.in_err-commit-in-Ok-Done.ensures.fault c.from_residual.ensures.1) (turn_memory (g.W.World.seen c.args.world.now) (g.W.World.seen c.commit.new._world) c.args.net.now)
 
 pub returns-in_err-abort-in-Ok-Failed-clause-plain : goal.returns-in_err-abort-in-Ok-Failed-clause-plain
 returns-in_err-abort-in-Ok-Failed-clause-plain g c =
-    err_is (PlainTurn g.W.World.Tells (g.W.World.seen c.args.world.now) (g.W.World.seen c.abort.new.world) c.args.net.now) (fault_of c.in_err-abort-in-Ok-Failed.field-0.0) c.from_residual-in_err-abort-in-Ok-Failed.result c.from_residual-in_err-abort-in-Ok-Failed.ensures.1
+    if_err (PlainTurn g.W.World.Tells (g.W.World.seen c.args.world.now) (g.W.World.seen c.abort.new.world) c.args.net.now) (fault_of c.in_err-abort-in-Ok-Failed.field-0.0) c.from_residual-in_err-abort-in-Ok-Failed.result c.from_residual-in_err-abort-in-Ok-Failed.ensures.1
     (turn_not_undone (g.W.World.seen c.args.world.now) (g.W.World.seen c.turn.new.world) (g.W.World.seen c.abort.new.world) c.args.net.now c.begin-txn.result.net.now c.turn.new.txn.net.now _ c.abort.result c.in_err-abort-in-Ok-Failed.field-0.0 c.begin-txn.ensures.net c.in-Ok-Failed.ensures.ok c.in_err-abort-in-Ok-Failed.was c.abort.ensures)
 
 pub returns-in-Err-clause-plain : goal.returns-in-Err-clause-plain
@@ -42,12 +43,12 @@ returns-in_ok-abort-in-Ok-Failed-clause-read g c = turn_read _ _ _ (returns-in_o
 pub returns-in_err-commit-in-Ok-Done-clause-talks : goal.returns-in_err-commit-in-Ok-Done-clause-talks
 returns-in_err-commit-in-Ok-Done-clause-talks g c =
     holds_on_err c.from_residual.result
-    (turn_ended c.args.app.now.index c.args.app.now.rest (g.W.World.seen c.args.world.now) (g.W.World.seen c.turn.new.world) (g.W.World.seen c.commit.new._world) (event_told c.args.number c.begin-txn.result.net.now.moment c.args.event.now) c.in-Ok-Done.ensures.ok c.commit.ensures.world)
+    (turn_ended c.args.app.now.index c.args.app.now.rest (g.W.World.seen c.args.world.now) (g.W.World.seen c.turn.new.world) (g.W.World.seen c.commit.new._world) (event_is c.args.number c.begin-txn.result.net.now.moment c.args.event.now) c.in-Ok-Done.ensures.ok c.commit.ensures.world)
 
 pub returns-in_err-abort-in-Ok-Failed-clause-talks : goal.returns-in_err-abort-in-Ok-Failed-clause-talks
 returns-in_err-abort-in-Ok-Failed-clause-talks g c =
     holds_on_err c.from_residual-in_err-abort-in-Ok-Failed.result
-    (turn_ends c.args.app.now.index c.args.app.now.rest (g.W.World.seen c.args.world.now) (g.W.World.seen c.turn.new.world) (g.W.World.seen c.abort.new.world) (event_told c.args.number c.begin-txn.result.net.now.moment c.args.event.now) c.in-Ok-Failed.ensures.ok c.abort.ensures.links)
+    (turn_ends c.args.app.now.index c.args.app.now.rest (g.W.World.seen c.args.world.now) (g.W.World.seen c.turn.new.world) (g.W.World.seen c.abort.new.world) (event_is c.args.number c.begin-txn.result.net.now.moment c.args.event.now) c.in-Ok-Failed.ensures.ok c.abort.ensures.links)
 
 pub returns-in-Err-clause-talks : goal.returns-in-Err-clause-talks
 returns-in-Err-clause-talks g c =

@@ -1,13 +1,13 @@
 use Rattle.event_dispatch.specs.declared.served.Served.TheVariants as ends
 use Rattle.event_dispatch.specs.WholeLaws.{runs_done, runs_by, runs_short}
-use Rattle.event_dispatch.specs.PlainLaws.{err_is, whole_anyway}
+use Rattle.event_dispatch.specs.PlainLaws.{whole_anyway}
+use Rattle.event_dispatch.specs.CutLaws.{if_err, short_cut}
 use Rattle.event_dispatch.specs.Plain.{PlainWhole}
 use Rattle.run_laws.specs.First.{engine_at_first}
 use Rattle.std.proofs.Common.{subst}
 use Rattle.run_laws.specs.Engine.{Engine}
 use Rattle.event_dispatch.specs.declared.served.Served.{Served}
 use Rattle.event_dispatch.specs.Cut.{CutAs, HasRead, ReadsEnd}
-use Rattle.event_dispatch.specs.CutLaws.{if_err, short_cut}
 use Rattle.event_dispatch.specs.Steady.{InPlace}
 use Rattle.event_dispatch.specs.SteadyLaws.{places_none}
 use Rattle.event_dispatch.specs.ReadLaws.{reads_as}
@@ -30,15 +30,15 @@ returns-clause-runs g c =
 
 pub returns-in_err-run-clause-plain : goal.returns-in_err-run-clause-plain
 returns-in_err-run-clause-plain g c =
-    err_is (PlainWhole g.W.World.Tells (g.J.Judge.accepts c.args.judge.now) (g.W.World.seen c.args.world.now) (g.W.World.seen c.args.world.now) engine_at_first) ends.NoMemory c.from_residual.result c.from_residual.ensures.1 (whole_anyway (g.W.World.seen c.args.world.now) (g.W.World.seen c.args.world.now) engine_at_first ends.NoMemory tt)
+    if_err (PlainWhole g.W.World.Tells (g.J.Judge.accepts c.args.judge.now) (g.W.World.seen c.args.world.now) (g.W.World.seen c.args.world.now) engine_at_first) ends.NoMemory c.from_residual.result c.from_residual.ensures.1 (whole_anyway (g.W.World.seen c.args.world.now) (g.W.World.seen c.args.world.now) engine_at_first ends.NoMemory tt)
 
 pub returns-in_err-buf-clause-plain : goal.returns-in_err-buf-clause-plain
 returns-in_err-buf-clause-plain g c =
-    err_is (PlainWhole g.W.World.Tells (g.J.Judge.accepts c.args.judge.now) (g.W.World.seen c.args.world.now) (g.W.World.seen c.args.world.now) engine_at_first) ends.NoMemory c.from_residual-in_err-buf.result c.from_residual-in_err-buf.ensures.1 (whole_anyway (g.W.World.seen c.args.world.now) (g.W.World.seen c.args.world.now) engine_at_first ends.NoMemory tt)
+    if_err (PlainWhole g.W.World.Tells (g.J.Judge.accepts c.args.judge.now) (g.W.World.seen c.args.world.now) (g.W.World.seen c.args.world.now) engine_at_first) ends.NoMemory c.from_residual-in_err-buf.result c.from_residual-in_err-buf.ensures.1 (whole_anyway (g.W.World.seen c.args.world.now) (g.W.World.seen c.args.world.now) engine_at_first ends.NoMemory tt)
 
 pub returns-in_err-go_to_end-clause-plain : goal.returns-in_err-go_to_end-clause-plain
 returns-in_err-go_to_end-clause-plain g c =
-    err_is (PlainWhole g.W.World.Tells (g.J.Judge.accepts c.args.judge.now) (g.W.World.seen c.args.world.now) (g.W.World.seen c.go_to_end.new.world) engine_at_first) c.in_err-go_to_end.field-0.0 c.from_residual-in_err-go_to_end.result c.from_residual-in_err-go_to_end.ensures.1
+    if_err (PlainWhole g.W.World.Tells (g.J.Judge.accepts c.args.judge.now) (g.W.World.seen c.args.world.now) (g.W.World.seen c.go_to_end.new.world) engine_at_first) c.in_err-go_to_end.field-0.0 c.from_residual-in_err-go_to_end.result c.from_residual-in_err-go_to_end.ensures.1
     (subst (λ (e : Engine). PlainWhole g.W.World.Tells (g.J.Judge.accepts c.args.judge.now) (g.W.World.seen c.args.world.now) (g.W.World.seen c.go_to_end.new.world) e c.in_err-go_to_end.field-0.0) c.in_ok-run.ensures.first c.in_err-go_to_end.ensures.plain)
 
 pub returns-in_err-run-clause-cut : goal.returns-in_err-run-clause-cut

@@ -1,11 +1,11 @@
 use Rattle.event_dispatch.specs.WholeLaws.{went_as, goes_by}
-use Rattle.event_dispatch.specs.PlainLaws.{err_is, on_err, whole_anyway, whole_rounds, whole_finish}
+use Rattle.event_dispatch.specs.PlainLaws.{on_err, whole_anyway, whole_rounds, whole_finish}
+use Rattle.event_dispatch.specs.CutLaws.{if_err, goes_cut, rounds_cut, went_cut}
 use Rattle.event_dispatch.specs.Plain.{PlainWhole}
 use Rattle.event_dispatch.specs.Why.{served_by}
 use Rattle.event_dispatch.specs.Shows.{engine_of}
 use Rattle.event_dispatch.specs.declared.served.Served.{Served}
 use Rattle.event_dispatch.specs.Cut.{CutAs}
-use Rattle.event_dispatch.specs.CutLaws.{if_err, goes_cut, rounds_cut, went_cut}
 use Rattle.std.proofs.Common.{inl}
 use Rattle.event_dispatch.specs.WhyLaws.{continues_then, why_behind, fell_then}
 use Rattle.event_dispatch.specs.SteadyLaws.{places_then, reads_then}
@@ -27,11 +27,11 @@ returns-clause-goes g c =
 
 pub returns-in_err-begin-clause-plain : goal.returns-in_err-begin-clause-plain
 returns-in_err-begin-clause-plain g c =
-    err_is (PlainWhole g.W.World.Tells (g.J.Judge.accepts c.args.judge.now) (g.W.World.seen c.args.world.now) (g.W.World.seen c.begin.new.world) (engine_of c.args.self.now)) (served_by c.in_err-begin.field-0.0) c.from_residual.result c.from_residual.ensures.1 (whole_anyway (g.W.World.seen c.args.world.now) (g.W.World.seen c.begin.new.world) (engine_of c.args.self.now) (served_by c.in_err-begin.field-0.0) c.in_err-begin.ensures.plain)
+    if_err (PlainWhole g.W.World.Tells (g.J.Judge.accepts c.args.judge.now) (g.W.World.seen c.args.world.now) (g.W.World.seen c.begin.new.world) (engine_of c.args.self.now)) (served_by c.in_err-begin.field-0.0) c.from_residual.result c.from_residual.ensures.1 (whole_anyway (g.W.World.seen c.args.world.now) (g.W.World.seen c.begin.new.world) (engine_of c.args.self.now) (served_by c.in_err-begin.field-0.0) c.in_err-begin.ensures.plain)
 
 pub returns-in_err-go_on-clause-plain : goal.returns-in_err-go_on-clause-plain
 returns-in_err-go_on-clause-plain g c =
-    err_is (PlainWhole g.W.World.Tells (g.J.Judge.accepts c.args.judge.now) (g.W.World.seen c.args.world.now) (g.W.World.seen c.go_on.new.world) (engine_of c.args.self.now)) (served_by c.in_err-go_on.field-0.0) c.from_residual-in_err-go_on.result c.from_residual-in_err-go_on.ensures.1
+    if_err (PlainWhole g.W.World.Tells (g.J.Judge.accepts c.args.judge.now) (g.W.World.seen c.args.world.now) (g.W.World.seen c.go_on.new.world) (engine_of c.args.self.now)) (served_by c.in_err-go_on.field-0.0) c.from_residual-in_err-go_on.result c.from_residual-in_err-go_on.ensures.1
     (whole_rounds (g.W.World.seen c.args.world.now) (g.W.World.seen c.begin.new.world) (g.W.World.seen c.go_on.new.world) c.args.self.now c.begin.new.self (served_by c.in_err-go_on.field-0.0) c.in_ok-begin.ensures.begins c.in_err-go_on.ensures.continues c.in_err-go_on.ensures.plain)
 
 pub returns-clause-plain : goal.returns-clause-plain

@@ -3,13 +3,13 @@ use Rattle.event_dispatch.specs.declared.batch.Rest.{Rest}
 use Rattle.event_dispatch.specs.Serves.{GoesRound}
 use Rattle.event_dispatch.specs.WhyLaws.{continues_then, fell_then}
 use Rattle.event_dispatch.specs.RoundLaws.{rounds_none, rounds_next, rounds_last, rounds_out}
-use Rattle.event_dispatch.specs.PlainLaws.{err_is, run_rounds}
+use Rattle.event_dispatch.specs.PlainLaws.{run_rounds}
+use Rattle.event_dispatch.specs.CutLaws.{if_err}
 use Rattle.event_dispatch.specs.Plain.{PlainRun}
 use Rattle.event_dispatch.specs.Shows.{engine_of}
 use Rattle.event_dispatch.specs.Why.{served_by}
 use Rattle.event_dispatch.specs.declared.fault.Fault.{Fault}
 use Rattle.event_dispatch.specs.Cut.{CutRounds}
-use Rattle.event_dispatch.specs.CutLaws.{if_err}
 use Rattle.event_dispatch.specs.SteadyLaws.{places_none, reads_none, places_then, reads_then}
 use Rattle.event_dispatch.proofs.run.Run.go_on.Goals as goal
 
@@ -48,7 +48,7 @@ returns-clause-to_end g c = rounds_out g.W.World.Tells (g.J.Judge.accepts c.args
 
 pub returns-in_err-go_round-clause-plain : goal.returns-in_err-go_round-clause-plain
 returns-in_err-go_round-clause-plain g c =
-    err_is (λ fault. PlainRun g.W.World.Tells (g.J.Judge.accepts c.args.judge.now) (g.W.World.seen c.args.world.now) (g.W.World.seen c.go_round.new.world) (engine_of c.args.self.now) (served_by fault)) c.in_err-go_round.field-0.0 c.from_residual.result c.from_residual.ensures.1
+    if_err (λ fault. PlainRun g.W.World.Tells (g.J.Judge.accepts c.args.judge.now) (g.W.World.seen c.args.world.now) (g.W.World.seen c.go_round.new.world) (engine_of c.args.self.now) (served_by fault)) c.in_err-go_round.field-0.0 c.from_residual.result c.from_residual.ensures.1
     (run_rounds (g.W.World.seen c.args.world.now) (g.W.World.seen c.loop-round.world) (g.W.World.seen c.go_round.new.world) c.args.self.now c.loop-round.self (served_by c.in_err-go_round.field-0.0) c.loop-round.invariant.rounds c.in_err-go_round.ensures.continues c.in_err-go_round.ensures.plain)
 
 pub returns-in_err-go_round-clause-cut : goal.returns-in_err-go_round-clause-cut

@@ -1,12 +1,12 @@
 use Rattle.std.proofs.Common.{refl, inl}
 use Rattle.event_dispatch.specs.RoundLaws.{round_so}
-use Rattle.event_dispatch.specs.PlainLaws.{err_is, run_calm, run_batch}
+use Rattle.event_dispatch.specs.PlainLaws.{run_calm, run_batch}
+use Rattle.event_dispatch.specs.CutLaws.{if_err, still_so, round_behind}
 use Rattle.event_dispatch.specs.Plain.{PlainRun}
 use Rattle.event_dispatch.specs.Shows.{engine_of}
 use Rattle.event_dispatch.specs.Why.{served_by}
 use Rattle.event_dispatch.specs.declared.fault.Fault.{Fault}
 use Rattle.event_dispatch.specs.Cut.{CutRound}
-use Rattle.event_dispatch.specs.CutLaws.{if_err, still_so, round_behind}
 use Rattle.event_dispatch.specs.SteadyLaws.{places_then, reads_then}
 use Rattle.event_dispatch.proofs.run.Run.go_round.Goals as goal
 
@@ -16,11 +16,11 @@ returns-clause-round g c =
 
 pub returns-in_err-rest-clause-plain : goal.returns-in_err-rest-clause-plain
 returns-in_err-rest-clause-plain g c =
-    err_is (λ fault. PlainRun g.W.World.Tells (g.J.Judge.accepts c.args.judge.now) (g.W.World.seen c.args.world.now) (g.W.World.seen c.take_batch.new.world) (engine_of c.args.self.now) (served_by fault)) c.in_err-rest.field-0.0 c.from_residual.result c.from_residual.ensures.1 (run_calm (g.W.World.seen c.args.world.now) (g.W.World.seen c.take_batch.new.world) c.args.self.now (served_by c.in_err-rest.field-0.0) c.in_err-rest.ensures.plain)
+    if_err (λ fault. PlainRun g.W.World.Tells (g.J.Judge.accepts c.args.judge.now) (g.W.World.seen c.args.world.now) (g.W.World.seen c.take_batch.new.world) (engine_of c.args.self.now) (served_by fault)) c.in_err-rest.field-0.0 c.from_residual.result c.from_residual.ensures.1 (run_calm (g.W.World.seen c.args.world.now) (g.W.World.seen c.take_batch.new.world) c.args.self.now (served_by c.in_err-rest.field-0.0) c.in_err-rest.ensures.plain)
 
 pub returns-in_err-settle-clause-plain : goal.returns-in_err-settle-clause-plain
 returns-in_err-settle-clause-plain g c =
-    err_is (λ fault. PlainRun g.W.World.Tells (g.J.Judge.accepts c.args.judge.now) (g.W.World.seen c.args.world.now) (g.W.World.seen c.settle.new.world) (engine_of c.args.self.now) (served_by fault)) c.in_err-settle.field-0.0 c.from_residual-in_err-settle.result c.from_residual-in_err-settle.ensures.1
+    if_err (λ fault. PlainRun g.W.World.Tells (g.J.Judge.accepts c.args.judge.now) (g.W.World.seen c.args.world.now) (g.W.World.seen c.settle.new.world) (engine_of c.args.self.now) (served_by fault)) c.in_err-settle.field-0.0 c.from_residual-in_err-settle.result c.from_residual-in_err-settle.ensures.1
     (run_batch c.in_ok-rest.rest (g.W.World.seen c.args.world.now) (g.W.World.seen c.take_batch.new.world) (g.W.World.seen c.settle.new.world) c.args.self.now c.take_batch.new.self (served_by c.in_err-settle.field-0.0) c.in_ok-rest.ensures.continues c.in_ok-rest.ensures.app c.in_ok-rest.ensures.waits c.in_ok-rest.ensures.batch
     c.in_err-settle.ensures.continues c.in_err-settle.ensures.plain)
 

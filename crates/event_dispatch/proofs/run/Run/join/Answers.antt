@@ -1,5 +1,6 @@
 use Rattle.event_dispatch.specs.declared.fault.Fault.TheVariants as faults
-use Rattle.event_dispatch.specs.PlainLaws.{err_is, join_memory, join_fault}
+use Rattle.event_dispatch.specs.PlainLaws.{join_memory, join_fault}
+use Rattle.event_dispatch.specs.CutLaws.{if_err}
 use Rattle.event_dispatch.specs.Plain.{PlainJoin}
 use Rattle.event_dispatch.specs.Why.{IsReason, fault_of}
 use Rattle.event_dispatch.specs.FaultLaws.{join_why}
@@ -16,16 +17,16 @@ use Rattle.event_dispatch.proofs.run.Run.join.Goals as goal
 
 pub returns-in_err-joined-clause-plain : goal.returns-in_err-joined-clause-plain
 returns-in_err-joined-clause-plain g c =
-    err_is (PlainJoin g.W.World.Tells c.args.dpid (g.W.World.seen c.args.world.now) (g.W.World.seen c.joined.new.world)) (fault_of c.in_err-joined.field-0.0) c.from_residual.result c.from_residual.ensures.1
+    if_err (PlainJoin g.W.World.Tells c.args.dpid (g.W.World.seen c.args.world.now) (g.W.World.seen c.joined.new.world)) (fault_of c.in_err-joined.field-0.0) c.from_residual.result c.from_residual.ensures.1
     (join_fault c.args.dpid (g.W.World.seen c.args.world.now) (g.W.World.seen c.joined.new.world) c.args.self.now.net c.joined.new.self c.in_err-joined.field-0.0 c.in_err-joined.ensures.in_step)
 
 pub returns-in_err-announce-clause-plain : goal.returns-in_err-announce-clause-plain
 returns-in_err-announce-clause-plain g c =
-    err_is (PlainJoin g.W.World.Tells c.args.dpid (g.W.World.seen c.args.world.now) (g.W.World.seen c.joined.new.world)) faults.NoMemory c.from_residual-in_err-announce.result c.from_residual-in_err-announce.ensures.1 (join_memory c.args.dpid (g.W.World.seen c.args.world.now) (g.W.World.seen c.joined.new.world))
+    if_err (PlainJoin g.W.World.Tells c.args.dpid (g.W.World.seen c.args.world.now) (g.W.World.seen c.joined.new.world)) faults.NoMemory c.from_residual-in_err-announce.result c.from_residual-in_err-announce.ensures.1 (join_memory c.args.dpid (g.W.World.seen c.args.world.now) (g.W.World.seen c.joined.new.world))
 
 pub returns-in_err-joined-clause-why : goal.returns-in_err-joined-clause-why
 returns-in_err-joined-clause-why g c =
-    err_is (IsReason g.W.World.Tells (g.W.World.seen c.args.world.now) (g.W.World.seen c.joined.new.world) 0 0) (fault_of c.in_err-joined.field-0.0) c.from_residual.result c.from_residual.ensures.1
+    if_err (IsReason g.W.World.Tells (g.W.World.seen c.args.world.now) (g.W.World.seen c.joined.new.world) 0 0) (fault_of c.in_err-joined.field-0.0) c.from_residual.result c.from_residual.ensures.1
     (join_why g.W.World.Tells c.args.dpid c.args.self.now.net.xid (g.W.World.seen c.args.world.now) (g.W.World.seen c.joined.new.world) c.in_err-joined.field-0.0 c.in_err-joined.ensures.cause c.in_err-joined.ensures.flooded)
 
 pub returns-clause-talks : goal.returns-clause-talks

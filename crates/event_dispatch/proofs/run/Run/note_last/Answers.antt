@@ -1,14 +1,14 @@
 use Rattle.event_dispatch.specs.declared.fault.Fault.TheVariants as faults
-use Rattle.std.proofs.Common.{◌∙◌, ℕ, List, get_or, take, sym, subst}
+use Rattle.std.proofs.Common.{◌∙◌, ℕ, List, get_or, take, sym, subst, refl, ap, rules}
 use Rattle.std.proofs.lemmas.List.{take_more}
 use Rattle.event_dispatch.specs.WhyLaws.{waits_then, continues_then}
 use Rattle.event_dispatch.specs.LastShown.{TablesShown}
 use Rattle.event_dispatch.specs.LastLaws.{take_whole, tables_next, last_shown}
-use Rattle.event_dispatch.specs.PlainLaws.{err_is, calm_anyway, tables_then}
+use Rattle.event_dispatch.specs.PlainLaws.{calm_anyway, tables_then}
+use Rattle.event_dispatch.specs.CutLaws.{if_err}
 use Rattle.event_dispatch.specs.Plain.{PlainCalm}
 use Rattle.event_dispatch.specs.Why.{served_by}
 use Rattle.event_dispatch.specs.TalkingLaws.{keeps_none, keeps_then}
-use Rattle.std.proofs.Common.{refl, ap, rules}
 use Rattle.run_laws.specs.Engine.{Engine}
 use Rattle.event_dispatch.specs.SteadyLaws.{places_none, reads_none, quietly_none, places_then, reads_then, quietly_then}
 use Rattle.event_dispatch.specs.DispatchPlaceLaws.{reads_over}
@@ -39,16 +39,16 @@ returns-clause-shown g c =
 
 pub returns-in_err-switches-clause-plain : goal.returns-in_err-switches-clause-plain
 returns-in_err-switches-clause-plain g c =
-    err_is (λ fault. PlainCalm g.W.World.Tells (g.W.World.seen c.args.world.now) (g.W.World.seen c.args.world.now) c.args.self.now.net (served_by fault)) faults.NoMemory c.from_residual.result c.from_residual.ensures.1 (calm_anyway (g.W.World.seen c.args.world.now) (g.W.World.seen c.args.world.now) c.args.self.now.net (served_by faults.NoMemory) tt)
+    if_err (λ fault. PlainCalm g.W.World.Tells (g.W.World.seen c.args.world.now) (g.W.World.seen c.args.world.now) c.args.self.now.net (served_by fault)) faults.NoMemory c.from_residual.result c.from_residual.ensures.1 (calm_anyway (g.W.World.seen c.args.world.now) (g.W.World.seen c.args.world.now) c.args.self.now.net (served_by faults.NoMemory) tt)
 
 pub returns-in_err-note_table-clause-plain : goal.returns-in_err-note_table-clause-plain
 returns-in_err-note_table-clause-plain g c =
-    err_is (λ fault. PlainCalm g.W.World.Tells (g.W.World.seen c.args.world.now) (g.W.World.seen c.note_table.new.world) c.args.self.now.net (served_by fault)) c.in_err-note_table.field-0.0 c.from_residual-in_err-note_table.result c.from_residual-in_err-note_table.ensures.1
+    if_err (λ fault. PlainCalm g.W.World.Tells (g.W.World.seen c.args.world.now) (g.W.World.seen c.note_table.new.world) c.args.self.now.net (served_by fault)) c.in_err-note_table.field-0.0 c.from_residual-in_err-note_table.result c.from_residual-in_err-note_table.ensures.1
     (tables_then _ (g.W.World.seen c.args.world.now) (g.W.World.seen c.loop-dpid.world) (g.W.World.seen c.note_table.new.world) c.args.self.now c.loop-dpid.self c.in_err-note_table.field-0.0 c.loop-dpid.invariant.shown c.in_err-note_table.ensures.continues c.in_err-note_table.ensures.plain)
 
 pub returns-in_err-note_end-clause-plain : goal.returns-in_err-note_end-clause-plain
 returns-in_err-note_end-clause-plain g c =
-    err_is (λ fault. PlainCalm g.W.World.Tells (g.W.World.seen c.args.world.now) (g.W.World.seen c.loop-dpid.world) c.args.self.now.net (served_by fault)) faults.NoMemory c.from_residual-in_err-note_end.result c.from_residual-in_err-note_end.ensures.1 (calm_anyway (g.W.World.seen c.args.world.now) (g.W.World.seen c.loop-dpid.world) c.args.self.now.net (served_by faults.NoMemory) tt)
+    if_err (λ fault. PlainCalm g.W.World.Tells (g.W.World.seen c.args.world.now) (g.W.World.seen c.loop-dpid.world) c.args.self.now.net (served_by fault)) faults.NoMemory c.from_residual-in_err-note_end.result c.from_residual-in_err-note_end.ensures.1 (calm_anyway (g.W.World.seen c.args.world.now) (g.W.World.seen c.loop-dpid.world) c.args.self.now.net (served_by faults.NoMemory) tt)
 
 pub returns-in_err-switches-clause-places : goal.returns-in_err-switches-clause-places
 returns-in_err-switches-clause-places g c = places_none g.W.World.Tells (g.W.World.seen c.args.world.now) c.args.self.now.net

@@ -1,13 +1,13 @@
 use Rattle.std.proofs.Common.{◌+◌, rules, arith, refl}
 use Rattle.event_dispatch.specs.WhyLaws.{continues_then, fell_then}
 use Rattle.event_dispatch.specs.RoundLaws.{some_none, some_more, settles_early, settles_all}
-use Rattle.event_dispatch.specs.PlainLaws.{err_is, run_settled}
+use Rattle.event_dispatch.specs.PlainLaws.{run_settled}
+use Rattle.event_dispatch.specs.CutLaws.{if_err}
 use Rattle.event_dispatch.specs.Plain.{PlainRun}
 use Rattle.event_dispatch.specs.Shows.{engine_of}
 use Rattle.event_dispatch.specs.Why.{served_by}
 use Rattle.event_dispatch.specs.declared.fault.Fault.{Fault}
 use Rattle.event_dispatch.specs.Cut.{CutSome}
-use Rattle.event_dispatch.specs.CutLaws.{if_err}
 use Rattle.event_dispatch.specs.SteadyLaws.{places_none, reads_none, places_then, reads_then}
 use Rattle.event_dispatch.proofs.run.Run.settle.Goals as goal
 
@@ -49,7 +49,7 @@ returns-clause-settles g c =
 
 pub returns-in_err-settle_one-clause-plain : goal.returns-in_err-settle_one-clause-plain
 returns-in_err-settle_one-clause-plain g c =
-    err_is (λ fault. PlainRun g.W.World.Tells (g.J.Judge.accepts c.args.judge.now) (g.W.World.seen c.args.world.now) (g.W.World.seen c.settle_one.new.world) (engine_of c.args.self.now) (served_by fault)) c.in_err-settle_one.field-0.0 c.from_residual.result c.from_residual.ensures.1
+    if_err (λ fault. PlainRun g.W.World.Tells (g.J.Judge.accepts c.args.judge.now) (g.W.World.seen c.args.world.now) (g.W.World.seen c.settle_one.new.world) (engine_of c.args.self.now) (served_by fault)) c.in_err-settle_one.field-0.0 c.from_residual.result c.from_residual.ensures.1
     (run_settled (g.W.World.seen c.args.world.now) (g.W.World.seen c.loop-event.world) (g.W.World.seen c.settle_one.new.world) c.args.self.now c.loop-event.self (served_by c.in_err-settle_one.field-0.0) c.loop-event.invariant.settles c.in_err-settle_one.ensures.continues c.in_err-settle_one.ensures.plain)
 
 pub returns-in_err-settle_one-clause-cut : goal.returns-in_err-settle_one-clause-cut

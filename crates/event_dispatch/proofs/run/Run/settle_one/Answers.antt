@@ -1,15 +1,14 @@
 use Rattle.event_dispatch.specs.declared.fault.Fault.TheVariants as faults
-use Rattle.std.proofs.Common.{rules, refl}
+use Rattle.std.proofs.Common.{rules, refl, ap}
 use Rattle.event_dispatch.specs.RoundLaws.{one_settled, none_settled}
-use Rattle.event_dispatch.specs.PlainLaws.{err_is, run_anyway, run_turn}
+use Rattle.event_dispatch.specs.PlainLaws.{run_anyway, run_turn}
+use Rattle.event_dispatch.specs.CutLaws.{if_err, still_so, one_still, one_unwritten}
 use Rattle.event_dispatch.specs.Plain.{PlainRun}
 use Rattle.event_dispatch.specs.Shows.{engine_of}
 use Rattle.event_dispatch.specs.Why.{served_by}
 use Rattle.event_dispatch.specs.declared.fault.Fault.{Fault}
 use Rattle.event_dispatch.specs.Cut.{CutOne}
-use Rattle.event_dispatch.specs.CutLaws.{if_err, still_so, one_still, one_unwritten}
 use Rattle.event_dispatch.specs.TalkingLaws.{goes_as}
-use Rattle.std.proofs.Common.{ap}
 use Rattle.run_laws.specs.Engine.{Engine}
 use Rattle.event_dispatch.specs.SteadyLaws.{places_none, reads_none}
 use Rattle.event_dispatch.specs.DispatchPlaceLaws.{reads_over}
@@ -26,11 +25,11 @@ returns-clause-settles g c =
 
 pub returns-in_err-dispatch-clause-plain : goal.returns-in_err-dispatch-clause-plain
 returns-in_err-dispatch-clause-plain g c =
-    err_is (λ fault. PlainRun g.W.World.Tells (g.J.Judge.accepts c.args.judge.now) (g.W.World.seen c.args.world.now) (g.W.World.seen c.dispatch.new.world) (engine_of c.args.self.now) (served_by fault)) c.in_err-dispatch.field-0.0 c.from_residual.result c.from_residual.ensures.1 (run_turn (g.W.World.seen c.args.world.now) (g.W.World.seen c.dispatch.new.world) c.args.self.now c.in_err-dispatch.field-0.0 c.in_err-dispatch.ensures.plain)
+    if_err (λ fault. PlainRun g.W.World.Tells (g.J.Judge.accepts c.args.judge.now) (g.W.World.seen c.args.world.now) (g.W.World.seen c.dispatch.new.world) (engine_of c.args.self.now) (served_by fault)) c.in_err-dispatch.field-0.0 c.from_residual.result c.from_residual.ensures.1 (run_turn (g.W.World.seen c.args.world.now) (g.W.World.seen c.dispatch.new.world) c.args.self.now c.in_err-dispatch.field-0.0 c.in_err-dispatch.ensures.plain)
 
 pub returns-in_err-write-clause-plain : goal.returns-in_err-write-clause-plain
 returns-in_err-write-clause-plain g c =
-    err_is (λ fault. PlainRun g.W.World.Tells (g.J.Judge.accepts c.args.judge.now) (g.W.World.seen c.args.world.now) (g.W.World.seen c.dispatch.new.world) (engine_of c.args.self.now) (served_by fault)) faults.Write c.from_residual-in_err-write.result c.from_residual-in_err-write.ensures.1 (run_anyway (g.W.World.seen c.args.world.now) (g.W.World.seen c.dispatch.new.world) (engine_of c.args.self.now) (served_by faults.Write) tt)
+    if_err (λ fault. PlainRun g.W.World.Tells (g.J.Judge.accepts c.args.judge.now) (g.W.World.seen c.args.world.now) (g.W.World.seen c.dispatch.new.world) (engine_of c.args.self.now) (served_by fault)) faults.Write c.from_residual-in_err-write.result c.from_residual-in_err-write.ensures.1 (run_anyway (g.W.World.seen c.args.world.now) (g.W.World.seen c.dispatch.new.world) (engine_of c.args.self.now) (served_by faults.Write) tt)
 
 pub returns-in_err-dispatch-clause-cut : goal.returns-in_err-dispatch-clause-cut
 returns-in_err-dispatch-clause-cut g c =

@@ -3,7 +3,8 @@ use Rattle.event_dispatch.specs.declared.batch.Rest.{Rest}
 use Rattle.event_dispatch.specs.Batch.{NextTaken}
 use Rattle.event_dispatch.specs.WhyLaws.{continues_then, waits_then}
 use Rattle.event_dispatch.specs.BatchLaws.{batch_goes, batch_ends, batch_too_long}
-use Rattle.event_dispatch.specs.PlainLaws.{err_is, batch_kept, batch_next}
+use Rattle.event_dispatch.specs.PlainLaws.{batch_kept, batch_next}
+use Rattle.event_dispatch.specs.CutLaws.{if_err}
 use Rattle.event_dispatch.specs.Plain.{PlainCalm}
 use Rattle.event_dispatch.specs.Why.{served_by}
 use Rattle.event_dispatch.specs.TalkingLaws.{keeps_then, holds_on_err}
@@ -42,11 +43,11 @@ loop-item-preserved g c = record {
 
 pub returns-in_err-left-clause-plain : goal.returns-in_err-left-clause-plain
 returns-in_err-left-clause-plain g c =
-    err_is (λ fault. PlainCalm g.W.World.Tells (g.W.World.seen c.args.world.now) (g.W.World.seen c.take_kept.new.world) c.args.self.now.net (served_by fault)) c.in_err-left.field-0.0 c.from_residual.result c.from_residual.ensures.1 (batch_kept (g.W.World.seen c.args.world.now) (g.W.World.seen c.take_kept.new.world) c.args.self.now.net c.in_err-left.field-0.0 c.in_err-left.ensures.plain)
+    if_err (λ fault. PlainCalm g.W.World.Tells (g.W.World.seen c.args.world.now) (g.W.World.seen c.take_kept.new.world) c.args.self.now.net (served_by fault)) c.in_err-left.field-0.0 c.from_residual.result c.from_residual.ensures.1 (batch_kept (g.W.World.seen c.args.world.now) (g.W.World.seen c.take_kept.new.world) c.args.self.now.net c.in_err-left.field-0.0 c.in_err-left.ensures.plain)
 
 pub returns-in_err-rest-clause-plain : goal.returns-in_err-rest-clause-plain
 returns-in_err-rest-clause-plain g c =
-    err_is (λ fault. PlainCalm g.W.World.Tells (g.W.World.seen c.args.world.now) (g.W.World.seen c.take_next.new.world) c.args.self.now.net (served_by fault)) c.in_err-rest.field-0.0 c.from_residual-in_err-rest.result c.from_residual-in_err-rest.ensures.1
+    if_err (λ fault. PlainCalm g.W.World.Tells (g.W.World.seen c.args.world.now) (g.W.World.seen c.take_next.new.world) c.args.self.now.net (served_by fault)) c.in_err-rest.field-0.0 c.from_residual-in_err-rest.result c.from_residual-in_err-rest.ensures.1
     (batch_next c.loop-item._item (g.W.World.seen c.args.world.now) (g.W.World.seen c.loop-item.world) (g.W.World.seen c.take_next.new.world) c.args.self.now c.loop-item.self c.in_err-rest.field-0.0 c.loop-item.invariant.goes c.in_err-rest.ensures.continues c.in_err-rest.ensures.plain)
 
 pub returns-in-Some-clause-places : goal.returns-in-Some-clause-places

@@ -1,6 +1,7 @@
 use Rattle.event_dispatch.specs.declared.fault.Fault.TheVariants as faults
 use Rattle.event_dispatch.specs.TurnLaws.{turn_so}
-use Rattle.event_dispatch.specs.PlainLaws.{err_is, turn_memory}
+use Rattle.event_dispatch.specs.PlainLaws.{turn_memory}
+use Rattle.event_dispatch.specs.CutLaws.{if_err}
 use Rattle.event_dispatch.specs.Plain.{PlainTurn}
 use Rattle.event_dispatch.specs.TalkingLaws.{turn_of, turn_closed, holds_on_err}
 use Rattle.event_dispatch.specs.SteadyLaws.{places_then, reads_then}
@@ -14,11 +15,11 @@ returns-clause-turn g c =
 
 pub returns-in_err-end-clause-plain : goal.returns-in_err-end-clause-plain
 returns-in_err-end-clause-plain g c =
-    err_is (PlainTurn g.W.World.Tells (g.W.World.seen c.args.world.now) (g.W.World.seen c.play.new.world) c.args.self.now.net) c.in_err-end.field-0.0 c.from_residual.result c.from_residual.ensures.1 c.in_err-end.ensures.plain
+    if_err (PlainTurn g.W.World.Tells (g.W.World.seen c.args.world.now) (g.W.World.seen c.play.new.world) c.args.self.now.net) c.in_err-end.field-0.0 c.from_residual.result c.from_residual.ensures.1 c.in_err-end.ensures.plain
 
 pub returns-in_err-close-clause-plain : goal.returns-in_err-close-clause-plain
 returns-in_err-close-clause-plain g c =
-    err_is (PlainTurn g.W.World.Tells (g.W.World.seen c.args.world.now) (g.W.World.seen c.close.new.world) c.args.self.now.net) faults.NoMemory c.from_residual-in_err-close.result c.from_residual-in_err-close.ensures.1 (turn_memory (g.W.World.seen c.args.world.now) (g.W.World.seen c.close.new.world) c.args.self.now.net)
+    if_err (PlainTurn g.W.World.Tells (g.W.World.seen c.args.world.now) (g.W.World.seen c.close.new.world) c.args.self.now.net) faults.NoMemory c.from_residual-in_err-close.result c.from_residual-in_err-close.ensures.1 (turn_memory (g.W.World.seen c.args.world.now) (g.W.World.seen c.close.new.world) c.args.self.now.net)
 
 pub returns-in_err-end-clause-talks : goal.returns-in_err-end-clause-talks
 returns-in_err-end-clause-talks g c =
