@@ -1,8 +1,7 @@
 -- How a run stands between batches: nothing waits anywhere, and what the engine knows is what is so. All of this is our own.
-use Rattle.std.specs.Prelude.{◌≡◌, ◌==◌, ℕ, ◌+◌, ◌≤◌, false, List, [], ◌∷◌, Option, Some, None, if◌then◌else◌}
+use Rattle.std.specs.Prelude.{◌≡◌, ◌==◌, ℕ, false, List, [], ◌∷◌, Option, Some, None, if◌then◌else◌}
 use Rattle.std.specs.Option.{option_map}
 use Rattle.of_types.specs.declared.port_desc.PortDesc.{PortDesc}
-use Rattle.flow_table.specs.declared.view.TableView.{TableView}
 use Rattle.lego_model.specs.Controller.{ports_of}
 use Rattle.outside.specs.Seen.{Seen}
 use Rattle.outside.specs.State.{state, switch_of}

@@ -1,6 +1,6 @@
 -- In every history of a world that keeps its word a switch that is joined is the declared one, and its ports stand by number, strictly
 -- ascending from 1 to 65,280, at most 64 of them, each with a config of 32 bits.
-use Rattle.std.proofs.Common.{◌≡◌, ◌==◌, ℕ, ◌+◌, ◌-◌, ◌^◌, ◌<◌, ◌≤◌, Bool, true, false, not, ◌&&◌, nat_lt, List, [], ◌∷◌, length, map, filter, Option, Some, None, Result, Ok, Err, if◌then◌else◌, refl, sym, ap, ◌∙◌, subst, inl, inr, arith}
+use Rattle.std.proofs.Common.{◌≡◌, ◌==◌, ℕ, ◌+◌, ◌-◌, ◌^◌, ◌<◌, ◌≤◌, Bool, true, false, not, nat_lt, List, [], ◌∷◌, length, map, filter, Option, Some, None, Result, Ok, Err, if◌then◌else◌, refl, sym, ap, ◌∙◌, subst, inl, inr, arith}
 use Rattle.std.specs.Prelude.{bit_and, is_none}
 use Rattle.std.proofs.lemmas.Bool.{cases_Bool, cases_lt, eqb-true, eqb-false, lt-ltb, le-ltb, ltb-true, and_parts}
 use Rattle.std.proofs.lemmas.List.{length-map}
@@ -23,7 +23,7 @@ use Rattle.of_wire.specs.declared.message.Envelope.{Envelope}
 use Rattle.of_wire.specs.declared.fault.WireFault.{WireFault}
 use Rattle.of_wire.specs.Reading.{reading_of}
 use Rattle.flow_table.specs.Change.{unless_refused}
-use Rattle.flow_table.specs.Switch.{Declared, PortState, SwitchState, joined_at, new_port, port_at, insert_port, most_ports, is_down, has_no_fwd}
+use Rattle.flow_table.specs.Switch.{Declared, PortState, SwitchState, joined_at, new_port, port_at, insert_port, most_ports}
 use Rattle.flow_table.specs.Refusals.{message_refusal}
 use Rattle.flow_table.specs.Frames.{goes_out_by, after_frame_out, ports_after_output, after_output, after_outputs, after_counts, after_lookup, hit_outputs, entry_hit, after_packet_output, after_packet_outputs, takes, after_frame_in, after_arrival, after_frame}
 use Rattle.flow_table.specs.Step.{kept_bits, with_bits, with_config, set_link, can_add, after_taken, after_message, after_port_change, after_stimulus}

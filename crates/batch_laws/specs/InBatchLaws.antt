@@ -32,7 +32,7 @@ use Rattle.net_txn.specs.Net.{NetState}
 use Rattle.switch_laws.specs.Orderly.{OrderlySince}
 use Rattle.lego_model.specs.OrderlySteps.{IsOrderly}
 use Rattle.switch_laws.specs.OrderlyLaws.{orderly-then}
-use Rattle.batch_laws.specs.Knowledge.{Knowledge, knowledge_of, handled, handled_all}
+use Rattle.batch_laws.specs.Knowledge.{Knowledge, knowledge_of, handled_all}
 use Rattle.batch_laws.specs.Calm.{Calm}
 use Rattle.batch_laws.specs.Batches.{Standing}
 use Rattle.batch_laws.specs.Items.{Handles, TakesNext, waiting, Fresh, IsFresh, IsItem}

@@ -9,7 +9,7 @@ use Rattle.of_wire.specs.Reading.{reading_of}
 use Rattle.flow_table.specs.declared.view.ViewRow.{ViewRow}
 use Rattle.flow_table.specs.declared.view.TableView.{TableView}
 use Rattle.flow_table.specs.Table.{IsTable}
-use Rattle.flow_table.specs.Switch.{Declared, SwitchState}
+use Rattle.flow_table.specs.Switch.{SwitchState}
 use Rattle.flow_table.specs.Step.{after_stimulus}
 use Rattle.undo_laws.specs.Owned.{owned_switch}
 use Rattle.app_frames.specs.declared.frame.Event.{Event}

@@ -91,10 +91,6 @@ asked-later flags j rows (n ∷ ns) new h =
     let parts = neither (place j == place n.removed.key) (has_place j (notice_keys ns)) new in
     (asked-without n.removed.key j rows parts.0 ∙ h.0, asked-later flags j rows ns parts.1 h.1)
 
-abbrev queue_after : Bool → Event → List Event → List Event
-queue_after true event queue = queue ++ event ∷ []
-queue_after false event queue = queue
-
 notice-handled : (flags : Key → ℕ) (d : ℕ) (n : Notice) (rows : List ViewRow) (k : Knowledge) → ReadNotice n → AskedAs flags rows n → rows_at d k.views ≡ Some rows
     → NoticesHandled flags d (n ∷ []) rows k (handled (From d (flow_removed_bytes n)) k)
 unfolding events_of

@@ -156,9 +156,6 @@ changed-same n least g (q ∷ qs) p h is same =
       | inr other ↦ rw other (ap (λ (xs : List PortState). q ∷ xs) (changed-same n (q.number + 1) g qs p h.3 (rw other at is) same))
     ]
 
-put-before : (r s : PortDesc) (ss : List PortDesc) → r.port_no < s.port_no → put_port r (s ∷ ss) ≡ r ∷ s ∷ ss
-put-before r s ss lt = rw (lt-ltb _ _ lt) refl
-
 put-same : (r s : PortDesc) (ss : List PortDesc) → r.port_no ≡ s.port_no → put_port r (s ∷ ss) ≡ r ∷ ss
 put-same r s ss same =
     let not_below : nat_lt r.port_no s.port_no ≡ false = le-ltb _ _ (omega (arith, same)) in

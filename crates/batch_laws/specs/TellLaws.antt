@@ -18,7 +18,6 @@ use Rattle.net_txn.specs.Views.{rows_at}
 use Rattle.batch_laws.specs.Knowledge.{Knowledge, is_known, with_event, told_message, told_read, handled, handled_all}
 use Rattle.batch_laws.specs.Tells.{FitsMessage, FitsRead, IsPlain, IsPlainRead, AllPlain, ViewChanged}
 
-
 -- ---- Plain messages
 
 two-bytes : (n : ℕ) → n < 2 ^ 16 → number_bytes 2 n ≡ two_bytes n
@@ -52,11 +51,6 @@ plain-told d BarrierRequest k plain fits = refl
 plain-told d BarrierReply k plain fits = refl
 plain-told d (QueueGetConfigRequest payload) k plain fits = refl
 plain-told d (QueueGetConfigReply payload) k plain fits = refl
-
--- an event, or none, behind those that wait
-pub queued : (o : Option Event) (queue : List Event) → with_event o queue ≡ queue ++ cons_option o []
-queued None queue = sym (append-nil queue)
-queued (Some event) queue = refl
 
 -- and then more of them
 pub queued-more : (o : Option Event) (queue more : List Event) → with_event o queue ++ more ≡ queue ++ cons_option o more

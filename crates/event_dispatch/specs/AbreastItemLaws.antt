@@ -17,7 +17,7 @@ use Rattle.outside.specs.declared.item.Item.TheVariants as items
 use Rattle.outside.specs.declared.step.WorldStep.{WorldStep}
 use Rattle.outside.specs.declared.step.WorldStep.TheVariants.{Acted, From, Joined, Left, Moment, Idle, End}
 use Rattle.outside.specs.Seen.{Seen}
-use Rattle.outside.specs.State.{Link, State, link_of, waits_in, switch_in, waits_of, switch_of, is_joined, upcoming, with_link, switch_joined, link_joined, link_left, link_stimulated, join_due, due_of, after_stim, after_act, after_step, after_steps, state}
+use Rattle.outside.specs.State.{Link, State, link_of, waits_in, switch_in, waits_of, switch_of, is_joined, upcoming, with_link, switch_joined, link_joined, link_left, link_stimulated, join_due, due_of, after_stim, after_step, after_steps, state}
 use Rattle.outside.specs.SeenLaws.{Nexts-continues}
 use Rattle.outside.specs.StateLaws.{state-append}
 use Rattle.outside.specs.LinkLaws.{KeepsDeclared, link_of-same, link_of-other, switch_of-from, switch_of-from_other}

@@ -41,9 +41,6 @@ nothing_more : (xs : List ℕ) → xs ++ [] ≡ xs
 nothing_more [] = refl
 nothing_more (x ∷ xs) = ap (λ (ys : List ℕ). x ∷ ys) (nothing_more xs)
 
-pub adds_nothing : (r : Run) → Adds [] r r
-adds_nothing r = record { engine = refl; index = refl; lines = sym (nothing_more r.lines.items) }
-
 pub adds_then : {first rest : List ℕ} {a b c : Run} → Adds first a b → Adds rest b c → Adds (first ++ rest) a c
 adds_then {first = first} {rest = rest} {a = a} one two = record {
   engine = two.engine ∙ one.engine;
@@ -205,9 +202,6 @@ says_then first rest old mid new a b c one two = record {
 -- and what it leaves
 pub says_leaves : {Own : Type 0} {text : List ℕ} {old new : Seen Own} {r now_r : Run} → Says text old new r now_r → Leaves old new
 says_leaves {old = old} {new = new} says = asked-leaves old new says.asked says.switches
-
-pub tables_none : {Own : Type 0} (Tells : Type 0) (seen : Seen Own) (r : Run) → TablesShown Tells [] seen seen r r
-tables_none Tells seen r = record { shown = λ told keeps ready sound. record { lines = sym (nothing_more r.lines.items); engine = refl; index = refl; switches = λ d. refl; waits = ready.waits; asked = asked-nothing seen } }
 
 still_agrees : (d : ℕ) (views now_views : List TableView) (s t : State) → now_views ≡ views → switch_of d t ≡ switch_of d s → Agrees d views s → Agrees d now_views t
 still_agrees d views now_views s t same switch agrees = rw (same, switch) agrees

@@ -1,5 +1,5 @@
 -- Laws of how a run may end in a world that keeps its word.
-use Rattle.std.proofs.Common.{◌≡◌, ℕ, ◌<◌, ◌^◌, Bool, List, [], ◌∷◌, ◌++◌, Option, Some, IsSome, Result, Ok, Err, IfErr, IsErrAnd, IsOk, IsErr, slice_get, take, refl, sym, ap, ◌∙◌, subst}
+use Rattle.std.proofs.Common.{◌≡◌, ℕ, ◌<◌, ◌^◌, Bool, List, [], ◌∷◌, ◌++◌, Option, Some, IsSome, Result, Ok, Err, IfErr, IsOk, IsErr, slice_get, take, refl, sym, ap, ◌∙◌, subst}
 use Rattle.of_stats.specs.Flows.{AreRows}
 use Rattle.of_wire.specs.Reading.{reading_of}
 use Rattle.flow_table.specs.declared.view.TableView.{TableView}
@@ -56,7 +56,6 @@ use Rattle.event_dispatch.specs.Serves.{SettlesSome, IsBatch, GoesRounds, GoesTo
 use Rattle.event_dispatch.specs.RoundLaws.{batch_is}
 use Rattle.event_dispatch.specs.WholeLaws.{opened_so}
 use Rattle.event_dispatch.specs.Plain.{IsPlainServed, IsPlainEnd, PlainRead, PlainJoin, PlainItem, PlainNext, PlainKept, PlainCalm, PlainTurn, PlainTable, PlainRun, PlainWhole}
-use Rattle.event_dispatch.specs.CutLaws.{if_err}
 
 -- ---- Want of memory, and faults of the network
 

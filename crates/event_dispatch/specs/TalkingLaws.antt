@@ -111,9 +111,6 @@ keeps_restarted Tells app old new is restarts = keeps_led Tells app old new is
 
 -- ---- A turn
 
-pub turn_none : {Own : Type 0} (Tells : Type 0) (app : ℕ) (rest : List ℕ) (seen : Seen Own) → TurnTalks Tells app rest seen seen
-turn_none Tells app rest seen = record { talks = λ told a runs passes. a }
-
 -- it stopped by a fault, and was undone as far as that went
 pub turn_stops : {Own : Type 0} (Tells : Type 0) (app : ℕ) (rest : List ℕ) (old mid new : Seen Own) → (Tells → (s : Before) → s.running ≡ true → Passes s.unread rest → Talks app s old mid) → OnLinks Tells mid new → TurnTalks Tells app rest old new
 turn_stops Tells app rest old mid new says links = record {

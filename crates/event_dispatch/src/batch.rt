@@ -51,7 +51,7 @@ fn has_view(net: &Net, dpid: Dpid) -> bool
 }
 
 /// Whether a switch is joined.
-#[tactic(auto, using(crate::specs::ViewedLaws::joined_rows, switch_laws::specs::ShownUndoLaws::viewed-rows))]
+#[tactic(auto, using(crate::specs::ViewedLaws::joined_rows, switch_laws::specs::ShownUndoLaws::rows_of_none))]
 pub(crate) fn is_joined(net: &Net, dpid: Dpid) -> bool
     ensures joined { result ≡ true → IsSome (rows_at dpid net.now.views) }
     ensures out { result ≡ false → rows_at dpid net.now.views ≡ None }

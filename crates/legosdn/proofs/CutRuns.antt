@@ -1,5 +1,5 @@
 -- The run of a session that a fault ends.
-use Rattle.std.proofs.Common.{◌≡◌, ◌⊎◌, ℕ, ◌≤◌, Bool, true, List, [], ◌∷◌, ◌++◌, length, Option, refl, sym, ap, ◌∙◌, subst, arith, inl, inr}
+use Rattle.std.proofs.Common.{◌≡◌, ◌⊎◌, ℕ, ◌≤◌, Bool, true, List, [], length, Option, refl, sym, ap, ◌∙◌, subst, arith, inl, inr}
 use Rattle.flow_table.specs.declared.view.TableView.{TableView}
 use Rattle.outside.specs.declared.call.FailCall.{FailCall}
 use Rattle.outside.specs.declared.step.WorldStep.{WorldStep}
@@ -13,7 +13,7 @@ use Rattle.net_txn.specs.LinkSteps.{AreLinksInPlace}
 use Rattle.lego_model.specs.Places.{Place}
 use Rattle.lego_model.specs.Controller.{Run}
 use Rattle.sim_world.specs.Told.{without_links}
-use Rattle.sim_world.specs.Scripts.{Scripts, Life, AreScripted, KeepsScripts, lives_after, all_fresh}
+use Rattle.sim_world.specs.Scripts.{Scripts, AreScripted, KeepsScripts, all_fresh}
 use Rattle.sim_world.specs.World.{WorldData, given_of, seen_of}
 use Rattle.lego_model.specs.History.{stimuli_in}
 use Rattle.run_laws.specs.StimuliLaws.{told-few}

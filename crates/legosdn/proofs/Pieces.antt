@@ -1,5 +1,5 @@
 -- A line that is written in pieces.
-use Rattle.std.proofs.Common.{◌≡◌, ℕ, ◌+◌, List, ◌++◌, length, take, Option, Result, Ok, Err, OnErr, refl, sym, ap, ◌∙◌, arith, length-append, codes}
+use Rattle.std.proofs.Common.{◌≡◌, ℕ, ◌+◌, List, ◌++◌, length, take, Option, refl, sym, ap, ◌∙◌, arith, length-append, codes}
 use Rattle.std.proofs.lemmas.List.{take-append-le}
 use Rattle.std.proofs.Math.Seq.{take-append-add}
 use Rattle.std.specs.Io.KnownBytes.{append_known}
@@ -11,7 +11,6 @@ use Rattle.legosdn.specs.declared.stop.Refusal.TheVariants.{Session}
 use Rattle.legosdn.specs.Stops.{refusal_line, kind_word}
 use Rattle.lego_io.specs.Sink.{TookPart}
 use Rattle.lego_io.specs.ToldLaws.{append_known-append}
-use Rattle.event_dispatch.specs.TalkingLaws.{holds_on_err}
 
 -- a part of the first of two
 pub part_of_two : (old new : Option (List ℕ)) (a b : List ℕ) → TookPart old new a → TookPart old new (a ++ b)

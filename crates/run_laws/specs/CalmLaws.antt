@@ -8,10 +8,10 @@ use Rattle.of_match.specs.declared.key.Key.{Key}
 use Rattle.flow_table.specs.declared.view.ViewRow.{ViewRow}
 use Rattle.flow_table.specs.declared.view.TableView.{TableView}
 use Rattle.flow_table.specs.Switch.{SwitchState}
-use Rattle.lego_model.specs.Answers.{rows_of_table, rows_of_view}
+use Rattle.lego_model.specs.Answers.{rows_of_table}
 use Rattle.lego_model.specs.Controller.{ports_of}
 use Rattle.outside.specs.Seen.{Seen}
-use Rattle.outside.specs.State.{Link, State, state, link_of, switch_in, waits_in, switch_of, waits_of}
+use Rattle.outside.specs.State.{State, state, switch_of}
 use Rattle.outside.specs.Conforming.{Conforming}
 use Rattle.net_txn.specs.declared.logged.Logged.{Logged}
 use Rattle.net_txn.specs.Net.{NetState}

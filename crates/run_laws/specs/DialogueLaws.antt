@@ -4,8 +4,8 @@ use Rattle.std.proofs.Common.{sym, ap, ◌∙◌, subst}
 use Rattle.of_types.specs.declared.journal.Act.{Act}
 use Rattle.flow_table.specs.declared.view.TableView.{TableView}
 use Rattle.app_frames.specs.declared.frame.Event.{Event}
-use Rattle.lego_model.specs.Journal.{is_of, is_event}
-use Rattle.lego_model.specs.Controller.{attempts, event_frame}
+use Rattle.lego_model.specs.Journal.{is_of}
+use Rattle.lego_model.specs.Controller.{attempts}
 use Rattle.outside.specs.declared.step.WorldStep.{WorldStep}
 use Rattle.outside.specs.Seen.{Given, Seen, journal}
 use Rattle.outside.specs.SeenLaws.{journal-append}

@@ -1,5 +1,5 @@
 -- What steps leave of a state beside its switches: calls of links change the switches alone, and calls for an application no switch.
-use Rattle.std.proofs.Common.{◌≡◌, ◌==◌, ℕ, true, List, [], ◌∷◌, ◌++◌, map, Some, None, refl, sym, ◌∙◌, subst, true≢false}
+use Rattle.std.proofs.Common.{◌≡◌, ◌==◌, ℕ, true, List, [], ◌∷◌, map, Some, None, refl, sym, ◌∙◌, subst, true≢false}
 use Rattle.std.specs.List.{AllByRecursion}
 use Rattle.of_types.specs.declared.journal.Act.{Act}
 use Rattle.of_types.specs.declared.journal.Act.TheVariants.{Stim, Started, Gave, Gone, Took, Ended, Sent, Got}
@@ -10,7 +10,6 @@ use Rattle.outside.specs.Seen.{journal}
 use Rattle.outside.specs.State.{State, event_number, marks_at_event, marks_after_gave, after_act, after_step, after_steps}
 use Rattle.app_visor.specs.Talks.{step_of}
 use Rattle.run_laws.specs.LinkSteps.{OnlyLinks, IsLinkStep, TellsNothing, OnlyTalk, NoEvents, MarksNothing}
-use Rattle.net_txn.specs.RestoreLaws.{all_two}
 
 -- ---- Calls of links
 

@@ -1,22 +1,21 @@
 -- What follows where a change that the host let pass reaches a switch: with the flags of the owners, the switch refuses, and goes through,
 -- what the application asked for.
-use Rattle.std.proofs.Common.{◌≡◌, ◌≢◌, ◌==◌, ℕ, ◌+◌, ◌/◌, ◌*◌, ◌%◌, ◌≤◌, Bool, true, false, not, ◌&&◌, List, [], ◌∷◌, map, Option, Some, None, Ok, nat_lt, if◌then◌else◌, refl, sym, ap, ap₂, ◌∙◌, arith, inl, inr, true≢false}
-use Rattle.std.proofs.lemmas.Bool.{cases_Bool, eqb-true, eq-eqb}
+use Rattle.std.proofs.Common.{◌≡◌, ◌≢◌, ◌==◌, ℕ, ◌+◌, ◌/◌, ◌*◌, ◌%◌, Bool, true, false, not, List, Option, Some, None, Ok, nat_lt, if◌then◌else◌, refl, sym, ap, ap₂, ◌∙◌, arith, inl, inr, true≢false}
+use Rattle.std.proofs.lemmas.Bool.{cases_Bool, eqb-true}
 use Rattle.of_types.specs.declared.errors.OfError.{OfError}
 use Rattle.of_match.specs.declared.key.Key.{Key}
-use Rattle.of_match.specs.Key.{place}
 use Rattle.of_wire.specs.declared.bodies.FlowMod.{FlowMod as Change}
 use Rattle.of_wire.specs.declared.message.Message.TheVariants.{FlowMod}
 use Rattle.of_wire.specs.Reading.{reading_of}
 use Rattle.of_wire.specs.Grammar.{enveloped}
 use Rattle.flow_table.specs.declared.entry.Entry.{Entry}
 use Rattle.flow_table.specs.declared.view.ViewRow.{ViewRow}
-use Rattle.flow_table.specs.Table.{TableState, IsTable, place_of}
-use Rattle.flow_table.specs.Change.{key_in, is_delete, describes, checks_overlap, adds, new_entry, refusal, changed}
+use Rattle.flow_table.specs.Table.{TableState, IsTable}
+use Rattle.flow_table.specs.Change.{key_in, is_delete, describes, checks_overlap, adds, new_entry, changed}
 use Rattle.flow_table.specs.Switch.{SwitchState}
 use Rattle.flow_table.specs.Refusals.{or_else, no_buffer, is_emergency, flow_actions_refusal, flow_refusal, message_refusal}
 use Rattle.flow_table.specs.Step.{after_taken, after_message}
-use Rattle.undo_laws.specs.Corrected.{IsCorrection, AgreeBut, corrected, AsksTheSame}
+use Rattle.undo_laws.specs.Corrected.{AgreeBut, corrected, AsksTheSame}
 use Rattle.undo_laws.specs.CorrectedLaws.{refusal-corrected, refusal-asked, kept-corrected, addition-corrected}
 use Rattle.undo_laws.specs.Owned.{owned, owned_switch}
 use Rattle.undo_laws.specs.OwnedLaws.{owned-corrects}
@@ -134,10 +133,6 @@ table-shown now m rows t is p =
           (addition-corrected now (owned (flags_in rows)) (owned (flags_in (with_row (row_in m) rows))) (sent m) m t is (owned-corrects (flags_in rows)) (owned-corrects (flags_in (with_row (row_in m) rows)))
           (agree_but m rows) (asks_the_same m) (adds-unsent m t.entries ∙ sent_adds m t.entries other (known_command m p.unrefused) p.untouched) (new-shown now t.next m rows))
     ]
-
-abbrev unless : Option OfError → SwitchState → SwitchState → SwitchState
-unless None before after = after
-unless (Some e) before after = before
 
 -- ---- The switch then
 

@@ -1,31 +1,29 @@
 -- What follows where an open transaction was undone in a world that keeps its word: the switches stand, with the flags of the owners, as
 -- the reference controller's do that gets the earlier tables back.
-use Rattle.std.proofs.Common.{◌≡◌, ◌≢◌, ◌==◌, ℕ, Bool, true, false, List, [], ◌∷◌, map, drop, Option, Some, None, Ok, IsOk, if◌then◌else◌, refl, sym, ap, ap₂, ◌∙◌, subst, inl, inr, true≢false}
+use Rattle.std.proofs.Common.{◌≡◌, ◌≢◌, ◌==◌, ℕ, true, false, List, [], ◌∷◌, map, Option, Some, None, Ok, if◌then◌else◌, refl, sym, ap, ap₂, ◌∙◌, inl, inr, true≢false}
 use Rattle.std.proofs.lemmas.Bool.{cases_Bool}
-use Rattle.std.specs.List.{list_any}
 use Rattle.std.specs.Option.{option_map}
 use Rattle.of_match.specs.declared.key.Key.{Key}
 use Rattle.flow_table.specs.declared.entry.Entry.{Entry}
 use Rattle.flow_table.specs.declared.view.ViewRow.{ViewRow}
 use Rattle.flow_table.specs.declared.view.TableView.{TableView}
-use Rattle.flow_table.specs.Table.{TableState, IsTable}
+use Rattle.flow_table.specs.Table.{TableState}
 use Rattle.flow_table.specs.Switch.{Declared, SwitchState}
 use Rattle.flow_table.specs.Undone.{used_or, restored, undone}
 use Rattle.undo_laws.specs.Corrected.{corrected}
 use Rattle.undo_laws.specs.Owned.{owned, owned_switch}
-use Rattle.undo_laws.specs.Serials.{IsSerialed}
 use Rattle.lego_model.specs.Answers.{Rows, rows_of_table, rows_of_view}
 use Rattle.lego_model.specs.Places.{Place, switch_undone, undone_places}
 use Rattle.outside.specs.Seen.{Seen}
-use Rattle.outside.specs.State.{State, state, switch_of, waits_of}
+use Rattle.outside.specs.State.{State, state, switch_of}
 use Rattle.outside.specs.Conforming.{Conforming}
 use Rattle.net_txn.specs.Views.{rows_at}
 use Rattle.net_txn.specs.Net.{NetState}
 use Rattle.net_txn.specs.Agreement.{Agrees}
-use Rattle.net_txn.specs.Undos.{but_fare, keys_of, is_viewed, SameSwitch, Restored, Undoes}
+use Rattle.net_txn.specs.Undos.{keys_of, is_viewed, Undoes}
 use Rattle.switch_laws.specs.Shown.{flags_at, shown_switch, places, shown_places}
 use Rattle.switch_laws.specs.StandLaws.{table-serialed}
-use Rattle.switch_laws.specs.Since.{Ready, logged_since, SwitchSince, JoinedSince, Since}
+use Rattle.switch_laws.specs.Since.{Ready, logged_since, JoinedSince, Since}
 
 -- ---- A restored table, with the flags of the owners
 
@@ -55,12 +53,12 @@ places-same f g same (d ∷ ds) = ap₂ (λ (s : Option SwitchState) (ps : List 
 
 -- ---- Which switches are joined
 
-pub viewed-rows : (d : ℕ) (views : List TableView) → is_viewed d views ≡ false → rows_at d views ≡ None
-viewed-rows d [] h = refl
-viewed-rows d (v ∷ vs) h =
+pub rows_of_none : (d : ℕ) (views : List TableView) → is_viewed d views ≡ false → rows_at d views ≡ None
+rows_of_none d [] h = refl
+rows_of_none d (v ∷ vs) h =
     elim (cases_Bool (v.dpid == d)) [
       | inl here ↦ absurd (true≢false (rw here at h))
-      | inr other ↦ rw other (viewed-rows d vs (rw other at h))
+      | inr other ↦ rw other (rows_of_none d vs (rw other at h))
     ]
 
 unviewed-rows : (d : ℕ) (views : List TableView) → rows_at d views ≡ None → is_viewed d views ≡ false
@@ -79,7 +77,7 @@ viewed d views s x agrees is =
     elim (cases_Bool (is_viewed d views)) [
       | inl there ↦ there
       | inr not_there ↦
-          let none : rows_at d views ≡ None = viewed-rows d views not_there in
+          let none : rows_at d views ≡ None = rows_of_none d views not_there in
           absurd (no_value (rows_of_table x.table.entries) (sym (ap (option_map rows_of_view) none) ∙ agrees ∙ ap (option_map (λ y. rows_of_table y.table.entries)) is))
     ]
   where

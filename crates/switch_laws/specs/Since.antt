@@ -5,7 +5,7 @@ use Rattle.of_match.specs.declared.key.Key.{Key}
 use Rattle.flow_table.specs.Switch.{SwitchState}
 use Rattle.undo_laws.specs.Removal.{OnlyAdded}
 use Rattle.outside.specs.Seen.{Seen}
-use Rattle.outside.specs.State.{State, state, switch_of, waits_of}
+use Rattle.outside.specs.State.{state, switch_of, waits_of}
 use Rattle.net_txn.specs.Net.{NetState}
 use Rattle.net_txn.specs.Agreement.{Agrees}
 use Rattle.net_txn.specs.Undos.{but_fare, without_keys, keys_of}

@@ -1,5 +1,5 @@
 -- What follows about a transaction that is open: it stands so where it began, and each message that was answered keeps it so.
-use Rattle.std.proofs.Common.{◌≡◌, ◌≢◌, ◌==◌, ℕ, ◌≤◌, Bool, true, false, not, ◌&&◌, ◌||◌, List, [], ◌∷◌, ◌++◌, length, drop, map, filter, Option, Some, None, Ok, refl, sym, ap, ◌∙◌, subst, inl, inr, arith, true≢false}
+use Rattle.std.proofs.Common.{◌≡◌, ◌≢◌, ◌==◌, ℕ, ◌≤◌, Bool, true, false, not, ◌&&◌, List, [], ◌∷◌, ◌++◌, length, drop, map, filter, Option, Some, None, Ok, refl, sym, ap, ◌∙◌, subst, inl, inr, arith, true≢false}
 use Rattle.std.proofs.lemmas.Bool.{cases_Bool, cases_eq, eqb-true, eq-eqb, ne_eqb}
 use Rattle.std.proofs.lemmas.List.{drop-append-le, map-append, length-append, append-nil}
 use Rattle.std.specs.List.{list_any}
@@ -136,9 +136,6 @@ taken-added m keys before s p none only =
     ]
 
 -- ---- A message that the switch judged
-
-some_switch : SwitchState → Option SwitchState
-some_switch s = Some s
 
 stays : (m : Change) (s : SwitchState) (e : OfError) → message_refusal s (as_sent (FlowMod m)) ≡ Some e → after_message (as_sent (FlowMod m)) s ≡ s
 unfolding after_message

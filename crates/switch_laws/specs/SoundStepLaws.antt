@@ -1,5 +1,5 @@
 -- What follows where all entries are sound: they stay so where a message was answered and where a transaction was undone.
-use Rattle.std.proofs.Common.{◌≡◌, ◌≢◌, ℕ, List, [], Option, Some, None, Ok, refl, sym, ap, ◌∙◌, subst, inl, inr}
+use Rattle.std.proofs.Common.{◌≡◌, ℕ, List, Option, Some, None, Ok, refl, sym, ap, ◌∙◌, subst, inl, inr}
 use Rattle.std.proofs.lemmas.Bool.{cases_eq}
 use Rattle.std.specs.Option.{option_map}
 use Rattle.of_wire.specs.declared.bodies.FlowMod.{FlowMod as Change}
@@ -7,15 +7,14 @@ use Rattle.of_wire.specs.declared.message.Message.TheVariants.{FlowMod}
 use Rattle.of_wire.specs.Grammar.{IsMessage}
 use Rattle.flow_table.specs.Switch.{SwitchState}
 use Rattle.flow_table.specs.Step.{after_message}
-use Rattle.flow_table.specs.Undone.{undone}
 use Rattle.app_frames.specs.declared.frame.Answer.{Answer}
 use Rattle.lego_model.specs.Answers.{as_sent}
 use Rattle.outside.specs.Seen.{Seen}
-use Rattle.outside.specs.State.{state, switch_of, waits_of}
+use Rattle.outside.specs.State.{state, switch_of}
 use Rattle.outside.specs.Conforming.{Conforming}
 use Rattle.net_txn.specs.Net.{NetState}
 use Rattle.net_txn.specs.Changes.{known_rows, answer_of_host, Changes}
-use Rattle.net_txn.specs.Agreement.{Agrees, InStep, Steps}
+use Rattle.net_txn.specs.Agreement.{InStep, Steps}
 use Rattle.net_txn.specs.Undos.{Undoes}
 use Rattle.switch_laws.specs.AskedLaws.{asked}
 use Rattle.switch_laws.specs.Since.{Ready, Since}

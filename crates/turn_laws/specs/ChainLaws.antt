@@ -25,7 +25,7 @@ use Rattle.app_visor.specs.Beats.{Beat, Talk, Asks, Chain, exchanges_in}
 use Rattle.app_visor.specs.BeatLaws.{Chain-continues}
 use Rattle.app_visor.specs.Turns.{reply_by, Turns, Agrees as AnswersSo}
 use Rattle.app_visor.specs.TableLaws.{turn_alike}
-use Rattle.switch_laws.specs.Shown.{flags_at, shown_switch, places, shown_places}
+use Rattle.switch_laws.specs.Shown.{flags_at, shown_switch, shown_places}
 use Rattle.switch_laws.specs.StandLaws.{all-stand}
 use Rattle.switch_laws.specs.ShownExchangeLaws.{exchange-shown}
 use Rattle.switch_laws.specs.Since.{Ready, Goes}
