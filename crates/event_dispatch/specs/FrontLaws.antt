@@ -15,7 +15,7 @@ use Rattle.batch_laws.specs.ItemLaws.{links_ascend, none_waiting}
 use Rattle.batch_laws.specs.Items.{waiting}
 use Rattle.run_laws.specs.FirstLaws.{none-joined, calm-first}
 use Rattle.run_laws.specs.First.{IsOpened, net_at_first}
-use Rattle.event_dispatch.specs.Steady.{Reads, IsAtRest}
+use Rattle.event_dispatch.specs.Steady.{Reads, NothingUnderWay}
 
 -- ---- A world that was just opened
 
@@ -41,7 +41,7 @@ keeps_to first last told is on reads order =
     Conforming-on first last told on (keeps_first first is (InOrder-before told on order)) order (reads.read told order (abreast_first first is))
 
 -- all is at rest there
-pub calm_rest : {Own : Type 0} (seen : Seen Own) (net : NetState) → Conforming seen → Calm seen net → IsAtRest (state seen)
+pub calm_rest : {Own : Type 0} (seen : Seen Own) (net : NetState) → Conforming seen → Calm seen net → NothingUnderWay (state seen)
 unfolding waits_of upcoming
 calm_rest seen net keeps calm = record {
   none_begun = calm.none_begun;

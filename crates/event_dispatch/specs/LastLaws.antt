@@ -33,7 +33,7 @@ use Rattle.run_laws.specs.Endings.{Leaves}
 use Rattle.run_laws.specs.LeaveLaws.{asked-leaves}
 use Rattle.event_dispatch.specs.declared.run.Run.{Run}
 use Rattle.event_dispatch.specs.Shows.{engine_of, Adds}
-use Rattle.event_dispatch.specs.LastShown.{FindsFlags, FlowsSoFar, TableSaid, AsksShown, Says, TableShown, TablesShown, LastShown, NextRow}
+use Rattle.event_dispatch.specs.ReportEnd.{FindsFlags, FlowsSoFar, TableSaid, AsksShown, Says, TableShown, TablesShown, LastShown, NextRow}
 
 -- ---- Text that is noted
 

@@ -27,7 +27,7 @@ use Rattle.event_dispatch.specs.declared.served.Served.{Served}
 use Rattle.event_dispatch.specs.declared.served.Served.TheVariants as served
 use Rattle.event_dispatch.specs.Why.{served_by}
 use Rattle.event_dispatch.specs.Shows.{engine_of}
-use Rattle.event_dispatch.specs.Steady.{InPlace, Reads, Quietly}
+use Rattle.event_dispatch.specs.Steady.{NoStray, Reads, NoPoint}
 use Rattle.event_dispatch.specs.Serves.{RunsAs, IsUnopened}
 use Rattle.event_dispatch.specs.Cut.{HasRead, ReadsEnd, ReadsAs, IsReadServed}
 use Rattle.event_dispatch.specs.FrontLaws.{abreast_first, keeps_first}
@@ -75,7 +75,7 @@ unfolding end_steps
 is_end true = record { quiet = (refl, tt); own = (refl, tt); places = λ s. (tt, tt); messages = (refl, tt) }
 is_end false = record { quiet = tt; own = tt; places = λ s. tt; messages = tt }
 
-pub end_quietly : {Own : Type 0} (Tells : Type 0) (old new : Seen Own) → Ends Tells index old new → Quietly Tells old new
+pub end_quietly : {Own : Type 0} (Tells : Type 0) (old new : Seen Own) → Ends Tells index old new → NoPoint Tells old new
 end_quietly Tells old new ends = record {
   unquiet = λ told. unquiet-by old new (end_steps index (is_running index (state old))) (ends.told told).history (is_end (is_running index (state old))).quiet;
   own = λ told. record { steps = end_steps index (is_running index (state old)); history = (ends.told told).history; all = (is_end (is_running index (state old))).own };
@@ -89,7 +89,7 @@ pub end_messages : {Own : Type 0} (Tells : Type 0) (old new : Seen Own) → Ends
 end_messages Tells old new ends told =
     messages-by old new (end_steps index (is_running index (state old))) (ends.told told).history (is_end (is_running index (state old))).messages
 
-pub ended_places : {Own : Type 0} (Tells : Type 0) (old mid new : Seen Own) (net : NetState) → Continues Tells old mid → Continues Tells mid new → InPlace Tells old mid net → (Tells → StaysInPlace mid new) → InPlace Tells old new net
+pub ended_places : {Own : Type 0} (Tells : Type 0) (old mid new : Seen Own) (net : NetState) → Continues Tells old mid → Continues Tells mid new → NoStray Tells old mid net → (Tells → StaysInPlace mid new) → NoStray Tells old new net
 ended_places Tells old mid new net before later first last = record {
   places = λ told order abreast. in_place_then old mid new told before later (first.places told (InOrder-before told later order) abreast) (last told);
 }
@@ -128,7 +128,7 @@ reads_by Tells fault result old new net is = reads_as Tells (served_by fault) re
 -- ---- Of a world on which no call was made
 
 -- it was opened
-pub opened_places : {Own : Type 0} (Tells : Type 0) (old mid new : Seen Own) → Continues Tells old mid → Continues Tells mid new → (Tells → mid.history ≡ old.history ++ Opened ∷ []) → InPlace Tells mid new net_at_first → Tells → old.history ≡ [] → InOrder new → StaysInPlace old new
+pub opened_places : {Own : Type 0} (Tells : Type 0) (old mid new : Seen Own) → Continues Tells old mid → Continues Tells mid new → (Tells → mid.history ≡ old.history ++ Opened ∷ []) → NoStray Tells mid new net_at_first → Tells → old.history ≡ [] → InOrder new → StaysInPlace old new
 opened_places Tells old mid new before later opened places told none order =
     let first : StaysInPlace old mid = in_place_by old mid (Opened ∷ []) (opened told) (tt, tt) in
     in_place_then old mid new told before later first (places.places told order (abreast_first mid (opened told ∙ ap (λ (steps : List WorldStep). steps ++ Opened ∷ []) none)))

@@ -23,7 +23,7 @@ use Rattle.lego_model.specs.Application.{budget, name}
 use Rattle.lego_model.specs.History.{stimuli_in}
 use Rattle.run_laws.specs.Readings.{JudgesAlike}
 use Rattle.run_laws.specs.Facts.{turn_word, StartsAgain, TakesTurn, Dispatches}
-use Rattle.run_laws.specs.Moves.{Settled, Shown, ShownIdle, ShownOver, ShownRounds, ShownToEnd}
+use Rattle.run_laws.specs.Moves.{AtRest, Shown, ShownIdle, ShownOver, ShownRounds, ShownToEnd}
 use Rattle.lego_model.specs.ReferenceRun.{dispatch_next, times}
 use Rattle.run_laws.specs.First.{engine_at_first}
 use Rattle.run_laws.specs.Endings.{ShownStart, ShownFinish, RanOut, RanFull}
@@ -97,20 +97,20 @@ pub record Writes (text : List ℕ) (contents now_contents : Option (List ℕ)) 
   pub none_waits : now_r.lines.items ≡ []
 
 -- The oldest event was dispatched and its lines written, or there was none and nothing was done.
-pub record SettlesOne {Own : Type 0} (Tells : Type 0) (accepts : List TableView → Bool) (found : Bool) (contents now_contents : Option (List ℕ)) (old new : Seen Own) (r now_r : Run) : Type 0 where
+pub record DispatchesOldest {Own : Type 0} (Tells : Type 0) (accepts : List TableView → Bool) (found : Bool) (contents now_contents : Option (List ℕ)) (old new : Seen Own) (r now_r : Run) : Type 0 where
   pub text : List ℕ
   pub shown : Shown Tells accepts [] dispatch_next text old new (engine_of r) (engine_of now_r)
   pub writes : Writes text contents now_contents now_r
   pub none : found ≡ false → now_r.queue ≡ []
 
 -- so many times
-pub record SettlesSome {Own : Type 0} (Tells : Type 0) (accepts : List TableView → Bool) (n : ℕ) (contents now_contents : Option (List ℕ)) (old new : Seen Own) (r now_r : Run) : Type 0 where
+pub record DispatchesSome {Own : Type 0} (Tells : Type 0) (accepts : List TableView → Bool) (n : ℕ) (contents now_contents : Option (List ℕ)) (old new : Seen Own) (r now_r : Run) : Type 0 where
   pub text : List ℕ
   pub shown : Shown Tells accepts [] (λ allows q. times n (dispatch_next allows) q) text old new (engine_of r) (engine_of now_r)
   pub writes : Writes text contents now_contents now_r
 
 -- up to 1,000 of them
-pub record Settles {Own : Type 0} (Tells : Type 0) (accepts : List TableView → Bool) (contents now_contents : Option (List ℕ)) (old new : Seen Own) (r now_r : Run) : Type 0 where
+pub record DispatchesWaiting {Own : Type 0} (Tells : Type 0) (accepts : List TableView → Bool) (contents now_contents : Option (List ℕ)) (old new : Seen Own) (r now_r : Run) : Type 0 where
   pub text : List ℕ
   pub shown : Shown Tells accepts [] settle text old new (engine_of r) (engine_of now_r)
   pub writes : Writes text contents now_contents now_r
@@ -120,7 +120,7 @@ pub record Settles {Own : Type 0} (Tells : Type 0) (accepts : List TableView →
 -- the last batch, that has no stimulus, since none is to come
 pub record IsLast {Own : Type 0} (Tells : Type 0) (old new : Seen Own) (e now_e : Engine) : Type 0 where
   pub over : ShownOver Tells old new e now_e
-  pub none_to_come : Tells → Conforming new → Settled old e → (state old).to_come ≡ []
+  pub none_to_come : Tells → Conforming new → AtRest old e → (state old).to_come ≡ []
 
 -- a batch: one stimulus with its items, or the last one
 abbrev pub IsBatch : {Own : Type 0} → Type 0 → Rest → Seen Own → Seen Own → Engine → Engine → Type 0
@@ -134,7 +134,7 @@ pub record GoesRound {Own : Type 0} (Tells : Type 0) (accepts : List TableView �
   pub first : Continues Tells old mid
   pub batch : IsBatch Tells rest old mid (engine_of r) (engine_of mid_run)
   pub later : Continues Tells mid new
-  pub settles : Settles Tells accepts contents now_contents mid new mid_run now_r
+  pub dispatches : DispatchesWaiting Tells accepts contents now_contents mid new mid_run now_r
 
 -- so many rounds
 pub record GoesRounds {Own : Type 0} (Tells : Type 0) (accepts : List TableView → Bool) (number : ℕ) (contents now_contents : Option (List ℕ)) (old new : Seen Own) (r now_r : Run) : Type 0 where
@@ -144,7 +144,7 @@ pub record GoesRounds {Own : Type 0} (Tells : Type 0) (accepts : List TableView 
 
 -- in a world that keeps its word no stimulus is to come, where they are fewer than this
 pub record NoneToCome {Own : Type 0} (Tells : Type 0) (accepts : List TableView → Bool) (old new : Seen Own) (e : Engine) : Type 0 where
-  pub none : (allows : List Place → Bool) → Tells → Conforming new → JudgesAlike Own allows accepts → Settled old e → length (stimuli_in new) < most_rounds → (state new).to_come ≡ []
+  pub none : (allows : List Place → Bool) → Tells → Conforming new → JudgesAlike Own allows accepts → AtRest old e → length (stimuli_in new) < most_rounds → (state new).to_come ≡ []
 
 -- all of them
 pub record GoesToEnd {Own : Type 0} (Tells : Type 0) (accepts : List TableView → Bool) (contents now_contents : Option (List ℕ)) (old new : Seen Own) (r now_r : Run) : Type 0 where

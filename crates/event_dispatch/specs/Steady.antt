@@ -12,7 +12,7 @@ use Rattle.app_visor.specs.CallsFor.{CallsFor}
 use Rattle.lego_model.specs.Application.{index}
 
 -- however it ended: calls of links were in place
-pub record InPlace {Own : Type 0} (Tells : Type 0) (old new : Seen Own) (net : NetState) : Type 0 where
+pub record NoStray {Own : Type 0} (Tells : Type 0) (old new : Seen Own) (net : NetState) : Type 0 where
   pub places : Tells → InOrder new → Abreast old net → StaysInPlace old new
 
 -- where it was done: the host keeps up with the switches, and what came of them are messages
@@ -21,16 +21,16 @@ pub record Reads {Own : Type 0} (Tells : Type 0) (old new : Seen Own) (net now_n
   pub read : Tells → InOrder new → Abreast old net → MessagesSince old new
 
 -- no stimulus is begun, and nothing is to be told
-pub record IsAtRest (s : State) : Type 0 where
+pub record NothingUnderWay (s : State) : Type 0 where
   pub none_begun : s.begun ≡ false
   pub none_upcoming : upcoming s ≡ []
 
 -- however it ended: no quiet place since then, and no call for another application
-pub record Quietly {Own : Type 0} (Tells : Type 0) (old new : Seen Own) : Type 0 where
+pub record NoPoint {Own : Type 0} (Tells : Type 0) (old new : Seen Own) : Type 0 where
   pub unquiet : Tells → Unquiet old new
   pub own : Tells → CallsFor index old new
 
 -- no quiet place behind that one, where all was at rest there
-pub record AtMostHere {Own : Type 0} (Tells : Type 0) (old new : Seen Own) : Type 0 where
-  pub last : Tells → InOrder new → IsAtRest (state old) → IsLastQuiet old new
+pub record AtMostThisPoint {Own : Type 0} (Tells : Type 0) (old new : Seen Own) : Type 0 where
+  pub last : Tells → InOrder new → NothingUnderWay (state old) → IsLastQuiet old new
   pub own : Tells → CallsFor index old new

@@ -11,11 +11,11 @@ use Rattle.net_txn.specs.Undos.{is_viewed}
 use Rattle.net_txn.specs.Abreast.{Abreast}
 pub use Rattle.app_visor.specs.CalmLaws.{calls_none, calls_then}
 use Rattle.lego_model.specs.Application.{index}
-use Rattle.event_dispatch.specs.Steady.{InPlace, Reads, Quietly, AtMostHere}
+use Rattle.event_dispatch.specs.Steady.{NoStray, Reads, NoPoint, AtMostThisPoint}
 
 -- ---- Nothing was done
 
-pub places_none : {Own : Type 0} (Tells : Type 0) (seen : Seen Own) (net : NetState) → InPlace Tells seen seen net
+pub places_none : {Own : Type 0} (Tells : Type 0) (seen : Seen Own) (net : NetState) → NoStray Tells seen seen net
 places_none Tells seen net = record { places = λ told order abreast. in_place_none seen }
 
 -- the same switches have views
@@ -29,12 +29,12 @@ reads_none Tells seen net now_net same = record { abreast = λ told order abreas
 pub reads_as : {Own : Type 0} (Tells : Type 0) (old new : Seen Own) (net mid_net now_net : NetState) → now_net.views ≡ mid_net.views → Reads Tells old new net mid_net → Reads Tells old new net now_net
 reads_as Tells old new net mid_net now_net same reads = record { abreast = λ told order abreast. abreast_as new mid_net now_net same (reads.abreast told order abreast); read = reads.read }
 
-pub quietly_none : {Own : Type 0} (Tells : Type 0) (seen : Seen Own) → Quietly Tells seen seen
+pub quietly_none : {Own : Type 0} (Tells : Type 0) (seen : Seen Own) → NoPoint Tells seen seen
 quietly_none Tells seen = record { unquiet = λ told. unquiet-none seen; own = λ told. calls_none index seen }
 
 -- ---- One after the other
 
-pub places_then : {Own : Type 0} {Tells : Type 0} (old mid new : Seen Own) (net mid_net : NetState) → Continues Tells old mid → Continues Tells mid new → InPlace Tells old mid net → Reads Tells old mid net mid_net → InPlace Tells mid new mid_net → InPlace Tells old new net
+pub places_then : {Own : Type 0} {Tells : Type 0} (old mid new : Seen Own) (net mid_net : NetState) → Continues Tells old mid → Continues Tells mid new → NoStray Tells old mid net → Reads Tells old mid net mid_net → NoStray Tells mid new mid_net → NoStray Tells old new net
 places_then old mid new net mid_net before later first reads second = record {
   places = λ told order abreast.
       let so_far = InOrder-before told later order in
@@ -49,12 +49,12 @@ reads_then old mid new net mid_net now_net before later first second = record {
       messages-then old mid new told before later (first.read told so_far abreast) (second.read told order (first.abreast told so_far abreast));
 }
 
-pub quietly_then : {Own : Type 0} (Tells : Type 0) (old mid new : Seen Own) → Quietly Tells old mid → Quietly Tells mid new → Quietly Tells old new
+pub quietly_then : {Own : Type 0} (Tells : Type 0) (old mid new : Seen Own) → NoPoint Tells old mid → NoPoint Tells mid new → NoPoint Tells old new
 quietly_then Tells old mid new first second = record {
   unquiet = λ told. unquiet-then (first.unquiet told) (second.unquiet told);
   own = λ told. calls_then (first.own told) (second.own told);
 }
 
 -- no quiet place behind one from which on there was none
-pub quietly_here : {Own : Type 0} {Tells : Type 0} {old new : Seen Own} → Quietly Tells old new → AtMostHere Tells old new
-quietly_here quietly = record { last = λ told order rest. last_quiet-of (quietly.unquiet told); own = quietly.own }
+pub quietly_here : {Own : Type 0} {Tells : Type 0} {old new : Seen Own} → NoPoint Tells old new → AtMostThisPoint Tells old new
+quietly_here no_point = record { last = λ told order rest. last_quiet-of (no_point.unquiet told); own = no_point.own }

@@ -16,7 +16,7 @@ use Rattle.net_txn.specs.Abreast.{Abreast}
 use Rattle.app_visor.specs.CallsFor.{CallsFor}
 use Rattle.lego_model.specs.Application.{index}
 use Rattle.event_dispatch.specs.declared.batch.Rest.{Rest}
-use Rattle.event_dispatch.specs.Steady.{IsAtRest}
+use Rattle.event_dispatch.specs.Steady.{NothingUnderWay}
 
 -- ---- Between the two
 
@@ -47,7 +47,7 @@ pub record OnlyMessages {Own : Type 0} (Tells : Type 0) (old new : Seen Own) : T
   pub read : Tells → MessagesSince old new
 
 -- however it ended: calls of links were in place
-pub record PutsInPlace {Own : Type 0} (Tells : Type 0) (step : WorldStep) (old new : Seen Own) (net : NetState) : Type 0 where
+pub record NoStrayAtItem {Own : Type 0} (Tells : Type 0) (step : WorldStep) (old new : Seen Own) (net : NetState) : Type 0 where
   pub places : Tells → InOrder new → IsTold step (state old) net.views → StaysInPlace old new
 
 -- where it was done: the host keeps up with the switches, and the item and what came since are messages
@@ -59,7 +59,7 @@ pub record CatchesUp {Own : Type 0} (Tells : Type 0) (step : WorldStep) (old new
 -- ---- What is told next, and is handled
 
 -- No quiet place lies behind the place before it, and where a stimulus was begun before, none lies there either.
-pub record NextQuietly {Own : Type 0} (Tells : Type 0) (old new : Seen Own) : Type 0 where
+pub record NextPoint {Own : Type 0} (Tells : Type 0) (old new : Seen Own) : Type 0 where
   pub last : Tells → IsLastQuiet old new
   pub unquiet : Tells → InOrder new → (state old).begun ≡ true → Unquiet old new
   pub own : Tells → CallsFor index old new
@@ -67,12 +67,12 @@ pub record NextQuietly {Own : Type 0} (Tells : Type 0) (old new : Seen Own) : Ty
 -- where the batch goes on, a stimulus is begun: it was before, or all was at rest
 pub record GoesBegun {Own : Type 0} (Tells : Type 0) (rest : Option Rest) (old new : Seen Own) : Type 0 where
   pub still : Tells → rest ≡ None → (state old).begun ≡ true → (state new).begun ≡ true
-  pub anew : Tells → InOrder new → rest ≡ None → IsAtRest (state old) → (state new).begun ≡ true
+  pub anew : Tells → InOrder new → rest ≡ None → NothingUnderWay (state old) → (state new).begun ≡ true
 
 -- ---- A batch
 
 -- Where all was at rest and nothing was kept: nothing was done yet, or a stimulus is begun and no quiet place lies behind the one where the
 -- batch began.
-pub record BatchHere {Own : Type 0} (Tells : Type 0) (old new : Seen Own) (net : NetState) : Type 0 where
-  pub here : Tells → InOrder new → IsAtRest (state old) → net.kept ≡ [] → (new ≡ old) ⊎ (((state new).begun ≡ true) × IsLastQuiet old new)
+pub record BatchPoint {Own : Type 0} (Tells : Type 0) (old new : Seen Own) (net : NetState) : Type 0 where
+  pub here : Tells → InOrder new → NothingUnderWay (state old) → net.kept ≡ [] → (new ≡ old) ⊎ (((state new).begun ≡ true) × IsLastQuiet old new)
   pub own : Tells → CallsFor index old new

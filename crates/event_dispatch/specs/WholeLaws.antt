@@ -29,7 +29,7 @@ use Rattle.event_dispatch.specs.declared.served.Served.{Served}
 use Rattle.event_dispatch.specs.declared.served.Served.TheVariants as served
 use Rattle.event_dispatch.specs.Why.{served_by}
 use Rattle.event_dispatch.specs.Shows.{engine_of}
-use Rattle.event_dispatch.specs.LastShown.{LastShown}
+use Rattle.event_dispatch.specs.ReportEnd.{LastShown}
 use Rattle.event_dispatch.specs.LastLaws.{says_leaves}
 use Rattle.event_dispatch.specs.RoundLaws.{writes_then}
 use Rattle.event_dispatch.specs.Serves.{Writes, NoneToCome, GoesToEnd, Begins, EndsReport, Finishes, RunsOut, RunsFull, GoesAs, RunsAs, IsUnopened, IsCut, IsAlike}

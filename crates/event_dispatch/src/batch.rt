@@ -18,8 +18,8 @@ ghost use Rattle.event_dispatch.specs.Talking.{KeepsTalking};
 ghost use Rattle.net_txn.specs.LinkSteps.{OnLinks, StaysInPlace, AsksInPlace};
 ghost use Rattle.app_visor.specs.CallsFor.{CallsFor};
 ghost use Rattle.lego_model.specs.Application.{index};
-ghost use Rattle.event_dispatch.specs.Steady.{InPlace, Reads, AtMostHere};
-ghost use Rattle.event_dispatch.specs.Told.{OnlyMessages, PutsInPlace, NextQuietly, GoesBegun};
+ghost use Rattle.event_dispatch.specs.Steady.{NoStray, Reads, AtMostThisPoint};
+ghost use Rattle.event_dispatch.specs.Told.{OnlyMessages, NoStrayAtItem, NextPoint, GoesBegun};
 ghost use Rattle.event_dispatch.specs.Plain.{IsPlainEnd, PlainRead, PlainJoin, PlainItem, PlainNext, PlainKept, PlainCalm};
 
 use crate::fault::Fault;
@@ -82,7 +82,7 @@ fn next_item<W: World>(world: &mut W, buf: &mut [u8]) -> Result<Item, Fault>
     ensures item { IfOk result (λ item. IsItemIn W.Tells item buf.new) }
     ensures continues { Continues W.Tells (W.seen world.old) (W.seen world.new) }
     ensures talks { KeepsTalking W.Tells (W.seen world.old) (W.seen world.new) }
-    ensures quietly { NextQuietly W.Tells (W.seen world.old) (W.seen world.new) }
+    ensures no_point { NextPoint W.Tells (W.seen world.old) (W.seen world.new) }
     ensures places { W.Tells → StaysInPlace (W.seen world.old) (W.seen world.new) }
     ensures why { IfErr result (IsReason W.Tells (W.seen world.old) (W.seen world.new) 0 0) }
     ensures plain { IfErr result IsPlainEnd }
@@ -112,7 +112,7 @@ impl Run {
         ensures continues { Continues W.Tells (W.seen world.old) (W.seen world.new) }
         ensures talks { KeepsTalking W.Tells (W.seen world.old) (W.seen world.new) }
         ensures links { OnLinks W.Tells (W.seen world.old) (W.seen world.new) }
-        ensures places { InPlace W.Tells (W.seen world.old) (W.seen world.new) self.old.net }
+        ensures places { NoStray W.Tells (W.seen world.old) (W.seen world.new) self.old.net }
         ensures reads { OnOk result (Reads W.Tells (W.seen world.old) (W.seen world.new) self.old.net self.new.net) }
         ensures messages { OnOk result (OnlyMessages W.Tells (W.seen world.old) (W.seen world.new)) }
         ensures read { OnOk result (AreRead self.old.net.kept → AreRead self.new.net.kept) }
@@ -153,7 +153,7 @@ impl Run {
         ensures continues { Continues W.Tells (W.seen world.old) (W.seen world.new) }
         ensures talks { KeepsTalking W.Tells (W.seen world.old) (W.seen world.new) }
         ensures links { OnLinks W.Tells (W.seen world.old) (W.seen world.new) }
-        ensures places { PutsInPlace W.Tells (Joined dpid frame.now) (W.seen world.old) (W.seen world.new) self.old.net }
+        ensures places { NoStrayAtItem W.Tells (Joined dpid frame.now) (W.seen world.old) (W.seen world.new) self.old.net }
         ensures messages { OnOk result (OnlyMessages W.Tells (W.seen world.old) (W.seen world.new)) }
         ensures read { OnOk result (AreRead self.old.net.kept → AreRead self.new.net.kept) }
         ensures why { IfErr result (IsReason W.Tells (W.seen world.old) (W.seen world.new) 0 0) }
@@ -229,7 +229,7 @@ impl Run {
         ensures links { OnLinks W.Tells (W.seen world.old) (W.seen world.new) }
 
         // Where the item was told to a host that kept up with its switches, calls of links are in place.
-        ensures places { PutsInPlace W.Tells (item_step item buf.now) (W.seen world.old) (W.seen world.new) self.old.net }
+        ensures places { NoStrayAtItem W.Tells (item_step item buf.now) (W.seen world.old) (W.seen world.new) self.old.net }
         ensures messages { OnOk result (OnlyMessages W.Tells (W.seen world.old) (W.seen world.new)) }
         ensures read { OnOk result (AreRead self.old.net.kept → AreRead self.new.net.kept) }
         ensures why { IfErr result (WhyItem W.Tells (item_step item buf.now) (W.seen world.old) (W.seen world.new)) }
@@ -260,7 +260,7 @@ impl Run {
         ensures continues { Continues W.Tells (W.seen world.old) (W.seen world.new) }
         ensures talks { KeepsTalking W.Tells (W.seen world.old) (W.seen world.new) }
         ensures links { OnLinks W.Tells (W.seen world.old) (W.seen world.new) }
-        ensures places { InPlace W.Tells (W.seen world.old) (W.seen world.new) self.old.net }
+        ensures places { NoStray W.Tells (W.seen world.old) (W.seen world.new) self.old.net }
         ensures reads { OnOk result (Reads W.Tells (W.seen world.old) (W.seen world.new) self.old.net self.new.net) }
         ensures read { OnOk result (AreRead self.new.net.kept) }
         ensures why { IfErr result (IsReason W.Tells (W.seen world.old) (W.seen world.new) 0 0) }
@@ -285,11 +285,11 @@ impl Run {
         ensures lines { self.new.lines ≡ self.old.lines }
         ensures continues { Continues W.Tells (W.seen world.old) (W.seen world.new) }
         ensures talks { KeepsTalking W.Tells (W.seen world.old) (W.seen world.new) }
-        ensures places { InPlace W.Tells (W.seen world.old) (W.seen world.new) self.old.net }
+        ensures places { NoStray W.Tells (W.seen world.old) (W.seen world.new) self.old.net }
         ensures reads { OnOk result (Reads W.Tells (W.seen world.old) (W.seen world.new) self.old.net self.new.net) }
 
         // One stimulus is begun at most, before all else, and where the batch goes on one is begun.
-        ensures quietly { NextQuietly W.Tells (W.seen world.old) (W.seen world.new) }
+        ensures no_point { NextPoint W.Tells (W.seen world.old) (W.seen world.new) }
         ensures begun { IfOk result (λ rest. GoesBegun W.Tells rest (W.seen world.old) (W.seen world.new)) }
         ensures read { OnOk result (AreRead self.old.net.kept → AreRead self.new.net.kept) }
         ensures why { IfErr result (IsReason W.Tells (W.seen world.old) (W.seen world.new) 0 0) }
@@ -325,11 +325,11 @@ impl Run {
 
         // Where the world tells in order and the host keeps up with its switches, calls of links are in place; where the batch was done,
         // all that came were messages, and the host keeps up then.
-        ensures places { InPlace W.Tells (W.seen world.old) (W.seen world.new) self.old.net }
+        ensures places { NoStray W.Tells (W.seen world.old) (W.seen world.new) self.old.net }
         ensures reads { OnOk result (Reads W.Tells (W.seen world.old) (W.seen world.new) self.old.net self.new.net) }
 
         // Where all was at rest and nothing was kept, no quiet place lies behind, and no other application was called.
-        ensures here { OnErr result (self.old.net.kept ≡ [] → AtMostHere W.Tells (W.seen world.old) (W.seen world.new)) }
+        ensures here { OnErr result (self.old.net.kept ≡ [] → AtMostThisPoint W.Tells (W.seen world.old) (W.seen world.new)) }
         ensures own { OnErr result (W.Tells → CallsFor index (W.seen world.old) (W.seen world.new)) }
         ensures read { OnOk result (AreRead self.new.net.kept) }
         ensures why { IfErr result (IsReason W.Tells (W.seen world.old) (W.seen world.new) 0 0) }

@@ -6,13 +6,13 @@ ghost use Rattle.outside.specs.Seen.{Continues};
 ghost use Rattle.lego_model.specs.RunReport.{flow_line};
 ghost use Rattle.net_txn.specs.Views.{rows_at};
 ghost use Rattle.run_laws.specs.LastReport.{engine_end};
-ghost use Rattle.event_dispatch.specs.Steady.{InPlace, Reads, Quietly};
+ghost use Rattle.event_dispatch.specs.Steady.{NoStray, Reads, NoPoint};
 ghost use Rattle.event_dispatch.specs.Runs.{Waits};
 ghost use Rattle.event_dispatch.specs.Why.{IsReason, served_by};
 ghost use Rattle.event_dispatch.specs.Plain.{PlainTable, PlainCalm};
 ghost use Rattle.event_dispatch.specs.Talking.{KeepsTalking};
 ghost use Rattle.event_dispatch.specs.Shows.{engine_of, Adds};
-ghost use Rattle.event_dispatch.specs.LastShown.{FindsFlags, FlowsSaid, TableSaid, AsksShown, TableShown, LastShown};
+ghost use Rattle.event_dispatch.specs.ReportEnd.{FindsFlags, FlowsSaid, TableSaid, AsksShown, TableShown, LastShown};
 
 use crate::batch::is_joined;
 use crate::fault::Fault;
@@ -114,9 +114,9 @@ impl Run {
         requires { IsSome (rows_at dpid self.old.net.views) }
         ensures waits { OnOk result (Waits self.old self.new) }
         ensures continues { Continues W.Tells (W.seen world.old) (W.seen world.new) }
-        ensures places { InPlace W.Tells (W.seen world.old) (W.seen world.new) self.old.net }
+        ensures places { NoStray W.Tells (W.seen world.old) (W.seen world.new) self.old.net }
         ensures reads { OnOk result (Reads W.Tells (W.seen world.old) (W.seen world.new) self.old.net self.new.net) }
-        ensures quietly { Quietly W.Tells (W.seen world.old) (W.seen world.new) }
+        ensures no_point { NoPoint W.Tells (W.seen world.old) (W.seen world.new) }
         ensures talks { KeepsTalking W.Tells (W.seen world.old) (W.seen world.new) }
         ensures why { IfErr result (IsReason W.Tells (W.seen world.old) (W.seen world.new) 0 0) }
         ensures plain { IfErr result (PlainTable W.Tells (W.seen world.old) (W.seen world.new) self.old.net) }
@@ -133,9 +133,9 @@ impl Run {
     fn note_table<W: World>(&mut self, world: &mut W, dpid: Dpid) -> Result<(), Fault>
         ensures waits { OnOk result (Waits self.old self.new) }
         ensures continues { Continues W.Tells (W.seen world.old) (W.seen world.new) }
-        ensures places { InPlace W.Tells (W.seen world.old) (W.seen world.new) self.old.net }
+        ensures places { NoStray W.Tells (W.seen world.old) (W.seen world.new) self.old.net }
         ensures reads { OnOk result (Reads W.Tells (W.seen world.old) (W.seen world.new) self.old.net self.new.net) }
-        ensures quietly { Quietly W.Tells (W.seen world.old) (W.seen world.new) }
+        ensures no_point { NoPoint W.Tells (W.seen world.old) (W.seen world.new) }
         ensures talks { KeepsTalking W.Tells (W.seen world.old) (W.seen world.new) }
         ensures why { IfErr result (IsReason W.Tells (W.seen world.old) (W.seen world.new) 0 0) }
         ensures plain { IfErr result (PlainTable W.Tells (W.seen world.old) (W.seen world.new) self.old.net) }
@@ -176,9 +176,9 @@ impl Run {
     pub(crate) fn note_last<W: World>(&mut self, world: &mut W) -> Result<(), Fault>
         ensures waits { OnOk result (Waits self.old self.new) }
         ensures continues { Continues W.Tells (W.seen world.old) (W.seen world.new) }
-        ensures places { InPlace W.Tells (W.seen world.old) (W.seen world.new) self.old.net }
+        ensures places { NoStray W.Tells (W.seen world.old) (W.seen world.new) self.old.net }
         ensures reads { OnOk result (Reads W.Tells (W.seen world.old) (W.seen world.new) self.old.net self.new.net) }
-        ensures quietly { Quietly W.Tells (W.seen world.old) (W.seen world.new) }
+        ensures no_point { NoPoint W.Tells (W.seen world.old) (W.seen world.new) }
         ensures talks { KeepsTalking W.Tells (W.seen world.old) (W.seen world.new) }
         ensures why { IfErr result (IsReason W.Tells (W.seen world.old) (W.seen world.new) 0 0) }
 

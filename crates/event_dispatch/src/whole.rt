@@ -16,7 +16,7 @@ ghost use Rattle.run_laws.specs.Endings.{ShownLeaves};
 ghost use Rattle.run_laws.specs.First.{net_at_first, engine_at_first};
 ghost use Rattle.run_laws.specs.Promise.{PremiseSoFar, Premise};
 ghost use Rattle.event_dispatch.specs.Talking.{KeepsTalking};
-ghost use Rattle.event_dispatch.specs.Steady.{InPlace, Reads, Quietly};
+ghost use Rattle.event_dispatch.specs.Steady.{NoStray, Reads, NoPoint};
 ghost use Rattle.event_dispatch.specs.Cut.{CutRound, CutRounds, CutStart, CutEnd, CutFinishAs, CutAs, ReadsAs, IsReadServed};
 ghost use Rattle.event_dispatch.specs.Serves.{GoesRound, GoesToEnd, Begins, EndsReport, Finishes, GoesAs, RunsAs, IsUnopened, IsCut, IsAlike};
 
@@ -56,14 +56,14 @@ impl Run {
         ensures going { OnOk result (Going self.new) }
         ensures events { OnOk result (self.new.events ≤ self.old.events + 1000) }
         ensures continues { Continues W.Tells (W.seen world.old) (W.seen world.new) }
-        ensures places { InPlace W.Tells (W.seen world.old) (W.seen world.new) self.old.net }
+        ensures places { NoStray W.Tells (W.seen world.old) (W.seen world.new) self.old.net }
         ensures reads { OnOk result (Reads W.Tells (W.seen world.old) (W.seen world.new) self.old.net self.new.net) }
         ensures never_fell { NeverFell (K.faults sink.old) (K.faults sink.new) }
         ensures why { IfErr result (IsReason W.Tells (W.seen world.old) (W.seen world.new) (K.faults sink.old) (K.faults sink.new)) }
         ensures plain { IfErr result (λ fault. PlainRun W.Tells (J.accepts judge.now) (W.seen world.old) (W.seen world.new) (engine_of self.old) (served_by fault)) }
     {
         let rest = self.take_batch(world, buf)?;
-        self.settle(world, judge, sink)?;
+        self.dispatch_waiting(world, judge, sink)?;
         Ok(rest)
     }
 
@@ -85,7 +85,7 @@ impl Run {
         ensures cut { IfErr result (λ fault. CutRounds W.Tells (J.accepts judge.now) fault (K.contents sink.old) (K.contents sink.new)
             (W.seen world.old) (W.seen world.new) self.old) }
         ensures continues { Continues W.Tells (W.seen world.old) (W.seen world.new) }
-        ensures places { InPlace W.Tells (W.seen world.old) (W.seen world.new) self.old.net }
+        ensures places { NoStray W.Tells (W.seen world.old) (W.seen world.new) self.old.net }
         ensures reads { OnOk result (Reads W.Tells (W.seen world.old) (W.seen world.new) self.old.net self.new.net) }
         ensures never_fell { NeverFell (K.faults sink.old) (K.faults sink.new) }
         ensures why { IfErr result (IsReason W.Tells (W.seen world.old) (W.seen world.new) (K.faults sink.old) (K.faults sink.new)) }
@@ -111,7 +111,7 @@ impl Run {
         ensures going { OnOk result (Going self.new) }
         ensures none { OnOk result (self.new.events ≡ 0) }
         ensures continues { Continues W.Tells (W.seen world.old) (W.seen world.new) }
-        ensures places { InPlace W.Tells (W.seen world.old) (W.seen world.new) self.old.net }
+        ensures places { NoStray W.Tells (W.seen world.old) (W.seen world.new) self.old.net }
         ensures reads { OnOk result (Reads W.Tells (W.seen world.old) (W.seen world.new) self.old.net self.new.net) }
         ensures never_fell { NeverFell (K.faults sink.old) (K.faults sink.new) }
         ensures why { IfErr result (IsReason W.Tells (W.seen world.old) (W.seen world.new) (K.faults sink.old) (K.faults sink.new)) }
@@ -129,7 +129,7 @@ impl Run {
         ensures ends { OnOk result (EndsReport W.Tells (K.contents sink.old) (K.contents sink.new) (W.seen world.old) (W.seen world.new) self.old self.new) }
         ensures cut { IfErr result (λ fault. CutEnd W.Tells fault (K.contents sink.old) (K.contents sink.new) (W.seen world.old) (W.seen world.new) (engine_of self.old)) }
         ensures continues { Continues W.Tells (W.seen world.old) (W.seen world.new) }
-        ensures places { InPlace W.Tells (W.seen world.old) (W.seen world.new) self.old.net }
+        ensures places { NoStray W.Tells (W.seen world.old) (W.seen world.new) self.old.net }
         ensures reads { OnOk result (Reads W.Tells (W.seen world.old) (W.seen world.new) self.old.net self.new.net) }
         ensures never_fell { NeverFell (K.faults sink.old) (K.faults sink.new) }
         ensures why { IfErr result (IsReason W.Tells (W.seen world.old) (W.seen world.new) (K.faults sink.old) (K.faults sink.new)) }
@@ -147,7 +147,7 @@ impl Run {
         ensures finishes { Finishes W.Tells result (K.contents sink.old) (K.contents sink.new) (W.seen world.old) (W.seen world.new) self.old self.new }
         ensures cut { IfErr result (λ end. CutFinishAs W.Tells end (K.contents sink.old) (K.contents sink.new) (W.seen world.old) (W.seen world.new) (engine_of self.old)) }
         ensures continues { Continues W.Tells (W.seen world.old) (W.seen world.new) }
-        ensures places { InPlace W.Tells (W.seen world.old) (W.seen world.new) self.old.net }
+        ensures places { NoStray W.Tells (W.seen world.old) (W.seen world.new) self.old.net }
         ensures reads { ReadsAs W.Tells result (W.seen world.old) (W.seen world.new) self.old.net }
         ensures never_fell { NeverFell (K.faults sink.old) (K.faults sink.new) }
         ensures why { IfErr result (IsWhy W.Tells (W.seen world.old) (W.seen world.new) (K.faults sink.old) (K.faults sink.new)) }
@@ -175,7 +175,7 @@ impl Run {
         ensures goes { GoesAs W.Tells (J.accepts judge.now) result (K.contents sink.old) (K.contents sink.new) (W.seen world.old) (W.seen world.new) self.old self.new }
         ensures cut { IfErr result (λ end. CutAs W.Tells (J.accepts judge.now) end (K.contents sink.old) (K.contents sink.new) (W.seen world.old) (W.seen world.new) (engine_of self.old)) }
         ensures continues { Continues W.Tells (W.seen world.old) (W.seen world.new) }
-        ensures places { InPlace W.Tells (W.seen world.old) (W.seen world.new) self.old.net }
+        ensures places { NoStray W.Tells (W.seen world.old) (W.seen world.new) self.old.net }
         ensures reads { ReadsAs W.Tells result (W.seen world.old) (W.seen world.new) self.old.net }
         ensures never_fell { NeverFell (K.faults sink.old) (K.faults sink.new) }
         ensures why { IfErr result (IsWhy W.Tells (W.seen world.old) (W.seen world.new) (K.faults sink.old) (K.faults sink.new)) }
@@ -205,7 +205,7 @@ fn open<W: World>(world: &mut W) -> Result<(), Served>
 #[tactic(auto, using(crate::specs::WhyLaws::ends_continue))]
 fn end<W: World>(world: &mut W)
     ensures continues { Continues W.Tells (W.seen world.old) (W.seen world.new) }
-    ensures quietly { Quietly W.Tells (W.seen world.old) (W.seen world.new) }
+    ensures no_point { NoPoint W.Tells (W.seen world.old) (W.seen world.new) }
     ensures places { W.Tells → StaysInPlace (W.seen world.old) (W.seen world.new) }
     ensures messages { W.Tells → MessagesSince (W.seen world.old) (W.seen world.new) }
     ensures leaves { ShownLeaves W.Tells (W.seen world.old) (W.seen world.new) }
@@ -230,7 +230,7 @@ fn go_to_end<W: World, J: Judge, K: Sink>(
     ensures goes { GoesAs W.Tells (J.accepts judge.now) result (K.contents sink.old) (K.contents sink.new) (W.seen world.old) (W.seen world.new) run.old run.new }
     ensures cut { IfErr result (λ end. CutAs W.Tells (J.accepts judge.now) end (K.contents sink.old) (K.contents sink.new) (W.seen world.old) (W.seen world.new) (engine_of run.old)) }
     ensures continues { Continues W.Tells (W.seen world.old) (W.seen world.new) }
-    ensures places { InPlace W.Tells (W.seen world.old) (W.seen world.new) run.old.net }
+    ensures places { NoStray W.Tells (W.seen world.old) (W.seen world.new) run.old.net }
     ensures reads { ReadsAs W.Tells result (W.seen world.old) (W.seen world.new) run.old.net }
     ensures never_fell { NeverFell (K.faults sink.old) (K.faults sink.new) }
     ensures why { IfErr result (IsWhy W.Tells (W.seen world.old) (W.seen world.new) (K.faults sink.old) (K.faults sink.new)) }
@@ -251,7 +251,7 @@ fn run<W: World, J: Judge, K: Sink>(
     ensures runs { RunsAs W.Tells (J.accepts judge.now) result (K.contents sink.old) (K.contents sink.new) (W.seen world.old) (W.seen world.new) }
     ensures cut { IfErr result (λ end. CutAs W.Tells (J.accepts judge.now) end (K.contents sink.old) (K.contents sink.new) (W.seen world.old) (W.seen world.new) engine_at_first) }
     ensures continues { Continues W.Tells (W.seen world.old) (W.seen world.new) }
-    ensures places { InPlace W.Tells (W.seen world.old) (W.seen world.new) net_at_first }
+    ensures places { NoStray W.Tells (W.seen world.old) (W.seen world.new) net_at_first }
     ensures reads { ReadsAs W.Tells result (W.seen world.old) (W.seen world.new) net_at_first }
     ensures never_fell { NeverFell (K.faults sink.old) (K.faults sink.new) }
     ensures why { IfErr result (IsWhy W.Tells (W.seen world.old) (W.seen world.new) (K.faults sink.old) (K.faults sink.new)) }

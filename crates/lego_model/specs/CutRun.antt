@@ -29,11 +29,11 @@ start_of seen = start_said seen (starts_in (own_acts seen)) (replies_in (own_act
 
 -- The application is started or not yet, these stimuli happened with all that follows of each, then perhaps one more was begun, and so
 -- many of the events that wait then were dispatched.
-abbrev pub so_far : (List Place → Bool) → Bool → List WorldStim → List WorldStim → ℕ → Run → Run
-so_far allows started stimuli begun number r = times number (dispatch_next allows) (fold (λ q x. happen x q) (rounds allows stimuli (if started then all_started r else r)) begun)
+abbrev pub reference_so_far : (List Place → Bool) → Bool → List WorldStim → List WorldStim → ℕ → Run → Run
+reference_so_far allows started stimuli begun number r = times number (dispatch_next allows) (fold (λ q x. happen x q) (rounds allows stimuli (if started then all_started r else r)) begun)
 
 -- how far a run came to a place: these stimuli are all that happened before it
-pub record Far {Own : Type 0} (last : Seen Own) : Type 0 where
+pub record Progress {Own : Type 0} (last : Seen Own) : Type 0 where
   pub started : Bool
   pub stimuli : List WorldStim
   pub begun : List WorldStim
@@ -43,40 +43,40 @@ pub record Far {Own : Type 0} (last : Seen Own) : Type 0 where
   pub stimuli_so : stimuli_in last ≡ stimuli ++ begun
 
 -- the reference controller up to there
-abbrev pub run_to : {Own : Type 0} {last : Seen Own} → (List Place → Bool) → Far last → Run → Run
-run_to allows far r = so_far allows far.started far.stimuli far.begun far.number r
+abbrev pub reference_to : {Own : Type 0} {last : Seen Own} → (List Place → Bool) → Progress last → Run → Run
+reference_to allows far r = reference_so_far allows far.started far.stimuli far.begun far.number r
 
 -- ---- What was written
 
 -- The lines of all that was done up to there were written.
-pub record CutAs {Own : Type 0} (allows : List Place → Bool) (last : Seen Own) (contents now_contents : Option (List ℕ)) (far : Far last) (r : Run) : Type 0 where
-  pub alike : RunsAlike last (run_to allows far r)
-  pub written : now_contents ≡ append_known contents (text_of (run_to allows far r))
+pub record WroteSoFar {Own : Type 0} (allows : List Place → Bool) (last : Seen Own) (contents now_contents : Option (List ℕ)) (far : Progress last) (r : Run) : Type 0 where
+  pub alike : RunsAlike last (reference_to allows far r)
+  pub written : now_contents ≡ append_known contents (text_of (reference_to allows far r))
 
 -- Where the sink failed, it did so at these lines, and had taken this text before: at the lines of the start,
-pub record StartLines {Own : Type 0} {last : Seen Own} (allows : List Place → Bool) (far : Far last) (text more : List ℕ) (r : Run) : Type 0 where
+pub record StartLines {Own : Type 0} {last : Seen Own} (allows : List Place → Bool) (far : Progress last) (text more : List ℕ) (r : Run) : Type 0 where
   pub is_started : far.started ≡ true
   pub none_happened : stimuli_in last ≡ []
   pub none_dispatched : far.number ≡ 0
   pub text_so : text ≡ []
-  pub more_so : text_of (run_to allows far r) ≡ more
+  pub more_so : text_of (reference_to allows far r) ≡ more
 
 -- at those of the event that was dispatched last, behind the lines of all before it,
-pub record EventLines {Own : Type 0} {last : Seen Own} (allows : List Place → Bool) (far : Far last) (text more : List ℕ) (r : Run) : Type 0 where
+pub record EventLines {Own : Type 0} {last : Seen Own} (allows : List Place → Bool) (far : Progress last) (text more : List ℕ) (r : Run) : Type 0 where
   pub before : ℕ
   pub one_more : far.number ≡ before + 1
-  pub text_so : text_of (so_far allows far.started far.stimuli far.begun before r) ≡ text
-  pub more_so : text_of (run_to allows far r) ≡ text ++ more
+  pub text_so : text_of (reference_so_far allows far.started far.stimuli far.begun before r) ≡ text
+  pub more_so : text_of (reference_to allows far r) ≡ text ++ more
 
 -- or at the end of the report.
-pub record EndLines {Own : Type 0} {last : Seen Own} (allows : List Place → Bool) (far : Far last) (text more : List ℕ) (r : Run) : Type 0 where
-  pub none_left : (run_to allows far r).queue ≡ []
-  pub text_so : text_of (run_to allows far r) ≡ text
-  pub more_so : run_report names (run_to allows far r) ≡ text ++ more
+pub record EndLines {Own : Type 0} {last : Seen Own} (allows : List Place → Bool) (far : Progress last) (text more : List ℕ) (r : Run) : Type 0 where
+  pub none_left : (reference_to allows far r).queue ≡ []
+  pub text_so : text_of (reference_to allows far r) ≡ text
+  pub more_so : run_report names (reference_to allows far r) ≡ text ++ more
 
 -- These lines were to be written, behind this text, which is all that was done before.
-pub record WritingAs {Own : Type 0} (allows : List Place → Bool) (last : Seen Own) (text more : List ℕ) (far : Far last) (r : Run) : Type 0 where
-  pub alike : RunsAlike last (run_to allows far r)
+pub record WasWriting {Own : Type 0} (allows : List Place → Bool) (last : Seen Own) (text more : List ℕ) (far : Progress last) (r : Run) : Type 0 where
+  pub alike : RunsAlike last (reference_to allows far r)
   pub lines : StartLines allows far text more r ⊎ EventLines allows far text more r ⊎ EndLines allows far text more r
 
 -- ---- A point of a run
@@ -84,22 +84,22 @@ pub record WritingAs {Own : Type 0} (allows : List Place → Bool) (last : Seen 
 -- Up to a place the run is that of the reference controller so far, over what was told and over all that was said of the application: the
 -- tables agree at every quiet place, that one included, and the application was given what it is given there. The journal is a dialogue
 -- with it, and all steps were in order.
-pub record AlikeUpTo {Own : Type 0} (last : Seen Own) (IsSo : Far last → Run → Type 0) : Type 0 where
-  pub far : Far last
+pub record AlikeUpTo {Own : Type 0} (last : Seen Own) (IsSo : Progress last → Run → Type 0) : Type 0 where
+  pub far : Progress last
   pub as_told : IsSo far (start_of last)
   pub as_said : (starts : List Start) (replies : List Reply) → AreSaid last starts replies → IsSo far (start_said last starts replies)
   pub at_once : AtOnce index (journal last.history)
   pub in_order : AllByRecursion (IsOrderly index) last.history
 
 -- and the lines of all that was done were written,
-abbrev pub CutSo : {Own : Type 0} → (List Place → Bool) → Seen Own → Option (List ℕ) → Option (List ℕ) → Type 0
-CutSo allows last contents now_contents = AlikeUpTo last (CutAs allows last contents now_contents)
+abbrev pub CutBetweenLines : {Own : Type 0} → (List Place → Bool) → Seen Own → Option (List ℕ) → Option (List ℕ) → Type 0
+CutBetweenLines allows last contents now_contents = AlikeUpTo last (WroteSoFar allows last contents now_contents)
 
 -- or the sink took a part of the lines of what was done last, behind all lines of what was done before.
-pub record WritingSo {Own : Type 0} (allows : List Place → Bool) (last : Seen Own) (contents now_contents : Option (List ℕ)) : Type 0 where
+pub record CutWhileWriting {Own : Type 0} (allows : List Place → Bool) (last : Seen Own) (contents now_contents : Option (List ℕ)) : Type 0 where
   pub text : List ℕ
   pub more : List ℕ
-  pub up_to : AlikeUpTo last (WritingAs allows last text more)
+  pub up_to : AlikeUpTo last (WasWriting allows last text more)
   pub part : TookPart (append_known contents text) now_contents more
 
 -- ---- A run of which nothing was done

@@ -38,12 +38,12 @@ abbrev pub stimuli_in : {Own : Type 0} → Seen Own → List WorldStim
 stimuli_in seen = stimuli (journal seen.history)
 
 -- the quiescent points, in order, each with the switches as they stood
-abbrev pub quiet_by : Mark → Quiet
-quiet_by m = record { event = m.event; switches = m.switches }
+abbrev pub point_by : Mark → Quiet
+point_by m = record { event = m.event; switches = m.switches }
 
-abbrev pub quiets_in : {Own : Type 0} → Seen Own → List Quiet
-quiets_in seen = map quiet_by (state seen).marks
+abbrev pub points_in : {Own : Type 0} → Seen Own → List Quiet
+points_in seen = map point_by (state seen).marks
 
 -- how the switches stand at the end
-abbrev pub last_quiet : {Own : Type 0} → Seen Own → Quiet
-last_quiet seen = record { event = None; switches = map (λ (l : Link). l.switch) (state seen).links }
+abbrev pub last_point : {Own : Type 0} → Seen Own → Quiet
+last_point seen = record { event = None; switches = map (λ (l : Link). l.switch) (state seen).links }

@@ -7,7 +7,7 @@ use Rattle.lego_model.specs.Places.{Place}
 use Rattle.lego_model.specs.Scripted.{AreFronts, AreStartFronts}
 use Rattle.lego_model.specs.Controller.{App, Run, quiet_of, start_all, reference, dispatch, settle, happen}
 use Rattle.outside.specs.Seen.{Seen}
-use Rattle.lego_model.specs.History.{starts_in, replies_in, own_acts, stimuli_in, given_in, quiets_in, last_quiet}
+use Rattle.lego_model.specs.History.{starts_in, replies_in, own_acts, stimuli_in, given_in, points_in, last_point}
 use Rattle.lego_model.specs.Agreement.{AgreeQuiets}
 use Rattle.lego_model.specs.Application.{budget, names}
 use Rattle.of_types.specs.declared.journal.WorldStim.{WorldStim}
@@ -82,5 +82,5 @@ text_of r = flat_map (line_text names) r.lines
 -- The run is that of the reference controller: at every quiet place, the end included, the switches agree; and the application was given
 -- what the reference controller gives it.
 pub record RunsAlike {Own : Type 0} (seen : Seen Own) (r : Run) : Type 0 where
-  pub tables : AgreeQuiets (quiets_in seen ++ last_quiet seen ∷ []) (r.quiets ++ quiet_of None r.places ∷ [])
+  pub tables : AgreeQuiets (points_in seen ++ last_point seen ∷ []) (r.quiets ++ quiet_of None r.places ∷ [])
   pub inputs : map (λ (a : App). a.inputs) r.apps ≡ given_in seen ∷ []

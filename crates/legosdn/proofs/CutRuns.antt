@@ -19,13 +19,13 @@ use Rattle.lego_model.specs.History.{stimuli_in}
 use Rattle.run_laws.specs.StimuliLaws.{told-few}
 use Rattle.run_laws.specs.Promise.{PremiseSoFar}
 use Rattle.run_laws.specs.Cut.{CutAlike, CutWriting}
-use Rattle.lego_model.specs.CutRun.{Far, CutAs, WritingAs, AlikeUpTo, NothingDone}
+use Rattle.lego_model.specs.CutRun.{Progress, WroteSoFar, WasWriting, AlikeUpTo, NothingDone}
 use Rattle.run_laws.specs.DialogueLaws.{applications_in_place}
 use Rattle.event_dispatch.specs.declared.served.Served.{Served}
 use Rattle.event_dispatch.specs.declared.served.Served.TheVariants as served
 use Rattle.event_dispatch.specs.Serves.{IsCut}
-use Rattle.legosdn.specs.Said.{all_allowed, SaidSo, CutRun, WritingRun}
-use Rattle.legosdn.specs.Headline.{KeepsLines, UpToPlace}
+use Rattle.legosdn.specs.Said.{all_allowed, HoldsAsSaid, CutRun, WritingRun}
+use Rattle.legosdn.specs.Headline.{KeepsLines, UpToPoint}
 use Rattle.legosdn.proofs.Said.{told_in, are_said, kept_to_lines}
 use Rattle.legosdn.proofs.Places.{CountsNone, behind_for, none_strays, shut_strays, idle_strays}
 use Rattle.sim_world.specs.ScriptLaws.{AreScripted-front}
@@ -48,13 +48,13 @@ conforms_at sim last order given quiet messages = in_order-Conforming last (InOr
 
 -- ---- A place of the run
 
-said_so : {last : Seen Scripts} (IsSo : Far last → Run → Type 0) (up_to : AlikeUpTo last IsSo) → KeepsScripts last.given.own (without_links last.given.fails) last.history → SaidSo IsSo up_to
+said_so : {last : Seen Scripts} (IsSo : Progress last → Run → Type 0) (up_to : AlikeUpTo last IsSo) → KeepsScripts last.given.own (without_links last.given.fails) last.history → HoldsAsSaid IsSo up_to
 said_so {last} IsSo up_to keeps = λ none. record {
   enough = told_in last;
   so = λ more few. up_to.as_said _ _ (are_said last more (kept_to_lines last (without_links last.given.fails) keeps none up_to.in_order up_to.at_once) few);
 }
 
-pub cut_at_place : (sim : WorldData) (a b : Option (List ℕ)) → InOrder (seen_of sim) → KeepsLines sim → CutAlike all_allowed (seen_of sim) a b → UpToPlace sim (λ last. CutRun last a b)
+pub cut_at_place : (sim : WorldData) (a b : Option (List ℕ)) → InOrder (seen_of sim) → KeepsLines sim → CutAlike all_allowed (seen_of sim) a b → UpToPoint sim (λ last. CutRun last a b)
 cut_at_place sim a b order lines cut =
     let quiet = cut.quiet order in
     let keeps = conforms_at sim cut.last order cut.given quiet (cut.read order) in
@@ -64,11 +64,11 @@ cut_at_place sim a b order lines cut =
       given = sym cut.given;
       quiet = quiet;
       messages = cut.read order;
-      so = record { run = run; as_said = said_so (CutAs all_allowed cut.last a b) run (lines_at sim cut.last lines cut.given cut.later) };
+      so = record { run = run; as_said = said_so (WroteSoFar all_allowed cut.last a b) run (lines_at sim cut.last lines cut.given cut.later) };
       at_once = cut.at_once keeps;
     }
 
-pub writing_at_place : (sim : WorldData) (a b : Option (List ℕ)) → InOrder (seen_of sim) → KeepsLines sim → CutWriting all_allowed (seen_of sim) a b → UpToPlace sim (λ last. WritingRun last a b)
+pub writing_at_place : (sim : WorldData) (a b : Option (List ℕ)) → InOrder (seen_of sim) → KeepsLines sim → CutWriting all_allowed (seen_of sim) a b → UpToPoint sim (λ last. WritingRun last a b)
 writing_at_place sim a b order lines cut =
     let quiet = cut.quiet order in
     let keeps = conforms_at sim cut.last order cut.given quiet (cut.read order) in
@@ -78,11 +78,11 @@ writing_at_place sim a b order lines cut =
       given = sym cut.given;
       quiet = quiet;
       messages = cut.read order;
-      so = record { run = run; as_said = said_so (WritingAs all_allowed cut.last run.text run.more) run.up_to (lines_at sim cut.last lines cut.given cut.later) };
+      so = record { run = run; as_said = said_so (WasWriting all_allowed cut.last run.text run.more) run.up_to (lines_at sim cut.last lines cut.given cut.later) };
       at_once = cut.at_once keeps;
     }
 
-pub cut_or_nothing : (sim : WorldData) (a b : Option (List ℕ)) → InOrder (seen_of sim) → KeepsLines sim → CutAlike all_allowed (seen_of sim) a b ⊎ NothingDone [] (seen_of sim) a b → UpToPlace sim (λ last. CutRun last a b) ⊎ NothingDone [] (seen_of sim) a b
+pub cut_or_nothing : (sim : WorldData) (a b : Option (List ℕ)) → InOrder (seen_of sim) → KeepsLines sim → CutAlike all_allowed (seen_of sim) a b ⊎ NothingDone [] (seen_of sim) a b → UpToPoint sim (λ last. CutRun last a b) ⊎ NothingDone [] (seen_of sim) a b
 cut_or_nothing sim a b order lines (inl cut) = inl (cut_at_place sim a b order lines cut)
 cut_or_nothing sim a b order lines (inr none) = inr none
 

@@ -129,7 +129,7 @@ pub record RunsPart (seen : Seen Scripts) (contents now_contents : Option (List 
 -- Of the run as far as a place this is so: no place behind it is quiet, so that what lies behind it is of one stimulus, of one event, or of
 -- the end of the report; and all bytes that came of switches up to there are messages. The whole journal is a dialogue with the application,
 -- in which each change had reached its switch at once when it was answered.
-pub record UpToPlace (sim : WorldData) (IsSo : Seen Scripts → Type 0) : Type 0 where
+pub record UpToPoint (sim : WorldData) (IsSo : Seen Scripts → Type 0) : Type 0 where
   pub last : Seen Scripts
   pub given : last.given ≡ (seen_of sim).given
   pub quiet : IsLastQuiet last (seen_of sim)
@@ -146,13 +146,13 @@ SomeRefused sim = BringMessages sim.history → ⊥
 -- nothing was done. Only where bytes come that are no message, a switch breaks or diverges.
 abbrev pub StopsAs : Stop → WorldData → Option (List ℕ) → Option (List ℕ) → Type 0
 StopsAs (EventsLeft left) sim contents now_contents = RunsPart (seen_of sim) contents now_contents left
-StopsAs WriteFault sim contents now_contents = UpToPlace sim (λ last. WritingRun last contents now_contents)
+StopsAs WriteFault sim contents now_contents = UpToPoint sim (λ last. WritingRun last contents now_contents)
 StopsAs Shut sim contents now_contents = NothingDone (NotOpened ∷ []) (seen_of sim) contents now_contents
-StopsAs NextFault sim contents now_contents = UpToPlace sim (λ last. CutRun last contents now_contents)
-StopsAs (SwitchFault d) sim contents now_contents = UpToPlace sim (λ last. CutRun last contents now_contents)
-StopsAs (SwitchBroke d) sim contents now_contents = SomeRefused sim × UpToPlace sim (λ last. CutRun last contents now_contents)
-StopsAs (Diverged d) sim contents now_contents = SomeRefused sim × UpToPlace sim (λ last. CutRun last contents now_contents)
-StopsAs NoMemory sim contents now_contents = UpToPlace sim (λ last. CutRun last contents now_contents) ⊎ NothingDone [] (seen_of sim) contents now_contents
+StopsAs NextFault sim contents now_contents = UpToPoint sim (λ last. CutRun last contents now_contents)
+StopsAs (SwitchFault d) sim contents now_contents = UpToPoint sim (λ last. CutRun last contents now_contents)
+StopsAs (SwitchBroke d) sim contents now_contents = SomeRefused sim × UpToPoint sim (λ last. CutRun last contents now_contents)
+StopsAs (Diverged d) sim contents now_contents = SomeRefused sim × UpToPoint sim (λ last. CutRun last contents now_contents)
+StopsAs NoMemory sim contents now_contents = UpToPoint sim (λ last. CutRun last contents now_contents) ⊎ NothingDone [] (seen_of sim) contents now_contents
 StopsAs other sim contents now_contents = Unit {0}
 
 abbrev pub RunsAs : {T : Type 0} → Result T Stop → WorldData → Option (List ℕ) → Option (List ℕ) → Type 0

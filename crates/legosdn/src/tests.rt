@@ -7,7 +7,7 @@ use crate::tests::rows::{
     ADDS, BREAKS, CLOSES, FULL, GARBLES, LINK_FAILS, MODIFIES, NO_SEPARATOR, NOTHING, ODD_DIGITS,
     OVERLAPS, STAYS_DOWN,
 };
-use crate::top::{halt, legosdn, play};
+use crate::top::{halt, legosdn, run_world};
 use lego_io::{MemSink, MemSource};
 use lego_model::{SessionFault, SessionKind};
 use outside::CallKind;
@@ -149,7 +149,7 @@ fn the_outside_fails(rt: HostRuntime) -> Result<(), Fail> {
         let mut sim = SimWorld::new(alloc)?;
         sim.fail_call(kind, 0, 1)?;
         let mut sink = MemSink::new(alloc, ROOM, &[])?;
-        let stop = play(alloc, &mut sink, &mut sim).err().ok_or("no stop")?;
+        let stop = run_world(alloc, &mut sink, &mut sim).err().ok_or("no stop")?;
         assert_eq!(rt; halt(&mut sink, stop), status);
         assert_eq!(rt; text_of(alloc, sink.bytes())?.as_str(), output);
     }

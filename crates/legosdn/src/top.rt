@@ -63,7 +63,7 @@ fn load<S: Source>(alloc: Global, source: &mut S, sim: &mut SimWorld) -> Result<
 
 /// Runs the world to its end, and writes the report.
 #[tactic(auto, using(crate::proofs::Causes::switch_cause))]
-pub fn play<K: Sink>(alloc: Global, sink: &mut K, sim: &mut SimWorld) -> Result<(), Stop>
+pub fn run_world<K: Sink>(alloc: Global, sink: &mut K, sim: &mut SimWorld) -> Result<(), Stop>
     ensures runs { (seen_of sim.old).history ≡ [] → length (seen_of sim.old).given.stimuli ≤ 1000000
         → RunsAs result sim.new (K.contents sink.old) (K.contents sink.new) }
     ensures lines { KeepsLines sim.new }
@@ -114,7 +114,7 @@ fn run<S: Source, K: Sink>(
         return Err(Stop::Usage);
     }
     load(alloc, source, sim)?;
-    play(alloc, sink, sim)
+    run_world(alloc, sink, sim)
 }
 
 /// Writes the line of a stop, and answers its status. A failed write does not change the status.

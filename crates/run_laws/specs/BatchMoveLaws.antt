@@ -23,7 +23,7 @@ use Rattle.switch_laws.specs.Shown.{shown_places}
 use Rattle.switch_laws.specs.Sound.{Sound}
 use Rattle.switch_laws.specs.OrderlyLaws.{orderly-whole}
 use Rattle.journal_laws.specs.Readings.{LastStands}
-use Rattle.lego_model.specs.History.{starts_in, replies_in, own_acts, given_in, stimuli_in, quiet_by}
+use Rattle.lego_model.specs.History.{starts_in, replies_in, own_acts, given_in, stimuli_in, point_by}
 use Rattle.journal_laws.specs.CallLaws.{inputs_own}
 use Rattle.lego_model.specs.AtOnce.{at_first, Dialogue}
 use Rattle.batch_laws.specs.Knowledge.{knowledge_of}
@@ -35,9 +35,9 @@ use Rattle.batch_laws.specs.Tells.{StimulusHandled}
 use Rattle.run_laws.specs.Engine.{Engine, Stands, app_at, engine_then}
 use Rattle.lego_model.specs.Application.{index}
 use Rattle.lego_model.specs.ReferenceRun.{text_of}
-use Rattle.run_laws.specs.Moves.{Settled, Moved, OneHappens}
+use Rattle.run_laws.specs.Moves.{AtRest, Moved, OneHappens}
 use Rattle.run_laws.specs.DialogueLaws.{others_at_once}
-use Rattle.run_laws.specs.QuietLaws.{quiets_more, mark_alike}
+use Rattle.run_laws.specs.PointLaws.{quiets_more, mark_alike}
 use Rattle.run_laws.specs.FinishLaws.{shown-still}
 
 
@@ -108,10 +108,10 @@ happens-stands {Own} x old new net now_net queue now_queue e ss rs r keeps same_
       queue = ap₂ (λ (q : List Event) (more : List Event). q ++ more) (s.queue ∙ same_queue) (ap₂ (λ (m : ℕ) (ps : List Place). events_after x m ps) s.moment before) ∙ sym h.queue_so;
       events = s.events;
       apps = s.apps ∙ ap (λ (given : List (List ℕ)). app_at (engine_then e now_net now_queue) given ss rs ∷ []) (sym inputs_same);
-      quiets = subst (λ (ms : List Mark). AgreeQuiets (map quiet_by ms) (r.quiets ++ quiet_of None r.places ∷ [])) (sym (done.stays.marks ∙ marks-then x (state old)))
-          (subst (λ (qs : List Quiet). AgreeQuiets qs (r.quiets ++ quiet_of None r.places ∷ [])) (sym (map-append quiet_by (state old).marks (mark_of None (state old) ∷ [])))
-          (quiets_more (map quiet_by (state old).marks) r.quiets (quiet_by (mark_of None (state old))) (quiet_of None r.places) s.quiets
-          (subst (λ (ps : List Place). AgreeQuiet (quiet_by (mark_of None (state old))) (quiet_of None ps)) (sym before) (mark_alike None old.given.declared net.views (state old) (links-declared old) keeps_old.declared))));
+      quiets = subst (λ (ms : List Mark). AgreeQuiets (map point_by ms) (r.quiets ++ quiet_of None r.places ∷ [])) (sym (done.stays.marks ∙ marks-then x (state old)))
+          (subst (λ (qs : List Quiet). AgreeQuiets qs (r.quiets ++ quiet_of None r.places ∷ [])) (sym (map-append point_by (state old).marks (mark_of None (state old) ∷ [])))
+          (quiets_more (map point_by (state old).marks) r.quiets (point_by (mark_of None (state old))) (quiet_of None r.places) s.quiets
+          (subst (λ (ps : List Place). AgreeQuiet (point_by (mark_of None (state old))) (quiet_of None ps)) (sym before) (mark_alike None old.given.declared net.views (state old) (links-declared old) keeps_old.declared))));
       life = λ alive. subst LastStands (sym own) (s.life alive);
     }
 
@@ -129,7 +129,7 @@ none-own old new steps longer own =
     append_cancel_left (own_acts old) (filter (is_of index) (journal steps)) [] (sym more ∙ own ∙ sym (append-nil (own_acts old)))
 
 -- with a stimulus
-pub batch-happens : {Own : Type 0} (Tells : Type 0) (x : WorldStim) (old new : Seen Own) (net now_net : NetState) (queue now_queue : List Event) (e : Engine) → Tells → Continues Tells old new → Conforming old → Conforming new → Settled old e → e.net ≡ net → e.queue ≡ queue
+pub batch-happens : {Own : Type 0} (Tells : Type 0) (x : WorldStim) (old new : Seen Own) (net now_net : NetState) (queue now_queue : List Event) (e : Engine) → Tells → Continues Tells old new → Conforming old → Conforming new → AtRest old e → e.net ≡ net → e.queue ≡ queue
     → BatchDone x (record { seen = old; net = net; queue = queue }) (record { seen = new; net = now_net; queue = now_queue })
     → OneHappens old new e (engine_then e now_net now_queue)
 batch-happens Tells x old new net now_net queue now_queue e told later keeps_old keeps settled same_net same_queue done =
@@ -163,7 +163,7 @@ batch-happens Tells x old new net now_net queue now_queue e told later keeps_old
     }
 
 -- the last one, without a stimulus: nothing is done
-pub batch-over : {Own : Type 0} (old new : Seen Own) (net now_net : NetState) (queue now_queue : List Event) (e : Engine) → Settled old e → e.net ≡ net → e.queue ≡ queue
+pub batch-over : {Own : Type 0} (old new : Seen Own) (net now_net : NetState) (queue now_queue : List Event) (e : Engine) → AtRest old e → e.net ≡ net → e.queue ≡ queue
     → BatchOver (record { seen = old; net = net; queue = queue }) (record { seen = new; net = now_net; queue = now_queue }) → Moved [] (λ r. r) [] old new e (engine_then e now_net now_queue)
 batch-over {Own} old new net now_net queue now_queue e settled same_net same_queue over =
     let calm : Calm old net = subst (λ (n : NetState). Calm old n) same_net settled.calm in
@@ -197,7 +197,7 @@ batch-over {Own} old new net now_net queue now_queue e settled same_net same_que
           queue = s.queue ∙ same_queue ∙ sym over.queue;
           events = s.events;
           apps = s.apps ∙ ap (λ (js : List Act). app_at (engine_then e now_net now_queue) (inputs index js) ss rs ∷ []) (sym journal_same);
-          quiets = subst (λ (t : State). AgreeQuiets (map quiet_by t.marks) r.quiets) (sym over.state_so) s.quiets;
+          quiets = subst (λ (t : State). AgreeQuiets (map point_by t.marks) r.quiets) (sym over.state_so) s.quiets;
           life = λ alive. subst LastStands (sym own) (s.life alive);
         };
         says = λ ss rs r starts_so replies_so s. sym (append-nil (text_of r));

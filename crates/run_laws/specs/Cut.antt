@@ -11,7 +11,7 @@ use Rattle.app_visor.specs.CallsFor.{CallsFor}
 use Rattle.run_laws.specs.Engine.{Engine}
 use Rattle.lego_model.specs.Application.{index}
 use Rattle.run_laws.specs.Moves.{Moved}
-use Rattle.lego_model.specs.CutRun.{so_far, CutSo, WritingSo, start_said}
+use Rattle.lego_model.specs.CutRun.{reference_so_far, CutBetweenLines, CutWhileWriting, start_said}
 use Rattle.lego_model.specs.Journal.{Reply, Start}
 use Rattle.lego_model.specs.Controller.{Run}
 use Rattle.lego_model.specs.ReferenceRun.{AreSaid}
@@ -26,7 +26,7 @@ pub record CutAlike {Own : Type 0} (allows : List Place → Bool) (seen : Seen O
   pub last : Seen Own
   pub given : seen.given ≡ last.given
   pub later : Longer last.history seen.history
-  pub so : Conforming last → CutSo allows last contents now_contents
+  pub so : Conforming last → CutBetweenLines allows last contents now_contents
   pub at_once : Conforming last → AtOnce index (journal seen.history)
   pub read : InOrder seen → BringMessages last.history
   pub quiet : InOrder seen → IsLastQuiet last seen
@@ -37,7 +37,7 @@ pub record CutWriting {Own : Type 0} (allows : List Place → Bool) (seen : Seen
   pub last : Seen Own
   pub given : seen.given ≡ last.given
   pub later : Longer last.history seen.history
-  pub so : Conforming last → WritingSo allows last contents now_contents
+  pub so : Conforming last → CutWhileWriting allows last contents now_contents
   pub at_once : Conforming last → AtOnce index (journal seen.history)
   pub read : InOrder seen → BringMessages last.history
   pub quiet : InOrder seen → IsLastQuiet last seen
@@ -50,7 +50,7 @@ pub record GoneSoFar {Own : Type 0} (allows : List Place → Bool) (started : Bo
   pub stimuli : List WorldStim
   pub begun : List WorldStim
   pub begun_one : length begun ≤ 1
-  pub moved : Moved (stimuli ++ begun) (so_far allows started stimuli begun number) text first last e now_e
+  pub moved : Moved (stimuli ++ begun) (reference_so_far allows started stimuli begun number) text first last e now_e
 
 -- engine and reference controller stand alike, and what this said so far was noted; so it is over what is said of the application
 pub record RanTo {Own : Type 0} (f : Run → Run) (text : List ℕ) (last : Seen Own) (e : Engine) : Type 0 where

@@ -19,7 +19,7 @@ use Rattle.app_visor.specs.declared.state.TurnEnd.TheVariants as ends
 use Rattle.switch_laws.specs.Shown.{shown_places}
 use Rattle.switch_laws.specs.StandLaws.{state-links}
 use Rattle.journal_laws.specs.Readings.{LastStands}
-use Rattle.lego_model.specs.History.{starts_in, replies_in, own_acts, given_in, stimuli_in, quiet_by, quiets_in}
+use Rattle.lego_model.specs.History.{starts_in, replies_in, own_acts, given_in, stimuli_in, point_by, points_in}
 use Rattle.run_laws.specs.Engine.{Engine, app_at, Stands, with_number}
 use Rattle.lego_model.specs.ReferenceRun.{text_of, next_dispatched, dispatch_next}
 use Rattle.run_laws.specs.Facts.{IsClosed, IsTurn, Dispatches}
@@ -27,7 +27,7 @@ use Rattle.run_laws.specs.Moves.{Moves}
 use Rattle.run_laws.specs.Readings.{AreRead, JudgesAlike}
 use Rattle.run_laws.specs.ReferenceLaws.{dispatch_alive, dispatch_dead}
 use Rattle.run_laws.specs.ReferenceTurn.{numbered, after_turn, without_turn}
-use Rattle.run_laws.specs.QuietLaws.{quiets_at_event}
+use Rattle.run_laws.specs.PointLaws.{quiets_at_event}
 use Rattle.run_laws.specs.LineLaws.{event_lines}
 use Rattle.run_laws.specs.LastReport.{lines_text}
 use Rattle.run_laws.specs.TurnMoveLaws.{turn_moves}
@@ -55,12 +55,12 @@ module _ {Own : Type 0} (allows : List Place → Bool) (event : Event) (text : L
       ∙ ap (λ (ps : List Place). turn allows (e.events + 1) e.net.moment event ps a) s.places
       ∙ alike.turned said_starts said later_replies starts_so front)
 
-  quiets_so : Conforming old → (alike : TurnAlike allows event text old new (with_number e) now_e starts reply) → (r : Run) → r.events ≡ e.events → r.places ≡ shown_places old.given.declared e.net.views (state old) → AgreeQuiets (quiets_in old) r.quiets
-      → AgreeQuiets (quiets_in new) (marked alike.given (r.events + 1) r.places r.quiets)
+  quiets_so : Conforming old → (alike : TurnAlike allows event text old new (with_number e) now_e starts reply) → (r : Run) → r.events ≡ e.events → r.places ≡ shown_places old.given.declared e.net.views (state old) → AgreeQuiets (points_in old) r.quiets
+      → AgreeQuiets (points_in new) (marked alike.given (r.events + 1) r.places r.quiets)
   quiets_so keeps alike r events places quiets =
-      subst (λ (ms : List Mark). AgreeQuiets (map quiet_by ms) (marked alike.given (r.events + 1) r.places r.quiets)) (sym alike.marks)
-      (subst (λ (n : ℕ). AgreeQuiets (map quiet_by (if alike.given then marks_at_event (Some (e.events + 1)) (state old) else (state old).marks)) (marked alike.given (n + 1) r.places r.quiets)) (sym events)
-      (subst (λ (ps : List Place). AgreeQuiets (map quiet_by (if alike.given then marks_at_event (Some (e.events + 1)) (state old) else (state old).marks)) (marked alike.given (e.events + 1) ps r.quiets)) (sym places)
+      subst (λ (ms : List Mark). AgreeQuiets (map point_by ms) (marked alike.given (r.events + 1) r.places r.quiets)) (sym alike.marks)
+      (subst (λ (n : ℕ). AgreeQuiets (map point_by (if alike.given then marks_at_event (Some (e.events + 1)) (state old) else (state old).marks)) (marked alike.given (n + 1) r.places r.quiets)) (sym events)
+      (subst (λ (ps : List Place). AgreeQuiets (map point_by (if alike.given then marks_at_event (Some (e.events + 1)) (state old) else (state old).marks)) (marked alike.given (e.events + 1) ps r.quiets)) (sym places)
       (quiets_at_event alike.given (e.events + 1) old.given.declared e.net.views (state old) r.quiets (state-links old).declared_so keeps.declared quiets)))
 
   stands_alive : Conforming old → e.alive ≡ true → new.given ≡ old.given → (now_e.alive ≡ true → LastStands (own_acts new)) → (alike : TurnAlike allows event text old new (with_number e) now_e starts reply)

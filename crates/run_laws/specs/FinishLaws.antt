@@ -19,11 +19,11 @@ use Rattle.outside.specs.Conforming.{Conforming}
 use Rattle.flow_table.specs.declared.view.TableView.{TableView}
 use Rattle.switch_laws.specs.Shown.{flags_at, shown_switch, places, shown_places}
 use Rattle.batch_laws.specs.HistoryLaws.{links-declared}
-use Rattle.lego_model.specs.History.{starts_in, replies_in, own_acts, stimuli_in, quiet_by, quiets_in, last_quiet}
+use Rattle.lego_model.specs.History.{starts_in, replies_in, own_acts, stimuli_in, point_by, points_in, last_point}
 use Rattle.lego_model.specs.AtOnce.{AtOnce}
 use Rattle.run_laws.specs.Engine.{Engine, Stands}
 use Rattle.lego_model.specs.Application.{index, names}
-use Rattle.run_laws.specs.QuietLaws.{quiets_more, mark_alike}
+use Rattle.run_laws.specs.PointLaws.{quiets_more, mark_alike}
 use Rattle.run_laws.specs.LastReport.{last_text}
 use Rattle.run_laws.specs.LastReportLaws.{report-ends, last-shown}
 use Rattle.lego_model.specs.ReferenceRun.{RunsAlike, fresh, reference_said, AreSaid}
@@ -31,7 +31,7 @@ use Rattle.run_laws.specs.WholeLaws.{told-said}
 use Rattle.run_laws.specs.Whole.{Ran}
 use Rattle.lego_model.specs.OrderlySteps.{IsOrderly}
 use Rattle.switch_laws.specs.OrderlyLaws.{orderly-whole, released-none}
-use Rattle.run_laws.specs.Moves.{Settled}
+use Rattle.run_laws.specs.Moves.{AtRest}
 use Rattle.run_laws.specs.Endings.{Leaves}
 use Rattle.lego_model.specs.WholeRun.{EndsAs, LeavesAs, EndsAlike, LeavesAlike}
 
@@ -62,16 +62,16 @@ runs-alike {Own} last new e starts replies r keeps l s =
     let same_declared : declared ≡ last.given.declared = ap (λ (g : Given Own). g.declared) l.given in
     let here : r.places ≡ shown_places declared e.net.views (state new) =
     s.places ∙ sym (ap (λ (ds : List Declared). shown_places ds e.net.views (state last)) same_declared) ∙ sym (shown-still declared e.net.views (state last) (state new) l.switches) in
-    let quiets : AgreeQuiets (quiets_in new) r.quiets = subst (λ (ms : List Mark). AgreeQuiets (map quiet_by ms) r.quiets) (sym l.marks) s.quiets in
-    let end : AgreeQuiet (last_quiet new) (quiet_of None r.places) =
-    subst (λ (ps : List Place). AgreeQuiet (last_quiet new) (quiet_of None ps)) (sym here) (mark_alike None declared e.net.views (state new) (links-declared new) keeps.declared) in
+    let quiets : AgreeQuiets (points_in new) r.quiets = subst (λ (ms : List Mark). AgreeQuiets (map point_by ms) r.quiets) (sym l.marks) s.quiets in
+    let end : AgreeQuiet (last_point new) (quiet_of None r.places) =
+    subst (λ (ps : List Place). AgreeQuiet (last_point new) (quiet_of None ps)) (sym here) (mark_alike None declared e.net.views (state new) (links-declared new) keeps.declared) in
     record {
-      tables = quiets_more (quiets_in new) r.quiets (last_quiet new) (quiet_of None r.places) quiets end;
+      tables = quiets_more (points_in new) r.quiets (last_point new) (quiet_of None r.places) quiets end;
       inputs = ap (λ (all : List App). map (λ a. a.inputs) all) s.apps ∙ ap (λ (given : List (List ℕ)). given ∷ []) (sym l.inputs);
     }
 
 -- all steps were in order
-pub all-in-order : {Own : Type 0} {e : Engine} (last new : Seen Own) → Settled last e → Leaves last new → AllByRecursion (IsOrderly index) new.history
+pub all-in-order : {Own : Type 0} {e : Engine} (last new : Seen Own) → AtRest last e → Leaves last new → AllByRecursion (IsOrderly index) new.history
 all-in-order last new settled l = orderly-whole index last new settled.orderly l.orderly
 
 -- ---- All was dispatched
@@ -90,7 +90,7 @@ ends-as allows text last new e contents now_contents starts replies keeps l ran 
       report = written ∙ ap (append_known contents) (sym report);
     })
 
-pub ends-alike : {Own : Type 0} (allows : List Place → Bool) (text : List ℕ) (last new : Seen Own) (e : Engine) (contents now_contents : Option (List ℕ)) → Conforming new → Leaves last new → Settled last e → Ran allows text last e
+pub ends-alike : {Own : Type 0} (allows : List Place → Bool) (text : List ℕ) (last new : Seen Own) (e : Engine) (contents now_contents : Option (List ℕ)) → Conforming new → Leaves last new → AtRest last e → Ran allows text last e
     → AtOnce index (journal new.history) → e.queue ≡ [] → now_contents ≡ append_known contents (text ++ last_text last e) → EndsAlike allows new contents now_contents e.events
 ends-alike allows text last new e contents now_contents keeps l settled ran said none written =
     record {
@@ -114,7 +114,7 @@ leaves-as allows text last new e contents now_contents starts replies keeps l ra
       report = written ∙ ap (append_known contents) (sym so.text_so);
     })
 
-pub leaves-alike : {Own : Type 0} (allows : List Place → Bool) (text : List ℕ) (last new : Seen Own) (e : Engine) (contents now_contents : Option (List ℕ)) → Conforming new → Leaves last new → Settled last e → Ran allows text last e
+pub leaves-alike : {Own : Type 0} (allows : List Place → Bool) (text : List ℕ) (last new : Seen Own) (e : Engine) (contents now_contents : Option (List ℕ)) → Conforming new → Leaves last new → AtRest last e → Ran allows text last e
     → AtOnce index (journal new.history) → now_contents ≡ append_known contents text → LeavesAlike allows new contents now_contents (length e.queue)
 leaves-alike allows text last new e contents now_contents keeps l settled ran said written =
     record {

@@ -22,8 +22,8 @@ use Rattle.lego_model.specs.AtOnce.{at_first as nobody_yet, Dialogue}
 use Rattle.batch_laws.specs.Calm.{Calm}
 use Rattle.run_laws.specs.Engine.{Stands, app_at}
 use Rattle.lego_model.specs.Application.{index}
-use Rattle.lego_model.specs.History.{quiet_by, given_in}
-use Rattle.run_laws.specs.Moves.{Settled}
+use Rattle.lego_model.specs.History.{point_by, given_in}
+use Rattle.run_laws.specs.Moves.{AtRest}
 use Rattle.lego_model.specs.ReferenceRun.{fresh, before_start}
 use Rattle.run_laws.specs.First.{IsOpened, net_at_first, engine_at_first}
 
@@ -83,7 +83,7 @@ pub no-acts : {Own : Type 0} (seen : Seen Own) → IsOpened seen → journal see
 unfolding journal
 no-acts seen is = ap (λ (h : List WorldStep). journal h) is
 
-pub settled-first : {Own : Type 0} (seen : Seen Own) → IsOpened seen → Settled seen engine_at_first
+pub settled-first : {Own : Type 0} (seen : Seen Own) → IsOpened seen → AtRest seen engine_at_first
 settled-first seen is = record {
   calm = calm-first seen is;
   life = λ alive. absurd (true≢false (sym alive));
@@ -114,6 +114,6 @@ stands-first seen starts replies is = record {
   queue = refl;
   events = refl;
   apps = sym (ap (λ (given : List (List ℕ)). app_at engine_at_first given starts replies ∷ []) (given-first seen is));
-  quiets = subst (λ (s : State). AgreeQuiets (map quiet_by s.marks) []) (sym (state-opened seen is)) tt;
+  quiets = subst (λ (s : State). AgreeQuiets (map point_by s.marks) []) (sym (state-opened seen is)) tt;
   life = λ alive. absurd (true≢false (sym alive));
 }

@@ -2,7 +2,7 @@ pub mod Engine
 pub mod Moves
 pub mod Facts
 pub mod MoveLaws
-pub mod SettleLaws
+pub mod DispatchWaitingLaws
 pub mod RoundLaws
 pub mod FirstLaws
 pub mod WholeLaws
@@ -18,7 +18,7 @@ pub mod Readings
 pub mod FrameLaws
 pub mod ReferenceLaws
 pub mod LinkStepLaws
-pub mod QuietLaws
+pub mod PointLaws
 pub mod CalmLaws
 pub mod ChainLaws
 pub mod DialogueLaws

@@ -41,7 +41,7 @@ pub record Conversing {Own : Type 0} (seen : Seen Own) (e : Engine) : Type 0 whe
   pub rest_so : e.alive ≡ true → (at_once.last.running ≡ true) × Passes at_once.last.unread e.rest
 
 -- between parts all is calm, where the application is alive its last start stands, and all steps were in order
-pub record Settled {Own : Type 0} (seen : Seen Own) (e : Engine) : Type 0 where
+pub record AtRest {Own : Type 0} (seen : Seen Own) (e : Engine) : Type 0 where
   pub calm : Calm seen e.net
   pub life : e.alive ≡ true → LastStands (own_acts seen)
   pub speaks : Conversing seen e
@@ -49,11 +49,11 @@ pub record Settled {Own : Type 0} (seen : Seen Own) (e : Engine) : Type 0 where
 
 pub record Moved {Own : Type 0} (xs : List WorldStim) (f : Run → Run) (text : List ℕ) (old new : Seen Own) (e now_e : Engine) : Type 0 where
   pub moves : Moves xs f text old new e now_e
-  pub settled : Settled new now_e
+  pub settled : AtRest new now_e
 
 -- In a world that keeps its word a part does what the reference controller does, whatever its judge is, if the two judge alike.
 pub record Shown {Own : Type 0} (Tells : Type 0) (accepts : List TableView → Bool) (xs : List WorldStim) (f : (List Place → Bool) → Run → Run) (text : List ℕ) (old new : Seen Own) (e now_e : Engine) : Type 0 where
-  pub moved : (allows : List Place → Bool) → Tells → Conforming new → JudgesAlike Own allows accepts → Settled old e → Moved xs (f allows) text old new e now_e
+  pub moved : (allows : List Place → Bool) → Tells → Conforming new → JudgesAlike Own allows accepts → AtRest old e → Moved xs (f allows) text old new e now_e
 
 -- ---- Batch after batch
 
@@ -75,14 +75,14 @@ pub record ToEnd {Own : Type 0} (allows : List Place → Bool) (text : List ℕ)
 
 -- the same in a world that keeps its word
 pub record ShownIdle {Own : Type 0} (Tells : Type 0) (old new : Seen Own) (e now_e : Engine) : Type 0 where
-  pub happens : Tells → Conforming new → Settled old e → OneHappens old new e now_e
+  pub happens : Tells → Conforming new → AtRest old e → OneHappens old new e now_e
 
 pub record ShownOver {Own : Type 0} (Tells : Type 0) (old new : Seen Own) (e now_e : Engine) : Type 0 where
-  pub moved : Tells → Conforming new → Settled old e → Moved [] (λ r. r) [] old new e now_e
+  pub moved : Tells → Conforming new → AtRest old e → Moved [] (λ r. r) [] old new e now_e
 
 pub record ShownRounds {Own : Type 0} (Tells : Type 0) (accepts : List TableView → Bool) (number : ℕ) (text : List ℕ) (old new : Seen Own) (e now_e : Engine) : Type 0 where
-  pub rounds_so : (allows : List Place → Bool) → Tells → Conforming new → JudgesAlike Own allows accepts → Settled old e → Rounds allows number text old new e now_e
+  pub rounds_so : (allows : List Place → Bool) → Tells → Conforming new → JudgesAlike Own allows accepts → AtRest old e → Rounds allows number text old new e now_e
 
 -- where the stimuli are fewer than this number of rounds
 pub record ShownToEnd {Own : Type 0} (Tells : Type 0) (accepts : List TableView → Bool) (most : ℕ) (text : List ℕ) (old new : Seen Own) (e now_e : Engine) : Type 0 where
-  pub to_end : (allows : List Place → Bool) → Tells → Conforming new → JudgesAlike Own allows accepts → Settled old e → length (stimuli_in new) < most → ToEnd allows text old new e now_e
+  pub to_end : (allows : List Place → Bool) → Tells → Conforming new → JudgesAlike Own allows accepts → AtRest old e → length (stimuli_in new) < most → ToEnd allows text old new e now_e

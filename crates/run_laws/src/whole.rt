@@ -17,7 +17,7 @@ ghost use Rattle.lego_model.specs.Application.{index};
 ghost use Rattle.lego_model.specs.History.{stimuli_in};
 ghost use Rattle.run_laws.specs.Facts.{Dispatches};
 ghost use Rattle.run_laws.specs.Readings.{JudgesAlike};
-ghost use Rattle.run_laws.specs.Moves.{Settled, Moved, Shown, OneHappens};
+ghost use Rattle.run_laws.specs.Moves.{AtRest, Moved, Shown, OneHappens};
 ghost use Rattle.lego_model.specs.ReferenceRun.{dispatch_next, all_started};
 ghost use Rattle.run_laws.specs.First.{IsOpened, engine_at_first};
 ghost use Rattle.run_laws.specs.Promise.{most_rounds};
@@ -25,7 +25,7 @@ ghost use Rattle.lego_model.specs.WholeRun.{EndsAlike, LeavesAlike};
 ghost use Rattle.run_laws.specs.Endings.{Leaves, RanOut, RanFull};
 ghost use Rattle.run_laws.specs.LastReport.{last_text};
 ghost use Rattle.run_laws.specs.Cut.{GoneSoFar};
-ghost use Rattle.lego_model.specs.CutRun.{CutSo, WritingSo};
+ghost use Rattle.lego_model.specs.CutRun.{CutBetweenLines, CutWhileWriting};
 
 use outside::World;
 
@@ -33,10 +33,10 @@ use outside::World;
 /// and the last one, that has none, is nothing.
 pub fn batches_move<W: World>()
     ensures happens { (x : WorldStim) (old new : Seen W.Own) (net now_net : NetState) (queue now_queue : List Event) (e : Engine) → W.Tells
-        → Continues W.Tells old new → Conforming old → Conforming new → Settled old e → e.net ≡ net → e.queue ≡ queue
+        → Continues W.Tells old new → Conforming old → Conforming new → AtRest old e → e.net ≡ net → e.queue ≡ queue
         → BatchDone x (record { seen = old; net = net; queue = queue }) (record { seen = new; net = now_net; queue = now_queue })
         → OneHappens old new e (engine_then e now_net now_queue) }
-    ensures over { (old new : Seen W.Own) (net now_net : NetState) (queue now_queue : List Event) (e : Engine) → Settled old e → e.net ≡ net
+    ensures over { (old new : Seen W.Own) (net now_net : NetState) (queue now_queue : List Event) (e : Engine) → AtRest old e → e.net ≡ net
         → e.queue ≡ queue → BatchOver (record { seen = old; net = net; queue = queue }) (record { seen = new; net = now_net; queue = now_queue })
         → Moved [] (λ r. r) [] old new e (engine_then e now_net now_queue) }
 {}
@@ -76,14 +76,14 @@ pub fn runs_are_the_references<W: World>()
 pub fn cut_runs_are_the_references<W: World>()
     ensures cut { (allows : List Place → Bool) (started : Bool) (number : ℕ) (text : List ℕ) (contents now_contents : Option (List ℕ)) (first last : Seen W.Own) (e : Engine)
         → IsOpened first → GoneSoFar allows started number text first last engine_at_first e → number ≤ 1000 → Conforming last
-        → now_contents ≡ append_known contents text → CutSo allows last contents now_contents }
+        → now_contents ≡ append_known contents text → CutBetweenLines allows last contents now_contents }
     ensures start { (allows : List Place → Bool) (more : List ℕ) (contents now_contents : Option (List ℕ)) (first last : Seen W.Own) (e : Engine)
         → IsOpened first → Moved [] all_started more first last engine_at_first e → Conforming last → TookPart contents now_contents more
-        → WritingSo allows last contents now_contents }
+        → CutWhileWriting allows last contents now_contents }
     ensures event { (allows : List Place → Bool) (number : ℕ) (text more : List ℕ) (contents now_contents : Option (List ℕ)) (first mid last : Seen W.Own) (e now_e : Engine)
         → IsOpened first → GoneSoFar allows true number text first mid engine_at_first e → Moved [] (dispatch_next allows) more mid last e now_e → number ≤ 999
-        → Conforming last → TookPart (append_known contents text) now_contents more → WritingSo allows last contents now_contents }
+        → Conforming last → TookPart (append_known contents text) now_contents more → CutWhileWriting allows last contents now_contents }
     ensures end { (allows : List Place → Bool) (text more : List ℕ) (contents now_contents : Option (List ℕ)) (first last stop : Seen W.Own) (e : Engine)
         → IsOpened first → GoneSoFar allows true 1000 text first last engine_at_first e → e.queue ≡ [] → more ≡ last_text last e → Leaves last stop
-        → Conforming stop → TookPart (append_known contents text) now_contents more → WritingSo allows stop contents now_contents }
+        → Conforming stop → TookPart (append_known contents text) now_contents more → CutWhileWriting allows stop contents now_contents }
 {}

@@ -6,7 +6,7 @@ use Rattle.lego_model.specs.Journal.{End, Untold, pieces, end_from}
 use Rattle.lego_model.specs.Scripted.{pieces_said, end_said, IsLookedAt}
 
 -- nothing is taken
-pub record Quiet (acts : List Act) : Type 0 where
+pub record TakesNothing (acts : List Act) : Type 0 where
   pub pieces_so : pieces acts ≡ []
   pub end_so : (before : End) → end_from before acts ≡ before
 
@@ -16,5 +16,5 @@ LooksAt left acts = IsLookedAt (pieces acts) (end_from Untold acts) (pieces_said
 
 -- where the end was taken nothing is, and else the front of these steps
 pub record Looks (ended : Bool) (left : List ScriptStep) (acts : List Act) : Type 0 where
-  pub quiet : ended ≡ true → Quiet acts
+  pub quiet : ended ≡ true → TakesNothing acts
   pub looked : ended ≡ false → LooksAt left acts

@@ -13,7 +13,7 @@ use Rattle.lego_model.specs.Scripted.{cut_from, pieces_of, pieces_said, start_sa
 use Rattle.sim_world.specs.Scripts.{ready_bytes, garbled_bytes, steps_of_start, is_refused, given_of, left_of, taken_bytes}
 use Rattle.sim_world.specs.ScriptLaws.{ready_bytes-spelled}
 use Rattle.script_laws.specs.Ahead.{is_end}
-use Rattle.script_laws.specs.Looks.{Quiet, LooksAt, Looks}
+use Rattle.script_laws.specs.Looks.{TakesNothing, LooksAt, Looks}
 
 -- ---- Bytes in pieces
 
@@ -36,10 +36,10 @@ drop_taken (suc n) (b ∷ bytes) = drop_taken n bytes
 
 -- ---- Acts that take
 
-pub looks_none : (left : List ScriptStep) (acts : List Act) → Quiet acts → LooksAt left acts
+pub looks_none : (left : List ScriptStep) (acts : List Act) → TakesNothing acts → LooksAt left acts
 looks_none left acts q = (pieces_said left, sym (ap (λ (ps : List (List ℕ)). ps ++ pieces_said left) q.pieces_so), inl (q.end_so Untold))
 
-ends_here : (end : End) (acts : List Act) → Quiet acts → IsLookedAt (pieces acts) (end_from end acts) [] end
+ends_here : (end : End) (acts : List Act) → TakesNothing acts → IsLookedAt (pieces acts) (end_from end acts) [] end
 ends_here end acts q = ([], sym (ap (λ (ps : List (List ℕ)). ps ++ []) q.pieces_so), inr (refl, sym (q.end_so end)))
 
 -- a step of no bytes says nothing

@@ -14,11 +14,11 @@ use Rattle.sim_world.specs.Scripts.{steps_of_start, is_refused, given_of}
 use Rattle.sim_world.specs.ScriptLaws.{done_bytes-spelled}
 use Rattle.script_laws.specs.Ahead.{Ahead, start_ahead, turn_ahead, after, May, Goes, hand, replies_now, StartsSo, RepliesSo, Reads}
 use Rattle.script_laws.specs.PieceLaws.{looks_none, looks_took, start_front}
-use Rattle.script_laws.specs.Looks.{Quiet, Looks, LooksAt}
+use Rattle.script_laws.specs.Looks.{TakesNothing, Looks, LooksAt}
 
 -- ---- What is read from a place on
 
-nothing_quiet : Quiet []
+nothing_quiet : TakesNothing []
 nothing_quiet = record { pieces_so = refl; end_so = λ before. refl }
 
 nothing_looks : (ended : Bool) (left : List ScriptStep) → Looks ended left []
@@ -139,7 +139,7 @@ reads_frame p of frame acts event may r =
       starts = r.starts;
     }
   where
-    given_quiet : Quiet (hand acts) → Quiet (Gave of frame ∷ hand acts)
+    given_quiet : TakesNothing (hand acts) → TakesNothing (Gave of frame ∷ hand acts)
     given_quiet q = record { pieces_so = q.pieces_so; end_so = q.end_so }
 
     given_looks : Looks p.ended p.left (hand acts) → Looks p.ended p.left (Gave of frame ∷ hand acts)
@@ -157,7 +157,7 @@ reads_gave p of frame acts may = elim (is_event frame) as (λ (b : Bool). is_eve
 reads_ended : (p : Ahead) (of : ℕ) (acts : List Act) → May (Ended of) p → Reads (after (Ended of) p) acts → Reads p (Ended of ∷ acts)
 reads_ended p of acts may r =
     let none : hand acts ≡ [] = ap (λ (xs : List Act). (in_turns xs).0) (r.idle refl) in
-    let quiet : Quiet (Ended of ∷ hand acts) = subst (λ (xs : List Act). Quiet (Ended of ∷ xs)) (sym none) (record { pieces_so = refl; end_so = λ before. refl }) in
+    let quiet : TakesNothing (Ended of ∷ hand acts) = subst (λ (xs : List Act). TakesNothing (Ended of ∷ xs)) (sym none) (record { pieces_so = refl; end_so = λ before. refl }) in
     record {
       idle = λ is. absurd (true≢false (sym may ∙ is));
       none_gone = r.none_gone;

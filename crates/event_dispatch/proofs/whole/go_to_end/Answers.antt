@@ -15,7 +15,7 @@ returns-clause-plain g c =
 
 pub returns-clause-cut : goal.returns-clause-cut
 returns-clause-cut g c =
-    goes_on_cut g.W.World.Tells (g.J.Judge.accepts c.args.judge.now) c.go-ended.result (g.K.Sink.contents c.args.sink.now) (g.K.Sink.contents c.go-ended.new.sink) (g.W.World.seen c.args.world.now) (g.W.World.seen c.go-ended.new.world) (g.W.World.seen c.end.new.world) (engine_of c.args.run.now) c.end.ensures.continues c.end.ensures.talks c.end.ensures.quietly c.go-ended.ensures.cut
+    goes_on_cut g.W.World.Tells (g.J.Judge.accepts c.args.judge.now) c.go-ended.result (g.K.Sink.contents c.args.sink.now) (g.K.Sink.contents c.go-ended.new.sink) (g.W.World.seen c.args.world.now) (g.W.World.seen c.go-ended.new.world) (g.W.World.seen c.end.new.world) (engine_of c.args.run.now) c.end.ensures.continues c.end.ensures.talks c.end.ensures.no_point c.go-ended.ensures.cut
 
 pub returns-clause-places : goal.returns-clause-places
 returns-clause-places g c =

@@ -8,7 +8,7 @@ use Rattle.std.proofs.Common.{subst}
 use Rattle.run_laws.specs.Engine.{Engine}
 use Rattle.event_dispatch.specs.declared.served.Served.{Served}
 use Rattle.event_dispatch.specs.Cut.{CutAs, HasRead, ReadsEnd}
-use Rattle.event_dispatch.specs.Steady.{InPlace}
+use Rattle.event_dispatch.specs.Steady.{NoStray}
 use Rattle.event_dispatch.specs.SteadyLaws.{places_none}
 use Rattle.event_dispatch.specs.ReadLaws.{reads_as}
 use Rattle.event_dispatch.proofs.whole.run.Goals as goal
@@ -64,11 +64,11 @@ returns-in_err-buf-clause-places g c = places_none g.W.World.Tells (g.W.World.se
 
 pub returns-in_err-go_to_end-clause-places : goal.returns-in_err-go_to_end-clause-places
 returns-in_err-go_to_end-clause-places g c =
-    subst (λ (e : Engine). InPlace g.W.World.Tells (g.W.World.seen c.args.world.now) (g.W.World.seen c.go_to_end.new.world) e.net) c.in_ok-run.ensures.first c.in_err-go_to_end.ensures.places
+    subst (λ (e : Engine). NoStray g.W.World.Tells (g.W.World.seen c.args.world.now) (g.W.World.seen c.go_to_end.new.world) e.net) c.in_ok-run.ensures.first c.in_err-go_to_end.ensures.places
 
 pub returns-clause-places : goal.returns-clause-places
 returns-clause-places g c =
-    subst (λ (e : Engine). InPlace g.W.World.Tells (g.W.World.seen c.args.world.now) (g.W.World.seen c.go_to_end.new.world) e.net) c.in_ok-run.ensures.first c.in_ok-go_to_end.ensures.places
+    subst (λ (e : Engine). NoStray g.W.World.Tells (g.W.World.seen c.args.world.now) (g.W.World.seen c.go_to_end.new.world) e.net) c.in_ok-run.ensures.first c.in_ok-go_to_end.ensures.places
 
 pub returns-in_err-run-clause-reads : goal.returns-in_err-run-clause-reads
 returns-in_err-run-clause-reads g c = reads_as g.W.World.Tells ends.NoMemory c.from_residual.result (g.W.World.seen c.args.world.now) (g.W.World.seen c.args.world.now) engine_at_first.net c.from_residual.ensures.1 tt

@@ -24,7 +24,7 @@ returns-in_err-write-clause-plain g c =
 
 pub returns-in_err-start-clause-cut : goal.returns-in_err-start-clause-cut
 returns-in_err-start-clause-cut g c =
-    if_err (λ (fault : Fault). CutStart g.W.World.Tells fault (g.K.Sink.contents c.args.sink.now) (g.K.Sink.contents c.args.sink.now) (g.W.World.seen c.args.world.now) (g.W.World.seen c.start.new.world) (engine_of c.args.self.now)) faults.NoMemory c.from_residual.result c.from_residual.ensures.1 (refl, c.start.ensures.talks, c.start.ensures.quietly)
+    if_err (λ (fault : Fault). CutStart g.W.World.Tells fault (g.K.Sink.contents c.args.sink.now) (g.K.Sink.contents c.args.sink.now) (g.W.World.seen c.args.world.now) (g.W.World.seen c.start.new.world) (engine_of c.args.self.now)) faults.NoMemory c.from_residual.result c.from_residual.ensures.1 (refl, c.start.ensures.talks, c.start.ensures.no_point)
 
 pub returns-in_err-write-clause-cut : goal.returns-in_err-write-clause-cut
 returns-in_err-write-clause-cut g c =

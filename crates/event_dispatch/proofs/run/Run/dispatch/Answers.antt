@@ -10,7 +10,7 @@ use Rattle.std.proofs.lemmas.Result.{on_ok_weaker}
 use Rattle.app_visor.specs.CalmLaws.{calm_none, calm_later}
 use Rattle.lego_model.specs.Application.{index}
 use Rattle.event_dispatch.specs.SteadyLaws.{places_none, reads_none, quietly_none, quietly_here}
-use Rattle.event_dispatch.specs.DispatchPlaceLaws.{places_as, reads_over, later_here}
+use Rattle.event_dispatch.specs.DispatchStrayLaws.{places_as, reads_over, later_here}
 use Rattle.event_dispatch.proofs.run.Run.dispatch.Goals as goal
 
 pub returns-in_err-line-clause-plain : goal.returns-in_err-line-clause-plain

@@ -28,7 +28,7 @@ pub returns-in_err-note_last-clause-cut : goal.returns-in_err-note_last-clause-c
 returns-in_err-note_last-clause-cut g c =
     if_err (λ (fault : Fault). CutEnd g.W.World.Tells fault (g.K.Sink.contents c.args.sink.now) (g.K.Sink.contents c.args.sink.now) (g.W.World.seen c.args.world.now) (g.W.World.seen c.note_last.new.world) (engine_of c.args.self.now)) c.in_err-note_last.field-0.0 c.from_residual.result c.from_residual.ensures.1
     (end_still g.W.World.Tells c.in_err-note_last.field-0.0 (g.K.Sink.contents c.args.sink.now) (g.K.Sink.contents c.args.sink.now) (g.W.World.seen c.args.world.now) (g.W.World.seen c.note_last.new.world) (engine_of c.args.self.now)
-    (still_so g.W.World.Tells (g.W.World.seen c.args.world.now) (g.W.World.seen c.note_last.new.world) c.in_err-note_last.field-0.0 (g.K.Sink.contents c.args.sink.now) (g.K.Sink.contents c.args.sink.now) c.in_err-note_last.ensures.why refl) c.note_last.ensures.talks c.note_last.ensures.quietly)
+    (still_so g.W.World.Tells (g.W.World.seen c.args.world.now) (g.W.World.seen c.note_last.new.world) c.in_err-note_last.field-0.0 (g.K.Sink.contents c.args.sink.now) (g.K.Sink.contents c.args.sink.now) c.in_err-note_last.ensures.why refl) c.note_last.ensures.talks c.note_last.ensures.no_point)
 
 pub returns-in_err-write-clause-cut : goal.returns-in_err-write-clause-cut
 returns-in_err-write-clause-cut g c =

@@ -2,7 +2,7 @@ use Rattle.std.proofs.Common.{◌≡◌, ◌*◌, ◌≤◌, length}
 use Rattle.lego_io.specs.Count.{NeverFell}
 use Rattle.outside.specs.Seen.{Continues}
 use Rattle.event_dispatch.specs.Runs.{Going}
-use Rattle.event_dispatch.specs.Steady.{InPlace, Reads}
+use Rattle.event_dispatch.specs.Steady.{NoStray, Reads}
 use Rattle.event_dispatch.specs.Serves.{GoesRounds}
 use Rattle.event_dispatch.proofs.run.Run.go_on.Given as goal
 
@@ -12,7 +12,7 @@ invariant-loop-round g l = record {
   going : Going l.self;
   events : l.self.events ≤ 1000 * l._round;
   continues : Continues g.W.World.Tells (g.W.World.seen l.fn.world) (g.W.World.seen l.world);
-  places : InPlace g.W.World.Tells (g.W.World.seen l.fn.world) (g.W.World.seen l.world) l.fn.self.net;
+  places : NoStray g.W.World.Tells (g.W.World.seen l.fn.world) (g.W.World.seen l.world) l.fn.self.net;
   reads : Reads g.W.World.Tells (g.W.World.seen l.fn.world) (g.W.World.seen l.world) l.fn.self.net l.self.net;
   rounds : GoesRounds g.W.World.Tells (g.J.Judge.accepts l.fn.judge) l._round (g.K.Sink.contents l.fn.sink) (g.K.Sink.contents l.sink) (g.W.World.seen l.fn.world) (g.W.World.seen l.world) l.fn.self l.self;
   never_fell : NeverFell (g.K.Sink.faults l.fn.sink) (g.K.Sink.faults l.sink);

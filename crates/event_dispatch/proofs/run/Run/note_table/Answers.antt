@@ -6,7 +6,7 @@ use Rattle.event_dispatch.specs.CutLaws.{if_err}
 use Rattle.event_dispatch.specs.Plain.{PlainTable}
 use Rattle.net_txn.specs.Net.{NetState}
 use Rattle.event_dispatch.specs.SteadyLaws.{places_none, reads_none, quietly_none}
-use Rattle.event_dispatch.specs.DispatchPlaceLaws.{reads_over}
+use Rattle.event_dispatch.specs.DispatchStrayLaws.{reads_over}
 use Rattle.event_dispatch.proofs.run.Run.note_table.Goals as goal
 
 -- src/last.rt:129:13
@@ -28,8 +28,8 @@ returns-in_err-note_rows-clause-plain g c =
 pub returns-then-not-is_joined-clause-places : goal.returns-then-not-is_joined-clause-places
 returns-then-not-is_joined-clause-places g c = places_none g.W.World.Tells (g.W.World.seen c.args.world.now) c.args.self.now.net
 
-pub returns-then-not-is_joined-clause-quietly : goal.returns-then-not-is_joined-clause-quietly
-returns-then-not-is_joined-clause-quietly g c = quietly_none g.W.World.Tells (g.W.World.seen c.args.world.now)
+pub returns-then-not-is_joined-clause-no_point : goal.returns-then-not-is_joined-clause-no_point
+returns-then-not-is_joined-clause-no_point g c = quietly_none g.W.World.Tells (g.W.World.seen c.args.world.now)
 
 pub returns-then-not-is_joined-clause-reads : goal.returns-then-not-is_joined-clause-reads
 returns-then-not-is_joined-clause-reads g c = reads_none g.W.World.Tells (g.W.World.seen c.args.world.now) c.args.self.now.net c.args.self.now.net refl

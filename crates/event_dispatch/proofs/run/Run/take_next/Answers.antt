@@ -47,7 +47,7 @@ returns-in_ok-take_item-in_default g c = record {
   places = handled_places g.W.World.Tells c.in_ok-item.item c.next_item.new.buf (g.W.World.seen c.args.world.now) (g.W.World.seen c.next_item.new.world) (g.W.World.seen c.take_item.new.world) c.args.self.now.net c.in_ok-item.ensures.nexts c.in_ok-take_item-in_default.ensures.continues c.in_ok-take_item-in_default.ensures.places;
   reads = handled_reads g.W.World.Tells c.in_ok-item.item c.next_item.new.buf (g.W.World.seen c.args.world.now) (g.W.World.seen c.next_item.new.world) (g.W.World.seen c.take_item.new.world) c.args.self.now.net c.take_item.new.self.net c.args.self.now.queue c.take_item.new.self.queue c.in_ok-item.ensures.nexts c.in_ok-take_item-in_default.ensures.handles
       c.in_ok-take_item-in_default.ensures.links c.in_ok-take_item-in_default.ensures.messages;
-  quietly = handled_quietly g.W.World.Tells (g.W.World.seen c.args.world.now) (g.W.World.seen c.next_item.new.world) (g.W.World.seen c.take_item.new.world) c.in_ok-take_item-in_default.ensures.continues c.in_ok-item.ensures.quietly c.in_ok-take_item-in_default.ensures.links;
+  no_point = handled_quietly g.W.World.Tells (g.W.World.seen c.args.world.now) (g.W.World.seen c.next_item.new.world) (g.W.World.seen c.take_item.new.world) c.in_ok-take_item-in_default.ensures.continues c.in_ok-item.ensures.no_point c.in_ok-take_item-in_default.ensures.links;
   begun = goes_begun g.W.World.Tells c.in_ok-item.item c.next_item.new.buf (g.W.World.seen c.args.world.now) (g.W.World.seen c.next_item.new.world) (g.W.World.seen c.take_item.new.world) c.in_ok-item.ensures.nexts c.in_ok-take_item-in_default.ensures.continues c.in_ok-take_item-in_default.ensures.links (no_rest c.in_ok-item.item c.in_default.not-Idle c.in_default.not-End);
   read = c.in_ok-take_item-in_default.ensures.read;
   why = tt;
@@ -99,6 +99,6 @@ pub returns-in_err-take_item-in_default-clause-places : goal.returns-in_err-take
 returns-in_err-take_item-in_default-clause-places g c =
     handled_places g.W.World.Tells c.in_ok-item.item c.next_item.new.buf (g.W.World.seen c.args.world.now) (g.W.World.seen c.next_item.new.world) (g.W.World.seen c.take_item.new.world) c.args.self.now.net c.in_ok-item.ensures.nexts c.in_err-take_item-in_default.ensures.continues c.in_err-take_item-in_default.ensures.places
 
-pub returns-in_err-take_item-in_default-clause-quietly : goal.returns-in_err-take_item-in_default-clause-quietly
-returns-in_err-take_item-in_default-clause-quietly g c =
-    handled_quietly g.W.World.Tells (g.W.World.seen c.args.world.now) (g.W.World.seen c.next_item.new.world) (g.W.World.seen c.take_item.new.world) c.in_err-take_item-in_default.ensures.continues c.in_ok-item.ensures.quietly c.in_err-take_item-in_default.ensures.links
+pub returns-in_err-take_item-in_default-clause-no_point : goal.returns-in_err-take_item-in_default-clause-no_point
+returns-in_err-take_item-in_default-clause-no_point g c =
+    handled_quietly g.W.World.Tells (g.W.World.seen c.args.world.now) (g.W.World.seen c.next_item.new.world) (g.W.World.seen c.take_item.new.world) c.in_err-take_item-in_default.ensures.continues c.in_ok-item.ensures.no_point c.in_err-take_item-in_default.ensures.links

@@ -25,8 +25,8 @@ use Rattle.net_txn.specs.LinkPlaceLaws.{in_place_by}
 use Rattle.app_visor.specs.CallsFor.{IsCallFor}
 use Rattle.lego_model.specs.Application.{index}
 use Rattle.event_dispatch.specs.Batch.{rest_by}
-use Rattle.event_dispatch.specs.Steady.{IsAtRest}
-use Rattle.event_dispatch.specs.Told.{NextQuietly}
+use Rattle.event_dispatch.specs.Steady.{NothingUnderWay}
+use Rattle.event_dispatch.specs.Told.{NextPoint}
 use Rattle.event_dispatch.specs.AbreastItemLaws.{next_may}
 
 -- ---- The steps
@@ -77,7 +77,7 @@ next_for app begun (Err coming.Failed) buf = (tt, tt)
 next_for app begun (Err coming.Short) buf = tt
 
 -- no quiet place lies behind the one before it
-pub next_quietly : {Own Tells : Type 0} {old new : Seen Own} {result : Result Item NextFault} {buf : List ℕ} → Nexts Tells old new result buf → NextQuietly Tells old new
+pub next_quietly : {Own Tells : Type 0} {old new : Seen Own} {result : Result Item NextFault} {buf : List ℕ} → Nexts Tells old new result buf → NextPoint Tells old new
 next_quietly {old = old} {new = new} {result = result} {buf = buf} call = record {
   last = λ told. record { steps = next_steps (call.told told).begun result buf; history = (call.told told).history; none_later = next_later (call.told told).begun result buf };
   unquiet = λ told order is.
@@ -158,7 +158,7 @@ pub next_still : {Own Tells : Type 0} {old new : Seen Own} {item : Item} {buf : 
 next_still {old = old} {new = new} {item = item} {buf = buf} call told goes is =
     ap (λ (s : State). s.begun) (Nexts-state item told call) ∙ item_begun item buf (after_steps (stim_steps (call.told told).begun) (state old)) goes (still_begun (call.told told).begun (state old) is)
 
-pub next_anew : {Own Tells : Type 0} {old new : Seen Own} {item : Item} {buf : List ℕ} → Nexts Tells old new (Ok item) buf → Tells → InOrder new → None ≡ rest_by item → IsAtRest (state old) → (state new).begun ≡ true
+pub next_anew : {Own Tells : Type 0} {old new : Seen Own} {item : Item} {buf : List ℕ} → Nexts Tells old new (Ok item) buf → Tells → InOrder new → None ≡ rest_by item → NothingUnderWay (state old) → (state new).begun ≡ true
 next_anew {old = old} {new = new} {item = item} {buf = buf} call told order goes rest =
     let begun = (call.told told).begun in
     ap (λ (s : State). s.begun) (Nexts-state item told call)

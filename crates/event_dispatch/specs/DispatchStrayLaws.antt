@@ -29,12 +29,12 @@ use Rattle.app_visor.specs.CalmLaws.{calm_links, later_then}
 use Rattle.app_visor.specs.PlaceLaws.{own_places, own_messages, own_abreast, abreast_joined, turn_abreast, turn_places, turn_messages, stops_abreast, stops_places}
 use Rattle.lego_model.specs.Application.{index}
 use Rattle.event_dispatch.specs.Serves.{PlaysTurn}
-use Rattle.event_dispatch.specs.Steady.{InPlace, Reads, Quietly, AtMostHere}
+use Rattle.event_dispatch.specs.Steady.{NoStray, Reads, NoPoint, AtMostThisPoint}
 use Rattle.event_dispatch.specs.SteadyLaws.{abreast_as}
 
 -- ---- The same views
 
-pub places_as : {Own : Type 0} {Tells : Type 0} {old new : Seen Own} (net now_net : NetState) → now_net.views ≡ net.views → InPlace Tells old new now_net → InPlace Tells old new net
+pub places_as : {Own : Type 0} {Tells : Type 0} {old new : Seen Own} (net now_net : NetState) → now_net.views ≡ net.views → NoStray Tells old new now_net → NoStray Tells old new net
 places_as {old = old} net now_net same all = record { places = λ told order abreast. all.places told order (abreast_as old net now_net same abreast) }
 
 pub reads_over : {Own : Type 0} {Tells : Type 0} {old new : Seen Own} (net mid_net at_net now_net : NetState) → mid_net.views ≡ net.views → now_net.views ≡ at_net.views → Reads Tells old new mid_net at_net → Reads Tells old new net now_net
@@ -45,10 +45,10 @@ reads_over {old = old} {new = new} net mid_net at_net now_net before after all =
 
 -- ---- Links were used
 
-pub links_quietly : {Own : Type 0} {Tells : Type 0} {old new : Seen Own} → OnLinks Tells old new → Quietly Tells old new
+pub links_quietly : {Own : Type 0} {Tells : Type 0} {old new : Seen Own} → OnLinks Tells old new → NoPoint Tells old new
 links_quietly links = record { unquiet = λ told. (calm_links index (links told)).unquiet; own = λ told. (calm_links index (links told)).own }
 
-pub asked_places : {Own : Type 0} {Tells : Type 0} {d xid : ℕ} {old new : Seen Own} {kept now_kept : List (ℕ × List ℕ)} {result : Result (List FlowRow) TxnFault} (net : NetState) → IsSome (rows_at d net.views) → Asks Tells d xid old new kept now_kept result → InPlace Tells old new net
+pub asked_places : {Own : Type 0} {Tells : Type 0} {d xid : ℕ} {old new : Seen Own} {kept now_kept : List (ℕ × List ℕ)} {result : Result (List FlowRow) TxnFault} (net : NetState) → IsSome (rows_at d net.views) → Asks Tells d xid old new kept now_kept result → NoStray Tells old new net
 asked_places {d = d} net there asks = record { places = λ told order abreast. asks.in_place told order (abreast_joined d abreast there) }
 
 pub asked_reads : {Own : Type 0} {Tells : Type 0} {d xid : ℕ} {old new : Seen Own} {kept now_kept : List (ℕ × List ℕ)} {rows : List FlowRow} (net now_net : NetState) → now_net.views ≡ net.views → Asks Tells d xid old new kept now_kept (Ok rows) → Reads Tells old new net now_net
@@ -59,13 +59,13 @@ asked_reads net now_net views asks = record {
 
 -- ---- Attempts to start
 
-pub started_quietly : {Own : Type 0} {Tells : Type 0} {old new : Seen Own} (app : ℕ) → app ≡ index → (Tells → OwnSteps app old new) → Quietly Tells old new
+pub started_quietly : {Own : Type 0} {Tells : Type 0} {old new : Seen Own} (app : ℕ) → app ≡ index → (Tells → OwnSteps app old new) → NoPoint Tells old new
 started_quietly {old = old} {new = new} app is own = record {
   unquiet = λ told. own_unquiet (own told);
   own = λ told. subst (λ (i : ℕ). CallsFor i old new) is (own_calls (own told));
 }
 
-pub started_places : {Own : Type 0} {Tells : Type 0} {old new : Seen Own} (app : ℕ) (net : NetState) → (Tells → OwnSteps app old new) → InPlace Tells old new net
+pub started_places : {Own : Type 0} {Tells : Type 0} {old new : Seen Own} (app : ℕ) (net : NetState) → (Tells → OwnSteps app old new) → NoStray Tells old new net
 started_places app net own = record { places = λ told order abreast. own_places (own told) }
 
 pub started_reads : {Own : Type 0} {Tells : Type 0} {old new : Seen Own} (app : ℕ) (net now_net : NetState) → now_net.views ≡ net.views → Continues Tells old new → (Tells → OwnSteps app old new) → Reads Tells old new net now_net
@@ -85,10 +85,10 @@ later_undone {app = app} later links told = later_then (later told) (calm_links 
 pub later_of : {Own : Type 0} {Tells : Type 0} {old new : Seen Own} (app : ℕ) → app ≡ index → (Tells → CalmLater app old new) → Tells → CalmLater index old new
 later_of {old = old} {new = new} app is later told = subst (λ (i : ℕ). CalmLater i old new) is (later told)
 
-pub later_quietly : {Own : Type 0} {Tells : Type 0} {old mid new : Seen Own} (app : ℕ) → app ≡ index → (Tells → CalmLater app old mid) → Quietly Tells mid new → Tells → CalmLater index old new
-later_quietly app is later quietly told = later_then (later_of app is later told) (record { unquiet = quietly.unquiet told; own = quietly.own told })
+pub later_quietly : {Own : Type 0} {Tells : Type 0} {old mid new : Seen Own} (app : ℕ) → app ≡ index → (Tells → CalmLater app old mid) → NoPoint Tells mid new → Tells → CalmLater index old new
+later_quietly app is later no_point told = later_then (later_of app is later told) (record { unquiet = no_point.unquiet told; own = no_point.own told })
 
-pub later_here : {Own : Type 0} {Tells : Type 0} {old new : Seen Own} → (Tells → CalmLater index old new) → AtMostHere Tells old new
+pub later_here : {Own : Type 0} {Tells : Type 0} {old new : Seen Own} → (Tells → CalmLater index old new) → AtMostThisPoint Tells old new
 later_here later = record { last = λ told order rest. (later told).last; own = λ told. (later told).own }
 
 -- ---- A turn, and its undo
@@ -101,14 +101,14 @@ abreast_all abreast d there = abreast.joined d ∙ there
 
 -- it was played, and its changes stay
 pub turn_kept : {Own : Type 0} {Tells : Type 0} {accepts : List TableView → Bool} {app budget : ℕ} {rest frame unread : List ℕ} {old mid : Seen Own} {at_net now_net : NetState} {end : TurnEnd} (net : NetState) (new : Seen Own) → at_net ≡ net → new ≡ mid
-    → Turns Tells accepts app budget rest frame old mid at_net now_net end unread → InPlace Tells old new net
-turn_kept {Tells = Tells} {old = old} {at_net = at_net} net new begun same t = subst (λ (n : NetState). InPlace Tells old new n) begun
-    (subst (λ (s : Seen _). InPlace Tells old s at_net) (sym same) (record { places = λ told order abreast. turn_places t told order abreast }))
+    → Turns Tells accepts app budget rest frame old mid at_net now_net end unread → NoStray Tells old new net
+turn_kept {Tells = Tells} {old = old} {at_net = at_net} net new begun same t = subst (λ (n : NetState). NoStray Tells old new n) begun
+    (subst (λ (s : Seen _). NoStray Tells old s at_net) (sym same) (record { places = λ told order abreast. turn_places t told order abreast }))
 
 -- it was played, and an undo followed
 pub turn_undone : {Own : Type 0} {Tells : Type 0} {accepts : List TableView → Bool} {app budget start : ℕ} {rest frame unread : List ℕ} {old mid new : Seen Own} {at_net mid_net now_net : NetState} {end : TurnEnd} {result : Result (Unit {0}) TxnFault} (net : NetState) → at_net ≡ net
-    → Turns Tells accepts app budget rest frame old mid at_net mid_net end unread → Undoes Tells start mid new mid_net now_net result → InPlace Tells old new net
-turn_undone {Tells = Tells} {old = old} {mid = mid} {new = new} net begun t undone = subst (λ (n : NetState). InPlace Tells old new n) begun (record {
+    → Turns Tells accepts app budget rest frame old mid at_net mid_net end unread → Undoes Tells start mid new mid_net now_net result → NoStray Tells old new net
+turn_undone {Tells = Tells} {old = old} {mid = mid} {new = new} net begun t undone = subst (λ (n : NetState). NoStray Tells old new n) begun (record {
   places = λ told order abreast.
       in_place_then old mid new told (turn_continues t) undone.continues (turn_places t told (InOrder-before told undone.continues order) abreast)
       (undone.in_place told order (abreast_all (turn_abreast t told abreast)));
@@ -116,15 +116,15 @@ turn_undone {Tells = Tells} {old = old} {mid = mid} {new = new} net begun t undo
 
 -- it stopped, and an undo followed
 pub stop_undone : {Own : Type 0} {Tells : Type 0} {app start : ℕ} {old mid new : Seen Own} {at_net mid_net now_net : NetState} {fault : TxnFault} {result : Result (Unit {0}) TxnFault} (net : NetState) → at_net ≡ net
-    → Stops Tells app old mid at_net mid_net fault → Undoes Tells start mid new mid_net now_net result → InPlace Tells old new net
-stop_undone {Tells = Tells} {old = old} {mid = mid} {new = new} net begun s undone = subst (λ (n : NetState). InPlace Tells old new n) begun (record {
+    → Stops Tells app old mid at_net mid_net fault → Undoes Tells start mid new mid_net now_net result → NoStray Tells old new net
+stop_undone {Tells = Tells} {old = old} {mid = mid} {new = new} net begun s undone = subst (λ (n : NetState). NoStray Tells old new n) begun (record {
   places = λ told order abreast.
       in_place_then old mid new told (Stops-continues s) undone.continues (stops_places s told (InOrder-before told undone.continues order) abreast)
       (undone.in_place told order (abreast_all (stops_abreast s told abreast)));
 })
 
 pub played_places : {Own : Type 0} {Tells : Type 0} {accepts : List TableView → Bool} {app number : ℕ} {event : Event} {old new : Seen Own} {rest unread : List ℕ} (end : TurnEnd) (net now_net : NetState)
-    → PlaysTurn Tells accepts app number event end old new net now_net rest unread → InPlace Tells old new net
+    → PlaysTurn Tells accepts app number event end old new net now_net rest unread → NoStray Tells old new net
 played_places {new = new} (ends.Done stop) net now_net plays = turn_kept net new refl plays.played.0 plays.turns
 played_places (ends.Failed cause) net now_net plays = turn_undone net refl plays.turns plays.played
 

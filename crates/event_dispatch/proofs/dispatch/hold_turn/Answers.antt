@@ -8,8 +8,8 @@ use Rattle.event_dispatch.specs.Why.{fault_of}
 use Rattle.event_dispatch.specs.KeptLaws.{turn_read}
 use Rattle.event_dispatch.specs.TalkingLaws.{turn_stops, turn_ends, turn_ended, holds_on_err}
 use Rattle.journal_laws.specs.FrameLaws.{event_is}
-use Rattle.event_dispatch.specs.DispatchPlaceLaws.{later_same, later_undone, turn_kept, turn_undone, stop_undone, played_places, played_reads}
-use Rattle.event_dispatch.proofs.dispatch.play.Goals as goal
+use Rattle.event_dispatch.specs.DispatchStrayLaws.{later_same, later_undone, turn_kept, turn_undone, stop_undone, played_places, played_reads}
+use Rattle.event_dispatch.proofs.dispatch.hold_turn.Goals as goal
 
 pub returns-in_ok-commit-in-Ok-Done-clause-plays : goal.returns-in_ok-commit-in-Ok-Done-clause-plays
 returns-in_ok-commit-in-Ok-Done-clause-plays g c =

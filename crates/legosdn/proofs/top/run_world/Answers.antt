@@ -3,7 +3,7 @@ use Rattle.sim_world.specs.World.{seen_of}
 use Rattle.legosdn.proofs.Places.{links_from_first}
 use Rattle.legosdn.proofs.CutRuns.{cut_at_place, writing_at_place, cut_or_nothing, so_cut, strays_of}
 use Rattle.legosdn.proofs.Runs.{runs_whole, runs_part, runs_by_switch, keeps_with, ended_keeps, left_keeps, whole_strays, part_strays}
-use Rattle.legosdn.proofs.top.play.Goals as goal
+use Rattle.legosdn.proofs.top.run_world.Goals as goal
 
 pub returns-in-Ended-clause-runs : goal.returns-in-Ended-clause-runs
 returns-in-Ended-clause-runs g c = λ none few.
