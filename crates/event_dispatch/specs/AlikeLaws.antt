@@ -1,5 +1,5 @@
 -- Laws of whole runs that a fault ended: they are the reference controller's as far as they go, if the world kept its word as far as there,
--- and no quiet place lies behind.
+-- and no quiescent point lies behind.
 use Rattle.std.proofs.Common.{◌≡◌, ℕ, ◌<◌, Bool, true, false, List, [], ◌++◌, length, Option, sym, ap, ◌∙◌, subst, arith, inl, inr}
 use Rattle.std.specs.Io.KnownBytes.{append_known}
 use Rattle.lego_io.specs.Sink.{TookPart}
@@ -95,7 +95,7 @@ end_talks Tells faults.Next a b old new e other cut = cut.1
 end_talks Tells (faults.Txn fault) a b old new e other cut = cut.1
 end_talks Tells faults.NoMemory a b old new e other cut = cut.1
 
--- ---- Behind which no quiet place lies
+-- ---- Behind which no quiescent point lies
 
 one_here : {Own : Type 0} (Tells : Type 0) (accepts : List TableView → Bool) (fault : Fault) (a b : Option (List ℕ)) (old new : Seen Own) (e : Engine) → NotWrite fault → CutOne Tells accepts fault a b old new e → AtMostThisPoint Tells old new
 one_here Tells accepts faults.Write a b old new e other cut = absurd other
@@ -144,11 +144,11 @@ cut_at {Tells = Tells} a b first stop seen p last is said so =
       last = last;
       given = later.given;
       later = later.told p.told;
-      so = so;
+      alike = so;
       at_once = λ keeps. p.talks.talks p.told (said keeps);
-      read = λ order. messages-of last (is.keeps (InOrder-before p.told later order));
-      quiet = λ order. last_quiet-then (is.quiet (is.keeps (InOrder-before p.told later order)) (InOrder-before p.told p.later order)) (p.no_point.unquiet p.told);
-      own = calls_then is.own (p.no_point.own p.told);
+      messages = λ order. messages-of last (is.keeps (InOrder-before p.told later order));
+      last_point = λ order. last_quiet-then (is.quiet (is.keeps (InOrder-before p.told later order)) (InOrder-before p.told p.later order)) (p.no_point.unquiet p.told);
+      no_other_called = calls_then is.own (p.no_point.own p.told);
     }
 
 -- up to where it stopped
@@ -157,11 +157,11 @@ writing_at a b first stop seen p keeps so = record {
   last = stop;
   given = p.later.given;
   later = p.later.told p.told;
-  so = so;
+  alike = so;
   at_once = λ keeps. p.talks.talks p.told (so keeps).up_to.at_once;
-  read = λ order. messages-of stop (keeps (InOrder-before p.told p.later order));
-  quiet = λ order. last_quiet-of (p.no_point.unquiet p.told);
-  own = p.no_point.own p.told;
+  messages = λ order. messages-of stop (keeps (InOrder-before p.told p.later order));
+  last_point = λ order. last_quiet-of (p.no_point.unquiet p.told);
+  no_other_called = p.no_point.own p.told;
 }
 
 -- ---- The start
@@ -229,7 +229,7 @@ some_read {Tells = Tells} {first = first} p g h =
     let behind = reads_then first g.rounds.mid h.mid net_at_first g.rounds.mid_run.net h.mid_run.net (rounds_on p g) h.first (rounds_read p g) h.reads in
     reads_then first h.mid h.some.mid net_at_first h.mid_run.net h.some.mid_run.net (Continues-trans Tells first g.rounds.mid h.mid (rounds_on p g) h.first) h.some.on behind h.some.reads
 
--- a fault ended what comes next, which leaves no quiet place behind
+-- a fault ended what comes next, which leaves no quiescent point behind
 round_stop : {Own : Type 0} {Tells : Type 0} {accepts : List TableView → Bool} {allows : List Place → Bool} {fault : Fault} {a b : Option (List ℕ)} {first stop seen : Seen Own} (p : Supposed Tells accepts allows first stop seen) (g : CutGoing Tells accepts fault a b first stop engine_at_first) → StopsBatch Tells g.rounds.mid stop g.rounds.mid_run.net → IsStop Tells g.rounds.mid stop
 round_stop {first = first} {stop = stop} {seen = seen} p g stops = record {
   on = g.rounds.later;

@@ -1,5 +1,5 @@
 -- A run that a fault ends, in the words of what is seen and kept: the parts that were done, and what was written of the one that was not,
--- which goes on with the dialogue with the application and leaves no quiet place behind it. All of this is our own.
+-- which goes on with the dialogue with the application and leaves no quiescent point behind it. All of this is our own.
 use Rattle.std.specs.Prelude.{◌≡◌, ℕ, ◌≤◌, ◌⊎◌, Bool, List, [], Option, Result, Ok, Err}
 use Rattle.lego_io.specs.Sink.{TookPart}
 use Rattle.flow_table.specs.declared.view.TableView.{TableView}
@@ -74,7 +74,7 @@ pub record CutBehind {Own : Type 0} (Tells : Type 0) (accepts : List TableView �
   pub later : Continues Tells mid new
   pub some : CutSome Tells accepts fault contents now_contents mid new mid_run
 
--- it ended the batch, where no quiet place lies behind, if nothing was kept before it
+-- it ended the batch, where no quiescent point lies behind, if nothing was kept before it
 pub record StopsBatch {Own : Type 0} (Tells : Type 0) (old new : Seen Own) (net : NetState) : Type 0 where
   pub here : net.kept ≡ [] → AtMostThisPoint Tells old new
   pub own : Tells → CallsFor index old new

@@ -74,7 +74,7 @@ started_reads {new = new} app net now_net views continues own = record {
   read = λ told order abreast. own_messages (own told);
 }
 
--- ---- No quiet place behind the one where a turn began
+-- ---- No quiescent point behind the one where a turn began
 
 pub later_same : {Own : Type 0} {Tells : Type 0} {app : ℕ} {old mid : Seen Own} (new : Seen Own) → new ≡ mid → (Tells → CalmLater app old mid) → Tells → CalmLater app old new
 later_same {app = app} {old = old} new same later told = subst (λ (s : Seen _). CalmLater app old s) (sym same) (later told)

@@ -1,4 +1,4 @@
--- Laws of what is told next: no quiet place lies behind the one before it, since one stimulus is begun at most and comes first, and no call of a
+-- Laws of what is told next: no quiescent point lies behind the one before it, since one stimulus is begun at most and comes first, and no call of a
 -- link is made.
 use Rattle.std.specs.Prelude.{◌≡◌, ℕ, true, false, List, [], ◌∷◌, ◌++◌, take, Option, Some, None, Result, Ok, Err, refl}
 use Rattle.std.specs.List.{AllByRecursion}
@@ -76,7 +76,7 @@ next_for app (Some x) (Ok item) buf = (tt, (item_for app item buf, tt))
 next_for app begun (Err coming.Failed) buf = (tt, tt)
 next_for app begun (Err coming.Short) buf = tt
 
--- no quiet place lies behind the one before it
+-- no quiescent point lies behind the one before it
 pub next_quietly : {Own Tells : Type 0} {old new : Seen Own} {result : Result Item NextFault} {buf : List ℕ} → Nexts Tells old new result buf → NextPoint Tells old new
 next_quietly {old = old} {new = new} {result = result} {buf = buf} call = record {
   last = λ told. record { steps = next_steps (call.told told).begun result buf; history = (call.told told).history; none_later = next_later (call.told told).begun result buf };

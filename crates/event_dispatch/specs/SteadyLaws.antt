@@ -55,6 +55,6 @@ quietly_then Tells old mid new first second = record {
   own = λ told. calls_then (first.own told) (second.own told);
 }
 
--- no quiet place behind one from which on there was none
+-- no quiescent point behind one from which on there was none
 pub quietly_here : {Own : Type 0} {Tells : Type 0} {old new : Seen Own} → NoPoint Tells old new → AtMostThisPoint Tells old new
 quietly_here no_point = record { last = λ told order rest. last_quiet-of (no_point.unquiet told); own = no_point.own }

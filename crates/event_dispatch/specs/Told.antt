@@ -46,7 +46,7 @@ pub record IsTold (step : WorldStep) (s : State) (views : List TableView) : Type
 pub record OnlyMessages {Own : Type 0} (Tells : Type 0) (old new : Seen Own) : Type 0 where
   pub read : Tells → MessagesSince old new
 
--- however it ended: calls of links were in place
+-- however it ended: no call of a link was a stray one
 pub record NoStrayAtItem {Own : Type 0} (Tells : Type 0) (step : WorldStep) (old new : Seen Own) (net : NetState) : Type 0 where
   pub places : Tells → InOrder new → IsTold step (state old) net.views → StaysInPlace old new
 
@@ -58,7 +58,7 @@ pub record CatchesUp {Own : Type 0} (Tells : Type 0) (step : WorldStep) (old new
 
 -- ---- What is told next, and is handled
 
--- No quiet place lies behind the place before it, and where a stimulus was begun before, none lies there either.
+-- No quiescent point lies behind the one before it, and where a stimulus was begun before, none lies there either.
 pub record NextPoint {Own : Type 0} (Tells : Type 0) (old new : Seen Own) : Type 0 where
   pub last : Tells → IsLastQuiet old new
   pub unquiet : Tells → InOrder new → (state old).begun ≡ true → Unquiet old new
@@ -71,7 +71,7 @@ pub record GoesBegun {Own : Type 0} (Tells : Type 0) (rest : Option Rest) (old n
 
 -- ---- A batch
 
--- Where all was at rest and nothing was kept: nothing was done yet, or a stimulus is begun and no quiet place lies behind the one where the
+-- Where all was at rest and nothing was kept: nothing was done yet, or a stimulus is begun and no quiescent point lies behind the one where the
 -- batch began.
 pub record BatchPoint {Own : Type 0} (Tells : Type 0) (old new : Seen Own) (net : NetState) : Type 0 where
   pub here : Tells → InOrder new → NothingUnderWay (state old) → net.kept ≡ [] → (new ≡ old) ⊎ (((state new).begun ≡ true) × IsLastQuiet old new)

@@ -228,7 +228,7 @@ impl Run {
         ensures talks { KeepsTalking W.Tells (W.seen world.old) (W.seen world.new) }
         ensures links { OnLinks W.Tells (W.seen world.old) (W.seen world.new) }
 
-        // Where the item was told to a host that kept up with its switches, calls of links are in place.
+        // Where the item was told to a host that kept up with its switches, no call of a link is a stray one.
         ensures places { NoStrayAtItem W.Tells (item_step item buf.now) (W.seen world.old) (W.seen world.new) self.old.net }
         ensures messages { OnOk result (OnlyMessages W.Tells (W.seen world.old) (W.seen world.new)) }
         ensures read { OnOk result (AreRead self.old.net.kept → AreRead self.new.net.kept) }
@@ -323,12 +323,12 @@ impl Run {
         ensures continues { Continues W.Tells (W.seen world.old) (W.seen world.new) }
         ensures talks { KeepsTalking W.Tells (W.seen world.old) (W.seen world.new) }
 
-        // Where the world tells in order and the host keeps up with its switches, calls of links are in place; where the batch was done,
+        // Where the world tells in order and the host keeps up with its switches, no call of a link is a stray one; where the batch was done,
         // all that came were messages, and the host keeps up then.
         ensures places { NoStray W.Tells (W.seen world.old) (W.seen world.new) self.old.net }
         ensures reads { OnOk result (Reads W.Tells (W.seen world.old) (W.seen world.new) self.old.net self.new.net) }
 
-        // Where all was at rest and nothing was kept, no quiet place lies behind, and no other application was called.
+        // Where all was at rest and nothing was kept, no quiescent point lies behind, and no other application was called.
         ensures here { OnErr result (self.old.net.kept ≡ [] → AtMostThisPoint W.Tells (W.seen world.old) (W.seen world.new)) }
         ensures own { OnErr result (W.Tells → CallsFor index (W.seen world.old) (W.seen world.new)) }
         ensures read { OnOk result (AreRead self.new.net.kept) }

@@ -279,7 +279,7 @@ pub fn serve<W: World, J: Judge, K: Sink>(
     // Each end but the whole one and want of memory has its cause in this call.
     ensures end_has_cause { IsWhy W.Tells (W.seen world.old) (W.seen world.new) (K.faults sink.old) (K.faults sink.new) result }
     // In a world that tells and keeps its word, on which no call was made before, the run is the reference controller's over what the
-    // world told: the tables agree at every quiet place, the application was given what it is given there, and what was written is the
+    // world told: the tables agree at every quiescent point, the application was given what it is given there, and what was written is the
     // report, whole where all events were dispatched, and as far as these go where some were left. It is so, too, over all that was said
     // of the application, of which the world told the front.
     ensures reference_run { (allows : List Place → Bool) → Premise W.Tells (J.accepts judge.now) allows (W.seen world.old) (W.seen world.new)
@@ -287,12 +287,12 @@ pub fn serve<W: World, J: Judge, K: Sink>(
     // Where a fault ends the run, it is so up to a place, with the lines of all that was done up to there, and where the sink failed,
     // with a part of the lines of the last; if the world kept its word as far as there, whatever came behind it. The whole journal is a
     // dialogue with the application then. A world that tells in order kept its word as far as there, since all bytes that came are
-    // messages up to there. Behind it no quiet place lies in such a world, and no other application was called.
+    // messages up to there. Behind it no quiescent point lies in such a world, and no other application was called.
     ensures reference_run_until_fault { (allows : List Place → Bool) → PremiseSoFar W.Tells (J.accepts judge.now) allows (W.seen world.old) (W.seen world.new)
         → IsCut allows (W.seen world.new) (K.contents sink.old) (K.contents sink.new) result }
     // In a world that keeps its word to the end no switch is at fault for what it sent: of a switch only its link ends a run.
     ensures no_switch_at_fault { (allows : List Place → Bool) → Premise W.Tells (J.accepts judge.now) allows (W.seen world.old) (W.seen world.new) → IsPlainServed result }
-    // In a world that tells in order, though bytes that come of switches may be no messages: calls of links are in place, and at the end
+    // In a world that tells in order, though bytes that come of switches may be no messages: no call of a link is a stray one, and at the end
     // of a run that no fault ends all that came of switches is messages, so that the world kept its word.
     ensures no_stray_call { W.Tells → (W.seen world.old).history ≡ [] → InOrder (W.seen world.new) → StaysInPlace (W.seen world.old) (W.seen world.new) }
     ensures all_bytes_are_messages { W.Tells → (W.seen world.old).history ≡ [] → InOrder (W.seen world.new) → IsReadServed (W.seen world.new) result }

@@ -32,7 +32,7 @@ start_of seen = start_said seen (starts_in (own_acts seen)) (replies_in (own_act
 abbrev pub reference_so_far : (List Place → Bool) → Bool → List WorldStim → List WorldStim → ℕ → Run → Run
 reference_so_far allows started stimuli begun number r = times number (dispatch_next allows) (fold (λ q x. happen x q) (rounds allows stimuli (if started then all_started r else r)) begun)
 
--- how far a run came to a place: these stimuli are all that happened before it
+-- how far a run came to a point: these stimuli are all that happened before it
 pub record Progress {Own : Type 0} (last : Seen Own) : Type 0 where
   pub started : Bool
   pub stimuli : List WorldStim
@@ -81,13 +81,13 @@ pub record WasWriting {Own : Type 0} (allows : List Place → Bool) (last : Seen
 
 -- ---- A point of a run
 
--- Up to a place the run is that of the reference controller so far, over what was told and over all that was said of the application: the
--- tables agree at every quiet place, that one included, and the application was given what it is given there. The journal is a dialogue
+-- Up to a point the run is that of the reference controller so far, over what was told and over all that was said of the application: the
+-- tables agree at every quiescent point, that one included, and the application was given what it is given there. The journal is a dialogue
 -- with it, and all steps were in order.
-pub record AlikeUpTo {Own : Type 0} (last : Seen Own) (IsSo : Progress last → Run → Type 0) : Type 0 where
+pub record AlikeUpTo {Own : Type 0} (last : Seen Own) (Holds : Progress last → Run → Type 0) : Type 0 where
   pub far : Progress last
-  pub as_told : IsSo far (start_of last)
-  pub as_said : (starts : List Start) (replies : List Reply) → AreSaid last starts replies → IsSo far (start_said last starts replies)
+  pub as_told : Holds far (start_of last)
+  pub as_said : (starts : List Start) (replies : List Reply) → AreSaid last starts replies → Holds far (start_said last starts replies)
   pub at_once : AtOnce index (journal last.history)
   pub in_order : AllByRecursion (IsOrderly index) last.history
 

@@ -79,7 +79,7 @@ text_of r = flat_map (line_text names) r.lines
 
 -- ---- A run of a world stands alike to one of it
 
--- The run is that of the reference controller: at every quiet place, the end included, the switches agree; and the application was given
+-- The run is that of the reference controller: at every quiescent point, the end included, the switches agree; and the application was given
 -- what the reference controller gives it.
 pub record RunsAlike {Own : Type 0} (seen : Seen Own) (r : Run) : Type 0 where
   pub tables : AgreeQuiets (points_in seen ++ last_point seen ∷ []) (r.quiets ++ quiet_of None r.places ∷ [])

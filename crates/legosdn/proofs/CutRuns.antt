@@ -51,34 +51,34 @@ conforms_at sim last order given quiet messages = in_order-Conforming last (InOr
 said_so : {last : Seen Scripts} (IsSo : Progress last → Run → Type 0) (up_to : AlikeUpTo last IsSo) → KeepsScripts last.given.own (without_links last.given.fails) last.history → HoldsAsSaid IsSo up_to
 said_so {last} IsSo up_to keeps = λ none. record {
   enough = told_in last;
-  so = λ more few. up_to.as_said _ _ (are_said last more (kept_to_lines last (without_links last.given.fails) keeps none up_to.in_order up_to.at_once) few);
+  holds = λ more few. up_to.as_said _ _ (are_said last more (kept_to_lines last (without_links last.given.fails) keeps none up_to.in_order up_to.at_once) few);
 }
 
 pub cut_at_place : (sim : WorldData) (a b : Option (List ℕ)) → InOrder (seen_of sim) → KeepsLines sim → CutAlike all_allowed (seen_of sim) a b → UpToPoint sim (λ last. CutRun last a b)
 cut_at_place sim a b order lines cut =
-    let quiet = cut.quiet order in
-    let keeps = conforms_at sim cut.last order cut.given quiet (cut.read order) in
-    let run = cut.so keeps in
+    let quiet = cut.last_point order in
+    let keeps = conforms_at sim cut.last order cut.given quiet (cut.messages order) in
+    let run = cut.alike keeps in
     record {
       last = cut.last;
       given = sym cut.given;
-      quiet = quiet;
-      messages = cut.read order;
-      so = record { run = run; as_said = said_so (WroteSoFar all_allowed cut.last a b) run (lines_at sim cut.last lines cut.given cut.later) };
+      last_point = quiet;
+      messages = cut.messages order;
+      holds = record { run = run; as_said = said_so (WroteSoFar all_allowed cut.last a b) run (lines_at sim cut.last lines cut.given cut.later) };
       at_once = cut.at_once keeps;
     }
 
 pub writing_at_place : (sim : WorldData) (a b : Option (List ℕ)) → InOrder (seen_of sim) → KeepsLines sim → CutWriting all_allowed (seen_of sim) a b → UpToPoint sim (λ last. WritingRun last a b)
 writing_at_place sim a b order lines cut =
-    let quiet = cut.quiet order in
-    let keeps = conforms_at sim cut.last order cut.given quiet (cut.read order) in
-    let run = cut.so keeps in
+    let quiet = cut.last_point order in
+    let keeps = conforms_at sim cut.last order cut.given quiet (cut.messages order) in
+    let run = cut.alike keeps in
     record {
       last = cut.last;
       given = sym cut.given;
-      quiet = quiet;
-      messages = cut.read order;
-      so = record { run = run; as_said = said_so (WasWriting all_allowed cut.last run.text run.more) run.up_to (lines_at sim cut.last lines cut.given cut.later) };
+      last_point = quiet;
+      messages = cut.messages order;
+      holds = record { run = run; as_said = said_so (WasWriting all_allowed cut.last run.text run.more) run.up_to (lines_at sim cut.last lines cut.given cut.later) };
       at_once = cut.at_once keeps;
     }
 
@@ -86,7 +86,7 @@ pub cut_or_nothing : (sim : WorldData) (a b : Option (List ℕ)) → InOrder (se
 cut_or_nothing sim a b order lines (inl cut) = inl (cut_at_place sim a b order lines cut)
 cut_or_nothing sim a b order lines (inr none) = inr none
 
--- ---- No call of it was out of place
+-- ---- No call of it was a stray one
 
 -- the run ended before all was done
 abbrev pub IsFaultEnd : Served → Type 0
@@ -97,14 +97,14 @@ IsFaultEnd other = Unit {0}
 cut_strays : (sim : WorldData) (a b : Option (List ℕ)) → InOrder (seen_of sim) → CountsNone sim → AreLinksInPlace (seen_of sim).history (at_first (seen_of sim).given) → CutAlike all_allowed (seen_of sim) a b
     → (seen_of sim).counts.shorts ≡ 0 → (seen_of sim).counts.strays ≡ 0
 cut_strays sim a b order none links cut =
-    let keeps = conforms_at sim cut.last order cut.given (cut.quiet order) (cut.read order) in
-    none_strays sim none (behind_for (cut.so keeps).in_order cut.own) (applications_in_place (seen_of sim) (cut.at_once keeps)) links
+    let keeps = conforms_at sim cut.last order cut.given (cut.last_point order) (cut.messages order) in
+    none_strays sim none (behind_for (cut.alike keeps).in_order cut.no_other_called) (applications_in_place (seen_of sim) (cut.at_once keeps)) links
 
 writing_strays : (sim : WorldData) (a b : Option (List ℕ)) → InOrder (seen_of sim) → CountsNone sim → AreLinksInPlace (seen_of sim).history (at_first (seen_of sim).given) → CutWriting all_allowed (seen_of sim) a b
     → (seen_of sim).counts.shorts ≡ 0 → (seen_of sim).counts.strays ≡ 0
 writing_strays sim a b order none links cut =
-    let keeps = conforms_at sim cut.last order cut.given (cut.quiet order) (cut.read order) in
-    none_strays sim none (behind_for (cut.so keeps).up_to.in_order cut.own) (applications_in_place (seen_of sim) (cut.at_once keeps)) links
+    let keeps = conforms_at sim cut.last order cut.given (cut.last_point order) (cut.messages order) in
+    none_strays sim none (behind_for (cut.alike keeps).up_to.in_order cut.no_other_called) (applications_in_place (seen_of sim) (cut.at_once keeps)) links
 
 strays_or_nothing : (sim : WorldData) (a b : Option (List ℕ)) → InOrder (seen_of sim) → CountsNone sim → AreLinksInPlace (seen_of sim).history (at_first (seen_of sim).given) → CutAlike all_allowed (seen_of sim) a b ⊎ NothingDone [] (seen_of sim) a b
     → (seen_of sim).counts.shorts ≡ 0 → (seen_of sim).counts.strays ≡ 0

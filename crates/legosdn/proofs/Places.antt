@@ -1,4 +1,4 @@
--- No call of a run was out of place.
+-- No call of a run was a stray one.
 use Rattle.std.proofs.Common.{◌≡◌, ℕ, ◌==◌, Bool, true, false, List, [], ◌∷◌, ◌++◌, refl, sym, ap, subst}
 use Rattle.std.specs.List.{AllByRecursion}
 use Rattle.std.proofs.lemmas.Bool.{eq-eqb}
@@ -105,7 +105,7 @@ links_from_first old new none given stays =
     (subst (λ (h : List WorldStep). AreLinksInPlace new.history (after_steps h (at_first old.given))) none
     (stays new.history (ap (λ (h : List WorldStep). h ++ new.history) (sym none))))
 
--- what the world says of calls in place
+-- what the world says of calls that are no stray ones
 abbrev pub CountsNone : WorldData → Type 0
 CountsNone sim = AreInPlace sim.history (at_first (given_of sim)) → (seen_of sim).counts.shorts ≡ 0 → (seen_of sim).counts.strays ≡ 0
 

@@ -103,7 +103,7 @@ pub cut_short : (status : ℕ) (sim : WorldData) (stop : Stop) (contents before 
     → Wrote before now_contents faults faults_new (stop_line stop) → CutShort status sim contents now_contents faults_old faults_new
 cut_short status sim stop contents before now_contents faults_old faults faults_new is up runs written = record {
   stop = stop;
-  is = is;
+  status_is = is;
   before = before;
   faults = faults;
   never_fell = up;
@@ -204,7 +204,7 @@ completes sim words told old new (Diverged d) a b cause runs input session comma
 completes sim words told old new (EventsLeft left) a b cause runs input session command whole spelled readable none = (1, omega arith, refl)
 completes sim words told old new NoMemory a b cause runs input session command whole spelled readable none = (2, omega arith, refl)
 
--- ---- No call was out of place
+-- ---- No call was a stray one
 
 pub whole_strays : (old sim : WorldData) (contents now_contents : Option (List ℕ)) (events : ℕ) → (seen_of old).history ≡ [] → length (seen_of old).given.stimuli ≤ 1000000 → Continues (Unit {0}) (seen_of old) (seen_of sim)
     → Conforming (seen_of sim) → (end : Served) → end ≡ served.Ended events → Promises (seen_of old) (seen_of sim) contents now_contents end → CountsNone sim → AreLinksInPlace (seen_of sim).history (at_first (seen_of sim).given)

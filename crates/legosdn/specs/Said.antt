@@ -28,7 +28,7 @@ reference_of_session more session = reference_over more (given_by session)
 -- with as many starts and turns behind the last lines as one likes, where they are enough
 pub record WithEnough (P : ℕ → Type 0) : Type 0 where
   pub enough : ℕ
-  pub so : (more : ℕ) → enough ≤ more → P more
+  pub holds : (more : ℕ) → enough ≤ more → P more
 
 -- ---- A run that a fault ends
 
@@ -36,9 +36,9 @@ pub record WithEnough (P : ℕ → Type 0) : Type 0 where
 abbrev pub start_by_lines : ℕ → Seen Scripts → Run
 start_by_lines more last = start_said last (starts_said more (starts_of index last.given.own)) (replies_said more (replies_of index last.given.own))
 
--- What is so up to a place is so over what the lines of the session say of the application, too.
-abbrev pub HoldsAsSaid : {last : Seen Scripts} → (IsSo : Progress last → Run → Type 0) → AlikeUpTo last IsSo → Type 0
-HoldsAsSaid {last} IsSo up_to = without_links last.given.fails ≡ [] → WithEnough (λ more. IsSo up_to.far (start_by_lines more last))
+-- What is so up to a point is so over what the lines of the session say of the application, too.
+abbrev pub HoldsAsSaid : {last : Seen Scripts} → (Holds : Progress last → Run → Type 0) → AlikeUpTo last Holds → Type 0
+HoldsAsSaid {last} Holds up_to = without_links last.given.fails ≡ [] → WithEnough (λ more. Holds up_to.far (start_by_lines more last))
 
 -- all lines of what was done up to there were written
 pub record CutRun (last : Seen Scripts) (contents now_contents : Option (List ℕ)) : Type 0 where

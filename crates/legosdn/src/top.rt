@@ -144,7 +144,7 @@ pub fn legosdn<S: Source, K: Sink>(
     requires new_world { IsNew sim.old }
     requires empty_world { given_of sim.old ≡ nothing_given }
     // At status 0 all stimuli of the session happened, and the run is that of the reference controller over them and over what the
-    // application did: at every quiet place the tables agree, the application was
+    // application did: at every quiescent point the tables agree, the application was
     // given what it is given there, no event is left, and what was written is the whole report. Each answer that the application was
     // given is to its next message, and a change that passed the host's tests had then reached its switch: since the frame given before,
     // the change was sent there, a barrier behind it, the barrier's reply came, and no other change was sent.
@@ -156,7 +156,7 @@ pub fn legosdn<S: Source, K: Sink>(
         → WithEnough (λ more. K.contents sink.new ≡ append_known (K.contents sink.old) (run_report names (reference_of_session more session))) }
     // At status 10 the same with the lines of the events that were dispatched, and how many are left behind them.
     ensures events_left { result ≡ 10 → LeftAs sim.new (K.contents sink.old) (K.contents sink.new) (K.faults sink.old) (K.faults sink.new) }
-    // Where a fault ends the run, it is that of the reference controller up to the last quiet place: what was written is what this says so
+    // Where a fault ends the run, it is that of the reference controller up to the last quiescent point: what was written is what this says so
     // far, or a part of the lines of what was done last where the sink failed, and behind it stands the line that says why; and the whole
     // journal is such a dialogue. Or nothing was done.
     ensures run_until_fault { Contains (5 ∷ 6 ∷ 7 ∷ 8 ∷ 9 ∷ 12 ∷ []) result
@@ -171,12 +171,12 @@ pub fn legosdn<S: Source, K: Sink>(
         (faults_of (S.faults source.new) (K.faults sink.new) (seen_of sim.new))
         result (λ stop. WroteLast (K.contents sink.new) (K.faults sink.old) (K.faults sink.new) (stop_line stop)) }
 
-    // At every status: no call of the world was made out of place, where none wanted memory.
+    // At every status: no call of the world was a stray one, where none wanted memory.
     ensures no_stray_call { (seen_of sim.new).counts.shorts ≡ 0 → (seen_of sim.new).counts.strays ≡ 0 }
 
     // A switch breaks or diverges only where bytes came that are no message.
-    ensures broken_switch_sent_no_message { result ≡ 8 → SomeRefused sim.new }
-    ensures diverged_with_no_message { result ≡ 9 → SomeRefused sim.new }
+    ensures breaks_only_on_bad_bytes { result ≡ 8 → SomeRefused sim.new }
+    ensures diverges_only_on_bad_bytes { result ≡ 9 → SomeRefused sim.new }
     // Where the words are the command, the whole input spells a session, all bytes that came of switches are messages, and nothing failed,
     // the whole report is written, or events are left, or memory is wanting.
     ensures complete_without_fault { (input : List ℕ) (session : SessionValue) → is_command_in (map string_bytes words.now) ≡ true → S.remaining source.old ≡ Some input

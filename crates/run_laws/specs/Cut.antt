@@ -19,29 +19,29 @@ use Rattle.run_laws.specs.Whole.{RanAs}
 
 -- ---- What is promised of a run that a fault ends
 
--- There is a place of it up to which it is so, where the world kept its word as far as there, whatever came behind it; and the whole journal
+-- There is a point of it up to which it is so, where the world kept its word as far as there, whatever came behind it; and the whole journal
 -- is a dialogue with the application then. In a world that tells in order all bytes that came of switches up to there are messages, so that
--- it kept its word as far as there, and no quiet place lies behind. Behind it no other application was called.
+-- it kept its word as far as there, and no quiescent point lies behind. Behind it no other application was called.
 pub record CutAlike {Own : Type 0} (allows : List Place → Bool) (seen : Seen Own) (contents now_contents : Option (List ℕ)) : Type 0 where
   pub last : Seen Own
   pub given : seen.given ≡ last.given
   pub later : Longer last.history seen.history
-  pub so : Conforming last → CutBetweenLines allows last contents now_contents
+  pub alike : Conforming last → CutBetweenLines allows last contents now_contents
   pub at_once : Conforming last → AtOnce index (journal seen.history)
-  pub read : InOrder seen → BringMessages last.history
-  pub quiet : InOrder seen → IsLastQuiet last seen
-  pub own : CallsFor index last seen
+  pub messages : InOrder seen → BringMessages last.history
+  pub last_point : InOrder seen → IsLastQuiet last seen
+  pub no_other_called : CallsFor index last seen
 
 -- the same where the sink failed
 pub record CutWriting {Own : Type 0} (allows : List Place → Bool) (seen : Seen Own) (contents now_contents : Option (List ℕ)) : Type 0 where
   pub last : Seen Own
   pub given : seen.given ≡ last.given
   pub later : Longer last.history seen.history
-  pub so : Conforming last → CutWhileWriting allows last contents now_contents
+  pub alike : Conforming last → CutWhileWriting allows last contents now_contents
   pub at_once : Conforming last → AtOnce index (journal seen.history)
-  pub read : InOrder seen → BringMessages last.history
-  pub quiet : InOrder seen → IsLastQuiet last seen
-  pub own : CallsFor index last seen
+  pub messages : InOrder seen → BringMessages last.history
+  pub last_point : InOrder seen → IsLastQuiet last seen
+  pub no_other_called : CallsFor index last seen
 
 -- ---- What parts of a run come to
 

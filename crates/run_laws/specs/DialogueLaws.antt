@@ -47,7 +47,7 @@ pub runs_now : {Own : Type 0} (seen : Seen Own) (a : AtOnce index (journal seen.
 unfolding state
 runs_now seen a = dialogue_runs index seen.history nobody_yet a.last (at_first seen.given) a.dialogue (none_runs seen.given)
 
--- no call for it was out of place
+-- no call for it was a stray one
 pub applications_in_place : {Own : Type 0} (seen : Seen Own) → AtOnce index (journal seen.history) → AreInPlace index seen.history (at_first seen.given)
 applications_in_place seen a = dialogue_in_place index seen.history nobody_yet a.last (at_first seen.given) a.dialogue (none_runs seen.given)
 

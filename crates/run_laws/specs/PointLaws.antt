@@ -1,4 +1,4 @@
--- Laws of quiet places: the world marks its switches before an event is first given, as the reference controller does, and the switches
+-- Laws of quiescent points: the world marks its switches before an event is first given, as the reference controller does, and the switches
 -- of both agree, since the flags of the owners are all that differs.
 use Rattle.std.proofs.Common.{◌≡◌, ◌==◌, ℕ, ◌+◌, ◌<◌, Bool, true, false, not, ◌&&◌, ◌||◌, List, [], ◌∷◌, ◌++◌, map, Option, Some, None, if◌then◌else◌, refl, sym, ap, ap₂, ◌∙◌, subst, inr, arith}
 use Rattle.std.proofs.lemmas.Bool.{eq-eqb, ne_eqb}
@@ -18,7 +18,7 @@ use Rattle.switch_laws.specs.Standing.{declared_in}
 use Rattle.switch_laws.specs.Shown.{flags_at, places, shown_places}
 use Rattle.lego_model.specs.History.{point_by}
 
--- ---- Lists of quiet places
+-- ---- Lists of quiescent points
 
 pub quiets_more : (qs rs : List Quiet) (q r : Quiet) → AgreeQuiets qs rs → AgreeQuiet q r → AgreeQuiets (qs ++ q ∷ []) (rs ++ r ∷ [])
 quiets_more [] [] q r all one = (one, tt)

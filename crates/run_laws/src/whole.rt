@@ -57,10 +57,10 @@ pub fn ends_leave<W: World>()
 
 /// Of a world that was just opened and that keeps its word: a run whose parts are those of the reference controller is the run
 /// of the reference controller over what the world told, and over all that was said of the application, of which the world
-/// told the front. At every quiet place the tables agree, the application was given what
+/// told the front. At every quiescent point the tables agree, the application was given what
 /// it is given there, and what was written is its report, whole where all events were dispatched. The journal is a dialogue
 /// with the application: each answer is to its next message, a change has reached its switch at once where it is answered, and
-/// no call for the application is out of place.
+/// no call for the application is a stray one.
 pub fn runs_are_the_references<W: World>()
     ensures out { (accepts : List TableView → Bool) (allows : List Place → Bool) (contents now_contents : Option (List ℕ)) (old new : Seen W.Own) (e : Engine)
         → W.Tells → Conforming new → JudgesAlike W.Own allows accepts → IsOpened old → length (stimuli_in new) < most_rounds

@@ -42,12 +42,12 @@ pub returns-in-Err-clause-application_keeps_script : goal.returns-in-Err-clause-
 returns-in-Err-clause-application_keeps_script g c = λ within.
     c.in-Err.ensures.late_lines (is_late c.in-Err.stop (subst (λ (status : ℕ). Contains (0 ∷ 5 ∷ 6 ∷ 7 ∷ 8 ∷ 9 ∷ 10 ∷ []) status) c.halt.ensures.status within))
 
-pub returns-in-Err-clause-broken_switch_sent_no_message : goal.returns-in-Err-clause-broken_switch_sent_no_message
-returns-in-Err-clause-broken_switch_sent_no_message g c = λ eight.
+pub returns-in-Err-clause-breaks_only_on_bad_bytes : goal.returns-in-Err-clause-breaks_only_on_bad_bytes
+returns-in-Err-clause-breaks_only_on_bad_bytes g c = λ eight.
     broke_as c.run.new.sim c.in-Err.stop (g.K.Sink.contents c.args.sink.now) (g.K.Sink.contents c.run.new.sink) c.in-Err.ensures.runs (sym c.halt.ensures.status ∙ eight)
 
-pub returns-in-Err-clause-diverged_with_no_message : goal.returns-in-Err-clause-diverged_with_no_message
-returns-in-Err-clause-diverged_with_no_message g c = λ nine.
+pub returns-in-Err-clause-diverges_only_on_bad_bytes : goal.returns-in-Err-clause-diverges_only_on_bad_bytes
+returns-in-Err-clause-diverges_only_on_bad_bytes g c = λ nine.
     diverged_as c.run.new.sim c.in-Err.stop (g.K.Sink.contents c.args.sink.now) (g.K.Sink.contents c.run.new.sink) c.in-Err.ensures.runs (sym c.halt.ensures.status ∙ nine)
 
 pub returns-in-Ok-clause-complete_without_fault : goal.returns-in-Ok-clause-complete_without_fault
