@@ -128,15 +128,15 @@ record Supposed {Own : Type 0} (Tells : Type 0) (accepts : List TableView → Bo
   talks : KeepsTalking Tells stop seen
   no_point : NoPoint Tells stop seen
 
--- A place from which the run went on to where it stopped: in a world that tells in order this kept its word as far as there, and no quiet
--- place lies behind.
+-- A point from which the run went on to where it stopped: in a world that tells in order this kept its word as far as there, and no
+-- quiescent point lies behind.
 record IsStop {Own : Type 0} (Tells : Type 0) (last stop : Seen Own) : Type 0 where
   on : Continues Tells last stop
   keeps : InOrder last → Conforming last
   quiet : Conforming last → InOrder stop → IsLastQuiet last stop
   own : CallsFor index last stop
 
--- up to such a place
+-- up to such a point
 cut_at : {Own : Type 0} {Tells : Type 0} {accepts : List TableView → Bool} {allows : List Place → Bool} (a b : Option (List ℕ)) (first stop seen : Seen Own) (p : Supposed Tells accepts allows first stop seen) (last : Seen Own) → IsStop Tells last stop → (Conforming last → AtOnce index (journal stop.history)) → (Conforming last → CutBetweenLines allows last a b) → CutAlike allows seen a b
 cut_at {Tells = Tells} a b first stop seen p last is said so =
     let later = Continues-trans Tells last stop seen is.on p.later in

@@ -1,4 +1,4 @@
--- Laws of the place up to which a run was done, in a world that tells in order: it kept its word as far as there, and all was at rest.
+-- Laws of the point up to which a run was done, in a world that tells in order: it kept its word as far as there, and all was at rest.
 use Rattle.std.specs.Prelude.{List, ◌++◌, Option, is_some, refl}
 use Rattle.std.proofs.Common.{sym, ap, ◌∙◌, subst}
 use Rattle.flow_table.specs.Switch.{SwitchState}

@@ -19,7 +19,7 @@ use Rattle.event_dispatch.specs.Shows.{engine_of, Adds}
 
 -- ---- A switch, whatever the world does
 
--- the flags of the row that stands at this place, where it has the key, and the next place
+-- the flags of the row that stands at this position, where it has the key, and the next position
 pub record FindsFlags (from : ℕ) (key : Key) (rows : List ViewRow) (found : ℕ × ℕ) : Type 0 where
   pub here : (v : ViewRow) (later : List ViewRow) → drop from rows ≡ v ∷ later → v.key ≡ key → found ≡ (v.flags, from + 1)
 

@@ -215,7 +215,7 @@ pub record IsPart {Own : Type 0} (allows : List Place → Bool) (seen : Seen Own
   pub alike : LeavesAlike allows seen contents now_contents left
   pub none_to_come : (state seen).to_come ≡ []
 
--- Of a world that tells, on which no call was made before: where a fault ends the run, it is the reference controller's up to a place, if
+-- Of a world that tells, on which no call was made before: where a fault ends the run, it is the reference controller's up to a point, if
 -- the world kept its word as far as there, and so is what was written.
 abbrev pub IsCut : {Own : Type 0} → (List Place → Bool) → Seen Own → Option (List ℕ) → Option (List ℕ) → Served → Type 0
 IsCut allows seen contents now_contents (served.Ended events) = Unit {0}

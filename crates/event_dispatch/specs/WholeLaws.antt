@@ -249,7 +249,7 @@ cut_failed Tells accepts served.NextFault a b old mid new opened on runs cut all
 cut_failed Tells accepts (served.Txn fault) a b old mid new opened on runs cut allows p = so_cut Tells accepts allows (served.Txn fault) a b old mid new p (opened_so old mid p.untouched (opened p.told)) on cut
 cut_failed Tells accepts served.NoMemory a b old mid new opened on runs cut allows p = so_cut Tells accepts allows served.NoMemory a b old mid new p (opened_so old mid p.untouched (opened p.told)) on cut
 
--- one that keeps its word to the end does so up to every place
+-- one that keeps its word to the end does so up to every point
 premise_so_far : {Own : Type 0} (Tells : Type 0) (accepts : List TableView → Bool) (allows : List Place → Bool) (old new : Seen Own) → Premise Tells accepts allows old new → PremiseSoFar Tells accepts allows old new
 premise_so_far Tells accepts allows old new p = record { told = p.told; judges = p.judges; untouched = p.untouched; few = λ front keeps given later. fewer-front front new later p.few }
 

@@ -25,7 +25,7 @@ use outside::World;
 use report_text::{app_line, end_line, flow_line, switch_line};
 use std::alloc::AllocError;
 
-/// Where the row of a key stands, from a place on.
+/// Where the row of a key stands, from a position on.
 fn place_from(rows: &[ViewRow], from: usize, key: &Key) -> Option<usize>
     ensures within { IfSome result (λ at. at < length rows.now) }
     ensures here { (v : ViewRow) (later : List ViewRow) → drop from rows.now ≡ v ∷ later → v.key ≡ key.now → result ≡ Some from }

@@ -284,7 +284,7 @@ pub fn serve<W: World, J: Judge, K: Sink>(
     // of the application, of which the world told the front.
     ensures reference_run { (allows : List Place → Bool) → Premise W.Tells (J.accepts judge.now) allows (W.seen world.old) (W.seen world.new)
         → IsAlike allows (W.seen world.new) (K.contents sink.old) (K.contents sink.new) result }
-    // Where a fault ends the run, it is so up to a place, with the lines of all that was done up to there, and where the sink failed,
+    // Where a fault ends the run, it is so up to a point, with the lines of all that was done up to there, and where the sink failed,
     // with a part of the lines of the last; if the world kept its word as far as there, whatever came behind it. The whole journal is a
     // dialogue with the application then. A world that tells in order kept its word as far as there, since all bytes that came are
     // messages up to there. Behind it no quiescent point lies in such a world, and no other application was called.

@@ -139,7 +139,7 @@ ran-before f g xs ys text more first mid last e1 e2 starts replies is m n said =
     let given = fronts-parts m.replies n.replies replies fronts.1 in
     subst (λ (r : Run). text_of (f r) ≡ text) same (m.says starts replies r0 firsts.0 given.0 (stands-first first starts replies is))
 
--- ---- The place up to which all is alike
+-- ---- The point up to which all is alike
 
 leaves-nothing : {Own : Type 0} (seen : Seen Own) → Leaves seen seen
 leaves-nothing seen = record { given = refl; starts = refl; replies = refl; inputs = refl; stimuli = refl; marks = refl; switches = λ d. refl; at_once = λ said. said; orderly = orderly-none index seen }

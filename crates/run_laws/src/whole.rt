@@ -70,7 +70,7 @@ pub fn runs_are_the_references<W: World>()
         → RanFull W.Tells accepts most_rounds left contents now_contents old new engine_at_first → LeavesAlike allows new contents now_contents left }
 {}
 
-/// Of a world that was just opened and that keeps its word up to a place: where a fault ends a run whose parts are those of the
+/// Of a world that was just opened and that keeps its word up to a point: where a fault ends a run whose parts are those of the
 /// reference controller so far, the run is the reference controller's up to there, and what was written is what this says so
 /// far; or the sink failed at the lines of the start, of an event or of the end, behind all lines before them.
 pub fn cut_runs_are_the_references<W: World>()
