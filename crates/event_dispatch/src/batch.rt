@@ -23,6 +23,7 @@ ghost use Rattle.event_dispatch.specs.Told.{OnlyMessages, NoStrayAtItem, NextPoi
 ghost use Rattle.event_dispatch.specs.Plain.{IsPlainEnd, PlainRead, PlainJoin, PlainItem, PlainNext, PlainKept, PlainCalm};
 
 use crate::fault::Fault;
+use crate::limits::MOST_ITEMS;
 use crate::run::Run;
 use app_frames::{Event, EventKind};
 use net_txn::{EventQueue, Net};
@@ -30,9 +31,6 @@ use of_types::Dpid;
 use of_wire::{Message, WireFault, decode, encode};
 use outside::{Item, NextFault, World};
 use std::alloc::AllocError;
-
-/// So many items are a batch, though the outside has not come to rest.
-const MOST_ITEMS: u32 = 1_000_000;
 
 /// How a batch ended.
 #[derive(Clone, Copy, Debug, PartialEq, Eq)]

@@ -19,6 +19,7 @@ ghost use Rattle.event_dispatch.specs.Talking.{KeepsTalking, TurnTalks, GoesOnTa
 ghost use Rattle.event_dispatch.specs.Cut.{CutOne, CutSome};
 
 use crate::fault::Fault;
+use crate::limits::{BUDGET, MOST_BODY, MOST_EVENTS};
 use crate::run::{NAME, Run};
 use app_frames::Event;
 use app_visor::{AppState, Back, TurnEnd, restart, turn};
@@ -27,15 +28,6 @@ use net_txn::{EventQueue, Net, Txn};
 use outside::{Judge, World};
 use report_text::{TurnWord, event_line, gone_line, start_line, turn_line};
 use std::alloc::{AllocError, Global};
-
-/// How many events are dispatched after a batch; the rest waits for the next one.
-const MOST_EVENTS: u32 = 1_000;
-
-/// How many frames an application may take for a turn.
-const BUDGET: u32 = 1_000;
-
-/// How many bytes an event may have in a frame whose length four bytes can say.
-const MOST_BODY: usize = 0xffff_ffff - 26;
 
 /// The turn of the application, whose changes are kept where it was done and undone where it failed.
 #[tactic(auto, using(crate::specs::WhyLaws::continues_then, crate::specs::WhyLaws::why_then, crate::specs::WhyLaws::why_before, crate::specs::FaultLaws::undo_why, crate::specs::FaultLaws::stops_why))]

@@ -22,22 +22,17 @@ ghost use Rattle.event_dispatch.specs.Serves.{GoesRound, GoesToEnd, Begins, Ends
 
 use crate::batch::Rest;
 use crate::fault::Fault;
+use crate::limits::{MOST_MESSAGE, MOST_ROUNDS};
 use crate::run::{INDEX, Run};
 use crate::served::Served;
 use lego_io::Sink;
 use outside::{Judge, OpenFault, World};
 use std::alloc::Global;
 
-/// A session has fewer batches.
-const MOST_ROUNDS: u32 = 1_000_000_000;
-
-/// How many bytes a message has at most.
-const MOST_MESSAGE: usize = 65_535;
-
 impl Run {
     /// One round: a batch, and then the events that wait.
     #[tactic(auto, using(crate::specs::WhyLaws::continues_then, crate::specs::WhyLaws::why_behind, crate::specs::WhyLaws::why_sink))]
-    fn go_round<W: World, J: Judge, K: Sink>(
+    fn run_round<W: World, J: Judge, K: Sink>(
         &mut self,
         world: &mut W,
         judge: &J,
@@ -69,7 +64,7 @@ impl Run {
 
     /// Goes from batch to batch, until nothing comes any more.
     #[tactic(auto, using(crate::specs::WhyLaws::continues_then, crate::specs::WhyLaws::why_behind, crate::specs::WhyLaws::fell_then))]
-    fn go_on<W: World, J: Judge, K: Sink>(
+    fn run_rounds<W: World, J: Judge, K: Sink>(
         &mut self,
         world: &mut W,
         judge: &J,
@@ -92,7 +87,7 @@ impl Run {
         ensures plain { IfErr result (λ fault. PlainRun W.Tells (J.accepts judge.now) (W.seen world.old) (W.seen world.new) (engine_of self.old) (served_by fault)) }
     {
         for _round in 0..MOST_ROUNDS {
-            match self.go_round(world, judge, sink, buf)? {
+            match self.run_round(world, judge, sink, buf)? {
                 Rest::Idle => {}
                 Rest::End => return Ok(()),
             }
@@ -161,7 +156,7 @@ impl Run {
 
     /// The whole run of a world that was opened.
     #[tactic(auto, using(crate::specs::WhyLaws::continues_then, crate::specs::WhyLaws::why_behind, crate::specs::WhyLaws::fell_then))]
-    fn go<W: World, J: Judge, K: Sink>(
+    fn run_opened<W: World, J: Judge, K: Sink>(
         &mut self,
         world: &mut W,
         judge: &J,
@@ -182,7 +177,7 @@ impl Run {
         ensures plain { IfErr result (PlainWhole W.Tells (J.accepts judge.now) (W.seen world.old) (W.seen world.new) (engine_of self.old)) }
     {
         self.begin(world, sink)?;
-        self.go_on(world, judge, sink, buf)?;
+        self.run_rounds(world, judge, sink, buf)?;
         self.finish(world, sink)
     }
 }
@@ -216,7 +211,7 @@ fn end<W: World>(world: &mut W)
 
 /// Runs an opened world to its end, after which its application is ended.
 #[tactic(auto, using(crate::specs::WhyLaws::continues_then, crate::specs::WhyLaws::why_still))]
-fn go_to_end<W: World, J: Judge, K: Sink>(
+fn run_then_end<W: World, J: Judge, K: Sink>(
     run: &mut Run,
     world: &mut W,
     judge: &J,
@@ -236,7 +231,7 @@ fn go_to_end<W: World, J: Judge, K: Sink>(
     ensures why { IfErr result (IsWhy W.Tells (W.seen world.old) (W.seen world.new) (K.faults sink.old) (K.faults sink.new)) }
     ensures plain { IfErr result (PlainWhole W.Tells (J.accepts judge.now) (W.seen world.old) (W.seen world.new) (engine_of run.old)) }
 {
-    let ended = run.go(world, judge, sink, buf);
+    let ended = run.run_opened(world, judge, sink, buf);
     end(world);
     ended
 }
@@ -259,7 +254,7 @@ fn run<W: World, J: Judge, K: Sink>(
 {
     let mut run = Run::new(alloc)?;
     let mut buf = vec![in alloc; 0; MOST_MESSAGE]?;
-    go_to_end(&mut run, world, judge, sink, &mut buf)?;
+    run_then_end(&mut run, world, judge, sink, &mut buf)?;
     Ok(run.events)
 }
 

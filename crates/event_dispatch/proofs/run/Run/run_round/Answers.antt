@@ -8,7 +8,7 @@ use Rattle.event_dispatch.specs.Why.{served_by}
 use Rattle.event_dispatch.specs.declared.fault.Fault.{Fault}
 use Rattle.event_dispatch.specs.Cut.{CutRound}
 use Rattle.event_dispatch.specs.SteadyLaws.{places_then, reads_then}
-use Rattle.event_dispatch.proofs.run.Run.go_round.Goals as goal
+use Rattle.event_dispatch.proofs.run.Run.run_round.Goals as goal
 
 pub returns-clause-round : goal.returns-clause-round
 returns-clause-round g c =

@@ -4,7 +4,7 @@ use Rattle.outside.specs.Seen.{Continues}
 use Rattle.event_dispatch.specs.Runs.{Going}
 use Rattle.event_dispatch.specs.Steady.{NoStray, Reads}
 use Rattle.event_dispatch.specs.Serves.{GoesRounds}
-use Rattle.event_dispatch.proofs.run.Run.go_on.Given as goal
+use Rattle.event_dispatch.proofs.run.Run.run_rounds.Given as goal
 
 abbrev pub invariant-loop-round : goal.invariant-loop-round
 invariant-loop-round g l = record {
