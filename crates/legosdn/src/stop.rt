@@ -15,44 +15,60 @@ use net_txn::TxnFault;
 use of_types::Dpid;
 use session_text::SessionError;
 use std::alloc::AllocError;
+use thiserror::Error;
 
 /// Why an input is refused.
-#[derive(Clone, Copy, Debug, PartialEq, Eq)]
+#[derive(Clone, Copy, Debug, PartialEq, Eq, Error)]
 pub enum Refusal {
     /// It has more bytes than an input may have.
+    #[error("the input has more bytes than an input may have")]
     Size,
     /// It has no line `---`.
+    #[error("the input has no line ---")]
     Separator,
     /// It has a policy, which no command takes yet.
+    #[error("the input has a policy, which no command takes yet")]
     PolicyLater,
     /// Behind the separator stands no session: the first fault.
+    #[error("behind the separator stands no session")]
     Session(SessionFault),
 }
 
 /// Why a command ends without the whole report. It has a status of its own and, but for a failed write, a line.
-#[derive(Clone, Copy, Debug, PartialEq, Eq)]
+#[derive(Clone, Copy, Debug, PartialEq, Eq, Error)]
 pub enum Stop {
     /// The words are no command.
+    #[error("the words are no command")]
     Usage,
     /// The input is refused.
+    #[error("{0}")]
     Refused(Refusal),
     /// The input could not be read to its end.
+    #[error("the input could not be read to its end")]
     ReadFault,
     /// The report could not be written.
+    #[error("the report could not be written")]
     WriteFault,
     /// The outside stays shut.
+    #[error("the world stays shut")]
     Shut,
     /// The outside failed at what comes next.
+    #[error("the world failed at what comes next")]
     NextFault,
     /// The link of this switch failed.
+    #[error("the link of switch {0} failed")]
     SwitchFault(Dpid),
     /// This switch sent what is no message, or too many messages.
+    #[error("switch {0} sent what is no message, or too many messages")]
     SwitchBroke(Dpid),
     /// This switch refused what the controller asked of its own.
+    #[error("switch {0} refused a message of the controller")]
     Diverged(Dpid),
     /// After the last batch so many events were left.
+    #[error("{0} events were left")]
     EventsLeft(usize),
     /// Memory ran out.
+    #[error("no memory")]
     NoMemory,
 }
 
