@@ -45,7 +45,7 @@ use Rattle.net_txn.specs.JoiningSteps.{JoinsInStep}
 use Rattle.switch_laws.specs.StandLaws.{state-links}
 use Rattle.lego_model.specs.OrderlySteps.{IsOrderly}
 use Rattle.switch_laws.specs.OrderlyLaws.{orderly-none, echo-orderly, join-steps-orderly}
-use Rattle.batch_laws.specs.Items.{answers, Untouched, Rests, TakesMessage, TakesIn, TakesInBy, TakesInAs, DoesFrom, DoesJoined, DoesLeft, Handles, waiting, Ascend, Leaves, IsLinkStep, ItemDone, Fresh, IsFresh, Done, IsItem}
+use Rattle.batch_laws.specs.Items.{answers, Untouched, Rests, TakesMessage, TakesIn, TakesInBy, TakesInAs, DoesFrom, DoesJoined, DoesLeft, Handles, waiting, Ascend, Leaves, IsSentOrGot, ItemDone, Fresh, IsFresh, Done, IsItem}
 use Rattle.batch_laws.specs.InBatch.{SameBesides}
 
 -- ---- What waits, of the switches with lower numbers first
@@ -173,10 +173,10 @@ leaves_all s = record {
 
 -- ---- Calls of links
 
-sent_is : (d : ℕ) (bytes : List ℕ) → IsLinkStep (Acted (Sent d bytes))
+sent_is : (d : ℕ) (bytes : List ℕ) → IsSentOrGot (Acted (Sent d bytes))
 sent_is d bytes = (d, bytes, inl refl)
 
-got_is : (d : ℕ) (bytes : List ℕ) → IsLinkStep (Acted (Got d bytes))
+got_is : (d : ℕ) (bytes : List ℕ) → IsSentOrGot (Acted (Got d bytes))
 got_is d bytes = (d, bytes, inr refl)
 
 record SameRest (s t : State) : Type 0 where
@@ -212,7 +212,7 @@ rest_then r s t first later = record {
   due = later.due ∙ first.due;
 }
 
-rest_steps : (steps : List WorldStep) (s : State) → AllByRecursion IsLinkStep steps → SameRest s (after_steps steps s)
+rest_steps : (steps : List WorldStep) (s : State) → AllByRecursion IsSentOrGot steps → SameRest s (after_steps steps s)
 rest_steps [] s all = rest_all s
 rest_steps (step ∷ steps) s all =
     rest_then s (after_step step s) (after_steps steps (after_step step s)) (rest_by step all.0.0 all.0.1 s all.0.2) (rest_steps steps (after_step step s) all.1)
@@ -241,11 +241,11 @@ no_acts : (app : ℕ) → filter (is_of app) (journal []) ≡ []
 unfolding journal
 no_acts app = refl
 
-stimuli_none : (steps : List WorldStep) → AllByRecursion IsLinkStep steps → stimuli (journal steps) ≡ []
+stimuli_none : (steps : List WorldStep) → AllByRecursion IsSentOrGot steps → stimuli (journal steps) ≡ []
 stimuli_none [] all = no_stimuli
 stimuli_none (step ∷ steps) all = (tells_by step all.0.0 all.0.1 all.0.2 steps 0).0 ∙ stimuli_none steps all.1
 
-acts_none : (app : ℕ) (steps : List WorldStep) → AllByRecursion IsLinkStep steps → filter (is_of app) (journal steps) ≡ []
+acts_none : (app : ℕ) (steps : List WorldStep) → AllByRecursion IsSentOrGot steps → filter (is_of app) (journal steps) ≡ []
 acts_none app [] all = no_acts app
 acts_none app (step ∷ steps) all = (tells_by step all.0.0 all.0.1 all.0.2 steps app).1 ∙ acts_none app steps all.1
 
@@ -257,7 +257,7 @@ none_done mid = record { given = refl; leaves = leaves_all (state mid); stimuli_
 untouched_done : {Own : Type 0} (mid new : Seen Own) → new ≡ mid → ItemDone mid new
 untouched_done mid new is = subst (λ (x : Seen _). ItemDone mid x) (sym is) (none_done mid)
 
-links_done : {Own : Type 0} (mid new : Seen Own) (steps : List WorldStep) → new.given ≡ mid.given → new.history ≡ mid.history ++ steps → AllByRecursion IsLinkStep steps → ((app : ℕ) → AllByRecursion (IsOrderly app) steps) → Leaves (state mid) (state new) → ItemDone mid new
+links_done : {Own : Type 0} (mid new : Seen Own) (steps : List WorldStep) → new.given ≡ mid.given → new.history ≡ mid.history ++ steps → AllByRecursion IsSentOrGot steps → ((app : ℕ) → AllByRecursion (IsOrderly app) steps) → Leaves (state mid) (state new) → ItemDone mid new
 links_done mid new steps given longer all orderly leaves = record {
   given = given;
   leaves = leaves;
@@ -308,7 +308,7 @@ echo_leaves d xid payload lt is s =
     still_leaves d bytes (echo_still bytes xid payload (reading_of-message_bytes xid (EchoReply payload) lt (IsMessage-echo payload is))) s
 
 record IsAnswered (steps : List WorldStep) (s : State) : Type 0 where
-  all : AllByRecursion IsLinkStep steps
+  all : AllByRecursion IsSentOrGot steps
   orderly : (app : ℕ) → AllByRecursion (IsOrderly app) steps
   leaves : Leaves s (after_steps steps s)
 
@@ -355,21 +355,21 @@ all_join : (P : WorldStep → Type 0) (xs ys : List WorldStep) → AllByRecursio
 all_join P [] ys first later = later
 all_join P (x ∷ xs) ys first later = (first.0, all_join P xs ys first.1 later)
 
-heard_links : (d : ℕ) (h : Heard) (bytes : List ℕ) → AllByRecursion IsLinkStep (steps_by d h bytes)
+heard_links : (d : ℕ) (h : Heard) (bytes : List ℕ) → AllByRecursion IsSentOrGot (steps_by d h bytes)
 heard_links d Reply bytes = tt
 heard_links d (Refused r) bytes = tt
 heard_links d Notice bytes = tt
 heard_links d Echo bytes = (sent_is d (echo_reply bytes), tt)
 heard_links d Other bytes = tt
 
-wait_links : (a : Awaited) (got : List (List ℕ)) → AllByRecursion IsLinkStep (wait_steps a got)
+wait_links : (a : Awaited) (got : List (List ℕ)) → AllByRecursion IsSentOrGot (wait_steps a got)
 wait_links a [] = tt
-wait_links a (b ∷ bs) = (got_is a.dpid b, all_join IsLinkStep (steps_by a.dpid (heard a b) b) (wait_steps a bs) (heard_links a.dpid (heard a b) b) (wait_links a bs))
+wait_links a (b ∷ bs) = (got_is a.dpid b, all_join IsSentOrGot (steps_by a.dpid (heard a b) b) (wait_steps a bs) (heard_links a.dpid (heard a b) b) (wait_links a bs))
 
-join_links : (d xid : ℕ) (got : List (List ℕ)) → AllByRecursion IsLinkStep (greeting d xid ++ (wait_steps (greeted_from d xid) got ++ reply_got (greeted_from d xid) ∷ []))
+join_links : (d xid : ℕ) (got : List (List ℕ)) → AllByRecursion IsSentOrGot (greeting d xid ++ (wait_steps (greeted_from d xid) got ++ reply_got (greeted_from d xid) ∷ []))
 join_links d xid got =
     let a = greeted_from d xid in
-    (sent_is d _, (sent_is d _, (sent_is d _, all_join IsLinkStep (wait_steps a got) (reply_got a ∷ []) (wait_links a got) (got_is d _, tt))))
+    (sent_is d _, (sent_is d _, (sent_is d _, all_join IsSentOrGot (wait_steps a got) (reply_got a ∷ []) (wait_links a got) (got_is d _, tt))))
 
 joins_leave : {Own : Type 0} {d : ℕ} {mid new : Seen Own} {net now_net : NetState} → Conforming mid → Conforming new → Fresh d (state mid) → SameRest (state mid) (state new) → JoinsInStep d mid new net now_net → Leaves (state mid) (state new)
 unfolding upcoming waits_of

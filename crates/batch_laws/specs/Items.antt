@@ -141,8 +141,8 @@ pub record Leaves (s t : State) : Type 0 where
   pub switches : (d : ℕ) → switch_of d t ≡ switch_of d s
   pub upcoming_so : upcoming t ≡ upcoming s
 
-abbrev pub IsLinkStep : WorldStep → Type 0
-IsLinkStep step = (d : ℕ) × (bytes : List ℕ) × ((step ≡ Acted (Sent d bytes)) ⊎ (step ≡ Acted (Got d bytes)))
+abbrev pub IsSentOrGot : WorldStep → Type 0
+IsSentOrGot step = (d : ℕ) × (bytes : List ℕ) × ((step ≡ Acted (Sent d bytes)) ⊎ (step ≡ Acted (Got d bytes)))
 
 pub record ItemDone {Own : Type 0} (mid new : Seen Own) : Type 0 where
   pub given : new.given ≡ mid.given

@@ -34,7 +34,6 @@ use Rattle.switch_laws.specs.AskedLaws.{asked}
 use Rattle.event_dispatch.specs.Runs.{AreRead}
 use Rattle.event_dispatch.specs.Serves.{IsPlayed, PlaysTurn}
 use Rattle.event_dispatch.specs.FaultLaws.{runs_rest, run_here}
-use Rattle.run_laws.specs.ChainLaws.{no_fault}
 
 -- ---- Lists of them
 
@@ -121,6 +120,10 @@ pub joins_read : {Own Tells : Type 0} {d : ℕ} {ports : List PortDesc} {old new
 joins_read net now_net joins read = waits_read net.kept now_net.kept joins.answer joins.waits read
 
 -- ---- An undo in which no switch failed
+
+no_fault : (o : Option TxnFault) → Ok tt ≡ ended_by o → o ≡ None
+no_fault None is = refl
+no_fault (Some fault) is = absurd cc
 
 none_first : (a b : Option TxnFault) → first_fault_of a b ≡ None → (a ≡ None) × (b ≡ None)
 none_first None b is = (refl, is)

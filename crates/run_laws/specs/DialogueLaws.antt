@@ -24,7 +24,6 @@ use Rattle.run_laws.specs.Engine.{Engine}
 use Rattle.lego_model.specs.Application.{index}
 use Rattle.run_laws.specs.Facts.{StartsAgain, IsClosed, TakesTurn, IsTurn}
 use Rattle.run_laws.specs.LinkStepLaws.{link_steps-tell}
-use Rattle.run_laws.specs.ChainLaws.{undo_links}
 use Rattle.run_laws.specs.Moves.{Conversing}
 
 -- ---- Behind what happened before
@@ -86,8 +85,8 @@ closed_converses Tells (ends.Done stop) unread text start old mid new mid_net e 
     subst (λ (s : Seen _). Conversing s now_e) (sym closed.seen) (speaks_on old mid now_e true unread a says (λ alive. (refl, ap (λ (x : Engine). x.rest) closed.engine)))
 closed_converses Tells (ends.Failed cause) unread text start old mid new mid_net e now_e told a says closed =
     let undone = closed.undone in
-    let only = undo_links Tells start mid undone mid_net closed.undone_net closed.undoes told in
-    let there = others_at_once mid undone only.steps only.history (link_steps-tell index only.steps only.are).acts (at_once_then says.after old mid a says.converses) in
+    let only = closed.undoes.links told in
+    let there = others_at_once mid undone only.steps only.history (link_steps-tell index only.steps only.all).acts (at_once_then says.after old mid a says.converses) in
     starts_converse Tells closed.later_text undone new (record e { net = closed.undone_net; rest = []; failed = e.failed + 1 }) now_e told there closed.starts
 
 turn_converses : {Own : Type 0} (Tells : Type 0) (accepts : List TableView → Bool) (event : Event) (text : List ℕ) (old new : Seen Own) (e now_e : Engine) → Tells → e.alive ≡ true → Conversing old e → TakesTurn Tells accepts event text old new e now_e

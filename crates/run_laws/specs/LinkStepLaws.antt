@@ -9,7 +9,8 @@ use Rattle.outside.specs.declared.step.WorldStep.TheVariants.{Acted, TookInto, F
 use Rattle.outside.specs.Seen.{journal}
 use Rattle.outside.specs.State.{State, event_number, marks_at_event, marks_after_gave, after_act, after_step, after_steps}
 use Rattle.app_visor.specs.Talks.{step_of}
-use Rattle.run_laws.specs.LinkSteps.{OnlyLinks, IsLinkStep, TellsNothing, OnlyTalk, NoEvents, MarksNothing}
+use Rattle.net_txn.specs.LinkSteps.{is_link_step, AreLinkSteps}
+use Rattle.run_laws.specs.LinkSteps.{OnlyLinks, TellsNothing, OnlyTalk, NoEvents, MarksNothing}
 
 -- ---- Calls of links
 
@@ -26,56 +27,56 @@ OnlyLinks-trans s t u first second = record {
   marks = second.marks ∙ first.marks;
 }
 
-pub link_step : (step : WorldStep) (s : State) → IsLinkStep step → OnlyLinks s (after_step step s)
+pub link_step : (step : WorldStep) (s : State) → is_link_step step ≡ true → OnlyLinks s (after_step step s)
 unfolding after_step after_act
 link_step (Acted (Sent d bytes)) s is = record { begun = refl; due = refl; moment = refl; to_come = refl; running = refl; marks = refl }
 link_step (Acted (Got d bytes)) s is = record { begun = refl; due = refl; moment = refl; to_come = refl; running = refl; marks = refl }
 link_step (SendFailed d) s is = record { begun = refl; due = refl; moment = refl; to_come = refl; running = refl; marks = refl }
 link_step (RecvFailed d) s is = record { begun = refl; due = refl; moment = refl; to_come = refl; running = refl; marks = refl }
-link_step (Acted (Stim x)) s is = absurd is
-link_step (Acted (Started app ok)) s is = absurd is
-link_step (Acted (Gave app bytes)) s is = absurd is
-link_step (Acted (Gone app bytes)) s is = absurd is
-link_step (Acted (Took app what)) s is = absurd is
-link_step (Acted (Ended app)) s is = absurd is
-link_step (TookInto app what room) s is = absurd is
-link_step (From d bytes) s is = absurd is
-link_step (Joined d bytes) s is = absurd is
-link_step (Left d) s is = absurd is
-link_step (Moment t) s is = absurd is
-link_step Idle s is = absurd is
-link_step End s is = absurd is
-link_step Opened s is = absurd is
-link_step NotOpened s is = absurd is
-link_step NextFailed s is = absurd is
+link_step (Acted (Stim x)) s is = absurd (true≢false (sym is))
+link_step (Acted (Started app ok)) s is = absurd (true≢false (sym is))
+link_step (Acted (Gave app bytes)) s is = absurd (true≢false (sym is))
+link_step (Acted (Gone app bytes)) s is = absurd (true≢false (sym is))
+link_step (Acted (Took app what)) s is = absurd (true≢false (sym is))
+link_step (Acted (Ended app)) s is = absurd (true≢false (sym is))
+link_step (TookInto app what room) s is = absurd (true≢false (sym is))
+link_step (From d bytes) s is = absurd (true≢false (sym is))
+link_step (Joined d bytes) s is = absurd (true≢false (sym is))
+link_step (Left d) s is = absurd (true≢false (sym is))
+link_step (Moment t) s is = absurd (true≢false (sym is))
+link_step Idle s is = absurd (true≢false (sym is))
+link_step End s is = absurd (true≢false (sym is))
+link_step Opened s is = absurd (true≢false (sym is))
+link_step NotOpened s is = absurd (true≢false (sym is))
+link_step NextFailed s is = absurd (true≢false (sym is))
 
-pub link_steps : (steps : List WorldStep) (s : State) → AllByRecursion IsLinkStep steps → OnlyLinks s (after_steps steps s)
+pub link_steps : (steps : List WorldStep) (s : State) → AreLinkSteps steps → OnlyLinks s (after_steps steps s)
 link_steps [] s are = OnlyLinks-refl s
 link_steps (step ∷ steps) s are = OnlyLinks-trans s (after_step step s) (after_steps steps (after_step step s)) (link_step step s are.0) (link_steps steps (after_step step s) are.1)
 
-pub link_steps-tell : (app : ℕ) (steps : List WorldStep) → AllByRecursion IsLinkStep steps → TellsNothing app steps
+pub link_steps-tell : (app : ℕ) (steps : List WorldStep) → AreLinkSteps steps → TellsNothing app steps
 unfolding journal inputs stimuli
 link_steps-tell app [] are = record { acts = refl; given = refl; stims = refl }
 link_steps-tell app (Acted (Sent d bytes) ∷ steps) are = let rest = link_steps-tell app steps are.1 in record { acts = rest.acts; given = rest.given; stims = rest.stims }
 link_steps-tell app (Acted (Got d bytes) ∷ steps) are = let rest = link_steps-tell app steps are.1 in record { acts = rest.acts; given = rest.given; stims = rest.stims }
 link_steps-tell app (SendFailed d ∷ steps) are = let rest = link_steps-tell app steps are.1 in record { acts = rest.acts; given = rest.given; stims = rest.stims }
 link_steps-tell app (RecvFailed d ∷ steps) are = let rest = link_steps-tell app steps are.1 in record { acts = rest.acts; given = rest.given; stims = rest.stims }
-link_steps-tell app (Acted (Stim x) ∷ steps) are = absurd are.0
-link_steps-tell app (Acted (Started of ok) ∷ steps) are = absurd are.0
-link_steps-tell app (Acted (Gave of bytes) ∷ steps) are = absurd are.0
-link_steps-tell app (Acted (Gone of bytes) ∷ steps) are = absurd are.0
-link_steps-tell app (Acted (Took of what) ∷ steps) are = absurd are.0
-link_steps-tell app (Acted (Ended of) ∷ steps) are = absurd are.0
-link_steps-tell app (TookInto of what room ∷ steps) are = absurd are.0
-link_steps-tell app (From d bytes ∷ steps) are = absurd are.0
-link_steps-tell app (Joined d bytes ∷ steps) are = absurd are.0
-link_steps-tell app (Left d ∷ steps) are = absurd are.0
-link_steps-tell app (Moment t ∷ steps) are = absurd are.0
-link_steps-tell app (Idle ∷ steps) are = absurd are.0
-link_steps-tell app (End ∷ steps) are = absurd are.0
-link_steps-tell app (Opened ∷ steps) are = absurd are.0
-link_steps-tell app (NotOpened ∷ steps) are = absurd are.0
-link_steps-tell app (NextFailed ∷ steps) are = absurd are.0
+link_steps-tell app (Acted (Stim x) ∷ steps) are = absurd (true≢false (sym are.0))
+link_steps-tell app (Acted (Started of ok) ∷ steps) are = absurd (true≢false (sym are.0))
+link_steps-tell app (Acted (Gave of bytes) ∷ steps) are = absurd (true≢false (sym are.0))
+link_steps-tell app (Acted (Gone of bytes) ∷ steps) are = absurd (true≢false (sym are.0))
+link_steps-tell app (Acted (Took of what) ∷ steps) are = absurd (true≢false (sym are.0))
+link_steps-tell app (Acted (Ended of) ∷ steps) are = absurd (true≢false (sym are.0))
+link_steps-tell app (TookInto of what room ∷ steps) are = absurd (true≢false (sym are.0))
+link_steps-tell app (From d bytes ∷ steps) are = absurd (true≢false (sym are.0))
+link_steps-tell app (Joined d bytes ∷ steps) are = absurd (true≢false (sym are.0))
+link_steps-tell app (Left d ∷ steps) are = absurd (true≢false (sym are.0))
+link_steps-tell app (Moment t ∷ steps) are = absurd (true≢false (sym are.0))
+link_steps-tell app (Idle ∷ steps) are = absurd (true≢false (sym are.0))
+link_steps-tell app (End ∷ steps) are = absurd (true≢false (sym are.0))
+link_steps-tell app (Opened ∷ steps) are = absurd (true≢false (sym are.0))
+link_steps-tell app (NotOpened ∷ steps) are = absurd (true≢false (sym are.0))
+link_steps-tell app (NextFailed ∷ steps) are = absurd (true≢false (sym are.0))
 
 -- ---- Calls for an application
 

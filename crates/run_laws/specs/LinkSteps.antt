@@ -2,10 +2,8 @@
 use Rattle.std.specs.Prelude.{◌≡◌, ℕ, List, [], filter, None, ◌++◌}
 use Rattle.std.specs.List.{AllByRecursion}
 use Rattle.of_types.specs.declared.journal.Act.{Act}
-use Rattle.of_types.specs.declared.journal.Act.TheVariants.{Sent, Got}
 use Rattle.lego_model.specs.Journal.{is_of, inputs, stimuli}
 use Rattle.outside.specs.declared.step.WorldStep.{WorldStep}
-use Rattle.outside.specs.declared.step.WorldStep.TheVariants.{Acted, SendFailed, RecvFailed}
 use Rattle.outside.specs.Seen.{journal, Seen}
 use Rattle.outside.specs.State.{State, event_number, after_step}
 use Rattle.app_visor.specs.Talks.{step_of}
@@ -19,13 +17,6 @@ pub record OnlyLinks (s t : State) : Type 0 where
   pub to_come : t.to_come ≡ s.to_come
   pub running : t.running ≡ s.running
   pub marks : t.marks ≡ s.marks
-
-abbrev pub IsLinkStep : WorldStep → Type 0
-IsLinkStep (Acted (Sent d bytes)) = Unit {0}
-IsLinkStep (Acted (Got d bytes)) = Unit {0}
-IsLinkStep (SendFailed d) = Unit {0}
-IsLinkStep (RecvFailed d) = Unit {0}
-IsLinkStep other = ⊥
 
 -- they tell nothing of an application, and no stimulus
 pub record TellsNothing (app : ℕ) (steps : List WorldStep) : Type 0 where
@@ -54,12 +45,6 @@ pub record Rests (s t : State) : Type 0 where
   pub begun : t.begun ≡ s.begun
   pub due : t.due ≡ s.due
   pub moment : t.moment ≡ s.moment
-
--- a world that tells went on by calls of links alone
-pub record LinksOnly {Own : Type 0} (old new : Seen Own) : Type 0 where
-  pub steps : List WorldStep
-  pub history : new.history ≡ old.history ++ steps
-  pub are : AllByRecursion IsLinkStep steps
 
 -- the journal tells the same of the application
 pub record TellsSame {Own : Type 0} (old new : Seen Own) : Type 0 where

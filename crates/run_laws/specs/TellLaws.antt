@@ -17,7 +17,7 @@ use Rattle.app_visor.specs.Beats.{Beat, Talk, Asks, Chain, acts_in}
 use Rattle.app_visor.specs.Attempts.{end_acts, restored, IsTry, OneTry, AreTries, given_by}
 use Rattle.lego_model.specs.Application.{index}
 use Rattle.lego_model.specs.History.{given_in, stimuli_in}
-use Rattle.run_laws.specs.ChainLaws.{exchange_links, links_tell, try_own, try_given}
+use Rattle.run_laws.specs.ChainLaws.{links_tell, try_own, try_given}
 use Rattle.run_laws.specs.LinkSteps.{TellsGiven}
 
 abbrev AreOwn : List Act → Type 0
@@ -81,7 +81,7 @@ chain_tells Tells (Talk act ∷ trace) old new net now_net told chain =
     subst (TellsGiven old new) (sym (inputs-append index (act ∷ []) (acts_in trace)))
     (tells_then old next new (inputs index (act ∷ [])) (inputs index (acts_in trace)) (tells_talk old next (act ∷ []) (chain.1.1.0.history told) (chain.0, tt)) (chain_tells Tells trace next new net now_net told chain.1.1.1))
 chain_tells Tells (Asks x ∷ trace) old new net now_net told chain =
-    let same = links_tell x.before x.after (exchange_links Tells x chain.1.0 told) in
+    let same = links_tell x.before x.after (chain.1.0.changes.links told) in
     let one : TellsGiven old x.after [] = subst (λ (s : Seen _). TellsGiven s x.after []) chain.0.0 (record { given = same.given ∙ sym (append-nil (given_in x.before)); stims = same.stims }) in
     tells_then old x.after new [] (inputs index (acts_in trace)) one (chain_tells Tells trace x.after new x.now_net now_net told chain.1.1)
 

@@ -49,7 +49,7 @@ use Rattle.run_laws.specs.ReferenceTurn.{turned_by}
 use Rattle.run_laws.specs.LinkStepLaws.{gave_first}
 use Rattle.run_laws.specs.LinkSteps.{NoEvents, Rests, TellsGiven}
 use Rattle.run_laws.specs.CalmLaws.{Rests-trans, calm_log, calm_since, calm_undone}
-use Rattle.run_laws.specs.ChainLaws.{chain_rests, chain_marks, chain_sound, given_marks, answers_no_events, undo_links, links_state, links_rest, links_tell}
+use Rattle.run_laws.specs.ChainLaws.{chain_rests, chain_marks, chain_sound, given_marks, answers_no_events, links_state, links_rest, links_tell}
 use Rattle.run_laws.specs.TellLaws.{chain_tells}
 use Rattle.run_laws.specs.LineLaws.{word_so}
 use Rattle.run_laws.specs.StartMoveLaws.{starts_alike}
@@ -186,7 +186,7 @@ failed_alike Tells allows event cause unread text later_text old mid undone new 
     let reply = reply_by given trace in
     let outcome = Failed why in
     let start = length e.net.log in
-    let only_steps = undo_links Tells start mid undone mid_net undone_net undoes told in
+    let only_steps = undoes.links told in
     let only = links_state mid undone undoes.continues.given only_steps in
     let tells = links_tell mid undone only_steps in
     let rests = Rests-trans (state old) (state mid) (state undone) at.rests (links_rest mid undone only) in
@@ -251,7 +251,7 @@ closed_moves Tells accepts allows event text old mid new e now_e mid_net (ends.F
     let keeps_mid = Conforming-before told closed.undoes.continues keeps_undone in
     let told_so = turn_tells Tells accepts event old mid e mid_net (ends.Failed cause) unread told t in
     let given_stays : mid.given ≡ old.given = (Chain-continues Tells index (Talk (give_act t.given index (event_frame e.events e.net.moment event)) ∷ t.trace) old mid e.net mid_net t.chain).given in
-    let tells = links_tell mid undone (undo_links Tells (length e.net.log) mid undone mid_net undone_net closed.undoes told) in
+    let tells = links_tell mid undone (closed.undoes.links told) in
     record {
       starts = again.starts;
       reply = reply_by t.given t.trace;
