@@ -25,7 +25,7 @@ use Rattle.outside.specs.declared.step.WorldStep.{WorldStep}
 use Rattle.net_txn.specs.Changes.{known_rows, answer_of_host, Changes}
 use Rattle.net_txn.specs.Arriving.{net_after, Becomes, Arrives}
 use Rattle.net_txn.specs.Joining.{Joins}
-use Rattle.net_txn.specs.Undos.{Part, Inverse, Settled, Stuck, alone, parts_of, fault_in, first_fault_of, first_fault, IsRun, KeepsOne, Keeps, Undoes}
+use Rattle.net_txn.specs.Undos.{Part, Inverse, Settled, Stuck, alone, parts_of, fault_in, first_fault_of, first_fault, IsRun, KeepsOne, Keeps, Undoes, ended_by}
 use Rattle.app_visor.specs.declared.state.TurnEnd.{TurnEnd}
 use Rattle.app_visor.specs.declared.state.TurnEnd.TheVariants as ends
 use Rattle.app_visor.specs.Beats.{Beat, Talk, Asks as AskedNow, Chain}
