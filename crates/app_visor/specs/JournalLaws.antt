@@ -22,7 +22,7 @@ use Rattle.app_visor.specs.Talks.{step_of}
 use Rattle.app_visor.specs.Beats.{Exchange, Beat, Talk, Asks, IsExchange, Chain, acts_in, acts_of, ActsTold}
 use Rattle.app_visor.specs.AnswerLaws.{decided}
 
-acts_append : (app : ℕ) (xs ys : List WorldStep) → acts_of app (xs ++ ys) ≡ acts_of app xs ++ acts_of app ys
+pub acts_append : (app : ℕ) (xs ys : List WorldStep) → acts_of app (xs ++ ys) ≡ acts_of app xs ++ acts_of app ys
 acts_append app xs ys = ap (λ (acts : List Act). filter (is_of app) acts) (journal-append xs ys) ∙ filter-append (is_of app) (journal xs) (journal ys)
 
 told_none : {Own : Type 0} (app : ℕ) (old new : Seen Own) → new ≡ old → ActsTold app [] old new

@@ -14,8 +14,8 @@ use Rattle.outside.specs.declared.step.WorldStep.{WorldStep}
 use Rattle.outside.specs.Seen.{Seen}
 use Rattle.outside.specs.State.{state, is_running}
 use Rattle.outside.specs.Calls.{Ends}
-use Rattle.outside.specs.Quiet.{is_quiet, NoneQuiet, Unquiet}
-use Rattle.journal_laws.specs.Readings.{is_call, Calls}
+use Rattle.outside.specs.Quiescence.{is_quiescent, NoneQuiescent, NoneQuiescentSince}
+use Rattle.journal_laws.specs.Readings.{is_call, Calls, end_acts}
 use Rattle.journal_laws.specs.CallLaws.{both_second, call_of, calls_both, calls_within}
 use Rattle.journal_laws.specs.FrameLaws.{restore_is_none}
 use Rattle.app_visor.specs.declared.came.Came.{Came}
@@ -23,7 +23,7 @@ use Rattle.app_visor.specs.declared.came.Came.TheVariants as comes
 use Rattle.app_visor.specs.Talks.{step_of, Told, Wants, give_act}
 use Rattle.app_visor.specs.Reads.{takes, Taken, CameSo, Comes, Breaks}
 use Rattle.app_visor.specs.ReadLaws.{within_takes}
-use Rattle.app_visor.specs.Attempts.{end_acts, EndsUnless}
+use Rattle.app_visor.specs.Attempts.{EndsUnless}
 use Rattle.app_visor.specs.AttemptLaws.{Adds-takes, Adds-ended}
 use Rattle.app_visor.specs.ReadTryLaws.{calls_end}
 use Rattle.app_visor.specs.TellingLaws.{no_number}
@@ -108,32 +108,32 @@ call_for app (Stim x) is = absurd (true≢false (sym is))
 call_for app (Sent d bytes) is = absurd (true≢false (sym is))
 call_for app (Got d bytes) is = absurd (true≢false (sym is))
 
-quiet_none : (app : ℕ) (act : Act) → is_call app act ≡ true → is_quiet (step_of act) ≡ false
-quiet_none app (Started of stands) is = refl
-quiet_none app (Gave of bytes) is = ap (λ (n : Option ℕ). is_some n) (no_number bytes (both_second (of == app) (is_event bytes) is))
-quiet_none app (Gone of bytes) is = refl
-quiet_none app (Took of what) is = refl
-quiet_none app (Ended of) is = refl
-quiet_none app (Stim x) is = absurd (true≢false (sym is))
-quiet_none app (Sent d bytes) is = refl
-quiet_none app (Got d bytes) is = refl
+no_quiescence : (app : ℕ) (act : Act) → is_call app act ≡ true → is_quiescent (step_of act) ≡ false
+no_quiescence app (Started of stands) is = refl
+no_quiescence app (Gave of bytes) is = ap (λ (n : Option ℕ). is_some n) (no_number bytes (both_second (of == app) (is_event bytes) is))
+no_quiescence app (Gone of bytes) is = refl
+no_quiescence app (Took of what) is = refl
+no_quiescence app (Ended of) is = refl
+no_quiescence app (Stim x) is = absurd (true≢false (sym is))
+no_quiescence app (Sent d bytes) is = refl
+no_quiescence app (Got d bytes) is = refl
 
 all_for : (app : ℕ) (acts : List Act) → Calls app acts → AllByRecursion (IsCallFor app) (map step_of acts)
 all_for app [] all = tt
 all_for app (act ∷ acts) all = (call_for app act (call_of app act all.0), all_for app acts all.1)
 
-none_quiet : (app : ℕ) (acts : List Act) → Calls app acts → NoneQuiet (map step_of acts)
-none_quiet app [] all = tt
-none_quiet app (act ∷ acts) all = (quiet_none app act all.0, none_quiet app acts all.1)
+none_quiescent : (app : ℕ) (acts : List Act) → Calls app acts → NoneQuiescent (map step_of acts)
+none_quiescent app [] all = tt
+none_quiescent app (act ∷ acts) all = (no_quiescence app act all.0, none_quiescent app acts all.1)
 
 pub own_calls : {Own : Type 0} {app : ℕ} {old new : Seen Own} → OwnSteps app old new → CallsFor app old new
 own_calls {app = app} own = record { steps = map step_of own.acts; history = own.history; all = all_for app own.acts own.all }
 
-pub own_unquiet : {Own : Type 0} {app : ℕ} {old new : Seen Own} → OwnSteps app old new → Unquiet old new
-own_unquiet {app = app} own = record { steps = map step_of own.acts; history = own.history; none = none_quiet app own.acts own.all }
+pub own_none_quiescent : {Own : Type 0} {app : ℕ} {old new : Seen Own} → OwnSteps app old new → NoneQuiescentSince old new
+own_none_quiescent {app = app} own = record { steps = map step_of own.acts; history = own.history; none = none_quiescent app own.acts own.all }
 
 pub own_calm : {Own : Type 0} {app : ℕ} {old new : Seen Own} → OwnSteps app old new → Calmly app old new
-own_calm own = record { unquiet = own_unquiet own; own = own_calls own }
+own_calm own = record { none_quiescent = own_none_quiescent own; own = own_calls own }
 
 -- an event that is given, or cannot be, is a call for it too
 pub event_for : (app : ℕ) (given : Bool) (frame : List ℕ) → IsCallFor app (step_of (give_act given app frame))

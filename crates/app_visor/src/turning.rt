@@ -38,7 +38,7 @@ fn finish<J: Judge>(txn: &Txn<'_>, judge: &J, stop: bool) -> TurnEnd
 }
 
 /// Why a turn fails where no frame comes, or one too many.
-fn judge_came(came: Came) -> Cause
+fn cause_of(came: Came) -> Cause
     ensures { result ≡ cause_of came }
 {
     match came {
@@ -119,7 +119,7 @@ fn play_next<W: World, J: Judge>(
 {
     match next_frame(alloc, world, app, intake)? {
         Came::Frame(frame) => play(alloc, world, txn, judge, app, frame),
-        came => Ok(Some(TurnEnd::Failed(judge_came(came)))),
+        came => Ok(Some(TurnEnd::Failed(cause_of(came)))),
     }
 }
 
@@ -145,7 +145,7 @@ fn play_all<W: World, J: Judge>(
             return Ok(end);
         }
     }
-    Ok(TurnEnd::Failed(judge_came(next_frame(alloc, world, app, intake)?)))
+    Ok(TurnEnd::Failed(cause_of(next_frame(alloc, world, app, intake)?)))
 }
 
 /// What stays unread: nothing where the turn failed.
@@ -185,17 +185,19 @@ pub fn turn<W: World, J: Judge>(
     ensures err { IfErr result (λ fault. Stops W.Tells app.old.index (W.seen world.old) (W.seen world.new) txn.old.net.now txn.new.net.now fault) }
     // Then too the turn goes on with the dialogue, where the application runs.
     ensures talks { OnErr result (W.Tells → (s : Before) → s.running ≡ true → Passes s.unread app.old.rest → Talks app.old.index s (W.seen world.old) (W.seen world.new)) }
-    // However it ended, no other application was called, and no place behind the one where it began was quiet.
+    // However it ended, no other application was called, and no point behind the one where it began was quiescent.
     ensures later { W.Tells → CalmLater app.old.index (W.seen world.old) (W.seen world.new) }
     ensures continues { Continues W.Tells (W.seen world.old) (W.seen world.new) }
 {
     let rest = replace(&mut app.rest, ByteList::new(alloc));
     let frame = encode_event(alloc, number, txn.moment(), event)?;
-    let mut intake = Intake::new(alloc, rest.as_slice())?;
+    let mut intake = app.buffer.take(alloc, rest.as_slice())?;
     if !give(world, app.index, frame.as_slice())? {
+        app.buffer.keep(intake);
         return Ok(TurnEnd::Failed(Cause::Closed));
     }
     let end = play_all(alloc, world, txn, judge, app.index, &mut intake, budget)?;
     app.rest = rest_after(alloc, &end, &intake)?;
+    app.buffer.keep(intake);
     Ok(end)
 }

@@ -17,7 +17,7 @@ use Rattle.lego_model.specs.Controller.{ports_of, at_place, stimulated, events_a
 use Rattle.outside.specs.declared.step.WorldStep.{WorldStep}
 use Rattle.outside.specs.declared.step.WorldStep.TheVariants.{From, Moment}
 use Rattle.outside.specs.Seen.{is_declared}
-use Rattle.outside.specs.State.{Link, State, link_of, switch_in, switch_of, link_stimulated, stimulus_sends, after_stim, upcoming}
+use Rattle.outside.specs.State.{Link, State, link_of, switch_in, switch_of, link_stimulated, stimulus_sends, after_stim, upcoming, declared_in}
 use Rattle.outside.specs.LinkLaws.{link_of-same, link_of-other}
 use Rattle.outside.specs.Conforming.{AreDeclaredFrom, IsStimulus}
 use Rattle.net_txn.specs.Views.{rows_at}
@@ -28,7 +28,6 @@ use Rattle.batch_laws.specs.Calm.{known_ports}
 use Rattle.batch_laws.specs.Tells.{FitsItem}
 use Rattle.batch_laws.specs.LinkTellLaws.{switch-step, links-step}
 use Rattle.batch_laws.specs.LinkTells.{KnownIn, StandsIn, HappensIn, table_rows, KnownThen, SwitchStep, items_of, seen_events, LinkReady, LinkThen, LinksStep}
-use Rattle.switch_laws.specs.Standing.{declared_in}
 use Rattle.batch_laws.specs.ReferenceLaws.{all-of, all-each, place-map, flat-one, events-links, links-found, all-at, link_of-map, waiting-all, waiting-one}
 use Rattle.batch_laws.specs.Waiting.{place_at, NoneWait}
 use Rattle.batch_laws.specs.After.{Facts, SoundIn, After}

@@ -9,7 +9,7 @@ use Rattle.net_txn.specs.declared.ports.KnownPorts.{KnownPorts}
 use Rattle.net_txn.specs.Net.{NetState}
 use Rattle.switch_laws.specs.Since.{Ready}
 use Rattle.switch_laws.specs.Sound.{Sound}
-use Rattle.net_txn.specs.OrderLaws.{ViewsFrom}
+use Rattle.net_txn.specs.Views.{ViewsAscend}
 
 -- the known ports of a switch, where it has any entry
 abbrev pub known_ports : ℕ → List KnownPorts → Option (List PortDesc)
@@ -19,7 +19,7 @@ known_ports d (k ∷ ks) = if k.dpid == d then Some k.ports else known_ports d k
 pub record Calm {Own : Type 0} (seen : Seen Own) (net : NetState) : Type 0 where
   pub ready : Ready seen net
   pub sound : Sound (state seen)
-  pub order : ViewsFrom 0 net.views
+  pub order : ViewsAscend 0 net.views
   pub ports : (d : ℕ) → known_ports d net.ports ≡ option_map ports_of (switch_of d (state seen))
   pub kept : net.kept ≡ []
   pub moment : net.moment ≡ (state seen).moment

@@ -25,22 +25,20 @@ use Rattle.lego_model.specs.Controller.{or_joined, join_event, joined, at_place,
 use Rattle.outside.specs.declared.step.WorldStep.{WorldStep}
 use Rattle.outside.specs.declared.step.WorldStep.TheVariants.{Joined}
 use Rattle.outside.specs.Seen.{is_declared}
-use Rattle.outside.specs.State.{Link, State, link_of, switch_in, switch_of, with_link, switch_joined, link_joined, join_due, after_stim, upcoming}
+use Rattle.outside.specs.State.{Link, State, link_of, switch_in, switch_of, with_link, switch_joined, link_joined, join_due, after_stim, upcoming, declared_in}
 use Rattle.outside.specs.LinkLaws.{link_of-same, link_of-other}
 use Rattle.outside.specs.Conforming.{MayDeclare}
 use Rattle.net_txn.specs.declared.ports.KnownPorts.{KnownPorts}
-use Rattle.net_txn.specs.Views.{rows_at}
+use Rattle.net_txn.specs.Views.{rows_at, ViewsAscend}
 use Rattle.net_txn.specs.Joining.{with_view}
 use Rattle.net_txn.specs.JoiningLaws.{rows_at-with_view, rows_at-with_view-other}
 use Rattle.switch_laws.specs.Shown.{flags_at, shown_switch, places, shown_places}
 use Rattle.batch_laws.specs.Knowledge.{Knowledge, handled, handled_all, joined_by}
 use Rattle.batch_laws.specs.Calm.{known_ports}
-use Rattle.net_txn.specs.OrderLaws.{ViewsFrom}
 use Rattle.batch_laws.specs.HistoryLaws.{joined-lasts}
 use Rattle.batch_laws.specs.Lasting.{AscendPorts, Lasts, LinkLasts}
 use Rattle.batch_laws.specs.PortTellLaws.{desc-fits}
 use Rattle.batch_laws.specs.LinkTells.{KnownIn}
-use Rattle.switch_laws.specs.Standing.{declared_in}
 use Rattle.batch_laws.specs.ReferenceLaws.{all-each, place-map, flat-one, flat-alike, declared-found, has-link, all-at, none-waiting, waiting-silent}
 use Rattle.batch_laws.specs.Waiting.{place_at, events_of_one}
 use Rattle.batch_laws.specs.AfterLaws.{sound-stands}
@@ -141,7 +139,7 @@ join-places d s k after l facts found only here =
 
 -- ---- What the engine knows then
 
-view-order : (d least : ℕ) (views : List TableView) → least ≤ d → rows_at d views ≡ None → ViewsFrom least views → ViewsFrom least (with_view d views)
+view-order : (d least : ℕ) (views : List TableView) → least ≤ d → rows_at d views ≡ None → ViewsAscend least views → ViewsAscend least (with_view d views)
 view-order d least [] low none h = (low, tt)
 view-order d least (v ∷ vs) low none h =
     elim (cases_Bool (v.dpid == d)) [

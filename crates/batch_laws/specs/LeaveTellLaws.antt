@@ -19,17 +19,15 @@ use Rattle.lego_model.specs.Controller.{ports_of, leave_event, left_of, out, at_
 use Rattle.outside.specs.declared.step.WorldStep.{WorldStep}
 use Rattle.outside.specs.declared.step.WorldStep.TheVariants.{Left}
 use Rattle.outside.specs.Seen.{is_declared}
-use Rattle.outside.specs.State.{Link, State, link_of, switch_in, switch_of, with_link, link_left, after_stim, upcoming}
+use Rattle.outside.specs.State.{Link, State, link_of, switch_in, switch_of, with_link, link_left, after_stim, upcoming, declared_in}
 use Rattle.outside.specs.LinkLaws.{link_of-same, link_of-other}
 use Rattle.net_txn.specs.declared.ports.KnownPorts.{KnownPorts}
-use Rattle.net_txn.specs.Views.{rows_at}
+use Rattle.net_txn.specs.Views.{rows_at, ViewsAscend}
 use Rattle.net_txn.specs.Leaving.{ports_at, port_text, ports_text}
 use Rattle.switch_laws.specs.Shown.{flags_in, rows_or_none, flags_at, shown_switch, shown_places}
 use Rattle.batch_laws.specs.Knowledge.{Knowledge, is_known, handled, handled_all, left_by}
 use Rattle.batch_laws.specs.Calm.{known_ports}
-use Rattle.net_txn.specs.OrderLaws.{ViewsFrom}
 use Rattle.batch_laws.specs.LinkTells.{KnownIn, table_rows, StandsWell, StandsIn}
-use Rattle.switch_laws.specs.Standing.{declared_in}
 use Rattle.batch_laws.specs.ReferenceLaws.{all-of, place-map, flat-one, none-waiting, waiting-silent}
 use Rattle.batch_laws.specs.Waiting.{place_at}
 use Rattle.batch_laws.specs.AfterLaws.{sound-stands}
@@ -118,11 +116,11 @@ filtered-other d e (v ∷ vs) other =
       | inr there ↦ rw there (ap (λ (o : Option (List ViewRow)). if v.dpid == e then Some v.rows else o) (filtered-other d e vs other))
     ]
 
-views-less : (least most : ℕ) → least ≤ most → (views : List TableView) → ViewsFrom most views → ViewsFrom least views
+views-less : (least most : ℕ) → least ≤ most → (views : List TableView) → ViewsAscend most views → ViewsAscend least views
 views-less least most le [] h = tt
 views-less least most le (v ∷ vs) h = (omega (arith, le, h.0), h.1)
 
-filtered-order : (d least : ℕ) (views : List TableView) → ViewsFrom least views → ViewsFrom least (filter (λ v. not (v.dpid == d)) views)
+filtered-order : (d least : ℕ) (views : List TableView) → ViewsAscend least views → ViewsAscend least (filter (λ v. not (v.dpid == d)) views)
 filtered-order d least [] h = tt
 filtered-order d least (v ∷ vs) h =
     elim (cases_Bool (v.dpid == d)) [

@@ -17,7 +17,7 @@ use Rattle.lego_model.specs.Answers.{rows_of_view}
 use Rattle.lego_model.specs.Controller.{events_of, sent_events}
 use Rattle.outside.specs.declared.step.WorldStep.{WorldStep}
 use Rattle.outside.specs.declared.step.WorldStep.TheVariants.{From}
-use Rattle.outside.specs.State.{Link, link_of, stimulus_sends}
+use Rattle.outside.specs.State.{Link, link_of, stimulus_sends, declared_in}
 use Rattle.outside.specs.Conforming.{AreDeclaredFrom}
 use Rattle.net_txn.specs.Views.{rows_at}
 use Rattle.switch_laws.specs.Shown.{flags_in, rows_or_none}
@@ -28,7 +28,6 @@ use Rattle.batch_laws.specs.FrameTellLaws.{frame-switch, counts-switch, raw-swit
 use Rattle.batch_laws.specs.PortTellLaws.{port-switch}
 use Rattle.batch_laws.specs.NoticeTellLaws.{advance-switch}
 use Rattle.batch_laws.specs.LinkTells.{Happens, StandsWell, table_rows, KnownIn, StandsIn, HappensIn, KnownThen, SwitchStep, items_of, seen_events, LinkReady, LinkThen, LinksStep}
-use Rattle.switch_laws.specs.Standing.{declared_in}
 
 -- ---- A switch that is joined
 

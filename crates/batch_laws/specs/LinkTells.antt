@@ -19,12 +19,11 @@ use Rattle.outside.specs.declared.step.WorldStep.{WorldStep}
 use Rattle.outside.specs.declared.step.WorldStep.TheVariants.{From}
 use Rattle.outside.specs.State.{Link, link_of, stimulus_sends}
 use Rattle.outside.specs.Conforming.{may_be_raw}
-use Rattle.net_txn.specs.Views.{rows_at}
+use Rattle.net_txn.specs.Views.{rows_at, ViewsAscend}
 use Rattle.switch_laws.specs.Shown.{flags_in, rows_or_none, flags_at}
 use Rattle.switch_laws.specs.Sound.{AllSound}
 use Rattle.batch_laws.specs.Knowledge.{Knowledge}
 use Rattle.batch_laws.specs.Calm.{known_ports}
-use Rattle.net_txn.specs.OrderLaws.{ViewsFrom}
 use Rattle.batch_laws.specs.Lasting.{Lasts}
 use Rattle.batch_laws.specs.Tells.{FitsRead}
 
@@ -69,7 +68,7 @@ pub record SwitchStep (d : ℕ) (x : Stimulus) (o : Option SwitchState) (k now :
   pub here : KnownThen x o (rows_at d k.views) (rows_at d now.views) (known_ports d now.ports)
   pub others : (e : ℕ) → e ≢ d → rows_at e now.views ≡ rows_at e k.views
   pub others_ports : (e : ℕ) → e ≢ d → known_ports e now.ports ≡ known_ports e k.ports
-  pub order : (least : ℕ) → ViewsFrom least k.views → ViewsFrom least now.views
+  pub order : (least : ℕ) → ViewsAscend least k.views → ViewsAscend least now.views
   pub queue : now.queue ≡ k.queue ++ sent_events x d (option_map (owned_switch (flags_at d k.views)) o)
   pub moment : now.moment ≡ k.moment
 
@@ -91,6 +90,6 @@ pub record LinksStep (x : Stimulus) (ls : List Link) (k now : Knowledge) : Type 
   pub each : AllByRecursion (LinkThen x k now) ls
   pub others : (e : ℕ) → link_of e ls ≡ None → rows_at e now.views ≡ rows_at e k.views
   pub others_ports : (e : ℕ) → link_of e ls ≡ None → known_ports e now.ports ≡ known_ports e k.ports
-  pub order : (least : ℕ) → ViewsFrom least k.views → ViewsFrom least now.views
+  pub order : (least : ℕ) → ViewsAscend least k.views → ViewsAscend least now.views
   pub queue : now.queue ≡ k.queue ++ flat_map (seen_events x k.views) ls
   pub moment : now.moment ≡ k.moment

@@ -31,7 +31,7 @@ use Rattle.app_frames.specs.declared.frame.Event.{Event}
 use Rattle.lego_model.specs.Answers.{rows_of_table, rows_of_view}
 use Rattle.lego_model.specs.Controller.{event_of_read, events_of}
 use Rattle.outside.specs.declared.step.WorldStep.TheVariants.{From}
-use Rattle.net_txn.specs.Views.{rows_at, with_rows}
+use Rattle.net_txn.specs.Views.{rows_at, with_rows, ViewsAscend}
 use Rattle.net_txn.specs.ViewLaws.{rows_at-same, rows_at-other}
 use Rattle.net_txn.specs.Arriving.{is_asked, without_key}
 use Rattle.switch_laws.specs.Shown.{flags_in}
@@ -39,7 +39,6 @@ use Rattle.switch_laws.specs.Sound.{SoundEntry, AllSound}
 use Rattle.switch_laws.specs.SoundLaws.{notice-message}
 use Rattle.batch_laws.specs.Knowledge.{Knowledge, told_read, handled, handled_all}
 use Rattle.batch_laws.specs.Calm.{known_ports}
-use Rattle.net_txn.specs.OrderLaws.{ViewsFrom}
 use Rattle.batch_laws.specs.KeyLaws.{all-both, all-filter, all-map, all-by_deadline, filter-alike, has-by_deadline, distinct-by_deadline, distinct-filter, has-filter, without_all-filter, view-filter, table-filter, flags-kept, rows-ascend, asked-flags, asked-without}
 use Rattle.switch_laws.specs.AbsentLaws.{neither}
 use Rattle.batch_laws.specs.Keys.{has_place, Distinct, entry_keys, notice_keys, without_all, AscendRows}
@@ -48,7 +47,7 @@ use Rattle.batch_laws.specs.Tells.{ViewChanged, SwitchHandled, SwitchKnown}
 
 -- ---- Views
 
-pub views-with_rows : (d : ℕ) (change : List ViewRow → List ViewRow) (least : ℕ) (views : List TableView) → ViewsFrom least views → ViewsFrom least (with_rows d change views)
+pub views-with_rows : (d : ℕ) (change : List ViewRow → List ViewRow) (least : ℕ) (views : List TableView) → ViewsAscend least views → ViewsAscend least (with_rows d change views)
 views-with_rows d change least [] h = tt
 views-with_rows d change least (v ∷ vs) h =
     elim (cases_Bool (v.dpid == d)) [

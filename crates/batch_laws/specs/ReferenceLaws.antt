@@ -14,11 +14,10 @@ use Rattle.lego_model.specs.Controller.{events_at, sent_events}
 use Rattle.outside.specs.declared.step.WorldStep.{WorldStep}
 use Rattle.outside.specs.declared.step.WorldStep.TheVariants.{From}
 use Rattle.outside.specs.Seen.{is_declared}
-use Rattle.outside.specs.State.{Link, link_of, switch_in, with_link, link_stimulated, stimulus_sends}
+use Rattle.outside.specs.State.{Link, link_of, switch_in, with_link, link_stimulated, stimulus_sends, declared_in}
 use Rattle.outside.specs.Conforming.{AreDeclaredFrom}
 use Rattle.switch_laws.specs.Shown.{flags_at, places}
 use Rattle.batch_laws.specs.LinkTells.{items_of, seen_events}
-use Rattle.switch_laws.specs.Standing.{declared_in}
 use Rattle.batch_laws.specs.Waiting.{place_at, events_of_one, HasLink, waiting, NoneWait}
 
 -- ---- Lists

@@ -17,7 +17,7 @@ use Rattle.app_frames.specs.declared.frame.Event.{Event}
 use Rattle.lego_model.specs.Controller.{places_after, events_after}
 use Rattle.outside.specs.declared.step.WorldStep.TheVariants.{From}
 use Rattle.outside.specs.Seen.{Seen}
-use Rattle.outside.specs.State.{Link, State, link_of, waits_in, waits_of, switch_of, after_stim, upcoming, state}
+use Rattle.outside.specs.State.{Link, State, link_of, waits_in, waits_of, switch_of, after_stim, upcoming, state, declared_in}
 use Rattle.outside.specs.Conforming.{AreDeclaredFrom, IsWorldStim, Conforming}
 use Rattle.net_txn.specs.Net.{NetState}
 use Rattle.switch_laws.specs.Shown.{shown_places}
@@ -28,7 +28,6 @@ use Rattle.batch_laws.specs.Calm.{Calm}
 use Rattle.batch_laws.specs.HistoryLaws.{links-last, links-declared, switch-lasts}
 use Rattle.batch_laws.specs.Tells.{FitsMessage, FitsRead, FitsItem, StimulusHandled}
 use Rattle.batch_laws.specs.LinkTells.{StandsIn}
-use Rattle.switch_laws.specs.Standing.{declared_in}
 use Rattle.batch_laws.specs.ReferenceLaws.{all-each, links-found}
 use Rattle.batch_laws.specs.Waiting.{NoneWait}
 use Rattle.batch_laws.specs.AfterLaws.{after-moment, after-happened}

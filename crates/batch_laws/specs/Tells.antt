@@ -16,11 +16,10 @@ use Rattle.lego_model.specs.Answers.{rows_of_table, rows_of_view}
 use Rattle.lego_model.specs.Controller.{ports_of, events_of, places_after, events_after}
 use Rattle.outside.specs.declared.step.WorldStep.{WorldStep}
 use Rattle.outside.specs.declared.step.WorldStep.TheVariants.{From}
-use Rattle.net_txn.specs.Views.{rows_at}
+use Rattle.net_txn.specs.Views.{rows_at, ViewsAscend}
 use Rattle.switch_laws.specs.Shown.{flags_in, shown_places}
 use Rattle.batch_laws.specs.Knowledge.{Knowledge}
 use Rattle.batch_laws.specs.Calm.{known_ports}
-use Rattle.net_txn.specs.OrderLaws.{ViewsFrom}
 use Rattle.outside.specs.State.{State, switch_of, after_stim, state}
 use Rattle.std.specs.Option.{option_map}
 use Rattle.of_types.specs.declared.journal.WorldStim.{WorldStim}
@@ -63,7 +62,7 @@ AllPlain list = AllByRecursion PlainBytes list
 pub record ViewChanged (d : ℕ) (rows : List ViewRow) (before now : List TableView) : Type 0 where
   pub here : rows_at d now ≡ Some rows
   pub others : (e : ℕ) → e ≢ d → rows_at e now ≡ rows_at e before
-  pub order : (least : ℕ) → ViewsFrom least before → ViewsFrom least now
+  pub order : (least : ℕ) → ViewsAscend least before → ViewsAscend least now
 
 -- The events are those that its owners see; its view, its flags and its known ports are those of the switch after the stimulus.
 pub record SwitchHandled (d : ℕ) (x : Stimulus) (s : SwitchState) (rows : List ViewRow) (k now : Knowledge) : Type 0 where
@@ -99,6 +98,6 @@ pub record StimulusHandled {Own : Type 0} (x : WorldStim) (seen : Seen Own) (net
   pub places : shown_places seen.given.declared k.views (after_stim x (state seen)) ≡ places_after x (state seen).moment (shown_places seen.given.declared net.views (state seen))
   pub agrees : (d : ℕ) → Agrees d k.views (after_stim x (state seen))
   pub ports : (d : ℕ) → known_ports d k.ports ≡ option_map ports_of (switch_of d (after_stim x (state seen)))
-  pub order : ViewsFrom 0 k.views
+  pub order : ViewsAscend 0 k.views
   pub moment : k.moment ≡ (after_stim x (state seen)).moment
   pub sound : Sound (after_stim x (state seen))

@@ -27,7 +27,7 @@ use Rattle.outside.specs.Conforming.{AreDeclaredFrom, MayStep}
 use Rattle.outside.specs.InOrder.{MayCome, MayComeAll, InOrder}
 use Rattle.outside.specs.InOrderLaws.{InOrder-rest, InOrder-before}
 use Rattle.net_txn.specs.Net.{NetState}
-use Rattle.net_txn.specs.Undos.{is_viewed}
+use Rattle.net_txn.specs.Views.{is_viewed}
 use Rattle.net_txn.specs.Abreast.{Abreast}
 use Rattle.switch_laws.specs.StandLaws.{state-links}
 use Rattle.batch_laws.specs.Items.{waiting, Ascend}

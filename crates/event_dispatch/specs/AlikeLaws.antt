@@ -13,8 +13,8 @@ use Rattle.outside.specs.StateLaws.{Conforming-before}
 use Rattle.outside.specs.Conforming.{Conforming}
 use Rattle.outside.specs.InOrder.{InOrder}
 use Rattle.outside.specs.InOrderLaws.{InOrder-before, messages-of}
-use Rattle.outside.specs.Quiet.{IsLastQuiet}
-use Rattle.outside.specs.QuietLaws.{last_quiet-of, last_quiet-then}
+use Rattle.outside.specs.Quiescence.{IsLastQuiescent}
+use Rattle.outside.specs.QuiescenceLaws.{last_quiescent-of, last_quiescent-then}
 use Rattle.app_visor.specs.CallsFor.{CallsFor}
 use Rattle.app_visor.specs.CalmLaws.{calls_then}
 use Rattle.run_laws.specs.Engine.{Engine}
@@ -133,7 +133,7 @@ record Supposed {Own : Type 0} (Tells : Type 0) (accepts : List TableView → Bo
 record IsStop {Own : Type 0} (Tells : Type 0) (last stop : Seen Own) : Type 0 where
   on : Continues Tells last stop
   keeps : InOrder last → Conforming last
-  quiet : Conforming last → InOrder stop → IsLastQuiet last stop
+  quiet : Conforming last → InOrder stop → IsLastQuiescent last stop
   own : CallsFor index last stop
 
 -- up to such a point
@@ -147,7 +147,7 @@ cut_at {Tells = Tells} a b first stop seen p last is said so =
       alike = so;
       at_once = λ keeps. p.talks.talks p.told (said keeps);
       messages = λ order. messages-of last (is.keeps (InOrder-before p.told later order));
-      last_point = λ order. last_quiet-then (is.quiet (is.keeps (InOrder-before p.told later order)) (InOrder-before p.told p.later order)) (p.no_point.unquiet p.told);
+      last_point = λ order. last_quiescent-then (is.quiet (is.keeps (InOrder-before p.told later order)) (InOrder-before p.told p.later order)) (p.no_point.none_quiescent p.told);
       no_other_called = calls_then is.own (p.no_point.own p.told);
     }
 
@@ -160,7 +160,7 @@ writing_at a b first stop seen p keeps so = record {
   alike = so;
   at_once = λ keeps. p.talks.talks p.told (so keeps).up_to.at_once;
   messages = λ order. messages-of stop (keeps (InOrder-before p.told p.later order));
-  last_point = λ order. last_quiet-of (p.no_point.unquiet p.told);
+  last_point = λ order. last_quiescent-of (p.no_point.none_quiescent p.told);
   no_other_called = p.no_point.own p.told;
 }
 
@@ -168,7 +168,7 @@ writing_at a b first stop seen p keeps so = record {
 
 start_alike : {Own : Type 0} {Tells : Type 0} {accepts : List TableView → Bool} {allows : List Place → Bool} {a b : Option (List ℕ)} {first stop seen : Seen Own} (p : Supposed Tells accepts allows first stop seen) → b ≡ a → KeepsTalking Tells first stop → NoPoint Tells first stop → CutAlike allows seen a b
 start_alike {allows = allows} {a = a} {b = b} {first = first} {stop = stop} {seen = seen} p same talks no_point =
-    let is : IsStop _ first stop = record { on = p.before; keeps = keeps_first first p.opened; quiet = λ keeps order. last_quiet-of (no_point.unquiet p.told); own = no_point.own p.told } in
+    let is : IsStop _ first stop = record { on = p.before; keeps = keeps_first first p.opened; quiet = λ keeps order. last_quiescent-of (no_point.none_quiescent p.told); own = no_point.own p.told } in
     cut_at a b first stop seen p first is (λ keeps. talks.talks p.told (settled-first first p.opened).speaks.at_once) (λ keeps.
     cut-so allows false 0 [] a b first first engine_at_first p.opened (gone-none allows first engine_at_first (settled-first first p.opened)) (omega arith) keeps (same ∙ sym (append_known-nil a)))
 
@@ -292,7 +292,7 @@ last_stop : {Own : Type 0} {Tells : Type 0} {accepts : List TableView → Bool} 
 last_stop {first = first} {stop = stop} {seen = seen} p n no_point = record {
   on = n.later;
   keeps = keeps_to first n.last p.told p.opened (last_on p n) (last_read p n);
-  quiet = λ keeps order. last_quiet-of (no_point.unquiet p.told);
+  quiet = λ keeps order. last_quiescent-of (no_point.none_quiescent p.told);
   own = no_point.own p.told;
 }
 

@@ -12,7 +12,7 @@ use Rattle.lego_model.specs.declared.fault.TxnFault.{TxnFault}
 use Rattle.net_txn.specs.Net.{NetState}
 use Rattle.net_txn.specs.Views.{rows_at}
 use Rattle.net_txn.specs.LinkSteps.{OnLinks}
-use Rattle.net_txn.specs.LinkPlaceLaws.{in_place_then}
+use Rattle.net_txn.specs.LinkStrayLaws.{no_strays_then}
 use Rattle.net_txn.specs.Asks.{Asks}
 use Rattle.net_txn.specs.Undos.{AreJoined, Undoes}
 use Rattle.net_txn.specs.Abreast.{Abreast}
@@ -24,9 +24,9 @@ use Rattle.app_visor.specs.Beats.{Talk, Stops}
 use Rattle.app_visor.specs.BeatLaws.{Chain-continues, Stops-continues}
 use Rattle.app_visor.specs.Turns.{Turns}
 use Rattle.app_visor.specs.CallsFor.{CallsFor, OwnSteps, CalmLater}
-use Rattle.app_visor.specs.OwnLaws.{own_calls, own_unquiet}
+use Rattle.app_visor.specs.OwnLaws.{own_calls, own_none_quiescent}
 use Rattle.app_visor.specs.CalmLaws.{calm_links, later_then}
-use Rattle.app_visor.specs.PlaceLaws.{own_places, own_messages, own_abreast, abreast_joined, turn_abreast, turn_places, turn_messages, stops_abreast, stops_places}
+use Rattle.app_visor.specs.CallOrderLaws.{own_places, own_messages, own_abreast, abreast_joined, turn_abreast, turn_places, turn_messages, stops_abreast, stops_places}
 use Rattle.lego_model.specs.Application.{index}
 use Rattle.event_dispatch.specs.Serves.{PlaysTurn}
 use Rattle.event_dispatch.specs.Steady.{NoStray, Reads, NoPoint, AtMostThisPoint}
@@ -46,10 +46,10 @@ reads_over {old = old} {new = new} net mid_net at_net now_net before after all =
 -- ---- Links were used
 
 pub links_quietly : {Own : Type 0} {Tells : Type 0} {old new : Seen Own} → OnLinks Tells old new → NoPoint Tells old new
-links_quietly links = record { unquiet = λ told. (calm_links index (links told)).unquiet; own = λ told. (calm_links index (links told)).own }
+links_quietly links = record { none_quiescent = λ told. (calm_links index (links told)).none_quiescent; own = λ told. (calm_links index (links told)).own }
 
 pub asked_places : {Own : Type 0} {Tells : Type 0} {d xid : ℕ} {old new : Seen Own} {kept now_kept : List (ℕ × List ℕ)} {result : Result (List FlowRow) TxnFault} (net : NetState) → IsSome (rows_at d net.views) → Asks Tells d xid old new kept now_kept result → NoStray Tells old new net
-asked_places {d = d} net there asks = record { places = λ told order abreast. asks.in_place told order (abreast_joined d abreast there) }
+asked_places {d = d} net there asks = record { places = λ told order abreast. asks.no_strays told order (abreast_joined d abreast there) }
 
 pub asked_reads : {Own : Type 0} {Tells : Type 0} {d xid : ℕ} {old new : Seen Own} {kept now_kept : List (ℕ × List ℕ)} {rows : List FlowRow} (net now_net : NetState) → now_net.views ≡ net.views → Asks Tells d xid old new kept now_kept (Ok rows) → Reads Tells old new net now_net
 asked_reads net now_net views asks = record {
@@ -61,7 +61,7 @@ asked_reads net now_net views asks = record {
 
 pub started_quietly : {Own : Type 0} {Tells : Type 0} {old new : Seen Own} (app : ℕ) → app ≡ index → (Tells → OwnSteps app old new) → NoPoint Tells old new
 started_quietly {old = old} {new = new} app is own = record {
-  unquiet = λ told. own_unquiet (own told);
+  none_quiescent = λ told. own_none_quiescent (own told);
   own = λ told. subst (λ (i : ℕ). CallsFor i old new) is (own_calls (own told));
 }
 
@@ -86,7 +86,7 @@ pub later_of : {Own : Type 0} {Tells : Type 0} {old new : Seen Own} (app : ℕ) 
 later_of {old = old} {new = new} app is later told = subst (λ (i : ℕ). CalmLater i old new) is (later told)
 
 pub later_quietly : {Own : Type 0} {Tells : Type 0} {old mid new : Seen Own} (app : ℕ) → app ≡ index → (Tells → CalmLater app old mid) → NoPoint Tells mid new → Tells → CalmLater index old new
-later_quietly app is later no_point told = later_then (later_of app is later told) (record { unquiet = no_point.unquiet told; own = no_point.own told })
+later_quietly app is later no_point told = later_then (later_of app is later told) (record { none_quiescent = no_point.none_quiescent told; own = no_point.own told })
 
 pub later_here : {Own : Type 0} {Tells : Type 0} {old new : Seen Own} → (Tells → CalmLater index old new) → AtMostThisPoint Tells old new
 later_here later = record { last = λ told order rest. (later told).last; own = λ told. (later told).own }
@@ -110,8 +110,8 @@ pub turn_undone : {Own : Type 0} {Tells : Type 0} {accepts : List TableView → 
     → Turns Tells accepts app budget rest frame old mid at_net mid_net end unread → Undoes Tells start mid new mid_net now_net result → NoStray Tells old new net
 turn_undone {Tells = Tells} {old = old} {mid = mid} {new = new} net begun t undone = subst (λ (n : NetState). NoStray Tells old new n) begun (record {
   places = λ told order abreast.
-      in_place_then old mid new told (turn_continues t) undone.continues (turn_places t told (InOrder-before told undone.continues order) abreast)
-      (undone.in_place told order (abreast_all (turn_abreast t told abreast)));
+      no_strays_then old mid new told (turn_continues t) undone.continues (turn_places t told (InOrder-before told undone.continues order) abreast)
+      (undone.no_strays told order (abreast_all (turn_abreast t told abreast)));
 })
 
 -- it stopped, and an undo followed
@@ -119,8 +119,8 @@ pub stop_undone : {Own : Type 0} {Tells : Type 0} {app start : ℕ} {old mid new
     → Stops Tells app old mid at_net mid_net fault → Undoes Tells start mid new mid_net now_net result → NoStray Tells old new net
 stop_undone {Tells = Tells} {old = old} {mid = mid} {new = new} net begun s undone = subst (λ (n : NetState). NoStray Tells old new n) begun (record {
   places = λ told order abreast.
-      in_place_then old mid new told (Stops-continues s) undone.continues (stops_places s told (InOrder-before told undone.continues order) abreast)
-      (undone.in_place told order (abreast_all (stops_abreast s told abreast)));
+      no_strays_then old mid new told (Stops-continues s) undone.continues (stops_places s told (InOrder-before told undone.continues order) abreast)
+      (undone.no_strays told order (abreast_all (stops_abreast s told abreast)));
 })
 
 pub played_places : {Own : Type 0} {Tells : Type 0} {accepts : List TableView → Bool} {app number : ℕ} {event : Event} {old new : Seen Own} {rest unread : List ℕ} (end : TurnEnd) (net now_net : NetState)

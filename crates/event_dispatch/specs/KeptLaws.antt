@@ -18,14 +18,14 @@ use Rattle.lego_model.specs.declared.wait.Heard.{Heard}
 use Rattle.lego_model.specs.declared.wait.Heard.TheVariants.{Reply, Refused, Notice, Echo, Other}
 use Rattle.lego_model.specs.declared.wait.Refusal.{Refusal}
 use Rattle.net_txn.specs.Net.{NetState}
-use Rattle.net_txn.specs.Place.{KeptWhereFit}
+use Rattle.net_txn.specs.MessageStore.{KeptWhereFit}
 use Rattle.net_txn.specs.Waits.{IsRead, Waits as WaitsFor}
 use Rattle.lego_model.specs.BarrierWaits.{heard, kept_by, kept_of}
 use Rattle.outside.specs.declared.step.WorldStep.{WorldStep}
 use Rattle.net_txn.specs.Changes.{known_rows, answer_of_host, Changes}
 use Rattle.net_txn.specs.Arriving.{net_after, Becomes, Arrives}
 use Rattle.net_txn.specs.Joining.{Joins}
-use Rattle.net_txn.specs.Undos.{Part, Inverse, Settled, Stuck, alone, parts_of, fault_in, first_fault_of, first_fault, IsRun, KeepsOne, Keeps, Undoes, ended_by}
+use Rattle.net_txn.specs.Undos.{Part, Inverse, BarrierPassed, Stuck, alone, parts_of, fault_in, first_fault_of, first_fault, IsRun, KeepsOne, Keeps, Undoes, ended_by}
 use Rattle.app_visor.specs.declared.state.TurnEnd.{TurnEnd}
 use Rattle.app_visor.specs.declared.state.TurnEnd.TheVariants as ends
 use Rattle.app_visor.specs.Beats.{Beat, Talk, Asks as AskedNow, Chain}
@@ -131,7 +131,7 @@ none_first (Some x) b is = absurd cc
 
 part_read : (old new : Counts) (d : ℕ) (p : Part) (older : List Part) (kept now_kept : List (ℕ × List ℕ)) → IsRun old new d (p ∷ older) → fault_in p ≡ None → KeepsOne d p kept now_kept → AreRead kept → AreRead now_kept
 part_read old new d (Inverse xid k) older kept now_kept run none keeps read = subst AreRead (sym keeps) read
-part_read old new d (Settled xid got) older kept now_kept run none keeps read = fit_read kept (kept_of (alone d xid) got) now_kept keeps read (kept_read (alone d xid) got run.0.before.read)
+part_read old new d (BarrierPassed xid got) older kept now_kept run none keeps read = fit_read kept (kept_of (alone d xid) got) now_kept keeps read (kept_read (alone d xid) got run.0.before.read)
 part_read old new d (Stuck xid fault steps) older kept now_kept run none keeps read = absurd cc
 
 keeps_read : (old new : Counts) (kept : List (ℕ × List ℕ)) (parts : List (ℕ × Part)) (now_kept : List (ℕ × List ℕ)) → ((d : ℕ) → IsRun old new d (parts_of d parts)) → first_fault parts ≡ None → Keeps kept parts now_kept → AreRead kept → AreRead now_kept

@@ -19,9 +19,9 @@ use Rattle.outside.specs.CallLaws.{Nexts-state}
 use Rattle.outside.specs.Conforming.{IsNext, MayAct, MayStep}
 use Rattle.outside.specs.InOrder.{brings_message, BringMessages, MessagesSince, MayCome, MayComeAll, InOrder}
 use Rattle.outside.specs.InOrderLaws.{InOrder-rest, messages-by}
-use Rattle.outside.specs.Quiet.{is_quiet, NoneQuiet, NoneQuietLater}
-use Rattle.net_txn.specs.LinkSteps.{AreLinksInPlace, StaysInPlace}
-use Rattle.net_txn.specs.LinkPlaceLaws.{in_place_by}
+use Rattle.outside.specs.Quiescence.{is_quiescent, NoneQuiescent, NoneQuiescentLater}
+use Rattle.net_txn.specs.LinkSteps.{AreExpectedOnLinks, MakesNoStrayCall}
+use Rattle.net_txn.specs.LinkStrayLaws.{no_strays_by}
 use Rattle.app_visor.specs.CallsFor.{IsCallFor}
 use Rattle.lego_model.specs.Application.{index}
 use Rattle.event_dispatch.specs.Batch.{rest_by}
@@ -31,7 +31,7 @@ use Rattle.event_dispatch.specs.AbreastItemLaws.{next_may}
 
 -- ---- The steps
 
-item_unquiet : (item : Item) (buf : List ℕ) → is_quiet (item_step item buf) ≡ false
+item_unquiet : (item : Item) (buf : List ℕ) → is_quiescent (item_step item buf) ≡ false
 unfolding item_step
 item_unquiet (items.From d n) buf = refl
 item_unquiet (items.Joined d n) buf = refl
@@ -41,7 +41,7 @@ item_unquiet items.Idle buf = refl
 item_unquiet items.End buf = refl
 
 -- a stimulus comes first
-next_later : (begun : Option WorldStim) (result : Result Item NextFault) (buf : List ℕ) → NoneQuietLater (next_steps begun result buf)
+next_later : (begun : Option WorldStim) (result : Result Item NextFault) (buf : List ℕ) → NoneQuiescentLater (next_steps begun result buf)
 unfolding next_steps
 next_later None (Ok item) buf = tt
 next_later (Some x) (Ok item) buf = (item_unquiet item buf, tt)
@@ -53,7 +53,7 @@ none_begun : (declared : List Declared) (x : WorldStim) (s : State) → MayCome 
 unfolding MayCome MayStep MayAct
 none_begun declared x s may = may.none_begun
 
-next_unquiet : (declared : List Declared) (begun : Option WorldStim) (result : Result Item NextFault) (buf : List ℕ) (s : State) → MayComeAll declared (next_steps begun result buf) s → s.begun ≡ true → NoneQuiet (next_steps begun result buf)
+next_unquiet : (declared : List Declared) (begun : Option WorldStim) (result : Result Item NextFault) (buf : List ℕ) (s : State) → MayComeAll declared (next_steps begun result buf) s → s.begun ≡ true → NoneQuiescent (next_steps begun result buf)
 unfolding next_steps
 next_unquiet declared None (Ok item) buf s may is = (item_unquiet item buf, tt)
 next_unquiet declared (Some x) (Ok item) buf s may is = absurd (true≢false (sym is ∙ none_begun declared x s may.0))
@@ -80,7 +80,7 @@ next_for app begun (Err coming.Short) buf = tt
 pub next_quietly : {Own Tells : Type 0} {old new : Seen Own} {result : Result Item NextFault} {buf : List ℕ} → Nexts Tells old new result buf → NextPoint Tells old new
 next_quietly {old = old} {new = new} {result = result} {buf = buf} call = record {
   last = λ told. record { steps = next_steps (call.told told).begun result buf; history = (call.told told).history; none_later = next_later (call.told told).begun result buf };
-  unquiet = λ told order is.
+  none_quiescent = λ told order is.
       let begun = (call.told told).begun in
       let may = InOrder-rest old new (next_steps begun result buf) call.given (call.told told).history order in
       record { steps = next_steps begun result buf; history = (call.told told).history; none = next_unquiet old.given.declared begun result buf (state old) may is };
@@ -89,7 +89,7 @@ next_quietly {old = old} {new = new} {result = result} {buf = buf} call = record
 
 -- ---- Calls of links, and what came
 
-item_place : (item : Item) (buf : List ℕ) (s : State) → AreLinksInPlace (item_step item buf ∷ []) s
+item_place : (item : Item) (buf : List ℕ) (s : State) → AreExpectedOnLinks (item_step item buf ∷ []) s
 unfolding item_step
 item_place (items.From d n) buf s = (tt, tt)
 item_place (items.Joined d n) buf s = (tt, tt)
@@ -98,16 +98,16 @@ item_place (items.Moment t) buf s = (tt, tt)
 item_place items.Idle buf s = (tt, tt)
 item_place items.End buf s = (tt, tt)
 
-next_place : (begun : Option WorldStim) (result : Result Item NextFault) (buf : List ℕ) (s : State) → AreLinksInPlace (next_steps begun result buf) s
+next_place : (begun : Option WorldStim) (result : Result Item NextFault) (buf : List ℕ) (s : State) → AreExpectedOnLinks (next_steps begun result buf) s
 unfolding next_steps
 next_place None (Ok item) buf s = item_place item buf s
 next_place (Some x) (Ok item) buf s = (tt, item_place item buf (after_step (Acted (Stim x)) s))
 next_place begun (Err coming.Failed) buf s = (tt, tt)
 next_place begun (Err coming.Short) buf s = tt
 
-pub next_in_place : {Own Tells : Type 0} {old new : Seen Own} {result : Result Item NextFault} {buf : List ℕ} → Nexts Tells old new result buf → Tells → StaysInPlace old new
+pub next_in_place : {Own Tells : Type 0} {old new : Seen Own} {result : Result Item NextFault} {buf : List ℕ} → Nexts Tells old new result buf → Tells → MakesNoStrayCall old new
 next_in_place {old = old} {new = new} {result = result} {buf = buf} call told =
-    in_place_by old new (next_steps (call.told told).begun result buf) (call.told told).history (next_place (call.told told).begun result buf (state old))
+    no_strays_by old new (next_steps (call.told told).begun result buf) (call.told told).history (next_place (call.told told).begun result buf (state old))
 
 next_brings : (begun : Option WorldStim) (item : Item) (buf : List ℕ) → brings_message (item_step item buf) ≡ true → BringMessages (next_steps begun (Ok item) buf)
 unfolding next_steps

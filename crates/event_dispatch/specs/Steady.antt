@@ -4,16 +4,16 @@ use Rattle.std.specs.Prelude.{◌≡◌, false, []}
 use Rattle.outside.specs.Seen.{Seen}
 use Rattle.outside.specs.State.{State, state, upcoming}
 use Rattle.outside.specs.InOrder.{InOrder, MessagesSince}
-use Rattle.outside.specs.Quiet.{Unquiet, IsLastQuiet}
+use Rattle.outside.specs.Quiescence.{NoneQuiescentSince, IsLastQuiescent}
 use Rattle.net_txn.specs.Net.{NetState}
-use Rattle.net_txn.specs.LinkSteps.{StaysInPlace}
+use Rattle.net_txn.specs.LinkSteps.{MakesNoStrayCall}
 use Rattle.net_txn.specs.Abreast.{Abreast}
 use Rattle.app_visor.specs.CallsFor.{CallsFor}
 use Rattle.lego_model.specs.Application.{index}
 
 -- however it ended: no call of a link was a stray one
 pub record NoStray {Own : Type 0} (Tells : Type 0) (old new : Seen Own) (net : NetState) : Type 0 where
-  pub places : Tells → InOrder new → Abreast old net → StaysInPlace old new
+  pub places : Tells → InOrder new → Abreast old net → MakesNoStrayCall old new
 
 -- where it was done: the host keeps up with the switches, and what came of them are messages
 pub record Reads {Own : Type 0} (Tells : Type 0) (old new : Seen Own) (net now_net : NetState) : Type 0 where
@@ -27,10 +27,10 @@ pub record NothingUnderWay (s : State) : Type 0 where
 
 -- however it ended: no quiescent point since then, and no call for another application
 pub record NoPoint {Own : Type 0} (Tells : Type 0) (old new : Seen Own) : Type 0 where
-  pub unquiet : Tells → Unquiet old new
+  pub none_quiescent : Tells → NoneQuiescentSince old new
   pub own : Tells → CallsFor index old new
 
 -- no quiescent point behind that one, where all was at rest there
 pub record AtMostThisPoint {Own : Type 0} (Tells : Type 0) (old new : Seen Own) : Type 0 where
-  pub last : Tells → InOrder new → NothingUnderWay (state old) → IsLastQuiet old new
+  pub last : Tells → InOrder new → NothingUnderWay (state old) → IsLastQuiescent old new
   pub own : Tells → CallsFor index old new

@@ -2,8 +2,7 @@
 use Rattle.std.proofs.Common.{◌≡◌, ◌==◌, ℕ, true, List, [], ◌∷◌, IsSome, refl, sym, inl, inr, true≢false}
 use Rattle.std.proofs.lemmas.Bool.{cases_Bool}
 use Rattle.flow_table.specs.declared.view.TableView.{TableView}
-use Rattle.net_txn.specs.Views.{rows_at}
-use Rattle.net_txn.specs.Undos.{is_viewed}
+use Rattle.net_txn.specs.Views.{rows_at, is_viewed}
 
 pub joined_rows : (d : ℕ) (views : List TableView) → is_viewed d views ≡ true → IsSome (rows_at d views)
 joined_rows d [] h = absurd (true≢false (sym h))

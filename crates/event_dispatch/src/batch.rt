@@ -7,15 +7,14 @@ ghost use Rattle.outside.specs.Seen.{Continues};
 ghost use Rattle.outside.specs.Calls.{most_message, item_step, IsItemIn, Nexts};
 ghost use Rattle.of_wire.specs.Spelling.{message_size, message_bytes};
 ghost use Rattle.app_frames.specs.declared.frame.EventKind.TheVariants as kinds;
-ghost use Rattle.net_txn.specs.Views.{rows_at};
-ghost use Rattle.net_txn.specs.Undos.{is_viewed};
+ghost use Rattle.net_txn.specs.Views.{rows_at, is_viewed};
 ghost use Rattle.batch_laws.specs.Knowledge.{with_event};
 ghost use Rattle.batch_laws.specs.Items.{Departs, Enters, Handles};
 ghost use Rattle.event_dispatch.specs.Runs.{AreRead, Waits};
 ghost use Rattle.event_dispatch.specs.Batch.{of_memory, TakesKept, NextTaken, BatchShown};
 ghost use Rattle.event_dispatch.specs.Why.{IsReason, WhyItem, WhyMessage, served_by};
 ghost use Rattle.event_dispatch.specs.Talking.{KeepsTalking};
-ghost use Rattle.net_txn.specs.LinkSteps.{OnLinks, StaysInPlace, AsksInPlace};
+ghost use Rattle.net_txn.specs.LinkSteps.{OnLinks, MakesNoStrayCall, AsksWithoutStrays};
 ghost use Rattle.app_visor.specs.CallsFor.{CallsFor};
 ghost use Rattle.lego_model.specs.Application.{index};
 ghost use Rattle.event_dispatch.specs.Steady.{NoStray, Reads, AtMostThisPoint};
@@ -81,7 +80,7 @@ fn next_item<W: World>(world: &mut W, buf: &mut [u8]) -> Result<Item, Fault>
     ensures continues { Continues W.Tells (W.seen world.old) (W.seen world.new) }
     ensures talks { KeepsTalking W.Tells (W.seen world.old) (W.seen world.new) }
     ensures no_point { NextPoint W.Tells (W.seen world.old) (W.seen world.new) }
-    ensures places { W.Tells → StaysInPlace (W.seen world.old) (W.seen world.new) }
+    ensures places { W.Tells → MakesNoStrayCall (W.seen world.old) (W.seen world.new) }
     ensures why { IfErr result (IsReason W.Tells (W.seen world.old) (W.seen world.new) 0 0) }
     ensures plain { IfErr result IsPlainEnd }
     ensures buffer { length buf.new ≡ length buf.old }
@@ -184,7 +183,7 @@ impl Run {
         ensures continues { Continues W.Tells (W.seen world.old) (W.seen world.new) }
         ensures talks { KeepsTalking W.Tells (W.seen world.old) (W.seen world.new) }
         ensures links { OnLinks W.Tells (W.seen world.old) (W.seen world.new) }
-        ensures places { AsksInPlace W.Tells dpid (W.seen world.old) (W.seen world.new) }
+        ensures places { AsksWithoutStrays W.Tells dpid (W.seen world.old) (W.seen world.new) }
         ensures messages { OnOk result (OnlyMessages W.Tells (W.seen world.old) (W.seen world.new)) }
         ensures read { OnOk result (AreRead self.old.net.kept → AreRead self.new.net.kept) }
         ensures why { IfErr result (IsReason W.Tells (W.seen world.old) (W.seen world.new) 0 0) }

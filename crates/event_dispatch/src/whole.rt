@@ -5,7 +5,7 @@ ghost use Rattle.lego_io.specs.Count.{NeverFell};
 ghost use Rattle.outside.specs.Seen.{Continues};
 ghost use Rattle.outside.specs.Calls.{most_message};
 ghost use Rattle.outside.specs.InOrder.{InOrder, MessagesSince};
-ghost use Rattle.net_txn.specs.LinkSteps.{StaysInPlace};
+ghost use Rattle.net_txn.specs.LinkSteps.{MakesNoStrayCall};
 ghost use Rattle.event_dispatch.specs.Runs.{Going};
 ghost use Rattle.event_dispatch.specs.Why.{IsWhy, IsReason, served_by};
 ghost use Rattle.event_dispatch.specs.Shows.{engine_of};
@@ -201,7 +201,7 @@ fn open<W: World>(world: &mut W) -> Result<(), Served>
 fn end<W: World>(world: &mut W)
     ensures continues { Continues W.Tells (W.seen world.old) (W.seen world.new) }
     ensures no_point { NoPoint W.Tells (W.seen world.old) (W.seen world.new) }
-    ensures places { W.Tells → StaysInPlace (W.seen world.old) (W.seen world.new) }
+    ensures places { W.Tells → MakesNoStrayCall (W.seen world.old) (W.seen world.new) }
     ensures messages { W.Tells → MessagesSince (W.seen world.old) (W.seen world.new) }
     ensures leaves { ShownLeaves W.Tells (W.seen world.old) (W.seen world.new) }
     ensures talks { KeepsTalking W.Tells (W.seen world.old) (W.seen world.new) }
@@ -289,7 +289,7 @@ pub fn serve<W: World, J: Judge, K: Sink>(
     ensures no_switch_at_fault { (allows : List Place → Bool) → Premise W.Tells (J.accepts judge.now) allows (W.seen world.old) (W.seen world.new) → IsPlainServed result }
     // In a world that tells in order, though bytes that come of switches may be no messages: no call of a link is a stray one, and at the end
     // of a run that no fault ends all that came of switches is messages, so that the world kept its word.
-    ensures no_stray_call { W.Tells → (W.seen world.old).history ≡ [] → InOrder (W.seen world.new) → StaysInPlace (W.seen world.old) (W.seen world.new) }
+    ensures no_stray_call { W.Tells → (W.seen world.old).history ≡ [] → InOrder (W.seen world.new) → MakesNoStrayCall (W.seen world.old) (W.seen world.new) }
     ensures all_bytes_are_messages { W.Tells → (W.seen world.old).history ≡ [] → InOrder (W.seen world.new) → IsReadServed (W.seen world.new) result }
 {
     if let Err(served) = open(world) {

@@ -50,8 +50,8 @@ abbrev pub event_act : Bool → ℕ → List ℕ → Act
 event_act given app frame = if given then Gave app frame else Gone app frame
 
 -- that it is ended, where it runs
-abbrev pub end_part : Bool → ℕ → List Act
-end_part running app = if running then Ended app ∷ [] else []
+abbrev pub end_acts : Bool → ℕ → List Act
+end_acts running app = if running then Ended app ∷ [] else []
 
 -- no start and no reply more
 pub record ReadsSame (before after : List Act) : Type 0 where

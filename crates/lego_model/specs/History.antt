@@ -7,7 +7,6 @@ use Rattle.of_types.specs.declared.journal.WorldStim.{WorldStim}
 use Rattle.outside.specs.Seen.{Seen, journal}
 use Rattle.outside.specs.State.{Mark, state, Link}
 use Rattle.lego_model.specs.Journal.{is_of, inputs, stimuli, Reply, Start, Attempt, in_attempts, in_turns, start_of, reply_of}
-use Rattle.lego_model.specs.Controller.{Quiet}
 use Rattle.lego_model.specs.Application.{index}
 
 -- ---- The application
@@ -38,12 +37,12 @@ abbrev pub stimuli_in : {Own : Type 0} → Seen Own → List WorldStim
 stimuli_in seen = stimuli (journal seen.history)
 
 -- the quiescent points, in order, each with the switches as they stood
-abbrev pub point_by : Mark → Quiet
+abbrev pub point_by : Mark → Mark
 point_by m = record { event = m.event; switches = m.switches }
 
-abbrev pub points_in : {Own : Type 0} → Seen Own → List Quiet
+abbrev pub points_in : {Own : Type 0} → Seen Own → List Mark
 points_in seen = map point_by (state seen).marks
 
 -- how the switches stand at the end
-abbrev pub last_point : {Own : Type 0} → Seen Own → Quiet
+abbrev pub last_point : {Own : Type 0} → Seen Own → Mark
 last_point seen = record { event = None; switches = map (λ (l : Link). l.switch) (state seen).links }

@@ -24,5 +24,5 @@ pub mod CutRun
 pub mod History
 pub mod OrderlySteps
 pub mod ReferenceRun
-pub mod WholeRun
 pub mod SwitchFaults
+pub mod WholeRun

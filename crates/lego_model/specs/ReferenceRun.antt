@@ -5,10 +5,10 @@ use Rattle.flow_table.specs.Switch.{Declared}
 use Rattle.lego_model.specs.Journal.{Reply, Start}
 use Rattle.lego_model.specs.Places.{Place}
 use Rattle.lego_model.specs.Scripted.{AreFronts, AreStartFronts}
-use Rattle.lego_model.specs.Controller.{App, Run, quiet_of, start_all, reference, dispatch, settle, happen}
+use Rattle.lego_model.specs.Controller.{App, Run, reference_mark, start_all, reference, dispatch, settle, happen}
 use Rattle.outside.specs.Seen.{Seen}
 use Rattle.lego_model.specs.History.{starts_in, replies_in, own_acts, stimuli_in, given_in, points_in, last_point}
-use Rattle.lego_model.specs.Agreement.{AgreeQuiets}
+use Rattle.lego_model.specs.Agreement.{AgreeMarks}
 use Rattle.lego_model.specs.Application.{budget, names}
 use Rattle.of_types.specs.declared.journal.WorldStim.{WorldStim}
 use Rattle.app_frames.specs.declared.frame.Event.{Event}
@@ -28,7 +28,7 @@ before_start declared a = record {
   events = 0;
   apps = a ∷ [];
   lines = [];
-  quiets = [];
+  marks = [];
 }
 
 -- all applications are started
@@ -82,5 +82,5 @@ text_of r = flat_map (line_text names) r.lines
 -- The run is that of the reference controller: at every quiescent point, the end included, the switches agree; and the application was given
 -- what the reference controller gives it.
 pub record RunsAlike {Own : Type 0} (seen : Seen Own) (r : Run) : Type 0 where
-  pub tables : AgreeQuiets (points_in seen ++ last_point seen ∷ []) (r.quiets ++ quiet_of None r.places ∷ [])
+  pub tables : AgreeMarks (points_in seen ++ last_point seen ∷ []) (r.marks ++ reference_mark None r.places ∷ [])
   pub inputs : map (λ (a : App). a.inputs) r.apps ≡ given_in seen ∷ []

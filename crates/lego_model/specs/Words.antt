@@ -4,10 +4,6 @@ use Rattle.std.specs.Char.{is_ascii_digit}
 use Rattle.std.specs.List.{list_all, slice_split}
 use Rattle.std.specs.Str.{bytes_eq}
 
--- a line holds at most so many bytes
-abbrev pub most_line : ℕ
-most_line = 4194304
-
 -- words stand between single spaces
 unfoldable pub words_of : List ℕ → List (List ℕ)
 words_of line = slice_split (λ b. b == 32) line

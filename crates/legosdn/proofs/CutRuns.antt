@@ -8,8 +8,8 @@ use Rattle.outside.specs.State.{at_first}
 use Rattle.outside.specs.Conforming.{Conforming}
 use Rattle.outside.specs.InOrder.{BringMessages, InOrder}
 use Rattle.outside.specs.InOrderLaws.{in_order-Conforming, InOrder-front}
-use Rattle.outside.specs.Quiet.{IsLastQuiet}
-use Rattle.net_txn.specs.LinkSteps.{AreLinksInPlace}
+use Rattle.outside.specs.Quiescence.{IsLastQuiescent}
+use Rattle.net_txn.specs.LinkSteps.{AreExpectedOnLinks}
 use Rattle.lego_model.specs.Places.{Place}
 use Rattle.lego_model.specs.Controller.{Run}
 use Rattle.sim_world.specs.Told.{without_links}
@@ -43,7 +43,7 @@ lines_at sim last lines given later =
     subst (λ (g : Given Scripts). KeepsScripts g.own (without_links g.fails) last.history) given (keeps_before sim.scripts (without_links sim.fails) last.history sim.history later lines)
 
 -- the world kept its word as far as a place where all bytes that came are messages
-conforms_at : (sim : WorldData) (last : Seen Scripts) → InOrder (seen_of sim) → (seen_of sim).given ≡ last.given → IsLastQuiet last (seen_of sim) → BringMessages last.history → Conforming last
+conforms_at : (sim : WorldData) (last : Seen Scripts) → InOrder (seen_of sim) → (seen_of sim).given ≡ last.given → IsLastQuiescent last (seen_of sim) → BringMessages last.history → Conforming last
 conforms_at sim last order given quiet messages = in_order-Conforming last (InOrder-front last (seen_of sim) quiet.steps given quiet.history order) messages
 
 -- ---- A place of the run
@@ -94,25 +94,25 @@ IsFaultEnd (served.Ended events) = ⊥
 IsFaultEnd (served.EventsLeft left) = ⊥
 IsFaultEnd other = Unit {0}
 
-cut_strays : (sim : WorldData) (a b : Option (List ℕ)) → InOrder (seen_of sim) → CountsNone sim → AreLinksInPlace (seen_of sim).history (at_first (seen_of sim).given) → CutAlike all_allowed (seen_of sim) a b
+cut_strays : (sim : WorldData) (a b : Option (List ℕ)) → InOrder (seen_of sim) → CountsNone sim → AreExpectedOnLinks (seen_of sim).history (at_first (seen_of sim).given) → CutAlike all_allowed (seen_of sim) a b
     → (seen_of sim).counts.shorts ≡ 0 → (seen_of sim).counts.strays ≡ 0
 cut_strays sim a b order none links cut =
     let keeps = conforms_at sim cut.last order cut.given (cut.last_point order) (cut.messages order) in
     none_strays sim none (behind_for (cut.alike keeps).in_order cut.no_other_called) (applications_in_place (seen_of sim) (cut.at_once keeps)) links
 
-writing_strays : (sim : WorldData) (a b : Option (List ℕ)) → InOrder (seen_of sim) → CountsNone sim → AreLinksInPlace (seen_of sim).history (at_first (seen_of sim).given) → CutWriting all_allowed (seen_of sim) a b
+writing_strays : (sim : WorldData) (a b : Option (List ℕ)) → InOrder (seen_of sim) → CountsNone sim → AreExpectedOnLinks (seen_of sim).history (at_first (seen_of sim).given) → CutWriting all_allowed (seen_of sim) a b
     → (seen_of sim).counts.shorts ≡ 0 → (seen_of sim).counts.strays ≡ 0
 writing_strays sim a b order none links cut =
     let keeps = conforms_at sim cut.last order cut.given (cut.last_point order) (cut.messages order) in
     none_strays sim none (behind_for (cut.alike keeps).up_to.in_order cut.no_other_called) (applications_in_place (seen_of sim) (cut.at_once keeps)) links
 
-strays_or_nothing : (sim : WorldData) (a b : Option (List ℕ)) → InOrder (seen_of sim) → CountsNone sim → AreLinksInPlace (seen_of sim).history (at_first (seen_of sim).given) → CutAlike all_allowed (seen_of sim) a b ⊎ NothingDone [] (seen_of sim) a b
+strays_or_nothing : (sim : WorldData) (a b : Option (List ℕ)) → InOrder (seen_of sim) → CountsNone sim → AreExpectedOnLinks (seen_of sim).history (at_first (seen_of sim).given) → CutAlike all_allowed (seen_of sim) a b ⊎ NothingDone [] (seen_of sim) a b
     → (seen_of sim).counts.shorts ≡ 0 → (seen_of sim).counts.strays ≡ 0
 strays_or_nothing sim a b order none links (inl cut) = cut_strays sim a b order none links cut
 strays_or_nothing sim a b order none links (inr idle) = idle_strays sim none idle.history
 
 -- by how the run ended
-pub strays_of : (sim : WorldData) (a b : Option (List ℕ)) (end : Served) → InOrder (seen_of sim) → CountsNone sim → AreLinksInPlace (seen_of sim).history (at_first (seen_of sim).given) → IsFaultEnd end → IsCut all_allowed (seen_of sim) a b end
+pub strays_of : (sim : WorldData) (a b : Option (List ℕ)) (end : Served) → InOrder (seen_of sim) → CountsNone sim → AreExpectedOnLinks (seen_of sim).history (at_first (seen_of sim).given) → IsFaultEnd end → IsCut all_allowed (seen_of sim) a b end
     → (seen_of sim).counts.shorts ≡ 0 → (seen_of sim).counts.strays ≡ 0
 strays_of sim a b (served.Ended events) order none links fault cut = absurd fault
 strays_of sim a b (served.EventsLeft left) order none links fault cut = absurd fault

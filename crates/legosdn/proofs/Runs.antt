@@ -12,7 +12,7 @@ use Rattle.outside.specs.Conforming.{Conforming}
 use Rattle.outside.specs.State.{at_first}
 use Rattle.outside.specs.InOrder.{BringMessages, InOrder}
 use Rattle.outside.specs.InOrderLaws.{in_order-Conforming}
-use Rattle.net_txn.specs.LinkSteps.{AreLinksInPlace}
+use Rattle.net_txn.specs.LinkSteps.{AreExpectedOnLinks}
 use Rattle.sim_world.specs.Told.{without_links}
 use Rattle.sim_world.specs.Scripts.{Scripts, KeepsScripts}
 use Rattle.sim_world.specs.World.{WorldData, given_of, seen_of}
@@ -207,14 +207,14 @@ completes sim words told old new NoMemory a b cause runs input session command w
 -- ---- No call was a stray one
 
 pub whole_strays : (old sim : WorldData) (contents now_contents : Option (List ℕ)) (events : ℕ) → (seen_of old).history ≡ [] → length (seen_of old).given.stimuli ≤ 1000000 → Continues (Unit {0}) (seen_of old) (seen_of sim)
-    → Conforming (seen_of sim) → (end : Served) → end ≡ served.Ended events → Promises (seen_of old) (seen_of sim) contents now_contents end → CountsNone sim → AreLinksInPlace (seen_of sim).history (at_first (seen_of sim).given)
+    → Conforming (seen_of sim) → (end : Served) → end ≡ served.Ended events → Promises (seen_of old) (seen_of sim) contents now_contents end → CountsNone sim → AreExpectedOnLinks (seen_of sim).history (at_first (seen_of sim).given)
     → (seen_of sim).counts.shorts ≡ 0 → (seen_of sim).counts.strays ≡ 0
 whole_strays old sim contents now_contents events none few continues keeps end ended promises counts links =
     let is = subst (λ (e : Served). IsAlike all_allowed (seen_of sim) contents now_contents e) ended (promises all_allowed (premise (seen_of old) (seen_of sim) none few continues keeps)) in
     none_strays sim counts (all_for (seen_of sim).history is.alike.in_order) (applications_in_place (seen_of sim) is.alike.at_once) links
 
 pub part_strays : (old sim : WorldData) (contents now_contents : Option (List ℕ)) (left : ℕ) → (seen_of old).history ≡ [] → length (seen_of old).given.stimuli ≤ 1000000 → Continues (Unit {0}) (seen_of old) (seen_of sim)
-    → Conforming (seen_of sim) → (end : Served) → end ≡ served.EventsLeft left → Promises (seen_of old) (seen_of sim) contents now_contents end → CountsNone sim → AreLinksInPlace (seen_of sim).history (at_first (seen_of sim).given)
+    → Conforming (seen_of sim) → (end : Served) → end ≡ served.EventsLeft left → Promises (seen_of old) (seen_of sim) contents now_contents end → CountsNone sim → AreExpectedOnLinks (seen_of sim).history (at_first (seen_of sim).given)
     → (seen_of sim).counts.shorts ≡ 0 → (seen_of sim).counts.strays ≡ 0
 part_strays old sim contents now_contents left none few continues keeps end ended promises counts links =
     let is = subst (λ (e : Served). IsAlike all_allowed (seen_of sim) contents now_contents e) ended (promises all_allowed (premise (seen_of old) (seen_of sim) none few continues keeps)) in

@@ -8,7 +8,7 @@ use Rattle.lego_io.specs.Sink.{TookPart}
 use Rattle.outside.specs.declared.step.WorldStep.TheVariants.{NotOpened}
 use Rattle.outside.specs.Seen.{Seen, journal}
 use Rattle.outside.specs.InOrder.{BringMessages}
-use Rattle.outside.specs.Quiet.{IsLastQuiet}
+use Rattle.outside.specs.Quiescence.{IsLastQuiescent}
 use Rattle.lego_model.specs.AtOnce.{AtOnce}
 use Rattle.sim_world.specs.Told.{without_links}
 use Rattle.sim_world.specs.Scripts.{Scripts, KeepsScripts}
@@ -132,7 +132,7 @@ pub record RunsPart (seen : Seen Scripts) (contents now_contents : Option (List 
 pub record UpToPoint (sim : WorldData) (Holds : Seen Scripts → Type 0) : Type 0 where
   pub last : Seen Scripts
   pub given : last.given ≡ (seen_of sim).given
-  pub last_point : IsLastQuiet last (seen_of sim)
+  pub last_point : IsLastQuiescent last (seen_of sim)
   pub messages : BringMessages last.history
   pub holds : Holds last
   pub at_once : AtOnce index (journal (seen_of sim).history)

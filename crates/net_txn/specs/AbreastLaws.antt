@@ -17,17 +17,17 @@ use Rattle.outside.specs.declared.step.WorldStep.{WorldStep}
 use Rattle.outside.specs.Seen.{Seen, Continues}
 use Rattle.outside.specs.State.{State, state, is_joined}
 use Rattle.outside.specs.StateLaws.{state-append}
-use Rattle.outside.specs.Quiet.{NoneQuiet, Unquiet}
-use Rattle.outside.specs.QuietLaws.{unquiet-by}
+use Rattle.outside.specs.Quiescence.{NoneQuiescent, NoneQuiescentSince}
+use Rattle.outside.specs.QuiescenceLaws.{none_since-by}
 use Rattle.lego_model.specs.declared.fault.TxnFault.{TxnFault}
 use Rattle.net_txn.specs.LinkSteps.{AreLinkSteps, LinkSteps}
-use Rattle.net_txn.specs.Views.{with_rows}
+use Rattle.net_txn.specs.Views.{with_rows, is_viewed}
 use Rattle.net_txn.specs.Net.{NetState}
 use Rattle.net_txn.specs.Joining.{with_view}
 use Rattle.net_txn.specs.JoiningLaws.{rows_at-with_view, rows_at-with_view-other}
 use Rattle.net_txn.specs.Arriving.{without_key, net_after, Becomes, Arrives}
 use Rattle.net_txn.specs.Changes.{Changes}
-use Rattle.net_txn.specs.Undos.{is_viewed, without_keys, but_fare, Undoes}
+use Rattle.net_txn.specs.Undos.{without_keys, key_logged, Undoes}
 use Rattle.net_txn.specs.AgreeLaws.{viewed}
 use Rattle.net_txn.specs.Abreast.{Abreast}
 use Rattle.net_txn.specs.JoinedLaws.{LeavesSo, step_leaves, steps_leave}
@@ -48,12 +48,12 @@ pub links-begun : {Own : Type 0} {Tells : Type 0} {old new : Seen Own} → Conti
 links-begun later links = (links_leave later links).begun
 
 -- what a step is does not depend on the state
-none_quiet : (steps : List WorldStep) (s : State) → AreLinkSteps steps → NoneQuiet steps
-none_quiet [] s all = tt
-none_quiet (x ∷ xs) s all = ((step_leaves x s all.0).unquiet, none_quiet xs s all.1)
+none_quiescent : (steps : List WorldStep) (s : State) → AreLinkSteps steps → NoneQuiescent steps
+none_quiescent [] s all = tt
+none_quiescent (x ∷ xs) s all = ((step_leaves x s all.0).none_quiescent, none_quiescent xs s all.1)
 
-pub links-unquiet : {Own : Type 0} {old new : Seen Own} → LinkSteps old new → Unquiet old new
-links-unquiet {old = old} {new = new} links = unquiet-by old new links.steps links.history (none_quiet links.steps (state old) links.all)
+pub links-none_quiescent : {Own : Type 0} {old new : Seen Own} → LinkSteps old new → NoneQuiescentSince old new
+links-none_quiescent {old = old} {new = new} links = none_since-by old new links.steps links.history (none_quiescent links.steps (state old) links.all)
 
 -- ---- Views that keep their switches
 
@@ -123,7 +123,7 @@ changes_abreast {net = net} {now_net = now_net} c told abreast =
     abreast-by net now_net c.continues (c.links told) (λ e. viewed e now_net.views ∙ c.switches e ∙ sym (viewed e net.views)) abreast
 
 pub undoes_abreast : {Own : Type 0} {Tells : Type 0} {start : ℕ} {old new : Seen Own} {net now_net : NetState} {result : Result (Unit {0}) TxnFault} → Undoes Tells start old new net now_net result → Tells → Abreast old net → Abreast new now_net
-undoes_abreast {start = start} {net = net} {now_net = now_net} u told abreast = abreast-by net now_net u.continues (u.links told) (λ e. ap (in_views e) u.views ∙ without_keys-viewed e (map but_fare (drop start net.log)) net.views) abreast
+undoes_abreast {start = start} {net = net} {now_net = now_net} u told abreast = abreast-by net now_net u.continues (u.links told) (λ e. ap (in_views e) u.views ∙ without_keys-viewed e (map key_logged (drop start net.log)) net.views) abreast
 
 became_viewed : {Own : Type 0} (Tells : Type 0) (d e : ℕ) (r : Result Envelope WireFault) (old new : Seen Own) (net now_net : NetState) (event : Option Event) → IsOkAnd r (λ x. Becomes Tells d x.xid x.message old new net now_net event) → is_viewed e now_net.views ≡ is_viewed e net.views
 became_viewed Tells d e (Ok x) old new net now_net event b = ap (λ (n : NetState). is_viewed e n.views) b.net_so ∙ arrival_viewed d e x.message net

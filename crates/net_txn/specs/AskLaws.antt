@@ -18,7 +18,7 @@ use Rattle.lego_model.specs.declared.fault.TxnFault.{TxnFault}
 use Rattle.lego_model.specs.declared.fault.TxnFault.TheVariants.{SwitchFault, SwitchBroke, Diverged, Flooded, NoMemory}
 use Rattle.lego_model.specs.declared.wait.Awaited.{Awaited}
 use Rattle.lego_model.specs.declared.wait.Refusal.{Refusal}
-use Rattle.net_txn.specs.LinkSteps.{AsksInPlace}
+use Rattle.net_txn.specs.LinkSteps.{AsksWithoutStrays}
 use Rattle.net_txn.specs.Causes.{IsCause}
 use Rattle.net_txn.specs.Waits.{Waits, IfFlooded, KeptMore}
 use Rattle.lego_model.specs.BarrierWaits.{barrier_sent, next_xid}
@@ -99,8 +99,8 @@ came_more Tells d xid a front old new before came (Err fault) is none ok err = k
 pub asked_cause : {Own : Type 0} (Tells : Type 0) (d xid : ℕ) (a : Awaited) (old new : Seen Own) (fault : TxnFault) → a ≡ asked_from d xid → IsCause Tells a.dpid old new fault → IsCause Tells d old new fault
 asked_cause Tells d xid a old new fault is cause = subst (λ (x : Awaited). IsCause Tells x.dpid old new fault) is cause
 
-pub asked_place : {Own : Type 0} (Tells : Type 0) (d xid : ℕ) (a : Awaited) (old new : Seen Own) → a ≡ asked_from d xid → AsksInPlace Tells a.dpid old new → AsksInPlace Tells d old new
-asked_place Tells d xid a old new is asks = subst (λ (x : Awaited). AsksInPlace Tells x.dpid old new) is asks
+pub asked_place : {Own : Type 0} (Tells : Type 0) (d xid : ℕ) (a : Awaited) (old new : Seen Own) → a ≡ asked_from d xid → AsksWithoutStrays Tells a.dpid old new → AsksWithoutStrays Tells d old new
+asked_place Tells d xid a old new is asks = subst (λ (x : Awaited). AsksWithoutStrays Tells x.dpid old new) is asks
 
 pub asked_waits : {Own : Type 0} {Tells : Type 0} (d xid : ℕ) (a : Awaited) (frame : List ℕ) (old new : Seen Own) (before came : List (ℕ × List ℕ)) (refusal : Option Refusal)
     → a ≡ asked_from d xid → frame ≡ flows_request xid → before ≡ [] → Waits Tells a (Acted (Sent a.dpid frame) ∷ barrier_sent a ∷ []) old new before came refusal

@@ -50,15 +50,12 @@ use Rattle.lego_model.specs.FlowQueries.{all_flows, flows_request, request_sent,
 use Rattle.net_txn.specs.AskLaws.{part_refuses_not}
 use Rattle.net_txn.specs.AskSteps.{own_rows, RowsInStep}
 use Rattle.net_txn.specs.ReplyLaws.{IsSmallPart, IsPartOf-part_bytes, heard_part, about_part, small_parts, joined_parts}
+use Rattle.of_match.specs.FieldsLaws.{bytes_of-length}
 
 abbrev of_switch : ℕ → List ℕ → ℕ × List ℕ
 of_switch d b = (d, b)
 
 -- ---- The request
-
-length-match : (f : Fields) → length (bytes_of f) ≡ 40
-unfolding bytes_of
-length-match f = refl
 
 -- ---- The request selects each entry: any match subsumes each one, and NONE stands for no output.
 
@@ -84,7 +81,7 @@ abbrev query_fields : List Field
 query_fields = flow_query_fields (record { matching = any_match; table_id = 0xff; out_port = 0xffff })
 
 query_fit : AreFields query_fields
-query_fit = (length-match (fields_in any_match), (omega arith, (omega arith, tt)))
+query_fit = (bytes_of-length (fields_in any_match), (omega arith, (omega arith, tt)))
 
 length-all_flows : length all_flows ≡ 44
 unfolding all_flows

@@ -1,28 +1,19 @@
 -- What `rows` does: a switch is asked for the statistics of all its flows, behind a barrier (OpenFlow 1.0.0, 5.3.5 Read State Messages:
 -- Individual Flow Statistics, and 5.3.7 Barrier Message). Which messages answer, and what is a fault of the switch, is our own choice.
-use Rattle.std.specs.Prelude.{◌≡◌, ◌≢◌, ◌==◌, ℕ, ◌+◌, Bool, ◌&&◌, ◌||◌, nat_le, List, [], ◌∷◌, ◌++◌, length, drop, map, slice_get, Option, Some, Result, Ok, IsOk, IsErr, IfErr, MatchResult, ◌⊎◌, if◌then◌else◌}
+use Rattle.std.specs.Prelude.{◌≡◌, ℕ, ◌+◌, ◌||◌, List, [], ◌∷◌, ◌++◌, slice_get, Option, Some, Result, Ok, IsOk, IfErr, MatchResult, ◌⊎◌, if◌then◌else◌}
 use Rattle.std.specs.List.{flat_map}
-use Rattle.of_types.specs.Fields.{number_at}
-use Rattle.of_types.specs.Layout.{spelled}
-use Rattle.of_types.specs.declared.journal.Act.TheVariants.{Sent}
-use Rattle.of_match.specs.Fields.{bytes_of, any_fields}
-use Rattle.of_match.specs.Match.{match_of}
-use Rattle.of_wire.specs.declared.message.Message.TheVariants.{StatsRequest, BarrierReply}
+use Rattle.of_wire.specs.declared.message.Message.TheVariants.{BarrierReply}
 use Rattle.of_wire.specs.Spelling.{message_bytes}
-use Rattle.of_wire.specs.Stats.{flow_query_fields}
 use Rattle.of_stats.specs.declared.flow_row.FlowRow.{FlowRow}
 use Rattle.of_stats.specs.Flows.{AreRows, SpellRows}
-use Rattle.of_stats.specs.Parts.{Part, part_at, IsWhole, IsFirstBad, joined}
+use Rattle.of_stats.specs.Parts.{part_at, IsWhole, joined}
 use Rattle.of_stats.specs.Reading.{rows_of}
-use Rattle.outside.specs.declared.step.WorldStep.{WorldStep}
-use Rattle.outside.specs.declared.step.WorldStep.TheVariants.{Acted}
 use Rattle.outside.specs.Seen.{Seen, Continues}
 use Rattle.outside.specs.InOrder.{MessagesSince}
 use Rattle.lego_model.specs.declared.fault.TxnFault.{TxnFault}
 use Rattle.lego_model.specs.declared.fault.TxnFault.TheVariants.{SwitchFault, SwitchBroke, Diverged, Flooded, NoMemory}
-use Rattle.lego_model.specs.declared.wait.Awaited.{Awaited}
 use Rattle.lego_model.specs.declared.wait.Refusal.{Refusal}
-use Rattle.net_txn.specs.LinkSteps.{OnLinks, AsksInPlace}
+use Rattle.net_txn.specs.LinkSteps.{OnLinks, AsksWithoutStrays}
 use Rattle.net_txn.specs.Causes.{IsCause}
 use Rattle.net_txn.specs.Waits.{Waits, IfFlooded, KeptMore}
 use Rattle.lego_model.specs.BarrierWaits.{barrier_sent, next_xid}
@@ -97,7 +88,7 @@ IsAskCause Tells d xid old new kept now_kept fault =
 pub record Asks {Own : Type 0} (Tells : Type 0) (d xid : ℕ) (old new : Seen Own) (kept now_kept : List (ℕ × List ℕ)) (result : Result (List FlowRow) TxnFault) : Type 0 where
   pub continues : Continues Tells old new
   pub links : OnLinks Tells old new
-  pub in_place : AsksInPlace Tells d old new
+  pub no_strays : AsksWithoutStrays Tells d old new
   pub read : IsOk result → Tells → MessagesSince old new
   pub kept_more : KeptMore d kept now_kept
   pub answer : MatchResult result (GivesRows Tells d xid old new kept now_kept) (IsAskCause Tells d xid old new kept now_kept)

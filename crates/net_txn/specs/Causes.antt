@@ -6,9 +6,9 @@ use Rattle.of_wire.specs.Reading.{reading_of}
 use Rattle.outside.specs.declared.step.WorldStep.{WorldStep}
 use Rattle.outside.specs.declared.step.WorldStep.TheVariants.{Acted}
 use Rattle.outside.specs.Seen.{Seen}
-use Rattle.lego_model.specs.BarrierWaits.{flood}
 use Rattle.lego_model.specs.declared.fault.TxnFault.{TxnFault}
 use Rattle.lego_model.specs.declared.fault.TxnFault.TheVariants.{SwitchFault, SwitchBroke, Diverged, Flooded, NoMemory}
+use Rattle.lego_model.specs.BarrierWaits.{flood}
 
 -- the last step since then was that these bytes were got from the switch
 abbrev pub EndsByGot : ℕ → List ℕ → List WorldStep → List WorldStep → Type 0

@@ -21,7 +21,7 @@ use Rattle.lego_model.specs.declared.fault.TxnFault.{TxnFault}
 use Rattle.lego_model.specs.declared.fault.TxnFault.TheVariants.{SwitchFault, SwitchBroke, Diverged, Flooded, NoMemory}
 use Rattle.lego_model.specs.declared.wait.Refusal.{Refusal}
 use Rattle.net_txn.specs.declared.logged.Logged.{Logged}
-use Rattle.net_txn.specs.LinkSteps.{OnLinks, StaysInPlace}
+use Rattle.net_txn.specs.LinkSteps.{OnLinks, MakesNoStrayCall}
 use Rattle.net_txn.specs.Causes.{IsCause}
 use Rattle.net_txn.specs.Waits.{Waits, Floods, KeptMore}
 use Rattle.lego_model.specs.BarrierWaits.{barrier_sent, next_xid}
@@ -38,7 +38,7 @@ known_rows d views = option_map rows_of_view (rows_at d views)
 abbrev pub answer_of_host : ℕ → List ℕ → NetState → Option Answer
 answer_of_host d bytes net = host_answer (known_rows d net.views) bytes
 
--- ---- What the switch judged
+-- ---- What the switch answered
 
 abbrev pub error_in : Option Refusal → Option OfError
 error_in refusal = option_map (λ r. r.error) refusal
@@ -110,7 +110,7 @@ pub record ByHost {Own : Type 0} (answer : Answer) (old new : Seen Own) (net now
 pub record Changes {Own : Type 0} (Tells : Type 0) (d : ℕ) (bytes : List ℕ) (old new : Seen Own) (net now_net : NetState) (result : Result Answer TxnFault) : Type 0 where
   pub continues : Continues Tells old new
   pub links : OnLinks Tells old new
-  pub in_place : Tells → InOrder new → (IsSome (rows_at d net.views) → is_joined d (state old) ≡ true) → StaysInPlace old new
+  pub no_strays : Tells → InOrder new → (IsSome (rows_at d net.views) → is_joined d (state old) ≡ true) → MakesNoStrayCall old new
   pub read : IsOk result → Tells → MessagesSince old new
   pub cause : IfErr result (IsCause Tells d old new)
   pub switches : (e : ℕ) → is_some (rows_at e now_net.views) ≡ is_some (rows_at e net.views)

@@ -55,8 +55,8 @@ reply_brings : (a : Awaited) → a.barrier < 2 ^ 32 → brings_message (reply_go
 reply_brings a small = ap is_read (reading_of-message_bytes a.barrier messages.BarrierReply small IsMessage-reply)
 
 -- some, and then the reply to the barrier
-pub settled_brings : (a : Awaited) (got : List (List ℕ)) → a.barrier < 2 ^ 32 → AllByRecursion (λ b. IsOk (reading_of b)) got → BringMessages (wait_steps a got ++ reply_got a ∷ [])
-settled_brings a got small read = messages-append (wait_steps a got) (reply_got a ∷ []) (wait_brings a got read) (reply_brings a small, tt)
+pub barred_brings : (a : Awaited) (got : List (List ℕ)) → a.barrier < 2 ^ 32 → AllByRecursion (λ b. IsOk (reading_of b)) got → BringMessages (wait_steps a got ++ reply_got a ∷ [])
+barred_brings a got small read = messages-append (wait_steps a got) (reply_got a ∷ []) (wait_brings a got read) (reply_brings a small, tt)
 
 all_read : (got : List (List ℕ)) → AllByRecursion IsRead got → AllByRecursion (λ b. IsOk (reading_of b)) got
 all_read [] read = tt
@@ -68,7 +68,7 @@ pub waits_read : {Own : Type 0} {Tells : Type 0} {a : Awaited} {old new : Seen O
     → MessagesSince old new
 waits_read {a = a} {old = old} {new = new} front sent small w told =
     messages-by old new (front ++ (wait_steps a w.got ++ reply_got a ∷ [])) (w.hears.told told)
-    (messages-append front (wait_steps a w.got ++ reply_got a ∷ []) sent (settled_brings a w.got small (all_read w.got w.hears.read)))
+    (messages-append front (wait_steps a w.got ++ reply_got a ∷ []) sent (barred_brings a w.got small (all_read w.got w.hears.read)))
 
 -- ---- Calls
 

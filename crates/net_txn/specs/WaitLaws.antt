@@ -24,7 +24,7 @@ use Rattle.lego_model.specs.BarrierWaits.{is_awaited, refusal_of, heard, is_repl
 
 -- ---- The reply
 
-is_Reply : (h : Heard) → is_reply h ≡ true → h ≡ Reply
+pub is_Reply : (h : Heard) → is_reply h ≡ true → h ≡ Reply
 is_Reply Reply is = refl
 is_Reply (Refused r) is = absurd cc
 is_Reply Notice is = absurd cc

@@ -2,23 +2,18 @@
 -- is to it, and what it leaves. A message is judged by its header and few fields of it: the type at 1 and the transaction id at 4
 -- (5.1 OpenFlow Header), the kind and code of an ERROR at 8 and 10 (5.4.4), and the reason of a FLOW_REMOVED at 58 (5.4.2).
 -- What is done with each is our own choice.
-use Rattle.std.specs.Prelude.{◌≡◌, ◌==◌, ℕ, ◌≤◌, Bool, true, false, ◌&&◌, ◌||◌, nat_le, nat_lt, List, [], ◌∷◌, ◌++◌, length, drop, map, Option, Some, None, IsOk, if◌then◌else◌}
-use Rattle.std.specs.List.{flat_map, AllByRecursion}
-use Rattle.std.specs.Str.{bytes_eq}
-use Rattle.of_types.specs.Fields.{number_at, IsBytes}
-use Rattle.of_types.specs.declared.journal.Act.TheVariants.{Sent, Got}
-use Rattle.of_wire.specs.declared.message.Message.TheVariants.{EchoReply, BarrierRequest, BarrierReply}
+use Rattle.std.specs.Prelude.{◌≡◌, ℕ, ◌≤◌, Bool, false, List, [], ◌∷◌, ◌++◌, length, map, Option, Some, None, IsOk}
+use Rattle.std.specs.List.{AllByRecursion}
+use Rattle.of_types.specs.Fields.{IsBytes}
 use Rattle.of_wire.specs.Reading.{reading_of}
-use Rattle.of_wire.specs.Spelling.{message_bytes}
 use Rattle.outside.specs.declared.step.WorldStep.{WorldStep}
-use Rattle.outside.specs.declared.step.WorldStep.TheVariants.{Acted}
 use Rattle.outside.specs.Seen.{Seen, Continues}
 use Rattle.lego_model.specs.declared.fault.TxnFault.{TxnFault}
 use Rattle.lego_model.specs.declared.fault.TxnFault.TheVariants.{SwitchFault, SwitchBroke, Diverged, Flooded, NoMemory}
 use Rattle.lego_model.specs.declared.wait.Awaited.{Awaited}
 use Rattle.lego_model.specs.declared.wait.Refusal.{Refusal}
 use Rattle.lego_model.specs.declared.wait.Heard.{Heard}
-use Rattle.lego_model.specs.declared.wait.Heard.TheVariants.{Reply, Refused, Notice, Echo, Other}
+use Rattle.lego_model.specs.declared.wait.Heard.TheVariants.{Refused}
 use Rattle.lego_model.specs.BarrierWaits.{flood, heard, is_reply, kept_by, heard_steps, wait_steps, kept_of, reply_got}
 
 -- ---- What a message is to a wait

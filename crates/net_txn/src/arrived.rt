@@ -8,12 +8,12 @@ ghost use Rattle.of_wire.specs.Spelling.{message_bytes};
 ghost use Rattle.of_wire.specs.Grammar.{IsMessage};
 ghost use Rattle.outside.specs.Seen.{Continues};
 ghost use Rattle.outside.specs.declared.step.WorldStep.TheVariants.{Acted};
-ghost use Rattle.net_txn.specs.LinkSteps.{OnLinks, AsksInPlace};
+ghost use Rattle.net_txn.specs.LinkSteps.{OnLinks, AsksWithoutStrays};
 ghost use Rattle.net_txn.specs.Causes.{IsLinkCause};
 ghost use Rattle.net_txn.specs.Views.{rows_at};
 ghost use Rattle.net_txn.specs.Arriving.{event_of, Becomes, Arrives};
 
-use crate::arriving::{change_known, error_event, event_with, removed_key, tells};
+use crate::message_event::{change_known, error_event, event_with, removed_key, tells};
 use crate::net::Net;
 use crate::views::remove_in;
 use crate::wait::send;
@@ -46,7 +46,7 @@ fn answer_echo<W: World>(
     requires { IsMessage (messages.EchoRequest payload.now) }
     ensures continues { Continues W.Tells (W.seen world.old) (W.seen world.new) }
     ensures links { OnLinks W.Tells (W.seen world.old) (W.seen world.new) }
-    ensures in_place { AsksInPlace W.Tells dpid (W.seen world.old) (W.seen world.new) }
+    ensures no_strays { AsksWithoutStrays W.Tells dpid (W.seen world.old) (W.seen world.new) }
     ensures link { IfErr result (IsLinkCause dpid (W.seen world.old) (W.seen world.new)) }
     ensures told { W.Tells → OnOk result ((W.seen world.new).history
         ≡ (W.seen world.old).history ++ Acted (Sent dpid (message_bytes xid (messages.EchoReply payload.now))) ∷ []) }
@@ -88,7 +88,7 @@ impl Net {
         ensures err { OnErr result (self.new ≡ self.old) }
         ensures continues { Continues W.Tells (W.seen world.old) (W.seen world.new) }
         ensures links { OnLinks W.Tells (W.seen world.old) (W.seen world.new) }
-        ensures in_place { AsksInPlace W.Tells dpid (W.seen world.old) (W.seen world.new) }
+        ensures no_strays { AsksWithoutStrays W.Tells dpid (W.seen world.old) (W.seen world.new) }
         ensures link { IfErr result (IsLinkCause dpid (W.seen world.old) (W.seen world.new)) }
     {
         match message {

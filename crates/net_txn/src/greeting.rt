@@ -9,13 +9,13 @@ ghost use Rattle.flow_table.specs.Switch.{first_config};
 ghost use Rattle.outside.specs.Calls.{most_message};
 ghost use Rattle.outside.specs.Seen.{Continues};
 ghost use Rattle.outside.specs.declared.step.WorldStep.TheVariants.{Acted};
-ghost use Rattle.net_txn.specs.LinkSteps.{OnLinks, AsksInPlace};
+ghost use Rattle.net_txn.specs.LinkSteps.{OnLinks, AsksWithoutStrays};
 ghost use Rattle.net_txn.specs.Causes.{IsCause};
 ghost use Rattle.net_txn.specs.Waits.{Waits, IfFlooded, KeptMore};
 ghost use Rattle.lego_model.specs.BarrierWaits.{barrier_sent};
 ghost use Rattle.net_txn.specs.Joining.{delete_all};
 
-use crate::ask::ask;
+use crate::exchange::ask;
 use crate::queue::MessageQueue;
 use crate::wait::send;
 use lego_model::{Awaited, Refusal, TxnFault};
@@ -85,7 +85,7 @@ pub(crate) fn greet<W: World>(
         (W.seen world.old) (W.seen world.new) kept.old kept.new) }
     ensures continues { Continues W.Tells (W.seen world.old) (W.seen world.new) }
     ensures links { OnLinks W.Tells (W.seen world.old) (W.seen world.new) }
-    ensures in_place { AsksInPlace W.Tells awaited.now.dpid (W.seen world.old) (W.seen world.new) }
+    ensures no_strays { AsksWithoutStrays W.Tells awaited.now.dpid (W.seen world.old) (W.seen world.new) }
     ensures cause { IfErr result (IsCause W.Tells awaited.now.dpid (W.seen world.old) (W.seen world.new)) }
     ensures flooded { IfErr result (IfFlooded W.Tells awaited.now (Acted (Sent awaited.now.dpid first.now) ∷ Acted (Sent awaited.now.dpid second.now) ∷ barrier_sent awaited.now ∷ [])
         (W.seen world.old) (W.seen world.new)) }

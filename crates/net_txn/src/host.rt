@@ -6,7 +6,7 @@ ghost use Rattle.of_wire.specs.declared.message.Message.TheVariants as messages;
 ghost use Rattle.flow_table.specs.Errors.{bad_type, bad_len};
 ghost use Rattle.flow_table.specs.Refusals.{or_else, most_action_bytes, stats_refusal};
 ghost use Rattle.lego_model.specs.Answers.{rows_of_view, unknown_action, flow_mod_refused, not_yet, would_touch, wire_fault};
-ghost use Rattle.net_txn.specs.Host.{IsJudged, IsJudgedOf};
+ghost use Rattle.net_txn.specs.Host.{IsHostAnswer, IsHostAnswerOf};
 
 use crate::rows::would_touch;
 use app_frames::Answer;
@@ -21,10 +21,10 @@ const MOST_ACTION_BYTES: usize = 65_432;
 
 /// What the host makes of a message.
 #[derive(Drop, Debug)]
-pub(crate) enum Judged {
+pub(crate) enum HostAnswer {
     /// It answers itself.
     Answered(Answer),
-    /// The switch must judge the change.
+    /// The switch must answer the change.
     Asks(FlowMod),
 }
 
@@ -121,39 +121,39 @@ fn answer_fault(fault: &WireFault) -> OfError
 
 /// What the host makes of a FLOW_MOD.
 #[tactic(auto, unfolding(lego_model::specs::Answers::host_refusal))]
-fn judge_change(m: FlowMod, rows: &[ViewRow]) -> Judged
-    ensures { IsJudgedOf (rows_of_view rows.now) (messages.FlowMod m) result }
+fn answer_change(m: FlowMod, rows: &[ViewRow]) -> HostAnswer
+    ensures { IsHostAnswerOf (rows_of_view rows.now) (messages.FlowMod m) result }
 {
     match refuse_change(&m, rows) {
-        Some(error) => Judged::Answered(Answer::Error(error)),
-        None => Judged::Asks(m),
+        Some(error) => HostAnswer::Answered(Answer::Error(error)),
+        None => HostAnswer::Asks(m),
     }
 }
 
 /// What the host makes of a message that was read, for a switch with these rows.
 #[tactic(auto, unfolding(lego_model::specs::Answers::host_refusal))]
-fn judge_message(message: Message, rows: &[ViewRow]) -> Judged
-    ensures { IsJudgedOf (rows_of_view rows.now) message result }
+fn answer_message(message: Message, rows: &[ViewRow]) -> HostAnswer
+    ensures { IsHostAnswerOf (rows_of_view rows.now) message result }
 {
     match message {
-        Message::FlowMod(m) => judge_change(m, rows),
-        Message::StatsRequest(m) => Judged::Answered(Answer::Error(refuse_stats(&m))),
-        Message::BarrierRequest => Judged::Answered(Answer::Fine),
-        _ => Judged::Answered(Answer::Error(errors::REQUEST_BAD_TYPE)),
+        Message::FlowMod(m) => answer_change(m, rows),
+        Message::StatsRequest(m) => HostAnswer::Answered(Answer::Error(refuse_stats(&m))),
+        Message::BarrierRequest => HostAnswer::Answered(Answer::Fine),
+        _ => HostAnswer::Answered(Answer::Error(errors::REQUEST_BAD_TYPE)),
     }
 }
 
 /// What the host makes of bytes for a switch with these rows.
-pub(crate) fn judge_bytes(
+pub(crate) fn answer_bytes(
     alloc: Global,
     bytes: &[u8],
     rows: &[ViewRow],
-) -> Result<Judged, AllocError>
-    ensures { IfOk result (IsJudged (rows_of_view rows.now) bytes.now) }
+) -> Result<HostAnswer, AllocError>
+    ensures { IfOk result (IsHostAnswer (rows_of_view rows.now) bytes.now) }
 {
     match decode(alloc, bytes) {
-        Ok(envelope) => Ok(judge_message(envelope.message, rows)),
+        Ok(envelope) => Ok(answer_message(envelope.message, rows)),
         Err(WireFault::NoMemory) => Err(AllocError),
-        Err(fault) => Ok(Judged::Answered(Answer::Error(answer_fault(&fault)))),
+        Err(fault) => Ok(HostAnswer::Answered(Answer::Error(answer_fault(&fault)))),
     }
 }

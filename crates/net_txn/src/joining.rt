@@ -4,7 +4,7 @@ ghost use Rattle.std.specs.Prelude.{◌≡◌, ◌<◌, ◌^◌, ◌++◌, [], �
 ghost use Rattle.outside.specs.Seen.{Continues};
 ghost use Rattle.outside.specs.InOrder.{MessagesSince};
 ghost use Rattle.net_txn.specs.declared.ports.KnownPorts.{KnownPorts};
-ghost use Rattle.net_txn.specs.LinkSteps.{OnLinks, AsksInPlace};
+ghost use Rattle.net_txn.specs.LinkSteps.{OnLinks, AsksWithoutStrays};
 ghost use Rattle.net_txn.specs.Causes.{IsCause};
 ghost use Rattle.net_txn.specs.Waits.{IfFlooded};
 ghost use Rattle.net_txn.specs.Views.{rows_at};
@@ -108,7 +108,7 @@ impl Net {
         ensures err { OnErr result (DoesNotJoin dpid self.old self.new) }
         ensures continues { Continues W.Tells (W.seen world.old) (W.seen world.new) }
         ensures links { OnLinks W.Tells (W.seen world.old) (W.seen world.new) }
-        ensures in_place { AsksInPlace W.Tells dpid (W.seen world.old) (W.seen world.new) }
+        ensures no_strays { AsksWithoutStrays W.Tells dpid (W.seen world.old) (W.seen world.new) }
         ensures cause { IfErr result (IsCause W.Tells dpid (W.seen world.old) (W.seen world.new)) }
         ensures flooded { IfErr result (IfFlooded W.Tells (greeted_from dpid self.old.xid) (greeting dpid self.old.xid) (W.seen world.old) (W.seen world.new)) }
         ensures log { self.new.log ≡ self.old.log }
@@ -150,7 +150,7 @@ impl Net {
         ensures links { OnLinks W.Tells (W.seen world.old) (W.seen world.new) }
 
         // Where the world tells in order and the switch is joined, each call of its link is in place, also one that fails.
-        ensures in_place { AsksInPlace W.Tells dpid (W.seen world.old) (W.seen world.new) }
+        ensures no_strays { AsksWithoutStrays W.Tells dpid (W.seen world.old) (W.seen world.new) }
 
         // All bytes that came were messages.
         ensures read { OnOk result (W.Tells → MessagesSince (W.seen world.old) (W.seen world.new)) }

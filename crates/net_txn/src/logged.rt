@@ -15,7 +15,7 @@ pub(crate) const INVERSE: usize = 72;
 
 /// How an inverse fared in an undo.
 #[derive(Clone, Copy, Debug, PartialEq, Eq)]
-pub struct Fare {
+pub struct UndoProgress {
     /// The transaction id with which it was sent, else 0.
     pub xid: Xid,
     /// How many inverses were sent to its switch up to this one since the last barrier.
@@ -31,7 +31,7 @@ pub struct Logged {
     /// The key of the entry.
     pub key: Key,
     /// Room for what an undo keeps of it.
-    pub fare: Fare,
+    pub progress: UndoProgress,
 }
 
 /// The FLOW_MOD that removes the entry of a key, whatever its outputs.
@@ -71,7 +71,7 @@ pub(crate) fn undoing(dpid: Dpid, key: &Key) -> Logged
     Logged {
         dpid,
         key: *key,
-        fare: Fare {
+        progress: UndoProgress {
             xid: 0,
             since: 0,
             failed: false,

@@ -1,10 +1,10 @@
 //! Events, and messages of switches, in the order in which they came.
 
 ghost use Rattle.std.specs.Prelude.{◌≡◌, ◌==◌, ◌↔◌, ◌⊎◌, true, not, filter, [], ◌∷◌, ◌++◌, drop, length, slice_get, IsTrue, IfOk, OnOk, OnErr};
-ghost use Rattle.net_txn.specs.Place.{fits, KeptWhereFit};
+ghost use Rattle.net_txn.specs.MessageStore.{fits, KeptWhereFit};
 ghost use Rattle.net_txn.specs.Waits.{KeptMore};
 
-use crate::place::Place;
+use crate::message_store::MessageStore;
 use app_frames::Event;
 use of_types::{ByteList, Dpid};
 use std::alloc::{AllocError, Global};
@@ -75,7 +75,7 @@ pub struct MessageQueue {
     alloc: Global,
     messages: VecDeque<(Dpid, ByteList)>,
     /// What came behind those, while no memory could be taken.
-    place: Place,
+    store: MessageStore,
 }
 
 impl Model for MessageQueue {
@@ -94,7 +94,7 @@ impl MessageQueue {
         Ok(MessageQueue {
             alloc,
             messages: VecDeque::new(alloc),
-            place: Place::new(alloc)?,
+            place: MessageStore::new(alloc)?,
         })
     }
 
@@ -164,7 +164,7 @@ impl MessageQueue {
 fn gather(
     alloc: Global,
     messages: &mut VecDeque<(Dpid, ByteList)>,
-    place: &mut Place,
+    place: &mut MessageStore,
 ) -> Result<(), AllocError>
     ensures ok { OnOk result (messages.new.items ≡ messages.old.items ++ place.old) }
     ensures emptied { OnOk result (place.new ≡ []) }

@@ -142,7 +142,7 @@ fn read_parts(alloc: Global, dpid: Dpid, messages: Vec<ByteList>) -> Result<RowL
 
 /// The rows that the messages which answer a request spell. The first ERROR is a refusal, and so is the reply to the
 /// barrier where nothing answered.
-pub(crate) fn judge_replies(
+pub(crate) fn read_replies(
     alloc: Global,
     dpid: Dpid,
     request: ByteList,

@@ -57,7 +57,7 @@ impl<'a> Txn<'a> {
         ensures start { self.new.start ≡ self.old.start }
         ensures changes { Changes W.Tells dpid bytes.now (W.seen world.old) (W.seen world.new) self.old.net.now self.new.net.now result }
 
-        // What the switch judged reached it at once.
+        // What the switch answered reached it at once.
         ensures reached { Reaches W.Tells dpid bytes.now (W.seen world.old) (W.seen world.new) self.old.net.now result }
 
         // Where the world keeps its word, nothing of the switch waited, and view and table agreed, they take the step together; a

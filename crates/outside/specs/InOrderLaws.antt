@@ -84,11 +84,11 @@ messages-of seen keeps = messages_in seen.given.declared seen.history (at_first 
 
 -- ---- A longer history
 
-come_front : (declared : List Declared) (xs ys : List WorldStep) (s : State) → MayComeAll declared (xs ++ ys) s → MayComeAll declared xs s
+pub come_front : (declared : List Declared) (xs ys : List WorldStep) (s : State) → MayComeAll declared (xs ++ ys) s → MayComeAll declared xs s
 come_front declared [] ys s may = tt
 come_front declared (x ∷ xs) ys s may = (may.0, come_front declared xs ys (after_step x s) may.1)
 
-come_rest : (declared : List Declared) (xs ys : List WorldStep) (s : State) → MayComeAll declared (xs ++ ys) s → MayComeAll declared ys (after_steps xs s)
+pub come_rest : (declared : List Declared) (xs ys : List WorldStep) (s : State) → MayComeAll declared (xs ++ ys) s → MayComeAll declared ys (after_steps xs s)
 come_rest declared [] ys s may = may
 come_rest declared (x ∷ xs) ys s may = come_rest declared xs ys (after_step x s) may.1
 

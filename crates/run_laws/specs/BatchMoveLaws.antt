@@ -11,12 +11,12 @@ use Rattle.app_frames.specs.declared.frame.Event.{Event}
 use Rattle.lego_model.specs.Answers.{rows_of_table}
 use Rattle.lego_model.specs.Journal.{Reply, Start, is_of, inputs, stimuli}
 use Rattle.lego_model.specs.Places.{Place}
-use Rattle.lego_model.specs.Controller.{Quiet, Run, quiet_of, moment_after, places_after, events_after, ports_of, happen}
-use Rattle.lego_model.specs.Agreement.{AgreeQuiet, AgreeQuiets}
+use Rattle.lego_model.specs.Controller.{Run, reference_mark, places_after, events_after, ports_of, happen}
+use Rattle.lego_model.specs.Agreement.{AgreeMark, AgreeMarks}
 use Rattle.outside.specs.declared.step.WorldStep.{WorldStep}
 use Rattle.outside.specs.Seen.{Given, Seen, Continues, journal}
 use Rattle.outside.specs.SeenLaws.{journal-append}
-use Rattle.outside.specs.State.{Mark, State, mark_of, after_stim, state, switch_of, waits_of}
+use Rattle.outside.specs.State.{Mark, State, mark_of, after_stim, state, switch_of, waits_of, moment_after}
 use Rattle.outside.specs.Conforming.{Conforming}
 use Rattle.net_txn.specs.Net.{NetState}
 use Rattle.switch_laws.specs.Shown.{shown_places}
@@ -108,10 +108,10 @@ happens-stands {Own} x old new net now_net queue now_queue e ss rs r keeps same_
       queue = ap₂ (λ (q : List Event) (more : List Event). q ++ more) (s.queue ∙ same_queue) (ap₂ (λ (m : ℕ) (ps : List Place). events_after x m ps) s.moment before) ∙ sym h.queue_so;
       events = s.events;
       apps = s.apps ∙ ap (λ (given : List (List ℕ)). app_at (engine_then e now_net now_queue) given ss rs ∷ []) (sym inputs_same);
-      quiets = subst (λ (ms : List Mark). AgreeQuiets (map point_by ms) (r.quiets ++ quiet_of None r.places ∷ [])) (sym (done.stays.marks ∙ marks-then x (state old)))
-          (subst (λ (qs : List Quiet). AgreeQuiets qs (r.quiets ++ quiet_of None r.places ∷ [])) (sym (map-append point_by (state old).marks (mark_of None (state old) ∷ [])))
-          (quiets_more (map point_by (state old).marks) r.quiets (point_by (mark_of None (state old))) (quiet_of None r.places) s.quiets
-          (subst (λ (ps : List Place). AgreeQuiet (point_by (mark_of None (state old))) (quiet_of None ps)) (sym before) (mark_alike None old.given.declared net.views (state old) (links-declared old) keeps_old.declared))));
+      marks = subst (λ (ms : List Mark). AgreeMarks (map point_by ms) (r.marks ++ reference_mark None r.places ∷ [])) (sym (done.stays.marks ∙ marks-then x (state old)))
+          (subst (λ (qs : List Mark). AgreeMarks qs (r.marks ++ reference_mark None r.places ∷ [])) (sym (map-append point_by (state old).marks (mark_of None (state old) ∷ [])))
+          (quiets_more (map point_by (state old).marks) r.marks (point_by (mark_of None (state old))) (reference_mark None r.places) s.marks
+          (subst (λ (ps : List Place). AgreeMark (point_by (mark_of None (state old))) (reference_mark None ps)) (sym before) (mark_alike None old.given.declared net.views (state old) (links-declared old) keeps_old.declared))));
       life = λ alive. subst LastStands (sym own) (s.life alive);
     }
 
@@ -197,7 +197,7 @@ batch-over {Own} old new net now_net queue now_queue e settled same_net same_que
           queue = s.queue ∙ same_queue ∙ sym over.queue;
           events = s.events;
           apps = s.apps ∙ ap (λ (js : List Act). app_at (engine_then e now_net now_queue) (inputs index js) ss rs ∷ []) (sym journal_same);
-          quiets = subst (λ (t : State). AgreeQuiets (map point_by t.marks) r.quiets) (sym over.state_so) s.quiets;
+          marks = subst (λ (t : State). AgreeMarks (map point_by t.marks) r.marks) (sym over.state_so) s.marks;
           life = λ alive. subst LastStands (sym own) (s.life alive);
         };
         says = λ ss rs r starts_so replies_so s. sym (append-nil (text_of r));

@@ -15,15 +15,14 @@ use Rattle.outside.specs.State.{State, state, switch_of}
 use Rattle.outside.specs.Conforming.{Conforming}
 use Rattle.net_txn.specs.declared.logged.Logged.{Logged}
 use Rattle.net_txn.specs.Net.{NetState}
-use Rattle.net_txn.specs.Views.{rows_at, with_rows}
+use Rattle.net_txn.specs.Views.{rows_at, with_rows, is_viewed, ViewsAscend}
 use Rattle.net_txn.specs.Arriving.{without_key}
-use Rattle.net_txn.specs.Undos.{is_viewed, without_keys, StandsReady, Undoes}
+use Rattle.net_txn.specs.Undos.{without_keys, StandsReady, Undoes}
 use Rattle.switch_laws.specs.Since.{Ready, logged_since, Since, Goes}
 use Rattle.switch_laws.specs.Sound.{Sound}
 use Rattle.switch_laws.specs.SoundStepLaws.{undo-sound}
 use Rattle.switch_laws.specs.ShownUndoLaws.{again, out-again, undo-ready}
 use Rattle.batch_laws.specs.Calm.{known_ports, Calm}
-use Rattle.net_txn.specs.OrderLaws.{ViewsFrom}
 use Rattle.run_laws.specs.LinkSteps.{Rests}
 use Rattle.batch_laws.specs.InBatchLaws.{links_switch, links_waits}
 use Rattle.batch_laws.specs.JoinTellLaws.{no-rows}
@@ -87,13 +86,13 @@ first_of a b xs ys is = cc
 rest_of : (a b : ℕ) (xs ys : List ℕ) → a ∷ xs ≡ b ∷ ys → xs ≡ ys
 rest_of a b xs ys is = cc
 
-ascend_same : (least : ℕ) (vs ws : List TableView) → dpids vs ≡ dpids ws → ViewsFrom least ws → ViewsFrom least vs
+ascend_same : (least : ℕ) (vs ws : List TableView) → dpids vs ≡ dpids ws → ViewsAscend least ws → ViewsAscend least vs
 ascend_same least [] ws same all = tt
 ascend_same least (v ∷ vs) [] same all = absurd cc
 ascend_same least (v ∷ vs) (w ∷ ws) same all =
     let one = first_of v.dpid w.dpid (dpids vs) (dpids ws) same in
     let more = rest_of v.dpid w.dpid (dpids vs) (dpids ws) same in
-    (subst (λ (n : ℕ). least ≤ n) (sym one) all.0, subst (λ (n : ℕ). ViewsFrom (n + 1) vs) (sym one) (ascend_same (w.dpid + 1) vs ws more all.1))
+    (subst (λ (n : ℕ). least ≤ n) (sym one) all.0, subst (λ (n : ℕ). ViewsAscend (n + 1) vs) (sym one) (ascend_same (w.dpid + 1) vs ws more all.1))
 
 -- ---- Ports
 
@@ -151,7 +150,7 @@ module _ {Own : Type 0} (Tells : Type 0) (start : ℕ) (first old new : Seen Own
   calm_undone told keeps since ready undoes ports rests calm = record {
     ready = undo-ready Tells start first old new net0 net now_net told keeps ready undoes;
     sound = undo-sound Tells start first old new net0 net now_net told keeps since ready undoes calm.sound;
-    order = subst (ViewsFrom 0) (sym (undoes.views ∙ since.views)) calm.order;
+    order = subst (ViewsAscend 0) (sym (undoes.views ∙ since.views)) calm.order;
     ports = λ d. ap (known_ports d) (undoes.ports ∙ ports) ∙ calm.ports d ∙ sym (ports_again told keeps since ready undoes d (switch_of d (state first)) refl);
     kept = undoes.none_kept told keeps refl (λ d viewed. stands_ready d old net ready viewed (switch_of d (state old)) refl) ∙ since.kept ∙ calm.kept;
     moment = undoes.moment ∙ since.moment ∙ calm.moment ∙ sym rests.moment;

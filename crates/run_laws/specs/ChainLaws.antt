@@ -21,7 +21,8 @@ use Rattle.net_txn.specs.Net.{NetState}
 use Rattle.app_visor.specs.Talks.{step_of, Told, give_act}
 use Rattle.app_visor.specs.Beats.{Beat, Talk, Asks, Chain, acts_in}
 use Rattle.app_visor.specs.BeatLaws.{Chain-continues}
-use Rattle.app_visor.specs.Attempts.{end_acts, IsTry, OneTry, AreTries}
+use Rattle.app_visor.specs.Attempts.{IsTry, OneTry, AreTries}
+use Rattle.journal_laws.specs.Readings.{end_acts}
 use Rattle.switch_laws.specs.Sound.{Sound}
 use Rattle.switch_laws.specs.SoundStepLaws.{exchange-sound}
 use Rattle.switch_laws.specs.Since.{Goes}

@@ -6,7 +6,7 @@ use Rattle.lego_model.specs.AtOnce.{AtOnce}
 use Rattle.outside.specs.Seen.{Seen, Longer, journal}
 use Rattle.outside.specs.Conforming.{Conforming}
 use Rattle.outside.specs.InOrder.{InOrder, BringMessages}
-use Rattle.outside.specs.Quiet.{IsLastQuiet}
+use Rattle.outside.specs.Quiescence.{IsLastQuiescent}
 use Rattle.app_visor.specs.CallsFor.{CallsFor}
 use Rattle.run_laws.specs.Engine.{Engine}
 use Rattle.lego_model.specs.Application.{index}
@@ -29,7 +29,7 @@ pub record CutAlike {Own : Type 0} (allows : List Place → Bool) (seen : Seen O
   pub alike : Conforming last → CutBetweenLines allows last contents now_contents
   pub at_once : Conforming last → AtOnce index (journal seen.history)
   pub messages : InOrder seen → BringMessages last.history
-  pub last_point : InOrder seen → IsLastQuiet last seen
+  pub last_point : InOrder seen → IsLastQuiescent last seen
   pub no_other_called : CallsFor index last seen
 
 -- the same where the sink failed
@@ -40,7 +40,7 @@ pub record CutWriting {Own : Type 0} (allows : List Place → Bool) (seen : Seen
   pub alike : Conforming last → CutWhileWriting allows last contents now_contents
   pub at_once : Conforming last → AtOnce index (journal seen.history)
   pub messages : InOrder seen → BringMessages last.history
-  pub last_point : InOrder seen → IsLastQuiet last seen
+  pub last_point : InOrder seen → IsLastQuiescent last seen
   pub no_other_called : CallsFor index last seen
 
 -- ---- What parts of a run come to

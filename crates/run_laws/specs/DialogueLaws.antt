@@ -16,7 +16,7 @@ use Rattle.journal_laws.specs.AtOnceLaws.{Dialogue-append, others_say}
 use Rattle.journal_laws.specs.FrameLaws.{event_is}
 use Rattle.app_visor.specs.declared.state.TurnEnd.{TurnEnd}
 use Rattle.app_visor.specs.declared.state.TurnEnd.TheVariants as ends
-use Rattle.app_visor.specs.Dialogues.{Converses, Speaks, is_done, AreInPlace}
+use Rattle.app_visor.specs.Dialogues.{Converses, Speaks, is_done, CallsKeepOrder}
 use Rattle.app_visor.specs.RunningLaws.{dialogue_runs, dialogue_in_place}
 use Rattle.app_visor.specs.Attempts.{ready_rest}
 use Rattle.app_visor.specs.TryLaws.{tries_speak}
@@ -47,7 +47,7 @@ unfolding state
 runs_now seen a = dialogue_runs index seen.history nobody_yet a.last (at_first seen.given) a.dialogue (none_runs seen.given)
 
 -- no call for it was a stray one
-pub applications_in_place : {Own : Type 0} (seen : Seen Own) → AtOnce index (journal seen.history) → AreInPlace index seen.history (at_first seen.given)
+pub applications_in_place : {Own : Type 0} (seen : Seen Own) → AtOnce index (journal seen.history) → CallsKeepOrder index seen.history (at_first seen.given)
 applications_in_place seen a = dialogue_in_place index seen.history nobody_yet a.last (at_first seen.given) a.dialogue (none_runs seen.given)
 
 -- ---- Acts of others

@@ -7,7 +7,7 @@ use Rattle.lego_model.specs.Journal.{Reply, Start}
 use Rattle.lego_model.specs.Places.{Place}
 use Rattle.lego_model.specs.Scripted.{IsFront, AreFronts, AreStartFronts}
 use Rattle.lego_model.specs.Controller.{Dispatched, Ended, Run, Turned, restart_lines, turn, marked, dispatch}
-use Rattle.lego_model.specs.Agreement.{AgreeQuiets}
+use Rattle.lego_model.specs.Agreement.{AgreeMarks}
 use Rattle.lego_model.specs.RunReport.{event_line}
 use Rattle.outside.specs.Seen.{Given, Seen, Continues}
 use Rattle.outside.specs.State.{Mark, state, marks_at_event}
@@ -55,13 +55,13 @@ module _ {Own : Type 0} (allows : List Place → Bool) (event : Event) (text : L
       ∙ ap (λ (ps : List Place). turn allows (e.events + 1) e.net.moment event ps a) s.places
       ∙ alike.turned said_starts said later_replies starts_so front)
 
-  quiets_so : Conforming old → (alike : TurnAlike allows event text old new (with_number e) now_e starts reply) → (r : Run) → r.events ≡ e.events → r.places ≡ shown_places old.given.declared e.net.views (state old) → AgreeQuiets (points_in old) r.quiets
-      → AgreeQuiets (points_in new) (marked alike.given (r.events + 1) r.places r.quiets)
-  quiets_so keeps alike r events places quiets =
-      subst (λ (ms : List Mark). AgreeQuiets (map point_by ms) (marked alike.given (r.events + 1) r.places r.quiets)) (sym alike.marks)
-      (subst (λ (n : ℕ). AgreeQuiets (map point_by (if alike.given then marks_at_event (Some (e.events + 1)) (state old) else (state old).marks)) (marked alike.given (n + 1) r.places r.quiets)) (sym events)
-      (subst (λ (ps : List Place). AgreeQuiets (map point_by (if alike.given then marks_at_event (Some (e.events + 1)) (state old) else (state old).marks)) (marked alike.given (e.events + 1) ps r.quiets)) (sym places)
-      (quiets_at_event alike.given (e.events + 1) old.given.declared e.net.views (state old) r.quiets (state-links old).declared_so keeps.declared quiets)))
+  quiets_so : Conforming old → (alike : TurnAlike allows event text old new (with_number e) now_e starts reply) → (r : Run) → r.events ≡ e.events → r.places ≡ shown_places old.given.declared e.net.views (state old) → AgreeMarks (points_in old) r.marks
+      → AgreeMarks (points_in new) (marked alike.given (r.events + 1) r.places r.marks)
+  quiets_so keeps alike r events places marks =
+      subst (λ (ms : List Mark). AgreeMarks (map point_by ms) (marked alike.given (r.events + 1) r.places r.marks)) (sym alike.marks)
+      (subst (λ (n : ℕ). AgreeMarks (map point_by (if alike.given then marks_at_event (Some (e.events + 1)) (state old) else (state old).marks)) (marked alike.given (n + 1) r.places r.marks)) (sym events)
+      (subst (λ (ps : List Place). AgreeMarks (map point_by (if alike.given then marks_at_event (Some (e.events + 1)) (state old) else (state old).marks)) (marked alike.given (e.events + 1) ps r.marks)) (sym places)
+      (quiets_at_event alike.given (e.events + 1) old.given.declared e.net.views (state old) r.marks (state-links old).declared_so keeps.declared marks)))
 
   stands_alive : Conforming old → e.alive ≡ true → new.given ≡ old.given → (now_e.alive ≡ true → LastStands (own_acts new)) → (alike : TurnAlike allows event text old new (with_number e) now_e starts reply)
       → (said_starts : List Start) (said_replies : List Reply) (r : Run) → AreStartFronts starts said_starts → AreFronts (reply ∷ []) said_replies → Stands old e said_starts said_replies r → Stands new now_e (drop (length starts) said_starts) (drop 1 said_replies) (dispatch allows event r)
@@ -74,7 +74,7 @@ module _ {Own : Type 0} (allows : List Place → Bool) (event : Event) (text : L
         queue = s.queue ∙ sym alike.queue;
         events = ap (λ (n : ℕ). n + 1) s.events ∙ sym alike.events;
         apps = refl;
-        quiets = quiets_so keeps alike r s.events s.places s.quiets;
+        marks = quiets_so keeps alike r s.events s.places s.marks;
         life = life;
       })
 
@@ -120,7 +120,7 @@ dead_moves allows event text seen e dead text_is = record {
         queue = s.queue;
         events = ap (λ (n : ℕ). n + 1) s.events;
         apps = refl;
-        quiets = s.quiets;
+        marks = s.marks;
         life = s.life;
       });
   says = λ later_starts later_replies r starts_so replies_so s.
@@ -198,7 +198,7 @@ queue_taken seen e queue starts replies r s = record {
   queue = refl;
   events = s.events;
   apps = s.apps;
-  quiets = s.quiets;
+  marks = s.marks;
   life = s.life;
 }
 

@@ -20,7 +20,7 @@ after_one allows event i a r =
     record r {
       places = turned.places;
       lines = r.lines ++ Ended i turned.outcome ∷ restart_lines i turned.outcome turned.app;
-      quiets = marked turned.given r.events r.places r.quiets;
+      marks = marked turned.given r.events r.places r.marks;
     }
 
 one : (q : List Event) (alive stop : Bool) (x y z x2 y2 z2 : List App × Run) → x2 ≡ with_queue q x → y2 ≡ with_queue q y → z2 ≡ with_queue q z

@@ -3,7 +3,7 @@ use Rattle.std.specs.Prelude.{◌≡◌, ℕ, Bool, true, List, [], ◌∷◌, �
 use Rattle.app_frames.specs.declared.frame.Event.{Event}
 use Rattle.lego_model.specs.Journal.{Reply, Start, inputs}
 use Rattle.lego_model.specs.Controller.{App, Run}
-use Rattle.lego_model.specs.Agreement.{AgreeQuiets}
+use Rattle.lego_model.specs.Agreement.{AgreeMarks}
 use Rattle.outside.specs.Seen.{Seen}
 use Rattle.outside.specs.State.{state}
 use Rattle.net_txn.specs.Net.{NetState}
@@ -49,7 +49,7 @@ pub record Stands {Own : Type 0} (seen : Seen Own) (e : Engine) (starts : List S
   pub queue : r.queue ≡ e.queue
   pub events : r.events ≡ e.events
   pub apps : r.apps ≡ app_at e (given_in seen) starts replies ∷ []
-  pub quiets : AgreeQuiets (points_in seen) r.quiets
+  pub marks : AgreeMarks (points_in seen) r.marks
   pub life : e.alive ≡ true → LastStands (own_acts seen)
 
 -- the engine with another network and other events that wait

@@ -10,8 +10,8 @@ use Rattle.app_frames.specs.declared.frame.Event.{Event}
 use Rattle.lego_model.specs.Journal.{Reply, Start}
 use Rattle.lego_model.specs.Places.{Place}
 use Rattle.lego_model.specs.Scripted.{AreFronts, AreStartFronts}
-use Rattle.lego_model.specs.Controller.{App, Run, quiet_of, reference}
-use Rattle.lego_model.specs.Agreement.{AgreeQuiet, AgreeQuiets}
+use Rattle.lego_model.specs.Controller.{App, Run, reference_mark, reference}
+use Rattle.lego_model.specs.Agreement.{AgreeMark, AgreeMarks}
 use Rattle.lego_model.specs.RunReport.{run_report}
 use Rattle.outside.specs.Seen.{Given, Seen, journal}
 use Rattle.outside.specs.State.{Mark, State, switch_of, state}
@@ -62,11 +62,11 @@ runs-alike {Own} last new e starts replies r keeps l s =
     let same_declared : declared ≡ last.given.declared = ap (λ (g : Given Own). g.declared) l.given in
     let here : r.places ≡ shown_places declared e.net.views (state new) =
     s.places ∙ sym (ap (λ (ds : List Declared). shown_places ds e.net.views (state last)) same_declared) ∙ sym (shown-still declared e.net.views (state last) (state new) l.switches) in
-    let quiets : AgreeQuiets (points_in new) r.quiets = subst (λ (ms : List Mark). AgreeQuiets (map point_by ms) r.quiets) (sym l.marks) s.quiets in
-    let end : AgreeQuiet (last_point new) (quiet_of None r.places) =
-    subst (λ (ps : List Place). AgreeQuiet (last_point new) (quiet_of None ps)) (sym here) (mark_alike None declared e.net.views (state new) (links-declared new) keeps.declared) in
+    let marks : AgreeMarks (points_in new) r.marks = subst (λ (ms : List Mark). AgreeMarks (map point_by ms) r.marks) (sym l.marks) s.marks in
+    let end : AgreeMark (last_point new) (reference_mark None r.places) =
+    subst (λ (ps : List Place). AgreeMark (last_point new) (reference_mark None ps)) (sym here) (mark_alike None declared e.net.views (state new) (links-declared new) keeps.declared) in
     record {
-      tables = quiets_more (points_in new) r.quiets (last_point new) (quiet_of None r.places) quiets end;
+      tables = quiets_more (points_in new) r.marks (last_point new) (reference_mark None r.places) marks end;
       inputs = ap (λ (all : List App). map (λ a. a.inputs) all) s.apps ∙ ap (λ (given : List (List ℕ)). given ∷ []) (sym l.inputs);
     }
 

@@ -7,7 +7,7 @@ use Rattle.std.specs.List.{AllByRecursion}
 use Rattle.flow_table.specs.Switch.{Declared, SwitchState}
 use Rattle.of_types.specs.declared.journal.Act.{Act}
 use Rattle.lego_model.specs.Journal.{Reply, Start, inputs}
-use Rattle.lego_model.specs.Agreement.{AgreeQuiets}
+use Rattle.lego_model.specs.Agreement.{AgreeMarks}
 use Rattle.undo_laws.specs.Owned.{owned_switch}
 use Rattle.lego_model.specs.Answers.{rows_of_table}
 use Rattle.lego_model.specs.Places.{Place}
@@ -114,6 +114,6 @@ stands-first seen starts replies is = record {
   queue = refl;
   events = refl;
   apps = sym (ap (λ (given : List (List ℕ)). app_at engine_at_first given starts replies ∷ []) (given-first seen is));
-  quiets = subst (λ (s : State). AgreeQuiets (map point_by s.marks) []) (sym (state-opened seen is)) tt;
+  marks = subst (λ (s : State). AgreeMarks (map point_by s.marks) []) (sym (state-opened seen is)) tt;
   life = λ alive. absurd (true≢false (sym alive));
 }

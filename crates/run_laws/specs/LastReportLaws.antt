@@ -27,7 +27,7 @@ use Rattle.lego_model.specs.RunReport.{switch_line, flow_line, app_line, end_lin
 use Rattle.outside.specs.Seen.{Seen, is_declared, journal}
 use Rattle.outside.specs.State.{State, state, switch_of, after_act, after_step, after_steps}
 use Rattle.outside.specs.Conforming.{AreDeclaredFrom}
-use Rattle.net_txn.specs.Views.{rows_at}
+use Rattle.net_txn.specs.Views.{rows_at, ViewsAscend}
 use Rattle.net_txn.specs.Agreement.{Agrees}
 use Rattle.net_txn.specs.AskSteps.{own_rows}
 use Rattle.switch_laws.specs.Shown.{rows_or_none, flags_in, flags_at, shown_switch, places, shown_places, Stand}
@@ -46,7 +46,6 @@ use Rattle.net_txn.specs.Waits.{Waits}
 use Rattle.lego_model.specs.BarrierWaits.{heard, steps_by, wait_steps, barrier_sent, reply_got}
 use Rattle.net_txn.specs.Asks.{GivesRows}
 use Rattle.lego_model.specs.FlowQueries.{asked_from, request_sent}
-use Rattle.net_txn.specs.OrderLaws.{ViewsFrom}
 use Rattle.lego_model.specs.OrderlySteps.{IsOrderly}
 use Rattle.switch_laws.specs.OrderlyLaws.{orderly-none, orderly-then, rows-orderly}
 use Rattle.run_laws.specs.Engine.{Engine, Stands}
@@ -122,7 +121,7 @@ none-viewed d views s agrees out = none_viewed (rows_at d views) (agrees ∙ ap 
     none_viewed (Some x) h = absurd cc
 
 -- no view stands below the first
-none_below : (d least : ℕ) (views : List TableView) → ViewsFrom least views → d < least → rows_at d views ≡ None
+none_below : (d least : ℕ) (views : List TableView) → ViewsAscend least views → d < least → rows_at d views ≡ None
 none_below d least [] up below = refl
 none_below d least (v ∷ vs) up below =
     rw (ne_eqb v.dpid d (λ same. omega (arith, same, below, up.0))) (none_below d (v.dpid + 1) vs up.1 (omega (arith, below, up.0)))
@@ -143,7 +142,7 @@ abbrev viewed_text : (ℕ → List ℕ) → List TableView → List ℕ
 viewed_text g vs = flat_map (λ v. g v.dpid) vs
 
 -- What has text only where there is a view, over the declared switches: it is that over the views.
-over-views : (g : ℕ → List ℕ) (first least : ℕ) (vs : List TableView) (ds : List Declared) → ViewsFrom first vs → AreDeclaredFrom least ds → ((d : ℕ) → is_declared d ds ≡ false → rows_at d vs ≡ None)
+over-views : (g : ℕ → List ℕ) (first least : ℕ) (vs : List TableView) (ds : List Declared) → ViewsAscend first vs → AreDeclaredFrom least ds → ((d : ℕ) → is_declared d ds ≡ false → rows_at d vs ≡ None)
     → ((d : ℕ) → least ≤ d → rows_at d vs ≡ None → g d ≡ []) → viewed_text g vs ≡ declared_text g ds
 over-views g first least [] [] up are known quiet = refl
 over-views g first least (v ∷ vs) [] up are known quiet =
@@ -194,7 +193,7 @@ places-text f [] = refl
 places-text f (x ∷ xs) = ap (λ (text : List ℕ). switch_text (f x.dpid) ++ text) (places-text f xs)
 
 -- Over the views is over the places of the declared switches.
-pub places-shown : (declared : List Declared) (views : List TableView) (s : State) → ViewsFrom 0 views → AreDeclaredFrom 1 declared → Stand declared s → ((d : ℕ) → Agrees d views s)
+pub places-shown : (declared : List Declared) (views : List TableView) (s : State) → ViewsAscend 0 views → AreDeclaredFrom 1 declared → Stand declared s → ((d : ℕ) → Agrees d views s)
     → flat_map (λ v. shown_text views s v.dpid) views ≡ flat_map (λ p. switch_text p.switch) (shown_places declared views s)
 unfolding shown_places
 places-shown declared views s up are stand agrees =

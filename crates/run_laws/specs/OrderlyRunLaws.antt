@@ -16,7 +16,8 @@ use Rattle.app_visor.specs.declared.state.TurnEnd.{TurnEnd}
 use Rattle.app_visor.specs.declared.state.TurnEnd.TheVariants as ends
 use Rattle.app_visor.specs.Talks.{step_of, give_act}
 use Rattle.app_visor.specs.Beats.{Beat, Talk, Asks, Chain}
-use Rattle.app_visor.specs.Attempts.{IsTry, OneTry, AreTries, end_acts}
+use Rattle.app_visor.specs.Attempts.{IsTry, OneTry, AreTries}
+use Rattle.journal_laws.specs.Readings.{end_acts}
 use Rattle.switch_laws.specs.Orderly.{OrderlySince}
 use Rattle.lego_model.specs.OrderlySteps.{IsOrderly}
 use Rattle.switch_laws.specs.OrderlyLaws.{orderly-same, orderly-then, exchange-orderly, undo-orderly}

@@ -10,17 +10,16 @@ use Rattle.flow_table.specs.declared.entry.Entry.{Entry}
 use Rattle.flow_table.specs.declared.view.TableView.{TableView}
 use Rattle.flow_table.specs.Switch.{Declared, SwitchState}
 use Rattle.undo_laws.specs.Owned.{owned, owned_switch}
-use Rattle.lego_model.specs.Controller.{Quiet, quiet_of, is_event, is_marked, marked}
-use Rattle.lego_model.specs.Agreement.{AgreeTables, AgreeSwitches, AgreeAt, AgreeAll, AgreeQuiet, AgreeQuiets}
-use Rattle.outside.specs.State.{Link, State, Mark, link_of, switch_in, switch_of, mark_of, has_mark, marks_at_event, is_event as is_event_of}
+use Rattle.lego_model.specs.Controller.{reference_mark, is_marked, marked}
+use Rattle.lego_model.specs.Agreement.{AgreeTables, AgreeSwitches, AgreeAt, AgreeAll, AgreeMark, AgreeMarks}
+use Rattle.outside.specs.State.{Link, State, Mark, link_of, switch_in, switch_of, mark_of, has_mark, marks_at_event, is_event as is_event_of, is_event, declared_in}
 use Rattle.outside.specs.Conforming.{AreDeclaredFrom}
-use Rattle.switch_laws.specs.Standing.{declared_in}
 use Rattle.switch_laws.specs.Shown.{flags_at, places, shown_places}
 use Rattle.lego_model.specs.History.{point_by}
 
 -- ---- Lists of quiescent points
 
-pub quiets_more : (qs rs : List Quiet) (q r : Quiet) → AgreeQuiets qs rs → AgreeQuiet q r → AgreeQuiets (qs ++ q ∷ []) (rs ++ r ∷ [])
+pub quiets_more : (qs rs : List Mark) (q r : Mark) → AgreeMarks qs rs → AgreeMark q r → AgreeMarks (qs ++ q ∷ []) (rs ++ r ∷ [])
 quiets_more [] [] q r all one = (one, tt)
 quiets_more [] (s ∷ rs) q r all one = absurd all
 quiets_more (p ∷ qs) [] q r all one = absurd all
@@ -30,7 +29,7 @@ event_alike : (n : ℕ) (o : Option ℕ) → is_event n o ≡ is_event_of n o
 event_alike n None = refl
 event_alike n (Some m) = refl
 
-pub marks_alike : (n : ℕ) (ms : List Mark) (qs : List Quiet) → AgreeQuiets (map point_by ms) qs → is_marked n qs ≡ has_mark n ms
+pub marks_alike : (n : ℕ) (ms : List Mark) (qs : List Mark) → AgreeMarks (map point_by ms) qs → is_marked n qs ≡ has_mark n ms
 marks_alike n [] [] all = refl
 marks_alike n [] (q ∷ qs) all = absurd all
 marks_alike n (m ∷ ms) [] all = absurd all
@@ -74,7 +73,7 @@ all_alike views whole (l ∷ ls) all =
 
 -- the switches of a mark and those that the reference controller has in their places
 pub mark_alike : (event : Option ℕ) (declared : List Declared) (views : List TableView) (s : State) → declared_in s.links ≡ declared → AreDeclaredFrom 1 declared
-    → AgreeQuiet (point_by (mark_of event s)) (quiet_of event (shown_places declared views s))
+    → AgreeMark (point_by (mark_of event s)) (reference_mark event (shown_places declared views s))
 unfolding shown_places switch_of
 mark_alike event declared views s so are = record {
   event = refl;
@@ -84,15 +83,15 @@ mark_alike event declared views s so are = record {
 
 -- ---- Before the event of a number is first given
 
-event_at : (n : ℕ) (declared : List Declared) (views : List TableView) (s : State) (qs : List Quiet) (b : Bool) → has_mark n s.marks ≡ b → declared_in s.links ≡ declared → AreDeclaredFrom 1 declared → AgreeQuiets (map point_by s.marks) qs
-    → AgreeQuiets (map point_by (if b then s.marks else s.marks ++ mark_of (Some n) s ∷ [])) (if true && not b then qs ++ quiet_of (Some n) (shown_places declared views s) ∷ [] else qs)
+event_at : (n : ℕ) (declared : List Declared) (views : List TableView) (s : State) (qs : List Mark) (b : Bool) → has_mark n s.marks ≡ b → declared_in s.links ≡ declared → AreDeclaredFrom 1 declared → AgreeMarks (map point_by s.marks) qs
+    → AgreeMarks (map point_by (if b then s.marks else s.marks ++ mark_of (Some n) s ∷ [])) (if true && not b then qs ++ reference_mark (Some n) (shown_places declared views s) ∷ [] else qs)
 event_at n declared views s qs true is so are all = all
 event_at n declared views s qs false is so are all =
-    subst (λ (ms : List Quiet). AgreeQuiets ms (qs ++ quiet_of (Some n) (shown_places declared views s) ∷ [])) (sym (map-append point_by s.marks (mark_of (Some n) s ∷ [])))
-    (quiets_more (map point_by s.marks) qs (point_by (mark_of (Some n) s)) (quiet_of (Some n) (shown_places declared views s)) all (mark_alike (Some n) declared views s so are))
+    subst (λ (ms : List Mark). AgreeMarks ms (qs ++ reference_mark (Some n) (shown_places declared views s) ∷ [])) (sym (map-append point_by s.marks (mark_of (Some n) s ∷ [])))
+    (quiets_more (map point_by s.marks) qs (point_by (mark_of (Some n) s)) (reference_mark (Some n) (shown_places declared views s)) all (mark_alike (Some n) declared views s so are))
 
-pub quiets_at_event : (given : Bool) (n : ℕ) (declared : List Declared) (views : List TableView) (s : State) (qs : List Quiet) → declared_in s.links ≡ declared → AreDeclaredFrom 1 declared → AgreeQuiets (map point_by s.marks) qs
-    → AgreeQuiets (map point_by (if given then marks_at_event (Some n) s else s.marks)) (marked given n (shown_places declared views s) qs)
+pub quiets_at_event : (given : Bool) (n : ℕ) (declared : List Declared) (views : List TableView) (s : State) (qs : List Mark) → declared_in s.links ≡ declared → AreDeclaredFrom 1 declared → AgreeMarks (map point_by s.marks) qs
+    → AgreeMarks (map point_by (if given then marks_at_event (Some n) s else s.marks)) (marked given n (shown_places declared views s) qs)
 quiets_at_event true n declared views s qs so are all =
     rw (marks_alike n s.marks qs all) (event_at n declared views s qs (has_mark n s.marks) refl so are all)
 quiets_at_event false n declared views s qs so are all = all

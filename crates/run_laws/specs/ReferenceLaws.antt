@@ -16,7 +16,7 @@ abbrev next_run : Turned → Run → Run
 next_run t r = record r {
   places = t.places;
   lines = r.lines ++ Ended 0 t.outcome ∷ restart_lines 0 t.outcome t.app;
-  quiets = marked t.given r.events r.places r.quiets;
+  marks = marked t.given r.events r.places r.marks;
 }
 
 abbrev turned_one : Turned → Run → List App × Run

@@ -16,7 +16,7 @@ after_turn t r = record r {
   places = t.places;
   apps = t.app.0 ∷ [];
   lines = r.lines ++ Ended 0 t.outcome ∷ restart_lines 0 t.outcome t.app;
-  quiets = marked t.given r.events r.places r.quiets;
+  marks = marked t.given r.events r.places r.marks;
 }
 
 abbrev pub without_turn : App → Run → Run

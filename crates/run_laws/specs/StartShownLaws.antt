@@ -4,7 +4,7 @@ use Rattle.std.proofs.lemmas.List.{append-nil}
 use Rattle.std.proofs.lemmas.List.Concat.{flat_map-append}
 use Rattle.flow_table.specs.declared.view.TableView.{TableView}
 use Rattle.app_frames.specs.declared.cause.Tried.{Tried}
-use Rattle.lego_model.specs.Agreement.{AgreeQuiets}
+use Rattle.lego_model.specs.Agreement.{AgreeMarks}
 use Rattle.lego_model.specs.Controller.{App, Line, Run, Started, gone_line, start_all, started, attempts}
 use Rattle.lego_model.specs.RunReport.{line_text}
 use Rattle.outside.specs.Seen.{Given, Seen}
@@ -52,7 +52,7 @@ start-shown {Own} Tells text old new e now_e starts = record {
                 queue = t.queue ∙ sym s.queue;
                 events = t.events ∙ sym s.events;
                 apps = refl;
-                quiets = subst (λ (ms : List Mark). AgreeQuiets (map point_by ms) r.quiets) (sym s.keeps.marks) t.quiets;
+                marks = subst (λ (ms : List Mark). AgreeMarks (map point_by ms) r.marks) (sym s.keeps.marks) t.marks;
                 life = s.life;
               });
           says = λ ss rs r starts_so replies_so t.

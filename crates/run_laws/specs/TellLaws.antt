@@ -14,28 +14,18 @@ use Rattle.outside.specs.State.{state, is_running}
 use Rattle.net_txn.specs.Net.{NetState}
 use Rattle.app_visor.specs.Talks.{step_of}
 use Rattle.app_visor.specs.Beats.{Beat, Talk, Asks, Chain, acts_in}
-use Rattle.app_visor.specs.Attempts.{end_acts, restored, IsTry, OneTry, AreTries, given_by}
+use Rattle.app_visor.specs.Attempts.{restored, IsTry, OneTry, AreTries, given_by}
+use Rattle.journal_laws.specs.Readings.{end_acts}
 use Rattle.lego_model.specs.Application.{index}
 use Rattle.lego_model.specs.History.{given_in, stimuli_in}
 use Rattle.run_laws.specs.ChainLaws.{links_tell, try_own, try_given}
 use Rattle.run_laws.specs.LinkSteps.{TellsGiven}
+use Rattle.app_visor.specs.TellingLaws.{journal_steps}
 
 abbrev AreOwn : List Act → Type 0
 AreOwn acts = AllByRecursion (λ act. is_of index act ≡ true) acts
 
 -- ---- Calls for the application
-
-journal_talk : (acts : List Act) → journal (map step_of acts) ≡ acts
-unfolding journal
-journal_talk [] = refl
-journal_talk (Stim x ∷ acts) = ap (λ (more : List Act). Stim x ∷ more) (journal_talk acts)
-journal_talk (Started app stands ∷ acts) = ap (λ (more : List Act). Started app stands ∷ more) (journal_talk acts)
-journal_talk (Gave app bytes ∷ acts) = ap (λ (more : List Act). Gave app bytes ∷ more) (journal_talk acts)
-journal_talk (Gone app bytes ∷ acts) = ap (λ (more : List Act). Gone app bytes ∷ more) (journal_talk acts)
-journal_talk (Took app what ∷ acts) = ap (λ (more : List Act). Took app what ∷ more) (journal_talk acts)
-journal_talk (Ended app ∷ acts) = ap (λ (more : List Act). Ended app ∷ more) (journal_talk acts)
-journal_talk (Sent d bytes ∷ acts) = ap (λ (more : List Act). Sent d bytes ∷ more) (journal_talk acts)
-journal_talk (Got d bytes ∷ acts) = ap (λ (more : List Act). Got d bytes ∷ more) (journal_talk acts)
 
 no_stimuli : (acts : List Act) → AreOwn acts → stimuli acts ≡ []
 unfolding stimuli
@@ -61,7 +51,7 @@ tells_then a b c xs ys first second = record {
 tells_talk : {Own : Type 0} (old new : Seen Own) (acts : List Act) → new.history ≡ old.history ++ map step_of acts → AreOwn acts → TellsGiven old new (inputs index acts)
 tells_talk old new acts history own =
     let longer : journal new.history ≡ journal old.history ++ acts =
-    ap journal history ∙ journal-append old.history (map step_of acts) ∙ ap (λ (more : List Act). journal old.history ++ more) (journal_talk acts) in
+    ap journal history ∙ journal-append old.history (map step_of acts) ∙ ap (λ (more : List Act). journal old.history ++ more) (journal_steps acts) in
     record {
       given = ap (inputs index) longer ∙ inputs-append index (journal old.history) acts;
       stims = ap stimuli longer ∙ stimuli-append (journal old.history) acts ∙ ap (λ (xs : List WorldStim). stimuli_in old ++ xs) (no_stimuli acts own) ∙ append-nil (stimuli_in old);

@@ -37,7 +37,7 @@ use Rattle.lego_model.specs.BarrierWaits.{next_xid, heard, steps_by, wait_steps,
 use Rattle.lego_model.specs.FlowQueries.{asked_from, request_sent}
 use Rattle.net_txn.specs.Changes.{Changes, answer_of_host, known_rows, change_sent}
 use Rattle.net_txn.specs.Joining.{greeting, greeted_from, delete_all}
-use Rattle.net_txn.specs.Undos.{Part, Inverse, Settled, Stuck, part_steps, steps_of, alone, fault_in, first_fault, first_fault_of, ended_by, Undoes}
+use Rattle.net_txn.specs.Undos.{Part, Inverse, BarrierPassed, Stuck, part_steps, steps_of, alone, fault_in, first_fault, first_fault_of, ended_by, Undoes}
 use Rattle.net_txn.specs.NoticeLaws.{kind_of_header}
 use Rattle.switch_laws.specs.AskedLaws.{asked}
 use Rattle.switch_laws.specs.Orderly.{OrderlySince}
@@ -272,7 +272,7 @@ module _ (app : ℕ) where
 
   part-orderly : (d : ℕ) (p : Part) → fault_in p ≡ None → AllByRecursion (IsOrderly app) (part_steps d p)
   part-orderly d (Inverse xid k) is = (inverse-orderly d xid k, tt)
-  part-orderly d (Settled xid got) is = (barrier-orderly d xid, ended-orderly (alone d xid) got)
+  part-orderly d (BarrierPassed xid got) is = (barrier-orderly d xid, ended-orderly (alone d xid) got)
   part-orderly d (Stuck xid fault steps) is = absurd cc
 
   parts-orderly : (parts : List (ℕ × Part)) → first_fault parts ≡ None → AllByRecursion (IsOrderly app) (steps_of parts)

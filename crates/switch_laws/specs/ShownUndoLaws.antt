@@ -17,10 +17,10 @@ use Rattle.lego_model.specs.Places.{Place, switch_undone, undone_places}
 use Rattle.outside.specs.Seen.{Seen}
 use Rattle.outside.specs.State.{State, state, switch_of}
 use Rattle.outside.specs.Conforming.{Conforming}
-use Rattle.net_txn.specs.Views.{rows_at}
+use Rattle.net_txn.specs.Views.{rows_at, is_viewed}
 use Rattle.net_txn.specs.Net.{NetState}
 use Rattle.net_txn.specs.Agreement.{Agrees}
-use Rattle.net_txn.specs.Undos.{keys_of, is_viewed, Undoes}
+use Rattle.net_txn.specs.Undos.{keys_of, Undoes}
 use Rattle.switch_laws.specs.Shown.{flags_at, shown_switch, places, shown_places}
 use Rattle.switch_laws.specs.StandLaws.{table-serialed}
 use Rattle.switch_laws.specs.Since.{Ready, logged_since, JoinedSince, Since}

@@ -8,7 +8,7 @@ use Rattle.outside.specs.Seen.{Seen}
 use Rattle.outside.specs.State.{state, switch_of, waits_of}
 use Rattle.net_txn.specs.Net.{NetState}
 use Rattle.net_txn.specs.Agreement.{Agrees}
-use Rattle.net_txn.specs.Undos.{but_fare, without_keys, keys_of}
+use Rattle.net_txn.specs.Undos.{key_logged, without_keys, keys_of}
 use Rattle.of_wire.specs.declared.bodies.FlowMod.{FlowMod as Change}
 use Rattle.flow_table.specs.Change.{key_in, is_delete}
 
@@ -19,7 +19,7 @@ pub record Ready {Own : Type 0} (seen : Seen Own) (net : NetState) : Type 0 wher
 
 -- the keys that were logged from a place on, with their switches
 abbrev pub logged_since : ℕ → NetState → List (ℕ × Key)
-logged_since start net = map but_fare (drop start net.log)
+logged_since start net = map key_logged (drop start net.log)
 
 -- a switch to whose table these keys were added since
 pub record SwitchSince (keys : List Key) (before now : SwitchState) : Type 0 where

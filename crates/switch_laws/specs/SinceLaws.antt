@@ -32,7 +32,7 @@ use Rattle.net_txn.specs.RowLaws.{sent, sent_adds, known_command}
 use Rattle.net_txn.specs.Net.{NetState, logged_at}
 use Rattle.net_txn.specs.Changes.{known_rows, answer_of_host, error_in, views_by, log_by, Asked, Changes}
 use Rattle.net_txn.specs.Agreement.{Agrees, InStep, Steps}
-use Rattle.net_txn.specs.Undos.{but_fare, without_keys, keys_of}
+use Rattle.net_txn.specs.Undos.{key_logged, without_keys, keys_of}
 use Rattle.switch_laws.specs.Shown.{Passes, has_row, Known}
 use Rattle.switch_laws.specs.ShownChangeLaws.{asks_the_same}
 use Rattle.switch_laws.specs.AskedLaws.{asked}
@@ -52,7 +52,7 @@ begun-switch s = record { rest = refl; added = OnlyAdded-nothing s.table.entries
 
 pub begun : {Own : Type 0} (seen : Seen Own) (net : NetState) → Since (length net.log) seen seen net net
 begun seen net =
-    let none : logged_since (length net.log) net ≡ [] = ap (map but_fare) (nothing_behind net.log) in
+    let none : logged_since (length net.log) net ≡ [] = ap (map key_logged) (nothing_behind net.log) in
     record {
       started = omega arith;
       given = refl;
@@ -81,8 +81,8 @@ keys_of-other d e k other (p ∷ ps) =
       | inr not_here ↦ rw not_here (keys_of-other d e k other ps)
     ]
 
-logged_more : (start : ℕ) (log : List Logged) (x : Logged) → start ≤ length log → map but_fare (drop start (log ++ x ∷ [])) ≡ map but_fare (drop start log) ++ but_fare x ∷ []
-logged_more start log x le = ap (map but_fare) (drop-append-le start log (x ∷ []) le) ∙ map-append but_fare (drop start log) (x ∷ [])
+logged_more : (start : ℕ) (log : List Logged) (x : Logged) → start ≤ length log → map key_logged (drop start (log ++ x ∷ [])) ≡ map key_logged (drop start log) ++ key_logged x ∷ []
+logged_more start log x le = ap (map key_logged) (drop-append-le start log (x ∷ []) le) ∙ map-append key_logged (drop start log) (x ∷ [])
 
 -- ---- A DELETE that touches no row
 
@@ -150,20 +150,20 @@ keys_then : (refusal_of : Option Refusal) (m : Change) → List Key
 keys_then None m = keys_by m
 keys_then (Some r) m = []
 
-logged_here : (start d : ℕ) (m : Change) (log : List Logged) (refusal_of : Option Refusal) → start ≤ length log → keys_of d (map but_fare (drop start (log_by refusal_of d m log))) ≡ keys_of d (map but_fare (drop start log)) ++ keys_then refusal_of m
+logged_here : (start d : ℕ) (m : Change) (log : List Logged) (refusal_of : Option Refusal) → start ≤ length log → keys_of d (map key_logged (drop start (log_by refusal_of d m log))) ≡ keys_of d (map key_logged (drop start log)) ++ keys_then refusal_of m
 unfolding keys_then
 logged_here start d m log None le =
     elim (cases_Bool (is_delete m)) [
-      | inl deletes_it ↦ rw deletes_it (sym (append-nil (keys_of d (map but_fare (drop start log)))))
-      | inr other ↦ rw other (ap (keys_of d) (logged_more start log (logged_at d (key_in m)) le) ∙ keys_of-same d (key_in m) (map but_fare (drop start log)))
+      | inl deletes_it ↦ rw deletes_it (sym (append-nil (keys_of d (map key_logged (drop start log)))))
+      | inr other ↦ rw other (ap (keys_of d) (logged_more start log (logged_at d (key_in m)) le) ∙ keys_of-same d (key_in m) (map key_logged (drop start log)))
     ]
-logged_here start d m log (Some r) le = sym (append-nil (keys_of d (map but_fare (drop start log))))
+logged_here start d m log (Some r) le = sym (append-nil (keys_of d (map key_logged (drop start log))))
 
-logged_elsewhere : (start d e : ℕ) (m : Change) (log : List Logged) (refusal_of : Option Refusal) → e ≢ d → start ≤ length log → keys_of e (map but_fare (drop start (log_by refusal_of d m log))) ≡ keys_of e (map but_fare (drop start log))
+logged_elsewhere : (start d e : ℕ) (m : Change) (log : List Logged) (refusal_of : Option Refusal) → e ≢ d → start ≤ length log → keys_of e (map key_logged (drop start (log_by refusal_of d m log))) ≡ keys_of e (map key_logged (drop start log))
 logged_elsewhere start d e m log None other le =
     elim (cases_Bool (is_delete m)) [
       | inl deletes_it ↦ rw deletes_it refl
-      | inr not_delete ↦ rw not_delete (ap (keys_of e) (logged_more start log (logged_at d (key_in m)) le) ∙ keys_of-other d e (key_in m) other (map but_fare (drop start log)))
+      | inr not_delete ↦ rw not_delete (ap (keys_of e) (logged_more start log (logged_at d (key_in m)) le) ∙ keys_of-other d e (key_in m) other (map key_logged (drop start log)))
     ]
 logged_elsewhere start d e m log (Some r) other le = refl
 
@@ -177,15 +177,15 @@ longer start d m log (Some r) le = le
 
 -- the views without the logged keys stay
 views_then : (start d : ℕ) (m : Change) (log : List Logged) (refusal_of : Option Refusal) (rows : List ViewRow) (views : List TableView) → start ≤ length log → rows_at d views ≡ Some rows → (is_delete m ≡ false → refusal_of ≡ None → has_row (key_in m) rows ≡ false)
-    → without_keys (map but_fare (drop start (log_by refusal_of d m log))) (views_by refusal_of d m views) ≡ without_keys (map but_fare (drop start log)) views
+    → without_keys (map key_logged (drop start (log_by refusal_of d m log))) (views_by refusal_of d m views) ≡ without_keys (map key_logged (drop start log)) views
 unfolding rows_after
 views_then start d m log None rows views le is new =
     elim (cases_Bool (is_delete m)) [
-      | inl deletes_it ↦ rw deletes_it (ap (without_keys (map but_fare (drop start log))) (with_rows-kept d views))
+      | inl deletes_it ↦ rw deletes_it (ap (without_keys (map key_logged (drop start log))) (with_rows-kept d views))
       | inr other ↦
           rw other
           (ap (λ (ps : List (ℕ × Key)). without_keys ps (with_rows d (with_row (row_in m)) views)) (logged_more start log (logged_at d (key_in m)) le)
-          ∙ without-added (map but_fare (drop start log)) d (row_in m) rows views is (new other refl))
+          ∙ without-added (map key_logged (drop start log)) d (row_in m) rows views is (new other refl))
     ]
 views_then start d m log (Some r) rows views le is new = refl
 
@@ -229,7 +229,7 @@ module _ {Own : Type 0} (Tells : Type 0) (d start : ℕ) (first old new : Seen O
             let j = since.joined d s (ap (λ (n : ℕ). switch_of n (state first)) (sym same) ∙ is) in
             let this : j.switch ≡ k.switch = one_value j.switch k.switch (sym j.is ∙ k.switch_is) in
             let keys : keys_of d (logged_since start now_net) ≡ keys_of d (logged_since start net) ++ keys_then refusal_of m =
-            ap (λ (log : List Logged). keys_of d (map but_fare (drop start log))) log_so ∙ logged_here start d m net.log refusal_of since.started in
+            ap (λ (log : List Logged). keys_of d (map key_logged (drop start log))) log_so ∙ logged_here start d m net.log refusal_of since.started in
             let after = switch_then m (keys_of d (logged_since start net)) s k.switch refusal_of k.passes refused (subst (SwitchSince (keys_of d (logged_since start net)) s) this j.since) in
             subst (λ (n : ℕ). JoinedSince (keys_of n (logged_since start now_net)) s (switch_of n (state new))) (sym same)
             (record {
@@ -240,7 +240,7 @@ module _ {Own : Type 0} (Tells : Type 0) (d start : ℕ) (first old new : Seen O
         | inr other ↦
             let j = since.joined e s is in
             let keys : keys_of e (logged_since start now_net) ≡ keys_of e (logged_since start net) =
-            ap (λ (log : List Logged). keys_of e (map but_fare (drop start log))) log_so ∙ logged_elsewhere start d e m net.log refusal_of other since.started in
+            ap (λ (log : List Logged). keys_of e (map key_logged (drop start log))) log_so ∙ logged_elsewhere start d e m net.log refusal_of other since.started in
             record {
               switch = j.switch;
               is = step.others e other ∙ j.is;

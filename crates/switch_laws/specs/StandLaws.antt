@@ -27,9 +27,9 @@ use Rattle.undo_laws.specs.SerialsLaws.{IsSerialed-empty, IsSerialed-changed, Is
 use Rattle.outside.specs.declared.step.WorldStep.{WorldStep}
 use Rattle.outside.specs.declared.step.WorldStep.TheVariants.{Acted, TookInto, From, Joined, Left, Moment, Idle, End, Opened, NotOpened, NextFailed, SendFailed, RecvFailed}
 use Rattle.outside.specs.Seen.{Given, Seen, is_declared}
-use Rattle.outside.specs.State.{Link, State, link_at_first, at_first, link_of, switch_in, switch_of, with_link, switch_joined, link_joined, link_left, link_stimulated, switch_told, link_sent, link_got, link_told, link_failed, links_after, after_stim, after_act, after_step, after_steps, state}
+use Rattle.outside.specs.State.{Link, State, link_at_first, at_first, link_of, switch_in, switch_of, with_link, switch_joined, link_joined, link_left, link_stimulated, switch_told, link_sent, link_got, link_told, link_failed, links_after, after_stim, after_act, after_step, after_steps, state, declared_in}
 use Rattle.switch_laws.specs.Shown.{Stand}
-use Rattle.switch_laws.specs.Standing.{Serialed, SerialedIn, Tables, declared_in, Keeps, AreLinks}
+use Rattle.switch_laws.specs.Standing.{Serialed, SerialedIn, Tables, Keeps, AreLinks}
 
 -- ---- One switch
 

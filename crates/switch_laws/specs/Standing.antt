@@ -1,9 +1,9 @@
 -- What calls leave of switches. All of this is our own.
-use Rattle.std.specs.Prelude.{◌≡◌, List, map, Option, Some, None}
+use Rattle.std.specs.Prelude.{◌≡◌, List, Option, Some, None}
 use Rattle.std.specs.List.{AllByRecursion}
 use Rattle.flow_table.specs.Switch.{Declared, SwitchState}
 use Rattle.undo_laws.specs.Serials.{IsSerialed}
-use Rattle.outside.specs.State.{Link}
+use Rattle.outside.specs.State.{Link, declared_in}
 
 abbrev pub Serialed : SwitchState → Type 0
 Serialed s = IsSerialed s.table
@@ -19,9 +19,6 @@ pub record Keeps (change : Link → Link) : Type 0 where
 
 abbrev pub Tables : List Link → Type 0
 Tables ls = AllByRecursion (λ l. SerialedIn l.switch) ls
-
-abbrev pub declared_in : List Link → List Declared
-declared_in ls = map (λ l. l.declared) ls
 
 -- the links are of the declared switches, and their tables stand
 pub record AreLinks (declared : List Declared) (ls : List Link) : Type 0 where

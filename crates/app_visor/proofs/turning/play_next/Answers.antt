@@ -31,7 +31,7 @@ returns-in_default g c = record {
   same_reference = refl;
   start = refl;
   leads = leads_comes c.in_ok-came.came c.args.txn.now.net.now c.in_ok-came.ensures.ok;
-  ok = rw c.judge_came.ensures (ends_over g.W.World.Tells (g.J.Judge.accepts c.args.judge.now) c.args.app c.in_ok-came.came c.args.intake.now c.next_frame.new.intake (g.W.World.seen c.args.world.now)
+  ok = rw c.cause_of.ensures (ends_over g.W.World.Tells (g.J.Judge.accepts c.args.judge.now) c.args.app c.in_ok-came.came c.args.intake.now c.next_frame.new.intake (g.W.World.seen c.args.world.now)
       (g.W.World.seen c.next_frame.new.world) c.args.txn.now.net.now (not_frame c.in_ok-came.came c.in_default.not-Frame) c.in_ok-came.ensures.ok);
   err = tt;
   talks = tt;

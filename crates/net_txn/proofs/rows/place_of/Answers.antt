@@ -1,6 +1,6 @@
 use Rattle.std.proofs.Common.{arith}
 use Rattle.std.proofs.lemmas.Bool.Decides.{nat_tests}
-use Rattle.net_txn.proofs.Places.{rows_more, rows_stop, rows_end}
+use Rattle.net_txn.proofs.ViewPositions.{rows_more, rows_stop, rows_end}
 use Rattle.of_match.specs.Key.{place}
 use Rattle.net_txn.proofs.rows.place_of.Goals as goal
 

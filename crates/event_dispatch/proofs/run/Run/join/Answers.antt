@@ -6,8 +6,8 @@ use Rattle.event_dispatch.specs.Why.{IsReason, fault_of}
 use Rattle.event_dispatch.specs.FaultLaws.{join_why}
 use Rattle.std.proofs.Common.{sym, ap, subst}
 use Rattle.outside.specs.Seen.{Seen}
-use Rattle.net_txn.specs.LinkSteps.{AsksInPlace}
-use Rattle.net_txn.specs.LinkPlaceLaws.{in_place_none}
+use Rattle.net_txn.specs.LinkSteps.{AsksWithoutStrays}
+use Rattle.net_txn.specs.LinkStrayLaws.{no_strays_none}
 use Rattle.event_dispatch.specs.Told.{OnlyMessages}
 use Rattle.event_dispatch.specs.BatchSteadyLaws.{only_none}
 use Rattle.event_dispatch.specs.Talking.{KeepsTalking}
@@ -42,9 +42,9 @@ pub returns-clause-places : goal.returns-clause-places
 returns-clause-places g c =
     elim c.match-message.branch [
       | in-FeaturesReply+in_ok-joined+in_ok-announce w ↦
-          subst (λ (s : Seen _). AsksInPlace g.W.World.Tells c.args.dpid (g.W.World.seen c.args.world.now) s) (sym (ap g.W.World.seen w.world-is)) w.joined.ensures.in_place
+          subst (λ (s : Seen _). AsksWithoutStrays g.W.World.Tells c.args.dpid (g.W.World.seen c.args.world.now) s) (sym (ap g.W.World.seen w.world-is)) w.joined.ensures.no_strays
       | in_default w ↦
-          subst (λ (s : Seen _). AsksInPlace g.W.World.Tells c.args.dpid (g.W.World.seen c.args.world.now) s) (sym (ap g.W.World.seen w.world-is)) (λ told order joined. in_place_none (g.W.World.seen c.args.world.now))
+          subst (λ (s : Seen _). AsksWithoutStrays g.W.World.Tells c.args.dpid (g.W.World.seen c.args.world.now) s) (sym (ap g.W.World.seen w.world-is)) (λ told order joined. no_strays_none (g.W.World.seen c.args.world.now))
     ]
 
 pub returns-clause-messages : goal.returns-clause-messages

@@ -1,5 +1,5 @@
-use Rattle.net_txn.specs.PlaceLaws.{where_fit_one}
-use Rattle.net_txn.proofs.PlaceSteps.{put_last}
+use Rattle.net_txn.specs.MessageStoreLaws.{where_fit_one}
+use Rattle.net_txn.proofs.MessageStoreSteps.{put_last}
 use Rattle.net_txn.proofs.queue.MessageQueue.keep_or_drop.Goals as goal
 
 pub returns-clause-kept_or_dropped : goal.returns-clause-kept_or_dropped
