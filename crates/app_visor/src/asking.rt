@@ -12,7 +12,7 @@ ghost use Rattle.app_visor.specs.CallsFor.{Calmly};
 use crate::talk::give;
 use app_frames::{Answer, Event, HostFrame, encode_host};
 use net_txn::{Txn, TxnFault};
-use of_types::ByteList;
+use of_types::{ByteList, Dpid};
 use outside::World;
 use std::alloc::{AllocError, Global};
 
@@ -51,7 +51,7 @@ pub(crate) fn exchange<W: World>(
     world: &mut W,
     txn: &mut Txn<'_>,
     app: u32,
-    dpid: u64,
+    dpid: Dpid,
     bytes: &[u8],
 ) -> Result<bool, TxnFault>
     ensures same_reference { txn.new.net.ghost_name ≡ txn.old.net.ghost_name }

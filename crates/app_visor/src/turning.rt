@@ -21,7 +21,7 @@ use crate::talk::{give, next_frame};
 use app_frames::{AppFrame, Cause, Event};
 use flow_table::Judge;
 use net_txn::{Txn, TxnFault};
-use of_types::ByteList;
+use of_types::{ByteList, Dpid};
 use outside::World;
 use std::alloc::{AllocError, Global};
 use std::mem::replace;
@@ -56,7 +56,7 @@ fn answer<W: World, J: Judge>(
     txn: &mut Txn<'_>,
     judge: &J,
     app: u32,
-    dpid: u64,
+    dpid: Dpid,
     bytes: ByteList,
 ) -> Result<Option<TurnEnd>, TxnFault>
     ensures same_reference { txn.new.net.ghost_name ≡ txn.old.net.ghost_name }

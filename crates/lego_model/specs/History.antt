@@ -5,7 +5,7 @@ use Rattle.std.specs.List.{flat_map}
 use Rattle.of_types.specs.declared.journal.Act.{Act}
 use Rattle.of_types.specs.declared.journal.WorldStim.{WorldStim}
 use Rattle.outside.specs.Seen.{Seen, journal}
-use Rattle.outside.specs.State.{Mark, state, Link}
+use Rattle.outside.specs.State.{Mark, mark_of, state}
 use Rattle.lego_model.specs.Journal.{is_of, inputs, stimuli, Reply, Start, Attempt, in_attempts, in_turns, start_of, reply_of}
 use Rattle.lego_model.specs.Application.{index}
 
@@ -37,12 +37,9 @@ abbrev pub stimuli_in : {Own : Type 0} → Seen Own → List WorldStim
 stimuli_in seen = stimuli (journal seen.history)
 
 -- the quiescent points, in order, each with the switches as they stood
-abbrev pub point_by : Mark → Mark
-point_by m = record { event = m.event; switches = m.switches }
-
 abbrev pub points_in : {Own : Type 0} → Seen Own → List Mark
-points_in seen = map point_by (state seen).marks
+points_in seen = (state seen).marks
 
 -- how the switches stand at the end
 abbrev pub last_point : {Own : Type 0} → Seen Own → Mark
-last_point seen = record { event = None; switches = map (λ (l : Link). l.switch) (state seen).links }
+last_point seen = mark_of None (state seen)

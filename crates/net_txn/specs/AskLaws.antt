@@ -22,13 +22,10 @@ use Rattle.net_txn.specs.LinkSteps.{AsksWithoutStrays}
 use Rattle.net_txn.specs.Causes.{IsCause}
 use Rattle.net_txn.specs.Waits.{Waits, IfFlooded, KeptMore}
 use Rattle.lego_model.specs.BarrierWaits.{barrier_sent, next_xid}
-use Rattle.net_txn.specs.WaitLaws.{waits_kept}
+use Rattle.net_txn.specs.WaitLaws.{waits_kept, of_switch}
 use Rattle.net_txn.specs.ChangeLaws.{kept_for}
 use Rattle.net_txn.specs.Asks.{others_in, AreRowsOf, IsPartsFault, IsRepliesFault, Answered, GivesRows, IsAskCause}
 use Rattle.lego_model.specs.FlowQueries.{flows_request, request_sent, asked_from, is_about, part_in, parts_in, refusals_in, part_of, all_parts, WhyBroken}
-
-abbrev of_switch : ℕ → List ℕ → ℕ × List ℕ
-of_switch d b = (d, b)
 
 both_true : (a b : Bool) → (a && b) ≡ true → (a ≡ true) × (b ≡ true)
 both_true true b h = (refl, h)

@@ -50,10 +50,8 @@ use Rattle.lego_model.specs.FlowQueries.{all_flows, flows_request, request_sent,
 use Rattle.net_txn.specs.AskLaws.{part_refuses_not}
 use Rattle.net_txn.specs.AskSteps.{own_rows, RowsInStep}
 use Rattle.net_txn.specs.ReplyLaws.{IsSmallPart, IsPartOf-part_bytes, heard_part, about_part, small_parts, joined_parts}
+use Rattle.net_txn.specs.WaitLaws.{of_switch}
 use Rattle.of_match.specs.FieldsLaws.{bytes_of-length}
-
-abbrev of_switch : ℕ → List ℕ → ℕ × List ℕ
-of_switch d b = (d, b)
 
 -- ---- The request
 

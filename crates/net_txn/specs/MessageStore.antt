@@ -1,4 +1,4 @@
--- Messages in a place of fixed size: their bytes, one message behind the other, and of each the switch and the number of bytes.
+-- Messages in a store of fixed size: their bytes, one message behind the other, and of each the switch and the number of bytes.
 -- All of this is our own.
 use Rattle.std.specs.Prelude.{◌≡◌, ◌⊎◌, ℕ, ◌+◌, Bool, false, ◌&&◌, nat_lt, nat_le, List, [], ◌∷◌, ◌++◌, length, take, drop}
 

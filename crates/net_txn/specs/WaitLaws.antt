@@ -143,7 +143,7 @@ step_before {Tells = Tells} {a = a} {front = front} {old = old} {mid = mid} {new
 
 -- ---- What was kept so far
 
-abbrev of_switch : ℕ → List ℕ → ℕ × List ℕ
+abbrev pub of_switch : ℕ → List ℕ → ℕ × List ℕ
 of_switch d b = (d, b)
 
 kept_by_more : (d : ℕ) (h : Heard) (b : List ℕ) → KeptMore d [] (kept_by d h b)

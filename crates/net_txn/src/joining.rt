@@ -35,7 +35,7 @@ fn greeted(dpid: Dpid, xid: Xid) -> Awaited
 }
 
 /// Where the view of a switch goes.
-fn place_for(views: &[TableView], dpid: Dpid) -> usize
+fn position_for(views: &[TableView], dpid: Dpid) -> usize
     ensures { IsViewPlace dpid views.now result }
 {
     for (i, view) in views.iter().enumerate() {
@@ -51,7 +51,7 @@ fn put_view(alloc: Global, views: &mut Vec<TableView>, dpid: Dpid) -> Result<(),
     ensures ok { OnOk result (views.new.items ≡ with_view dpid views.old.items) }
     ensures err { OnErr result (views.new.items ≡ views.old.items) }
 {
-    let at = place_for(views, dpid);
+    let at = position_for(views, dpid);
     let view = TableView {
         dpid,
         rows: ViewList::new(alloc),

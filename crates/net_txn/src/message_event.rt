@@ -96,14 +96,14 @@ pub(crate) fn change_known(
     ensures ok { OnOk result (all.new.items ≡ known_after dpid status.now all.old.items) }
     ensures err { OnErr result (all.new.items ≡ all.old.items) }
 {
-    match place_known(all, dpid) {
+    match position_known(all, dpid) {
         None => Ok(()),
         Some(at) => change(alloc, &mut all[at].ports, status),
     }
 }
 
 /// Where the known ports of a switch stand.
-fn place_known(all: &[KnownPorts], dpid: Dpid) -> Option<usize>
+fn position_known(all: &[KnownPorts], dpid: Dpid) -> Option<usize>
     ensures { MatchOption result (IsNoKnown dpid all.now) (IsKnownAt dpid all.now) }
 {
     for (i, known) in all.iter().enumerate() {

@@ -1,4 +1,4 @@
-//! A place of fixed size for messages that are kept where no memory may be taken.
+//! A store of fixed size for messages that are kept where no memory may be taken.
 
 ghost use Rattle.std.specs.Prelude.{◌≡◌, ◌≤◌, ◌<◌, ◌+◌, vec_capacity, ◌&&◌, nat_lt, nat_le, [], ◌∷◌, ◌++◌, length, IfOk, if◌then◌else◌};
 ghost use Rattle.net_txn.specs.MessageStore.{fits, messages_in, sizes};
@@ -57,7 +57,7 @@ fn put_last(bytes: &mut Vec<u8>, entries: &mut Vec<(Dpid, usize)>, dpid: Dpid, m
 }
 
 impl MessageStore {
-    /// A place with no messages, with room for 1,048,576 bytes of 16,384 messages.
+    /// A store with no messages, with room for 1,048,576 bytes of 16,384 messages.
     pub(crate) fn new(alloc: Global) -> Result<MessageStore, AllocError>
         ensures { IfOk result (λ p. p ≡ []) }
     {

@@ -20,7 +20,7 @@ pub struct KnownPorts {
 }
 
 /// Where the port of a number has its place.
-fn place_of(ports: &[PortDesc], number: PortNo) -> usize
+fn position_of(ports: &[PortDesc], number: PortNo) -> usize
     ensures { IsPortPlace number ports.now result }
 {
     for (i, port) in ports.iter().enumerate() {
@@ -45,7 +45,7 @@ fn put_port(ports: &mut Vec<PortDesc>, port: PortDesc) -> Result<(), AllocError>
     ensures ok { OnOk result (ports.new.items ≡ with_port port ports.old.items) }
     ensures err { OnErr result (ports.new.items ≡ ports.old.items) }
 {
-    let at = place_of(ports, port.port_no);
+    let at = position_of(ports, port.port_no);
     if stands_at(ports, at, port.port_no) {
         ports[at] = port;
         Ok(())

@@ -69,7 +69,7 @@ impl EventQueue {
 }
 
 /// Messages that switches sent while something else was awaited, each with its switch, first in first out. The
-/// newest may stand in a place of fixed size. Contracts see a list.
+/// newest may stand in a store of fixed size. Contracts see a list.
 #[derive(Drop, Debug)]
 pub struct MessageQueue {
     alloc: Global,
@@ -83,18 +83,18 @@ impl Model for MessageQueue {
 
     ghost Value = { List (ℕ × List ℕ) };
 
-    ghost view = { λ s. s.messages.items ++ s.place };
+    ghost view = { λ s. s.messages.items ++ s.store };
 }
 
 impl MessageQueue {
-    /// No messages. It takes the place for those that are kept without memory.
+    /// No messages. It takes the room for those that are kept without memory.
     pub fn new(alloc: Global) -> Result<MessageQueue, AllocError>
         ensures { IfOk result (λ q. q ≡ []) }
     {
         Ok(MessageQueue {
             alloc,
             messages: VecDeque::new(alloc),
-            place: MessageStore::new(alloc)?,
+            store: MessageStore::new(alloc)?,
         })
     }
 
@@ -104,7 +104,7 @@ impl MessageQueue {
         ensures err { OnErr result (self.new ≡ self.old) }
     {
         let bytes = ByteList::from_slice(self.alloc, message)?;
-        gather(self.alloc, &mut self.messages, &mut self.place)?;
+        gather(self.alloc, &mut self.messages, &mut self.store)?;
         self.messages.push_back((dpid, bytes))?;
         Ok(())
     }
@@ -114,7 +114,7 @@ impl MessageQueue {
         ensures ok { OnOk result (self.new ≡ self.old ++ (dpid, message) ∷ []) }
         ensures err { OnErr result (self.new ≡ self.old) }
     {
-        gather(self.alloc, &mut self.messages, &mut self.place)?;
+        gather(self.alloc, &mut self.messages, &mut self.store)?;
         self.messages.push_back((dpid, message))?;
         Ok(())
     }
@@ -124,7 +124,7 @@ impl MessageQueue {
         ensures { IfOk result (λ messages. messages.items ≡ self) }
     {
         let mut queue = self;
-        gather(queue.alloc, &mut queue.messages, &mut queue.place)?;
+        gather(queue.alloc, &mut queue.messages, &mut queue.store)?;
         Ok(queue.messages)
     }
 
@@ -136,7 +136,7 @@ impl MessageQueue {
         ensures where_fit { KeptWhereFit self.old ((dpid, message.now) ∷ []) self.new }
         ensures more { KeptMore dpid self.old self.new }
     {
-        self.place.keep_or_drop(dpid, message);
+        self.store.keep_or_drop(dpid, message);
     }
 
     /// Takes the oldest message out.
@@ -145,7 +145,7 @@ impl MessageQueue {
         ensures rest { OnOk result (self.new ≡ drop 1 self.old) }
         ensures err { OnErr result (self.new ≡ self.old) }
     {
-        gather(self.alloc, &mut self.messages, &mut self.place)?;
+        gather(self.alloc, &mut self.messages, &mut self.store)?;
         Ok(self.messages.pop_front())
     }
 
@@ -154,26 +154,26 @@ impl MessageQueue {
         ensures ok { OnOk result (self.new ≡ filter (λ m. not (m.0 == dpid)) self.old) }
         ensures err { OnErr result (self.new ≡ self.old) }
     {
-        gather(self.alloc, &mut self.messages, &mut self.place)?;
+        gather(self.alloc, &mut self.messages, &mut self.store)?;
         forget_of(&mut self.messages, dpid);
         Ok(())
     }
 }
 
-/// Moves the messages of a place behind others.
+/// Moves the messages of a store behind others.
 fn gather(
     alloc: Global,
     messages: &mut VecDeque<(Dpid, ByteList)>,
-    place: &mut MessageStore,
+    store: &mut MessageStore,
 ) -> Result<(), AllocError>
-    ensures ok { OnOk result (messages.new.items ≡ messages.old.items ++ place.old) }
-    ensures emptied { OnOk result (place.new ≡ []) }
+    ensures ok { OnOk result (messages.new.items ≡ messages.old.items ++ store.old) }
+    ensures emptied { OnOk result (store.new ≡ []) }
     ensures err { OnErr result (messages.new.items ≡ messages.old.items) }
-    ensures left { OnErr result (place.new ≡ place.old) }
+    ensures left { OnErr result (store.new ≡ store.old) }
 {
-    let mut copies = place.copies(alloc)?;
+    let mut copies = store.copies(alloc)?;
     messages.append(&mut copies)?;
-    place.clear();
+    store.clear();
     Ok(())
 }
 

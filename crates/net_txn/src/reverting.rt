@@ -15,7 +15,7 @@ ghost use Rattle.net_txn.specs.Waits.{KeptMore};
 ghost use Rattle.net_txn.specs.Undos.{HasPassedBarrier, Further, first_fault_of, fault_of, progress_of, Moves, Fails, AwaitsReplies, fault_by, inverses_in, alone, with_progress, key_logged};
 ghost use Rattle.net_txn.specs.Views.{is_viewed};
 
-use crate::undo_progress::{progress_of, place_of};
+use crate::undo_progress::{progress_of, position_of};
 use crate::logged::{UndoProgress, Logged, inverse_of};
 use crate::net::following;
 use crate::queue::MessageQueue;
@@ -238,7 +238,7 @@ pub(crate) fn await_switch<W: World>(
     ensures least { 1 ≤ xid.new }
     ensures len { length buf.new ≡ length buf.old }
 {
-    let Some(at) = place_of(log, dpid) else {
+    let Some(at) = position_of(log, dpid) else {
         return Ok(());
     };
     if log[at].progress.failed {

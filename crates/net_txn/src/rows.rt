@@ -160,7 +160,7 @@ fn is_before(a: &Key, b: &Key) -> bool
 }
 
 /// Where the row of a key has its place.
-fn place_of(rows: &[ViewRow], key: &Key) -> usize
+fn position_of(rows: &[ViewRow], key: &Key) -> usize
     ensures { IsRowPlace (place key.now) rows.now result }
 {
     for (i, row) in rows.iter().enumerate() {
@@ -185,7 +185,7 @@ pub(crate) fn put_row(rows: &mut Vec<ViewRow>, row: ViewRow) -> Result<(), Alloc
     ensures ok { OnOk result (rows.new.items ≡ with_row row rows.old.items) }
     ensures err { OnErr result (rows.new.items ≡ rows.old.items) }
 {
-    let at = place_of(rows, &row.key);
+    let at = position_of(rows, &row.key);
     if stands_at(rows, at, &row.key) {
         rows[at] = row;
         Ok(())

@@ -50,7 +50,7 @@ pub(crate) fn key_refused(message: &[u8], reverted: &[Logged], dpid: Dpid) -> Op
 }
 
 /// Where the newest inverse that was reverted stands of those of a switch.
-pub(crate) fn place_of(reverted: &[Logged], dpid: Dpid) -> Option<usize>
+pub(crate) fn position_of(reverted: &[Logged], dpid: Dpid) -> Option<usize>
     ensures place { MatchOption result (keys_in dpid reverted.now ≡ []) (IsProgressAt dpid reverted.now) }
     ensures within { IfSome result (λ at. at < length reverted.now) }
 {

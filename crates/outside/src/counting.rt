@@ -8,6 +8,7 @@ ghost use Rattle.outside.specs.Seen.{Seen};
 use crate::faults::{GiveFault, LinkFault, NextFault, OpenFault, Short, StartFault};
 use crate::item::{Item, Taken};
 use crate::world::World;
+use of_types::Dpid;
 
 /// A world that passes each call on to another one, and counts them.
 #[derive(Drop, Debug)]
@@ -78,12 +79,12 @@ impl<W: World + Drop> World for Counting<W> {
         self.world.end(app);
     }
 
-    fn send(&mut self, dpid: u64, frame: &[u8]) -> Result<(), LinkFault> {
+    fn send(&mut self, dpid: Dpid, frame: &[u8]) -> Result<(), LinkFault> {
         self.count();
         self.world.send(dpid, frame)
     }
 
-    fn recv(&mut self, dpid: u64, buf: &mut [u8]) -> Result<usize, LinkFault> {
+    fn recv(&mut self, dpid: Dpid, buf: &mut [u8]) -> Result<usize, LinkFault> {
         self.count();
         self.world.recv(dpid, buf)
     }

@@ -1,7 +1,7 @@
 -- A batch in a world that keeps its word is what the reference controller makes of its stimulus.
-use Rattle.std.proofs.Common.{◌≡◌, ℕ, List, [], ◌∷◌, ◌++◌, map, filter, Option, None, refl, sym, ap, ap₂, ◌∙◌, subst}
+use Rattle.std.proofs.Common.{◌≡◌, ℕ, List, [], ◌∷◌, ◌++◌, filter, Option, None, refl, sym, ap, ap₂, ◌∙◌, subst}
 use Rattle.std.specs.Option.{option_map}
-use Rattle.std.proofs.lemmas.List.{append-nil, append_cancel_left, map-append}
+use Rattle.std.proofs.lemmas.List.{append-nil, append_cancel_left}
 use Rattle.std.proofs.lemmas.List.Elements.{filter-append}
 use Rattle.of_types.specs.declared.journal.Act.{Act}
 use Rattle.of_types.specs.declared.journal.WorldStim.{WorldStim}
@@ -23,7 +23,7 @@ use Rattle.switch_laws.specs.Shown.{shown_places}
 use Rattle.switch_laws.specs.Sound.{Sound}
 use Rattle.switch_laws.specs.OrderlyLaws.{orderly-whole}
 use Rattle.journal_laws.specs.Readings.{LastStands}
-use Rattle.lego_model.specs.History.{starts_in, replies_in, own_acts, given_in, stimuli_in, point_by}
+use Rattle.lego_model.specs.History.{starts_in, replies_in, own_acts, given_in, stimuli_in}
 use Rattle.journal_laws.specs.CallLaws.{inputs_own}
 use Rattle.lego_model.specs.AtOnce.{at_first, Dialogue}
 use Rattle.batch_laws.specs.Knowledge.{knowledge_of}
@@ -37,7 +37,7 @@ use Rattle.lego_model.specs.Application.{index}
 use Rattle.lego_model.specs.ReferenceRun.{text_of}
 use Rattle.run_laws.specs.Moves.{AtRest, Moved, OneHappens}
 use Rattle.run_laws.specs.DialogueLaws.{others_at_once}
-use Rattle.run_laws.specs.PointLaws.{quiets_more, mark_alike}
+use Rattle.run_laws.specs.PointLaws.{marks_more, mark_alike}
 use Rattle.run_laws.specs.FinishLaws.{shown-still}
 
 
@@ -108,10 +108,9 @@ happens-stands {Own} x old new net now_net queue now_queue e ss rs r keeps same_
       queue = ap₂ (λ (q : List Event) (more : List Event). q ++ more) (s.queue ∙ same_queue) (ap₂ (λ (m : ℕ) (ps : List Place). events_after x m ps) s.moment before) ∙ sym h.queue_so;
       events = s.events;
       apps = s.apps ∙ ap (λ (given : List (List ℕ)). app_at (engine_then e now_net now_queue) given ss rs ∷ []) (sym inputs_same);
-      marks = subst (λ (ms : List Mark). AgreeMarks (map point_by ms) (r.marks ++ reference_mark None r.places ∷ [])) (sym (done.stays.marks ∙ marks-then x (state old)))
-          (subst (λ (qs : List Mark). AgreeMarks qs (r.marks ++ reference_mark None r.places ∷ [])) (sym (map-append point_by (state old).marks (mark_of None (state old) ∷ [])))
-          (quiets_more (map point_by (state old).marks) r.marks (point_by (mark_of None (state old))) (reference_mark None r.places) s.marks
-          (subst (λ (ps : List Place). AgreeMark (point_by (mark_of None (state old))) (reference_mark None ps)) (sym before) (mark_alike None old.given.declared net.views (state old) (links-declared old) keeps_old.declared))));
+      marks = subst (λ (ms : List Mark). AgreeMarks ms (r.marks ++ reference_mark None r.places ∷ [])) (sym (done.stays.marks ∙ marks-then x (state old)))
+          (marks_more (state old).marks r.marks (mark_of None (state old)) (reference_mark None r.places) s.marks
+          (subst (λ (ps : List Place). AgreeMark (mark_of None (state old)) (reference_mark None ps)) (sym before) (mark_alike None old.given.declared net.views (state old) (links-declared old) keeps_old.declared)));
       life = λ alive. subst LastStands (sym own) (s.life alive);
     }
 
@@ -197,7 +196,7 @@ batch-over {Own} old new net now_net queue now_queue e settled same_net same_que
           queue = s.queue ∙ same_queue ∙ sym over.queue;
           events = s.events;
           apps = s.apps ∙ ap (λ (js : List Act). app_at (engine_then e now_net now_queue) (inputs index js) ss rs ∷ []) (sym journal_same);
-          marks = subst (λ (t : State). AgreeMarks (map point_by t.marks) r.marks) (sym over.state_so) s.marks;
+          marks = subst (λ (t : State). AgreeMarks t.marks r.marks) (sym over.state_so) s.marks;
           life = λ alive. subst LastStands (sym own) (s.life alive);
         };
         says = λ ss rs r starts_so replies_so s. sym (append-nil (text_of r));

@@ -1,5 +1,5 @@
 -- The law of an event: what the engine does at it is what the reference controller does, whether the application is alive or gone.
-use Rattle.std.proofs.Common.{◌≡◌, ℕ, ◌+◌, ◌^◌, ◌<◌, Bool, true, false, List, [], ◌∷◌, ◌++◌, length, drop, map, if◌then◌else◌, Some, refl, sym, ap, ap₂, ◌∙◌, subst}
+use Rattle.std.proofs.Common.{◌≡◌, ℕ, ◌+◌, ◌^◌, ◌<◌, Bool, true, false, List, [], ◌∷◌, ◌++◌, length, drop, if◌then◌else◌, Some, refl, sym, ap, ap₂, ◌∙◌, subst}
 use Rattle.std.proofs.lemmas.List.{append-nil}
 use Rattle.flow_table.specs.declared.view.TableView.{TableView}
 use Rattle.app_frames.specs.declared.frame.Event.{Event}
@@ -19,7 +19,7 @@ use Rattle.app_visor.specs.declared.state.TurnEnd.TheVariants as ends
 use Rattle.switch_laws.specs.Shown.{shown_places}
 use Rattle.switch_laws.specs.StandLaws.{state-links}
 use Rattle.journal_laws.specs.Readings.{LastStands}
-use Rattle.lego_model.specs.History.{starts_in, replies_in, own_acts, given_in, stimuli_in, point_by, points_in}
+use Rattle.lego_model.specs.History.{starts_in, replies_in, own_acts, given_in, stimuli_in, points_in}
 use Rattle.run_laws.specs.Engine.{Engine, app_at, Stands, with_number}
 use Rattle.lego_model.specs.ReferenceRun.{text_of, next_dispatched, dispatch_next}
 use Rattle.run_laws.specs.Facts.{IsClosed, IsTurn, Dispatches}
@@ -27,7 +27,7 @@ use Rattle.run_laws.specs.Moves.{Moves}
 use Rattle.run_laws.specs.Readings.{AreRead, JudgesAlike}
 use Rattle.run_laws.specs.ReferenceLaws.{dispatch_alive, dispatch_dead}
 use Rattle.run_laws.specs.ReferenceTurn.{numbered, after_turn, without_turn}
-use Rattle.run_laws.specs.PointLaws.{quiets_at_event}
+use Rattle.run_laws.specs.PointLaws.{marks_at_events}
 use Rattle.run_laws.specs.LineLaws.{event_lines}
 use Rattle.run_laws.specs.LastReport.{lines_text}
 use Rattle.run_laws.specs.TurnMoveLaws.{turn_moves}
@@ -55,13 +55,13 @@ module _ {Own : Type 0} (allows : List Place → Bool) (event : Event) (text : L
       ∙ ap (λ (ps : List Place). turn allows (e.events + 1) e.net.moment event ps a) s.places
       ∙ alike.turned said_starts said later_replies starts_so front)
 
-  quiets_so : Conforming old → (alike : TurnAlike allows event text old new (with_number e) now_e starts reply) → (r : Run) → r.events ≡ e.events → r.places ≡ shown_places old.given.declared e.net.views (state old) → AgreeMarks (points_in old) r.marks
+  marks_so : Conforming old → (alike : TurnAlike allows event text old new (with_number e) now_e starts reply) → (r : Run) → r.events ≡ e.events → r.places ≡ shown_places old.given.declared e.net.views (state old) → AgreeMarks (points_in old) r.marks
       → AgreeMarks (points_in new) (marked alike.given (r.events + 1) r.places r.marks)
-  quiets_so keeps alike r events places marks =
-      subst (λ (ms : List Mark). AgreeMarks (map point_by ms) (marked alike.given (r.events + 1) r.places r.marks)) (sym alike.marks)
-      (subst (λ (n : ℕ). AgreeMarks (map point_by (if alike.given then marks_at_event (Some (e.events + 1)) (state old) else (state old).marks)) (marked alike.given (n + 1) r.places r.marks)) (sym events)
-      (subst (λ (ps : List Place). AgreeMarks (map point_by (if alike.given then marks_at_event (Some (e.events + 1)) (state old) else (state old).marks)) (marked alike.given (e.events + 1) ps r.marks)) (sym places)
-      (quiets_at_event alike.given (e.events + 1) old.given.declared e.net.views (state old) r.marks (state-links old).declared_so keeps.declared marks)))
+  marks_so keeps alike r events places marks =
+      subst (λ (ms : List Mark). AgreeMarks ms (marked alike.given (r.events + 1) r.places r.marks)) (sym alike.marks)
+      (subst (λ (n : ℕ). AgreeMarks ((if alike.given then marks_at_event (Some (e.events + 1)) (state old) else (state old).marks)) (marked alike.given (n + 1) r.places r.marks)) (sym events)
+      (subst (λ (ps : List Place). AgreeMarks ((if alike.given then marks_at_event (Some (e.events + 1)) (state old) else (state old).marks)) (marked alike.given (e.events + 1) ps r.marks)) (sym places)
+      (marks_at_events alike.given (e.events + 1) old.given.declared e.net.views (state old) r.marks (state-links old).declared_so keeps.declared marks)))
 
   stands_alive : Conforming old → e.alive ≡ true → new.given ≡ old.given → (now_e.alive ≡ true → LastStands (own_acts new)) → (alike : TurnAlike allows event text old new (with_number e) now_e starts reply)
       → (said_starts : List Start) (said_replies : List Reply) (r : Run) → AreStartFronts starts said_starts → AreFronts (reply ∷ []) said_replies → Stands old e said_starts said_replies r → Stands new now_e (drop (length starts) said_starts) (drop 1 said_replies) (dispatch allows event r)
@@ -74,7 +74,7 @@ module _ {Own : Type 0} (allows : List Place → Bool) (event : Event) (text : L
         queue = s.queue ∙ sym alike.queue;
         events = ap (λ (n : ℕ). n + 1) s.events ∙ sym alike.events;
         apps = refl;
-        marks = quiets_so keeps alike r s.events s.places s.marks;
+        marks = marks_so keeps alike r s.events s.places s.marks;
         life = life;
       })
 

@@ -19,11 +19,11 @@ use Rattle.outside.specs.Conforming.{Conforming}
 use Rattle.flow_table.specs.declared.view.TableView.{TableView}
 use Rattle.switch_laws.specs.Shown.{flags_at, shown_switch, places, shown_places}
 use Rattle.batch_laws.specs.HistoryLaws.{links-declared}
-use Rattle.lego_model.specs.History.{starts_in, replies_in, own_acts, stimuli_in, point_by, points_in, last_point}
+use Rattle.lego_model.specs.History.{starts_in, replies_in, own_acts, stimuli_in, points_in, last_point}
 use Rattle.lego_model.specs.AtOnce.{AtOnce}
 use Rattle.run_laws.specs.Engine.{Engine, Stands}
 use Rattle.lego_model.specs.Application.{index, names}
-use Rattle.run_laws.specs.PointLaws.{quiets_more, mark_alike}
+use Rattle.run_laws.specs.PointLaws.{marks_more, mark_alike}
 use Rattle.run_laws.specs.LastReport.{last_text}
 use Rattle.run_laws.specs.LastReportLaws.{report-ends, last-shown}
 use Rattle.lego_model.specs.ReferenceRun.{RunsAlike, fresh, reference_said, AreSaid}
@@ -62,11 +62,11 @@ runs-alike {Own} last new e starts replies r keeps l s =
     let same_declared : declared ≡ last.given.declared = ap (λ (g : Given Own). g.declared) l.given in
     let here : r.places ≡ shown_places declared e.net.views (state new) =
     s.places ∙ sym (ap (λ (ds : List Declared). shown_places ds e.net.views (state last)) same_declared) ∙ sym (shown-still declared e.net.views (state last) (state new) l.switches) in
-    let marks : AgreeMarks (points_in new) r.marks = subst (λ (ms : List Mark). AgreeMarks (map point_by ms) r.marks) (sym l.marks) s.marks in
+    let marks : AgreeMarks (points_in new) r.marks = subst (λ (ms : List Mark). AgreeMarks ms r.marks) (sym l.marks) s.marks in
     let end : AgreeMark (last_point new) (reference_mark None r.places) =
     subst (λ (ps : List Place). AgreeMark (last_point new) (reference_mark None ps)) (sym here) (mark_alike None declared e.net.views (state new) (links-declared new) keeps.declared) in
     record {
-      tables = quiets_more (points_in new) r.marks (last_point new) (reference_mark None r.places) marks end;
+      tables = marks_more (points_in new) r.marks (last_point new) (reference_mark None r.places) marks end;
       inputs = ap (λ (all : List App). map (λ a. a.inputs) all) s.apps ∙ ap (λ (given : List (List ℕ)). given ∷ []) (sym l.inputs);
     }
 

@@ -22,7 +22,7 @@ use Rattle.lego_model.specs.AtOnce.{at_first as nobody_yet, Dialogue}
 use Rattle.batch_laws.specs.Calm.{Calm}
 use Rattle.run_laws.specs.Engine.{Stands, app_at}
 use Rattle.lego_model.specs.Application.{index}
-use Rattle.lego_model.specs.History.{point_by, given_in}
+use Rattle.lego_model.specs.History.{given_in}
 use Rattle.run_laws.specs.Moves.{AtRest}
 use Rattle.lego_model.specs.ReferenceRun.{fresh, before_start}
 use Rattle.run_laws.specs.First.{IsOpened, net_at_first, engine_at_first}
@@ -114,6 +114,6 @@ stands-first seen starts replies is = record {
   queue = refl;
   events = refl;
   apps = sym (ap (λ (given : List (List ℕ)). app_at engine_at_first given starts replies ∷ []) (given-first seen is));
-  marks = subst (λ (s : State). AgreeMarks (map point_by s.marks) []) (sym (state-opened seen is)) tt;
+  marks = subst (λ (s : State). AgreeMarks s.marks []) (sym (state-opened seen is)) tt;
   life = λ alive. absurd (true≢false (sym alive));
 }

@@ -2,7 +2,6 @@
 -- of both agree, since the flags of the owners are all that differs.
 use Rattle.std.proofs.Common.{◌≡◌, ◌==◌, ℕ, ◌+◌, ◌<◌, Bool, true, false, not, ◌&&◌, ◌||◌, List, [], ◌∷◌, ◌++◌, map, Option, Some, None, if◌then◌else◌, refl, sym, ap, ap₂, ◌∙◌, subst, inr, arith}
 use Rattle.std.proofs.lemmas.Bool.{eq-eqb, ne_eqb}
-use Rattle.std.proofs.lemmas.List.{map-append}
 use Rattle.std.specs.List.{AllByRecursion}
 use Rattle.std.specs.Option.{option_map}
 use Rattle.of_match.specs.declared.key.Key.{Key}
@@ -15,21 +14,20 @@ use Rattle.lego_model.specs.Agreement.{AgreeTables, AgreeSwitches, AgreeAt, Agre
 use Rattle.outside.specs.State.{Link, State, Mark, link_of, switch_in, switch_of, mark_of, has_mark, marks_at_event, is_event as is_event_of, is_event, declared_in}
 use Rattle.outside.specs.Conforming.{AreDeclaredFrom}
 use Rattle.switch_laws.specs.Shown.{flags_at, places, shown_places}
-use Rattle.lego_model.specs.History.{point_by}
 
 -- ---- Lists of quiescent points
 
-pub quiets_more : (qs rs : List Mark) (q r : Mark) → AgreeMarks qs rs → AgreeMark q r → AgreeMarks (qs ++ q ∷ []) (rs ++ r ∷ [])
-quiets_more [] [] q r all one = (one, tt)
-quiets_more [] (s ∷ rs) q r all one = absurd all
-quiets_more (p ∷ qs) [] q r all one = absurd all
-quiets_more (p ∷ qs) (s ∷ rs) q r all one = (all.0, quiets_more qs rs q r all.1 one)
+pub marks_more : (qs rs : List Mark) (q r : Mark) → AgreeMarks qs rs → AgreeMark q r → AgreeMarks (qs ++ q ∷ []) (rs ++ r ∷ [])
+marks_more [] [] q r all one = (one, tt)
+marks_more [] (s ∷ rs) q r all one = absurd all
+marks_more (p ∷ qs) [] q r all one = absurd all
+marks_more (p ∷ qs) (s ∷ rs) q r all one = (all.0, marks_more qs rs q r all.1 one)
 
 event_alike : (n : ℕ) (o : Option ℕ) → is_event n o ≡ is_event_of n o
 event_alike n None = refl
 event_alike n (Some m) = refl
 
-pub marks_alike : (n : ℕ) (ms : List Mark) (qs : List Mark) → AgreeMarks (map point_by ms) qs → is_marked n qs ≡ has_mark n ms
+pub marks_alike : (n : ℕ) (ms : List Mark) (qs : List Mark) → AgreeMarks ms qs → is_marked n qs ≡ has_mark n ms
 marks_alike n [] [] all = refl
 marks_alike n [] (q ∷ qs) all = absurd all
 marks_alike n (m ∷ ms) [] all = absurd all
@@ -73,7 +71,7 @@ all_alike views whole (l ∷ ls) all =
 
 -- the switches of a mark and those that the reference controller has in their places
 pub mark_alike : (event : Option ℕ) (declared : List Declared) (views : List TableView) (s : State) → declared_in s.links ≡ declared → AreDeclaredFrom 1 declared
-    → AgreeMark (point_by (mark_of event s)) (reference_mark event (shown_places declared views s))
+    → AgreeMark (mark_of event s) (reference_mark event (shown_places declared views s))
 unfolding shown_places switch_of
 mark_alike event declared views s so are = record {
   event = refl;
@@ -83,15 +81,14 @@ mark_alike event declared views s so are = record {
 
 -- ---- Before the event of a number is first given
 
-event_at : (n : ℕ) (declared : List Declared) (views : List TableView) (s : State) (qs : List Mark) (b : Bool) → has_mark n s.marks ≡ b → declared_in s.links ≡ declared → AreDeclaredFrom 1 declared → AgreeMarks (map point_by s.marks) qs
-    → AgreeMarks (map point_by (if b then s.marks else s.marks ++ mark_of (Some n) s ∷ [])) (if true && not b then qs ++ reference_mark (Some n) (shown_places declared views s) ∷ [] else qs)
+event_at : (n : ℕ) (declared : List Declared) (views : List TableView) (s : State) (qs : List Mark) (b : Bool) → has_mark n s.marks ≡ b → declared_in s.links ≡ declared → AreDeclaredFrom 1 declared → AgreeMarks s.marks qs
+    → AgreeMarks ((if b then s.marks else s.marks ++ mark_of (Some n) s ∷ [])) (if true && not b then qs ++ reference_mark (Some n) (shown_places declared views s) ∷ [] else qs)
 event_at n declared views s qs true is so are all = all
 event_at n declared views s qs false is so are all =
-    subst (λ (ms : List Mark). AgreeMarks ms (qs ++ reference_mark (Some n) (shown_places declared views s) ∷ [])) (sym (map-append point_by s.marks (mark_of (Some n) s ∷ [])))
-    (quiets_more (map point_by s.marks) qs (point_by (mark_of (Some n) s)) (reference_mark (Some n) (shown_places declared views s)) all (mark_alike (Some n) declared views s so are))
+    marks_more s.marks qs (mark_of (Some n) s) (reference_mark (Some n) (shown_places declared views s)) all (mark_alike (Some n) declared views s so are)
 
-pub quiets_at_event : (given : Bool) (n : ℕ) (declared : List Declared) (views : List TableView) (s : State) (qs : List Mark) → declared_in s.links ≡ declared → AreDeclaredFrom 1 declared → AgreeMarks (map point_by s.marks) qs
-    → AgreeMarks (map point_by (if given then marks_at_event (Some n) s else s.marks)) (marked given n (shown_places declared views s) qs)
-quiets_at_event true n declared views s qs so are all =
+pub marks_at_events : (given : Bool) (n : ℕ) (declared : List Declared) (views : List TableView) (s : State) (qs : List Mark) → declared_in s.links ≡ declared → AreDeclaredFrom 1 declared → AgreeMarks s.marks qs
+    → AgreeMarks ((if given then marks_at_event (Some n) s else s.marks)) (marked given n (shown_places declared views s) qs)
+marks_at_events true n declared views s qs so are all =
     rw (marks_alike n s.marks qs all) (event_at n declared views s qs (has_mark n s.marks) refl so are all)
-quiets_at_event false n declared views s qs so are all = all
+marks_at_events false n declared views s qs so are all = all

@@ -9,7 +9,7 @@ use Rattle.lego_model.specs.Controller.{App, Line, Run, Started, gone_line, star
 use Rattle.lego_model.specs.RunReport.{line_text}
 use Rattle.outside.specs.Seen.{Given, Seen}
 use Rattle.outside.specs.State.{Mark, state}
-use Rattle.lego_model.specs.History.{replies_in, own_acts, stimuli_in, given_in, point_by}
+use Rattle.lego_model.specs.History.{replies_in, own_acts, stimuli_in, given_in}
 use Rattle.switch_laws.specs.Shown.{shown_places}
 use Rattle.switch_laws.specs.OrderlyLaws.{orderly-whole}
 use Rattle.run_laws.specs.Engine.{Engine, Stands, app_at}
@@ -52,7 +52,7 @@ start-shown {Own} Tells text old new e now_e starts = record {
                 queue = t.queue ∙ sym s.queue;
                 events = t.events ∙ sym s.events;
                 apps = refl;
-                marks = subst (λ (ms : List Mark). AgreeMarks (map point_by ms) r.marks) (sym s.keeps.marks) t.marks;
+                marks = subst (λ (ms : List Mark). AgreeMarks ms r.marks) (sym s.keeps.marks) t.marks;
                 life = s.life;
               });
           says = λ ss rs r starts_so replies_so t.

@@ -1,6 +1,6 @@
 use Rattle.std.proofs.Common.{◌≡◌, ℕ, ◌+◌, drop}
 use Rattle.net_txn.specs.Undos.{keys_in, IsProgressAt}
-use Rattle.net_txn.proofs.undo_progress.place_of.Given as goal
+use Rattle.net_txn.proofs.undo_progress.position_of.Given as goal
 
 abbrev pub invariant-loop-i : goal.invariant-loop-i
 invariant-loop-i l = record {

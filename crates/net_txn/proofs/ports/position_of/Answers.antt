@@ -1,6 +1,6 @@
 use Rattle.std.proofs.Common.{arith}
 use Rattle.net_txn.specs.PortLaws.{port_more_at, port_stop_at, port_end}
-use Rattle.net_txn.proofs.ports.place_of.Goals as goal
+use Rattle.net_txn.proofs.ports.position_of.Goals as goal
 
 pub returns-then-number-port : goal.returns-then-number-port
 returns-then-number-port c = port_stop_at c.args.number c.args.ports.now c.loop-i.i _ c.loop-i-test.true c.if-number-port.true c.loop-i.invariant

@@ -2,7 +2,7 @@ use Rattle.std.proofs.Common.{arith}
 use Rattle.std.proofs.lemmas.Bool.Decides.{nat_tests}
 use Rattle.net_txn.proofs.ViewPositions.{rows_more, rows_stop, rows_end}
 use Rattle.of_match.specs.Key.{place}
-use Rattle.net_txn.proofs.rows.place_of.Goals as goal
+use Rattle.net_txn.proofs.rows.position_of.Goals as goal
 
 pub returns-then-not-is_before : goal.returns-then-not-is_before
 returns-then-not-is_before c = rows_stop (place c.args.key.now) c.args.rows.now c.loop-i.i c.index-rows-i.result c.loop-i-test.true c.index-rows-i.is (grind (arith, nat_tests)) c.loop-i.invariant

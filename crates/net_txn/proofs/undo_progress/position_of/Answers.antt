@@ -2,7 +2,7 @@ use Rattle.std.proofs.Common.{arith}
 use Rattle.std.proofs.lemmas.Bool.{ne_eqb}
 use Rattle.std.proofs.lemmas.Grind.{common_steps}
 use Rattle.net_txn.proofs.ProgressPositions.{progress_more, progress_stop}
-use Rattle.net_txn.proofs.undo_progress.place_of.Goals as goal
+use Rattle.net_txn.proofs.undo_progress.position_of.Goals as goal
 
 pub returns-then-entry-dpid-clause-place : goal.returns-then-entry-dpid-clause-place
 returns-then-entry-dpid-clause-place c = progress_stop c.args.dpid c.args.reverted.now c.loop-i.i c.index-reverted-i.result c.loop-i-test.true c.index-reverted-i.is c.if-entry-dpid.true c.loop-i.invariant.places
