@@ -16,7 +16,7 @@ use of_types::{ByteList, Dpid};
 use outside::World;
 use std::alloc::{AllocError, Global};
 
-/// The bytes of an answer.
+/// Returns the bytes of an answer.
 fn encode_answer(alloc: Global, answer: Answer) -> Result<ByteList, AllocError>
     requires { HostFits (host.Answer answer) }
     ensures { IfOk result (λ frame. frame ≡ answer_frame answer) }
@@ -24,7 +24,7 @@ fn encode_answer(alloc: Global, answer: Answer) -> Result<ByteList, AllocError>
     encode_host(alloc, &HostFrame::Answer(answer))
 }
 
-/// The bytes of an event.
+/// Returns the bytes of an event.
 pub(crate) fn encode_event(
     alloc: Global,
     number: u64,

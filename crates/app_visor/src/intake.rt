@@ -37,7 +37,7 @@ impl Model for Intake {
 }
 
 impl Intake {
-    /// An intake that begins with these bytes.
+    /// Returns an intake that begins with these bytes.
     pub(crate) fn new(alloc: Global, rest: &[u8]) -> Result<Intake, AllocError>
         ensures { IfOk result (λ s. s ≡ rest.now) }
     {
@@ -47,7 +47,7 @@ impl Intake {
         Ok(Intake { unread, buf })
     }
 
-    /// The same intake, which begins anew with these bytes.
+    /// Returns the same intake, which begins anew with these bytes.
     fn again(self, rest: &[u8]) -> Result<Intake, AllocError>
         ensures { IfOk result (λ s. s ≡ rest.now) }
     {
@@ -60,7 +60,7 @@ impl Intake {
         })
     }
 
-    /// A copy of what is unread.
+    /// Returns a copy of what is unread.
     pub(crate) fn rest(&self, alloc: Global) -> Result<ByteList, AllocError>
         ensures { IfOk result (λ rest. rest ≡ self.now) }
     {
@@ -118,7 +118,7 @@ impl Model for TakeBuffer {
 }
 
 impl Debug for TakeBuffer {
-    fn fmt(&self, f: &mut Formatter<'_>) -> fmt::Result {
+    fn fmt<W: fmt::Write>(&self, f: &mut Formatter<W>) -> fmt::Result {
         f.write_str("TakeBuffer")
     }
 }
@@ -129,7 +129,7 @@ impl TakeBuffer {
         TakeBuffer { kept: None }
     }
 
-    /// An intake that begins with these bytes: the one that is kept, where there is one.
+    /// Returns an intake that begins with these bytes: the one that is kept, where there is one.
     pub(crate) fn take(&mut self, alloc: Global, rest: &[u8]) -> Result<Intake, AllocError>
         ensures { IfOk result (λ s. s ≡ rest.now) }
     {

@@ -23,7 +23,7 @@ use std::alloc::{AllocError, Global};
 /// How many attempts there are at most to start an application that failed or was not started yet.
 pub const ATTEMPTS: u32 = 3;
 
-/// The application has started.
+/// Tells whether the application has started.
 fn is_ready(tried: Tried) -> bool
     ensures { result ≡ ready tried }
 {
@@ -33,7 +33,7 @@ fn is_ready(tried: Tried) -> bool
     }
 }
 
-/// How a start ends by what comes first.
+/// Tells how a start ends by what comes first.
 fn tried_by(came: Came) -> Tried
     ensures { result ≡ tried_by came }
 {
@@ -88,7 +88,7 @@ fn greet<W: World>(
     Ok(tried_by(next_frame(alloc, world, app, intake)?))
 }
 
-/// What is unread behind the frame Ready, and nothing where there is none.
+/// Tells what is unread behind the frame Ready, and nothing where there is none.
 fn rest_by(alloc: Global, tried: Tried, intake: &Intake) -> Result<ByteList, AllocError>
     ensures { IfOk result (λ rest. rest ≡ rest_of tried intake.now) }
 {
@@ -99,7 +99,7 @@ fn rest_by(alloc: Global, tried: Tried, intake: &Intake) -> Result<ByteList, All
     }
 }
 
-/// One attempt to start an application; it ends it where it runs, and where it is not ready. It answers how that ended,
+/// Attempts once to start an application; ends it where it runs, and where it is not ready. Answers how that ended,
 /// and the bytes behind the frame Ready.
 fn attempt<W: World>(
     alloc: Global,

@@ -21,7 +21,7 @@ pub struct AppState {
 }
 
 impl AppState {
-    /// An application that was not started yet; takes no memory.
+    /// Returns an application that was not started yet; takes no memory.
     pub fn new(alloc: Global, index: u32) -> AppState
         ensures { result ≡ record { index = index; alive = false; rest = []; buffer = tt } }
     {

@@ -26,7 +26,7 @@ use outside::World;
 use std::alloc::{AllocError, Global};
 use std::mem::replace;
 
-/// How the turn ends where the application is done: the judge is asked about the tables.
+/// Tells how the turn ends where the application is done: the judge is asked about the tables.
 fn finish<J: Judge>(txn: &Txn<'_>, judge: &J, stop: bool) -> TurnEnd
     ensures { result ≡ done_as (J.accepts judge.now txn.now.net.now.views) stop }
 {
@@ -37,7 +37,7 @@ fn finish<J: Judge>(txn: &Txn<'_>, judge: &J, stop: bool) -> TurnEnd
     }
 }
 
-/// Why a turn fails where no frame comes, or one too many.
+/// Tells why a turn fails where no frame comes, or one too many.
 fn cause_of(came: Came) -> Cause
     ensures { result ≡ cause_of came }
 {
@@ -148,7 +148,7 @@ fn play_all<W: World, J: Judge>(
     Ok(TurnEnd::Failed(cause_of(next_frame(alloc, world, app, intake)?)))
 }
 
-/// What stays unread: nothing where the turn failed.
+/// Tells what stays unread: nothing where the turn failed.
 fn rest_after(alloc: Global, end: &TurnEnd, intake: &Intake) -> Result<ByteList, AllocError>
     ensures { IfOk result (λ rest. rest ≡ unread_after end.now intake.now) }
 {
@@ -158,9 +158,9 @@ fn rest_after(alloc: Global, end: &TurnEnd, intake: &Intake) -> Result<ByteList,
     }
 }
 
-/// The turn of an application at an event: it is given the event, and its frames are played in order, at most `budget` of
-/// them before the one that it is done. Each message is answered by the transaction, which is neither committed nor
-/// undone here.
+/// Holds the turn of an application at an event: it is given the event, and its frames are played in order, at most
+/// `budget` of them before the one that it is done. Each message is answered by the transaction, which is neither
+/// committed nor undone here.
 pub fn turn<W: World, J: Judge>(
     alloc: Global,
     world: &mut W,

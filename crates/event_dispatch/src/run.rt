@@ -50,11 +50,7 @@ impl Run {
         ensures first { IfOk result (λ r. engine_of r ≡ engine_at_first) }
         ensures none_waits { IfOk result (λ r. r.lines.items ≡ []) }
     {
-        let state = AppState {
-            index: INDEX,
-            alive: false,
-            rest: ByteList::new(alloc),
-        };
+        let state = AppState::new(alloc, INDEX);
         Ok(Run {
             alloc,
             net: Net::new(alloc)?,

@@ -1,13 +1,11 @@
--- What the acts of one application tell: its starts and its replies, and which acts belong to a turn or an attempt that was begun. All of
--- this is our own.
-use Rattle.std.specs.Prelude.{◌≡◌, ◌==◌, ℕ, Bool, true, false, not, ◌&&◌, List, [], ◌∷◌, ◌++◌, map, filter, if◌then◌else◌}
-use Rattle.std.specs.List.{flat_map, AllByRecursion}
+-- Acts of one application: which of them belong to a turn or an attempt that was begun, and what further acts add to its starts and its
+-- replies. All of this is our own.
+use Rattle.std.specs.Prelude.{◌≡◌, ◌==◌, ℕ, Bool, true, false, not, ◌&&◌, List, [], ◌∷◌, ◌++◌, if◌then◌else◌}
+use Rattle.std.specs.List.{AllByRecursion}
 use Rattle.of_types.specs.declared.journal.Act.{Act}
 use Rattle.of_types.specs.declared.journal.Act.TheVariants.{Stim, Started, Gave, Gone, Took, Ended, Sent, Got}
-use Rattle.lego_model.specs.History.{starts_in, replies_in}
 use Rattle.lego_model.specs.Journal.{Reply, Attempt, in_attempts, is_event, start_of}
-
--- ---- What the acts of an application tell
+use Rattle.lego_model.specs.History.{starts_in, replies_in}
 
 -- the last attempt to start it stands
 pub record LastStands (acts : List Act) : Type 0 where

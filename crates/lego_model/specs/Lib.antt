@@ -19,9 +19,9 @@ pub mod SessionWordLaws
 pub mod SessionTextLaws
 pub mod BarrierWaits
 pub mod FlowQueries
+pub mod History
 pub mod Application
 pub mod CutRun
-pub mod History
 pub mod OrderlySteps
 pub mod ReferenceRun
 pub mod SwitchFaults

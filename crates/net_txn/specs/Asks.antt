@@ -19,10 +19,7 @@ use Rattle.net_txn.specs.Waits.{Waits, IfFlooded, KeptMore}
 use Rattle.lego_model.specs.BarrierWaits.{barrier_sent, next_xid}
 use Rattle.lego_model.specs.FlowQueries.{flows_request, request_sent, asked_from, is_about, parts_in, refusals_in, all_parts, IsBroken}
 
--- ---- The request: flows of any match, in all tables, whatever their outputs
-
--- ---- Which of the messages that came answer it: those of its transaction id that are a STATS_REPLY (17) or an ERROR (1), which both
--- have 12 bytes at least.
+-- ---- Which of the messages that came do not answer the request
 
 abbrev pub other_in : ℕ → ℕ × List ℕ → List (ℕ × List ℕ)
 other_in xid m = if is_about xid 17 m.1 || is_about xid 1 m.1 then [] else m ∷ []

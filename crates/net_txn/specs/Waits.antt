@@ -1,7 +1,5 @@
--- A wait for the reply to a barrier (OpenFlow 1.0.0, 4.2 Message Handling and 5.3.7 Barrier Message): what each message of the switch
--- is to it, and what it leaves. A message is judged by its header and few fields of it: the type at 1 and the transaction id at 4
--- (5.1 OpenFlow Header), the kind and code of an ERROR at 8 and 10 (5.4.4), and the reason of a FLOW_REMOVED at 58 (5.4.2).
--- What is done with each is our own choice.
+-- What a wait for the reply to a barrier leaves (OpenFlow 1.0.0, 4.2 Message Handling and 5.3.7 Barrier Message): the steps that it made,
+-- what it kept, and the first refusal that came. All of this is our own choice.
 use Rattle.std.specs.Prelude.{◌≡◌, ℕ, ◌≤◌, Bool, false, List, [], ◌∷◌, ◌++◌, length, map, Option, Some, None, IsOk}
 use Rattle.std.specs.List.{AllByRecursion}
 use Rattle.of_types.specs.Fields.{IsBytes}
@@ -16,9 +14,7 @@ use Rattle.lego_model.specs.declared.wait.Heard.{Heard}
 use Rattle.lego_model.specs.declared.wait.Heard.TheVariants.{Refused}
 use Rattle.lego_model.specs.BarrierWaits.{flood, heard, is_reply, kept_by, heard_steps, wait_steps, kept_of, reply_got}
 
--- ---- What a message is to a wait
-
--- ---- What is done: an ECHO_REQUEST is answered at once (5.5.3 Echo Reply), and what is nothing to the wait is kept.
+-- ---- The first refusal among messages
 
 abbrev pub refusal_in : Heard → Option Refusal
 refusal_in (Refused refusal) = Some refusal
@@ -28,8 +24,6 @@ refusal_in _ = None
 abbrev pub first_of : Option Refusal → Option Refusal → Option Refusal
 first_of None later = later
 first_of (Some refusal) later = Some refusal
-
--- ---- Messages, one after the other
 
 abbrev pub answer_of : Awaited → List (List ℕ) → Option Refusal
 answer_of a [] = None

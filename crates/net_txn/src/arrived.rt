@@ -25,7 +25,7 @@ use of_wire::{FlowRemoved, Message, WireFault, decode, encode};
 use outside::World;
 use std::alloc::{AllocError, Global};
 
-/// The reply to an ECHO_REQUEST.
+/// Returns the reply to an ECHO_REQUEST.
 fn echo_bytes(alloc: Global, xid: Xid, payload: &ByteList) -> Result<ByteList, AllocError>
     requires { IsMessage (messages.EchoRequest payload.now) }
     ensures bytes { IfOk result (λ b. b ≡ message_bytes xid (messages.EchoReply payload.now)) }
@@ -55,7 +55,7 @@ fn answer_echo<W: World>(
     send(world, dpid, reply.as_slice())
 }
 
-/// The event of a flow that was removed, where its owner is told.
+/// Returns the event of a flow that was removed, where its owner is told.
 fn removed_event(
     alloc: Global,
     views: &[TableView],
@@ -119,7 +119,8 @@ impl Net {
         }
     }
 
-    /// A message came from a switch; gives its event, where it is one. `SwitchBroke` exactly where it is no message.
+    /// Takes in a message that came from a switch; gives its event, where it is one. `SwitchBroke` exactly where it is
+    /// no message.
     pub fn arrived<W: World>(
         &mut self,
         world: &mut W,

@@ -12,7 +12,7 @@ ghost use Rattle.net_txn.specs.Waits.{Waits, IfFlooded, KeptMore};
 ghost use Rattle.lego_model.specs.BarrierWaits.{barrier_sent};
 
 use crate::queue::MessageQueue;
-use crate::wait::{send, await_barrier};
+use crate::wait::{await_barrier, send};
 use lego_model::{Awaited, Refusal, TxnFault};
 use outside::World;
 use std::alloc::Global;

@@ -26,7 +26,7 @@ use of_wire::{FlowMod, Message, SwitchConfig, encode, encode_into};
 use outside::World;
 use std::alloc::{AllocError, Global};
 
-/// DELETE of any match, whatever the outputs.
+/// Returns DELETE of any match, whatever the outputs.
 fn deletion_of_all(alloc: Global) -> FlowMod
     ensures { result ≡ delete_all }
 {
@@ -44,7 +44,7 @@ fn deletion_of_all(alloc: Global) -> FlowMod
     }
 }
 
-/// The message that empties a table.
+/// Returns the message that empties a table.
 #[tactic(auto, unfolding(of_wire::specs::Spelling::message_size))]
 pub(crate) fn emptying(alloc: Global, xid: Xid) -> Result<ByteList, AllocError>
     ensures bytes { IfOk result (λ b. b ≡ message_bytes xid (messages.FlowMod delete_all)) }
@@ -53,7 +53,7 @@ pub(crate) fn emptying(alloc: Global, xid: Xid) -> Result<ByteList, AllocError>
     encode(alloc, xid, &Message::FlowMod(deletion_of_all(alloc)))
 }
 
-/// The message that sets the first configuration: no flags, and 128 bytes of a packet that is missed.
+/// Returns the message that sets the first configuration: no flags, and 128 bytes of a packet that is missed.
 #[tactic(auto, unfolding(of_wire::specs::Spelling::message_size))]
 pub(crate) fn configuring(xid: Xid) -> [u8; 12]
     ensures bytes { result ≡ message_bytes xid (messages.SetConfig first_config) }

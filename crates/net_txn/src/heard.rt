@@ -10,7 +10,7 @@ use lego_model::{Awaited, Heard, Refusal};
 use of_types::{OfError, Xid, flows, get_u8, get_u16, get_u32, kinds};
 use of_wire::{Message, encode_into};
 
-/// The reply to a barrier.
+/// Returns the reply to a barrier.
 #[tactic(auto, unfolding(of_wire::specs::Spelling::message_size))]
 pub(crate) fn barrier_reply(xid: Xid) -> [u8; 8]
     ensures { result ≡ message_bytes xid BarrierReply }
@@ -20,7 +20,7 @@ pub(crate) fn barrier_reply(xid: Xid) -> [u8; 8]
     bytes
 }
 
-/// A barrier.
+/// Returns a barrier.
 #[tactic(auto, unfolding(of_wire::specs::Spelling::message_size))]
 pub(crate) fn barrier_request(xid: Xid) -> [u8; 8]
     ensures read { IsOk (reading_of result) }
@@ -31,7 +31,7 @@ pub(crate) fn barrier_request(xid: Xid) -> [u8; 8]
     bytes
 }
 
-/// Whether a message with this transaction id may be answered.
+/// Tells whether a message with this transaction id may be answered.
 fn may_answer(awaited: &Awaited, xid: Xid) -> bool
     ensures { result ≡ is_awaited awaited.now xid }
 {
@@ -42,7 +42,7 @@ fn may_answer(awaited: &Awaited, xid: Xid) -> bool
     }
 }
 
-/// What an ERROR says.
+/// Tells what an ERROR says.
 fn read_error(message: &[u8]) -> Refusal
     requires { 12 ≤ length message.now }
     ensures { result ≡ refusal_of message.now }
@@ -56,7 +56,7 @@ fn read_error(message: &[u8]) -> Refusal
     }
 }
 
-/// What a message is to a wait.
+/// Tells what a message is to a wait.
 #[tactic(auto, unfolding(lego_model::specs::BarrierWaits::heard), using(crate::specs::SizeLaws::sizes))]
 pub(crate) fn classify(message: &[u8], awaited: &Awaited) -> Heard
     requires { IsOk (reading_of message.now) }

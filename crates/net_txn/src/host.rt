@@ -28,7 +28,7 @@ pub(crate) enum HostAnswer {
     Asks(FlowMod),
 }
 
-/// The first action that no switch here knows.
+/// Returns the first action that no switch here knows.
 fn find_unknown(actions: &[Action]) -> Option<OfError>
     ensures { result ≡ unknown_action actions.now }
 {
@@ -42,7 +42,7 @@ fn find_unknown(actions: &[Action]) -> Option<OfError>
     None
 }
 
-/// What stands against the actions: one that no switch here knows, or too many bytes.
+/// Tells what stands against the actions: one that no switch here knows, or too many bytes.
 fn refuse_actions(m: &FlowMod) -> Option<OfError>
     ensures { result ≡ or_else (unknown_action m.now.actions) (if nat_lt most_action_bytes (list_size m.now.actions) then Some bad_len else None) }
 {
@@ -56,7 +56,7 @@ fn refuse_actions(m: &FlowMod) -> Option<OfError>
     }
 }
 
-/// What stands against a FLOW_MOD whatever the table holds.
+/// Tells what stands against a FLOW_MOD whatever the table holds.
 #[tactic(auto, unfolding(lego_model::specs::Answers::flow_mod_refused, lego_model::specs::Answers::addition_refused))]
 fn refuse_flow(m: &FlowMod) -> Option<OfError>
     ensures { result ≡ flow_mod_refused m.now }
@@ -74,7 +74,7 @@ fn refuse_flow(m: &FlowMod) -> Option<OfError>
     }
 }
 
-/// The same, and that entries which are there stay as they are.
+/// Tells the same, and that entries which are there stay as they are.
 fn refuse_change(m: &FlowMod, rows: &[ViewRow]) -> Option<OfError>
     ensures { result ≡ or_else (flow_mod_refused m.now) (not_yet (would_touch m.now (rows_of_view rows.now))) }
 {
@@ -86,7 +86,7 @@ fn refuse_change(m: &FlowMod, rows: &[ViewRow]) -> Option<OfError>
     }
 }
 
-/// What stands against a request of statistics.
+/// Tells what stands against a request of statistics.
 #[tactic(auto, unfolding(flow_table::specs::Refusals::stats_refusal))]
 fn refuse_stats(m: &Stats) -> OfError
     ensures { Some result ≡ or_else (stats_refusal m.now) (Some bad_type) }
@@ -104,7 +104,7 @@ fn refuse_stats(m: &Stats) -> OfError
     }
 }
 
-/// The error that answers bytes which are no message.
+/// Returns the error that answers bytes which are no message.
 fn answer_fault(fault: &WireFault) -> OfError
     ensures { result ≡ wire_fault fault.now }
 {
@@ -119,7 +119,7 @@ fn answer_fault(fault: &WireFault) -> OfError
     }
 }
 
-/// What the host makes of a FLOW_MOD.
+/// Tells what the host makes of a FLOW_MOD.
 #[tactic(auto, unfolding(lego_model::specs::Answers::host_refusal))]
 fn answer_change(m: FlowMod, rows: &[ViewRow]) -> HostAnswer
     ensures { IsHostAnswerOf (rows_of_view rows.now) (messages.FlowMod m) result }
@@ -130,7 +130,7 @@ fn answer_change(m: FlowMod, rows: &[ViewRow]) -> HostAnswer
     }
 }
 
-/// What the host makes of a message that was read, for a switch with these rows.
+/// Tells what the host makes of a message that was read, for a switch with these rows.
 #[tactic(auto, unfolding(lego_model::specs::Answers::host_refusal))]
 fn answer_message(message: Message, rows: &[ViewRow]) -> HostAnswer
     ensures { IsHostAnswerOf (rows_of_view rows.now) message result }
@@ -143,7 +143,7 @@ fn answer_message(message: Message, rows: &[ViewRow]) -> HostAnswer
     }
 }
 
-/// What the host makes of bytes for a switch with these rows.
+/// Tells what the host makes of bytes for a switch with these rows.
 pub(crate) fn answer_bytes(
     alloc: Global,
     bytes: &[u8],

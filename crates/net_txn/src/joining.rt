@@ -22,7 +22,7 @@ use of_wire::{FeaturesReply, PortList};
 use outside::World;
 use std::alloc::{AllocError, Global};
 
-/// What is awaited where two messages are sent from this id on, and then a barrier.
+/// Tells what is awaited where two messages are sent from this id on, and then a barrier.
 fn greeted(dpid: Dpid, xid: Xid) -> Awaited
     ensures { result ≡ greeted_from dpid xid }
 {
@@ -34,7 +34,7 @@ fn greeted(dpid: Dpid, xid: Xid) -> Awaited
     }
 }
 
-/// Where the view of a switch goes.
+/// Tells where the view of a switch goes.
 fn position_for(views: &[TableView], dpid: Dpid) -> usize
     ensures { IsViewPlace dpid views.now result }
 {
@@ -60,7 +60,7 @@ fn put_view(alloc: Global, views: &mut Vec<TableView>, dpid: Dpid) -> Result<(),
     Ok(())
 }
 
-/// The ports with which a switch joins.
+/// Returns the ports with which a switch joins.
 fn known_ports(alloc: Global, dpid: Dpid, ports: &PortList) -> Result<KnownPorts, AllocError>
     ensures dpid { IfOk result (λ k. k.dpid ≡ dpid) }
     ensures ports { IfOk result (λ k. k.ports ≡ ports.now) }
@@ -136,7 +136,7 @@ impl Net {
         Ok(())
     }
 
-    /// A switch joins, with these features: its table is emptied and its configuration set, behind a barrier.
+    /// Joins a switch with these features: its table is emptied and its configuration set, behind a barrier.
     pub fn joined<W: World>(
         &mut self,
         world: &mut W,

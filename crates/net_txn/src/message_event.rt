@@ -19,7 +19,7 @@ use of_types::{ByteList, Dpid, flows, put_u16};
 use of_wire::{FlowRemoved, Message, PortStatus, encode};
 use std::alloc::{AllocError, Global};
 
-/// The event that tells a message.
+/// Returns the event that tells a message.
 pub(crate) fn event_with(
     alloc: Global,
     kind: EventKind,
@@ -33,7 +33,7 @@ pub(crate) fn event_with(
     Ok(Event { kind, dpid, body })
 }
 
-/// The key of a flow that was removed.
+/// Returns the key of a flow that was removed.
 pub(crate) fn removed_key(flow: &FlowRemoved) -> Key
     ensures { result ≡ key_removed flow.now }
 {
@@ -55,7 +55,7 @@ fn has_asking(key: &Key, rows: &[ViewRow]) -> bool
     rows.iter().any(|row| is_asking(key, row))
 }
 
-/// Whether the owner of a flow that was removed is told.
+/// Tells whether the owner of a flow that was removed is told.
 pub(crate) fn tells(views: &[TableView], dpid: Dpid, flow: &FlowRemoved) -> bool
     ensures { result ≡ is_told dpid views.now flow.now }
 {
@@ -67,7 +67,7 @@ pub(crate) fn tells(views: &[TableView], dpid: Dpid, flow: &FlowRemoved) -> bool
     }
 }
 
-/// The event that tells an error: its kind and its code.
+/// Returns the event that tells an error: its kind and its code.
 pub(crate) fn error_event(
     alloc: Global,
     dpid: Dpid,
@@ -102,7 +102,7 @@ pub(crate) fn change_known(
     }
 }
 
-/// Where the known ports of a switch stand.
+/// Tells where the known ports of a switch stand.
 fn position_known(all: &[KnownPorts], dpid: Dpid) -> Option<usize>
     ensures { MatchOption result (IsNoKnown dpid all.now) (IsKnownAt dpid all.now) }
 {

@@ -34,7 +34,7 @@ impl Model for MessageStore {
     ghost invariant = { λ s. (sizes s.entries.items ≡ length s.bytes.items) × (1048576 ≤ vec_capacity s.bytes) × (16384 ≤ vec_capacity s.entries) };
 }
 
-/// Whether so many bytes more of one message more fit behind so many bytes of so many messages.
+/// Tells whether so many bytes more of one message more fit behind so many bytes of so many messages.
 fn has_room(bytes: usize, messages: usize, more: usize) -> bool
     ensures { result ≡ (nat_lt messages 16384 && nat_le (bytes + more) 1048576) }
 {
@@ -57,7 +57,7 @@ fn put_last(bytes: &mut Vec<u8>, entries: &mut Vec<(Dpid, usize)>, dpid: Dpid, m
 }
 
 impl MessageStore {
-    /// A store with no messages, with room for 1,048,576 bytes of 16,384 messages.
+    /// Returns a store with no messages, with room for 1,048,576 bytes of 16,384 messages.
     pub(crate) fn new(alloc: Global) -> Result<MessageStore, AllocError>
         ensures { IfOk result (λ p. p ≡ []) }
     {
@@ -78,7 +78,7 @@ impl MessageStore {
         }
     }
 
-    /// Copies of the messages.
+    /// Returns copies of the messages.
     pub(crate) fn copies(&self, alloc: Global) -> Result<VecDeque<(Dpid, ByteList)>, AllocError>
         ensures { IfOk result (λ q. q.items ≡ self.now) }
     {
@@ -94,7 +94,7 @@ impl MessageStore {
     }
 }
 
-/// Copies of the messages that stand one behind the other in bytes.
+/// Returns copies of the messages that stand one behind the other in bytes.
 #[tactic(auto, using(crate::proofs::MessageStoreSteps::within))]
 fn copies_of(
     alloc: Global,

@@ -19,7 +19,7 @@ pub struct KnownPorts {
     pub ports: PortList,
 }
 
-/// Where the port of a number has its place.
+/// Tells where the port of a number stands, or would stand.
 fn position_of(ports: &[PortDesc], number: PortNo) -> usize
     ensures { IsPortPlace number ports.now result }
 {
@@ -31,7 +31,7 @@ fn position_of(ports: &[PortDesc], number: PortNo) -> usize
     ports.len()
 }
 
-/// Whether the port of a number stands there.
+/// Tells whether the port of a number stands there.
 fn stands_at(ports: &[PortDesc], at: usize, number: PortNo) -> bool
     ensures within { result ≡ true → at < length ports.now }
     ensures same { (p : PortDesc) → result ≡ true → number ≡ (slice_index_or ports.now at p).port_no }

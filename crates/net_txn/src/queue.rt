@@ -27,7 +27,7 @@ impl Model for EventQueue {
 }
 
 impl EventQueue {
-    /// No events; takes no memory.
+    /// Returns no events; takes no memory.
     pub fn new(alloc: Global) -> EventQueue
         ensures { result ≡ [] }
     {
@@ -45,14 +45,14 @@ impl EventQueue {
         Ok(())
     }
 
-    /// How many events wait; takes no memory.
+    /// Tells how many events wait; takes no memory.
     pub fn len(&self) -> usize
         ensures { result ≡ length self.now }
     {
         self.events.len()
     }
 
-    /// No event waits.
+    /// Tells whether no event waits.
     pub fn is_empty(&self) -> bool
         ensures { IsTrue result ↔ (self.now ≡ []) }
     {
@@ -87,7 +87,7 @@ impl Model for MessageQueue {
 }
 
 impl MessageQueue {
-    /// No messages. It takes the room for those that are kept without memory.
+    /// Returns no messages. It takes the room for those that are kept without memory.
     pub fn new(alloc: Global) -> Result<MessageQueue, AllocError>
         ensures { IfOk result (λ q. q ≡ []) }
     {
@@ -119,7 +119,7 @@ impl MessageQueue {
         Ok(())
     }
 
-    /// The messages, oldest first.
+    /// Returns the messages, oldest first.
     pub(crate) fn into_messages(self) -> Result<VecDeque<(Dpid, ByteList)>, AllocError>
         ensures { IfOk result (λ messages. messages.items ≡ self) }
     {

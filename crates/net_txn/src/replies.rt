@@ -22,7 +22,7 @@ pub(crate) struct Replies {
     pub refusals: Vec<ByteList>,
 }
 
-/// Whether a message has this transaction id and this type, one of those that have 12 bytes at least.
+/// Tells whether a message has this transaction id and this type, one of those that have 12 bytes at least.
 #[tactic(auto, unfolding(lego_model::specs::FlowQueries::is_about))]
 fn is_about(xid: Xid, kind: u8, message: &[u8]) -> bool
     ensures { result ≡ is_about xid kind message.now }
@@ -78,7 +78,7 @@ pub(crate) fn sort_out(
     Ok(replies)
 }
 
-/// What a STATS_REPLY says: type, flags, body.
+/// Tells what a STATS_REPLY says: type, flags, body.
 #[tactic(auto, unfolding(lego_model::specs::FlowQueries::part_of))]
 fn part_of(alloc: Global, message: &[u8]) -> Result<(u16, u16, ByteList), AllocError>
     requires { 12 ≤ length message.now }
@@ -99,7 +99,7 @@ fn all_parts(alloc: Global, messages: &[ByteList]) -> Result<Vec<(u16, u16, Byte
     Ok(parts)
 }
 
-/// Whether the parts of a reply, one at least, are of flows.
+/// Tells whether the parts of a reply, one at least, are of flows.
 fn is_of_flows(parts: &[(u16, u16, ByteList)]) -> bool
     requires { 0 < length parts.now }
     ensures { result ≡ ((part_at 0 parts.now).0 == 1) }
@@ -107,7 +107,7 @@ fn is_of_flows(parts: &[(u16, u16, ByteList)]) -> bool
     parts[0].0 == stats::FLOW
 }
 
-/// The fault of a switch whose message at a place is at fault.
+/// Returns the fault of a switch whose message at a position is at fault.
 fn broke(dpid: Dpid, mut messages: Vec<ByteList>, place: usize) -> TxnFault
     requires { place < length messages.items }
     ensures { result ≡ SwitchBroke dpid (slice_index_or messages.items place []) }
@@ -115,7 +115,7 @@ fn broke(dpid: Dpid, mut messages: Vec<ByteList>, place: usize) -> TxnFault
     TxnFault::SwitchBroke(dpid, messages.swap_remove(place))
 }
 
-/// The rows that the parts of a reply spell.
+/// Returns the rows that the parts of a reply spell.
 fn read_parts(alloc: Global, dpid: Dpid, messages: Vec<ByteList>) -> Result<RowList, TxnFault>
     requires some { 0 < length messages.items }
     requires long { All (λ b. 12 ≤ length b) messages.items }
@@ -140,8 +140,8 @@ fn read_parts(alloc: Global, dpid: Dpid, messages: Vec<ByteList>) -> Result<RowL
     }
 }
 
-/// The rows that the messages which answer a request spell. The first ERROR is a refusal, and so is the reply to the
-/// barrier where nothing answered.
+/// Returns the rows that the messages which answer a request spell. The first ERROR is a refusal, and so is the reply
+/// to the barrier where nothing answered.
 pub(crate) fn read_replies(
     alloc: Global,
     dpid: Dpid,

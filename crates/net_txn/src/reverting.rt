@@ -1,4 +1,4 @@
-//! The inverses of a log, reverted newest first.
+//! The inverses of a log, sent newest first.
 
 ghost use Rattle.std.specs.Prelude.{◌≡◌, ◌+◌, ◌^◌, ◌<◌, ◌≤◌, ℕ, true, false, List, [], ◌∷◌, length, drop, map, Option, IfErr, OnOk, is_err, slice_index_or, slice_set};
 ghost use Rattle.outside.specs.Seen.{Seen};
@@ -15,12 +15,12 @@ ghost use Rattle.net_txn.specs.Waits.{KeptMore};
 ghost use Rattle.net_txn.specs.Undos.{HasPassedBarrier, Further, first_fault_of, fault_of, progress_of, Moves, Fails, AwaitsReplies, fault_by, inverses_in, alone, with_progress, key_logged};
 ghost use Rattle.net_txn.specs.Views.{is_viewed};
 
-use crate::undo_progress::{progress_of, position_of};
-use crate::logged::{UndoProgress, Logged, inverse_of};
+use crate::logged::{Logged, UndoProgress, inverse_of};
 use crate::net::following;
 use crate::queue::MessageQueue;
-use crate::undo_wait::{send, await_barrier};
 use crate::trouble::Trouble;
+use crate::undo_progress::{position_of, progress_of};
+use crate::undo_wait::{await_barrier, send};
 use flow_table::TableView;
 use of_types::{Dpid, Xid};
 use outside::World;
@@ -29,14 +29,14 @@ use std::alloc::Global;
 /// How many inverses are sent to a switch before a barrier.
 const MOST_BEHIND_BARRIER: u32 = 4_096;
 
-/// Whether a switch has a view, so that it is joined.
+/// Tells whether a switch has a view, so that it is joined.
 fn is_viewed(views: &[TableView], dpid: Dpid) -> bool
     ensures { result ≡ is_viewed dpid views.now }
 {
     views.iter().any(|view| view.dpid == dpid)
 }
 
-/// The log from a place on.
+/// Returns the log from a position on.
 pub(crate) fn behind(log: &[Logged], from: usize) -> &[Logged]
     requires { from ≤ length log.now }
     ensures { result.now ≡ drop from log.now }
@@ -44,7 +44,7 @@ pub(crate) fn behind(log: &[Logged], from: usize) -> &[Logged]
     &log[from..]
 }
 
-/// Notes how an inverse fared.
+/// Notes how far an inverse came.
 fn mark(log: &mut [Logged], at: usize, progress: UndoProgress)
     requires { at < length log.old }
     ensures marked { (e : Logged) → log.new ≡ slice_set log.old at (with_progress progress (slice_index_or log.old at e)) }
@@ -53,7 +53,7 @@ fn mark(log: &mut [Logged], at: usize, progress: UndoProgress)
     log[at].progress = progress;
 }
 
-/// Sends the inverse at a place.
+/// Sends the inverse at a position.
 fn send_at<W: World>(
     world: &mut W,
     alloc: Global,
@@ -84,7 +84,7 @@ fn send_at<W: World>(
     sent
 }
 
-/// Sends a barrier to the switch of the inverse at a place, the newest of those that were reverted to it from another
+/// Sends a barrier to the switch of the inverse at a position, the newest of those that were reverted to it from another
 /// place on, and waits for its reply.
 fn await_at<W: World>(
     world: &mut W,
@@ -130,7 +130,7 @@ fn take_xid(xid: &mut Xid) -> Xid
     taken
 }
 
-/// One inverse more behind the last barrier.
+/// Counts one inverse more behind the last barrier.
 fn one_more(since: u32) -> u32
     ensures { since < 4096 → result ≡ since + 1 }
 {
@@ -141,7 +141,7 @@ fn one_more(since: u32) -> u32
     }
 }
 
-/// Plays the inverse at a place, to a switch that is joined and has not failed.
+/// Sends the inverse at a position, to a switch that is joined and has not failed.
 fn revert_to<W: World>(
     world: &mut W,
     alloc: Global,
@@ -173,7 +173,7 @@ fn revert_to<W: World>(
     await_at(world, buf, kept, log, at, at, id)
 }
 
-/// Whether an inverse is reverted to a switch: it is joined and has not failed.
+/// Tells whether an inverse is sent to a switch: it is joined and has not failed.
 fn reverts(progress: UndoProgress, views: &[TableView], dpid: Dpid) -> bool
     ensures yes { result ≡ true → (is_viewed dpid views.now ≡ true) × (progress.failed ≡ false) }
     ensures no { result ≡ false → is_viewed dpid views.now ≡ true → progress.failed ≡ true }
@@ -181,7 +181,7 @@ fn reverts(progress: UndoProgress, views: &[TableView], dpid: Dpid) -> bool
     !progress.failed && is_viewed(views, dpid)
 }
 
-/// Plays the inverse at a place, unless its switch has failed or is not joined.
+/// Sends the inverse at a position, unless its switch has failed or is not joined.
 pub(crate) fn revert<W: World>(
     world: &mut W,
     alloc: Global,
@@ -206,7 +206,16 @@ pub(crate) fn revert<W: World>(
     let dpid = log[at].dpid;
     let progress = progress_of(behind(log, at + 1), dpid);
     if reverts(progress, views, dpid) {
-        revert_to(world, alloc, buf, kept, log, at, one_more(progress.since), xid)
+        revert_to(
+            world,
+            alloc,
+            buf,
+            kept,
+            log,
+            at,
+            one_more(progress.since),
+            xid,
+        )
     } else {
         let left_alone = UndoProgress {
             xid: 0,

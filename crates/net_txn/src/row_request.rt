@@ -24,7 +24,7 @@ use std::alloc::{AllocError, Global};
 /// The number that means all tables.
 const ALL_TABLES: u8 = 0xff;
 
-/// What is awaited where a request is sent with this id, and then a barrier.
+/// Tells what is awaited where a request is sent with this id, and then a barrier.
 fn asked(dpid: Dpid, xid: Xid) -> Awaited
     ensures { result ≡ asked_from dpid xid }
 {
@@ -36,7 +36,7 @@ fn asked(dpid: Dpid, xid: Xid) -> Awaited
     }
 }
 
-/// The body of a request of flows: of any match, in all tables, whatever their outputs.
+/// Returns the body of a request of flows: of any match, in all tables, whatever their outputs.
 #[tactic(auto, unfolding(lego_model::specs::FlowQueries::all_flows))]
 fn all_flows() -> [u8; 44]
     ensures { result ≡ all_flows }
@@ -49,7 +49,7 @@ fn all_flows() -> [u8; 44]
     body
 }
 
-/// The request of all flows.
+/// Returns the request of all flows.
 #[tactic(auto, unfolding(of_wire::specs::Spelling::message_size))]
 fn flows_request(alloc: Global, xid: Xid) -> Result<ByteList, AllocError>
     ensures bytes { IfOk result (λ b. b ≡ flows_request xid) }

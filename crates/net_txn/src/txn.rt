@@ -31,14 +31,14 @@ impl<'a> Txn<'a> {
         Txn { net, start }
     }
 
-    /// The tables of the joined switches as the owner sees them; takes no memory.
+    /// Returns the tables of the joined switches as the owner sees them; takes no memory.
     pub fn views(&self) -> &[TableView]
         ensures { result.now ≡ self.now.net.now.views }
     {
         self.net.views()
     }
 
-    /// The moment, in seconds from the start; takes no memory.
+    /// Returns the moment, in seconds from the start; takes no memory.
     pub fn moment(&self) -> u64
         ensures { result ≡ self.now.net.now.moment }
     {

@@ -1,4 +1,4 @@
-//! The undo of what was logged from a place on.
+//! The undo of what was logged from a position on.
 
 ghost use Rattle.std.specs.Prelude.{◌≡◌, ◌+◌, ◌<◌, ◌≤◌, ℕ, true, List, [], ◌∷◌, length, take, drop, map, Option, None, IsOk, vec_len};
 ghost use Rattle.lego_model.specs.declared.fault.TxnFault.{TxnFault};
@@ -9,8 +9,8 @@ ghost use Rattle.net_txn.specs.Undos.{ended_by, without_keys, switches_of, Furth
 ghost use Rattle.net_txn.specs.Views.{is_viewed};
 
 use crate::logged::Logged;
-use crate::reverting::{behind, revert, await_switch};
 use crate::queue::MessageQueue;
+use crate::reverting::{await_switch, behind, revert};
 use crate::room::{Room, note};
 use crate::views::remove_in;
 use flow_table::TableView;
@@ -19,7 +19,7 @@ use of_types::{Dpid, Xid};
 use outside::World;
 use std::alloc::Global;
 
-/// Plays the inverse at a place, and notes the first fault.
+/// Sends the inverse at a position, and notes the first fault.
 fn revert_noted<W: World>(
     world: &mut W,
     alloc: Global,
@@ -50,7 +50,7 @@ fn revert_noted<W: World>(
     }
 }
 
-/// Plays the inverses of a log, newest first.
+/// Sends the inverses of a log, newest first.
 fn revert_all<W: World>(
     world: &mut W,
     alloc: Global,
@@ -79,7 +79,7 @@ fn revert_all<W: World>(
     }
 }
 
-/// Settles a switch, and notes the first fault.
+/// Awaits the reply of a switch, and notes the first fault.
 fn await_noted<W: World>(
     world: &mut W,
     alloc: Global,
@@ -147,8 +147,8 @@ pub(crate) fn take_keys(alloc: Global, views: &mut Vec<TableView>, log: &[Logged
     }
 }
 
-/// Plays the inverses of a log, newest first, and then sends a barrier to each joined switch for which some was reverted
-/// and which has not failed, ascending, and waits for its reply.
+/// Sends the inverses of a log, newest first, and then sends a barrier to each joined switch for which some was
+/// reverted and which has not failed, ascending, and waits for its reply.
 pub(crate) fn undo<W: World>(
     world: &mut W,
     alloc: Global,
@@ -178,7 +178,7 @@ pub(crate) fn undo<W: World>(
     }
 }
 
-/// The same for what was logged from a place on.
+/// Does the same for what was logged from a position on.
 fn undo_part<W: World>(
     world: &mut W,
     alloc: Global,
@@ -206,7 +206,7 @@ fn undo_part<W: World>(
     undo(world, alloc, buf, kept, rooms, views, &mut log[from..], xid)
 }
 
-/// Undoes what was logged from a place on, and forgets it; its keys leave the views.
+/// Undoes what was logged from a position on, and forgets it; its keys leave the views.
 pub(crate) fn undo_log<W: World>(
     world: &mut W,
     alloc: Global,

@@ -14,18 +14,18 @@ ghost use Rattle.net_txn.specs.MessageStore.{KeptWhereFit};
 ghost use Rattle.net_txn.specs.LinkSteps.{GoesWithoutStrays, ThenWaits};
 ghost use Rattle.net_txn.specs.Undos.{link_trouble, Moves, Fails, FailsAfter, AreBefore, fault_by, inverses_in, alone, HearsNext, AwaitsReplies};
 
-use crate::undo_progress::key_refused;
 use crate::heard::{barrier_request, classify};
 use crate::logged::Logged;
 use crate::queue::MessageQueue;
 use crate::trouble::Trouble;
+use crate::undo_progress::key_refused;
 use crate::wait::{FLOOD, make_reply};
 use lego_model::{Awaited, Heard};
 use of_types::{Dpid, Xid, get_u32};
 use of_wire::check;
 use outside::{LinkFault, World};
 
-/// Why a call of a link failed.
+/// Tells why a call of a link failed.
 fn trouble_of(fault: LinkFault) -> Trouble
     ensures { result ≡ link_trouble fault }
 {

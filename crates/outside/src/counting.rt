@@ -18,7 +18,7 @@ pub struct Counting<W> {
 }
 
 impl<W: World + Drop> Counting<W> {
-    /// This world, with no call counted.
+    /// Returns this world, with no call counted.
     pub fn new(world: W) -> Counting<W>
         ensures world { result.world ≡ world }
         ensures calls { result.calls ≡ 0 }
@@ -26,14 +26,14 @@ impl<W: World + Drop> Counting<W> {
         Counting { world, calls: 0 }
     }
 
-    /// How many calls were passed on; the number stays at its type's last value.
+    /// Tells how many calls were passed on; the number stays at its type's last value.
     pub fn calls(&self) -> u64
         ensures { result ≡ self.now.calls }
     {
         self.calls
     }
 
-    /// One call more.
+    /// Counts one call more.
     fn count(&mut self)
         ensures world { self.new.world ≡ self.old.world }
         ensures calls { self.new.calls ≡ raised self.old.calls }

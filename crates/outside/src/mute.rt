@@ -18,14 +18,14 @@ pub struct Mute {
 }
 
 impl Mute {
-    /// A world in which nothing happened yet.
+    /// Returns a world in which nothing happened yet.
     pub fn new() -> Mute
         ensures { result.faults ≡ 0 }
     {
         Mute { faults: 0 }
     }
 
-    /// One fault more.
+    /// Counts one fault more.
     fn raise(&mut self)
         ensures rose { Rose self.old.faults self.new.faults }
         ensures never_fell { NeverFell self.old.faults self.new.faults }

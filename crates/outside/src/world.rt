@@ -25,7 +25,7 @@ pub trait World {
     fn open(&mut self, port: u16) -> Result<(), OpenFault>
         ensures { Opens Tells (seen self.old) (seen self.new) result };
 
-    /// What comes next. Where that has bytes, they stand in the front of the buffer.
+    /// Tells what comes next. Where that has bytes, they stand in the front of the buffer.
     fn next(&mut self, buf: &mut [u8]) -> Result<Item, NextFault>
         requires { most_message ≤ length buf.old }
         ensures { Nexts Tells (seen self.old) (seen self.new) result buf.new };

@@ -61,7 +61,7 @@ fn push_counts(line: &mut String, row: &FlowRow) -> Result<(), AllocError>
     write!(line, " packets={packets} bytes={bytes} age={age}")
 }
 
-/// The bytes of actions.
+/// Returns the bytes of actions.
 fn spelling(alloc: Global, actions: &ActionList) -> Result<Vec<u8>, AllocError>
     ensures { IfOk result (λ bytes. bytes.items ≡ list_bytes actions.now) }
 {
@@ -70,7 +70,7 @@ fn spelling(alloc: Global, actions: &ActionList) -> Result<Vec<u8>, AllocError>
     Ok(bytes)
 }
 
-/// The digits of bytes, or a dash for none.
+/// Returns the digits of bytes, or a dash for none.
 fn digits_or_dash(alloc: Global, bytes: &[u8]) -> Result<String, AllocError>
     ensures { IfOk result (λ digits. string_bytes digits ≡ report.dash_or bytes.now) }
 {
