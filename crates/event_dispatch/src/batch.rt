@@ -40,14 +40,14 @@ pub(crate) enum Rest {
     End,
 }
 
-/// Whether a switch has a view.
+/// Tells whether a switch has a view.
 fn has_view(net: &Net, dpid: Dpid) -> bool
     ensures { result ≡ is_viewed dpid net.now.views }
 {
     net.views().iter().any(|view| view.dpid == dpid)
 }
 
-/// Whether a switch is joined.
+/// Tells whether a switch is joined.
 #[tactic(auto, using(crate::specs::ViewedLaws::joined_rows, switch_laws::specs::ShownUndoLaws::rows_of_none))]
 pub(crate) fn is_joined(net: &Net, dpid: Dpid) -> bool
     ensures joined { result ≡ true → IsSome (rows_at dpid net.now.views) }
@@ -56,7 +56,7 @@ pub(crate) fn is_joined(net: &Net, dpid: Dpid) -> bool
     has_view(net, dpid)
 }
 
-/// Whether bytes were not read for want of memory.
+/// Tells whether bytes were not read for want of memory.
 fn ran_short(fault: &WireFault) -> bool
     ensures { result ≡ of_memory fault.now }
 {
@@ -73,7 +73,7 @@ fn append(queue: &mut EventQueue, event: Option<Event>) -> Result<(), AllocError
     Ok(())
 }
 
-/// What the outside tells next.
+/// Asks the outside what comes next.
 fn next_item<W: World>(world: &mut W, buf: &mut [u8]) -> Result<Item, Fault>
     requires { most_message ≤ length buf.old }
     ensures item { IfOk result (λ item. IsItemIn W.Tells item buf.new) }
@@ -95,7 +95,7 @@ fn next_item<W: World>(world: &mut W, buf: &mut [u8]) -> Result<Item, Fault>
 }
 
 impl Run {
-    /// A message came from a switch. One of a switch that is not joined is ignored.
+    /// Takes a message that came from a switch. One of a switch that is not joined is ignored.
     #[tactic(auto, using(crate::specs::BatchSteadyLaws::links_none, crate::specs::BatchSteadyLaws::only_none, crate::specs::SteadyLaws::places_none, crate::specs::SteadyLaws::reads_none, crate::specs::FaultLaws::arrival_why, crate::specs::TalkingLaws::keeps_none, crate::specs::TalkingLaws::keeps_links))]
     pub(crate) fn take_message<W: World>(
         &mut self,
@@ -126,7 +126,7 @@ impl Run {
         Ok(())
     }
 
-    /// A switch leaves. One that is not joined is ignored.
+    /// Takes a switch out that leaves. One that is not joined is ignored.
     fn take_out(&mut self, dpid: Dpid) -> Result<(), AllocError>
         ensures waits { OnOk result (Waits self.old self.new) }
         ensures app { self.new.app ≡ self.old.app }
@@ -141,7 +141,7 @@ impl Run {
         Ok(())
     }
 
-    /// A switch describes itself as it joins. One that is joined is not taken in again.
+    /// Takes a switch in that describes itself as it joins. One that is joined is not taken in again.
     #[tactic(auto, using(crate::specs::BatchSteadyLaws::links_none, crate::specs::BatchSteadyLaws::puts_none, crate::specs::BatchSteadyLaws::only_none, crate::specs::BatchSteadyLaws::joined_puts, crate::specs::TalkingLaws::keeps_none))]
     fn take_in<W: World>(&mut self, world: &mut W, dpid: Dpid, frame: &[u8]) -> Result<(), Fault>
         ensures waits { OnOk result (Waits self.old self.new) }
@@ -172,7 +172,7 @@ impl Run {
         }
     }
 
-    /// A switch joins with what it says of itself.
+    /// Lets a switch join with what it says of itself.
     #[tactic(auto, using(crate::specs::BatchSteadyLaws::links_none, crate::specs::BatchSteadyLaws::only_none, crate::specs::KeptLaws::joins_read, crate::specs::TalkingLaws::keeps_none, crate::specs::TalkingLaws::keeps_links))]
     fn join<W: World>(&mut self, world: &mut W, dpid: Dpid, message: &Message) -> Result<(), Fault>
         requires out { rows_at dpid self.old.net.views ≡ None }
@@ -198,7 +198,7 @@ impl Run {
         Ok(())
     }
 
-    /// The event that a switch joined.
+    /// Appends the event that a switch joined.
     fn announce(&mut self, dpid: Dpid, message: &Message) -> Result<(), AllocError>
         requires { message_size message.now ≤ 65535 }
         ensures waits { OnOk result (Waits self.old self.new) }

@@ -29,7 +29,7 @@ use outside::{Judge, World};
 use report_text::{TurnWord, event_line, gone_line, start_line, turn_line};
 use std::alloc::{AllocError, Global};
 
-/// The turn of the application, whose changes are kept where it was done and undone where it failed.
+/// Holds a turn of the application, whose changes are kept where it was done and undone where it failed.
 #[tactic(auto, using(crate::specs::WhyLaws::continues_then, crate::specs::WhyLaws::why_then, crate::specs::WhyLaws::why_before, crate::specs::FaultLaws::undo_why, crate::specs::FaultLaws::stops_why))]
 fn hold_turn<W: World, J: Judge>(
     alloc: Global,
@@ -120,7 +120,7 @@ impl Run {
         Ok(())
     }
 
-    /// What follows of a turn that was closed: it is counted and told, and an application that failed is started again.
+    /// Closes a turn: counts and tells it, and starts an application again that failed.
     #[tactic(auto, using(crate::specs::TalkingLaws::keeps_none))]
     fn close<W: World>(&mut self, world: &mut W, end: TurnEnd) -> Result<(), AllocError>
         requires done { self.old.app.done < self.old.events }

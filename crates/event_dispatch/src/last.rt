@@ -25,7 +25,7 @@ use outside::World;
 use report_text::{app_line, end_line, flow_line, switch_line};
 use std::alloc::AllocError;
 
-/// Where the row of a key stands, from a position on.
+/// Finds where the row of a key stands, from a position on.
 fn place_from(rows: &[ViewRow], from: usize, key: &Key) -> Option<usize>
     ensures within { IfSome result (λ at. at < length rows.now) }
     ensures here { (v : ViewRow) (later : List ViewRow) → drop from rows.now ≡ v ∷ later → v.key ≡ key.now → result ≡ Some from }
@@ -38,7 +38,7 @@ fn place_from(rows: &[ViewRow], from: usize, key: &Key) -> Option<usize>
     None
 }
 
-/// The flags of the owner of an entry, and where the next one is looked for. Rows and entries stand in key order.
+/// Finds the flags of the owner of an entry, and where the next one is looked for. Rows and entries stand in key order.
 fn flags_from(rows: &[ViewRow], from: usize, key: &Key) -> (u16, usize)
     ensures { FindsFlags from key.now rows.now result }
 {
@@ -48,7 +48,7 @@ fn flags_from(rows: &[ViewRow], from: usize, key: &Key) -> (u16, usize)
     }
 }
 
-/// The rows of a switch as their owner sees them, while it is joined.
+/// Finds the rows of a switch as their owner sees them, while it is joined.
 fn rows_of(views: &[TableView], dpid: Dpid) -> Option<&ViewList>
     ensures { MatchOption result (rows_at dpid views.now ≡ None) (λ rows. rows_at dpid views.now ≡ Some rows.now) }
 {
@@ -70,7 +70,7 @@ impl Run {
         self.note(&line)
     }
 
-    /// The flags of the owner of an entry of a switch, and where the next one is looked for.
+    /// Finds the flags of the owner of an entry of a switch, and where the next one is looked for.
     fn flags_of(&self, dpid: Dpid, from: usize, key: &Key) -> (u16, usize)
         ensures { (rows : List ViewRow) → rows_at dpid self.now.net.views ≡ Some rows → FindsFlags from key.now rows result }
     {
@@ -148,7 +148,7 @@ impl Run {
         Ok(self.note_rows(dpid, &rows)?)
     }
 
-    /// The joined switches, by number.
+    /// Lists the joined switches, by number.
     fn switches(&self) -> Result<Vec<Dpid>, AllocError>
         ensures { IfOk result (λ switches. switches.items ≡ map (λ v. v.dpid) self.now.net.views) }
     {

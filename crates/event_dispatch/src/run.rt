@@ -44,7 +44,7 @@ pub(crate) struct Run {
 }
 
 impl Run {
-    /// A run of which nothing has happened.
+    /// Makes a run of which nothing has happened.
     pub(crate) fn new(alloc: Global) -> Result<Run, AllocError>
         ensures going { IfOk result Going }
         ensures first { IfOk result (λ r. engine_of r ≡ engine_at_first) }

@@ -30,7 +30,7 @@ use outside::{Judge, OpenFault, World};
 use std::alloc::Global;
 
 impl Run {
-    /// One round: a batch, and then the events that wait.
+    /// Runs one round: a batch, and then the events that wait.
     #[tactic(auto, using(crate::specs::WhyLaws::continues_then, crate::specs::WhyLaws::why_behind, crate::specs::WhyLaws::why_sink))]
     fn run_round<W: World, J: Judge, K: Sink>(
         &mut self,
@@ -62,7 +62,7 @@ impl Run {
         Ok(rest)
     }
 
-    /// Goes from batch to batch, until nothing comes any more.
+    /// Runs batch after batch, until nothing comes any more.
     #[tactic(auto, using(crate::specs::WhyLaws::continues_then, crate::specs::WhyLaws::why_behind, crate::specs::WhyLaws::fell_then))]
     fn run_rounds<W: World, J: Judge, K: Sink>(
         &mut self,
@@ -154,7 +154,7 @@ impl Run {
         Ok(self.end_report(world, sink)?)
     }
 
-    /// The whole run of a world that was opened.
+    /// Runs a world that was opened, from the start of its application to the end of the report.
     #[tactic(auto, using(crate::specs::WhyLaws::continues_then, crate::specs::WhyLaws::why_behind, crate::specs::WhyLaws::fell_then))]
     fn run_opened<W: World, J: Judge, K: Sink>(
         &mut self,

@@ -73,7 +73,7 @@ pub enum Stop {
 }
 
 impl Stop {
-    /// The status of the program.
+    /// Gives the status of the program.
     pub fn status(self) -> u8
         ensures { result ≡ stop_status self }
     {
@@ -163,7 +163,7 @@ fn write_numbered<K: Sink>(
     write_all(sink, end)
 }
 
-/// What is wrong with a line of a session, as the end of a line.
+/// Spells what is wrong with a line of a session, as the end of a line.
 #[tactic(auto, unfolding(lego_model::specs::RunReport::line_of))]
 fn kind_end(kind: SessionKind) -> &'static str
     ensures { result.now ≡ line_of (codes " " ++ kind_word kind) }

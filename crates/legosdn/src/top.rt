@@ -25,7 +25,7 @@ use session_text::read_session;
 use sim_world::SimWorld;
 use std::alloc::{AllocError, Global};
 
-/// Whether the words are the one command, `replay`.
+/// Tells whether the words are the one command, `replay`.
 fn is_command(words: &[String]) -> bool
     ensures { result ≡ is_command_in (map string_bytes words.now) }
 {
@@ -35,7 +35,7 @@ fn is_command(words: &[String]) -> bool
     }
 }
 
-/// The names of the applications: without a policy there is one, `app`.
+/// Gives the names of the applications: without a policy there is one, `app`.
 fn app_names(alloc: Global) -> Result<Vec<String>, AllocError>
     ensures { IfOk result (λ all. map string_bytes all.items ≡ names) }
 {
