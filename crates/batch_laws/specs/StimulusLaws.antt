@@ -35,7 +35,6 @@ use Rattle.batch_laws.specs.After.{Facts, SoundIn, After}
 use Rattle.batch_laws.specs.LeaveTellLaws.{after-leave}
 use Rattle.batch_laws.specs.JoinTellLaws.{after-join}
 
-
 -- ---- Bytes say numbers that fit
 
 message-fits : (m : Message) → IsMessage m → FitsMessage m

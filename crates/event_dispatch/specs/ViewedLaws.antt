@@ -11,4 +11,3 @@ joined_rows d (v ∷ vs) h =
       | inl here ↦ rw here refl
       | inr other ↦ rw other (joined_rows d vs (rw other at h))
     ]
-

@@ -14,7 +14,6 @@ use Rattle.event_dispatch.specs.declared.served.Served.{Served}
 use Rattle.event_dispatch.specs.declared.served.Served.TheVariants as ends
 use Rattle.lego_model.specs.SwitchFaults.{Happened, IsWhyTxn}
 
-
 -- ---- Why a run ended
 
 -- What is seen of the world, and how often the sink failed, before and after.

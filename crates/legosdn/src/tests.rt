@@ -149,7 +149,9 @@ fn the_outside_fails(rt: HostRuntime) -> Result<(), Fail> {
         let mut sim = SimWorld::new(alloc)?;
         sim.fail_call(kind, 0, 1)?;
         let mut sink = MemSink::new(alloc, ROOM, &[])?;
-        let stop = run_world(alloc, &mut sink, &mut sim).err().ok_or("no stop")?;
+        let stop = run_world(alloc, &mut sink, &mut sim)
+            .err()
+            .ok_or("no stop")?;
         assert_eq!(rt; halt(&mut sink, stop), status);
         assert_eq!(rt; text_of(alloc, sink.bytes())?.as_str(), output);
     }

@@ -40,7 +40,6 @@ use Rattle.run_laws.specs.DialogueLaws.{others_at_once}
 use Rattle.run_laws.specs.PointLaws.{marks_more, mark_alike}
 use Rattle.run_laws.specs.FinishLaws.{shown-still}
 
-
 -- ---- All is calm again
 
 marks-then : (x : WorldStim) (s : State) → (after_stim x s).marks ≡ s.marks ++ mark_of None s ∷ []

@@ -33,7 +33,6 @@ use Rattle.run_laws.specs.LastReport.{lines_text}
 use Rattle.run_laws.specs.TurnMoveLaws.{turn_moves}
 use Rattle.run_laws.specs.EventMoves.{TurnAlike, TurnMoves}
 
-
 -- ---- The application is alive
 
 abbrev turned_of : {Own : Type 0} {allows : List Place → Bool} {event : Event} {text : List ℕ} {old new : Seen Own} {e now_e : Engine} {starts : List Start} {reply : Reply} → TurnAlike allows event text old new e now_e starts reply → List Start → List Reply → Turned

@@ -27,7 +27,6 @@ use Rattle.run_laws.specs.Moves.{AtRest}
 use Rattle.lego_model.specs.ReferenceRun.{fresh, before_start}
 use Rattle.run_laws.specs.First.{IsOpened, net_at_first, engine_at_first}
 
-
 -- ---- The world
 
 state-opened : {Own : Type 0} (seen : Seen Own) → IsOpened seen → state seen ≡ record (at_first seen.given) { opened = true }

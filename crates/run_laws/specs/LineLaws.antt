@@ -16,7 +16,6 @@ use Rattle.lego_model.specs.Application.{names, name}
 use Rattle.run_laws.specs.Facts.{gone_text, starts_text, turn_word}
 use Rattle.run_laws.specs.LastReport.{lines_text}
 
-
 gone_lines : (back : Bool) → lines_text (gone_line 0 back) ≡ gone_text back
 gone_lines true = refl
 gone_lines false = append-nil (gone_line_of name)

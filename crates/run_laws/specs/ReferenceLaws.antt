@@ -7,7 +7,6 @@ use Rattle.lego_model.specs.Turns.{Played, turn_of}
 use Rattle.lego_model.specs.Controller.{App, Ended, Run, Turned, table_of, next_reply, restart_lines, turn, says_stop, marked, given_to, dispatch}
 use Rattle.run_laws.specs.ReferenceTurn.{numbered, after_turn, without_turn, turned_by}
 
-
 both_same : {X : Type 0} (b : Bool) (x : X) → (if b then x else x) ≡ x
 both_same true x = refl
 both_same false x = refl

@@ -26,7 +26,6 @@ use Rattle.run_laws.specs.TellLaws.{tries_tell}
 use Rattle.run_laws.specs.LineLaws.{starts_lines}
 use Rattle.run_laws.specs.EventMoves.{StartsAlike}
 
-
 -- ---- The same starts, or fronts of those that are said
 
 restored-same : (told said : Start) → IsStartFront told said → restored said ≡ restored told

@@ -18,7 +18,6 @@ use Rattle.run_laws.specs.FirstLaws.{no-acts, stands-first}
 use Rattle.run_laws.specs.First.{IsOpened, engine_at_first}
 use Rattle.run_laws.specs.Whole.{whole, RanAs, Ran}
 
-
 -- what is told is said
 pub told-said : {Own : Type 0} (seen : Seen Own) → AreSaid seen (starts_in (own_acts seen)) (replies_in (own_acts seen))
 told-said seen = (start_fronts-refl (starts_in (own_acts seen)), fronts-refl (replies_in (own_acts seen)))

@@ -21,7 +21,6 @@ use Rattle.switch_laws.specs.SinceLaws.{begun}
 use Rattle.turn_laws.specs.ChainLaws.{chain-shown}
 use Rattle.turn_laws.specs.Stop.{IsPlainStop}
 
-
 no_memory : (fault : TxnFault) → fault ≡ NoMemory → IsPlainStop fault
 no_memory fault is = subst IsPlainStop (sym is) (0, tt)
 
