@@ -11,10 +11,11 @@ mod state;
 mod talk;
 mod turning;
 
+pub use intake::TakeBuffer;
 pub use laws::{
     acts_of_a_turn, attempts_are_dialogues, attempts_are_told, turns_are_dialogues, turns_are_told,
     turns_of_the_reference,
 };
-pub use starting::restart;
+pub use starting::{ATTEMPTS, restart};
 pub use state::{AppState, Back, TurnEnd};
 pub use turning::turn;

@@ -7,7 +7,7 @@ use Rattle.of_types.specs.Fields.{number_bytes}
 use Rattle.of_types.specs.declared.port_desc.PortDesc.{PortDesc}
 use Rattle.of_types.specs.declared.journal.Act.TheVariants.{Sent}
 use Rattle.of_match.specs.declared.key.Key.{Key}
-use Rattle.of_match.specs.Key.{key_number}
+use Rattle.of_match.specs.Key.{place}
 use Rattle.of_wire.specs.declared.bodies.FlowRemoved.{FlowRemoved as Removed}
 use Rattle.of_wire.specs.declared.bodies.PortStatus.{PortStatus as Status}
 use Rattle.of_wire.specs.declared.message.Message.{Message}
@@ -24,10 +24,10 @@ use Rattle.outside.specs.declared.step.WorldStep.{WorldStep}
 use Rattle.outside.specs.declared.step.WorldStep.TheVariants.{Acted}
 use Rattle.outside.specs.Seen.{Seen, Continues}
 use Rattle.lego_io.specs.Count.{Rose}
-use Rattle.net_txn.specs.declared.fault.TxnFault.{TxnFault}
-use Rattle.net_txn.specs.declared.fault.TxnFault.TheVariants.{SwitchFault, SwitchBroke, Diverged, Flooded, NoMemory}
+use Rattle.lego_model.specs.declared.fault.TxnFault.{TxnFault}
+use Rattle.lego_model.specs.declared.fault.TxnFault.TheVariants.{SwitchFault, SwitchBroke, Diverged, Flooded, NoMemory}
 use Rattle.net_txn.specs.declared.ports.KnownPorts.{KnownPorts}
-use Rattle.net_txn.specs.LinkSteps.{OnLinks, AsksInPlace}
+use Rattle.net_txn.specs.LinkSteps.{OnLinks, AsksWithoutStrays}
 use Rattle.net_txn.specs.Views.{rows_at, with_rows}
 use Rattle.net_txn.specs.Net.{NetState}
 
@@ -39,14 +39,14 @@ key_removed f = record { priority = f.priority; matching = f.matching }
 -- the owner of the entry asked for a notice when it goes
 abbrev pub is_asked : Key → Option (List ViewRow) → Bool
 is_asked k None = false
-is_asked k (Some rows) = list_any (λ r. key_number r.key == key_number k && asks_notice r.flags) rows
+is_asked k (Some rows) = list_any (λ r. place r.key == place k && asks_notice r.flags) rows
 
 -- A notice with reason DELETE (2) is dropped for now.
 abbrev pub is_told : ℕ → List TableView → Removed → Bool
 is_told d views f = not (f.reason == 2) && is_asked (key_removed f) (rows_at d views)
 
 abbrev pub without_key : Key → List ViewRow → List ViewRow
-without_key k rows = filter (λ r. not (key_number r.key == key_number k)) rows
+without_key k rows = filter (λ r. not (place r.key == place k)) rows
 
 -- ---- Ports that changed: ADD 0, DELETE 1, MODIFY 2
 
@@ -123,7 +123,7 @@ pub record Becomes {Own : Type 0} (Tells : Type 0) (d xid : ℕ) (m : Message) (
 pub record Arrives {Own : Type 0} (Tells : Type 0) (d : ℕ) (frame : List ℕ) (old new : Seen Own) (net now_net : NetState) (result : Result (Option Event) TxnFault) : Type 0 where
   pub continues : Continues Tells old new
   pub links : OnLinks Tells old new
-  pub in_place : AsksInPlace Tells d old new
+  pub no_strays : AsksWithoutStrays Tells d old new
   pub cause : IfErr result (IsArrivalCause d frame old new)
   pub err : OnErr result (now_net ≡ net)
   pub read : IfOk result (λ event. IsOkAnd (reading_of frame) (λ e. Becomes Tells d e.xid e.message old new net now_net event))

@@ -24,3 +24,6 @@ pub use laws::{
 pub use mute::Mute;
 pub use step::WorldStep;
 pub use world::World;
+
+#[cfg(test)]
+mod tests;

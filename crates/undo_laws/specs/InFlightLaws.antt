@@ -4,13 +4,14 @@ use Rattle.std.proofs.Common.{◌≡◌, ◌≢◌, ◌⊎◌, ℕ, ◌+◌, ◌
 use Rattle.std.proofs.lemmas.Bool.{cases_eq, cases_Bool, ne_eqb}
 use Rattle.std.specs.Option.{option_map, is_some}
 use Rattle.of_match.specs.declared.key.Key.{Key}
-use Rattle.of_match.specs.Key.{key_number}
+use Rattle.of_match.specs.Key.{place}
 use Rattle.of_action.specs.declared.action.Action.{Action}
 use Rattle.of_wire.specs.declared.bodies.FlowMod.{FlowMod}
 use Rattle.flow_table.specs.declared.entry.Entry.{Entry}
 use Rattle.flow_table.specs.Table.{TableState, place_of, entry_at, AscendsFrom}
 use Rattle.flow_table.specs.TableLaws.{ascends-filter}
-use Rattle.flow_table.specs.Change.{key_in, is_modify, deletes, adds, means}
+use Rattle.flow_table.specs.Change.{key_in, is_modify, deletes, adds}
+use Rattle.flow_table.specs.ChangeLaws.{means}
 use Rattle.undo_laws.specs.Serials.{IsSerialed}
 use Rattle.undo_laws.specs.Log.{Inverse, Remove, Image, Untouched, Absent, Gone, Acted, old_entry, old_actions, logged_addition, logged, with_actions, back, undo_one, undo, image_at, image_of, seen}
 use Rattle.undo_laws.specs.LogLaws.{merge-untouched, image_of-one, undo-append, Undoes, leaves, removes, puts, gives, Undoes-one, IsSerialed-undo, next-undo_one}
@@ -18,8 +19,8 @@ use Rattle.undo_laws.specs.Stands.{used_at, Standing, Stands, is_gone}
 use Rattle.undo_laws.specs.StandingLaws.{IsBelow, Changes, stays, comes, gives_way, goes, acts, after_goes, before_puts}
 use Rattle.undo_laws.specs.StandsLaws.{Changes-changed, used_by_key, undo-restores}
 use Rattle.undo_laws.specs.Same.{SameButSerials}
-use Rattle.undo_laws.specs.Playing.{CanPlay, SameKeys}
-use Rattle.undo_laws.specs.PlayingLaws.{StandsIn, stand-itself, length-same_keys, can-gives, can-addition, keys-replaced, CanPlay-fits, CanPlay-append, CanPlay-same_keys}
+use Rattle.undo_laws.specs.Reverting.{CanRevert, SameKeys}
+use Rattle.undo_laws.specs.RevertingLaws.{StandsIn, stand-itself, length-same_keys, can-gives, can-addition, keys-replaced, CanRevert-fits, CanRevert-append, CanRevert-same_keys}
 use Rattle.std.proofs.lemmas.List.Elements.{All-head, All-tail, All-filter}
 use Rattle.flow_table.specs.Undone.{used_or, undone}
 
@@ -42,9 +43,9 @@ undoes-untouched (gives actions o p is) same = absurd cc
 
 -- inverses that touch the key of their entry alone
 abbrev Own : (Entry → Inverse) → Type 0
-Own g = (k : Key) (e : Entry) → place_of e ≢ key_number k → image_at k (g e) ≡ Untouched
+Own g = (k : Key) (e : Entry) → place_of e ≢ place k → image_at k (g e) ≡ Untouched
 
-each-untouched : (g : Entry → Inverse) → Own g → (k : Key) (ds : List Entry) (least : ℕ) → AscendsFrom least ds → key_number k < least → image_of k (map g ds) ≡ Untouched
+each-untouched : (g : Entry → Inverse) → Own g → (k : Key) (ds : List Entry) (least : ℕ) → AscendsFrom least ds → place k < least → image_of k (map g ds) ≡ Untouched
 unfolding image_of
 each-untouched g own k [] least up lt = refl
 each-untouched g own k (d ∷ ds) least up lt =
@@ -57,7 +58,7 @@ each-once now g own k (d ∷ ds) least t up h =
     let u : TableState = undo now (map g ds) t in
     let (serial, le, rest) = each-once now g own k ds (place_of d + 1) t up.1 h in
     let one = Undoes-one now k (g d) u (IsSerialed-undo now (map g ds) t h).table in
-    elim (cases_eq (place_of d) (key_number k)) [
+    elim (cases_eq (place_of d) (place k)) [
       | inl same ↦
           let none = each-untouched g own k ds (place_of d + 1) up.1 (omega arith) in
           let still = undoes-untouched rest none in
@@ -70,11 +71,11 @@ each-once now g own k (d ∷ ds) least t up h =
 
 own-old_entry : Own old_entry
 unfolding image_at
-own-old_entry k e other = rw (ne_eqb (place_of e) (key_number k) other) refl
+own-old_entry k e other = rw (ne_eqb (place_of e) (place k) other) refl
 
 own-old_actions : Own old_actions
 unfolding image_at
-own-old_actions k e other = rw (ne_eqb (place_of e) (key_number k) other) refl
+own-old_actions k e other = rw (ne_eqb (place_of e) (place k) other) refl
 
 single-once : (now : ℕ) (k : Key) (x : Inverse) (t : TableState) → IsSerialed t → UndoesOnce now t.next (image_of k (x ∷ [])) (entry_at k t.entries) (entry_at k (undo now (x ∷ []) t).entries)
 unfolding undo
@@ -172,13 +173,13 @@ used-in_flight now earlier log m t k e h was =
       | inr (gone, anew) ↦ inr (gone, after ∙ anew)
     ]
 
--- the log with it, played backwards, gives the table that is restored from there
+-- the log with it, reverted backwards, gives the table that is restored from there
 pub undo-in_flight : (now : ℕ) (earlier : TableState) (log : List Inverse) (m : FlowMod) (t : TableState) → Stands now earlier log t → SameButSerials (undo now (log ++ logged m t.entries) t).entries (undone earlier (undo now (logged m t.entries) t) now).entries
 undo-in_flight now earlier log m t h =
     ap (λ (u : TableState). map seen u.entries) (undo-append now log (logged m t.entries) t)
     ∙ undo-restores now earlier log (undo now (logged m t.entries) t) (Stands-in_flight now earlier log m t h)
 
--- ---- It can be played all the same.
+-- ---- It can be reverted all the same.
 
 some-redone : (now least : ℕ) (j : Image) (o p : Option Entry) → Redone now least j o p → is_some p ≡ is_some o
 some-redone now least j o p (inl same) = ap is_some same
@@ -200,14 +201,14 @@ same_again now (d ∷ ds) t stand k =
     let rest = same_again now ds t (All-tail (StandsIn t) d ds stand) in
     same_one now d u (rest d.key ∙ All-head (StandsIn t) d ds stand) k ∙ rest k
 
-can-again : (cap now : ℕ) (ds : List Entry) (t : TableState) → IsSerialed t → length t.entries ≤ cap → All (StandsIn t) ds → CanPlay cap now (map old_entry ds) t
+can-again : (cap now : ℕ) (ds : List Entry) (t : TableState) → IsSerialed t → length t.entries ≤ cap → All (StandsIn t) ds → CanRevert cap now (map old_entry ds) t
 can-again cap now [] t h fits stand = fits
 can-again cap now (d ∷ ds) t h fits stand =
     let log : List Inverse = map old_entry (d ∷ ds) in
     let long = length-same_keys (undo now log t).entries t.entries (IsSerialed-undo now log t h).table h.table (same_again now (d ∷ ds) t stand) in
     (can-again cap now ds t h fits (All-tail (StandsIn t) d ds stand), tt, omega arith)
 
-can-logged_still : (cap now : ℕ) (m : FlowMod) (t : TableState) → IsSerialed t → length t.entries ≤ cap → length (undo now (logged m t.entries) t).entries ≤ cap → CanPlay cap now (logged m t.entries) t
+can-logged_still : (cap now : ℕ) (m : FlowMod) (t : TableState) → IsSerialed t → length t.entries ≤ cap → length (undo now (logged m t.entries) t).entries ≤ cap → CanRevert cap now (logged m t.entries) t
 unfolding logged
 can-logged_still cap now m t h fits after =
     elim (cases_Bool (adds m t.entries)) [
@@ -220,11 +221,11 @@ can-logged_still cap now m t h fits after =
       ]
     ]
 
-pub CanPlay-in_flight : (cap now : ℕ) (log : List Inverse) (m : FlowMod) (t : TableState) → IsSerialed t → CanPlay cap now log t → CanPlay cap now (log ++ logged m t.entries) t
-CanPlay-in_flight cap now log m t h can =
+pub CanRevert-in_flight : (cap now : ℕ) (log : List Inverse) (m : FlowMod) (t : TableState) → IsSerialed t → CanRevert cap now log t → CanRevert cap now (log ++ logged m t.entries) t
+CanRevert-in_flight cap now log m t h can =
     let l : List Inverse = logged m t.entries in
     let i = IsSerialed-undo now l t h in
-    let fits = CanPlay-fits cap now log t can in
+    let fits = CanRevert-fits cap now log t can in
     let long = length-same_keys (undo now l t).entries t.entries i.table h.table (SameKeys-redone now m t h) in
-    CanPlay-append cap now log l t (can-logged_still cap now m t h fits (omega arith))
-    (CanPlay-same_keys cap now log t (undo now l t) h i (λ k. sym (SameKeys-redone now m t h k)) can)
+    CanRevert-append cap now log l t (can-logged_still cap now m t h fits (omega arith))
+    (CanRevert-same_keys cap now log t (undo now l t) h i (λ k. sym (SameKeys-redone now m t h k)) can)

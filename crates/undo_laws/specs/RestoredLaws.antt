@@ -8,7 +8,8 @@ use Rattle.of_wire.specs.declared.bodies.FlowMod.{FlowMod}
 use Rattle.flow_table.specs.declared.entry.Entry.{Entry}
 use Rattle.flow_table.specs.Table.{TableState, entry_at}
 use Rattle.flow_table.specs.TableLaws.{IsTable-map, entry_at-map}
-use Rattle.flow_table.specs.Change.{key_in, is_modify, deletes, adds, means}
+use Rattle.flow_table.specs.Change.{key_in, is_modify, deletes, adds}
+use Rattle.flow_table.specs.ChangeLaws.{means}
 use Rattle.flow_table.specs.Undone.{used_or, restored, undone}
 use Rattle.undo_laws.specs.Serials.{SerialsBelow, IsSerialed}
 use Rattle.undo_laws.specs.SerialsLaws.{ComeFrom-map, IsSerialed-from, some_mapped}
@@ -17,7 +18,7 @@ use Rattle.undo_laws.specs.LogLaws.{given_back-merge, given_back-seen, image_of-
 use Rattle.undo_laws.specs.Stands.{used_at, restored_at, Standing, Stands}
 use Rattle.undo_laws.specs.StandingLaws.{IsBelow}
 use Rattle.undo_laws.specs.StandsLaws.{used_by_key, undo-restores}
-use Rattle.undo_laws.specs.Playing.{SameKeys}
+use Rattle.undo_laws.specs.Reverting.{SameKeys}
 use Rattle.undo_laws.specs.Same.{SameButSerials}
 use Rattle.undo_laws.specs.SameLaws.{adds-seen, filter-seen, image-seen, same-undo}
 
