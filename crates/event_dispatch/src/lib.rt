@@ -5,9 +5,11 @@ mod batch;
 mod dispatch;
 mod fault;
 mod last;
+mod limits;
 mod run;
 mod served;
 mod whole;
 
+pub use limits::{BUDGET, MOST_BODY, MOST_EVENTS, MOST_ITEMS, MOST_MESSAGE, MOST_ROUNDS};
 pub use served::Served;
 pub use whole::serve;

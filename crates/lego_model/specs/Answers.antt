@@ -4,7 +4,7 @@ use Rattle.std.specs.Prelude.{◌==◌, ℕ, ◌+◌, ◌/◌, ◌*◌, Bool, no
 use Rattle.std.specs.List.{list_any}
 use Rattle.of_types.specs.declared.errors.OfError.{OfError}
 use Rattle.of_match.specs.declared.key.Key.{Key}
-use Rattle.of_match.specs.Key.{place}
+use Rattle.of_match.specs.Key.{key_number}
 use Rattle.match_overlap.specs.Relations.{is_overlapping}
 use Rattle.of_action.specs.declared.action.Action.{Action}
 use Rattle.of_action.specs.declared.action.Action.TheVariants.{Enqueue, Vendor as VendorAction}
@@ -37,7 +37,7 @@ abbrev pub wire_fault : WireFault → OfError
 wire_fault BadVersion = bad_type
 wire_fault BadType = bad_type
 wire_fault BadLength = bad_len
-wire_fault (BadAction place kind) = action_fault kind
+wire_fault (BadAction key_number kind) = action_fault kind
 wire_fault NoMemory = bad_type
 
 -- ---- What the host knows of a table: its keys and their actions, in key order
@@ -55,12 +55,12 @@ rows_of_view rows = map (λ r. (r.key, r.actions)) rows
 abbrev pub would_clash : FlowModBody → Rows → Bool
 would_clash m rows =
     checks_overlap m.flags
-    && list_any (λ (r : Key × List Action). r.0.priority == m.priority && (not (place r.0 == place (key_in m)) && is_overlapping r.0.matching m.matching)) rows
+    && list_any (λ (r : Key × List Action). r.0.priority == m.priority && (not (key_number r.0 == key_number (key_in m)) && is_overlapping r.0.matching m.matching)) rows
 
 -- Whether a change would replace, change or remove an entry of the table.
 unfoldable pub would_touch : FlowModBody → Rows → Bool
 would_touch m rows =
-    if m.command == 0 then list_any (λ (r : Key × List Action). place r.0 == place (key_in m)) rows && not (would_clash m rows)
+    if m.command == 0 then list_any (λ (r : Key × List Action). key_number r.0 == key_number (key_in m)) rows && not (would_clash m rows)
     else if is_modify m then list_any (λ (r : Key × List Action). describes m r.0) rows
     else list_any (λ (r : Key × List Action). describes m r.0 && sends_to m.out_port r.1) rows
 

@@ -20,3 +20,9 @@ pub mod SessionTextLaws
 pub mod BarrierWaits
 pub mod FlowQueries
 pub mod History
+pub mod Application
+pub mod CutRun
+pub mod OrderlySteps
+pub mod ReferenceRun
+pub mod SwitchFaults
+pub mod WholeRun

@@ -15,7 +15,7 @@ use std::{env, io};
 /// The status where memory runs out before anything could be made.
 const NO_MEMORY: u8 = 12;
 
-/// The words behind the program's name. Words that are no text are no command, and neither is none.
+/// Reads the words behind the program's name. Words that are no text are no command, and neither is none.
 fn words_of(rt: &HostRuntime) -> Result<Vec<String>, AllocError> {
     match env::args(rt) {
         Ok(words) => words.skip(1).collect(rt.alloc()),

@@ -2,7 +2,7 @@
 use Rattle.std.proofs.Common.{◌≡◌, ◌==◌, ℕ, suc, ◌+◌, ◌<◌, ◌≤◌, false, List, [], ◌∷◌, length, get_or, drop, refl, sym, ap, ◌∙◌, subst, arith}
 use Rattle.std.proofs.Math.Seq.{drop-cons}
 use Rattle.std.proofs.lemmas.List.{drop_all}
-use Rattle.of_match.specs.Key.{place}
+use Rattle.of_match.specs.Key.{key_number}
 use Rattle.flow_table.specs.declared.view.ViewRow.{ViewRow}
 use Rattle.flow_table.specs.declared.view.TableView.{TableView}
 use Rattle.net_txn.specs.Views.{IsViewAt, IsRowPlace}
@@ -18,13 +18,13 @@ front X xs i x lt is =
     let next : suc i ≡ i + 1 = omega arith in
     drop-cons xs i x lt ∙ ap (λ (y : X). y ∷ drop (suc i) xs) (sym is) ∙ ap (λ (n : ℕ). x ∷ drop n xs) next
 
-pub rows_more : (p : ℕ) (rows : List ViewRow) (i : ℕ) (r : ViewRow) → i < length rows → r ≡ get_or rows i r → place r.key < p → RowPlaces p rows i → RowPlaces p rows (i + 1)
+pub rows_more : (p : ℕ) (rows : List ViewRow) (i : ℕ) (r : ViewRow) → i < length rows → r ≡ get_or rows i r → key_number r.key < p → RowPlaces p rows i → RowPlaces p rows (i + 1)
 rows_more p rows i r lt is below before j h =
     let here : IsRowPlace p (drop i rows) (suc j) = subst (λ (xs : List ViewRow). IsRowPlace p xs (suc j)) (sym (front ViewRow rows i r lt is)) (below, h) in
     let same : i + suc j ≡ i + 1 + j = omega arith in
     subst (IsRowPlace p rows) same (before (suc j) here)
 
-pub rows_stop : (p : ℕ) (rows : List ViewRow) (i : ℕ) (r : ViewRow) → i < length rows → r ≡ get_or rows i r → p ≤ place r.key → RowPlaces p rows i → IsRowPlace p rows i
+pub rows_stop : (p : ℕ) (rows : List ViewRow) (i : ℕ) (r : ViewRow) → i < length rows → r ≡ get_or rows i r → p ≤ key_number r.key → RowPlaces p rows i → IsRowPlace p rows i
 rows_stop p rows i r lt is le before =
     let here : IsRowPlace p (drop i rows) 0 = subst (λ (xs : List ViewRow). IsRowPlace p xs 0) (sym (front ViewRow rows i r lt is)) le in
     let same : i + 0 ≡ i = omega arith in

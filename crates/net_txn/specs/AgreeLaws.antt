@@ -4,7 +4,7 @@ use Rattle.std.specs.Option.{option_map, is_some}
 use Rattle.std.proofs.Common.{sym, ap, ◌∙◌, subst, inl, inr}
 use Rattle.std.proofs.lemmas.Bool.{cases_Bool, cases_eq, eq-eqb, ne_eqb}
 use Rattle.of_match.specs.declared.key.Key.{Key}
-use Rattle.of_match.specs.Key.{place}
+use Rattle.of_match.specs.Key.{key_number}
 use Rattle.of_action.specs.declared.action.Action.{Action}
 use Rattle.flow_table.specs.declared.entry.Entry.{Entry}
 use Rattle.flow_table.specs.declared.view.ViewRow.{ViewRow}
@@ -29,7 +29,7 @@ use Rattle.net_txn.specs.InStepLaws.{shown_by, some_rows}
 -- ---- Keys and actions without a key
 
 abbrev other_than : Key → Key × List Action → Bool
-other_than k r = not (place r.0 == place k)
+other_than k r = not (key_number r.0 == key_number k)
 
 abbrev pairs_without : Key → Rows → Rows
 pairs_without k rows = filter (other_than k) rows
@@ -40,11 +40,11 @@ map_if g false x xs ys rest = rest
 
 view_without : (k : Key) (rows : List ViewRow) → rows_of_view (without_key k rows) ≡ pairs_without k (rows_of_view rows)
 view_without k [] = refl
-view_without k (r ∷ rs) = map_if (λ (s : ViewRow). (s.key, s.actions)) (not (place r.key == place k)) r (without_key k rs) (pairs_without k (rows_of_view rs)) (view_without k rs)
+view_without k (r ∷ rs) = map_if (λ (s : ViewRow). (s.key, s.actions)) (not (key_number r.key == key_number k)) r (without_key k rs) (pairs_without k (rows_of_view rs)) (view_without k rs)
 
 table_without : (k : Key) (es : List Entry) → rows_of_table (without k es) ≡ pairs_without k (rows_of_table es)
 table_without k [] = refl
-table_without k (e ∷ es) = map_if (λ (f : Entry). (f.key, f.actions)) (not (place e.key == place k)) e (without k es) (pairs_without k (rows_of_table es)) (table_without k es)
+table_without k (e ∷ es) = map_if (λ (f : Entry). (f.key, f.actions)) (not (key_number e.key == key_number k)) e (without k es) (pairs_without k (rows_of_table es)) (table_without k es)
 
 swap_if : {X : Type 0} (p q : X → Bool) (x : X) (xs : List X) (a b : Bool) → p x ≡ a → q x ≡ b → filter p (filter q xs) ≡ filter q (filter p xs) → filter p (if b then x ∷ filter q xs else filter q xs) ≡ filter q (if a then x ∷ filter p xs else filter p xs)
 swap_if p q x xs true true is_p is_q rest = rw (is_p, is_q) (ap (λ (ys : List _). x ∷ ys) rest)

@@ -7,7 +7,7 @@ use Rattle.of_types.specs.Fields.{number_bytes}
 use Rattle.of_types.specs.declared.port_desc.PortDesc.{PortDesc}
 use Rattle.of_types.specs.declared.journal.Act.TheVariants.{Sent}
 use Rattle.of_match.specs.declared.key.Key.{Key}
-use Rattle.of_match.specs.Key.{place}
+use Rattle.of_match.specs.Key.{key_number}
 use Rattle.of_wire.specs.declared.bodies.FlowRemoved.{FlowRemoved as Removed}
 use Rattle.of_wire.specs.declared.bodies.PortStatus.{PortStatus as Status}
 use Rattle.of_wire.specs.declared.message.Message.{Message}
@@ -39,14 +39,14 @@ key_removed f = record { priority = f.priority; matching = f.matching }
 -- the owner of the entry asked for a notice when it goes
 abbrev pub is_asked : Key → Option (List ViewRow) → Bool
 is_asked k None = false
-is_asked k (Some rows) = list_any (λ r. place r.key == place k && asks_notice r.flags) rows
+is_asked k (Some rows) = list_any (λ r. key_number r.key == key_number k && asks_notice r.flags) rows
 
 -- A notice with reason DELETE (2) is dropped for now.
 abbrev pub is_told : ℕ → List TableView → Removed → Bool
 is_told d views f = not (f.reason == 2) && is_asked (key_removed f) (rows_at d views)
 
 abbrev pub without_key : Key → List ViewRow → List ViewRow
-without_key k rows = filter (λ r. not (place r.key == place k)) rows
+without_key k rows = filter (λ r. not (key_number r.key == key_number k)) rows
 
 -- ---- Ports that changed: ADD 0, DELETE 1, MODIFY 2
 

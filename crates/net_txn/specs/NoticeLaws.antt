@@ -15,8 +15,8 @@ use Rattle.of_wire.specs.Spelling.{match_bytes, body_bytes, message_bytes}
 use Rattle.of_wire.specs.SpellingLaws.{length-match_bytes}
 use Rattle.flow_table.specs.declared.entry.Entry.{Entry}
 use Rattle.flow_table.specs.declared.notice.Notice.{Notice}
-use Rattle.flow_table.specs.Change.{adds, asks_notice, deletes, notice, notices_of}
-use Rattle.flow_table.specs.ChangeLaws.{tells, notices_of-delete, entries_after-delete}
+use Rattle.flow_table.specs.Change.{adds, asks_notice, deletes, notice, notices_of, tells}
+use Rattle.flow_table.specs.ChangeLaws.{notices_of-delete, entries_after-delete}
 use Rattle.flow_table.specs.Switch.{Declared, SwitchState}
 use Rattle.flow_table.specs.Refusals.{flow_refusal, message_refusal}
 use Rattle.flow_table.specs.Step.{flow_removed, flow_removed_bytes, after_taken, after_message, sent_by_taken, sent_by_message}

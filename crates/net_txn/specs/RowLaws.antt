@@ -5,7 +5,7 @@ use Rattle.std.proofs.Common.{sym, ap, ◌∙◌, inl, inr, arith}
 use Rattle.std.proofs.lemmas.Bool.{cases_Bool, eqb-true, eqb-false, ltb-false}
 use Rattle.of_types.specs.declared.errors.OfError.{OfError}
 use Rattle.of_match.specs.declared.key.Key.{Key}
-use Rattle.of_match.specs.Key.{place}
+use Rattle.of_match.specs.Key.{key_number}
 use Rattle.of_action.specs.declared.action.Action.{Action}
 use Rattle.of_wire.specs.declared.bodies.FlowMod.{FlowMod as Change}
 use Rattle.flow_table.specs.declared.entry.Entry.{Entry}
@@ -21,8 +21,8 @@ use Rattle.net_txn.specs.Views.{with_row, row_in, rows_after}
 with_pair : Key × List Action → Rows → Rows
 with_pair r [] = r ∷ []
 with_pair r (s ∷ ss) =
-    if nat_lt (place r.0) (place s.0) then r ∷ s ∷ ss
-    else if place r.0 == place s.0 then r ∷ ss
+    if nat_lt (key_number r.0) (key_number s.0) then r ∷ s ∷ ss
+    else if key_number r.0 == key_number s.0 then r ∷ ss
     else s ∷ with_pair r ss
 
 abbrev pub shown : ViewRow → Key × List Action
@@ -40,7 +40,7 @@ view_if false false r s ss rest = ap (λ (rows : Rows). shown s ∷ rows) rest
 view-with_row : (r : ViewRow) (rows : List ViewRow) → rows_of_view (with_row r rows) ≡ with_pair (shown r) (rows_of_view rows)
 unfolding with_pair
 view-with_row r [] = refl
-view-with_row r (s ∷ ss) = view_if (nat_lt (place r.key) (place s.key)) (place r.key == place s.key) r s ss (view-with_row r ss)
+view-with_row r (s ∷ ss) = view_if (nat_lt (key_number r.key) (key_number s.key)) (key_number r.key == key_number s.key) r s ss (view-with_row r ss)
 
 table_if : (below same : Bool) (e f : Entry) (fs : List Entry) → rows_of_table (with_entry e fs) ≡ with_pair (held e) (rows_of_table fs)
     → rows_of_table (if below then e ∷ f ∷ fs else if same then e ∷ fs else f ∷ with_entry e fs) ≡ (if below then held e ∷ held f ∷ rows_of_table fs else if same then held e ∷ rows_of_table fs else held f ∷ with_pair (held e) (rows_of_table fs))

@@ -22,13 +22,13 @@ use Rattle.of_wire.specs.declared.fault.WireFault.{WireFault}
 use Rattle.of_wire.specs.Reading.{reading_of}
 use Rattle.of_match.specs.declared.packet_key.PacketKey.{PacketKey}
 use Rattle.flow_table.specs.declared.entry.Entry.{Entry}
-use Rattle.flow_table.specs.Table.{IsTable, place_of, has_key, with_entry}
+use Rattle.flow_table.specs.Table.{IsTable, place_of, has_key, with_entry, keys}
 use Rattle.flow_table.specs.TableLaws.{IsTable-filter, with_entry-found, length-with_entry-le, length-filter-le}
 use Rattle.flow_table.specs.Errors.{bad_command, overlap, all_tables_full}
 use Rattle.flow_table.specs.Change.{is_modify, key_in, adds, clashes, is_full, deletes, modified, new_entry, refusal, entries_after, changed, unless_refused}
 use Rattle.flow_table.specs.ChangeLaws.{IsTable-entries_after}
 use Rattle.flow_table.specs.Hit.{hit, with_counts, with_more}
-use Rattle.flow_table.specs.HitLaws.{keys, keys-hit, IsTable-hit, IsTable-with_counts}
+use Rattle.flow_table.specs.HitLaws.{keys-hit, IsTable-hit, IsTable-with_counts}
 use Rattle.flow_table.specs.Expiry.{is_due, expire}
 use Rattle.flow_table.specs.Switch.{Declared, SwitchState, port_at}
 use Rattle.flow_table.specs.Refusals.{or_else, flow_refusal, message_refusal}

@@ -4,7 +4,7 @@ use Rattle.std.specs.List.{insert}
 use Rattle.std.specs.Option.{is_some}
 use Rattle.std.proofs.Common.{zero, suc, get_or, set, sym, ap, ◌∙◌, eqb, ltb, arith, eq-eqb, subst}
 use Rattle.std.proofs.lemmas.Bool.{eqb-true, ne_eqb, lt-ltb, le-ltb}
-use Rattle.of_match.specs.Key.{place}
+use Rattle.of_match.specs.Key.{key_number}
 use Rattle.flow_table.specs.declared.view.ViewRow.{ViewRow}
 use Rattle.flow_table.specs.declared.view.TableView.{TableView}
 use Rattle.net_txn.specs.Views.{rows_at, with_rows, IsViewAt, with_row, IsRowPlace}
@@ -86,31 +86,31 @@ rows_at-stays d e change (v ∷ vs) = stays_if (v.dpid == d) d e change v vs (ro
 
 -- ---- Rows
 
-with_row-before : (r s : ViewRow) (ss : List ViewRow) → place r.key < place s.key → with_row r (s ∷ ss) ≡ r ∷ s ∷ ss
+with_row-before : (r s : ViewRow) (ss : List ViewRow) → key_number r.key < key_number s.key → with_row r (s ∷ ss) ≡ r ∷ s ∷ ss
 with_row-before r s ss lt = rw (lt-ltb _ _ lt) refl
 
-with_row-same : (r s : ViewRow) (ss : List ViewRow) → place r.key ≡ place s.key → with_row r (s ∷ ss) ≡ r ∷ ss
+with_row-same : (r s : ViewRow) (ss : List ViewRow) → key_number r.key ≡ key_number s.key → with_row r (s ∷ ss) ≡ r ∷ ss
 with_row-same r s ss same =
-    let not_below : ltb (place r.key) (place s.key) ≡ false = le-ltb _ _ (omega arith) in
-    let here : eqb (place r.key) (place s.key) ≡ true = eq-eqb _ _ same in
+    let not_below : ltb (key_number r.key) (key_number s.key) ≡ false = le-ltb _ _ (omega arith) in
+    let here : eqb (key_number r.key) (key_number s.key) ≡ true = eq-eqb _ _ same in
     rw (not_below, here) refl
 
-with_row-after : (r s : ViewRow) (ss : List ViewRow) → place s.key < place r.key → with_row r (s ∷ ss) ≡ s ∷ with_row r ss
+with_row-after : (r s : ViewRow) (ss : List ViewRow) → key_number s.key < key_number r.key → with_row r (s ∷ ss) ≡ s ∷ with_row r ss
 with_row-after r s ss gt =
-    let not_below : ltb (place r.key) (place s.key) ≡ false = le-ltb _ _ (omega arith) in
-    let apart : eqb (place r.key) (place s.key) ≡ false = ne_eqb _ _ (λ e. omega arith) in
+    let not_below : ltb (key_number r.key) (key_number s.key) ≡ false = le-ltb _ _ (omega arith) in
+    let apart : eqb (key_number r.key) (key_number s.key) ≡ false = ne_eqb _ _ (λ e. omega arith) in
     rw (not_below, apart) refl
 
-pub with_row-found : (r : ViewRow) (rows : List ViewRow) (i : ℕ) → IsRowPlace (place r.key) rows i → i < length rows → place r.key ≡ place (get_or rows i r).key → set rows i r ≡ with_row r rows
+pub with_row-found : (r : ViewRow) (rows : List ViewRow) (i : ℕ) → IsRowPlace (key_number r.key) rows i → i < length rows → key_number r.key ≡ key_number (get_or rows i r).key → set rows i r ≡ with_row r rows
 with_row-found r [] i is within same = absurd (omega arith)
 with_row-found r (s ∷ ss) zero is within same = sym (with_row-same r s ss same)
 with_row-found r (s ∷ ss) (suc i) is within same = ap (λ (xs : List ViewRow). s ∷ xs) (with_row-found r ss i is.1 (omega arith) same) ∙ sym (with_row-after r s ss is.0)
 
-pub with_row-absent : (r : ViewRow) (rows : List ViewRow) (i : ℕ) → IsRowPlace (place r.key) rows i → (i < length rows → place r.key ≢ place (get_or rows i r).key) → insert rows i r ≡ with_row r rows
+pub with_row-absent : (r : ViewRow) (rows : List ViewRow) (i : ℕ) → IsRowPlace (key_number r.key) rows i → (i < length rows → key_number r.key ≢ key_number (get_or rows i r).key) → insert rows i r ≡ with_row r rows
 with_row-absent r [] i is apart = rw is refl
 with_row-absent r (s ∷ ss) zero is apart = sym (with_row-before r s ss (less (apart (omega arith))))
   where
-    less : place r.key ≢ place s.key → place r.key < place s.key
+    less : key_number r.key ≢ key_number s.key → key_number r.key < key_number s.key
     less ne = omega (arith, is, ne)
 with_row-absent r (s ∷ ss) (suc i) is apart = ap (λ (xs : List ViewRow). s ∷ xs) (with_row-absent r ss i is.1 (λ lt. apart (omega arith))) ∙ sym (with_row-after r s ss is.0)
 

@@ -2,7 +2,7 @@
 use Rattle.std.specs.Prelude.{◌≡◌, ◌==◌, ℕ, ◌+◌, ◌%◌, ◌<◌, ◌≤◌, Bool, false, List, [], ◌∷◌, Option, Some, None, nat_lt, if◌then◌else◌}
 use Rattle.std.specs.List.{list_any}
 use Rattle.std.proofs.Common.{zero, suc}
-use Rattle.of_match.specs.Key.{place}
+use Rattle.of_match.specs.Key.{key_number}
 use Rattle.of_wire.specs.declared.bodies.FlowMod.{FlowMod}
 use Rattle.flow_table.specs.declared.view.ViewRow.{ViewRow}
 use Rattle.flow_table.specs.declared.view.TableView.{TableView}
@@ -37,15 +37,15 @@ IsViewAt d (v ∷ vs) (suc i) = ((v.dpid == d) ≡ false) × IsViewAt d vs i
 abbrev pub with_row : ViewRow → List ViewRow → List ViewRow
 with_row r [] = r ∷ []
 with_row r (s ∷ ss) =
-    if nat_lt (place r.key) (place s.key) then r ∷ s ∷ ss
-    else if place r.key == place s.key then r ∷ ss
+    if nat_lt (key_number r.key) (key_number s.key) then r ∷ s ∷ ss
+    else if key_number r.key == key_number s.key then r ∷ ss
     else s ∷ with_row r ss
 
 -- where a row goes: the rows before it have lower places
 abbrev pub IsRowPlace : ℕ → List ViewRow → ℕ → Type 0
 IsRowPlace p [] i = i ≡ 0
-IsRowPlace p (r ∷ rs) zero = p ≤ place r.key
-IsRowPlace p (r ∷ rs) (suc i) = (place r.key < p) × IsRowPlace p rs i
+IsRowPlace p (r ∷ rs) zero = p ≤ key_number r.key
+IsRowPlace p (r ∷ rs) (suc i) = (key_number r.key < p) × IsRowPlace p rs i
 
 -- ---- What a FLOW_MOD that touches no row leaves (OpenFlow 1.0.0, 4.6): it adds a row, unless it is a DELETE.
 

@@ -3,7 +3,7 @@
 ghost use Rattle.std.specs.Prelude.{◌≡◌, ◌==◌, ◌&&◌, ◌++◌, IfOk, OnOk, OnErr, MatchOption};
 ghost use Rattle.std.specs.List.{list_any};
 ghost use Rattle.of_types.specs.Fields.{number_bytes};
-ghost use Rattle.of_match.specs.Key.{place};
+ghost use Rattle.of_match.specs.Key.{key_number};
 ghost use Rattle.of_wire.specs.Grammar.{IsMessage};
 ghost use Rattle.flow_table.specs.Change.{asks_notice};
 ghost use Rattle.app_frames.specs.declared.frame.EventKind.TheVariants as kinds;
@@ -44,13 +44,13 @@ pub(crate) fn removed_key(flow: &FlowRemoved) -> Key
 }
 
 fn is_asking(key: &Key, row: &ViewRow) -> bool
-    ensures { result ≡ (place row.now.key == place key.now && asks_notice row.now.flags) }
+    ensures { result ≡ (key_number row.now.key == key_number key.now && asks_notice row.now.flags) }
 {
     is_same(&row.key, key) && row.flags % 2 == 1
 }
 
 fn has_asking(key: &Key, rows: &[ViewRow]) -> bool
-    ensures { result ≡ list_any (λ r. place r.key == place key.now && asks_notice r.flags) rows.now }
+    ensures { result ≡ list_any (λ r. key_number r.key == key_number key.now && asks_notice r.flags) rows.now }
 {
     rows.iter().any(|row| is_asking(key, row))
 }

@@ -3,7 +3,7 @@
 ghost use Rattle.std.specs.Prelude.{◌≡◌, ◌≢◌, ◌==◌, ◌<◌, ◌&&◌, true, false, not, nat_lt, length, slice_index_or, OnOk, OnErr};
 ghost use Rattle.std.specs.List.{list_any};
 ghost use Rattle.std.specs.Ordering.{nat_cmp};
-ghost use Rattle.of_match.specs.Key.{place};
+ghost use Rattle.of_match.specs.Key.{key_number};
 ghost use Rattle.match_overlap.specs.Relations.{is_overlapping};
 ghost use Rattle.flow_table.specs.declared.view.ViewRow.{ViewRow};
 ghost use Rattle.flow_table.specs.Change.{is_modify, key_in, is_output_to, describes, sends_to};
@@ -21,7 +21,7 @@ use std::cmp::Ordering;
 
 /// Tells how a key stands to another one in key order.
 pub(crate) fn compare(a: &Key, b: &Key) -> Ordering
-    ensures { result ≡ nat_cmp (place a.now) (place b.now) }
+    ensures { result ≡ nat_cmp (key_number a.now) (key_number b.now) }
 {
     let _first = a.priority;
     let _second = b.priority;
@@ -30,7 +30,7 @@ pub(crate) fn compare(a: &Key, b: &Key) -> Ordering
 
 /// Tells whether two keys are one.
 pub(crate) fn is_same(a: &Key, b: &Key) -> bool
-    ensures { result ≡ (place a.now == place b.now) }
+    ensures { result ≡ (key_number a.now == key_number b.now) }
 {
     compare(a, b) == Ordering::Equal
 }
@@ -87,7 +87,7 @@ fn is_deleted(m: &FlowMod, row: &ViewRow) -> bool
 
 /// Tells whether a row has the priority of a key, another match, and some packet in common with it.
 fn is_overlap(key: &Key, row: &ViewRow) -> bool
-    ensures { result ≡ (row.now.key.priority == key.now.priority && (not (place row.now.key == place key.now) && is_overlapping row.now.key.matching key.now.matching)) }
+    ensures { result ≡ (row.now.key.priority == key.now.priority && (not (key_number row.now.key == key_number key.now) && is_overlapping row.now.key.matching key.now.matching)) }
 {
     row.key.priority == key.priority
         && !is_same(&row.key, key)
@@ -95,13 +95,13 @@ fn is_overlap(key: &Key, row: &ViewRow) -> bool
 }
 
 fn has_overlap(key: &Key, rows: &[ViewRow]) -> bool
-    ensures { result ≡ list_any (λ r. r.key.priority == key.now.priority && (not (place r.key == place key.now) && is_overlapping r.key.matching key.now.matching)) rows.now }
+    ensures { result ≡ list_any (λ r. r.key.priority == key.now.priority && (not (key_number r.key == key_number key.now) && is_overlapping r.key.matching key.now.matching)) rows.now }
 {
     rows.iter().any(|row| is_overlap(key, row))
 }
 
 fn has_key(key: &Key, rows: &[ViewRow]) -> bool
-    ensures { result ≡ list_any (λ r. place r.key == place key.now) rows.now }
+    ensures { result ≡ list_any (λ r. key_number r.key == key_number key.now) rows.now }
 {
     rows.iter().any(|row| is_same(&row.key, key))
 }
@@ -127,7 +127,7 @@ fn would_clash(m: &FlowMod, rows: &[ViewRow]) -> bool
 
 /// Tells whether an ADD would replace a row.
 fn would_replace(m: &FlowMod, rows: &[ViewRow]) -> bool
-    ensures { result ≡ (list_any (λ r. place r.key == place (key_in m.now)) rows.now && not (would_clash m.now (rows_of_view rows.now))) }
+    ensures { result ≡ (list_any (λ r. key_number r.key == key_number (key_in m.now)) rows.now && not (would_clash m.now (rows_of_view rows.now))) }
 {
     has_key(&key_of(m), rows) && !would_clash(m, rows)
 }
@@ -154,14 +154,14 @@ pub(crate) fn would_touch(m: &FlowMod, rows: &[ViewRow]) -> bool
 
 /// Tells whether a key stands before another one in key order.
 fn is_before(a: &Key, b: &Key) -> bool
-    ensures { result ≡ nat_lt (place a.now) (place b.now) }
+    ensures { result ≡ nat_lt (key_number a.now) (key_number b.now) }
 {
     compare(a, b) == Ordering::Less
 }
 
 /// Tells where the row of a key stands, or would stand.
 fn position_of(rows: &[ViewRow], key: &Key) -> usize
-    ensures { IsRowPlace (place key.now) rows.now result }
+    ensures { IsRowPlace (key_number key.now) rows.now result }
 {
     for (i, row) in rows.iter().enumerate() {
         if !is_before(&row.key, key) {
@@ -174,8 +174,8 @@ fn position_of(rows: &[ViewRow], key: &Key) -> usize
 /// Tells whether the row of a key stands there.
 fn stands_at(rows: &[ViewRow], at: usize, key: &Key) -> bool
     ensures within { result ≡ true → at < length rows.now }
-    ensures same { (r : ViewRow) → result ≡ true → place key.now ≡ place (slice_index_or rows.now at r).key }
-    ensures other { (r : ViewRow) → result ≡ false → at < length rows.now → place key.now ≢ place (slice_index_or rows.now at r).key }
+    ensures same { (r : ViewRow) → result ≡ true → key_number key.now ≡ key_number (slice_index_or rows.now at r).key }
+    ensures other { (r : ViewRow) → result ≡ false → at < length rows.now → key_number key.now ≢ key_number (slice_index_or rows.now at r).key }
 {
     at < rows.len() && is_same(key, &rows[at].key)
 }

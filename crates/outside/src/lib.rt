@@ -24,6 +24,3 @@ pub use laws::{
 pub use mute::Mute;
 pub use step::WorldStep;
 pub use world::World;
-
-#[cfg(test)]
-mod tests;

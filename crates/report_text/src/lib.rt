@@ -8,6 +8,3 @@ mod words;
 pub use flow::flow_line;
 pub use lego_model::TurnWord;
 pub use lines::{app_line, end_line, event_line, gone_line, start_line, switch_line, turn_line};
-
-#[cfg(test)]
-mod tests;

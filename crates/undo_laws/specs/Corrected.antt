@@ -2,7 +2,7 @@
 -- for notices that the application did not ask for; what is shown has what was lost and what was asked. This is our own.
 use Rattle.std.specs.Prelude.{◌≡◌, ◌≢◌, List, map}
 use Rattle.of_match.specs.declared.key.Key.{Key}
-use Rattle.of_match.specs.Key.{place}
+use Rattle.of_match.specs.Key.{key_number}
 use Rattle.of_action.specs.declared.action.Action.{Action}
 use Rattle.of_wire.specs.declared.bodies.FlowMod.{FlowMod}
 use Rattle.flow_table.specs.declared.entry.Entry.{Entry}
@@ -19,7 +19,7 @@ pub record IsCorrection (shown : Entry → Entry) : Type 0 where
 
 -- two corrections show the same of each entry but those of a key
 abbrev pub AgreeBut : Key → (Entry → Entry) → (Entry → Entry) → Type 0
-AgreeBut k before after = (e : Entry) → place_of e ≢ place k → after e ≡ before e
+AgreeBut k before after = (e : Entry) → place_of e ≢ key_number k → after e ≡ before e
 
 -- the table as it is shown
 abbrev pub corrected : (Entry → Entry) → TableState → TableState

@@ -4,15 +4,15 @@ use Rattle.std.proofs.lemmas.Bool.{cases_lt, cases_Bool}
 use Rattle.std.proofs.lemmas.List.{length-map}
 use Rattle.std.specs.List.{list_any}
 use Rattle.of_match.specs.declared.key.Key.{Key}
-use Rattle.of_match.specs.Key.{place}
+use Rattle.of_match.specs.Key.{key_number}
 use Rattle.of_action.specs.declared.action.Action.{Action}
 use Rattle.match_overlap.specs.Relations.{is_overlapping}
 use Rattle.of_wire.specs.declared.bodies.FlowMod.{FlowMod}
 use Rattle.flow_table.specs.declared.entry.Entry.{Entry}
 use Rattle.flow_table.specs.Table.{TableState, place_of, has_key, entry_at, AscendsFrom, IsTable, with_entry}
 use Rattle.flow_table.specs.TableLaws.{IsTable-map, with_entry-before, with_entry-same, with_entry-after}
-use Rattle.flow_table.specs.Change.{key_in, is_modify, describes, sends_to, deletes, adds, checks_overlap, clashes, is_full, modified, new_entry, refusal, entries_after, changed}
-use Rattle.flow_table.specs.ChangeLaws.{means, list_any-same, clashes_with, entries_after-adds, entries_after-modify, entries_after-delete}
+use Rattle.flow_table.specs.Change.{key_in, is_modify, describes, sends_to, deletes, adds, checks_overlap, clashes, is_full, modified, new_entry, refusal, entries_after, changed, means, clashes_with}
+use Rattle.flow_table.specs.ChangeLaws.{list_any-same, entries_after-adds, entries_after-modify, entries_after-delete}
 use Rattle.undo_laws.specs.LookupLaws.{filter-same}
 use Rattle.undo_laws.specs.Serials.{IsSerialed}
 use Rattle.undo_laws.specs.SerialsLaws.{IsSerialed-from, ComeFrom-map}
@@ -39,7 +39,7 @@ pub map-shown : (f g : Entry → Entry) → ((e : Entry) → f (g e) ≡ g (f e)
 map-shown f g blind [] = refl
 map-shown f g blind (e ∷ es) = ap₂ (λ x xs. x ∷ xs) (blind e) (map-shown f g blind es)
 
-above-agree : (k : Key) (g h : Entry → Entry) → AgreeBut k g h → (es : List Entry) (least : ℕ) → AscendsFrom least es → place k < least → map h es ≡ map g es
+above-agree : (k : Key) (g h : Entry → Entry) → AgreeBut k g h → (es : List Entry) (least : ℕ) → AscendsFrom least es → key_number k < least → map h es ≡ map g es
 above-agree k g h agree [] least up lt = refl
 above-agree k g h agree (e ∷ es) least up lt =
     ap₂ (λ x xs. x ∷ xs) (agree e (omega (arith, up.0))) (above-agree k g h agree es (place_of e + 1) up.1 (omega (arith, up.0)))
@@ -67,11 +67,11 @@ with_entry-shown g h n keeps at agree (f ∷ fs) least up =
     ]
 
 module _ (g : Entry → Entry) (c : IsCorrection g) where
-  place-shown : (e : Entry) → place_of (g e) ≡ place_of e
-  place-shown e = ap place (c.key e)
+  key_number-shown : (e : Entry) → place_of (g e) ≡ place_of e
+  key_number-shown e = ap key_number (c.key e)
 
   pub IsSerialed-corrected : (t : TableState) → IsSerialed t → IsSerialed (corrected g t)
-  IsSerialed-corrected t h = IsSerialed-from t (map g t.entries) (IsTable-map g place-shown t.entries h.table) (ComeFrom-map g place-shown c.serial t.entries) h
+  IsSerialed-corrected t h = IsSerialed-from t (map g t.entries) (IsTable-map g key_number-shown t.entries h.table) (ComeFrom-map g key_number-shown c.serial t.entries) h
 
   -- ---- Refusals
 
@@ -89,12 +89,12 @@ module _ (g : Entry → Entry) (c : IsCorrection g) where
   unfolding clashes
   clashes-corrected m es =
       ap (λ b. checks_overlap m.flags && b)
-      (any-shown (clashes_with (key_in m)) g (λ e. ap (λ k. k.priority == m.priority && (not (place k == place (key_in m)) && is_overlapping k.matching m.matching)) (c.key e)) es)
+      (any-shown (clashes_with (key_in m)) g (λ e. ap (λ k. k.priority == m.priority && (not (key_number k == key_number (key_in m)) && is_overlapping k.matching m.matching)) (c.key e)) es)
 
   full-corrected : (cap : ℕ) (m : FlowMod) (es : List Entry) → is_full cap m (map g es) ≡ is_full cap m es
   unfolding is_full
   full-corrected cap m es =
-      ap₂ (λ b n. not b && nat_le cap n) (any-shown (has_key (key_in m)) g (λ e. ap (λ k. place k == place (key_in m)) (c.key e)) es) (length-map es g)
+      ap₂ (λ b n. not b && nat_le cap n) (any-shown (has_key (key_in m)) g (λ e. ap (λ k. key_number k == key_number (key_in m)) (c.key e)) es) (length-map es g)
 
   pub refusal-corrected : (cap : ℕ) (m : FlowMod) (es : List Entry) → refusal cap m (map g es) ≡ refusal cap m es
   unfolding refusal
@@ -110,11 +110,11 @@ module _ (g : Entry → Entry) (c : IsCorrection g) where
   unfolding undo_one
   removal-corrected now k t =
       ap (λ (es : List Entry). record t { entries = es })
-      (sym (filter-shown (λ e. not (has_key k e)) g (λ e. ap (λ l. not (place l == place k)) (c.key e)) t.entries))
+      (sym (filter-shown (λ e. not (has_key k e)) g (λ e. ap (λ l. not (key_number l == key_number k)) (c.key e)) t.entries))
 
   gives-shown : (k : Key) (actions : List Action) (e : Entry) → give_actions k actions (g e) ≡ g (give_actions k actions e)
   gives-shown k actions e =
-      let at : has_key k (g e) ≡ has_key k e = ap (λ l. place l == place k) (c.key e) in
+      let at : has_key k (g e) ≡ has_key k e = ap (λ l. key_number l == key_number k) (c.key e) in
       elim (cases_Bool (has_key k e)) [
         | inl has ↦ rw (at, has) (sym (c.acted e actions))
         | inr other ↦ rw (at, other) refl
@@ -219,7 +219,7 @@ addition-corrected now g h sent m t is c d agree a puts new =
     let shown : adds m (map g es) ≡ true = adds-corrected g c m es ∙ puts in
     let after : map h (entries_after now t.next sent es) ≡ entries_after now t.next m (map g es) =
     ap (map h) (entries_after-adds now t.next sent es still)
-    ∙ with_entry-shown g h n (place-shown g c) (place-shown h d n) (λ e other. agree e (λ same. other (same ∙ sym (ap place at)))) es 0 is
+    ∙ with_entry-shown g h n (key_number-shown g c) (key_number-shown h d n) (λ e other. agree e (λ same. other (same ∙ sym (ap key_number at)))) es 0 is
     ∙ ap (λ x. with_entry x (map g es)) new
     ∙ sym (entries_after-adds now t.next m (map g es) shown) in
     rw (after, still, shown) refl
@@ -232,7 +232,7 @@ put_back-corrected now g h e m t is c d agree reverts new =
     let at : n.key ≡ e.key = new-key now t.next m ∙ reverts.key in
     ap (corrected h) (addition-reverts now e m t reverts)
     ∙ ap (λ (es : List Entry). record { entries = es; next = t.next + 1 })
-    (with_entry-shown g h n (place-shown g c) (place-shown h d n) (λ f other. agree f (λ same. other (same ∙ sym (ap place at)))) t.entries 0 is
+    (with_entry-shown g h n (key_number-shown g c) (key_number-shown h d n) (λ f other. agree f (λ same. other (same ∙ sym (ap key_number at)))) t.entries 0 is
     ∙ ap (λ x. with_entry x (map g t.entries)) new)
 
 pub remove-corrected : (now : ℕ) (g : Entry → Entry) (k : Key) (m : FlowMod) (t : TableState) → IsCorrection g → Reverts (Remove k) m → corrected g (changed now m t) ≡ undo_one now (Remove k) (corrected g t)

@@ -4,14 +4,13 @@ use Rattle.std.proofs.Common.{◌≡◌, ◌≢◌, ◌⊎◌, ℕ, ◌+◌, ◌
 use Rattle.std.proofs.lemmas.Bool.{cases_eq, cases_Bool, ne_eqb}
 use Rattle.std.specs.Option.{option_map, is_some}
 use Rattle.of_match.specs.declared.key.Key.{Key}
-use Rattle.of_match.specs.Key.{place}
+use Rattle.of_match.specs.Key.{key_number}
 use Rattle.of_action.specs.declared.action.Action.{Action}
 use Rattle.of_wire.specs.declared.bodies.FlowMod.{FlowMod}
 use Rattle.flow_table.specs.declared.entry.Entry.{Entry}
 use Rattle.flow_table.specs.Table.{TableState, place_of, entry_at, AscendsFrom}
 use Rattle.flow_table.specs.TableLaws.{ascends-filter}
-use Rattle.flow_table.specs.Change.{key_in, is_modify, deletes, adds}
-use Rattle.flow_table.specs.ChangeLaws.{means}
+use Rattle.flow_table.specs.Change.{key_in, is_modify, deletes, adds, means}
 use Rattle.undo_laws.specs.Serials.{IsSerialed}
 use Rattle.undo_laws.specs.Log.{Inverse, Remove, Image, Untouched, Absent, Gone, Acted, old_entry, old_actions, logged_addition, logged, with_actions, back, undo_one, undo, image_at, image_of, seen}
 use Rattle.undo_laws.specs.LogLaws.{merge-untouched, image_of-one, undo-append, Undoes, leaves, removes, puts, gives, Undoes-one, IsSerialed-undo, next-undo_one}
@@ -43,9 +42,9 @@ undoes-untouched (gives actions o p is) same = absurd cc
 
 -- inverses that touch the key of their entry alone
 abbrev Own : (Entry → Inverse) → Type 0
-Own g = (k : Key) (e : Entry) → place_of e ≢ place k → image_at k (g e) ≡ Untouched
+Own g = (k : Key) (e : Entry) → place_of e ≢ key_number k → image_at k (g e) ≡ Untouched
 
-each-untouched : (g : Entry → Inverse) → Own g → (k : Key) (ds : List Entry) (least : ℕ) → AscendsFrom least ds → place k < least → image_of k (map g ds) ≡ Untouched
+each-untouched : (g : Entry → Inverse) → Own g → (k : Key) (ds : List Entry) (least : ℕ) → AscendsFrom least ds → key_number k < least → image_of k (map g ds) ≡ Untouched
 unfolding image_of
 each-untouched g own k [] least up lt = refl
 each-untouched g own k (d ∷ ds) least up lt =
@@ -58,7 +57,7 @@ each-once now g own k (d ∷ ds) least t up h =
     let u : TableState = undo now (map g ds) t in
     let (serial, le, rest) = each-once now g own k ds (place_of d + 1) t up.1 h in
     let one = Undoes-one now k (g d) u (IsSerialed-undo now (map g ds) t h).table in
-    elim (cases_eq (place_of d) (place k)) [
+    elim (cases_eq (place_of d) (key_number k)) [
       | inl same ↦
           let none = each-untouched g own k ds (place_of d + 1) up.1 (omega arith) in
           let still = undoes-untouched rest none in
@@ -71,11 +70,11 @@ each-once now g own k (d ∷ ds) least t up h =
 
 own-old_entry : Own old_entry
 unfolding image_at
-own-old_entry k e other = rw (ne_eqb (place_of e) (place k) other) refl
+own-old_entry k e other = rw (ne_eqb (place_of e) (key_number k) other) refl
 
 own-old_actions : Own old_actions
 unfolding image_at
-own-old_actions k e other = rw (ne_eqb (place_of e) (place k) other) refl
+own-old_actions k e other = rw (ne_eqb (place_of e) (key_number k) other) refl
 
 single-once : (now : ℕ) (k : Key) (x : Inverse) (t : TableState) → IsSerialed t → UndoesOnce now t.next (image_of k (x ∷ [])) (entry_at k t.entries) (entry_at k (undo now (x ∷ []) t).entries)
 unfolding undo

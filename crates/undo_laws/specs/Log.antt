@@ -3,7 +3,7 @@
 use Rattle.std.specs.Prelude.{◌==◌, ℕ, ◌+◌, List, [], ◌∷◌, map, filter, Option, Some, None, if◌then◌else◌}
 use Rattle.std.specs.Option.{option_map}
 use Rattle.of_match.specs.declared.key.Key.{Key}
-use Rattle.of_match.specs.Key.{place}
+use Rattle.of_match.specs.Key.{key_number}
 use Rattle.of_action.specs.declared.action.Action.{Action}
 use Rattle.of_wire.specs.declared.bodies.FlowMod.{FlowMod}
 use Rattle.flow_table.specs.declared.entry.Entry.{Entry}
@@ -83,9 +83,9 @@ pub data Image : Type 0 where
   Acted : List Action → Image
 
 unfoldable pub image_at : Key → Inverse → Image
-image_at k (Remove l) = if place l == place k then Absent else Untouched
-image_at k (PutBack e) = if place_of e == place k then Gone e else Untouched
-image_at k (GiveActions l actions) = if place l == place k then Acted actions else Untouched
+image_at k (Remove l) = if key_number l == key_number k then Absent else Untouched
+image_at k (PutBack e) = if place_of e == key_number k then Gone e else Untouched
+image_at k (GiveActions l actions) = if key_number l == key_number k then Acted actions else Untouched
 
 -- an older image and a newer one as one
 abbrev pub merge : Image → Image → Image

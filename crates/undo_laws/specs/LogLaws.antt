@@ -3,12 +3,12 @@ use Rattle.std.proofs.Common.{◌≡◌, ◌≢◌, ℕ, ◌≤◌, not, List, [
 use Rattle.std.proofs.lemmas.Bool.{cases_eq, cases_Bool, eq-eqb, ne_eqb}
 use Rattle.std.specs.Option.{option_map}
 use Rattle.of_match.specs.declared.key.Key.{Key}
-use Rattle.of_match.specs.Key.{place}
+use Rattle.of_match.specs.Key.{key_number}
 use Rattle.of_action.specs.declared.action.Action.{Action}
 use Rattle.flow_table.specs.declared.entry.Entry.{Entry}
 use Rattle.flow_table.specs.Table.{TableState, place_of, has_key, entry_at, IsTable, with_entry}
 use Rattle.flow_table.specs.TableLaws.{IsTable-map, entry_at-map, entry_at-with_entry-same, entry_at-with_entry-other}
-use Rattle.undo_laws.specs.LookupLaws.{entry_at-same_place, entry_at-place}
+use Rattle.undo_laws.specs.LookupLaws.{entry_at-same_place, entry_at-key_number}
 use Rattle.undo_laws.specs.Removal.{without}
 use Rattle.undo_laws.specs.RemovalLaws.{IsTable-without, entry_at-without-same, entry_at-without-other}
 use Rattle.undo_laws.specs.Serials.{IsSerialed}
@@ -73,8 +73,8 @@ unfolding undo
 undo-append now [] newer t = refl
 undo-append now (x ∷ older) newer t = ap (undo_one now x) (undo-append now older newer t)
 
-pub place-give_actions : (k : Key) (actions : List Action) (e : Entry) → place_of (give_actions k actions e) ≡ place_of e
-place-give_actions k actions e = elim (cases_Bool (has_key k e)) [ inl has ↦ rw has refl | inr other ↦ rw other refl ]
+pub key_number-give_actions : (k : Key) (actions : List Action) (e : Entry) → place_of (give_actions k actions e) ≡ place_of e
+key_number-give_actions k actions e = elim (cases_Bool (has_key k e)) [ inl has ↦ rw has refl | inr other ↦ rw other refl ]
 
 pub serial-give_actions : (k : Key) (actions : List Action) (e : Entry) → (give_actions k actions e).serial ≡ e.serial
 serial-give_actions k actions e = elim (cases_Bool (has_key k e)) [ inl has ↦ rw has refl | inr other ↦ rw other refl ]
@@ -85,8 +85,8 @@ IsSerialed-undo_one now (Remove k) t h =
     IsSerialed-from t (without k t.entries) (IsTable-without k t.entries h.table) (ComeFrom-filter (λ e. not (has_key k e)) t.entries h.table) h
 IsSerialed-undo_one now (PutBack e) t h = IsSerialed-with_entry t (back now t.next e) refl h
 IsSerialed-undo_one now (GiveActions k actions) t h =
-    IsSerialed-from t (map (give_actions k actions) t.entries) (IsTable-map (give_actions k actions) (place-give_actions k actions) t.entries h.table)
-    (ComeFrom-map (give_actions k actions) (place-give_actions k actions) (serial-give_actions k actions) t.entries) h
+    IsSerialed-from t (map (give_actions k actions) t.entries) (IsTable-map (give_actions k actions) (key_number-give_actions k actions) t.entries h.table)
+    (ComeFrom-map (give_actions k actions) (key_number-give_actions k actions) (serial-give_actions k actions) t.entries) h
 
 pub IsSerialed-undo : (now : ℕ) (log : List Inverse) (t : TableState) → IsSerialed t → IsSerialed (undo now log t)
 unfolding undo
@@ -106,36 +106,36 @@ pub data Undoes (now next : ℕ) : Image → Option Entry → Option Entry → T
   puts : (e : Entry) (o p : Option Entry) → p ≡ Some (back now next e) → Undoes now next (Gone e) o p
   gives : (actions : List Action) (o p : Option Entry) → p ≡ option_map (with_actions actions) o → Undoes now next (Acted actions) o p
 
-given_same : (k : Key) (actions : List Action) (o : Option Entry) → ((e : Entry) → o ≡ Some e → place_of e ≡ place k) → option_map (give_actions k actions) o ≡ option_map (with_actions actions) o
+given_same : (k : Key) (actions : List Action) (o : Option Entry) → ((e : Entry) → o ≡ Some e → place_of e ≡ key_number k) → option_map (give_actions k actions) o ≡ option_map (with_actions actions) o
 given_same k actions None at = refl
-given_same k actions (Some e) at = rw (eq-eqb (place_of e) (place k) (at e refl)) refl
+given_same k actions (Some e) at = rw (eq-eqb (place_of e) (key_number k) (at e refl)) refl
 
-given_other : (k : Key) (actions : List Action) (o : Option Entry) → ((e : Entry) → o ≡ Some e → place_of e ≢ place k) → option_map (give_actions k actions) o ≡ o
+given_other : (k : Key) (actions : List Action) (o : Option Entry) → ((e : Entry) → o ≡ Some e → place_of e ≢ key_number k) → option_map (give_actions k actions) o ≡ o
 given_other k actions None at = refl
-given_other k actions (Some e) at = rw (ne_eqb (place_of e) (place k) (at e refl)) refl
+given_other k actions (Some e) at = rw (ne_eqb (place_of e) (key_number k) (at e refl)) refl
 
 pub Undoes-one : (now : ℕ) (k : Key) (x : Inverse) (t : TableState) → IsTable t.entries → Undoes now t.next (image_at k x) (entry_at k t.entries) (entry_at k (undo_one now x t).entries)
 unfolding undo_one image_at
 Undoes-one now k (Remove l) t is =
-    elim (cases_eq (place l) (place k)) [
-      | inl same ↦ rw (eq-eqb (place l) (place k) same) (removes (entry_at k t.entries) (entry_at k (without l t.entries)) (entry_at-without-same l k t.entries is same))
-      | inr other ↦ rw (ne_eqb (place l) (place k) other) (leaves (entry_at k t.entries) (entry_at k (without l t.entries)) (entry_at-without-other l k t.entries is other))
+    elim (cases_eq (key_number l) (key_number k)) [
+      | inl same ↦ rw (eq-eqb (key_number l) (key_number k) same) (removes (entry_at k t.entries) (entry_at k (without l t.entries)) (entry_at-without-same l k t.entries is same))
+      | inr other ↦ rw (ne_eqb (key_number l) (key_number k) other) (leaves (entry_at k t.entries) (entry_at k (without l t.entries)) (entry_at-without-other l k t.entries is other))
     ]
 Undoes-one now k (PutBack e) t is =
     let b : Entry = back now t.next e in
-    elim (cases_eq (place_of e) (place k)) [
-      | inl same ↦ rw (eq-eqb (place_of e) (place k) same) (puts e (entry_at k t.entries) (entry_at k (with_entry b t.entries))
+    elim (cases_eq (place_of e) (key_number k)) [
+      | inl same ↦ rw (eq-eqb (place_of e) (key_number k) same) (puts e (entry_at k t.entries) (entry_at k (with_entry b t.entries))
           (sym (entry_at-same_place (with_entry b t.entries) e.key k same) ∙ entry_at-with_entry-same t.entries b))
-      | inr other ↦ rw (ne_eqb (place_of e) (place k) other) (leaves (entry_at k t.entries) (entry_at k (with_entry b t.entries)) (entry_at-with_entry-other t.entries b k other))
+      | inr other ↦ rw (ne_eqb (place_of e) (key_number k) other) (leaves (entry_at k t.entries) (entry_at k (with_entry b t.entries)) (entry_at-with_entry-other t.entries b k other))
     ]
 Undoes-one now k (GiveActions l actions) t is =
     let g : Entry → Entry = give_actions l actions in
-    let at = entry_at-map g (place-give_actions l actions) t.entries k in
-    elim (cases_eq (place l) (place k)) [
-      | inl same ↦ rw (eq-eqb (place l) (place k) same) (gives actions (entry_at k t.entries) (entry_at k (map g t.entries))
-          (at ∙ given_same l actions (entry_at k t.entries) (λ e found. entry_at-place t.entries k e found ∙ sym same)))
-      | inr other ↦ rw (ne_eqb (place l) (place k) other) (leaves (entry_at k t.entries) (entry_at k (map g t.entries))
-          (at ∙ given_other l actions (entry_at k t.entries) (λ e found eq. other (sym eq ∙ entry_at-place t.entries k e found))))
+    let at = entry_at-map g (key_number-give_actions l actions) t.entries k in
+    elim (cases_eq (key_number l) (key_number k)) [
+      | inl same ↦ rw (eq-eqb (key_number l) (key_number k) same) (gives actions (entry_at k t.entries) (entry_at k (map g t.entries))
+          (at ∙ given_same l actions (entry_at k t.entries) (λ e found. entry_at-key_number t.entries k e found ∙ sym same)))
+      | inr other ↦ rw (ne_eqb (key_number l) (key_number k) other) (leaves (entry_at k t.entries) (entry_at k (map g t.entries))
+          (at ∙ given_other l actions (entry_at k t.entries) (λ e found eq. other (sym eq ∙ entry_at-key_number t.entries k e found))))
     ]
 
 -- but for its serial, what stands then is what the image gives back

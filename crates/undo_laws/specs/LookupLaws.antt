@@ -3,7 +3,7 @@ use Rattle.std.proofs.Common.{◌≡◌, ◌==◌, ◌⊎◌, ℕ, zero, suc, �
 use Rattle.std.proofs.lemmas.Bool.{cases_lt, cases_eq, cases_Bool, eq-eqb, ne_eqb, cond-true, cond-false}
 use Rattle.std.specs.List.{Contains}
 use Rattle.of_match.specs.declared.key.Key.{Key}
-use Rattle.of_match.specs.Key.{place}
+use Rattle.of_match.specs.Key.{key_number}
 use Rattle.flow_table.specs.declared.entry.Entry.{Entry}
 use Rattle.flow_table.specs.Table.{place_of, has_key, entry_at, AscendsFrom, IsTable}
 use Rattle.flow_table.specs.TableLaws.{if_passes, entry_at-same, entry_at-other, entry_at-below, filter-skips, filter-takes}
@@ -12,25 +12,25 @@ pub cases_Option : {A : Type 0} (o : Option A) → (o ≡ None) ⊎ ((x : A) × 
 cases_Option None = inl refl
 cases_Option (Some x) = inr (x, refl)
 
-pub entry_at-same_place : (es : List Entry) (k l : Key) → place k ≡ place l → entry_at k es ≡ entry_at l es
+pub entry_at-same_place : (es : List Entry) (k l : Key) → key_number k ≡ key_number l → entry_at k es ≡ entry_at l es
 entry_at-same_place [] k l same = refl
 entry_at-same_place (e ∷ es) k l same =
     ap (λ (p : ℕ). if place_of e == p then Some e else entry_at k es) same
-    ∙ ap (λ (o : Option Entry). if place_of e == place l then Some e else o) (entry_at-same_place es k l same)
+    ∙ ap (λ (o : Option Entry). if place_of e == key_number l then Some e else o) (entry_at-same_place es k l same)
 
 -- what is found at a key is of that key
-pub entry_at-place : (es : List Entry) (k : Key) (e : Entry) → entry_at k es ≡ Some e → place_of e ≡ place k
-entry_at-place [] k e found = absurd cc
-entry_at-place (f ∷ fs) k e found =
-    elim (cases_eq (place_of f) (place k)) [
+pub entry_at-key_number : (es : List Entry) (k : Key) (e : Entry) → entry_at k es ≡ Some e → place_of e ≡ key_number k
+entry_at-key_number [] k e found = absurd cc
+entry_at-key_number (f ∷ fs) k e found =
+    elim (cases_eq (place_of f) (key_number k)) [
       | inl same ↦ let here = entry_at-same k f fs same in let is : f ≡ e = cc in ap place_of (sym is) ∙ same
-      | inr other ↦ entry_at-place fs k e (sym (entry_at-other k f fs other) ∙ found)
+      | inr other ↦ entry_at-key_number fs k e (sym (entry_at-other k f fs other) ∙ found)
     ]
 
 -- what is found behind the first entry is found
 pub entry_at-behind : (f : Entry) (fs : List Entry) (least : ℕ) (k : Key) (g : Entry) → AscendsFrom least (f ∷ fs) → entry_at k fs ≡ Some g → entry_at k (f ∷ fs) ≡ Some g
 entry_at-behind f fs least k g h found =
-    elim (cases_eq (place_of f) (place k)) [
+    elim (cases_eq (place_of f) (key_number k)) [
       | inl same ↦ let none = entry_at-below fs k (place_of f + 1) h.1 (omega arith) in absurd cc
       | inr other ↦ entry_at-other k f fs other ∙ found
     ]
@@ -60,7 +60,7 @@ same_head e f es fs least h i same =
 
 same_tail : (e f : Entry) (es fs : List Entry) (least : ℕ) → place_of e ≡ place_of f → AscendsFrom least (e ∷ es) → AscendsFrom least (f ∷ fs) → ((k : Key) → entry_at k (e ∷ es) ≡ entry_at k (f ∷ fs)) → (k : Key) → entry_at k es ≡ entry_at k fs
 same_tail e f es fs least at h i same k =
-    elim (cases_eq (place_of e) (place k)) [
+    elim (cases_eq (place_of e) (key_number k)) [
       | inl here ↦ entry_at-below es k (place_of e + 1) h.1 (omega arith) ∙ sym (entry_at-below fs k (place_of f + 1) i.1 (omega arith))
       | inr there ↦ sym (entry_at-other k e es there) ∙ same k ∙ entry_at-other k f fs (λ eq. there (at ∙ eq))
     ]
@@ -99,18 +99,18 @@ listed (Some e) = e ∷ []
 abbrev pub at_key : Key → (Entry → Bool) → Entry → Bool
 at_key k test e = has_key k e && test e
 
-no_key : (k : Key) (test : Entry → Bool) (es : List Entry) (least : ℕ) → AscendsFrom least es → place k < least → filter (at_key k test) es ≡ []
+no_key : (k : Key) (test : Entry → Bool) (es : List Entry) (least : ℕ) → AscendsFrom least es → key_number k < least → filter (at_key k test) es ≡ []
 no_key k test [] least h lt = refl
 no_key k test (f ∷ fs) least h lt =
-    let fails : at_key k test f ≡ false = rw (ne_eqb (place_of f) (place k) (omega (arith, h.0))) refl in
+    let fails : at_key k test f ≡ false = rw (ne_eqb (place_of f) (key_number k) (omega (arith, h.0))) refl in
     filter-skips (at_key k test) f fs fails ∙ no_key k test fs (place_of f + 1) h.1 (omega (arith, h.0))
 
 filter_at : (k : Key) (test : Entry → Bool) (es : List Entry) (least : ℕ) → AscendsFrom least es → filter (at_key k test) es ≡ listed (if_passes test (entry_at k es))
 filter_at k test [] least h = refl
 filter_at k test (f ∷ fs) least h =
-    elim (cases_eq (place_of f) (place k)) [
+    elim (cases_eq (place_of f) (key_number k)) [
       | inl same ↦
-          let has : has_key k f ≡ true = eq-eqb (place_of f) (place k) same in
+          let has : has_key k f ≡ true = eq-eqb (place_of f) (key_number k) same in
           let none : filter (at_key k test) fs ≡ [] = no_key k test fs (place_of f + 1) h.1 (omega arith) in
           rw (entry_at-same k f fs same) (elim (cases_Bool (test f)) [
             | inl passes ↦ let both : at_key k test f ≡ true = rw (has, passes) refl in
@@ -119,7 +119,7 @@ filter_at k test (f ∷ fs) least h =
                 filter-skips (at_key k test) f fs not_both ∙ none ∙ sym (ap listed (cond-false (test f) (Some f) None fails))
           ])
       | inr other ↦
-          let fails : at_key k test f ≡ false = rw (ne_eqb (place_of f) (place k) other) refl in
+          let fails : at_key k test f ≡ false = rw (ne_eqb (place_of f) (key_number k) other) refl in
           filter-skips (at_key k test) f fs fails ∙ filter_at k test fs (place_of f + 1) h.1 ∙ sym (ap (λ o. listed (if_passes test o)) (entry_at-other k f fs other))
     ]
 

@@ -3,7 +3,7 @@
 use Rattle.std.specs.Prelude.{◌≡◌, ◌==◌, ℕ, Bool, true, false, not, List, [], ◌∷◌, filter, Option, Some, None, if◌then◌else◌}
 use Rattle.std.specs.List.{list_any}
 use Rattle.of_match.specs.declared.key.Key.{Key}
-use Rattle.of_match.specs.Key.{place}
+use Rattle.of_match.specs.Key.{key_number}
 use Rattle.of_wire.specs.declared.bodies.FlowMod.{FlowMod}
 use Rattle.flow_table.specs.declared.entry.Entry.{Entry}
 use Rattle.flow_table.specs.declared.notice.Notice.{Notice}
@@ -47,7 +47,7 @@ after_all now (m ∷ ms) t = after_all now ms (changed now m t)
 
 -- a key is one of some keys
 abbrev pub is_among : List Key → Key → Bool
-is_among ks k = list_any (λ l. place l == place k) ks
+is_among ks k = list_any (λ l. key_number l == key_number k) ks
 
 -- The earlier table has none of the keys, and at each other key both tables have the same entry.
 pub record OnlyAdded (ks : List Key) (before after : List Entry) : Type 0 where

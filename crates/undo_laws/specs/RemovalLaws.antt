@@ -4,14 +4,14 @@ use Rattle.std.proofs.Common.{◌≡◌, ◌≢◌, ◌==◌, ℕ, Bool, true, f
 use Rattle.std.proofs.lemmas.Bool.{cases_eq, cases_Bool, eq-eqb, ne_eqb, eqb-true, eqb-false, or_cases, or_parts, or_left, or_right, or_from}
 use Rattle.std.proofs.lemmas.List.{reverse-append}
 use Rattle.of_match.specs.declared.key.Key.{Key}
-use Rattle.of_match.specs.Key.{place}
+use Rattle.of_match.specs.Key.{key_number}
 use Rattle.of_wire.specs.declared.bodies.FlowMod.{FlowMod}
 use Rattle.flow_table.specs.declared.entry.Entry.{Entry}
 use Rattle.flow_table.specs.Table.{TableState, place_of, has_key, entry_at, IsTable}
 use Rattle.flow_table.specs.TableLaws.{if_passes, IsTable-filter, entry_at-filter, entry_at-with_entry-other}
-use Rattle.flow_table.specs.Change.{key_in, is_strict, is_modify, is_delete, describes, sends_to, deletes, adds, asks_notice, new_entry, refusal, notice, notices_of, entries_after, changed, change}
-use Rattle.flow_table.specs.ChangeLaws.{tells, describes-strict, notices_of-delete, entries_after-adds, entries_after-delete, refusal-delete}
-use Rattle.undo_laws.specs.LookupLaws.{at_key, listed, entry_at-same_place, entry_at-place, table_from_lookups, filter-same, filter-at_key}
+use Rattle.flow_table.specs.Change.{key_in, is_strict, is_modify, is_delete, describes, sends_to, deletes, adds, asks_notice, new_entry, refusal, notice, notices_of, entries_after, changed, change, tells}
+use Rattle.flow_table.specs.ChangeLaws.{describes-strict, notices_of-delete, entries_after-adds, entries_after-delete, refusal-delete}
+use Rattle.undo_laws.specs.LookupLaws.{at_key, listed, entry_at-same_place, entry_at-key_number, table_from_lookups, filter-same, filter-at_key}
 use Rattle.undo_laws.specs.Removal.{without, without_all, IsRemoval, AreRemovals, removal_notices, after_all, is_among, OnlyAdded}
 
 -- ---- A table without a key
@@ -19,21 +19,21 @@ use Rattle.undo_laws.specs.Removal.{without, without_all, IsRemoval, AreRemovals
 pub IsTable-without : (k : Key) (es : List Entry) → IsTable es → IsTable (without k es)
 IsTable-without k es is = IsTable-filter (λ e. not (has_key k e)) es is
 
-not_passes : (k l : Key) (o : Option Entry) → ((e : Entry) → o ≡ Some e → place_of e ≡ place l) → place k ≡ place l → if_passes (λ e. not (has_key k e)) o ≡ None
+not_passes : (k l : Key) (o : Option Entry) → ((e : Entry) → o ≡ Some e → place_of e ≡ key_number l) → key_number k ≡ key_number l → if_passes (λ e. not (has_key k e)) o ≡ None
 not_passes k l None at same = refl
-not_passes k l (Some e) at same = rw (eq-eqb (place_of e) (place k) (at e refl ∙ sym same)) refl
+not_passes k l (Some e) at same = rw (eq-eqb (place_of e) (key_number k) (at e refl ∙ sym same)) refl
 
-passes_other : (k l : Key) (o : Option Entry) → ((e : Entry) → o ≡ Some e → place_of e ≡ place l) → place k ≢ place l → if_passes (λ e. not (has_key k e)) o ≡ o
+passes_other : (k l : Key) (o : Option Entry) → ((e : Entry) → o ≡ Some e → place_of e ≡ key_number l) → key_number k ≢ key_number l → if_passes (λ e. not (has_key k e)) o ≡ o
 passes_other k l None at other = refl
-passes_other k l (Some e) at other = rw (ne_eqb (place_of e) (place k) (λ same. other (sym same ∙ at e refl))) refl
+passes_other k l (Some e) at other = rw (ne_eqb (place_of e) (key_number k) (λ same. other (sym same ∙ at e refl))) refl
 
-pub entry_at-without-same : (k l : Key) (es : List Entry) → IsTable es → place k ≡ place l → entry_at l (without k es) ≡ None
+pub entry_at-without-same : (k l : Key) (es : List Entry) → IsTable es → key_number k ≡ key_number l → entry_at l (without k es) ≡ None
 entry_at-without-same k l es is same =
-    entry_at-filter (λ e. not (has_key k e)) es l is ∙ not_passes k l (entry_at l es) (entry_at-place es l) same
+    entry_at-filter (λ e. not (has_key k e)) es l is ∙ not_passes k l (entry_at l es) (entry_at-key_number es l) same
 
-pub entry_at-without-other : (k l : Key) (es : List Entry) → IsTable es → place k ≢ place l → entry_at l (without k es) ≡ entry_at l es
+pub entry_at-without-other : (k l : Key) (es : List Entry) → IsTable es → key_number k ≢ key_number l → entry_at l (without k es) ≡ entry_at l es
 entry_at-without-other k l es is other =
-    entry_at-filter (λ e. not (has_key k e)) es l is ∙ passes_other k l (entry_at l es) (entry_at-place es l) other
+    entry_at-filter (λ e. not (has_key k e)) es l is ∙ passes_other k l (entry_at l es) (entry_at-key_number es l) other
 
 -- ---- One removal
 
@@ -56,7 +56,7 @@ sends_anywhere m e none = rw none refl
 
 removal-deletes : (k : Key) (m : FlowMod) → IsRemoval k m → (e : Entry) → deletes m e ≡ has_key k e
 removal-deletes k m r e =
-    let at : describes m e.key ≡ has_key k e = describes-strict m e.key (removal-strict k m r) ∙ ap (λ l. place_of e == place l) r.key in
+    let at : describes m e.key ≡ has_key k e = describes-strict m e.key (removal-strict k m r) ∙ ap (λ l. place_of e == key_number l) r.key in
     rw (at, sends_anywhere m e r.out_port) (and_true (has_key k e))
   where
     and_true : (b : Bool) → (b && true) ≡ b
@@ -112,7 +112,7 @@ IsTable-without_all (k ∷ ks) es is = IsTable-without_all ks (without k es) (Is
 without_all-none : (ks : List Key) (l : Key) (es : List Entry) → IsTable es → entry_at l es ≡ None → entry_at l (without_all ks es) ≡ None
 without_all-none [] l es is none = none
 without_all-none (k ∷ ks) l es is none =
-    without_all-none ks l (without k es) (IsTable-without k es is) (elim (cases_eq (place k) (place l)) [
+    without_all-none ks l (without k es) (IsTable-without k es is) (elim (cases_eq (key_number k) (key_number l)) [
       | inl same ↦ entry_at-without-same k l es is same
       | inr other ↦ entry_at-without-other k l es is other ∙ none
     ])
@@ -120,18 +120,18 @@ without_all-none (k ∷ ks) l es is none =
 pub without_all-among : (ks : List Key) (l : Key) (es : List Entry) → IsTable es → is_among ks l ≡ true → entry_at l (without_all ks es) ≡ None
 without_all-among [] l es is among = absurd cc
 without_all-among (k ∷ ks) l es is among =
-    elim (cases_eq (place k) (place l)) [
+    elim (cases_eq (key_number k) (key_number l)) [
       | inl same ↦ without_all-none ks l (without k es) (IsTable-without k es is) (entry_at-without-same k l es is same)
       | inr other ↦ without_all-among ks l (without k es) (IsTable-without k es is)
-          (sym (ap (λ b. b || is_among ks l) (ne_eqb (place k) (place l) other)) ∙ among)
+          (sym (ap (λ b. b || is_among ks l) (ne_eqb (key_number k) (key_number l) other)) ∙ among)
     ]
 
 pub without_all-others : (ks : List Key) (l : Key) (es : List Entry) → IsTable es → is_among ks l ≡ false → entry_at l (without_all ks es) ≡ entry_at l es
 without_all-others [] l es is among = refl
 without_all-others (k ∷ ks) l es is among =
-    let parts = or_parts (place k == place l) (is_among ks l) among in
+    let parts = or_parts (key_number k == key_number l) (is_among ks l) among in
     without_all-others ks l (without k es) (IsTable-without k es is) parts.1
-    ∙ entry_at-without-other k l es is (eqb-false (place k) (place l) parts.0)
+    ∙ entry_at-without-other k l es is (eqb-false (key_number k) (key_number l) parts.0)
 
 -- the keys that were added, taken away in any order, leave the earlier table
 pub without_added : (ks ls : List Key) (before after : List Entry) → IsTable before → IsTable after → OnlyAdded ks before after → ((k : Key) → is_among ls k ≡ is_among ks k) → without_all ls after ≡ before
@@ -162,13 +162,13 @@ or_false false = refl
 pub is_among-append : (ks ls : List Key) (k : Key) → is_among (ks ++ ls) k ≡ (is_among ks k || is_among ls k)
 is_among-append [] ls k = refl
 is_among-append (l ∷ ks) ls k =
-    ap (λ b. (place l == place k) || b) (is_among-append ks ls k) ∙ sym (or_assoc (place l == place k) (is_among ks k) (is_among ls k))
+    ap (λ b. (key_number l == key_number k) || b) (is_among-append ks ls k) ∙ sym (or_assoc (key_number l == key_number k) (is_among ks k) (is_among ls k))
 
 -- newest first are the same keys
 pub is_among-reverse : (ks : List Key) (k : Key) → is_among (reverse ks) k ≡ is_among ks k
 is_among-reverse [] k = refl
 is_among-reverse (l ∷ ks) k =
-    let here : Bool = place l == place k in
+    let here : Bool = key_number l == key_number k in
     ap (λ xs. is_among xs k) (reverse-append (l ∷ []) ks)
     ∙ is_among-append (reverse ks) (l ∷ []) k
     ∙ ap₂ (λ a b. a || b) (is_among-reverse ks k) (or_false here)
@@ -183,19 +183,19 @@ OnlyAdded-nothing es = record { added = λ k among. absurd cc; others = λ k oth
 pub OnlyAdded-more : (now : ℕ) (ks : List Key) (m : FlowMod) (before : List Entry) (t : TableState) → OnlyAdded ks before t.entries → adds m t.entries ≡ true → entry_at (key_in m) t.entries ≡ None → OnlyAdded (ks ++ key_in m ∷ []) before (changed now m t).entries
 unfolding changed new_entry
 OnlyAdded-more now ks m before t only puts absent = rw (entries_after-adds now t.next m t.entries puts) (record {
-  added = λ k among. elim (or_cases (is_among ks k) (place (key_in m) == place k) (sym (split k) ∙ among)) [
+  added = λ k among. elim (or_cases (is_among ks k) (key_number (key_in m) == key_number k) (sym (split k) ∙ among)) [
     | inl old ↦ only.added k old
-    | inr fresh ↦ was k (eqb-true (place (key_in m)) (place k) fresh)
+    | inr fresh ↦ was k (eqb-true (key_number (key_in m)) (key_number k) fresh)
   ];
   others = λ k other.
-      let parts = or_parts (is_among ks k) (place (key_in m) == place k) (sym (split k) ∙ other) in
-      entry_at-with_entry-other t.entries (new_entry now t.next m) k (eqb-false (place (key_in m)) (place k) parts.1) ∙ only.others k parts.0;
+      let parts = or_parts (is_among ks k) (key_number (key_in m) == key_number k) (sym (split k) ∙ other) in
+      entry_at-with_entry-other t.entries (new_entry now t.next m) k (eqb-false (key_number (key_in m)) (key_number k) parts.1) ∙ only.others k parts.0;
 })
   where
-    split : (k : Key) → is_among (ks ++ key_in m ∷ []) k ≡ (is_among ks k || (place (key_in m) == place k))
-    split k = is_among-append ks (key_in m ∷ []) k ∙ ap (λ b. is_among ks k || b) (or_false (place (key_in m) == place k))
+    split : (k : Key) → is_among (ks ++ key_in m ∷ []) k ≡ (is_among ks k || (key_number (key_in m) == key_number k))
+    split k = is_among-append ks (key_in m ∷ []) k ∙ ap (λ b. is_among ks k || b) (or_false (key_number (key_in m) == key_number k))
 
-    was : (k : Key) → place (key_in m) ≡ place k → entry_at k before ≡ None
+    was : (k : Key) → key_number (key_in m) ≡ key_number k → entry_at k before ≡ None
     was k same = elim (cases_Bool (is_among ks k)) [
       | inl old ↦ only.added k old
       | inr other ↦ sym (only.others k other) ∙ sym (entry_at-same_place t.entries (key_in m) k same) ∙ absent

@@ -8,8 +8,7 @@ use Rattle.of_wire.specs.declared.bodies.FlowMod.{FlowMod}
 use Rattle.flow_table.specs.declared.entry.Entry.{Entry}
 use Rattle.flow_table.specs.Table.{TableState, entry_at}
 use Rattle.flow_table.specs.TableLaws.{IsTable-map, entry_at-map}
-use Rattle.flow_table.specs.Change.{key_in, is_modify, deletes, adds}
-use Rattle.flow_table.specs.ChangeLaws.{means}
+use Rattle.flow_table.specs.Change.{key_in, is_modify, deletes, adds, means}
 use Rattle.flow_table.specs.Undone.{used_or, restored, undone}
 use Rattle.undo_laws.specs.Serials.{SerialsBelow, IsSerialed}
 use Rattle.undo_laws.specs.SerialsLaws.{ComeFrom-map, IsSerialed-from, some_mapped}

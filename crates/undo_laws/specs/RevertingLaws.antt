@@ -7,7 +7,7 @@ use Rattle.std.proofs.lemmas.List.Filters.{length-filter_both}
 use Rattle.std.specs.List.{list_any, Contains}
 use Rattle.std.specs.Option.{option_map, is_some}
 use Rattle.of_match.specs.declared.key.Key.{Key}
-use Rattle.of_match.specs.Key.{place}
+use Rattle.of_match.specs.Key.{key_number}
 use Rattle.of_action.specs.declared.action.Action.{Action}
 use Rattle.of_types.specs.declared.errors.OfError.{OfError}
 use Rattle.of_wire.specs.declared.bodies.FlowMod.{FlowMod}
@@ -15,16 +15,16 @@ use Rattle.flow_table.specs.declared.entry.Entry.{Entry}
 use Rattle.flow_table.specs.Table.{TableState, place_of, has_key, entry_at, AscendsFrom, IsTable, with_entry}
 use Rattle.flow_table.specs.TableLaws.{IsTable-with_entry, with_entry-before, with_entry-after, length-with_entry-le, entry_at-same, entry_at-other, entry_at-below, entry_at-map, entry_at-with_entry-same, entry_at-with_entry-other}
 use Rattle.flow_table.specs.Errors.{bad_command, overlap, all_tables_full}
-use Rattle.flow_table.specs.Change.{key_in, is_strict, is_modify, describes, deletes, adds, checks_overlap, clashes, is_full, modified, new_entry, refusal, notices_of, entries_after, changed, change}
+use Rattle.flow_table.specs.Change.{key_in, is_strict, is_modify, describes, deletes, adds, checks_overlap, clashes, is_full, modified, new_entry, refusal, notices_of, entries_after, changed, change, means}
 use Rattle.flow_timeouts.specs.Timeouts.{end_of, first_end, deadline_of, remaining_of}
 use Rattle.flow_table.specs.Expiry.{deadline}
-use Rattle.flow_table.specs.ChangeLaws.{notices_of-kept, means, describes-strict, list_any-strict, place_of-modified, entries_after-adds, entries_after-modify, entries_after-delete}
+use Rattle.flow_table.specs.ChangeLaws.{notices_of-kept, describes-strict, list_any-strict, place_of-modified, entries_after-adds, entries_after-modify, entries_after-delete}
 use Rattle.undo_laws.specs.LookupLaws.{cases_Option, entry_at-same_place, entry_at-contains}
 use Rattle.undo_laws.specs.RemovalLaws.{removal-refusal, removal-changed}
 use Rattle.undo_laws.specs.Serials.{IsSerialed}
 use Rattle.undo_laws.specs.SerialsLaws.{IsSerialed-changed}
 use Rattle.undo_laws.specs.Log.{Inverse, Remove, PutBack, GiveActions, Image, Untouched, Absent, Gone, Acted, logged_addition, old_entry, old_actions, logged, logged_by, with_actions, give_actions, back, undo_one, undo, image_of, given_back, seen}
-use Rattle.undo_laws.specs.LogLaws.{undo-append, undo-image, place-give_actions, IsSerialed-undo}
+use Rattle.undo_laws.specs.LogLaws.{undo-append, undo-image, key_number-give_actions, IsSerialed-undo}
 use Rattle.undo_laws.specs.StandingLaws.{Changes, stays, comes, gives_way, goes, acts}
 use Rattle.undo_laws.specs.StandsLaws.{Changes-changed}
 use Rattle.undo_laws.specs.Reverting.{IsAddition, IsModification, Reverts, Meets, CanRevert, SameKeys}
@@ -44,7 +44,7 @@ same_head e f es fs least i same =
 
 same_tail : (e f : Entry) (es fs : List Entry) (least : ℕ) → place_of e ≡ place_of f → AscendsFrom least (e ∷ es) → AscendsFrom least (f ∷ fs) → SameKeys (e ∷ es) (f ∷ fs) → SameKeys es fs
 same_tail e f es fs least at h i same k =
-    elim (cases_eq (place_of e) (place k)) [
+    elim (cases_eq (place_of e) (key_number k)) [
       | inl here ↦ ap is_some (entry_at-below es k (place_of e + 1) h.1 (omega arith) ∙ sym (entry_at-below fs k (place_of f + 1) i.1 (omega arith)))
       | inr there ↦ sym (ap is_some (entry_at-other k e es there)) ∙ same k ∙ ap is_some (entry_at-other k f fs (λ eq. there (at ∙ eq)))
     ]
@@ -226,7 +226,7 @@ removal-reverts now k m t reverts = removal-changed now k m t reverts
 described : (k : Key) (actions : List Action) (m : FlowMod) → IsModification k actions m → (e : Entry) → modified m e ≡ give_actions k actions e
 described k actions m is e =
     let strict : is_strict m ≡ true = rw is.command refl in
-    let at : describes m e.key ≡ has_key k e = describes-strict m e.key strict ∙ ap (λ l. place_of e == place l) is.key in
+    let at : describes m e.key ≡ has_key k e = describes-strict m e.key strict ∙ ap (λ l. place_of e == key_number l) is.key in
     rw (at, is.actions) refl
 
 pub map-same : (f g : Entry → Entry) → ((e : Entry) → f e ≡ g e) → (es : List Entry) → map f es ≡ map g es
@@ -289,7 +289,7 @@ keys-one : (now : ℕ) (k l : Key) (actions : List Action) (t : TableState) → 
 unfolding undo_one
 keys-one now k l actions t =
     let g : Entry → Entry = give_actions k actions in
-    ap is_some (entry_at-map g (place-give_actions k actions) t.entries l) ∙ some_map g (entry_at l t.entries)
+    ap is_some (entry_at-map g (key_number-give_actions k actions) t.entries l) ∙ some_map g (entry_at l t.entries)
 
 length-gives : (now : ℕ) (ds : List Entry) (t : TableState) → length (undo now (map old_actions ds) t).entries ≡ length t.entries
 unfolding undo
@@ -366,7 +366,7 @@ room-cases cap m es room =
 
 pub keys-replaced : (es : List Entry) (e : Entry) → is_some (entry_at e.key es) ≡ true → SameKeys (with_entry e es) es
 keys-replaced es e some k =
-    elim (cases_eq (place_of e) (place k)) [
+    elim (cases_eq (place_of e) (key_number k)) [
       | inl same ↦
           ap is_some (sym (entry_at-same_place (with_entry e es) e.key k same) ∙ entry_at-with_entry-same es e)
           ∙ sym some ∙ ap is_some (entry_at-same_place es e.key k same)

@@ -14,8 +14,8 @@ use Rattle.flow_timeouts.specs.declared.timeouts.Reason.{Reason}
 use Rattle.flow_table.specs.declared.entry.Entry.{Entry}
 use Rattle.flow_table.specs.Table.{TableState, place_of, has_key, with_entry}
 use Rattle.flow_table.specs.TableLaws.{with_entry-before, with_entry-same, with_entry-after}
-use Rattle.flow_table.specs.Change.{key_in, is_modify, is_delete, describes, deletes, adds, checks_overlap, clashes, is_full, asks_notice, modified, new_entry, refusal, entries_after, notice, notices_of}
-use Rattle.flow_table.specs.ChangeLaws.{means, tells, clashes_with, entries_after-adds, entries_after-modify, entries_after-delete}
+use Rattle.flow_table.specs.Change.{key_in, is_modify, is_delete, describes, deletes, adds, checks_overlap, clashes, is_full, asks_notice, modified, new_entry, refusal, entries_after, notice, notices_of, means, tells, clashes_with}
+use Rattle.flow_table.specs.ChangeLaws.{entries_after-adds, entries_after-modify, entries_after-delete}
 use Rattle.flow_table.specs.Hit.{rank, best, better, counted, hit, hit_by, with_more, with_counts}
 use Rattle.flow_table.specs.Expiry.{among, by_deadline, deadline, end_of, is_due, notice_at, expire, expiry_notices}
 use Rattle.flow_table.specs.Rows.{is_selected, selected}

@@ -1,7 +1,7 @@
 -- Serials of a table: each new entry takes the next one, so an entry is known by it for good. They are our own.
 use Rattle.std.specs.Prelude.{◌≡◌, ℕ, ◌<◌, List, Some}
 use Rattle.of_match.specs.declared.key.Key.{Key}
-use Rattle.of_match.specs.Key.{place}
+use Rattle.of_match.specs.Key.{key_number}
 use Rattle.flow_table.specs.declared.entry.Entry.{Entry}
 use Rattle.flow_table.specs.Table.{TableState, entry_at, IsTable}
 
@@ -11,7 +11,7 @@ SerialsBelow most es = (k : Key) (e : Entry) → entry_at k es ≡ Some e → e.
 
 -- no two keys' entries share a serial
 abbrev pub SerialsDiffer : List Entry → Type 0
-SerialsDiffer es = (k l : Key) (e f : Entry) → entry_at k es ≡ Some e → entry_at l es ≡ Some f → e.serial ≡ f.serial → place k ≡ place l
+SerialsDiffer es = (k l : Key) (e f : Entry) → entry_at k es ≡ Some e → entry_at l es ≡ Some f → e.serial ≡ f.serial → key_number k ≡ key_number l
 
 -- The entries are a table, whose serials differ and lie below the next one.
 pub record IsSerialed (t : TableState) : Type 0 where

@@ -4,7 +4,7 @@ use Rattle.std.proofs.lemmas.Bool.{cases_eq, cases_Bool, cond-true, cond-false, 
 use Rattle.std.specs.Option.{option_map}
 use Rattle.of_match.specs.declared.key.Key.{Key}
 use Rattle.of_match.specs.declared.packet_key.PacketKey.{PacketKey}
-use Rattle.of_match.specs.Key.{place}
+use Rattle.of_match.specs.Key.{key_number}
 use Rattle.of_wire.specs.declared.bodies.FlowMod.{FlowMod}
 use Rattle.flow_table.specs.declared.entry.Entry.{Entry}
 use Rattle.flow_table.specs.Table.{TableState, empty_table, place_of, entry_at, AscendsFrom, IsTable, with_entry}
@@ -63,9 +63,9 @@ ComeFrom-filter test es is k f found = (f, entry_at-passed test es k f is found,
 -- ---- A new entry
 
 -- what is found beside an entry that is put in
-pub found_with : (es : List Entry) (e : Entry) (k : Key) (f : Entry) → entry_at k (with_entry e es) ≡ Some f → ((place_of e ≡ place k) × (e ≡ f)) ⊎ ((place_of e ≢ place k) × (entry_at k es ≡ Some f))
+pub found_with : (es : List Entry) (e : Entry) (k : Key) (f : Entry) → entry_at k (with_entry e es) ≡ Some f → ((place_of e ≡ key_number k) × (e ≡ f)) ⊎ ((place_of e ≢ key_number k) × (entry_at k es ≡ Some f))
 found_with es e k f found =
-    elim (cases_eq (place_of e) (place k)) [
+    elim (cases_eq (place_of e) (key_number k)) [
       | inl same ↦
           let here = entry_at-with_entry-same es e in
           let there = entry_at-same_place (with_entry e es) e.key k same in
@@ -169,7 +169,7 @@ used_from now serial (f ∷ fs) least k e h differ found is =
           let both : f ≡ e = cc in
           rw (eq-eqb f.serial serial same) (ap (λ x. x.used) both)
       | inr other ↦
-          let apart : place_of f ≢ place k = λ one. let here = entry_at-same k f fs one in let both : f ≡ e = cc in other (ap (λ x. x.serial) both ∙ is) in
+          let apart : place_of f ≢ key_number k = λ one. let here = entry_at-same k f fs one in let both : f ≡ e = cc in other (ap (λ x. x.serial) both ∙ is) in
           rw (ne_eqb f.serial serial other) (used_from now serial fs (place_of f + 1) k e h.1
           (λ a b x y foundx foundy. differ a b x y (entry_at-behind f fs least a x h foundx) (entry_at-behind f fs least b y h foundy))
           (sym (entry_at-other k f fs apart) ∙ found) is)

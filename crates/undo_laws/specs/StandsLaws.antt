@@ -4,7 +4,7 @@ use Rattle.std.proofs.lemmas.Bool.{cases_eq, cases_Bool, cond-true, cond-false, 
 use Rattle.std.proofs.lemmas.List.{append-nil, append_assoc}
 use Rattle.std.specs.Option.{option_map}
 use Rattle.of_match.specs.declared.key.Key.{Key}
-use Rattle.of_match.specs.Key.{place}
+use Rattle.of_match.specs.Key.{key_number}
 use Rattle.of_types.specs.declared.errors.OfError.{OfError}
 use Rattle.of_wire.specs.declared.bodies.FlowMod.{FlowMod}
 use Rattle.flow_table.specs.declared.entry.Entry.{Entry}
@@ -13,7 +13,7 @@ use Rattle.flow_table.specs.TableLaws.{if_passes, IsTable-map, entry_at-same, en
 use Rattle.flow_table.specs.Change.{key_in, is_modify, describes, deletes, adds, modified, new_entry, refusal, changed, change, unless_refused}
 use Rattle.flow_table.specs.ChangeLaws.{place_of-modified, entries_after-adds, entries_after-modify, entries_after-delete}
 use Rattle.flow_table.specs.Undone.{used_or, restored, undone}
-use Rattle.undo_laws.specs.LookupLaws.{cases_Option, entry_at-same_place, entry_at-place, table_from_lookups}
+use Rattle.undo_laws.specs.LookupLaws.{cases_Option, entry_at-same_place, entry_at-key_number, table_from_lookups}
 use Rattle.undo_laws.specs.Serials.{IsSerialed}
 use Rattle.undo_laws.specs.SerialsLaws.{IsSerialed-changed, used_or-stands, used_or-gone}
 use Rattle.undo_laws.specs.Log.{Inverse, Image, Untouched, Absent, Gone, Acted, logged_addition, old_entry, old_actions, logged, logged_by, undo_one, undo, image_at, merge, image_of, seen}
@@ -46,15 +46,15 @@ abbrev addition_image : Option Entry → Image
 addition_image None = Absent
 addition_image (Some e) = Gone (seen e)
 
-addition-same : (k l : Key) (o : Option Entry) → ((e : Entry) → o ≡ Some e → place_of e ≡ place l) → place l ≡ place k → image_of k (logged_addition l o) ≡ addition_image o
+addition-same : (k l : Key) (o : Option Entry) → ((e : Entry) → o ≡ Some e → place_of e ≡ key_number l) → key_number l ≡ key_number k → image_of k (logged_addition l o) ≡ addition_image o
 unfolding image_of image_at
-addition-same k l None at same = rw (eq-eqb (place l) (place k) same) refl
-addition-same k l (Some e) at same = rw (eq-eqb (place_of e) (place k) (at e refl ∙ same)) refl
+addition-same k l None at same = rw (eq-eqb (key_number l) (key_number k) same) refl
+addition-same k l (Some e) at same = rw (eq-eqb (place_of e) (key_number k) (at e refl ∙ same)) refl
 
-addition-other : (k l : Key) (o : Option Entry) → ((e : Entry) → o ≡ Some e → place_of e ≡ place l) → place l ≢ place k → image_of k (logged_addition l o) ≡ Untouched
+addition-other : (k l : Key) (o : Option Entry) → ((e : Entry) → o ≡ Some e → place_of e ≡ key_number l) → key_number l ≢ key_number k → image_of k (logged_addition l o) ≡ Untouched
 unfolding image_of image_at
-addition-other k l None at other = rw (ne_eqb (place l) (place k) other) refl
-addition-other k l (Some e) at other = rw (ne_eqb (place_of e) (place k) (λ same. other (sym (at e refl) ∙ same))) refl
+addition-other k l None at other = rw (ne_eqb (key_number l) (key_number k) other) refl
+addition-other k l (Some e) at other = rw (ne_eqb (place_of e) (key_number k) (λ same. other (sym (at e refl) ∙ same))) refl
 
 -- the image of an entry, or none
 abbrev image_if : (Entry → Image) → Option Entry → Image
@@ -67,17 +67,17 @@ unfolding image_of
 each_from k g h is test [] least up = refl
 each_from k g h is test (f ∷ fs) least up =
     let rest : image_of k (map g (filter test fs)) ≡ image_if h (if_passes test (entry_at k fs)) = each_from k g h is test fs (place_of f + 1) up.1 in
-    elim (cases_eq (place_of f) (place k)) [
+    elim (cases_eq (place_of f) (key_number k)) [
       | inl same ↦
           let none : entry_at k fs ≡ None = entry_at-below fs k (place_of f + 1) up.1 (omega arith) in
           let untouched : image_of k (map g (filter test fs)) ≡ Untouched = rest ∙ ap (λ o. image_if h (if_passes test o)) none in
-          let here : image_at k (g f) ≡ h f = is f ∙ cond-true (has_key k f) (h f) Untouched (eq-eqb (place_of f) (place k) same) in
+          let here : image_at k (g f) ≡ h f = is f ∙ cond-true (has_key k f) (h f) Untouched (eq-eqb (place_of f) (key_number k) same) in
           rw (entry_at-same k f fs same) (elim (cases_Bool (test f)) [
             | inl passes ↦ rw (filter-takes test f fs passes, here, untouched, passes) (merge-untouched (h f))
             | inr fails ↦ rw (filter-skips test f fs fails, untouched, fails) refl
           ])
       | inr other ↦
-          let here : image_at k (g f) ≡ Untouched = is f ∙ cond-false (has_key k f) (h f) Untouched (ne_eqb (place_of f) (place k) other) in
+          let here : image_at k (g f) ≡ Untouched = is f ∙ cond-false (has_key k f) (h f) Untouched (ne_eqb (place_of f) (key_number k) other) in
           rw (entry_at-other k f fs other) (elim (cases_Bool (test f)) [
             | inl passes ↦ rw (filter-takes test f fs passes, here) rest
             | inr fails ↦ rw (filter-skips test f fs fails) rest
@@ -100,8 +100,8 @@ changes-addition now k m t puts =
     let l : Key = key_in m in
     let o : Option Entry = entry_at l t.entries in
     let n : Entry = new_entry now t.next m in
-    let at = entry_at-place t.entries l in
-    rw (entries_after-adds now t.next m t.entries puts, puts) (elim (cases_eq (place l) (place k)) [
+    let at = entry_at-key_number t.entries l in
+    rw (entries_after-adds now t.next m t.entries puts, puts) (elim (cases_eq (key_number l) (key_number k)) [
       | inl same ↦
           let stands : entry_at k (with_entry n t.entries) ≡ Some n = sym (entry_at-same_place (with_entry n t.entries) l k same) ∙ entry_at-with_entry-same t.entries n in
           let stood : entry_at k t.entries ≡ o = sym (entry_at-same_place t.entries l k same) in

@@ -2,7 +2,7 @@
 
 ghost use Rattle.std.specs.Prelude.{◌≡◌, ◌≢◌, ℕ, true, List, [], ◌∷◌, ◌++◌, reverse, None};
 ghost use Rattle.of_match.specs.declared.key.Key.{Key};
-ghost use Rattle.of_match.specs.Key.{place};
+ghost use Rattle.of_match.specs.Key.{key_number};
 ghost use Rattle.of_wire.specs.declared.bodies.FlowMod.{FlowMod};
 ghost use Rattle.flow_table.specs.declared.entry.Entry.{Entry};
 ghost use Rattle.flow_table.specs.Table.{TableState, IsTable, entry_at};
@@ -19,8 +19,8 @@ pub fn removal_is_exact()
         → changed now m t ≡ record t { entries = without k t.entries } }
     ensures change { (cap now : ℕ) (k : Key) (m : FlowMod) (t : TableState) → IsRemoval k m
         → change cap now m t ≡ record t { entries = without k t.entries } }
-    ensures goes { (k l : Key) (es : List Entry) → IsTable es → place k ≡ place l → entry_at l (without k es) ≡ None }
-    ensures others { (k l : Key) (es : List Entry) → IsTable es → place k ≢ place l
+    ensures goes { (k l : Key) (es : List Entry) → IsTable es → key_number k ≡ key_number l → entry_at l (without k es) ≡ None }
+    ensures others { (k l : Key) (es : List Entry) → IsTable es → key_number k ≢ key_number l
         → entry_at l (without k es) ≡ entry_at l es }
     ensures notices { (now : ℕ) (k : Key) (m : FlowMod) (es : List Entry) → IsTable es → IsRemoval k m
         → notices_of now m es ≡ removal_notices now (entry_at k es) }

@@ -1,7 +1,7 @@
 use Rattle.std.proofs.Common.{sym, ◌∙◌, arith}
-use Rattle.of_match.specs.KeyLaws.{place-cmp}
+use Rattle.of_match.specs.KeyLaws.{key_number-cmp}
 use Rattle.net_txn.proofs.rows.compare.Goals as goal
 
 pub returns : goal.returns
 returns c =
-    c.cmp.ensures ∙ sym (place-cmp c.args.a.now c.args.b.now (record { priority = omega arith }) (record { priority = omega arith }))
+    c.cmp.ensures ∙ sym (key_number-cmp c.args.a.now c.args.b.now (record { priority = omega arith }) (record { priority = omega arith }))

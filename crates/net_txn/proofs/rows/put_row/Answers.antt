@@ -1,21 +1,21 @@
 use Rattle.std.proofs.Common.{◌≡◌, ◌≢◌, ℕ, ◌<◌, List, length, get_or, set, ◌∙◌, subst, arith}
 use Rattle.std.specs.List.{insert}
-use Rattle.of_match.specs.Key.{place}
+use Rattle.of_match.specs.Key.{key_number}
 use Rattle.flow_table.specs.declared.view.ViewRow.{ViewRow}
 use Rattle.net_txn.specs.Views.{with_row, IsRowPlace}
 use Rattle.net_txn.specs.ViewLaws.{with_row-found, with_row-absent, IsRowPlace-le}
 use Rattle.net_txn.proofs.rows.put_row.Goals as goal
 
 pub insert-requires : goal.insert-requires
-insert-requires c = omega (arith, IsRowPlace-le (place c.args.row.key) c.deref.result.now c.position_of-at.result c.position_of-at.ensures, c.deref.ensures.len)
+insert-requires c = omega (arith, IsRowPlace-le (key_number c.args.row.key) c.deref.result.now c.position_of-at.result c.position_of-at.ensures, c.deref.ensures.len)
 
-found : (rows seen here : List ViewRow) (r : ViewRow) (i : ℕ) → seen ≡ rows → here ≡ rows → IsRowPlace (place r.key) seen i → i < length here → place r.key ≡ place (get_or here i r).key → set rows i r ≡ with_row r rows
+found : (rows seen here : List ViewRow) (r : ViewRow) (i : ℕ) → seen ≡ rows → here ≡ rows → IsRowPlace (key_number r.key) seen i → i < length here → key_number r.key ≡ key_number (get_or here i r).key → set rows i r ≡ with_row r rows
 found rows seen here r i e f is within same =
-    with_row-found r rows i (subst (λ (xs : List ViewRow). IsRowPlace (place r.key) xs i) e is) (rw f at within) (rw f at same)
+    with_row-found r rows i (subst (λ (xs : List ViewRow). IsRowPlace (key_number r.key) xs i) e is) (rw f at within) (rw f at same)
 
-absent : (rows seen here : List ViewRow) (r : ViewRow) (i : ℕ) → seen ≡ rows → here ≡ rows → IsRowPlace (place r.key) seen i → (i < length here → place r.key ≢ place (get_or here i r).key) → insert rows i r ≡ with_row r rows
+absent : (rows seen here : List ViewRow) (r : ViewRow) (i : ℕ) → seen ≡ rows → here ≡ rows → IsRowPlace (key_number r.key) seen i → (i < length here → key_number r.key ≢ key_number (get_or here i r).key) → insert rows i r ≡ with_row r rows
 absent rows seen here r i e f is other =
-    with_row-absent r rows i (subst (λ (xs : List ViewRow). IsRowPlace (place r.key) xs i) e is) (subst (λ (xs : List ViewRow). i < length xs → place r.key ≢ place (get_or xs i r).key) f other)
+    with_row-absent r rows i (subst (λ (xs : List ViewRow). IsRowPlace (key_number r.key) xs i) e is) (subst (λ (xs : List ViewRow). i < length xs → key_number r.key ≢ key_number (get_or xs i r).key) f other)
 
 pub returns-then-stands_at-clause-ok : goal.returns-then-stands_at-clause-ok
 returns-then-stands_at-clause-ok c =
