@@ -1,6 +1,8 @@
-//! Exact undo on a flow table: what a log of changes holds, what reverting it backwards gives, and that this is
-//! the earlier table. There is no call here but laws, each the contract of a function that does nothing; the
-//! crates above are proved against these words.
+//! Laws of exact undo on one flow table, for all five commands, and of switches as the owners of their entries see them.
+//!
+//! There is no call here but laws, each the contract of a function that does nothing. `removals_restore`, `undo_restores`
+//! and `undo_agrees`: a log that is undone gives the earlier table. `logs_stand`: changes, refusals and inner undos keep
+//! every mark. `no_inverse_is_refused`. `owners_see`: flags that the engine adds change nothing that owners see.
 #![tactic(auto)]
 
 mod adding;
