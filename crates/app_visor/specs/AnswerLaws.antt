@@ -33,7 +33,7 @@ plain_fits (Error error) is = omega arith
 plain_fits (Statistics kind body) is = absurd is
 plain_fits Unknown is = omega arith
 
--- what the host makes of a message: a plain answer, or a change that a switch must judge
+-- what the host makes of a message: a plain answer, or a change that a switch must answer
 abbrev Decides : Rows → Message → Type 0
 Decides rows message =
     ((answer : Answer) × ((refused_or (host_refusal rows message) (host_answer_to rows message) ≡ Some answer) × IsPlain answer)) ⊎ ((m : Change) × (message ≡ messages.FlowMod m))

@@ -3,7 +3,6 @@ use Rattle.std.specs.Prelude.{◌≡◌, ℕ, ◌==◌, Bool, true, false, not, 
 use Rattle.std.proofs.Common.{sym, ap, ◌∙◌, subst, append_assoc, true≢false}
 use Rattle.std.proofs.lemmas.List.{append-nil, map-append}
 use Rattle.std.proofs.lemmas.Map.Views.{any-filter_same}
-use Rattle.std.proofs.lemmas.Bool.{eq-eqb}
 use Rattle.of_types.specs.declared.journal.Act.{Act}
 use Rattle.of_types.specs.declared.journal.Act.TheVariants.{Started, Gave, Gone, Took}
 use Rattle.of_types.specs.declared.journal.TookWhat.TheVariants as took
@@ -21,7 +20,7 @@ use Rattle.outside.specs.SeenLaws.{Continues-trans}
 use Rattle.outside.specs.State.{State, state, is_running, marks_after_gave, after_act, after_step, after_steps}
 use Rattle.outside.specs.StateLaws.{state-append}
 use Rattle.outside.specs.Calls.{Ends, end_steps}
-use Rattle.journal_laws.specs.Readings.{is_within, Within}
+use Rattle.journal_laws.specs.Readings.{is_within, Within, end_acts}
 use Rattle.journal_laws.specs.ReadingLaws.{Within-append}
 use Rattle.journal_laws.specs.FrameLaws.{restore_is_none}
 use Rattle.lego_model.specs.AtOnce.{before, nothing_said, besides, took_end}
@@ -33,15 +32,13 @@ use Rattle.app_visor.specs.ReadLaws.{Taken-continues, Comes-continues, next_take
 use Rattle.app_visor.specs.Dialogues.{Converses, Speaks}
 use Rattle.app_visor.specs.DialogueLaws.{passes_next, Converses-refl, Converses-then, converses_told, converses_takes, converses_restored}
 use Rattle.app_visor.specs.RunningLaws.{started_runs}
-use Rattle.app_visor.specs.Attempts.{end_acts, TryRises, restored, tried_by, rest_of, stood, Greets}
+use Rattle.app_visor.specs.Attempts.{TryRises, restored, tried_by, rest_of, stood, Greets}
+use Rattle.app_visor.specs.BeatLaws.{same}
 
 -- ---- What is read of a start
 
-same : (n : ℕ) → (n == n) ≡ true
-same n = eq-eqb n n refl
-
 -- acts that tell of no event, nothing given and nobody gone
-record IsQuiet (app : ℕ) (acts : List Act) : Type 0 where
+record IsPlainEnd (app : ℕ) (acts : List Act) : Type 0 where
   turns : (in_turns acts).0 ≡ acts
   gone : any_gone acts ≡ false
   given : inputs app acts ≡ []
@@ -63,16 +60,16 @@ end_of (comes.Refused fault) = Untold
 abbrev lasts : Came → Bool → ℕ → List Act
 lasts came running app = last_acts came app ++ end_acts running app
 
-quiet_lasts : (came : Came) (running : Bool) (app : ℕ) → IsQuiet app (lasts came running app)
+plain_lasts : (came : Came) (running : Bool) (app : ℕ) → IsPlainEnd app (lasts came running app)
 unfolding inputs
-quiet_lasts comes.Closed true app = record { turns = refl; gone = refl; given = refl; none = refl }
-quiet_lasts comes.Closed false app = record { turns = refl; gone = refl; given = refl; none = refl }
-quiet_lasts comes.Silent true app = record { turns = refl; gone = refl; given = refl; none = refl }
-quiet_lasts comes.Silent false app = record { turns = refl; gone = refl; given = refl; none = refl }
-quiet_lasts (comes.Frame frame) true app = record { turns = refl; gone = refl; given = refl; none = refl }
-quiet_lasts (comes.Frame frame) false app = record { turns = refl; gone = refl; given = refl; none = refl }
-quiet_lasts (comes.Refused fault) true app = record { turns = refl; gone = refl; given = refl; none = refl }
-quiet_lasts (comes.Refused fault) false app = record { turns = refl; gone = refl; given = refl; none = refl }
+plain_lasts comes.Closed true app = record { turns = refl; gone = refl; given = refl; none = refl }
+plain_lasts comes.Closed false app = record { turns = refl; gone = refl; given = refl; none = refl }
+plain_lasts comes.Silent true app = record { turns = refl; gone = refl; given = refl; none = refl }
+plain_lasts comes.Silent false app = record { turns = refl; gone = refl; given = refl; none = refl }
+plain_lasts (comes.Frame frame) true app = record { turns = refl; gone = refl; given = refl; none = refl }
+plain_lasts (comes.Frame frame) false app = record { turns = refl; gone = refl; given = refl; none = refl }
+plain_lasts (comes.Refused fault) true app = record { turns = refl; gone = refl; given = refl; none = refl }
+plain_lasts (comes.Refused fault) false app = record { turns = refl; gone = refl; given = refl; none = refl }
 
 end_lasts : (came : Came) (running : Bool) (app : ℕ) → end_from Untold (lasts came running app) ≡ end_of came
 end_lasts comes.Closed true app = refl
@@ -91,26 +88,26 @@ all_acts app ps last = Gave app restore_frame ∷ (takes app ps ++ last)
 abbrev start_by : List (List ℕ) → End → Start
 start_by ps end = record { stands = true; restored = true; pieces = ps; end = end }
 
-turns_all : (app : ℕ) (ps : List (List ℕ)) (last : List Act) → IsQuiet app last → (in_turns (all_acts app ps last)).0 ≡ all_acts app ps last
-turns_all app ps last quiet =
-    let e : (in_turns (takes app ps ++ last)).0 ≡ takes app ps ++ last = turns_takes app ps last ∙ ap (λ (x : List Act). takes app ps ++ x) quiet.turns in
+turns_all : (app : ℕ) (ps : List (List ℕ)) (last : List Act) → IsPlainEnd app last → (in_turns (all_acts app ps last)).0 ≡ all_acts app ps last
+turns_all app ps last plain =
+    let e : (in_turns (takes app ps ++ last)).0 ≡ takes app ps ++ last = turns_takes app ps last ∙ ap (λ (x : List Act). takes app ps ++ x) plain.turns in
     rw restore_is_none (ap (λ (x : List Act). Gave app restore_frame ∷ x) e)
 
 abbrev start_in : Bool → List Act → Start
 start_in stands acts = record { stands = stands; restored = if any_gone acts then false else true; pieces = pieces acts; end = end_from Untold acts }
 
-start_greeted : (app : ℕ) (ps : List (List ℕ)) (last : List Act) (end : End) → IsQuiet app last → end_from Untold last ≡ end → start_of (stood (all_acts app ps last)) ≡ start_by ps end
+start_greeted : (app : ℕ) (ps : List (List ℕ)) (last : List Act) (end : End) → IsPlainEnd app last → end_from Untold last ≡ end → start_of (stood (all_acts app ps last)) ≡ start_by ps end
 unfolding start_of
-start_greeted app ps last end quiet ends =
-    let p : pieces (takes app ps ++ last) ≡ ps = pieces_takes app ps last ∙ ap (λ (x : List (List ℕ)). ps ++ x) quiet.none ∙ append-nil ps in
-    let g : any_gone (takes app ps ++ last) ≡ false = gone_takes app ps last ∙ quiet.gone in
+start_greeted app ps last end plain ends =
+    let p : pieces (takes app ps ++ last) ≡ ps = pieces_takes app ps last ∙ ap (λ (x : List (List ℕ)). ps ++ x) plain.none ∙ append-nil ps in
+    let g : any_gone (takes app ps ++ last) ≡ false = gone_takes app ps last ∙ plain.gone in
     let n : end_from Untold (takes app ps ++ last) ≡ end = end_takes app ps last ∙ ends in
-    ap (λ (acts : List Act). start_in true acts) (turns_all app ps last quiet) ∙ rw (p, g, n) refl
+    ap (λ (acts : List Act). start_in true acts) (turns_all app ps last plain) ∙ rw (p, g, n) refl
 
-inputs_greeted : (app : ℕ) (ps : List (List ℕ)) (last : List Act) → IsQuiet app last → inputs app (all_acts app ps last) ≡ restore_frame ∷ []
+inputs_greeted : (app : ℕ) (ps : List (List ℕ)) (last : List Act) → IsPlainEnd app last → inputs app (all_acts app ps last) ≡ restore_frame ∷ []
 unfolding inputs
-inputs_greeted app ps last quiet =
-    let e : inputs app (takes app ps ++ last) ≡ [] = inputs_takes app ps last ∙ quiet.given in
+inputs_greeted app ps last plain =
+    let e : inputs app (takes app ps ++ last) ≡ [] = inputs_takes app ps last ∙ plain.given in
     rw same (ap (λ (x : List (List ℕ)). restore_frame ∷ x) e)
 
 -- ---- What a telling world's history has of it
@@ -332,7 +329,7 @@ then_ended app ps came running = ap (λ (x : List Act). Gave app restore_frame �
 start_came : (app : ℕ) (ps : List (List ℕ)) (came : Came) (running : Bool) → start_of (stood (all_acts app ps (last_acts came app) ++ end_acts running app)) ≡ start_by ps (end_of came)
 start_came app ps came running =
     ap (λ (acts : List Act). start_of (stood acts)) (then_ended app ps came running)
-    ∙ start_greeted app ps (lasts came running app) (end_of came) (quiet_lasts came running app) (end_lasts came running app)
+    ∙ start_greeted app ps (lasts came running app) (end_of came) (plain_lasts came running app) (end_lasts came running app)
 
 pub greets_came : {Own : Type 0} {Tells : Type 0} {app : ℕ} {rest left : List ℕ} {old mid new : Seen Own} (frame : List ℕ) (came : Came) → frame ≡ restore_frame → rest ≡ [] → Told Tells (Gave app frame) old mid
     → Comes Tells app rest left mid new came → Greets Tells app (tried_by came) left old new
@@ -353,7 +350,7 @@ greets_came {Tells = Tells} {app = app} {rest = rest} {left = left} {old = old} 
       history = adds;
       outcome = λ running. ap (λ (s : Start). outcome_of s) (start_came app ps came running) ∙ outcome_by ps (end_of came) ∙ ap (λ (n : Next). first_frame (end_of came) n) next
           ∙ first_so Tells app came comes.unread left then_seen new comes.so;
-      given = λ running. ap (λ (acts : List Act). inputs app acts) (then_ended app ps came running) ∙ inputs_greeted app ps (lasts came running app) (quiet_lasts came running app)
+      given = λ running. ap (λ (acts : List Act). inputs app acts) (then_ended app ps came running) ∙ inputs_greeted app ps (lasts came running app) (plain_lasts came running app)
           ∙ ap (λ (s : Start). restored s) (sym (start_came app ps came running));
       heard = λ running. ap (λ (s : Start). is_start_heard s) (start_came app ps came running) ∙ heard_start ps (end_of came) ∙ ap (λ (n : Next). is_told (end_of came) || is_whole n) next
           ∙ came_heard Tells app came comes.unread left then_seen new comes.so;

@@ -3,7 +3,7 @@ use Rattle.std.specs.Prelude.{◌≡◌, ℕ, zero, suc, Bool, true, false, ◌&
 use Rattle.std.specs.List.{flat_map}
 use Rattle.lego_io.specs.Count.{Rose}
 use Rattle.of_types.specs.declared.journal.Act.{Act}
-use Rattle.of_types.specs.declared.journal.Act.TheVariants.{Started, Ended}
+use Rattle.of_types.specs.declared.journal.Act.TheVariants.{Started}
 use Rattle.app_frames.specs.declared.cause.Tried.{Tried}
 use Rattle.app_frames.specs.declared.cause.Tried.TheVariants.{Ready, Refused, Closed, Silent, Garbled}
 use Rattle.app_frames.specs.declared.frame.AppFrame.TheVariants as frames
@@ -14,7 +14,7 @@ use Rattle.lego_model.specs.Controller.{App, restore_frame, is_ready, attempts, 
 use Rattle.outside.specs.Seen.{Counts, Seen, Continues}
 use Rattle.outside.specs.State.{state, is_running}
 use Rattle.outside.specs.Calls.{Ends}
-use Rattle.journal_laws.specs.Readings.{Within}
+use Rattle.journal_laws.specs.Readings.{Within, end_acts}
 use Rattle.lego_model.specs.AtOnce.{Before, nothing_said}
 use Rattle.app_visor.specs.declared.came.Came.{Came}
 use Rattle.app_visor.specs.declared.came.Came.TheVariants as comes
@@ -22,10 +22,6 @@ use Rattle.app_visor.specs.Talks.{step_of}
 use Rattle.app_visor.specs.Dialogues.{Speaks}
 
 -- ---- One attempt
-
--- the act that ends an application, where it runs
-abbrev pub end_acts : Bool → ℕ → List Act
-end_acts running app = if running then Ended app ∷ [] else []
 
 -- the count that rose where an attempt failed so
 abbrev pub TryRises : Tried → Counts → Counts → Type 0

@@ -7,8 +7,8 @@ use Rattle.of_types.specs.declared.journal.Act.TheVariants.{Took}
 use Rattle.of_types.specs.declared.journal.TookWhat.TheVariants as took
 use Rattle.outside.specs.Seen.{Seen, Continues}
 use Rattle.outside.specs.SeenLaws.{Continues-refl, Continues-trans}
-use Rattle.net_txn.specs.declared.fault.TxnFault.{TxnFault}
-use Rattle.net_txn.specs.declared.fault.TxnFault.TheVariants.{NoMemory}
+use Rattle.lego_model.specs.declared.fault.TxnFault.{TxnFault}
+use Rattle.lego_model.specs.declared.fault.TxnFault.TheVariants.{NoMemory}
 use Rattle.net_txn.specs.Net.{NetState}
 use Rattle.net_txn.specs.Changes.{Changes}
 use Rattle.app_frames.specs.declared.frame.Answer.{Answer}

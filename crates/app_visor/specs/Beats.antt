@@ -7,8 +7,8 @@ use Rattle.lego_model.specs.Journal.{is_of}
 use Rattle.lego_model.specs.Controller.{answer_frame}
 use Rattle.outside.specs.declared.step.WorldStep.{WorldStep}
 use Rattle.outside.specs.Seen.{Seen, journal}
-use Rattle.net_txn.specs.declared.fault.TxnFault.{TxnFault}
-use Rattle.net_txn.specs.declared.fault.TxnFault.TheVariants.{NoMemory}
+use Rattle.lego_model.specs.declared.fault.TxnFault.{TxnFault}
+use Rattle.lego_model.specs.declared.fault.TxnFault.TheVariants.{NoMemory}
 use Rattle.net_txn.specs.Net.{NetState}
 use Rattle.net_txn.specs.Changes.{Changes}
 use Rattle.net_txn.specs.Agreement.{Reaches, Steps}

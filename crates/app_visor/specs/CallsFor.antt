@@ -6,7 +6,7 @@ use Rattle.of_types.specs.declared.journal.Act.TheVariants.{Started, Gave, Gone,
 use Rattle.outside.specs.declared.step.WorldStep.{WorldStep}
 use Rattle.outside.specs.declared.step.WorldStep.TheVariants.{Acted, TookInto, NotOpened}
 use Rattle.outside.specs.Seen.{Seen}
-use Rattle.outside.specs.Quiet.{Unquiet, IsLastQuiet}
+use Rattle.outside.specs.Quiescence.{NoneQuiescentSince, IsLastQuiescent}
 use Rattle.journal_laws.specs.Readings.{Calls}
 use Rattle.app_visor.specs.Talks.{step_of}
 
@@ -37,12 +37,12 @@ pub record OwnSteps {Own : Type 0} (app : ℕ) (old new : Seen Own) : Type 0 whe
   pub history : new.history ≡ old.history ++ map step_of acts
   pub all : Calls app acts
 
--- It went on with no call for another application, and no place was quiet since then.
+-- It went on with no call for another application, and no point was quiescent since then.
 pub record Calmly {Own : Type 0} (app : ℕ) (old new : Seen Own) : Type 0 where
-  pub unquiet : Unquiet old new
+  pub none_quiescent : NoneQuiescentSince old new
   pub own : CallsFor app old new
 
--- It went on with no call for another application, and no place behind that one was quiet.
+-- It went on with no call for another application, and no point behind that one was quiescent.
 pub record CalmLater {Own : Type 0} (app : ℕ) (old new : Seen Own) : Type 0 where
-  pub last : IsLastQuiet old new
+  pub last : IsLastQuiescent old new
   pub own : CallsFor app old new

@@ -1,4 +1,4 @@
--- Laws of histories that go on with no call for another application and no quiet place: what a turn is made of, behind its event.
+-- Laws of histories that go on with no call for another application and no quiescent point: what a turn is made of, behind its event.
 use Rattle.std.specs.Prelude.{◌≡◌, ℕ, Bool, true, false, List, [], ◌∷◌, ◌++◌, refl}
 use Rattle.std.specs.List.{AllByRecursion}
 use Rattle.std.proofs.Common.{sym, ap, ◌∙◌, append_assoc, true≢false}
@@ -9,8 +9,8 @@ use Rattle.lego_model.specs.Controller.{answer_frame}
 use Rattle.outside.specs.declared.step.WorldStep.{WorldStep}
 use Rattle.outside.specs.declared.step.WorldStep.TheVariants.{Acted, TookInto, From, Joined, Left, Moment, Idle, End, Opened, NotOpened, NextFailed, SendFailed, RecvFailed}
 use Rattle.outside.specs.Seen.{Seen}
-use Rattle.outside.specs.Quiet.{is_quiet, NoneQuiet}
-use Rattle.outside.specs.QuietLaws.{unquiet-none, unquiet-then, last_quiet-of, last_quiet-then}
+use Rattle.outside.specs.Quiescence.{is_quiescent, NoneQuiescent}
+use Rattle.outside.specs.QuiescenceLaws.{none_since-none, none_since-then, last_quiescent-of, last_quiescent-then}
 use Rattle.net_txn.specs.LinkSteps.{is_link_step, AreLinkSteps, LinkSteps}
 use Rattle.journal_laws.specs.FrameLaws.{answer_is_none}
 use Rattle.app_visor.specs.Talks.{step_of, Told, Wants, give_act}
@@ -38,16 +38,16 @@ calls_then {app = app} {old = old} first second = record {
 -- ---- One part behind another
 
 pub calm_none : {Own : Type 0} (app : ℕ) (seen : Seen Own) → Calmly app seen seen
-calm_none app seen = record { unquiet = unquiet-none seen; own = calls_none app seen }
+calm_none app seen = record { none_quiescent = none_since-none seen; own = calls_none app seen }
 
 pub calm_then : {Own : Type 0} {app : ℕ} {old mid new : Seen Own} → Calmly app old mid → Calmly app mid new → Calmly app old new
-calm_then first second = record { unquiet = unquiet-then first.unquiet second.unquiet; own = calls_then first.own second.own }
+calm_then first second = record { none_quiescent = none_since-then first.none_quiescent second.none_quiescent; own = calls_then first.own second.own }
 
 pub calm_later : {Own : Type 0} {app : ℕ} {old new : Seen Own} → Calmly app old new → CalmLater app old new
-calm_later calm = record { last = last_quiet-of calm.unquiet; own = calm.own }
+calm_later calm = record { last = last_quiescent-of calm.none_quiescent; own = calm.own }
 
 pub later_then : {Own : Type 0} {app : ℕ} {old mid new : Seen Own} → CalmLater app old mid → Calmly app mid new → CalmLater app old new
-later_then first second = record { last = last_quiet-then first.last second.unquiet; own = calls_then first.own second.own }
+later_then first second = record { last = last_quiescent-then first.last second.none_quiescent; own = calls_then first.own second.own }
 
 -- the event was given, or could not be
 pub later_given : {Own : Type 0} {Tells : Type 0} {old new : Seen Own} (app : ℕ) (given : Bool) (frame : List ℕ) → Told Tells (give_act given app frame) old new → Tells → CalmLater app old new
@@ -83,39 +83,39 @@ link_for app Opened is = tt
 link_for app NotOpened is = absurd (true≢false (sym is))
 link_for app NextFailed is = tt
 
-link_quiet : (step : WorldStep) → is_link_step step ≡ true → is_quiet step ≡ false
-link_quiet (Acted (Sent d bytes)) is = refl
-link_quiet (Acted (Got d bytes)) is = refl
-link_quiet (SendFailed d) is = refl
-link_quiet (RecvFailed d) is = refl
-link_quiet (Acted (Stim x)) is = absurd (true≢false (sym is))
-link_quiet (Acted (Started of stands)) is = refl
-link_quiet (Acted (Gave of frame)) is = absurd (true≢false (sym is))
-link_quiet (Acted (Gone of frame)) is = refl
-link_quiet (Acted (Took of what)) is = refl
-link_quiet (Acted (Ended of)) is = refl
-link_quiet (TookInto of what room) is = refl
-link_quiet (From d bytes) is = refl
-link_quiet (Joined d bytes) is = refl
-link_quiet (Left d) is = refl
-link_quiet (Moment at) is = refl
-link_quiet Idle is = refl
-link_quiet End is = refl
-link_quiet Opened is = refl
-link_quiet NotOpened is = refl
-link_quiet NextFailed is = refl
+link_no_quiescence : (step : WorldStep) → is_link_step step ≡ true → is_quiescent step ≡ false
+link_no_quiescence (Acted (Sent d bytes)) is = refl
+link_no_quiescence (Acted (Got d bytes)) is = refl
+link_no_quiescence (SendFailed d) is = refl
+link_no_quiescence (RecvFailed d) is = refl
+link_no_quiescence (Acted (Stim x)) is = absurd (true≢false (sym is))
+link_no_quiescence (Acted (Started of stands)) is = refl
+link_no_quiescence (Acted (Gave of frame)) is = absurd (true≢false (sym is))
+link_no_quiescence (Acted (Gone of frame)) is = refl
+link_no_quiescence (Acted (Took of what)) is = refl
+link_no_quiescence (Acted (Ended of)) is = refl
+link_no_quiescence (TookInto of what room) is = refl
+link_no_quiescence (From d bytes) is = refl
+link_no_quiescence (Joined d bytes) is = refl
+link_no_quiescence (Left d) is = refl
+link_no_quiescence (Moment at) is = refl
+link_no_quiescence Idle is = refl
+link_no_quiescence End is = refl
+link_no_quiescence Opened is = refl
+link_no_quiescence NotOpened is = refl
+link_no_quiescence NextFailed is = refl
 
 links_for : (app : ℕ) (steps : List WorldStep) → AreLinkSteps steps → AllByRecursion (IsCallFor app) steps
 links_for app [] all = tt
 links_for app (step ∷ steps) all = (link_for app step all.0, links_for app steps all.1)
 
-links_quiet : (steps : List WorldStep) → AreLinkSteps steps → NoneQuiet steps
-links_quiet [] all = tt
-links_quiet (step ∷ steps) all = (link_quiet step all.0, links_quiet steps all.1)
+links_none_quiescent : (steps : List WorldStep) → AreLinkSteps steps → NoneQuiescent steps
+links_none_quiescent [] all = tt
+links_none_quiescent (step ∷ steps) all = (link_no_quiescence step all.0, links_none_quiescent steps all.1)
 
 pub calm_links : {Own : Type 0} {old new : Seen Own} (app : ℕ) → LinkSteps old new → Calmly app old new
 calm_links app links = record {
-  unquiet = record { steps = links.steps; history = links.history; none = links_quiet links.steps links.all };
+  none_quiescent = record { steps = links.steps; history = links.history; none = links_none_quiescent links.steps links.all };
   own = record { steps = links.steps; history = links.history; all = links_for app links.steps links.all };
 }
 

@@ -21,7 +21,7 @@ use Rattle.outside.specs.SeenLaws.{journal-append}
 use Rattle.outside.specs.State.{state, is_running}
 use Rattle.outside.specs.Calls.{Ends, end_steps}
 use Rattle.net_txn.specs.Net.{NetState, awaited_from}
-use Rattle.net_txn.specs.Waits.{wait_steps, reply_got, barrier_sent}
+use Rattle.lego_model.specs.BarrierWaits.{wait_steps, reply_got, barrier_sent}
 use Rattle.net_txn.specs.Changes.{known_rows, answer_of_host, change_sent, error_in, ByHost}
 use Rattle.lego_model.specs.AtOnce.{Before, before, nothing_said, besides, is_message, Passes, SendsNone, AnsweredAtOnce, GivesFrame, Says, Dialogue}
 use Rattle.journal_laws.specs.AtOnceLaws.{answer_is_one, restore_is_no_answer, event_is_no_answer, passes_none, Dialogue-append, others_say, host_since, switch_since}

@@ -48,12 +48,12 @@ abbrev pub ran_before : Act → Bool
 ran_before (Started app stands) = false
 ran_before act = true
 
-abbrev pub IsInPlace : ℕ → Option Act → Bool → Type 0
-IsInPlace app None running = Unit {0}
-IsInPlace app (Some act) running = is_of app act ≡ true → running ≡ ran_before act
+abbrev pub KeepsOrder : ℕ → Option Act → Bool → Type 0
+KeepsOrder app None running = Unit {0}
+KeepsOrder app (Some act) running = is_of app act ≡ true → running ≡ ran_before act
 
 -- No call for the application is out of place: it is started only where it does not run, and given to, taken from and ended only while it
 -- runs.
-abbrev pub AreInPlace : ℕ → List WorldStep → State → Type 0
-AreInPlace app [] s = Unit {0}
-AreInPlace app (step ∷ steps) s = IsInPlace app (act_of step) (is_running app s) × AreInPlace app steps (after_step step s)
+abbrev pub CallsKeepOrder : ℕ → List WorldStep → State → Type 0
+CallsKeepOrder app [] s = Unit {0}
+CallsKeepOrder app (step ∷ steps) s = KeepsOrder app (act_of step) (is_running app s) × CallsKeepOrder app steps (after_step step s)

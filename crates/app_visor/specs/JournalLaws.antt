@@ -12,17 +12,17 @@ use Rattle.outside.specs.declared.step.WorldStep.{WorldStep}
 use Rattle.outside.specs.declared.step.WorldStep.TheVariants.{Acted}
 use Rattle.outside.specs.Seen.{Seen, journal}
 use Rattle.outside.specs.SeenLaws.{journal-append}
-use Rattle.net_txn.specs.declared.heard.Awaited.{Awaited}
-use Rattle.net_txn.specs.declared.heard.Heard.{Heard}
-use Rattle.net_txn.specs.declared.heard.Heard.TheVariants.{Reply, Refused, Notice, Echo, Other}
+use Rattle.lego_model.specs.declared.wait.Awaited.{Awaited}
+use Rattle.lego_model.specs.declared.wait.Heard.{Heard}
+use Rattle.lego_model.specs.declared.wait.Heard.TheVariants.{Reply, Refused, Notice, Echo, Other}
 use Rattle.net_txn.specs.Net.{NetState, awaited_from}
-use Rattle.net_txn.specs.Waits.{heard, steps_by, wait_steps, reply_got, barrier_sent}
+use Rattle.lego_model.specs.BarrierWaits.{heard, steps_by, wait_steps, reply_got, barrier_sent}
 use Rattle.net_txn.specs.Changes.{known_rows, change_sent}
 use Rattle.app_visor.specs.Talks.{step_of}
 use Rattle.app_visor.specs.Beats.{Exchange, Beat, Talk, Asks, IsExchange, Chain, acts_in, acts_of, ActsTold}
 use Rattle.app_visor.specs.AnswerLaws.{decided}
 
-acts_append : (app : ℕ) (xs ys : List WorldStep) → acts_of app (xs ++ ys) ≡ acts_of app xs ++ acts_of app ys
+pub acts_append : (app : ℕ) (xs ys : List WorldStep) → acts_of app (xs ++ ys) ≡ acts_of app xs ++ acts_of app ys
 acts_append app xs ys = ap (λ (acts : List Act). filter (is_of app) acts) (journal-append xs ys) ∙ filter-append (is_of app) (journal xs) (journal ys)
 
 told_none : {Own : Type 0} (app : ℕ) (old new : Seen Own) → new ≡ old → ActsTold app [] old new

@@ -25,4 +25,4 @@ pub mod ReadTryLaws
 pub mod CallsFor
 pub mod OwnLaws
 pub mod CalmLaws
-pub mod PlaceLaws
+pub mod CallOrderLaws

@@ -8,15 +8,14 @@ use Rattle.std.proofs.lemmas.Bool.{eq-eqb, eqb-true}
 use Rattle.of_types.specs.declared.journal.Act.{Act}
 use Rattle.of_types.specs.declared.journal.Act.TheVariants.{Stim, Started, Gave, Gone, Took, Ended, Sent, Got}
 use Rattle.of_types.specs.declared.journal.TookWhat.TheVariants as took
-use Rattle.app_frames.specs.declared.cause.Tried.{Tried}
 use Rattle.lego_model.specs.Journal.{is_of, is_event}
 use Rattle.lego_model.specs.Controller.{restore_frame}
 use Rattle.outside.specs.declared.step.WorldStep.{WorldStep}
 use Rattle.outside.specs.Seen.{Seen}
 use Rattle.outside.specs.State.{state, is_running}
 use Rattle.outside.specs.Calls.{Ends}
-use Rattle.outside.specs.Quiet.{is_quiet, NoneQuiet, Unquiet}
-use Rattle.journal_laws.specs.Readings.{is_call, Calls}
+use Rattle.outside.specs.Quiescence.{is_quiescent, NoneQuiescent, NoneQuiescentSince}
+use Rattle.journal_laws.specs.Readings.{is_call, Calls, end_acts}
 use Rattle.journal_laws.specs.CallLaws.{both_second, call_of, calls_both, calls_within}
 use Rattle.journal_laws.specs.FrameLaws.{restore_is_none}
 use Rattle.app_visor.specs.declared.came.Came.{Came}
@@ -24,9 +23,9 @@ use Rattle.app_visor.specs.declared.came.Came.TheVariants as comes
 use Rattle.app_visor.specs.Talks.{step_of, Told, Wants, give_act}
 use Rattle.app_visor.specs.Reads.{takes, Taken, CameSo, Comes, Breaks}
 use Rattle.app_visor.specs.ReadLaws.{within_takes}
-use Rattle.app_visor.specs.Attempts.{end_acts, Greets, EndsUnless, Tries}
+use Rattle.app_visor.specs.Attempts.{EndsUnless}
 use Rattle.app_visor.specs.AttemptLaws.{Adds-takes, Adds-ended}
-use Rattle.app_visor.specs.ReadTryLaws.{calls_end, calls_try}
+use Rattle.app_visor.specs.ReadTryLaws.{calls_end}
 use Rattle.app_visor.specs.TellingLaws.{no_number}
 use Rattle.app_visor.specs.CallsFor.{IsCallFor, CallsFor, OwnSteps, Calmly}
 
@@ -97,14 +96,6 @@ own_breaking {app = app} breaks tells = own_then (own_taken breaks.taken tells) 
 
 -- ---- Attempts to start
 
-pub own_greeted : {Own : Type 0} {Tells : Type 0} {app : ℕ} {tried : Tried} {unread : List ℕ} {old new : Seen Own} → Greets Tells app tried unread old new → Tells → OwnSteps app old new
-own_greeted {app = app} {old = old} {new = new} greets tells = own_by app greets.acts old new (greets.history tells) (calls_within app greets.acts greets.within)
-
-pub own_tried : {Own : Type 0} {Tells : Type 0} {app : ℕ} {tried : Tried} {rest : List ℕ} {old new : Seen Own} → Tries Tells app tried rest old new → Tells → OwnSteps app old new
-own_tried {app = app} {old = old} {new = new} tries tells =
-    let runs = is_running app (state old) in
-    own_by app (end_acts runs app ++ Started app tries.attempt.stands ∷ tries.attempt.acts) old new (tries.is.history tells) (calls_try app runs tries.attempt tries.is.within)
-
 -- ---- What they are not
 
 call_for : (app : ℕ) (act : Act) → is_of app act ≡ true → IsCallFor app (step_of act)
@@ -117,32 +108,32 @@ call_for app (Stim x) is = absurd (true≢false (sym is))
 call_for app (Sent d bytes) is = absurd (true≢false (sym is))
 call_for app (Got d bytes) is = absurd (true≢false (sym is))
 
-quiet_none : (app : ℕ) (act : Act) → is_call app act ≡ true → is_quiet (step_of act) ≡ false
-quiet_none app (Started of stands) is = refl
-quiet_none app (Gave of bytes) is = ap (λ (n : Option ℕ). is_some n) (no_number bytes (both_second (of == app) (is_event bytes) is))
-quiet_none app (Gone of bytes) is = refl
-quiet_none app (Took of what) is = refl
-quiet_none app (Ended of) is = refl
-quiet_none app (Stim x) is = absurd (true≢false (sym is))
-quiet_none app (Sent d bytes) is = refl
-quiet_none app (Got d bytes) is = refl
+no_quiescence : (app : ℕ) (act : Act) → is_call app act ≡ true → is_quiescent (step_of act) ≡ false
+no_quiescence app (Started of stands) is = refl
+no_quiescence app (Gave of bytes) is = ap (λ (n : Option ℕ). is_some n) (no_number bytes (both_second (of == app) (is_event bytes) is))
+no_quiescence app (Gone of bytes) is = refl
+no_quiescence app (Took of what) is = refl
+no_quiescence app (Ended of) is = refl
+no_quiescence app (Stim x) is = absurd (true≢false (sym is))
+no_quiescence app (Sent d bytes) is = refl
+no_quiescence app (Got d bytes) is = refl
 
 all_for : (app : ℕ) (acts : List Act) → Calls app acts → AllByRecursion (IsCallFor app) (map step_of acts)
 all_for app [] all = tt
 all_for app (act ∷ acts) all = (call_for app act (call_of app act all.0), all_for app acts all.1)
 
-none_quiet : (app : ℕ) (acts : List Act) → Calls app acts → NoneQuiet (map step_of acts)
-none_quiet app [] all = tt
-none_quiet app (act ∷ acts) all = (quiet_none app act all.0, none_quiet app acts all.1)
+none_quiescent : (app : ℕ) (acts : List Act) → Calls app acts → NoneQuiescent (map step_of acts)
+none_quiescent app [] all = tt
+none_quiescent app (act ∷ acts) all = (no_quiescence app act all.0, none_quiescent app acts all.1)
 
 pub own_calls : {Own : Type 0} {app : ℕ} {old new : Seen Own} → OwnSteps app old new → CallsFor app old new
 own_calls {app = app} own = record { steps = map step_of own.acts; history = own.history; all = all_for app own.acts own.all }
 
-pub own_unquiet : {Own : Type 0} {app : ℕ} {old new : Seen Own} → OwnSteps app old new → Unquiet old new
-own_unquiet {app = app} own = record { steps = map step_of own.acts; history = own.history; none = none_quiet app own.acts own.all }
+pub own_none_quiescent : {Own : Type 0} {app : ℕ} {old new : Seen Own} → OwnSteps app old new → NoneQuiescentSince old new
+own_none_quiescent {app = app} own = record { steps = map step_of own.acts; history = own.history; none = none_quiescent app own.acts own.all }
 
 pub own_calm : {Own : Type 0} {app : ℕ} {old new : Seen Own} → OwnSteps app old new → Calmly app old new
-own_calm own = record { unquiet = own_unquiet own; own = own_calls own }
+own_calm own = record { none_quiescent = own_none_quiescent own; own = own_calls own }
 
 -- an event that is given, or cannot be, is a call for it too
 pub event_for : (app : ℕ) (given : Bool) (frame : List ℕ) → IsCallFor app (step_of (give_act given app frame))

@@ -12,7 +12,7 @@ use Rattle.lego_model.specs.Turns.{Outcome, Completed, Failed, turn_of}
 use Rattle.lego_model.specs.Scripted.{is_heard}
 use Rattle.lego_model.specs.Controller.{answer_frame}
 use Rattle.outside.specs.Seen.{Seen}
-use Rattle.net_txn.specs.declared.fault.TxnFault.{TxnFault}
+use Rattle.lego_model.specs.declared.fault.TxnFault.{TxnFault}
 use Rattle.net_txn.specs.Net.{NetState}
 use Rattle.net_txn.specs.Changes.{Changes}
 use Rattle.net_txn.specs.Agreement.{Steps}

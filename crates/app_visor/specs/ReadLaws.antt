@@ -41,9 +41,6 @@ Taken-continues {Tells = Tells} {app = app} {rest = rest} {left = left} {old = o
 
 -- ---- The loop that takes them
 
-pub takes_none : {Own : Type 0} {Tells : Type 0} (app : ℕ) (rest : List ℕ) (seen : Seen Own) → TakesOn Tells app rest rest seen seen
-takes_none app rest seen = record { on = λ left new more. more }
-
 pub takes_more : {Own : Type 0} {Tells : Type 0} {app : ℕ} {rest here left : List ℕ} {old then_seen next : Seen Own} → TakesOn Tells app rest here old then_seen
     → (app_reading here ≡ Ok None) × TakesOne Tells app here left then_seen next → TakesOn Tells app rest left old next
 takes_more on step = record { on = λ left new more. on.on left new (Taken-one step.0 step.1 more) }

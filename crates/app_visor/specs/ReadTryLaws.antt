@@ -15,14 +15,16 @@ use Rattle.outside.specs.declared.step.WorldStep.{WorldStep}
 use Rattle.outside.specs.Seen.{Seen, journal}
 use Rattle.outside.specs.State.{State, state, is_running}
 use Rattle.outside.specs.StateLaws.{state-append}
-use Rattle.journal_laws.specs.Readings.{Within, Calls, LastStands, starts_in, replies_in}
+use Rattle.journal_laws.specs.Readings.{Within, Calls, LastStands, end_acts}
+use Rattle.lego_model.specs.History.{starts_in, replies_in}
 use Rattle.journal_laws.specs.ReadingLaws.{attempt_read}
 use Rattle.journal_laws.specs.CallLaws.{calls_within, calls_both, calls_own}
 use Rattle.app_visor.specs.Talks.{step_of}
 use Rattle.app_visor.specs.Beats.{acts_of}
-use Rattle.app_visor.specs.Attempts.{end_acts, restored, IsTry, OneTry, AreTries, ready_rest, starts_of, given_by}
+use Rattle.app_visor.specs.Attempts.{restored, IsTry, OneTry, AreTries, ready_rest, starts_of, given_by}
 use Rattle.app_visor.specs.Tellings.{Apart, tried_acts, TriesTold}
-use Rattle.app_visor.specs.TellingLaws.{acts_longer, stimuli_longer, inputs_longer, Apart-refl, Apart-trans, acts_called, inputs_called, stimuli_called, apart_called}
+use Rattle.app_visor.specs.TellingLaws.{stimuli_longer, inputs_longer, Apart-refl, Apart-trans, acts_called, inputs_called, stimuli_called, apart_called}
+use Rattle.app_visor.specs.JournalLaws.{acts_append}
 
 -- ---- The acts of one attempt
 
@@ -69,7 +71,7 @@ try_told Tells app attempt tried rest old new is tells =
     let all = calls_try app runs attempt is.within in
     let longer : new.history ≡ old.history ++ map step_of acts = is.history tells in
     let more : acts_of app new.history ≡ acts_of app old.history ++ acts =
-    ap (λ (h : List WorldStep). acts_of app h) longer ∙ acts_longer app old.history (map step_of acts) ∙ ap (λ (xs : List Act). acts_of app old.history ++ xs) (acts_called app acts all) in
+    ap (λ (h : List WorldStep). acts_of app h) longer ∙ acts_append app old.history (map step_of acts) ∙ ap (λ (xs : List Act). acts_of app old.history ++ xs) (acts_called app acts all) in
     let reads = attempt_read app runs attempt.stands (acts_of app old.history) attempt.acts is.within in
     record {
       acts = more;

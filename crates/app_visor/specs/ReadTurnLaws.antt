@@ -11,13 +11,14 @@ use Rattle.outside.specs.declared.step.WorldStep.{WorldStep}
 use Rattle.outside.specs.Seen.{Seen, journal}
 use Rattle.outside.specs.State.{State, state, after_act, after_step}
 use Rattle.outside.specs.StateLaws.{state-append}
-use Rattle.net_txn.specs.declared.heard.Awaited.{Awaited}
-use Rattle.net_txn.specs.declared.heard.Heard.{Heard}
-use Rattle.net_txn.specs.declared.heard.Heard.TheVariants as hearing
+use Rattle.lego_model.specs.declared.wait.Awaited.{Awaited}
+use Rattle.lego_model.specs.declared.wait.Heard.{Heard}
+use Rattle.lego_model.specs.declared.wait.Heard.TheVariants as hearing
 use Rattle.net_txn.specs.Net.{NetState, awaited_from}
-use Rattle.net_txn.specs.Waits.{heard, steps_by, wait_steps, echo_reply, reply_got, barrier_sent}
+use Rattle.lego_model.specs.BarrierWaits.{heard, steps_by, wait_steps, echo_reply, reply_got, barrier_sent}
 use Rattle.net_txn.specs.Changes.{known_rows, change_sent}
-use Rattle.journal_laws.specs.Readings.{Within, LastStands, starts_in, replies_in}
+use Rattle.journal_laws.specs.Readings.{Within, LastStands}
+use Rattle.lego_model.specs.History.{starts_in, replies_in}
 use Rattle.journal_laws.specs.ReadingLaws.{turn_read}
 use Rattle.journal_laws.specs.CallLaws.{inputs_own, call_within}
 use Rattle.app_visor.specs.declared.state.TurnEnd.{TurnEnd}
@@ -25,10 +26,10 @@ use Rattle.app_visor.specs.Talks.{step_of, Told, give_act}
 use Rattle.app_visor.specs.Beats.{Exchange, IsExchange, Beat, Talk, Asks, Chain, acts_in, acts_of, ActsTold}
 use Rattle.app_visor.specs.BeatLaws.{Chain-continues}
 use Rattle.app_visor.specs.AnswerLaws.{decided}
-use Rattle.app_visor.specs.JournalLaws.{chain_told}
+use Rattle.app_visor.specs.JournalLaws.{chain_told, acts_append}
 use Rattle.app_visor.specs.Turns.{Turns, reply_by}
 use Rattle.app_visor.specs.Tellings.{Beside, marks_by, TurnTold}
-use Rattle.app_visor.specs.TellingLaws.{acts_longer, stimuli_longer, inputs_longer, Beside-refl, Beside-trans, marks_one, stimuli_one, beside_one, AreWires, wire_sent, wire_got, wires_both, beside_wires, marks_wires, stimuli_wires}
+use Rattle.app_visor.specs.TellingLaws.{stimuli_longer, inputs_longer, Beside-refl, Beside-trans, marks_one, stimuli_one, beside_one, AreWires, wire_sent, wire_got, wires_both, beside_wires, marks_wires, stimuli_wires}
 
 -- ---- One message and its answer
 
@@ -70,16 +71,16 @@ exchange_wires Tells x is tells = elim (decided (known_rows x.dpid x.net.views) 
 -- ---- All beats
 
 -- no stimulus came, and all stays but the switches and what runs
-record Quiet {Own : Type 0} (old new : Seen Own) : Type 0 where
+record StaysBeside {Own : Type 0} (old new : Seen Own) : Type 0 where
   stimuli_so : stimuli (journal new.history) ≡ stimuli (journal old.history)
   beside : Beside (state old) (state new)
   marks : (state new).marks ≡ (state old).marks
 
-quiet_refl : {Own : Type 0} (old new : Seen Own) → new ≡ old → Quiet old new
-quiet_refl old new is = rw is (record { stimuli_so = refl; beside = Beside-refl (state old); marks = refl })
+stays_refl : {Own : Type 0} (old new : Seen Own) → new ≡ old → StaysBeside old new
+stays_refl old new is = rw is (record { stimuli_so = refl; beside = Beside-refl (state old); marks = refl })
 
-quiet_trans : {Own : Type 0} (a b c : Seen Own) → Quiet a b → Quiet b c → Quiet a c
-quiet_trans a b c first second = record {
+stays_trans : {Own : Type 0} (a b c : Seen Own) → StaysBeside a b → StaysBeside b c → StaysBeside a c
+stays_trans a b c first second = record {
   stimuli_so = second.stimuli_so ∙ first.stimuli_so;
   beside = Beside-trans (state a) (state b) (state c) first.beside second.beside;
   marks = second.marks ∙ first.marks;
@@ -89,8 +90,8 @@ no_stimuli_more : {Own : Type 0} (old new : Seen Own) (steps : List WorldStep) �
 no_stimuli_more old new steps longer none =
     ap (λ (h : List WorldStep). stimuli (journal h)) longer ∙ stimuli_longer old.history steps ∙ ap (λ (xs : List WorldStim). stimuli (journal old.history) ++ xs) none ∙ append-nil (stimuli (journal old.history))
 
-quiet_wires : {Own : Type 0} (old new : Seen Own) → new.given ≡ old.given → WiresTold old new → Quiet old new
-quiet_wires old new given told =
+stays_wires : {Own : Type 0} (old new : Seen Own) → new.given ≡ old.given → WiresTold old new → StaysBeside old new
+stays_wires old new given told =
     let then_so = state-append old new told.steps given told.history in
     record {
       stimuli_so = no_stimuli_more old new told.steps told.history (stimuli_wires told.steps told.wires);
@@ -107,20 +108,20 @@ state_told Tells act old new told tells = state-append old new (step_of act ∷ 
 beside_told : {Own : Type 0} (Tells : Type 0) (app : ℕ) (act : Act) (old new : Seen Own) → is_of app act ≡ true → Told Tells act old new → Tells → Beside (state old) (state new)
 beside_told Tells app act old new is told tells = subst (λ (s : State). Beside (state old) s) (sym (state_told Tells act old new told tells)) (beside_one app act (state old) is)
 
-quiet_chain : {Own : Type 0} (Tells : Type 0) (app : ℕ) (trace : List (Beat Own)) (old new : Seen Own) (net now_net : NetState) → Chain Tells app trace old new net now_net → Within app (acts_in trace) → Tells → Quiet old new
-quiet_chain Tells app [] old new net now_net chain all tells = quiet_refl old new chain.0
-quiet_chain Tells app (Talk act ∷ trace) old new net now_net chain all tells =
+stays_chain : {Own : Type 0} (Tells : Type 0) (app : ℕ) (trace : List (Beat Own)) (old new : Seen Own) (net now_net : NetState) → Chain Tells app trace old new net now_net → Within app (acts_in trace) → Tells → StaysBeside old new
+stays_chain Tells app [] old new net now_net chain all tells = stays_refl old new chain.0
+stays_chain Tells app (Talk act ∷ trace) old new net now_net chain all tells =
     let next = chain.1.0 in
     let told = chain.1.1.0 in
     let call = call_within app act all.0 in
-    quiet_trans old next new (record {
+    stays_trans old next new (record {
       stimuli_so = stimuli_told Tells app act old next chain.0 told tells;
       beside = beside_told Tells app act old next chain.0 told tells;
       marks = ap (λ (s : State). s.marks) (state_told Tells act old next told tells) ∙ marks_one app act (state old) call;
-    }) (quiet_chain Tells app trace next new net now_net chain.1.1.1 all.1 tells)
-quiet_chain Tells app (Asks x ∷ trace) old new net now_net chain all tells =
-    let one : Quiet old x.after = subst (λ (s : Seen _). Quiet s x.after) chain.0.0 (quiet_wires x.before x.after chain.1.0.changes.continues.given (exchange_wires Tells x chain.1.0 tells)) in
-    quiet_trans old x.after new one (quiet_chain Tells app trace x.after new x.now_net now_net chain.1.1 all tells)
+    }) (stays_chain Tells app trace next new net now_net chain.1.1.1 all.1 tells)
+stays_chain Tells app (Asks x ∷ trace) old new net now_net chain all tells =
+    let one : StaysBeside old x.after = subst (λ (s : Seen _). StaysBeside s x.after) chain.0.0 (stays_wires x.before x.after chain.1.0.changes.continues.given (exchange_wires Tells x chain.1.0 tells)) in
+    stays_trans old x.after new one (stays_chain Tells app trace x.after new x.now_net now_net chain.1.1 all tells)
 
 -- ---- The whole turn
 
@@ -131,7 +132,7 @@ marks_event false app frame s = refl
 
 -- what the acts of an application tell, where its history has these more
 read_more : {Own : Type 0} (app : ℕ) (acts : List Act) (old new : Seen Own) → ActsTold app acts old new → acts_of app new.history ≡ acts_of app old.history ++ acts
-read_more app acts old new told = ap (λ (h : List WorldStep). acts_of app h) told.history ∙ acts_longer app old.history told.steps ∙ ap (λ (xs : List Act). acts_of app old.history ++ xs) told.acts_so
+read_more app acts old new told = ap (λ (h : List WorldStep). acts_of app h) told.history ∙ acts_append app old.history told.steps ∙ ap (λ (xs : List Act). acts_of app old.history ++ xs) told.acts_so
 
 -- the acts of the application are longer by the event and the acts behind it
 pub turn_acts : {Own : Type 0} {Tells : Type 0} {accepts : List TableView → Bool} {app budget : ℕ} {rest frame unread : List ℕ} {old new : Seen Own} {net now_net : NetState} {end : TurnEnd}
@@ -152,7 +153,7 @@ turn_told {Tells = Tells} {app = app} {frame = frame} {old = old} {new = new} {n
     let act = give_act t.given app frame in
     let next = t.chain.1.0 in
     let told = t.chain.1.1.0 in
-    let later = quiet_chain Tells app t.trace next new net now_net t.chain.1.1.1 t.within tells in
+    let later = stays_chain Tells app t.trace next new net now_net t.chain.1.1.1 t.within tells in
     let acts = chain_told Tells app (Talk act ∷ t.trace) old new net now_net t.chain tells in
     let reads = turn_read app t.given frame (acts_of app old.history) (acts_in t.trace) stood event t.within in
     let more = turn_acts t tells in

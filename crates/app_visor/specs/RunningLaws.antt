@@ -15,7 +15,7 @@ use Rattle.outside.specs.declared.step.WorldStep.TheVariants.{Acted, TookInto, F
 use Rattle.outside.specs.Seen.{Seen, act_of, journal}
 use Rattle.outside.specs.State.{State, is_running, running_after, after_stim, after_act, after_step, after_steps, state}
 use Rattle.outside.specs.StateLaws.{state-append}
-use Rattle.app_visor.specs.Dialogues.{Converses, ran_before, IsInPlace, AreInPlace}
+use Rattle.app_visor.specs.Dialogues.{Converses, ran_before, KeepsOrder, CallsKeepOrder}
 
 -- ---- Those that run
 
@@ -110,14 +110,14 @@ act_in_place app act s t running says runs own = sym runs ∙ own_ran app act s 
 -- The dialogue tells whether it runs as the state does, and each call is in place.
 record Tells (app : ℕ) (steps : List WorldStep) (t : Before) (st : State) : Type 0 where
   runs : t.running ≡ is_running app (after_steps steps st)
-  in_place : AreInPlace app steps st
+  no_strays : CallsKeepOrder app steps st
 
-abbrev behind : (app : ℕ) (step : WorldStep) (steps : List WorldStep) (t : Before) (st : State) → IsInPlace app (act_of step) (is_running app st) → Tells app steps t (after_step step st) → Tells app (step ∷ steps) t st
-behind app step steps t st here later = record { runs = later.runs; in_place = (here, later.in_place) }
+abbrev behind : (app : ℕ) (step : WorldStep) (steps : List WorldStep) (t : Before) (st : State) → KeepsOrder app (act_of step) (is_running app st) → Tells app steps t (after_step step st) → Tells app (step ∷ steps) t st
+behind app step steps t st here later = record { runs = later.runs; no_strays = (here, later.no_strays) }
 
 dialogue_tells : (app : ℕ) (steps : List WorldStep) (s t : Before) (st : State) → Dialogue app s (journal steps) t → s.running ≡ is_running app st → Tells app steps t st
 unfolding journal after_act after_step
-dialogue_tells app [] s t st d runs = record { runs = ap (λ (x : Before). x.running) d ∙ runs; in_place = tt }
+dialogue_tells app [] s t st d runs = record { runs = ap (λ (x : Before). x.running) d ∙ runs; no_strays = tt }
 dialogue_tells app (Acted act ∷ steps) s t st d runs = behind app (Acted act) steps t st (act_in_place app act s d.0 (is_running app st) d.1.0 runs)
     (dialogue_tells app steps d.0 t (after_act act st) d.1.1 (act_by app act s d.0 st (is_of app act) refl d.1.0 runs))
 dialogue_tells app (TookInto of what room ∷ steps) s t st d runs = behind app (TookInto of what room) steps t st (act_in_place app (Took of what) s d.0 (is_running app st) d.1.0 runs)
@@ -138,14 +138,9 @@ dialogue_tells app (RecvFailed dpid ∷ steps) s t st d runs = behind app (RecvF
 pub dialogue_runs : (app : ℕ) (steps : List WorldStep) (s t : Before) (st : State) → Dialogue app s (journal steps) t → s.running ≡ is_running app st → t.running ≡ is_running app (after_steps steps st)
 dialogue_runs app steps s t st d runs = (dialogue_tells app steps s t st d runs).runs
 
-pub dialogue_in_place : (app : ℕ) (steps : List WorldStep) (s t : Before) (st : State) → Dialogue app s (journal steps) t → s.running ≡ is_running app st → AreInPlace app steps st
-dialogue_in_place app steps s t st d runs = (dialogue_tells app steps s t st d runs).in_place
+pub dialogue_in_place : (app : ℕ) (steps : List WorldStep) (s t : Before) (st : State) → Dialogue app s (journal steps) t → s.running ≡ is_running app st → CallsKeepOrder app steps st
+dialogue_in_place app steps s t st d runs = (dialogue_tells app steps s t st d runs).no_strays
 
 -- what it tells then, where it told so before
 pub converses_runs : {Own : Type 0} (app : ℕ) (s t : Before) (old new : Seen Own) → Converses app s t old new → new.given ≡ old.given → s.running ≡ is_running app (state old) → t.running ≡ is_running app (state new)
 converses_runs app s t old new c given runs = dialogue_runs app c.steps s t (state old) c.dialogue runs ∙ ap (λ (st : State). is_running app st) (sym (state-append old new c.steps given c.history))
-
--- the step behind some steps is in place
-pub in_place_behind : (app : ℕ) (front : List WorldStep) (step : WorldStep) (rest : List WorldStep) (s : State) → AreInPlace app (front ++ step ∷ rest) s → IsInPlace app (act_of step) (is_running app (after_steps front s))
-in_place_behind app [] step rest s are = are.0
-in_place_behind app (x ∷ front) step rest s are = in_place_behind app front step rest (after_step x s) are.1

@@ -2,7 +2,6 @@
 use Rattle.std.specs.Prelude.{◌≡◌, ◌==◌, ℕ, true, false, List, [], ◌∷◌, ◌++◌, map, filter, None, ◌⊎◌, slice_index, refl}
 use Rattle.std.specs.List.{AllByRecursion}
 use Rattle.std.proofs.Common.{sym, ap, ◌∙◌, subst, inl, inr, true≢false, arith}
-use Rattle.std.proofs.lemmas.List.Elements.{filter-append}
 use Rattle.of_types.specs.Fields.{number_at}
 use Rattle.of_types.specs.declared.journal.Act.{Act}
 use Rattle.of_types.specs.declared.journal.Act.TheVariants.{Stim, Started, Gave, Gone, Took, Ended, Sent, Got}
@@ -22,9 +21,6 @@ use Rattle.app_visor.specs.JournalLaws.{journal_told}
 use Rattle.app_visor.specs.Tellings.{Beside, Apart}
 
 -- ---- Longer histories
-
-pub acts_longer : (app : ℕ) (xs ys : List WorldStep) → acts_of app (xs ++ ys) ≡ acts_of app xs ++ acts_of app ys
-acts_longer app xs ys = ap (λ (acts : List Act). filter (is_of app) acts) (journal-append xs ys) ∙ filter-append (is_of app) (journal xs) (journal ys)
 
 pub stimuli_longer : (xs ys : List WorldStep) → stimuli (journal (xs ++ ys)) ≡ stimuli (journal xs) ++ stimuli (journal ys)
 stimuli_longer xs ys = ap stimuli (journal-append xs ys) ∙ stimuli-append (journal xs) (journal ys)
@@ -73,7 +69,7 @@ no_mark bytes s is = rw (no_number bytes is) refl
 
 -- ---- Calls for an application, each but the giving of an Event
 
-journal_steps : (acts : List Act) → journal (map step_of acts) ≡ acts
+pub journal_steps : (acts : List Act) → journal (map step_of acts) ≡ acts
 unfolding journal
 journal_steps [] = refl
 journal_steps (act ∷ acts) =

@@ -6,9 +6,10 @@ use Rattle.of_types.specs.declared.journal.Act.TheVariants.{Started}
 use Rattle.lego_model.specs.Journal.{Reply, inputs, stimuli, is_of}
 use Rattle.outside.specs.Seen.{Seen, journal}
 use Rattle.outside.specs.State.{Mark, State, state, is_running, marks_after_gave}
-use Rattle.journal_laws.specs.Readings.{starts_in, replies_in, LastStands}
+use Rattle.journal_laws.specs.Readings.{LastStands, end_acts}
+use Rattle.lego_model.specs.History.{starts_in, replies_in}
 use Rattle.app_visor.specs.Beats.{acts_of}
-use Rattle.app_visor.specs.Attempts.{OneTry, end_acts, ready_rest, starts_of, given_by}
+use Rattle.app_visor.specs.Attempts.{OneTry, ready_rest, starts_of, given_by}
 
 -- ---- The state
 

@@ -18,14 +18,14 @@ use Rattle.outside.specs.Seen.{Counts, NoneFell, Seen, Continues}
 use Rattle.outside.specs.SeenLaws.{Continues-refl, Continues-trans, Ends-continues}
 use Rattle.outside.specs.State.{state, is_running}
 use Rattle.outside.specs.Calls.{Ends}
-use Rattle.journal_laws.specs.Readings.{Within}
+use Rattle.journal_laws.specs.Readings.{Within, end_acts}
 use Rattle.journal_laws.specs.ReadingLaws.{Within-append}
 use Rattle.lego_model.specs.AtOnce.{Before, nothing_said, attempted, Passes}
 use Rattle.app_visor.specs.Talks.{Told}
 use Rattle.app_visor.specs.Dialogues.{Converses, Speaks}
 use Rattle.app_visor.specs.DialogueLaws.{Converses-refl, Converses-then, converses_told, converses_ended}
 use Rattle.app_visor.specs.RunningLaws.{converses_runs}
-use Rattle.app_visor.specs.Attempts.{end_acts, TryRises, restored, IsTry, Tries, OneTry, AreTries, ready_rest, tries_of, starts_of, restarted, Restarts, TriesOn, rest_of, stood, Greets, EndsUnless}
+use Rattle.app_visor.specs.Attempts.{TryRises, restored, IsTry, Tries, OneTry, AreTries, ready_rest, tries_of, starts_of, restarted, Restarts, TriesOn, rest_of, stood, Greets, EndsUnless}
 use Rattle.app_visor.specs.AttemptLaws.{Adds, Adds-append, Adds-none, Adds-ended, ends_so, not_started_so, runs_started}
 
 -- ---- One attempt

@@ -12,11 +12,11 @@ ghost use Rattle.app_visor.specs.CallsFor.{Calmly};
 use crate::talk::give;
 use app_frames::{Answer, Event, HostFrame, encode_host};
 use net_txn::{Txn, TxnFault};
-use of_types::ByteList;
+use of_types::{ByteList, Dpid};
 use outside::World;
 use std::alloc::{AllocError, Global};
 
-/// The bytes of an answer.
+/// Returns the bytes of an answer.
 fn encode_answer(alloc: Global, answer: Answer) -> Result<ByteList, AllocError>
     requires { HostFits (host.Answer answer) }
     ensures { IfOk result (λ frame. frame ≡ answer_frame answer) }
@@ -24,7 +24,7 @@ fn encode_answer(alloc: Global, answer: Answer) -> Result<ByteList, AllocError>
     encode_host(alloc, &HostFrame::Answer(answer))
 }
 
-/// The bytes of an event.
+/// Returns the bytes of an event.
 pub(crate) fn encode_event(
     alloc: Global,
     number: u64,
@@ -51,7 +51,7 @@ pub(crate) fn exchange<W: World>(
     world: &mut W,
     txn: &mut Txn<'_>,
     app: u32,
-    dpid: u64,
+    dpid: Dpid,
     bytes: &[u8],
 ) -> Result<bool, TxnFault>
     ensures same_reference { txn.new.net.ghost_name ≡ txn.old.net.ghost_name }

@@ -10,10 +10,12 @@ use bytes::BytesMut;
 use of_types::ByteList;
 use outside::{Taken, World};
 use std::alloc::{AllocError, Global};
+use std::fmt;
+use std::fmt::{Debug, Formatter};
 use std::marker::Model;
 
 /// How many bytes are taken at most at once.
-const ROOM: usize = 65_536;
+const MOST_TAKEN: usize = 65_536;
 
 /// The bytes that were taken from an application and not read, and a buffer to take into. Contracts see the bytes.
 ///
@@ -35,17 +37,30 @@ impl Model for Intake {
 }
 
 impl Intake {
-    /// An intake that begins with these bytes.
+    /// Returns an intake that begins with these bytes.
     pub(crate) fn new(alloc: Global, rest: &[u8]) -> Result<Intake, AllocError>
         ensures { IfOk result (λ s. s ≡ rest.now) }
     {
-        let mut unread = BytesMut::with_capacity(alloc, ROOM)?;
+        let mut unread = BytesMut::with_capacity(alloc, MOST_TAKEN)?;
         unread.extend_from_slice(rest)?;
-        let buf = vec![in alloc; 0; ROOM]?;
+        let buf = vec![in alloc; 0; MOST_TAKEN]?;
         Ok(Intake { unread, buf })
     }
 
-    /// A copy of what is unread.
+    /// Returns the same intake, which begins anew with these bytes.
+    fn again(self, rest: &[u8]) -> Result<Intake, AllocError>
+        ensures { IfOk result (λ s. s ≡ rest.now) }
+    {
+        let mut unread = self.unread;
+        unread.clear();
+        unread.extend_from_slice(rest)?;
+        Ok(Intake {
+            unread,
+            buf: self.buf,
+        })
+    }
+
+    /// Returns a copy of what is unread.
     pub(crate) fn rest(&self, alloc: Global) -> Result<ByteList, AllocError>
         ensures { IfOk result (λ rest. rest ≡ self.now) }
     {
@@ -87,5 +102,45 @@ impl Intake {
             Ok(Taken::Silent) => Ok(Some(Came::Silent)),
             Err(_) => Err(AllocError),
         }
+    }
+}
+
+/// An intake that is kept from one turn to the next, so that no turn makes its buffers anew. Contracts see nothing of it.
+#[derive(Drop)]
+pub struct TakeBuffer {
+    kept: Option<Intake>,
+}
+
+impl Model for TakeBuffer {
+    ghost Value = { Unit {0} };
+
+    ghost view = { λ _. tt };
+}
+
+impl Debug for TakeBuffer {
+    fn fmt<W: fmt::Write>(&self, f: &mut Formatter<W>) -> fmt::Result {
+        f.write_str("TakeBuffer")
+    }
+}
+
+impl TakeBuffer {
+    /// None is kept yet; takes no memory.
+    pub(crate) fn new() -> TakeBuffer {
+        TakeBuffer { kept: None }
+    }
+
+    /// Returns an intake that begins with these bytes: the one that is kept, where there is one.
+    pub(crate) fn take(&mut self, alloc: Global, rest: &[u8]) -> Result<Intake, AllocError>
+        ensures { IfOk result (λ s. s ≡ rest.now) }
+    {
+        match self.kept.take() {
+            Some(intake) => intake.again(rest),
+            None => Intake::new(alloc, rest),
+        }
+    }
+
+    /// Keeps an intake for the next turn.
+    pub(crate) fn keep(&mut self, intake: Intake) {
+        self.kept = Some(intake);
     }
 }

@@ -1,5 +1,9 @@
-//! The turns and the starts of applications: each frame that one gives is played in order, and how a turn or a start ends is
-//! exactly what its bytes, their end and the answers that it was given say.
+//! Turns and starts of applications: each frame is played in order, and the end is what the bytes and the answers say.
+//!
+//! `turn`: `ok` by `Turns`, `err` by `Stops`; however it ends `talks`, `later`, `stays`, `index`, `alive`, `continues`.
+//! `restart`, at most three attempts: `ok` by `Restarts`; however it ends `own`, `talks`, `err`, `continues`. Laws:
+//! `turns_of_the_reference`, `acts_of_a_turn`, `turns_are_told`, `attempts_are_told`, `turns_are_dialogues`,
+//! `attempts_are_dialogues`. docs/APPLICATIONS.md says what an application says and is told.
 #![tactic(auto)]
 
 mod asking;
@@ -11,10 +15,11 @@ mod state;
 mod talk;
 mod turning;
 
+pub use intake::TakeBuffer;
 pub use laws::{
     acts_of_a_turn, attempts_are_dialogues, attempts_are_told, turns_are_dialogues, turns_are_told,
     turns_of_the_reference,
 };
-pub use starting::restart;
+pub use starting::{ATTEMPTS, restart};
 pub use state::{AppState, Back, TurnEnd};
 pub use turning::turn;

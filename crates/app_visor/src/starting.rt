@@ -12,7 +12,7 @@ ghost use Rattle.app_visor.specs.Attempts.{tried_by, rest_of, Greets, EndsUnless
 ghost use Rattle.app_visor.specs.CallsFor.{OwnSteps};
 
 use crate::came::Came;
-use crate::intake::Intake;
+use crate::intake::{Intake, TakeBuffer};
 use crate::state::{AppState, Back};
 use crate::talk::{give, next_frame};
 use app_frames::{AppFrame, HostFrame, Tried, encode_host};
@@ -20,10 +20,10 @@ use of_types::ByteList;
 use outside::{StartFault, World};
 use std::alloc::{AllocError, Global};
 
-/// How many attempts there are at most.
-const ATTEMPTS: u32 = 3;
+/// How many attempts there are at most to start an application that failed or was not started yet.
+pub const ATTEMPTS: u32 = 3;
 
-/// The application has started.
+/// Tells whether the application has started.
 fn is_ready(tried: Tried) -> bool
     ensures { result ≡ ready tried }
 {
@@ -33,8 +33,8 @@ fn is_ready(tried: Tried) -> bool
     }
 }
 
-/// How a start ends by what comes first.
-fn judge(came: Came) -> Tried
+/// Tells how a start ends by what comes first.
+fn tried_by(came: Came) -> Tried
     ensures { result ≡ tried_by came }
 {
     match came {
@@ -85,10 +85,10 @@ fn greet<W: World>(
     if !give(world, app, frame)? {
         return Ok(Tried::Closed);
     }
-    Ok(judge(next_frame(alloc, world, app, intake)?))
+    Ok(tried_by(next_frame(alloc, world, app, intake)?))
 }
 
-/// What is unread behind the frame Ready, and nothing where there is none.
+/// Tells what is unread behind the frame Ready, and nothing where there is none.
 fn rest_by(alloc: Global, tried: Tried, intake: &Intake) -> Result<ByteList, AllocError>
     ensures { IfOk result (λ rest. rest ≡ rest_of tried intake.now) }
 {
@@ -99,7 +99,7 @@ fn rest_by(alloc: Global, tried: Tried, intake: &Intake) -> Result<ByteList, All
     }
 }
 
-/// One attempt to start an application; it ends it where it runs, and where it is not ready. It answers how that ended,
+/// Attempts once to start an application; ends it where it runs, and where it is not ready. Answers how that ended,
 /// and the bytes behind the frame Ready.
 fn attempt<W: World>(
     alloc: Global,
@@ -107,6 +107,7 @@ fn attempt<W: World>(
     app: u32,
     words: &[String],
     frame: &[u8],
+    buffer: &mut TakeBuffer,
 ) -> Result<(Tried, ByteList), AllocError>
     requires { frame.now ≡ restore_frame }
     ensures ok { IfOk result (λ r. Tries W.Tells app r.0 r.1 (W.seen world.old) (W.seen world.new)) }
@@ -114,14 +115,16 @@ fn attempt<W: World>(
     ensures own { W.Tells → OwnSteps app (W.seen world.old) (W.seen world.new) }
     ensures continues { Continues W.Tells (W.seen world.old) (W.seen world.new) }
 {
-    let mut intake = Intake::new(alloc, &[])?;
+    let mut intake = buffer.take(alloc, &[])?;
     world.end(app);
     if !start(world, app, words)? {
+        buffer.keep(intake);
         return Ok((Tried::Refused, ByteList::new(alloc)));
     }
     let tried = greet(alloc, world, app, frame, &mut intake)?;
     let rest = rest_by(alloc, tried, &intake)?;
     end_unless_ready(world, app, tried);
+    buffer.keep(intake);
     Ok((tried, rest))
 }
 
@@ -133,6 +136,7 @@ fn try_all<W: World>(
     app: u32,
     words: &[String],
     frame: &[u8],
+    buffer: &mut TakeBuffer,
     tries: &mut Vec<Tried>,
 ) -> Result<Option<ByteList>, AllocError>
     requires frame { frame.now ≡ restore_frame }
@@ -143,7 +147,7 @@ fn try_all<W: World>(
     ensures continues { Continues W.Tells (W.seen world.old) (W.seen world.new) }
 {
     for _attempt in 0..ATTEMPTS {
-        let (tried, rest) = attempt(alloc, world, app, words, frame)?;
+        let (tried, rest) = attempt(alloc, world, app, words, frame, buffer)?;
         tries.push(tried)?;
         if is_ready(tried) {
             return Ok(Some(rest));
@@ -175,7 +179,15 @@ pub fn restart<W: World>(
 {
     let frame = encode_host(alloc, &HostFrame::Restore(ByteList::new(alloc)))?;
     let mut tries = Vec::new(alloc);
-    let found = try_all(alloc, world, app.index, words, frame.as_slice(), &mut tries)?;
+    let found = try_all(
+        alloc,
+        world,
+        app.index,
+        words,
+        frame.as_slice(),
+        &mut app.buffer,
+        &mut tries,
+    )?;
     app.alive = found.is_some();
     app.rest = match found {
         Some(rest) => rest,

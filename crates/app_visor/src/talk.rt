@@ -38,7 +38,7 @@ fn try_next<W: World>(
     }
 }
 
-/// The next frame of the application, or why none comes: pieces are taken until a whole one stands there.
+/// Returns the next frame of the application, or why none comes: pieces are taken until a whole one stands there.
 pub(crate) fn next_frame<W: World>(
     alloc: Global,
     world: &mut W,

@@ -21,12 +21,12 @@ use crate::talk::{give, next_frame};
 use app_frames::{AppFrame, Cause, Event};
 use flow_table::Judge;
 use net_txn::{Txn, TxnFault};
-use of_types::ByteList;
+use of_types::{ByteList, Dpid};
 use outside::World;
 use std::alloc::{AllocError, Global};
 use std::mem::replace;
 
-/// How the turn ends where the application is done: the judge is asked about the tables.
+/// Tells how the turn ends where the application is done: the judge is asked about the tables.
 fn finish<J: Judge>(txn: &Txn<'_>, judge: &J, stop: bool) -> TurnEnd
     ensures { result ≡ done_as (J.accepts judge.now txn.now.net.now.views) stop }
 {
@@ -37,8 +37,8 @@ fn finish<J: Judge>(txn: &Txn<'_>, judge: &J, stop: bool) -> TurnEnd
     }
 }
 
-/// Why a turn fails where no frame comes, or one too many.
-fn judge_came(came: Came) -> Cause
+/// Tells why a turn fails where no frame comes, or one too many.
+fn cause_of(came: Came) -> Cause
     ensures { result ≡ cause_of came }
 {
     match came {
@@ -56,7 +56,7 @@ fn answer<W: World, J: Judge>(
     txn: &mut Txn<'_>,
     judge: &J,
     app: u32,
-    dpid: u64,
+    dpid: Dpid,
     bytes: ByteList,
 ) -> Result<Option<TurnEnd>, TxnFault>
     ensures same_reference { txn.new.net.ghost_name ≡ txn.old.net.ghost_name }
@@ -119,7 +119,7 @@ fn play_next<W: World, J: Judge>(
 {
     match next_frame(alloc, world, app, intake)? {
         Came::Frame(frame) => play(alloc, world, txn, judge, app, frame),
-        came => Ok(Some(TurnEnd::Failed(judge_came(came)))),
+        came => Ok(Some(TurnEnd::Failed(cause_of(came)))),
     }
 }
 
@@ -145,10 +145,10 @@ fn play_all<W: World, J: Judge>(
             return Ok(end);
         }
     }
-    Ok(TurnEnd::Failed(judge_came(next_frame(alloc, world, app, intake)?)))
+    Ok(TurnEnd::Failed(cause_of(next_frame(alloc, world, app, intake)?)))
 }
 
-/// What stays unread: nothing where the turn failed.
+/// Tells what stays unread: nothing where the turn failed.
 fn rest_after(alloc: Global, end: &TurnEnd, intake: &Intake) -> Result<ByteList, AllocError>
     ensures { IfOk result (λ rest. rest ≡ unread_after end.now intake.now) }
 {
@@ -158,9 +158,9 @@ fn rest_after(alloc: Global, end: &TurnEnd, intake: &Intake) -> Result<ByteList,
     }
 }
 
-/// The turn of an application at an event: it is given the event, and its frames are played in order, at most `budget` of
-/// them before the one that it is done. Each message is answered by the transaction, which is neither committed nor
-/// undone here.
+/// Holds the turn of an application at an event: it is given the event, and its frames are played in order, at most
+/// `budget` of them before the one that it is done. Each message is answered by the transaction, which is neither
+/// committed nor undone here.
 pub fn turn<W: World, J: Judge>(
     alloc: Global,
     world: &mut W,
@@ -185,17 +185,19 @@ pub fn turn<W: World, J: Judge>(
     ensures err { IfErr result (λ fault. Stops W.Tells app.old.index (W.seen world.old) (W.seen world.new) txn.old.net.now txn.new.net.now fault) }
     // Then too the turn goes on with the dialogue, where the application runs.
     ensures talks { OnErr result (W.Tells → (s : Before) → s.running ≡ true → Passes s.unread app.old.rest → Talks app.old.index s (W.seen world.old) (W.seen world.new)) }
-    // However it ended, no other application was called, and no place behind the one where it began was quiet.
+    // However it ended, no other application was called, and no point behind the one where it began was quiescent.
     ensures later { W.Tells → CalmLater app.old.index (W.seen world.old) (W.seen world.new) }
     ensures continues { Continues W.Tells (W.seen world.old) (W.seen world.new) }
 {
     let rest = replace(&mut app.rest, ByteList::new(alloc));
     let frame = encode_event(alloc, number, txn.moment(), event)?;
-    let mut intake = Intake::new(alloc, rest.as_slice())?;
+    let mut intake = app.buffer.take(alloc, rest.as_slice())?;
     if !give(world, app.index, frame.as_slice())? {
+        app.buffer.keep(intake);
         return Ok(TurnEnd::Failed(Cause::Closed));
     }
     let end = play_all(alloc, world, txn, judge, app.index, &mut intake, budget)?;
     app.rest = rest_after(alloc, &end, &intake)?;
+    app.buffer.keep(intake);
     Ok(end)
 }

@@ -6,7 +6,6 @@ use Rattle.std.specs.List.{AllByRecursion, flat_map}
 use Rattle.std.specs.Option.{option_map}
 use Rattle.of_types.specs.declared.journal.Stimulus.{Stimulus}
 use Rattle.of_types.specs.declared.journal.Stimulus.TheVariants.{Frame, Advance, Port, Counts, Raw}
-use Rattle.of_types.specs.declared.journal.WorldStim.{WorldStim}
 use Rattle.of_types.specs.declared.journal.WorldStim.TheVariants.{At, Of}
 use Rattle.flow_table.specs.declared.view.ViewRow.{ViewRow}
 use Rattle.flow_table.specs.Switch.{Declared, SwitchState}
@@ -18,45 +17,22 @@ use Rattle.lego_model.specs.Controller.{ports_of, at_place, stimulated, events_a
 use Rattle.outside.specs.declared.step.WorldStep.{WorldStep}
 use Rattle.outside.specs.declared.step.WorldStep.TheVariants.{From, Moment}
 use Rattle.outside.specs.Seen.{is_declared}
-use Rattle.outside.specs.State.{Link, State, link_of, switch_in, switch_of, link_stimulated, stimulus_sends, after_stim, upcoming}
+use Rattle.outside.specs.State.{Link, State, link_of, switch_in, switch_of, link_stimulated, stimulus_sends, after_stim, upcoming, declared_in}
 use Rattle.outside.specs.LinkLaws.{link_of-same, link_of-other}
 use Rattle.outside.specs.Conforming.{AreDeclaredFrom, IsStimulus}
 use Rattle.net_txn.specs.Views.{rows_at}
 use Rattle.switch_laws.specs.Shown.{flags_in, rows_or_none, flags_at, shown_switch, shown_places}
-use Rattle.switch_laws.specs.Sound.{AllSound}
 use Rattle.switch_laws.specs.SoundLaws.{stimulus-sound}
 use Rattle.batch_laws.specs.Knowledge.{Knowledge, handled, handled_all}
-use Rattle.batch_laws.specs.Calm.{known_ports, ViewsAscend}
-use Rattle.batch_laws.specs.HistoryLaws.{AllLast}
-use Rattle.batch_laws.specs.TellLaws.{FitsItem}
-use Rattle.batch_laws.specs.LinkTellLaws.{KnownIn, StandsIn, HappensIn, table_rows, KnownThen, SwitchStep, switch-step, declared_in, items_of, seen_events, LinkReady, LinkThen, LinksStep, links-step}
-use Rattle.batch_laws.specs.ReferenceLaws.{all-of, all-each, place_at, place-map, flat-one, events-links, links-found, all-at, link_of-map, NoneWait, waiting-all, waiting-one}
+use Rattle.batch_laws.specs.Calm.{known_ports}
+use Rattle.batch_laws.specs.Tells.{FitsItem}
+use Rattle.batch_laws.specs.LinkTellLaws.{switch-step, links-step}
+use Rattle.batch_laws.specs.LinkTells.{KnownIn, StandsIn, HappensIn, table_rows, KnownThen, SwitchStep, items_of, seen_events, LinkReady, LinkThen, LinksStep}
+use Rattle.batch_laws.specs.ReferenceLaws.{all-of, all-each, place-map, flat-one, events-links, links-found, all-at, link_of-map, waiting-all, waiting-one}
+use Rattle.batch_laws.specs.Waiting.{place_at, NoneWait}
+use Rattle.batch_laws.specs.After.{Facts, SoundIn, After}
 
 -- ---- Before and after
-
--- what stands before a stimulus
-pub record Facts (s : State) (k : Knowledge) : Type 0 where
-  pub ascend : AreDeclaredFrom 1 (declared_in s.links)
-  pub waits : NoneWait s.links
-  pub due : s.due ≡ []
-  pub known : (d : ℕ) → KnownIn (switch_of d s) (rows_at d k.views) (known_ports d k.ports)
-  pub order : ViewsAscend 0 k.views
-  pub moment : k.moment ≡ s.moment
-  pub stands : (d : ℕ) → StandsIn d (switch_of d s)
-  pub last : AllLast s.links
-
-abbrev pub SoundIn : Option SwitchState → Type 0
-SoundIn None = Unit {0}
-SoundIn (Some s) = AllSound s.table.entries
-
--- what is so after it
-pub record After (x : WorldStim) (s : State) (before k : Knowledge) : Type 0 where
-  pub queue : k.queue ≡ before.queue ++ events_after x s.moment (shown_places (declared_in s.links) before.views s)
-  pub places : shown_places (declared_in s.links) k.views (after_stim x s) ≡ places_after x s.moment (shown_places (declared_in s.links) before.views s)
-  pub known : (d : ℕ) → KnownIn (switch_of d (after_stim x s)) (rows_at d k.views) (known_ports d k.ports)
-  pub order : ViewsAscend 0 k.views
-  pub moment : k.moment ≡ (after_stim x s).moment
-  pub sound : (d : ℕ) → SoundIn (switch_of d (after_stim x s))
 
 stimulated-in : (x : Stimulus) (o : Option Link) → switch_in (option_map (link_stimulated x) o) ≡ option_map (after_stimulus x) (switch_in o)
 unfolding link_stimulated

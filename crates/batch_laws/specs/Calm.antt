@@ -1,8 +1,7 @@
 -- How a run stands between batches: nothing waits anywhere, and what the engine knows is what is so. All of this is our own.
-use Rattle.std.specs.Prelude.{◌≡◌, ◌==◌, ℕ, ◌+◌, ◌≤◌, false, List, [], ◌∷◌, Option, Some, None, if◌then◌else◌}
+use Rattle.std.specs.Prelude.{◌≡◌, ◌==◌, ℕ, false, List, [], ◌∷◌, Option, Some, None, if◌then◌else◌}
 use Rattle.std.specs.Option.{option_map}
 use Rattle.of_types.specs.declared.port_desc.PortDesc.{PortDesc}
-use Rattle.flow_table.specs.declared.view.TableView.{TableView}
 use Rattle.lego_model.specs.Controller.{ports_of}
 use Rattle.outside.specs.Seen.{Seen}
 use Rattle.outside.specs.State.{state, switch_of}
@@ -10,16 +9,12 @@ use Rattle.net_txn.specs.declared.ports.KnownPorts.{KnownPorts}
 use Rattle.net_txn.specs.Net.{NetState}
 use Rattle.switch_laws.specs.Since.{Ready}
 use Rattle.switch_laws.specs.Sound.{Sound}
+use Rattle.net_txn.specs.Views.{ViewsAscend}
 
 -- the known ports of a switch, where it has any entry
 abbrev pub known_ports : ℕ → List KnownPorts → Option (List PortDesc)
 known_ports d [] = None
 known_ports d (k ∷ ks) = if k.dpid == d then Some k.ports else known_ports d ks
-
--- views stand by switch, strictly ascending
-abbrev pub ViewsAscend : ℕ → List TableView → Type 0
-ViewsAscend least [] = Unit {0}
-ViewsAscend least (v ∷ vs) = (least ≤ v.dpid) × ViewsAscend (v.dpid + 1) vs
 
 pub record Calm {Own : Type 0} (seen : Seen Own) (net : NetState) : Type 0 where
   pub ready : Ready seen net

@@ -37,7 +37,8 @@ use Rattle.outside.specs.Conforming.{may_be_raw}
 use Rattle.outside.specs.declared.step.WorldStep.TheVariants.{From}
 use Rattle.switch_laws.specs.Shown.{flags_in}
 use Rattle.batch_laws.specs.Knowledge.{Knowledge, handled_all}
-use Rattle.batch_laws.specs.TellLaws.{FitsRead, IsPlainRead, PlainBytes, AllPlain, SwitchHandled, SwitchKnown, is-known, plain-handled, view-kept}
+use Rattle.batch_laws.specs.TellLaws.{is-known, plain-handled, view-kept}
+use Rattle.batch_laws.specs.Tells.{FitsRead, IsPlainRead, PlainBytes, AllPlain, SwitchHandled, SwitchKnown, FaceKept}
 
 -- ---- A PACKET_IN is plain
 
@@ -140,11 +141,6 @@ raw-plain (Err fault) h = tt
 
 -- ---- The switch keeps its rows and what its ports are described as
 
-pub record FaceKept (before now : SwitchState) : Type 0 where
-  pub declared : now.declared ≡ before.declared
-  pub ports : (n : ℕ) → map (port_desc n) now.ports ≡ map (port_desc n) before.ports
-  pub rows : rows_of_table now.table.entries ≡ rows_of_table before.table.entries
-
 face-same : (s : SwitchState) → FaceKept s s
 face-same s = record { declared = refl; ports = λ n. refl; rows = refl }
 
@@ -161,7 +157,7 @@ desc-map g same n (p ∷ ps) = ap₂ (λ (x : PortDesc) xs. x ∷ xs) (same.desc
 desc-some : (test : PortState → Bool) (g : PortState → PortState) → SameDesc g → SameDesc (λ p. if test p then g p else p)
 desc-some test g same = record { desc = λ n p. elim (cases_Bool (test p)) [ inl passes ↦ rw passes (same.desc n p) | inr fails ↦ rw fails refl ] }
 
-abbrev goes : PortState → Bool
+abbrev pub goes : PortState → Bool
 goes p = p.link && not (is_down p) && not (has_no_fwd p)
 
 desc-frame_out : (len : ℕ) → SameDesc (after_frame_out len)

@@ -198,14 +198,14 @@ moment_handles {Tells = Tells} t seen net now_net queue is = subst (λ (n : NetS
   does = record { seen = refl; kept = refl };
 })
 
-idle_so : (k : Knowledge) → handled Idle k ≡ k
+pub idle_so : (k : Knowledge) → handled Idle k ≡ k
 unfolding handled
 idle_so k = refl
 
 pub idle_handles : {Own : Type 0} {Tells : Type 0} (seen : Seen Own) (net : NetState) (queue : List Event) → Handles Tells Idle seen seen net net queue queue
 idle_handles {Tells = Tells} seen net queue = record { continues = Continues-refl Tells seen; knowledge = sym (idle_so (knowledge_of net queue)); log = refl; room = refl; does = record { seen = refl; same = refl } }
 
-end_so : (k : Knowledge) → handled End k ≡ k
+pub end_so : (k : Knowledge) → handled End k ≡ k
 unfolding handled
 end_so k = refl
 

@@ -1,6 +1,6 @@
 -- In every history of a world that keeps its word a switch that is joined is the declared one, and its ports stand by number, strictly
 -- ascending from 1 to 65,280, at most 64 of them, each with a config of 32 bits.
-use Rattle.std.proofs.Common.{◌≡◌, ◌==◌, ℕ, ◌+◌, ◌-◌, ◌^◌, ◌<◌, ◌≤◌, Bool, true, false, not, ◌&&◌, nat_lt, List, [], ◌∷◌, length, map, filter, Option, Some, None, Result, Ok, Err, if◌then◌else◌, refl, sym, ap, ◌∙◌, subst, inl, inr, arith}
+use Rattle.std.proofs.Common.{◌≡◌, ◌==◌, ℕ, ◌+◌, ◌-◌, ◌^◌, ◌<◌, ◌≤◌, Bool, true, false, not, nat_lt, List, [], ◌∷◌, length, map, filter, Option, Some, None, Result, Ok, Err, if◌then◌else◌, refl, sym, ap, ◌∙◌, subst, inl, inr, arith}
 use Rattle.std.specs.Prelude.{bit_and, is_none}
 use Rattle.std.proofs.lemmas.Bool.{cases_Bool, cases_lt, eqb-true, eqb-false, lt-ltb, le-ltb, ltb-true, and_parts}
 use Rattle.std.proofs.lemmas.List.{length-map}
@@ -23,7 +23,7 @@ use Rattle.of_wire.specs.declared.message.Envelope.{Envelope}
 use Rattle.of_wire.specs.declared.fault.WireFault.{WireFault}
 use Rattle.of_wire.specs.Reading.{reading_of}
 use Rattle.flow_table.specs.Change.{unless_refused}
-use Rattle.flow_table.specs.Switch.{Declared, PortState, SwitchState, joined_at, new_port, port_at, insert_port, most_ports, is_down, has_no_fwd}
+use Rattle.flow_table.specs.Switch.{Declared, PortState, SwitchState, joined_at, new_port, port_at, insert_port, most_ports}
 use Rattle.flow_table.specs.Refusals.{message_refusal}
 use Rattle.flow_table.specs.Frames.{goes_out_by, after_frame_out, ports_after_output, after_output, after_outputs, after_counts, after_lookup, hit_outputs, entry_hit, after_packet_output, after_packet_outputs, takes, after_frame_in, after_arrival, after_frame}
 use Rattle.flow_table.specs.Step.{kept_bits, with_bits, with_config, set_link, can_add, after_taken, after_message, after_port_change, after_stimulus}
@@ -34,13 +34,10 @@ use Rattle.outside.specs.Seen.{Seen}
 use Rattle.outside.specs.State.{Link, State, link_at_first, at_first, link_of, switch_in, switch_of, with_link, switch_joined, link_joined, link_left, link_stimulated, switch_told, link_sent, link_got, link_told, link_failed, links_after, after_stim, after_act, after_step, after_steps, state}
 use Rattle.outside.specs.Conforming.{ArePortsFrom, MayDeclare, IsStimulus, IsWorldStim, MayAct, MayStep, MaySteps, Conforming}
 use Rattle.switch_laws.specs.StandLaws.{state-links}
+use Rattle.batch_laws.specs.Lasting.{AscendPorts, Lasts, PortWithin, LastsIn, LinkLasts, AllLast}
+use Rattle.batch_laws.specs.FrameTellLaws.{goes}
 
 -- ---- Ports
-
--- strictly ascending by number, within 65,280, and with configs of 32 bits
-abbrev pub AscendPorts : ℕ → List PortState → Type 0
-AscendPorts least [] = Unit {0}
-AscendPorts least (p ∷ ps) = (least ≤ p.number) × (p.number ≤ 65280) × (p.config < 2 ^ 32) × AscendPorts (p.number + 1) ps
 
 -- a change of a port that keeps its number, and a config of 32 bits
 record KeepsPort (g : PortState → PortState) : Type 0 where
@@ -73,7 +70,7 @@ length-filtered test (p ∷ ps) =
       | inr fails ↦ rw fails (omega (arith, length-filtered test ps))
     ]
 
-none_is : (o : Option PortState) → is_none o ≡ true → o ≡ None
+pub none_is : (o : Option PortState) → is_none o ≡ true → o ≡ None
 none_is None h = refl
 none_is (Some p) h = absurd cc
 
@@ -111,12 +108,6 @@ ascend-new least (n ∷ ns) h = (h.0, h.1, omega arith, ascend-new (n + 1) ns h.
 
 -- ---- One switch
 
--- it is the declared one, with ports that stand so
-pub record Lasts (d : Declared) (s : SwitchState) : Type 0 where
-  pub declared : s.declared ≡ d
-  pub ports : AscendPorts 1 s.ports
-  pub few : length s.ports ≤ 64
-
 -- changes of each port
 lasts-ports : (g : PortState → PortState) → KeepsPort g → (d : Declared) (s : SwitchState) → Lasts d s → Lasts d (record s { ports = map g s.ports })
 lasts-ports g keeps d s is = record { declared = is.declared; ports = ascend-map g keeps 1 s.ports is.ports; few = omega (arith, is.few, length-map s.ports g) }
@@ -126,9 +117,6 @@ keeps-some test g keeps = record {
   number = λ p. elim (cases_Bool (test p)) [ inl passes ↦ rw passes (keeps.number p) | inr fails ↦ rw fails refl ];
   config = λ p small. elim (cases_Bool (test p)) [ inl passes ↦ rw passes (keeps.config p small) | inr fails ↦ rw fails small ];
 }
-
-abbrev goes : PortState → Bool
-goes p = p.link && not (is_down p) && not (has_no_fwd p)
 
 keeps-frame_out : (len : ℕ) → KeepsPort (after_frame_out len)
 unfolding after_frame_out
@@ -210,11 +198,6 @@ port-lasts port changes.Delete d s within is = record {
   few = omega (arith, is.few, length-filtered (λ p. not (p.number == port)) s.ports);
 }
 
--- a port that changes has a number from 1 to 65,280
-abbrev pub PortWithin : Stimulus → Type 0
-PortWithin (Port port change) = (1 ≤ port) × (port ≤ 65280)
-PortWithin other = Unit {0}
-
 pub within-stimulus : (x : Stimulus) → IsStimulus x → PortWithin x
 unfolding IsStimulus
 within-stimulus (Frame port bytes) h = tt
@@ -270,18 +253,6 @@ unfolding after_message
 message-lasts m d s is = unless-lasts (message_refusal s m) d s (after_taken m s) is (taken-lasts m d s is)
 
 -- ---- Links
-
-abbrev pub LastsIn : Declared → Option SwitchState → Type 0
-LastsIn d None = Unit {0}
-LastsIn d (Some s) = Lasts d s
-
--- a switch that may be declared, and stands so while it is joined
-pub record LinkLasts (l : Link) : Type 0 where
-  pub may : MayDeclare l.declared
-  pub switch : LastsIn l.declared l.switch
-
-abbrev pub AllLast : List Link → Type 0
-AllLast ls = AllByRecursion LinkLasts ls
 
 record Keeps (change : Link → Link) : Type 0 where
   keeps : (l : Link) → LinkLasts l → LinkLasts (change l)

@@ -16,7 +16,9 @@ use Rattle.outside.specs.Conforming.{MayBegin, Conforming}
 use Rattle.switch_laws.specs.Orderly.{OrderlySince}
 use Rattle.batch_laws.specs.Knowledge.{knowledge_of, handled_all}
 use Rattle.batch_laws.specs.Batches.{Standing}
-use Rattle.batch_laws.specs.TellLaws.{FitsItem}
+use Rattle.batch_laws.specs.Tells.{FitsItem}
+use Rattle.app_frames.specs.declared.frame.Event.{Event}
+use Rattle.net_txn.specs.Net.{NetState}
 
 -- ---- What of a state no item moves
 
@@ -111,3 +113,6 @@ CanTake other s = Unit {0}
 -- whatever a world that keeps its word tells next can be taken
 abbrev pub CanTakeNext : {Own : Type 0} → Type 0 → Seen Own → Type 0
 CanTakeNext {Own} Tells old = (item : Item) (buf : List ℕ) (mid : Seen Own) → Conforming mid → Nexts Tells old mid (Ok item) buf → CanTake (item_step item buf) (state mid)
+
+abbrev pub standing : {Own : Type 0} → Seen Own → NetState → List Event → Standing Own
+standing seen net queue = record { seen = seen; net = net; queue = queue }

@@ -29,16 +29,18 @@ use Rattle.outside.specs.Calls.{Nexts, stim_steps, item_step, next_steps}
 use Rattle.outside.specs.CallLaws.{MayStep-at_rest}
 use Rattle.outside.specs.Conforming.{MayBegin, IsNext, MayStep, MayAct, Conforming}
 use Rattle.net_txn.specs.Net.{NetState}
-use Rattle.switch_laws.specs.Orderly.{IsOrderly, OrderlySince}
+use Rattle.switch_laws.specs.Orderly.{OrderlySince}
+use Rattle.lego_model.specs.OrderlySteps.{IsOrderly}
 use Rattle.switch_laws.specs.OrderlyLaws.{orderly-then}
-use Rattle.batch_laws.specs.Knowledge.{Knowledge, knowledge_of, handled, handled_all}
+use Rattle.batch_laws.specs.Knowledge.{Knowledge, knowledge_of, handled_all}
 use Rattle.batch_laws.specs.Calm.{Calm}
 use Rattle.batch_laws.specs.Batches.{Standing}
-use Rattle.batch_laws.specs.Items.{Handles, TakesNext}
-use Rattle.batch_laws.specs.TellLaws.{FitsItem}
+use Rattle.batch_laws.specs.Items.{Handles, TakesNext, waiting, Fresh, IsFresh, IsItem}
+use Rattle.batch_laws.specs.Tells.{FitsItem}
 use Rattle.batch_laws.specs.StimulusLaws.{bytes-fit}
-use Rattle.batch_laws.specs.ItemLaws.{waiting, links_ascend, told_first, none_waiting, none_waits, Fresh, IsFresh, IsItem, item_done}
-use Rattle.batch_laws.specs.InBatch.{SameBesides, IsReadable, InBatch, BatchDone, BatchOver, SoFar, GoesOn, CanTake, CanTakeNext}
+use Rattle.batch_laws.specs.ItemLaws.{links_ascend, told_first, none_waiting, none_waits, item_done}
+use Rattle.batch_laws.specs.InBatch.{SameBesides, IsReadable, InBatch, BatchDone, BatchOver, SoFar, GoesOn, CanTake, CanTakeNext, standing}
+use Rattle.batch_laws.specs.HandleLaws.{idle_so, end_so}
 
 -- ---- What is upcoming
 
@@ -89,7 +91,7 @@ stim_is_due (Leave d) s = leave_is_due d (is_joined d s)
 stim_is_due (At t) s = inr (Moment t, refl, no_message_moment t)
 stim_is_due (Of d x) s = inl refl
 
-some_same : (a b : WorldStep) → Some a ≡ Some b → a ≡ b
+pub some_same : (a b : WorldStep) → Some a ≡ Some b → a ≡ b
 some_same a b e = cc
 
 -- a message is told where nothing is due
@@ -234,11 +236,11 @@ due_tells item s t due other is next =
       none_due = none;
     }
 
-links_switch : (d : ℕ) (s t : State) → t.links ≡ s.links → switch_of d t ≡ switch_of d s
+pub links_switch : (d : ℕ) (s t : State) → t.links ≡ s.links → switch_of d t ≡ switch_of d s
 unfolding switch_of
 links_switch d s t same = ap (λ (ls : List Link). switch_in (link_of d ls)) same
 
-links_waits : (d : ℕ) (s t : State) → t.links ≡ s.links → waits_of d t ≡ waits_of d s
+pub links_waits : (d : ℕ) (s t : State) → t.links ≡ s.links → waits_of d t ≡ waits_of d s
 unfolding waits_of
 links_waits d s t same = ap (λ (ls : List Link). waits_in (link_of d ls)) same
 
@@ -356,9 +358,6 @@ all_more : (P : WorldStep → Type 0) (xs : List WorldStep) (x : WorldStep) → 
 all_more P [] x all last = (last, tt)
 all_more P (y ∷ ys) x all last = (all.0, all_more P ys x all.1 last)
 
-abbrev pub standing : {Own : Type 0} → Seen Own → NetState → List Event → Standing Own
-standing seen net queue = record { seen = seen; net = net; queue = queue }
-
 -- the numbers of an item whose bytes stand in a buffer of bytes
 item_fits : (item : Item) (buf : List ℕ) → IsBytes buf → FitsItem (item_step item buf)
 unfolding item_step
@@ -468,10 +467,6 @@ idle_switch : (d : ℕ) (s : State) → switch_of d (record s { begun = false })
 unfolding switch_of
 idle_switch d s = refl
 
-handled_idle : (k : Knowledge) → handled Idle k ≡ k
-unfolding handled
-handled_idle k = refl
-
 none_of : (xs ys : List WorldStep) → xs ++ ys ≡ [] → (xs ≡ []) × (ys ≡ [])
 none_of [] ys none = (refl, none)
 none_of (x ∷ xs) ys none = absurd cc
@@ -507,7 +502,7 @@ told_idle {x = x} {first = first} {now = now} {mid = mid} {new = new} batch late
       switches = λ d. leaves.switches d ∙ ap (switch_of d) is ∙ idle_switch d s ∙ batch.switches d;
       read = subst (λ (xs : List WorldStep). AllByRecursion IsReadable xs) all batch.read;
       fits = subst (λ (xs : List WorldStep). AllByRecursion FitsItem xs) all batch.fits;
-      knowledge = later.handles.knowledge ∙ handled_idle (knowledge_of now.net now.queue) ∙ sym (ap (λ (xs : List WorldStep). handled_all xs (knowledge_of now.net now.queue)) none) ∙ batch.knowledge;
+      knowledge = later.handles.knowledge ∙ idle_so (knowledge_of now.net now.queue) ∙ sym (ap (λ (xs : List WorldStep). handled_all xs (knowledge_of now.net now.queue)) none) ∙ batch.knowledge;
       kept = done.kept;
       log = later.handles.log ∙ batch.log;
       room = later.handles.room ∙ batch.room;
@@ -535,11 +530,11 @@ told_in items.End buf keeps still batch later = absurd (no_end batch later)
 abbrev begun_now : {Own : Type 0} → WorldStim → Standing Own → Standing Own
 begun_now x first = standing (record { given = first.seen.given; history = first.seen.history ++ Acted (Stim x) ∷ []; counts = first.seen.counts }) first.net first.queue
 
-stim_step : (x : WorldStim) (s : State) → after_step (Acted (Stim x)) s ≡ after_stim x s
+pub stim_step : (x : WorldStim) (s : State) → after_step (Acted (Stim x)) s ≡ after_stim x s
 unfolding after_step after_act
 stim_step x s = refl
 
-stim_begun : (x : WorldStim) (s : State) → (after_stim x s).begun ≡ true
+pub stim_begun : (x : WorldStim) (s : State) → (after_stim x s).begun ≡ true
 unfolding after_stim
 stim_begun x s = refl
 
@@ -615,10 +610,6 @@ end_act = refl
 end_acts : {Own : Type 0} (old mid : Seen Own) → mid.history ≡ old.history ++ End ∷ [] → journal mid.history ≡ journal old.history
 end_acts old mid longer = ap journal longer ∙ journal-append old.history (End ∷ []) ∙ ap (λ (xs : List Act). journal old.history ++ xs) end_act ∙ append-nil (journal old.history)
 
-handled_end : (k : Knowledge) → handled End k ≡ k
-unfolding handled
-handled_end k = refl
-
 is_over : {Own Tells : Type 0} {first : Standing Own} {mid new : Seen Own} {net : NetState} {queue : List Event} → mid.given ≡ first.seen.given → mid.history ≡ first.seen.history ++ End ∷ [] → (state first.seen).to_come ≡ []
     → Handles Tells End mid new first.net net first.queue queue → BatchOver first (standing new net queue)
 is_over {first = first} {mid = mid} {new = new} given longer none handles =
@@ -628,7 +619,7 @@ is_over {first = first} {mid = mid} {new = new} given longer none handles =
       to_come = none;
       state_so = ap state same ∙ state-append first.seen mid (End ∷ []) given longer ∙ end_state (state first.seen);
       net = handles.does.same;
-      queue = ap (λ (k : Knowledge). k.queue) (handles.knowledge ∙ handled_end (knowledge_of first.net first.queue));
+      queue = ap (λ (k : Knowledge). k.queue) (handles.knowledge ∙ end_so (knowledge_of first.net first.queue));
       acts = ap (λ (s : Seen _). journal s.history) same ∙ end_acts first.seen mid longer;
       orderly = λ app. record { steps = End ∷ []; history = ap (λ (s : Seen _). s.history) same ∙ longer; orderly = (tt, tt) };
     }

@@ -1,7 +1,7 @@
 -- What an item that the outside tells leaves of the state of a world that keeps its word: what was upcoming before it is the item and what
 -- is upcoming behind it; and what the engine does at it moves no switch.
 use Rattle.std.specs.Prelude.{◌≡◌, ◌==◌, ℕ, ◌+◌, ◌≤◌, ◌<◌, ◌^◌, ◌⊎◌, Bool, true, false, not, List, [], ◌∷◌, ◌++◌, map, filter, Option, Some, None, Result, Ok, Err, is_some, slice_get, if◌then◌else◌, refl}
-use Rattle.std.specs.List.{AllByRecursion, flat_map}
+use Rattle.std.specs.List.{AllByRecursion}
 use Rattle.std.proofs.Common.{sym, ap, ap₂, ◌∙◌, subst, arith, inl, inr}
 use Rattle.std.proofs.lemmas.Bool.{cases_Bool, eqb-true, eqb-false, eq-eqb, ne_eqb}
 use Rattle.std.proofs.lemmas.List.{append-nil}
@@ -20,7 +20,7 @@ use Rattle.of_wire.specs.Spelling.{message_size, message_bytes}
 use Rattle.of_wire.specs.Grammar.{IsMessage, enveloped}
 use Rattle.of_wire.specs.GrammarLaws.{IsRead-reading_of}
 use Rattle.of_wire.specs.ReadingLaws.{reading_of-message_bytes}
-use Rattle.flow_table.specs.Switch.{Declared, SwitchState, first_config}
+use Rattle.flow_table.specs.Switch.{Declared, SwitchState}
 use Rattle.flow_table.specs.Refusals.{message_refusal}
 use Rattle.flow_table.specs.Step.{after_taken, after_message, sent_by_taken, sent_by_message}
 use Rattle.app_frames.specs.declared.frame.Event.{Event}
@@ -33,37 +33,31 @@ use Rattle.outside.specs.SeenLaws.{journal-append}
 use Rattle.outside.specs.State.{Link, State, link_of, waits_in, switch_in, waits_of, switch_of, upcoming, with_link, switch_told, message_sends, link_sent, link_told, after_act, after_step, after_steps, state}
 use Rattle.outside.specs.StateLaws.{state-append}
 use Rattle.outside.specs.Conforming.{AreDeclaredFrom, Conforming}
-use Rattle.net_txn.specs.declared.heard.Awaited.{Awaited}
-use Rattle.net_txn.specs.declared.heard.Heard.{Heard}
-use Rattle.net_txn.specs.declared.heard.Heard.TheVariants.{Reply, Refused, Notice, Echo, Other}
+use Rattle.lego_model.specs.declared.wait.Awaited.{Awaited}
+use Rattle.lego_model.specs.declared.wait.Heard.{Heard}
+use Rattle.lego_model.specs.declared.wait.Heard.TheVariants.{Reply, Refused, Notice, Echo, Other}
 use Rattle.net_txn.specs.Net.{NetState}
-use Rattle.net_txn.specs.Waits.{heard, steps_by, echo_reply, wait_steps, reply_got}
+use Rattle.lego_model.specs.BarrierWaits.{heard, steps_by, echo_reply, wait_steps, reply_got}
 use Rattle.net_txn.specs.Views.{rows_at}
 use Rattle.net_txn.specs.Arriving.{arrival_steps}
 use Rattle.net_txn.specs.Joining.{greeting, greeted_from}
 use Rattle.net_txn.specs.JoiningSteps.{JoinsInStep}
 use Rattle.switch_laws.specs.StandLaws.{state-links}
-use Rattle.switch_laws.specs.Orderly.{IsOrderly, OrderlySince}
+use Rattle.lego_model.specs.OrderlySteps.{IsOrderly}
 use Rattle.switch_laws.specs.OrderlyLaws.{orderly-none, echo-orderly, join-steps-orderly}
-use Rattle.batch_laws.specs.Items.{answers, Untouched, Rests, TakesMessage, TakesIn, TakesInBy, TakesInAs, DoesFrom, DoesJoined, DoesLeft, Handles}
+use Rattle.batch_laws.specs.Items.{answers, Untouched, Rests, TakesMessage, TakesIn, TakesInBy, TakesInAs, DoesFrom, DoesJoined, DoesLeft, Handles, waiting, Ascend, Leaves, IsSentOrGot, ItemDone, Fresh, IsFresh, Done, IsItem}
 use Rattle.batch_laws.specs.InBatch.{SameBesides}
 
 -- ---- What waits, of the switches with lower numbers first
-
-abbrev pub waiting : List Link → List WorldStep
-waiting ls = flat_map (λ l. map (From l.declared.dpid) l.waits) ls
-
-abbrev pub Ascend : ℕ → List Link → Type 0
-Ascend least ls = AreDeclaredFrom least (map (λ l. l.declared) ls)
 
 -- the links of a world that keeps its word are in order
 pub links_ascend : {Own : Type 0} (seen : Seen Own) → Conforming seen → Ascend 1 (state seen).links
 links_ascend seen keeps = subst (λ (ds : List Declared). AreDeclaredFrom 1 ds) (sym (state-links seen).declared_so) keeps.declared
 
-lower_number : (d e : ℕ) (a b : List ℕ) → Some (From d a) ≡ Some (From e b) → d ≡ e
+pub lower_number : (d e : ℕ) (a b : List ℕ) → Some (From d a) ≡ Some (From e b) → d ≡ e
 lower_number d e a b same = cc
 
-same_bytes : (d e : ℕ) (a b : List ℕ) → Some (From d a) ≡ Some (From e b) → a ≡ b
+pub same_bytes : (d e : ℕ) (a b : List ℕ) → Some (From d a) ≡ Some (From e b) → a ≡ b
 same_bytes d e a b same = cc
 
 -- The next message is that of the first switch of which one waits.
@@ -168,13 +162,6 @@ still_switch d e change still (l ∷ ls) =
 
 -- ---- What the engine does leaves this of a state
 
-pub record Leaves (s t : State) : Type 0 where
-  pub besides : SameBesides t s
-  pub begun : t.begun ≡ s.begun
-  pub due : t.due ≡ s.due
-  pub switches : (d : ℕ) → switch_of d t ≡ switch_of d s
-  pub upcoming_so : upcoming t ≡ upcoming s
-
 pub leaves_all : (s : State) → Leaves s s
 leaves_all s = record {
   besides = record { opened = refl; running = refl; moment = refl; to_come = refl; marks = refl };
@@ -186,13 +173,10 @@ leaves_all s = record {
 
 -- ---- Calls of links
 
-abbrev pub IsLinkStep : WorldStep → Type 0
-IsLinkStep step = (d : ℕ) × (bytes : List ℕ) × ((step ≡ Acted (Sent d bytes)) ⊎ (step ≡ Acted (Got d bytes)))
-
-sent_is : (d : ℕ) (bytes : List ℕ) → IsLinkStep (Acted (Sent d bytes))
+sent_is : (d : ℕ) (bytes : List ℕ) → IsSentOrGot (Acted (Sent d bytes))
 sent_is d bytes = (d, bytes, inl refl)
 
-got_is : (d : ℕ) (bytes : List ℕ) → IsLinkStep (Acted (Got d bytes))
+got_is : (d : ℕ) (bytes : List ℕ) → IsSentOrGot (Acted (Got d bytes))
 got_is d bytes = (d, bytes, inr refl)
 
 record SameRest (s t : State) : Type 0 where
@@ -228,7 +212,7 @@ rest_then r s t first later = record {
   due = later.due ∙ first.due;
 }
 
-rest_steps : (steps : List WorldStep) (s : State) → AllByRecursion IsLinkStep steps → SameRest s (after_steps steps s)
+rest_steps : (steps : List WorldStep) (s : State) → AllByRecursion IsSentOrGot steps → SameRest s (after_steps steps s)
 rest_steps [] s all = rest_all s
 rest_steps (step ∷ steps) s all =
     rest_then s (after_step step s) (after_steps steps (after_step step s)) (rest_by step all.0.0 all.0.1 s all.0.2) (rest_steps steps (after_step step s) all.1)
@@ -257,22 +241,15 @@ no_acts : (app : ℕ) → filter (is_of app) (journal []) ≡ []
 unfolding journal
 no_acts app = refl
 
-stimuli_none : (steps : List WorldStep) → AllByRecursion IsLinkStep steps → stimuli (journal steps) ≡ []
+stimuli_none : (steps : List WorldStep) → AllByRecursion IsSentOrGot steps → stimuli (journal steps) ≡ []
 stimuli_none [] all = no_stimuli
 stimuli_none (step ∷ steps) all = (tells_by step all.0.0 all.0.1 all.0.2 steps 0).0 ∙ stimuli_none steps all.1
 
-acts_none : (app : ℕ) (steps : List WorldStep) → AllByRecursion IsLinkStep steps → filter (is_of app) (journal steps) ≡ []
+acts_none : (app : ℕ) (steps : List WorldStep) → AllByRecursion IsSentOrGot steps → filter (is_of app) (journal steps) ≡ []
 acts_none app [] all = no_acts app
 acts_none app (step ∷ steps) all = (tells_by step all.0.0 all.0.1 all.0.2 steps app).1 ∙ acts_none app steps all.1
 
 -- ---- What an item leaves, from where it was told
-
-pub record ItemDone {Own : Type 0} (mid new : Seen Own) : Type 0 where
-  pub given : new.given ≡ mid.given
-  pub leaves : Leaves (state mid) (state new)
-  pub stimuli_so : stimuli (journal new.history) ≡ stimuli (journal mid.history)
-  pub acts : (app : ℕ) → filter (is_of app) (journal new.history) ≡ filter (is_of app) (journal mid.history)
-  pub orderly : (app : ℕ) → OrderlySince app mid new
 
 none_done : {Own : Type 0} (mid : Seen Own) → ItemDone mid mid
 none_done mid = record { given = refl; leaves = leaves_all (state mid); stimuli_so = refl; acts = λ app. refl; orderly = λ app. orderly-none app mid }
@@ -280,7 +257,7 @@ none_done mid = record { given = refl; leaves = leaves_all (state mid); stimuli_
 untouched_done : {Own : Type 0} (mid new : Seen Own) → new ≡ mid → ItemDone mid new
 untouched_done mid new is = subst (λ (x : Seen _). ItemDone mid x) (sym is) (none_done mid)
 
-links_done : {Own : Type 0} (mid new : Seen Own) (steps : List WorldStep) → new.given ≡ mid.given → new.history ≡ mid.history ++ steps → AllByRecursion IsLinkStep steps → ((app : ℕ) → AllByRecursion (IsOrderly app) steps) → Leaves (state mid) (state new) → ItemDone mid new
+links_done : {Own : Type 0} (mid new : Seen Own) (steps : List WorldStep) → new.given ≡ mid.given → new.history ≡ mid.history ++ steps → AllByRecursion IsSentOrGot steps → ((app : ℕ) → AllByRecursion (IsOrderly app) steps) → Leaves (state mid) (state new) → ItemDone mid new
 links_done mid new steps given longer all orderly leaves = record {
   given = given;
   leaves = leaves;
@@ -331,7 +308,7 @@ echo_leaves d xid payload lt is s =
     still_leaves d bytes (echo_still bytes xid payload (reading_of-message_bytes xid (EchoReply payload) lt (IsMessage-echo payload is))) s
 
 record IsAnswered (steps : List WorldStep) (s : State) : Type 0 where
-  all : AllByRecursion IsLinkStep steps
+  all : AllByRecursion IsSentOrGot steps
   orderly : (app : ℕ) → AllByRecursion (IsOrderly app) steps
   leaves : Leaves s (after_steps steps s)
 
@@ -374,32 +351,25 @@ message_done {d = d} {bytes = bytes} {mid = mid} {new = new} told given takes =
 
 -- ---- A switch joins that is empty
 
-pub record Fresh (d : ℕ) (s : State) : Type 0 where
-  pub waits : (e : ℕ) → waits_of e s ≡ []
-  pub switch : SwitchState
-  pub joined : switch_of d s ≡ Some switch
-  pub empty : switch.table.entries ≡ []
-  pub config : switch.config ≡ first_config
-
 all_join : (P : WorldStep → Type 0) (xs ys : List WorldStep) → AllByRecursion P xs → AllByRecursion P ys → AllByRecursion P (xs ++ ys)
 all_join P [] ys first later = later
 all_join P (x ∷ xs) ys first later = (first.0, all_join P xs ys first.1 later)
 
-heard_links : (d : ℕ) (h : Heard) (bytes : List ℕ) → AllByRecursion IsLinkStep (steps_by d h bytes)
+heard_links : (d : ℕ) (h : Heard) (bytes : List ℕ) → AllByRecursion IsSentOrGot (steps_by d h bytes)
 heard_links d Reply bytes = tt
 heard_links d (Refused r) bytes = tt
 heard_links d Notice bytes = tt
 heard_links d Echo bytes = (sent_is d (echo_reply bytes), tt)
 heard_links d Other bytes = tt
 
-wait_links : (a : Awaited) (got : List (List ℕ)) → AllByRecursion IsLinkStep (wait_steps a got)
+wait_links : (a : Awaited) (got : List (List ℕ)) → AllByRecursion IsSentOrGot (wait_steps a got)
 wait_links a [] = tt
-wait_links a (b ∷ bs) = (got_is a.dpid b, all_join IsLinkStep (steps_by a.dpid (heard a b) b) (wait_steps a bs) (heard_links a.dpid (heard a b) b) (wait_links a bs))
+wait_links a (b ∷ bs) = (got_is a.dpid b, all_join IsSentOrGot (steps_by a.dpid (heard a b) b) (wait_steps a bs) (heard_links a.dpid (heard a b) b) (wait_links a bs))
 
-join_links : (d xid : ℕ) (got : List (List ℕ)) → AllByRecursion IsLinkStep (greeting d xid ++ (wait_steps (greeted_from d xid) got ++ reply_got (greeted_from d xid) ∷ []))
+join_links : (d xid : ℕ) (got : List (List ℕ)) → AllByRecursion IsSentOrGot (greeting d xid ++ (wait_steps (greeted_from d xid) got ++ reply_got (greeted_from d xid) ∷ []))
 join_links d xid got =
     let a = greeted_from d xid in
-    (sent_is d _, (sent_is d _, (sent_is d _, all_join IsLinkStep (wait_steps a got) (reply_got a ∷ []) (wait_links a got) (got_is d _, tt))))
+    (sent_is d _, (sent_is d _, (sent_is d _, all_join IsSentOrGot (wait_steps a got) (reply_got a ∷ []) (wait_links a got) (got_is d _, tt))))
 
 joins_leave : {Own : Type 0} {d : ℕ} {mid new : Seen Own} {net now_net : NetState} → Conforming mid → Conforming new → Fresh d (state mid) → SameRest (state mid) (state new) → JoinsInStep d mid new net now_net → Leaves (state mid) (state new)
 unfolding upcoming waits_of
@@ -437,14 +407,6 @@ join_done {d = d} {mid = mid} {new = new} {net = net} told kept keeps given fres
     )
 
 -- ---- The whole
-
-abbrev pub IsFresh : WorldStep → State → Type 0
-IsFresh (Joined d bytes) s = Fresh d s
-IsFresh other s = Unit {0}
-
-pub record Done {Own : Type 0} (mid new : Seen Own) (now_net : NetState) : Type 0 where
-  pub done : ItemDone mid new
-  pub kept : now_net.kept ≡ []
 
 untouched : {Own : Type 0} {mid new : Seen Own} {net now_net : NetState} → net.kept ≡ [] → Untouched mid new net now_net → Done mid new now_net
 untouched {mid = mid} {new = new} none is = record { done = untouched_done mid new is.seen; kept = is.kept ∙ none }
@@ -494,16 +456,6 @@ joined_done : {Own Tells : Type 0} {mid new : Seen Own} (net now_net : NetState)
     → DoesJoined Tells d bytes known mid new net now_net → Done mid new now_net
 joined_done net now_net d bytes true told kept keeps given none fresh does = untouched none does
 joined_done net now_net d bytes false told kept keeps given none fresh does = joined_as net now_net d (reading_of bytes) told kept keeps given none fresh does
-
--- What the engine does at an item that may be told moves no switch, and no message is kept.
-abbrev pub IsItem : WorldStep → Type 0
-IsItem (From d bytes) = Unit {0}
-IsItem (Joined d bytes) = Unit {0}
-IsItem (Left d) = Unit {0}
-IsItem (Moment t) = Unit {0}
-IsItem Idle = Unit {0}
-IsItem End = Unit {0}
-IsItem other = ⊥
 
 pub item_done : {Own Tells : Type 0} {mid new : Seen Own} {net now_net : NetState} {queue now_queue : List Event} (item : WorldStep) → IsItem item → Tells → Conforming mid → Conforming new → net.kept ≡ [] → IsFresh item (state mid)
     → Handles Tells item mid new net now_net queue now_queue → Done mid new now_net

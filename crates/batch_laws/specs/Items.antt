@@ -1,6 +1,6 @@
 -- What the engine does with one item that the outside told, in every world: what it then knows, what it has sent, and which messages it
 -- keeps (OpenFlow 1.0.0, 5.3.1 Handshake and 5.5.2 Echo Request). All of this is our own.
-use Rattle.std.specs.Prelude.{◌≡◌, ◌==◌, ℕ, Bool, true, false, not, List, [], ◌++◌, filter, Result, Ok, Err, IsOk, is_some}
+use Rattle.std.specs.Prelude.{◌≡◌, ◌==◌, ℕ, Bool, true, false, not, List, [], ◌++◌, filter, Result, Ok, Err, IsOk, is_some, ◌⊎◌, map, Some}
 use Rattle.of_types.specs.Fields.{IsBytes}
 use Rattle.of_types.specs.declared.port_desc.PortDesc.{PortDesc}
 use Rattle.of_wire.specs.declared.message.Message.{Message}
@@ -11,17 +11,23 @@ use Rattle.of_wire.specs.Reading.{reading_of}
 use Rattle.app_frames.specs.declared.frame.Event.{Event}
 use Rattle.outside.specs.declared.item.Item.{Item}
 use Rattle.outside.specs.declared.step.WorldStep.{WorldStep}
-use Rattle.outside.specs.declared.step.WorldStep.TheVariants.{From, Joined, Left, Moment}
-use Rattle.outside.specs.Seen.{Seen, Continues}
-use Rattle.outside.specs.State.{state, waits_of}
+use Rattle.outside.specs.declared.step.WorldStep.TheVariants.{From, Joined, Left, Moment, Acted, Idle, End}
+use Rattle.outside.specs.Seen.{Seen, Continues, journal}
+use Rattle.outside.specs.State.{state, waits_of, Link, State, switch_of, upcoming}
 use Rattle.outside.specs.Calls.{Nexts, item_step}
-use Rattle.outside.specs.Conforming.{Conforming}
+use Rattle.outside.specs.Conforming.{Conforming, AreDeclaredFrom}
 use Rattle.net_txn.specs.Net.{NetState}
 use Rattle.net_txn.specs.Views.{rows_at}
 use Rattle.net_txn.specs.Arriving.{arrival_steps}
 use Rattle.net_txn.specs.Joining.{Joins}
 use Rattle.net_txn.specs.JoiningSteps.{JoinsInStep}
 use Rattle.batch_laws.specs.Knowledge.{knowledge_of, joined_by, handled}
+use Rattle.std.specs.List.{flat_map}
+use Rattle.of_types.specs.declared.journal.Act.TheVariants.{Sent, Got}
+use Rattle.flow_table.specs.Switch.{SwitchState, first_config}
+use Rattle.lego_model.specs.Journal.{is_of, stimuli}
+use Rattle.switch_laws.specs.Orderly.{OrderlySince}
+use Rattle.batch_laws.specs.InBatch.{SameBesides}
 
 -- ---- What is done
 
@@ -121,3 +127,51 @@ pub record TakesNext {Own : Type 0} (Tells : Type 0) (item : Item) (old new : Se
   pub fit : IsBytes buf
   pub nexts : Nexts Tells old mid (Ok item) buf
   pub handles : Handles Tells (item_step item buf) mid new net now_net queue now_queue
+
+abbrev pub waiting : List Link → List WorldStep
+waiting ls = flat_map (λ l. map (From l.declared.dpid) l.waits) ls
+
+abbrev pub Ascend : ℕ → List Link → Type 0
+Ascend least ls = AreDeclaredFrom least (map (λ l. l.declared) ls)
+
+pub record Leaves (s t : State) : Type 0 where
+  pub besides : SameBesides t s
+  pub begun : t.begun ≡ s.begun
+  pub due : t.due ≡ s.due
+  pub switches : (d : ℕ) → switch_of d t ≡ switch_of d s
+  pub upcoming_so : upcoming t ≡ upcoming s
+
+abbrev pub IsSentOrGot : WorldStep → Type 0
+IsSentOrGot step = (d : ℕ) × (bytes : List ℕ) × ((step ≡ Acted (Sent d bytes)) ⊎ (step ≡ Acted (Got d bytes)))
+
+pub record ItemDone {Own : Type 0} (mid new : Seen Own) : Type 0 where
+  pub given : new.given ≡ mid.given
+  pub leaves : Leaves (state mid) (state new)
+  pub stimuli_so : stimuli (journal new.history) ≡ stimuli (journal mid.history)
+  pub acts : (app : ℕ) → filter (is_of app) (journal new.history) ≡ filter (is_of app) (journal mid.history)
+  pub orderly : (app : ℕ) → OrderlySince app mid new
+
+pub record Fresh (d : ℕ) (s : State) : Type 0 where
+  pub waits : (e : ℕ) → waits_of e s ≡ []
+  pub switch : SwitchState
+  pub joined : switch_of d s ≡ Some switch
+  pub empty : switch.table.entries ≡ []
+  pub config : switch.config ≡ first_config
+
+abbrev pub IsFresh : WorldStep → State → Type 0
+IsFresh (Joined d bytes) s = Fresh d s
+IsFresh other s = Unit {0}
+
+pub record Done {Own : Type 0} (mid new : Seen Own) (now_net : NetState) : Type 0 where
+  pub done : ItemDone mid new
+  pub kept : now_net.kept ≡ []
+
+-- What the engine does at an item that may be told moves no switch, and no message is kept.
+abbrev pub IsItem : WorldStep → Type 0
+IsItem (From d bytes) = Unit {0}
+IsItem (Joined d bytes) = Unit {0}
+IsItem (Left d) = Unit {0}
+IsItem (Moment t) = Unit {0}
+IsItem Idle = Unit {0}
+IsItem End = Unit {0}
+IsItem other = ⊥

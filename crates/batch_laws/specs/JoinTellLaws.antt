@@ -25,25 +25,27 @@ use Rattle.lego_model.specs.Controller.{or_joined, join_event, joined, at_place,
 use Rattle.outside.specs.declared.step.WorldStep.{WorldStep}
 use Rattle.outside.specs.declared.step.WorldStep.TheVariants.{Joined}
 use Rattle.outside.specs.Seen.{is_declared}
-use Rattle.outside.specs.State.{Link, State, link_of, switch_in, switch_of, with_link, switch_joined, link_joined, join_due, after_stim, upcoming}
+use Rattle.outside.specs.State.{Link, State, link_of, switch_in, switch_of, with_link, switch_joined, link_joined, join_due, after_stim, upcoming, declared_in}
 use Rattle.outside.specs.LinkLaws.{link_of-same, link_of-other}
 use Rattle.outside.specs.Conforming.{MayDeclare}
 use Rattle.net_txn.specs.declared.ports.KnownPorts.{KnownPorts}
-use Rattle.net_txn.specs.Views.{rows_at}
+use Rattle.net_txn.specs.Views.{rows_at, ViewsAscend}
 use Rattle.net_txn.specs.Joining.{with_view}
 use Rattle.net_txn.specs.JoiningLaws.{rows_at-with_view, rows_at-with_view-other}
 use Rattle.switch_laws.specs.Shown.{flags_at, shown_switch, places, shown_places}
 use Rattle.batch_laws.specs.Knowledge.{Knowledge, handled, handled_all, joined_by}
-use Rattle.batch_laws.specs.Calm.{known_ports, ViewsAscend}
-use Rattle.batch_laws.specs.HistoryLaws.{AscendPorts, Lasts, joined-lasts, LinkLasts}
+use Rattle.batch_laws.specs.Calm.{known_ports}
+use Rattle.batch_laws.specs.HistoryLaws.{joined-lasts}
+use Rattle.batch_laws.specs.Lasting.{AscendPorts, Lasts, LinkLasts}
 use Rattle.batch_laws.specs.PortTellLaws.{desc-fits}
-use Rattle.batch_laws.specs.LinkTellLaws.{KnownIn, declared_in}
-use Rattle.batch_laws.specs.ReferenceLaws.{all-each, place_at, place-map, events_of_one, flat-one, flat-alike, declared-found, has-link, all-at, none-waiting, waiting-silent}
-use Rattle.batch_laws.specs.AfterLaws.{Facts, SoundIn, After, sound-stands}
-use Rattle.batch_laws.specs.LeaveTellLaws.{OnlyOne, all-known, all-sound, place-of-one}
-
-abbrev some : SwitchState → Option SwitchState
-some s = Some s
+use Rattle.batch_laws.specs.LinkTells.{KnownIn}
+use Rattle.batch_laws.specs.ReferenceLaws.{all-each, place-map, flat-one, flat-alike, declared-found, has-link, all-at, none-waiting, waiting-silent}
+use Rattle.batch_laws.specs.Waiting.{place_at, events_of_one}
+use Rattle.batch_laws.specs.AfterLaws.{sound-stands}
+use Rattle.batch_laws.specs.After.{Facts, SoundIn, After}
+use Rattle.batch_laws.specs.LeaveTellLaws.{all-known, all-sound, place-of-one}
+use Rattle.batch_laws.specs.Tells.{OnlyOne}
+use Rattle.switch_laws.specs.ShownExchangeLaws.{some_switch}
 
 -- ---- Its FEATURES_REPLY can be read
 
@@ -132,7 +134,7 @@ join-places d s k after l facts found only here =
     (all-each (λ (y : Declared). y.dpid ≡ d → y ≡ l.declared) (λ y. at_place d (joined s.moment) (place_at g y) ≡ place_at (shown_switch after.views now) y)
     (λ y is. place-of-one d s now k after facts only (joined s.moment) y (λ same.
     ap (λ (o : Option SwitchState). record { declared = y; switch = o })
-    (ap₂ (λ (x : Declared) (n : ℕ). some (or_joined s.moment x (g n))) (is same) same ∙ sym here ∙ ap (shown_switch after.views now) (sym same)))) (declared_in s.links)
+    (ap₂ (λ (x : Declared) (n : ℕ). some_switch (or_joined s.moment x (g n))) (is same) same ∙ sym here ∙ ap (shown_switch after.views now) (sym same)))) (declared_in s.links)
     (declared-found d 1 s.links l facts.ascend found)))
 
 -- ---- What the engine knows then
@@ -169,7 +171,7 @@ added-other : (d e : ℕ) (ps : List PortDesc) (ks : List KnownPorts) → e ≢ 
 added-other d e ps [] other = rw (ne_eqb d e (λ same. other (sym same))) refl
 added-other d e ps (k ∷ ks) other = ap (λ (o : Option (List PortDesc)). if k.dpid == e then Some k.ports else o) (added-other d e ps ks other)
 
-no-rows : (rows : Option (List ViewRow)) → option_map rows_of_view rows ≡ None → rows ≡ None
+pub no-rows : (rows : Option (List ViewRow)) → option_map rows_of_view rows ≡ None → rows ≡ None
 no-rows None h = refl
 no-rows (Some rows) h = absurd cc
 
@@ -190,7 +192,7 @@ stays-joined d s k l y facts declared found is =
       queue =
           sym (append-nil k.queue)
           ∙ ap (λ (es : List Event). k.queue ++ es) (sym (join-events d s k l facts declared found ∙ ap (λ (o : Option SwitchState). joins_at s.moment (record { declared = l.declared; switch = o })) shown));
-      places = join-places d s k k l facts found only (ap (option_map (owned_switch (flags_at d k.views))) here ∙ ap (λ (o : Option SwitchState). some (or_joined s.moment l.declared o)) (sym shown));
+      places = join-places d s k k l facts found only (ap (option_map (owned_switch (flags_at d k.views))) here ∙ ap (λ (o : Option SwitchState). some_switch (or_joined s.moment l.declared o)) (sym shown));
       known = all-known d s now k k facts only (subst (λ (o : Option SwitchState). KnownIn o (rows_at d k.views) (known_ports d k.ports)) (before ∙ sym here) (facts.known d));
       order = facts.order;
       moment = facts.moment;
@@ -220,7 +222,7 @@ comes d s k l facts declared found number may is =
       queue =
           ap (λ (e : Event). k.queue ++ e ∷ []) (sym event)
           ∙ ap (λ (es : List Event). k.queue ++ es) (sym (join-events d s k l facts declared found ∙ ap (λ (o : Option SwitchState). joins_at s.moment (record { declared = l.declared; switch = o })) shown));
-      places = join-places d s k after l facts found only (ap (option_map (owned_switch (flags_at d after.views))) here ∙ ap (λ (o : Option SwitchState). some (or_joined s.moment l.declared o)) (sym shown));
+      places = join-places d s k after l facts found only (ap (option_map (owned_switch (flags_at d after.views))) here ∙ ap (λ (o : Option SwitchState). some_switch (or_joined s.moment l.declared o)) (sym shown));
       known = all-known d s now k after facts only (subst (λ (o : Option SwitchState). KnownIn o (rows_at d after.views) (known_ports d after.ports)) (sym here) (record {
         agrees = ap (option_map rows_of_view) (rows_at-with_view d k.views);
         ports = added-here d (features_of j).ports k.ports known.ports;

@@ -1,12 +1,10 @@
 -- Keys of entries, of notices and of rows: where the entries that go are taken out of a view, and which of them their owners asked for.
-use Rattle.std.proofs.Common.{◌≡◌, ◌==◌, ℕ, ◌+◌, ◌<◌, ◌≤◌, Bool, true, false, not, ◌&&◌, ◌||◌, List, [], ◌∷◌, map, filter, nat_le, Some, refl, sym, ap, ◌∙◌, subst, inl, inr, arith, true≢false}
+use Rattle.std.proofs.Common.{◌≡◌, ◌==◌, ℕ, ◌+◌, ◌<◌, ◌≤◌, Bool, true, false, not, ◌&&◌, ◌||◌, List, [], ◌∷◌, map, filter, nat_le, Some, refl, sym, ap, ◌∙◌, subst, inl, inr, arith}
 use Rattle.std.proofs.lemmas.Bool.{cases_Bool, eqb-true, eqb-false, eq-eqb, ne_eqb}
 use Rattle.std.specs.List.{AllByRecursion, list_any}
 use Rattle.of_match.specs.declared.key.Key.{Key}
 use Rattle.of_match.specs.Key.{key_number}
-use Rattle.of_action.specs.declared.action.Action.{Action}
 use Rattle.flow_table.specs.declared.entry.Entry.{Entry}
-use Rattle.flow_table.specs.declared.notice.Notice.{Notice}
 use Rattle.flow_table.specs.declared.view.ViewRow.{ViewRow}
 use Rattle.flow_table.specs.Table.{place_of, AscendsFrom}
 use Rattle.flow_table.specs.Change.{asks_notice}
@@ -14,6 +12,8 @@ use Rattle.flow_table.specs.Expiry.{end_of, among, by_deadline}
 use Rattle.lego_model.specs.Answers.{rows_of_table, rows_of_view}
 use Rattle.net_txn.specs.Arriving.{is_asked, without_key}
 use Rattle.switch_laws.specs.Shown.{flags_in}
+use Rattle.batch_laws.specs.Keys.{has_place, Distinct, entry_keys, without_all, AscendRows}
+use Rattle.switch_laws.specs.AbsentLaws.{neither}
 
 -- ---- Lists
 
@@ -55,23 +55,6 @@ filter-alike p q (x ∷ xs) h =
     ]
 
 -- ---- Keys
-
-abbrev pub has_place : Key → List Key → Bool
-has_place k ks = list_any (λ j. key_number k == key_number j) ks
-
-abbrev pub Distinct : List Key → Type 0
-Distinct [] = Unit {0}
-Distinct (k ∷ ks) = (has_place k ks ≡ false) × Distinct ks
-
-abbrev pub entry_keys : List Entry → List Key
-entry_keys es = map (λ e. e.key) es
-
-abbrev pub notice_keys : List Notice → List Key
-notice_keys ns = map (λ n. n.removed.key) ns
-
-pub neither : (a b : Bool) → (a || b) ≡ false → (a ≡ false) × (b ≡ false)
-neither true b h = absurd (true≢false h)
-neither false b h = (refl, h)
 
 or-swap : (a b c : Bool) → (a || (b || c)) ≡ (b || (a || c))
 or-swap true true c = refl
@@ -161,10 +144,6 @@ has-filter test least (e ∷ es) h =
 
 -- ---- Rows
 
-abbrev pub without_all : List Key → List ViewRow → List ViewRow
-without_all [] rows = rows
-without_all (k ∷ ks) rows = without_all ks (without_key k rows)
-
 filter_none : (rows : List ViewRow) → filter (λ r. true) rows ≡ rows
 filter_none [] = refl
 filter_none (r ∷ rs) = ap (λ (xs : List ViewRow). r ∷ xs) (filter_none rs)
@@ -212,11 +191,6 @@ flags-kept ks k (r ∷ rs) new =
         | inr stays ↦ rw stays (rw other (flags-kept ks k rs new))
       ]
     ]
-
--- rows in key order
-abbrev pub AscendRows : ℕ → List (Key × List Action) → Type 0
-AscendRows least [] = Unit {0}
-AscendRows least (p ∷ ps) = (least ≤ key_number p.0) × AscendRows (key_number p.0 + 1) ps
 
 pub rows-ascend : (least : ℕ) (es : List Entry) → AscendsFrom least es → AscendRows least (rows_of_table es)
 rows-ascend least [] h = tt

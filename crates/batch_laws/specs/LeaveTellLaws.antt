@@ -19,25 +19,22 @@ use Rattle.lego_model.specs.Controller.{ports_of, leave_event, left_of, out, at_
 use Rattle.outside.specs.declared.step.WorldStep.{WorldStep}
 use Rattle.outside.specs.declared.step.WorldStep.TheVariants.{Left}
 use Rattle.outside.specs.Seen.{is_declared}
-use Rattle.outside.specs.State.{Link, State, link_of, switch_in, switch_of, with_link, link_left, after_stim, upcoming}
+use Rattle.outside.specs.State.{Link, State, link_of, switch_in, switch_of, with_link, link_left, after_stim, upcoming, declared_in}
 use Rattle.outside.specs.LinkLaws.{link_of-same, link_of-other}
 use Rattle.net_txn.specs.declared.ports.KnownPorts.{KnownPorts}
-use Rattle.net_txn.specs.Views.{rows_at}
+use Rattle.net_txn.specs.Views.{rows_at, ViewsAscend}
 use Rattle.net_txn.specs.Leaving.{ports_at, port_text, ports_text}
 use Rattle.switch_laws.specs.Shown.{flags_in, rows_or_none, flags_at, shown_switch, shown_places}
 use Rattle.batch_laws.specs.Knowledge.{Knowledge, is_known, handled, handled_all, left_by}
-use Rattle.batch_laws.specs.Calm.{known_ports, ViewsAscend}
-use Rattle.batch_laws.specs.LinkTellLaws.{KnownIn, table_rows, StandsWell, StandsIn, declared_in}
-use Rattle.batch_laws.specs.ReferenceLaws.{all-of, place_at, place-map, flat-one, none-waiting, waiting-silent}
-use Rattle.batch_laws.specs.AfterLaws.{Facts, SoundIn, After, sound-stands}
+use Rattle.batch_laws.specs.Calm.{known_ports}
+use Rattle.batch_laws.specs.LinkTells.{KnownIn, table_rows, StandsWell, StandsIn}
+use Rattle.batch_laws.specs.ReferenceLaws.{all-of, place-map, flat-one, none-waiting, waiting-silent}
+use Rattle.batch_laws.specs.Waiting.{place_at}
+use Rattle.batch_laws.specs.AfterLaws.{sound-stands}
+use Rattle.batch_laws.specs.After.{Facts, SoundIn, After}
+use Rattle.batch_laws.specs.Tells.{OnlyOne}
 
 -- ---- Others stay
-
--- one switch changed, and what the engine knows of it; the others are as they were
-pub record OnlyOne (d : ℕ) (s now : State) (k after : Knowledge) : Type 0 where
-  pub switches : (e : ℕ) → e ≢ d → switch_of e now ≡ switch_of e s
-  pub rows : (e : ℕ) → e ≢ d → rows_at e after.views ≡ rows_at e k.views
-  pub described : (e : ℕ) → e ≢ d → known_ports e after.ports ≡ known_ports e k.ports
 
 module _ (d : ℕ) (s now : State) (k after : Knowledge) (facts : Facts s k) (only : OnlyOne d s now k after) where
   other-shown : (e : ℕ) → e ≢ d → shown_switch after.views now e ≡ shown_switch k.views s e

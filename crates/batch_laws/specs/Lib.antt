@@ -18,3 +18,9 @@ pub mod HandleLaws
 pub mod ItemLaws
 pub mod InBatch
 pub mod InBatchLaws
+pub mod After
+pub mod Lasting
+pub mod Keys
+pub mod Tells
+pub mod LinkTells
+pub mod Waiting

@@ -31,16 +31,19 @@ use Rattle.app_frames.specs.declared.frame.Event.{Event}
 use Rattle.lego_model.specs.Answers.{rows_of_table, rows_of_view}
 use Rattle.lego_model.specs.Controller.{event_of_read, events_of}
 use Rattle.outside.specs.declared.step.WorldStep.TheVariants.{From}
-use Rattle.net_txn.specs.Views.{rows_at, with_rows}
+use Rattle.net_txn.specs.Views.{rows_at, with_rows, ViewsAscend}
 use Rattle.net_txn.specs.ViewLaws.{rows_at-same, rows_at-other}
 use Rattle.net_txn.specs.Arriving.{is_asked, without_key}
 use Rattle.switch_laws.specs.Shown.{flags_in}
 use Rattle.switch_laws.specs.Sound.{SoundEntry, AllSound}
 use Rattle.switch_laws.specs.SoundLaws.{notice-message}
 use Rattle.batch_laws.specs.Knowledge.{Knowledge, told_read, handled, handled_all}
-use Rattle.batch_laws.specs.Calm.{known_ports, ViewsAscend}
-use Rattle.batch_laws.specs.KeyLaws.{all-both, all-filter, all-map, all-by_deadline, filter-alike, neither, has_place, Distinct, entry_keys, notice_keys, has-by_deadline, distinct-by_deadline, distinct-filter, has-filter, without_all, without_all-filter, view-filter, table-filter, flags-kept, AscendRows, rows-ascend, asked-flags, asked-without}
-use Rattle.batch_laws.specs.TellLaws.{ViewChanged, SwitchHandled, SwitchKnown, known-handled, is-known}
+use Rattle.batch_laws.specs.Calm.{known_ports}
+use Rattle.batch_laws.specs.KeyLaws.{all-both, all-filter, all-map, all-by_deadline, filter-alike, has-by_deadline, distinct-by_deadline, distinct-filter, has-filter, without_all-filter, view-filter, table-filter, flags-kept, rows-ascend, asked-flags, asked-without}
+use Rattle.switch_laws.specs.AbsentLaws.{neither}
+use Rattle.batch_laws.specs.Keys.{has_place, Distinct, entry_keys, notice_keys, without_all, AscendRows}
+use Rattle.batch_laws.specs.TellLaws.{known-handled, is-known}
+use Rattle.batch_laws.specs.Tells.{ViewChanged, SwitchHandled, SwitchKnown}
 
 -- ---- Views
 
@@ -86,10 +89,6 @@ asked-later flags j rows [] new h = tt
 asked-later flags j rows (n ∷ ns) new h =
     let parts = neither (key_number j == key_number n.removed.key) (has_place j (notice_keys ns)) new in
     (asked-without n.removed.key j rows parts.0 ∙ h.0, asked-later flags j rows ns parts.1 h.1)
-
-abbrev queue_after : Bool → Event → List Event → List Event
-queue_after true event queue = queue ++ event ∷ []
-queue_after false event queue = queue
 
 notice-handled : (flags : Key → ℕ) (d : ℕ) (n : Notice) (rows : List ViewRow) (k : Knowledge) → ReadNotice n → AskedAs flags rows n → rows_at d k.views ≡ Some rows
     → NoticesHandled flags d (n ∷ []) rows k (handled (From d (flow_removed_bytes n)) k)

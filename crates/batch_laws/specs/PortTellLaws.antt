@@ -28,13 +28,14 @@ use Rattle.lego_model.specs.Answers.{rows_of_table}
 use Rattle.lego_model.specs.Controller.{ports_of, events_of}
 use Rattle.outside.specs.declared.step.WorldStep.TheVariants.{From}
 use Rattle.net_txn.specs.declared.ports.KnownPorts.{KnownPorts}
-use Rattle.net_txn.specs.Arriving.{ports_after, known_after}
-use Rattle.net_txn.specs.Arriving.{with_port as put_port}
+use Rattle.net_txn.specs.Arriving.{ports_after, known_after, with_port as put_port}
 use Rattle.switch_laws.specs.Shown.{flags_in}
 use Rattle.batch_laws.specs.Knowledge.{Knowledge, handled_all}
 use Rattle.batch_laws.specs.Calm.{known_ports}
-use Rattle.batch_laws.specs.HistoryLaws.{AscendPorts, Lasts}
-use Rattle.batch_laws.specs.TellLaws.{SwitchHandled, SwitchKnown, known-handled, is-known, view-kept}
+use Rattle.batch_laws.specs.Lasting.{AscendPorts, Lasts}
+use Rattle.batch_laws.specs.TellLaws.{known-handled, is-known, view-kept}
+use Rattle.batch_laws.specs.Tells.{SwitchHandled, SwitchKnown}
+use Rattle.batch_laws.specs.HistoryLaws.{none_is}
 
 -- ---- News of a port can be read
 
@@ -101,7 +102,7 @@ known-other d e status (k ∷ ks) other =
 abbrev changed_at : ℕ → (PortState → PortState) → PortState → PortState
 changed_at n g p = if p.number == n then g p else p
 
-some_is_none : {X : Type 0} (x : X) → Some x ≡ None → ⊥
+pub some_is_none : {X : Type 0} (x : X) → Some x ≡ None → ⊥
 some_is_none x e = cc
 
 one_port : (p q : PortState) → Some p ≡ Some q → p ≡ q
@@ -154,9 +155,6 @@ changed-same n least g (q ∷ qs) p h is same =
           rw here (ap₂ (λ (x : PortState) xs. x ∷ xs) (ap g this ∙ same ∙ sym this) rest)
       | inr other ↦ rw other (ap (λ (xs : List PortState). q ∷ xs) (changed-same n (q.number + 1) g qs p h.3 (rw other at is) same))
     ]
-
-put-before : (r s : PortDesc) (ss : List PortDesc) → r.port_no < s.port_no → put_port r (s ∷ ss) ≡ r ∷ s ∷ ss
-put-before r s ss lt = rw (lt-ltb _ _ lt) refl
 
 put-same : (r s : PortDesc) (ss : List PortDesc) → r.port_no ≡ s.port_no → put_port r (s ∷ ss) ≡ r ∷ ss
 put-same r s ss same =
@@ -220,10 +218,6 @@ without-absent n (p ∷ ps) none =
       | inl here ↦ absurd (some_is_none p (rw here at none))
       | inr other ↦ rw other (ap (λ (xs : List PortState). p ∷ xs) (without-absent n ps (rw other at none)))
     ]
-
-none_is : (o : Option PortState) → is_none o ≡ true → o ≡ None
-none_is None h = refl
-none_is (Some p) h = absurd cc
 
 -- ---- One switch
 

@@ -1,5 +1,5 @@
 -- What the reference controller has in the places of the declared switches, and the events of its stimuli, switch by switch.
-use Rattle.std.proofs.Common.{◌≡◌, ◌==◌, ℕ, ◌+◌, ◌<◌, ◌≤◌, true, false, List, [], ◌∷◌, ◌++◌, map, Option, Some, if◌then◌else◌, refl, sym, ap, ap₂, ◌∙◌, subst, inl, inr, arith}
+use Rattle.std.proofs.Common.{◌≡◌, ◌==◌, ℕ, ◌+◌, ◌<◌, ◌≤◌, true, false, List, [], ◌∷◌, ◌++◌, map, Option, Some, refl, sym, ap, ap₂, ◌∙◌, subst, inl, inr, arith}
 use Rattle.std.proofs.lemmas.Bool.{cases_Bool, eqb-true, eqb-false, eq-eqb, ne_eqb}
 use Rattle.std.proofs.lemmas.List.{append-nil}
 use Rattle.std.specs.List.{AllByRecursion, flat_map}
@@ -14,10 +14,11 @@ use Rattle.lego_model.specs.Controller.{events_at, sent_events}
 use Rattle.outside.specs.declared.step.WorldStep.{WorldStep}
 use Rattle.outside.specs.declared.step.WorldStep.TheVariants.{From}
 use Rattle.outside.specs.Seen.{is_declared}
-use Rattle.outside.specs.State.{Link, link_of, switch_in, with_link, link_stimulated, stimulus_sends}
+use Rattle.outside.specs.State.{Link, link_of, switch_in, with_link, link_stimulated, stimulus_sends, declared_in}
 use Rattle.outside.specs.Conforming.{AreDeclaredFrom}
 use Rattle.switch_laws.specs.Shown.{flags_at, places}
-use Rattle.batch_laws.specs.LinkTellLaws.{declared_in, items_of, seen_events}
+use Rattle.batch_laws.specs.LinkTells.{items_of, seen_events}
+use Rattle.batch_laws.specs.Waiting.{place_at, events_of_one, HasLink, waiting, NoneWait}
 
 -- ---- Lists
 
@@ -29,9 +30,6 @@ pub all-each : {X : Type 0} (P Q : X → Type 0) → ((x : X) → P x → Q x) �
 all-each P Q each [] h = tt
 all-each P Q each (x ∷ xs) h = (each x h.0, all-each P Q each xs h.1)
 
-abbrev pub place_at : (ℕ → Option SwitchState) → Declared → Place
-place_at g d = record { declared = d; switch = g d.dpid }
-
 -- ---- Places
 
 pub place-map : (change : Place → Place) (g now : ℕ → Option SwitchState) (ds : List Declared) → AllByRecursion (λ d. change (place_at g d) ≡ place_at now d) ds → map change (places g ds) ≡ places now ds
@@ -39,10 +37,6 @@ place-map change g now [] h = refl
 place-map change g now (d ∷ ds) h = ap₂ (λ (p : Place) ps. p ∷ ps) h.0 (place-map change g now ds h.1)
 
 -- ---- Events
-
--- the events that the switch of a number makes of all of them
-abbrev pub events_of_one : ℕ → (Place → List Event) → Place → List Event
-events_of_one d f p = if p.declared.dpid == d then f p else []
 
 flat-none : (d : ℕ) (f : Place → List Event) (g : ℕ → Option SwitchState) (least : ℕ) (ds : List Declared) → AreDeclaredFrom least ds → d < least → flat_map (events_of_one d f) (places g ds) ≡ []
 flat-none d f g least [] are lt = refl
@@ -122,12 +116,6 @@ declared-found d least (m ∷ ms) l are is =
     apart : (x : Declared) → m.declared.dpid ≡ d → m.declared.dpid + 1 ≤ x.dpid → x.dpid ≡ d → ⊥
     apart x e low same = omega (arith, e, low, same)
 
--- a declared switch has a link
-pub record HasLink (d : ℕ) (ls : List Link) : Type 0 where
-  pub link : Link
-  pub is : link_of d ls ≡ Some link
-  pub number : link.declared.dpid ≡ d
-
 pub has-link : (d : ℕ) (ls : List Link) → is_declared d (declared_in ls) ≡ true → HasLink d ls
 has-link d [] is = absurd cc
 has-link d (l ∷ ls) is =
@@ -162,12 +150,6 @@ link_of-map g keeps d (l ∷ ls) =
     ]
 
 -- ---- What waits
-
-abbrev pub waiting : Link → List WorldStep
-waiting l = map (From l.declared.dpid) l.waits
-
-abbrev pub NoneWait : List Link → Type 0
-NoneWait ls = AllByRecursion (λ l. l.waits ≡ []) ls
 
 waiting-none : (l : Link) → l.waits ≡ [] → waiting l ≡ []
 waiting-none l h = ap (map (From l.declared.dpid)) h

@@ -2,7 +2,6 @@
 -- that wait are what the reference controller has.
 use Rattle.std.proofs.Common.{◌≡◌, ℕ, List, [], ◌++◌, Option, Some, None, Result, Ok, Err, refl, sym, ap, ◌∙◌, subst, arith}
 use Rattle.std.specs.List.{AllByRecursion}
-use Rattle.std.specs.Option.{option_map}
 use Rattle.of_types.specs.Fields.{IsBytes}
 use Rattle.of_types.specs.declared.journal.WorldStim.{WorldStim}
 use Rattle.of_types.specs.declared.journal.WorldStim.TheVariants.{Join, Leave, At, Of}
@@ -15,35 +14,26 @@ use Rattle.of_wire.specs.GrammarLaws.{IsRead-reading_of}
 use Rattle.of_wire.specs.Reading.{reading_of}
 use Rattle.flow_table.specs.Switch.{Declared, SwitchState}
 use Rattle.app_frames.specs.declared.frame.Event.{Event}
-use Rattle.lego_model.specs.Controller.{ports_of, places_after, events_after}
+use Rattle.lego_model.specs.Controller.{places_after, events_after}
 use Rattle.outside.specs.declared.step.WorldStep.TheVariants.{From}
 use Rattle.outside.specs.Seen.{Seen}
-use Rattle.outside.specs.State.{Link, State, link_of, waits_in, waits_of, switch_of, after_stim, upcoming, state}
+use Rattle.outside.specs.State.{Link, State, link_of, waits_in, waits_of, switch_of, after_stim, upcoming, state, declared_in}
 use Rattle.outside.specs.Conforming.{AreDeclaredFrom, IsWorldStim, Conforming}
 use Rattle.net_txn.specs.Net.{NetState}
-use Rattle.net_txn.specs.Agreement.{Agrees}
 use Rattle.switch_laws.specs.Shown.{shown_places}
-use Rattle.switch_laws.specs.Sound.{AllSound, Sound}
+use Rattle.switch_laws.specs.Sound.{AllSound}
 use Rattle.switch_laws.specs.StandLaws.{all-stand}
 use Rattle.batch_laws.specs.Knowledge.{Knowledge, knowledge_of, handled_all}
-use Rattle.batch_laws.specs.Calm.{known_ports, ViewsAscend, Calm}
+use Rattle.batch_laws.specs.Calm.{Calm}
 use Rattle.batch_laws.specs.HistoryLaws.{links-last, links-declared, switch-lasts}
-use Rattle.batch_laws.specs.TellLaws.{FitsMessage, FitsRead, FitsItem}
-use Rattle.batch_laws.specs.LinkTellLaws.{StandsIn, declared_in}
-use Rattle.batch_laws.specs.ReferenceLaws.{all-each, NoneWait, links-found}
-use Rattle.batch_laws.specs.AfterLaws.{Facts, SoundIn, After, after-moment, after-happened}
+use Rattle.batch_laws.specs.Tells.{FitsMessage, FitsRead, FitsItem, StimulusHandled}
+use Rattle.batch_laws.specs.LinkTells.{StandsIn}
+use Rattle.batch_laws.specs.ReferenceLaws.{all-each, links-found}
+use Rattle.batch_laws.specs.Waiting.{NoneWait}
+use Rattle.batch_laws.specs.AfterLaws.{after-moment, after-happened}
+use Rattle.batch_laws.specs.After.{Facts, SoundIn, After}
 use Rattle.batch_laws.specs.LeaveTellLaws.{after-leave}
 use Rattle.batch_laws.specs.JoinTellLaws.{after-join}
-
--- what is so once the items of a stimulus are handled
-pub record StimulusHandled {Own : Type 0} (x : WorldStim) (seen : Seen Own) (net : NetState) (queue : List Event) (k : Knowledge) : Type 0 where
-  pub queue_so : k.queue ≡ queue ++ events_after x (state seen).moment (shown_places seen.given.declared net.views (state seen))
-  pub places : shown_places seen.given.declared k.views (after_stim x (state seen)) ≡ places_after x (state seen).moment (shown_places seen.given.declared net.views (state seen))
-  pub agrees : (d : ℕ) → Agrees d k.views (after_stim x (state seen))
-  pub ports : (d : ℕ) → known_ports d k.ports ≡ option_map ports_of (switch_of d (after_stim x (state seen)))
-  pub order : ViewsAscend 0 k.views
-  pub moment : k.moment ≡ (after_stim x (state seen)).moment
-  pub sound : Sound (after_stim x (state seen))
 
 -- ---- Bytes say numbers that fit
 

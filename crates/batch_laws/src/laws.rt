@@ -10,8 +10,7 @@ ghost use Rattle.outside.specs.Conforming.{Conforming, IsWorldStim};
 ghost use Rattle.net_txn.specs.Net.{NetState};
 ghost use Rattle.batch_laws.specs.Knowledge.{knowledge_of, handled_all};
 ghost use Rattle.batch_laws.specs.Calm.{Calm};
-ghost use Rattle.batch_laws.specs.TellLaws.{FitsItem};
-ghost use Rattle.batch_laws.specs.StimulusLaws.{StimulusHandled};
+ghost use Rattle.batch_laws.specs.Tells.{FitsItem, StimulusHandled};
 
 use outside::World;
 

@@ -1,4 +1,4 @@
-//! Runs of the engine over worlds and sinks that fail, as no session can say. Tests alone.
+//! Tests of the engine over simulated worlds and sinks that fail. Tests alone.
 #![tactic(auto)]
 
 #[cfg(test)]

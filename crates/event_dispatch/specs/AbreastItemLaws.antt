@@ -17,7 +17,7 @@ use Rattle.outside.specs.declared.item.Item.TheVariants as items
 use Rattle.outside.specs.declared.step.WorldStep.{WorldStep}
 use Rattle.outside.specs.declared.step.WorldStep.TheVariants.{Acted, From, Joined, Left, Moment, Idle, End}
 use Rattle.outside.specs.Seen.{Seen}
-use Rattle.outside.specs.State.{Link, State, link_of, waits_in, switch_in, waits_of, switch_of, is_joined, upcoming, with_link, switch_joined, link_joined, link_left, link_stimulated, join_due, due_of, after_stim, after_act, after_step, after_steps, state}
+use Rattle.outside.specs.State.{Link, State, link_of, waits_in, switch_in, waits_of, switch_of, is_joined, upcoming, with_link, switch_joined, link_joined, link_left, link_stimulated, join_due, due_of, after_stim, after_step, after_steps, state}
 use Rattle.outside.specs.SeenLaws.{Nexts-continues}
 use Rattle.outside.specs.StateLaws.{state-append}
 use Rattle.outside.specs.LinkLaws.{KeepsDeclared, link_of-same, link_of-other, switch_of-from, switch_of-from_other}
@@ -27,12 +27,15 @@ use Rattle.outside.specs.Conforming.{AreDeclaredFrom, MayStep}
 use Rattle.outside.specs.InOrder.{MayCome, MayComeAll, InOrder}
 use Rattle.outside.specs.InOrderLaws.{InOrder-rest, InOrder-before}
 use Rattle.net_txn.specs.Net.{NetState}
-use Rattle.net_txn.specs.Undos.{is_viewed}
+use Rattle.net_txn.specs.Views.{is_viewed}
 use Rattle.net_txn.specs.Abreast.{Abreast}
 use Rattle.switch_laws.specs.StandLaws.{state-links}
-use Rattle.batch_laws.specs.ItemLaws.{waiting, Ascend}
+use Rattle.batch_laws.specs.Items.{waiting, Ascend}
 use Rattle.event_dispatch.specs.Told.{IsTold}
-use Rattle.event_dispatch.specs.NothingWaitsLaws.{AllEmptyOut, state_empty, steps_empty, out_is_empty}
+use Rattle.event_dispatch.specs.NothingWaitsLaws.{state_empty, steps_empty, out_is_empty}
+use Rattle.event_dispatch.specs.NothingWaits.{AllEmptyOut}
+use Rattle.batch_laws.specs.InBatchLaws.{some_same, stim_step, stim_begun}
+use Rattle.batch_laws.specs.ItemLaws.{lower_number, same_bytes}
 
 -- ---- What waits are messages of switches, and a switch of which one is told is joined
 
@@ -51,12 +54,6 @@ unfolding of_switch
 waiting_of [] = refl
 waiting_of (l ∷ ls) = mapped_of l.declared.dpid l.waits (waiting ls) (waiting_of ls)
 
-same_number : (d e : ℕ) (a b : List ℕ) → Some (From d a) ≡ Some (From e b) → d ≡ e
-same_number d e a b same = cc
-
-same_bytes : (d e : ℕ) (a b : List ℕ) → Some (From d a) ≡ Some (From e b) → a ≡ b
-same_bytes d e a b same = cc
-
 record FirstWaits (d : ℕ) (bytes : List ℕ) (least : ℕ) (ls : List Link) : Type 0 where
   above : least ≤ d
   waits : slice_get (waits_in (link_of d ls)) 0 ≡ Some bytes
@@ -68,7 +65,7 @@ waits_here d least bytes l ls asc rest [] is next =
     let apart : (l.declared.dpid == d) ≡ false = ne_eqb l.declared.dpid d (λ same. absurd (omega (arith, same, later.above))) in
     record { above = omega (arith, asc, later.above); waits = rw apart later.waits }
 waits_here d least bytes l ls asc rest (w ∷ ws) is next =
-    let number : l.declared.dpid ≡ d = same_number l.declared.dpid d w bytes next in
+    let number : l.declared.dpid ≡ d = lower_number l.declared.dpid d w bytes next in
     let here : (l.declared.dpid == d) ≡ true = eq-eqb l.declared.dpid d number in
     record { above = omega (arith, asc, number); waits = rw (here, is) (ap (λ (b : List ℕ). Some b) (same_bytes l.declared.dpid d w bytes next)) }
 
@@ -204,18 +201,7 @@ stim_due : (x : WorldStim) (s : State) → s.due ≡ [] → (after_stim x s).due
 unfolding after_stim
 stim_due x s none = ap (λ (due : List WorldStep). due ++ due_of x s) none
 
-acted_stim : (x : WorldStim) (s : State) → after_step (Acted (Stim x)) s ≡ after_stim x s
-unfolding after_step after_act
-acted_stim x s = refl
-
-stim_begun : (x : WorldStim) (s : State) → (after_stim x s).begun ≡ true
-unfolding after_stim
-stim_begun x s = refl
-
 -- ---- The item that is told next
-
-same_step : (a b : WorldStep) → Some a ≡ Some b → a ≡ b
-same_step a b same = cc
 
 upcoming_none : (t : State) → t.due ≡ [] → upcoming t ≡ waiting t.links
 unfolding upcoming
@@ -238,14 +224,14 @@ the_one : (step : WorldStep) (s t : State) (due : List WorldStep) → of_switch 
 the_one step s t [] other is by next =
     absurd (true≢false (sym (waiting_of t.links) ∙ ap (λ (xs : List WorldStep). of_switch (slice_get xs 0)) (sym (upcoming_none t is)) ∙ ap of_switch next ∙ other))
 the_one step s t (item ∷ []) other is by next =
-    let same : item ≡ step = same_step item step (sym (upcoming_one t item is) ∙ next) in
+    let same : item ≡ step = some_same item step (sym (upcoming_one t item is) ∙ next) in
     (subst (λ (x : WorldStep). OneDue x s t) same by, is ∙ ap (λ (x : WorldStep). x ∷ []) same)
 the_one step s t (item ∷ more ∷ rest) other is by next = absurd by
 
 -- a message is told where nothing is due
 message_due : (d : ℕ) (bytes : List ℕ) (s t : State) (due : List WorldStep) → t.due ≡ due → DueBy due s t → slice_get (upcoming t) 0 ≡ Some (From d bytes) → due ≡ []
 message_due d bytes s t [] is by next = refl
-message_due d bytes s t (item ∷ []) is by next = absurd (subst (λ (x : WorldStep). OneDue x s t) (same_step item (From d bytes) (sym (upcoming_one t item is) ∙ next)) by)
+message_due d bytes s t (item ∷ []) is by next = absurd (subst (λ (x : WorldStep). OneDue x s t) (some_same item (From d bytes) (sym (upcoming_one t item is) ∙ next)) by)
 message_due d bytes s t (item ∷ more ∷ rest) is by next = absurd by
 
 from_joined : (d e : ℕ) (bytes : List ℕ) (t : State) → is_joined e (after_step (From d bytes) t) ≡ is_joined e t
@@ -352,7 +338,7 @@ begun_told : (Tells : Type 0) (declared : List Declared) (begun : Option WorldSt
     → IsTold (item_step item buf) (after_step (item_step item buf) (after_steps (stim_steps begun) s)) views
 begun_told Tells declared None item buf s views none viewed asc empty fits may = item_told Tells declared item buf s s views [] none (λ e. refl) (λ over. refl) viewed asc empty fits may.0
 begun_told Tells declared (Some x) item buf s views none viewed asc empty fits may =
-    let after : after_step (Acted (Stim x)) s ≡ after_stim x s = acted_stim x s in
+    let after : after_step (Acted (Stim x)) s ≡ after_stim x s = stim_step x s in
     subst (λ (t : State). IsTold (item_step item buf) (after_step (item_step item buf) t) views) (sym after)
     (item_told Tells declared item buf s (after_stim x s) views (due_of x s) (stim_due x s none) (stim_due_by x s) (λ over. absurd (true≢false (sym (stim_begun x s) ∙ over))) viewed
     (subst (λ (t : State). Ascend 1 t.links) after asc) (subst (λ (t : State). AllEmptyOut t.links) after empty) fits (subst (λ (t : State). MayCome declared (item_step item buf) t) after may.1.0))

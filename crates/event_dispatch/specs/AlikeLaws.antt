@@ -1,5 +1,5 @@
 -- Laws of whole runs that a fault ended: they are the reference controller's as far as they go, if the world kept its word as far as there,
--- and no quiet place lies behind.
+-- and no quiescent point lies behind.
 use Rattle.std.proofs.Common.{◌≡◌, ℕ, ◌<◌, Bool, true, false, List, [], ◌++◌, length, Option, sym, ap, ◌∙◌, subst, arith, inl, inr}
 use Rattle.std.specs.Io.KnownBytes.{append_known}
 use Rattle.lego_io.specs.Sink.{TookPart}
@@ -13,18 +13,22 @@ use Rattle.outside.specs.StateLaws.{Conforming-before}
 use Rattle.outside.specs.Conforming.{Conforming}
 use Rattle.outside.specs.InOrder.{InOrder}
 use Rattle.outside.specs.InOrderLaws.{InOrder-before, messages-of}
-use Rattle.outside.specs.Quiet.{IsLastQuiet}
-use Rattle.outside.specs.QuietLaws.{last_quiet-of, last_quiet-then}
+use Rattle.outside.specs.Quiescence.{IsLastQuiescent}
+use Rattle.outside.specs.QuiescenceLaws.{last_quiescent-of, last_quiescent-then}
 use Rattle.app_visor.specs.CallsFor.{CallsFor}
 use Rattle.app_visor.specs.CalmLaws.{calls_then}
-use Rattle.run_laws.specs.Engine.{Engine, index, stimuli_in}
+use Rattle.run_laws.specs.Engine.{Engine}
+use Rattle.lego_model.specs.Application.{index}
+use Rattle.lego_model.specs.History.{stimuli_in}
 use Rattle.run_laws.specs.Readings.{JudgesAlike}
 use Rattle.run_laws.specs.Moves.{Moved, Rounds}
-use Rattle.run_laws.specs.FirstLaws.{IsOpened, net_at_first, engine_at_first, settled-first}
+use Rattle.run_laws.specs.FirstLaws.{settled-first}
+use Rattle.run_laws.specs.First.{IsOpened, net_at_first, engine_at_first}
 use Rattle.run_laws.specs.EndingLaws.{whole-of}
-use Rattle.run_laws.specs.WholeRun.{all_started}
+use Rattle.lego_model.specs.ReferenceRun.{all_started}
 use Rattle.run_laws.specs.Promise.{most_rounds, PremiseSoFar}
-use Rattle.run_laws.specs.Cut.{CutSo, WritingSo, CutAlike, CutWriting, GoneSoFar}
+use Rattle.run_laws.specs.Cut.{CutAlike, CutWriting, GoneSoFar}
+use Rattle.lego_model.specs.CutRun.{CutBetweenLines, CutWhileWriting}
 use Rattle.run_laws.specs.CutLaws.{gone-none, gone-rounds, gone-happens, gone-still, gone-more, gone-whole, cut-so, start-so, event-so, end-so}
 use Rattle.event_dispatch.specs.declared.batch.Rest.{Rest}
 use Rattle.event_dispatch.specs.declared.batch.Rest.TheVariants as rests
@@ -35,7 +39,7 @@ use Rattle.event_dispatch.specs.Why.{served_by}
 use Rattle.event_dispatch.specs.Shows.{engine_of}
 use Rattle.event_dispatch.specs.RoundLaws.{writes_then}
 use Rattle.event_dispatch.specs.Talking.{KeepsTalking, GoesOnTalking}
-use Rattle.event_dispatch.specs.Steady.{Reads, Quietly, AtMostHere}
+use Rattle.event_dispatch.specs.Steady.{Reads, NoPoint, AtMostThisPoint}
 use Rattle.event_dispatch.specs.SteadyLaws.{reads_then}
 use Rattle.event_dispatch.specs.FrontLaws.{keeps_first, keeps_to, calm_rest}
 use Rattle.event_dispatch.specs.Serves.{IsBatch, IsCut}
@@ -91,21 +95,21 @@ end_talks Tells faults.Next a b old new e other cut = cut.1
 end_talks Tells (faults.Txn fault) a b old new e other cut = cut.1
 end_talks Tells faults.NoMemory a b old new e other cut = cut.1
 
--- ---- Behind which no quiet place lies
+-- ---- Behind which no quiescent point lies
 
-one_here : {Own : Type 0} (Tells : Type 0) (accepts : List TableView → Bool) (fault : Fault) (a b : Option (List ℕ)) (old new : Seen Own) (e : Engine) → NotWrite fault → CutOne Tells accepts fault a b old new e → AtMostHere Tells old new
+one_here : {Own : Type 0} (Tells : Type 0) (accepts : List TableView → Bool) (fault : Fault) (a b : Option (List ℕ)) (old new : Seen Own) (e : Engine) → NotWrite fault → CutOne Tells accepts fault a b old new e → AtMostThisPoint Tells old new
 one_here Tells accepts faults.Write a b old new e other cut = absurd other
 one_here Tells accepts faults.Next a b old new e other cut = cut.2
 one_here Tells accepts (faults.Txn fault) a b old new e other cut = cut.2
 one_here Tells accepts faults.NoMemory a b old new e other cut = cut.2
 
-start_quietly : {Own : Type 0} (Tells : Type 0) (fault : Fault) (a b : Option (List ℕ)) (old new : Seen Own) (e : Engine) → NotWrite fault → CutStart Tells fault a b old new e → Quietly Tells old new
+start_quietly : {Own : Type 0} (Tells : Type 0) (fault : Fault) (a b : Option (List ℕ)) (old new : Seen Own) (e : Engine) → NotWrite fault → CutStart Tells fault a b old new e → NoPoint Tells old new
 start_quietly Tells faults.Write a b old new e other cut = absurd other
 start_quietly Tells faults.Next a b old new e other cut = cut.2
 start_quietly Tells (faults.Txn fault) a b old new e other cut = cut.2
 start_quietly Tells faults.NoMemory a b old new e other cut = cut.2
 
-end_quietly : {Own : Type 0} (Tells : Type 0) (fault : Fault) (a b : Option (List ℕ)) (old new : Seen Own) (e : Engine) → NotWrite fault → CutEnd Tells fault a b old new e → Quietly Tells old new
+end_quietly : {Own : Type 0} (Tells : Type 0) (fault : Fault) (a b : Option (List ℕ)) (old new : Seen Own) (e : Engine) → NotWrite fault → CutEnd Tells fault a b old new e → NoPoint Tells old new
 end_quietly Tells faults.Write a b old new e other cut = absurd other
 end_quietly Tells faults.Next a b old new e other cut = cut.2
 end_quietly Tells (faults.Txn fault) a b old new e other cut = cut.2
@@ -122,49 +126,49 @@ record Supposed {Own : Type 0} (Tells : Type 0) (accepts : List TableView → Bo
   before : Continues Tells first stop
   later : Continues Tells stop seen
   talks : KeepsTalking Tells stop seen
-  quietly : Quietly Tells stop seen
+  no_point : NoPoint Tells stop seen
 
--- A place from which the run went on to where it stopped: in a world that tells in order this kept its word as far as there, and no quiet
--- place lies behind.
+-- A point from which the run went on to where it stopped: in a world that tells in order this kept its word as far as there, and no
+-- quiescent point lies behind.
 record IsStop {Own : Type 0} (Tells : Type 0) (last stop : Seen Own) : Type 0 where
   on : Continues Tells last stop
   keeps : InOrder last → Conforming last
-  quiet : Conforming last → InOrder stop → IsLastQuiet last stop
+  quiet : Conforming last → InOrder stop → IsLastQuiescent last stop
   own : CallsFor index last stop
 
--- up to such a place
-cut_at : {Own : Type 0} {Tells : Type 0} {accepts : List TableView → Bool} {allows : List Place → Bool} (a b : Option (List ℕ)) (first stop seen : Seen Own) (p : Supposed Tells accepts allows first stop seen) (last : Seen Own) → IsStop Tells last stop → (Conforming last → AtOnce index (journal stop.history)) → (Conforming last → CutSo allows last a b) → CutAlike allows seen a b
+-- up to such a point
+cut_at : {Own : Type 0} {Tells : Type 0} {accepts : List TableView → Bool} {allows : List Place → Bool} (a b : Option (List ℕ)) (first stop seen : Seen Own) (p : Supposed Tells accepts allows first stop seen) (last : Seen Own) → IsStop Tells last stop → (Conforming last → AtOnce index (journal stop.history)) → (Conforming last → CutBetweenLines allows last a b) → CutAlike allows seen a b
 cut_at {Tells = Tells} a b first stop seen p last is said so =
     let later = Continues-trans Tells last stop seen is.on p.later in
     record {
       last = last;
       given = later.given;
       later = later.told p.told;
-      so = so;
+      alike = so;
       at_once = λ keeps. p.talks.talks p.told (said keeps);
-      read = λ order. messages-of last (is.keeps (InOrder-before p.told later order));
-      quiet = λ order. last_quiet-then (is.quiet (is.keeps (InOrder-before p.told later order)) (InOrder-before p.told p.later order)) (p.quietly.unquiet p.told);
-      own = calls_then is.own (p.quietly.own p.told);
+      messages = λ order. messages-of last (is.keeps (InOrder-before p.told later order));
+      last_point = λ order. last_quiescent-then (is.quiet (is.keeps (InOrder-before p.told later order)) (InOrder-before p.told p.later order)) (p.no_point.none_quiescent p.told);
+      no_other_called = calls_then is.own (p.no_point.own p.told);
     }
 
 -- up to where it stopped
-writing_at : {Own : Type 0} {Tells : Type 0} {accepts : List TableView → Bool} {allows : List Place → Bool} (a b : Option (List ℕ)) (first stop seen : Seen Own) (p : Supposed Tells accepts allows first stop seen) → (InOrder stop → Conforming stop) → (Conforming stop → WritingSo allows stop a b) → CutWriting allows seen a b
+writing_at : {Own : Type 0} {Tells : Type 0} {accepts : List TableView → Bool} {allows : List Place → Bool} (a b : Option (List ℕ)) (first stop seen : Seen Own) (p : Supposed Tells accepts allows first stop seen) → (InOrder stop → Conforming stop) → (Conforming stop → CutWhileWriting allows stop a b) → CutWriting allows seen a b
 writing_at a b first stop seen p keeps so = record {
   last = stop;
   given = p.later.given;
   later = p.later.told p.told;
-  so = so;
+  alike = so;
   at_once = λ keeps. p.talks.talks p.told (so keeps).up_to.at_once;
-  read = λ order. messages-of stop (keeps (InOrder-before p.told p.later order));
-  quiet = λ order. last_quiet-of (p.quietly.unquiet p.told);
-  own = p.quietly.own p.told;
+  messages = λ order. messages-of stop (keeps (InOrder-before p.told p.later order));
+  last_point = λ order. last_quiescent-of (p.no_point.none_quiescent p.told);
+  no_other_called = p.no_point.own p.told;
 }
 
 -- ---- The start
 
-start_alike : {Own : Type 0} {Tells : Type 0} {accepts : List TableView → Bool} {allows : List Place → Bool} {a b : Option (List ℕ)} {first stop seen : Seen Own} (p : Supposed Tells accepts allows first stop seen) → b ≡ a → KeepsTalking Tells first stop → Quietly Tells first stop → CutAlike allows seen a b
-start_alike {allows = allows} {a = a} {b = b} {first = first} {stop = stop} {seen = seen} p same talks quietly =
-    let is : IsStop _ first stop = record { on = p.before; keeps = keeps_first first p.opened; quiet = λ keeps order. last_quiet-of (quietly.unquiet p.told); own = quietly.own p.told } in
+start_alike : {Own : Type 0} {Tells : Type 0} {accepts : List TableView → Bool} {allows : List Place → Bool} {a b : Option (List ℕ)} {first stop seen : Seen Own} (p : Supposed Tells accepts allows first stop seen) → b ≡ a → KeepsTalking Tells first stop → NoPoint Tells first stop → CutAlike allows seen a b
+start_alike {allows = allows} {a = a} {b = b} {first = first} {stop = stop} {seen = seen} p same talks no_point =
+    let is : IsStop _ first stop = record { on = p.before; keeps = keeps_first first p.opened; quiet = λ keeps order. last_quiescent-of (no_point.none_quiescent p.told); own = no_point.own p.told } in
     cut_at a b first stop seen p first is (λ keeps. talks.talks p.told (settled-first first p.opened).speaks.at_once) (λ keeps.
     cut-so allows false 0 [] a b first first engine_at_first p.opened (gone-none allows first engine_at_first (settled-first first p.opened)) (omega arith) keeps (same ∙ sym (append_known-nil a)))
 
@@ -225,7 +229,7 @@ some_read {Tells = Tells} {first = first} p g h =
     let behind = reads_then first g.rounds.mid h.mid net_at_first g.rounds.mid_run.net h.mid_run.net (rounds_on p g) h.first (rounds_read p g) h.reads in
     reads_then first h.mid h.some.mid net_at_first h.mid_run.net h.some.mid_run.net (Continues-trans Tells first g.rounds.mid h.mid (rounds_on p g) h.first) h.some.on behind h.some.reads
 
--- a fault ended what comes next, which leaves no quiet place behind
+-- a fault ended what comes next, which leaves no quiescent point behind
 round_stop : {Own : Type 0} {Tells : Type 0} {accepts : List TableView → Bool} {allows : List Place → Bool} {fault : Fault} {a b : Option (List ℕ)} {first stop seen : Seen Own} (p : Supposed Tells accepts allows first stop seen) (g : CutGoing Tells accepts fault a b first stop engine_at_first) → StopsBatch Tells g.rounds.mid stop g.rounds.mid_run.net → IsStop Tells g.rounds.mid stop
 round_stop {first = first} {stop = stop} {seen = seen} p g stops = record {
   on = g.rounds.later;
@@ -236,7 +240,7 @@ round_stop {first = first} {stop = stop} {seen = seen} p g stops = record {
   own = stops.own p.told;
 }
 
-some_stop : {Own : Type 0} {Tells : Type 0} {accepts : List TableView → Bool} {allows : List Place → Bool} {fault : Fault} {a b : Option (List ℕ)} {first stop seen : Seen Own} (p : Supposed Tells accepts allows first stop seen) (g : CutGoing Tells accepts fault a b first stop engine_at_first) (h : CutBehind Tells accepts fault g.rounds.held b g.rounds.mid stop g.rounds.mid_run) → AtMostHere Tells h.some.mid stop → IsStop Tells h.some.mid stop
+some_stop : {Own : Type 0} {Tells : Type 0} {accepts : List TableView → Bool} {allows : List Place → Bool} {fault : Fault} {a b : Option (List ℕ)} {first stop seen : Seen Own} (p : Supposed Tells accepts allows first stop seen) (g : CutGoing Tells accepts fault a b first stop engine_at_first) (h : CutBehind Tells accepts fault g.rounds.held b g.rounds.mid stop g.rounds.mid_run) → AtMostThisPoint Tells h.some.mid stop → IsStop Tells h.some.mid stop
 some_stop {first = first} {stop = stop} {seen = seen} p g h here = record {
   on = h.some.later;
   keeps = keeps_to first h.some.mid p.told p.opened (some_on p g h) (some_read p g h);
@@ -284,12 +288,12 @@ last_on {Tells = Tells} {first = first} p n = Continues-trans Tells first n.begu
 last_read : {Own : Type 0} {Tells : Type 0} {accepts : List TableView → Bool} {allows : List Place → Bool} {fault : Fault} {a b : Option (List ℕ)} {first stop seen : Seen Own} (p : Supposed Tells accepts allows first stop seen) (n : CutEnding Tells accepts fault a b first stop engine_at_first) → Reads Tells first n.last net_at_first n.last_run.net
 last_read {first = first} p n = reads_then first n.begun n.last net_at_first n.begun_run.net n.last_run.net n.first n.on n.starts_read n.rounds_read
 
-last_stop : {Own : Type 0} {Tells : Type 0} {accepts : List TableView → Bool} {allows : List Place → Bool} {fault : Fault} {a b : Option (List ℕ)} {first stop seen : Seen Own} (p : Supposed Tells accepts allows first stop seen) (n : CutEnding Tells accepts fault a b first stop engine_at_first) → Quietly Tells n.last stop → IsStop Tells n.last stop
-last_stop {first = first} {stop = stop} {seen = seen} p n quietly = record {
+last_stop : {Own : Type 0} {Tells : Type 0} {accepts : List TableView → Bool} {allows : List Place → Bool} {fault : Fault} {a b : Option (List ℕ)} {first stop seen : Seen Own} (p : Supposed Tells accepts allows first stop seen) (n : CutEnding Tells accepts fault a b first stop engine_at_first) → NoPoint Tells n.last stop → IsStop Tells n.last stop
+last_stop {first = first} {stop = stop} {seen = seen} p n no_point = record {
   on = n.later;
   keeps = keeps_to first n.last p.told p.opened (last_on p n) (last_read p n);
-  quiet = λ keeps order. last_quiet-of (quietly.unquiet p.told);
-  own = quietly.own p.told;
+  quiet = λ keeps order. last_quiescent-of (no_point.none_quiescent p.told);
+  own = no_point.own p.told;
 }
 
 end_alike : {Own : Type 0} {Tells : Type 0} {accepts : List TableView → Bool} {allows : List Place → Bool} {fault : Fault} {a b : Option (List ℕ)} {first stop seen : Seen Own} (p : Supposed Tells accepts allows first stop seen) (n : CutEnding Tells accepts fault a b first stop engine_at_first) → NotWrite fault → CutAlike allows seen a b
@@ -332,5 +336,5 @@ by_fault faults.NoMemory p goes = inl (goes_alike p tt goes)
 pub so_cut : {Own : Type 0} (Tells : Type 0) (accepts : List TableView → Bool) (allows : List Place → Bool) (end : Served) (a b : Option (List ℕ)) (old first seen : Seen Own) → PremiseSoFar Tells accepts allows old seen → IsOpened first
     → Continues Tells first seen → CutRun Tells accepts end a b first seen engine_at_first → IsCut allows seen a b end
 so_cut Tells accepts allows end a b old first seen premise opened whole cut =
-    let p : Supposed Tells accepts allows first cut.stop seen = record { told = premise.told; judges = premise.judges; opened = opened; few = premise.few; whole = whole; before = cut.before; later = cut.later; talks = cut.talks; quietly = cut.quietly } in
+    let p : Supposed Tells accepts allows first cut.stop seen = record { told = premise.told; judges = premise.judges; opened = opened; few = premise.few; whole = whole; before = cut.before; later = cut.later; talks = cut.talks; no_point = cut.no_point } in
     subst (IsCut allows seen a b) (sym cut.is) (by_fault cut.fault p cut.goes)

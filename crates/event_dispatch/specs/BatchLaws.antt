@@ -24,7 +24,7 @@ use Rattle.batch_laws.specs.InBatchLaws.{next_goes_on, never_so_many}
 use Rattle.event_dispatch.specs.declared.batch.Rest.{Rest}
 use Rattle.event_dispatch.specs.declared.batch.Rest.TheVariants as rests
 use Rattle.event_dispatch.specs.declared.run.Run.{Run}
-use Rattle.event_dispatch.specs.Batch.{of_memory, standing_of, rest_by, IsAsBefore, KeptSoFar, TakesKept, NextTaken, BatchGoes, BatchShown}
+use Rattle.event_dispatch.specs.Batch.{of_memory, standing_of, rest_by, KeptSoFar, TakesKept, NextTaken, BatchGoes, BatchShown}
 
 -- ---- What was kept
 
@@ -52,12 +52,6 @@ pub kept_all : {Own : Type 0} (n left : ℕ) (old now : Seen Own) (run mid : Run
 kept_all n left old now run mid many so_far = record { none = λ none. absurd (omega (arith, many, (so_far.none none).0)) }
 
 -- ---- What was told
-
-same_standing : {Own : Type 0} (old new : Seen Own) (run now_run : Run) → IsAsBefore old new run now_run → standing_of new now_run ≡ standing_of old run
-same_standing old new run now_run is = rw (is.0, is.1, is.2) refl
-
-pub batch_begins : {Own : Type 0} (Tells : Type 0) (left : ℕ) (old new : Seen Own) (run now_run : Run) → TakesKept left old new run now_run → BatchGoes Tells 0 old new run now_run
-batch_begins Tells left old new run now_run kept = record { so_far = λ told keeps calm. inl (refl, same_standing old new run now_run (kept.none calm.kept).1) }
 
 takes_continues : {Own Tells : Type 0} {item : Item} {old new : Seen Own} {net now_net : NetState} {queue now_queue : List _} → TakesNext Tells item old new net now_net queue now_queue → Continues Tells old new
 takes_continues {Tells = Tells} {old = old} {new = new} takes = Continues-trans Tells old takes.mid new (Nexts-continues takes.nexts) takes.handles.continues

@@ -12,20 +12,20 @@ use Rattle.outside.specs.State.{state}
 use Rattle.outside.specs.Calls.{Nexts, item_step}
 use Rattle.outside.specs.InOrder.{InOrder}
 use Rattle.outside.specs.InOrderLaws.{InOrder-before, messages-none, messages-then}
-use Rattle.outside.specs.Quiet.{IsLastQuiet}
-use Rattle.outside.specs.QuietLaws.{unquiet-then, last_quiet-then}
-use Rattle.net_txn.specs.declared.fault.TxnFault.{TxnFault}
+use Rattle.outside.specs.Quiescence.{IsLastQuiescent}
+use Rattle.outside.specs.QuiescenceLaws.{none_since-then, last_quiescent-then}
+use Rattle.lego_model.specs.declared.fault.TxnFault.{TxnFault}
 use Rattle.net_txn.specs.Net.{NetState}
 use Rattle.net_txn.specs.Views.{rows_at}
-use Rattle.net_txn.specs.LinkSteps.{OnLinks, StaysInPlace, AsksInPlace}
+use Rattle.net_txn.specs.LinkSteps.{OnLinks, MakesNoStrayCall, AsksWithoutStrays}
 use Rattle.net_txn.specs.LinkStepLaws.{OnLinks-refl, OnLinks-trans}
-use Rattle.net_txn.specs.LinkPlaceLaws.{in_place_none, in_place_then}
+use Rattle.net_txn.specs.LinkStrayLaws.{no_strays_none, no_strays_then}
 use Rattle.net_txn.specs.Arriving.{Arrives}
 use Rattle.net_txn.specs.AgreeLaws.{viewed}
-use Rattle.net_txn.specs.AbreastLaws.{links-begun, links-unquiet, arrives_abreast}
+use Rattle.net_txn.specs.AbreastLaws.{links-begun, links-none_quiescent, arrives_abreast}
 use Rattle.net_txn.specs.ReadLaws.{arrives_read}
 use Rattle.app_visor.specs.CallsFor.{CallsFor}
-use Rattle.run_laws.specs.Engine.{index}
+use Rattle.lego_model.specs.Application.{index}
 use Rattle.batch_laws.specs.Items.{Handles}
 use Rattle.event_dispatch.specs.declared.batch.Rest.{Rest}
 use Rattle.event_dispatch.specs.declared.run.Run.{Run}
@@ -33,13 +33,13 @@ use Rattle.event_dispatch.specs.Runs.{AreRead, Waits}
 use Rattle.event_dispatch.specs.Batch.{rest_by}
 use Rattle.event_dispatch.specs.BatchLaws.{joined_step, rest_handles}
 use Rattle.event_dispatch.specs.KeptLaws.{read_rest, read_same}
-use Rattle.event_dispatch.specs.Steady.{InPlace, Reads, IsAtRest, AtMostHere}
+use Rattle.event_dispatch.specs.Steady.{NoStray, Reads, NothingUnderWay, AtMostThisPoint}
 use Rattle.event_dispatch.specs.SteadyLaws.{reads_as, places_then, reads_then, quietly_here, calls_then}
-use Rattle.event_dispatch.specs.Told.{OnlyMessages, PutsInPlace, CatchesUp, NextQuietly, GoesBegun, BatchHere}
+use Rattle.event_dispatch.specs.Told.{OnlyMessages, NoStrayAtItem, CatchesUp, NextPoint, GoesBegun, BatchPoint}
 use Rattle.event_dispatch.specs.AbreastItemLaws.{next_tells}
-use Rattle.event_dispatch.specs.NextQuietLaws.{next_in_place, next_messages, next_still, next_anew}
+use Rattle.event_dispatch.specs.NextPointLaws.{next_in_place, next_messages, next_still, next_anew}
 use Rattle.event_dispatch.specs.CatchUpLaws.{caught_up}
-use Rattle.event_dispatch.specs.DispatchPlaceLaws.{links_quietly}
+use Rattle.event_dispatch.specs.DispatchStrayLaws.{links_quietly}
 
 -- ---- Links
 
@@ -57,9 +57,9 @@ only_none Tells seen = record { read = λ told. messages-none seen }
 
 -- ---- A message of a switch that has a view
 
-pub arrived_places : {Own : Type 0} (Tells : Type 0) (d : ℕ) (frame : List ℕ) (old new : Seen Own) (net now_net : NetState) (result : Result (Option Event) TxnFault) → IsSome (rows_at d net.views) → Arrives Tells d frame old new net now_net result → InPlace Tells old new net
+pub arrived_places : {Own : Type 0} (Tells : Type 0) (d : ℕ) (frame : List ℕ) (old new : Seen Own) (net now_net : NetState) (result : Result (Option Event) TxnFault) → IsSome (rows_at d net.views) → Arrives Tells d frame old new net now_net result → NoStray Tells old new net
 arrived_places Tells d frame old new net now_net result known arrives = record {
-  places = λ told order abreast. arrives.in_place told order (abreast.joined d ∙ viewed d net.views ∙ known);
+  places = λ told order abreast. arrives.no_strays told order (abreast.joined d ∙ viewed d net.views ∙ known);
 }
 
 pub arrived_reads : {Own : Type 0} (Tells : Type 0) (d : ℕ) (frame : List ℕ) (old new : Seen Own) (net now_net : NetState) (event : Option Event) → Arrives Tells d frame old new net now_net (Ok event) → Reads Tells old new net now_net
@@ -90,8 +90,8 @@ taken_waits run mid later taken_net taken first second = record {
   failed = second.failed ∙ first.failed;
 }
 
-pub taken_places : {Own : Type 0} (Tells : Type 0) (old now new : Seen Own) (net mid_net taken_net : NetState) → WithoutFirst mid_net taken_net → Continues Tells old now → Continues Tells now new → InPlace Tells old now net → Reads Tells old now net mid_net → InPlace Tells now new taken_net
-    → InPlace Tells old new net
+pub taken_places : {Own : Type 0} (Tells : Type 0) (old now new : Seen Own) (net mid_net taken_net : NetState) → WithoutFirst mid_net taken_net → Continues Tells old now → Continues Tells now new → NoStray Tells old now net → Reads Tells old now net mid_net → NoStray Tells now new taken_net
+    → NoStray Tells old new net
 taken_places Tells old now new net mid_net taken_net taken before later first so_far second = places_then old now new net taken_net before later first (reads_as Tells old now net mid_net taken_net (same_views mid_net taken_net taken) so_far) second
 
 pub taken_reads : {Own : Type 0} (Tells : Type 0) (old now new : Seen Own) (net mid_net taken_net now_net : NetState) → WithoutFirst mid_net taken_net → Continues Tells old now → Continues Tells now new → Reads Tells old now net mid_net → Reads Tells now new taken_net now_net
@@ -100,29 +100,29 @@ taken_reads Tells old now new net mid_net taken_net now_net taken before later f
 
 -- ---- An item
 
-pub puts_none : {Own : Type 0} (Tells : Type 0) (step : WorldStep) (seen : Seen Own) (net : NetState) → PutsInPlace Tells step seen seen net
-puts_none Tells step seen net = record { places = λ told order at. in_place_none seen }
+pub puts_none : {Own : Type 0} (Tells : Type 0) (step : WorldStep) (seen : Seen Own) (net : NetState) → NoStrayAtItem Tells step seen seen net
+puts_none Tells step seen net = record { places = λ told order at. no_strays_none seen }
 
-pub joined_puts : {Own : Type 0} (Tells : Type 0) (d : ℕ) (bytes : List ℕ) (old new : Seen Own) (net : NetState) → AsksInPlace Tells d old new → PutsInPlace Tells (Joined d bytes) old new net
+pub joined_puts : {Own : Type 0} (Tells : Type 0) (d : ℕ) (bytes : List ℕ) (old new : Seen Own) (net : NetState) → AsksWithoutStrays Tells d old new → NoStrayAtItem Tells (Joined d bytes) old new net
 joined_puts Tells d bytes old new net asks = record { places = λ told order at. asks told order at.told_of.0 }
 
-pub from_puts : {Own : Type 0} (Tells : Type 0) (item : Item) (d n : ℕ) (buf : List ℕ) (old new : Seen Own) (net : NetState) → item ≡ items.From d n → InPlace Tells old new net → PutsInPlace Tells (item_step item buf) old new net
+pub from_puts : {Own : Type 0} (Tells : Type 0) (item : Item) (d n : ℕ) (buf : List ℕ) (old new : Seen Own) (net : NetState) → item ≡ items.From d n → NoStray Tells old new net → NoStrayAtItem Tells (item_step item buf) old new net
 unfolding item_step
 from_puts Tells item d n buf old new net is places = rw is (record { places = λ told order at. places.places told order (record { joined = λ e. at.others e refl; none_due = at.none_due }) })
 
-pub joined_item : {Own : Type 0} (Tells : Type 0) (item : Item) (d n : ℕ) (buf : List ℕ) (old new : Seen Own) (net : NetState) → item ≡ items.Joined d n → PutsInPlace Tells (Joined d (take n buf)) old new net → PutsInPlace Tells (item_step item buf) old new net
-joined_item Tells item d n buf old new net is puts = subst (λ (step : WorldStep). PutsInPlace Tells step old new net) (joined_step item d n buf is) puts
+pub joined_item : {Own : Type 0} (Tells : Type 0) (item : Item) (d n : ℕ) (buf : List ℕ) (old new : Seen Own) (net : NetState) → item ≡ items.Joined d n → NoStrayAtItem Tells (Joined d (take n buf)) old new net → NoStrayAtItem Tells (item_step item buf) old new net
+joined_item Tells item d n buf old new net is puts = subst (λ (step : WorldStep). NoStrayAtItem Tells step old new net) (joined_step item d n buf is) puts
 
 -- ---- What is told next
 
-pub next_places : {Own : Type 0} (Tells : Type 0) (old new : Seen Own) (net : NetState) → (Tells → StaysInPlace old new) → InPlace Tells old new net
+pub next_places : {Own : Type 0} (Tells : Type 0) (old new : Seen Own) (net : NetState) → (Tells → MakesNoStrayCall old new) → NoStray Tells old new net
 next_places Tells old new net places = record { places = λ told order abreast. places told }
 
-pub handled_places : {Own : Type 0} (Tells : Type 0) (item : Item) (buf : List ℕ) (old mid new : Seen Own) (net : NetState) → Nexts Tells old mid (Ok item) buf → Continues Tells mid new → PutsInPlace Tells (item_step item buf) mid new net → InPlace Tells old new net
+pub handled_places : {Own : Type 0} (Tells : Type 0) (item : Item) (buf : List ℕ) (old mid new : Seen Own) (net : NetState) → Nexts Tells old mid (Ok item) buf → Continues Tells mid new → NoStrayAtItem Tells (item_step item buf) mid new net → NoStray Tells old new net
 handled_places Tells item buf old mid new net call later puts = record {
   places = λ told order abreast.
       let so_far = InOrder-before told later order in
-      in_place_then old mid new told (Nexts-continues call) later (next_in_place call told) (puts.places told order (next_tells net call told so_far abreast));
+      no_strays_then old mid new told (Nexts-continues call) later (next_in_place call told) (puts.places told order (next_tells net call told so_far abreast));
 }
 
 next_reads : {Own : Type 0} (Tells : Type 0) (item : Item) (buf : List ℕ) (old mid new : Seen Own) (net now_net : NetState) → Nexts Tells old mid (Ok item) buf → Continues Tells mid new → CatchesUp Tells (item_step item buf) mid new net now_net → Reads Tells old new net now_net
@@ -142,10 +142,10 @@ pub over_reads : {Own : Type 0} (Tells : Type 0) (item : Item) (buf : List ℕ) 
 over_reads Tells item buf old mid net over call =
     handled_reads Tells item buf old mid mid net net [] [] call (rest_handles item buf mid net [] over) (links_none Tells mid) (only_none Tells mid)
 
-pub handled_quietly : {Own : Type 0} (Tells : Type 0) (old mid new : Seen Own) → Continues Tells mid new → NextQuietly Tells old mid → OnLinks Tells mid new → NextQuietly Tells old new
+pub handled_quietly : {Own : Type 0} (Tells : Type 0) (old mid new : Seen Own) → Continues Tells mid new → NextPoint Tells old mid → OnLinks Tells mid new → NextPoint Tells old new
 handled_quietly Tells old mid new later next links = record {
-  last = λ told. last_quiet-then (next.last told) (links-unquiet (links told));
-  unquiet = λ told order is. unquiet-then (next.unquiet told (InOrder-before told later order) is) (links-unquiet (links told));
+  last = λ told. last_quiescent-then (next.last told) (links-none_quiescent (links told));
+  none_quiescent = λ told order is. none_since-then (next.none_quiescent told (InOrder-before told later order) is) (links-none_quiescent (links told));
   own = λ told. calls_then (next.own told) (links_own links told);
 }
 
@@ -161,15 +161,15 @@ goes_begun Tells item buf old mid new call later links goes = record {
 -- ---- A batch
 
 -- behind what was done so far
-last_by : {Own : Type 0} {Tells : Type 0} (old now new : Seen Own) → Tells → InOrder new → NextQuietly Tells now new → (now ≡ old) ⊎ (((state now).begun ≡ true) × IsLastQuiet old now) → IsLastQuiet old new
-last_by old now new told order next (inl same) = subst (λ (x : Seen _). IsLastQuiet x new) same (next.last told)
-last_by old now new told order next (inr some) = last_quiet-then some.1 (next.unquiet told order some.0)
+last_by : {Own : Type 0} {Tells : Type 0} (old now new : Seen Own) → Tells → InOrder new → NextPoint Tells now new → (now ≡ old) ⊎ (((state now).begun ≡ true) × IsLastQuiescent old now) → IsLastQuiescent old new
+last_by old now new told order next (inl same) = subst (λ (x : Seen _). IsLastQuiescent x new) same (next.last told)
+last_by old now new told order next (inr some) = last_quiescent-then some.1 (next.none_quiescent told order some.0)
 
-begun_by : {Own : Type 0} {Tells : Type 0} (old now new : Seen Own) → Tells → InOrder new → IsAtRest (state old) → GoesBegun Tells None now new → (now ≡ old) ⊎ (((state now).begun ≡ true) × IsLastQuiet old now) → (state new).begun ≡ true
-begun_by old now new told order rest goes (inl same) = goes.anew told order refl (subst (λ (x : Seen _). IsAtRest (state x)) (sym same) rest)
+begun_by : {Own : Type 0} {Tells : Type 0} (old now new : Seen Own) → Tells → InOrder new → NothingUnderWay (state old) → GoesBegun Tells None now new → (now ≡ old) ⊎ (((state now).begun ≡ true) × IsLastQuiescent old now) → (state new).begun ≡ true
+begun_by old now new told order rest goes (inl same) = goes.anew told order refl (subst (λ (x : Seen _). NothingUnderWay (state x)) (sym same) rest)
 begun_by old now new told order rest goes (inr some) = goes.still told refl some.0
 
-pub here_goes : {Own : Type 0} {Tells : Type 0} (old now new : Seen Own) (net : NetState) → Continues Tells now new → BatchHere Tells old now net → NextQuietly Tells now new → GoesBegun Tells None now new → BatchHere Tells old new net
+pub here_goes : {Own : Type 0} {Tells : Type 0} (old now new : Seen Own) (net : NetState) → Continues Tells now new → BatchPoint Tells old now net → NextPoint Tells now new → GoesBegun Tells None now new → BatchPoint Tells old new net
 here_goes old now new net later so_far next goes = record {
   here = λ told order rest none.
       let before = so_far.here told (InOrder-before told later order) rest none in
@@ -177,11 +177,11 @@ here_goes old now new net later so_far next goes = record {
   own = λ told. calls_then (so_far.own told) (next.own told);
 }
 
-pub here_ends : {Own : Type 0} {Tells : Type 0} (old now new : Seen Own) (net : NetState) → Continues Tells now new → BatchHere Tells old now net → NextQuietly Tells now new → net.kept ≡ [] → AtMostHere Tells old new
+pub here_ends : {Own : Type 0} {Tells : Type 0} (old now new : Seen Own) (net : NetState) → Continues Tells now new → BatchPoint Tells old now net → NextPoint Tells now new → net.kept ≡ [] → AtMostThisPoint Tells old new
 here_ends old now new net later so_far next none = record {
   last = λ told order rest. last_by old now new told order next (so_far.here told (InOrder-before told later order) rest none);
   own = λ told. calls_then (so_far.own told) (next.own told);
 }
 
-pub here_kept : {Own : Type 0} {Tells : Type 0} (old new : Seen Own) → OnLinks Tells old new → AtMostHere Tells old new
+pub here_kept : {Own : Type 0} {Tells : Type 0} (old new : Seen Own) → OnLinks Tells old new → AtMostThisPoint Tells old new
 here_kept old new links = quietly_here (links_quietly links)

@@ -19,9 +19,8 @@ use Rattle.outside.specs.Calls.{IsFeatures, item_step}
 use Rattle.outside.specs.InOrder.{brings_message, MessagesSince}
 use Rattle.net_txn.specs.Net.{NetState}
 use Rattle.net_txn.specs.LinkSteps.{OnLinks}
-use Rattle.net_txn.specs.Views.{rows_at}
+use Rattle.net_txn.specs.Views.{rows_at, is_viewed}
 use Rattle.net_txn.specs.Joining.{with_view}
-use Rattle.net_txn.specs.Undos.{is_viewed}
 use Rattle.net_txn.specs.AgreeLaws.{viewed}
 use Rattle.net_txn.specs.AbreastLaws.{links-joined, links-due, with_rows-viewed, with_view-viewed, with_view-viewed-other}
 use Rattle.batch_laws.specs.Knowledge.{Knowledge, knowledge_of, is_known, views_by, told_read, joined_read, left_by, handled}

@@ -1,5 +1,5 @@
 -- A run that a fault ends, in the words of what is seen and kept: the parts that were done, and what was written of the one that was not,
--- which goes on with the dialogue with the application and leaves no quiet place behind it. All of this is our own.
+-- which goes on with the dialogue with the application and leaves no quiescent point behind it. All of this is our own.
 use Rattle.std.specs.Prelude.{◌≡◌, ℕ, ◌≤◌, ◌⊎◌, Bool, List, [], Option, Result, Ok, Err}
 use Rattle.lego_io.specs.Sink.{TookPart}
 use Rattle.flow_table.specs.declared.view.TableView.{TableView}
@@ -10,8 +10,10 @@ use Rattle.net_txn.specs.Net.{NetState}
 use Rattle.net_txn.specs.Abreast.{Abreast}
 use Rattle.app_visor.specs.CallsFor.{CallsFor}
 use Rattle.batch_laws.specs.Calm.{Calm}
-use Rattle.run_laws.specs.Engine.{Engine, index}
-use Rattle.run_laws.specs.Moves.{Shown, dispatch_next}
+use Rattle.run_laws.specs.Engine.{Engine}
+use Rattle.lego_model.specs.Application.{index}
+use Rattle.run_laws.specs.Moves.{Shown}
+use Rattle.lego_model.specs.ReferenceRun.{dispatch_next}
 use Rattle.run_laws.specs.Endings.{Leaves, ShownStart}
 use Rattle.run_laws.specs.LastReport.{last_text}
 use Rattle.event_dispatch.specs.declared.batch.Rest.{Rest}
@@ -23,8 +25,8 @@ use Rattle.event_dispatch.specs.declared.served.Served.TheVariants as served
 use Rattle.event_dispatch.specs.Why.{served_by}
 use Rattle.event_dispatch.specs.Shows.{engine_of}
 use Rattle.event_dispatch.specs.Talking.{KeepsTalking, GoesOnTalking}
-use Rattle.event_dispatch.specs.Steady.{Reads, Quietly, AtMostHere}
-use Rattle.event_dispatch.specs.Serves.{Writes, SettlesSome, IsBatch, GoesRounds, GoesToEnd, Begins}
+use Rattle.event_dispatch.specs.Steady.{Reads, NoPoint, AtMostThisPoint}
+use Rattle.event_dispatch.specs.Serves.{Writes, DispatchesSome, IsBatch, GoesRounds, GoesToEnd, Begins}
 
 -- Nothing was written, and it was not the sink that failed.
 abbrev pub IsStill : Fault → Option (List ℕ) → Option (List ℕ) → Type 0
@@ -44,7 +46,7 @@ pub record EventPart {Own : Type 0} (Tells : Type 0) (accepts : List TableView �
 -- a fault ended its dispatch, or it was that
 abbrev pub CutOne : {Own : Type 0} → Type 0 → (List TableView → Bool) → Fault → Option (List ℕ) → Option (List ℕ) → Seen Own → Seen Own → Engine → Type 0
 CutOne Tells accepts faults.Write contents now_contents old new e = EventPart Tells accepts contents now_contents old new e
-CutOne Tells accepts other contents now_contents old new e = (now_contents ≡ contents) × GoesOnTalking Tells old new e × AtMostHere Tells old new
+CutOne Tells accepts other contents now_contents old new e = (now_contents ≡ contents) × GoesOnTalking Tells old new e × AtMostThisPoint Tells old new
 
 -- so many were settled before it
 pub record CutSome {Own : Type 0} (Tells : Type 0) (accepts : List TableView → Bool) (fault : Fault) (contents now_contents : Option (List ℕ)) (old new : Seen Own) (r : Run) : Type 0 where
@@ -54,7 +56,7 @@ pub record CutSome {Own : Type 0} (Tells : Type 0) (accepts : List TableView →
   pub held : Option (List ℕ)
   pub few : number ≤ 999
   pub on : Continues Tells old mid
-  pub some : SettlesSome Tells accepts number contents held old mid r mid_run
+  pub some : DispatchesSome Tells accepts number contents held old mid r mid_run
   pub reads : Reads Tells old mid r.net mid_run.net
   pub later : Continues Tells mid new
   pub one : CutOne Tells accepts fault held now_contents mid new (engine_of mid_run)
@@ -72,9 +74,9 @@ pub record CutBehind {Own : Type 0} (Tells : Type 0) (accepts : List TableView �
   pub later : Continues Tells mid new
   pub some : CutSome Tells accepts fault contents now_contents mid new mid_run
 
--- it ended the batch, where no quiet place lies behind, if nothing was kept before it
+-- it ended the batch, where no quiescent point lies behind, if nothing was kept before it
 pub record StopsBatch {Own : Type 0} (Tells : Type 0) (old new : Seen Own) (net : NetState) : Type 0 where
-  pub here : net.kept ≡ [] → AtMostHere Tells old new
+  pub here : net.kept ≡ [] → AtMostThisPoint Tells old new
   pub own : Tells → CallsFor index old new
 
 -- the one or the other
@@ -105,7 +107,7 @@ pub record StartPart {Own : Type 0} (Tells : Type 0) (contents now_contents : Op
 
 abbrev pub CutStart : {Own : Type 0} → Type 0 → Fault → Option (List ℕ) → Option (List ℕ) → Seen Own → Seen Own → Engine → Type 0
 CutStart Tells faults.Write contents now_contents old new e = StartPart Tells contents now_contents old new e
-CutStart Tells other contents now_contents old new e = (now_contents ≡ contents) × KeepsTalking Tells old new × Quietly Tells old new
+CutStart Tells other contents now_contents old new e = (now_contents ≡ contents) × KeepsTalking Tells old new × NoPoint Tells old new
 
 -- the sink took a part of the lines of the end, for which switches were asked
 pub record EndPart {Own : Type 0} (Tells : Type 0) (contents now_contents : Option (List ℕ)) (last new : Seen Own) (e : Engine) : Type 0 where
@@ -117,7 +119,7 @@ pub record EndPart {Own : Type 0} (Tells : Type 0) (contents now_contents : Opti
 
 abbrev pub CutEnd : {Own : Type 0} → Type 0 → Fault → Option (List ℕ) → Option (List ℕ) → Seen Own → Seen Own → Engine → Type 0
 CutEnd Tells faults.Write contents now_contents last new e = EndPart Tells contents now_contents last new e
-CutEnd Tells other contents now_contents last new e = (now_contents ≡ contents) × KeepsTalking Tells last new × Quietly Tells last new
+CutEnd Tells other contents now_contents last new e = (now_contents ≡ contents) × KeepsTalking Tells last new × NoPoint Tells last new
 
 -- of a report to which no event is left
 pub record CutFinish {Own : Type 0} (Tells : Type 0) (end : Served) (contents now_contents : Option (List ℕ)) (last new : Seen Own) (e : Engine) : Type 0 where
@@ -185,7 +187,7 @@ pub record CutRun {Own : Type 0} (Tells : Type 0) (accepts : List TableView → 
   pub before : Continues Tells old stop
   pub later : Continues Tells stop new
   pub talks : KeepsTalking Tells stop new
-  pub quietly : Quietly Tells stop new
+  pub no_point : NoPoint Tells stop new
   pub goes : CutGoes Tells accepts fault contents now_contents old stop e
 
 abbrev pub CutAs : {Own : Type 0} → Type 0 → (List TableView → Bool) → Served → Option (List ℕ) → Option (List ℕ) → Seen Own → Seen Own → Engine → Type 0

@@ -19,15 +19,15 @@ use Rattle.event_dispatch.specs.declared.served.Served.TheVariants as served
 use Rattle.event_dispatch.specs.Why.{IsReason, served_by}
 use Rattle.event_dispatch.specs.Runs.{Waits}
 use Rattle.event_dispatch.specs.Batch.{BatchShown}
-use Rattle.event_dispatch.specs.Shows.{engine_of}
-use Rattle.event_dispatch.specs.LastShown.{LastShown}
+use Rattle.event_dispatch.specs.Shows.{engine_of, queued_run}
+use Rattle.event_dispatch.specs.ReportEnd.{LastShown}
 use Rattle.event_dispatch.specs.LastLaws.{says_leaves}
 use Rattle.event_dispatch.specs.Talking.{KeepsTalking, GoesOnTalking}
-use Rattle.event_dispatch.specs.Steady.{Reads, Quietly, AtMostHere}
+use Rattle.event_dispatch.specs.Steady.{Reads, NoPoint, AtMostThisPoint}
 use Rattle.event_dispatch.specs.SteadyLaws.{quietly_none, quietly_then}
 use Rattle.event_dispatch.specs.TalkingLaws.{keeps_none, keeps_then}
 use Rattle.event_dispatch.specs.Serves.{Starts, IsDispatched, Begins}
-use Rattle.event_dispatch.specs.RoundLaws.{queued_run, first_event, batch_is}
+use Rattle.event_dispatch.specs.RoundLaws.{first_event, batch_is}
 use Rattle.event_dispatch.specs.Cut.{IsStill, CutOne, CutSome, CutRound, CutRounds, CutStart, CutEnd, CutFinish, CutFinishAs, WentToEnd, CutGoes, CutRun, CutAs}
 
 -- what a `?` answers is the fault
@@ -45,7 +45,7 @@ still_so Tells a b faults.NoMemory contents now_contents why same = same
 
 -- ---- Events
 
-pub one_still : {Own : Type 0} (Tells : Type 0) (accepts : List TableView → Bool) (fault : Fault) (contents now_contents : Option (List ℕ)) (old new : Seen Own) (e : Engine) → IsStill fault contents now_contents → GoesOnTalking Tells old new e → AtMostHere Tells old new → CutOne Tells accepts fault contents now_contents old new e
+pub one_still : {Own : Type 0} (Tells : Type 0) (accepts : List TableView → Bool) (fault : Fault) (contents now_contents : Option (List ℕ)) (old new : Seen Own) (e : Engine) → IsStill fault contents now_contents → GoesOnTalking Tells old new e → AtMostThisPoint Tells old new → CutOne Tells accepts fault contents now_contents old new e
 one_still Tells accepts faults.Write contents now_contents old new e still talks here = absurd still
 one_still Tells accepts faults.Next contents now_contents old new e still talks here = (still, talks, here)
 one_still Tells accepts (faults.Txn fault) contents now_contents old new e still talks here = (still, talks, here)
@@ -90,11 +90,11 @@ start_unwritten Tells contents now_contents old new r mid none starts reads part
   part = subst (λ (text : List ℕ). TookPart contents now_contents text) (starts.notes ∙ ap (λ (xs : List ℕ). xs ++ starts.text) none) part;
 }
 
-pub end_still : {Own : Type 0} (Tells : Type 0) (fault : Fault) (contents now_contents : Option (List ℕ)) (last new : Seen Own) (e : Engine) → IsStill fault contents now_contents → KeepsTalking Tells last new → Quietly Tells last new → CutEnd Tells fault contents now_contents last new e
-end_still Tells faults.Write contents now_contents last new e still talks quietly = absurd still
-end_still Tells faults.Next contents now_contents last new e still talks quietly = (still, talks, quietly)
-end_still Tells (faults.Txn fault) contents now_contents last new e still talks quietly = (still, talks, quietly)
-end_still Tells faults.NoMemory contents now_contents last new e still talks quietly = (still, talks, quietly)
+pub end_still : {Own : Type 0} (Tells : Type 0) (fault : Fault) (contents now_contents : Option (List ℕ)) (last new : Seen Own) (e : Engine) → IsStill fault contents now_contents → KeepsTalking Tells last new → NoPoint Tells last new → CutEnd Tells fault contents now_contents last new e
+end_still Tells faults.Write contents now_contents last new e still talks no_point = absurd still
+end_still Tells faults.Next contents now_contents last new e still talks no_point = (still, talks, no_point)
+end_still Tells (faults.Txn fault) contents now_contents last new e still talks no_point = (still, talks, no_point)
+end_still Tells faults.NoMemory contents now_contents last new e still talks no_point = (still, talks, no_point)
 
 -- the lines of the end are known, and the sink failed
 pub end_unwritten : {Own : Type 0} (Tells : Type 0) (contents now_contents : Option (List ℕ)) (last new : Seen Own) (r mid : Run) → r.lines.items ≡ [] → LastShown Tells last new r mid → Reads Tells last new r.net mid.net → TookPart contents now_contents mid.lines.items → CutEnd Tells faults.Write contents now_contents last new (engine_of r)
@@ -116,10 +116,10 @@ finish_cut Tells faults.NoMemory contents now_contents last new e none ends = re
 
 pub goes_cut : {Own : Type 0} (Tells : Type 0) (accepts : List TableView → Bool) (fault : Fault) (contents now_contents : Option (List ℕ)) (old new : Seen Own) (e : Engine) → Continues Tells old new → CutGoes Tells accepts fault contents now_contents old new e
     → CutAs Tells accepts (served_by fault) contents now_contents old new e
-goes_cut Tells accepts faults.Write contents now_contents old new e on goes = record { fault = faults.Write; is = refl; stop = new; before = on; later = Continues-refl Tells new; talks = keeps_none Tells new; quietly = quietly_none Tells new; goes = goes }
-goes_cut Tells accepts faults.Next contents now_contents old new e on goes = record { fault = faults.Next; is = refl; stop = new; before = on; later = Continues-refl Tells new; talks = keeps_none Tells new; quietly = quietly_none Tells new; goes = goes }
-goes_cut Tells accepts (faults.Txn fault) contents now_contents old new e on goes = record { fault = faults.Txn fault; is = refl; stop = new; before = on; later = Continues-refl Tells new; talks = keeps_none Tells new; quietly = quietly_none Tells new; goes = goes }
-goes_cut Tells accepts faults.NoMemory contents now_contents old new e on goes = record { fault = faults.NoMemory; is = refl; stop = new; before = on; later = Continues-refl Tells new; talks = keeps_none Tells new; quietly = quietly_none Tells new; goes = goes }
+goes_cut Tells accepts faults.Write contents now_contents old new e on goes = record { fault = faults.Write; is = refl; stop = new; before = on; later = Continues-refl Tells new; talks = keeps_none Tells new; no_point = quietly_none Tells new; goes = goes }
+goes_cut Tells accepts faults.Next contents now_contents old new e on goes = record { fault = faults.Next; is = refl; stop = new; before = on; later = Continues-refl Tells new; talks = keeps_none Tells new; no_point = quietly_none Tells new; goes = goes }
+goes_cut Tells accepts (faults.Txn fault) contents now_contents old new e on goes = record { fault = faults.Txn fault; is = refl; stop = new; before = on; later = Continues-refl Tells new; talks = keeps_none Tells new; no_point = quietly_none Tells new; goes = goes }
+goes_cut Tells accepts faults.NoMemory contents now_contents old new e on goes = record { fault = faults.NoMemory; is = refl; stop = new; before = on; later = Continues-refl Tells new; talks = keeps_none Tells new; no_point = quietly_none Tells new; goes = goes }
 
 -- a fault ended the rounds
 pub rounds_cut : {Own : Type 0} (Tells : Type 0) (accepts : List TableView → Bool) (fault : Fault) (a b c : Option (List ℕ)) (old begun new : Seen Own) (r begun_r : Run) → Continues Tells old begun → Begins Tells a b old begun r begun_r → Reads Tells old begun r.net begun_r.net → Continues Tells begun new
@@ -173,28 +173,28 @@ went_cut Tells accepts (Err (served.Txn fault)) a b c d old begun last new r r1 
 went_cut Tells accepts (Err served.NoMemory) a b c d old begun last new r r1 r2 w later cut = end_cut Tells accepts served.NoMemory a b c d old begun last new r r1 r2 w later cut
 
 -- the run goes on, as with the end of the application
-on_cut : {Own : Type 0} (Tells : Type 0) (accepts : List TableView → Bool) (end : Served) (a b : Option (List ℕ)) (old mid new : Seen Own) (e : Engine) → Continues Tells mid new → KeepsTalking Tells mid new → Quietly Tells mid new → CutRun Tells accepts end a b old mid e → CutRun Tells accepts end a b old new e
-on_cut Tells accepts end a b old mid new e later talks quietly cut = record {
+on_cut : {Own : Type 0} (Tells : Type 0) (accepts : List TableView → Bool) (end : Served) (a b : Option (List ℕ)) (old mid new : Seen Own) (e : Engine) → Continues Tells mid new → KeepsTalking Tells mid new → NoPoint Tells mid new → CutRun Tells accepts end a b old mid e → CutRun Tells accepts end a b old new e
+on_cut Tells accepts end a b old mid new e later talks no_point cut = record {
   fault = cut.fault;
   is = cut.is;
   stop = cut.stop;
   before = cut.before;
   later = Continues-trans Tells cut.stop mid new cut.later later;
   talks = keeps_then Tells cut.stop mid new cut.talks talks;
-  quietly = quietly_then Tells cut.stop mid new cut.quietly quietly;
+  no_point = quietly_then Tells cut.stop mid new cut.no_point no_point;
   goes = cut.goes;
 }
 
-pub goes_on_cut : {Own : Type 0} (Tells : Type 0) (accepts : List TableView → Bool) (result : Result (Unit {0}) Served) (a b : Option (List ℕ)) (old mid new : Seen Own) (e : Engine) → Continues Tells mid new → KeepsTalking Tells mid new → Quietly Tells mid new → IfErr result (λ end. CutAs Tells accepts end a b old mid e)
+pub goes_on_cut : {Own : Type 0} (Tells : Type 0) (accepts : List TableView → Bool) (result : Result (Unit {0}) Served) (a b : Option (List ℕ)) (old mid new : Seen Own) (e : Engine) → Continues Tells mid new → KeepsTalking Tells mid new → NoPoint Tells mid new → IfErr result (λ end. CutAs Tells accepts end a b old mid e)
     → IfErr result (λ end. CutAs Tells accepts end a b old new e)
-goes_on_cut Tells accepts (Ok x) a b old mid new e later talks quietly cut = tt
-goes_on_cut Tells accepts (Err (served.EventsLeft left)) a b old mid new e later talks quietly cut = tt
-goes_on_cut Tells accepts (Err (served.Ended events)) a b old mid new e later talks quietly cut = on_cut Tells accepts (served.Ended events) a b old mid new e later talks quietly cut
-goes_on_cut Tells accepts (Err served.WriteFault) a b old mid new e later talks quietly cut = on_cut Tells accepts served.WriteFault a b old mid new e later talks quietly cut
-goes_on_cut Tells accepts (Err served.Shut) a b old mid new e later talks quietly cut = on_cut Tells accepts served.Shut a b old mid new e later talks quietly cut
-goes_on_cut Tells accepts (Err served.NextFault) a b old mid new e later talks quietly cut = on_cut Tells accepts served.NextFault a b old mid new e later talks quietly cut
-goes_on_cut Tells accepts (Err (served.Txn fault)) a b old mid new e later talks quietly cut = on_cut Tells accepts (served.Txn fault) a b old mid new e later talks quietly cut
-goes_on_cut Tells accepts (Err served.NoMemory) a b old mid new e later talks quietly cut = on_cut Tells accepts served.NoMemory a b old mid new e later talks quietly cut
+goes_on_cut Tells accepts (Ok x) a b old mid new e later talks no_point cut = tt
+goes_on_cut Tells accepts (Err (served.EventsLeft left)) a b old mid new e later talks no_point cut = tt
+goes_on_cut Tells accepts (Err (served.Ended events)) a b old mid new e later talks no_point cut = on_cut Tells accepts (served.Ended events) a b old mid new e later talks no_point cut
+goes_on_cut Tells accepts (Err served.WriteFault) a b old mid new e later talks no_point cut = on_cut Tells accepts served.WriteFault a b old mid new e later talks no_point cut
+goes_on_cut Tells accepts (Err served.Shut) a b old mid new e later talks no_point cut = on_cut Tells accepts served.Shut a b old mid new e later talks no_point cut
+goes_on_cut Tells accepts (Err served.NextFault) a b old mid new e later talks no_point cut = on_cut Tells accepts served.NextFault a b old mid new e later talks no_point cut
+goes_on_cut Tells accepts (Err (served.Txn fault)) a b old mid new e later talks no_point cut = on_cut Tells accepts (served.Txn fault) a b old mid new e later talks no_point cut
+goes_on_cut Tells accepts (Err served.NoMemory) a b old mid new e later talks no_point cut = on_cut Tells accepts served.NoMemory a b old mid new e later talks no_point cut
 
 -- memory ran out before anything was done
 pub short_cut : {Own : Type 0} (Tells : Type 0) (accepts : List TableView → Bool) (contents : Option (List ℕ)) (seen : Seen Own) (e : Engine) → CutAs Tells accepts served.NoMemory contents contents seen seen e

@@ -17,23 +17,26 @@ use Rattle.app_frames.specs.declared.frame.Answer.{Answer}
 use Rattle.outside.specs.declared.step.WorldStep.{WorldStep}
 use Rattle.outside.specs.declared.step.WorldStep.TheVariants.{Acted, From}
 use Rattle.outside.specs.Seen.{Counts, Seen, Continues}
-use Rattle.net_txn.specs.declared.fault.TxnFault.{TxnFault}
-use Rattle.net_txn.specs.declared.fault.TxnFault.TheVariants.{SwitchFault, SwitchBroke, Diverged, Flooded, NoMemory}
-use Rattle.net_txn.specs.declared.heard.Awaited.{Awaited}
-use Rattle.net_txn.specs.declared.heard.Heard.{Heard}
-use Rattle.net_txn.specs.declared.heard.Heard.TheVariants.{Reply, Refused, Notice, Echo, Other}
-use Rattle.net_txn.specs.Net.{NetState, next_xid, delete_strict, inverse_bytes}
+use Rattle.lego_model.specs.declared.fault.TxnFault.{TxnFault}
+use Rattle.lego_model.specs.declared.fault.TxnFault.TheVariants.{SwitchFault, SwitchBroke, Diverged, Flooded, NoMemory}
+use Rattle.lego_model.specs.declared.wait.Awaited.{Awaited}
+use Rattle.lego_model.specs.declared.wait.Heard.{Heard}
+use Rattle.lego_model.specs.declared.wait.Heard.TheVariants.{Reply, Refused, Notice, Echo, Other}
+use Rattle.net_txn.specs.Net.{NetState, delete_strict, inverse_bytes}
+use Rattle.lego_model.specs.BarrierWaits.{next_xid, flood, heard, kept_by, kept_of, steps_by, heard_steps, wait_steps, barrier_sent, reply_got}
 use Rattle.net_txn.specs.Arriving.{IsArrivalCause}
-use Rattle.net_txn.specs.Causes.{flood, EndsByGot, IsCause}
+use Rattle.net_txn.specs.Causes.{EndsByGot, IsCause}
 use Rattle.net_txn.specs.Joining.{greeting, greeted_from}
-use Rattle.net_txn.specs.Waits.{heard, kept_by, kept_of, steps_by, heard_steps, wait_steps, barrier_sent, reply_got, Floods, IfFlooded}
+use Rattle.net_txn.specs.Waits.{Floods, IfFlooded}
 use Rattle.net_txn.specs.Changes.{known_rows, answer_of_host, change_sent, IfGivenUp, Changes}
-use Rattle.net_txn.specs.Asks.{is_about, all_flows, flows_request, request_sent, asked_from, parts_in, refusals_in, IsRefusal, IsRepliesFault, IsAskCause, Asks}
-use Rattle.net_txn.specs.Undos.{key_sent, key_refused, Part, Inverse, Settled, Stuck, part_steps, steps_of, parts_of, fault_in, first_fault_of, first_fault, inverses_of, IsFaultOf, IsRun, ended_by as undo_ended, Undoes}
+use Rattle.net_txn.specs.Asks.{IsRefusal, IsRepliesFault, IsAskCause, Asks}
+use Rattle.lego_model.specs.FlowQueries.{is_about, all_flows, flows_request, request_sent, asked_from, parts_in, refusals_in}
+use Rattle.net_txn.specs.Undos.{key_sent, key_refused, Part, Inverse, BarrierPassed, Stuck, part_steps, steps_of, parts_of, fault_in, first_fault_of, first_fault, inverses_of, IsFaultOf, IsRun, ended_by as undo_ended, Undoes}
 use Rattle.app_visor.specs.Beats.{Halts, Stops}
 use Rattle.app_visor.specs.BeatLaws.{Leads-continues}
 use Rattle.switch_laws.specs.AskedLaws.{asked}
-use Rattle.event_dispatch.specs.Why.{Happened, CameFrom, SentThenGot, rows_steps, came_for, IsBadPart, IsUnanswered, IsErrorFor, IsFlood, IsWhyTxn, IsWhy, fault_of, ended_by, IsReason, WhyMessage}
+use Rattle.event_dispatch.specs.Why.{IsWhy, fault_of, ended_by, IsReason, WhyMessage}
+use Rattle.lego_model.specs.SwitchFaults.{Happened, CameFrom, SentThenGot, rows_steps, came_for, IsBadPart, IsUnanswered, IsErrorFor, IsFlood, IsWhyTxn}
 use Rattle.event_dispatch.specs.WhyLaws.{happened_before, IsWhy-behind}
 
 -- ---- A flood
@@ -312,7 +315,7 @@ inverse_here c d xid x key k sent steps false of_switch same is older = sent_ear
 part_sent : (c d xid : ℕ) (key : Key) (p : Part) (parts : List Part) (steps : List WorldStep) → c ≡ d → key_sent xid (inverses_of (p ∷ parts)) ≡ Some key → (key_sent xid (inverses_of parts) ≡ Some key → IsSent d (inverse_bytes xid key) steps)
     → IsSent d (inverse_bytes xid key) (steps ++ part_steps c p)
 part_sent c d xid key (Inverse x k) parts steps of_switch is older = inverse_here c d xid x key k (inverses_of parts) steps (x == xid) of_switch refl is older
-part_sent c d xid key (Settled x got) parts steps of_switch is older = sent_earlier d (inverse_bytes xid key) steps (part_steps c (Settled x got)) (older is)
+part_sent c d xid key (BarrierPassed x got) parts steps of_switch is older = sent_earlier d (inverse_bytes xid key) steps (part_steps c (BarrierPassed x got)) (older is)
 part_sent c d xid key (Stuck x fault stuck) parts steps of_switch is older = sent_earlier d (inverse_bytes xid key) steps (part_steps c (Stuck x fault stuck)) (older is)
 
 -- an inverse that is refused was sent
@@ -382,7 +385,7 @@ module _ {Own Tells : Type 0} (old new : Seen Own) where
   stuck_why : (d : ℕ) (p : Part) (older : List (ℕ × Part)) (rest : List WorldStep) (fault : TxnFault) → (Tells → new.history ≡ old.history ++ ((steps_of older ++ part_steps d p) ++ rest)) → IsRun old.counts new.counts d (p ∷ parts_of d older) → fault_in p ≡ Some fault
       → IsWhy Tells old new 0 0 (ended_by fault)
   stuck_why d (Inverse xid k) older rest fault told run is = absurd cc
-  stuck_why d (Settled xid got) older rest fault told run is = absurd cc
+  stuck_why d (BarrierPassed xid got) older rest fault told run is = absurd cc
   stuck_why d (Stuck xid why steps) older rest fault told run is = subst (λ (f : TxnFault). IsWhy Tells old new 0 0 (ended_by f)) (one_fault why fault is) (fault_why d older steps rest why told run.0.cause)
     where
       one_fault : (a b : TxnFault) → Some a ≡ Some b → a ≡ b
@@ -390,7 +393,7 @@ module _ {Own Tells : Type 0} (old new : Seen Own) where
 
 run_rest : (d : ℕ) (old new : Counts) (p : Part) (older : List Part) → IsRun old new d (p ∷ older) → IsRun old new d older
 run_rest d old new (Inverse xid k) older run = run.3
-run_rest d old new (Settled xid got) older run = run.2
+run_rest d old new (BarrierPassed xid got) older run = run.2
 run_rest d old new (Stuck xid why steps) older run = run.2
 
 pub runs_rest : (old new : Counts) (p : ℕ × Part) (older : List (ℕ × Part)) → ((d : ℕ) → IsRun old new d (parts_of d (p ∷ older))) → (d : ℕ) → IsRun old new d (parts_of d older)

@@ -1,4 +1,4 @@
--- Laws of the place up to which a run was done, in a world that tells in order: it kept its word as far as there, and all was at rest.
+-- Laws of the point up to which a run was done, in a world that tells in order: it kept its word as far as there, and all was at rest.
 use Rattle.std.specs.Prelude.{List, ◌++◌, Option, is_some, refl}
 use Rattle.std.proofs.Common.{sym, ap, ◌∙◌, subst}
 use Rattle.flow_table.specs.Switch.{SwitchState}
@@ -11,9 +11,11 @@ use Rattle.outside.specs.InOrderLaws.{InOrder-before, in_order-Conforming, Confo
 use Rattle.net_txn.specs.Net.{NetState}
 use Rattle.net_txn.specs.Abreast.{Abreast}
 use Rattle.batch_laws.specs.Calm.{Calm}
-use Rattle.batch_laws.specs.ItemLaws.{waiting, links_ascend, none_waiting}
-use Rattle.run_laws.specs.FirstLaws.{IsOpened, net_at_first, none-joined, calm-first}
-use Rattle.event_dispatch.specs.Steady.{Reads, IsAtRest}
+use Rattle.batch_laws.specs.ItemLaws.{links_ascend, none_waiting}
+use Rattle.batch_laws.specs.Items.{waiting}
+use Rattle.run_laws.specs.FirstLaws.{none-joined, calm-first}
+use Rattle.run_laws.specs.First.{IsOpened, net_at_first}
+use Rattle.event_dispatch.specs.Steady.{Reads, NothingUnderWay}
 
 -- ---- A world that was just opened
 
@@ -39,7 +41,7 @@ keeps_to first last told is on reads order =
     Conforming-on first last told on (keeps_first first is (InOrder-before told on order)) order (reads.read told order (abreast_first first is))
 
 -- all is at rest there
-pub calm_rest : {Own : Type 0} (seen : Seen Own) (net : NetState) → Conforming seen → Calm seen net → IsAtRest (state seen)
+pub calm_rest : {Own : Type 0} (seen : Seen Own) (net : NetState) → Conforming seen → Calm seen net → NothingUnderWay (state seen)
 unfolding waits_of upcoming
 calm_rest seen net keeps calm = record {
   none_begun = calm.none_begun;

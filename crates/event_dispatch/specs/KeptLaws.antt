@@ -1,5 +1,5 @@
 -- The messages that are kept were read, whatever the engine does.
-use Rattle.std.proofs.Common.{◌≡◌, ◌==◌, ℕ, Bool, true, false, not, ◌||◌, if◌then◌else◌, List, [], ◌∷◌, ◌++◌, drop, filter, Option, Some, None, Result, Ok, Err, IsOk, IsOkAnd, refl, sym, ap, ◌∙◌, subst, inl, inr}
+use Rattle.std.proofs.Common.{◌≡◌, ◌==◌, ℕ, Bool, not, List, [], ◌∷◌, ◌++◌, drop, filter, Option, Some, None, Result, Ok, Err, IsOk, IsOkAnd, refl, sym, ap, ◌∙◌, subst, inl, inr}
 use Rattle.std.specs.List.{AllByRecursion}
 use Rattle.std.proofs.lemmas.Bool.{cases_Bool}
 use Rattle.of_types.specs.declared.port_desc.PortDesc.{PortDesc}
@@ -9,33 +9,29 @@ use Rattle.of_wire.specs.declared.message.Message.TheVariants as messages
 use Rattle.of_wire.specs.declared.message.Envelope.{Envelope}
 use Rattle.of_wire.specs.declared.fault.WireFault.{WireFault}
 use Rattle.flow_table.specs.declared.view.TableView.{TableView}
-use Rattle.of_stats.specs.declared.flow_row.FlowRow.{FlowRow}
 use Rattle.app_frames.specs.declared.frame.Answer.{Answer}
 use Rattle.app_frames.specs.declared.frame.Event.{Event}
 use Rattle.outside.specs.Seen.{Counts, Seen}
-use Rattle.net_txn.specs.declared.fault.TxnFault.{TxnFault}
-use Rattle.net_txn.specs.declared.heard.Awaited.{Awaited}
-use Rattle.net_txn.specs.declared.heard.Heard.{Heard}
-use Rattle.net_txn.specs.declared.heard.Heard.TheVariants.{Reply, Refused, Notice, Echo, Other}
-use Rattle.net_txn.specs.declared.heard.Refusal.{Refusal}
+use Rattle.lego_model.specs.declared.fault.TxnFault.{TxnFault}
+use Rattle.lego_model.specs.declared.wait.Awaited.{Awaited}
+use Rattle.lego_model.specs.declared.wait.Heard.{Heard}
+use Rattle.lego_model.specs.declared.wait.Heard.TheVariants.{Reply, Refused, Notice, Echo, Other}
+use Rattle.lego_model.specs.declared.wait.Refusal.{Refusal}
 use Rattle.net_txn.specs.Net.{NetState}
-use Rattle.net_txn.specs.Place.{KeptWhereFit}
-use Rattle.net_txn.specs.Waits.{heard, kept_by, kept_of, IsRead, Waits as WaitsFor}
+use Rattle.net_txn.specs.MessageStore.{KeptWhereFit}
+use Rattle.net_txn.specs.Waits.{IsRead, Waits as WaitsFor}
+use Rattle.lego_model.specs.BarrierWaits.{heard, kept_by, kept_of}
 use Rattle.outside.specs.declared.step.WorldStep.{WorldStep}
 use Rattle.net_txn.specs.Changes.{known_rows, answer_of_host, Changes}
 use Rattle.net_txn.specs.Arriving.{net_after, Becomes, Arrives}
 use Rattle.net_txn.specs.Joining.{Joins}
-use Rattle.net_txn.specs.Asks.{is_about, other_in, others_in, Asks}
-use Rattle.net_txn.specs.Undos.{Part, Inverse, Settled, Stuck, alone, parts_of, fault_in, first_fault_of, first_fault, IsRun, KeepsOne, Keeps, ended_by, Undoes}
+use Rattle.net_txn.specs.Undos.{Part, Inverse, BarrierPassed, Stuck, alone, parts_of, fault_in, first_fault_of, first_fault, IsRun, KeepsOne, Keeps, Undoes, ended_by}
 use Rattle.app_visor.specs.declared.state.TurnEnd.{TurnEnd}
 use Rattle.app_visor.specs.declared.state.TurnEnd.TheVariants as ends
 use Rattle.app_visor.specs.Beats.{Beat, Talk, Asks as AskedNow, Chain}
 use Rattle.app_visor.specs.Talks.{give_act}
 use Rattle.switch_laws.specs.AskedLaws.{asked}
-use Rattle.run_laws.specs.Engine.{Engine}
-use Rattle.event_dispatch.specs.declared.run.Run.{Run}
 use Rattle.event_dispatch.specs.Runs.{AreRead}
-use Rattle.event_dispatch.specs.Shows.{engine_of}
 use Rattle.event_dispatch.specs.Serves.{IsPlayed, PlaysTurn}
 use Rattle.event_dispatch.specs.FaultLaws.{runs_rest, run_here}
 
@@ -123,21 +119,11 @@ arrived_read {Tells = Tells} {d = d} {old = old} {new = new} frame net now_net e
 pub joins_read : {Own Tells : Type 0} {d : ℕ} {ports : List PortDesc} {old new : Seen Own} (net now_net : NetState) → Joins Tells d ports old new net now_net → AreRead net.kept → AreRead now_net.kept
 joins_read net now_net joins read = waits_read net.kept now_net.kept joins.answer joins.waits read
 
-others_read : (xid : ℕ) (came : List (ℕ × List ℕ)) → AreRead came → AreRead (others_in xid came)
-others_read xid [] read = tt
-others_read xid (m ∷ ms) read = read_append (other_in xid m) (others_in xid ms) (other_read (is_about xid 17 m.1 || is_about xid 1 m.1)) (others_read xid ms read.1)
-  where
-    other_read : (answers : Bool) → AreRead (if answers then [] else m ∷ [])
-    other_read true = tt
-    other_read false = (read.0, tt)
-
-pub asks_read : {Own Tells : Type 0} {d : ℕ} {old new : Seen Own} (xid : ℕ) (kept now_kept : List (ℕ × List ℕ)) (rows : List FlowRow) → Asks Tells d xid old new kept now_kept (Ok rows) → AreRead kept → AreRead now_kept
-asks_read xid kept now_kept rows asks read =
-    let gives = asks.answer in
-    let came = waits_read [] gives.came gives.answered.refusal gives.answered.waits tt in
-    subst AreRead (sym gives.answered.kept_so) (read_append kept (others_in xid gives.came) read (others_read xid gives.came came))
-
 -- ---- An undo in which no switch failed
+
+no_fault : (o : Option TxnFault) → Ok tt ≡ ended_by o → o ≡ None
+no_fault None is = refl
+no_fault (Some fault) is = absurd cc
 
 none_first : (a b : Option TxnFault) → first_fault_of a b ≡ None → (a ≡ None) × (b ≡ None)
 none_first None b is = (refl, is)
@@ -145,7 +131,7 @@ none_first (Some x) b is = absurd cc
 
 part_read : (old new : Counts) (d : ℕ) (p : Part) (older : List Part) (kept now_kept : List (ℕ × List ℕ)) → IsRun old new d (p ∷ older) → fault_in p ≡ None → KeepsOne d p kept now_kept → AreRead kept → AreRead now_kept
 part_read old new d (Inverse xid k) older kept now_kept run none keeps read = subst AreRead (sym keeps) read
-part_read old new d (Settled xid got) older kept now_kept run none keeps read = fit_read kept (kept_of (alone d xid) got) now_kept keeps read (kept_read (alone d xid) got run.0.before.read)
+part_read old new d (BarrierPassed xid got) older kept now_kept run none keeps read = fit_read kept (kept_of (alone d xid) got) now_kept keeps read (kept_read (alone d xid) got run.0.before.read)
 part_read old new d (Stuck xid fault steps) older kept now_kept run none keeps read = absurd cc
 
 keeps_read : (old new : Counts) (kept : List (ℕ × List ℕ)) (parts : List (ℕ × Part)) (now_kept : List (ℕ × List ℕ)) → ((d : ℕ) → IsRun old new d (parts_of d parts)) → first_fault parts ≡ None → Keeps kept parts now_kept → AreRead kept → AreRead now_kept
@@ -154,12 +140,8 @@ keeps_read old new kept (p ∷ older) now_kept runs none keeps read =
     let both = none_first (first_fault older) (fault_in p.1) none in
     part_read old new p.0 p.1 (parts_of p.0 older) keeps.0 now_kept (run_here old new p older runs) both.1 keeps.2 (keeps_read old new kept older keeps.0 (runs_rest old new p older runs) both.0 keeps.1 read)
 
-not_faulted : (o : Option TxnFault) → Ok tt ≡ ended_by o → o ≡ None
-not_faulted None h = refl
-not_faulted (Some x) h = absurd cc
-
 undoes_read : {Own Tells : Type 0} {start : ℕ} {old new : Seen Own} (net now_net : NetState) → Undoes Tells start old new net now_net (Ok tt) → AreRead net.kept → AreRead now_net.kept
-undoes_read {old = old} {new = new} net now_net u read = keeps_read old.counts new.counts net.kept u.parts now_net.kept (λ d. (u.each d).run) (not_faulted (first_fault u.parts) u.result_so) u.kept read
+undoes_read {old = old} {new = new} net now_net u read = keeps_read old.counts new.counts net.kept u.parts now_net.kept (λ d. (u.each d).run) (no_fault (first_fault u.parts) u.result_so) u.kept read
 
 -- ---- A turn
 
@@ -187,9 +169,3 @@ turn_read {Tells = Tells} {app = app} {old = old} {new = new} end net now_net pl
     played_read Tells _ plays.mid new end plays.mid_net now_net plays.played (chain_read Tells app (Talk (give_act plays.turns.given app _) ∷ plays.turns.trace) old plays.mid net plays.mid_net plays.turns.chain read)
 
 -- ---- The whole engine
-
-pub engine_read : (r now_r : Run) → engine_of now_r ≡ engine_of r → AreRead r.net.kept → AreRead now_r.net.kept
-engine_read r now_r same read = read_same r.net now_r.net (ap (λ (e : Engine). e.net) same) read
-
-pub read_then : (a b c : List (ℕ × List ℕ)) → (AreRead a → AreRead b) → (AreRead b → AreRead c) → AreRead a → AreRead c
-read_then a b c first second read = second (first read)

@@ -33,16 +33,13 @@ use Rattle.run_laws.specs.Endings.{Leaves}
 use Rattle.run_laws.specs.LeaveLaws.{asked-leaves}
 use Rattle.event_dispatch.specs.declared.run.Run.{Run}
 use Rattle.event_dispatch.specs.Shows.{engine_of, Adds}
-use Rattle.event_dispatch.specs.LastShown.{FindsFlags, FlowsSoFar, TableSaid, AsksShown, Says, TableShown, TablesShown, LastShown}
+use Rattle.event_dispatch.specs.ReportEnd.{FindsFlags, FlowsSoFar, TableSaid, AsksShown, Says, TableShown, TablesShown, LastShown, NextRow}
 
 -- ---- Text that is noted
 
 nothing_more : (xs : List ℕ) → xs ++ [] ≡ xs
 nothing_more [] = refl
 nothing_more (x ∷ xs) = ap (λ (ys : List ℕ). x ∷ ys) (nothing_more xs)
-
-pub adds_nothing : (r : Run) → Adds [] r r
-adds_nothing r = record { engine = refl; index = refl; lines = sym (nothing_more r.lines.items) }
 
 pub adds_then : {first rest : List ℕ} {a b c : Run} → Adds first a b → Adds rest b c → Adds (first ++ rest) a c
 adds_then {first = first} {rest = rest} {a = a} one two = record {
@@ -74,14 +71,6 @@ same_bytes (x ∷ xs) = rw (eq-eqb x x refl) (same_bytes xs)
 pub key_same : (k l : Key) → k ≡ l → ((k.priority == l.priority) && pointwise nat_eq k.matching.bytes l.matching.bytes) ≡ true
 key_same k l same =
     subst (λ (m : Key). ((k.priority == m.priority) && pointwise nat_eq k.matching.bytes m.matching.bytes) ≡ true) same (rw (eq-eqb k.priority k.priority refl) (same_bytes k.matching.bytes))
-
--- one row more
-pub record NextRow (row : FlowRow) (ws : List ViewRow) (rest : List FlowRow) : Type 0 where
-  pub first : ViewRow
-  pub later : List ViewRow
-  pub is : ws ≡ first ∷ later
-  pub key : first.key ≡ row.key
-  pub same : SameKeys rest later
 
 next_row : (row : FlowRow) (ws : List ViewRow) (rest : List FlowRow) → SameKeys (row ∷ rest) ws → NextRow row ws rest
 next_row row [] rest h = absurd h
@@ -213,9 +202,6 @@ says_then first rest old mid new a b c one two = record {
 -- and what it leaves
 pub says_leaves : {Own : Type 0} {text : List ℕ} {old new : Seen Own} {r now_r : Run} → Says text old new r now_r → Leaves old new
 says_leaves {old = old} {new = new} says = asked-leaves old new says.asked says.switches
-
-pub tables_none : {Own : Type 0} (Tells : Type 0) (seen : Seen Own) (r : Run) → TablesShown Tells [] seen seen r r
-tables_none Tells seen r = record { shown = λ told keeps ready sound. record { lines = sym (nothing_more r.lines.items); engine = refl; index = refl; switches = λ d. refl; waits = ready.waits; asked = asked-nothing seen } }
 
 still_agrees : (d : ℕ) (views now_views : List TableView) (s t : State) → now_views ≡ views → switch_of d t ≡ switch_of d s → Agrees d views s → Agrees d now_views t
 still_agrees d views now_views s t same switch agrees = rw (same, switch) agrees

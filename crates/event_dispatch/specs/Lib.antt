@@ -6,8 +6,8 @@ pub mod TurnLaws
 pub mod RoundLaws
 pub mod WholeLaws
 pub mod WhyLaws
-pub mod Joined
-pub mod LastShown
+pub mod ViewedLaws
+pub mod ReportEnd
 pub mod LastLaws
 pub mod Batch
 pub mod BatchLaws
@@ -26,9 +26,10 @@ pub mod SteadyLaws
 pub mod Told
 pub mod NothingWaitsLaws
 pub mod AbreastItemLaws
-pub mod NextQuietLaws
+pub mod NextPointLaws
 pub mod CatchUpLaws
 pub mod BatchSteadyLaws
-pub mod DispatchPlaceLaws
+pub mod DispatchStrayLaws
 pub mod FrontLaws
 pub mod ReadLaws
+pub mod NothingWaits

@@ -1,6 +1,5 @@
 -- In every history nothing waits of a switch that is not joined.
 use Rattle.std.specs.Prelude.{◌≡◌, ◌==◌, ℕ, false, List, [], ◌∷◌, ◌++◌, map, drop, Option, Some, None, Result, Ok, Err, refl}
-use Rattle.std.specs.List.{AllByRecursion}
 use Rattle.std.specs.Option.{is_some, option_map}
 use Rattle.std.proofs.Common.{ap, inl, inr, true≢false}
 use Rattle.std.proofs.lemmas.Bool.{cases_Bool}
@@ -20,18 +19,9 @@ use Rattle.outside.specs.declared.step.WorldStep.{WorldStep}
 use Rattle.outside.specs.declared.step.WorldStep.TheVariants.{Acted, TookInto, From, Joined, Left, Moment, Idle, End, Opened, NotOpened, NextFailed, SendFailed, RecvFailed}
 use Rattle.outside.specs.Seen.{Seen}
 use Rattle.outside.specs.State.{Link, State, link_at_first, at_first, link_of, waits_in, switch_in, waits_of, switch_of, is_joined, with_link, switch_joined, link_joined, link_left, stimulus_sends, link_stimulated, switch_told, message_sends, link_sent, link_got, link_told, link_failed, links_after, after_stim, after_act, after_step, after_steps, state}
+use Rattle.event_dispatch.specs.NothingWaits.{EmptyOut, IsEmptyOut, AllEmptyOut}
 
 -- ---- One link
-
-abbrev EmptyOut : Option SwitchState → List (List ℕ) → Type 0
-EmptyOut o waits = is_some o ≡ false → waits ≡ []
-
--- while the switch is out, nothing of it waits
-abbrev pub IsEmptyOut : Link → Type 0
-IsEmptyOut l = EmptyOut l.switch l.waits
-
-abbrev pub AllEmptyOut : List Link → Type 0
-AllEmptyOut ls = AllByRecursion IsEmptyOut ls
 
 -- a change that keeps it so
 record Keeps (change : Link → Link) : Type 0 where

@@ -8,16 +8,17 @@ use Rattle.outside.specs.declared.step.WorldStep.{WorldStep}
 use Rattle.outside.specs.Seen.{Seen}
 use Rattle.outside.specs.State.{state, waits_of}
 use Rattle.outside.specs.Conforming.{Conforming}
-use Rattle.net_txn.specs.declared.fault.TxnFault.{TxnFault}
-use Rattle.net_txn.specs.declared.fault.TxnFault.TheVariants.{SwitchFault, SwitchBroke, Diverged, Flooded, NoMemory}
+use Rattle.lego_model.specs.declared.fault.TxnFault.{TxnFault}
+use Rattle.lego_model.specs.declared.fault.TxnFault.TheVariants.{SwitchFault, SwitchBroke, Diverged, Flooded, NoMemory}
 use Rattle.net_txn.specs.Net.{NetState}
 use Rattle.switch_laws.specs.Since.{Ready}
 use Rattle.switch_laws.specs.Sound.{Sound}
 use Rattle.batch_laws.specs.Calm.{Calm}
 use Rattle.batch_laws.specs.InBatch.{CanTake, CanTakeNext}
-use Rattle.run_laws.specs.Engine.{Engine, stimuli_in}
+use Rattle.run_laws.specs.Engine.{Engine}
+use Rattle.lego_model.specs.History.{stimuli_in}
 use Rattle.run_laws.specs.Readings.{JudgesAlike}
-use Rattle.run_laws.specs.Moves.{Settled}
+use Rattle.run_laws.specs.Moves.{AtRest}
 use Rattle.run_laws.specs.Promise.{most_rounds}
 use Rattle.event_dispatch.specs.declared.fault.Fault.{Fault}
 use Rattle.event_dispatch.specs.declared.served.Served.{Served}
@@ -83,8 +84,8 @@ pub record PlainTable {Own : Type 0} (Tells : Type 0) (old new : Seen Own) (net 
 -- ---- Parts of a run, where all is settled and the judges judge alike
 
 pub record PlainRun {Own : Type 0} (Tells : Type 0) (accepts : List TableView → Bool) (old new : Seen Own) (e : Engine) (end : Served) : Type 0 where
-  pub plain : (allows : List Place → Bool) → Tells → Conforming new → JudgesAlike Own allows accepts → Settled old e → IsPlainServed end
+  pub plain : (allows : List Place → Bool) → Tells → Conforming new → JudgesAlike Own allows accepts → AtRest old e → IsPlainServed end
 
 -- and the stimuli are fewer than the most rounds
 pub record PlainWhole {Own : Type 0} (Tells : Type 0) (accepts : List TableView → Bool) (old new : Seen Own) (e : Engine) (end : Served) : Type 0 where
-  pub plain : (allows : List Place → Bool) → Tells → Conforming new → JudgesAlike Own allows accepts → Settled old e → length (stimuli_in new) < most_rounds → IsPlainServed end
+  pub plain : (allows : List Place → Bool) → Tells → Conforming new → JudgesAlike Own allows accepts → AtRest old e → length (stimuli_in new) < most_rounds → IsPlainServed end

@@ -1,5 +1,5 @@
 -- Laws of how a run may end in a world that keeps its word.
-use Rattle.std.proofs.Common.{◌≡◌, ℕ, ◌<◌, ◌^◌, Bool, List, [], ◌∷◌, ◌++◌, Option, Some, IsSome, Result, Ok, Err, IfErr, IsErrAnd, IsOk, IsErr, slice_get, take, refl, sym, ap, ◌∙◌, subst}
+use Rattle.std.proofs.Common.{◌≡◌, ℕ, ◌<◌, ◌^◌, Bool, List, [], ◌∷◌, ◌++◌, Option, Some, IsSome, Result, Ok, Err, IfErr, IsOk, IsErr, slice_get, take, refl, sym, ap, ◌∙◌, subst}
 use Rattle.of_stats.specs.Flows.{AreRows}
 use Rattle.of_wire.specs.Reading.{reading_of}
 use Rattle.flow_table.specs.declared.view.TableView.{TableView}
@@ -13,8 +13,8 @@ use Rattle.outside.specs.Calls.{Nexts, item_step}
 use Rattle.outside.specs.State.{state, switch_of}
 use Rattle.outside.specs.StateLaws.{Conforming-before}
 use Rattle.outside.specs.Conforming.{Conforming}
-use Rattle.net_txn.specs.declared.fault.TxnFault.{TxnFault}
-use Rattle.net_txn.specs.declared.fault.TxnFault.TheVariants.{SwitchFault, SwitchBroke, Diverged, Flooded, NoMemory}
+use Rattle.lego_model.specs.declared.fault.TxnFault.{TxnFault}
+use Rattle.lego_model.specs.declared.fault.TxnFault.TheVariants.{SwitchFault, SwitchBroke, Diverged, Flooded, NoMemory}
 use Rattle.net_txn.specs.Causes.{IsPlainFault, IsPlain}
 use Rattle.net_txn.specs.Arriving.{IsArrivalCause}
 use Rattle.net_txn.specs.JoiningSteps.{JoinSteps}
@@ -27,15 +27,17 @@ use Rattle.app_visor.specs.Beats.{Stops}
 use Rattle.app_visor.specs.Turns.{Turns}
 use Rattle.switch_laws.specs.SoundLaws.{rows-are}
 use Rattle.switch_laws.specs.ClockLaws.{switch-in_time, moment-within}
-use Rattle.turn_laws.specs.StopShown.{IsPlainStop, stop-plain, turn-ready}
+use Rattle.turn_laws.specs.StopLaws.{stop-plain, turn-ready}
+use Rattle.turn_laws.specs.Stop.{IsPlainStop}
 use Rattle.batch_laws.specs.InBatchLaws.{next_can}
 use Rattle.run_laws.specs.Engine.{Engine}
 use Rattle.run_laws.specs.CalmLaws.{stands_ready}
-use Rattle.run_laws.specs.FirstLaws.{engine_at_first, settled-first}
+use Rattle.run_laws.specs.FirstLaws.{settled-first}
+use Rattle.run_laws.specs.First.{engine_at_first}
 use Rattle.run_laws.specs.StimuliLaws.{fewer-before}
 use Rattle.run_laws.specs.Promise.{Premise}
 use Rattle.run_laws.specs.LastReportLaws.{joined-with}
-use Rattle.run_laws.specs.Moves.{Settled}
+use Rattle.run_laws.specs.Moves.{AtRest}
 use Rattle.event_dispatch.specs.declared.fault.Fault.{Fault}
 use Rattle.event_dispatch.specs.declared.fault.Fault.TheVariants as faults
 use Rattle.event_dispatch.specs.declared.batch.Rest.{Rest}
@@ -48,9 +50,9 @@ use Rattle.event_dispatch.specs.Runs.{Waits}
 use Rattle.event_dispatch.specs.Shows.{engine_of}
 use Rattle.event_dispatch.specs.Batch.{standing_of, KeptSoFar, BatchGoes, BatchShown}
 use Rattle.event_dispatch.specs.BatchLaws.{some_kept}
-use Rattle.event_dispatch.specs.LastShown.{TablesShown}
+use Rattle.event_dispatch.specs.ReportEnd.{TablesShown}
 use Rattle.event_dispatch.specs.LastLaws.{some_is, says_ready, says_sound}
-use Rattle.event_dispatch.specs.Serves.{SettlesSome, IsBatch, GoesRounds, GoesToEnd, Begins, IsUnopened}
+use Rattle.event_dispatch.specs.Serves.{DispatchesSome, IsBatch, GoesRounds, GoesToEnd, Begins, IsUnopened}
 use Rattle.event_dispatch.specs.RoundLaws.{batch_is}
 use Rattle.event_dispatch.specs.WholeLaws.{opened_so}
 use Rattle.event_dispatch.specs.Plain.{IsPlainServed, IsPlainEnd, PlainRead, PlainJoin, PlainItem, PlainNext, PlainKept, PlainCalm, PlainTurn, PlainTable, PlainRun, PlainWhole}
@@ -205,7 +207,7 @@ pub run_turn : {Own : Type 0} {Tells : Type 0} {accepts : List TableView → Boo
 run_turn old new r fault turn = record { plain = λ allows told keeps judges settled. turn.plain told keeps settled.calm.ready }
 
 -- events, one after the other
-pub run_settled : {Own : Type 0} {Tells : Type 0} {accepts : List TableView → Bool} {n : ℕ} {a b : Option (List ℕ)} (old mid new : Seen Own) (r then_r : Run) (end : Served) → SettlesSome Tells accepts n a b old mid r then_r → Continues Tells mid new
+pub run_settled : {Own : Type 0} {Tells : Type 0} {accepts : List TableView → Bool} {n : ℕ} {a b : Option (List ℕ)} (old mid new : Seen Own) (r then_r : Run) (end : Served) → DispatchesSome Tells accepts n a b old mid r then_r → Continues Tells mid new
     → PlainRun Tells accepts mid new (engine_of then_r) end → PlainRun Tells accepts old new (engine_of r) end
 run_settled old mid new r then_r end some later rest = record {
   plain = λ allows told keeps judges settled. rest.plain allows told keeps judges (some.shown.moved allows told (Conforming-before told later keeps) judges settled).settled;
@@ -215,7 +217,7 @@ run_settled old mid new r then_r end some later rest = record {
 pub run_calm : {Own : Type 0} {Tells : Type 0} {accepts : List TableView → Bool} (old new : Seen Own) (r : Run) (end : Served) → PlainCalm Tells old new r.net end → PlainRun Tells accepts old new (engine_of r) end
 run_calm old new r end calm = record { plain = λ allows told keeps judges settled. calm.plain told keeps settled.calm }
 
-batch_settled : {Own : Type 0} {Tells : Type 0} (rest : Rest) (old new : Seen Own) (e now_e : Engine) → IsBatch Tells rest old new e now_e → Tells → Conforming new → Settled old e → Settled new now_e
+batch_settled : {Own : Type 0} {Tells : Type 0} (rest : Rest) (old new : Seen Own) (e now_e : Engine) → IsBatch Tells rest old new e now_e → Tells → Conforming new → AtRest old e → AtRest new now_e
 batch_settled rests.Idle old new e now_e batch told keeps settled = (batch.happens told keeps settled).moved.settled
 batch_settled rests.End old new e now_e batch told keeps settled = (batch.over.moved told keeps settled).settled
 
@@ -239,7 +241,7 @@ run_rounds old mid new r then_r end rounds later rest = record {
 pub whole_anyway : {Own : Type 0} {Tells : Type 0} {accepts : List TableView → Bool} (old new : Seen Own) (e : Engine) (end : Served) → IsPlainServed end → PlainWhole Tells accepts old new e end
 whole_anyway old new e end plain = record { plain = λ allows told keeps judges settled few. plain }
 
-begun_settled : {Own : Type 0} {Tells : Type 0} {a b : Option (List ℕ)} {old mid : Seen Own} {r then_r : Run} → Begins Tells a b old mid r then_r → Tells → Conforming mid → Settled old (engine_of r) → Settled mid (engine_of then_r)
+begun_settled : {Own : Type 0} {Tells : Type 0} {a b : Option (List ℕ)} {old mid : Seen Own} {r then_r : Run} → Begins Tells a b old mid r then_r → Tells → Conforming mid → AtRest old (engine_of r) → AtRest mid (engine_of then_r)
 begun_settled begins told keeps settled = (begins.shown.moved told keeps settled).settled
 
 pub whole_rounds : {Own : Type 0} {Tells : Type 0} {accepts : List TableView → Bool} {a b : Option (List ℕ)} (old mid new : Seen Own) (r then_r : Run) (end : Served) → Begins Tells a b old mid r then_r → Continues Tells mid new
@@ -278,11 +280,6 @@ unopened_plain Tells old new ends.NoMemory is = tt
 pub served_plain : {Own : Type 0} (Tells : Type 0) (accepts : List TableView → Bool) (end : Served) (old mid new : Seen Own) → (Tells → mid.history ≡ old.history ++ Opened ∷ []) → PlainWhole Tells accepts mid new engine_at_first end
     → (allows : List Place → Bool) → Premise Tells accepts allows old new → IsPlainServed end
 served_plain Tells accepts end old mid new opened whole allows p = whole.plain allows p.told p.keeps p.judges (settled-first mid (opened_so old mid p.untouched (opened p.told))) p.few
-
--- what a `?` answers
-pub err_is : {T E : Type 0} (P : E → Type 0) (e : E) (r : Result T E) → IsErrAnd r (λ s. s ≡ e) → P e → IfErr r P
-err_is P e (Ok x) is p = tt
-err_is P e (Err s) is p = subst P (sym is) p
 
 pub on_err : {T E : Type 0} {P Q : E → Type 0} (r : Result T E) → ((e : E) → P e → Q e) → IfErr r P → IfErr r Q
 on_err (Ok x) f p = tt

@@ -11,14 +11,15 @@ use Rattle.outside.specs.State.{State, state, is_running}
 use Rattle.outside.specs.Calls.{end_steps, Ends}
 use Rattle.outside.specs.InOrder.{InOrder, BringMessages, MessagesSince}
 use Rattle.outside.specs.InOrderLaws.{InOrder-before, Conforming-on, messages-of, messages-by, messages-none, messages-then}
-use Rattle.outside.specs.Quiet.{NoneQuiet}
-use Rattle.outside.specs.QuietLaws.{unquiet-by}
+use Rattle.outside.specs.Quiescence.{NoneQuiescent}
+use Rattle.outside.specs.QuiescenceLaws.{none_since-by}
 use Rattle.net_txn.specs.Net.{NetState}
-use Rattle.net_txn.specs.LinkSteps.{AreLinksInPlace, StaysInPlace}
-use Rattle.net_txn.specs.LinkPlaceLaws.{in_place_by, in_place_then}
+use Rattle.net_txn.specs.LinkSteps.{AreExpectedOnLinks, MakesNoStrayCall}
+use Rattle.net_txn.specs.LinkStrayLaws.{no_strays_by, no_strays_then}
 use Rattle.app_visor.specs.CallsFor.{IsCallFor}
-use Rattle.run_laws.specs.Engine.{Engine, index}
-use Rattle.run_laws.specs.FirstLaws.{IsOpened, net_at_first}
+use Rattle.run_laws.specs.Engine.{Engine}
+use Rattle.lego_model.specs.Application.{index}
+use Rattle.run_laws.specs.First.{IsOpened, net_at_first}
 use Rattle.event_dispatch.specs.declared.fault.Fault.{Fault}
 use Rattle.event_dispatch.specs.declared.fault.Fault.TheVariants as faults
 use Rattle.event_dispatch.specs.declared.run.Run.{Run}
@@ -26,7 +27,7 @@ use Rattle.event_dispatch.specs.declared.served.Served.{Served}
 use Rattle.event_dispatch.specs.declared.served.Served.TheVariants as served
 use Rattle.event_dispatch.specs.Why.{served_by}
 use Rattle.event_dispatch.specs.Shows.{engine_of}
-use Rattle.event_dispatch.specs.Steady.{InPlace, Reads, Quietly}
+use Rattle.event_dispatch.specs.Steady.{NoStray, Reads, NoPoint}
 use Rattle.event_dispatch.specs.Serves.{RunsAs, IsUnopened}
 use Rattle.event_dispatch.specs.Cut.{HasRead, ReadsEnd, ReadsAs, IsReadServed}
 use Rattle.event_dispatch.specs.FrontLaws.{abreast_first, keeps_first}
@@ -64,9 +65,9 @@ went_read Tells (Err served.NoMemory) old mid new net mid_net before later first
 
 -- an end, of an application that runs or of one that does not
 record IsEnd (running : Bool) : Type 0 where
-  quiet : NoneQuiet (end_steps index running)
+  quiet : NoneQuiescent (end_steps index running)
   own : AllByRecursion (IsCallFor index) (end_steps index running)
-  places : (s : State) → AreLinksInPlace (end_steps index running) s
+  places : (s : State) → AreExpectedOnLinks (end_steps index running) s
   messages : BringMessages (end_steps index running)
 
 is_end : (running : Bool) → IsEnd running
@@ -74,23 +75,23 @@ unfolding end_steps
 is_end true = record { quiet = (refl, tt); own = (refl, tt); places = λ s. (tt, tt); messages = (refl, tt) }
 is_end false = record { quiet = tt; own = tt; places = λ s. tt; messages = tt }
 
-pub end_quietly : {Own : Type 0} (Tells : Type 0) (old new : Seen Own) → Ends Tells index old new → Quietly Tells old new
+pub end_quietly : {Own : Type 0} (Tells : Type 0) (old new : Seen Own) → Ends Tells index old new → NoPoint Tells old new
 end_quietly Tells old new ends = record {
-  unquiet = λ told. unquiet-by old new (end_steps index (is_running index (state old))) (ends.told told).history (is_end (is_running index (state old))).quiet;
+  none_quiescent = λ told. none_since-by old new (end_steps index (is_running index (state old))) (ends.told told).history (is_end (is_running index (state old))).quiet;
   own = λ told. record { steps = end_steps index (is_running index (state old)); history = (ends.told told).history; all = (is_end (is_running index (state old))).own };
 }
 
-pub end_places : {Own : Type 0} (Tells : Type 0) (old new : Seen Own) → Ends Tells index old new → Tells → StaysInPlace old new
+pub end_places : {Own : Type 0} (Tells : Type 0) (old new : Seen Own) → Ends Tells index old new → Tells → MakesNoStrayCall old new
 end_places Tells old new ends told =
-    in_place_by old new (end_steps index (is_running index (state old))) (ends.told told).history ((is_end (is_running index (state old))).places (state old))
+    no_strays_by old new (end_steps index (is_running index (state old))) (ends.told told).history ((is_end (is_running index (state old))).places (state old))
 
 pub end_messages : {Own : Type 0} (Tells : Type 0) (old new : Seen Own) → Ends Tells index old new → Tells → MessagesSince old new
 end_messages Tells old new ends told =
     messages-by old new (end_steps index (is_running index (state old))) (ends.told told).history (is_end (is_running index (state old))).messages
 
-pub ended_places : {Own : Type 0} (Tells : Type 0) (old mid new : Seen Own) (net : NetState) → Continues Tells old mid → Continues Tells mid new → InPlace Tells old mid net → (Tells → StaysInPlace mid new) → InPlace Tells old new net
+pub ended_places : {Own : Type 0} (Tells : Type 0) (old mid new : Seen Own) (net : NetState) → Continues Tells old mid → Continues Tells mid new → NoStray Tells old mid net → (Tells → MakesNoStrayCall mid new) → NoStray Tells old new net
 ended_places Tells old mid new net before later first last = record {
-  places = λ told order abreast. in_place_then old mid new told before later (first.places told (InOrder-before told later order) abreast) (last told);
+  places = λ told order abreast. no_strays_then old mid new told before later (first.places told (InOrder-before told later order) abreast) (last told);
 }
 
 read_then : {Own : Type 0} (Tells : Type 0) (old mid new : Seen Own) (net : NetState) → Continues Tells old mid → Continues Tells mid new → (Tells → MessagesSince mid new) → HasRead Tells old mid net → HasRead Tells old new net
@@ -127,15 +128,15 @@ reads_by Tells fault result old new net is = reads_as Tells (served_by fault) re
 -- ---- Of a world on which no call was made
 
 -- it was opened
-pub opened_places : {Own : Type 0} (Tells : Type 0) (old mid new : Seen Own) → Continues Tells old mid → Continues Tells mid new → (Tells → mid.history ≡ old.history ++ Opened ∷ []) → InPlace Tells mid new net_at_first → Tells → old.history ≡ [] → InOrder new → StaysInPlace old new
+pub opened_places : {Own : Type 0} (Tells : Type 0) (old mid new : Seen Own) → Continues Tells old mid → Continues Tells mid new → (Tells → mid.history ≡ old.history ++ Opened ∷ []) → NoStray Tells mid new net_at_first → Tells → old.history ≡ [] → InOrder new → MakesNoStrayCall old new
 opened_places Tells old mid new before later opened places told none order =
-    let first : StaysInPlace old mid = in_place_by old mid (Opened ∷ []) (opened told) (tt, tt) in
-    in_place_then old mid new told before later first (places.places told order (abreast_first mid (opened told ∙ ap (λ (steps : List WorldStep). steps ++ Opened ∷ []) none)))
+    let first : MakesNoStrayCall old mid = no_strays_by old mid (Opened ∷ []) (opened told) (tt, tt) in
+    no_strays_then old mid new told before later first (places.places told order (abreast_first mid (opened told ∙ ap (λ (steps : List WorldStep). steps ++ Opened ∷ []) none)))
 
 -- or not
-pub unopened_places : {Own : Type 0} (Tells : Type 0) (old new : Seen Own) (end : Served) → IsUnopened Tells old new end → Tells → StaysInPlace old new
-unopened_places Tells old new served.Shut left told = in_place_by old new (NotOpened ∷ []) (left told) (tt, tt)
-unopened_places Tells old new served.NoMemory left told = in_place_by old new [] (left told ∙ sym (append-nil old.history)) tt
+pub unopened_places : {Own : Type 0} (Tells : Type 0) (old new : Seen Own) (end : Served) → IsUnopened Tells old new end → Tells → MakesNoStrayCall old new
+unopened_places Tells old new served.Shut left told = no_strays_by old new (NotOpened ∷ []) (left told) (tt, tt)
+unopened_places Tells old new served.NoMemory left told = no_strays_by old new [] (left told ∙ sym (append-nil old.history)) tt
 unopened_places Tells old new (served.EventsLeft n) left told = absurd left
 unopened_places Tells old new (served.Ended events) left told = absurd left
 unopened_places Tells old new served.WriteFault left told = absurd left

@@ -1,5 +1,5 @@
 -- Laws of a whole run: events one after the other, batches, the start and the end, and what a run of them promises.
-use Rattle.std.proofs.Common.{◌≡◌, ℕ, ◌+◌, ◌-◌, ◌^◌, ◌<◌, ◌≤◌, Bool, true, false, List, [], ◌∷◌, ◌++◌, length, drop, Option, Some, None, refl, sym, ap, ap₂, ◌∙◌, subst, append_assoc, arith}
+use Rattle.std.proofs.Common.{◌≡◌, ℕ, ◌+◌, ◌-◌, ◌^◌, ◌<◌, ◌≤◌, Bool, true, false, List, [], ◌∷◌, ◌++◌, length, drop, Option, Some, None, refl, sym, ap, ap₂, ◌∙◌, subst, arith}
 use Rattle.std.specs.Prelude.{slice_get}
 use Rattle.std.specs.Io.KnownBytes.{append_known}
 use Rattle.std.proofs.lemmas.List.{append-nil, length-append}
@@ -13,14 +13,16 @@ use Rattle.outside.specs.Seen.{Seen, Continues}
 use Rattle.outside.specs.SeenLaws.{Continues-trans}
 use Rattle.outside.specs.StateLaws.{Conforming-before}
 use Rattle.outside.specs.Conforming.{Conforming}
-use Rattle.run_laws.specs.Engine.{Engine, Stands, stimuli_in, text_of}
+use Rattle.run_laws.specs.Engine.{Engine, Stands, engine_then}
+use Rattle.lego_model.specs.History.{stimuli_in}
+use Rattle.lego_model.specs.ReferenceRun.{text_of, dispatch_next, times}
 use Rattle.run_laws.specs.Facts.{StartsAgain}
-use Rattle.run_laws.specs.Moves.{Settled, Moved, Shown, OneHappens, dispatch_next, times}
-use Rattle.run_laws.specs.BatchMoveLaws.{engine_then, batch-happens, batch-over}
+use Rattle.run_laws.specs.Moves.{AtRest, Moved, Shown, OneHappens}
+use Rattle.run_laws.specs.BatchMoveLaws.{batch-happens, batch-over}
 use Rattle.run_laws.specs.Readings.{JudgesAlike}
 use Rattle.run_laws.specs.StimuliLaws.{none-later}
 use Rattle.run_laws.specs.MoveLaws.{shown-none, shown-then, shown-as}
-use Rattle.run_laws.specs.SettleLaws.{settle-times, times-more, times-stop}
+use Rattle.run_laws.specs.DispatchWaitingLaws.{settle-times, times-more, times-stop}
 use Rattle.run_laws.specs.RoundLaws.{rounds-none, rounds-more, rounds-end}
 use Rattle.run_laws.specs.StartShownLaws.{start-shown}
 use Rattle.run_laws.specs.EventLaws.{next-shown, rest-shown}
@@ -31,8 +33,9 @@ use Rattle.event_dispatch.specs.declared.run.Managed.{Managed}
 use Rattle.event_dispatch.specs.declared.run.Run.{Run}
 use Rattle.event_dispatch.specs.Runs.{Waits}
 use Rattle.event_dispatch.specs.Batch.{BatchShown}
-use Rattle.event_dispatch.specs.Shows.{engine_of}
-use Rattle.event_dispatch.specs.Serves.{Writes, Starts, IsDispatched, SettlesOne, SettlesSome, Settles, IsBatch, GoesRound, GoesRounds, GoesToEnd, Begins}
+use Rattle.event_dispatch.specs.Shows.{engine_of, queued_run}
+use Rattle.event_dispatch.specs.Serves.{Writes, Starts, IsDispatched, DispatchesOldest, DispatchesSome, DispatchesWaiting, IsBatch, GoesRound, GoesRounds, GoesToEnd, Begins}
+use Rattle.run_laws.specs.EndingLaws.{known-append}
 
 -- ---- What is written
 
@@ -40,16 +43,12 @@ nothing_written : (o : Option (List ℕ)) → o ≡ append_known o []
 nothing_written None = refl
 nothing_written (Some xs) = ap (λ (l : List ℕ). Some l) (sym (append-nil xs))
 
-known_append : (o : Option (List ℕ)) (s t : List ℕ) → append_known (append_known o s) t ≡ append_known o (s ++ t)
-known_append None s t = refl
-known_append (Some xs) s t = ap (λ (l : List ℕ). Some l) (append_assoc xs s t)
-
 writes_none : (contents : Option (List ℕ)) (r : Run) → r.lines.items ≡ [] → Writes [] contents contents r
 writes_none contents r none = record { written = nothing_written contents; none_waits = none }
 
 pub writes_then : (first second : List ℕ) (a b c : Option (List ℕ)) (r later : Run) → Writes first a b r → Writes second b c later → Writes (first ++ second) a c later
 writes_then first second a b c r later one two = record {
-  written = two.written ∙ ap (λ (o : Option (List ℕ)). append_known o second) one.written ∙ known_append a first second;
+  written = two.written ∙ ap (λ (o : Option (List ℕ)). append_known o second) one.written ∙ known-append a first second;
   none_waits = two.none_waits;
 }
 
@@ -63,12 +62,8 @@ no_event : (queue : List Event) → None ≡ slice_get queue 0 → queue ≡ []
 no_event [] is = refl
 no_event (first ∷ queue) is = absurd cc
 
--- the run with other events that wait
-abbrev pub queued_run : List Event → Run → Run
-queued_run queue r = record r { queue = queue }
-
 pub one_settled : {Own : Type 0} (Tells : Type 0) (accepts : List TableView → Bool) (event : Event) (contents now_contents : Option (List ℕ)) (old new : Seen Own) (r : Run) (queue : List Event) (mid now_r : Run) → Continues Tells old new → r.events < 2 ^ 63 → Some event ≡ slice_get r.queue 0
-    → queue ≡ drop 1 r.queue → r.lines.items ≡ [] → IsDispatched Tells accepts event old new (queued_run queue r) mid → engine_of now_r ≡ engine_of mid → Writes mid.lines.items contents now_contents now_r → SettlesOne Tells accepts true contents now_contents old new r now_r
+    → queue ≡ drop 1 r.queue → r.lines.items ≡ [] → IsDispatched Tells accepts event old new (queued_run queue r) mid → engine_of now_r ≡ engine_of mid → Writes mid.lines.items contents now_contents now_r → DispatchesOldest Tells accepts true contents now_contents old new r now_r
 one_settled Tells accepts event contents now_contents old new r queue mid now_r continues few waits left none is same writes = record {
   text = is.text;
   shown = subst (λ (e : Engine). Shown Tells accepts [] dispatch_next is.text old new (engine_of r) e) (sym same)
@@ -78,7 +73,7 @@ one_settled Tells accepts event contents now_contents old new r queue mid now_r 
 }
 
 pub none_settled : {Own : Type 0} (Tells : Type 0) (accepts : List TableView → Bool) (contents : Option (List ℕ)) (seen : Seen Own) (r : Run) (queue : List Event) → queue ≡ drop 1 r.queue → None ≡ slice_get r.queue 0 → r.lines.items ≡ []
-    → SettlesOne Tells accepts false contents contents seen seen r (queued_run queue r)
+    → DispatchesOldest Tells accepts false contents contents seen seen r (queued_run queue r)
 none_settled Tells accepts contents seen r queue left waits none =
     let empty : r.queue ≡ [] = no_event r.queue waits in
     let same : queue ≡ r.queue = left ∙ ap (drop 1) empty ∙ sym empty in
@@ -91,11 +86,11 @@ none_settled Tells accepts contents seen r queue left waits none =
 
 -- ---- Events, one after the other
 
-pub some_none : {Own : Type 0} (Tells : Type 0) (accepts : List TableView → Bool) (contents : Option (List ℕ)) (seen : Seen Own) (r : Run) → r.lines.items ≡ [] → SettlesSome Tells accepts 0 contents contents seen seen r r
+pub some_none : {Own : Type 0} (Tells : Type 0) (accepts : List TableView → Bool) (contents : Option (List ℕ)) (seen : Seen Own) (r : Run) → r.lines.items ≡ [] → DispatchesSome Tells accepts 0 contents contents seen seen r r
 some_none Tells accepts contents seen r none = record { text = []; shown = shown-none Tells accepts seen (engine_of r); writes = writes_none contents r none }
 
-pub some_more : {Own : Type 0} (Tells : Type 0) (accepts : List TableView → Bool) (n : ℕ) (found : Bool) (a b c : Option (List ℕ)) (old mid new : Seen Own) (r then_r now_r : Run) → Continues Tells mid new → SettlesSome Tells accepts n a b old mid r then_r
-    → SettlesOne Tells accepts found b c mid new then_r now_r → SettlesSome Tells accepts (n + 1) a c old new r now_r
+pub some_more : {Own : Type 0} (Tells : Type 0) (accepts : List TableView → Bool) (n : ℕ) (found : Bool) (a b c : Option (List ℕ)) (old mid new : Seen Own) (r then_r now_r : Run) → Continues Tells mid new → DispatchesSome Tells accepts n a b old mid r then_r
+    → DispatchesOldest Tells accepts found b c mid new then_r now_r → DispatchesSome Tells accepts (n + 1) a c old new r now_r
 some_more Tells accepts n found a b c old mid new r then_r now_r continues some one = record {
   text = some.text ++ one.text;
   shown = shown-as Tells accepts [] (λ allows q. dispatch_next allows (times n (dispatch_next allows) q)) (λ allows q. times (n + 1) (dispatch_next allows) q) (some.text ++ one.text) old new (engine_of r) (engine_of now_r)
@@ -134,12 +129,12 @@ settled_early {Own} Tells accepts n m text old new e now_e sum none shown = reco
     same : (allows : List Place → Bool) (ss : List Start) (rs : List Reply) (q : ModelRun) → Stands new now_e ss rs (times n (dispatch_next allows) q) → times n (dispatch_next allows) q ≡ settle allows q
     same allows ss rs q t = sym (times-stop allows n m q (t.queue ∙ none)) ∙ ap (λ (k : ℕ). times k (dispatch_next allows) q) sum ∙ settle-times allows q
 
-pub settles_early : {Own : Type 0} (Tells : Type 0) (accepts : List TableView → Bool) (n : ℕ) (a b : Option (List ℕ)) (old new : Seen Own) (r now_r : Run) → n ≤ 1000 → now_r.queue ≡ [] → SettlesSome Tells accepts n a b old new r now_r → Settles Tells accepts a b old new r now_r
+pub settles_early : {Own : Type 0} (Tells : Type 0) (accepts : List TableView → Bool) (n : ℕ) (a b : Option (List ℕ)) (old new : Seen Own) (r now_r : Run) → n ≤ 1000 → now_r.queue ≡ [] → DispatchesSome Tells accepts n a b old new r now_r → DispatchesWaiting Tells accepts a b old new r now_r
 settles_early Tells accepts n a b old new r now_r few none some =
     let rest : (m : ℕ) × (n + m ≡ 1000) = (1000 - n, omega (arith, few)) in
     record { text = some.text; shown = settled_early Tells accepts n rest.0 some.text old new (engine_of r) (engine_of now_r) rest.1 none some.shown; writes = some.writes }
 
-pub settles_all : {Own : Type 0} (Tells : Type 0) (accepts : List TableView → Bool) (n : ℕ) (a b : Option (List ℕ)) (old new : Seen Own) (r now_r : Run) → n ≡ 1000 → SettlesSome Tells accepts n a b old new r now_r → Settles Tells accepts a b old new r now_r
+pub settles_all : {Own : Type 0} (Tells : Type 0) (accepts : List TableView → Bool) (n : ℕ) (a b : Option (List ℕ)) (old new : Seen Own) (r now_r : Run) → n ≡ 1000 → DispatchesSome Tells accepts n a b old new r now_r → DispatchesWaiting Tells accepts a b old new r now_r
 settles_all Tells accepts n a b old new r now_r all some = record {
   text = some.text;
   shown = shown-as Tells accepts [] (λ allows q. times n (dispatch_next allows) q) settle some.text old new (engine_of r) (engine_of now_r)
@@ -171,14 +166,14 @@ batch_is Tells rests.End old new r now_r continues app waits shown = record {
 }
 
 pub round_so : {Own : Type 0} {Tells : Type 0} {accepts : List TableView → Bool} {rest : Rest} {contents now_contents : Option (List ℕ)} {old mid new : Seen Own} {r then_r now_r : Run} → Continues Tells old mid → then_r.app ≡ r.app → Waits r then_r
-    → BatchShown Tells rest old mid r then_r → Continues Tells mid new → Settles Tells accepts contents now_contents mid new then_r now_r → GoesRound Tells accepts rest contents now_contents old new r now_r
-round_so {Tells = Tells} {rest = rest} {old = old} {mid = mid} {r = r} {then_r = then_r} first app waits batch later settles = record {
+    → BatchShown Tells rest old mid r then_r → Continues Tells mid new → DispatchesWaiting Tells accepts contents now_contents mid new then_r now_r → GoesRound Tells accepts rest contents now_contents old new r now_r
+round_so {Tells = Tells} {rest = rest} {old = old} {mid = mid} {r = r} {then_r = then_r} first app waits batch later dispatches = record {
   mid = mid;
   mid_run = then_r;
   first = first;
   batch = batch_is Tells rest old mid r then_r first app waits batch;
   later = later;
-  settles = settles;
+  dispatches = dispatches;
 }
 
 pub rounds_none : {Own : Type 0} (Tells : Type 0) (accepts : List TableView → Bool) (contents : Option (List ℕ)) (seen : Seen Own) (r : Run) → r.lines.items ≡ [] → GoesRounds Tells accepts 0 contents contents seen seen r r
@@ -187,23 +182,23 @@ rounds_none Tells accepts contents seen r none = record { text = []; shown = rou
 pub rounds_next : {Own : Type 0} (Tells : Type 0) (accepts : List TableView → Bool) (n : ℕ) (a b c : Option (List ℕ)) (old mid new : Seen Own) (r then_r now_r : Run) → GoesRounds Tells accepts n a b old mid r then_r → GoesRound Tells accepts rests.Idle b c mid new then_r now_r
     → GoesRounds Tells accepts (n + 1) a c old new r now_r
 rounds_next Tells accepts n a b c old mid new r then_r now_r rounds one = record {
-  text = rounds.text ++ one.settles.text;
-  shown = rounds-more Tells accepts n rounds.text one.settles.text old mid one.mid new (engine_of r) (engine_of then_r) (engine_of one.mid_run) (engine_of now_r) one.first one.later rounds.shown one.batch one.settles.shown;
-  writes = writes_then rounds.text one.settles.text a b c then_r now_r rounds.writes one.settles.writes;
+  text = rounds.text ++ one.dispatches.text;
+  shown = rounds-more Tells accepts n rounds.text one.dispatches.text old mid one.mid new (engine_of r) (engine_of then_r) (engine_of one.mid_run) (engine_of now_r) one.first one.later rounds.shown one.batch one.dispatches.shown;
+  writes = writes_then rounds.text one.dispatches.text a b c then_r now_r rounds.writes one.dispatches.writes;
 }
 
 pub rounds_last : {Own : Type 0} (Tells : Type 0) (accepts : List TableView → Bool) (n : ℕ) (a b c : Option (List ℕ)) (old mid new : Seen Own) (r then_r now_r : Run) → GoesRounds Tells accepts n a b old mid r then_r → GoesRound Tells accepts rests.End b c mid new then_r now_r
     → GoesToEnd Tells accepts a c old new r now_r
 rounds_last Tells accepts n a b c old mid new r then_r now_r rounds one = record {
-  text = rounds.text ++ one.settles.text;
-  shown = rounds-end Tells accepts n most_rounds rounds.text one.settles.text old mid one.mid new (engine_of r) (engine_of then_r) (engine_of one.mid_run) (engine_of now_r) one.first one.later rounds.shown one.batch.over one.settles.shown;
+  text = rounds.text ++ one.dispatches.text;
+  shown = rounds-end Tells accepts n most_rounds rounds.text one.dispatches.text old mid one.mid new (engine_of r) (engine_of then_r) (engine_of one.mid_run) (engine_of now_r) one.first one.later rounds.shown one.batch.over one.dispatches.shown;
   none_to_come = record {
     none = λ allows told keeps judges settled few.
         let keeps_mid = Conforming-before told one.later keeps in
         let then_settled = (rounds.shown.rounds_so allows told (Conforming-before told one.first keeps_mid) judges settled).moved.settled in
         none-later Tells mid new told (Continues-trans Tells mid one.mid new one.first one.later) keeps (one.batch.none_to_come told keeps_mid then_settled);
   };
-  writes = writes_then rounds.text one.settles.text a b c then_r now_r rounds.writes one.settles.writes;
+  writes = writes_then rounds.text one.dispatches.text a b c then_r now_r rounds.writes one.dispatches.writes;
 }
 
 -- so many rounds that there are not so many stimuli
@@ -215,7 +210,7 @@ rounds_out {Own} Tells accepts n a b old new r now_r many rounds = record {
   writes = rounds.writes;
 }
   where
-    never : (allows : List Place → Bool) → Tells → Conforming new → JudgesAlike Own allows accepts → Settled old (engine_of r) → length (stimuli_in new) < most_rounds → ⊥
+    never : (allows : List Place → Bool) → Tells → Conforming new → JudgesAlike Own allows accepts → AtRest old (engine_of r) → length (stimuli_in new) < most_rounds → ⊥
     never allows told keeps judges settled few =
         let one = rounds.shown.rounds_so allows told keeps judges settled in
         let long : length (stimuli_in new) ≡ length (stimuli_in old) + n =

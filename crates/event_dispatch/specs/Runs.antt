@@ -3,7 +3,7 @@
 use Rattle.std.specs.Prelude.{◌≡◌, ◌≤◌, ℕ, List, IsOk}
 use Rattle.std.specs.List.{AllByRecursion}
 use Rattle.of_wire.specs.Reading.{reading_of}
-use Rattle.run_laws.specs.Engine.{index}
+use Rattle.lego_model.specs.Application.{index}
 use Rattle.event_dispatch.specs.declared.run.Run.{Run}
 
 -- messages that were read

@@ -9,7 +9,6 @@ use Rattle.lego_model.specs.Places.{Place}
 use Rattle.lego_model.specs.Controller.{event_frame, settle}
 use Rattle.lego_model.specs.RunReport.{turn_line}
 use Rattle.lego_model.specs.declared.turn.TurnWord.TheVariants as words
-use Rattle.outside.specs.declared.step.WorldStep.{WorldStep}
 use Rattle.outside.specs.declared.step.WorldStep.TheVariants.{NotOpened}
 use Rattle.outside.specs.Seen.{Seen, Continues}
 use Rattle.outside.specs.State.{state}
@@ -19,13 +18,17 @@ use Rattle.net_txn.specs.Undos.{Undoes}
 use Rattle.app_visor.specs.declared.state.TurnEnd.{TurnEnd}
 use Rattle.app_visor.specs.declared.state.TurnEnd.TheVariants as ends
 use Rattle.app_visor.specs.Turns.{Turns}
-use Rattle.run_laws.specs.Engine.{Engine, budget, stimuli_in}
+use Rattle.run_laws.specs.Engine.{Engine}
+use Rattle.lego_model.specs.Application.{budget, name}
+use Rattle.lego_model.specs.History.{stimuli_in}
 use Rattle.run_laws.specs.Readings.{JudgesAlike}
-use Rattle.run_laws.specs.Facts.{name, turn_word, StartsAgain, TakesTurn, Dispatches}
-use Rattle.run_laws.specs.Moves.{Settled, Shown, ShownIdle, ShownOver, ShownRounds, ShownToEnd, dispatch_next, times}
-use Rattle.run_laws.specs.FirstLaws.{engine_at_first}
+use Rattle.run_laws.specs.Facts.{turn_word, StartsAgain, TakesTurn, Dispatches}
+use Rattle.run_laws.specs.Moves.{AtRest, Shown, ShownIdle, ShownOver, ShownRounds, ShownToEnd}
+use Rattle.lego_model.specs.ReferenceRun.{dispatch_next, times}
+use Rattle.run_laws.specs.First.{engine_at_first}
 use Rattle.run_laws.specs.Endings.{ShownStart, ShownFinish, RanOut, RanFull}
-use Rattle.run_laws.specs.Promise.{most_rounds, EndsAlike, LeavesAlike}
+use Rattle.run_laws.specs.Promise.{most_rounds}
+use Rattle.lego_model.specs.WholeRun.{EndsAlike, LeavesAlike}
 use Rattle.run_laws.specs.Cut.{CutAlike, CutWriting}
 use Rattle.event_dispatch.specs.declared.batch.Rest.{Rest}
 use Rattle.event_dispatch.specs.declared.batch.Rest.TheVariants as rests
@@ -33,6 +36,7 @@ use Rattle.event_dispatch.specs.declared.run.Run.{Run}
 use Rattle.event_dispatch.specs.declared.served.Served.{Served}
 use Rattle.event_dispatch.specs.declared.served.Served.TheVariants as served
 use Rattle.event_dispatch.specs.Shows.{engine_of}
+use Rattle.lego_model.specs.CutRun.{NothingDone}
 
 -- text was noted behind what waits to be written
 abbrev pub Notes : List ℕ → Run → Run → Type 0
@@ -93,20 +97,20 @@ pub record Writes (text : List ℕ) (contents now_contents : Option (List ℕ)) 
   pub none_waits : now_r.lines.items ≡ []
 
 -- The oldest event was dispatched and its lines written, or there was none and nothing was done.
-pub record SettlesOne {Own : Type 0} (Tells : Type 0) (accepts : List TableView → Bool) (found : Bool) (contents now_contents : Option (List ℕ)) (old new : Seen Own) (r now_r : Run) : Type 0 where
+pub record DispatchesOldest {Own : Type 0} (Tells : Type 0) (accepts : List TableView → Bool) (found : Bool) (contents now_contents : Option (List ℕ)) (old new : Seen Own) (r now_r : Run) : Type 0 where
   pub text : List ℕ
   pub shown : Shown Tells accepts [] dispatch_next text old new (engine_of r) (engine_of now_r)
   pub writes : Writes text contents now_contents now_r
   pub none : found ≡ false → now_r.queue ≡ []
 
 -- so many times
-pub record SettlesSome {Own : Type 0} (Tells : Type 0) (accepts : List TableView → Bool) (n : ℕ) (contents now_contents : Option (List ℕ)) (old new : Seen Own) (r now_r : Run) : Type 0 where
+pub record DispatchesSome {Own : Type 0} (Tells : Type 0) (accepts : List TableView → Bool) (n : ℕ) (contents now_contents : Option (List ℕ)) (old new : Seen Own) (r now_r : Run) : Type 0 where
   pub text : List ℕ
   pub shown : Shown Tells accepts [] (λ allows q. times n (dispatch_next allows) q) text old new (engine_of r) (engine_of now_r)
   pub writes : Writes text contents now_contents now_r
 
 -- up to 1,000 of them
-pub record Settles {Own : Type 0} (Tells : Type 0) (accepts : List TableView → Bool) (contents now_contents : Option (List ℕ)) (old new : Seen Own) (r now_r : Run) : Type 0 where
+pub record DispatchesWaiting {Own : Type 0} (Tells : Type 0) (accepts : List TableView → Bool) (contents now_contents : Option (List ℕ)) (old new : Seen Own) (r now_r : Run) : Type 0 where
   pub text : List ℕ
   pub shown : Shown Tells accepts [] settle text old new (engine_of r) (engine_of now_r)
   pub writes : Writes text contents now_contents now_r
@@ -116,7 +120,7 @@ pub record Settles {Own : Type 0} (Tells : Type 0) (accepts : List TableView →
 -- the last batch, that has no stimulus, since none is to come
 pub record IsLast {Own : Type 0} (Tells : Type 0) (old new : Seen Own) (e now_e : Engine) : Type 0 where
   pub over : ShownOver Tells old new e now_e
-  pub none_to_come : Tells → Conforming new → Settled old e → (state old).to_come ≡ []
+  pub none_to_come : Tells → Conforming new → AtRest old e → (state old).to_come ≡ []
 
 -- a batch: one stimulus with its items, or the last one
 abbrev pub IsBatch : {Own : Type 0} → Type 0 → Rest → Seen Own → Seen Own → Engine → Engine → Type 0
@@ -130,7 +134,7 @@ pub record GoesRound {Own : Type 0} (Tells : Type 0) (accepts : List TableView �
   pub first : Continues Tells old mid
   pub batch : IsBatch Tells rest old mid (engine_of r) (engine_of mid_run)
   pub later : Continues Tells mid new
-  pub settles : Settles Tells accepts contents now_contents mid new mid_run now_r
+  pub dispatches : DispatchesWaiting Tells accepts contents now_contents mid new mid_run now_r
 
 -- so many rounds
 pub record GoesRounds {Own : Type 0} (Tells : Type 0) (accepts : List TableView → Bool) (number : ℕ) (contents now_contents : Option (List ℕ)) (old new : Seen Own) (r now_r : Run) : Type 0 where
@@ -140,7 +144,7 @@ pub record GoesRounds {Own : Type 0} (Tells : Type 0) (accepts : List TableView 
 
 -- in a world that keeps its word no stimulus is to come, where they are fewer than this
 pub record NoneToCome {Own : Type 0} (Tells : Type 0) (accepts : List TableView → Bool) (old new : Seen Own) (e : Engine) : Type 0 where
-  pub none : (allows : List Place → Bool) → Tells → Conforming new → JudgesAlike Own allows accepts → Settled old e → length (stimuli_in new) < most_rounds → (state new).to_come ≡ []
+  pub none : (allows : List Place → Bool) → Tells → Conforming new → JudgesAlike Own allows accepts → AtRest old e → length (stimuli_in new) < most_rounds → (state new).to_come ≡ []
 
 -- all of them
 pub record GoesToEnd {Own : Type 0} (Tells : Type 0) (accepts : List TableView → Bool) (contents now_contents : Option (List ℕ)) (old new : Seen Own) (r now_r : Run) : Type 0 where
@@ -211,12 +215,7 @@ pub record IsPart {Own : Type 0} (allows : List Place → Bool) (seen : Seen Own
   pub alike : LeavesAlike allows seen contents now_contents left
   pub none_to_come : (state seen).to_come ≡ []
 
--- The world was not opened, which its history tells, and nothing was written.
-pub record NothingDone {Own : Type 0} (steps : List WorldStep) (seen : Seen Own) (contents now_contents : Option (List ℕ)) : Type 0 where
-  pub history : seen.history ≡ steps
-  pub still : now_contents ≡ contents
-
--- Of a world that tells, on which no call was made before: where a fault ends the run, it is the reference controller's up to a place, if
+-- Of a world that tells, on which no call was made before: where a fault ends the run, it is the reference controller's up to a point, if
 -- the world kept its word as far as there, and so is what was written.
 abbrev pub IsCut : {Own : Type 0} → (List Place → Bool) → Seen Own → Option (List ℕ) → Option (List ℕ) → Served → Type 0
 IsCut allows seen contents now_contents (served.Ended events) = Unit {0}

@@ -2,6 +2,9 @@
 use Rattle.std.specs.Prelude.{◌≡◌, ℕ, List, ◌++◌}
 use Rattle.run_laws.specs.Engine.{Engine}
 use Rattle.event_dispatch.specs.declared.run.Run.{Run}
+use Rattle.app_frames.specs.declared.frame.Event.{Event}
+use Rattle.net_txn.specs.Net.{NetState}
+use Rattle.app_visor.specs.declared.state.AppState.{AppState}
 
 abbrev pub engine_of : Run → Engine
 engine_of r = record {
@@ -21,3 +24,11 @@ pub record Adds (text : List ℕ) (r now_r : Run) : Type 0 where
   pub engine : engine_of now_r ≡ engine_of r
   pub index : now_r.app.state.index ≡ r.app.state.index
   pub lines : now_r.lines.items ≡ r.lines.items ++ text
+
+-- the run with other events that wait
+abbrev pub queued_run : List Event → Run → Run
+queued_run queue r = record r { queue = queue }
+
+-- what the engine keeps behind a turn that was played
+abbrev pub played_run : NetState → List Event → AppState → Run → Run
+played_run net queue app r = record r { net = net; queue = queue; app = record r.app { state = app } }

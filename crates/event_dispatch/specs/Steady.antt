@@ -1,19 +1,19 @@
--- What the engine keeps of a world that tells in order: calls of links are in place, all bytes that came of switches were read where a part
--- of a run was done, and no quiet place lies behind the one where a part began that was not. All of this is our own.
+-- What the engine keeps of a world that tells in order: no call of a link is a stray one, all bytes that came of switches were read where a part
+-- of a run was done, and no quiescent point lies behind the one where a part began that was not. All of this is our own.
 use Rattle.std.specs.Prelude.{◌≡◌, false, []}
 use Rattle.outside.specs.Seen.{Seen}
 use Rattle.outside.specs.State.{State, state, upcoming}
 use Rattle.outside.specs.InOrder.{InOrder, MessagesSince}
-use Rattle.outside.specs.Quiet.{Unquiet, IsLastQuiet}
+use Rattle.outside.specs.Quiescence.{NoneQuiescentSince, IsLastQuiescent}
 use Rattle.net_txn.specs.Net.{NetState}
-use Rattle.net_txn.specs.LinkSteps.{StaysInPlace}
+use Rattle.net_txn.specs.LinkSteps.{MakesNoStrayCall}
 use Rattle.net_txn.specs.Abreast.{Abreast}
 use Rattle.app_visor.specs.CallsFor.{CallsFor}
-use Rattle.run_laws.specs.Engine.{index}
+use Rattle.lego_model.specs.Application.{index}
 
--- however it ended: calls of links were in place
-pub record InPlace {Own : Type 0} (Tells : Type 0) (old new : Seen Own) (net : NetState) : Type 0 where
-  pub places : Tells → InOrder new → Abreast old net → StaysInPlace old new
+-- however it ended: no call of a link was a stray one
+pub record NoStray {Own : Type 0} (Tells : Type 0) (old new : Seen Own) (net : NetState) : Type 0 where
+  pub places : Tells → InOrder new → Abreast old net → MakesNoStrayCall old new
 
 -- where it was done: the host keeps up with the switches, and what came of them are messages
 pub record Reads {Own : Type 0} (Tells : Type 0) (old new : Seen Own) (net now_net : NetState) : Type 0 where
@@ -21,16 +21,16 @@ pub record Reads {Own : Type 0} (Tells : Type 0) (old new : Seen Own) (net now_n
   pub read : Tells → InOrder new → Abreast old net → MessagesSince old new
 
 -- no stimulus is begun, and nothing is to be told
-pub record IsAtRest (s : State) : Type 0 where
+pub record NothingUnderWay (s : State) : Type 0 where
   pub none_begun : s.begun ≡ false
   pub none_upcoming : upcoming s ≡ []
 
--- however it ended: no quiet place since then, and no call for another application
-pub record Quietly {Own : Type 0} (Tells : Type 0) (old new : Seen Own) : Type 0 where
-  pub unquiet : Tells → Unquiet old new
+-- however it ended: no quiescent point since then, and no call for another application
+pub record NoPoint {Own : Type 0} (Tells : Type 0) (old new : Seen Own) : Type 0 where
+  pub none_quiescent : Tells → NoneQuiescentSince old new
   pub own : Tells → CallsFor index old new
 
--- no quiet place behind that one, where all was at rest there
-pub record AtMostHere {Own : Type 0} (Tells : Type 0) (old new : Seen Own) : Type 0 where
-  pub last : Tells → InOrder new → IsAtRest (state old) → IsLastQuiet old new
+-- no quiescent point behind that one, where all was at rest there
+pub record AtMostThisPoint {Own : Type 0} (Tells : Type 0) (old new : Seen Own) : Type 0 where
+  pub last : Tells → InOrder new → NothingUnderWay (state old) → IsLastQuiescent old new
   pub own : Tells → CallsFor index old new

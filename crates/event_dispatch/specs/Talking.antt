@@ -3,7 +3,8 @@
 use Rattle.std.specs.Prelude.{◌≡◌, ℕ, true, List}
 use Rattle.outside.specs.Seen.{Seen, journal}
 use Rattle.lego_model.specs.AtOnce.{Passes, AtOnce}
-use Rattle.run_laws.specs.Engine.{Engine, index}
+use Rattle.run_laws.specs.Engine.{Engine}
+use Rattle.lego_model.specs.Application.{index}
 use Rattle.run_laws.specs.Moves.{Conversing}
 
 -- whatever it was

@@ -26,8 +26,10 @@ use Rattle.app_visor.specs.Dialogues.{Converses, LeadsOn, TalksOn, Talks}
 use Rattle.app_visor.specs.LeadsOnLaws.{leads_on_links, leads_on_then}
 use Rattle.app_visor.specs.Turns.{Turns}
 use Rattle.app_visor.specs.DialogueLaws.{Converses-then, converses_ended}
-use Rattle.run_laws.specs.DialogueLaws.{at_once_then, runs_now, others_at_once, event_told}
-use Rattle.run_laws.specs.Engine.{Engine, index}
+use Rattle.run_laws.specs.DialogueLaws.{at_once_then, runs_now, others_at_once}
+use Rattle.journal_laws.specs.FrameLaws.{event_is}
+use Rattle.run_laws.specs.Engine.{Engine}
+use Rattle.lego_model.specs.Application.{index}
 use Rattle.event_dispatch.specs.Serves.{PlaysTurn}
 use Rattle.event_dispatch.specs.Talking.{KeepsTalking, TurnTalks, GoesOnTalking}
 
@@ -109,9 +111,6 @@ keeps_restarted Tells app old new is restarts = keeps_led Tells app old new is
 
 -- ---- A turn
 
-pub turn_none : {Own : Type 0} (Tells : Type 0) (app : ℕ) (rest : List ℕ) (seen : Seen Own) → TurnTalks Tells app rest seen seen
-turn_none Tells app rest seen = record { talks = λ told a runs passes. a }
-
 -- it stopped by a fault, and was undone as far as that went
 pub turn_stops : {Own : Type 0} (Tells : Type 0) (app : ℕ) (rest : List ℕ) (old mid new : Seen Own) → (Tells → (s : Before) → s.running ≡ true → Passes s.unread rest → Talks app s old mid) → OnLinks Tells mid new → TurnTalks Tells app rest old new
 turn_stops Tells app rest old mid new says links = record {
@@ -140,8 +139,8 @@ turn_ended {Tells = Tells} app rest old mid new is turns same = record {
 
 turn_played : {Own : Type 0} (Tells : Type 0) (accepts : List TableView → Bool) (app number : ℕ) (event : Event) (end : TurnEnd) (old new : Seen Own) (net now_net : NetState) (rest unread : List ℕ) → PlaysTurn Tells accepts app number event end old new net now_net rest unread
     → TurnTalks Tells app rest old new
-turn_played Tells accepts app number event (ends.Done stop) old new net now_net rest unread plays = turn_ended app rest old plays.mid new (event_told number net.moment event) plays.turns plays.played.0
-turn_played Tells accepts app number event (ends.Failed cause) old new net now_net rest unread plays = turn_ends app rest old plays.mid new (event_told number net.moment event) plays.turns plays.played.links
+turn_played Tells accepts app number event (ends.Done stop) old new net now_net rest unread plays = turn_ended app rest old plays.mid new (event_is number net.moment event) plays.turns plays.played.0
+turn_played Tells accepts app number event (ends.Failed cause) old new net now_net rest unread plays = turn_ends app rest old plays.mid new (event_is number net.moment event) plays.turns plays.played.links
 
 -- of the one application
 pub turn_of : {Own : Type 0} (Tells : Type 0) (app : ℕ) (rest : List ℕ) (old new : Seen Own) → app ≡ index → TurnTalks Tells app rest old new → TurnTalks Tells index rest old new

@@ -8,15 +8,15 @@ use Rattle.outside.specs.Seen.{Seen}
 use Rattle.outside.specs.State.{State, state, is_joined}
 use Rattle.outside.specs.Calls.{IsFeaturesOf}
 use Rattle.outside.specs.InOrder.{InOrder, brings_message, MessagesSince}
-use Rattle.outside.specs.Quiet.{Unquiet, IsLastQuiet}
+use Rattle.outside.specs.Quiescence.{NoneQuiescentSince, IsLastQuiescent}
 use Rattle.net_txn.specs.Net.{NetState}
-use Rattle.net_txn.specs.LinkSteps.{StaysInPlace}
-use Rattle.net_txn.specs.Undos.{is_viewed}
+use Rattle.net_txn.specs.LinkSteps.{MakesNoStrayCall}
+use Rattle.net_txn.specs.Views.{is_viewed}
 use Rattle.net_txn.specs.Abreast.{Abreast}
 use Rattle.app_visor.specs.CallsFor.{CallsFor}
-use Rattle.run_laws.specs.Engine.{index}
+use Rattle.lego_model.specs.Application.{index}
 use Rattle.event_dispatch.specs.declared.batch.Rest.{Rest}
-use Rattle.event_dispatch.specs.Steady.{IsAtRest}
+use Rattle.event_dispatch.specs.Steady.{NothingUnderWay}
 
 -- ---- Between the two
 
@@ -46,9 +46,9 @@ pub record IsTold (step : WorldStep) (s : State) (views : List TableView) : Type
 pub record OnlyMessages {Own : Type 0} (Tells : Type 0) (old new : Seen Own) : Type 0 where
   pub read : Tells → MessagesSince old new
 
--- however it ended: calls of links were in place
-pub record PutsInPlace {Own : Type 0} (Tells : Type 0) (step : WorldStep) (old new : Seen Own) (net : NetState) : Type 0 where
-  pub places : Tells → InOrder new → IsTold step (state old) net.views → StaysInPlace old new
+-- however it ended: no call of a link was a stray one
+pub record NoStrayAtItem {Own : Type 0} (Tells : Type 0) (step : WorldStep) (old new : Seen Own) (net : NetState) : Type 0 where
+  pub places : Tells → InOrder new → IsTold step (state old) net.views → MakesNoStrayCall old new
 
 -- where it was done: the host keeps up with the switches, and the item and what came since are messages
 pub record CatchesUp {Own : Type 0} (Tells : Type 0) (step : WorldStep) (old new : Seen Own) (net now_net : NetState) : Type 0 where
@@ -58,21 +58,21 @@ pub record CatchesUp {Own : Type 0} (Tells : Type 0) (step : WorldStep) (old new
 
 -- ---- What is told next, and is handled
 
--- No quiet place lies behind the place before it, and where a stimulus was begun before, none lies there either.
-pub record NextQuietly {Own : Type 0} (Tells : Type 0) (old new : Seen Own) : Type 0 where
-  pub last : Tells → IsLastQuiet old new
-  pub unquiet : Tells → InOrder new → (state old).begun ≡ true → Unquiet old new
+-- No quiescent point lies behind the one before it, and where a stimulus was begun before, none lies there either.
+pub record NextPoint {Own : Type 0} (Tells : Type 0) (old new : Seen Own) : Type 0 where
+  pub last : Tells → IsLastQuiescent old new
+  pub none_quiescent : Tells → InOrder new → (state old).begun ≡ true → NoneQuiescentSince old new
   pub own : Tells → CallsFor index old new
 
 -- where the batch goes on, a stimulus is begun: it was before, or all was at rest
 pub record GoesBegun {Own : Type 0} (Tells : Type 0) (rest : Option Rest) (old new : Seen Own) : Type 0 where
   pub still : Tells → rest ≡ None → (state old).begun ≡ true → (state new).begun ≡ true
-  pub anew : Tells → InOrder new → rest ≡ None → IsAtRest (state old) → (state new).begun ≡ true
+  pub anew : Tells → InOrder new → rest ≡ None → NothingUnderWay (state old) → (state new).begun ≡ true
 
 -- ---- A batch
 
--- Where all was at rest and nothing was kept: nothing was done yet, or a stimulus is begun and no quiet place lies behind the one where the
+-- Where all was at rest and nothing was kept: nothing was done yet, or a stimulus is begun and no quiescent point lies behind the one where the
 -- batch began.
-pub record BatchHere {Own : Type 0} (Tells : Type 0) (old new : Seen Own) (net : NetState) : Type 0 where
-  pub here : Tells → InOrder new → IsAtRest (state old) → net.kept ≡ [] → (new ≡ old) ⊎ (((state new).begun ≡ true) × IsLastQuiet old new)
+pub record BatchPoint {Own : Type 0} (Tells : Type 0) (old new : Seen Own) (net : NetState) : Type 0 where
+  pub here : Tells → InOrder new → NothingUnderWay (state old) → net.kept ≡ [] → (new ≡ old) ⊎ (((state new).begun ≡ true) × IsLastQuiescent old new)
   pub own : Tells → CallsFor index old new

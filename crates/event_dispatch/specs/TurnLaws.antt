@@ -7,24 +7,21 @@ use Rattle.lego_model.specs.Controller.{event_frame}
 use Rattle.lego_model.specs.RunReport.{turn_line}
 use Rattle.lego_model.specs.declared.turn.TurnWord.TheVariants as words
 use Rattle.outside.specs.Seen.{Seen}
-use Rattle.net_txn.specs.declared.fault.TxnFault.{TxnFault}
+use Rattle.lego_model.specs.declared.fault.TxnFault.{TxnFault}
 use Rattle.net_txn.specs.Net.{NetState}
 use Rattle.net_txn.specs.Undos.{Undoes}
 use Rattle.app_visor.specs.declared.state.AppState.{AppState}
 use Rattle.app_visor.specs.declared.state.TurnEnd.{TurnEnd}
 use Rattle.app_visor.specs.declared.state.TurnEnd.TheVariants as ends
 use Rattle.app_visor.specs.Turns.{Turns}
-use Rattle.run_laws.specs.Engine.{Engine, index, budget}
-use Rattle.run_laws.specs.Facts.{name, turn_word, StartsAgain}
+use Rattle.run_laws.specs.Engine.{Engine}
+use Rattle.lego_model.specs.Application.{index, budget, name}
+use Rattle.run_laws.specs.Facts.{turn_word, StartsAgain}
 use Rattle.event_dispatch.specs.declared.run.Run.{Run}
-use Rattle.event_dispatch.specs.Shows.{engine_of}
+use Rattle.event_dispatch.specs.Shows.{engine_of, played_run}
 use Rattle.event_dispatch.specs.Serves.{PlaysTurn, Closes, HasTurn}
 
 -- ---- A turn, from its event on
-
--- what the engine keeps behind a turn that was played
-abbrev pub played_run : NetState → List Event → AppState → Run → Run
-played_run net queue app r = record r { net = net; queue = queue; app = record r.app { state = app } }
 
 pub turn_so : {Own : Type 0} (Tells : Type 0) (accepts : List TableView → Bool) (event : Event) (end : TurnEnd) (old mid new : Seen Own) (net : NetState) (queue : List Event) (app : AppState) (r now_r : Run) → r.app.state.index ≡ index
     → PlaysTurn Tells accepts r.app.state.index r.events event end old mid r.net net r.app.state.rest app.rest → app.alive ≡ r.app.state.alive → queue ≡ r.queue → Closes Tells end mid new (played_run net queue app r) now_r

@@ -13,8 +13,10 @@ use Rattle.outside.specs.Calls.{open_steps, ToldOpen}
 use Rattle.outside.specs.SeenLaws.{Continues-trans}
 use Rattle.outside.specs.StateLaws.{Conforming-before}
 use Rattle.switch_laws.specs.OrderlyLaws.{orderly-none}
-use Rattle.run_laws.specs.Engine.{Engine, index}
-use Rattle.run_laws.specs.FirstLaws.{IsOpened, engine_at_first, settled-first}
+use Rattle.run_laws.specs.Engine.{Engine}
+use Rattle.lego_model.specs.Application.{index}
+use Rattle.run_laws.specs.FirstLaws.{settled-first}
+use Rattle.run_laws.specs.First.{IsOpened, engine_at_first}
 use Rattle.run_laws.specs.StimuliLaws.{none-later, fewer-front, fewer-before}
 use Rattle.run_laws.specs.LastReport.{last_text}
 use Rattle.run_laws.specs.Endings.{Leaves, ShownStart, ShownFinish, ShownLeaves}
@@ -27,7 +29,7 @@ use Rattle.event_dispatch.specs.declared.served.Served.{Served}
 use Rattle.event_dispatch.specs.declared.served.Served.TheVariants as served
 use Rattle.event_dispatch.specs.Why.{served_by}
 use Rattle.event_dispatch.specs.Shows.{engine_of}
-use Rattle.event_dispatch.specs.LastShown.{LastShown}
+use Rattle.event_dispatch.specs.ReportEnd.{LastShown}
 use Rattle.event_dispatch.specs.LastLaws.{says_leaves}
 use Rattle.event_dispatch.specs.RoundLaws.{writes_then}
 use Rattle.event_dispatch.specs.Serves.{Writes, NoneToCome, GoesToEnd, Begins, EndsReport, Finishes, RunsOut, RunsFull, GoesAs, RunsAs, IsUnopened, IsCut, IsAlike}
@@ -247,7 +249,7 @@ cut_failed Tells accepts served.NextFault a b old mid new opened on runs cut all
 cut_failed Tells accepts (served.Txn fault) a b old mid new opened on runs cut allows p = so_cut Tells accepts allows (served.Txn fault) a b old mid new p (opened_so old mid p.untouched (opened p.told)) on cut
 cut_failed Tells accepts served.NoMemory a b old mid new opened on runs cut allows p = so_cut Tells accepts allows served.NoMemory a b old mid new p (opened_so old mid p.untouched (opened p.told)) on cut
 
--- one that keeps its word to the end does so up to every place
+-- one that keeps its word to the end does so up to every point
 premise_so_far : {Own : Type 0} (Tells : Type 0) (accepts : List TableView → Bool) (allows : List Place → Bool) (old new : Seen Own) → Premise Tells accepts allows old new → PremiseSoFar Tells accepts allows old new
 premise_so_far Tells accepts allows old new p = record { told = p.told; judges = p.judges; untouched = p.untouched; few = λ front keeps given later. fewer-front front new later p.few }
 

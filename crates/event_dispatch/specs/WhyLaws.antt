@@ -7,13 +7,14 @@ use Rattle.outside.specs.declared.step.WorldStep.{WorldStep}
 use Rattle.outside.specs.Seen.{NoneFell, Seen, Longer, Continues}
 use Rattle.outside.specs.Calls.{Ends}
 use Rattle.outside.specs.SeenLaws.{Continues-trans, Ends-continues}
-use Rattle.net_txn.specs.declared.fault.TxnFault.{TxnFault}
-use Rattle.net_txn.specs.declared.fault.TxnFault.TheVariants.{SwitchFault, SwitchBroke, Diverged, Flooded, NoMemory}
+use Rattle.lego_model.specs.declared.fault.TxnFault.{TxnFault}
+use Rattle.lego_model.specs.declared.fault.TxnFault.TheVariants.{SwitchFault, SwitchBroke, Diverged, Flooded, NoMemory}
 use Rattle.event_dispatch.specs.declared.served.Served.{Served}
 use Rattle.event_dispatch.specs.declared.served.Served.TheVariants as ends
 use Rattle.event_dispatch.specs.declared.run.Run.{Run}
 use Rattle.event_dispatch.specs.Runs.{Waits}
-use Rattle.event_dispatch.specs.Why.{Happened, CameFrom, IsBadPart, IsUnanswered, IsErrorFor, IsFlood, IsWhyTxn, IsWhy}
+use Rattle.event_dispatch.specs.Why.{IsWhy}
+use Rattle.lego_model.specs.SwitchFaults.{Happened, CameFrom, IsBadPart, IsUnanswered, IsErrorFor, IsFlood, IsWhyTxn}
 
 -- ---- What happened in a part of a history happened in the whole
 

@@ -7,22 +7,22 @@ ghost use Rattle.outside.specs.Seen.{Continues};
 ghost use Rattle.outside.specs.Calls.{most_message, item_step, IsItemIn, Nexts};
 ghost use Rattle.of_wire.specs.Spelling.{message_size, message_bytes};
 ghost use Rattle.app_frames.specs.declared.frame.EventKind.TheVariants as kinds;
-ghost use Rattle.net_txn.specs.Views.{rows_at};
-ghost use Rattle.event_dispatch.specs.Joined.{is_joined as is_joined_in};
+ghost use Rattle.net_txn.specs.Views.{rows_at, is_viewed};
 ghost use Rattle.batch_laws.specs.Knowledge.{with_event};
 ghost use Rattle.batch_laws.specs.Items.{Departs, Enters, Handles};
 ghost use Rattle.event_dispatch.specs.Runs.{AreRead, Waits};
 ghost use Rattle.event_dispatch.specs.Batch.{of_memory, TakesKept, NextTaken, BatchShown};
 ghost use Rattle.event_dispatch.specs.Why.{IsReason, WhyItem, WhyMessage, served_by};
 ghost use Rattle.event_dispatch.specs.Talking.{KeepsTalking};
-ghost use Rattle.net_txn.specs.LinkSteps.{OnLinks, StaysInPlace, AsksInPlace};
+ghost use Rattle.net_txn.specs.LinkSteps.{OnLinks, MakesNoStrayCall, AsksWithoutStrays};
 ghost use Rattle.app_visor.specs.CallsFor.{CallsFor};
-ghost use Rattle.run_laws.specs.Engine.{index};
-ghost use Rattle.event_dispatch.specs.Steady.{InPlace, Reads, AtMostHere};
-ghost use Rattle.event_dispatch.specs.Told.{OnlyMessages, PutsInPlace, NextQuietly, GoesBegun};
+ghost use Rattle.lego_model.specs.Application.{index};
+ghost use Rattle.event_dispatch.specs.Steady.{NoStray, Reads, AtMostThisPoint};
+ghost use Rattle.event_dispatch.specs.Told.{OnlyMessages, NoStrayAtItem, NextPoint, GoesBegun};
 ghost use Rattle.event_dispatch.specs.Plain.{IsPlainEnd, PlainRead, PlainJoin, PlainItem, PlainNext, PlainKept, PlainCalm};
 
 use crate::fault::Fault;
+use crate::limits::MOST_ITEMS;
 use crate::run::Run;
 use app_frames::{Event, EventKind};
 use net_txn::{EventQueue, Net};
@@ -30,9 +30,6 @@ use of_types::Dpid;
 use of_wire::{Message, WireFault, decode, encode};
 use outside::{Item, NextFault, World};
 use std::alloc::AllocError;
-
-/// So many items are a batch, though the outside has not come to rest.
-const MOST_ITEMS: u32 = 1_000_000;
 
 /// How a batch ended.
 #[derive(Clone, Copy, Debug, PartialEq, Eq)]
@@ -43,15 +40,15 @@ pub(crate) enum Rest {
     End,
 }
 
-/// Whether a switch has a view.
+/// Tells whether a switch has a view.
 fn has_view(net: &Net, dpid: Dpid) -> bool
-    ensures { result ≡ is_joined_in dpid net.now.views }
+    ensures { result ≡ is_viewed dpid net.now.views }
 {
     net.views().iter().any(|view| view.dpid == dpid)
 }
 
-/// Whether a switch is joined.
-#[tactic(auto, using(crate::specs::Joined::joined_rows, crate::specs::Joined::out_rows))]
+/// Tells whether a switch is joined.
+#[tactic(auto, using(crate::specs::ViewedLaws::joined_rows, switch_laws::specs::ShownUndoLaws::rows_of_none))]
 pub(crate) fn is_joined(net: &Net, dpid: Dpid) -> bool
     ensures joined { result ≡ true → IsSome (rows_at dpid net.now.views) }
     ensures out { result ≡ false → rows_at dpid net.now.views ≡ None }
@@ -59,7 +56,7 @@ pub(crate) fn is_joined(net: &Net, dpid: Dpid) -> bool
     has_view(net, dpid)
 }
 
-/// Whether bytes were not read for want of memory.
+/// Tells whether bytes were not read for want of memory.
 fn ran_short(fault: &WireFault) -> bool
     ensures { result ≡ of_memory fault.now }
 {
@@ -76,14 +73,14 @@ fn append(queue: &mut EventQueue, event: Option<Event>) -> Result<(), AllocError
     Ok(())
 }
 
-/// What the outside tells next.
+/// Asks the outside what comes next.
 fn next_item<W: World>(world: &mut W, buf: &mut [u8]) -> Result<Item, Fault>
     requires { most_message ≤ length buf.old }
     ensures item { IfOk result (λ item. IsItemIn W.Tells item buf.new) }
     ensures continues { Continues W.Tells (W.seen world.old) (W.seen world.new) }
     ensures talks { KeepsTalking W.Tells (W.seen world.old) (W.seen world.new) }
-    ensures quietly { NextQuietly W.Tells (W.seen world.old) (W.seen world.new) }
-    ensures places { W.Tells → StaysInPlace (W.seen world.old) (W.seen world.new) }
+    ensures no_point { NextPoint W.Tells (W.seen world.old) (W.seen world.new) }
+    ensures places { W.Tells → MakesNoStrayCall (W.seen world.old) (W.seen world.new) }
     ensures why { IfErr result (IsReason W.Tells (W.seen world.old) (W.seen world.new) 0 0) }
     ensures plain { IfErr result IsPlainEnd }
     ensures buffer { length buf.new ≡ length buf.old }
@@ -98,7 +95,7 @@ fn next_item<W: World>(world: &mut W, buf: &mut [u8]) -> Result<Item, Fault>
 }
 
 impl Run {
-    /// A message came from a switch. One of a switch that is not joined is ignored.
+    /// Takes a message that came from a switch. One of a switch that is not joined is ignored.
     #[tactic(auto, using(crate::specs::BatchSteadyLaws::links_none, crate::specs::BatchSteadyLaws::only_none, crate::specs::SteadyLaws::places_none, crate::specs::SteadyLaws::reads_none, crate::specs::FaultLaws::arrival_why, crate::specs::TalkingLaws::keeps_none, crate::specs::TalkingLaws::keeps_links))]
     pub(crate) fn take_message<W: World>(
         &mut self,
@@ -112,7 +109,7 @@ impl Run {
         ensures continues { Continues W.Tells (W.seen world.old) (W.seen world.new) }
         ensures talks { KeepsTalking W.Tells (W.seen world.old) (W.seen world.new) }
         ensures links { OnLinks W.Tells (W.seen world.old) (W.seen world.new) }
-        ensures places { InPlace W.Tells (W.seen world.old) (W.seen world.new) self.old.net }
+        ensures places { NoStray W.Tells (W.seen world.old) (W.seen world.new) self.old.net }
         ensures reads { OnOk result (Reads W.Tells (W.seen world.old) (W.seen world.new) self.old.net self.new.net) }
         ensures messages { OnOk result (OnlyMessages W.Tells (W.seen world.old) (W.seen world.new)) }
         ensures read { OnOk result (AreRead self.old.net.kept → AreRead self.new.net.kept) }
@@ -129,7 +126,7 @@ impl Run {
         Ok(())
     }
 
-    /// A switch leaves. One that is not joined is ignored.
+    /// Takes a switch out that leaves. One that is not joined is ignored.
     fn take_out(&mut self, dpid: Dpid) -> Result<(), AllocError>
         ensures waits { OnOk result (Waits self.old self.new) }
         ensures app { self.new.app ≡ self.old.app }
@@ -144,7 +141,7 @@ impl Run {
         Ok(())
     }
 
-    /// A switch describes itself as it joins. One that is joined is not taken in again.
+    /// Takes a switch in that describes itself as it joins. One that is joined is not taken in again.
     #[tactic(auto, using(crate::specs::BatchSteadyLaws::links_none, crate::specs::BatchSteadyLaws::puts_none, crate::specs::BatchSteadyLaws::only_none, crate::specs::BatchSteadyLaws::joined_puts, crate::specs::TalkingLaws::keeps_none))]
     fn take_in<W: World>(&mut self, world: &mut W, dpid: Dpid, frame: &[u8]) -> Result<(), Fault>
         ensures waits { OnOk result (Waits self.old self.new) }
@@ -153,7 +150,7 @@ impl Run {
         ensures continues { Continues W.Tells (W.seen world.old) (W.seen world.new) }
         ensures talks { KeepsTalking W.Tells (W.seen world.old) (W.seen world.new) }
         ensures links { OnLinks W.Tells (W.seen world.old) (W.seen world.new) }
-        ensures places { PutsInPlace W.Tells (Joined dpid frame.now) (W.seen world.old) (W.seen world.new) self.old.net }
+        ensures places { NoStrayAtItem W.Tells (Joined dpid frame.now) (W.seen world.old) (W.seen world.new) self.old.net }
         ensures messages { OnOk result (OnlyMessages W.Tells (W.seen world.old) (W.seen world.new)) }
         ensures read { OnOk result (AreRead self.old.net.kept → AreRead self.new.net.kept) }
         ensures why { IfErr result (IsReason W.Tells (W.seen world.old) (W.seen world.new) 0 0) }
@@ -175,7 +172,7 @@ impl Run {
         }
     }
 
-    /// A switch joins with what it says of itself.
+    /// Lets a switch join with what it says of itself.
     #[tactic(auto, using(crate::specs::BatchSteadyLaws::links_none, crate::specs::BatchSteadyLaws::only_none, crate::specs::KeptLaws::joins_read, crate::specs::TalkingLaws::keeps_none, crate::specs::TalkingLaws::keeps_links))]
     fn join<W: World>(&mut self, world: &mut W, dpid: Dpid, message: &Message) -> Result<(), Fault>
         requires out { rows_at dpid self.old.net.views ≡ None }
@@ -186,7 +183,7 @@ impl Run {
         ensures continues { Continues W.Tells (W.seen world.old) (W.seen world.new) }
         ensures talks { KeepsTalking W.Tells (W.seen world.old) (W.seen world.new) }
         ensures links { OnLinks W.Tells (W.seen world.old) (W.seen world.new) }
-        ensures places { AsksInPlace W.Tells dpid (W.seen world.old) (W.seen world.new) }
+        ensures places { AsksWithoutStrays W.Tells dpid (W.seen world.old) (W.seen world.new) }
         ensures messages { OnOk result (OnlyMessages W.Tells (W.seen world.old) (W.seen world.new)) }
         ensures read { OnOk result (AreRead self.old.net.kept → AreRead self.new.net.kept) }
         ensures why { IfErr result (IsReason W.Tells (W.seen world.old) (W.seen world.new) 0 0) }
@@ -201,7 +198,7 @@ impl Run {
         Ok(())
     }
 
-    /// The event that a switch joined.
+    /// Appends the event that a switch joined.
     fn announce(&mut self, dpid: Dpid, message: &Message) -> Result<(), AllocError>
         requires { message_size message.now ≤ 65535 }
         ensures waits { OnOk result (Waits self.old self.new) }
@@ -228,8 +225,8 @@ impl Run {
         ensures talks { KeepsTalking W.Tells (W.seen world.old) (W.seen world.new) }
         ensures links { OnLinks W.Tells (W.seen world.old) (W.seen world.new) }
 
-        // Where the item was told to a host that kept up with its switches, calls of links are in place.
-        ensures places { PutsInPlace W.Tells (item_step item buf.now) (W.seen world.old) (W.seen world.new) self.old.net }
+        // Where the item was told to a host that kept up with its switches, no call of a link is a stray one.
+        ensures places { NoStrayAtItem W.Tells (item_step item buf.now) (W.seen world.old) (W.seen world.new) self.old.net }
         ensures messages { OnOk result (OnlyMessages W.Tells (W.seen world.old) (W.seen world.new)) }
         ensures read { OnOk result (AreRead self.old.net.kept → AreRead self.new.net.kept) }
         ensures why { IfErr result (WhyItem W.Tells (item_step item buf.now) (W.seen world.old) (W.seen world.new)) }
@@ -260,7 +257,7 @@ impl Run {
         ensures continues { Continues W.Tells (W.seen world.old) (W.seen world.new) }
         ensures talks { KeepsTalking W.Tells (W.seen world.old) (W.seen world.new) }
         ensures links { OnLinks W.Tells (W.seen world.old) (W.seen world.new) }
-        ensures places { InPlace W.Tells (W.seen world.old) (W.seen world.new) self.old.net }
+        ensures places { NoStray W.Tells (W.seen world.old) (W.seen world.new) self.old.net }
         ensures reads { OnOk result (Reads W.Tells (W.seen world.old) (W.seen world.new) self.old.net self.new.net) }
         ensures read { OnOk result (AreRead self.new.net.kept) }
         ensures why { IfErr result (IsReason W.Tells (W.seen world.old) (W.seen world.new) 0 0) }
@@ -285,11 +282,11 @@ impl Run {
         ensures lines { self.new.lines ≡ self.old.lines }
         ensures continues { Continues W.Tells (W.seen world.old) (W.seen world.new) }
         ensures talks { KeepsTalking W.Tells (W.seen world.old) (W.seen world.new) }
-        ensures places { InPlace W.Tells (W.seen world.old) (W.seen world.new) self.old.net }
+        ensures places { NoStray W.Tells (W.seen world.old) (W.seen world.new) self.old.net }
         ensures reads { OnOk result (Reads W.Tells (W.seen world.old) (W.seen world.new) self.old.net self.new.net) }
 
         // One stimulus is begun at most, before all else, and where the batch goes on one is begun.
-        ensures quietly { NextQuietly W.Tells (W.seen world.old) (W.seen world.new) }
+        ensures no_point { NextPoint W.Tells (W.seen world.old) (W.seen world.new) }
         ensures begun { IfOk result (λ rest. GoesBegun W.Tells rest (W.seen world.old) (W.seen world.new)) }
         ensures read { OnOk result (AreRead self.old.net.kept → AreRead self.new.net.kept) }
         ensures why { IfErr result (IsReason W.Tells (W.seen world.old) (W.seen world.new) 0 0) }
@@ -323,13 +320,13 @@ impl Run {
         ensures continues { Continues W.Tells (W.seen world.old) (W.seen world.new) }
         ensures talks { KeepsTalking W.Tells (W.seen world.old) (W.seen world.new) }
 
-        // Where the world tells in order and the host keeps up with its switches, calls of links are in place; where the batch was done,
+        // Where the world tells in order and the host keeps up with its switches, no call of a link is a stray one; where the batch was done,
         // all that came were messages, and the host keeps up then.
-        ensures places { InPlace W.Tells (W.seen world.old) (W.seen world.new) self.old.net }
+        ensures places { NoStray W.Tells (W.seen world.old) (W.seen world.new) self.old.net }
         ensures reads { OnOk result (Reads W.Tells (W.seen world.old) (W.seen world.new) self.old.net self.new.net) }
 
-        // Where all was at rest and nothing was kept, no quiet place lies behind, and no other application was called.
-        ensures here { OnErr result (self.old.net.kept ≡ [] → AtMostHere W.Tells (W.seen world.old) (W.seen world.new)) }
+        // Where all was at rest and nothing was kept, no quiescent point lies behind, and no other application was called.
+        ensures here { OnErr result (self.old.net.kept ≡ [] → AtMostThisPoint W.Tells (W.seen world.old) (W.seen world.new)) }
         ensures own { OnErr result (W.Tells → CallsFor index (W.seen world.old) (W.seen world.new)) }
         ensures read { OnOk result (AreRead self.new.net.kept) }
         ensures why { IfErr result (IsReason W.Tells (W.seen world.old) (W.seen world.new) 0 0) }

@@ -6,19 +6,20 @@ ghost use Rattle.app_frames.specs.declared.frame.HostFrame.TheVariants as host;
 ghost use Rattle.app_frames.specs.Frames.{HostFits};
 ghost use Rattle.outside.specs.Seen.{Continues};
 ghost use Rattle.app_visor.specs.CallsFor.{CalmLater};
-ghost use Rattle.event_dispatch.specs.Steady.{InPlace, Reads, Quietly, AtMostHere};
+ghost use Rattle.event_dispatch.specs.Steady.{NoStray, Reads, NoPoint, AtMostThisPoint};
 ghost use Rattle.event_dispatch.specs.Runs.{AreRead, Going, Waits};
 ghost use Rattle.event_dispatch.specs.Why.{IsReason, served_by};
 ghost use Rattle.event_dispatch.specs.Plain.{PlainTurn, PlainRun};
 ghost use Rattle.lego_model.specs.RunReport.{turn_line as turn_line_of};
-ghost use Rattle.run_laws.specs.Engine.{index};
-ghost use Rattle.run_laws.specs.Facts.{name, starts_text};
+ghost use Rattle.lego_model.specs.Application.{index, name};
+ghost use Rattle.run_laws.specs.Facts.{starts_text};
 ghost use Rattle.event_dispatch.specs.Shows.{engine_of, Adds};
-ghost use Rattle.event_dispatch.specs.Serves.{Starts, PlaysTurn, Closes, HasTurn, IsDispatched, SettlesOne, Settles};
+ghost use Rattle.event_dispatch.specs.Serves.{Starts, PlaysTurn, Closes, HasTurn, IsDispatched, DispatchesOldest, DispatchesWaiting};
 ghost use Rattle.event_dispatch.specs.Talking.{KeepsTalking, TurnTalks, GoesOnTalking};
 ghost use Rattle.event_dispatch.specs.Cut.{CutOne, CutSome};
 
 use crate::fault::Fault;
+use crate::limits::{BUDGET, MOST_BODY, MOST_EVENTS};
 use crate::run::{NAME, Run};
 use app_frames::Event;
 use app_visor::{AppState, Back, TurnEnd, restart, turn};
@@ -28,18 +29,9 @@ use outside::{Judge, World};
 use report_text::{TurnWord, event_line, gone_line, start_line, turn_line};
 use std::alloc::{AllocError, Global};
 
-/// How many events are dispatched after a batch; the rest waits for the next one.
-const MOST_EVENTS: u32 = 1_000;
-
-/// How many frames an application may take for a turn.
-const BUDGET: u32 = 1_000;
-
-/// How many bytes an event may have in a frame whose length four bytes can say.
-const MOST_BODY: usize = 0xffff_ffff - 26;
-
-/// The turn of the application, whose changes are kept where it was done and undone where it failed.
+/// Holds a turn of the application, whose changes are kept where it was done and undone where it failed.
 #[tactic(auto, using(crate::specs::WhyLaws::continues_then, crate::specs::WhyLaws::why_then, crate::specs::WhyLaws::why_before, crate::specs::FaultLaws::undo_why, crate::specs::FaultLaws::stops_why))]
-fn play<W: World, J: Judge>(
+fn hold_turn<W: World, J: Judge>(
     alloc: Global,
     world: &mut W,
     net: &mut Net,
@@ -59,7 +51,7 @@ fn play<W: World, J: Judge>(
         net.old net.new app.old.rest app.new.rest) }
     ensures read { OnOk result (AreRead net.old.kept → AreRead net.new.kept) }
     ensures continues { Continues W.Tells (W.seen world.old) (W.seen world.new) }
-    ensures places { InPlace W.Tells (W.seen world.old) (W.seen world.new) net.old }
+    ensures places { NoStray W.Tells (W.seen world.old) (W.seen world.new) net.old }
     ensures reads { OnOk result (Reads W.Tells (W.seen world.old) (W.seen world.new) net.old net.new) }
     ensures later { W.Tells → CalmLater app.old.index (W.seen world.old) (W.seen world.new) }
     ensures talks { OnErr result (TurnTalks W.Tells app.old.index app.old.rest (W.seen world.old) (W.seen world.new)) }
@@ -102,9 +94,9 @@ impl Run {
         ensures net { OnOk result (self.new.net ≡ self.old.net) }
         ensures starts { OnOk result (Starts W.Tells (W.seen world.old) (W.seen world.new) self.old self.new) }
         ensures continues { Continues W.Tells (W.seen world.old) (W.seen world.new) }
-        ensures places { InPlace W.Tells (W.seen world.old) (W.seen world.new) self.old.net }
+        ensures places { NoStray W.Tells (W.seen world.old) (W.seen world.new) self.old.net }
         ensures reads { OnOk result (Reads W.Tells (W.seen world.old) (W.seen world.new) self.old.net self.new.net) }
-        ensures quietly { Quietly W.Tells (W.seen world.old) (W.seen world.new) }
+        ensures no_point { NoPoint W.Tells (W.seen world.old) (W.seen world.new) }
         ensures talks { KeepsTalking W.Tells (W.seen world.old) (W.seen world.new) }
     {
         let back = restart(self.alloc, world, &mut self.app.state, &[])?;
@@ -128,7 +120,7 @@ impl Run {
         Ok(())
     }
 
-    /// What follows of a turn that was closed: it is counted and told, and an application that failed is started again.
+    /// Closes a turn: counts and tells it, and starts an application again that failed.
     #[tactic(auto, using(crate::specs::TalkingLaws::keeps_none))]
     fn close<W: World>(&mut self, world: &mut W, end: TurnEnd) -> Result<(), AllocError>
         requires done { self.old.app.done < self.old.events }
@@ -140,9 +132,9 @@ impl Run {
         ensures events { OnOk result (self.new.events ≡ self.old.events) }
         ensures closes { OnOk result (Closes W.Tells end (W.seen world.old) (W.seen world.new) self.old self.new) }
         ensures continues { Continues W.Tells (W.seen world.old) (W.seen world.new) }
-        ensures places { InPlace W.Tells (W.seen world.old) (W.seen world.new) self.old.net }
+        ensures places { NoStray W.Tells (W.seen world.old) (W.seen world.new) self.old.net }
         ensures reads { OnOk result (Reads W.Tells (W.seen world.old) (W.seen world.new) self.old.net self.new.net) }
-        ensures quietly { Quietly W.Tells (W.seen world.old) (W.seen world.new) }
+        ensures no_point { NoPoint W.Tells (W.seen world.old) (W.seen world.new) }
         ensures talks { KeepsTalking W.Tells (W.seen world.old) (W.seen world.new) }
     {
         match end {
@@ -175,14 +167,14 @@ impl Run {
         ensures events { OnOk result (self.new.events ≡ self.old.events) }
         ensures turn { OnOk result (HasTurn W.Tells (J.accepts judge.now) event.now (W.seen world.old) (W.seen world.new) self.old self.new) }
         ensures continues { Continues W.Tells (W.seen world.old) (W.seen world.new) }
-        ensures places { InPlace W.Tells (W.seen world.old) (W.seen world.new) self.old.net }
+        ensures places { NoStray W.Tells (W.seen world.old) (W.seen world.new) self.old.net }
         ensures reads { OnOk result (Reads W.Tells (W.seen world.old) (W.seen world.new) self.old.net self.new.net) }
         ensures later { W.Tells → CalmLater index (W.seen world.old) (W.seen world.new) }
         ensures talks { OnErr result (TurnTalks W.Tells index self.old.app.state.rest (W.seen world.old) (W.seen world.new)) }
         ensures why { IfErr result (IsReason W.Tells (W.seen world.old) (W.seen world.new) 0 0) }
         ensures plain { IfErr result (PlainTurn W.Tells (W.seen world.old) (W.seen world.new) self.old.net) }
     {
-        let end = play(
+        let end = hold_turn(
             self.alloc,
             world,
             &mut self.net,
@@ -208,9 +200,9 @@ impl Run {
         ensures events { OnOk result (self.new.events ≡ self.old.events + 1) }
         ensures dispatched { OnOk result (IsDispatched W.Tells (J.accepts judge.now) event.now (W.seen world.old) (W.seen world.new) self.old self.new) }
         ensures continues { Continues W.Tells (W.seen world.old) (W.seen world.new) }
-        ensures places { InPlace W.Tells (W.seen world.old) (W.seen world.new) self.old.net }
+        ensures places { NoStray W.Tells (W.seen world.old) (W.seen world.new) self.old.net }
         ensures reads { OnOk result (Reads W.Tells (W.seen world.old) (W.seen world.new) self.old.net self.new.net) }
-        ensures here { AtMostHere W.Tells (W.seen world.old) (W.seen world.new) }
+        ensures here { AtMostThisPoint W.Tells (W.seen world.old) (W.seen world.new) }
         ensures later { W.Tells → CalmLater index (W.seen world.old) (W.seen world.new) }
         ensures talks { OnErr result (GoesOnTalking W.Tells (W.seen world.old) (W.seen world.new) (engine_of self.old)) }
         ensures why { IfErr result (IsReason W.Tells (W.seen world.old) (W.seen world.new) 0 0) }
@@ -230,7 +222,7 @@ impl Run {
 
     /// Dispatches the oldest event that waits, and writes its lines; answers whether there was one.
     #[tactic(auto, using(crate::specs::WhyLaws::why_sink))]
-    fn settle_one<W: World, J: Judge, K: Sink>(
+    fn dispatch_oldest<W: World, J: Judge, K: Sink>(
         &mut self,
         world: &mut W,
         judge: &J,
@@ -241,14 +233,14 @@ impl Run {
         requires none_waits { self.old.lines.items ≡ [] }
         ensures going { OnOk result (Going self.new) }
         ensures events { OnOk result (self.new.events ≤ self.old.events + 1) }
-        ensures settles { IfOk result (λ found. SettlesOne W.Tells (J.accepts judge.now) found (K.contents sink.old) (K.contents sink.new)
+        ensures dispatches { IfOk result (λ found. DispatchesOldest W.Tells (J.accepts judge.now) found (K.contents sink.old) (K.contents sink.new)
             (W.seen world.old) (W.seen world.new) self.old self.new) }
         ensures cut { IfErr result (λ fault. CutOne W.Tells (J.accepts judge.now) fault (K.contents sink.old) (K.contents sink.new)
             (W.seen world.old) (W.seen world.new) (engine_of self.old)) }
         ensures continues { Continues W.Tells (W.seen world.old) (W.seen world.new) }
-        ensures places { InPlace W.Tells (W.seen world.old) (W.seen world.new) self.old.net }
+        ensures places { NoStray W.Tells (W.seen world.old) (W.seen world.new) self.old.net }
         ensures reads { OnOk result (Reads W.Tells (W.seen world.old) (W.seen world.new) self.old.net self.new.net) }
-        ensures here { OnErr result (AtMostHere W.Tells (W.seen world.old) (W.seen world.new)) }
+        ensures here { OnErr result (AtMostThisPoint W.Tells (W.seen world.old) (W.seen world.new)) }
         ensures never_fell { NeverFell (K.faults sink.old) (K.faults sink.new) }
         ensures why { IfErr result (IsReason W.Tells (W.seen world.old) (W.seen world.new) (K.faults sink.old) (K.faults sink.new)) }
         ensures plain { IfErr result (λ fault. PlainRun W.Tells (J.accepts judge.now) (W.seen world.old) (W.seen world.new) (engine_of self.old) (served_by fault)) }
@@ -263,7 +255,7 @@ impl Run {
 
     /// Dispatches the events that wait, first in first out, and those that join them meanwhile, up to 1,000.
     #[tactic(auto, using(crate::specs::WhyLaws::continues_then, crate::specs::WhyLaws::why_behind, crate::specs::WhyLaws::fell_then))]
-    pub(crate) fn settle<W: World, J: Judge, K: Sink>(
+    pub(crate) fn dispatch_waiting<W: World, J: Judge, K: Sink>(
         &mut self,
         world: &mut W,
         judge: &J,
@@ -276,14 +268,14 @@ impl Run {
         ensures events { OnOk result (self.new.events ≤ self.old.events + 1000) }
 
         // In a world that keeps its word this is what the reference controller does with the events that wait.
-        ensures settles { OnOk result (Settles W.Tells (J.accepts judge.now) (K.contents sink.old) (K.contents sink.new)
+        ensures dispatches { OnOk result (DispatchesWaiting W.Tells (J.accepts judge.now) (K.contents sink.old) (K.contents sink.new)
             (W.seen world.old) (W.seen world.new) self.old self.new) }
 
         // Where a fault ends it, it is so up to an event.
         ensures cut { IfErr result (λ fault. CutSome W.Tells (J.accepts judge.now) fault (K.contents sink.old) (K.contents sink.new)
             (W.seen world.old) (W.seen world.new) self.old) }
         ensures continues { Continues W.Tells (W.seen world.old) (W.seen world.new) }
-        ensures places { InPlace W.Tells (W.seen world.old) (W.seen world.new) self.old.net }
+        ensures places { NoStray W.Tells (W.seen world.old) (W.seen world.new) self.old.net }
         ensures reads { OnOk result (Reads W.Tells (W.seen world.old) (W.seen world.new) self.old.net self.new.net) }
         ensures never_fell { NeverFell (K.faults sink.old) (K.faults sink.new) }
         ensures why { IfErr result (IsReason W.Tells (W.seen world.old) (W.seen world.new) (K.faults sink.old) (K.faults sink.new)) }
@@ -292,7 +284,7 @@ impl Run {
         ensures plain { IfErr result (λ fault. PlainRun W.Tells (J.accepts judge.now) (W.seen world.old) (W.seen world.new) (engine_of self.old) (served_by fault)) }
     {
         for _event in 0..MOST_EVENTS {
-            if !self.settle_one(world, judge, sink)? {
+            if !self.dispatch_oldest(world, judge, sink)? {
                 return Ok(());
             }
         }

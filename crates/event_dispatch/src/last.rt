@@ -6,13 +6,13 @@ ghost use Rattle.outside.specs.Seen.{Continues};
 ghost use Rattle.lego_model.specs.RunReport.{flow_line};
 ghost use Rattle.net_txn.specs.Views.{rows_at};
 ghost use Rattle.run_laws.specs.LastReport.{engine_end};
-ghost use Rattle.event_dispatch.specs.Steady.{InPlace, Reads, Quietly};
+ghost use Rattle.event_dispatch.specs.Steady.{NoStray, Reads, NoPoint};
 ghost use Rattle.event_dispatch.specs.Runs.{Waits};
 ghost use Rattle.event_dispatch.specs.Why.{IsReason, served_by};
 ghost use Rattle.event_dispatch.specs.Plain.{PlainTable, PlainCalm};
 ghost use Rattle.event_dispatch.specs.Talking.{KeepsTalking};
 ghost use Rattle.event_dispatch.specs.Shows.{engine_of, Adds};
-ghost use Rattle.event_dispatch.specs.LastShown.{FindsFlags, FlowsSaid, TableSaid, AsksShown, TableShown, LastShown};
+ghost use Rattle.event_dispatch.specs.ReportEnd.{FindsFlags, FlowsSaid, TableSaid, AsksShown, TableShown, LastShown};
 
 use crate::batch::is_joined;
 use crate::fault::Fault;
@@ -25,7 +25,7 @@ use outside::World;
 use report_text::{app_line, end_line, flow_line, switch_line};
 use std::alloc::AllocError;
 
-/// Where the row of a key stands, from a place on.
+/// Finds where the row of a key stands, from a position on.
 fn place_from(rows: &[ViewRow], from: usize, key: &Key) -> Option<usize>
     ensures within { IfSome result (λ at. at < length rows.now) }
     ensures here { (v : ViewRow) (later : List ViewRow) → drop from rows.now ≡ v ∷ later → v.key ≡ key.now → result ≡ Some from }
@@ -38,7 +38,7 @@ fn place_from(rows: &[ViewRow], from: usize, key: &Key) -> Option<usize>
     None
 }
 
-/// The flags of the owner of an entry, and where the next one is looked for. Rows and entries stand in key order.
+/// Finds the flags of the owner of an entry, and where the next one is looked for. Rows and entries stand in key order.
 fn flags_from(rows: &[ViewRow], from: usize, key: &Key) -> (u16, usize)
     ensures { FindsFlags from key.now rows.now result }
 {
@@ -48,7 +48,7 @@ fn flags_from(rows: &[ViewRow], from: usize, key: &Key) -> (u16, usize)
     }
 }
 
-/// The rows of a switch as their owner sees them, while it is joined.
+/// Finds the rows of a switch as their owner sees them, while it is joined.
 fn rows_of(views: &[TableView], dpid: Dpid) -> Option<&ViewList>
     ensures { MatchOption result (rows_at dpid views.now ≡ None) (λ rows. rows_at dpid views.now ≡ Some rows.now) }
 {
@@ -70,7 +70,7 @@ impl Run {
         self.note(&line)
     }
 
-    /// The flags of the owner of an entry of a switch, and where the next one is looked for.
+    /// Finds the flags of the owner of an entry of a switch, and where the next one is looked for.
     fn flags_of(&self, dpid: Dpid, from: usize, key: &Key) -> (u16, usize)
         ensures { (rows : List ViewRow) → rows_at dpid self.now.net.views ≡ Some rows → FindsFlags from key.now rows result }
     {
@@ -114,9 +114,9 @@ impl Run {
         requires { IsSome (rows_at dpid self.old.net.views) }
         ensures waits { OnOk result (Waits self.old self.new) }
         ensures continues { Continues W.Tells (W.seen world.old) (W.seen world.new) }
-        ensures places { InPlace W.Tells (W.seen world.old) (W.seen world.new) self.old.net }
+        ensures places { NoStray W.Tells (W.seen world.old) (W.seen world.new) self.old.net }
         ensures reads { OnOk result (Reads W.Tells (W.seen world.old) (W.seen world.new) self.old.net self.new.net) }
-        ensures quietly { Quietly W.Tells (W.seen world.old) (W.seen world.new) }
+        ensures no_point { NoPoint W.Tells (W.seen world.old) (W.seen world.new) }
         ensures talks { KeepsTalking W.Tells (W.seen world.old) (W.seen world.new) }
         ensures why { IfErr result (IsReason W.Tells (W.seen world.old) (W.seen world.new) 0 0) }
         ensures plain { IfErr result (PlainTable W.Tells (W.seen world.old) (W.seen world.new) self.old.net) }
@@ -133,9 +133,9 @@ impl Run {
     fn note_table<W: World>(&mut self, world: &mut W, dpid: Dpid) -> Result<(), Fault>
         ensures waits { OnOk result (Waits self.old self.new) }
         ensures continues { Continues W.Tells (W.seen world.old) (W.seen world.new) }
-        ensures places { InPlace W.Tells (W.seen world.old) (W.seen world.new) self.old.net }
+        ensures places { NoStray W.Tells (W.seen world.old) (W.seen world.new) self.old.net }
         ensures reads { OnOk result (Reads W.Tells (W.seen world.old) (W.seen world.new) self.old.net self.new.net) }
-        ensures quietly { Quietly W.Tells (W.seen world.old) (W.seen world.new) }
+        ensures no_point { NoPoint W.Tells (W.seen world.old) (W.seen world.new) }
         ensures talks { KeepsTalking W.Tells (W.seen world.old) (W.seen world.new) }
         ensures why { IfErr result (IsReason W.Tells (W.seen world.old) (W.seen world.new) 0 0) }
         ensures plain { IfErr result (PlainTable W.Tells (W.seen world.old) (W.seen world.new) self.old.net) }
@@ -148,7 +148,7 @@ impl Run {
         Ok(self.note_rows(dpid, &rows)?)
     }
 
-    /// The joined switches, by number.
+    /// Lists the joined switches, by number.
     fn switches(&self) -> Result<Vec<Dpid>, AllocError>
         ensures { IfOk result (λ switches. switches.items ≡ map (λ v. v.dpid) self.now.net.views) }
     {
@@ -176,9 +176,9 @@ impl Run {
     pub(crate) fn note_last<W: World>(&mut self, world: &mut W) -> Result<(), Fault>
         ensures waits { OnOk result (Waits self.old self.new) }
         ensures continues { Continues W.Tells (W.seen world.old) (W.seen world.new) }
-        ensures places { InPlace W.Tells (W.seen world.old) (W.seen world.new) self.old.net }
+        ensures places { NoStray W.Tells (W.seen world.old) (W.seen world.new) self.old.net }
         ensures reads { OnOk result (Reads W.Tells (W.seen world.old) (W.seen world.new) self.old.net self.new.net) }
-        ensures quietly { Quietly W.Tells (W.seen world.old) (W.seen world.new) }
+        ensures no_point { NoPoint W.Tells (W.seen world.old) (W.seen world.new) }
         ensures talks { KeepsTalking W.Tells (W.seen world.old) (W.seen world.new) }
         ensures why { IfErr result (IsReason W.Tells (W.seen world.old) (W.seen world.new) 0 0) }
 

@@ -1,13 +1,21 @@
-//! The engine: it takes what the outside tells, makes events of it, gives them to the application, and writes the report.
+//! The engine: it takes what a world tells, makes events of it, gives them to the application, and writes the report.
+//!
+//! `serve` runs a world to its end. In a world that tells and keeps its word the run is the reference controller's
+//! (`reference_run`), also up to the point where a fault ended it (`reference_run_until_fault`). Each end has its cause
+//! (`end_has_cause`); of a switch only its link ends such a run (`no_switch_at_fault`); no call of a link is stray
+//! (`no_stray_call`); what came was messages (`all_bytes_are_messages`); the world is only called as its calls allow
+//! (`continues`, `never_fell`).
 #![tactic(auto)]
 
 mod batch;
 mod dispatch;
 mod fault;
 mod last;
+mod limits;
 mod run;
 mod served;
 mod whole;
 
+pub use limits::{BUDGET, MOST_BODY, MOST_EVENTS, MOST_ITEMS, MOST_MESSAGE, MOST_ROUNDS};
 pub use served::Served;
 pub use whole::serve;

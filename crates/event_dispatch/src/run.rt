@@ -4,7 +4,7 @@ ghost use Rattle.std.specs.Prelude.{◌≡◌, [], IfOk, OnOk, OnErr};
 ghost use Rattle.lego_io.specs.Count.{Rose, NeverFell};
 ghost use Rattle.lego_io.specs.Sink.{TookPart};
 ghost use Rattle.event_dispatch.specs.Runs.{Going, Waits};
-ghost use Rattle.run_laws.specs.FirstLaws.{engine_at_first};
+ghost use Rattle.run_laws.specs.First.{engine_at_first};
 ghost use Rattle.event_dispatch.specs.Shows.{engine_of, Adds};
 ghost use Rattle.event_dispatch.specs.Serves.{Writes};
 
@@ -44,17 +44,13 @@ pub(crate) struct Run {
 }
 
 impl Run {
-    /// A run of which nothing has happened.
+    /// Makes a run of which nothing has happened.
     pub(crate) fn new(alloc: Global) -> Result<Run, AllocError>
         ensures going { IfOk result Going }
         ensures first { IfOk result (λ r. engine_of r ≡ engine_at_first) }
         ensures none_waits { IfOk result (λ r. r.lines.items ≡ []) }
     {
-        let state = AppState {
-            index: INDEX,
-            alive: false,
-            rest: ByteList::new(alloc),
-        };
+        let state = AppState::new(alloc, INDEX);
         Ok(Run {
             alloc,
             net: Net::new(alloc)?,

@@ -5,7 +5,7 @@ ghost use Rattle.lego_io.specs.Count.{NeverFell};
 ghost use Rattle.outside.specs.Seen.{Continues};
 ghost use Rattle.outside.specs.Calls.{most_message};
 ghost use Rattle.outside.specs.InOrder.{InOrder, MessagesSince};
-ghost use Rattle.net_txn.specs.LinkSteps.{StaysInPlace};
+ghost use Rattle.net_txn.specs.LinkSteps.{MakesNoStrayCall};
 ghost use Rattle.event_dispatch.specs.Runs.{Going};
 ghost use Rattle.event_dispatch.specs.Why.{IsWhy, IsReason, served_by};
 ghost use Rattle.event_dispatch.specs.Shows.{engine_of};
@@ -13,31 +13,26 @@ ghost use Rattle.event_dispatch.specs.Plain.{IsPlainServed, IsPlainEnd, PlainCal
 ghost use Rattle.lego_model.specs.Places.{Place};
 ghost use Rattle.outside.specs.declared.step.WorldStep.TheVariants.{Opened};
 ghost use Rattle.run_laws.specs.Endings.{ShownLeaves};
-ghost use Rattle.run_laws.specs.FirstLaws.{net_at_first, engine_at_first};
+ghost use Rattle.run_laws.specs.First.{net_at_first, engine_at_first};
 ghost use Rattle.run_laws.specs.Promise.{PremiseSoFar, Premise};
 ghost use Rattle.event_dispatch.specs.Talking.{KeepsTalking};
-ghost use Rattle.event_dispatch.specs.Steady.{InPlace, Reads, Quietly};
+ghost use Rattle.event_dispatch.specs.Steady.{NoStray, Reads, NoPoint};
 ghost use Rattle.event_dispatch.specs.Cut.{CutRound, CutRounds, CutStart, CutEnd, CutFinishAs, CutAs, ReadsAs, IsReadServed};
 ghost use Rattle.event_dispatch.specs.Serves.{GoesRound, GoesToEnd, Begins, EndsReport, Finishes, GoesAs, RunsAs, IsUnopened, IsCut, IsAlike};
 
 use crate::batch::Rest;
 use crate::fault::Fault;
+use crate::limits::{MOST_MESSAGE, MOST_ROUNDS};
 use crate::run::{INDEX, Run};
 use crate::served::Served;
 use lego_io::Sink;
 use outside::{Judge, OpenFault, World};
 use std::alloc::Global;
 
-/// A session has fewer batches.
-const MOST_ROUNDS: u32 = 1_000_000_000;
-
-/// How many bytes a message has at most.
-const MOST_MESSAGE: usize = 65_535;
-
 impl Run {
-    /// One round: a batch, and then the events that wait.
+    /// Runs one round: a batch, and then the events that wait.
     #[tactic(auto, using(crate::specs::WhyLaws::continues_then, crate::specs::WhyLaws::why_behind, crate::specs::WhyLaws::why_sink))]
-    fn go_round<W: World, J: Judge, K: Sink>(
+    fn run_round<W: World, J: Judge, K: Sink>(
         &mut self,
         world: &mut W,
         judge: &J,
@@ -56,20 +51,20 @@ impl Run {
         ensures going { OnOk result (Going self.new) }
         ensures events { OnOk result (self.new.events ≤ self.old.events + 1000) }
         ensures continues { Continues W.Tells (W.seen world.old) (W.seen world.new) }
-        ensures places { InPlace W.Tells (W.seen world.old) (W.seen world.new) self.old.net }
+        ensures places { NoStray W.Tells (W.seen world.old) (W.seen world.new) self.old.net }
         ensures reads { OnOk result (Reads W.Tells (W.seen world.old) (W.seen world.new) self.old.net self.new.net) }
         ensures never_fell { NeverFell (K.faults sink.old) (K.faults sink.new) }
         ensures why { IfErr result (IsReason W.Tells (W.seen world.old) (W.seen world.new) (K.faults sink.old) (K.faults sink.new)) }
         ensures plain { IfErr result (λ fault. PlainRun W.Tells (J.accepts judge.now) (W.seen world.old) (W.seen world.new) (engine_of self.old) (served_by fault)) }
     {
         let rest = self.take_batch(world, buf)?;
-        self.settle(world, judge, sink)?;
+        self.dispatch_waiting(world, judge, sink)?;
         Ok(rest)
     }
 
-    /// Goes from batch to batch, until nothing comes any more.
+    /// Runs batch after batch, until nothing comes any more.
     #[tactic(auto, using(crate::specs::WhyLaws::continues_then, crate::specs::WhyLaws::why_behind, crate::specs::WhyLaws::fell_then))]
-    fn go_on<W: World, J: Judge, K: Sink>(
+    fn run_rounds<W: World, J: Judge, K: Sink>(
         &mut self,
         world: &mut W,
         judge: &J,
@@ -85,14 +80,14 @@ impl Run {
         ensures cut { IfErr result (λ fault. CutRounds W.Tells (J.accepts judge.now) fault (K.contents sink.old) (K.contents sink.new)
             (W.seen world.old) (W.seen world.new) self.old) }
         ensures continues { Continues W.Tells (W.seen world.old) (W.seen world.new) }
-        ensures places { InPlace W.Tells (W.seen world.old) (W.seen world.new) self.old.net }
+        ensures places { NoStray W.Tells (W.seen world.old) (W.seen world.new) self.old.net }
         ensures reads { OnOk result (Reads W.Tells (W.seen world.old) (W.seen world.new) self.old.net self.new.net) }
         ensures never_fell { NeverFell (K.faults sink.old) (K.faults sink.new) }
         ensures why { IfErr result (IsReason W.Tells (W.seen world.old) (W.seen world.new) (K.faults sink.old) (K.faults sink.new)) }
         ensures plain { IfErr result (λ fault. PlainRun W.Tells (J.accepts judge.now) (W.seen world.old) (W.seen world.new) (engine_of self.old) (served_by fault)) }
     {
         for _round in 0..MOST_ROUNDS {
-            match self.go_round(world, judge, sink, buf)? {
+            match self.run_round(world, judge, sink, buf)? {
                 Rest::Idle => {}
                 Rest::End => return Ok(()),
             }
@@ -111,7 +106,7 @@ impl Run {
         ensures going { OnOk result (Going self.new) }
         ensures none { OnOk result (self.new.events ≡ 0) }
         ensures continues { Continues W.Tells (W.seen world.old) (W.seen world.new) }
-        ensures places { InPlace W.Tells (W.seen world.old) (W.seen world.new) self.old.net }
+        ensures places { NoStray W.Tells (W.seen world.old) (W.seen world.new) self.old.net }
         ensures reads { OnOk result (Reads W.Tells (W.seen world.old) (W.seen world.new) self.old.net self.new.net) }
         ensures never_fell { NeverFell (K.faults sink.old) (K.faults sink.new) }
         ensures why { IfErr result (IsReason W.Tells (W.seen world.old) (W.seen world.new) (K.faults sink.old) (K.faults sink.new)) }
@@ -129,7 +124,7 @@ impl Run {
         ensures ends { OnOk result (EndsReport W.Tells (K.contents sink.old) (K.contents sink.new) (W.seen world.old) (W.seen world.new) self.old self.new) }
         ensures cut { IfErr result (λ fault. CutEnd W.Tells fault (K.contents sink.old) (K.contents sink.new) (W.seen world.old) (W.seen world.new) (engine_of self.old)) }
         ensures continues { Continues W.Tells (W.seen world.old) (W.seen world.new) }
-        ensures places { InPlace W.Tells (W.seen world.old) (W.seen world.new) self.old.net }
+        ensures places { NoStray W.Tells (W.seen world.old) (W.seen world.new) self.old.net }
         ensures reads { OnOk result (Reads W.Tells (W.seen world.old) (W.seen world.new) self.old.net self.new.net) }
         ensures never_fell { NeverFell (K.faults sink.old) (K.faults sink.new) }
         ensures why { IfErr result (IsReason W.Tells (W.seen world.old) (W.seen world.new) (K.faults sink.old) (K.faults sink.new)) }
@@ -147,7 +142,7 @@ impl Run {
         ensures finishes { Finishes W.Tells result (K.contents sink.old) (K.contents sink.new) (W.seen world.old) (W.seen world.new) self.old self.new }
         ensures cut { IfErr result (λ end. CutFinishAs W.Tells end (K.contents sink.old) (K.contents sink.new) (W.seen world.old) (W.seen world.new) (engine_of self.old)) }
         ensures continues { Continues W.Tells (W.seen world.old) (W.seen world.new) }
-        ensures places { InPlace W.Tells (W.seen world.old) (W.seen world.new) self.old.net }
+        ensures places { NoStray W.Tells (W.seen world.old) (W.seen world.new) self.old.net }
         ensures reads { ReadsAs W.Tells result (W.seen world.old) (W.seen world.new) self.old.net }
         ensures never_fell { NeverFell (K.faults sink.old) (K.faults sink.new) }
         ensures why { IfErr result (IsWhy W.Tells (W.seen world.old) (W.seen world.new) (K.faults sink.old) (K.faults sink.new)) }
@@ -159,9 +154,9 @@ impl Run {
         Ok(self.end_report(world, sink)?)
     }
 
-    /// The whole run of a world that was opened.
+    /// Runs a world that was opened, from the start of its application to the end of the report.
     #[tactic(auto, using(crate::specs::WhyLaws::continues_then, crate::specs::WhyLaws::why_behind, crate::specs::WhyLaws::fell_then))]
-    fn go<W: World, J: Judge, K: Sink>(
+    fn run_opened<W: World, J: Judge, K: Sink>(
         &mut self,
         world: &mut W,
         judge: &J,
@@ -175,14 +170,14 @@ impl Run {
         ensures goes { GoesAs W.Tells (J.accepts judge.now) result (K.contents sink.old) (K.contents sink.new) (W.seen world.old) (W.seen world.new) self.old self.new }
         ensures cut { IfErr result (λ end. CutAs W.Tells (J.accepts judge.now) end (K.contents sink.old) (K.contents sink.new) (W.seen world.old) (W.seen world.new) (engine_of self.old)) }
         ensures continues { Continues W.Tells (W.seen world.old) (W.seen world.new) }
-        ensures places { InPlace W.Tells (W.seen world.old) (W.seen world.new) self.old.net }
+        ensures places { NoStray W.Tells (W.seen world.old) (W.seen world.new) self.old.net }
         ensures reads { ReadsAs W.Tells result (W.seen world.old) (W.seen world.new) self.old.net }
         ensures never_fell { NeverFell (K.faults sink.old) (K.faults sink.new) }
         ensures why { IfErr result (IsWhy W.Tells (W.seen world.old) (W.seen world.new) (K.faults sink.old) (K.faults sink.new)) }
         ensures plain { IfErr result (PlainWhole W.Tells (J.accepts judge.now) (W.seen world.old) (W.seen world.new) (engine_of self.old)) }
     {
         self.begin(world, sink)?;
-        self.go_on(world, judge, sink, buf)?;
+        self.run_rounds(world, judge, sink, buf)?;
         self.finish(world, sink)
     }
 }
@@ -205,8 +200,8 @@ fn open<W: World>(world: &mut W) -> Result<(), Served>
 #[tactic(auto, using(crate::specs::WhyLaws::ends_continue))]
 fn end<W: World>(world: &mut W)
     ensures continues { Continues W.Tells (W.seen world.old) (W.seen world.new) }
-    ensures quietly { Quietly W.Tells (W.seen world.old) (W.seen world.new) }
-    ensures places { W.Tells → StaysInPlace (W.seen world.old) (W.seen world.new) }
+    ensures no_point { NoPoint W.Tells (W.seen world.old) (W.seen world.new) }
+    ensures places { W.Tells → MakesNoStrayCall (W.seen world.old) (W.seen world.new) }
     ensures messages { W.Tells → MessagesSince (W.seen world.old) (W.seen world.new) }
     ensures leaves { ShownLeaves W.Tells (W.seen world.old) (W.seen world.new) }
     ensures talks { KeepsTalking W.Tells (W.seen world.old) (W.seen world.new) }
@@ -216,7 +211,7 @@ fn end<W: World>(world: &mut W)
 
 /// Runs an opened world to its end, after which its application is ended.
 #[tactic(auto, using(crate::specs::WhyLaws::continues_then, crate::specs::WhyLaws::why_still))]
-fn go_to_end<W: World, J: Judge, K: Sink>(
+fn run_then_end<W: World, J: Judge, K: Sink>(
     run: &mut Run,
     world: &mut W,
     judge: &J,
@@ -230,13 +225,13 @@ fn go_to_end<W: World, J: Judge, K: Sink>(
     ensures goes { GoesAs W.Tells (J.accepts judge.now) result (K.contents sink.old) (K.contents sink.new) (W.seen world.old) (W.seen world.new) run.old run.new }
     ensures cut { IfErr result (λ end. CutAs W.Tells (J.accepts judge.now) end (K.contents sink.old) (K.contents sink.new) (W.seen world.old) (W.seen world.new) (engine_of run.old)) }
     ensures continues { Continues W.Tells (W.seen world.old) (W.seen world.new) }
-    ensures places { InPlace W.Tells (W.seen world.old) (W.seen world.new) run.old.net }
+    ensures places { NoStray W.Tells (W.seen world.old) (W.seen world.new) run.old.net }
     ensures reads { ReadsAs W.Tells result (W.seen world.old) (W.seen world.new) run.old.net }
     ensures never_fell { NeverFell (K.faults sink.old) (K.faults sink.new) }
     ensures why { IfErr result (IsWhy W.Tells (W.seen world.old) (W.seen world.new) (K.faults sink.old) (K.faults sink.new)) }
     ensures plain { IfErr result (PlainWhole W.Tells (J.accepts judge.now) (W.seen world.old) (W.seen world.new) (engine_of run.old)) }
 {
-    let ended = run.go(world, judge, sink, buf);
+    let ended = run.run_opened(world, judge, sink, buf);
     end(world);
     ended
 }
@@ -251,7 +246,7 @@ fn run<W: World, J: Judge, K: Sink>(
     ensures runs { RunsAs W.Tells (J.accepts judge.now) result (K.contents sink.old) (K.contents sink.new) (W.seen world.old) (W.seen world.new) }
     ensures cut { IfErr result (λ end. CutAs W.Tells (J.accepts judge.now) end (K.contents sink.old) (K.contents sink.new) (W.seen world.old) (W.seen world.new) engine_at_first) }
     ensures continues { Continues W.Tells (W.seen world.old) (W.seen world.new) }
-    ensures places { InPlace W.Tells (W.seen world.old) (W.seen world.new) net_at_first }
+    ensures places { NoStray W.Tells (W.seen world.old) (W.seen world.new) net_at_first }
     ensures reads { ReadsAs W.Tells result (W.seen world.old) (W.seen world.new) net_at_first }
     ensures never_fell { NeverFell (K.faults sink.old) (K.faults sink.new) }
     ensures why { IfErr result (IsWhy W.Tells (W.seen world.old) (W.seen world.new) (K.faults sink.old) (K.faults sink.new)) }
@@ -259,7 +254,7 @@ fn run<W: World, J: Judge, K: Sink>(
 {
     let mut run = Run::new(alloc)?;
     let mut buf = vec![in alloc; 0; MOST_MESSAGE]?;
-    go_to_end(&mut run, world, judge, sink, &mut buf)?;
+    run_then_end(&mut run, world, judge, sink, &mut buf)?;
     Ok(run.events)
 }
 
@@ -277,25 +272,25 @@ pub fn serve<W: World, J: Judge, K: Sink>(
     ensures continues { Continues W.Tells (W.seen world.old) (W.seen world.new) }
     ensures never_fell { NeverFell (K.faults sink.old) (K.faults sink.new) }
     // Each end but the whole one and want of memory has its cause in this call.
-    ensures why { IsWhy W.Tells (W.seen world.old) (W.seen world.new) (K.faults sink.old) (K.faults sink.new) result }
+    ensures end_has_cause { IsWhy W.Tells (W.seen world.old) (W.seen world.new) (K.faults sink.old) (K.faults sink.new) result }
     // In a world that tells and keeps its word, on which no call was made before, the run is the reference controller's over what the
-    // world told: the tables agree at every quiet place, the application was given what it is given there, and what was written is the
+    // world told: the tables agree at every quiescent point, the application was given what it is given there, and what was written is the
     // report, whole where all events were dispatched, and as far as these go where some were left. It is so, too, over all that was said
     // of the application, of which the world told the front.
-    ensures alike { (allows : List Place → Bool) → Premise W.Tells (J.accepts judge.now) allows (W.seen world.old) (W.seen world.new)
+    ensures reference_run { (allows : List Place → Bool) → Premise W.Tells (J.accepts judge.now) allows (W.seen world.old) (W.seen world.new)
         → IsAlike allows (W.seen world.new) (K.contents sink.old) (K.contents sink.new) result }
-    // Where a fault ends the run, it is so up to a place, with the lines of all that was done up to there, and where the sink failed,
+    // Where a fault ends the run, it is so up to a point, with the lines of all that was done up to there, and where the sink failed,
     // with a part of the lines of the last; if the world kept its word as far as there, whatever came behind it. The whole journal is a
     // dialogue with the application then. A world that tells in order kept its word as far as there, since all bytes that came are
-    // messages up to there. Behind it no quiet place lies in such a world, and no other application was called.
-    ensures cut { (allows : List Place → Bool) → PremiseSoFar W.Tells (J.accepts judge.now) allows (W.seen world.old) (W.seen world.new)
+    // messages up to there. Behind it no quiescent point lies in such a world, and no other application was called.
+    ensures reference_run_until_fault { (allows : List Place → Bool) → PremiseSoFar W.Tells (J.accepts judge.now) allows (W.seen world.old) (W.seen world.new)
         → IsCut allows (W.seen world.new) (K.contents sink.old) (K.contents sink.new) result }
     // In a world that keeps its word to the end no switch is at fault for what it sent: of a switch only its link ends a run.
-    ensures plain { (allows : List Place → Bool) → Premise W.Tells (J.accepts judge.now) allows (W.seen world.old) (W.seen world.new) → IsPlainServed result }
-    // In a world that tells in order, though bytes that come of switches may be no messages: calls of links are in place, and at the end
+    ensures no_switch_at_fault { (allows : List Place → Bool) → Premise W.Tells (J.accepts judge.now) allows (W.seen world.old) (W.seen world.new) → IsPlainServed result }
+    // In a world that tells in order, though bytes that come of switches may be no messages: no call of a link is a stray one, and at the end
     // of a run that no fault ends all that came of switches is messages, so that the world kept its word.
-    ensures places { W.Tells → (W.seen world.old).history ≡ [] → InOrder (W.seen world.new) → StaysInPlace (W.seen world.old) (W.seen world.new) }
-    ensures read { W.Tells → (W.seen world.old).history ≡ [] → InOrder (W.seen world.new) → IsReadServed (W.seen world.new) result }
+    ensures no_stray_call { W.Tells → (W.seen world.old).history ≡ [] → InOrder (W.seen world.new) → MakesNoStrayCall (W.seen world.old) (W.seen world.new) }
+    ensures all_bytes_are_messages { W.Tells → (W.seen world.old).history ≡ [] → InOrder (W.seen world.new) → IsReadServed (W.seen world.new) result }
 {
     if let Err(served) = open(world) {
         return served;

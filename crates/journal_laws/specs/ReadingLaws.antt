@@ -9,7 +9,8 @@ use Rattle.of_types.specs.declared.journal.Act.{Act}
 use Rattle.of_types.specs.declared.journal.Act.TheVariants.{Stim, Started, Gave, Gone, Took, Ended, Sent, Got}
 use Rattle.lego_model.specs.Journal.{End, Untold, Attempt, Start, Reply, Asked, in_attempts, is_event, in_turns, piece_of, pieces, end_by, end_from, gave, was_gone, any_gone, start_of, reply_of}
 use Rattle.lego_model.specs.JournalLaws.{in_attempts-started}
-use Rattle.journal_laws.specs.Readings.{starts_in, replies_at, replies_in, LastStands, is_within, Within, event_act, end_part, ReadsSame, ReadsTurn, ReadsAttempt}
+use Rattle.journal_laws.specs.Readings.{LastStands, is_within, Within, event_act, end_acts, ReadsSame, ReadsTurn, ReadsAttempt}
+use Rattle.lego_model.specs.History.{starts_in, replies_at, replies_in}
 
 -- ---- Acts within a turn or an attempt begin none
 
@@ -270,7 +271,7 @@ end_read app acts =
 
 -- ---- An attempt
 
-pub part_read : (app : ℕ) (ended : Bool) (acts : List Act) → ReadsSame acts (acts ++ end_part ended app)
+pub part_read : (app : ℕ) (ended : Bool) (acts : List Act) → ReadsSame acts (acts ++ end_acts ended app)
 part_read app true acts = end_read app acts
 part_read app false acts = record { starts = ap starts_in (append-nil acts); replies = ap replies_in (append-nil acts) }
 
@@ -291,11 +292,11 @@ started_read app stands acts more all =
     }
 
 pub attempt_read : (app : ℕ) (ended stands : Bool) (acts more : List Act) → Within app more
-    → ReadsAttempt acts (acts ++ (end_part ended app ++ Started app stands ∷ more)) (record { stands = stands; acts = more })
+    → ReadsAttempt acts (acts ++ (end_acts ended app ++ Started app stands ∷ more)) (record { stands = stands; acts = more })
 attempt_read app ended stands acts more all =
     let first = part_read app ended acts in
-    let next = started_read app stands (acts ++ end_part ended app) more all in
-    subst (λ (whole : List Act). ReadsAttempt acts whole (attempt_so stands more)) (append_assoc acts (end_part ended app) (Started app stands ∷ more)) (record {
+    let next = started_read app stands (acts ++ end_acts ended app) more all in
+    subst (λ (whole : List Act). ReadsAttempt acts whole (attempt_so stands more)) (append_assoc acts (end_acts ended app) (Started app stands ∷ more)) (record {
       starts = next.starts ∙ ap (λ (ss : List Start). ss ++ start_of (attempt_so stands more) ∷ []) first.starts;
       replies = next.replies ∙ first.replies;
       life = next.life;

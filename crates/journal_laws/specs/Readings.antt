@@ -1,22 +1,11 @@
--- What the acts of one application tell: its starts and its replies, and which acts belong to a turn or an attempt that was begun. All of
--- this is our own.
-use Rattle.std.specs.Prelude.{◌≡◌, ◌==◌, ℕ, Bool, true, false, not, ◌&&◌, List, [], ◌∷◌, ◌++◌, map, filter, if◌then◌else◌}
-use Rattle.std.specs.List.{flat_map, AllByRecursion}
+-- Acts of one application: which of them belong to a turn or an attempt that was begun, and what further acts add to its starts and its
+-- replies. All of this is our own.
+use Rattle.std.specs.Prelude.{◌≡◌, ◌==◌, ℕ, Bool, true, false, not, ◌&&◌, List, [], ◌∷◌, ◌++◌, if◌then◌else◌}
+use Rattle.std.specs.List.{AllByRecursion}
 use Rattle.of_types.specs.declared.journal.Act.{Act}
 use Rattle.of_types.specs.declared.journal.Act.TheVariants.{Stim, Started, Gave, Gone, Took, Ended, Sent, Got}
-use Rattle.lego_model.specs.Journal.{Reply, Start, Attempt, in_attempts, is_event, in_turns, start_of, reply_of}
-
--- ---- What the acts of an application tell
-
-abbrev pub starts_in : List Act → List Start
-starts_in acts = map start_of (in_attempts acts).1
-
--- the replies of one attempt, and of all of them, life after life
-abbrev pub replies_at : Attempt → List Reply
-replies_at attempt = map reply_of (in_turns attempt.acts).1
-
-abbrev pub replies_in : List Act → List Reply
-replies_in acts = flat_map replies_at (filter (λ a. a.stands) (in_attempts acts).1)
+use Rattle.lego_model.specs.Journal.{Reply, Attempt, in_attempts, is_event, start_of}
+use Rattle.lego_model.specs.History.{starts_in, replies_in}
 
 -- the last attempt to start it stands
 pub record LastStands (acts : List Act) : Type 0 where
@@ -59,8 +48,8 @@ abbrev pub event_act : Bool → ℕ → List ℕ → Act
 event_act given app frame = if given then Gave app frame else Gone app frame
 
 -- that it is ended, where it runs
-abbrev pub end_part : Bool → ℕ → List Act
-end_part running app = if running then Ended app ∷ [] else []
+abbrev pub end_acts : Bool → ℕ → List Act
+end_acts running app = if running then Ended app ∷ [] else []
 
 -- no start and no reply more
 pub record ReadsSame (before after : List Act) : Type 0 where

@@ -14,7 +14,7 @@ ghost use Rattle.lego_model.specs.Answers.{as_sent};
 ghost use Rattle.lego_model.specs.Journal.{is_event, reply_of, ReachedAtOnce};
 ghost use Rattle.lego_model.specs.Controller.{restore_frame, answer_frame, event_frame};
 ghost use Rattle.lego_model.specs.AtOnce.{AnsweredAtOnce};
-ghost use Rattle.journal_laws.specs.Readings.{Within, LastStands, end_part, ReadsSame, ReadsTurn, ReadsAttempt};
+ghost use Rattle.journal_laws.specs.Readings.{Within, LastStands, end_acts, ReadsSame, ReadsTurn, ReadsAttempt};
 
 /// The frame of an event is an Event, and those of answers and of a checkpoint are none.
 pub fn events_are_frames()
@@ -36,7 +36,7 @@ pub fn turns_are_read()
 /// last attempt does.
 pub fn attempts_are_read()
     ensures { (app : ℕ) (ended stands : Bool) (acts more : List Act) → Within app more
-        → ReadsAttempt acts (acts ++ (end_part ended app ++ Started app stands ∷ more)) (record { stands = stands; acts = more }) }
+        → ReadsAttempt acts (acts ++ (end_acts ended app ++ Started app stands ∷ more)) (record { stands = stands; acts = more }) }
 {}
 
 /// That it is ended tells nothing more.

@@ -1,9 +1,9 @@
--- When the switches of a run and those of the reference controller agree: at every quiet place, a switch for a switch. Serials, counters,
+-- When the switches of a run and those of the reference controller agree: at every quiescent point, a switch for a switch. Serials, counters,
 -- ages and flags may differ, since an entry that was removed and given back begins these anew. This is our own.
 use Rattle.std.specs.Prelude.{◌≡◌, ◌+◌, ◌⊎◌, List, [], ◌∷◌, Option, Some, None}
 use Rattle.flow_table.specs.declared.entry.Entry.{Entry}
 use Rattle.flow_table.specs.Switch.{SwitchState}
-use Rattle.lego_model.specs.Controller.{Quiet}
+use Rattle.outside.specs.State.{Mark}
 
 -- ---- Tables
 
@@ -46,13 +46,13 @@ AgreeAll [] [] = Unit {0}
 AgreeAll (s ∷ ss) (r ∷ rs) = AgreeAt s r × AgreeAll ss rs
 AgreeAll ss rs = ⊥
 
--- ---- Quiet places, in the order of the run
+-- ---- Mark places, in the order of the run
 
-pub record AgreeQuiet (q r : Quiet) : Type 0 where
+pub record AgreeMark (q r : Mark) : Type 0 where
   pub event : q.event ≡ r.event
   pub switches : AgreeAll q.switches r.switches
 
-abbrev pub AgreeQuiets : List Quiet → List Quiet → Type 0
-AgreeQuiets [] [] = Unit {0}
-AgreeQuiets (q ∷ qs) (r ∷ rs) = AgreeQuiet q r × AgreeQuiets qs rs
-AgreeQuiets qs rs = ⊥
+abbrev pub AgreeMarks : List Mark → List Mark → Type 0
+AgreeMarks [] [] = Unit {0}
+AgreeMarks (q ∷ qs) (r ∷ rs) = AgreeMark q r × AgreeMarks qs rs
+AgreeMarks qs rs = ⊥

@@ -27,6 +27,7 @@ use Rattle.app_frames.specs.Spelling.{host_bytes}
 use Rattle.lego_model.specs.Journal.{Reply, Start, Untold}
 use Rattle.lego_model.specs.Turns.{Outcome, Completed, Failed, Table, turn_of, outcome_of}
 use Rattle.lego_model.specs.Places.{Place, answer, undone_places}
+use Rattle.outside.specs.State.{Mark, moment_after, is_event}
 
 -- ---- Events
 
@@ -71,14 +72,6 @@ left_of (Some s) = leave_event s ∷ []
 abbrev pub sent_events : Stimulus → ℕ → Option SwitchState → List Event
 sent_events x dpid None = []
 sent_events x dpid (Some s) = events_of dpid (sent_by_stimulus x s)
-
-abbrev pub moment_after : WorldStim → ℕ → ℕ
-moment_after (At t) moment = t
-moment_after other moment = moment
-
-abbrev pub is_event : ℕ → Option ℕ → Bool
-is_event n None = false
-is_event n (Some m) = m == n
 
 abbrev pub joined : ℕ → Place → Place
 joined moment p = record p { switch = Some (or_joined moment p.declared p.switch) }
@@ -178,11 +171,6 @@ pub data Line : Type 0 where
   Dispatched : ℕ → Event → Line
   Ended : ℕ → Outcome → Line
 
--- where switches are looked at: before a stimulus, and before the event of a number is first given
-pub record Quiet : Type 0 where
-  pub event : Option ℕ
-  pub switches : List (Option SwitchState)
-
 pub record Run : Type 0 where
   pub moment : ℕ
   pub places : List Place
@@ -190,10 +178,10 @@ pub record Run : Type 0 where
   pub events : ℕ
   pub apps : List App
   pub lines : List Line
-  pub quiets : List Quiet
+  pub marks : List Mark
 
-abbrev pub quiet_of : Option ℕ → List Place → Quiet
-quiet_of event ps = record { event = event; switches = map (λ p. p.switch) ps }
+abbrev pub reference_mark : Option ℕ → List Place → Mark
+reference_mark event ps = record { event = event; switches = map (λ p. p.switch) ps }
 
 -- ---- A turn
 
@@ -254,12 +242,12 @@ says_stop (Failed cause) = false
 
 -- ---- Dispatch
 
-abbrev pub is_marked : ℕ → List Quiet → Bool
-is_marked n quiets = list_any (λ q. is_event n q.event) quiets
+abbrev pub is_marked : ℕ → List Mark → Bool
+is_marked n marks = list_any (λ q. is_event n q.event) marks
 
 -- the switches are looked at before an event is first given
-abbrev pub marked : Bool → ℕ → List Place → List Quiet → List Quiet
-marked given n ps quiets = if given && not (is_marked n quiets) then quiets ++ quiet_of (Some n) ps ∷ [] else quiets
+abbrev pub marked : Bool → ℕ → List Place → List Mark → List Mark
+marked given n ps marks = if given && not (is_marked n marks) then marks ++ reference_mark (Some n) ps ∷ [] else marks
 
 -- The applications from an index on that are alive have their turns, until one that completed says stop.
 unfoldable pub given_to : (List Place → Bool) → Event → ℕ → List App → Run → List App × Run
@@ -270,7 +258,7 @@ given_to allows event i (a ∷ more) run =
     let next = record run {
       places = turned.places;
       lines = run.lines ++ Ended i turned.outcome ∷ restart_lines i turned.outcome turned.app;
-      quiets = marked turned.given run.events run.places run.quiets;
+      marks = marked turned.given run.events run.places run.marks;
     } in
     if says_stop turned.outcome then (turned.app.0 ∷ more, next)
     else (let rest = given_to allows event (i + 1) more next in (turned.app.0 ∷ rest.0, rest.1)))
@@ -302,7 +290,7 @@ happen x run = record run {
   moment = moment_after x run.moment;
   places = places_after x run.moment run.places;
   queue = run.queue ++ events_after x run.moment run.places;
-  quiets = run.quiets ++ quiet_of None run.places ∷ [];
+  marks = run.marks ++ reference_mark None run.places ∷ [];
 }
 
 -- every application is started, in order
@@ -323,7 +311,7 @@ at_first declared apps =
       events = 0;
       apps = begun.0;
       lines = begun.1;
-      quiets = [];
+      marks = [];
     }
 
 -- after each stimulus its events are dispatched, and after the last one what is left, as far as one batch goes

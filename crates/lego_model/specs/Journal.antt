@@ -1,6 +1,6 @@
 -- What a journal tells: what happened, what each application was given and gave, what was released, and that a change and its
 -- barrier stand between two frames to an application. All of this is our own.
-use Rattle.std.specs.Prelude.{◌≡◌, ◌==◌, ℕ, ◌<◌, Bool, true, false, List, [], ◌∷◌, length, filter, filter_map, map, Option, Some, None, Result, Ok, Err, if◌then◌else◌, slice_index, slice_get}
+use Rattle.std.specs.Prelude.{◌≡◌, ◌==◌, ℕ, ◌<◌, Bool, true, false, List, [], ◌∷◌, length, filter, filter_map, Option, Some, None, Result, Ok, Err, if◌then◌else◌, slice_index, slice_get}
 use Rattle.of_types.specs.declared.journal.Act.{Act}
 use Rattle.of_types.specs.declared.journal.Act.TheVariants.{Stim, Started, Gave, Gone, Took, Ended, Sent, Got}
 use Rattle.of_types.specs.declared.journal.TookWhat.TheVariants.{Bytes, Closed, Silent}
@@ -70,9 +70,6 @@ abbrev pub in_attempts : List Act → List Act × List Attempt
 in_attempts [] = ([], [])
 in_attempts (Started app stands ∷ acts) = let rest = in_attempts acts in ([], record { stands = stands; acts = rest.0 } ∷ rest.1)
 in_attempts (act ∷ acts) = let rest = in_attempts acts in (act ∷ rest.0, rest.1)
-
-unfoldable pub attempts : ℕ → Journal → List Attempt
-attempts app journal = (in_attempts (filter (is_of app) journal)).1
 
 -- ---- The turns of an attempt that stands: what follows each Event that was given, or could not be given
 
@@ -162,14 +159,6 @@ unfoldable pub start_of : Attempt → Start
 start_of attempt =
     let acts = (in_turns attempt.acts).0 in
     record { stands = attempt.stands; restored = if any_gone acts then false else true; pieces = pieces acts; end = end_from Untold acts }
-
--- the starts of an application, in order
-unfoldable pub starts : ℕ → Journal → List Start
-starts app journal = map start_of (attempts app journal)
-
--- its replies, life by life: one for each Event
-unfoldable pub replies : ℕ → Journal → List (List Reply)
-replies app journal = map (λ a. map reply_of (in_turns a.acts).1) (filter (λ a. a.stands) (attempts app journal))
 
 -- ---- A change reached its switch: between two frames to an application stand the change, a barrier, and the barrier's reply,
 -- and no other change is sent there (OpenFlow 1.0.0, 4.2 Message Handling and 5.3.7 Barrier Message).

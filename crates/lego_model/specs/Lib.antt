@@ -1,9 +1,4 @@
-pub mod Session
 pub mod Words
-pub mod Messages
-pub mod Grammar
-pub mod Reference
-pub mod Report
 pub mod SessionWords
 pub mod SessionSteps
 pub mod SessionLines
@@ -22,3 +17,12 @@ pub mod Answers
 pub mod SessionFacts
 pub mod SessionWordLaws
 pub mod SessionTextLaws
+pub mod BarrierWaits
+pub mod FlowQueries
+pub mod History
+pub mod Application
+pub mod CutRun
+pub mod OrderlySteps
+pub mod ReferenceRun
+pub mod SwitchFaults
+pub mod WholeRun

@@ -18,7 +18,9 @@ use Rattle.app_frames.specs.declared.cause.Cause.{Cause}
 use Rattle.app_frames.specs.declared.cause.Cause.TheVariants as causes
 use Rattle.app_frames.specs.declared.cause.Tried.{Tried}
 use Rattle.app_frames.specs.declared.cause.Tried.TheVariants as tried
-use Rattle.lego_model.specs.Report.{line_of, flow_head, cookie_text}
+use Rattle.of_match.specs.declared.key.Key.{Key}
+use Rattle.of_match.specs.Match.{fields_in}
+use Rattle.of_match.specs.Text.{match_text}
 use Rattle.lego_model.specs.Turns.{Outcome, Completed, Failed as FailedBy}
 use Rattle.lego_model.specs.Controller.{App, Line, Started, IsGone, Dispatched, Ended, Run}
 use Rattle.lego_model.specs.declared.turn.TurnWord.{TurnWord}
@@ -66,6 +68,10 @@ alive_word false = codes "dead"
 
 -- ---- Lines
 
+-- a line ends by one LF
+unfoldable pub line_of : List ℕ → List ℕ
+line_of text = text ++ 10 ∷ []
+
 -- `start APP WORD`
 unfoldable pub start_line : List ℕ → Tried → List ℕ
 start_line app how = line_of (codes "start " ++ app ++ codes " " ++ tried_word how)
@@ -85,6 +91,14 @@ turn_line app word = line_of (codes "turn " ++ app ++ codes " " ++ turn_words wo
 -- `switch DPID flows N`
 unfoldable pub switch_line : ℕ → ℕ → List ℕ
 switch_line dpid flows = line_of (codes "switch " ++ decimal dpid ++ codes " flows " ++ decimal flows)
+
+-- `flow PRIORITY MATCH`
+unfoldable pub flow_head : Key → List ℕ
+flow_head k = codes "flow " ++ decimal k.priority ++ codes " " ++ match_text (fields_in k.matching)
+
+-- ` cookie=C`
+unfoldable pub cookie_text : ℕ → List ℕ
+cookie_text cookie = codes " cookie=" ++ decimal cookie
 
 -- ` idle=I hard=H flags=F`
 unfoldable pub terms_text : FlowRow → ℕ → List ℕ

@@ -1,6 +1,6 @@
 -- What is said beforehand of an application: how its starts end and what it gives in its turns. And how what a journal tells of it stands to
 -- that: the application was looked at no further than its turn went. All of this is our own.
-use Rattle.std.specs.Prelude.{◌≡◌, ◌==◌, ℕ, zero, suc, Bool, true, false, not, ◌||◌, List, [], ◌∷◌, ◌++◌, drop, map, Option, None, if◌then◌else◌, ◌⊎◌}
+use Rattle.std.specs.Prelude.{◌≡◌, ℕ, zero, suc, Bool, true, false, not, ◌||◌, List, [], ◌∷◌, ◌++◌, map, Option, None, ◌⊎◌}
 use Rattle.app_frames.specs.declared.frame.AppFrame.TheVariants.{Message, Save, Keep, Undo, Done, Ready}
 use Rattle.app_frames.specs.declared.script.ScriptStep.{ScriptStep}
 use Rattle.app_frames.specs.declared.script.ScriptStep.TheVariants.{Bytes, Closed, Silent}
@@ -11,10 +11,6 @@ use Rattle.lego_model.specs.Journal.{End, Closes, Stalls, Untold, Reply, Start}
 use Rattle.lego_model.specs.Turns.{Next, Framed, Faulty, Over, next_of, one_fewer, is_none_left}
 
 -- ---- What is said
-
--- at most so many bytes are taken at once
-abbrev pub most_taken : ℕ
-most_taken = 65536
 
 -- The bytes cut after every so many: what still goes to a piece that has room for so many, and the pieces behind it.
 abbrev pub cut_from : ℕ → List ℕ → List ℕ × List (List ℕ)

@@ -1,18 +1,16 @@
 -- Laws of what is said of an application: a turn or a start for which enough was told goes the same over all that is said, of which that
 -- is the front.
-use Rattle.std.proofs.Common.{◌≡◌, ℕ, zero, suc, ◌||◌, Bool, true, false, List, [], ◌∷◌, ◌++◌, length, drop, Option, Some, None, Result, Ok, Err, refl, sym, ap, ap₂, ◌∙◌, subst, inl, inr}
-use Rattle.std.specs.Prelude.{◌⊎◌, not, if◌then◌else◌}
-use Rattle.std.proofs.lemmas.List.{append-nil, append_assoc}
+use Rattle.std.proofs.Common.{◌≡◌, ℕ, zero, suc, ◌||◌, Bool, true, false, List, [], ◌∷◌, ◌++◌, length, drop, Option, Some, None, Ok, Err, refl, sym, ap, ap₂, ◌∙◌, subst, inl, inr}
+use Rattle.std.specs.Prelude.{not}
+use Rattle.std.proofs.lemmas.List.{append-nil}
 use Rattle.std.proofs.Math.Seq.{drop-nil}
 use Rattle.app_frames.specs.declared.frame.AppFrame.{AppFrame}
 use Rattle.app_frames.specs.declared.frame.AppFrame.TheVariants.{Message, Save, Keep, Undo, Done, Ready}
 use Rattle.app_frames.specs.declared.frame.Answer.{Answer}
-use Rattle.app_frames.specs.declared.fault.FrameFault.{FrameFault}
-use Rattle.app_frames.specs.declared.cause.Tried.{Tried}
 use Rattle.app_frames.specs.Reading.{Reading}
 use Rattle.app_frames.specs.Frames.{app_reading}
 use Rattle.lego_model.specs.Journal.{End, Closes, Stalls, Untold, Reply, Start}
-use Rattle.lego_model.specs.Turns.{Next, Framed, Faulty, Over, next_read, next_of, Played, Table, over, told_to, one_fewer, is_none_left, turn_from, turn_of, first_frame, after_restore, start_outcome, outcome_of}
+use Rattle.lego_model.specs.Turns.{Next, Framed, Faulty, Over, next_read, next_of, Played, Table, told_to, one_fewer, is_none_left, turn_from, turn_of, first_frame, outcome_of}
 use Rattle.lego_model.specs.Scripted.{IsLookedAt, IsFront, IsStartFront, AreFronts, AreStartFronts, is_told, settles, is_heard_from, is_heard, is_whole, is_start_heard}
 
 -- ---- More pieces
@@ -205,8 +203,3 @@ pub drop-parts : {A : Type 0} (first second xs : List A) → drop (length (first
 drop-parts [] second xs = refl
 drop-parts (x ∷ first) second [] = sym (drop-nil (length second))
 drop-parts (x ∷ first) second (y ∷ xs) = drop-parts first second xs
-
--- what is left behind those that are told themselves
-pub drop-told : {A : Type 0} (told more : List A) → drop (length told) (told ++ more) ≡ more
-drop-told [] more = refl
-drop-told (x ∷ told) more = drop-told told more

@@ -9,6 +9,7 @@ use Rattle.of_types.specs.declared.journal.WorldStim.TheVariants.{Join, Leave, A
 use Rattle.of_wire.specs.Reading.{reading_of}
 use Rattle.lego_model.specs.SessionWords.{last_number}
 use Rattle.lego_model.specs.SessionLines.{SessionValue, may_be_raw}
+use Rattle.flow_table.specs.Table.{last_moment}
 
 -- ---- Switches
 
@@ -28,9 +29,6 @@ abbrev pub IsKnown : List (ℕ × ℕ × List ℕ) → ℕ → Type 0
 IsKnown switches dpid = list_any (λ (d : ℕ × ℕ × List ℕ). d.0 == dpid) switches ≡ true
 
 -- ---- Stimuli
-
-abbrev pub last_moment : ℕ
-last_moment = 4294967295
 
 -- so many bytes
 abbrev pub IsSized : ℕ → ℕ → List ℕ → Type 0

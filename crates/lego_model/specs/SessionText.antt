@@ -2,11 +2,11 @@
 -- is `session 1`. This text form is our own.
 use Rattle.std.specs.Prelude.{◌==◌, ℕ, ◌+◌, Bool, true, false, not, ◌&&◌, List, [], ◌∷◌, length, Result, Ok, Err, nat_le, nat_lt, if◌then◌else◌, codes}
 use Rattle.std.specs.List.{list_all}
-use Rattle.lego_io.specs.Lines.{lines_of}
+use Rattle.lego_io.specs.Lines.{lines_of, most_line}
 use Rattle.lego_model.specs.declared.session.SessionKind.{SessionKind}
 use Rattle.lego_model.specs.declared.session.SessionKind.TheVariants.{Long, Text, Order}
 use Rattle.lego_model.specs.declared.session.SessionFault.{SessionFault}
-use Rattle.lego_model.specs.Words.{most_line, words_of, is_word}
+use Rattle.lego_model.specs.Words.{words_of, is_word}
 use Rattle.lego_model.specs.SessionWords.{unless}
 use Rattle.lego_model.specs.SessionLines.{SessionValue, SoFar, no_session, line_of}
 

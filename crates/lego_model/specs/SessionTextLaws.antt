@@ -11,16 +11,17 @@ use Rattle.of_types.specs.declared.journal.WorldStim.TheVariants.{Join, Leave, A
 use Rattle.of_wire.specs.Reading.{reading_of}
 use Rattle.app_frames.specs.declared.script.ScriptStep.{ScriptStep}
 use Rattle.app_frames.specs.declared.script.StartScript.{StartScript}
-use Rattle.lego_io.specs.Lines.{lines_of}
+use Rattle.lego_io.specs.Lines.{lines_of, most_line}
 use Rattle.lego_model.specs.declared.session.SessionFault.{SessionFault}
 use Rattle.lego_model.specs.declared.session.SessionKind.{SessionKind}
 use Rattle.lego_model.specs.declared.session.SessionKind.TheVariants.{Long, Text, Word, Range, Order, Raw}
-use Rattle.lego_model.specs.Words.{is_word, most_line, words_of}
+use Rattle.lego_model.specs.Words.{is_word, words_of}
 use Rattle.lego_model.specs.SessionWords.{◌>>=◌, a_number, last_number, some_bytes, are_ports, some_ports, an_app}
 use Rattle.lego_model.specs.SessionSteps.{are_steps, steps_of}
 use Rattle.lego_model.specs.SessionLines.{SessionValue, SoFar, is_declared, a_switch, a_new_switch, with_switch, with_start, with_reply, with_fault, with_stimulus, most_stimuli, one_more, if_known, start_word, change_word, may_be_raw, switch_line, start_line, reply_line, fault_line, join_line, leave_line, at_line, frame_line, port_line, count_line, raw_line, line_of_two, line_of_three, line_of_four, line_of_five, fixed_line, is_reply, reply_words, line_of}
 use Rattle.lego_model.specs.SessionText.{Progress, at_first, is_skipped, is_printable, going_on, is_opening, plain_line, next_line, in_line, lines_from, session_text, ◌>>=◌ as ◌|>>=|◌}
-use Rattle.lego_model.specs.SessionFacts.{IsPort, IsSwitch, IsKnown, IsStimulus, IsFault, moments, last_moment, IsSession, IsOf}
+use Rattle.lego_model.specs.SessionFacts.{IsPort, IsSwitch, IsKnown, IsStimulus, IsFault, moments, IsSession, IsOf}
+use Rattle.flow_table.specs.Table.{last_moment}
 use Rattle.lego_model.specs.SessionWordLaws.{bind_ok, unless_ok, ok_is, not_false, number_ok, bytes_ok, none, no_pairs, all_cons, all_more, ports_ok, ascending, each_port, switch_ok, new_switch_ok, app_ok, steps_ok}
 
 -- what is kept while lines are read, with so many applications

@@ -6,9 +6,9 @@ use Rattle.outside.specs.Seen.{Counts, NoneFell, Seen, Longer}
 use Rattle.sim_world.specs.Scripts.{Scripts}
 use Rattle.sim_world.specs.World.{WorldData, seen_of}
 use Rattle.sim_world.specs.Building.{AreZero, IsNew}
-use Rattle.net_txn.specs.declared.fault.TxnFault.{TxnFault}
-use Rattle.net_txn.specs.declared.fault.TxnFault.TheVariants as faults
-use Rattle.event_dispatch.specs.Why.{IsWhyTxn}
+use Rattle.lego_model.specs.declared.fault.TxnFault.{TxnFault}
+use Rattle.lego_model.specs.declared.fault.TxnFault.TheVariants as faults
+use Rattle.lego_model.specs.SwitchFaults.{IsWhyTxn}
 use Rattle.event_dispatch.specs.WhyLaws.{IsWhyTxn-behind}
 use Rattle.lego_model.specs.SessionLines.{SessionValue}
 use Rattle.legosdn.specs.declared.stop.Refusal.{Refusal}
@@ -16,7 +16,7 @@ use Rattle.legosdn.specs.declared.stop.Stop.{Stop}
 use Rattle.legosdn.specs.declared.stop.Stop.TheVariants.{Usage, Refused, ReadFault, WriteFault, Shut, NextFault, SwitchFault, SwitchBroke, Diverged, EventsLeft, NoMemory}
 use Rattle.legosdn.specs.Input.{session_of}
 use Rattle.legosdn.specs.Stops.{stop_status, stop_line, refusal_line, stop_of_switch}
-use Rattle.legosdn.specs.Headline.{Faults, faults_of, IsReadCause, IsRunCause, IsCause, IsEarly, IsLate, Loaded, Wrote}
+use Rattle.legosdn.specs.Headline.{Faults, faults_of, IsRunCause, IsCause, IsEarly, IsLate, Loaded, Wrote}
 use Rattle.legosdn.proofs.Statuses.{is_refused, not_late}
 
 pub switch_cause : (k l : ℕ) (old new : Seen Scripts) (fault : TxnFault) → IsWhyTxn (Unit {0}) old new fault → IsRunCause k l old new (stop_of_switch fault)
@@ -69,46 +69,6 @@ run_cause words told i j k l a b c (Diverged d) first second why = (why.0, why.1
 run_cause words told i j k l a b c (EventsLeft left) first second why = why
 run_cause words told i j k l a b c NoMemory first second why = tt
 
--- why an input was not read, among all causes
-read_cause : (words : List (List ℕ)) (told : Option (List ℕ)) (i j k l : ℕ) (a c : Seen Scripts) (stop : Stop) → IsReadCause told i j stop → IsCause words told (faults_of i k a) (faults_of j l c) stop
-read_cause words told i j k l a c Usage why = absurd why
-read_cause words told i j k l a c (Refused refusal) why = why
-read_cause words told i j k l a c ReadFault why = why
-read_cause words told i j k l a c WriteFault why = absurd why
-read_cause words told i j k l a c Shut why = absurd why
-read_cause words told i j k l a c NextFault why = absurd why
-read_cause words told i j k l a c (SwitchFault d) why = absurd why
-read_cause words told i j k l a c (SwitchBroke d) why = absurd why
-read_cause words told i j k l a c (Diverged d) why = absurd why
-read_cause words told i j k l a c (EventsLeft left) why = absurd why
-read_cause words told i j k l a c NoMemory why = tt
-
-read_is_not_late : (told : Option (List ℕ)) (i j : ℕ) (stop : Stop) → IsReadCause told i j stop → IsLate stop → ⊥
-read_is_not_late told i j Usage why late = late
-read_is_not_late told i j (Refused refusal) why late = late
-read_is_not_late told i j ReadFault why late = late
-read_is_not_late told i j WriteFault why late = why
-read_is_not_late told i j Shut why late = why
-read_is_not_late told i j NextFault why late = why
-read_is_not_late told i j (SwitchFault d) why late = why
-read_is_not_late told i j (SwitchBroke d) why late = why
-read_is_not_late told i j (Diverged d) why late = why
-read_is_not_late told i j (EventsLeft left) why late = why
-read_is_not_late told i j NoMemory why late = late
-
-run_is_not_early : (k l : ℕ) (b c : Seen Scripts) (stop : Stop) → IsRunCause k l b c stop → IsEarly stop → ⊥
-run_is_not_early k l b c Usage why early = why
-run_is_not_early k l b c (Refused refusal) why early = why
-run_is_not_early k l b c ReadFault why early = why
-run_is_not_early k l b c WriteFault why early = early
-run_is_not_early k l b c Shut why early = early
-run_is_not_early k l b c NextFault why early = early
-run_is_not_early k l b c (SwitchFault d) why early = early
-run_is_not_early k l b c (SwitchBroke d) why early = early
-run_is_not_early k l b c (Diverged d) why early = early
-run_is_not_early k l b c (EventsLeft left) why early = early
-run_is_not_early k l b c NoMemory why early = early
-
 -- a write of the last line, behind the run
 pub cause_then : (words : List (List ℕ)) (told : Option (List ℕ)) (i j k l m : ℕ) (a c : Seen Scripts) (stop : Stop) → NeverFell k l → NeverFell l m → IsCause words told (faults_of i k a) (faults_of j l c) stop
     → IsCause words told (faults_of i k a) (faults_of j m c) stop
@@ -158,7 +118,7 @@ refused_at_three contents faults old mid new words told before after stop why ea
     let both = refused_line contents faults old mid new words told before after stop r.0 r.1 why early line in
     (r.0, both.0, both.1)
 
-no_both : (session : SessionValue) (refusal : Refusal) → Ok session ≡ Err refusal → ⊥
+pub no_both : (session : SessionValue) (refusal : Refusal) → Ok session ≡ Err refusal → ⊥
 no_both session refusal e = absurd cc
 
 refused_or_loaded : {left : Option (List ℕ)} {seen : Seen Scripts} {bytes : List ℕ} {refusal : Refusal} → Loaded (Some bytes) left seen → session_of bytes ≡ Err refusal → ⊥

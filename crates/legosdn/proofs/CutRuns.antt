@@ -1,5 +1,5 @@
 -- The run of a session that a fault ends.
-use Rattle.std.proofs.Common.{◌≡◌, ◌⊎◌, ℕ, ◌≤◌, Bool, true, List, [], ◌∷◌, ◌++◌, length, Option, refl, sym, ap, ◌∙◌, subst, arith, inl, inr}
+use Rattle.std.proofs.Common.{◌≡◌, ◌⊎◌, ℕ, ◌≤◌, Bool, true, List, [], length, Option, refl, sym, ap, ◌∙◌, subst, arith, inl, inr}
 use Rattle.flow_table.specs.declared.view.TableView.{TableView}
 use Rattle.outside.specs.declared.call.FailCall.{FailCall}
 use Rattle.outside.specs.declared.step.WorldStep.{WorldStep}
@@ -8,35 +8,33 @@ use Rattle.outside.specs.State.{at_first}
 use Rattle.outside.specs.Conforming.{Conforming}
 use Rattle.outside.specs.InOrder.{BringMessages, InOrder}
 use Rattle.outside.specs.InOrderLaws.{in_order-Conforming, InOrder-front}
-use Rattle.outside.specs.Quiet.{IsLastQuiet}
-use Rattle.net_txn.specs.LinkSteps.{AreLinksInPlace}
+use Rattle.outside.specs.Quiescence.{IsLastQuiescent}
+use Rattle.net_txn.specs.LinkSteps.{AreExpectedOnLinks}
 use Rattle.lego_model.specs.Places.{Place}
 use Rattle.lego_model.specs.Controller.{Run}
 use Rattle.sim_world.specs.Told.{without_links}
-use Rattle.sim_world.specs.Scripts.{Scripts, Life, AreScripted, KeepsScripts, lives_after, all_fresh}
+use Rattle.sim_world.specs.Scripts.{Scripts, AreScripted, KeepsScripts, all_fresh}
 use Rattle.sim_world.specs.World.{WorldData, given_of, seen_of}
-use Rattle.run_laws.specs.Engine.{stimuli_in}
+use Rattle.lego_model.specs.History.{stimuli_in}
 use Rattle.run_laws.specs.StimuliLaws.{told-few}
 use Rattle.run_laws.specs.Promise.{PremiseSoFar}
-use Rattle.run_laws.specs.Cut.{Far, CutAs, WritingAs, AlikeUpTo, CutAlike, CutWriting}
+use Rattle.run_laws.specs.Cut.{CutAlike, CutWriting}
+use Rattle.lego_model.specs.CutRun.{Progress, WroteSoFar, WasWriting, AlikeUpTo, NothingDone}
 use Rattle.run_laws.specs.DialogueLaws.{applications_in_place}
 use Rattle.event_dispatch.specs.declared.served.Served.{Served}
 use Rattle.event_dispatch.specs.declared.served.Served.TheVariants as served
-use Rattle.event_dispatch.specs.Serves.{NothingDone, IsCut}
-use Rattle.legosdn.specs.Said.{all_allowed, SaidSo, CutRun, WritingRun}
-use Rattle.legosdn.specs.Headline.{KeepsLines, UpToPlace}
+use Rattle.event_dispatch.specs.Serves.{IsCut}
+use Rattle.legosdn.specs.Said.{all_allowed, HoldsAsSaid, CutRun, WritingRun}
+use Rattle.legosdn.specs.Headline.{KeepsLines, UpToPoint}
 use Rattle.legosdn.proofs.Said.{told_in, are_said, kept_to_lines}
 use Rattle.legosdn.proofs.Places.{CountsNone, behind_for, none_strays, shut_strays, idle_strays}
+use Rattle.sim_world.specs.ScriptLaws.{AreScripted-front}
 
 -- ---- A front of what happened
 
-scripted_front : (own : Scripts) (fails : List FailCall) (xs ys : List WorldStep) (lives : ℕ → Life) → AreScripted own fails (xs ++ ys) lives → AreScripted own fails xs lives
-scripted_front own fails [] ys lives are = tt
-scripted_front own fails (x ∷ xs) ys lives are = (are.0, scripted_front own fails xs ys (lives_after own fails x lives) are.1)
-
 keeps_before : (own : Scripts) (fails : List FailCall) (first whole : List WorldStep) → Longer first whole → KeepsScripts own fails whole → KeepsScripts own fails first
 unfolding KeepsScripts
-keeps_before own fails first whole later keeps = scripted_front own fails first later.0 all_fresh (subst (λ (h : List WorldStep). AreScripted own fails h all_fresh) later.1 keeps)
+keeps_before own fails first whole later keeps = AreScripted-front own fails first later.0 all_fresh (subst (λ (h : List WorldStep). AreScripted own fails h all_fresh) later.1 keeps)
 
 -- the lines of the session were kept to as far as there
 lines_at : (sim : WorldData) (last : Seen Scripts) → KeepsLines sim → (seen_of sim).given ≡ last.given → Longer last.history (seen_of sim).history → KeepsScripts last.given.own (without_links last.given.fails) last.history
@@ -45,50 +43,50 @@ lines_at sim last lines given later =
     subst (λ (g : Given Scripts). KeepsScripts g.own (without_links g.fails) last.history) given (keeps_before sim.scripts (without_links sim.fails) last.history sim.history later lines)
 
 -- the world kept its word as far as a place where all bytes that came are messages
-conforms_at : (sim : WorldData) (last : Seen Scripts) → InOrder (seen_of sim) → (seen_of sim).given ≡ last.given → IsLastQuiet last (seen_of sim) → BringMessages last.history → Conforming last
+conforms_at : (sim : WorldData) (last : Seen Scripts) → InOrder (seen_of sim) → (seen_of sim).given ≡ last.given → IsLastQuiescent last (seen_of sim) → BringMessages last.history → Conforming last
 conforms_at sim last order given quiet messages = in_order-Conforming last (InOrder-front last (seen_of sim) quiet.steps given quiet.history order) messages
 
 -- ---- A place of the run
 
-said_so : {last : Seen Scripts} (IsSo : Far last → Run → Type 0) (up_to : AlikeUpTo last IsSo) → KeepsScripts last.given.own (without_links last.given.fails) last.history → SaidSo IsSo up_to
+said_so : {last : Seen Scripts} (IsSo : Progress last → Run → Type 0) (up_to : AlikeUpTo last IsSo) → KeepsScripts last.given.own (without_links last.given.fails) last.history → HoldsAsSaid IsSo up_to
 said_so {last} IsSo up_to keeps = λ none. record {
   enough = told_in last;
-  so = λ more few. up_to.as_said _ _ (are_said last more (kept_to_lines last (without_links last.given.fails) keeps none up_to.in_order up_to.at_once) few);
+  holds = λ more few. up_to.as_said _ _ (are_said last more (kept_to_lines last (without_links last.given.fails) keeps none up_to.in_order up_to.at_once) few);
 }
 
-pub cut_at_place : (sim : WorldData) (a b : Option (List ℕ)) → InOrder (seen_of sim) → KeepsLines sim → CutAlike all_allowed (seen_of sim) a b → UpToPlace sim (λ last. CutRun last a b)
+pub cut_at_place : (sim : WorldData) (a b : Option (List ℕ)) → InOrder (seen_of sim) → KeepsLines sim → CutAlike all_allowed (seen_of sim) a b → UpToPoint sim (λ last. CutRun last a b)
 cut_at_place sim a b order lines cut =
-    let quiet = cut.quiet order in
-    let keeps = conforms_at sim cut.last order cut.given quiet (cut.read order) in
-    let run = cut.so keeps in
+    let quiet = cut.last_point order in
+    let keeps = conforms_at sim cut.last order cut.given quiet (cut.messages order) in
+    let run = cut.alike keeps in
     record {
       last = cut.last;
       given = sym cut.given;
-      quiet = quiet;
-      messages = cut.read order;
-      so = record { run = run; as_said = said_so (CutAs all_allowed cut.last a b) run (lines_at sim cut.last lines cut.given cut.later) };
+      last_point = quiet;
+      messages = cut.messages order;
+      holds = record { run = run; as_said = said_so (WroteSoFar all_allowed cut.last a b) run (lines_at sim cut.last lines cut.given cut.later) };
       at_once = cut.at_once keeps;
     }
 
-pub writing_at_place : (sim : WorldData) (a b : Option (List ℕ)) → InOrder (seen_of sim) → KeepsLines sim → CutWriting all_allowed (seen_of sim) a b → UpToPlace sim (λ last. WritingRun last a b)
+pub writing_at_place : (sim : WorldData) (a b : Option (List ℕ)) → InOrder (seen_of sim) → KeepsLines sim → CutWriting all_allowed (seen_of sim) a b → UpToPoint sim (λ last. WritingRun last a b)
 writing_at_place sim a b order lines cut =
-    let quiet = cut.quiet order in
-    let keeps = conforms_at sim cut.last order cut.given quiet (cut.read order) in
-    let run = cut.so keeps in
+    let quiet = cut.last_point order in
+    let keeps = conforms_at sim cut.last order cut.given quiet (cut.messages order) in
+    let run = cut.alike keeps in
     record {
       last = cut.last;
       given = sym cut.given;
-      quiet = quiet;
-      messages = cut.read order;
-      so = record { run = run; as_said = said_so (WritingAs all_allowed cut.last run.text run.more) run.up_to (lines_at sim cut.last lines cut.given cut.later) };
+      last_point = quiet;
+      messages = cut.messages order;
+      holds = record { run = run; as_said = said_so (WasWriting all_allowed cut.last run.text run.more) run.up_to (lines_at sim cut.last lines cut.given cut.later) };
       at_once = cut.at_once keeps;
     }
 
-pub cut_or_nothing : (sim : WorldData) (a b : Option (List ℕ)) → InOrder (seen_of sim) → KeepsLines sim → CutAlike all_allowed (seen_of sim) a b ⊎ NothingDone [] (seen_of sim) a b → UpToPlace sim (λ last. CutRun last a b) ⊎ NothingDone [] (seen_of sim) a b
+pub cut_or_nothing : (sim : WorldData) (a b : Option (List ℕ)) → InOrder (seen_of sim) → KeepsLines sim → CutAlike all_allowed (seen_of sim) a b ⊎ NothingDone [] (seen_of sim) a b → UpToPoint sim (λ last. CutRun last a b) ⊎ NothingDone [] (seen_of sim) a b
 cut_or_nothing sim a b order lines (inl cut) = inl (cut_at_place sim a b order lines cut)
 cut_or_nothing sim a b order lines (inr none) = inr none
 
--- ---- No call of it was out of place
+-- ---- No call of it was a stray one
 
 -- the run ended before all was done
 abbrev pub IsFaultEnd : Served → Type 0
@@ -96,25 +94,25 @@ IsFaultEnd (served.Ended events) = ⊥
 IsFaultEnd (served.EventsLeft left) = ⊥
 IsFaultEnd other = Unit {0}
 
-cut_strays : (sim : WorldData) (a b : Option (List ℕ)) → InOrder (seen_of sim) → CountsNone sim → AreLinksInPlace (seen_of sim).history (at_first (seen_of sim).given) → CutAlike all_allowed (seen_of sim) a b
+cut_strays : (sim : WorldData) (a b : Option (List ℕ)) → InOrder (seen_of sim) → CountsNone sim → AreExpectedOnLinks (seen_of sim).history (at_first (seen_of sim).given) → CutAlike all_allowed (seen_of sim) a b
     → (seen_of sim).counts.shorts ≡ 0 → (seen_of sim).counts.strays ≡ 0
 cut_strays sim a b order none links cut =
-    let keeps = conforms_at sim cut.last order cut.given (cut.quiet order) (cut.read order) in
-    none_strays sim none (behind_for (cut.so keeps).in_order cut.own) (applications_in_place (seen_of sim) (cut.at_once keeps)) links
+    let keeps = conforms_at sim cut.last order cut.given (cut.last_point order) (cut.messages order) in
+    none_strays sim none (behind_for (cut.alike keeps).in_order cut.no_other_called) (applications_in_place (seen_of sim) (cut.at_once keeps)) links
 
-writing_strays : (sim : WorldData) (a b : Option (List ℕ)) → InOrder (seen_of sim) → CountsNone sim → AreLinksInPlace (seen_of sim).history (at_first (seen_of sim).given) → CutWriting all_allowed (seen_of sim) a b
+writing_strays : (sim : WorldData) (a b : Option (List ℕ)) → InOrder (seen_of sim) → CountsNone sim → AreExpectedOnLinks (seen_of sim).history (at_first (seen_of sim).given) → CutWriting all_allowed (seen_of sim) a b
     → (seen_of sim).counts.shorts ≡ 0 → (seen_of sim).counts.strays ≡ 0
 writing_strays sim a b order none links cut =
-    let keeps = conforms_at sim cut.last order cut.given (cut.quiet order) (cut.read order) in
-    none_strays sim none (behind_for (cut.so keeps).up_to.in_order cut.own) (applications_in_place (seen_of sim) (cut.at_once keeps)) links
+    let keeps = conforms_at sim cut.last order cut.given (cut.last_point order) (cut.messages order) in
+    none_strays sim none (behind_for (cut.alike keeps).up_to.in_order cut.no_other_called) (applications_in_place (seen_of sim) (cut.at_once keeps)) links
 
-strays_or_nothing : (sim : WorldData) (a b : Option (List ℕ)) → InOrder (seen_of sim) → CountsNone sim → AreLinksInPlace (seen_of sim).history (at_first (seen_of sim).given) → CutAlike all_allowed (seen_of sim) a b ⊎ NothingDone [] (seen_of sim) a b
+strays_or_nothing : (sim : WorldData) (a b : Option (List ℕ)) → InOrder (seen_of sim) → CountsNone sim → AreExpectedOnLinks (seen_of sim).history (at_first (seen_of sim).given) → CutAlike all_allowed (seen_of sim) a b ⊎ NothingDone [] (seen_of sim) a b
     → (seen_of sim).counts.shorts ≡ 0 → (seen_of sim).counts.strays ≡ 0
 strays_or_nothing sim a b order none links (inl cut) = cut_strays sim a b order none links cut
 strays_or_nothing sim a b order none links (inr idle) = idle_strays sim none idle.history
 
 -- by how the run ended
-pub strays_of : (sim : WorldData) (a b : Option (List ℕ)) (end : Served) → InOrder (seen_of sim) → CountsNone sim → AreLinksInPlace (seen_of sim).history (at_first (seen_of sim).given) → IsFaultEnd end → IsCut all_allowed (seen_of sim) a b end
+pub strays_of : (sim : WorldData) (a b : Option (List ℕ)) (end : Served) → InOrder (seen_of sim) → CountsNone sim → AreExpectedOnLinks (seen_of sim).history (at_first (seen_of sim).given) → IsFaultEnd end → IsCut all_allowed (seen_of sim) a b end
     → (seen_of sim).counts.shorts ≡ 0 → (seen_of sim).counts.strays ≡ 0
 strays_of sim a b (served.Ended events) order none links fault cut = absurd fault
 strays_of sim a b (served.EventsLeft left) order none links fault cut = absurd fault

@@ -1,5 +1,5 @@
 -- The first line of a text, and the first separator.
-use Rattle.std.proofs.Common.{◌≡◌, ◌≢◌, ℕ, suc, ◌+◌, ◌-◌, ◌<◌, ◌≤◌, Bool, true, false, eqb, List, [], ◌∷◌, ◌++◌, length, get_or, take, drop, All, None, Some, refl, sym, ap, ◌∙◌, arith, take-append-drop, drop-cons, add-one, codes, inl, inr}
+use Rattle.std.proofs.Common.{◌≡◌, ◌≢◌, ℕ, suc, ◌+◌, ◌-◌, ◌<◌, ◌≤◌, Bool, true, false, eqb, List, [], ◌∷◌, ◌++◌, length, get_or, take, drop, All, None, Some, sym, ap, ◌∙◌, arith, take-append-drop, drop-cons, add-one, codes, inl, inr}
 use Rattle.std.specs.List.{position, position_or_len}
 use Rattle.std.specs.Str.{bytes_eq}
 use Rattle.std.proofs.lemmas.Grind.{common_steps, get_or_default_zero}
@@ -59,12 +59,3 @@ pub record Reached (input rest : List ℕ) (number : ℕ) : Type 0 where
   pub counted : 1 ≤ number
   pub within : number + length rest ≤ length input + 1
   pub first : number ≡ 1 → length rest ≡ length input
-
-pub Reached-next : (input rest behind line : List ℕ) (number : ℕ) → Reached input rest number → lines_of rest ≡ line ∷ lines_of behind → is_separator line ≡ false → length behind < length rest
-    → Reached input behind (number + 1)
-Reached-next input rest behind line number so_far lines other shorter = record {
-  left = so_far.left ∙ ap (behind_separator number) lines ∙ rw other refl;
-  counted = omega (arith, so_far.counted);
-  within = omega (arith, so_far.within);
-  first = λ e. absurd (omega (arith, so_far.counted));
-}

@@ -3,11 +3,10 @@ use Rattle.std.proofs.Common.{◌≡◌, ℕ, List, Option, Some, None, Result, 
 use Rattle.std.specs.Result.{IsErrAnd}
 use Rattle.lego_io.specs.Lines.{lines_of}
 use Rattle.lego_io.specs.Source.{ended}
-use Rattle.outside.specs.Seen.{Seen, Continues}
+use Rattle.outside.specs.Seen.{Seen}
 use Rattle.sim_world.specs.Scripts.{Scripts}
 use Rattle.sim_world.specs.World.{WorldData}
 use Rattle.sim_world.specs.Building.{Begins}
-use Rattle.lego_model.specs.declared.session.SessionFault.{SessionFault}
 use Rattle.lego_model.specs.SessionLines.{SessionValue}
 use Rattle.lego_model.specs.SessionText.{session_text}
 use Rattle.session_text.specs.declared.text_fault.SessionError.{SessionError}
@@ -16,10 +15,10 @@ use Rattle.session_text.specs.Loading.{given_by, LoadFails}
 use Rattle.legosdn.specs.declared.stop.Refusal.{Refusal}
 use Rattle.legosdn.specs.declared.stop.Refusal.TheVariants.{Session}
 use Rattle.legosdn.specs.declared.stop.Stop.{Stop}
-use Rattle.legosdn.specs.declared.stop.Stop.TheVariants.{Refused}
-use Rattle.legosdn.specs.Input.{app_names, or_refused, session_lines, session_of}
+use Rattle.lego_model.specs.Application.{names as app_names}
+use Rattle.legosdn.specs.Input.{or_refused, session_lines, session_of}
 use Rattle.legosdn.specs.Stops.{stop_of_session}
-use Rattle.legosdn.specs.Headline.{IsReadCause, IsEarly, Loaded}
+use Rattle.legosdn.specs.Headline.{IsReadCause, Loaded}
 
 session_text-lines : (names : List (List ℕ)) (n : ℕ) (bytes : List ℕ) → names ≡ app_names → session_text names n bytes ≡ session_lines n (lines_of bytes)
 unfolding session_text session_lines
@@ -46,11 +45,6 @@ told_refused : (told : Option (List ℕ)) (input : List ℕ) (refusal : Refusal)
 told_refused None input refusal whole e = tt
 told_refused (Some left) input refusal whole e = subst (λ (bytes : List ℕ). session_of bytes ≡ Err refusal) whole e
 
-pub refused_causes : {T : Type 0} (told : Option (List ℕ)) (old new : ℕ) (input : List ℕ) (refusal : Refusal) (result : Result T Stop) → IsErrAnd result (λ stop. stop ≡ Refused refusal)
-    → IfSome told (λ left. input ≡ left) → session_of input ≡ Err refusal → IfErr result (IsReadCause told old new)
-refused_causes told old new input refusal (Ok x) is whole e = tt
-refused_causes told old new input refusal (Err stop) is whole e = rw is (told_refused told input refusal whole e)
-
 session_cause : (told : Option (List ℕ)) (old new : ℕ) (input : List ℕ) (n : ℕ) (bytes : List ℕ) (names : List (List ℕ)) (w v : WorldData) (error : SessionError) → Behind told input n bytes names
     → LoadFails error w v (session_text names n bytes) → IsReadCause told old new (stop_of_session error)
 session_cause told old new input n bytes names w v text.NoMemory behind fails = tt
@@ -61,23 +55,3 @@ pub session_causes : {T : Type 0} (told : Option (List ℕ)) (old new : ℕ) (in
     → IsErrAnd result (λ stop. stop ≡ stop_of_session error) → Behind told input n bytes names → LoadFails error w v (session_text names n bytes) → IfErr result (IsReadCause told old new)
 session_causes told old new input n bytes names w v error (Ok x) is behind fails = tt
 session_causes told old new input n bytes names w v error (Err stop) is behind fails = rw is (session_cause told old new input n bytes names w v error behind fails)
-
-early_leaves : (w v : WorldData) (read : Result SessionValue SessionFault) (error : SessionError) → LoadFails error w v read → IsEarly (stop_of_session error) → v ≡ w
-early_leaves w v read text.NoMemory fails early = absurd early
-early_leaves w v read (text.Bad fault) fails early = fails.1
-
-pub early_leaves_it : {T : Type 0} (w v : WorldData) (read : Result SessionValue SessionFault) (error : SessionError) (result : Result T Stop) → IsErrAnd result (λ stop. stop ≡ stop_of_session error)
-    → LoadFails error w v read → IfErr result (λ stop. IsEarly stop → v ≡ w)
-early_leaves_it w v read error (Ok x) is fails = tt
-early_leaves_it w v read error (Err stop) is fails = λ early. early_leaves w v read error fails (subst IsEarly is early)
-
--- what was loaded stays while the world runs
-pub stays_loaded : (told left : Option (List ℕ)) (old new : Seen Scripts) → Loaded told left old → Continues (Unit {0}) old new → Loaded told left new
-stays_loaded told left old new loaded continues = record {
-  input = loaded.input;
-  session = loaded.session;
-  whole = loaded.whole;
-  end = loaded.end;
-  spelled = loaded.spelled;
-  given = continues.given ∙ loaded.given;
-}

@@ -1,11 +1,11 @@
 -- A line that is written in pieces.
-use Rattle.std.proofs.Common.{◌≡◌, ℕ, ◌+◌, List, ◌++◌, length, take, Option, Result, Ok, Err, OnErr, refl, sym, ap, ◌∙◌, arith, length-append, codes}
+use Rattle.std.proofs.Common.{◌≡◌, ℕ, ◌+◌, List, ◌++◌, length, take, Option, refl, sym, ap, ◌∙◌, arith, length-append, codes}
 use Rattle.std.proofs.lemmas.List.{take-append-le}
 use Rattle.std.proofs.Math.Seq.{take-append-add}
 use Rattle.std.specs.Io.KnownBytes.{append_known}
 use Rattle.std.specs.Fmt.{decimal}
 use Rattle.lego_model.specs.declared.session.SessionFault.{SessionFault}
-use Rattle.lego_model.specs.Report.{line_of}
+use Rattle.lego_model.specs.RunReport.{line_of}
 use Rattle.legosdn.specs.declared.stop.Refusal.{Refusal}
 use Rattle.legosdn.specs.declared.stop.Refusal.TheVariants.{Session}
 use Rattle.legosdn.specs.Stops.{refusal_line, kind_word}
@@ -31,10 +31,6 @@ part_of_second old mid new a b c first part = part_of_two old new (a ++ b) c (pa
 pub part_of_third : (old mid late new : Option (List ℕ)) (a b c : List ℕ) → mid ≡ append_known old a → late ≡ append_known mid b → TookPart late new c → TookPart old new (a ++ b ++ c)
 part_of_third old mid late new a b c first second part =
     part_behind old late new (a ++ b) c (second ∙ ap (λ (told : Option (List ℕ)). append_known told b) first ∙ sym (append_known-append old a b)) part
-
-pub whenever : {T E P : Type 0} (r : Result T E) → P → OnErr r P
-whenever (Ok x) p = tt
-whenever (Err e) p = p
 
 -- the line of a session's fault, in its pieces
 pub session_line : (refusal : Refusal) (fault : SessionFault) (end : List ℕ) → refusal ≡ Session fault → end ≡ line_of (codes " " ++ kind_word fault.kind)

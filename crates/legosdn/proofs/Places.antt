@@ -1,4 +1,4 @@
--- No call of a run was out of place.
+-- No call of a run was a stray one.
 use Rattle.std.proofs.Common.{◌≡◌, ℕ, ◌==◌, Bool, true, false, List, [], ◌∷◌, ◌++◌, refl, sym, ap, subst}
 use Rattle.std.specs.List.{AllByRecursion}
 use Rattle.std.proofs.lemmas.Bool.{eq-eqb}
@@ -9,11 +9,11 @@ use Rattle.outside.specs.declared.step.WorldStep.{WorldStep}
 use Rattle.outside.specs.declared.step.WorldStep.TheVariants.{Acted, TookInto, From, Joined, Left, Moment, Idle, End, Opened, NotOpened, NextFailed, SendFailed, RecvFailed}
 use Rattle.outside.specs.Seen.{Given, Seen, act_of}
 use Rattle.outside.specs.State.{State, at_first, after_step, after_steps, state, is_running}
-use Rattle.net_txn.specs.LinkSteps.{IsLinkInPlace, AreLinksInPlace, StaysInPlace}
-use Rattle.app_visor.specs.Dialogues.{IsInPlace as IsInPlaceOf, AreInPlace as AreInPlaceOf}
+use Rattle.net_txn.specs.LinkSteps.{IsExpectedOnLink, AreExpectedOnLinks, MakesNoStrayCall}
+use Rattle.app_visor.specs.Dialogues.{KeepsOrder as IsInPlaceOf, CallsKeepOrder as AreInPlaceOf}
 use Rattle.app_visor.specs.CallsFor.{IsActFor, IsCallFor, CallsFor}
-use Rattle.switch_laws.specs.Orderly.{IsOrderlyAct, IsOrderly}
-use Rattle.run_laws.specs.Engine.{index}
+use Rattle.lego_model.specs.OrderlySteps.{IsOrderlyAct, IsOrderly}
+use Rattle.lego_model.specs.Application.{index}
 use Rattle.sim_world.specs.Scripts.{Scripts}
 use Rattle.sim_world.specs.Places.{IsActInPlace, IsInPlace, AreInPlace}
 use Rattle.sim_world.specs.World.{WorldData, given_of, seen_of}
@@ -74,7 +74,7 @@ act_in_place (Ended of) s own so = tt
 act_in_place (Sent d bytes) s own so = tt
 act_in_place (Got d bytes) s own so = tt
 
-step_in_place : (step : WorldStep) (s : State) → IsCallFor index step → IsInPlaceOf index (act_of step) (is_running index s) → IsLinkInPlace step s → IsInPlace step s
+step_in_place : (step : WorldStep) (s : State) → IsCallFor index step → IsInPlaceOf index (act_of step) (is_running index s) → IsExpectedOnLink step s → IsInPlace step s
 step_in_place (Acted act) s own so link = act_in_place act s own so
 step_in_place (TookInto of (took.Bytes bytes) room) s own so link = tt
 step_in_place (TookInto of took.Closed room) s own so link = runs_as of true s own so
@@ -91,26 +91,26 @@ step_in_place NextFailed s own so link = tt
 step_in_place (SendFailed d) s own so link = link
 step_in_place (RecvFailed d) s own so link = link
 
-steps_in_place : (steps : List WorldStep) (s : State) → AllByRecursion (IsCallFor index) steps → AreInPlaceOf index steps s → AreLinksInPlace steps s → AreInPlace steps s
+steps_in_place : (steps : List WorldStep) (s : State) → AllByRecursion (IsCallFor index) steps → AreInPlaceOf index steps s → AreExpectedOnLinks steps s → AreInPlace steps s
 steps_in_place [] s own so links = tt
 steps_in_place (step ∷ steps) s own so links = (step_in_place step s own.0 so.0 links.0, steps_in_place steps (after_step step s) own.1 so.1 links.1)
 
 -- ---- The whole
 
 -- calls of links since nothing had happened
-pub links_from_first : (old new : Seen Scripts) → old.history ≡ [] → new.given ≡ old.given → StaysInPlace old new → AreLinksInPlace new.history (at_first new.given)
+pub links_from_first : (old new : Seen Scripts) → old.history ≡ [] → new.given ≡ old.given → MakesNoStrayCall old new → AreExpectedOnLinks new.history (at_first new.given)
 unfolding state
 links_from_first old new none given stays =
-    subst (λ (g : Given Scripts). AreLinksInPlace new.history (at_first g)) (sym given)
-    (subst (λ (h : List WorldStep). AreLinksInPlace new.history (after_steps h (at_first old.given))) none
+    subst (λ (g : Given Scripts). AreExpectedOnLinks new.history (at_first g)) (sym given)
+    (subst (λ (h : List WorldStep). AreExpectedOnLinks new.history (after_steps h (at_first old.given))) none
     (stays new.history (ap (λ (h : List WorldStep). h ++ new.history) (sym none))))
 
--- what the world says of calls in place
+-- what the world says of calls that are no stray ones
 abbrev pub CountsNone : WorldData → Type 0
 CountsNone sim = AreInPlace sim.history (at_first (given_of sim)) → (seen_of sim).counts.shorts ≡ 0 → (seen_of sim).counts.strays ≡ 0
 
 pub none_strays : (sim : WorldData) → CountsNone sim → AllByRecursion (IsCallFor index) (seen_of sim).history → AreInPlaceOf index (seen_of sim).history (at_first (seen_of sim).given)
-    → AreLinksInPlace (seen_of sim).history (at_first (seen_of sim).given) → (seen_of sim).counts.shorts ≡ 0 → (seen_of sim).counts.strays ≡ 0
+    → AreExpectedOnLinks (seen_of sim).history (at_first (seen_of sim).given) → (seen_of sim).counts.shorts ≡ 0 → (seen_of sim).counts.strays ≡ 0
 unfolding seen_of
 none_strays sim none own so links shorts = none (steps_in_place sim.history (at_first (given_of sim)) own so links) shorts
 

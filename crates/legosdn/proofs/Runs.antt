@@ -12,14 +12,14 @@ use Rattle.outside.specs.Conforming.{Conforming}
 use Rattle.outside.specs.State.{at_first}
 use Rattle.outside.specs.InOrder.{BringMessages, InOrder}
 use Rattle.outside.specs.InOrderLaws.{in_order-Conforming}
-use Rattle.net_txn.specs.LinkSteps.{AreLinksInPlace}
+use Rattle.net_txn.specs.LinkSteps.{AreExpectedOnLinks}
 use Rattle.sim_world.specs.Told.{without_links}
 use Rattle.sim_world.specs.Scripts.{Scripts, KeepsScripts}
 use Rattle.sim_world.specs.World.{WorldData, given_of, seen_of}
 use Rattle.sim_world.specs.Tally.{counts_of}
 use Rattle.sim_world.specs.Building.{IsNew, Begins}
 use Rattle.session_text.specs.Loading.{given_by}
-use Rattle.run_laws.specs.Engine.{stimuli_in}
+use Rattle.lego_model.specs.History.{stimuli_in}
 use Rattle.run_laws.specs.StimuliLaws.{told-few, told-all}
 use Rattle.run_laws.specs.Promise.{Premise}
 use Rattle.event_dispatch.specs.declared.served.Served.{Served}
@@ -28,19 +28,19 @@ use Rattle.run_laws.specs.DialogueLaws.{applications_in_place}
 use Rattle.event_dispatch.specs.Serves.{IsAlike}
 use Rattle.event_dispatch.specs.Cut.{IsReadServed}
 use Rattle.event_dispatch.specs.Plain.{IsPlainServed}
-use Rattle.legosdn.specs.declared.stop.Refusal.{Refusal}
 use Rattle.legosdn.specs.declared.stop.Stop.{Stop}
 use Rattle.legosdn.specs.declared.stop.Stop.TheVariants.{Usage, Refused, ReadFault, WriteFault, Shut, NextFault, SwitchFault, SwitchBroke, Diverged, EventsLeft, NoMemory}
 use Rattle.legosdn.specs.Input.{session_of}
 use Rattle.legosdn.specs.Stops.{stop_status, stop_line, stop_of_switch}
-use Rattle.legosdn.specs.Headline.{is_command, Faults, IsReadCause, IsCause, NoneFailed, IsLate, KeepsLines, Wrote, RunsWhole, RunsPart, UpToPlace, SomeRefused, StopsAs, RunsAs, LeftAs, CutShort}
+use Rattle.legosdn.specs.Headline.{is_command, Faults, IsReadCause, IsCause, NoneFailed, IsLate, KeepsLines, Wrote, RunsWhole, RunsPart, UpToPoint, SomeRefused, StopsAs, RunsAs, LeftAs, CutShort}
 use Rattle.legosdn.specs.Said.{all_allowed, CutRun}
 use Rattle.legosdn.proofs.Said.{kept_to_lines, ends_as_said, leaves_as_said}
 use Rattle.legosdn.proofs.Statuses.{is_broken, is_diverged}
 use Rattle.legosdn.proofs.Places.{CountsNone, all_for, none_strays}
 use Rattle.lego_io.specs.Count.{NeverFell}
-use Rattle.net_txn.specs.declared.fault.TxnFault.{TxnFault}
-use Rattle.net_txn.specs.declared.fault.TxnFault.TheVariants as faults
+use Rattle.lego_model.specs.declared.fault.TxnFault.{TxnFault}
+use Rattle.lego_model.specs.declared.fault.TxnFault.TheVariants as faults
+use Rattle.legosdn.proofs.Causes.{no_both}
 
 -- a session that was read has so many stimuli at most
 pub loads_few : (names : List (List ℕ)) (n : ℕ) (bytes : List ℕ) (seen : Seen Scripts) → (s : SessionValue) × (session_text names n bytes ≡ Ok s) × Begins (given_by s) seen → length seen.given.stimuli ≤ 1000000
@@ -103,7 +103,7 @@ pub cut_short : (status : ℕ) (sim : WorldData) (stop : Stop) (contents before 
     → Wrote before now_contents faults faults_new (stop_line stop) → CutShort status sim contents now_contents faults_old faults_new
 cut_short status sim stop contents before now_contents faults_old faults faults_new is up runs written = record {
   stop = stop;
-  is = is;
+  status_is = is;
   before = before;
   faults = faults;
   never_fell = up;
@@ -161,7 +161,7 @@ lines_by_read P told k l stop (Ok x) is cause = tt
 lines_by_read P told k l stop (Err s) is cause = λ late. read_not_late P told k l stop cause (subst IsLate is late)
 
 -- a switch breaks or diverges only where the world did not keep its word
-switch_runs : (sim : WorldData) (a b : Option (List ℕ)) (fault : TxnFault) → (BringMessages sim.history → IsPlainServed (served.Txn fault)) → UpToPlace sim (λ last. CutRun last a b) → StopsAs (stop_of_switch fault) sim a b
+switch_runs : (sim : WorldData) (a b : Option (List ℕ)) (fault : TxnFault) → (BringMessages sim.history → IsPlainServed (served.Txn fault)) → UpToPoint sim (λ last. CutRun last a b) → StopsAs (stop_of_switch fault) sim a b
 switch_runs sim a b (faults.SwitchFault d) plain place = place
 switch_runs sim a b (faults.SwitchBroke d bytes) plain place = (plain, place)
 switch_runs sim a b (faults.Flooded d n) plain place = (plain, place)
@@ -174,7 +174,7 @@ PromisesPlain old new end = (allows : List Place → Bool) → Premise (Unit {0}
 
 pub runs_by_switch : (old sim : WorldData) (a b : Option (List ℕ)) (stop : Stop) (fault : TxnFault) → (seen_of old).history ≡ [] → length (seen_of old).given.stimuli ≤ 1000000 → Continues (Unit {0}) (seen_of old) (seen_of sim)
     → (BringMessages sim.history → Conforming (seen_of sim)) → (end : Served) → end ≡ served.Txn fault → PromisesPlain (seen_of old) (seen_of sim) end → stop ≡ stop_of_switch fault
-    → UpToPlace sim (λ last. CutRun last a b) → StopsAs stop sim a b
+    → UpToPoint sim (λ last. CutRun last a b) → StopsAs stop sim a b
 runs_by_switch old sim a b stop fault none few continues word end ended promises is place =
     subst (λ (s : Stop). StopsAs s sim a b) (sym is)
     (switch_runs sim a b fault (λ readable. subst IsPlainServed ended (promises all_allowed (premise (seen_of old) (seen_of sim) none few continues (word readable)))) place)
@@ -187,9 +187,6 @@ pub diverged_as : (sim : WorldData) (stop : Stop) (a b : Option (List ℕ)) → 
 diverged_as sim stop a b runs nine = let is = is_diverged stop nine in (subst (λ (s : Stop). StopsAs s sim a b) is.1 runs).0
 
 -- ---- A good input is answered
-
-no_both : (session : SessionValue) (refusal : Refusal) → Ok session ≡ Err refusal → ⊥
-no_both session refusal e = absurd cc
 
 pub completes : (sim : WorldData) (words : List (List ℕ)) (told : Option (List ℕ)) (old new : Faults) (stop : Stop) (a b : Option (List ℕ)) → IsCause words told old new stop → StopsAs stop sim a b → (input : List ℕ) (session : SessionValue)
     → is_command words ≡ true → told ≡ Some input → session_of input ≡ Ok session → BringMessages sim.history → NoneFailed old new → Contains (0 ∷ 10 ∷ 12 ∷ []) (stop_status stop)
@@ -207,17 +204,17 @@ completes sim words told old new (Diverged d) a b cause runs input session comma
 completes sim words told old new (EventsLeft left) a b cause runs input session command whole spelled readable none = (1, omega arith, refl)
 completes sim words told old new NoMemory a b cause runs input session command whole spelled readable none = (2, omega arith, refl)
 
--- ---- No call was out of place
+-- ---- No call was a stray one
 
 pub whole_strays : (old sim : WorldData) (contents now_contents : Option (List ℕ)) (events : ℕ) → (seen_of old).history ≡ [] → length (seen_of old).given.stimuli ≤ 1000000 → Continues (Unit {0}) (seen_of old) (seen_of sim)
-    → Conforming (seen_of sim) → (end : Served) → end ≡ served.Ended events → Promises (seen_of old) (seen_of sim) contents now_contents end → CountsNone sim → AreLinksInPlace (seen_of sim).history (at_first (seen_of sim).given)
+    → Conforming (seen_of sim) → (end : Served) → end ≡ served.Ended events → Promises (seen_of old) (seen_of sim) contents now_contents end → CountsNone sim → AreExpectedOnLinks (seen_of sim).history (at_first (seen_of sim).given)
     → (seen_of sim).counts.shorts ≡ 0 → (seen_of sim).counts.strays ≡ 0
 whole_strays old sim contents now_contents events none few continues keeps end ended promises counts links =
     let is = subst (λ (e : Served). IsAlike all_allowed (seen_of sim) contents now_contents e) ended (promises all_allowed (premise (seen_of old) (seen_of sim) none few continues keeps)) in
     none_strays sim counts (all_for (seen_of sim).history is.alike.in_order) (applications_in_place (seen_of sim) is.alike.at_once) links
 
 pub part_strays : (old sim : WorldData) (contents now_contents : Option (List ℕ)) (left : ℕ) → (seen_of old).history ≡ [] → length (seen_of old).given.stimuli ≤ 1000000 → Continues (Unit {0}) (seen_of old) (seen_of sim)
-    → Conforming (seen_of sim) → (end : Served) → end ≡ served.EventsLeft left → Promises (seen_of old) (seen_of sim) contents now_contents end → CountsNone sim → AreLinksInPlace (seen_of sim).history (at_first (seen_of sim).given)
+    → Conforming (seen_of sim) → (end : Served) → end ≡ served.EventsLeft left → Promises (seen_of old) (seen_of sim) contents now_contents end → CountsNone sim → AreExpectedOnLinks (seen_of sim).history (at_first (seen_of sim).given)
     → (seen_of sim).counts.shorts ≡ 0 → (seen_of sim).counts.strays ≡ 0
 part_strays old sim contents now_contents left none few continues keeps end ended promises counts links =
     let is = subst (λ (e : Served). IsAlike all_allowed (seen_of sim) contents now_contents e) ended (promises all_allowed (premise (seen_of old) (seen_of sim) none few continues keeps)) in

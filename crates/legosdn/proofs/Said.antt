@@ -12,15 +12,15 @@ use Rattle.lego_model.specs.Scripted.{starts_said, replies_said}
 use Rattle.lego_model.specs.Controller.{reference}
 use Rattle.lego_model.specs.RunReport.{run_report}
 use Rattle.lego_model.specs.SessionLines.{SessionValue}
-use Rattle.journal_laws.specs.Readings.{starts_in, replies_in}
+use Rattle.lego_model.specs.History.{starts_in, replies_in, own_acts, stimuli_in}
 use Rattle.sim_world.specs.Told.{without_links}
 use Rattle.sim_world.specs.Scripts.{Scripts, starts_of, replies_of, KeepsScripts}
-use Rattle.switch_laws.specs.Orderly.{IsOrderly}
+use Rattle.lego_model.specs.OrderlySteps.{IsOrderly}
 use Rattle.script_laws.specs.Ahead.{HasRoom}
 use Rattle.script_laws.specs.FollowLaws.{tells_fronts}
-use Rattle.run_laws.specs.Engine.{index, names, own_acts, stimuli_in}
-use Rattle.run_laws.specs.WholeRun.{fresh, AreSaid}
-use Rattle.run_laws.specs.Promise.{EndsAs, EndsAlike, LeavesAs, LeavesAlike}
+use Rattle.lego_model.specs.Application.{index, names}
+use Rattle.lego_model.specs.ReferenceRun.{fresh, AreSaid}
+use Rattle.lego_model.specs.WholeRun.{EndsAs, EndsAlike, LeavesAs, LeavesAlike}
 use Rattle.session_text.specs.Loading.{fail_of, given_by}
 use Rattle.legosdn.specs.declared.stop.Refusal.{Refusal}
 use Rattle.legosdn.specs.Input.{session_of}
@@ -74,7 +74,7 @@ pub ends_as_said : (seen : Seen Scripts) (contents now_contents : Option (List �
     → WithEnough (λ more. EndsAs seen contents now_contents events (reference_over more seen.given))
 ends_as_said seen contents now_contents events alike stimuli k = record {
   enough = told_in seen;
-  so = λ more few. subst (λ (xs : List WorldStim). EndsAs seen contents now_contents events
+  holds = λ more few. subst (λ (xs : List WorldStim). EndsAs seen contents now_contents events
       (reference all_allowed seen.given.declared (fresh (starts_said more (starts_of index seen.given.own)) (replies_said more (replies_of index seen.given.own)) ∷ []) xs)) stimuli
       (alike.as_said _ _ (are_said seen more k few));
 }
@@ -83,7 +83,7 @@ pub leaves_as_said : (seen : Seen Scripts) (contents now_contents : Option (List
     → WithEnough (λ more. LeavesAs seen contents now_contents left (reference_over more seen.given))
 leaves_as_said seen contents now_contents left alike stimuli k = record {
   enough = told_in seen;
-  so = λ more few. subst (λ (xs : List WorldStim). LeavesAs seen contents now_contents left
+  holds = λ more few. subst (λ (xs : List WorldStim). LeavesAs seen contents now_contents left
       (reference all_allowed seen.given.declared (fresh (starts_said more (starts_of index seen.given.own)) (replies_said more (replies_of index seen.given.own)) ∷ []) xs)) stimuli
       (alike.as_said _ _ (are_said seen more k few));
 }
@@ -116,5 +116,5 @@ reports told left seen contents now_contents input session loaded runs whole spe
     let said = runs.as_said (ap (λ (g : Given Scripts). without_links g.fails) given ∙ none_of_the_application session) in
     record {
       enough = said.enough;
-      so = λ more few. subst (λ (g : Given Scripts). now_contents ≡ append_known contents (run_report names (reference_over more g))) given (said.so more few).report;
+      holds = λ more few. subst (λ (g : Given Scripts). now_contents ≡ append_known contents (run_report names (reference_over more g))) given (said.holds more few).report;
     }

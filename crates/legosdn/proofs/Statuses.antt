@@ -4,46 +4,7 @@ use Rattle.legosdn.specs.declared.stop.Refusal.{Refusal}
 use Rattle.legosdn.specs.declared.stop.Stop.{Stop}
 use Rattle.legosdn.specs.declared.stop.Stop.TheVariants.{Usage, Refused, ReadFault, WriteFault, Shut, NextFault, SwitchFault, SwitchBroke, Diverged, EventsLeft, NoMemory}
 use Rattle.legosdn.specs.Stops.{stop_status}
-use Rattle.legosdn.specs.Headline.{IsEarly, IsLate}
-
-pub is_usage : (stop : Stop) → stop_status stop ≡ 2 → stop ≡ Usage
-is_usage Usage e = refl
-is_usage (Refused refusal) e = absurd (omega arith)
-is_usage ReadFault e = absurd (omega arith)
-is_usage WriteFault e = absurd (omega arith)
-is_usage Shut e = absurd (omega arith)
-is_usage NextFault e = absurd (omega arith)
-is_usage (SwitchFault d) e = absurd (omega arith)
-is_usage (SwitchBroke d) e = absurd (omega arith)
-is_usage (Diverged d) e = absurd (omega arith)
-is_usage (EventsLeft left) e = absurd (omega arith)
-is_usage NoMemory e = absurd (omega arith)
-
-pub is_read_fault : (stop : Stop) → stop_status stop ≡ 4 → stop ≡ ReadFault
-is_read_fault Usage e = absurd (omega arith)
-is_read_fault (Refused refusal) e = absurd (omega arith)
-is_read_fault ReadFault e = refl
-is_read_fault WriteFault e = absurd (omega arith)
-is_read_fault Shut e = absurd (omega arith)
-is_read_fault NextFault e = absurd (omega arith)
-is_read_fault (SwitchFault d) e = absurd (omega arith)
-is_read_fault (SwitchBroke d) e = absurd (omega arith)
-is_read_fault (Diverged d) e = absurd (omega arith)
-is_read_fault (EventsLeft left) e = absurd (omega arith)
-is_read_fault NoMemory e = absurd (omega arith)
-
-pub is_write_fault : (stop : Stop) → stop_status stop ≡ 5 → stop ≡ WriteFault
-is_write_fault Usage e = absurd (omega arith)
-is_write_fault (Refused refusal) e = absurd (omega arith)
-is_write_fault ReadFault e = absurd (omega arith)
-is_write_fault WriteFault e = refl
-is_write_fault Shut e = absurd (omega arith)
-is_write_fault NextFault e = absurd (omega arith)
-is_write_fault (SwitchFault d) e = absurd (omega arith)
-is_write_fault (SwitchBroke d) e = absurd (omega arith)
-is_write_fault (Diverged d) e = absurd (omega arith)
-is_write_fault (EventsLeft left) e = absurd (omega arith)
-is_write_fault NoMemory e = absurd (omega arith)
+use Rattle.legosdn.specs.Headline.{IsLate}
 
 pub is_refused : (stop : Stop) → stop_status stop ≡ 3 → (refusal : Refusal) × (stop ≡ Refused refusal)
 is_refused Usage e = absurd (omega arith)
@@ -57,19 +18,6 @@ is_refused (SwitchBroke d) e = absurd (omega arith)
 is_refused (Diverged d) e = absurd (omega arith)
 is_refused (EventsLeft left) e = absurd (omega arith)
 is_refused NoMemory e = absurd (omega arith)
-
-pub is_early : (stop : Stop) → Contains (2 ∷ 3 ∷ 4 ∷ []) (stop_status stop) → IsEarly stop
-is_early Usage e = tt
-is_early (Refused refusal) e = tt
-is_early ReadFault e = tt
-is_early WriteFault e = absurd (grind arith)
-is_early Shut e = absurd (grind arith)
-is_early NextFault e = absurd (grind arith)
-is_early (SwitchFault d) e = absurd (grind arith)
-is_early (SwitchBroke d) e = absurd (grind arith)
-is_early (Diverged d) e = absurd (grind arith)
-is_early (EventsLeft left) e = absurd (grind arith)
-is_early NoMemory e = absurd (grind arith)
 
 pub is_late : (stop : Stop) → Contains (0 ∷ 5 ∷ 6 ∷ 7 ∷ 8 ∷ 9 ∷ 10 ∷ []) (stop_status stop) → IsLate stop
 is_late Usage e = absurd (grind arith)

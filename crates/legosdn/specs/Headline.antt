@@ -8,16 +8,17 @@ use Rattle.lego_io.specs.Sink.{TookPart}
 use Rattle.outside.specs.declared.step.WorldStep.TheVariants.{NotOpened}
 use Rattle.outside.specs.Seen.{Seen, journal}
 use Rattle.outside.specs.InOrder.{BringMessages}
-use Rattle.outside.specs.Quiet.{IsLastQuiet}
+use Rattle.outside.specs.Quiescence.{IsLastQuiescent}
 use Rattle.lego_model.specs.AtOnce.{AtOnce}
 use Rattle.sim_world.specs.Told.{without_links}
 use Rattle.sim_world.specs.Scripts.{Scripts, KeepsScripts}
 use Rattle.sim_world.specs.World.{WorldData, seen_of}
-use Rattle.run_laws.specs.Engine.{index, stimuli_in}
-use Rattle.run_laws.specs.Promise.{EndsAs, EndsAlike, LeavesAs, LeavesAlike}
-use Rattle.net_txn.specs.declared.fault.TxnFault.{TxnFault}
-use Rattle.event_dispatch.specs.Why.{IsWhyTxn}
-use Rattle.event_dispatch.specs.Serves.{NothingDone}
+use Rattle.lego_model.specs.Application.{index}
+use Rattle.lego_model.specs.History.{stimuli_in}
+use Rattle.lego_model.specs.WholeRun.{EndsAs, EndsAlike, LeavesAs, LeavesAlike}
+use Rattle.lego_model.specs.declared.fault.TxnFault.{TxnFault}
+use Rattle.lego_model.specs.SwitchFaults.{IsWhyTxn}
+use Rattle.lego_model.specs.CutRun.{NothingDone}
 use Rattle.lego_model.specs.SessionLines.{SessionValue}
 use Rattle.session_text.specs.Loading.{given_by}
 use Rattle.legosdn.specs.Input.{session_of}
@@ -109,7 +110,7 @@ pub record Loaded (told left : Option (List ℕ)) (seen : Seen Scripts) : Type 0
 
 -- ---- What a run is
 
--- All stimuli that the world was given were told, and the run is that of the reference controller over them: at every quiet place the
+-- All stimuli that the world was given were told, and the run is that of the reference controller over them: at every quiescent point the
 -- tables agree, the application was given what it is given there, no event is left, and what was written is the whole report. The journal
 -- is a dialogue with the application, in which each change had reached its switch at once when it was answered.
 pub record RunsWhole (seen : Seen Scripts) (contents now_contents : Option (List ℕ)) : Type 0 where
@@ -125,15 +126,15 @@ pub record RunsPart (seen : Seen Scripts) (contents now_contents : Option (List 
   pub stimuli : stimuli_in seen ≡ seen.given.stimuli
   pub as_said : without_links seen.given.fails ≡ [] → WithEnough (λ more. LeavesAs seen contents now_contents left (reference_over more seen.given))
 
--- Of the run as far as a place this is so: no place behind it is quiet, so that what lies behind it is of one stimulus, of one event, or of
+-- Of the run as far as a point this is so: no point behind it is quiescent, so that what lies behind it is of one stimulus, of one event, or of
 -- the end of the report; and all bytes that came of switches up to there are messages. The whole journal is a dialogue with the application,
 -- in which each change had reached its switch at once when it was answered.
-pub record UpToPlace (sim : WorldData) (IsSo : Seen Scripts → Type 0) : Type 0 where
+pub record UpToPoint (sim : WorldData) (Holds : Seen Scripts → Type 0) : Type 0 where
   pub last : Seen Scripts
   pub given : last.given ≡ (seen_of sim).given
-  pub quiet : IsLastQuiet last (seen_of sim)
+  pub last_point : IsLastQuiescent last (seen_of sim)
   pub messages : BringMessages last.history
-  pub so : IsSo last
+  pub holds : Holds last
   pub at_once : AtOnce index (journal (seen_of sim).history)
 
 -- some bytes that came of a switch are no message
@@ -141,17 +142,17 @@ abbrev pub SomeRefused : WorldData → Type 0
 SomeRefused sim = BringMessages sim.history → ⊥
 
 -- How a run goes that ends so. Where events are left it is as above. Where a fault ends it, it is that of the reference controller up to the
--- last quiet place, with the lines of all that was done up to there, and where the sink failed with a part of the lines of the last; or
+-- last quiescent point, with the lines of all that was done up to there, and where the sink failed with a part of the lines of the last; or
 -- nothing was done. Only where bytes come that are no message, a switch breaks or diverges.
 abbrev pub StopsAs : Stop → WorldData → Option (List ℕ) → Option (List ℕ) → Type 0
 StopsAs (EventsLeft left) sim contents now_contents = RunsPart (seen_of sim) contents now_contents left
-StopsAs WriteFault sim contents now_contents = UpToPlace sim (λ last. WritingRun last contents now_contents)
+StopsAs WriteFault sim contents now_contents = UpToPoint sim (λ last. WritingRun last contents now_contents)
 StopsAs Shut sim contents now_contents = NothingDone (NotOpened ∷ []) (seen_of sim) contents now_contents
-StopsAs NextFault sim contents now_contents = UpToPlace sim (λ last. CutRun last contents now_contents)
-StopsAs (SwitchFault d) sim contents now_contents = UpToPlace sim (λ last. CutRun last contents now_contents)
-StopsAs (SwitchBroke d) sim contents now_contents = SomeRefused sim × UpToPlace sim (λ last. CutRun last contents now_contents)
-StopsAs (Diverged d) sim contents now_contents = SomeRefused sim × UpToPlace sim (λ last. CutRun last contents now_contents)
-StopsAs NoMemory sim contents now_contents = UpToPlace sim (λ last. CutRun last contents now_contents) ⊎ NothingDone [] (seen_of sim) contents now_contents
+StopsAs NextFault sim contents now_contents = UpToPoint sim (λ last. CutRun last contents now_contents)
+StopsAs (SwitchFault d) sim contents now_contents = UpToPoint sim (λ last. CutRun last contents now_contents)
+StopsAs (SwitchBroke d) sim contents now_contents = SomeRefused sim × UpToPoint sim (λ last. CutRun last contents now_contents)
+StopsAs (Diverged d) sim contents now_contents = SomeRefused sim × UpToPoint sim (λ last. CutRun last contents now_contents)
+StopsAs NoMemory sim contents now_contents = UpToPoint sim (λ last. CutRun last contents now_contents) ⊎ NothingDone [] (seen_of sim) contents now_contents
 StopsAs other sim contents now_contents = Unit {0}
 
 abbrev pub RunsAs : {T : Type 0} → Result T Stop → WorldData → Option (List ℕ) → Option (List ℕ) → Type 0
@@ -188,7 +189,7 @@ pub record LeftAs (sim : WorldData) (contents now_contents : Option (List ℕ)) 
 -- How the run went up to a stop of this status, whose line stands behind what was written up to there.
 pub record CutShort (status : ℕ) (sim : WorldData) (contents now_contents : Option (List ℕ)) (faults_old faults_new : ℕ) : Type 0 where
   pub stop : Stop
-  pub is : status ≡ stop_status stop
+  pub status_is : status ≡ stop_status stop
   pub before : Option (List ℕ)
   pub faults : ℕ
   pub never_fell : NeverFell faults_old faults
@@ -198,6 +199,6 @@ pub record CutShort (status : ℕ) (sim : WorldData) (contents now_contents : Op
 -- a stop of this status, with its cause
 pub record Stopped (words : List (List ℕ)) (told : Option (List ℕ)) (old new : Faults) (status : ℕ) (P : Stop → Type 0) : Type 0 where
   pub stop : Stop
-  pub is : status ≡ stop_status stop
+  pub status_is : status ≡ stop_status stop
   pub cause : IsCause words told old new stop
-  pub so : P stop
+  pub holds : P stop

@@ -5,16 +5,13 @@ use Rattle.lego_model.specs.declared.session.SessionFault.{SessionFault}
 use Rattle.lego_model.specs.Words.{is_word}
 use Rattle.lego_model.specs.SessionLines.{SessionValue}
 use Rattle.lego_model.specs.SessionText.{at_first, lines_from, ◌>>=◌}
+use Rattle.lego_model.specs.Application.{names}
 use Rattle.legosdn.specs.declared.stop.Refusal.{Refusal}
 use Rattle.legosdn.specs.declared.stop.Refusal.TheVariants.{Size, Separator, PolicyLater, Session}
 
 -- an input holds at most so many bytes
 abbrev pub most_input : ℕ
 most_input = 67108864
-
--- the applications: without a policy there is one
-abbrev pub app_names : List (List ℕ)
-app_names = codes "app" ∷ []
 
 abbrev pub is_separator : List ℕ → Bool
 is_separator line = is_word (codes "---") line
@@ -24,9 +21,9 @@ abbrev pub behind_separator : ℕ → List (List ℕ) → Option (ℕ × List (L
 behind_separator n [] = None
 behind_separator n (line ∷ lines) = if is_separator line then Some (n + 1, lines) else behind_separator (n + 1) lines
 
--- the session that lines spell, which are numbered from n
+-- the session that lines spell, which are numbered from n; without a policy there is one application
 unfoldable pub session_lines : ℕ → List (List ℕ) → Result SessionValue SessionFault
-session_lines n lines = lines_from app_names n at_first lines >>= λ p. Ok p.so_far.session
+session_lines n lines = lines_from names n at_first lines >>= λ p. Ok p.so_far.session
 
 abbrev pub or_refused : Result SessionValue SessionFault → Result SessionValue Refusal
 or_refused (Ok session) = Ok session

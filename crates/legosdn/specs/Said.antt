@@ -8,9 +8,9 @@ use Rattle.lego_model.specs.Controller.{Run, reference}
 use Rattle.lego_model.specs.Scripted.{starts_said, replies_said}
 use Rattle.lego_model.specs.SessionLines.{SessionValue}
 use Rattle.session_text.specs.Loading.{given_by}
-use Rattle.run_laws.specs.Engine.{index}
-use Rattle.run_laws.specs.WholeRun.{fresh}
-use Rattle.run_laws.specs.Cut.{start_said, Far, CutAs, WritingAs, AlikeUpTo, CutSo, WritingSo}
+use Rattle.lego_model.specs.Application.{index}
+use Rattle.lego_model.specs.ReferenceRun.{fresh}
+use Rattle.lego_model.specs.CutRun.{start_said, Progress, WroteSoFar, WasWriting, AlikeUpTo, CutBetweenLines, CutWhileWriting}
 
 -- the judge lets every table be
 abbrev pub all_allowed : List Place → Bool
@@ -28,7 +28,7 @@ reference_of_session more session = reference_over more (given_by session)
 -- with as many starts and turns behind the last lines as one likes, where they are enough
 pub record WithEnough (P : ℕ → Type 0) : Type 0 where
   pub enough : ℕ
-  pub so : (more : ℕ) → enough ≤ more → P more
+  pub holds : (more : ℕ) → enough ≤ more → P more
 
 -- ---- A run that a fault ends
 
@@ -36,16 +36,16 @@ pub record WithEnough (P : ℕ → Type 0) : Type 0 where
 abbrev pub start_by_lines : ℕ → Seen Scripts → Run
 start_by_lines more last = start_said last (starts_said more (starts_of index last.given.own)) (replies_said more (replies_of index last.given.own))
 
--- What is so up to a place is so over what the lines of the session say of the application, too.
-abbrev pub SaidSo : {last : Seen Scripts} → (IsSo : Far last → Run → Type 0) → AlikeUpTo last IsSo → Type 0
-SaidSo {last} IsSo up_to = without_links last.given.fails ≡ [] → WithEnough (λ more. IsSo up_to.far (start_by_lines more last))
+-- What is so up to a point is so over what the lines of the session say of the application, too.
+abbrev pub HoldsAsSaid : {last : Seen Scripts} → (Holds : Progress last → Run → Type 0) → AlikeUpTo last Holds → Type 0
+HoldsAsSaid {last} Holds up_to = without_links last.given.fails ≡ [] → WithEnough (λ more. Holds up_to.far (start_by_lines more last))
 
 -- all lines of what was done up to there were written
 pub record CutRun (last : Seen Scripts) (contents now_contents : Option (List ℕ)) : Type 0 where
-  pub run : CutSo all_allowed last contents now_contents
-  pub as_said : SaidSo (CutAs all_allowed last contents now_contents) run
+  pub run : CutBetweenLines all_allowed last contents now_contents
+  pub as_said : HoldsAsSaid (WroteSoFar all_allowed last contents now_contents) run
 
 -- the sink took a part of those of what was done last
 pub record WritingRun (last : Seen Scripts) (contents now_contents : Option (List ℕ)) : Type 0 where
-  pub run : WritingSo all_allowed last contents now_contents
-  pub as_said : SaidSo (WritingAs all_allowed last run.text run.more) run.up_to
+  pub run : CutWhileWriting all_allowed last contents now_contents
+  pub as_said : HoldsAsSaid (WasWriting all_allowed last run.text run.more) run.up_to

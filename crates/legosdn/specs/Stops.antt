@@ -5,9 +5,9 @@ use Rattle.lego_io.specs.declared.transfer.ReadAllFault.{ReadAllFault}
 use Rattle.lego_io.specs.declared.transfer.ReadAllFault.TheVariants as reading
 use Rattle.lego_model.specs.declared.session.SessionKind.{SessionKind}
 use Rattle.lego_model.specs.declared.session.SessionKind.TheVariants as kinds
-use Rattle.lego_model.specs.Report.{line_of}
-use Rattle.net_txn.specs.declared.fault.TxnFault.{TxnFault}
-use Rattle.net_txn.specs.declared.fault.TxnFault.TheVariants as faults
+use Rattle.lego_model.specs.RunReport.{line_of}
+use Rattle.lego_model.specs.declared.fault.TxnFault.{TxnFault}
+use Rattle.lego_model.specs.declared.fault.TxnFault.TheVariants as faults
 use Rattle.session_text.specs.declared.text_fault.SessionError.{SessionError}
 use Rattle.session_text.specs.declared.text_fault.SessionError.TheVariants as text
 use Rattle.legosdn.specs.declared.stop.Refusal.{Refusal}

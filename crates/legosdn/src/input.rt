@@ -26,7 +26,7 @@ pub struct Parts<'a> {
     pub first_line: u64,
 }
 
-/// All bytes of the source, which are not too many.
+/// Reads all bytes of the source, which are not too many.
 pub fn read_input<S: Source>(alloc: Global, source: &mut S) -> Result<Vec<u8>, Stop>
     ensures all { IfOk result (λ input. IfSome (S.remaining source.old) (λ left. input.items ≡ left)) }
     ensures end { OnOk result (S.remaining source.new ≡ ended (S.remaining source.old)) }
@@ -37,7 +37,7 @@ pub fn read_input<S: Source>(alloc: Global, source: &mut S) -> Result<Vec<u8>, S
     Ok(read_all(alloc, source, MOST_INPUT)?)
 }
 
-/// Whether a line is the separator.
+/// Tells whether a line is the separator.
 #[tactic(auto, unfolding(lego_model::specs::Words::is_word))]
 fn is_separator(line: &[u8]) -> bool
     ensures { result ≡ is_separator_in line.now }
@@ -45,7 +45,7 @@ fn is_separator(line: &[u8]) -> bool
     line == b"---".as_slice()
 }
 
-/// Whether the first line of a text is the separator. A line that is too long is not.
+/// Tells whether the first line of a text is the separator. A line that is too long is not.
 #[tactic(auto, using(crate::proofs::Cutting::long_is_none))]
 fn is_separated(text: &[u8]) -> bool
     ensures { (line : List ℕ) → (lines : List (List ℕ)) → lines_of text.now ≡ line ∷ lines → result ≡ is_separator_in line }
@@ -56,14 +56,14 @@ fn is_separated(text: &[u8]) -> bool
     }
 }
 
-/// Where the first LF of a text stands.
+/// Finds where the first LF of a text stands.
 fn find_lf(text: &[u8]) -> Option<usize>
     ensures { result ≡ position (λ byte. byte == 10) text.now }
 {
     text.iter().position(|byte| *byte == b'\n')
 }
 
-/// What stands behind the first line of a text.
+/// Gives what stands behind the first line of a text.
 fn behind_line(text: &[u8]) -> &[u8]
     requires { 0 < length text.now }
     ensures shorter { length result.now < length text.now }
@@ -75,7 +75,7 @@ fn behind_line(text: &[u8]) -> &[u8]
     }
 }
 
-/// The parts of an input.
+/// Cuts an input into its parts.
 fn cut(input: &[u8]) -> Result<Parts<'_>, Refusal>
     requires { length input.now ≤ most_input }
     ensures found { IfOk result (λ parts. behind_separator 1 (lines_of input.now) ≡ Some (parts.first_line, lines_of parts.session.now)) }
@@ -100,7 +100,7 @@ fn cut(input: &[u8]) -> Result<Parts<'_>, Refusal>
     Err(Refusal::Separator)
 }
 
-/// The parts of an input that has no policy.
+/// Cuts an input that has no policy into its parts.
 #[tactic(auto, unfolding(crate::specs::Input::session_of))]
 pub fn parts_of(input: &[u8]) -> Result<Parts<'_>, Refusal>
     requires { length input.now ≤ most_input }

@@ -1,4 +1,10 @@
-//! LegoSDN: an OpenFlow 1.0 controller that outlives its applications.
+//! The program: it reads an input, runs its session in a simulated world, and writes the report.
+//!
+//! The call is `top::legosdn`, over any source and sink. Whole runs: `whole_run`, `whole_report`, `events_left`. Runs that
+//! a fault ends: `run_until_fault`. Causes: `status_has_cause`, `usage`, `input_refused`, `source_failed`, `sink_failed`,
+//! `breaks_only_on_bad_bytes`, `diverges_only_on_bad_bytes`, `no_stray_call`. Good inputs: `complete_without_fault`,
+//! `input_loaded`, `refused_input_never_runs`, `application_keeps_script`. Before anything runs: `world_untouched`.
+//! docs/GUARANTEES.md says each in plain words, docs/SESSION.md describes input, report and statuses.
 #![tactic(auto)]
 
 mod input;
@@ -15,7 +21,7 @@ use std::{env, io};
 /// The status where memory runs out before anything could be made.
 const NO_MEMORY: u8 = 12;
 
-/// The words behind the program's name. Words that are no text are no command, and neither is none.
+/// Reads the words behind the program's name. Words that are no text are no command, and neither is none.
 fn words_of(rt: &HostRuntime) -> Result<Vec<String>, AllocError> {
     match env::args(rt) {
         Ok(words) => words.skip(1).collect(rt.alloc()),

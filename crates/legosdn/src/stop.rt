@@ -3,7 +3,7 @@
 ghost use Rattle.std.specs.Prelude.{◌≡◌, ◌++◌, codes, OnOk, OnErr, decimal};
 ghost use Rattle.std.specs.Io.KnownBytes.{append_known};
 ghost use Rattle.lego_io.specs.Count.{Rose, NeverFell};
-ghost use Rattle.lego_model.specs.Report.{line_of};
+ghost use Rattle.lego_model.specs.RunReport.{line_of};
 ghost use Rattle.lego_io.specs.Sink.{TookPart};
 ghost use Rattle.legosdn.specs.Stops.{stop_status, stop_line, refusal_line, kind_word, stop_of_reading, stop_of_session, stop_of_switch};
 ghost use Rattle.legosdn.specs.declared.stop.Stop.TheVariants as stops;
@@ -15,49 +15,65 @@ use net_txn::TxnFault;
 use of_types::Dpid;
 use session_text::SessionError;
 use std::alloc::AllocError;
+use thiserror::Error;
 
 /// Why an input is refused.
-#[derive(Clone, Copy, Debug, PartialEq, Eq)]
+#[derive(Clone, Copy, Debug, PartialEq, Eq, Error)]
 pub enum Refusal {
     /// It has more bytes than an input may have.
+    #[error("the input has more bytes than an input may have")]
     Size,
     /// It has no line `---`.
+    #[error("the input has no line ---")]
     Separator,
     /// It has a policy, which no command takes yet.
+    #[error("the input has a policy, which no command takes yet")]
     PolicyLater,
     /// Behind the separator stands no session: the first fault.
+    #[error("behind the separator stands no session")]
     Session(SessionFault),
 }
 
 /// Why a command ends without the whole report. It has a status of its own and, but for a failed write, a line.
-#[derive(Clone, Copy, Debug, PartialEq, Eq)]
+#[derive(Clone, Copy, Debug, PartialEq, Eq, Error)]
 pub enum Stop {
     /// The words are no command.
+    #[error("the words are no command")]
     Usage,
     /// The input is refused.
+    #[error("{0}")]
     Refused(Refusal),
     /// The input could not be read to its end.
+    #[error("the input could not be read to its end")]
     ReadFault,
     /// The report could not be written.
+    #[error("the report could not be written")]
     WriteFault,
     /// The outside stays shut.
+    #[error("the world stays shut")]
     Shut,
     /// The outside failed at what comes next.
+    #[error("the world failed at what comes next")]
     NextFault,
     /// The link of this switch failed.
+    #[error("the link of switch {0} failed")]
     SwitchFault(Dpid),
     /// This switch sent what is no message, or too many messages.
+    #[error("switch {0} sent what is no message, or too many messages")]
     SwitchBroke(Dpid),
     /// This switch refused what the controller asked of its own.
+    #[error("switch {0} refused a message of the controller")]
     Diverged(Dpid),
     /// After the last batch so many events were left.
+    #[error("{0} events were left")]
     EventsLeft(usize),
     /// Memory ran out.
+    #[error("no memory")]
     NoMemory,
 }
 
 impl Stop {
-    /// The status of the program.
+    /// Gives the status of the program.
     pub fn status(self) -> u8
         ensures { result ≡ stop_status self }
     {
@@ -76,7 +92,7 @@ impl Stop {
     }
 
     /// Writes the line, which takes no memory.
-    #[tactic(auto, unfolding(crate::specs::Stops::stop_line, lego_model::specs::Report::line_of))]
+    #[tactic(auto, unfolding(crate::specs::Stops::stop_line, lego_model::specs::RunReport::line_of))]
     pub fn write_line<K: Sink>(self, sink: &mut K) -> Result<(), WriteFault>
         ensures all { OnOk result (K.contents sink.new ≡ append_known (K.contents sink.old) (stop_line self)) }
         ensures part { OnErr result (TookPart (K.contents sink.old) (K.contents sink.new) (stop_line self)) }
@@ -101,7 +117,7 @@ impl Stop {
 
 impl Refusal {
     /// Writes the line, which takes no memory.
-    #[tactic(auto, unfolding(crate::specs::Stops::refusal_line, lego_model::specs::Report::line_of))]
+    #[tactic(auto, unfolding(crate::specs::Stops::refusal_line, lego_model::specs::RunReport::line_of))]
     fn write_line<K: Sink>(self, sink: &mut K) -> Result<(), WriteFault>
         ensures all { OnOk result (K.contents sink.new ≡ append_known (K.contents sink.old) (refusal_line self)) }
         ensures part { OnErr result (TookPart (K.contents sink.old) (K.contents sink.new) (refusal_line self)) }
@@ -147,8 +163,8 @@ fn write_numbered<K: Sink>(
     write_all(sink, end)
 }
 
-/// What is wrong with a line of a session, as the end of a line.
-#[tactic(auto, unfolding(lego_model::specs::Report::line_of))]
+/// Spells what is wrong with a line of a session, as the end of a line.
+#[tactic(auto, unfolding(lego_model::specs::RunReport::line_of))]
 fn kind_end(kind: SessionKind) -> &'static str
     ensures { result.now ≡ line_of (codes " " ++ kind_word kind) }
 {

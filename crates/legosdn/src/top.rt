@@ -8,10 +8,10 @@ ghost use Rattle.sim_world.specs.World.{given_of, seen_of};
 ghost use Rattle.sim_world.specs.Building.{nothing_given, IsNew, Begins};
 ghost use Rattle.lego_model.specs.SessionLines.{SessionValue};
 ghost use Rattle.legosdn.specs.declared.stop.Refusal.{Refusal};
-ghost use Rattle.legosdn.specs.Input.{app_names as names_in, session_of};
+ghost use Rattle.legosdn.specs.Input.{session_of};
 ghost use Rattle.std.specs.Io.KnownBytes.{append_known};
 ghost use Rattle.lego_model.specs.RunReport.{run_report};
-ghost use Rattle.run_laws.specs.Engine.{names};
+ghost use Rattle.lego_model.specs.Application.{names};
 ghost use Rattle.legosdn.specs.Said.{reference_of_session, WithEnough};
 ghost use Rattle.legosdn.specs.Stops.{stop_status, stop_line, refusal_line};
 ghost use Rattle.legosdn.specs.Headline.{is_command as is_command_in, faults_of, IsReadCause, IsRunCause, IsCause, NoneFailed, IsEarly, IsLate, Loaded, RunsWhole, RunsAs, KeepsLines, LeftAs, CutShort, SomeRefused, Wrote, WroteLast, Stopped};
@@ -25,7 +25,7 @@ use session_text::read_session;
 use sim_world::SimWorld;
 use std::alloc::{AllocError, Global};
 
-/// Whether the words are the one command, `replay`.
+/// Tells whether the words are the one command, `replay`.
 fn is_command(words: &[String]) -> bool
     ensures { result ≡ is_command_in (map string_bytes words.now) }
 {
@@ -35,9 +35,9 @@ fn is_command(words: &[String]) -> bool
     }
 }
 
-/// The names of the applications: without a policy there is one, `app`.
+/// Gives the names of the applications: without a policy there is one, `app`.
 fn app_names(alloc: Global) -> Result<Vec<String>, AllocError>
-    ensures { IfOk result (λ names. map string_bytes names.items ≡ names_in) }
+    ensures { IfOk result (λ all. map string_bytes all.items ≡ names) }
 {
     let mut names = Vec::new(alloc);
     names.push(String::from_str(alloc, "app")?)?;
@@ -63,7 +63,7 @@ fn load<S: Source>(alloc: Global, source: &mut S, sim: &mut SimWorld) -> Result<
 
 /// Runs the world to its end, and writes the report.
 #[tactic(auto, using(crate::proofs::Causes::switch_cause))]
-pub fn play<K: Sink>(alloc: Global, sink: &mut K, sim: &mut SimWorld) -> Result<(), Stop>
+pub fn run_world<K: Sink>(alloc: Global, sink: &mut K, sim: &mut SimWorld) -> Result<(), Stop>
     ensures runs { (seen_of sim.old).history ≡ [] → length (seen_of sim.old).given.stimuli ≤ 1000000
         → RunsAs result sim.new (K.contents sink.old) (K.contents sink.new) }
     ensures lines { KeepsLines sim.new }
@@ -114,7 +114,7 @@ fn run<S: Source, K: Sink>(
         return Err(Stop::Usage);
     }
     load(alloc, source, sim)?;
-    play(alloc, sink, sim)
+    run_world(alloc, sink, sim)
 }
 
 /// Writes the line of a stop, and answers its status. A failed write does not change the status.
@@ -141,63 +141,63 @@ pub fn legosdn<S: Source, K: Sink>(
     sink: &mut K,
     sim: &mut SimWorld,
 ) -> u8
-    requires new { IsNew sim.old }
-    requires nothing { given_of sim.old ≡ nothing_given }
+    requires new_world { IsNew sim.old }
+    requires empty_world { given_of sim.old ≡ nothing_given }
     // At status 0 all stimuli of the session happened, and the run is that of the reference controller over them and over what the
-    // application did: at every quiet place the tables agree, the application was
+    // application did: at every quiescent point the tables agree, the application was
     // given what it is given there, no event is left, and what was written is the whole report. Each answer that the application was
     // given is to its next message, and a change that passed the host's tests had then reached its switch: since the frame given before,
     // the change was sent there, a barrier behind it, the barrier's reply came, and no other change was sent.
-    ensures done { result ≡ 0 → RunsWhole (seen_of sim.new) (K.contents sink.old) (K.contents sink.new) }
+    ensures whole_run { result ≡ 0 → RunsWhole (seen_of sim.new) (K.contents sink.old) (K.contents sink.new) }
     // And that report is the one of the reference controller over the session that the input spells: over its switches and stimuli and what
     // its lines say of the application, with as many ready starts and plain turns behind the last line as one likes, if they are enough.
-    ensures report { (input : List ℕ) (session : SessionValue) → S.remaining source.old ≡ Some input → session_of input ≡ Ok session
+    ensures whole_report { (input : List ℕ) (session : SessionValue) → S.remaining source.old ≡ Some input → session_of input ≡ Ok session
         → result ≡ 0
         → WithEnough (λ more. K.contents sink.new ≡ append_known (K.contents sink.old) (run_report names (reference_of_session more session))) }
     // At status 10 the same with the lines of the events that were dispatched, and how many are left behind them.
-    ensures left { result ≡ 10 → LeftAs sim.new (K.contents sink.old) (K.contents sink.new) (K.faults sink.old) (K.faults sink.new) }
-    // Where a fault ends the run, it is that of the reference controller up to the last quiet place: what was written is what this says so
+    ensures events_left { result ≡ 10 → LeftAs sim.new (K.contents sink.old) (K.contents sink.new) (K.faults sink.old) (K.faults sink.new) }
+    // Where a fault ends the run, it is that of the reference controller up to the last quiescent point: what was written is what this says so
     // far, or a part of the lines of what was done last where the sink failed, and behind it stands the line that says why; and the whole
     // journal is such a dialogue. Or nothing was done.
-    ensures cut { Contains (5 ∷ 6 ∷ 7 ∷ 8 ∷ 9 ∷ 12 ∷ []) result
+    ensures run_until_fault { Contains (5 ∷ 6 ∷ 7 ∷ 8 ∷ 9 ∷ 12 ∷ []) result
         → CutShort result sim.new (K.contents sink.old) (K.contents sink.new) (K.faults sink.old) (K.faults sink.new) }
     // What the application did is what the lines of the session say.
-    ensures lines { Contains (0 ∷ 5 ∷ 6 ∷ 7 ∷ 8 ∷ 9 ∷ 10 ∷ []) result → KeepsLines sim.new }
+    ensures application_keeps_script { Contains (0 ∷ 5 ∷ 6 ∷ 7 ∷ 8 ∷ 9 ∷ 10 ∷ []) result → KeepsLines sim.new }
 
     // Any other status than 0 is that of a stop, whose cause there is, and whose line is the last that was written. Of a switch that broke or
     // diverged the world's history tells what came from it, and what was sent to it before.
-    ensures statuses { (result ≡ 0) ⊎ Stopped (map string_bytes words.now) (S.remaining source.old)
+    ensures status_has_cause { (result ≡ 0) ⊎ Stopped (map string_bytes words.now) (S.remaining source.old)
         (faults_of (S.faults source.old) (K.faults sink.old) (seen_of sim.old))
         (faults_of (S.faults source.new) (K.faults sink.new) (seen_of sim.new))
         result (λ stop. WroteLast (K.contents sink.new) (K.faults sink.old) (K.faults sink.new) (stop_line stop)) }
 
-    // At every status: no call of the world was made out of place, where none wanted memory.
-    ensures strays { (seen_of sim.new).counts.shorts ≡ 0 → (seen_of sim.new).counts.strays ≡ 0 }
+    // At every status: no call of the world was a stray one, where none wanted memory.
+    ensures no_stray_call { (seen_of sim.new).counts.shorts ≡ 0 → (seen_of sim.new).counts.strays ≡ 0 }
 
     // A switch breaks or diverges only where bytes came that are no message.
-    ensures broke { result ≡ 8 → SomeRefused sim.new }
-    ensures diverged { result ≡ 9 → SomeRefused sim.new }
+    ensures breaks_only_on_bad_bytes { result ≡ 8 → SomeRefused sim.new }
+    ensures diverges_only_on_bad_bytes { result ≡ 9 → SomeRefused sim.new }
     // Where the words are the command, the whole input spells a session, all bytes that came of switches are messages, and nothing failed,
     // the whole report is written, or events are left, or memory is wanting.
-    ensures complete { (input : List ℕ) (session : SessionValue) → is_command_in (map string_bytes words.now) ≡ true → S.remaining source.old ≡ Some input
+    ensures complete_without_fault { (input : List ℕ) (session : SessionValue) → is_command_in (map string_bytes words.now) ≡ true → S.remaining source.old ≡ Some input
         → session_of input ≡ Ok session → BringMessages sim.new.history
         → NoneFailed (faults_of (S.faults source.old) (K.faults sink.old) (seen_of sim.old)) (faults_of (S.faults source.new) (K.faults sink.new) (seen_of sim.new))
         → Contains (0 ∷ 10 ∷ 12 ∷ []) result }
 
     // Each status with its cause.
     ensures usage { (result ≡ 2) ↔ (is_command_in (map string_bytes words.now) ≡ false) }
-    ensures bad_input { result ≡ 3 → (refusal : Refusal) × IfSome (S.remaining source.old) (λ input. session_of input ≡ Err refusal)
+    ensures input_refused { result ≡ 3 → (refusal : Refusal) × IfSome (S.remaining source.old) (λ input. session_of input ≡ Err refusal)
         × Wrote (K.contents sink.old) (K.contents sink.new) (K.faults sink.old) (K.faults sink.new) (refusal_line refusal) }
-    ensures read_fault { result ≡ 4 → Rose (S.faults source.old) (S.faults source.new) }
-    ensures write_fault { result ≡ 5 → Rose (K.faults sink.old) (K.faults sink.new) }
+    ensures source_failed { result ≡ 4 → Rose (S.faults source.old) (S.faults source.new) }
+    ensures sink_failed { result ≡ 5 → Rose (K.faults sink.old) (K.faults sink.new) }
 
     // Before anything runs one line is written and nothing else, and the world stays as it is.
-    ensures stopped { Contains (2 ∷ 3 ∷ 4 ∷ []) result → (sim.new ≡ sim.old) × ((stop : Stop) × (result ≡ stop_status stop)
+    ensures world_untouched { Contains (2 ∷ 3 ∷ 4 ∷ []) result → (sim.new ≡ sim.old) × ((stop : Stop) × (result ≡ stop_status stop)
         × Wrote (K.contents sink.old) (K.contents sink.new) (K.faults sink.old) (K.faults sink.new) (stop_line stop)) }
 
     // Where the world runs, the input was read to its end and is a session, which the world was given.
-    ensures loaded { Contains (0 ∷ 5 ∷ 6 ∷ 7 ∷ 8 ∷ 9 ∷ 10 ∷ []) result → Loaded (S.remaining source.old) (S.remaining source.new) (seen_of sim.new) }
-    ensures refuses { (refusal : Refusal) → IfSome (S.remaining source.old) (λ input. session_of input ≡ Err refusal → Contains (2 ∷ 3 ∷ 4 ∷ 12 ∷ []) result) }
+    ensures input_loaded { Contains (0 ∷ 5 ∷ 6 ∷ 7 ∷ 8 ∷ 9 ∷ 10 ∷ []) result → Loaded (S.remaining source.old) (S.remaining source.new) (seen_of sim.new) }
+    ensures refused_input_never_runs { (refusal : Refusal) → IfSome (S.remaining source.old) (λ input. session_of input ≡ Err refusal → Contains (2 ∷ 3 ∷ 4 ∷ 12 ∷ []) result) }
 {
     match run(alloc, words, source, sink, sim) {
         Ok(()) => 0,

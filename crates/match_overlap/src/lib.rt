@@ -1,8 +1,8 @@
 //! Relations of flow matches: whether one covers all that another covers, whether two cover a packet together, and their
 //! meet.
 //!
-//! `subsumes`, `overlaps` and `meet` hold of all packet keys (clauses of these names, and `value`; of `meet` also `some`
-//! and `covers`). The code compares fields and visits no packet. Laws: `subsumes_is_an_order`, `overlap_is_symmetric`,
+//! `subsumes` (`subsumes`), `overlaps` (`overlaps`) and `meet` (`some`, `covers`) hold of all packet keys; each equals a
+//! test of fields (`value`), and visits no packet. Laws: `subsumes_is_an_order`, `overlap_is_symmetric`,
 //! `meet_is_greatest_lower_bound`.
 #![tactic(auto)]
 

@@ -1,4 +1,4 @@
 pub mod RowTests
-pub mod Places
-pub mod FarePlaces
-pub mod PlaceSteps
+pub mod ViewPositions
+pub mod ProgressPositions
+pub mod MessageStoreSteps

@@ -1,10 +1,8 @@
 -- Laws of hosts that keep up with their switches: calls of links move no switch in or out and make nothing due, so that a host whose views
 -- keep their switches goes on to keep up.
-use Rattle.std.specs.Prelude.{◌≡◌, ◌≢◌, ◌==◌, ℕ, Bool, true, false, not, ◌||◌, List, [], ◌∷◌, map, filter, drop, Option, Result, Ok, Err, IsOkAnd, if◌then◌else◌, refl}
+use Rattle.std.specs.Prelude.{◌≡◌, ◌≢◌, ◌==◌, ℕ, Bool, true, false, ◌||◌, List, [], ◌∷◌, map, drop, Option, Result, Ok, Err, IsOkAnd, if◌then◌else◌, refl}
 use Rattle.std.specs.Option.{is_some}
-use Rattle.std.proofs.Common.{sym, ap, ◌∙◌, subst, inl, inr}
-use Rattle.std.proofs.lemmas.Bool.{cases_eq, ne_eqb, eqb-true}
-use Rattle.of_types.specs.declared.port_desc.PortDesc.{PortDesc}
+use Rattle.std.proofs.Common.{sym, ap, ◌∙◌, subst}
 use Rattle.of_match.specs.declared.key.Key.{Key}
 use Rattle.of_wire.specs.declared.message.Envelope.{Envelope}
 use Rattle.of_wire.specs.declared.message.Message.{Message}
@@ -19,18 +17,17 @@ use Rattle.outside.specs.declared.step.WorldStep.{WorldStep}
 use Rattle.outside.specs.Seen.{Seen, Continues}
 use Rattle.outside.specs.State.{State, state, is_joined}
 use Rattle.outside.specs.StateLaws.{state-append}
-use Rattle.outside.specs.Quiet.{NoneQuiet, Unquiet}
-use Rattle.outside.specs.QuietLaws.{unquiet-by}
-use Rattle.net_txn.specs.declared.fault.TxnFault.{TxnFault}
-use Rattle.net_txn.specs.LinkSteps.{AreLinkSteps, LinkSteps, OnLinks}
-use Rattle.net_txn.specs.Views.{with_rows}
+use Rattle.outside.specs.Quiescence.{NoneQuiescent, NoneQuiescentSince}
+use Rattle.outside.specs.QuiescenceLaws.{none_since-by}
+use Rattle.lego_model.specs.declared.fault.TxnFault.{TxnFault}
+use Rattle.net_txn.specs.LinkSteps.{AreLinkSteps, LinkSteps}
+use Rattle.net_txn.specs.Views.{with_rows, is_viewed}
 use Rattle.net_txn.specs.Net.{NetState}
-use Rattle.net_txn.specs.Joining.{with_view, Joins}
+use Rattle.net_txn.specs.Joining.{with_view}
 use Rattle.net_txn.specs.JoiningLaws.{rows_at-with_view, rows_at-with_view-other}
-use Rattle.net_txn.specs.Leaving.{without}
 use Rattle.net_txn.specs.Arriving.{without_key, net_after, Becomes, Arrives}
 use Rattle.net_txn.specs.Changes.{Changes}
-use Rattle.net_txn.specs.Undos.{is_viewed, without_keys, but_fare, Undoes}
+use Rattle.net_txn.specs.Undos.{without_keys, key_logged, Undoes}
 use Rattle.net_txn.specs.AgreeLaws.{viewed}
 use Rattle.net_txn.specs.Abreast.{Abreast}
 use Rattle.net_txn.specs.JoinedLaws.{LeavesSo, step_leaves, steps_leave}
@@ -51,12 +48,12 @@ pub links-begun : {Own : Type 0} {Tells : Type 0} {old new : Seen Own} → Conti
 links-begun later links = (links_leave later links).begun
 
 -- what a step is does not depend on the state
-none_quiet : (steps : List WorldStep) (s : State) → AreLinkSteps steps → NoneQuiet steps
-none_quiet [] s all = tt
-none_quiet (x ∷ xs) s all = ((step_leaves x s all.0).unquiet, none_quiet xs s all.1)
+none_quiescent : (steps : List WorldStep) (s : State) → AreLinkSteps steps → NoneQuiescent steps
+none_quiescent [] s all = tt
+none_quiescent (x ∷ xs) s all = ((step_leaves x s all.0).none_quiescent, none_quiescent xs s all.1)
 
-pub links-unquiet : {Own : Type 0} {old new : Seen Own} → LinkSteps old new → Unquiet old new
-links-unquiet {old = old} {new = new} links = unquiet-by old new links.steps links.history (none_quiet links.steps (state old) links.all)
+pub links-none_quiescent : {Own : Type 0} {old new : Seen Own} → LinkSteps old new → NoneQuiescentSince old new
+links-none_quiescent {old = old} {new = new} links = none_since-by old new links.steps links.history (none_quiescent links.steps (state old) links.all)
 
 -- ---- Views that keep their switches
 
@@ -81,23 +78,6 @@ with_view-viewed d vs = viewed d (with_view d vs) ∙ ap rows_there (rows_at-wit
 
 pub with_view-viewed-other : (d e : ℕ) (vs : List TableView) → e ≢ d → is_viewed e (with_view d vs) ≡ is_viewed e vs
 with_view-viewed-other d e vs other = viewed e (with_view d vs) ∙ ap rows_there (rows_at-with_view-other d e vs other) ∙ sym (viewed e vs)
-
-left_if : (d : ℕ) (v : TableView) (kept : List TableView) (here : Bool) → (v.dpid == d) ≡ here → is_viewed d kept ≡ false → is_viewed d (if not here then v ∷ kept else kept) ≡ false
-left_if d v kept true is rest = rest
-left_if d v kept false is rest = rw is rest
-
--- without the views of a switch
-pub left_viewed : (d : ℕ) (vs : List TableView) → is_viewed d (filter (λ v. not (v.dpid == d)) vs) ≡ false
-left_viewed d [] = refl
-left_viewed d (v ∷ vs) = left_if d v (filter (λ w. not (w.dpid == d)) vs) (v.dpid == d) refl (left_viewed d vs)
-
-left_other_if : (d e : ℕ) (v : TableView) (vs kept : List TableView) (here : Bool) → e ≢ d → (v.dpid == d) ≡ here → is_viewed e kept ≡ is_viewed e vs → is_viewed e (if not here then v ∷ kept else kept) ≡ is_viewed e (v ∷ vs)
-left_other_if d e v vs kept true other is rest = let apart : (v.dpid == e) ≡ false = ne_eqb v.dpid e (λ same. other (sym same ∙ eqb-true v.dpid d is)) in rw apart rest
-left_other_if d e v vs kept false other is rest = ap (λ (b : Bool). (v.dpid == e) || b) rest
-
-pub left_viewed-other : (d e : ℕ) (vs : List TableView) → e ≢ d → is_viewed e (filter (λ v. not (v.dpid == d)) vs) ≡ is_viewed e vs
-left_viewed-other d e [] other = refl
-left_viewed-other d e (v ∷ vs) other = left_other_if d e v vs (filter (λ w. not (w.dpid == d)) vs) (v.dpid == d) other refl (left_viewed-other d e vs other)
 
 abbrev in_views : ℕ → List TableView → Bool
 in_views e vs = is_viewed e vs
@@ -143,7 +123,7 @@ changes_abreast {net = net} {now_net = now_net} c told abreast =
     abreast-by net now_net c.continues (c.links told) (λ e. viewed e now_net.views ∙ c.switches e ∙ sym (viewed e net.views)) abreast
 
 pub undoes_abreast : {Own : Type 0} {Tells : Type 0} {start : ℕ} {old new : Seen Own} {net now_net : NetState} {result : Result (Unit {0}) TxnFault} → Undoes Tells start old new net now_net result → Tells → Abreast old net → Abreast new now_net
-undoes_abreast {start = start} {net = net} {now_net = now_net} u told abreast = abreast-by net now_net u.continues (u.links told) (λ e. ap (in_views e) u.views ∙ without_keys-viewed e (map but_fare (drop start net.log)) net.views) abreast
+undoes_abreast {start = start} {net = net} {now_net = now_net} u told abreast = abreast-by net now_net u.continues (u.links told) (λ e. ap (in_views e) u.views ∙ without_keys-viewed e (map key_logged (drop start net.log)) net.views) abreast
 
 became_viewed : {Own : Type 0} (Tells : Type 0) (d e : ℕ) (r : Result Envelope WireFault) (old new : Seen Own) (net now_net : NetState) (event : Option Event) → IsOkAnd r (λ x. Becomes Tells d x.xid x.message old new net now_net event) → is_viewed e now_net.views ≡ is_viewed e net.views
 became_viewed Tells d e (Ok x) old new net now_net event b = ap (λ (n : NetState). is_viewed e n.views) b.net_so ∙ arrival_viewed d e x.message net
@@ -153,24 +133,3 @@ pub arrives_abreast : {Own : Type 0} {Tells : Type 0} {d : ℕ} {frame : List �
 arrives_abreast {Tells = Tells} {d = d} {frame = frame} {old = old} {new = new} {net = net} {now_net = now_net} {result = Ok event} a told abreast =
     abreast-by net now_net a.continues (a.links told) (λ e. became_viewed Tells d e (reading_of frame) old new net now_net event a.read) abreast
 arrives_abreast {net = net} {now_net = now_net} {result = Err fault} a told abreast = abreast-by net now_net a.continues (a.links told) (λ e. ap (λ (n : NetState). is_viewed e n.views) a.err) abreast
-
--- a switch joined, the only one that had no view
-pub joins_abreast : {Own : Type 0} {Tells : Type 0} {d : ℕ} {ports : List PortDesc} {old new : Seen Own} {net now_net : NetState} → Joins Tells d ports old new net now_net → OnLinks Tells old new → Tells → is_joined d (state old) ≡ true
-    → ((e : ℕ) → e ≢ d → is_joined e (state old) ≡ is_viewed e net.views) → (state old).due ≡ [] → Abreast new now_net
-joins_abreast {d = d} {old = old} {net = net} {now_net = now_net} j links told here others none = record {
-  joined = λ e. links-joined j.waits.hears.continues (links told) e ∙ elim (cases_eq e d) [
-    | inl same ↦ ap (λ (n : ℕ). is_joined n (state old)) same ∙ here ∙ sym (ap (in_views e) j.views ∙ ap (λ (n : ℕ). is_viewed n (with_view d net.views)) same ∙ with_view-viewed d net.views)
-    | inr other ↦ others e other ∙ sym (ap (in_views e) j.views ∙ with_view-viewed-other d e net.views other)
-  ];
-  none_due = links-due j.waits.hears.continues (links told) ∙ none;
-}
-
--- a switch left, the only one out that had a view
-pub leaves_abreast : {Own : Type 0} (seen : Seen Own) (d : ℕ) (net : NetState) → is_joined d (state seen) ≡ false → ((e : ℕ) → e ≢ d → is_joined e (state seen) ≡ is_viewed e net.views) → (state seen).due ≡ [] → Abreast seen (without d net)
-leaves_abreast seen d net out others none = record {
-  joined = λ e. elim (cases_eq e d) [
-    | inl same ↦ ap (λ (n : ℕ). is_joined n (state seen)) same ∙ out ∙ sym (ap (λ (n : ℕ). is_viewed n (without d net).views) same ∙ left_viewed d net.views)
-    | inr other ↦ others e other ∙ sym (left_viewed-other d e net.views other)
-  ];
-  none_due = none;
-}

@@ -16,14 +16,15 @@ use Rattle.outside.specs.State.{state, switch_of, waits_of}
 use Rattle.outside.specs.StateLaws.{Conforming-rest}
 use Rattle.outside.specs.Conforming.{Conforming}
 use Rattle.undo_laws.specs.Removal.{without}
-use Rattle.net_txn.specs.declared.fault.TxnFault.{TxnFault}
-use Rattle.net_txn.specs.Views.{rows_at, with_rows}
+use Rattle.lego_model.specs.declared.fault.TxnFault.{TxnFault}
+use Rattle.net_txn.specs.Views.{rows_at, with_rows, is_viewed}
 use Rattle.net_txn.specs.ViewLaws.{rows_at-same, rows_at-other, with_rows-none}
 use Rattle.net_txn.specs.Arriving.{without_key}
 use Rattle.net_txn.specs.Agreement.{Agrees}
 use Rattle.net_txn.specs.NoticeLaws.{with_entries}
-use Rattle.net_txn.specs.Undos.{Part, Inverse, Settled, Stuck, steps_of, parts_of, is_stuck, is_viewed, without_keys, keys_of, fault_in, first_fault_of, first_fault, ended_by, IsPlayedOn, AgreesAgain}
-use Rattle.net_txn.specs.RestoreLaws.{entries_left, keys_played, left_all, state_after, others_stay}
+use Rattle.net_txn.specs.Undos.{Part, Inverse, BarrierPassed, Stuck, steps_of, parts_of, is_stuck, without_keys, keys_of, fault_in, first_fault_of, first_fault, ended_by, IsRevertedOn, AgreesAgain}
+use Rattle.net_txn.specs.RestoreLaws.{entries_left, keys_reverted, left_all, state_after, others_stay}
+use Rattle.net_txn.specs.InStepLaws.{shown_by, some_rows}
 
 -- ---- Keys and actions without a key
 
@@ -114,19 +115,13 @@ viewed d (v ∷ vs) = viewed_if (v.dpid == d) v (is_viewed d vs) (rows_at d vs) 
 
 -- ---- The table
 
-table_left : (parts : List Part) (es : List Entry) → rows_of_table (entries_left parts es) ≡ last_to_first (keys_played parts) (rows_of_table es)
+table_left : (parts : List Part) (es : List Entry) → rows_of_table (entries_left parts es) ≡ last_to_first (keys_reverted parts) (rows_of_table es)
 table_left [] es = refl
 table_left (Inverse xid k ∷ older) es = table_without k (entries_left older es) ∙ ap (pairs_without k) (table_left older es)
-table_left (Settled xid got ∷ older) es = table_left older es
+table_left (BarrierPassed xid got ∷ older) es = table_left older es
 table_left (Stuck xid fault steps ∷ older) es = table_left older es
 
 -- ---- The whole
-
-abbrev shown_by : SwitchState → Rows
-shown_by s = rows_of_table s.table.entries
-
-abbrev some_rows : Rows → Option Rows
-some_rows rows = Some rows
 
 none_from : {X Y : Type 0} (f : X → Y) (o : Option X) → option_map f o ≡ None → o ≡ None
 none_from f None is = refl
@@ -140,7 +135,7 @@ some_from f None y is = absurd cc
 some_from f (Some x) y is = (x, refl, same_value (f x) y is)
 
 agrees_by : {Own : Type 0} (old new : Seen Own) (d : ℕ) (views now_views : List TableView) (all : List (ℕ × Key)) (parts : List (ℕ × Part)) (o : Option SwitchState) → new.given ≡ old.given → new.history ≡ old.history ++ steps_of parts
-    → ((c : ℕ) → IsPlayedOn (is_viewed c views) c old.counts new.counts (keys_of c all) (parts_of c parts)) → now_views ≡ without_keys all views → Conforming new → is_stuck (parts_of d parts) ≡ false → waits_of d (state old) ≡ []
+    → ((c : ℕ) → IsRevertedOn (is_viewed c views) c old.counts new.counts (keys_of c all) (parts_of c parts)) → now_views ≡ without_keys all views → Conforming new → is_stuck (parts_of d parts) ≡ false → waits_of d (state old) ≡ []
     → Agrees d views (state old) → switch_of d (state old) ≡ o → AgreesAgain d now_views (state new)
 agrees_by old new d views now_views all parts None given told each lost keeps free none before is =
     let no_rows : rows_at d views ≡ None = none_from rows_of_view (rows_at d views) (before ∙ ap (option_map shown_by) is) in
@@ -160,10 +155,10 @@ agrees_by old new d views now_views all parts (Some s) given told each lost keep
     let shown : rows_at d now_views ≡ Some (rows_without keys rows) = ap (rows_at d) lost ∙ some_without d all views rows there.1 in
     let same : rows_of_view (rows_without keys rows) ≡ rows_of_table (entries_left (parts_of d parts) s.table.entries) =
     shown_without keys rows ∙ ap (first_to_last keys) there.2 ∙ either_way keys (shown_by s) ∙ ap (λ (ks : List Key). last_to_first ks (shown_by s)) (sym ((each d).keys_so known free)) ∙ sym (table_left (parts_of d parts) s.table.entries) in
-    record { agrees = rw (shown, now) (ap some_rows same); waits = ap (waits_of d) after ∙ l.settled ((each d).settled known free) }
+    record { agrees = rw (shown, now) (ap some_rows same); waits = ap (waits_of d) after ∙ l.barred ((each d).barred known free) }
 
 pub agrees : {Own : Type 0} (old new : Seen Own) (d : ℕ) (views now_views : List TableView) (all : List (ℕ × Key)) (parts : List (ℕ × Part)) → new.given ≡ old.given → new.history ≡ old.history ++ steps_of parts
-    → ((c : ℕ) → IsPlayedOn (is_viewed c views) c old.counts new.counts (keys_of c all) (parts_of c parts)) → now_views ≡ without_keys all views → Conforming new → is_stuck (parts_of d parts) ≡ false → waits_of d (state old) ≡ []
+    → ((c : ℕ) → IsRevertedOn (is_viewed c views) c old.counts new.counts (keys_of c all) (parts_of c parts)) → now_views ≡ without_keys all views → Conforming new → is_stuck (parts_of d parts) ≡ false → waits_of d (state old) ≡ []
     → Agrees d views (state old) → AgreesAgain d now_views (state new)
 agrees old new d views now_views all parts given told each lost keeps free none before = agrees_by old new d views now_views all parts (switch_of d (state old)) given told each lost keeps free none before refl
 
@@ -175,7 +170,7 @@ both_none (Some f) later is = absurd cc
 
 free_head : (p : Part) (older : List Part) → fault_in p ≡ None → is_stuck (p ∷ older) ≡ false
 free_head (Inverse xid k) older none = refl
-free_head (Settled xid got) older none = refl
+free_head (BarrierPassed xid got) older none = refl
 free_head (Stuck xid fault steps) older none = absurd cc
 
 pub free_all : (parts : List (ℕ × Part)) (d : ℕ) → first_fault parts ≡ None → is_stuck (parts_of d parts) ≡ false

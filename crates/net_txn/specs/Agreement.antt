@@ -16,7 +16,7 @@ use Rattle.outside.specs.declared.step.WorldStep.{WorldStep}
 use Rattle.outside.specs.Seen.{Seen, journal}
 use Rattle.outside.specs.State.{State, state, switch_of, waits_of}
 use Rattle.outside.specs.Conforming.{Conforming}
-use Rattle.net_txn.specs.declared.fault.TxnFault.{TxnFault}
+use Rattle.lego_model.specs.declared.fault.TxnFault.{TxnFault}
 use Rattle.net_txn.specs.Causes.{IsPlainFault}
 use Rattle.net_txn.specs.Net.{NetState}
 use Rattle.net_txn.specs.Changes.{known_rows, answer_of_host}
@@ -45,7 +45,7 @@ pub record InStep {Own : Type 0} (d : ℕ) (m : Message) (old new : Seen Own) (n
 
 -- ---- On a call, whatever it answered
 
--- what the switch judged reached it at once
+-- what the switch answered reached it at once
 abbrev pub Reaches : {Own : Type 0} → Type 0 → ℕ → List ℕ → Seen Own → Seen Own → NetState → Result Answer TxnFault → Type 0
 Reaches Tells d bytes old new net result =
     (xid : ℕ) (m : Change) → Tells → answer_of_host d bytes net ≡ None → reading_of bytes ≡ Ok (enveloped xid (FlowMod m)) → OnOk result (ReachedSince d (as_sent (FlowMod m)) old.history new.history)

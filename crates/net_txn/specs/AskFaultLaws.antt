@@ -16,14 +16,15 @@ use Rattle.outside.specs.Seen.{Seen, Continues}
 use Rattle.outside.specs.State.{state, switch_of, waits_of}
 use Rattle.outside.specs.StateLaws.{Conforming-rest, Conforming-before}
 use Rattle.outside.specs.Conforming.{Conforming}
-use Rattle.net_txn.specs.declared.fault.TxnFault.{TxnFault}
-use Rattle.net_txn.specs.declared.fault.TxnFault.TheVariants.{SwitchFault, SwitchBroke, Diverged, Flooded, NoMemory}
-use Rattle.net_txn.specs.declared.heard.Awaited.{Awaited}
+use Rattle.lego_model.specs.declared.fault.TxnFault.{TxnFault}
+use Rattle.lego_model.specs.declared.fault.TxnFault.TheVariants.{SwitchFault, SwitchBroke, Diverged, Flooded, NoMemory}
+use Rattle.lego_model.specs.declared.wait.Awaited.{Awaited}
 use Rattle.net_txn.specs.Causes.{IsCause}
-use Rattle.net_txn.specs.Waits.{wait_steps, barrier_sent, Floods, IfFlooded}
-use Rattle.net_txn.specs.Net.{next_xid}
+use Rattle.net_txn.specs.Waits.{Floods, IfFlooded}
+use Rattle.lego_model.specs.BarrierWaits.{wait_steps, barrier_sent, next_xid}
 use Rattle.net_txn.specs.HeardLaws.{next_xid-lt}
-use Rattle.net_txn.specs.Asks.{all_flows, flows_request, request_sent, asked_from, parts_in, refusals_in, all_parts, IsBroken, IsRefusal, IsRepliesFault, Asks}
+use Rattle.net_txn.specs.Asks.{IsRefusal, IsRepliesFault, Asks}
+use Rattle.lego_model.specs.FlowQueries.{all_flows, flows_request, request_sent, asked_from, parts_in, refusals_in, all_parts, IsBroken}
 use Rattle.net_txn.specs.ReplyLaws.{IsSmallPart, IsPartOf-part_bytes, heard_part}
 use Rattle.net_txn.specs.TableBoundLaws.{table_few}
 use Rattle.net_txn.specs.FloodLaws.{IsGotAlone, few_got, ends_read}

@@ -14,20 +14,18 @@ use Rattle.of_stats.specs.Parts.{IsFirstBad}
 use Rattle.outside.specs.declared.step.WorldStep.{WorldStep}
 use Rattle.outside.specs.declared.step.WorldStep.TheVariants.{Acted}
 use Rattle.outside.specs.Seen.{Seen}
-use Rattle.net_txn.specs.declared.fault.TxnFault.{TxnFault}
-use Rattle.net_txn.specs.declared.fault.TxnFault.TheVariants.{SwitchFault, SwitchBroke, Diverged, Flooded, NoMemory}
-use Rattle.net_txn.specs.declared.heard.Awaited.{Awaited}
-use Rattle.net_txn.specs.declared.heard.Refusal.{Refusal}
-use Rattle.net_txn.specs.LinkSteps.{AsksInPlace}
+use Rattle.lego_model.specs.declared.fault.TxnFault.{TxnFault}
+use Rattle.lego_model.specs.declared.fault.TxnFault.TheVariants.{SwitchFault, SwitchBroke, Diverged, Flooded, NoMemory}
+use Rattle.lego_model.specs.declared.wait.Awaited.{Awaited}
+use Rattle.lego_model.specs.declared.wait.Refusal.{Refusal}
+use Rattle.net_txn.specs.LinkSteps.{AsksWithoutStrays}
 use Rattle.net_txn.specs.Causes.{IsCause}
-use Rattle.net_txn.specs.Waits.{Waits, IfFlooded, KeptMore, barrier_sent}
-use Rattle.net_txn.specs.WaitLaws.{waits_kept}
+use Rattle.net_txn.specs.Waits.{Waits, IfFlooded, KeptMore}
+use Rattle.lego_model.specs.BarrierWaits.{barrier_sent, next_xid}
+use Rattle.net_txn.specs.WaitLaws.{waits_kept, of_switch}
 use Rattle.net_txn.specs.ChangeLaws.{kept_for}
-use Rattle.net_txn.specs.Net.{next_xid}
-use Rattle.net_txn.specs.Asks.{flows_request, request_sent, asked_from, is_about, part_in, parts_in, refusals_in, others_in, part_of, all_parts, WhyBroken, AreRowsOf, IsPartsFault, IsRepliesFault, Answered, GivesRows, IsAskCause}
-
-abbrev of_switch : ℕ → List ℕ → ℕ × List ℕ
-of_switch d b = (d, b)
+use Rattle.net_txn.specs.Asks.{others_in, AreRowsOf, IsPartsFault, IsRepliesFault, Answered, GivesRows, IsAskCause}
+use Rattle.lego_model.specs.FlowQueries.{flows_request, request_sent, asked_from, is_about, part_in, parts_in, refusals_in, part_of, all_parts, WhyBroken}
 
 both_true : (a b : Bool) → (a && b) ≡ true → (a ≡ true) × (b ≡ true)
 both_true true b h = (refl, h)
@@ -98,8 +96,8 @@ came_more Tells d xid a front old new before came (Err fault) is none ok err = k
 pub asked_cause : {Own : Type 0} (Tells : Type 0) (d xid : ℕ) (a : Awaited) (old new : Seen Own) (fault : TxnFault) → a ≡ asked_from d xid → IsCause Tells a.dpid old new fault → IsCause Tells d old new fault
 asked_cause Tells d xid a old new fault is cause = subst (λ (x : Awaited). IsCause Tells x.dpid old new fault) is cause
 
-pub asked_place : {Own : Type 0} (Tells : Type 0) (d xid : ℕ) (a : Awaited) (old new : Seen Own) → a ≡ asked_from d xid → AsksInPlace Tells a.dpid old new → AsksInPlace Tells d old new
-asked_place Tells d xid a old new is asks = subst (λ (x : Awaited). AsksInPlace Tells x.dpid old new) is asks
+pub asked_place : {Own : Type 0} (Tells : Type 0) (d xid : ℕ) (a : Awaited) (old new : Seen Own) → a ≡ asked_from d xid → AsksWithoutStrays Tells a.dpid old new → AsksWithoutStrays Tells d old new
+asked_place Tells d xid a old new is asks = subst (λ (x : Awaited). AsksWithoutStrays Tells x.dpid old new) is asks
 
 pub asked_waits : {Own : Type 0} {Tells : Type 0} (d xid : ℕ) (a : Awaited) (frame : List ℕ) (old new : Seen Own) (before came : List (ℕ × List ℕ)) (refusal : Option Refusal)
     → a ≡ asked_from d xid → frame ≡ flows_request xid → before ≡ [] → Waits Tells a (Acted (Sent a.dpid frame) ∷ barrier_sent a ∷ []) old new before came refusal

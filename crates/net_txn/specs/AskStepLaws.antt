@@ -40,25 +40,20 @@ use Rattle.outside.specs.State.{State, after_step, after_steps, state, switch_of
 use Rattle.outside.specs.StateLaws.{state-append, Conforming-rest}
 use Rattle.outside.specs.LinkLaws.{switch_of-sent_other, waits_of-sent_other, waits_of-got}
 use Rattle.outside.specs.Conforming.{MaySteps, Conforming}
-use Rattle.net_txn.specs.declared.heard.Awaited.{Awaited}
-use Rattle.net_txn.specs.declared.heard.Heard.TheVariants.{Reply, Other}
-use Rattle.net_txn.specs.Net.{next_xid}
-use Rattle.net_txn.specs.Waits.{heard, is_reply, heard_steps, wait_steps, kept_of, barrier_sent, reply_got}
+use Rattle.lego_model.specs.declared.wait.Awaited.{Awaited}
+use Rattle.lego_model.specs.declared.wait.Heard.TheVariants.{Reply, Other}
+use Rattle.lego_model.specs.BarrierWaits.{next_xid, heard, is_reply, heard_steps, wait_steps, kept_of, barrier_sent, reply_got}
 use Rattle.net_txn.specs.HeardLaws.{IsMessage-barrier, next_xid-lt, heard-reply}
 use Rattle.net_txn.specs.StepLaws.{told_switch, told_waits, barrier_sends, barrier_stays, gots, gots_switch, gots_other, gots_other_waits, gots_empty, first_got, reply_alone}
-use Rattle.net_txn.specs.Asks.{all_flows, flows_request, request_sent, asked_from, parts_in, refusals_in, others_in, all_parts, Answered, GivesRows}
+use Rattle.net_txn.specs.Asks.{others_in, Answered, GivesRows}
+use Rattle.lego_model.specs.FlowQueries.{all_flows, flows_request, request_sent, asked_from, parts_in, refusals_in, all_parts}
 use Rattle.net_txn.specs.AskLaws.{part_refuses_not}
 use Rattle.net_txn.specs.AskSteps.{own_rows, RowsInStep}
 use Rattle.net_txn.specs.ReplyLaws.{IsSmallPart, IsPartOf-part_bytes, heard_part, about_part, small_parts, joined_parts}
-
-abbrev of_switch : ℕ → List ℕ → ℕ × List ℕ
-of_switch d b = (d, b)
+use Rattle.net_txn.specs.WaitLaws.{of_switch}
+use Rattle.of_match.specs.FieldsLaws.{bytes_of-length}
 
 -- ---- The request
-
-length-match : (f : Fields) → length (bytes_of f) ≡ 40
-unfolding bytes_of
-length-match f = refl
 
 -- ---- The request selects each entry: any match subsumes each one, and NONE stands for no output.
 
@@ -84,7 +79,7 @@ abbrev query_fields : List Field
 query_fields = flow_query_fields (record { matching = any_match; table_id = 0xff; out_port = 0xffff })
 
 query_fit : AreFields query_fields
-query_fit = (length-match (fields_in any_match), (omega arith, (omega arith, tt)))
+query_fit = (bytes_of-length (fields_in any_match), (omega arith, (omega arith, tt)))
 
 length-all_flows : length all_flows ≡ 44
 unfolding all_flows

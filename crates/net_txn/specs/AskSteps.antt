@@ -8,8 +8,8 @@ use Rattle.flow_table.specs.Statistics.{flow_row}
 use Rattle.outside.specs.Seen.{Seen}
 use Rattle.outside.specs.State.{state, switch_of, waits_of}
 use Rattle.outside.specs.Conforming.{Conforming}
-use Rattle.net_txn.specs.declared.fault.TxnFault.{TxnFault}
-use Rattle.net_txn.specs.declared.fault.TxnFault.TheVariants.{SwitchBroke}
+use Rattle.lego_model.specs.declared.fault.TxnFault.{TxnFault}
+use Rattle.lego_model.specs.declared.fault.TxnFault.TheVariants.{SwitchBroke}
 use Rattle.net_txn.specs.Causes.{IsPlainFault}
 
 -- the switch's own rows: one for each entry of its table, in key order

@@ -1,79 +1,33 @@
 -- What `rows` does: a switch is asked for the statistics of all its flows, behind a barrier (OpenFlow 1.0.0, 5.3.5 Read State Messages:
 -- Individual Flow Statistics, and 5.3.7 Barrier Message). Which messages answer, and what is a fault of the switch, is our own choice.
-use Rattle.std.specs.Prelude.{◌≡◌, ◌≢◌, ◌==◌, ℕ, ◌+◌, Bool, ◌&&◌, ◌||◌, nat_le, List, [], ◌∷◌, ◌++◌, length, drop, map, slice_get, Option, Some, Result, Ok, IsOk, IsErr, IfErr, MatchResult, ◌⊎◌, if◌then◌else◌}
+use Rattle.std.specs.Prelude.{◌≡◌, ℕ, ◌+◌, ◌||◌, List, [], ◌∷◌, ◌++◌, slice_get, Option, Some, Result, Ok, IsOk, IfErr, MatchResult, ◌⊎◌, if◌then◌else◌}
 use Rattle.std.specs.List.{flat_map}
-use Rattle.of_types.specs.Fields.{number_at}
-use Rattle.of_types.specs.Layout.{spelled}
-use Rattle.of_types.specs.declared.journal.Act.TheVariants.{Sent}
-use Rattle.of_match.specs.Fields.{bytes_of, any_fields}
-use Rattle.of_match.specs.Match.{match_of}
-use Rattle.of_wire.specs.declared.message.Message.TheVariants.{StatsRequest, BarrierReply}
+use Rattle.of_wire.specs.declared.message.Message.TheVariants.{BarrierReply}
 use Rattle.of_wire.specs.Spelling.{message_bytes}
-use Rattle.of_wire.specs.Stats.{flow_query_fields}
 use Rattle.of_stats.specs.declared.flow_row.FlowRow.{FlowRow}
 use Rattle.of_stats.specs.Flows.{AreRows, SpellRows}
-use Rattle.of_stats.specs.Parts.{Part, part_at, IsWhole, IsFirstBad, joined}
+use Rattle.of_stats.specs.Parts.{part_at, IsWhole, joined}
 use Rattle.of_stats.specs.Reading.{rows_of}
-use Rattle.outside.specs.declared.step.WorldStep.{WorldStep}
-use Rattle.outside.specs.declared.step.WorldStep.TheVariants.{Acted}
 use Rattle.outside.specs.Seen.{Seen, Continues}
 use Rattle.outside.specs.InOrder.{MessagesSince}
-use Rattle.net_txn.specs.declared.fault.TxnFault.{TxnFault}
-use Rattle.net_txn.specs.declared.fault.TxnFault.TheVariants.{SwitchFault, SwitchBroke, Diverged, Flooded, NoMemory}
-use Rattle.net_txn.specs.declared.heard.Awaited.{Awaited}
-use Rattle.net_txn.specs.declared.heard.Refusal.{Refusal}
-use Rattle.net_txn.specs.LinkSteps.{OnLinks, AsksInPlace}
+use Rattle.lego_model.specs.declared.fault.TxnFault.{TxnFault}
+use Rattle.lego_model.specs.declared.fault.TxnFault.TheVariants.{SwitchFault, SwitchBroke, Diverged, Flooded, NoMemory}
+use Rattle.lego_model.specs.declared.wait.Refusal.{Refusal}
+use Rattle.net_txn.specs.LinkSteps.{OnLinks, AsksWithoutStrays}
 use Rattle.net_txn.specs.Causes.{IsCause}
-use Rattle.net_txn.specs.Waits.{Waits, IfFlooded, KeptMore, barrier_sent}
-use Rattle.net_txn.specs.Net.{next_xid}
+use Rattle.net_txn.specs.Waits.{Waits, IfFlooded, KeptMore}
+use Rattle.lego_model.specs.BarrierWaits.{barrier_sent, next_xid}
+use Rattle.lego_model.specs.FlowQueries.{flows_request, request_sent, asked_from, is_about, parts_in, refusals_in, all_parts, IsBroken}
 
--- ---- The request: flows of any match, in all tables, whatever their outputs
-
-unfoldable pub all_flows : List ℕ
-all_flows = spelled (flow_query_fields (record { matching = match_of (bytes_of any_fields); table_id = 0xff; out_port = 0xffff }))
-
-abbrev pub flows_request : ℕ → List ℕ
-flows_request xid = message_bytes xid (StatsRequest (record { kind = 1; flags = 0; body = all_flows }))
-
-abbrev pub request_sent : ℕ → ℕ → WorldStep
-request_sent d xid = Acted (Sent d (flows_request xid))
-
--- the request is sent, and then a barrier; no refusal is awaited, so that an ERROR comes as a part does
-abbrev pub asked_from : ℕ → ℕ → Awaited
-asked_from d xid = record { dpid = d; first = next_xid xid; barrier = next_xid xid }
-
--- ---- Which of the messages that came answer it: those of its transaction id that are a STATS_REPLY (17) or an ERROR (1), which both
--- have 12 bytes at least.
-
-unfoldable pub is_about : ℕ → ℕ → List ℕ → Bool
-is_about xid kind bytes = nat_le 12 (length bytes) && (number_at 4 4 bytes == xid && number_at 1 1 bytes == kind)
-
-abbrev pub part_in : ℕ → ℕ × List ℕ → List (List ℕ)
-part_in xid m = if is_about xid 17 m.1 then m.1 ∷ [] else []
-
-abbrev pub refusal_in : ℕ → ℕ × List ℕ → List (List ℕ)
-refusal_in xid m = if is_about xid 1 m.1 then m.1 ∷ [] else []
+-- ---- Which of the messages that came do not answer the request
 
 abbrev pub other_in : ℕ → ℕ × List ℕ → List (ℕ × List ℕ)
 other_in xid m = if is_about xid 17 m.1 || is_about xid 1 m.1 then [] else m ∷ []
-
-abbrev pub parts_in : ℕ → List (ℕ × List ℕ) → List (List ℕ)
-parts_in xid came = flat_map (part_in xid) came
-
-abbrev pub refusals_in : ℕ → List (ℕ × List ℕ) → List (List ℕ)
-refusals_in xid came = flat_map (refusal_in xid) came
 
 abbrev pub others_in : ℕ → List (ℕ × List ℕ) → List (ℕ × List ℕ)
 others_in xid came = flat_map (other_in xid) came
 
 -- ---- What parts say
-
--- type, flags and body
-unfoldable pub part_of : List ℕ → Part
-part_of bytes = (number_at 2 8 bytes, number_at 2 10 bytes, drop 12 bytes)
-
-abbrev pub all_parts : List (List ℕ) → List Part
-all_parts messages = map part_of messages
 
 -- a whole reply of flows, which spells these rows
 pub record AreRowsOf (messages : List (List ℕ)) (rows : List FlowRow) : Type 0 where
@@ -82,16 +36,6 @@ pub record AreRowsOf (messages : List (List ℕ)) (rows : List FlowRow) : Type 0
   pub read : rows_of (joined (all_parts messages)) ≡ Ok rows
   pub fit : AreRows rows
   pub spelled_so : SpellRows rows (joined (all_parts messages))
-
--- why a message is at fault: as a part, or by its type, or as the last one of a whole that spells no rows
-abbrev pub WhyBroken : List (List ℕ) → ℕ → Type 0
-WhyBroken messages place =
-    IsFirstBad place (all_parts messages)
-    ⊎ (IsWhole (all_parts messages) × ((part_at place (all_parts messages)).0 ≢ 1))
-    ⊎ (IsWhole (all_parts messages) × (place + 1 ≡ length messages) × IsErr (rows_of (joined (all_parts messages))))
-
-abbrev pub IsBroken : List (List ℕ) → List ℕ → Type 0
-IsBroken messages bytes = (place : ℕ) × (slice_get messages place ≡ Some bytes) × WhyBroken messages place
 
 -- of parts, one at least; memory may be wanting at any time
 abbrev pub IsPartsFault : ℕ → List (List ℕ) → TxnFault → Type 0
@@ -141,7 +85,7 @@ IsAskCause Tells d xid old new kept now_kept fault =
 pub record Asks {Own : Type 0} (Tells : Type 0) (d xid : ℕ) (old new : Seen Own) (kept now_kept : List (ℕ × List ℕ)) (result : Result (List FlowRow) TxnFault) : Type 0 where
   pub continues : Continues Tells old new
   pub links : OnLinks Tells old new
-  pub in_place : AsksInPlace Tells d old new
+  pub no_strays : AsksWithoutStrays Tells d old new
   pub read : IsOk result → Tells → MessagesSince old new
   pub kept_more : KeptMore d kept now_kept
   pub answer : MatchResult result (GivesRows Tells d xid old new kept now_kept) (IsAskCause Tells d xid old new kept now_kept)

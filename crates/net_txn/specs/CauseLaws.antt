@@ -6,8 +6,8 @@ use Rattle.of_types.specs.declared.journal.Act.TheVariants.{Got}
 use Rattle.outside.specs.declared.step.WorldStep.{WorldStep}
 use Rattle.outside.specs.declared.step.WorldStep.TheVariants.{Acted}
 use Rattle.outside.specs.Seen.{Seen, Longer, Continues}
-use Rattle.net_txn.specs.declared.fault.TxnFault.{TxnFault}
-use Rattle.net_txn.specs.declared.fault.TxnFault.TheVariants.{SwitchFault, SwitchBroke, Diverged, Flooded, NoMemory}
+use Rattle.lego_model.specs.declared.fault.TxnFault.{TxnFault}
+use Rattle.lego_model.specs.declared.fault.TxnFault.TheVariants.{SwitchFault, SwitchBroke, Diverged, Flooded, NoMemory}
 use Rattle.net_txn.specs.Causes.{EndsByGot, IsCause}
 
 EndsByGot-later : (d : ℕ) (bytes : List ℕ) (old mid new : List WorldStep) → Longer old mid → EndsByGot d bytes mid new → EndsByGot d bytes old new

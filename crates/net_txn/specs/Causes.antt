@@ -6,12 +6,9 @@ use Rattle.of_wire.specs.Reading.{reading_of}
 use Rattle.outside.specs.declared.step.WorldStep.{WorldStep}
 use Rattle.outside.specs.declared.step.WorldStep.TheVariants.{Acted}
 use Rattle.outside.specs.Seen.{Seen}
-use Rattle.net_txn.specs.declared.fault.TxnFault.{TxnFault}
-use Rattle.net_txn.specs.declared.fault.TxnFault.TheVariants.{SwitchFault, SwitchBroke, Diverged, Flooded, NoMemory}
-
--- how many messages without the reply to a barrier are too many
-abbrev pub flood : ℕ
-flood = 65536
+use Rattle.lego_model.specs.declared.fault.TxnFault.{TxnFault}
+use Rattle.lego_model.specs.declared.fault.TxnFault.TheVariants.{SwitchFault, SwitchBroke, Diverged, Flooded, NoMemory}
+use Rattle.lego_model.specs.BarrierWaits.{flood}
 
 -- the last step since then was that these bytes were got from the switch
 abbrev pub EndsByGot : ℕ → List ℕ → List WorldStep → List WorldStep → Type 0

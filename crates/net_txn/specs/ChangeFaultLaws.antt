@@ -15,11 +15,11 @@ use Rattle.outside.specs.Seen.{Seen, Continues}
 use Rattle.outside.specs.State.{state, switch_of, waits_of}
 use Rattle.outside.specs.StateLaws.{Conforming-rest}
 use Rattle.outside.specs.Conforming.{Conforming}
-use Rattle.net_txn.specs.declared.fault.TxnFault.{TxnFault}
-use Rattle.net_txn.specs.declared.fault.TxnFault.TheVariants.{SwitchFault, SwitchBroke, Diverged, Flooded, NoMemory}
-use Rattle.net_txn.specs.declared.heard.Heard.TheVariants.{Refused}
+use Rattle.lego_model.specs.declared.fault.TxnFault.{TxnFault}
+use Rattle.lego_model.specs.declared.fault.TxnFault.TheVariants.{SwitchFault, SwitchBroke, Diverged, Flooded, NoMemory}
+use Rattle.lego_model.specs.declared.wait.Heard.TheVariants.{Refused}
 use Rattle.net_txn.specs.Causes.{IsCause, IsPlainFault}
-use Rattle.net_txn.specs.Waits.{heard, wait_steps, barrier_sent}
+use Rattle.lego_model.specs.BarrierWaits.{heard, wait_steps, barrier_sent}
 use Rattle.net_txn.specs.Net.{NetState, awaited_from}
 use Rattle.net_txn.specs.SentLaws.{reading_of-as_sent}
 use Rattle.net_txn.specs.RowLaws.{sent}

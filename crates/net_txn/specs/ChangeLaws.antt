@@ -19,19 +19,20 @@ use Rattle.outside.specs.declared.step.WorldStep.TheVariants.{Acted}
 use Rattle.outside.specs.Seen.{Seen, Continues}
 use Rattle.outside.specs.SeenLaws.{Continues-refl}
 use Rattle.outside.specs.InOrderLaws.{messages-none}
-use Rattle.net_txn.specs.declared.fault.TxnFault.{TxnFault}
-use Rattle.net_txn.specs.declared.fault.TxnFault.TheVariants.{SwitchFault, SwitchBroke, Diverged, Flooded, NoMemory}
-use Rattle.net_txn.specs.declared.heard.Awaited.{Awaited}
-use Rattle.net_txn.specs.declared.heard.Refusal.{Refusal}
-use Rattle.net_txn.specs.LinkSteps.{OnLinks, AsksInPlace}
+use Rattle.lego_model.specs.declared.fault.TxnFault.{TxnFault}
+use Rattle.lego_model.specs.declared.fault.TxnFault.TheVariants.{SwitchFault, SwitchBroke, Diverged, Flooded, NoMemory}
+use Rattle.lego_model.specs.declared.wait.Awaited.{Awaited}
+use Rattle.lego_model.specs.declared.wait.Refusal.{Refusal}
+use Rattle.net_txn.specs.LinkSteps.{OnLinks, AsksWithoutStrays}
 use Rattle.net_txn.specs.LinkStepLaws.{OnLinks-refl}
-use Rattle.net_txn.specs.LinkPlaceLaws.{in_place_none}
+use Rattle.net_txn.specs.LinkStrayLaws.{no_strays_none}
 use Rattle.net_txn.specs.ReadLaws.{asked_read}
 use Rattle.net_txn.specs.Causes.{IsCause}
 use Rattle.flow_table.specs.declared.view.ViewRow.{ViewRow}
 use Rattle.flow_table.specs.declared.view.TableView.{TableView}
 use Rattle.net_txn.specs.declared.logged.Logged.{Logged}
-use Rattle.net_txn.specs.Waits.{Waits, Floods, IfFlooded, KeptMore, barrier_sent}
+use Rattle.net_txn.specs.Waits.{Waits, Floods, IfFlooded, KeptMore}
+use Rattle.lego_model.specs.BarrierWaits.{barrier_sent}
 use Rattle.net_txn.specs.Views.{rows_at, with_rows, with_added, rows_after}
 use Rattle.net_txn.specs.ViewLaws.{rows_at-stays}
 use Rattle.net_txn.specs.Net.{NetState, awaited_from, with_logged}
@@ -88,7 +89,7 @@ pub Changes-by_host : {Own : Type 0} {Tells : Type 0} (d : ℕ) (bytes : List �
 Changes-by_host {Tells = Tells} d bytes seen net answer is = record {
   continues = Continues-refl Tells seen;
   links = OnLinks-refl Tells seen;
-  in_place = λ told keeps joined. in_place_none seen;
+  no_strays = λ told keeps joined. no_strays_none seen;
   read = λ ok told. messages-none seen;
   cause = tt;
   switches = λ e. refl;
@@ -105,7 +106,7 @@ pub Changes-short : {Own : Type 0} {Tells : Type 0} (d : ℕ) (bytes : List ℕ)
 Changes-short {Tells = Tells} d bytes seen net = record {
   continues = Continues-refl Tells seen;
   links = OnLinks-refl Tells seen;
-  in_place = λ told keeps joined. in_place_none seen;
+  no_strays = λ told keeps joined. no_strays_none seen;
   read = λ ok told. messages-none seen;
   cause = tt;
   switches = λ e. refl;
@@ -172,12 +173,12 @@ made_switches Tells d e m old new net now_net (Err fault) stopped = stopped_swit
 
 pub Changes-by_switch : {Own : Type 0} {Tells : Type 0} (d : ℕ) (bytes : List ℕ) (old new : Seen Own) (net now_net : NetState) (result : Result Answer TxnFault) (xid : ℕ) (m : Change)
     → answer_of_host d bytes net ≡ None → reading_of bytes ≡ Ok (enveloped xid (FlowMod m)) → MatchResult result (Asked Tells d m old new net now_net) (λ f. Stopped d m old new net now_net)
-    → Continues Tells old new → OnLinks Tells old new → AsksInPlace Tells d old new → IfErr result (IsCause Tells d old new) → now_net.ports ≡ net.ports → now_net.moment ≡ net.moment → now_net.room ≡ net.room
+    → Continues Tells old new → OnLinks Tells old new → AsksWithoutStrays Tells d old new → IfErr result (IsCause Tells d old new) → now_net.ports ≡ net.ports → now_net.moment ≡ net.moment → now_net.room ≡ net.room
     → IfErr result (IfGivenUp Tells d m old new net) → Changes Tells d bytes old new net now_net result
-Changes-by_switch {Tells = Tells} d bytes old new net now_net result xid m none read does continues links in_place cause ports moment room f = record {
+Changes-by_switch {Tells = Tells} d bytes old new net now_net result xid m none read does continues links no_strays cause ports moment room f = record {
   continues = continues;
   links = links;
-  in_place = λ told keeps joined. in_place told keeps (joined (host_known d bytes net none));
+  no_strays = λ told keeps joined. no_strays told keeps (joined (host_known d bytes net none));
   read = asked_read Tells d m old new net now_net result does;
   cause = cause;
   switches = λ e. made_switches Tells d e m old new net now_net result does;

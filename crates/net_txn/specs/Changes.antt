@@ -17,15 +17,16 @@ use Rattle.outside.specs.declared.step.WorldStep.TheVariants.{Acted}
 use Rattle.outside.specs.Seen.{Seen, Continues}
 use Rattle.outside.specs.State.{state, is_joined}
 use Rattle.outside.specs.InOrder.{InOrder, MessagesSince}
-use Rattle.net_txn.specs.declared.fault.TxnFault.{TxnFault}
-use Rattle.net_txn.specs.declared.fault.TxnFault.TheVariants.{SwitchFault, SwitchBroke, Diverged, Flooded, NoMemory}
-use Rattle.net_txn.specs.declared.heard.Refusal.{Refusal}
+use Rattle.lego_model.specs.declared.fault.TxnFault.{TxnFault}
+use Rattle.lego_model.specs.declared.fault.TxnFault.TheVariants.{SwitchFault, SwitchBroke, Diverged, Flooded, NoMemory}
+use Rattle.lego_model.specs.declared.wait.Refusal.{Refusal}
 use Rattle.net_txn.specs.declared.logged.Logged.{Logged}
-use Rattle.net_txn.specs.LinkSteps.{OnLinks, StaysInPlace}
+use Rattle.net_txn.specs.LinkSteps.{OnLinks, MakesNoStrayCall}
 use Rattle.net_txn.specs.Causes.{IsCause}
-use Rattle.net_txn.specs.Waits.{Waits, Floods, KeptMore, barrier_sent}
+use Rattle.net_txn.specs.Waits.{Waits, Floods, KeptMore}
+use Rattle.lego_model.specs.BarrierWaits.{barrier_sent, next_xid}
 use Rattle.net_txn.specs.Views.{rows_at, with_rows, rows_after}
-use Rattle.net_txn.specs.Net.{NetState, next_xid, awaited_from, logged_by, with_logged}
+use Rattle.net_txn.specs.Net.{NetState, awaited_from, logged_by, with_logged}
 
 -- ---- What the host knows of a switch
 
@@ -37,7 +38,7 @@ known_rows d views = option_map rows_of_view (rows_at d views)
 abbrev pub answer_of_host : ℕ → List ℕ → NetState → Option Answer
 answer_of_host d bytes net = host_answer (known_rows d net.views) bytes
 
--- ---- What the switch judged
+-- ---- What the switch answered
 
 abbrev pub error_in : Option Refusal → Option OfError
 error_in refusal = option_map (λ r. r.error) refusal
@@ -109,7 +110,7 @@ pub record ByHost {Own : Type 0} (answer : Answer) (old new : Seen Own) (net now
 pub record Changes {Own : Type 0} (Tells : Type 0) (d : ℕ) (bytes : List ℕ) (old new : Seen Own) (net now_net : NetState) (result : Result Answer TxnFault) : Type 0 where
   pub continues : Continues Tells old new
   pub links : OnLinks Tells old new
-  pub in_place : Tells → InOrder new → (IsSome (rows_at d net.views) → is_joined d (state old) ≡ true) → StaysInPlace old new
+  pub no_strays : Tells → InOrder new → (IsSome (rows_at d net.views) → is_joined d (state old) ≡ true) → MakesNoStrayCall old new
   pub read : IsOk result → Tells → MessagesSince old new
   pub cause : IfErr result (IsCause Tells d old new)
   pub switches : (e : ℕ) → is_some (rows_at e now_net.views) ≡ is_some (rows_at e net.views)

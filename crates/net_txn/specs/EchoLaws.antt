@@ -9,7 +9,7 @@ use Rattle.of_wire.specs.Reading.{reading_of}
 use Rattle.of_wire.specs.Spelling.{message_size, body_bytes, message_bytes}
 use Rattle.of_wire.specs.Grammar.{IsMessage, enveloped}
 use Rattle.of_wire.specs.ReadingLaws.{reading_of-message_bytes}
-use Rattle.net_txn.specs.Waits.{echo_reply}
+use Rattle.lego_model.specs.BarrierWaits.{echo_reply}
 use Rattle.net_txn.specs.SizeLaws.{header-read, version-read, size-read}
 
 three : number_bytes 1 3 ≡ 3 ∷ []

@@ -16,13 +16,14 @@ use Rattle.outside.specs.State.{State, after_step, after_steps, state, waits_of}
 use Rattle.outside.specs.StateLaws.{Conforming-rest, MaySteps-rest}
 use Rattle.outside.specs.LinkLaws.{waits_of-got}
 use Rattle.outside.specs.Conforming.{MayStep, MayAct, MaySteps, Conforming}
-use Rattle.net_txn.specs.declared.fault.TxnFault.{TxnFault}
-use Rattle.net_txn.specs.declared.fault.TxnFault.TheVariants.{SwitchFault, SwitchBroke, Diverged, Flooded, NoMemory}
-use Rattle.net_txn.specs.declared.heard.Awaited.{Awaited}
-use Rattle.net_txn.specs.declared.heard.Refusal.{Refusal}
+use Rattle.lego_model.specs.declared.fault.TxnFault.{TxnFault}
+use Rattle.lego_model.specs.declared.fault.TxnFault.TheVariants.{SwitchFault, SwitchBroke, Diverged, Flooded, NoMemory}
+use Rattle.lego_model.specs.declared.wait.Awaited.{Awaited}
+use Rattle.lego_model.specs.declared.wait.Refusal.{Refusal}
 use Rattle.std.specs.Prelude.{Option}
-use Rattle.net_txn.specs.Causes.{flood, EndsByGot, IsNoFlood}
-use Rattle.net_txn.specs.Waits.{heard, is_reply, heard_steps, wait_steps, Floods, IfFlooded, WaitsOn}
+use Rattle.net_txn.specs.Causes.{EndsByGot, IsNoFlood}
+use Rattle.lego_model.specs.BarrierWaits.{flood, heard, is_reply, heard_steps, wait_steps}
+use Rattle.net_txn.specs.Waits.{Floods, IfFlooded, WaitsOn}
 use Rattle.net_txn.specs.StepLaws.{first_got, reply_is_none}
 
 -- ---- A wait that was given up

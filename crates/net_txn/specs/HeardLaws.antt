@@ -21,11 +21,11 @@ use Rattle.flow_table.specs.Change.{refusal}
 use Rattle.flow_table.specs.Refusals.{or_else, is_output, action_refusal, actions_refusal, flow_actions_refusal, flow_refusal, message_refusal}
 use Rattle.flow_table.specs.Switch.{SwitchState}
 use Rattle.flow_table.specs.Step.{error_bytes}
-use Rattle.net_txn.specs.declared.heard.Awaited.{Awaited}
-use Rattle.net_txn.specs.declared.heard.Refusal.{Refusal}
-use Rattle.net_txn.specs.declared.heard.Heard.TheVariants.{Reply, Refused}
-use Rattle.net_txn.specs.Net.{next_xid, awaited_from}
-use Rattle.net_txn.specs.Waits.{is_awaited, refusal_of, heard}
+use Rattle.lego_model.specs.declared.wait.Awaited.{Awaited}
+use Rattle.lego_model.specs.declared.wait.Refusal.{Refusal}
+use Rattle.lego_model.specs.declared.wait.Heard.TheVariants.{Reply, Refused}
+use Rattle.net_txn.specs.Net.{awaited_from}
+use Rattle.lego_model.specs.BarrierWaits.{next_xid, is_awaited, refusal_of, heard}
 
 -- ---- The reply
 

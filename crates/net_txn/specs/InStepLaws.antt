@@ -27,12 +27,13 @@ use Rattle.outside.specs.State.{State, after_step, after_steps, state, switch_of
 use Rattle.outside.specs.StateLaws.{state-append, Conforming-rest}
 use Rattle.outside.specs.LinkLaws.{switch_of-sent_other, waits_of-sent_other}
 use Rattle.outside.specs.Conforming.{MaySteps, Conforming}
-use Rattle.net_txn.specs.declared.heard.Refusal.{Refusal}
-use Rattle.net_txn.specs.declared.heard.Heard.TheVariants.{Refused}
-use Rattle.net_txn.specs.Waits.{heard, is_reply, kept_of, answer_of, wait_steps, barrier_sent, reply_got}
+use Rattle.lego_model.specs.declared.wait.Refusal.{Refusal}
+use Rattle.lego_model.specs.declared.wait.Heard.TheVariants.{Refused}
+use Rattle.net_txn.specs.Waits.{answer_of}
+use Rattle.lego_model.specs.BarrierWaits.{heard, is_reply, kept_of, wait_steps, barrier_sent, reply_got, next_xid}
 use Rattle.net_txn.specs.Views.{rows_at, rows_after}
 use Rattle.net_txn.specs.ViewLaws.{rows_at-same, rows_at-other}
-use Rattle.net_txn.specs.Net.{NetState, next_xid, awaited_from}
+use Rattle.net_txn.specs.Net.{NetState, awaited_from}
 use Rattle.net_txn.specs.SentLaws.{reading_of-as_sent}
 use Rattle.net_txn.specs.RowLaws.{sent, known_command, rows_agree, no_notices}
 use Rattle.net_txn.specs.HeardLaws.{IsMessage-barrier, IsSmall, small_refusal, next_xid-lt, heard-error}
@@ -108,9 +109,9 @@ pub small_of : (e : OfError) → IsSmall (Some e) → (e.kind < 256 ^ 2) × (e.c
 small_of e is = is.small
 
 -- where all that waited was got
-played_all : (d xid : ℕ) (m : Change) (s : SwitchState) (got ws : List (List ℕ)) (before mid after : State) → Sending d xid m s before mid → waits_of d mid ≡ ws → after ≡ after_steps (gots d ws) mid
+reverted_all : (d xid : ℕ) (m : Change) (s : SwitchState) (got ws : List (List ℕ)) (before mid after : State) → Sending d xid m s before mid → waits_of d mid ≡ ws → after ≡ after_steps (gots d ws) mid
     → error_in (answer_of (awaited_from d xid) got) ≡ message_refusal s (as_sent (FlowMod m)) → kept_of (awaited_from d xid) got ≡ [] → Played d xid m s got before after
-played_all d xid m s got ws before mid after sending waits is refused kept = record {
+reverted_all d xid m s got ws before mid after sending waits is refused kept = record {
   refused = refused;
   none_kept = kept;
   switch = ap (switch_of d) is ∙ gots_switch d ws mid ∙ sending.switch;
@@ -119,17 +120,17 @@ played_all d xid m s got ws before mid after sending waits is refused kept = rec
   others_wait = λ e other. ap (waits_of e) is ∙ gots_other_waits d e ws mid other ∙ sending.others_wait e other;
 }
 
-played_by : (declared : List Declared) (d xid : ℕ) (m : Change) (s : SwitchState) (got : List (List ℕ)) (before mid after : State) → xid < 2 ^ 32 → Sending d xid m s before mid
+reverted_by : (declared : List Declared) (d xid : ℕ) (m : Change) (s : SwitchState) (got : List (List ℕ)) (before mid after : State) → xid < 2 ^ 32 → Sending d xid m s before mid
     → would_touch m (rows_of_table s.table.entries) ≡ false → AllByRecursion (λ b. is_reply (heard (awaited_from d xid) b) ≡ false) got → MaySteps declared (wait_steps (awaited_from d xid) got ++ reply_got (awaited_from d xid) ∷ []) mid
     → after ≡ after_steps (wait_steps (awaited_from d xid) got ++ reply_got (awaited_from d xid) ∷ []) mid → (o : Option OfError) → message_refusal s (as_sent (FlowMod m)) ≡ o → Played d xid m s got before after
-played_by declared d xid m s got before mid after lt sending none before_reply may is None refusal =
+reverted_by declared d xid m s got before mid after lt sending none before_reply may is None refusal =
     let a = awaited_from d xid in
     let waits : waits_of d mid ≡ reply_to xid ∷ [] = sending.waits ∙ ap (λ (ws : List (List ℕ)). ws ++ reply_to xid ∷ []) (taken_sends xid m s refusal none) in
     let got_is : got ≡ [] = reply_alone declared a got mid waits may before_reply in
     let steps : wait_steps a got ++ reply_got a ∷ [] ≡ gots d (reply_to xid ∷ []) = ap (λ (gs : List (List ℕ)). wait_steps a gs ++ reply_got a ∷ []) got_is in
-    played_all d xid m s got (reply_to xid ∷ []) before mid after sending waits (is ∙ ap (λ (xs : List WorldStep). after_steps xs mid) steps)
+    reverted_all d xid m s got (reply_to xid ∷ []) before mid after sending waits (is ∙ ap (λ (xs : List WorldStep). after_steps xs mid) steps)
     (ap (λ (gs : List (List ℕ)). error_in (answer_of a gs)) got_is ∙ sym refusal) (ap (kept_of a) got_is)
-played_by declared d xid m s got before mid after lt sending none before_reply may is (Some e) refusal =
+reverted_by declared d xid m s got before mid after lt sending none before_reply may is (Some e) refusal =
     let a = awaited_from d xid in
     let error = error_bytes xid (as_sent (FlowMod m)) e in
     let r : Refusal = record { xid = xid; error = e } in
@@ -140,7 +141,7 @@ played_by declared d xid m s got before mid after lt sending none before_reply m
     let steps : wait_steps a got ++ reply_got a ∷ [] ≡ gots d (error ∷ reply_to xid ∷ []) = ap (λ (gs : List (List ℕ)). wait_steps a gs ++ reply_got a ∷ []) got_is ∙ got_rest a error r [] refused in
     let answer : error_in (answer_of a (error ∷ [])) ≡ Some e = rw refused refl in
     let kept : kept_of a (error ∷ []) ≡ [] = rw refused refl in
-    played_all d xid m s got (error ∷ reply_to xid ∷ []) before mid after sending waits (is ∙ ap (λ (xs : List WorldStep). after_steps xs mid) steps)
+    reverted_all d xid m s got (error ∷ reply_to xid ∷ []) before mid after sending waits (is ∙ ap (λ (xs : List WorldStep). after_steps xs mid) steps)
     (ap (λ (gs : List (List ℕ)). error_in (answer_of a gs)) got_is ∙ answer ∙ sym refusal) (ap (kept_of a) got_is ∙ kept)
 
 -- ---- What the host let pass
@@ -180,7 +181,7 @@ entries_then : (m : Change) (s : SwitchState) (now : ℕ) → (changed now (sent
 unfolding changed
 entries_then m s now = refl
 
-abbrev some_rows : Rows → Option Rows
+abbrev pub some_rows : Rows → Option Rows
 some_rows rows = Some rows
 
 abbrev rows_by : Option Refusal → Change → List ViewRow → List ViewRow
@@ -221,19 +222,19 @@ in_step d bytes old new net now_net answer m xid told asked host read keeps wait
     let may = Conforming-rest old new steps hears.continues.given (hears.told told) keeps in
     let after = state-append old new steps hears.continues.given (hears.told told) in
     let sending = both_sent d net.xid m s (state old) (reading_of-as_sent net.xid m asked.is_xid.1 asked.message) (next_xid-lt net.xid asked.is_xid.1) joined.1 waits in
-    let played = played_by old.given.declared d net.xid m s asked.waits.got (state old) (after_both d net.xid m (state old)) (state new) asked.is_xid.1 sending none_touched hears.before_reply may.1.1 after
+    let reverted = reverted_by old.given.declared d net.xid m s asked.waits.got (state old) (after_both d net.xid m (state old)) (state new) asked.is_xid.1 sending none_touched hears.before_reply may.1.1 after
     (message_refusal s (as_sent (FlowMod m))) refl in
-    let refused : error_in asked.refusal ≡ message_refusal s (as_sent (FlowMod m)) = ap error_in hears.answer_so ∙ played.refused in
+    let refused : error_in asked.refusal ≡ message_refusal s (as_sent (FlowMod m)) = ap error_in hears.answer_so ∙ reverted.refused in
     let shown : rows_of_view rows ≡ shown_by s = seen.2 ∙ sym joined.2 in
     let there : rows_at d now_net.views ≡ Some (rows_by asked.refusal m rows) = ap (rows_at d) asked.views ∙ views_at asked.refusal d m net.views rows seen.1 in
     let same = agreed m s rows asked.refusal refused shown p.command (ap (would_touch m) seen.2 ∙ p.touches_none) in
     record {
       answer_so = rw joined.1 (asked.answer_so ∙ ap answer_by refused);
-      moved = rw joined.1 played.switch;
-      waits = played.waits;
-      others = played.others;
-      others_wait = played.others_wait;
-      kept = hears.kept_so ∙ ap (λ (more : List (ℕ × List ℕ)). net.kept ++ more) played.none_kept ∙ append-nil net.kept;
-      agrees = rw (there, played.switch) (ap (λ (r : Rows). some_rows r) same);
-      others_agree = λ e other before. ap (λ (v : Option (List ViewRow)). option_map rows_of_view v) (ap (rows_at e) asked.views ∙ views_other asked.refusal d e m net.views other) ∙ before ∙ ap (λ (o : Option SwitchState). option_map shown_by o) (sym (played.others e other));
+      moved = rw joined.1 reverted.switch;
+      waits = reverted.waits;
+      others = reverted.others;
+      others_wait = reverted.others_wait;
+      kept = hears.kept_so ∙ ap (λ (more : List (ℕ × List ℕ)). net.kept ++ more) reverted.none_kept ∙ append-nil net.kept;
+      agrees = rw (there, reverted.switch) (ap (λ (r : Rows). some_rows r) same);
+      others_agree = λ e other before. ap (λ (v : Option (List ViewRow)). option_map rows_of_view v) (ap (rows_at e) asked.views ∙ views_other asked.refusal d e m net.views other) ∙ before ∙ ap (λ (o : Option SwitchState). option_map shown_by o) (sym (reverted.others e other));
     }

@@ -1,4 +1,4 @@
--- Laws of steps of links: they move no switch in or out, make nothing due, begin no stimulus, and stand at no quiet place.
+-- Laws of steps of links: they move no switch in or out, make nothing due, begin no stimulus, and stand at no quiescent point.
 use Rattle.std.specs.Prelude.{◌≡◌, ℕ, Bool, true, false, List, [], ◌∷◌, Option, Some, None, Result, Ok, Err, refl}
 use Rattle.std.specs.Option.{is_some, option_map}
 use Rattle.std.proofs.Common.{sym, ap, ◌∙◌, subst, inl, inr}
@@ -12,9 +12,10 @@ use Rattle.flow_table.specs.Switch.{SwitchState}
 use Rattle.outside.specs.declared.step.WorldStep.{WorldStep}
 use Rattle.outside.specs.declared.step.WorldStep.TheVariants.{Acted, TookInto, From, Joined, Left, Moment, Idle, End, Opened, NotOpened, NextFailed, SendFailed, RecvFailed}
 use Rattle.outside.specs.State.{Link, State, after_step, after_act, after_steps, switch_of, switch_in, link_of, with_link, link_failed, switch_told, is_joined}
-use Rattle.outside.specs.LinkLaws.{KeepsDeclared, link_of-same, link_of-other, switch_of-sent, switch_of-sent_other, switch_of-got, switch_of-got_other}
-use Rattle.outside.specs.Quiet.{is_quiet}
+use Rattle.outside.specs.LinkLaws.{link_of-same, link_of-other, switch_of-sent, switch_of-sent_other, switch_of-got, switch_of-got_other}
+use Rattle.outside.specs.Quiescence.{is_quiescent}
 use Rattle.net_txn.specs.LinkSteps.{is_link_step, AreLinkSteps}
+use Rattle.net_txn.specs.PartLaws.{keeps_failed}
 
 -- ---- Which switches are joined
 
@@ -39,10 +40,6 @@ got_joined d e bytes s =
       | inl same ↦ subst (λ (n : ℕ). is_joined n (after_step (Acted (Got d bytes)) s) ≡ is_joined n s) same (ap joins_in (switch_of-got d bytes s))
       | inr other ↦ ap joins_in (switch_of-got_other d e bytes s (λ same. other (sym same)))
     ]
-
-keeps_failed : KeepsDeclared link_failed
-unfolding link_failed
-keeps_failed l = refl
 
 failed_switch : (o : Option Link) → switch_in (option_map link_failed o) ≡ switch_in o
 unfolding link_failed
@@ -72,10 +69,10 @@ pub record LeavesSo (old new : State) : Type 0 where
   pub due : new.due ≡ old.due
   pub begun : new.begun ≡ old.begun
 
--- that, and the place before the step is not quiet
+-- that, and the point before the step is not quiescent
 pub record IsLinkStep (step : WorldStep) (s : State) : Type 0 where
   pub leaves : LeavesSo s (after_step step s)
-  pub unquiet : is_quiet step ≡ false
+  pub none_quiescent : is_quiescent step ≡ false
 
 act_leaves : (act : Act) (s : State) → is_link_step (Acted act) ≡ true → IsLinkStep (Acted act) s
 unfolding after_step after_act
@@ -85,8 +82,8 @@ act_leaves (Gave app bytes) s is = absurd cc
 act_leaves (Gone app bytes) s is = absurd cc
 act_leaves (Took app what) s is = absurd cc
 act_leaves (Ended app) s is = absurd cc
-act_leaves (Sent d bytes) s is = record { leaves = record { joined = λ e. sent_joined d e bytes s; due = refl; begun = refl }; unquiet = refl }
-act_leaves (Got d bytes) s is = record { leaves = record { joined = λ e. got_joined d e bytes s; due = refl; begun = refl }; unquiet = refl }
+act_leaves (Sent d bytes) s is = record { leaves = record { joined = λ e. sent_joined d e bytes s; due = refl; begun = refl }; none_quiescent = refl }
+act_leaves (Got d bytes) s is = record { leaves = record { joined = λ e. got_joined d e bytes s; due = refl; begun = refl }; none_quiescent = refl }
 
 pub step_leaves : (step : WorldStep) (s : State) → is_link_step step ≡ true → IsLinkStep step s
 unfolding after_step
@@ -101,8 +98,8 @@ step_leaves End s is = absurd cc
 step_leaves Opened s is = absurd cc
 step_leaves NotOpened s is = absurd cc
 step_leaves NextFailed s is = absurd cc
-step_leaves (SendFailed d) s is = record { leaves = record { joined = λ e. send_failed d e s; due = refl; begun = refl }; unquiet = refl }
-step_leaves (RecvFailed d) s is = record { leaves = record { joined = λ e. recv_failed d e s; due = refl; begun = refl }; unquiet = refl }
+step_leaves (SendFailed d) s is = record { leaves = record { joined = λ e. send_failed d e s; due = refl; begun = refl }; none_quiescent = refl }
+step_leaves (RecvFailed d) s is = record { leaves = record { joined = λ e. recv_failed d e s; due = refl; begun = refl }; none_quiescent = refl }
 
 -- ---- Steps of links alone
 

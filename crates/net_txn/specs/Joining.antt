@@ -16,10 +16,11 @@ use Rattle.flow_table.specs.Switch.{first_config}
 use Rattle.outside.specs.declared.step.WorldStep.{WorldStep}
 use Rattle.outside.specs.declared.step.WorldStep.TheVariants.{Acted}
 use Rattle.outside.specs.Seen.{Seen}
-use Rattle.net_txn.specs.declared.heard.Awaited.{Awaited}
-use Rattle.net_txn.specs.declared.heard.Refusal.{Refusal}
-use Rattle.net_txn.specs.Waits.{Waits, KeptMore, barrier_sent}
-use Rattle.net_txn.specs.Net.{NetState, next_xid}
+use Rattle.lego_model.specs.declared.wait.Awaited.{Awaited}
+use Rattle.lego_model.specs.declared.wait.Refusal.{Refusal}
+use Rattle.net_txn.specs.Waits.{Waits, KeptMore}
+use Rattle.lego_model.specs.BarrierWaits.{barrier_sent, next_xid}
+use Rattle.net_txn.specs.Net.{NetState}
 
 -- DELETE of any match, whatever the outputs
 abbrev pub delete_all : Change

@@ -12,12 +12,13 @@ use Rattle.outside.specs.Seen.{Seen, Continues}
 use Rattle.outside.specs.State.{State, state, switch_of, waits_of}
 use Rattle.outside.specs.StateLaws.{Conforming-rest, Conforming-before}
 use Rattle.outside.specs.Conforming.{MaySteps, Conforming}
-use Rattle.net_txn.specs.declared.fault.TxnFault.{TxnFault}
-use Rattle.net_txn.specs.declared.fault.TxnFault.TheVariants.{SwitchFault, SwitchBroke, Diverged, Flooded, NoMemory}
-use Rattle.net_txn.specs.declared.heard.Awaited.{Awaited}
+use Rattle.lego_model.specs.declared.fault.TxnFault.{TxnFault}
+use Rattle.lego_model.specs.declared.fault.TxnFault.TheVariants.{SwitchFault, SwitchBroke, Diverged, Flooded, NoMemory}
+use Rattle.lego_model.specs.declared.wait.Awaited.{Awaited}
 use Rattle.net_txn.specs.Causes.{IsCause, IsPlainFault}
-use Rattle.net_txn.specs.Waits.{wait_steps, barrier_sent, Floods, IfFlooded}
-use Rattle.net_txn.specs.Net.{NetState, next_xid}
+use Rattle.net_txn.specs.Waits.{Floods, IfFlooded}
+use Rattle.lego_model.specs.BarrierWaits.{wait_steps, barrier_sent, next_xid}
+use Rattle.net_txn.specs.Net.{NetState}
 use Rattle.net_txn.specs.NoticeLaws.{AllNotices, notice_steps}
 use Rattle.net_txn.specs.TableBoundLaws.{table_few}
 use Rattle.net_txn.specs.FloodLaws.{IsGotAlone, few_got, ends_read}

@@ -34,9 +34,9 @@ use Rattle.outside.specs.State.{State, after_step, after_steps, state, switch_of
 use Rattle.outside.specs.StateLaws.{state-append, Conforming-rest}
 use Rattle.outside.specs.LinkLaws.{switch_of-sent, waits_of-sent}
 use Rattle.outside.specs.Conforming.{MayStep, MayAct, MaySteps, Conforming}
-use Rattle.net_txn.specs.declared.heard.Awaited.{Awaited}
-use Rattle.net_txn.specs.Net.{NetState, next_xid}
-use Rattle.net_txn.specs.Waits.{heard, is_reply, wait_steps, kept_of, reply_got}
+use Rattle.lego_model.specs.declared.wait.Awaited.{Awaited}
+use Rattle.net_txn.specs.Net.{NetState}
+use Rattle.lego_model.specs.BarrierWaits.{next_xid, heard, is_reply, wait_steps, kept_of, reply_got}
 use Rattle.net_txn.specs.Views.{rows_at}
 use Rattle.net_txn.specs.HeardLaws.{IsMessage-barrier, next_xid-lt}
 use Rattle.net_txn.specs.StepLaws.{told_switch, told_waits, barrier_sends, barrier_stays, gots, gots_switch, gots_empty}
@@ -44,7 +44,8 @@ use Rattle.net_txn.specs.NoticeLaws.{AllNotices, notices_all, notices_steps, not
 use Rattle.net_txn.specs.AskStepLaws.{any_subsumes, IsFields-any}
 use Rattle.net_txn.specs.Undos.{IsStepOf, SameSwitch}
 use Rattle.net_txn.specs.PartLaws.{steps_other}
-use Rattle.net_txn.specs.RestoreLaws.{all_two, wait_of}
+use Rattle.net_txn.specs.RestoreLaws.{wait_of}
+use Rattle.net_txn.specs.UndoWaitLaws.{all_two}
 use Rattle.net_txn.specs.Joining.{delete_all, greeted_from, greeting, Joins}
 use Rattle.net_txn.specs.JoiningLaws.{rows_at-with_view, rows_at-with_view-other}
 use Rattle.net_txn.specs.JoiningSteps.{emptied, JoinsInStep}
@@ -209,9 +210,9 @@ record Played (d xid : ℕ) (s : SwitchState) (got : List (List ℕ)) (after : S
   switch : switch_of d after ≡ Some (emptied s)
   waits : waits_of d after ≡ []
 
-played : (declared : List Declared) (d xid : ℕ) (s : SwitchState) (got : List (List ℕ)) (mid : State) → Greeted d xid s mid → AllByRecursion (λ b. is_reply (heard (greeted_from d xid) b) ≡ false) got
+reverted : (declared : List Declared) (d xid : ℕ) (s : SwitchState) (got : List (List ℕ)) (mid : State) → Greeted d xid s mid → AllByRecursion (λ b. is_reply (heard (greeted_from d xid) b) ≡ false) got
     → MaySteps declared (wait_steps (greeted_from d xid) got ++ reply_got (greeted_from d xid) ∷ []) mid → Played d xid s got (after_steps (wait_steps (greeted_from d xid) got ++ reply_got (greeted_from d xid) ∷ []) mid)
-played declared d xid s got mid g before may =
+reverted declared d xid s got mid g before may =
     let a = greeted_from d xid in
     let reply = reply_to xid in
     let same : got ≡ g.notices = notices_alone declared a g.notices got mid g.are_notices g.waits may before in
@@ -258,7 +259,7 @@ in_step_of d ports old new net now_net (Some s) lt told joins keeps none is =
     let steps = greeting d net.xid ++ (wait_steps a w.got ++ reply_got a ∷ []) in
     let may = Conforming-rest old new steps w.hears.continues.given (w.hears.told told) keeps in
     let after : state new ≡ after_steps steps (state old) = state-append old new steps w.hears.continues.given (w.hears.told told) in
-    let p = played old.given.declared d net.xid s w.got (after_all d net.xid (state old)) (greeted d net.xid s (state old) (are_read net.xid lt) is none) w.hears.before_reply may.1.1.1 in
+    let p = reverted old.given.declared d net.xid s w.got (after_all d net.xid (state old)) (greeted d net.xid s (state old) (are_read net.xid lt) is none) w.hears.before_reply may.1.1.1 in
     let switch : switch_of d (state new) ≡ Some (emptied s) = ap (switch_of d) after ∙ p.switch in
     let same : (e : ℕ) → e ≢ d → SameSwitch e (state old) (after_steps steps (state old)) = λ e other. steps_other d e steps (state old) other (all_of d net.xid w.got) in
     let there : (e : ℕ) → e ≢ d → switch_of e (state new) ≡ switch_of e (state old) = λ e other. ap (switch_of e) after ∙ (same e other).0 in

@@ -5,7 +5,7 @@ use Rattle.flow_table.specs.Switch.{SwitchState, first_config}
 use Rattle.outside.specs.Seen.{Seen}
 use Rattle.outside.specs.State.{state, switch_of, waits_of}
 use Rattle.outside.specs.Conforming.{Conforming}
-use Rattle.net_txn.specs.declared.fault.TxnFault.{TxnFault}
+use Rattle.lego_model.specs.declared.fault.TxnFault.{TxnFault}
 use Rattle.net_txn.specs.Causes.{IsPlainFault}
 use Rattle.net_txn.specs.Net.{NetState}
 use Rattle.net_txn.specs.Agreement.{Agrees}

@@ -11,20 +11,21 @@ use Rattle.outside.specs.State.{State, after_step, after_steps, state, waits_of}
 use Rattle.outside.specs.StateLaws.{Conforming-rest, MaySteps-front, MaySteps-rest}
 use Rattle.outside.specs.Conforming.{MaySteps, Conforming}
 use Rattle.flow_table.specs.declared.view.TableView.{TableView}
-use Rattle.net_txn.specs.declared.fault.TxnFault.{TxnFault}
-use Rattle.net_txn.specs.Place.{KeptWhereFit}
-use Rattle.net_txn.specs.Waits.{kept_of, barrier_sent}
+use Rattle.lego_model.specs.declared.fault.TxnFault.{TxnFault}
+use Rattle.net_txn.specs.MessageStore.{KeptWhereFit}
+use Rattle.lego_model.specs.BarrierWaits.{kept_of, barrier_sent}
 use Rattle.net_txn.specs.HeardLaws.{IsMessage-barrier}
 use Rattle.net_txn.specs.StepLaws.{told_waits, barrier_sends}
 use Rattle.net_txn.specs.NoticeLaws.{with_entries, notices_alone, notices_kept}
-use Rattle.net_txn.specs.Undos.{alone, Part, Inverse, Settled, Stuck, part_steps, steps_of, parts_of, fault_in, first_fault, ended_by, is_viewed, IsRun, IsSettled, inverses_of, Keeps, KeepsOne, StandsReady}
+use Rattle.net_txn.specs.Undos.{alone, Part, Inverse, BarrierPassed, Stuck, part_steps, steps_of, parts_of, fault_in, first_fault, ended_by, IsRun, IsBarrierPassed, inverses_of, Keeps, KeepsOne, StandsReady}
+use Rattle.net_txn.specs.Views.{is_viewed}
 use Rattle.net_txn.specs.AgreeLaws.{both_none, free_all, no_fault}
 use Rattle.net_txn.specs.RestoreLaws.{AllRun, runs_here, runs_older, entries_left, Left, left_all}
 
 -- what a wait gets then are notices, of which none is kept
-settled_keeps : (declared : List Declared) (d xid : ℕ) (got : List (List ℕ)) (s : SwitchState) (older : List Part) (t : State) (kept now_kept : List (ℕ × List ℕ)) → IsSettled d xid (inverses_of older) got → MaySteps declared (part_steps d (Settled xid got)) t → Left d s older t
+barred_keeps : (declared : List Declared) (d xid : ℕ) (got : List (List ℕ)) (s : SwitchState) (older : List Part) (t : State) (kept now_kept : List (ℕ × List ℕ)) → IsBarrierPassed d xid (inverses_of older) got → MaySteps declared (part_steps d (BarrierPassed xid got)) t → Left d s older t
     → KeptWhereFit kept (kept_of (alone d xid) got) now_kept → now_kept ≡ kept
-settled_keeps declared d xid got s older t kept now_kept is may l some =
+barred_keeps declared d xid got s older t kept now_kept is may l some =
     let a = alone d xid in
     let now = with_entries (entries_left older s.table.entries) s in
     let read = reading_of-message_bytes xid BarrierRequest is.is_xid IsMessage-barrier in
@@ -37,7 +38,7 @@ settled_keeps declared d xid got s older t kept now_kept is may l some =
 part_keeps : (declared : List Declared) (old new : Counts) (d : ℕ) (p : Part) (s : SwitchState) (older : List Part) (t : State) (kept now_kept : List (ℕ × List ℕ)) → IsRun old new d (p ∷ older) → fault_in p ≡ None → MaySteps declared (part_steps d p) t → Left d s older t
     → KeepsOne d p kept now_kept → now_kept ≡ kept
 part_keeps declared old new d (Inverse xid k) s older t kept now_kept run none may l some = some
-part_keeps declared old new d (Settled xid got) s older t kept now_kept run none may l some = settled_keeps declared d xid got s older t kept now_kept run.0 may l some
+part_keeps declared old new d (BarrierPassed xid got) s older t kept now_kept run none may l some = barred_keeps declared d xid got s older t kept now_kept run.0 may l some
 part_keeps declared old new d (Stuck xid fault steps) s older t kept now_kept run none may l some = absurd cc
 
 -- ---- Switches that stand ready

@@ -1,7 +1,7 @@
 -- The bytes of a port are the last ones of a PORT_STATUS.
-use Rattle.std.specs.Prelude.{◌≡◌, ℕ, ◌-◌, List, [], ◌++◌, length, take, drop, replicate}
+use Rattle.std.specs.Prelude.{◌≡◌, ℕ, ◌-◌, List, [], ◌++◌, length, drop, replicate}
 use Rattle.std.proofs.Common.{ap, ◌∙◌, append_assoc, length-append, arith}
-use Rattle.std.proofs.lemmas.List.{append-nil, drop_at, take_all, length-drop, length-replicate}
+use Rattle.std.proofs.lemmas.List.{append-nil, drop_at, length-replicate}
 use Rattle.of_types.specs.Fields.{number_bytes}
 use Rattle.of_types.specs.FieldLaws.{length-number_bytes}
 use Rattle.of_types.specs.Layout.{spelled}
@@ -26,6 +26,3 @@ port_text-described port =
     let front = a ++ (b ++ (c ++ (d ++ (e ++ f)))) in
     let len : length front ≡ 16 = simp length-append (omega (arith, length-number_bytes 1 1, length-number_bytes 1 12, length-number_bytes 2 64, length-number_bytes 4 0, length-number_bytes 1 0, length-replicate {A = ℕ} 7 0)) in
     ap (drop 16) (whole a b c d e f rest) ∙ drop_at front rest 16 len
-
-pub rest_taken : (n : ℕ) (xs : List ℕ) → take (length xs - n) (drop n xs) ≡ drop n xs
-rest_taken n xs = take_all (length xs - n) (drop n xs) (omega (arith, length-drop n xs))

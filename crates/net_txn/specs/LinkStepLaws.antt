@@ -7,11 +7,12 @@ use Rattle.outside.specs.declared.faults.LinkFault.TheVariants as linking
 use Rattle.outside.specs.declared.step.WorldStep.{WorldStep}
 use Rattle.outside.specs.Seen.{Seen}
 use Rattle.outside.specs.Calls.{Sends, Receives, send_steps, receive_steps}
-use Rattle.net_txn.specs.declared.heard.Awaited.{Awaited}
-use Rattle.net_txn.specs.declared.heard.Refusal.{Refusal}
-use Rattle.net_txn.specs.declared.heard.Heard.{Heard}
-use Rattle.net_txn.specs.declared.heard.Heard.TheVariants.{Reply, Refused, Notice, Echo, Other}
-use Rattle.net_txn.specs.Waits.{heard, steps_by, wait_steps, WaitsOn}
+use Rattle.lego_model.specs.declared.wait.Awaited.{Awaited}
+use Rattle.lego_model.specs.declared.wait.Refusal.{Refusal}
+use Rattle.lego_model.specs.declared.wait.Heard.{Heard}
+use Rattle.lego_model.specs.declared.wait.Heard.TheVariants.{Reply, Refused, Notice, Echo, Other}
+use Rattle.net_txn.specs.Waits.{WaitsOn}
+use Rattle.lego_model.specs.BarrierWaits.{heard, steps_by, wait_steps}
 use Rattle.net_txn.specs.LinkSteps.{AreLinkSteps, OnLinks}
 
 -- ---- None, and one after the other

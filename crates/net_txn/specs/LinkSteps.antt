@@ -10,7 +10,7 @@ use Rattle.outside.specs.declared.step.WorldStep.TheVariants.{Acted, SendFailed,
 use Rattle.outside.specs.Seen.{Seen}
 use Rattle.outside.specs.State.{State, after_step, after_steps, state, waits_of, is_joined, has_waiting}
 use Rattle.outside.specs.InOrder.{MayComeAll, InOrder}
-use Rattle.net_txn.specs.declared.heard.Awaited.{Awaited}
+use Rattle.lego_model.specs.declared.wait.Awaited.{Awaited}
 
 -- a step of the link of a switch: a message sent or got, or a call that failed
 abbrev pub is_link_step : WorldStep → Bool
@@ -37,23 +37,23 @@ OnLinks Tells old new = Tells → LinkSteps old new
 
 -- A call that failed is in place where its switch is joined, and to take a message, where one of it waits. A call out of place never
 -- succeeds, so that only the steps of calls that failed have to be looked at.
-abbrev pub IsLinkInPlace : WorldStep → State → Type 0
-IsLinkInPlace (SendFailed d) s = is_joined d s ≡ true
-IsLinkInPlace (RecvFailed d) s = has_waiting d s ≡ true
-IsLinkInPlace other s = Unit {0}
+abbrev pub IsExpectedOnLink : WorldStep → State → Type 0
+IsExpectedOnLink (SendFailed d) s = is_joined d s ≡ true
+IsExpectedOnLink (RecvFailed d) s = has_waiting d s ≡ true
+IsExpectedOnLink other s = Unit {0}
 
 -- each of them in the state that those before it leave
-abbrev pub AreLinksInPlace : List WorldStep → State → Type 0
-AreLinksInPlace [] s = Unit {0}
-AreLinksInPlace (step ∷ steps) s = IsLinkInPlace step s × AreLinksInPlace steps (after_step step s)
+abbrev pub AreExpectedOnLinks : List WorldStep → State → Type 0
+AreExpectedOnLinks [] s = Unit {0}
+AreExpectedOnLinks (step ∷ steps) s = IsExpectedOnLink step s × AreExpectedOnLinks steps (after_step step s)
 
 -- the calls of links since then are in place
-abbrev pub StaysInPlace : {Own : Type 0} → Seen Own → Seen Own → Type 0
-StaysInPlace old new = (steps : List WorldStep) → new.history ≡ old.history ++ steps → AreLinksInPlace steps (state old)
+abbrev pub MakesNoStrayCall : {Own : Type 0} → Seen Own → Seen Own → Type 0
+MakesNoStrayCall old new = (steps : List WorldStep) → new.history ≡ old.history ++ steps → AreExpectedOnLinks steps (state old)
 
 -- the same where a world tells in order and the switch is joined
-abbrev pub AsksInPlace : {Own : Type 0} → Type 0 → ℕ → Seen Own → Seen Own → Type 0
-AsksInPlace Tells d old new = Tells → InOrder new → is_joined d (state old) ≡ true → StaysInPlace old new
+abbrev pub AsksWithoutStrays : {Own : Type 0} → Type 0 → ℕ → Seen Own → Seen Own → Type 0
+AsksWithoutStrays Tells d old new = Tells → InOrder new → is_joined d (state old) ≡ true → MakesNoStrayCall old new
 
 -- The switch is joined, and of what waits of it something is the reply to the barrier.
 pub record Awaits (a : Awaited) (s : State) : Type 0 where
@@ -66,12 +66,12 @@ pub record Awaits (a : Awaited) (s : State) : Type 0 where
 
 -- The calls of these steps are in place, and the switch stays joined.
 pub record Goes (d : ℕ) (steps : List WorldStep) (s : State) : Type 0 where
-  pub places : AreLinksInPlace steps s
+  pub places : AreExpectedOnLinks steps s
   pub joined : is_joined d (after_steps steps s) ≡ true
 
 -- so where they come in order and the switch is joined
-abbrev pub GoesInPlace : ℕ → List WorldStep → Type 0
-GoesInPlace d steps = (declared : List Declared) (s : State) → MayComeAll declared steps s → is_joined d s ≡ true → Goes d steps s
+abbrev pub GoesWithoutStrays : ℕ → List WorldStep → Type 0
+GoesWithoutStrays d steps = (declared : List Declared) (s : State) → MayComeAll declared steps s → is_joined d s ≡ true → Goes d steps s
 
 -- there a message of it waits behind them
 abbrev pub ThenWaits : ℕ → List WorldStep → Type 0

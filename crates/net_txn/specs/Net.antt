@@ -1,7 +1,7 @@
 -- What the host keeps of its network: the views of the joined switches and their known ports, by switch ascending; what undoes the
 -- changes of the open transaction, newest last; the transaction id that is used next; the moment; and the messages that came while
 -- something else was awaited; and how many faults of undos there is room for. All of this is our own.
-use Rattle.std.specs.Prelude.{◌==◌, false, ℕ, ◌+◌, List, [], ◌∷◌, ◌++◌, Option, Some, None, if◌then◌else◌}
+use Rattle.std.specs.Prelude.{false, ℕ, ◌+◌, List, [], ◌∷◌, ◌++◌, Option, Some, None, if◌then◌else◌}
 use Rattle.of_match.specs.declared.key.Key.{Key}
 use Rattle.of_wire.specs.declared.bodies.FlowMod.{FlowMod as Change}
 use Rattle.of_wire.specs.declared.message.Message.TheVariants.{FlowMod}
@@ -9,10 +9,11 @@ use Rattle.of_wire.specs.Spelling.{message_bytes}
 use Rattle.flow_table.specs.declared.view.TableView.{TableView}
 use Rattle.flow_table.specs.Change.{key_in, is_delete}
 use Rattle.flow_table.specs.Refusals.{no_buffer}
-use Rattle.net_txn.specs.declared.heard.Awaited.{Awaited}
-use Rattle.net_txn.specs.declared.logged.Fare.{Fare}
+use Rattle.lego_model.specs.declared.wait.Awaited.{Awaited}
+use Rattle.net_txn.specs.declared.logged.UndoProgress.{UndoProgress}
 use Rattle.net_txn.specs.declared.logged.Logged.{Logged}
 use Rattle.net_txn.specs.declared.ports.KnownPorts.{KnownPorts}
+use Rattle.lego_model.specs.BarrierWaits.{next_xid}
 
 pub record NetState : Type 0 where
   pub views : List TableView
@@ -24,9 +25,6 @@ pub record NetState : Type 0 where
   pub room : ℕ
 
 -- ---- Transaction ids: 1, 2, .., and behind the last one 1 again
-
-abbrev pub next_xid : ℕ → ℕ
-next_xid xid = if xid == 4294967295 then 1 else xid + 1
 
 -- what is awaited where one message was sent with this id, and then a barrier
 abbrev pub awaited_from : ℕ → ℕ → Awaited
@@ -53,11 +51,11 @@ unfoldable pub inverse_bytes : ℕ → Key → List ℕ
 inverse_bytes xid k = message_bytes xid (FlowMod (delete_strict k))
 
 -- how an inverse that was not sent fares
-abbrev pub no_fare : Fare
-no_fare = record { xid = 0; since = 0; failed = false }
+abbrev pub no_progress : UndoProgress
+no_progress = record { xid = 0; since = 0; failed = false }
 
 abbrev pub logged_at : ℕ → Key → Logged
-logged_at d k = record { dpid = d; key = k; fare = no_fare }
+logged_at d k = record { dpid = d; key = k; progress = no_progress }
 
 -- what a change that touches no row logs
 abbrev pub logged_by : ℕ → Change → Option Logged

@@ -27,10 +27,10 @@ use Rattle.outside.specs.LinkLaws.{waits_of-got}
 use Rattle.outside.specs.Conforming.{MaySteps}
 use Rattle.undo_laws.specs.Removal.{without, IsRemoval}
 use Rattle.undo_laws.specs.RemovalLaws.{removal-changed, removal-entries, removal-refusal}
-use Rattle.net_txn.specs.declared.heard.Awaited.{Awaited}
-use Rattle.net_txn.specs.declared.heard.Heard.TheVariants as hearing
+use Rattle.lego_model.specs.declared.wait.Awaited.{Awaited}
+use Rattle.lego_model.specs.declared.wait.Heard.TheVariants as hearing
 use Rattle.net_txn.specs.Net.{delete_strict}
-use Rattle.net_txn.specs.Waits.{heard, is_reply, heard_steps, wait_steps, kept_of, reply_got}
+use Rattle.lego_model.specs.BarrierWaits.{heard, is_reply, heard_steps, wait_steps, kept_of, reply_got}
 use Rattle.net_txn.specs.StepLaws.{gots, first_got, reply_alone}
 
 -- ---- The switch

@@ -4,33 +4,28 @@ use Rattle.std.proofs.Common.{inl, inr, arith}
 use Rattle.std.proofs.lemmas.Bool.{cases_Bool, eqb-false, ltb-true, ltb-false}
 use Rattle.flow_table.specs.declared.view.ViewRow.{ViewRow}
 use Rattle.flow_table.specs.declared.view.TableView.{TableView}
-use Rattle.net_txn.specs.Views.{rows_at, with_rows}
+use Rattle.net_txn.specs.Views.{rows_at, with_rows, ViewsAscend}
 use Rattle.net_txn.specs.Joining.{with_view}
 
--- strictly ascending by switch, from a number on
-abbrev pub ViewsFrom : ℕ → List TableView → Type 0
-ViewsFrom least [] = Unit {0}
-ViewsFrom least (v ∷ vs) = (least ≤ v.dpid) × ViewsFrom (v.dpid + 1) vs
-
-lower : (low least : ℕ) (vs : List TableView) → low ≤ least → ViewsFrom least vs → ViewsFrom low vs
+lower : (low least : ℕ) (vs : List TableView) → low ≤ least → ViewsAscend least vs → ViewsAscend low vs
 lower low least [] le is = tt
 lower low least (v ∷ vs) le is = (omega (arith, is.0, le), is.1)
 
-rows_if : (here : Bool) (d least : ℕ) (change : List ViewRow → List ViewRow) (v : TableView) (vs : List TableView) → ViewsFrom least (v ∷ vs) → ViewsFrom (v.dpid + 1) (with_rows d change vs)
-    → ViewsFrom least (if here then record v { rows = change v.rows } ∷ vs else v ∷ with_rows d change vs)
+rows_if : (here : Bool) (d least : ℕ) (change : List ViewRow → List ViewRow) (v : TableView) (vs : List TableView) → ViewsAscend least (v ∷ vs) → ViewsAscend (v.dpid + 1) (with_rows d change vs)
+    → ViewsAscend least (if here then record v { rows = change v.rows } ∷ vs else v ∷ with_rows d change vs)
 rows_if true d least change v vs is rest = is
 rows_if false d least change v vs is rest = (is.0, rest)
 
-pub with_rows-ascends : (d least : ℕ) (change : List ViewRow → List ViewRow) (vs : List TableView) → ViewsFrom least vs → ViewsFrom least (with_rows d change vs)
+pub with_rows-ascends : (d least : ℕ) (change : List ViewRow → List ViewRow) (vs : List TableView) → ViewsAscend least vs → ViewsAscend least (with_rows d change vs)
 with_rows-ascends d least change [] is = tt
 with_rows-ascends d least change (v ∷ vs) is = rows_if (v.dpid == d) d least change v vs is (with_rows-ascends d (v.dpid + 1) change vs is.1)
 
-filter_if : (kept : Bool) (d least : ℕ) (v : TableView) (vs : List TableView) → ViewsFrom least (v ∷ vs) → ViewsFrom (v.dpid + 1) (filter (λ w. not (w.dpid == d)) vs)
-    → ViewsFrom least (if kept then v ∷ filter (λ w. not (w.dpid == d)) vs else filter (λ w. not (w.dpid == d)) vs)
+filter_if : (kept : Bool) (d least : ℕ) (v : TableView) (vs : List TableView) → ViewsAscend least (v ∷ vs) → ViewsAscend (v.dpid + 1) (filter (λ w. not (w.dpid == d)) vs)
+    → ViewsAscend least (if kept then v ∷ filter (λ w. not (w.dpid == d)) vs else filter (λ w. not (w.dpid == d)) vs)
 filter_if true d least v vs is rest = (is.0, rest)
 filter_if false d least v vs is rest = lower least (v.dpid + 1) (filter (λ w. not (w.dpid == d)) vs) (omega (arith, is.0)) rest
 
-pub left-ascends : (d least : ℕ) (vs : List TableView) → ViewsFrom least vs → ViewsFrom least (filter (λ v. not (v.dpid == d)) vs)
+pub left-ascends : (d least : ℕ) (vs : List TableView) → ViewsAscend least vs → ViewsAscend least (filter (λ v. not (v.dpid == d)) vs)
 left-ascends d least [] is = tt
 left-ascends d least (v ∷ vs) is = filter_if (not (v.dpid == d)) d least v vs is (left-ascends d (v.dpid + 1) vs is.1)
 
@@ -38,7 +33,7 @@ not_here : (here : Bool) (rows : List ViewRow) (rest : Option (List ViewRow)) �
 not_here true rows rest none = absurd cc
 not_here false rows rest none = (refl, none)
 
-pub with_view-ascends : (d least : ℕ) (vs : List TableView) → least ≤ d → rows_at d vs ≡ None → ViewsFrom least vs → ViewsFrom least (with_view d vs)
+pub with_view-ascends : (d least : ℕ) (vs : List TableView) → least ≤ d → rows_at d vs ≡ None → ViewsAscend least vs → ViewsAscend least (with_view d vs)
 with_view-ascends d least [] le none is = (le, tt)
 with_view-ascends d least (v ∷ vs) le none is =
     let n = not_here (v.dpid == d) v.rows (rows_at d vs) none in

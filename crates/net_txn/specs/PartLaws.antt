@@ -20,7 +20,7 @@ use Rattle.net_txn.specs.Undos.{SameSwitch, IsStepOf, CanBeSent}
 
 -- ---- Steps of another switch
 
-keeps_failed : KeepsDeclared link_failed
+pub keeps_failed : KeepsDeclared link_failed
 unfolding link_failed
 keeps_failed l = refl
 

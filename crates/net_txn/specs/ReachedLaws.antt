@@ -17,12 +17,13 @@ use Rattle.lego_model.specs.Answers.{as_sent}
 use Rattle.lego_model.specs.Journal.{is_change, sends_change}
 use Rattle.outside.specs.Seen.{Seen, journal}
 use Rattle.outside.specs.SeenLaws.{journal-append}
-use Rattle.net_txn.specs.declared.heard.Awaited.{Awaited}
-use Rattle.net_txn.specs.declared.heard.Heard.{Heard}
-use Rattle.net_txn.specs.declared.heard.Heard.TheVariants.{Reply, Refused, Notice, Echo, Other}
-use Rattle.net_txn.specs.Waits.{heard, steps_by, heard_steps, wait_steps, barrier_sent, reply_got, IsRead, echo_reply}
+use Rattle.lego_model.specs.declared.wait.Awaited.{Awaited}
+use Rattle.lego_model.specs.declared.wait.Heard.{Heard}
+use Rattle.lego_model.specs.declared.wait.Heard.TheVariants.{Reply, Refused, Notice, Echo, Other}
+use Rattle.net_txn.specs.Waits.{IsRead}
+use Rattle.lego_model.specs.BarrierWaits.{heard, steps_by, heard_steps, wait_steps, barrier_sent, reply_got, echo_reply, next_xid}
 use Rattle.net_txn.specs.EchoLaws.{echo_reply-reading}
-use Rattle.net_txn.specs.Net.{NetState, next_xid, awaited_from}
+use Rattle.net_txn.specs.Net.{NetState, awaited_from}
 use Rattle.net_txn.specs.SentLaws.{reading_of-as_sent}
 use Rattle.net_txn.specs.HeardLaws.{IsMessage-barrier, next_xid-lt}
 use Rattle.net_txn.specs.Changes.{change_sent, Asked}

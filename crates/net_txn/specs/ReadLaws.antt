@@ -18,14 +18,15 @@ use Rattle.outside.specs.declared.step.WorldStep.{WorldStep}
 use Rattle.outside.specs.Seen.{Seen}
 use Rattle.outside.specs.InOrder.{brings_message, BringMessages, MessagesSince}
 use Rattle.outside.specs.InOrderLaws.{messages-append, messages-by}
-use Rattle.net_txn.specs.declared.fault.TxnFault.{TxnFault}
-use Rattle.net_txn.specs.declared.heard.Awaited.{Awaited}
-use Rattle.net_txn.specs.declared.heard.Refusal.{Refusal}
-use Rattle.net_txn.specs.declared.heard.Heard.{Heard}
-use Rattle.net_txn.specs.declared.heard.Heard.TheVariants.{Reply, Refused, Notice, Echo, Other}
-use Rattle.net_txn.specs.Net.{NetState, next_xid}
+use Rattle.lego_model.specs.declared.fault.TxnFault.{TxnFault}
+use Rattle.lego_model.specs.declared.wait.Awaited.{Awaited}
+use Rattle.lego_model.specs.declared.wait.Refusal.{Refusal}
+use Rattle.lego_model.specs.declared.wait.Heard.{Heard}
+use Rattle.lego_model.specs.declared.wait.Heard.TheVariants.{Reply, Refused, Notice, Echo, Other}
+use Rattle.net_txn.specs.Net.{NetState}
+use Rattle.lego_model.specs.BarrierWaits.{next_xid, heard, steps_by, wait_steps, reply_got}
 use Rattle.net_txn.specs.HeardLaws.{next_xid-lt}
-use Rattle.net_txn.specs.Waits.{heard, steps_by, wait_steps, reply_got, IsRead, Waits}
+use Rattle.net_txn.specs.Waits.{IsRead, Waits}
 use Rattle.net_txn.specs.Changes.{Asked, Stopped}
 use Rattle.net_txn.specs.Arriving.{arrival_steps, Becomes, Arrives}
 use Rattle.net_txn.specs.Joining.{Joins}
@@ -54,8 +55,8 @@ reply_brings : (a : Awaited) → a.barrier < 2 ^ 32 → brings_message (reply_go
 reply_brings a small = ap is_read (reading_of-message_bytes a.barrier messages.BarrierReply small IsMessage-reply)
 
 -- some, and then the reply to the barrier
-pub settled_brings : (a : Awaited) (got : List (List ℕ)) → a.barrier < 2 ^ 32 → AllByRecursion (λ b. IsOk (reading_of b)) got → BringMessages (wait_steps a got ++ reply_got a ∷ [])
-settled_brings a got small read = messages-append (wait_steps a got) (reply_got a ∷ []) (wait_brings a got read) (reply_brings a small, tt)
+pub barred_brings : (a : Awaited) (got : List (List ℕ)) → a.barrier < 2 ^ 32 → AllByRecursion (λ b. IsOk (reading_of b)) got → BringMessages (wait_steps a got ++ reply_got a ∷ [])
+barred_brings a got small read = messages-append (wait_steps a got) (reply_got a ∷ []) (wait_brings a got read) (reply_brings a small, tt)
 
 all_read : (got : List (List ℕ)) → AllByRecursion IsRead got → AllByRecursion (λ b. IsOk (reading_of b)) got
 all_read [] read = tt
@@ -67,7 +68,7 @@ pub waits_read : {Own : Type 0} {Tells : Type 0} {a : Awaited} {old new : Seen O
     → MessagesSince old new
 waits_read {a = a} {old = old} {new = new} front sent small w told =
     messages-by old new (front ++ (wait_steps a w.got ++ reply_got a ∷ [])) (w.hears.told told)
-    (messages-append front (wait_steps a w.got ++ reply_got a ∷ []) sent (settled_brings a w.got small (all_read w.got w.hears.read)))
+    (messages-append front (wait_steps a w.got ++ reply_got a ∷ []) sent (barred_brings a w.got small (all_read w.got w.hears.read)))
 
 -- ---- Calls
 

@@ -15,11 +15,11 @@ use Rattle.of_wire.specs.Spelling.{message_size, body_bytes, message_bytes}
 use Rattle.of_wire.specs.SpellingLaws.{SpellMessage-message_bytes}
 use Rattle.of_stats.specs.Parts.{Part, room, joined}
 use Rattle.flow_table.specs.Statistics.{parts_behind, part_bytes}
-use Rattle.net_txn.specs.declared.heard.Awaited.{Awaited}
-use Rattle.net_txn.specs.declared.heard.Heard.TheVariants.{Other}
-use Rattle.net_txn.specs.Waits.{heard}
+use Rattle.lego_model.specs.declared.wait.Awaited.{Awaited}
+use Rattle.lego_model.specs.declared.wait.Heard.TheVariants.{Other}
+use Rattle.lego_model.specs.BarrierWaits.{heard}
 use Rattle.net_txn.specs.HeardLaws.{IsMessage-reply}
-use Rattle.net_txn.specs.Asks.{is_about, part_of}
+use Rattle.lego_model.specs.FlowQueries.{is_about, part_of}
 
 -- ---- One part
 

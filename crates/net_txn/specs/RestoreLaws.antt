@@ -26,24 +26,21 @@ use Rattle.undo_laws.specs.Removal.{without, without_all, OnlyAdded}
 use Rattle.undo_laws.specs.RemovalLaws.{without_added, is_among-reverse}
 use Rattle.undo_laws.specs.AddedLaws.{undone-added}
 use Rattle.undo_laws.specs.Serials.{IsSerialed}
-use Rattle.net_txn.specs.declared.heard.Awaited.{Awaited}
-use Rattle.net_txn.specs.declared.heard.Heard.{Heard}
-use Rattle.net_txn.specs.declared.heard.Heard.TheVariants as hearing
-use Rattle.net_txn.specs.declared.fault.TxnFault.{TxnFault}
-use Rattle.net_txn.specs.declared.fault.TxnFault.TheVariants.{Diverged}
+use Rattle.lego_model.specs.declared.wait.Awaited.{Awaited}
+use Rattle.lego_model.specs.declared.wait.Heard.{Heard}
+use Rattle.lego_model.specs.declared.wait.Heard.TheVariants as hearing
+use Rattle.lego_model.specs.declared.fault.TxnFault.{TxnFault}
+use Rattle.lego_model.specs.declared.fault.TxnFault.TheVariants.{Diverged}
 use Rattle.net_txn.specs.Net.{delete_strict, inverse_bytes}
-use Rattle.net_txn.specs.Waits.{heard, is_reply, steps_by, heard_steps, wait_steps, barrier_sent, reply_got}
+use Rattle.lego_model.specs.BarrierWaits.{heard, is_reply, steps_by, heard_steps, wait_steps, barrier_sent, reply_got}
 use Rattle.net_txn.specs.HeardLaws.{IsMessage-barrier}
 use Rattle.net_txn.specs.StepLaws.{first_got, reply_is_none, told_switch, told_waits, barrier_sends, barrier_stays, gots, gots_switch, gots_empty}
-use Rattle.net_txn.specs.Undos.{key_sent, key_refused, Refuses, IsFaultOf, fault_in, first_fault_of, first_fault, ended_by, SameSwitch, Restored, IsStepOf, CanBeSent, IsSettled, alone, Part, Inverse, Settled, Stuck, part_steps, steps_of, parts_of, is_stuck, since_of, inverses_of, IsRun}
+use Rattle.net_txn.specs.Undos.{key_sent, key_refused, Refuses, IsFaultOf, fault_in, first_fault_of, first_fault, ended_by, SameSwitch, Restored, IsStepOf, CanBeSent, IsBarrierPassed, alone, Part, Inverse, BarrierPassed, Stuck, part_steps, steps_of, parts_of, is_stuck, since_of, inverses_of, IsRun}
 use Rattle.net_txn.specs.PartLaws.{steps_other, reading_of-inverse}
 use Rattle.net_txn.specs.NoticeLaws.{reply_kind, notice_steps, with_entries, inverse_moves, inverse_sends, inverse_sends-few, AllNotices, notices_steps, notices_alone}
+use Rattle.net_txn.specs.UndoWaitLaws.{all_two}
 
 -- ---- The steps of a part are those of its switch.
-
-pub all_two : {X : Type 0} (P : X → Type 0) (xs ys : List X) → AllByRecursion P xs → AllByRecursion P ys → AllByRecursion P (xs ++ ys)
-all_two P [] ys all rest = rest
-all_two P (x ∷ xs) ys all rest = (all.0, all_two P xs ys all.1 rest)
 
 by_of : (d : ℕ) (h : Heard) (bytes : List ℕ) → AllByRecursion (IsStepOf d) (steps_by d h bytes)
 by_of d hearing.Reply bytes = tt
@@ -58,7 +55,7 @@ wait_of a (b ∷ bs) = (refl, all_two (IsStepOf a.dpid) (steps_by a.dpid (heard 
 
 pub part_of : (old new : Counts) (d : ℕ) (p : Part) (older : List Part) → IsRun old new d (p ∷ older) → AllByRecursion (IsStepOf d) (part_steps d p)
 part_of old new d (Inverse xid k) older run = (refl, tt)
-part_of old new d (Settled xid got) older run = (refl, all_two (IsStepOf d) (wait_steps (alone d xid) got) (reply_got (alone d xid) ∷ []) (wait_of (alone d xid) got) (refl, tt))
+part_of old new d (BarrierPassed xid got) older run = (refl, all_two (IsStepOf d) (wait_steps (alone d xid) got) (reply_got (alone d xid) ∷ []) (wait_of (alone d xid) got) (refl, tt))
 part_of old new d (Stuck xid fault steps) older run = run.0.each
 
 -- ---- One part of the switch
@@ -75,7 +72,7 @@ pub record Left (d : ℕ) (s : SwitchState) (parts : List Part) (t : State) : Ty
   pub switch : switch_of d t ≡ Some (with_entries (entries_left parts s.table.entries) s)
   pub notices : AllNotices (waits_of d t)
   pub few : length (waits_of d t) + length (entries_left parts s.table.entries) ≤ length s.table.entries
-  pub settled : since_of parts ≡ 0 → waits_of d t ≡ []
+  pub barred : since_of parts ≡ 0 → waits_of d t ≡ []
 
 left_inverse : (d xid : ℕ) (k : Key) (s : SwitchState) (older : List Part) (t : State) → CanBeSent xid k → Left d s older t → Left d s (Inverse xid k ∷ older) (after_step (Acted (Sent d (inverse_bytes xid k))) t)
 left_inverse d xid k s older t can l =
@@ -85,11 +82,11 @@ left_inverse d xid k s older t can l =
       switch = told_switch d xid (FlowMod (delete_strict k)) (inverse_bytes xid k) t now read l.switch ∙ ap (λ (x : SwitchState). Some x) (inverse_moves k now);
       notices = subst AllNotices (sym (told_waits d xid (FlowMod (delete_strict k)) (inverse_bytes xid k) t now read l.switch)) (all_two _ (waits_of d t) (sent_by_message xid (FlowMod (delete_strict k)) now) l.notices (inverse_sends xid k now));
       few = omega (arith, l.few, ap length (told_waits d xid (FlowMod (delete_strict k)) (inverse_bytes xid k) t now read l.switch), length-append (waits_of d t) (sent_by_message xid (FlowMod (delete_strict k)) now), inverse_sends-few xid k now);
-      settled = λ none. absurd (omega (arith, none));
+      barred = λ none. absurd (omega (arith, none));
     }
 
-left_settled : (declared : List Declared) (d xid : ℕ) (got : List (List ℕ)) (s : SwitchState) (older : List Part) (t : State) → IsSettled d xid (inverses_of older) got → MaySteps declared (part_steps d (Settled xid got)) t → Left d s older t
-    → Left d s (Settled xid got ∷ older) (after_steps (part_steps d (Settled xid got)) t)
+left_settled : (declared : List Declared) (d xid : ℕ) (got : List (List ℕ)) (s : SwitchState) (older : List Part) (t : State) → IsBarrierPassed d xid (inverses_of older) got → MaySteps declared (part_steps d (BarrierPassed xid got)) t → Left d s older t
+    → Left d s (BarrierPassed xid got ∷ older) (after_steps (part_steps d (BarrierPassed xid got)) t)
 left_settled declared d xid got s older t is may l =
     let a = alone d xid in
     let now = with_entries (entries_left older s.table.entries) s in
@@ -102,29 +99,29 @@ left_settled declared d xid got s older t is may l =
     let of_switch : List ℕ → WorldStep = λ b. Acted (Got d b) in
     let steps : wait_steps a got ++ reply_got a ∷ [] ≡ gots d (waits_of d t ++ reply ∷ []) =
     ap (λ (ws : List (List ℕ)). wait_steps a ws ++ reply_got a ∷ []) same ∙ ap (λ (xs : List WorldStep). xs ++ reply_got a ∷ []) (notices_steps a (waits_of d t) l.notices) ∙ sym (map-append of_switch (waits_of d t) (reply ∷ [])) in
-    let end : after_steps (part_steps d (Settled xid got)) t ≡ after_steps (gots d (waits_of d t ++ reply ∷ [])) u = ap (λ (xs : List WorldStep). after_steps xs u) steps in
-    let none : waits_of d (after_steps (part_steps d (Settled xid got)) t) ≡ [] = ap (waits_of d) end ∙ gots_empty d (waits_of d t ++ reply ∷ []) u waits in
+    let end : after_steps (part_steps d (BarrierPassed xid got)) t ≡ after_steps (gots d (waits_of d t ++ reply ∷ [])) u = ap (λ (xs : List WorldStep). after_steps xs u) steps in
+    let none : waits_of d (after_steps (part_steps d (BarrierPassed xid got)) t) ≡ [] = ap (waits_of d) end ∙ gots_empty d (waits_of d t ++ reply ∷ []) u waits in
     record {
       switch = ap (switch_of d) end ∙ gots_switch d (waits_of d t ++ reply ∷ []) u ∙ moved;
       notices = subst AllNotices (sym none) tt;
       few = omega (arith, l.few, ap length none);
-      settled = λ zero_so. none;
+      barred = λ zero_so. none;
     }
 
 left_part : (declared : List Declared) (old new : Counts) (d : ℕ) (p : Part) (s : SwitchState) (older : List Part) (t : State) → IsRun old new d (p ∷ older) → is_stuck (p ∷ older) ≡ false → MaySteps declared (part_steps d p) t → Left d s older t
     → Left d s (p ∷ older) (after_steps (part_steps d p) t)
 left_part declared old new d (Inverse xid k) s older t run free may l = left_inverse d xid k s older t run.0 l
-left_part declared old new d (Settled xid got) s older t run free may l = left_settled declared d xid got s older t run.0 may l
+left_part declared old new d (BarrierPassed xid got) s older t run free may l = left_settled declared d xid got s older t run.0 may l
 left_part declared old new d (Stuck xid fault steps) s older t run free may l = absurd cc
 
 older_free : (old new : Counts) (d : ℕ) (p : Part) (older : List Part) → IsRun old new d (p ∷ older) → is_stuck older ≡ false
 older_free old new d (Inverse xid k) older run = run.2
-older_free old new d (Settled xid got) older run = run.1
+older_free old new d (BarrierPassed xid got) older run = run.1
 older_free old new d (Stuck xid fault steps) older run = run.1
 
 older_run : (old new : Counts) (d : ℕ) (p : Part) (older : List Part) → IsRun old new d (p ∷ older) → IsRun old new d older
 older_run old new d (Inverse xid k) older run = run.3
-older_run old new d (Settled xid got) older run = run.2
+older_run old new d (BarrierPassed xid got) older run = run.2
 older_run old new d (Stuck xid fault steps) older run = run.2
 
 -- ---- All parts
@@ -147,12 +144,12 @@ left_same d s parts t u same l = record {
   switch = same.0 ∙ l.switch;
   notices = subst AllNotices (sym same.1) l.notices;
   few = omega (arith, l.few, ap length same.1);
-  settled = λ none. same.1 ∙ l.settled none;
+  barred = λ none. same.1 ∙ l.barred none;
 }
 
 pub left_all : (declared : List Declared) (old new : Counts) (d : ℕ) (s : SwitchState) (parts : List (ℕ × Part)) (t : State) → AllRun old new parts → is_stuck (parts_of d parts) ≡ false → MaySteps declared (steps_of parts) t
     → switch_of d t ≡ Some s → waits_of d t ≡ [] → Left d s (parts_of d parts) (after_steps (steps_of parts) t)
-left_all declared old new d s [] t all free may is none = record { switch = is; notices = subst AllNotices (sym none) tt; few = omega (arith, ap length none); settled = λ zero_so. none }
+left_all declared old new d s [] t all free may is none = record { switch = is; notices = subst AllNotices (sym none) tt; few = omega (arith, ap length none); barred = λ zero_so. none }
 left_all declared old new d s (p ∷ older) t all free may is none =
     let here = runs_here old new p older all in
     let each = part_of old new p.0 p.1 (parts_of p.0 older) here in
@@ -193,18 +190,18 @@ without_all-more : (ls : List Key) (k : Key) (es : List Entry) → without_all (
 without_all-more [] k es = refl
 without_all-more (l ∷ ls) k es = without_all-more ls k (without l es)
 
-abbrev pub keys_played : List Part → List Key
-keys_played parts = map (λ p. p.1) (inverses_of parts)
+abbrev pub keys_reverted : List Part → List Key
+keys_reverted parts = map (λ p. p.1) (inverses_of parts)
 
-entries_left-keys : (parts : List Part) (es : List Entry) → entries_left parts es ≡ without_all (reverse (keys_played parts)) es
+entries_left-keys : (parts : List Part) (es : List Entry) → entries_left parts es ≡ without_all (reverse (keys_reverted parts)) es
 entries_left-keys [] es = refl
 entries_left-keys (Inverse xid k ∷ older) es =
-    ap (without k) (entries_left-keys older es) ∙ sym (without_all-more (reverse (keys_played older)) k es)
-    ∙ ap (λ (ls : List Key). without_all ls es) (sym (reverse-append (k ∷ []) (keys_played older)))
-entries_left-keys (Settled xid got ∷ older) es = entries_left-keys older es
+    ap (without k) (entries_left-keys older es) ∙ sym (without_all-more (reverse (keys_reverted older)) k es)
+    ∙ ap (λ (ls : List Key). without_all ls es) (sym (reverse-append (k ∷ []) (keys_reverted older)))
+entries_left-keys (BarrierPassed xid got ∷ older) es = entries_left-keys older es
 entries_left-keys (Stuck xid fault steps ∷ older) es = entries_left-keys older es
 
-pub restored_table : (parts : List Part) (keys : List Key) (s : SwitchState) (before : TableState) → keys_played parts ≡ keys → IsTable before.entries → IsSerialed s.table → OnlyAdded keys before.entries s.table.entries
+pub restored_table : (parts : List Part) (keys : List Key) (s : SwitchState) (before : TableState) → keys_reverted parts ≡ keys → IsTable before.entries → IsSerialed s.table → OnlyAdded keys before.entries s.table.entries
     → with_entries (entries_left parts s.table.entries) s ≡ record s { table = undone before s.table s.moment }
 restored_table parts keys s before same was is only =
     let es = s.table.entries in
@@ -241,14 +238,14 @@ others_stay old new d parts given is all none =
     subst (λ (t : State). SameSwitch d (state old) t) (sym (state_after old new (steps_of parts) given is)) (none_other old.counts new.counts d parts (state old) all none)
 
 pub restored : {Own : Type 0} (old new : Seen Own) (d : ℕ) (s : SwitchState) (before : TableState) (keys : List Key) (parts : List (ℕ × Part)) → new.given ≡ old.given → new.history ≡ old.history ++ steps_of parts → AllRun old.counts new.counts parts → Conforming new
-    → is_stuck (parts_of d parts) ≡ false → keys_played (parts_of d parts) ≡ keys → since_of (parts_of d parts) ≡ 0 → switch_of d (state old) ≡ Some s → waits_of d (state old) ≡ [] → IsTable before.entries → IsSerialed s.table → OnlyAdded keys before.entries s.table.entries
+    → is_stuck (parts_of d parts) ≡ false → keys_reverted (parts_of d parts) ≡ keys → since_of (parts_of d parts) ≡ 0 → switch_of d (state old) ≡ Some s → waits_of d (state old) ≡ [] → IsTable before.entries → IsSerialed s.table → OnlyAdded keys before.entries s.table.entries
     → Restored d before s (state new)
 restored old new d s before keys parts given is all conforming free same none here waits was serialed only =
     let may = Conforming-rest old new (steps_of parts) given is conforming in
     let l = left_all old.given.declared old.counts new.counts d s parts (state old) all free may here waits in
     subst (λ (t : State). Restored d before s t) (sym (state_after old new (steps_of parts) given is)) (record {
       switch = l.switch ∙ ap (λ (x : SwitchState). Some x) (restored_table (parts_of d parts) keys s before same was serialed only);
-      waits = l.settled none;
+      waits = l.barred none;
     })
 
 -- ---- No inverse is refused
@@ -304,7 +301,7 @@ one_fault f g e = cc
 stuck_refused : (declared : List Declared) (old new : Counts) (d e : ℕ) (p : Part) (inverse bytes : List ℕ) (s : SwitchState) (older : List Part) (t : State) → IsRun old new e (p ∷ older) → fault_in p ≡ Some (Diverged d inverse bytes) → MaySteps declared (part_steps e p) t
     → (e ≡ d → is_stuck older ≡ false → Left e s older t) → ⊥
 stuck_refused declared old new d e (Inverse xid k) inverse bytes s older t run is may l = absurd cc
-stuck_refused declared old new d e (Settled xid got) inverse bytes s older t run is may l = absurd cc
+stuck_refused declared old new d e (BarrierPassed xid got) inverse bytes s older t run is may l = absurd cc
 stuck_refused declared old new d e (Stuck xid fault steps) inverse bytes s older t run is may l =
     let same : fault ≡ Diverged d inverse bytes = one_fault fault (Diverged d inverse bytes) is in
     let cause = subst (λ (f : TxnFault). IsFaultOf e (inverses_of older) old new steps f) same run.0.cause in

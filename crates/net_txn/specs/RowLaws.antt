@@ -25,7 +25,7 @@ with_pair r (s ∷ ss) =
     else if key_number r.0 == key_number s.0 then r ∷ ss
     else s ∷ with_pair r ss
 
-abbrev shown : ViewRow → Key × List Action
+abbrev pub shown : ViewRow → Key × List Action
 shown r = (r.key, r.actions)
 
 abbrev held : Entry → Key × List Action
@@ -55,7 +55,7 @@ table-with_entry e (f ∷ fs) = table_if (nat_lt (place_of e) (place_of f)) (pla
 
 -- ---- Tests of rows and of entries
 
-any_of_map : {X Y : Type 0} (f : Y → Bool) (g : X → Y) (xs : List X) → list_any f (map g xs) ≡ list_any (λ x. f (g x)) xs
+pub any_of_map : {X Y : Type 0} (f : Y → Bool) (g : X → Y) (xs : List X) → list_any f (map g xs) ≡ list_any (λ x. f (g x)) xs
 any_of_map f g [] = refl
 any_of_map f g (x ∷ xs) = ap (λ (b : Bool). f (g x) || b) (any_of_map f g xs)
 

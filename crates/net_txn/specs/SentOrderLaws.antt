@@ -4,7 +4,8 @@ use Rattle.std.proofs.Common.{sym, ap, ◌∙◌, subst, eq-eqb, inl, inr, arith
 use Rattle.std.proofs.lemmas.Bool.{cases_Bool, ne_eqb}
 use Rattle.of_match.specs.declared.key.Key.{Key}
 use Rattle.flow_table.specs.declared.view.TableView.{TableView}
-use Rattle.net_txn.specs.Undos.{Part, Inverse, Settled, Stuck, parts_of, is_stuck, inverses_of, is_viewed, is_served, inverse_in, sent_in, IsThinned, keys_of}
+use Rattle.net_txn.specs.Undos.{Part, Inverse, BarrierPassed, Stuck, parts_of, is_stuck, inverses_of, is_served, inverse_in, sent_in, IsThinned, keys_of}
+use Rattle.net_txn.specs.Views.{is_viewed}
 
 -- ---- Thinned lists with the same keys of each switch that counts
 
@@ -75,8 +76,8 @@ part_keys : (d c : ℕ) (p : Part) (older : List (ℕ × Part)) → keys_of d (s
     → (here : Bool) → (c == d) ≡ here → keys_of d (inverse_in c p ++ sent_in older) ≡ map (λ q. q.1) (inverses_of (if here then p ∷ parts_of d older else parts_of d older))
 part_keys d c (Inverse xid k) older rest true is = rw is (ap (λ (ks : List Key). k ∷ ks) rest)
 part_keys d c (Inverse xid k) older rest false is = rw is rest
-part_keys d c (Settled xid got) older rest true is = rest
-part_keys d c (Settled xid got) older rest false is = rest
+part_keys d c (BarrierPassed xid got) older rest true is = rest
+part_keys d c (BarrierPassed xid got) older rest false is = rest
 part_keys d c (Stuck xid fault steps) older rest true is = rest
 part_keys d c (Stuck xid fault steps) older rest false is = rest
 

@@ -17,16 +17,13 @@ use Rattle.outside.specs.State.{State, after_step, after_steps, switch_of, waits
 use Rattle.outside.specs.LinkLaws.{switch_of-sent, waits_of-sent, switch_of-got, waits_of-got, switch_of-got_other, waits_of-got_other}
 use Rattle.outside.specs.Conforming.{MayStep, MayAct, MaySteps}
 use Rattle.outside.specs.InOrder.{MayCome, MayComeAll}
-use Rattle.net_txn.specs.declared.heard.Awaited.{Awaited}
-use Rattle.net_txn.specs.declared.heard.Refusal.{Refusal}
-use Rattle.net_txn.specs.declared.heard.Heard.TheVariants.{Reply, Refused}
-use Rattle.net_txn.specs.Waits.{heard, is_reply, heard_steps, wait_steps, reply_got}
+use Rattle.lego_model.specs.declared.wait.Awaited.{Awaited}
+use Rattle.lego_model.specs.declared.wait.Refusal.{Refusal}
+use Rattle.lego_model.specs.declared.wait.Heard.TheVariants.{Reply, Refused}
+use Rattle.lego_model.specs.BarrierWaits.{heard, is_reply, heard_steps, wait_steps, reply_got}
 use Rattle.net_txn.specs.HeardLaws.{heard-reply}
 
 -- ---- A message to a switch that reads it
-
-abbrev sent_step : ℕ → List ℕ → WorldStep
-sent_step d bytes = Acted (Sent d bytes)
 
 pub told_switch : (d xid : ℕ) (m : Message) (bytes : List ℕ) (t : State) (s : SwitchState) → reading_of bytes ≡ Ok (enveloped xid m) → switch_of d t ≡ Some s → switch_of d (after_step (Acted (Sent d bytes)) t) ≡ Some (after_message m s)
 told_switch d xid m bytes t s read is = switch_of-sent d bytes t ∙ (rw (read, is) refl)

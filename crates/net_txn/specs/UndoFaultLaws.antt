@@ -15,17 +15,18 @@ use Rattle.outside.specs.Seen.{Counts, Seen}
 use Rattle.outside.specs.State.{State, after_step, after_steps, state, switch_of, waits_of}
 use Rattle.outside.specs.StateLaws.{Conforming-rest, MaySteps-front, MaySteps-rest}
 use Rattle.outside.specs.Conforming.{MaySteps, Conforming}
-use Rattle.net_txn.specs.declared.fault.TxnFault.{TxnFault}
-use Rattle.net_txn.specs.declared.fault.TxnFault.TheVariants.{SwitchFault, SwitchBroke, Diverged, Flooded, NoMemory}
+use Rattle.lego_model.specs.declared.fault.TxnFault.{TxnFault}
+use Rattle.lego_model.specs.declared.fault.TxnFault.TheVariants.{SwitchFault, SwitchBroke, Diverged, Flooded, NoMemory}
 use Rattle.net_txn.specs.Causes.{IsPlain}
-use Rattle.net_txn.specs.Waits.{barrier_sent}
+use Rattle.lego_model.specs.BarrierWaits.{barrier_sent}
 use Rattle.net_txn.specs.HeardLaws.{IsMessage-barrier}
 use Rattle.net_txn.specs.StepLaws.{told_waits, barrier_sends}
 use Rattle.net_txn.specs.FloodLaws.{both_ways, got_reads, few_got}
 use Rattle.net_txn.specs.NoticeLaws.{with_entries}
 use Rattle.net_txn.specs.TableBoundLaws.{table_few}
 use Rattle.net_txn.specs.JoiningFaultLaws.{notices_got}
-use Rattle.net_txn.specs.Undos.{EndsBy, Overruns, IsFaultOf, IsRun, Part, Inverse, Settled, Stuck, part_steps, steps_of, parts_of, is_stuck, inverses_of, fault_in, first_fault, ended_by, is_viewed, StandsReady}
+use Rattle.net_txn.specs.Undos.{EndsBy, Overruns, IsFaultOf, IsRun, Part, Inverse, BarrierPassed, Stuck, part_steps, steps_of, parts_of, is_stuck, inverses_of, fault_in, first_fault, ended_by, StandsReady}
+use Rattle.net_txn.specs.Views.{is_viewed}
 use Rattle.net_txn.specs.RestoreLaws.{AllRun, runs_here, runs_older, entries_left, Left, left_all, left_refused, earlier_or, one_fault}
 use Rattle.net_txn.specs.KeepLaws.{AreReady, ready_here, ready_older, ready_all}
 
@@ -62,7 +63,7 @@ plain_cause declared old new d sent steps NoMemory s older t cause may l small =
 plain_part : (declared : List Declared) (old new : Counts) (d : ℕ) (p : Part) (fault : TxnFault) (s : SwitchState) (older : List Part) (t : State) → IsRun old new d (p ∷ older) → fault_in p ≡ Some fault → MaySteps declared (part_steps d p) t
     → (is_stuck older ≡ false → Left d s older t) → length s.table.entries ≤ 4096 → IsPlain fault
 plain_part declared old new d (Inverse xid k) fault s older t run is may l small = absurd cc
-plain_part declared old new d (Settled xid got) fault s older t run is may l small = absurd cc
+plain_part declared old new d (BarrierPassed xid got) fault s older t run is may l small = absurd cc
 plain_part declared old new d (Stuck xid first steps) fault s older t run is may l small =
     subst IsPlain (one_fault first fault is) (plain_cause declared old new d (inverses_of older) steps first s older t run.0.cause may (l run.1) small)
 

@@ -8,12 +8,12 @@ use Rattle.outside.specs.declared.step.WorldStep.TheVariants.{Acted, TookInto, F
 use Rattle.outside.specs.Seen.{Counts}
 use Rattle.outside.specs.InOrder.{BringMessages}
 use Rattle.outside.specs.InOrderLaws.{messages-append}
-use Rattle.net_txn.specs.Undos.{IsStepOf, IsRun, alone, Part, Inverse, Settled, Stuck, part_steps, steps_of, parts_of, fault_in, first_fault}
+use Rattle.net_txn.specs.Undos.{IsStepOf, IsRun, alone, Part, Inverse, BarrierPassed, Stuck, part_steps, steps_of, parts_of, fault_in, first_fault}
 use Rattle.net_txn.specs.RestoreLaws.{AllRun, runs_here, runs_older, part_of}
 use Rattle.net_txn.specs.LinkSteps.{is_link_step, AreLinkSteps}
 use Rattle.net_txn.specs.LinkStepLaws.{links_append}
 use Rattle.net_txn.specs.AgreeLaws.{both_none}
-use Rattle.net_txn.specs.ReadLaws.{settled_brings}
+use Rattle.net_txn.specs.ReadLaws.{barred_brings}
 
 act_link : (d : ℕ) (act : Act) → IsStepOf d (Acted act) → is_link_step (Acted act) ≡ true
 act_link d (Stim x) of = absurd of
@@ -53,7 +53,7 @@ steps_links old new (p ∷ older) run =
 
 part_brings : (old new : Counts) (d : ℕ) (p : Part) (older : List Part) → IsRun old new d (p ∷ older) → fault_in p ≡ None → BringMessages (part_steps d p)
 part_brings old new d (Inverse xid k) older run none = (refl, tt)
-part_brings old new d (Settled xid got) older run none = (refl, settled_brings (alone d xid) got run.0.is_xid run.0.before.read)
+part_brings old new d (BarrierPassed xid got) older run none = (refl, barred_brings (alone d xid) got run.0.is_xid run.0.before.read)
 part_brings old new d (Stuck xid fault steps) older run none = absurd cc
 
 pub parts_bring : (old new : Counts) (parts : List (ℕ × Part)) → AllRun old new parts → first_fault parts ≡ None → BringMessages (steps_of parts)

@@ -23,20 +23,21 @@ use Rattle.outside.specs.Conforming.{Conforming}
 use Rattle.outside.specs.InOrder.{InOrder, MessagesSince}
 use Rattle.undo_laws.specs.Serials.{IsSerialed}
 use Rattle.undo_laws.specs.Removal.{OnlyAdded}
-use Rattle.net_txn.specs.declared.fault.TxnFault.{TxnFault}
-use Rattle.net_txn.specs.declared.fault.TxnFault.TheVariants.{SwitchFault, SwitchBroke, Diverged, Flooded, NoMemory}
-use Rattle.net_txn.specs.declared.heard.Awaited.{Awaited}
-use Rattle.net_txn.specs.declared.logged.Fare.{Fare}
+use Rattle.lego_model.specs.declared.fault.TxnFault.{TxnFault}
+use Rattle.lego_model.specs.declared.fault.TxnFault.TheVariants.{SwitchFault, SwitchBroke, Diverged, Flooded, NoMemory}
+use Rattle.lego_model.specs.declared.wait.Awaited.{Awaited}
+use Rattle.net_txn.specs.declared.logged.UndoProgress.{UndoProgress}
 use Rattle.net_txn.specs.declared.logged.Logged.{Logged}
 use Rattle.net_txn.specs.declared.trouble.Trouble.{Trouble}
 use Rattle.net_txn.specs.declared.trouble.Trouble.TheVariants as troubles
-use Rattle.net_txn.specs.Causes.{flood, IsPlain}
-use Rattle.net_txn.specs.LinkSteps.{OnLinks, StaysInPlace, GoesInPlace}
-use Rattle.net_txn.specs.Views.{with_rows}
+use Rattle.net_txn.specs.Causes.{IsPlain}
+use Rattle.lego_model.specs.BarrierWaits.{flood, next_xid, heard, is_reply, kept_by, kept_of, wait_steps, barrier_sent, reply_got}
+use Rattle.net_txn.specs.LinkSteps.{OnLinks, MakesNoStrayCall, GoesWithoutStrays}
+use Rattle.net_txn.specs.Views.{with_rows, is_viewed}
 use Rattle.net_txn.specs.Arriving.{without_key}
-use Rattle.net_txn.specs.Net.{NetState, next_xid, inverse_bytes, no_fare}
-use Rattle.net_txn.specs.Waits.{heard, is_reply, kept_by, kept_of, wait_steps, barrier_sent, reply_got, KeptMore}
-use Rattle.net_txn.specs.Place.{KeptWhereFit}
+use Rattle.net_txn.specs.Net.{NetState, inverse_bytes, no_progress}
+use Rattle.net_txn.specs.Waits.{KeptMore}
+use Rattle.net_txn.specs.MessageStore.{KeptWhereFit}
 use Rattle.net_txn.specs.Agreement.{Agrees}
 
 -- ---- Steps of one switch
@@ -128,13 +129,13 @@ pub record FailsAfter {Own : Type 0} (Tells : Type 0) (d : ℕ) (sent : List (�
   pub steps : List WorldStep
   pub moves : Moves Tells d steps old new
   pub cause : IsFaultOf d sent old.counts new.counts (front ++ steps) fault
-  pub places : GoesInPlace d (front ++ steps)
+  pub places : GoesWithoutStrays d (front ++ steps)
 
 abbrev pub Fails : {Own : Type 0} → Type 0 → ℕ → List (ℕ × Key) → Seen Own → Seen Own → TxnFault → Type 0
 Fails Tells d sent old new fault = FailsAfter Tells d sent [] old new fault
 
 -- a barrier whose reply was got, at most 65,535 messages before it
-pub record Settles {Own : Type 0} (Tells : Type 0) (a : Awaited) (front : List WorldStep) (sent : List (ℕ × Key)) (old new : Seen Own) (kept now_kept : List (ℕ × List ℕ)) : Type 0 where
+pub record AwaitsReplies {Own : Type 0} (Tells : Type 0) (a : Awaited) (front : List WorldStep) (sent : List (ℕ × Key)) (old new : Seen Own) (kept now_kept : List (ℕ × List ℕ)) : Type 0 where
   pub got : List (List ℕ)
   pub kept_so : KeptWhereFit kept (kept_of a got) now_kept
   pub few : length got ≤ 65535
@@ -164,13 +165,13 @@ pub data Part : Type 0 where
   -- the inverse for a key was sent, with this transaction id
   Inverse : ℕ → Key → Part
   -- a barrier was sent with this id, and behind these messages its reply was got
-  Settled : ℕ → List (List ℕ) → Part
+  BarrierPassed : ℕ → List (List ℕ) → Part
   -- a message with this id was to be sent, and the switch failed so, with these steps
   Stuck : ℕ → TxnFault → List WorldStep → Part
 
 abbrev pub part_steps : ℕ → Part → List WorldStep
 part_steps d (Inverse xid k) = Acted (Sent d (inverse_bytes xid k)) ∷ []
-part_steps d (Settled xid got) = barrier_sent (alone d xid) ∷ (wait_steps (alone d xid) got ++ reply_got (alone d xid) ∷ [])
+part_steps d (BarrierPassed xid got) = barrier_sent (alone d xid) ∷ (wait_steps (alone d xid) got ++ reply_got (alone d xid) ∷ [])
 part_steps d (Stuck xid fault steps) = steps
 
 abbrev pub steps_of : List (ℕ × Part) → List WorldStep
@@ -188,7 +189,7 @@ next_free xid (p ∷ older) = next_xid (next_free xid older)
 
 abbrev pub xid_of : Part → ℕ
 xid_of (Inverse xid k) = xid
-xid_of (Settled xid got) = xid
+xid_of (BarrierPassed xid got) = xid
 xid_of (Stuck xid fault steps) = xid
 
 abbrev pub AreNumbered : ℕ → List (ℕ × Part) → Type 0
@@ -199,7 +200,7 @@ AreNumbered xid (p ∷ older) = (xid_of p.1 ≡ next_free xid older) × AreNumbe
 -- may be kept.
 abbrev pub KeepsOne : ℕ → Part → List (ℕ × List ℕ) → List (ℕ × List ℕ) → Type 0
 KeepsOne d (Inverse xid k) kept now_kept = now_kept ≡ kept
-KeepsOne d (Settled xid got) kept now_kept = KeptWhereFit kept (kept_of (alone d xid) got) now_kept
+KeepsOne d (BarrierPassed xid got) kept now_kept = KeptWhereFit kept (kept_of (alone d xid) got) now_kept
 KeepsOne d (Stuck xid fault steps) kept now_kept = KeptMore d kept now_kept
 
 abbrev pub Keeps : List (ℕ × List ℕ) → List (ℕ × Part) → List (ℕ × List ℕ) → Type 0
@@ -209,7 +210,7 @@ Keeps kept (p ∷ older) now_kept = (mid : List (ℕ × List ℕ)) × Keeps kept
 -- the inverses that were sent, each with its switch
 abbrev pub inverse_in : ℕ → Part → List (ℕ × Key)
 inverse_in d (Inverse xid k) = (d, k) ∷ []
-inverse_in d (Settled xid got) = []
+inverse_in d (BarrierPassed xid got) = []
 inverse_in d (Stuck xid fault steps) = []
 
 abbrev pub sent_in : List (ℕ × Part) → List (ℕ × Key)
@@ -253,7 +254,7 @@ inverses_of [] = []
 inverses_of (Inverse xid k ∷ older) = (xid, k) ∷ inverses_of older
 inverses_of (p ∷ older) = inverses_of older
 
-pub record IsSettled (d xid : ℕ) (sent : List (ℕ × Key)) (got : List (List ℕ)) : Type 0 where
+pub record IsBarrierPassed (d xid : ℕ) (sent : List (ℕ × Key)) (got : List (List ℕ)) : Type 0 where
   pub is_xid : xid < 2 ^ 32
   pub few : length got ≤ 65535
   pub before : AreBefore (alone d xid) sent got
@@ -266,14 +267,14 @@ pub record CanBeSent (xid : ℕ) (k : Key) : Type 0 where
 pub record IsStuckBy (d : ℕ) (sent : List (ℕ × Key)) (old new : Counts) (fault : TxnFault) (steps : List WorldStep) : Type 0 where
   pub each : AllByRecursion (IsStepOf d) steps
   pub cause : IsFaultOf d sent old new steps fault
-  pub places : GoesInPlace d steps
+  pub places : GoesWithoutStrays d steps
 
 -- At most 4,096 inverses stand behind a barrier, no inverse was refused before the reply to a barrier, and nothing comes behind a
 -- fault, which has its cause in the calls between; these are in place.
 abbrev pub IsRun : Counts → Counts → ℕ → List Part → Type 0
 IsRun old new d [] = Unit {0}
 IsRun old new d (Inverse xid k ∷ older) = CanBeSent xid k × (since_of older < 4096) × (is_stuck older ≡ false) × IsRun old new d older
-IsRun old new d (Settled xid got ∷ older) = IsSettled d xid (inverses_of older) got × (is_stuck older ≡ false) × IsRun old new d older
+IsRun old new d (BarrierPassed xid got ∷ older) = IsBarrierPassed d xid (inverses_of older) got × (is_stuck older ≡ false) × IsRun old new d older
 IsRun old new d (Stuck xid fault steps ∷ older) = IsStuckBy d (inverses_of older) old new fault steps × (is_stuck older ≡ false) × IsRun old new d older
 
 -- the joined switches, the last one first
@@ -282,7 +283,7 @@ switches_of views = reverse (map (λ v. v.dpid) views)
 
 -- Behind the last inverse of all stand barriers alone, whose switches come in this order (as the parts, from the last one on): one for
 -- each of them for which an inverse was sent and that did not fail.
-pub record EndsSettled (switches : List ℕ) (parts : List (ℕ × Part)) : Type 0 where
+pub record EndsByBarriers (switches : List ℕ) (parts : List (ℕ × Part)) : Type 0 where
   pub last : List (ℕ × Part)
   pub front : List (ℕ × Part)
   pub parts_so : parts ≡ last ++ front
@@ -290,15 +291,15 @@ pub record EndsSettled (switches : List ℕ) (parts : List (ℕ × Part)) : Type
   pub in_order : IsThinned (map (λ p. p.0) last) switches
   pub each : (d : ℕ) → list_any (λ c. c == d) switches ≡ true → is_stuck (parts_of d parts) ≡ false → (inverses_of (parts_of d parts) ≡ []) ⊎ (list_any (λ p. p.0 == d) last ≡ true)
 
--- ---- What the log keeps of its inverses that were played
+-- ---- What the log keeps of its inverses that were reverted
 
-abbrev pub fare_of : ℕ → List Logged → Fare
-fare_of d [] = no_fare
-fare_of d (e ∷ es) = if e.dpid == d then e.fare else fare_of d es
+abbrev pub progress_of : ℕ → List Logged → UndoProgress
+progress_of d [] = no_progress
+progress_of d (e ∷ es) = if e.dpid == d then e.progress else progress_of d es
 
 abbrev pub inverses_in : ℕ → List Logged → List (ℕ × Key)
 inverses_in d [] = []
-inverses_in d (e ∷ es) = if e.dpid == d then (e.fare.xid, e.key) ∷ inverses_in d es else inverses_in d es
+inverses_in d (e ∷ es) = if e.dpid == d then (e.progress.xid, e.key) ∷ inverses_in d es else inverses_in d es
 
 -- the keys that were logged for a switch
 abbrev pub keys_in : ℕ → List Logged → List Key
@@ -306,52 +307,49 @@ keys_in d [] = []
 keys_in d (e ∷ es) = if e.dpid == d then e.key ∷ keys_in d es else keys_in d es
 
 -- where the newest of them stands
-abbrev pub IsFareAt : ℕ → List Logged → ℕ → Type 0
-IsFareAt d [] i = ⊥
-IsFareAt d (e ∷ es) zero = e.dpid ≡ d
-IsFareAt d (e ∷ es) (suc i) = ((e.dpid == d) ≡ false) × IsFareAt d es i
+abbrev pub IsProgressAt : ℕ → List Logged → ℕ → Type 0
+IsProgressAt d [] i = ⊥
+IsProgressAt d (e ∷ es) zero = e.dpid ≡ d
+IsProgressAt d (e ∷ es) (suc i) = ((e.dpid == d) ≡ false) × IsProgressAt d es i
 
--- an entry but for its fare
-abbrev pub with_fare : Fare → Logged → Logged
-with_fare fare e = record e { fare = fare }
+-- an entry but for its progress
+abbrev pub with_progress : UndoProgress → Logged → Logged
+with_progress progress e = record e { progress = progress }
 
-abbrev pub but_fare : Logged → ℕ × Key
-but_fare e = (e.dpid, e.key)
-
-abbrev pub is_viewed : ℕ → List TableView → Bool
-is_viewed d views = list_any (λ v. v.dpid == d) views
+abbrev pub key_logged : Logged → ℕ × Key
+key_logged e = (e.dpid, e.key)
 
 -- how what was done with a switch stands to what the log keeps of it; `known` tells whether it is joined
-pub record Stands (known : Bool) (d : ℕ) (old new : Counts) (parts : List Part) (played : List Logged) : Type 0 where
+pub record Stands (known : Bool) (d : ℕ) (old new : Counts) (parts : List Part) (reverted : List Logged) : Type 0 where
   pub unknown : known ≡ false → parts ≡ []
   pub run : IsRun old new d parts
-  pub stuck : known ≡ true → (fare_of d played).failed ≡ is_stuck parts
-  pub since : known ≡ true → is_stuck parts ≡ false → (fare_of d played).since ≡ since_of parts
-  pub inverses : known ≡ true → is_stuck parts ≡ false → inverses_in d played ≡ inverses_of parts
+  pub stuck : known ≡ true → (progress_of d reverted).failed ≡ is_stuck parts
+  pub since : known ≡ true → is_stuck parts ≡ false → (progress_of d reverted).since ≡ since_of parts
+  pub inverses : known ≡ true → is_stuck parts ≡ false → inverses_in d reverted ≡ inverses_of parts
 
--- An undo so far: the inverses of these entries were played, and then barriers sent to these switches, the last one first.
-pub record Undoing {Own : Type 0} (Tells : Type 0) (views : List TableView) (old new : Seen Own) (kept now_kept : List (ℕ × List ℕ)) (xid now_xid : ℕ) (switches : List ℕ) (played : List Logged) (parts : List (ℕ × Part)) : Type 0 where
+-- An undo so far: the inverses of these entries were reverted, and then barriers sent to these switches, the last one first.
+pub record Undoing {Own : Type 0} (Tells : Type 0) (views : List TableView) (old new : Seen Own) (kept now_kept : List (ℕ × List ℕ)) (xid now_xid : ℕ) (switches : List ℕ) (reverted : List Logged) (parts : List (ℕ × Part)) : Type 0 where
   pub continues : Continues Tells old new
   pub told : Tells → new.history ≡ old.history ++ steps_of parts
   pub next : now_xid ≡ next_free xid parts
   pub numbered : AreNumbered xid parts
-  pub stands : (d : ℕ) → Stands (is_viewed d views) d old.counts new.counts (parts_of d parts) played
+  pub stands : (d : ℕ) → Stands (is_viewed d views) d old.counts new.counts (parts_of d parts) reverted
   pub keeps : Keeps kept parts now_kept
-  pub order : IsThinned (sent_in parts) (map but_fare played)
-  pub ends : EndsSettled switches parts
+  pub order : IsThinned (sent_in parts) (map key_logged reverted)
+  pub ends : EndsByBarriers switches parts
 
 -- no inverse of the switch stands behind its last barrier, unless it has failed
-abbrev pub IsSettledIn : ℕ → List Logged → Type 0
-IsSettledIn d played = (fare_of d played).failed ≡ false → (fare_of d played).since ≡ 0
+abbrev pub HasPassedBarrier : ℕ → List Logged → Type 0
+HasPassedBarrier d reverted = (progress_of d reverted).failed ≡ false → (progress_of d reverted).since ≡ 0
 
 -- of the room for the bytes of faults none was taken without a fault, and that of one at most
 abbrev pub IsRoomLeft : Option TxnFault → Option TxnFault → ℕ → ℕ → Type 0
 IsRoomLeft fault now_fault room now_room = (now_fault ≡ None → (fault ≡ None) × (now_room ≡ room)) × (room ≤ now_room + 1) × ((fault ≡ None → ⊥) → now_room ≡ room)
 
 -- An undo so far, with its first fault, and fewer than 4,096 inverses behind the last barrier of each switch.
-pub record Further {Own : Type 0} (Tells : Type 0) (views : List TableView) (old new : Seen Own) (kept now_kept : List (ℕ × List ℕ)) (xid now_xid : ℕ) (switches : List ℕ) (played : List Logged) (fault : Option TxnFault) : Type 0 where
+pub record Further {Own : Type 0} (Tells : Type 0) (views : List TableView) (old new : Seen Own) (kept now_kept : List (ℕ × List ℕ)) (xid now_xid : ℕ) (switches : List ℕ) (reverted : List Logged) (fault : Option TxnFault) : Type 0 where
   pub parts : List (ℕ × Part)
-  pub undoing : Undoing Tells views old new kept now_kept xid now_xid switches played parts
+  pub undoing : Undoing Tells views old new kept now_kept xid now_xid switches reverted parts
   pub few : (d : ℕ) → since_of (parts_of d parts) < 4096
   pub fault_so : fault ≡ first_fault parts
 
@@ -361,9 +359,9 @@ fault_of d (Ok x) buf = None
 fault_of d (Err trouble) buf = Some (fault_by d trouble buf)
 
 -- the same, where so many may stand behind the last barrier of one switch, which has not failed
-pub record Pending {Own : Type 0} (Tells : Type 0) (views : List TableView) (old new : Seen Own) (kept now_kept : List (ℕ × List ℕ)) (xid now_xid : ℕ) (switches : List ℕ) (played : List Logged) (fault : Option TxnFault) (d : ℕ) : Type 0 where
+pub record Pending {Own : Type 0} (Tells : Type 0) (views : List TableView) (old new : Seen Own) (kept now_kept : List (ℕ × List ℕ)) (xid now_xid : ℕ) (switches : List ℕ) (reverted : List Logged) (fault : Option TxnFault) (d : ℕ) : Type 0 where
   pub parts : List (ℕ × Part)
-  pub undoing : Undoing Tells views old new kept now_kept xid now_xid switches played parts
+  pub undoing : Undoing Tells views old new kept now_kept xid now_xid switches reverted parts
   pub few : (c : ℕ) → c ≢ d → since_of (parts_of c parts) < 4096
   pub free : is_stuck (parts_of d parts) ≡ false
   pub fault_so : fault ≡ first_fault parts
@@ -390,11 +388,11 @@ is_served views parts d = is_viewed d views && not (is_stuck (parts_of d parts))
 
 -- Nothing is done with a switch that is not joined. With one that is and does not fail: the inverses of exactly its keys are sent,
 -- newest first, and a barrier behind them.
-pub record IsPlayedOn (known : Bool) (d : ℕ) (old new : Counts) (keys : List Key) (parts : List Part) : Type 0 where
+pub record IsRevertedOn (known : Bool) (d : ℕ) (old new : Counts) (keys : List Key) (parts : List Part) : Type 0 where
   pub unknown : known ≡ false → parts ≡ []
   pub run : IsRun old new d parts
   pub keys_so : known ≡ true → is_stuck parts ≡ false → map (λ p. p.1) (inverses_of parts) ≡ keys
-  pub settled : known ≡ true → is_stuck parts ≡ false → since_of parts ≡ 0
+  pub barred : known ≡ true → is_stuck parts ≡ false → since_of parts ≡ 0
 
 -- each switch that has a view is joined
 abbrev pub AreJoined : List TableView → State → Type 0
@@ -431,19 +429,19 @@ pub record Undoes {Own : Type 0} (Tells : Type 0) (start : ℕ) (old new : Seen 
   pub parts : List (ℕ × Part)
   pub continues : Continues Tells old new
   pub links : OnLinks Tells old new
-  pub in_place : Tells → InOrder new → AreJoined net.views (state old) → StaysInPlace old new
+  pub no_strays : Tells → InOrder new → AreJoined net.views (state old) → MakesNoStrayCall old new
   pub told : Tells → new.history ≡ old.history ++ steps_of parts
   pub xid : now_net.xid ≡ next_free net.xid parts
   pub numbered : AreNumbered net.xid parts
-  pub each : (d : ℕ) → IsPlayedOn (is_viewed d net.views) d old.counts new.counts (keys_of d (map but_fare (drop start net.log))) (parts_of d parts)
-  pub order : IsThinned (sent_in parts) (map but_fare (drop start net.log))
-  pub whole_order : filter (λ p. is_served net.views parts p.0) (sent_in parts) ≡ filter (λ p. is_served net.views parts p.0) (map but_fare (drop start net.log))
-  pub last : EndsSettled (switches_of net.views) parts
+  pub each : (d : ℕ) → IsRevertedOn (is_viewed d net.views) d old.counts new.counts (keys_of d (map key_logged (drop start net.log))) (parts_of d parts)
+  pub order : IsThinned (sent_in parts) (map key_logged (drop start net.log))
+  pub whole_order : filter (λ p. is_served net.views parts p.0) (sent_in parts) ≡ filter (λ p. is_served net.views parts p.0) (map key_logged (drop start net.log))
+  pub last : EndsByBarriers (switches_of net.views) parts
   pub result_so : result ≡ ended_by (first_fault parts)
   pub read : IsOk result → Tells → MessagesSince old new
   pub none_failed : IsOk result → (d : ℕ) → is_stuck (parts_of d parts) ≡ false
   pub log : now_net.log ≡ take start net.log
-  pub views : now_net.views ≡ without_keys (map but_fare (drop start net.log)) net.views
+  pub views : now_net.views ≡ without_keys (map key_logged (drop start net.log)) net.views
   pub ports : now_net.ports ≡ net.ports
   pub moment : now_net.moment ≡ net.moment
   pub kept : Keeps net.kept parts now_net.kept
@@ -452,7 +450,7 @@ pub record Undoes {Own : Type 0} (Tells : Type 0) (start : ℕ) (old new : Seen 
   pub accepted : (d : ℕ) (s : SwitchState) (inverse bytes : List ℕ) → Tells → Conforming new → switch_of d (state old) ≡ Some s → waits_of d (state old) ≡ [] → result ≡ Err (Diverged d inverse bytes) → ⊥
   pub restored : (d : ℕ) (s : SwitchState) (before : TableState) → Tells → Conforming new → is_viewed d net.views ≡ true → is_stuck (parts_of d parts) ≡ false
       → switch_of d (state old) ≡ Some s → waits_of d (state old) ≡ [] → IsTable before.entries → IsSerialed s.table
-      → OnlyAdded (keys_of d (map but_fare (drop start net.log))) before.entries s.table.entries → Restored d before s (state new)
+      → OnlyAdded (keys_of d (map key_logged (drop start net.log))) before.entries s.table.entries → Restored d before s (state new)
   pub none_kept : Tells → Conforming new → IsOk result → ((d : ℕ) → is_viewed d net.views ≡ true → StandsReady d (state old)) → now_net.kept ≡ net.kept
   pub plain : Tells → Conforming new → ((d : ℕ) → is_viewed d net.views ≡ true → StandsReady d (state old)) → IfErr result IsPlain
   pub agrees : (d : ℕ) → Tells → Conforming new → is_stuck (parts_of d parts) ≡ false → waits_of d (state old) ≡ [] → Agrees d net.views (state old) → AgreesAgain d now_net.views (state new)

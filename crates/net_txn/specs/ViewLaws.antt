@@ -39,11 +39,6 @@ with_rows-placed d change views seen i v new e is at changed =
     let there = subst (λ (vs : List TableView). IsViewAt d vs i) e is in
     rw changed (ap (λ (w : TableView). set views i (record { dpid = w.dpid; rows = change w.rows })) at ∙ sym (with_rows-at d change views i v there))
 
-pub rows_at-at : (d : ℕ) (vs : List TableView) (i : ℕ) (v : TableView) → IsViewAt d vs i → rows_at d vs ≡ Some (get_or vs i v).rows
-rows_at-at d [] i v is = absurd is
-rows_at-at d (w ∷ ws) zero v is = rw (eq-eqb _ _ is) refl
-rows_at-at d (w ∷ ws) (suc i) v is = rw is.0 (rows_at-at d ws i v is.1)
-
 pub IsViewAt-within : (d : ℕ) (vs : List TableView) (i : ℕ) → IsViewAt d vs i → i < length vs
 IsViewAt-within d [] i is = absurd is
 IsViewAt-within d (w ∷ ws) zero is = omega arith

@@ -1,5 +1,6 @@
 -- The tables of the joined switches as their owner sees them, each by its switch. All of this is our own.
-use Rattle.std.specs.Prelude.{◌≡◌, ◌==◌, ℕ, ◌%◌, ◌<◌, ◌≤◌, false, List, [], ◌∷◌, Option, Some, None, nat_lt, if◌then◌else◌}
+use Rattle.std.specs.Prelude.{◌≡◌, ◌==◌, ℕ, ◌+◌, ◌%◌, ◌<◌, ◌≤◌, Bool, false, List, [], ◌∷◌, Option, Some, None, nat_lt, if◌then◌else◌}
+use Rattle.std.specs.List.{list_any}
 use Rattle.std.proofs.Common.{zero, suc}
 use Rattle.of_match.specs.Key.{key_number}
 use Rattle.of_wire.specs.declared.bodies.FlowMod.{FlowMod}
@@ -11,6 +12,15 @@ use Rattle.flow_table.specs.Change.{key_in, is_delete}
 abbrev pub rows_at : ℕ → List TableView → Option (List ViewRow)
 rows_at d [] = None
 rows_at d (v ∷ vs) = if v.dpid == d then Some v.rows else rows_at d vs
+
+-- whether a switch has a view, so that it is joined
+abbrev pub is_viewed : ℕ → List TableView → Bool
+is_viewed d views = list_any (λ v. v.dpid == d) views
+
+-- strictly ascending by switch, from a number on
+abbrev pub ViewsAscend : ℕ → List TableView → Type 0
+ViewsAscend least [] = Unit {0}
+ViewsAscend least (v ∷ vs) = (least ≤ v.dpid) × ViewsAscend (v.dpid + 1) vs
 
 -- the views, the rows of one switch changed
 abbrev pub with_rows : ℕ → (List ViewRow → List ViewRow) → List TableView → List TableView

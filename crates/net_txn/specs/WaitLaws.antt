@@ -14,16 +14,17 @@ use Rattle.outside.specs.declared.step.WorldStep.{WorldStep}
 use Rattle.outside.specs.declared.step.WorldStep.TheVariants.{Acted}
 use Rattle.outside.specs.Seen.{Seen, Continues}
 use Rattle.outside.specs.SeenLaws.{Continues-refl, Continues-trans}
-use Rattle.net_txn.specs.declared.fault.TxnFault.{TxnFault}
-use Rattle.net_txn.specs.declared.heard.Awaited.{Awaited}
-use Rattle.net_txn.specs.declared.heard.Refusal.{Refusal}
-use Rattle.net_txn.specs.declared.heard.Heard.{Heard}
-use Rattle.net_txn.specs.declared.heard.Heard.TheVariants.{Reply, Refused, Notice, Echo, Other}
-use Rattle.net_txn.specs.Waits.{is_awaited, refusal_of, heard, is_reply, kept_by, steps_by, refusal_in, first_of, heard_steps, wait_steps, kept_of, answer_of, reply_got, Waits, WaitsOn, HearsOne, KeptMore, IsRead}
+use Rattle.lego_model.specs.declared.fault.TxnFault.{TxnFault}
+use Rattle.lego_model.specs.declared.wait.Awaited.{Awaited}
+use Rattle.lego_model.specs.declared.wait.Refusal.{Refusal}
+use Rattle.lego_model.specs.declared.wait.Heard.{Heard}
+use Rattle.lego_model.specs.declared.wait.Heard.TheVariants.{Reply, Refused, Notice, Echo, Other}
+use Rattle.net_txn.specs.Waits.{refusal_in, first_of, answer_of, Waits, WaitsOn, HearsOne, KeptMore, IsRead}
+use Rattle.lego_model.specs.BarrierWaits.{is_awaited, refusal_of, heard, is_reply, kept_by, steps_by, heard_steps, wait_steps, kept_of, reply_got}
 
 -- ---- The reply
 
-is_Reply : (h : Heard) → is_reply h ≡ true → h ≡ Reply
+pub is_Reply : (h : Heard) → is_reply h ≡ true → h ≡ Reply
 is_Reply Reply is = refl
 is_Reply (Refused r) is = absurd cc
 is_Reply Notice is = absurd cc
@@ -142,7 +143,7 @@ step_before {Tells = Tells} {a = a} {front = front} {old = old} {mid = mid} {new
 
 -- ---- What was kept so far
 
-abbrev of_switch : ℕ → List ℕ → ℕ × List ℕ
+abbrev pub of_switch : ℕ → List ℕ → ℕ × List ℕ
 of_switch d b = (d, b)
 
 kept_by_more : (d : ℕ) (h : Heard) (b : List ℕ) → KeptMore d [] (kept_by d h b)

@@ -1,62 +1,20 @@
--- A wait for the reply to a barrier (OpenFlow 1.0.0, 4.2 Message Handling and 5.3.7 Barrier Message): what each message of the switch
--- is to it, and what it leaves. A message is judged by its header and few fields of it: the type at 1 and the transaction id at 4
--- (5.1 OpenFlow Header), the kind and code of an ERROR at 8 and 10 (5.4.4), and the reason of a FLOW_REMOVED at 58 (5.4.2).
--- What is done with each is our own choice.
-use Rattle.std.specs.Prelude.{◌≡◌, ◌==◌, ℕ, ◌≤◌, Bool, true, false, ◌&&◌, ◌||◌, nat_le, nat_lt, List, [], ◌∷◌, ◌++◌, length, drop, map, Option, Some, None, IsOk, if◌then◌else◌}
-use Rattle.std.specs.List.{flat_map, AllByRecursion}
-use Rattle.std.specs.Str.{bytes_eq}
-use Rattle.of_types.specs.Fields.{number_at, IsBytes}
-use Rattle.of_types.specs.declared.journal.Act.TheVariants.{Sent, Got}
-use Rattle.of_wire.specs.declared.message.Message.TheVariants.{EchoReply, BarrierRequest, BarrierReply}
+-- What a wait for the reply to a barrier leaves (OpenFlow 1.0.0, 4.2 Message Handling and 5.3.7 Barrier Message): the steps that it made,
+-- what it kept, and the first refusal that came. All of this is our own choice.
+use Rattle.std.specs.Prelude.{◌≡◌, ℕ, ◌≤◌, Bool, false, List, [], ◌∷◌, ◌++◌, length, map, Option, Some, None, IsOk}
+use Rattle.std.specs.List.{AllByRecursion}
+use Rattle.of_types.specs.Fields.{IsBytes}
 use Rattle.of_wire.specs.Reading.{reading_of}
-use Rattle.of_wire.specs.Spelling.{message_bytes}
 use Rattle.outside.specs.declared.step.WorldStep.{WorldStep}
-use Rattle.outside.specs.declared.step.WorldStep.TheVariants.{Acted}
 use Rattle.outside.specs.Seen.{Seen, Continues}
-use Rattle.net_txn.specs.declared.fault.TxnFault.{TxnFault}
-use Rattle.net_txn.specs.declared.fault.TxnFault.TheVariants.{SwitchFault, SwitchBroke, Diverged, Flooded, NoMemory}
-use Rattle.net_txn.specs.declared.heard.Awaited.{Awaited}
-use Rattle.net_txn.specs.declared.heard.Refusal.{Refusal}
-use Rattle.net_txn.specs.declared.heard.Heard.{Heard}
-use Rattle.net_txn.specs.declared.heard.Heard.TheVariants.{Reply, Refused, Notice, Echo, Other}
-use Rattle.net_txn.specs.Causes.{flood}
+use Rattle.lego_model.specs.declared.fault.TxnFault.{TxnFault}
+use Rattle.lego_model.specs.declared.fault.TxnFault.TheVariants.{SwitchFault, SwitchBroke, Diverged, Flooded, NoMemory}
+use Rattle.lego_model.specs.declared.wait.Awaited.{Awaited}
+use Rattle.lego_model.specs.declared.wait.Refusal.{Refusal}
+use Rattle.lego_model.specs.declared.wait.Heard.{Heard}
+use Rattle.lego_model.specs.declared.wait.Heard.TheVariants.{Refused}
+use Rattle.lego_model.specs.BarrierWaits.{flood, heard, is_reply, kept_by, heard_steps, wait_steps, kept_of, reply_got}
 
--- ---- What a message is to a wait
-
--- the transaction ids from the first one up to the barrier's, which may begin anew from 1 on
-abbrev pub is_awaited : Awaited → ℕ → Bool
-is_awaited a xid =
-    if nat_le a.first a.barrier then nat_le a.first xid && nat_lt xid a.barrier else nat_le a.first xid || nat_lt xid a.barrier
-
--- what an ERROR says
-abbrev pub refusal_of : List ℕ → Refusal
-refusal_of bytes = record { xid = number_at 4 4 bytes; error = record { kind = number_at 2 8 bytes; code = number_at 2 10 bytes } }
-
--- ERROR is 1, ECHO_REQUEST 2, FLOW_REMOVED 11 with reason DELETE 2
-unfoldable pub heard : Awaited → List ℕ → Heard
-heard a bytes =
-    if bytes_eq bytes (message_bytes a.barrier BarrierReply) then Reply
-    else if number_at 1 1 bytes == 1 && is_awaited a (number_at 4 4 bytes) then Refused (refusal_of bytes)
-    else if number_at 1 1 bytes == 11 && number_at 1 58 bytes == 2 then Notice
-    else if number_at 1 1 bytes == 2 then Echo
-    else Other
-
-abbrev pub is_reply : Heard → Bool
-is_reply Reply = true
-is_reply _ = false
-
--- ---- What is done: an ECHO_REQUEST is answered at once (5.5.3 Echo Reply), and what is nothing to the wait is kept.
-
-abbrev pub echo_reply : List ℕ → List ℕ
-echo_reply bytes = message_bytes (number_at 4 4 bytes) (EchoReply (drop 8 bytes))
-
-abbrev pub steps_by : ℕ → Heard → List ℕ → List WorldStep
-steps_by d Echo bytes = Acted (Sent d (echo_reply bytes)) ∷ []
-steps_by d _ bytes = []
-
-abbrev pub kept_by : ℕ → Heard → List ℕ → List (ℕ × List ℕ)
-kept_by d Other bytes = (d, bytes) ∷ []
-kept_by d _ bytes = []
+-- ---- The first refusal among messages
 
 abbrev pub refusal_in : Heard → Option Refusal
 refusal_in (Refused refusal) = Some refusal
@@ -66,17 +24,6 @@ refusal_in _ = None
 abbrev pub first_of : Option Refusal → Option Refusal → Option Refusal
 first_of None later = later
 first_of (Some refusal) later = Some refusal
-
--- ---- Messages, one after the other
-
-abbrev pub heard_steps : Awaited → List ℕ → List WorldStep
-heard_steps a bytes = Acted (Got a.dpid bytes) ∷ steps_by a.dpid (heard a bytes) bytes
-
-abbrev pub wait_steps : Awaited → List (List ℕ) → List WorldStep
-wait_steps a got = flat_map (heard_steps a) got
-
-abbrev pub kept_of : Awaited → List (List ℕ) → List (ℕ × List ℕ)
-kept_of a got = flat_map (λ b. kept_by a.dpid (heard a b) b) got
 
 abbrev pub answer_of : Awaited → List (List ℕ) → Option Refusal
 answer_of a [] = None
@@ -95,12 +42,6 @@ pub record Hears {Own : Type 0} (Tells : Type 0) (a : Awaited) (front behind : L
   pub kept_so : now_kept ≡ kept ++ kept_of a got
   pub answer_so : answer ≡ answer_of a got
   pub told : Tells → new.history ≡ old.history ++ (front ++ (wait_steps a got ++ behind))
-
-abbrev pub barrier_sent : Awaited → WorldStep
-barrier_sent a = Acted (Sent a.dpid (message_bytes a.barrier BarrierRequest))
-
-abbrev pub reply_got : Awaited → WorldStep
-reply_got a = Acted (Got a.dpid (message_bytes a.barrier BarrierReply))
 
 -- A wait that ended by the reply, at most 65,535 messages behind the steps before.
 pub record Waits {Own : Type 0} (Tells : Type 0) (a : Awaited) (front : List WorldStep) (old new : Seen Own) (kept now_kept : List (ℕ × List ℕ)) (answer : Option Refusal) : Type 0 where

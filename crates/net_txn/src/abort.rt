@@ -3,13 +3,13 @@
 ghost use Rattle.std.specs.Prelude.{◌≡◌, ◌≤◌, length, take, drop};
 ghost use Rattle.net_txn.specs.Undos.{Undoes};
 
-use crate::fault::TxnFault;
 use crate::logged::Logged;
 use crate::net::Net;
 use crate::undo::undo_log;
+use lego_model::TxnFault;
 use outside::World;
 
-/// A place of the log, its end where it is past it.
+/// Returns a position of the log, its end where it is past it.
 fn place_in(log: &[Logged], start: usize) -> usize
     ensures within { result ≤ length log.now }
     ensures front { take result log.now ≡ take start log.now }
@@ -19,7 +19,7 @@ fn place_in(log: &[Logged], start: usize) -> usize
 }
 
 impl Net {
-    /// Undoes what was logged from a place on, newest first, and forgets it. It goes on past the fault of a switch
+    /// Undoes what was logged from a position on, newest first, and forgets it. It goes on past the fault of a switch
     /// with the others, and answers the first one. It takes no memory of its own.
     pub(crate) fn undo_from<W: World>(
         &mut self,

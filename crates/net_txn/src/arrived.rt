@@ -8,24 +8,24 @@ ghost use Rattle.of_wire.specs.Spelling.{message_bytes};
 ghost use Rattle.of_wire.specs.Grammar.{IsMessage};
 ghost use Rattle.outside.specs.Seen.{Continues};
 ghost use Rattle.outside.specs.declared.step.WorldStep.TheVariants.{Acted};
-ghost use Rattle.net_txn.specs.LinkSteps.{OnLinks, AsksInPlace};
+ghost use Rattle.net_txn.specs.LinkSteps.{OnLinks, AsksWithoutStrays};
 ghost use Rattle.net_txn.specs.Causes.{IsLinkCause};
 ghost use Rattle.net_txn.specs.Views.{rows_at};
 ghost use Rattle.net_txn.specs.Arriving.{event_of, Becomes, Arrives};
 
-use crate::arriving::{change_known, error_event, event_with, removed_key, tells};
-use crate::fault::TxnFault;
+use crate::message_event::{change_known, error_event, event_with, removed_key, tells};
 use crate::net::Net;
 use crate::views::remove_in;
 use crate::wait::send;
 use app_frames::{Event, EventKind};
 use flow_table::TableView;
+use lego_model::TxnFault;
 use of_types::{ByteList, Dpid, Xid};
 use of_wire::{FlowRemoved, Message, WireFault, decode, encode};
 use outside::World;
 use std::alloc::{AllocError, Global};
 
-/// The reply to an ECHO_REQUEST.
+/// Returns the reply to an ECHO_REQUEST.
 fn echo_bytes(alloc: Global, xid: Xid, payload: &ByteList) -> Result<ByteList, AllocError>
     requires { IsMessage (messages.EchoRequest payload.now) }
     ensures bytes { IfOk result (λ b. b ≡ message_bytes xid (messages.EchoReply payload.now)) }
@@ -46,7 +46,7 @@ fn answer_echo<W: World>(
     requires { IsMessage (messages.EchoRequest payload.now) }
     ensures continues { Continues W.Tells (W.seen world.old) (W.seen world.new) }
     ensures links { OnLinks W.Tells (W.seen world.old) (W.seen world.new) }
-    ensures in_place { AsksInPlace W.Tells dpid (W.seen world.old) (W.seen world.new) }
+    ensures no_strays { AsksWithoutStrays W.Tells dpid (W.seen world.old) (W.seen world.new) }
     ensures link { IfErr result (IsLinkCause dpid (W.seen world.old) (W.seen world.new)) }
     ensures told { W.Tells → OnOk result ((W.seen world.new).history
         ≡ (W.seen world.old).history ++ Acted (Sent dpid (message_bytes xid (messages.EchoReply payload.now))) ∷ []) }
@@ -55,7 +55,7 @@ fn answer_echo<W: World>(
     send(world, dpid, reply.as_slice())
 }
 
-/// The event of a flow that was removed, where its owner is told.
+/// Returns the event of a flow that was removed, where its owner is told.
 fn removed_event(
     alloc: Global,
     views: &[TableView],
@@ -88,7 +88,7 @@ impl Net {
         ensures err { OnErr result (self.new ≡ self.old) }
         ensures continues { Continues W.Tells (W.seen world.old) (W.seen world.new) }
         ensures links { OnLinks W.Tells (W.seen world.old) (W.seen world.new) }
-        ensures in_place { AsksInPlace W.Tells dpid (W.seen world.old) (W.seen world.new) }
+        ensures no_strays { AsksWithoutStrays W.Tells dpid (W.seen world.old) (W.seen world.new) }
         ensures link { IfErr result (IsLinkCause dpid (W.seen world.old) (W.seen world.new)) }
     {
         match message {
@@ -119,7 +119,8 @@ impl Net {
         }
     }
 
-    /// A message came from a switch; gives its event, where it is one. `SwitchBroke` exactly where it is no message.
+    /// Takes in a message that came from a switch; gives its event, where it is one. `SwitchBroke` exactly where it is
+    /// no message.
     pub fn arrived<W: World>(
         &mut self,
         world: &mut W,

@@ -4,20 +4,20 @@ ghost use Rattle.std.specs.Prelude.{◌≡◌, IfErr, OnOk, OnErr, MatchResult};
 ghost use Rattle.of_wire.specs.declared.message.Message.TheVariants as messages;
 ghost use Rattle.of_wire.specs.Grammar.{IsMessage};
 ghost use Rattle.outside.specs.Seen.{Continues};
-ghost use Rattle.net_txn.specs.LinkSteps.{OnLinks, AsksInPlace};
+ghost use Rattle.net_txn.specs.LinkSteps.{OnLinks, AsksWithoutStrays};
 ghost use Rattle.net_txn.specs.Causes.{IsCause};
 ghost use Rattle.net_txn.specs.Changes.{Asked, Stopped, IfGivenUp, Changes};
 ghost use Rattle.net_txn.specs.Agreement.{Reaches, Steps};
 ghost use Rattle.net_txn.specs.Net.{with_logged};
 
-use crate::ask::ask;
-use crate::fault::TxnFault;
-use crate::host::{Judged, judge_bytes};
+use crate::exchange::ask;
+use crate::host::{HostAnswer, answer_bytes};
 use crate::logged::Logged;
 use crate::net::{Net, await_from, following};
 use crate::prepared::{Prepared, prepare};
 use crate::views::{find, make_room, put_added};
 use app_frames::Answer;
+use lego_model::TxnFault;
 use of_types::Dpid;
 use of_wire::FlowMod;
 use outside::World;
@@ -35,7 +35,7 @@ fn push_logged(log: &mut Vec<Logged>, entry: Option<Logged>) -> Result<(), Alloc
 }
 
 impl Net {
-    /// Sends a change that the switch must judge, and takes its answer.
+    /// Sends a change that the switch must answer, and takes its answer.
     fn make<W: World>(
         &mut self,
         world: &mut W,
@@ -47,7 +47,7 @@ impl Net {
             (λ f. Stopped dpid flow (W.seen world.old) (W.seen world.new) self.old self.new) }
         ensures continues { Continues W.Tells (W.seen world.old) (W.seen world.new) }
         ensures links { OnLinks W.Tells (W.seen world.old) (W.seen world.new) }
-        ensures in_place { AsksInPlace W.Tells dpid (W.seen world.old) (W.seen world.new) }
+        ensures no_strays { AsksWithoutStrays W.Tells dpid (W.seen world.old) (W.seen world.new) }
         ensures cause { IfErr result (IsCause W.Tells dpid (W.seen world.old) (W.seen world.new)) }
         ensures flooded { IfErr result (IfGivenUp W.Tells dpid flow (W.seen world.old) (W.seen world.new) self.old) }
         ensures ports { self.new.ports ≡ self.old.ports }
@@ -90,7 +90,7 @@ impl Net {
     ) -> Result<Answer, TxnFault>
         ensures changes { Changes W.Tells dpid bytes.now (W.seen world.old) (W.seen world.new) self.old self.new result }
 
-        // What the switch judged reached it at once.
+        // What the switch answered reached it at once.
         ensures reached { Reaches W.Tells dpid bytes.now (W.seen world.old) (W.seen world.new) self.old result }
 
         // Where the world keeps its word, nothing of the switch waited, and view and table agreed, they take the step together; a
@@ -100,9 +100,9 @@ impl Net {
         let Some(view) = find(&self.views, dpid) else {
             return Ok(Answer::Unknown);
         };
-        match judge_bytes(self.alloc, bytes, view.rows.as_slice())? {
-            Judged::Answered(answer) => Ok(answer),
-            Judged::Asks(flow) => self.make(world, dpid, flow),
+        match answer_bytes(self.alloc, bytes, view.rows.as_slice())? {
+            HostAnswer::Answered(answer) => Ok(answer),
+            HostAnswer::Asks(flow) => self.make(world, dpid, flow),
         }
     }
 }

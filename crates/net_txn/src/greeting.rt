@@ -9,16 +9,16 @@ ghost use Rattle.flow_table.specs.Switch.{first_config};
 ghost use Rattle.outside.specs.Calls.{most_message};
 ghost use Rattle.outside.specs.Seen.{Continues};
 ghost use Rattle.outside.specs.declared.step.WorldStep.TheVariants.{Acted};
-ghost use Rattle.net_txn.specs.LinkSteps.{OnLinks, AsksInPlace};
+ghost use Rattle.net_txn.specs.LinkSteps.{OnLinks, AsksWithoutStrays};
 ghost use Rattle.net_txn.specs.Causes.{IsCause};
-ghost use Rattle.net_txn.specs.Waits.{Waits, IfFlooded, KeptMore, barrier_sent};
+ghost use Rattle.net_txn.specs.Waits.{Waits, IfFlooded, KeptMore};
+ghost use Rattle.lego_model.specs.BarrierWaits.{barrier_sent};
 ghost use Rattle.net_txn.specs.Joining.{delete_all};
 
-use crate::ask::ask;
-use crate::fault::TxnFault;
-use crate::heard::{Awaited, Refusal};
+use crate::exchange::ask;
 use crate::queue::MessageQueue;
 use crate::wait::send;
+use lego_model::{Awaited, Refusal, TxnFault};
 use of_action::ActionList;
 use of_match::Match;
 use of_types::{ByteList, Xid, flows, ports};
@@ -26,7 +26,7 @@ use of_wire::{FlowMod, Message, SwitchConfig, encode, encode_into};
 use outside::World;
 use std::alloc::{AllocError, Global};
 
-/// DELETE of any match, whatever the outputs.
+/// Returns DELETE of any match, whatever the outputs.
 fn deletion_of_all(alloc: Global) -> FlowMod
     ensures { result ≡ delete_all }
 {
@@ -44,7 +44,7 @@ fn deletion_of_all(alloc: Global) -> FlowMod
     }
 }
 
-/// The message that empties a table.
+/// Returns the message that empties a table.
 #[tactic(auto, unfolding(of_wire::specs::Spelling::message_size))]
 pub(crate) fn emptying(alloc: Global, xid: Xid) -> Result<ByteList, AllocError>
     ensures bytes { IfOk result (λ b. b ≡ message_bytes xid (messages.FlowMod delete_all)) }
@@ -53,7 +53,7 @@ pub(crate) fn emptying(alloc: Global, xid: Xid) -> Result<ByteList, AllocError>
     encode(alloc, xid, &Message::FlowMod(deletion_of_all(alloc)))
 }
 
-/// The message that sets the first configuration: no flags, and 128 bytes of a packet that is missed.
+/// Returns the message that sets the first configuration: no flags, and 128 bytes of a packet that is missed.
 #[tactic(auto, unfolding(of_wire::specs::Spelling::message_size))]
 pub(crate) fn configuring(xid: Xid) -> [u8; 12]
     ensures bytes { result ≡ message_bytes xid (messages.SetConfig first_config) }
@@ -85,7 +85,7 @@ pub(crate) fn greet<W: World>(
         (W.seen world.old) (W.seen world.new) kept.old kept.new) }
     ensures continues { Continues W.Tells (W.seen world.old) (W.seen world.new) }
     ensures links { OnLinks W.Tells (W.seen world.old) (W.seen world.new) }
-    ensures in_place { AsksInPlace W.Tells awaited.now.dpid (W.seen world.old) (W.seen world.new) }
+    ensures no_strays { AsksWithoutStrays W.Tells awaited.now.dpid (W.seen world.old) (W.seen world.new) }
     ensures cause { IfErr result (IsCause W.Tells awaited.now.dpid (W.seen world.old) (W.seen world.new)) }
     ensures flooded { IfErr result (IfFlooded W.Tells awaited.now (Acted (Sent awaited.now.dpid first.now) ∷ Acted (Sent awaited.now.dpid second.now) ∷ barrier_sent awaited.now ∷ [])
         (W.seen world.old) (W.seen world.new)) }

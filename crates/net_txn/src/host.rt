@@ -6,7 +6,7 @@ ghost use Rattle.of_wire.specs.declared.message.Message.TheVariants as messages;
 ghost use Rattle.flow_table.specs.Errors.{bad_type, bad_len};
 ghost use Rattle.flow_table.specs.Refusals.{or_else, most_action_bytes, stats_refusal};
 ghost use Rattle.lego_model.specs.Answers.{rows_of_view, unknown_action, flow_mod_refused, not_yet, would_touch, wire_fault};
-ghost use Rattle.net_txn.specs.Host.{IsJudged, IsJudgedOf};
+ghost use Rattle.net_txn.specs.Host.{IsHostAnswer, IsHostAnswerOf};
 
 use crate::rows::would_touch;
 use app_frames::Answer;
@@ -21,14 +21,14 @@ const MOST_ACTION_BYTES: usize = 65_432;
 
 /// What the host makes of a message.
 #[derive(Drop, Debug)]
-pub(crate) enum Judged {
+pub(crate) enum HostAnswer {
     /// It answers itself.
     Answered(Answer),
-    /// The switch must judge the change.
+    /// The switch must answer the change.
     Asks(FlowMod),
 }
 
-/// The first action that no switch here knows.
+/// Returns the first action that no switch here knows.
 fn find_unknown(actions: &[Action]) -> Option<OfError>
     ensures { result ≡ unknown_action actions.now }
 {
@@ -42,7 +42,7 @@ fn find_unknown(actions: &[Action]) -> Option<OfError>
     None
 }
 
-/// What stands against the actions: one that no switch here knows, or too many bytes.
+/// Tells what stands against the actions: one that no switch here knows, or too many bytes.
 fn refuse_actions(m: &FlowMod) -> Option<OfError>
     ensures { result ≡ or_else (unknown_action m.now.actions) (if nat_lt most_action_bytes (list_size m.now.actions) then Some bad_len else None) }
 {
@@ -56,7 +56,7 @@ fn refuse_actions(m: &FlowMod) -> Option<OfError>
     }
 }
 
-/// What stands against a FLOW_MOD whatever the table holds.
+/// Tells what stands against a FLOW_MOD whatever the table holds.
 #[tactic(auto, unfolding(lego_model::specs::Answers::flow_mod_refused, lego_model::specs::Answers::addition_refused))]
 fn refuse_flow(m: &FlowMod) -> Option<OfError>
     ensures { result ≡ flow_mod_refused m.now }
@@ -74,7 +74,7 @@ fn refuse_flow(m: &FlowMod) -> Option<OfError>
     }
 }
 
-/// The same, and that entries which are there stay as they are.
+/// Tells the same, and that entries which are there stay as they are.
 fn refuse_change(m: &FlowMod, rows: &[ViewRow]) -> Option<OfError>
     ensures { result ≡ or_else (flow_mod_refused m.now) (not_yet (would_touch m.now (rows_of_view rows.now))) }
 {
@@ -86,7 +86,7 @@ fn refuse_change(m: &FlowMod, rows: &[ViewRow]) -> Option<OfError>
     }
 }
 
-/// What stands against a request of statistics.
+/// Tells what stands against a request of statistics.
 #[tactic(auto, unfolding(flow_table::specs::Refusals::stats_refusal))]
 fn refuse_stats(m: &Stats) -> OfError
     ensures { Some result ≡ or_else (stats_refusal m.now) (Some bad_type) }
@@ -104,7 +104,7 @@ fn refuse_stats(m: &Stats) -> OfError
     }
 }
 
-/// The error that answers bytes which are no message.
+/// Returns the error that answers bytes which are no message.
 fn answer_fault(fault: &WireFault) -> OfError
     ensures { result ≡ wire_fault fault.now }
 {
@@ -119,41 +119,41 @@ fn answer_fault(fault: &WireFault) -> OfError
     }
 }
 
-/// What the host makes of a FLOW_MOD.
+/// Tells what the host makes of a FLOW_MOD.
 #[tactic(auto, unfolding(lego_model::specs::Answers::host_refusal))]
-fn judge_change(m: FlowMod, rows: &[ViewRow]) -> Judged
-    ensures { IsJudgedOf (rows_of_view rows.now) (messages.FlowMod m) result }
+fn answer_change(m: FlowMod, rows: &[ViewRow]) -> HostAnswer
+    ensures { IsHostAnswerOf (rows_of_view rows.now) (messages.FlowMod m) result }
 {
     match refuse_change(&m, rows) {
-        Some(error) => Judged::Answered(Answer::Error(error)),
-        None => Judged::Asks(m),
+        Some(error) => HostAnswer::Answered(Answer::Error(error)),
+        None => HostAnswer::Asks(m),
     }
 }
 
-/// What the host makes of a message that was read, for a switch with these rows.
+/// Tells what the host makes of a message that was read, for a switch with these rows.
 #[tactic(auto, unfolding(lego_model::specs::Answers::host_refusal))]
-fn judge_message(message: Message, rows: &[ViewRow]) -> Judged
-    ensures { IsJudgedOf (rows_of_view rows.now) message result }
+fn answer_message(message: Message, rows: &[ViewRow]) -> HostAnswer
+    ensures { IsHostAnswerOf (rows_of_view rows.now) message result }
 {
     match message {
-        Message::FlowMod(m) => judge_change(m, rows),
-        Message::StatsRequest(m) => Judged::Answered(Answer::Error(refuse_stats(&m))),
-        Message::BarrierRequest => Judged::Answered(Answer::Fine),
-        _ => Judged::Answered(Answer::Error(errors::REQUEST_BAD_TYPE)),
+        Message::FlowMod(m) => answer_change(m, rows),
+        Message::StatsRequest(m) => HostAnswer::Answered(Answer::Error(refuse_stats(&m))),
+        Message::BarrierRequest => HostAnswer::Answered(Answer::Fine),
+        _ => HostAnswer::Answered(Answer::Error(errors::REQUEST_BAD_TYPE)),
     }
 }
 
-/// What the host makes of bytes for a switch with these rows.
-pub(crate) fn judge_bytes(
+/// Tells what the host makes of bytes for a switch with these rows.
+pub(crate) fn answer_bytes(
     alloc: Global,
     bytes: &[u8],
     rows: &[ViewRow],
-) -> Result<Judged, AllocError>
-    ensures { IfOk result (IsJudged (rows_of_view rows.now) bytes.now) }
+) -> Result<HostAnswer, AllocError>
+    ensures { IfOk result (IsHostAnswer (rows_of_view rows.now) bytes.now) }
 {
     match decode(alloc, bytes) {
-        Ok(envelope) => Ok(judge_message(envelope.message, rows)),
+        Ok(envelope) => Ok(answer_message(envelope.message, rows)),
         Err(WireFault::NoMemory) => Err(AllocError),
-        Err(fault) => Ok(Judged::Answered(Answer::Error(answer_fault(&fault)))),
+        Err(fault) => Ok(HostAnswer::Answered(Answer::Error(answer_fault(&fault)))),
     }
 }

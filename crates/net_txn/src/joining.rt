@@ -4,26 +4,25 @@ ghost use Rattle.std.specs.Prelude.{◌≡◌, ◌<◌, ◌^◌, ◌++◌, [], �
 ghost use Rattle.outside.specs.Seen.{Continues};
 ghost use Rattle.outside.specs.InOrder.{MessagesSince};
 ghost use Rattle.net_txn.specs.declared.ports.KnownPorts.{KnownPorts};
-ghost use Rattle.net_txn.specs.LinkSteps.{OnLinks, AsksInPlace};
+ghost use Rattle.net_txn.specs.LinkSteps.{OnLinks, AsksWithoutStrays};
 ghost use Rattle.net_txn.specs.Causes.{IsCause};
 ghost use Rattle.net_txn.specs.Waits.{IfFlooded};
 ghost use Rattle.net_txn.specs.Views.{rows_at};
-ghost use Rattle.net_txn.specs.Net.{next_xid};
+ghost use Rattle.lego_model.specs.BarrierWaits.{next_xid};
 ghost use Rattle.net_txn.specs.Joining.{greeted_from, greeting, with_view, IsViewPlace, Joins, DoesNotJoin};
 ghost use Rattle.net_txn.specs.JoiningSteps.{JoinSteps};
 
-use crate::fault::TxnFault;
 use crate::greeting::{configuring, emptying, greet};
-use crate::heard::Awaited;
 use crate::net::{Net, following};
 use crate::ports::KnownPorts;
 use flow_table::{TableView, ViewList};
+use lego_model::{Awaited, TxnFault};
 use of_types::{Dpid, Xid};
 use of_wire::{FeaturesReply, PortList};
 use outside::World;
 use std::alloc::{AllocError, Global};
 
-/// What is awaited where two messages are sent from this id on, and then a barrier.
+/// Tells what is awaited where two messages are sent from this id on, and then a barrier.
 fn greeted(dpid: Dpid, xid: Xid) -> Awaited
     ensures { result ≡ greeted_from dpid xid }
 {
@@ -35,8 +34,8 @@ fn greeted(dpid: Dpid, xid: Xid) -> Awaited
     }
 }
 
-/// Where the view of a switch goes.
-fn place_for(views: &[TableView], dpid: Dpid) -> usize
+/// Tells where the view of a switch goes.
+fn position_for(views: &[TableView], dpid: Dpid) -> usize
     ensures { IsViewPlace dpid views.now result }
 {
     for (i, view) in views.iter().enumerate() {
@@ -52,7 +51,7 @@ fn put_view(alloc: Global, views: &mut Vec<TableView>, dpid: Dpid) -> Result<(),
     ensures ok { OnOk result (views.new.items ≡ with_view dpid views.old.items) }
     ensures err { OnErr result (views.new.items ≡ views.old.items) }
 {
-    let at = place_for(views, dpid);
+    let at = position_for(views, dpid);
     let view = TableView {
         dpid,
         rows: ViewList::new(alloc),
@@ -61,7 +60,7 @@ fn put_view(alloc: Global, views: &mut Vec<TableView>, dpid: Dpid) -> Result<(),
     Ok(())
 }
 
-/// The ports with which a switch joins.
+/// Returns the ports with which a switch joins.
 fn known_ports(alloc: Global, dpid: Dpid, ports: &PortList) -> Result<KnownPorts, AllocError>
     ensures dpid { IfOk result (λ k. k.dpid ≡ dpid) }
     ensures ports { IfOk result (λ k. k.ports ≡ ports.now) }
@@ -109,7 +108,7 @@ impl Net {
         ensures err { OnErr result (DoesNotJoin dpid self.old self.new) }
         ensures continues { Continues W.Tells (W.seen world.old) (W.seen world.new) }
         ensures links { OnLinks W.Tells (W.seen world.old) (W.seen world.new) }
-        ensures in_place { AsksInPlace W.Tells dpid (W.seen world.old) (W.seen world.new) }
+        ensures no_strays { AsksWithoutStrays W.Tells dpid (W.seen world.old) (W.seen world.new) }
         ensures cause { IfErr result (IsCause W.Tells dpid (W.seen world.old) (W.seen world.new)) }
         ensures flooded { IfErr result (IfFlooded W.Tells (greeted_from dpid self.old.xid) (greeting dpid self.old.xid) (W.seen world.old) (W.seen world.new)) }
         ensures log { self.new.log ≡ self.old.log }
@@ -137,7 +136,7 @@ impl Net {
         Ok(())
     }
 
-    /// A switch joins, with these features: its table is emptied and its configuration set, behind a barrier.
+    /// Joins a switch with these features: its table is emptied and its configuration set, behind a barrier.
     pub fn joined<W: World>(
         &mut self,
         world: &mut W,
@@ -151,7 +150,7 @@ impl Net {
         ensures links { OnLinks W.Tells (W.seen world.old) (W.seen world.new) }
 
         // Where the world tells in order and the switch is joined, each call of its link is in place, also one that fails.
-        ensures in_place { AsksInPlace W.Tells dpid (W.seen world.old) (W.seen world.new) }
+        ensures no_strays { AsksWithoutStrays W.Tells dpid (W.seen world.old) (W.seen world.new) }
 
         // All bytes that came were messages.
         ensures read { OnOk result (W.Tells → MessagesSince (W.seen world.old) (W.seen world.new)) }

@@ -13,7 +13,7 @@ use of_types::{ByteList, Dpid, PortDesc};
 use of_wire::{Message, PortStatus, encode_into};
 use std::alloc::{AllocError, Global};
 
-/// A PORT_STATUS of a port, which ends by its 48 bytes.
+/// Returns a PORT_STATUS of a port, which ends by its 48 bytes.
 #[tactic(auto, unfolding(of_wire::specs::Spelling::message_size))]
 fn described(port: &PortDesc) -> [u8; 64]
     ensures length { length result ≡ 64 }
@@ -37,7 +37,7 @@ fn push_port(bytes: &mut Vec<u8>, port: &PortDesc) -> Result<(), AllocError>
     Ok(())
 }
 
-/// The bytes of ports.
+/// Returns the bytes of ports.
 #[tactic(auto, unfolding(crate::specs::Leaving::ports_text))]
 fn text_of(alloc: Global, ports: &[PortDesc]) -> Result<ByteList, AllocError>
     ensures { IfOk result (λ b. b ≡ ports_text ports.now) }
@@ -49,7 +49,7 @@ fn text_of(alloc: Global, ports: &[PortDesc]) -> Result<ByteList, AllocError>
     Ok(ByteList::from_vec(bytes))
 }
 
-/// The bytes of the known ports of a switch.
+/// Returns the bytes of the known ports of a switch.
 fn known_text(alloc: Global, all: &[KnownPorts], dpid: Dpid) -> Result<ByteList, AllocError>
     ensures { IfOk result (λ b. b ≡ ports_text (ports_at dpid all.now)) }
 {
@@ -74,7 +74,7 @@ fn forget_ports(ports: &mut Vec<KnownPorts>, dpid: Dpid)
 }
 
 impl Net {
-    /// A switch leaves: its view, known ports and kept messages go. Gives its Leave event.
+    /// Lets a switch leave: its view, known ports and kept messages go. Gives its Leave event.
     pub fn left(&mut self, dpid: Dpid) -> Result<Event, AllocError>
         requires { IsSome (rows_at dpid self.old.views) }
         ensures event { IfOk result (λ e. e ≡ record { kind = Leave; dpid = dpid; body = ports_text (ports_at dpid self.old.ports) }) }

@@ -1,14 +1,15 @@
-//! Changes to the flow tables of switches, so that each stands behind a barrier before it is answered, and can be undone.
+//! Changes to the flow tables of switches, each behind a barrier before it is answered, and undone if the turn fails.
+//!
+//! `Net` is what the host keeps of its switches: `joined` (`joins`, `in_step`), `left`, `arrived`, `waiting`, `rows`
+//! (`asks`, `in_step`). `Txn` is one transaction over it: `begin`, `change` (`changes`, `reached`, `in_step`), `commit`,
+//! and `abort`, whose one clause is the record `Undoes`. Each fault has its cause; in a world that keeps its word, view
+//! and table move together. Law: `views_stay_in_order`. docs/GUARANTEES.md has a row for each promise.
 #![tactic(auto)]
 
 mod abort;
 mod arrived;
-mod arriving;
-mod ask;
-mod asking;
 mod change;
-mod fares;
-mod fault;
+mod exchange;
 mod greeting;
 mod heard;
 mod host;
@@ -16,25 +17,28 @@ mod joining;
 mod laws;
 mod leaving;
 mod logged;
+mod message_event;
+mod message_store;
 mod net;
-mod place;
-mod playing;
 mod ports;
 mod prepared;
 mod queue;
-mod quiet;
 mod replies;
+mod reverting;
 mod room;
+mod row_request;
 mod rows;
 mod trouble;
 mod txn;
 mod undo;
+mod undo_progress;
+mod undo_wait;
 mod views;
 mod wait;
 
-pub use fault::TxnFault;
 pub use laws::views_stay_in_order;
-pub use logged::{Fare, Logged};
+pub use lego_model::TxnFault;
+pub use logged::{Logged, UndoProgress};
 pub use net::Net;
 pub use ports::KnownPorts;
 pub use queue::EventQueue;

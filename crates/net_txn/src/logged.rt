@@ -13,9 +13,9 @@ use std::alloc::Global;
 /// How many bytes an inverse has.
 pub(crate) const INVERSE: usize = 72;
 
-/// How an inverse fared in an undo.
+/// How far the inverse of an entry came in an undo.
 #[derive(Clone, Copy, Debug, PartialEq, Eq)]
-pub struct Fare {
+pub struct UndoProgress {
     /// The transaction id with which it was sent, else 0.
     pub xid: Xid,
     /// How many inverses were sent to its switch up to this one since the last barrier.
@@ -31,10 +31,10 @@ pub struct Logged {
     /// The key of the entry.
     pub key: Key,
     /// Room for what an undo keeps of it.
-    pub fare: Fare,
+    pub progress: UndoProgress,
 }
 
-/// The FLOW_MOD that removes the entry of a key, whatever its outputs.
+/// Returns the FLOW_MOD that removes the entry of a key, whatever its outputs.
 fn deletion(alloc: Global, key: &Key) -> FlowMod
     ensures { result ≡ delete_strict key.now }
 {
@@ -52,7 +52,7 @@ fn deletion(alloc: Global, key: &Key) -> FlowMod
     }
 }
 
-/// The message that undoes the addition of the entry of a key; takes no memory.
+/// Returns the message that undoes the addition of the entry of a key; takes no memory.
 #[tactic(auto, unfolding(of_wire::specs::Spelling::message_size, crate::specs::Net::inverse_bytes))]
 pub(crate) fn inverse_of(alloc: Global, key: &Key, xid: Xid) -> [u8; 72]
     ensures bytes { result ≡ inverse_bytes xid key.now }
@@ -64,14 +64,14 @@ pub(crate) fn inverse_of(alloc: Global, key: &Key, xid: Xid) -> [u8; 72]
     bytes
 }
 
-/// What undoes the addition of the entry of a key; takes no memory.
+/// Tells what undoes the addition of the entry of a key; takes no memory.
 pub(crate) fn undoing(dpid: Dpid, key: &Key) -> Logged
     ensures { result ≡ logged_at dpid key.now }
 {
     Logged {
         dpid,
         key: *key,
-        fare: Fare {
+        progress: UndoProgress {
             xid: 0,
             since: 0,
             failed: false,

@@ -1,14 +1,15 @@
 //! The network of the host.
 
 ghost use Rattle.std.specs.Prelude.{◌≡◌, ◌≤◌, [], length, take, drop, slice_get, IfOk, OnOk, OnErr};
-ghost use Rattle.net_txn.specs.Net.{next_xid, awaited_from};
+ghost use Rattle.net_txn.specs.Net.{awaited_from};
+ghost use Rattle.lego_model.specs.BarrierWaits.{next_xid};
 
-use crate::heard::Awaited;
 use crate::logged::Logged;
 use crate::ports::KnownPorts;
 use crate::queue::MessageQueue;
 use crate::room::Room;
 use flow_table::TableView;
+use lego_model::Awaited;
 use of_types::{ByteList, Dpid, Xid};
 use std::alloc::{AllocError, Global};
 use std::marker::Model;
@@ -51,7 +52,7 @@ impl Model for Net {
     ghost invariant = { λ s. (vec_len s.buf ≡ 65535) × (1 ≤ s.xid) };
 }
 
-/// The transaction id behind one.
+/// Returns the transaction id behind one.
 pub(crate) fn following(xid: Xid) -> Xid
     ensures next { result ≡ next_xid xid }
     ensures least { 1 ≤ result }
@@ -59,7 +60,7 @@ pub(crate) fn following(xid: Xid) -> Xid
     if xid == Xid::MAX { 1 } else { xid + 1 }
 }
 
-/// What is awaited where one message is sent with this id, and then a barrier.
+/// Tells what is awaited where one message is sent with this id, and then a barrier.
 pub(crate) fn await_from(dpid: Dpid, xid: Xid) -> Awaited
     ensures { result ≡ awaited_from dpid xid }
 {
@@ -71,7 +72,7 @@ pub(crate) fn await_from(dpid: Dpid, xid: Xid) -> Awaited
 }
 
 impl Net {
-    /// A network of no switch, at moment 0. It takes the room that an undo needs.
+    /// Returns a network of no switch, at moment 0. It takes the room that an undo needs.
     pub fn new(alloc: Global) -> Result<Net, AllocError>
         ensures { IfOk result (λ n. n ≡ record { views = []; ports = []; log = []; xid = 1; moment = 0; kept = []; room = 2 }) }
     {
@@ -88,14 +89,14 @@ impl Net {
         })
     }
 
-    /// The tables of the joined switches as the owner sees them, by switch ascending; takes no memory.
+    /// Returns the tables of the joined switches as the owner sees them, by switch ascending; takes no memory.
     pub fn views(&self) -> &[TableView]
         ensures { result.now ≡ self.now.views }
     {
         &self.views
     }
 
-    /// The moment, in seconds from the start; takes no memory.
+    /// Returns the moment, in seconds from the start; takes no memory.
     pub fn moment(&self) -> u64
         ensures { result ≡ self.now.moment }
     {
@@ -119,21 +120,21 @@ impl Net {
         self.kept.take_first()
     }
 
-    /// How much is logged.
+    /// Tells how much is logged.
     pub(crate) fn logged(&self) -> usize
         ensures { result ≡ length self.now.log }
     {
         self.log.as_slice().len()
     }
 
-    /// Forgets what was logged from a place on.
+    /// Forgets what was logged from a position on.
     pub(crate) fn forget(&mut self, from: usize)
         ensures { self.new ≡ record self.old { log = take from self.old.log } }
     {
         self.log.truncate(from);
     }
 
-    /// No packet that was released.
+    /// Returns no packet that was released.
     pub(crate) fn none_released(&self) -> Vec<(Dpid, u32)>
         ensures { result.items ≡ [] }
     {

@@ -19,8 +19,8 @@ pub struct KnownPorts {
     pub ports: PortList,
 }
 
-/// Where the port of a number has its place.
-fn place_of(ports: &[PortDesc], number: PortNo) -> usize
+/// Tells where the port of a number stands, or would stand.
+fn position_of(ports: &[PortDesc], number: PortNo) -> usize
     ensures { IsPortPlace number ports.now result }
 {
     for (i, port) in ports.iter().enumerate() {
@@ -31,7 +31,7 @@ fn place_of(ports: &[PortDesc], number: PortNo) -> usize
     ports.len()
 }
 
-/// Whether the port of a number stands there.
+/// Tells whether the port of a number stands there.
 fn stands_at(ports: &[PortDesc], at: usize, number: PortNo) -> bool
     ensures within { result ≡ true → at < length ports.now }
     ensures same { (p : PortDesc) → result ≡ true → number ≡ (slice_index_or ports.now at p).port_no }
@@ -45,7 +45,7 @@ fn put_port(ports: &mut Vec<PortDesc>, port: PortDesc) -> Result<(), AllocError>
     ensures ok { OnOk result (ports.new.items ≡ with_port port ports.old.items) }
     ensures err { OnErr result (ports.new.items ≡ ports.old.items) }
 {
-    let at = place_of(ports, port.port_no);
+    let at = position_of(ports, port.port_no);
     if stands_at(ports, at, port.port_no) {
         ports[at] = port;
         Ok(())

@@ -26,7 +26,7 @@ pub(crate) struct Prepared {
     pub logged: Option<Logged>,
 }
 
-/// Whether the command is one of the two of DELETE.
+/// Tells whether the command is one of the two of DELETE.
 fn is_deleting(m: &FlowMod) -> bool
     ensures { result ≡ is_delete m.now }
 {
@@ -49,7 +49,7 @@ fn copy_actions(alloc: Global, actions: &ActionList) -> Result<ActionList, Alloc
     Ok(ActionList::from_vec(copies))
 }
 
-/// The row that an addition adds.
+/// Returns the row that an addition adds.
 fn row_of(alloc: Global, m: &FlowMod) -> Result<ViewRow, AllocError>
     ensures { IfOk result (λ r. r ≡ row_in m.now) }
 {
@@ -84,7 +84,7 @@ fn undone(dpid: Dpid, m: &FlowMod) -> Option<Logged>
     }
 }
 
-/// The change as it is sent: with no buffer, and with SEND_FLOW_REM.
+/// Returns the change as it is sent: with no buffer, and with SEND_FLOW_REM.
 fn as_sent(m: FlowMod) -> Message
     ensures { result ≡ as_sent (messages.FlowMod m) }
 {
@@ -95,7 +95,7 @@ fn as_sent(m: FlowMod) -> Message
     })
 }
 
-/// The bytes of a change as it is sent.
+/// Returns the bytes of a change as it is sent.
 fn frame_of(alloc: Global, xid: Xid, m: FlowMod) -> Result<ByteList, AllocError>
     requires { IsMessage (messages.FlowMod m) }
     ensures bytes { IfOk result (λ b. b ≡ message_bytes xid (as_sent (messages.FlowMod m))) }
@@ -104,7 +104,7 @@ fn frame_of(alloc: Global, xid: Xid, m: FlowMod) -> Result<ByteList, AllocError>
     encode(alloc, xid, &as_sent(m))
 }
 
-/// All that a change takes memory for before it is sent.
+/// Returns all that a change takes memory for before it is sent.
 pub(crate) fn prepare(
     alloc: Global,
     dpid: Dpid,

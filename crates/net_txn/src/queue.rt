@@ -1,10 +1,10 @@
 //! Events, and messages of switches, in the order in which they came.
 
 ghost use Rattle.std.specs.Prelude.{◌≡◌, ◌==◌, ◌↔◌, ◌⊎◌, true, not, filter, [], ◌∷◌, ◌++◌, drop, length, slice_get, IsTrue, IfOk, OnOk, OnErr};
-ghost use Rattle.net_txn.specs.Place.{fits, KeptWhereFit};
+ghost use Rattle.net_txn.specs.MessageStore.{fits, KeptWhereFit};
 ghost use Rattle.net_txn.specs.Waits.{KeptMore};
 
-use crate::place::Place;
+use crate::message_store::MessageStore;
 use app_frames::Event;
 use of_types::{ByteList, Dpid};
 use std::alloc::{AllocError, Global};
@@ -27,7 +27,7 @@ impl Model for EventQueue {
 }
 
 impl EventQueue {
-    /// No events; takes no memory.
+    /// Returns no events; takes no memory.
     pub fn new(alloc: Global) -> EventQueue
         ensures { result ≡ [] }
     {
@@ -45,14 +45,14 @@ impl EventQueue {
         Ok(())
     }
 
-    /// How many events wait; takes no memory.
+    /// Tells how many events wait; takes no memory.
     pub fn len(&self) -> usize
         ensures { result ≡ length self.now }
     {
         self.events.len()
     }
 
-    /// No event waits.
+    /// Tells whether no event waits.
     pub fn is_empty(&self) -> bool
         ensures { IsTrue result ↔ (self.now ≡ []) }
     {
@@ -69,13 +69,13 @@ impl EventQueue {
 }
 
 /// Messages that switches sent while something else was awaited, each with its switch, first in first out. The
-/// newest may stand in a place of fixed size. Contracts see a list.
+/// newest may stand in a store of fixed size. Contracts see a list.
 #[derive(Drop, Debug)]
 pub struct MessageQueue {
     alloc: Global,
     messages: VecDeque<(Dpid, ByteList)>,
     /// What came behind those, while no memory could be taken.
-    place: Place,
+    store: MessageStore,
 }
 
 impl Model for MessageQueue {
@@ -83,18 +83,18 @@ impl Model for MessageQueue {
 
     ghost Value = { List (ℕ × List ℕ) };
 
-    ghost view = { λ s. s.messages.items ++ s.place };
+    ghost view = { λ s. s.messages.items ++ s.store };
 }
 
 impl MessageQueue {
-    /// No messages. It takes the place for those that are kept without memory.
+    /// Returns no messages. It takes the room for those that are kept without memory.
     pub fn new(alloc: Global) -> Result<MessageQueue, AllocError>
         ensures { IfOk result (λ q. q ≡ []) }
     {
         Ok(MessageQueue {
             alloc,
             messages: VecDeque::new(alloc),
-            place: Place::new(alloc)?,
+            store: MessageStore::new(alloc)?,
         })
     }
 
@@ -104,7 +104,7 @@ impl MessageQueue {
         ensures err { OnErr result (self.new ≡ self.old) }
     {
         let bytes = ByteList::from_slice(self.alloc, message)?;
-        gather(self.alloc, &mut self.messages, &mut self.place)?;
+        gather(self.alloc, &mut self.messages, &mut self.store)?;
         self.messages.push_back((dpid, bytes))?;
         Ok(())
     }
@@ -114,17 +114,17 @@ impl MessageQueue {
         ensures ok { OnOk result (self.new ≡ self.old ++ (dpid, message) ∷ []) }
         ensures err { OnErr result (self.new ≡ self.old) }
     {
-        gather(self.alloc, &mut self.messages, &mut self.place)?;
+        gather(self.alloc, &mut self.messages, &mut self.store)?;
         self.messages.push_back((dpid, message))?;
         Ok(())
     }
 
-    /// The messages, oldest first.
+    /// Returns the messages, oldest first.
     pub(crate) fn into_messages(self) -> Result<VecDeque<(Dpid, ByteList)>, AllocError>
         ensures { IfOk result (λ messages. messages.items ≡ self) }
     {
         let mut queue = self;
-        gather(queue.alloc, &mut queue.messages, &mut queue.place)?;
+        gather(queue.alloc, &mut queue.messages, &mut queue.store)?;
         Ok(queue.messages)
     }
 
@@ -136,7 +136,7 @@ impl MessageQueue {
         ensures where_fit { KeptWhereFit self.old ((dpid, message.now) ∷ []) self.new }
         ensures more { KeptMore dpid self.old self.new }
     {
-        self.place.keep_or_drop(dpid, message);
+        self.store.keep_or_drop(dpid, message);
     }
 
     /// Takes the oldest message out.
@@ -145,7 +145,7 @@ impl MessageQueue {
         ensures rest { OnOk result (self.new ≡ drop 1 self.old) }
         ensures err { OnErr result (self.new ≡ self.old) }
     {
-        gather(self.alloc, &mut self.messages, &mut self.place)?;
+        gather(self.alloc, &mut self.messages, &mut self.store)?;
         Ok(self.messages.pop_front())
     }
 
@@ -154,26 +154,26 @@ impl MessageQueue {
         ensures ok { OnOk result (self.new ≡ filter (λ m. not (m.0 == dpid)) self.old) }
         ensures err { OnErr result (self.new ≡ self.old) }
     {
-        gather(self.alloc, &mut self.messages, &mut self.place)?;
+        gather(self.alloc, &mut self.messages, &mut self.store)?;
         forget_of(&mut self.messages, dpid);
         Ok(())
     }
 }
 
-/// Moves the messages of a place behind others.
+/// Moves the messages of a store behind others.
 fn gather(
     alloc: Global,
     messages: &mut VecDeque<(Dpid, ByteList)>,
-    place: &mut Place,
+    store: &mut MessageStore,
 ) -> Result<(), AllocError>
-    ensures ok { OnOk result (messages.new.items ≡ messages.old.items ++ place.old) }
-    ensures emptied { OnOk result (place.new ≡ []) }
+    ensures ok { OnOk result (messages.new.items ≡ messages.old.items ++ store.old) }
+    ensures emptied { OnOk result (store.new ≡ []) }
     ensures err { OnErr result (messages.new.items ≡ messages.old.items) }
-    ensures left { OnErr result (place.new ≡ place.old) }
+    ensures left { OnErr result (store.new ≡ store.old) }
 {
-    let mut copies = place.copies(alloc)?;
+    let mut copies = store.copies(alloc)?;
     messages.append(&mut copies)?;
-    place.clear();
+    store.clear();
     Ok(())
 }
 

@@ -4,12 +4,13 @@ ghost use Rattle.std.specs.Prelude.{◌≡◌, ◌==◌, ℕ, ◌<◌, ◌≤◌
 ghost use Rattle.of_wire.specs.declared.message.Message.TheVariants.{BarrierReply};
 ghost use Rattle.of_wire.specs.Spelling.{message_bytes};
 ghost use Rattle.of_stats.specs.Parts.{part_at};
-ghost use Rattle.net_txn.specs.declared.fault.TxnFault.TheVariants.{SwitchBroke};
-ghost use Rattle.net_txn.specs.Asks.{is_about, part_in, refusal_in, other_in, parts_in, refusals_in, others_in, part_of, all_parts, AreRowsOf, IsPartsFault, IsRepliesFault};
+ghost use Rattle.lego_model.specs.declared.fault.TxnFault.TheVariants.{SwitchBroke};
+ghost use Rattle.net_txn.specs.Asks.{other_in, others_in, AreRowsOf, IsPartsFault, IsRepliesFault};
+ghost use Rattle.lego_model.specs.FlowQueries.{is_about, part_in, refusal_in, parts_in, refusals_in, part_of, all_parts};
 
-use crate::fault::TxnFault;
 use crate::heard::barrier_reply;
 use crate::queue::MessageQueue;
+use lego_model::TxnFault;
 use of_stats::{RowList, StatsFault, join_replies, read_flow_rows};
 use of_types::{ByteList, Dpid, Xid, get_u8, get_u16, get_u32, kinds, stats};
 use std::alloc::{AllocError, Global};
@@ -21,8 +22,8 @@ pub(crate) struct Replies {
     pub refusals: Vec<ByteList>,
 }
 
-/// Whether a message has this transaction id and this type, one of those that have 12 bytes at least.
-#[tactic(auto, unfolding(crate::specs::Asks::is_about))]
+/// Tells whether a message has this transaction id and this type, one of those that have 12 bytes at least.
+#[tactic(auto, unfolding(lego_model::specs::FlowQueries::is_about))]
 fn is_about(xid: Xid, kind: u8, message: &[u8]) -> bool
     ensures { result ≡ is_about xid kind message.now }
 {
@@ -77,8 +78,8 @@ pub(crate) fn sort_out(
     Ok(replies)
 }
 
-/// What a STATS_REPLY says: type, flags, body.
-#[tactic(auto, unfolding(crate::specs::Asks::part_of))]
+/// Tells what a STATS_REPLY says: type, flags, body.
+#[tactic(auto, unfolding(lego_model::specs::FlowQueries::part_of))]
 fn part_of(alloc: Global, message: &[u8]) -> Result<(u16, u16, ByteList), AllocError>
     requires { 12 ≤ length message.now }
     ensures { IfOk result (λ p. p ≡ part_of message.now) }
@@ -98,7 +99,7 @@ fn all_parts(alloc: Global, messages: &[ByteList]) -> Result<Vec<(u16, u16, Byte
     Ok(parts)
 }
 
-/// Whether the parts of a reply, one at least, are of flows.
+/// Tells whether the parts of a reply, one at least, are of flows.
 fn is_of_flows(parts: &[(u16, u16, ByteList)]) -> bool
     requires { 0 < length parts.now }
     ensures { result ≡ ((part_at 0 parts.now).0 == 1) }
@@ -106,7 +107,7 @@ fn is_of_flows(parts: &[(u16, u16, ByteList)]) -> bool
     parts[0].0 == stats::FLOW
 }
 
-/// The fault of a switch whose message at a place is at fault.
+/// Returns the fault of a switch whose message at a position is at fault.
 fn broke(dpid: Dpid, mut messages: Vec<ByteList>, place: usize) -> TxnFault
     requires { place < length messages.items }
     ensures { result ≡ SwitchBroke dpid (slice_index_or messages.items place []) }
@@ -114,7 +115,7 @@ fn broke(dpid: Dpid, mut messages: Vec<ByteList>, place: usize) -> TxnFault
     TxnFault::SwitchBroke(dpid, messages.swap_remove(place))
 }
 
-/// The rows that the parts of a reply spell.
+/// Returns the rows that the parts of a reply spell.
 fn read_parts(alloc: Global, dpid: Dpid, messages: Vec<ByteList>) -> Result<RowList, TxnFault>
     requires some { 0 < length messages.items }
     requires long { All (λ b. 12 ≤ length b) messages.items }
@@ -139,9 +140,9 @@ fn read_parts(alloc: Global, dpid: Dpid, messages: Vec<ByteList>) -> Result<RowL
     }
 }
 
-/// The rows that the messages which answer a request spell. The first ERROR is a refusal, and so is the reply to the
-/// barrier where nothing answered.
-pub(crate) fn judge_replies(
+/// Returns the rows that the messages which answer a request spell. The first ERROR is a refusal, and so is the reply
+/// to the barrier where nothing answered.
+pub(crate) fn read_replies(
     alloc: Global,
     dpid: Dpid,
     request: ByteList,

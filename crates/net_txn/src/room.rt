@@ -3,10 +3,10 @@
 ghost use Rattle.std.specs.Prelude.{◌≡◌, ◌≢◌, ◌+◌, ◌≤◌, length, take, vec_len, None, Some};
 ghost use Rattle.net_txn.specs.Undos.{fault_by, first_fault_of};
 
-use crate::fault::TxnFault;
 use crate::logged::{INVERSE, inverse_of};
 use crate::trouble::Trouble;
 use crate::wait::FLOOD;
+use lego_model::TxnFault;
 use of_types::{ByteList, Dpid};
 use std::alloc::{AllocError, Global};
 use std::marker::Model;
@@ -32,7 +32,7 @@ impl Model for Room {
 }
 
 impl Room {
-    /// Room for the bytes of one fault.
+    /// Returns room for the bytes of one fault.
     pub(crate) fn new(alloc: Global) -> Result<Room, AllocError> {
         Ok(Room {
             sent: vec![in alloc; 0; INVERSE]?,
@@ -40,7 +40,7 @@ impl Room {
         })
     }
 
-    /// A copy of bytes that were got.
+    /// Returns a copy of bytes that were got.
     fn keep_got(self, bytes: &[u8]) -> ByteList
         requires { length bytes.now ≤ 65535 }
         ensures { result ≡ bytes.now }
@@ -48,7 +48,7 @@ impl Room {
         filled(self.got, bytes)
     }
 
-    /// The fault of a switch that refused an inverse.
+    /// Returns the fault of a switch that refused an inverse.
     fn diverged(self, dpid: Dpid, inverse: &[u8; 72], got: &[u8]) -> TxnFault
         requires { length got.now ≤ 65535 }
         ensures { result ≡ TxnFault.Diverged dpid inverse.now got.now }
@@ -57,7 +57,7 @@ impl Room {
     }
 }
 
-/// A copy of bytes, in room that is there.
+/// Returns a copy of bytes, in room that is there.
 fn filled(room: Vec<u8>, bytes: &[u8]) -> ByteList
     requires { length bytes.now ≤ vec_len room }
     ensures { result ≡ bytes.now }
@@ -68,14 +68,14 @@ fn filled(room: Vec<u8>, bytes: &[u8]) -> ByteList
     ByteList::from_vec(room)
 }
 
-/// The front of a buffer.
+/// Returns the front of a buffer.
 fn front(buf: &[u8], len: usize) -> &[u8]
     ensures { result.now ≡ take len buf.now }
 {
     if len < buf.len() { &buf[..len] } else { buf }
 }
 
-/// The fault that a switch's trouble is.
+/// Returns the fault that a switch's trouble is.
 fn fault_by(
     alloc: Global,
     rooms: &mut Vec<Room>,

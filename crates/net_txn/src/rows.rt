@@ -1,4 +1,4 @@
-//! The rows of a view: which of them a FLOW_MOD means, and where one has its place.
+//! The rows of a view: which of them a FLOW_MOD means, and where one stands, or would stand.
 
 ghost use Rattle.std.specs.Prelude.{◌≡◌, ◌≢◌, ◌==◌, ◌<◌, ◌&&◌, true, false, not, nat_lt, length, slice_index_or, OnOk, OnErr};
 ghost use Rattle.std.specs.List.{list_any};
@@ -19,7 +19,7 @@ use of_wire::FlowMod;
 use std::alloc::AllocError;
 use std::cmp::Ordering;
 
-/// How a key stands to another one in key order.
+/// Tells how a key stands to another one in key order.
 pub(crate) fn compare(a: &Key, b: &Key) -> Ordering
     ensures { result ≡ nat_cmp (key_number a.now) (key_number b.now) }
 {
@@ -28,14 +28,14 @@ pub(crate) fn compare(a: &Key, b: &Key) -> Ordering
     a.cmp(b)
 }
 
-/// Whether two keys are one.
+/// Tells whether two keys are one.
 pub(crate) fn is_same(a: &Key, b: &Key) -> bool
     ensures { result ≡ (key_number a.now == key_number b.now) }
 {
     compare(a, b) == Ordering::Equal
 }
 
-/// The key that a FLOW_MOD names.
+/// Returns the key that a FLOW_MOD names.
 pub(crate) fn key_of(m: &FlowMod) -> Key
     ensures { result ≡ key_in m.now }
 {
@@ -45,7 +45,7 @@ pub(crate) fn key_of(m: &FlowMod) -> Key
     }
 }
 
-/// Whether a FLOW_MOD, strict or not, means a row.
+/// Tells whether a FLOW_MOD, strict or not, means a row.
 #[tactic(auto, unfolding(flow_table::specs::Change::describes))]
 fn is_described(m: &FlowMod, row: &ViewRow) -> bool
     ensures { result ≡ describes m.now row.now.key }
@@ -63,14 +63,14 @@ fn is_output(port: PortNo, action: &Action) -> bool
     matches!(action, Action::Output { port: to, .. } if *to == port)
 }
 
-/// Whether some OUTPUT of the actions goes to a port.
+/// Tells whether some OUTPUT of the actions goes to a port.
 fn has_output(port: PortNo, actions: &[Action]) -> bool
     ensures { result ≡ list_any (is_output_to port) actions.now }
 {
     actions.iter().any(|action| is_output(port, action))
 }
 
-/// Whether a port is NONE, or some OUTPUT of the actions goes to it.
+/// Tells whether a port is NONE, or some OUTPUT of the actions goes to it.
 #[tactic(auto, unfolding(flow_table::specs::Change::sends_to))]
 fn sends(out_port: PortNo, actions: &ActionList) -> bool
     ensures { result ≡ sends_to out_port actions.now }
@@ -78,14 +78,14 @@ fn sends(out_port: PortNo, actions: &ActionList) -> bool
     out_port == ports::NONE || has_output(out_port, actions.as_slice())
 }
 
-/// Whether a DELETE means a row.
+/// Tells whether a DELETE means a row.
 fn is_deleted(m: &FlowMod, row: &ViewRow) -> bool
     ensures { result ≡ (describes m.now row.now.key && sends_to m.now.out_port row.now.actions) }
 {
     is_described(m, row) && sends(m.out_port, &row.actions)
 }
 
-/// Whether a row has the priority of a key, another match, and some packet in common with it.
+/// Tells whether a row has the priority of a key, another match, and some packet in common with it.
 fn is_overlap(key: &Key, row: &ViewRow) -> bool
     ensures { result ≡ (row.now.key.priority == key.now.priority && (not (key_number row.now.key == key_number key.now) && is_overlapping row.now.key.matching key.now.matching)) }
 {
@@ -118,28 +118,28 @@ fn has_deleted(m: &FlowMod, rows: &[ViewRow]) -> bool
     rows.iter().any(|row| is_deleted(m, row))
 }
 
-/// Whether another row of the priority overlaps, and that was to be checked.
+/// Tells whether another row of the priority overlaps, and that was to be checked.
 fn would_clash(m: &FlowMod, rows: &[ViewRow]) -> bool
     ensures { result ≡ would_clash m.now (rows_of_view rows.now) }
 {
     m.flags / flows::CHECK_OVERLAP % 2 == 1 && has_overlap(&key_of(m), rows)
 }
 
-/// Whether an ADD would replace a row.
+/// Tells whether an ADD would replace a row.
 fn would_replace(m: &FlowMod, rows: &[ViewRow]) -> bool
     ensures { result ≡ (list_any (λ r. key_number r.key == key_number (key_in m.now)) rows.now && not (would_clash m.now (rows_of_view rows.now))) }
 {
     has_key(&key_of(m), rows) && !would_clash(m, rows)
 }
 
-/// Whether the command is one of the two of MODIFY.
+/// Tells whether the command is one of the two of MODIFY.
 fn is_modifying(m: &FlowMod) -> bool
     ensures { result ≡ is_modify m.now }
 {
     m.command == flows::MODIFY || m.command == flows::MODIFY_STRICT
 }
 
-/// Whether a FLOW_MOD would replace, change or remove a row.
+/// Tells whether a FLOW_MOD would replace, change or remove a row.
 pub(crate) fn would_touch(m: &FlowMod, rows: &[ViewRow]) -> bool
     ensures { result ≡ would_touch m.now (rows_of_view rows.now) }
 {
@@ -152,15 +152,15 @@ pub(crate) fn would_touch(m: &FlowMod, rows: &[ViewRow]) -> bool
     }
 }
 
-/// Whether a key stands before another one in key order.
+/// Tells whether a key stands before another one in key order.
 fn is_before(a: &Key, b: &Key) -> bool
     ensures { result ≡ nat_lt (key_number a.now) (key_number b.now) }
 {
     compare(a, b) == Ordering::Less
 }
 
-/// Where the row of a key has its place.
-fn place_of(rows: &[ViewRow], key: &Key) -> usize
+/// Tells where the row of a key stands, or would stand.
+fn position_of(rows: &[ViewRow], key: &Key) -> usize
     ensures { IsRowPlace (key_number key.now) rows.now result }
 {
     for (i, row) in rows.iter().enumerate() {
@@ -171,7 +171,7 @@ fn place_of(rows: &[ViewRow], key: &Key) -> usize
     rows.len()
 }
 
-/// Whether the row of a key stands there.
+/// Tells whether the row of a key stands there.
 fn stands_at(rows: &[ViewRow], at: usize, key: &Key) -> bool
     ensures within { result ≡ true → at < length rows.now }
     ensures same { (r : ViewRow) → result ≡ true → key_number key.now ≡ key_number (slice_index_or rows.now at r).key }
@@ -185,7 +185,7 @@ pub(crate) fn put_row(rows: &mut Vec<ViewRow>, row: ViewRow) -> Result<(), Alloc
     ensures ok { OnOk result (rows.new.items ≡ with_row row rows.old.items) }
     ensures err { OnErr result (rows.new.items ≡ rows.old.items) }
 {
-    let at = place_of(rows, &row.key);
+    let at = position_of(rows, &row.key);
     if stands_at(rows, at, &row.key) {
         rows[at] = row;
         Ok(())

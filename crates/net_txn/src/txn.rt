@@ -1,16 +1,16 @@
 //! A transaction over the network: changes that are kept together or not at all.
 
 ghost use Rattle.std.specs.Prelude.{◌≡◌, ◌≤◌, [], length, take, IfOk, IfErr};
-ghost use Rattle.net_txn.specs.declared.fault.TxnFault.TheVariants.{NoMemory};
+ghost use Rattle.lego_model.specs.declared.fault.TxnFault.TheVariants.{NoMemory};
 ghost use Rattle.net_txn.specs.Changes.{Changes};
 ghost use Rattle.net_txn.specs.Undos.{Undoes};
 ghost use Rattle.net_txn.specs.Agreement.{Reaches, Steps};
 
-use crate::fault::TxnFault;
 use crate::net::Net;
 use crate::queue::EventQueue;
 use app_frames::Answer;
 use flow_table::TableView;
+use lego_model::TxnFault;
 use of_types::Dpid;
 use outside::World;
 
@@ -31,14 +31,14 @@ impl<'a> Txn<'a> {
         Txn { net, start }
     }
 
-    /// The tables of the joined switches as the owner sees them; takes no memory.
+    /// Returns the tables of the joined switches as the owner sees them; takes no memory.
     pub fn views(&self) -> &[TableView]
         ensures { result.now ≡ self.now.net.now.views }
     {
         self.net.views()
     }
 
-    /// The moment, in seconds from the start; takes no memory.
+    /// Returns the moment, in seconds from the start; takes no memory.
     pub fn moment(&self) -> u64
         ensures { result ≡ self.now.net.now.moment }
     {
@@ -57,7 +57,7 @@ impl<'a> Txn<'a> {
         ensures start { self.new.start ≡ self.old.start }
         ensures changes { Changes W.Tells dpid bytes.now (W.seen world.old) (W.seen world.new) self.old.net.now self.new.net.now result }
 
-        // What the switch judged reached it at once.
+        // What the switch answered reached it at once.
         ensures reached { Reaches W.Tells dpid bytes.now (W.seen world.old) (W.seen world.new) self.old.net.now result }
 
         // Where the world keeps its word, nothing of the switch waited, and view and table agreed, they take the step together; a

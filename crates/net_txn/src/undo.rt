@@ -1,25 +1,26 @@
-//! The undo of what was logged from a place on.
+//! The undo of what was logged from a position on.
 
 ghost use Rattle.std.specs.Prelude.{◌≡◌, ◌+◌, ◌<◌, ◌≤◌, ℕ, true, List, [], ◌∷◌, length, take, drop, map, Option, None, IsOk, vec_len};
-ghost use Rattle.net_txn.specs.declared.fault.TxnFault.{TxnFault};
+ghost use Rattle.lego_model.specs.declared.fault.TxnFault.{TxnFault};
 ghost use Rattle.outside.specs.Seen.{Seen};
 ghost use Rattle.flow_table.specs.declared.view.TableView.{TableView};
 ghost use Rattle.net_txn.specs.declared.logged.Logged.{Logged};
-ghost use Rattle.net_txn.specs.Undos.{ended_by, without_keys, switches_of, Further, IsSettledIn, IsRoomLeft, is_viewed, but_fare};
+ghost use Rattle.net_txn.specs.Undos.{ended_by, without_keys, switches_of, Further, HasPassedBarrier, IsRoomLeft, key_logged};
+ghost use Rattle.net_txn.specs.Views.{is_viewed};
 
-use crate::fault::TxnFault;
 use crate::logged::Logged;
-use crate::playing::{behind, play, settle_switch};
 use crate::queue::MessageQueue;
+use crate::reverting::{await_switch, behind, revert};
 use crate::room::{Room, note};
 use crate::views::remove_in;
 use flow_table::TableView;
+use lego_model::TxnFault;
 use of_types::{Dpid, Xid};
 use outside::World;
 use std::alloc::Global;
 
-/// Plays the inverse at a place, and notes the first fault.
-fn play_noted<W: World>(
+/// Sends the inverse at a position, and notes the first fault.
+fn revert_noted<W: World>(
     world: &mut W,
     alloc: Global,
     buf: &mut [u8],
@@ -38,19 +39,19 @@ fn play_noted<W: World>(
     ensures undoing { (base : Seen W.Own) (first : List (ℕ × List ℕ)) (x : ℕ) →
         Further W.Tells views.now base (W.seen world.old) first kept.old x xid.old [] (drop (at + 1) log.old) fault.old
         → Further W.Tells views.now base (W.seen world.new) first kept.new x xid.new [] (drop at log.new) fault.new }
-    ensures same { map but_fare log.new ≡ map but_fare log.old }
+    ensures same { map key_logged log.new ≡ map key_logged log.old }
     ensures least { 1 ≤ xid.new }
     ensures buf { length buf.new ≡ 65535 }
     ensures room { IsRoomLeft fault.old fault.new (vec_len rooms.old) (vec_len rooms.new) }
 {
     let dpid = log[at].dpid;
-    if let Err(trouble) = play(world, alloc, buf, kept, views, log, at, xid) {
+    if let Err(trouble) = revert(world, alloc, buf, kept, views, log, at, xid) {
         note(alloc, rooms, fault, dpid, trouble, buf);
     }
 }
 
-/// Plays the inverses of a log, newest first.
-fn play_all<W: World>(
+/// Sends the inverses of a log, newest first.
+fn revert_all<W: World>(
     world: &mut W,
     alloc: Global,
     buf: &mut [u8],
@@ -66,7 +67,7 @@ fn play_all<W: World>(
     requires fault { fault.old ≡ None }
     requires room { 1 ≤ vec_len rooms.old }
     ensures undoing { Further W.Tells views.now (W.seen world.old) (W.seen world.new) kept.old kept.new xid.old xid.new [] log.new fault.new }
-    ensures same { map but_fare log.new ≡ map but_fare log.old }
+    ensures same { map key_logged log.new ≡ map key_logged log.old }
     ensures least { 1 ≤ xid.new }
     ensures buf { length buf.new ≡ 65535 }
     ensures room { IsRoomLeft fault.old fault.new (vec_len rooms.old) (vec_len rooms.new) }
@@ -74,12 +75,12 @@ fn play_all<W: World>(
     let count = log.len();
     for done in 0..count {
         let at = count - 1 - done;
-        play_noted(world, alloc, buf, kept, rooms, views, log, at, xid, fault);
+        revert_noted(world, alloc, buf, kept, rooms, views, log, at, xid, fault);
     }
 }
 
-/// Settles a switch, and notes the first fault.
-fn settle_noted<W: World>(
+/// Awaits the reply of a switch, and notes the first fault.
+fn await_noted<W: World>(
     world: &mut W,
     alloc: Global,
     buf: &mut [u8],
@@ -96,21 +97,21 @@ fn settle_noted<W: World>(
     ensures undoing { (base : Seen W.Own) (views : List TableView) (first : List (ℕ × List ℕ)) (switches : List ℕ) (x : ℕ) →
         Further W.Tells views base (W.seen world.old) first kept.old x xid.old switches log.old fault.old → is_viewed dpid views ≡ true
         → Further W.Tells views base (W.seen world.new) first kept.new x xid.new (dpid ∷ switches) log.new fault.new }
-    ensures settled { IsSettledIn dpid log.new }
-    ensures others { (c : ℕ) → IsSettledIn c log.old → IsSettledIn c log.new }
-    ensures same { map but_fare log.new ≡ map but_fare log.old }
+    ensures barred { HasPassedBarrier dpid log.new }
+    ensures others { (c : ℕ) → HasPassedBarrier c log.old → HasPassedBarrier c log.new }
+    ensures same { map key_logged log.new ≡ map key_logged log.old }
     ensures least { 1 ≤ xid.new }
     ensures buf { length buf.new ≡ 65535 }
     ensures room { IsRoomLeft fault.old fault.new (vec_len rooms.old) (vec_len rooms.new) }
 {
-    if let Err(trouble) = settle_switch(world, buf, kept, log, dpid, xid) {
+    if let Err(trouble) = await_switch(world, buf, kept, log, dpid, xid) {
         note(alloc, rooms, fault, dpid, trouble, buf);
     }
 }
 
-/// Sends a barrier to each joined switch for which some inverse was played and which has not failed, ascending, and
+/// Sends a barrier to each joined switch for which some inverse was reverted and which has not failed, ascending, and
 /// waits for its reply.
-fn settle_all<W: World>(
+fn await_all<W: World>(
     world: &mut W,
     alloc: Global,
     buf: &mut [u8],
@@ -126,28 +127,28 @@ fn settle_all<W: World>(
     requires room { fault.old ≡ None → 1 ≤ vec_len rooms.old }
     ensures undoing { (base : Seen W.Own) (first : List (ℕ × List ℕ)) (x : ℕ) → Further W.Tells views.now base (W.seen world.old) first kept.old x xid.old [] log.old fault.old
         → Further W.Tells views.now base (W.seen world.new) first kept.new x xid.new (switches_of views.now) log.new fault.new }
-    ensures settled { (c : ℕ) → is_viewed c views.now ≡ true → IsSettledIn c log.new }
-    ensures same { map but_fare log.new ≡ map but_fare log.old }
+    ensures barred { (c : ℕ) → is_viewed c views.now ≡ true → HasPassedBarrier c log.new }
+    ensures same { map key_logged log.new ≡ map key_logged log.old }
     ensures least { 1 ≤ xid.new }
     ensures buf { length buf.new ≡ 65535 }
     ensures room { IsRoomLeft fault.old fault.new (vec_len rooms.old) (vec_len rooms.new) }
 {
     for view in views {
-        settle_noted(world, alloc, buf, kept, rooms, view.dpid, log, xid, fault);
+        await_noted(world, alloc, buf, kept, rooms, view.dpid, log, xid, fault);
     }
 }
 
 /// Takes the rows of logged keys out of the views; takes no memory.
 pub(crate) fn take_keys(alloc: Global, views: &mut Vec<TableView>, log: &[Logged])
-    ensures { views.new.items ≡ without_keys (map but_fare log.now) views.old.items }
+    ensures { views.new.items ≡ without_keys (map key_logged log.now) views.old.items }
 {
     for entry in log {
         remove_in(alloc, views, entry.dpid, &entry.key);
     }
 }
 
-/// Plays the inverses of a log, newest first, and then sends a barrier to each joined switch for which some was played
-/// and which has not failed, ascending, and waits for its reply.
+/// Sends the inverses of a log, newest first, and then sends a barrier to each joined switch for which some was
+/// reverted and which has not failed, ascending, and waits for its reply.
 pub(crate) fn undo<W: World>(
     world: &mut W,
     alloc: Global,
@@ -162,22 +163,22 @@ pub(crate) fn undo<W: World>(
     requires least { 1 ≤ xid.old }
     requires room { 1 ≤ vec_len rooms.old }
     ensures undoing { (fault : Option TxnFault) × (result ≡ ended_by fault) × Further W.Tells views.now (W.seen world.old) (W.seen world.new) kept.old kept.new xid.old xid.new (switches_of views.now) log.new fault }
-    ensures settled { (c : ℕ) → is_viewed c views.now ≡ true → IsSettledIn c log.new }
-    ensures same { map but_fare log.new ≡ map but_fare log.old }
+    ensures barred { (c : ℕ) → is_viewed c views.now ≡ true → HasPassedBarrier c log.new }
+    ensures same { map key_logged log.new ≡ map key_logged log.old }
     ensures least { 1 ≤ xid.new }
     ensures buf { length buf.new ≡ 65535 }
     ensures room { (vec_len rooms.old ≤ vec_len rooms.new + 1) × (IsOk result → vec_len rooms.new ≡ vec_len rooms.old) }
 {
     let mut fault = None;
-    play_all(world, alloc, buf, kept, rooms, views, log, xid, &mut fault);
-    settle_all(world, alloc, buf, kept, rooms, views, log, xid, &mut fault);
+    revert_all(world, alloc, buf, kept, rooms, views, log, xid, &mut fault);
+    await_all(world, alloc, buf, kept, rooms, views, log, xid, &mut fault);
     match fault {
         None => Ok(()),
         Some(fault) => Err(fault),
     }
 }
 
-/// The same for what was logged from a place on.
+/// Does the same for what was logged from a position on.
 fn undo_part<W: World>(
     world: &mut W,
     alloc: Global,
@@ -195,8 +196,8 @@ fn undo_part<W: World>(
     requires room { 1 ≤ vec_len rooms.old }
     ensures undoing { (fault : Option TxnFault) × (result ≡ ended_by fault)
         × Further W.Tells views.now (W.seen world.old) (W.seen world.new) kept.old kept.new xid.old xid.new (switches_of views.now) (drop from log.new) fault }
-    ensures settled { (c : ℕ) → is_viewed c views.now ≡ true → IsSettledIn c (drop from log.new) }
-    ensures same { map but_fare (drop from log.new) ≡ map but_fare (drop from log.old) }
+    ensures barred { (c : ℕ) → is_viewed c views.now ≡ true → HasPassedBarrier c (drop from log.new) }
+    ensures same { map key_logged (drop from log.new) ≡ map key_logged (drop from log.old) }
     ensures front { take from log.new ≡ take from log.old }
     ensures least { 1 ≤ xid.new }
     ensures buf { length buf.new ≡ 65535 }
@@ -205,7 +206,7 @@ fn undo_part<W: World>(
     undo(world, alloc, buf, kept, rooms, views, &mut log[from..], xid)
 }
 
-/// Undoes what was logged from a place on, and forgets it; its keys leave the views.
+/// Undoes what was logged from a position on, and forgets it; its keys leave the views.
 pub(crate) fn undo_log<W: World>(
     world: &mut W,
     alloc: Global,
@@ -221,10 +222,10 @@ pub(crate) fn undo_log<W: World>(
     requires buf { length buf.old ≡ 65535 }
     requires least { 1 ≤ xid.old }
     requires room { 1 ≤ vec_len rooms.old }
-    ensures undoing { (fault : Option TxnFault) × (played : List Logged) × (result ≡ ended_by fault)
-        × Further W.Tells views.old.items (W.seen world.old) (W.seen world.new) kept.old kept.new xid.old xid.new (switches_of views.old.items) played fault
-        × ((c : ℕ) → is_viewed c views.old.items ≡ true → IsSettledIn c played) × (map but_fare played ≡ map but_fare (drop from log.old.items)) }
-    ensures views { views.new.items ≡ without_keys (map but_fare (drop from log.old.items)) views.old.items }
+    ensures undoing { (fault : Option TxnFault) × (reverted : List Logged) × (result ≡ ended_by fault)
+        × Further W.Tells views.old.items (W.seen world.old) (W.seen world.new) kept.old kept.new xid.old xid.new (switches_of views.old.items) reverted fault
+        × ((c : ℕ) → is_viewed c views.old.items ≡ true → HasPassedBarrier c reverted) × (map key_logged reverted ≡ map key_logged (drop from log.old.items)) }
+    ensures views { views.new.items ≡ without_keys (map key_logged (drop from log.old.items)) views.old.items }
     ensures log { log.new.items ≡ take from log.old.items }
     ensures least { 1 ≤ xid.new }
     ensures buf { length buf.new ≡ 65535 }

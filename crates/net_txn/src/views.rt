@@ -11,7 +11,7 @@ use of_types::Dpid;
 use std::alloc::{AllocError, Global};
 use std::mem::replace;
 
-/// The view of a switch, while it is joined.
+/// Returns the view of a switch, while it is joined.
 pub(crate) fn find(views: &[TableView], dpid: Dpid) -> Option<&TableView>
     ensures { MatchOption result (rows_at dpid views.now ≡ None) (λ v. rows_at dpid views.now ≡ Some v.now.rows) }
 {
@@ -23,7 +23,7 @@ pub(crate) fn find(views: &[TableView], dpid: Dpid) -> Option<&TableView>
     None
 }
 
-/// Where the view of a switch stands.
+/// Tells where the view of a switch stands.
 fn position(views: &[TableView], dpid: Dpid) -> Option<usize>
     ensures { MatchOption result (rows_at dpid views.now ≡ None) (IsViewAt dpid views.now) }
 {

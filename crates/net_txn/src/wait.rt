@@ -9,13 +9,14 @@ ghost use Rattle.outside.specs.Seen.{Continues};
 ghost use Rattle.outside.specs.State.{state, is_joined, has_waiting};
 ghost use Rattle.outside.specs.InOrder.{InOrder};
 ghost use Rattle.outside.specs.declared.step.WorldStep.TheVariants.{Acted};
-ghost use Rattle.net_txn.specs.LinkSteps.{OnLinks, StaysInPlace, AsksInPlace, Awaits};
+ghost use Rattle.net_txn.specs.LinkSteps.{OnLinks, MakesNoStrayCall, AsksWithoutStrays, Awaits};
 ghost use Rattle.net_txn.specs.Causes.{IsCause, IsLinkCause, IsNoFlood};
-ghost use Rattle.net_txn.specs.Waits.{heard, is_reply, echo_reply, steps_by, kept_by, refusal_in, first_of, HearsOne, Waits, IfFlooded, KeptMore, barrier_sent};
+ghost use Rattle.net_txn.specs.Waits.{refusal_in, first_of, HearsOne, Waits, IfFlooded, KeptMore};
+ghost use Rattle.lego_model.specs.BarrierWaits.{heard, is_reply, echo_reply, steps_by, kept_by, barrier_sent};
 
-use crate::fault::TxnFault;
-use crate::heard::{Awaited, Heard, Refusal, barrier_request, judge};
+use crate::heard::{barrier_request, classify};
 use crate::queue::MessageQueue;
+use lego_model::{Awaited, Heard, Refusal, TxnFault};
 use of_types::{ByteList, Dpid, kinds, put_u8};
 use of_wire::check;
 use outside::{LinkFault, World};
@@ -29,7 +30,7 @@ pub(crate) fn send<W: World>(world: &mut W, dpid: Dpid, frame: &[u8]) -> Result<
     requires { IsOk (reading_of frame.now) }
     ensures continues { Continues W.Tells (W.seen world.old) (W.seen world.new) }
     ensures links { OnLinks W.Tells (W.seen world.old) (W.seen world.new) }
-    ensures in_place { W.Tells → is_joined dpid (state (W.seen world.old)) ≡ true → StaysInPlace (W.seen world.old) (W.seen world.new) }
+    ensures no_strays { W.Tells → is_joined dpid (state (W.seen world.old)) ≡ true → MakesNoStrayCall (W.seen world.old) (W.seen world.new) }
     ensures cause { IfErr result (IsCause W.Tells dpid (W.seen world.old) (W.seen world.new)) }
     ensures link { IfErr result (IsLinkCause dpid (W.seen world.old) (W.seen world.new)) }
     ensures no_flood { IfErr result IsNoFlood }
@@ -52,7 +53,7 @@ pub(crate) fn receive<W: World>(
     requires { most_message ≤ length buf.old }
     ensures continues { Continues W.Tells (W.seen world.old) (W.seen world.new) }
     ensures links { OnLinks W.Tells (W.seen world.old) (W.seen world.new) }
-    ensures in_place { W.Tells → has_waiting dpid (state (W.seen world.old)) ≡ true → StaysInPlace (W.seen world.old) (W.seen world.new) }
+    ensures no_strays { W.Tells → has_waiting dpid (state (W.seen world.old)) ≡ true → MakesNoStrayCall (W.seen world.old) (W.seen world.new) }
     ensures cause { IfErr result (IsCause W.Tells dpid (W.seen world.old) (W.seen world.new)) }
     ensures no_flood { IfErr result IsNoFlood }
     ensures within { IfOk result (λ n. n ≤ length buf.new) }
@@ -98,7 +99,7 @@ fn treat<W: World>(
     requires read { IsOk (reading_of message.old) }
     ensures continues { Continues W.Tells (W.seen world.old) (W.seen world.new) }
     ensures links { OnLinks W.Tells (W.seen world.old) (W.seen world.new) }
-    ensures in_place { W.Tells → is_joined awaited.now.dpid (state (W.seen world.old)) ≡ true → StaysInPlace (W.seen world.old) (W.seen world.new) }
+    ensures no_strays { W.Tells → is_joined awaited.now.dpid (state (W.seen world.old)) ≡ true → MakesNoStrayCall (W.seen world.old) (W.seen world.new) }
     ensures cause { IfErr result (IsCause W.Tells awaited.now.dpid (W.seen world.old) (W.seen world.new)) }
     ensures no_flood { IfErr result IsNoFlood }
     ensures ends { IfOk result (λ ends. ends ≡ is_reply (heard awaited.now message.old)) }
@@ -108,7 +109,7 @@ fn treat<W: World>(
     ensures told { W.Tells → OnOk result ((W.seen world.new).history
         ≡ (W.seen world.old).history ++ steps_by awaited.now.dpid (heard awaited.now message.old) message.old) }
 {
-    match judge(message, awaited) {
+    match classify(message, awaited) {
         Heard::Reply => return Ok(true),
         Heard::Refused(refusal) => note(answer, refusal),
         Heard::Notice => {}
@@ -143,7 +144,7 @@ fn hear<W: World>(
     ensures ok { IfOk result (HearsOne W.Tells awaited.now (W.seen world.old) (W.seen world.new) kept.old kept.new answer.old answer.new) }
     ensures continues { Continues W.Tells (W.seen world.old) (W.seen world.new) }
     ensures links { OnLinks W.Tells (W.seen world.old) (W.seen world.new) }
-    ensures in_place { W.Tells → Awaits awaited.now (state (W.seen world.old)) → StaysInPlace (W.seen world.old) (W.seen world.new) }
+    ensures no_strays { W.Tells → Awaits awaited.now (state (W.seen world.old)) → MakesNoStrayCall (W.seen world.old) (W.seen world.new) }
     ensures cause { IfErr result (IsCause W.Tells awaited.now.dpid (W.seen world.old) (W.seen world.new)) }
     ensures no_flood { IfErr result IsNoFlood }
     ensures kept { OnErr result (kept.new ≡ kept.old) }
@@ -164,7 +165,7 @@ pub(crate) fn wait<W: World>(
     ensures ok { IfOk result (Waits W.Tells awaited.now [] (W.seen world.old) (W.seen world.new) kept.old kept.new) }
     ensures continues { Continues W.Tells (W.seen world.old) (W.seen world.new) }
     ensures links { OnLinks W.Tells (W.seen world.old) (W.seen world.new) }
-    ensures in_place { W.Tells → InOrder (W.seen world.new) → Awaits awaited.now (state (W.seen world.old)) → StaysInPlace (W.seen world.old) (W.seen world.new) }
+    ensures no_strays { W.Tells → InOrder (W.seen world.new) → Awaits awaited.now (state (W.seen world.old)) → MakesNoStrayCall (W.seen world.old) (W.seen world.new) }
     ensures cause { IfErr result (IsCause W.Tells awaited.now.dpid (W.seen world.old) (W.seen world.new)) }
     ensures flooded { IfErr result (IfFlooded W.Tells awaited.now [] (W.seen world.old) (W.seen world.new)) }
     ensures kept { OnErr result (KeptMore awaited.now.dpid kept.old kept.new) }
@@ -179,7 +180,7 @@ pub(crate) fn wait<W: World>(
 }
 
 /// Sends the barrier and waits for its reply; answers the first refusal that came before it.
-pub(crate) fn settle<W: World>(
+pub(crate) fn await_barrier<W: World>(
     world: &mut W,
     alloc: Global,
     buf: &mut [u8],
@@ -190,7 +191,7 @@ pub(crate) fn settle<W: World>(
     ensures ok { IfOk result (Waits W.Tells awaited.now (barrier_sent awaited.now ∷ []) (W.seen world.old) (W.seen world.new) kept.old kept.new) }
     ensures continues { Continues W.Tells (W.seen world.old) (W.seen world.new) }
     ensures links { OnLinks W.Tells (W.seen world.old) (W.seen world.new) }
-    ensures in_place { AsksInPlace W.Tells awaited.now.dpid (W.seen world.old) (W.seen world.new) }
+    ensures no_strays { AsksWithoutStrays W.Tells awaited.now.dpid (W.seen world.old) (W.seen world.new) }
     ensures cause { IfErr result (IsCause W.Tells awaited.now.dpid (W.seen world.old) (W.seen world.new)) }
     ensures flooded { IfErr result (IfFlooded W.Tells awaited.now (barrier_sent awaited.now ∷ []) (W.seen world.old) (W.seen world.new)) }
     ensures kept { OnErr result (KeptMore awaited.now.dpid kept.old kept.new) }

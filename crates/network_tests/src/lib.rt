@@ -1,4 +1,4 @@
-//! Trials of the network over simulated worlds, in which each call that it meets fails in turn. Tests alone.
+//! Tests of `net_txn` over simulated worlds, in which each call fails in turn. Tests alone.
 #![tactic(auto)]
 
 #[cfg(test)]

@@ -2,7 +2,7 @@
 //!
 //! `Match::decode` and `Match::encode` are the normal form (`normal`, `kept`); `Match::new`, `Match::fields` (`value`,
 //! `within`) and `text` are exact. `covers` says of each packet key whether the match covers it (`covers`, `value`).
-//! Laws: `decode_after_encode`, `fields_of_matches`, `one_normal_form`, `places_of_keys`.
+//! Laws: `decode_after_encode`, `fields_of_matches`, `one_normal_form`, `numbers_of_keys`.
 #![tactic(auto)]
 
 mod codec;

@@ -1,7 +1,7 @@
 -- What a call that succeeds leaves of the state of a world that tells, and what it was in a world that keeps its word.
-use Rattle.std.specs.Prelude.{◌≡◌, ℕ, true, false, refl, List, [], ◌∷◌, ◌++◌, length, take, Some, Ok, IsOk, slice_get}
+use Rattle.std.specs.Prelude.{◌≡◌, ℕ, false, refl, List, [], ◌∷◌, ◌++◌, take, Some, Ok, IsOk, slice_get}
 use Rattle.std.proofs.Common.{◌∙◌}
-use Rattle.of_types.specs.declared.journal.Act.TheVariants.{Started, Gave, Sent, Got}
+use Rattle.of_types.specs.declared.journal.Act.TheVariants.{Got}
 use Rattle.of_types.specs.declared.journal.TookWhat.TheVariants as took
 use Rattle.of_wire.specs.Reading.{reading_of}
 use Rattle.outside.specs.declared.item.Item.{Item}
@@ -9,12 +9,12 @@ use Rattle.outside.specs.declared.item.Taken.TheVariants as gave
 use Rattle.flow_table.specs.Switch.{Declared}
 use Rattle.outside.specs.declared.item.Item.TheVariants as items
 use Rattle.outside.specs.declared.step.WorldStep.{WorldStep}
-use Rattle.outside.specs.declared.step.WorldStep.TheVariants.{Acted, TookInto, From, Joined, Left, Moment}
+use Rattle.outside.specs.declared.step.WorldStep.TheVariants.{Acted, From, Joined, Left, Moment}
 use Rattle.outside.specs.Seen.{Seen}
 use Rattle.outside.specs.State.{State, after_step, after_steps, state, waits_of, is_running, upcoming}
 use Rattle.outside.specs.StateLaws.{after_steps-append, state-append, Conforming-rest}
-use Rattle.outside.specs.Calls.{IsIdle, Nexts, Starts, Gives, Takes, Ends, Sends, Receives, stim_steps, item_step, next_steps, start_steps, give_steps, take_steps, end_steps, send_steps, receive_steps}
-use Rattle.outside.specs.Conforming.{IsNext, MayStep, MayAct, MaySteps, Conforming}
+use Rattle.outside.specs.Calls.{IsIdle, Nexts, Ends, Receives, stim_steps, item_step, next_steps, end_steps, receive_steps}
+use Rattle.outside.specs.Conforming.{IsNext, MayStep, MayAct, Conforming}
 
 -- ---- The state after a call that succeeded
 
@@ -25,24 +25,8 @@ Nexts-state {old = old} {new = new} {buf = buf} item told call =
     state-append old new (stim_steps (call.told told).begun ++ item_step item buf ∷ []) call.given (call.told told).history
     ∙ after_steps-append (stim_steps (call.told told).begun) (item_step item buf ∷ []) (state old)
 
-pub Starts-state : {Own T Tells : Type 0} {app : ℕ} {old new : Seen Own} (x : T) → Tells → Starts Tells app old new (Ok x) → state new ≡ after_step (Acted (Started app true)) (state old)
-unfolding start_steps
-Starts-state {app = app} {old = old} {new = new} x told call = state-append old new (Acted (Started app true) ∷ []) call.given (call.told told).history
-
-pub Gives-state : {Own T Tells : Type 0} {app : ℕ} {bytes : List ℕ} {old new : Seen Own} (x : T) → Tells → Gives Tells app bytes old new (Ok x) → state new ≡ after_step (Acted (Gave app bytes)) (state old)
-unfolding give_steps
-Gives-state {app = app} {bytes = bytes} {old = old} {new = new} x told call = state-append old new (Acted (Gave app bytes) ∷ []) call.given (call.told told).history
-
-pub Takes-state : {Own Tells : Type 0} {app : ℕ} {old new : Seen Own} {buf : List ℕ} (n : ℕ) → Tells → Takes Tells app old new (Ok (gave.Some n)) buf → state new ≡ after_step (TookInto app (took.Bytes (take n buf)) (length buf)) (state old)
-unfolding take_steps
-Takes-state {app = app} {old = old} {new = new} {buf = buf} n told call = state-append old new (TookInto app (took.Bytes (take n buf)) (length buf) ∷ []) call.given (call.told told).history
-
 pub Ends-state : {Own Tells : Type 0} {app : ℕ} {old new : Seen Own} → Tells → Ends Tells app old new → state new ≡ after_steps (end_steps app (is_running app (state old))) (state old)
 Ends-state {app = app} {old = old} {new = new} told call = state-append old new (end_steps app (is_running app (state old))) call.given (call.told told).history
-
-pub Sends-state : {Own T Tells : Type 0} {d : ℕ} {frame : List ℕ} {old new : Seen Own} (x : T) → Tells → Sends Tells d frame old new (Ok x) → state new ≡ after_step (Acted (Sent d frame)) (state old)
-unfolding send_steps
-Sends-state {d = d} {frame = frame} {old = old} {new = new} x told call = state-append old new (Acted (Sent d frame) ∷ []) call.given (call.told told).history
 
 pub Receives-state : {Own Tells : Type 0} {d : ℕ} {old new : Seen Own} {buf : List ℕ} (n : ℕ) → Tells → Receives Tells d old new (Ok n) buf → state new ≡ after_step (Acted (Got d (take n buf))) (state old)
 unfolding receive_steps
@@ -56,13 +40,6 @@ pub Receives-conforming : {Own Tells : Type 0} {d : ℕ} {old new : Seen Own} {b
 unfolding receive_steps MayStep MayAct
 Receives-conforming {d = d} {old = old} {new = new} {buf = buf} n told call keeps =
     (Conforming-rest old new (Acted (Got d (take n buf)) ∷ []) call.given (call.told told).history keeps).0
-
--- The stimulus that `next` begins and the item that it answers may come then.
-pub Nexts-conforming : {Own Tells : Type 0} {old new : Seen Own} {buf : List ℕ} (item : Item) (told : Tells) (call : Nexts Tells old new (Ok item) buf) → Conforming new
-    → MaySteps old.given.declared (stim_steps (call.told told).begun ++ item_step item buf ∷ []) (state old)
-unfolding next_steps
-Nexts-conforming {old = old} {new = new} {buf = buf} item told call keeps =
-    Conforming-rest old new (stim_steps (call.told told).begun ++ item_step item buf ∷ []) call.given (call.told told).history keeps
 
 -- Where nothing is upcoming and no stimulus is begun, the only item that may come without one is End, after the last stimulus.
 nothing_next : (step : WorldStep) (s : State) → upcoming s ≡ [] → IsNext step s → ⊥

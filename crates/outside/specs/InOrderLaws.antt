@@ -3,7 +3,6 @@ use Rattle.std.specs.Prelude.{◌≡◌, true, List, [], ◌∷◌, ◌++◌, re
 use Rattle.std.specs.List.{AllByRecursion}
 use Rattle.std.proofs.Common.{sym, ap, ◌∙◌, subst, append_assoc}
 use Rattle.std.proofs.lemmas.List.{append-nil, append_cancel_left}
-use Rattle.of_types.specs.declared.journal.Act.{Act}
 use Rattle.of_types.specs.declared.journal.Act.TheVariants.{Stim, Started, Gave, Gone, Took, Ended, Sent, Got}
 use Rattle.flow_table.specs.Switch.{Declared}
 use Rattle.outside.specs.declared.step.WorldStep.{WorldStep}
@@ -14,29 +13,6 @@ use Rattle.outside.specs.Conforming.{MayAct, MayStep, MaySteps, AreDeclaredFrom,
 use Rattle.outside.specs.InOrder.{brings_message, BringMessages, MessagesSince, MayCome, MayComeAll, InOrder}
 
 -- ---- One step
-
-may_come : (declared : List Declared) (step : WorldStep) (s : State) → MayStep declared step s → MayCome declared step s
-unfolding MayCome MayStep MayAct
-may_come declared (Acted (Stim x)) s may = may
-may_come declared (Acted (Started app ok)) s may = may
-may_come declared (Acted (Gave app bytes)) s may = may
-may_come declared (Acted (Gone app bytes)) s may = may
-may_come declared (Acted (Took app what)) s may = may
-may_come declared (Acted (Ended app)) s may = may
-may_come declared (Acted (Sent d bytes)) s may = may
-may_come declared (Acted (Got d bytes)) s may = may.0
-may_come declared (TookInto app what room) s may = may
-may_come declared (From d bytes) s may = may.0
-may_come declared (Joined d bytes) s may = may
-may_come declared (Left d) s may = may
-may_come declared (Moment t) s may = may
-may_come declared Idle s may = may
-may_come declared End s may = may
-may_come declared Opened s may = may
-may_come declared NotOpened s may = may
-may_come declared NextFailed s may = may
-may_come declared (SendFailed d) s may = may
-may_come declared (RecvFailed d) s may = may
 
 may_step : (declared : List Declared) (step : WorldStep) (s : State) → MayCome declared step s → brings_message step ≡ true → MayStep declared step s
 unfolding MayCome MayStep MayAct
@@ -61,22 +37,11 @@ may_step declared NextFailed s may read = may
 may_step declared (SendFailed d) s may read = may
 may_step declared (RecvFailed d) s may read = may
 
-all_come : (declared : List Declared) (steps : List WorldStep) (s : State) → MaySteps declared steps s → MayComeAll declared steps s
-all_come declared [] s may = tt
-all_come declared (step ∷ steps) s may = (may_come declared step s may.0, all_come declared steps (after_step step s) may.1)
-
 all_step : (declared : List Declared) (steps : List WorldStep) (s : State) → MayComeAll declared steps s → BringMessages steps → MaySteps declared steps s
 all_step declared [] s may read = tt
 all_step declared (step ∷ steps) s may read = (may_step declared step s may.0 read.0, all_step declared steps (after_step step s) may.1 read.1)
 
 -- ---- Against a world that keeps its word
-
-pub Conforming-in_order : {Own : Type 0} (seen : Seen Own) → Conforming seen → InOrder seen
-Conforming-in_order seen keeps = record {
-  declared = keeps.declared;
-  switches = keeps.switches;
-  steps = all_come seen.given.declared seen.history (at_first seen.given) keeps.steps;
-}
 
 pub in_order-Conforming : {Own : Type 0} (seen : Seen Own) → InOrder seen → BringMessages seen.history → Conforming seen
 in_order-Conforming seen order read = record {
@@ -119,11 +84,11 @@ messages-of seen keeps = messages_in seen.given.declared seen.history (at_first 
 
 -- ---- A longer history
 
-come_front : (declared : List Declared) (xs ys : List WorldStep) (s : State) → MayComeAll declared (xs ++ ys) s → MayComeAll declared xs s
+pub come_front : (declared : List Declared) (xs ys : List WorldStep) (s : State) → MayComeAll declared (xs ++ ys) s → MayComeAll declared xs s
 come_front declared [] ys s may = tt
 come_front declared (x ∷ xs) ys s may = (may.0, come_front declared xs ys (after_step x s) may.1)
 
-come_rest : (declared : List Declared) (xs ys : List WorldStep) (s : State) → MayComeAll declared (xs ++ ys) s → MayComeAll declared ys (after_steps xs s)
+pub come_rest : (declared : List Declared) (xs ys : List WorldStep) (s : State) → MayComeAll declared (xs ++ ys) s → MayComeAll declared ys (after_steps xs s)
 come_rest declared [] ys s may = may
 come_rest declared (x ∷ xs) ys s may = come_rest declared xs ys (after_step x s) may.1
 

@@ -118,23 +118,10 @@ unfolding link_told
 told_switch None = refl
 told_switch (Some l) = refl
 
-told_waits : (o : Option Link) → waits_in (option_map link_told o) ≡ drop 1 (waits_in o)
-unfolding link_told
-told_waits None = refl
-told_waits (Some l) = refl
-
 pub switch_of-from : (d : ℕ) (bytes : List ℕ) (s : State) → switch_of d (after_step (From d bytes) s) ≡ switch_of d s
 unfolding switch_of after_step
 switch_of-from d bytes s = ap switch_in (link_of-same d link_told keeps_told s.links) ∙ told_switch (link_of d s.links)
 
-pub waits_of-from : (d : ℕ) (bytes : List ℕ) (s : State) → waits_of d (after_step (From d bytes) s) ≡ drop 1 (waits_of d s)
-unfolding waits_of after_step
-waits_of-from d bytes s = ap waits_in (link_of-same d link_told keeps_told s.links) ∙ told_waits (link_of d s.links)
-
 pub switch_of-from_other : (d e : ℕ) (bytes : List ℕ) (s : State) → e ≢ d → switch_of e (after_step (From d bytes) s) ≡ switch_of e s
 unfolding switch_of after_step
 switch_of-from_other d e bytes s other = ap switch_in (link_of-other d e link_told keeps_told other s.links)
-
-pub waits_of-from_other : (d e : ℕ) (bytes : List ℕ) (s : State) → e ≢ d → waits_of e (after_step (From d bytes) s) ≡ waits_of e s
-unfolding waits_of after_step
-waits_of-from_other d e bytes s other = ap waits_in (link_of-other d e link_told keeps_told other s.links)

@@ -1,11 +1,10 @@
 -- Laws of what is seen: the journal of a longer history, and what later calls leave.
-use Rattle.std.specs.Prelude.{◌≡◌, ℕ, List, [], ◌∷◌, ◌++◌, Option, Some, None, Result, Ok, Err, IsOk, refl}
+use Rattle.std.specs.Prelude.{◌≡◌, ℕ, List, [], ◌∷◌, ◌++◌, Option, Some, None, Result, refl}
 use Rattle.std.specs.List.{cons_option}
 use Rattle.std.proofs.Common.{sym, ap, ◌∙◌, append_assoc, arith}
 use Rattle.std.proofs.lemmas.List.{append-nil}
 use Rattle.of_types.specs.declared.journal.Act.{Act}
 use Rattle.lego_io.specs.CountLaws.{Rose-after, Rose-before}
-use Rattle.outside.specs.declared.faults.OpenFault.{OpenFault}
 use Rattle.outside.specs.declared.faults.NextFault.{NextFault}
 use Rattle.outside.specs.declared.faults.StartFault.{StartFault}
 use Rattle.outside.specs.declared.faults.GiveFault.{GiveFault}
@@ -16,7 +15,7 @@ use Rattle.outside.specs.declared.item.Item.{Item}
 use Rattle.outside.specs.declared.item.Taken.{Taken}
 use Rattle.outside.specs.declared.step.WorldStep.{WorldStep}
 use Rattle.outside.specs.Seen.{Counts, Seen, NoneFell, Longer, Continues, LinkHeld, act_of, journal}
-use Rattle.outside.specs.Calls.{Opens, Nexts, Starts, Gives, Takes, Ends, Sends, Receives, open_steps, next_steps, start_steps, give_steps, take_steps, end_steps, send_steps, receive_steps}
+use Rattle.outside.specs.Calls.{Nexts, Starts, Gives, Takes, Ends, Sends, Receives, next_steps, start_steps, give_steps, take_steps, end_steps, send_steps, receive_steps}
 use Rattle.outside.specs.State.{state, is_running}
 
 -- ---- The journal
@@ -79,9 +78,6 @@ Continues-trans Tells a b c first second = record {
 
 -- ---- Each call
 
-pub Opens-continues : {Own T : Type 0} {Tells : Type 0} {old new : Seen Own} {result : Result T OpenFault} → Opens Tells old new result → Continues Tells old new
-Opens-continues {result = result} call = record { given = call.given; none_fell = call.none_fell; told = λ told. (open_steps result, (call.told told).history) }
-
 pub Nexts-continues : {Own : Type 0} {Tells : Type 0} {old new : Seen Own} {result : Result Item NextFault} {buf : List ℕ} → Nexts Tells old new result buf → Continues Tells old new
 Nexts-continues {result = result} {buf = buf} call = record { given = call.given; none_fell = call.none_fell; told = λ told. (next_steps (call.told told).begun result buf, (call.told told).history) }
 
@@ -117,14 +113,3 @@ LinkHeld-second d a b c first second held = record {
   no_fault = λ rose. held.no_fault (Rose-after (a.link_faults d) (b.link_faults d) (c.link_faults d) (first.link_faults d) rose);
   no_short = λ rose. held.no_short (Rose-after (a.shorts_of d) (b.shorts_of d) (c.shorts_of d) (first.shorts_of d) rose);
 }
-
--- A call of the link then succeeds.
-pub Sends-held : {Own T : Type 0} {Tells : Type 0} {d : ℕ} {frame : List ℕ} {old new : Seen Own} (result : Result T LinkFault) → Sends Tells d frame old new result → LinkHeld d old.counts new.counts → IsOk result
-Sends-held (Ok x) call held = refl
-Sends-held (Err linking.Failed) call held = absurd (held.no_fault (call.failed refl))
-Sends-held (Err linking.Short) call held = absurd (held.no_short (call.short_of refl))
-
-pub Receives-held : {Own : Type 0} {Tells : Type 0} {d : ℕ} {old new : Seen Own} {buf : List ℕ} (result : Result ℕ LinkFault) → Receives Tells d old new result buf → LinkHeld d old.counts new.counts → IsOk result
-Receives-held (Ok n) call held = refl
-Receives-held (Err linking.Failed) call held = absurd (held.no_fault (call.failed refl))
-Receives-held (Err linking.Short) call held = absurd (held.no_short (call.short_of refl))

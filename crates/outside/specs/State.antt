@@ -128,6 +128,10 @@ link_fails d s = fails_in (link_of d s.links)
 unfoldable pub upcoming : State → List WorldStep
 upcoming s = s.due ++ flat_map (λ l. map (From l.declared.dpid) l.waits) s.links
 
+-- the switches that links declare
+abbrev pub declared_in : List Link → List Declared
+declared_in ls = map (λ l. l.declared) ls
+
 -- ---- Marks
 
 abbrev pub mark_of : Option ℕ → State → Mark

@@ -1,7 +1,7 @@
 -- Laws of the state that a history leaves, and of a world that keeps its word.
 use Rattle.std.specs.Prelude.{◌≡◌, List, [], ◌∷◌, ◌++◌, refl}
 use Rattle.std.specs.List.{AllByRecursion}
-use Rattle.std.proofs.Common.{sym, ap, ◌∙◌, subst}
+use Rattle.std.proofs.Common.{ap, ◌∙◌, subst}
 use Rattle.of_types.specs.declared.journal.Act.{Act}
 use Rattle.of_types.specs.declared.journal.Act.TheVariants.{Stim, Started, Gave, Gone, Took, Ended, Sent, Got}
 use Rattle.of_types.specs.declared.journal.WorldStim.TheVariants.{Join, Leave, At, Of}
@@ -36,10 +36,6 @@ pub MaySteps-rest : (declared : List Declared) (xs ys : List WorldStep) (s : Sta
 MaySteps-rest declared [] ys s may = may
 MaySteps-rest declared (x ∷ xs) ys s may = MaySteps-rest declared xs ys (after_step x s) may.1
 
-pub MaySteps-append : (declared : List Declared) (xs ys : List WorldStep) (s : State) → MaySteps declared xs s → MaySteps declared ys (after_steps xs s) → MaySteps declared (xs ++ ys) s
-MaySteps-append declared [] ys s front rest = rest
-MaySteps-append declared (x ∷ xs) ys s front rest = (front.0, MaySteps-append declared xs ys (after_step x s) front.1 rest)
-
 -- ---- A world that keeps its word
 
 -- The steps that were appended to what was seen: what was seen before keeps its word, and they may come then.
@@ -59,20 +55,6 @@ Conforming-rest old new steps same longer keeps =
     let may : MaySteps new.given.declared (old.history ++ steps) (at_first new.given) =
     subst (λ (xs : List WorldStep). MaySteps new.given.declared xs (at_first new.given)) longer keeps.steps in
     MaySteps-rest old.given.declared old.history steps (at_first old.given) (subst (λ (g : Given _). MaySteps g.declared (old.history ++ steps) (at_first g)) same may)
-
--- What was seen may go on by steps that may come.
-pub Conforming-append : {Own : Type 0} (old new : Seen Own) (steps : List WorldStep) → new.given ≡ old.given → new.history ≡ old.history ++ steps → Conforming old → MaySteps old.given.declared steps (state old) → Conforming new
-unfolding state
-Conforming-append old new steps same longer keeps may =
-    let all : MaySteps old.given.declared (old.history ++ steps) (at_first old.given) =
-    MaySteps-append old.given.declared old.history steps (at_first old.given) keeps.steps may in
-    let given_so : MaySteps new.given.declared (old.history ++ steps) (at_first new.given) =
-    subst (λ (g : Given _). MaySteps g.declared (old.history ++ steps) (at_first g)) (sym same) all in
-    record {
-      declared = subst (λ (g : Given _). AreDeclaredFrom 1 g.declared) (sym same) keeps.declared;
-      switches = subst (λ (g : Given _). AllByRecursion MayDeclare g.declared) (sym same) keeps.switches;
-      steps = subst (λ (xs : List WorldStep). MaySteps new.given.declared xs (at_first new.given)) (sym longer) given_so;
-    }
 
 -- Whoever keeps its word later kept it before.
 pub Conforming-before : {Own : Type 0} {Tells : Type 0} {old new : Seen Own} → Tells → Continues Tells old new → Conforming new → Conforming old

@@ -8,6 +8,7 @@ ghost use Rattle.outside.specs.Seen.{Seen};
 use crate::faults::{GiveFault, LinkFault, NextFault, OpenFault, Short, StartFault};
 use crate::item::{Item, Taken};
 use crate::world::World;
+use of_types::Dpid;
 
 /// A world that passes each call on to another one, and counts them.
 #[derive(Drop, Debug)]
@@ -17,7 +18,7 @@ pub struct Counting<W> {
 }
 
 impl<W: World + Drop> Counting<W> {
-    /// This world, with no call counted.
+    /// Returns this world, with no call counted.
     pub fn new(world: W) -> Counting<W>
         ensures world { result.world ≡ world }
         ensures calls { result.calls ≡ 0 }
@@ -25,14 +26,14 @@ impl<W: World + Drop> Counting<W> {
         Counting { world, calls: 0 }
     }
 
-    /// How many calls were passed on; the number stays at its type's last value.
+    /// Tells how many calls were passed on; the number stays at its type's last value.
     pub fn calls(&self) -> u64
         ensures { result ≡ self.now.calls }
     {
         self.calls
     }
 
-    /// One call more.
+    /// Counts one call more.
     fn count(&mut self)
         ensures world { self.new.world ≡ self.old.world }
         ensures calls { self.new.calls ≡ raised self.old.calls }
@@ -78,12 +79,12 @@ impl<W: World + Drop> World for Counting<W> {
         self.world.end(app);
     }
 
-    fn send(&mut self, dpid: u64, frame: &[u8]) -> Result<(), LinkFault> {
+    fn send(&mut self, dpid: Dpid, frame: &[u8]) -> Result<(), LinkFault> {
         self.count();
         self.world.send(dpid, frame)
     }
 
-    fn recv(&mut self, dpid: u64, buf: &mut [u8]) -> Result<usize, LinkFault> {
+    fn recv(&mut self, dpid: Dpid, buf: &mut [u8]) -> Result<usize, LinkFault> {
         self.count();
         self.world.recv(dpid, buf)
     }

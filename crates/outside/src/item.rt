@@ -1,16 +1,17 @@
 //! What comes next, and what an application gave.
 
-/// What comes next. A `u64` is a switch's number, in `Moment` seconds from the start; a `usize` is how many
-/// bytes of the buffer were filled.
+use of_types::Dpid;
+
+/// What comes next. A `usize` is how many bytes of the buffer were filled.
 #[derive(Clone, Copy, Debug, PartialEq, Eq)]
 pub enum Item {
     /// One message came from the switch.
-    From(u64, usize),
+    From(Dpid, usize),
     /// The switch joined; the bytes are its FEATURES_REPLY.
-    Joined(u64, usize),
+    Joined(Dpid, usize),
     /// The switch left.
-    Left(u64),
-    /// The moment is this one.
+    Left(Dpid),
+    /// The moment is this one, in seconds from the start.
     Moment(u64),
     /// Nothing waits now.
     Idle,

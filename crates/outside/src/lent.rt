@@ -7,6 +7,7 @@ ghost use Rattle.outside.specs.Seen.{Seen};
 use crate::faults::{GiveFault, LinkFault, NextFault, OpenFault, Short, StartFault};
 use crate::item::{Item, Taken};
 use crate::world::World;
+use of_types::Dpid;
 
 impl<W: World> World for &mut W {
     ghost Tells = { W.Tells };
@@ -39,11 +40,11 @@ impl<W: World> World for &mut W {
         (**self).end(app);
     }
 
-    fn send(&mut self, dpid: u64, frame: &[u8]) -> Result<(), LinkFault> {
+    fn send(&mut self, dpid: Dpid, frame: &[u8]) -> Result<(), LinkFault> {
         (**self).send(dpid, frame)
     }
 
-    fn recv(&mut self, dpid: u64, buf: &mut [u8]) -> Result<usize, LinkFault> {
+    fn recv(&mut self, dpid: Dpid, buf: &mut [u8]) -> Result<usize, LinkFault> {
         (**self).recv(dpid, buf)
     }
 }

@@ -1,5 +1,9 @@
-//! The outside of the controller: the one object that stands for the switches and the applications, and the
-//! history that it tells. It brings the judge of a turn's tables along.
+//! The outside of the controller: the one object that stands for switches and applications, and the history that it
+//! tells.
+//!
+//! Each call of the trait `World` ensures one record of `specs/Calls.antt`: what is appended to the history, which count
+//! rose, and that each fault comes only with its own count. `Conforming` says when a world keeps its word, `InOrder` when
+//! it does but that bytes may be no messages. `Counting` and `Mute` are worlds that meet the trait. `Judge` comes along.
 #![tactic(auto)]
 
 mod call;

@@ -8,6 +8,7 @@ ghost use Rattle.outside.specs.Mute.{mute_seen};
 use crate::faults::{GiveFault, LinkFault, NextFault, OpenFault, Short, StartFault};
 use crate::item::{Item, Taken};
 use crate::world::World;
+use of_types::Dpid;
 
 /// A world in which nothing happens: it tells nothing, each call that can fail does, and an application gives
 /// nothing.
@@ -17,14 +18,14 @@ pub struct Mute {
 }
 
 impl Mute {
-    /// A world in which nothing happened yet.
+    /// Returns a world in which nothing happened yet.
     pub fn new() -> Mute
         ensures { result.faults ≡ 0 }
     {
         Mute { faults: 0 }
     }
 
-    /// One fault more.
+    /// Counts one fault more.
     fn raise(&mut self)
         ensures rose { Rose self.old.faults self.new.faults }
         ensures never_fell { NeverFell self.old.faults self.new.faults }
@@ -82,7 +83,7 @@ impl World for Mute {
 
     fn end(&mut self, _app: u32) {}
 
-    fn send(&mut self, _dpid: u64, _frame: &[u8]) -> Result<(), LinkFault>
+    fn send(&mut self, _dpid: Dpid, _frame: &[u8]) -> Result<(), LinkFault>
         ensures seen { Sends ⊥ _dpid _frame.now (mute_seen self.old.faults) (mute_seen self.new.faults) result }
         ensures fails { result ≡ Err LinkFault.Failed }
     {
@@ -90,7 +91,7 @@ impl World for Mute {
         Err(LinkFault::Failed)
     }
 
-    fn recv(&mut self, _dpid: u64, _buf: &mut [u8]) -> Result<usize, LinkFault>
+    fn recv(&mut self, _dpid: Dpid, _buf: &mut [u8]) -> Result<usize, LinkFault>
         ensures seen { Receives ⊥ _dpid (mute_seen self.old.faults) (mute_seen self.new.faults) result _buf.new }
         ensures fails { result ≡ Err LinkFault.Failed }
     {

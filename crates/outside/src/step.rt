@@ -1,10 +1,9 @@
 //! The steps of a history.
 
-use of_types::{Act, ByteList, TookWhat};
+use of_types::{Act, ByteList, Dpid, TookWhat};
 
 /// One step of what happened between the engine and a world: an act of the journal, an item told, or a call that
-/// failed. A call that answered `Short` is no step. A `u64` is a switch's number, in `Moment` seconds from the
-/// start.
+/// failed. A call that answered `Short` is no step.
 #[derive(Drop, Debug, Clone, PartialEq, Eq)]
 pub enum WorldStep {
     /// An act of the journal, but a `Took`. A `Got` here came by `recv`, and a `Stim` stands where `next` began it.
@@ -12,12 +11,12 @@ pub enum WorldStep {
     /// `take` from the application answered this, into a buffer of so many bytes; the journal has it as `Took`.
     TookInto(u32, TookWhat, usize),
     /// `next` told this message of the switch; the journal has it as `Got`.
-    From(u64, ByteList),
+    From(Dpid, ByteList),
     /// `next` told that the switch joined, with its FEATURES_REPLY.
-    Joined(u64, ByteList),
+    Joined(Dpid, ByteList),
     /// `next` told that the switch left.
-    Left(u64),
-    /// `next` told the moment.
+    Left(Dpid),
+    /// `next` told the moment, in seconds from the start.
     Moment(u64),
     /// `next` told that nothing waits now.
     Idle,
@@ -30,7 +29,7 @@ pub enum WorldStep {
     /// `next` answered `Failed`.
     NextFailed,
     /// `send` to the switch answered `Failed`.
-    SendFailed(u64),
+    SendFailed(Dpid),
     /// `recv` from the switch answered `Failed`.
-    RecvFailed(u64),
+    RecvFailed(Dpid),
 }

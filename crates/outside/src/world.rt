@@ -7,6 +7,7 @@ ghost use Rattle.outside.specs.Calls.{most_message, Opens, Nexts, Starts, Gives,
 
 use crate::faults::{GiveFault, LinkFault, NextFault, OpenFault, Short, StartFault};
 use crate::item::{Item, Taken};
+use of_types::Dpid;
 
 /// The switches and the applications, so that one history orders all that happens between them and the engine.
 /// Applications are named by their index, switches by their number.
@@ -24,7 +25,7 @@ pub trait World {
     fn open(&mut self, port: u16) -> Result<(), OpenFault>
         ensures { Opens Tells (seen self.old) (seen self.new) result };
 
-    /// What comes next. Where that has bytes, they stand in the front of the buffer.
+    /// Tells what comes next. Where that has bytes, they stand in the front of the buffer.
     fn next(&mut self, buf: &mut [u8]) -> Result<Item, NextFault>
         requires { most_message ≤ length buf.old }
         ensures { Nexts Tells (seen self.old) (seen self.new) result buf.new };
@@ -47,12 +48,12 @@ pub trait World {
         ensures { Ends Tells app (seen self.old) (seen self.new) };
 
     /// Sends one message to the switch.
-    fn send(&mut self, dpid: u64, frame: &[u8]) -> Result<(), LinkFault>
+    fn send(&mut self, dpid: Dpid, frame: &[u8]) -> Result<(), LinkFault>
         requires { IsOk (reading_of frame.now) }
         ensures { Sends Tells dpid frame.now (seen self.old) (seen self.new) result };
 
     /// Takes one whole message from the switch into the front of the buffer, and answers how many bytes it has.
-    fn recv(&mut self, dpid: u64, buf: &mut [u8]) -> Result<usize, LinkFault>
+    fn recv(&mut self, dpid: Dpid, buf: &mut [u8]) -> Result<usize, LinkFault>
         requires { most_message ≤ length buf.old }
         ensures { Receives Tells dpid (seen self.old) (seen self.new) result buf.new };
 }

@@ -2,7 +2,6 @@
 
 ghost use Rattle.std.specs.Prelude.{◌≡◌, ◌++◌, IfOk, OnOk, string_bytes};
 ghost use Rattle.of_action.specs.Spelling.{list_bytes};
-ghost use Rattle.lego_model.specs.Report as plain;
 ghost use Rattle.lego_model.specs.RunReport as report;
 
 use of_action::{ActionList, encode_list, size};
@@ -13,7 +12,7 @@ use std::alloc::{AllocError, Global};
 
 /// `flow PRIORITY MATCH cookie=C idle=I hard=H flags=F packets=P bytes=B age=A actions=HEX`: a flow entry as its owner
 /// sees it, with `-` for no actions. Timeouts and the age are in seconds.
-#[tactic(auto, unfolding(lego_model::specs::RunReport::flow_line, lego_model::specs::Report::line_of))]
+#[tactic(auto, unfolding(lego_model::specs::RunReport::flow_line, lego_model::specs::RunReport::line_of))]
 pub fn flow_line(alloc: Global, row: &FlowRow, flags: u16) -> Result<ByteList, AllocError>
     ensures { IfOk result (λ line. line ≡ report.flow_line row.now flags) }
 {
@@ -29,7 +28,7 @@ pub fn flow_line(alloc: Global, row: &FlowRow, flags: u16) -> Result<ByteList, A
 
 /// `flow PRIORITY MATCH`.
 fn push_key(alloc: Global, line: &mut String, key: &Key) -> Result<(), AllocError>
-    ensures { OnOk result (string_bytes line.new ≡ string_bytes line.old ++ plain.flow_head key.now) }
+    ensures { OnOk result (string_bytes line.new ≡ string_bytes line.old ++ report.flow_head key.now) }
 {
     let priority = key.priority;
     let matching = text(alloc, &key.matching)?;
@@ -37,9 +36,9 @@ fn push_key(alloc: Global, line: &mut String, key: &Key) -> Result<(), AllocErro
 }
 
 /// ` cookie=C`.
-#[tactic(auto, unfolding(lego_model::specs::Report::cookie_text))]
+#[tactic(auto, unfolding(lego_model::specs::RunReport::cookie_text))]
 fn push_cookie(line: &mut String, cookie: u64) -> Result<(), AllocError>
-    ensures { OnOk result (string_bytes line.new ≡ string_bytes line.old ++ plain.cookie_text cookie) }
+    ensures { OnOk result (string_bytes line.new ≡ string_bytes line.old ++ report.cookie_text cookie) }
 {
     write!(line, " cookie={cookie}")
 }
@@ -62,7 +61,7 @@ fn push_counts(line: &mut String, row: &FlowRow) -> Result<(), AllocError>
     write!(line, " packets={packets} bytes={bytes} age={age}")
 }
 
-/// The bytes of actions.
+/// Returns the bytes of actions.
 fn spelling(alloc: Global, actions: &ActionList) -> Result<Vec<u8>, AllocError>
     ensures { IfOk result (λ bytes. bytes.items ≡ list_bytes actions.now) }
 {
@@ -71,7 +70,7 @@ fn spelling(alloc: Global, actions: &ActionList) -> Result<Vec<u8>, AllocError>
     Ok(bytes)
 }
 
-/// The digits of bytes, or a dash for none.
+/// Returns the digits of bytes, or a dash for none.
 fn digits_or_dash(alloc: Global, bytes: &[u8]) -> Result<String, AllocError>
     ensures { IfOk result (λ digits. string_bytes digits ≡ report.dash_or bytes.now) }
 {

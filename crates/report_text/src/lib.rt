@@ -1,4 +1,7 @@
 //! The lines of a report, each as its bytes with the LF at its end.
+//!
+//! `start_line`, `gone_line`, `event_line`, `turn_line`, `switch_line`, `flow_line`, `app_line` and `end_line` give
+//! exactly the bytes that `RunReport.antt` of `lego_model` spells, unless memory runs out.
 #![tactic(auto)]
 
 mod flow;

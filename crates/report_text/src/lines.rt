@@ -10,7 +10,7 @@ use of_types::{ByteList, Dpid};
 use std::alloc::{AllocError, Global};
 
 /// `start APP WORD`: how an attempt to start the application ended.
-#[tactic(auto, unfolding(lego_model::specs::RunReport::start_line, lego_model::specs::Report::line_of))]
+#[tactic(auto, unfolding(lego_model::specs::RunReport::start_line, lego_model::specs::RunReport::line_of))]
 pub fn start_line(alloc: Global, app: &str, tried: &Tried) -> Result<ByteList, AllocError>
     ensures { IfOk result (λ line. line ≡ report.start_line app.now tried.now) }
 {
@@ -20,7 +20,7 @@ pub fn start_line(alloc: Global, app: &str, tried: &Tried) -> Result<ByteList, A
 }
 
 /// `gone APP`: the application is gone.
-#[tactic(auto, unfolding(lego_model::specs::RunReport::gone_line, lego_model::specs::Report::line_of))]
+#[tactic(auto, unfolding(lego_model::specs::RunReport::gone_line, lego_model::specs::RunReport::line_of))]
 pub fn gone_line(alloc: Global, app: &str) -> Result<ByteList, AllocError>
     ensures { IfOk result (λ line. line ≡ report.gone_line app.now) }
 {
@@ -29,7 +29,7 @@ pub fn gone_line(alloc: Global, app: &str) -> Result<ByteList, AllocError>
 }
 
 /// `event N KIND DPID`: the event with this number is dispatched.
-#[tactic(auto, unfolding(lego_model::specs::RunReport::event_line, lego_model::specs::Report::line_of))]
+#[tactic(auto, unfolding(lego_model::specs::RunReport::event_line, lego_model::specs::RunReport::line_of))]
 pub fn event_line(
     alloc: Global,
     number: u64,
@@ -44,7 +44,7 @@ pub fn event_line(
 }
 
 /// `turn APP done`, `turn APP stop` or `turn APP failed CAUSE`: how the turn of the application ended.
-#[tactic(auto, unfolding(lego_model::specs::RunReport::turn_line, lego_model::specs::Report::line_of))]
+#[tactic(auto, unfolding(lego_model::specs::RunReport::turn_line, lego_model::specs::RunReport::line_of))]
 pub fn turn_line(alloc: Global, app: &str, word: &TurnWord) -> Result<ByteList, AllocError>
     ensures { IfOk result (λ line. line ≡ report.turn_line app.now word.now) }
 {
@@ -60,7 +60,7 @@ pub fn turn_line(alloc: Global, app: &str, word: &TurnWord) -> Result<ByteList, 
 }
 
 /// `switch DPID flows N`: how many entries a joined switch has at the end.
-#[tactic(auto, unfolding(lego_model::specs::RunReport::switch_line, lego_model::specs::Report::line_of))]
+#[tactic(auto, unfolding(lego_model::specs::RunReport::switch_line, lego_model::specs::RunReport::line_of))]
 pub fn switch_line(alloc: Global, dpid: Dpid, flows: u64) -> Result<ByteList, AllocError>
     ensures { IfOk result (λ line. line ≡ report.switch_line dpid flows) }
 {
@@ -69,7 +69,7 @@ pub fn switch_line(alloc: Global, dpid: Dpid, flows: u64) -> Result<ByteList, Al
 }
 
 /// `app NAME alive done D failed F`, or `dead` for one that is gone: how many turns completed and failed.
-#[tactic(auto, unfolding(lego_model::specs::RunReport::app_line, lego_model::specs::Report::line_of))]
+#[tactic(auto, unfolding(lego_model::specs::RunReport::app_line, lego_model::specs::RunReport::line_of))]
 pub fn app_line(
     alloc: Global,
     app: &str,
@@ -85,7 +85,7 @@ pub fn app_line(
 }
 
 /// `end MOMENT events E`: the last moment, in seconds from the start, and how many events were dispatched.
-#[tactic(auto, unfolding(lego_model::specs::RunReport::end_line, lego_model::specs::Report::line_of))]
+#[tactic(auto, unfolding(lego_model::specs::RunReport::end_line, lego_model::specs::RunReport::line_of))]
 pub fn end_line(alloc: Global, moment: u64, events: u64) -> Result<ByteList, AllocError>
     ensures { IfOk result (λ line. line ≡ report.end_line moment events) }
 {

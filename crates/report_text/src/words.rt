@@ -5,7 +5,7 @@ ghost use Rattle.lego_model.specs.RunReport as report;
 
 use app_frames::{Cause, EventKind, FrameFault, Tried};
 
-/// How an attempt to start an application ended.
+/// Tells how an attempt to start an application ended.
 pub(crate) fn tried_word(tried: Tried) -> &'static str
     ensures { result.now ≡ report.tried_word tried }
 {
@@ -18,7 +18,7 @@ pub(crate) fn tried_word(tried: Tried) -> &'static str
     }
 }
 
-/// Why a turn failed.
+/// Tells why a turn failed.
 pub(crate) fn cause_words(cause: Cause) -> &'static str
     ensures { result.now ≡ report.cause_words cause }
 {
@@ -35,7 +35,7 @@ pub(crate) fn cause_words(cause: Cause) -> &'static str
     }
 }
 
-/// What kind of event it is.
+/// Tells what kind of event it is.
 pub(crate) fn kind_word(kind: EventKind) -> &'static str
     ensures { result.now ≡ report.kind_word kind }
 {
@@ -49,7 +49,7 @@ pub(crate) fn kind_word(kind: EventKind) -> &'static str
     }
 }
 
-/// Whether an application is still there.
+/// Tells whether an application is still there.
 pub(crate) fn alive_word(alive: bool) -> &'static str
     ensures { result.now ≡ report.alive_word alive }
 {

@@ -1,7 +1,7 @@
 -- A batch in a world that keeps its word is what the reference controller makes of its stimulus.
-use Rattle.std.proofs.Common.{◌≡◌, ℕ, List, [], ◌∷◌, ◌++◌, map, filter, Option, None, refl, sym, ap, ap₂, ◌∙◌, subst}
+use Rattle.std.proofs.Common.{◌≡◌, ℕ, List, [], ◌∷◌, ◌++◌, filter, Option, None, refl, sym, ap, ap₂, ◌∙◌, subst}
 use Rattle.std.specs.Option.{option_map}
-use Rattle.std.proofs.lemmas.List.{append-nil, append_cancel_left, map-append}
+use Rattle.std.proofs.lemmas.List.{append-nil, append_cancel_left}
 use Rattle.std.proofs.lemmas.List.Elements.{filter-append}
 use Rattle.of_types.specs.declared.journal.Act.{Act}
 use Rattle.of_types.specs.declared.journal.WorldStim.{WorldStim}
@@ -11,34 +11,34 @@ use Rattle.app_frames.specs.declared.frame.Event.{Event}
 use Rattle.lego_model.specs.Answers.{rows_of_table}
 use Rattle.lego_model.specs.Journal.{Reply, Start, is_of, inputs, stimuli}
 use Rattle.lego_model.specs.Places.{Place}
-use Rattle.lego_model.specs.Controller.{Quiet, Run, quiet_of, moment_after, places_after, events_after, ports_of, happen}
-use Rattle.lego_model.specs.Agreement.{AgreeQuiet, AgreeQuiets}
+use Rattle.lego_model.specs.Controller.{Run, reference_mark, places_after, events_after, ports_of, happen}
+use Rattle.lego_model.specs.Agreement.{AgreeMark, AgreeMarks}
 use Rattle.outside.specs.declared.step.WorldStep.{WorldStep}
 use Rattle.outside.specs.Seen.{Given, Seen, Continues, journal}
 use Rattle.outside.specs.SeenLaws.{journal-append}
-use Rattle.outside.specs.State.{Mark, State, mark_of, after_stim, state, switch_of, waits_of}
+use Rattle.outside.specs.State.{Mark, State, mark_of, after_stim, state, switch_of, waits_of, moment_after}
 use Rattle.outside.specs.Conforming.{Conforming}
 use Rattle.net_txn.specs.Net.{NetState}
 use Rattle.switch_laws.specs.Shown.{shown_places}
 use Rattle.switch_laws.specs.Sound.{Sound}
 use Rattle.switch_laws.specs.OrderlyLaws.{orderly-whole}
-use Rattle.journal_laws.specs.Readings.{starts_in, replies_in, LastStands}
+use Rattle.journal_laws.specs.Readings.{LastStands}
+use Rattle.lego_model.specs.History.{starts_in, replies_in, own_acts, given_in, stimuli_in}
 use Rattle.journal_laws.specs.CallLaws.{inputs_own}
 use Rattle.lego_model.specs.AtOnce.{at_first, Dialogue}
 use Rattle.batch_laws.specs.Knowledge.{knowledge_of}
 use Rattle.batch_laws.specs.Calm.{Calm}
 use Rattle.batch_laws.specs.InBatch.{BatchDone, BatchOver}
 use Rattle.batch_laws.specs.HistoryLaws.{links-declared}
-use Rattle.batch_laws.specs.StimulusLaws.{StimulusHandled, stimulus-handled}
-use Rattle.run_laws.specs.Engine.{Engine, Stands, index, own_acts, given_in, stimuli_in, app_at, quiet_by, text_of}
-use Rattle.run_laws.specs.Moves.{Settled, Moved, OneHappens}
+use Rattle.batch_laws.specs.StimulusLaws.{stimulus-handled}
+use Rattle.batch_laws.specs.Tells.{StimulusHandled}
+use Rattle.run_laws.specs.Engine.{Engine, Stands, app_at, engine_then}
+use Rattle.lego_model.specs.Application.{index}
+use Rattle.lego_model.specs.ReferenceRun.{text_of}
+use Rattle.run_laws.specs.Moves.{AtRest, Moved, OneHappens}
 use Rattle.run_laws.specs.DialogueLaws.{others_at_once}
-use Rattle.run_laws.specs.QuietLaws.{quiets_more, mark_alike}
+use Rattle.run_laws.specs.PointLaws.{marks_more, mark_alike}
 use Rattle.run_laws.specs.FinishLaws.{shown-still}
-
--- the engine with another network and other events that wait
-abbrev pub engine_then : Engine → NetState → List Event → Engine
-engine_then e net queue = record e { net = net; queue = queue }
 
 -- ---- All is calm again
 
@@ -107,10 +107,9 @@ happens-stands {Own} x old new net now_net queue now_queue e ss rs r keeps same_
       queue = ap₂ (λ (q : List Event) (more : List Event). q ++ more) (s.queue ∙ same_queue) (ap₂ (λ (m : ℕ) (ps : List Place). events_after x m ps) s.moment before) ∙ sym h.queue_so;
       events = s.events;
       apps = s.apps ∙ ap (λ (given : List (List ℕ)). app_at (engine_then e now_net now_queue) given ss rs ∷ []) (sym inputs_same);
-      quiets = subst (λ (ms : List Mark). AgreeQuiets (map quiet_by ms) (r.quiets ++ quiet_of None r.places ∷ [])) (sym (done.stays.marks ∙ marks-then x (state old)))
-          (subst (λ (qs : List Quiet). AgreeQuiets qs (r.quiets ++ quiet_of None r.places ∷ [])) (sym (map-append quiet_by (state old).marks (mark_of None (state old) ∷ [])))
-          (quiets_more (map quiet_by (state old).marks) r.quiets (quiet_by (mark_of None (state old))) (quiet_of None r.places) s.quiets
-          (subst (λ (ps : List Place). AgreeQuiet (quiet_by (mark_of None (state old))) (quiet_of None ps)) (sym before) (mark_alike None old.given.declared net.views (state old) (links-declared old) keeps_old.declared))));
+      marks = subst (λ (ms : List Mark). AgreeMarks ms (r.marks ++ reference_mark None r.places ∷ [])) (sym (done.stays.marks ∙ marks-then x (state old)))
+          (marks_more (state old).marks r.marks (mark_of None (state old)) (reference_mark None r.places) s.marks
+          (subst (λ (ps : List Place). AgreeMark (mark_of None (state old)) (reference_mark None ps)) (sym before) (mark_alike None old.given.declared net.views (state old) (links-declared old) keeps_old.declared)));
       life = λ alive. subst LastStands (sym own) (s.life alive);
     }
 
@@ -128,7 +127,7 @@ none-own old new steps longer own =
     append_cancel_left (own_acts old) (filter (is_of index) (journal steps)) [] (sym more ∙ own ∙ sym (append-nil (own_acts old)))
 
 -- with a stimulus
-pub batch-happens : {Own : Type 0} (Tells : Type 0) (x : WorldStim) (old new : Seen Own) (net now_net : NetState) (queue now_queue : List Event) (e : Engine) → Tells → Continues Tells old new → Conforming old → Conforming new → Settled old e → e.net ≡ net → e.queue ≡ queue
+pub batch-happens : {Own : Type 0} (Tells : Type 0) (x : WorldStim) (old new : Seen Own) (net now_net : NetState) (queue now_queue : List Event) (e : Engine) → Tells → Continues Tells old new → Conforming old → Conforming new → AtRest old e → e.net ≡ net → e.queue ≡ queue
     → BatchDone x (record { seen = old; net = net; queue = queue }) (record { seen = new; net = now_net; queue = now_queue })
     → OneHappens old new e (engine_then e now_net now_queue)
 batch-happens Tells x old new net now_net queue now_queue e told later keeps_old keeps settled same_net same_queue done =
@@ -162,7 +161,7 @@ batch-happens Tells x old new net now_net queue now_queue e told later keeps_old
     }
 
 -- the last one, without a stimulus: nothing is done
-pub batch-over : {Own : Type 0} (old new : Seen Own) (net now_net : NetState) (queue now_queue : List Event) (e : Engine) → Settled old e → e.net ≡ net → e.queue ≡ queue
+pub batch-over : {Own : Type 0} (old new : Seen Own) (net now_net : NetState) (queue now_queue : List Event) (e : Engine) → AtRest old e → e.net ≡ net → e.queue ≡ queue
     → BatchOver (record { seen = old; net = net; queue = queue }) (record { seen = new; net = now_net; queue = now_queue }) → Moved [] (λ r. r) [] old new e (engine_then e now_net now_queue)
 batch-over {Own} old new net now_net queue now_queue e settled same_net same_queue over =
     let calm : Calm old net = subst (λ (n : NetState). Calm old n) same_net settled.calm in
@@ -196,7 +195,7 @@ batch-over {Own} old new net now_net queue now_queue e settled same_net same_que
           queue = s.queue ∙ same_queue ∙ sym over.queue;
           events = s.events;
           apps = s.apps ∙ ap (λ (js : List Act). app_at (engine_then e now_net now_queue) (inputs index js) ss rs ∷ []) (sym journal_same);
-          quiets = subst (λ (t : State). AgreeQuiets (map quiet_by t.marks) r.quiets) (sym over.state_so) s.quiets;
+          marks = subst (λ (t : State). AgreeMarks t.marks r.marks) (sym over.state_so) s.marks;
           life = λ alive. subst LastStands (sym own) (s.life alive);
         };
         says = λ ss rs r starts_so replies_so s. sym (append-nil (text_of r));

@@ -8,37 +8,26 @@ use Rattle.of_match.specs.declared.key.Key.{Key}
 use Rattle.flow_table.specs.declared.view.ViewRow.{ViewRow}
 use Rattle.flow_table.specs.declared.view.TableView.{TableView}
 use Rattle.flow_table.specs.Switch.{SwitchState}
-use Rattle.lego_model.specs.Answers.{rows_of_table, rows_of_view}
+use Rattle.lego_model.specs.Answers.{rows_of_table}
 use Rattle.lego_model.specs.Controller.{ports_of}
 use Rattle.outside.specs.Seen.{Seen}
-use Rattle.outside.specs.State.{Link, State, state, link_of, switch_in, waits_in, switch_of, waits_of}
+use Rattle.outside.specs.State.{State, state, switch_of}
 use Rattle.outside.specs.Conforming.{Conforming}
 use Rattle.net_txn.specs.declared.logged.Logged.{Logged}
 use Rattle.net_txn.specs.Net.{NetState}
-use Rattle.net_txn.specs.Views.{rows_at, with_rows}
+use Rattle.net_txn.specs.Views.{rows_at, with_rows, is_viewed, ViewsAscend}
 use Rattle.net_txn.specs.Arriving.{without_key}
-use Rattle.net_txn.specs.Undos.{is_viewed, without_keys, StandsReady, Undoes}
+use Rattle.net_txn.specs.Undos.{without_keys, StandsReady, Undoes}
 use Rattle.switch_laws.specs.Since.{Ready, logged_since, Since, Goes}
 use Rattle.switch_laws.specs.Sound.{Sound}
-use Rattle.switch_laws.specs.SoundSteps.{undo-sound}
-use Rattle.switch_laws.specs.UndoShown.{again, out-again, undo-ready}
-use Rattle.batch_laws.specs.Calm.{known_ports, ViewsAscend, Calm}
+use Rattle.switch_laws.specs.SoundStepLaws.{undo-sound}
+use Rattle.switch_laws.specs.ShownUndoLaws.{again, out-again, undo-ready}
+use Rattle.batch_laws.specs.Calm.{known_ports, Calm}
+use Rattle.run_laws.specs.LinkSteps.{Rests}
+use Rattle.batch_laws.specs.InBatchLaws.{links_switch, links_waits}
+use Rattle.batch_laws.specs.JoinTellLaws.{no-rows}
 
 -- ---- Where the switches stay
-
-pub switch_stays : (d : ℕ) (s t : State) → t.links ≡ s.links → switch_of d t ≡ switch_of d s
-unfolding switch_of
-switch_stays d s t same = ap (λ (ls : List Link). switch_in (link_of d ls)) same
-
-waits_stay : (d : ℕ) (s t : State) → t.links ≡ s.links → waits_of d t ≡ waits_of d s
-unfolding waits_of
-waits_stay d s t same = ap (λ (ls : List Link). waits_in (link_of d ls)) same
-
--- nothing was begun since, and the moment stays
-pub record Rests (s t : State) : Type 0 where
-  pub begun : t.begun ≡ s.begun
-  pub due : t.due ≡ s.due
-  pub moment : t.moment ≡ s.moment
 
 pub Rests-refl : (s : State) → Rests s s
 Rests-refl s = record { begun = refl; due = refl; moment = refl }
@@ -49,12 +38,12 @@ Rests-trans s t u first second = record { begun = second.begun ∙ first.begun; 
 pub calm_talk : {Own : Type 0} (old new : Seen Own) (net : NetState) → (state new).links ≡ (state old).links → Rests (state old) (state new) → Calm old net → Calm new net
 calm_talk old new net same rests calm = record {
   ready = record {
-    waits = λ d. waits_stay d (state old) (state new) same ∙ calm.ready.waits d;
-    agrees = λ d. calm.ready.agrees d ∙ ap (option_map (λ x. rows_of_table x.table.entries)) (sym (switch_stays d (state old) (state new) same));
+    waits = λ d. links_waits d (state old) (state new) same ∙ calm.ready.waits d;
+    agrees = λ d. calm.ready.agrees d ∙ ap (option_map (λ x. rows_of_table x.table.entries)) (sym (links_switch d (state old) (state new) same));
   };
-  sound = record { entries = λ d x is. calm.sound.entries d x (sym (switch_stays d (state old) (state new) same) ∙ is) };
+  sound = record { entries = λ d x is. calm.sound.entries d x (sym (links_switch d (state old) (state new) same) ∙ is) };
   order = calm.order;
-  ports = λ d. calm.ports d ∙ ap (option_map ports_of) (sym (switch_stays d (state old) (state new) same));
+  ports = λ d. calm.ports d ∙ ap (option_map ports_of) (sym (links_switch d (state old) (state new) same));
   kept = calm.kept;
   moment = calm.moment ∙ sym rests.moment;
   none_begun = rests.begun ∙ calm.none_begun;
@@ -144,14 +133,10 @@ some_rows d (v ∷ vs) viewed none =
     no_rows : (rows : List ViewRow) → Some rows ≡ None → ⊥
     no_rows rows h = cc
 
-none_mapped : (o : Option (List ViewRow)) → option_map rows_of_view o ≡ None → o ≡ None
-none_mapped None h = refl
-none_mapped (Some rows) h = absurd cc
-
 pub stands_ready : {Own : Type 0} (d : ℕ) (seen : Seen Own) (net : NetState) → Ready seen net → is_viewed d net.views ≡ true → (o : Option SwitchState) → switch_of d (state seen) ≡ o → StandsReady d (state seen)
 stands_ready d seen net ready viewed (Some s) is = record { switch = s; is = is; waits = ready.waits d }
 stands_ready d seen net ready viewed None is =
-    absurd (some_rows d net.views viewed (none_mapped (rows_at d net.views) (ready.agrees d ∙ ap (option_map (λ x. rows_of_table x.table.entries)) is)))
+    absurd (some_rows d net.views viewed (no-rows (rows_at d net.views) (ready.agrees d ∙ ap (option_map (λ x. rows_of_table x.table.entries)) is)))
 
 module _ {Own : Type 0} (Tells : Type 0) (start : ℕ) (first old new : Seen Own) (net0 net now_net : NetState) where
   ports_again : Tells → Conforming new → Since start first old net0 net → Ready old net → Undoes Tells start old new net now_net (Ok tt) → (d : ℕ) (o : Option SwitchState) → switch_of d (state first) ≡ o

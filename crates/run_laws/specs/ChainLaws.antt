@@ -1,6 +1,6 @@
 -- Laws of the beats of a turn, of an undo and of attempts to start: what they leave of a state beside its switches, and that what is sound
 -- stays so.
-use Rattle.std.proofs.Common.{◌≡◌, ◌==◌, ℕ, zero, suc, Bool, true, false, List, [], ◌∷◌, ◌++◌, map, filter, Option, Some, None, Ok, if◌then◌else◌, refl, sym, ap, ◌∙◌, subst, inl, inr}
+use Rattle.std.proofs.Common.{◌≡◌, ◌==◌, ℕ, zero, suc, Bool, true, false, List, [], ◌∷◌, ◌++◌, map, filter, Some, if◌then◌else◌, refl, sym, ap, ◌∙◌, subst, inl, inr}
 use Rattle.std.proofs.lemmas.Bool.{eq-eqb}
 use Rattle.std.proofs.lemmas.List.{append-nil}
 use Rattle.std.proofs.lemmas.List.Elements.{filter-append}
@@ -12,118 +12,43 @@ use Rattle.app_frames.specs.declared.frame.Answer.{Answer}
 use Rattle.lego_model.specs.Journal.{is_of, inputs, stimuli}
 use Rattle.lego_model.specs.JournalLaws.{inputs-append, stimuli-append}
 use Rattle.lego_model.specs.Controller.{answer_frame, restore_frame}
-use Rattle.outside.specs.declared.step.WorldStep.{WorldStep}
 use Rattle.outside.specs.Seen.{Seen, Continues, journal}
 use Rattle.outside.specs.SeenLaws.{journal-append, Continues-refl, Continues-trans}
 use Rattle.outside.specs.State.{State, state, event_number, marks_at_event, is_running, after_step, after_steps}
 use Rattle.outside.specs.StateLaws.{state-append, Conforming-before}
 use Rattle.outside.specs.Conforming.{Conforming}
-use Rattle.net_txn.specs.declared.fault.TxnFault.{TxnFault}
-use Rattle.net_txn.specs.declared.heard.Awaited.{Awaited}
-use Rattle.net_txn.specs.declared.heard.Heard.{Heard}
-use Rattle.net_txn.specs.declared.heard.Heard.TheVariants.{Reply, Refused, Notice, Echo, Other}
-use Rattle.net_txn.specs.Net.{NetState, awaited_from}
-use Rattle.net_txn.specs.Waits.{heard, steps_by, wait_steps, reply_got, barrier_sent}
-use Rattle.net_txn.specs.Changes.{known_rows, answer_of_host, change_sent}
-use Rattle.net_txn.specs.Undos.{Part, Inverse, Settled, Stuck, alone, part_steps, steps_of, fault_in, first_fault_of, first_fault, ended_by, Undoes}
+use Rattle.net_txn.specs.Net.{NetState}
 use Rattle.app_visor.specs.Talks.{step_of, Told, give_act}
-use Rattle.app_visor.specs.Beats.{Exchange, Beat, Talk, Asks, IsExchange, Chain, acts_in}
+use Rattle.app_visor.specs.Beats.{Beat, Talk, Asks, Chain, acts_in}
 use Rattle.app_visor.specs.BeatLaws.{Chain-continues}
-use Rattle.app_visor.specs.Attempts.{end_acts, IsTry, OneTry, AreTries}
-use Rattle.switch_laws.specs.AskedLaws.{asked}
+use Rattle.app_visor.specs.Attempts.{IsTry, OneTry, AreTries}
+use Rattle.journal_laws.specs.Readings.{end_acts}
 use Rattle.switch_laws.specs.Sound.{Sound}
-use Rattle.switch_laws.specs.SoundSteps.{exchange-sound}
+use Rattle.switch_laws.specs.SoundStepLaws.{exchange-sound}
 use Rattle.switch_laws.specs.Since.{Goes}
 use Rattle.switch_laws.specs.SinceLaws.{goes-on}
-use Rattle.turn_laws.specs.ChainShown.{goes-same}
-use Rattle.run_laws.specs.Engine.{index, own_acts, given_in, stimuli_in}
+use Rattle.turn_laws.specs.ChainLaws.{goes-same}
+use Rattle.lego_model.specs.Application.{index}
+use Rattle.lego_model.specs.History.{own_acts, given_in, stimuli_in}
 use Rattle.run_laws.specs.FrameLaws.{answer_number, restore_number}
-use Rattle.run_laws.specs.LinkStepLaws.{all_append, OnlyLinks, IsLinkStep, link_steps, link_steps-tell, OnlyTalk, talk_step, talk_steps, NoEvents, event_marks, gone_marks, talk_marks, talks_mark}
-use Rattle.run_laws.specs.CalmLaws.{switch_stays, Rests, Rests-refl, Rests-trans}
+use Rattle.run_laws.specs.LinkStepLaws.{link_steps, link_steps-tell, talk_step, talk_steps, event_marks, gone_marks, talk_marks, talks_mark}
+use Rattle.net_txn.specs.LinkSteps.{LinkSteps}
+use Rattle.run_laws.specs.LinkSteps.{OnlyLinks, OnlyTalk, NoEvents, Rests, TellsSame, TriesKeep}
+use Rattle.run_laws.specs.CalmLaws.{Rests-refl, Rests-trans}
+use Rattle.batch_laws.specs.InBatchLaws.{links_switch}
 
--- ---- One message
+-- ---- What steps of links leave
 
-heard_links : (d : ℕ) (bytes : List ℕ) (what : Heard) → AllByRecursion IsLinkStep (steps_by d what bytes)
-heard_links d bytes Reply = tt
-heard_links d bytes (Refused refusal) = tt
-heard_links d bytes Notice = tt
-heard_links d bytes Echo = (tt, tt)
-heard_links d bytes Other = tt
-
-pub wait_links : (a : Awaited) (got : List (List ℕ)) → AllByRecursion IsLinkStep (wait_steps a got)
-wait_links a [] = tt
-wait_links a (bytes ∷ got) = (tt, all_append IsLinkStep (steps_by a.dpid (heard a bytes) bytes) (wait_steps a got) (heard_links a.dpid bytes (heard a bytes)) (wait_links a got))
-
--- a world that tells went on by calls of links alone
-pub record LinksOnly {Own : Type 0} (old new : Seen Own) : Type 0 where
-  pub steps : List WorldStep
-  pub history : new.history ≡ old.history ++ steps
-  pub are : AllByRecursion IsLinkStep steps
-
-links_none : {Own : Type 0} (old new : Seen Own) → new ≡ old → LinksOnly old new
-links_none old new is = record { steps = []; history = ap (λ (s : Seen _). s.history) is ∙ sym (append-nil old.history); are = tt }
-
-exchange_by : {Own : Type 0} (Tells : Type 0) (x : Exchange Own) → IsExchange Tells x → Tells → (o : Option Answer) → answer_of_host x.dpid x.bytes x.net ≡ o → LinksOnly x.before x.after
-exchange_by Tells x is told (Some a) host = links_none x.before x.after (is.changes.by_host a host).world
-exchange_by Tells x is told None host =
-    let read = asked (known_rows x.dpid x.net.views) x.bytes host in
-    let asks = is.changes.by_switch read.xid read.change host read.read in
-    let a = awaited_from x.dpid x.net.xid in
-    record {
-      steps = (change_sent x.dpid x.net.xid read.change ∷ barrier_sent a ∷ []) ++ (wait_steps a asks.waits.got ++ reply_got a ∷ []);
-      history = asks.waits.hears.told told;
-      are = (tt, (tt, all_append IsLinkStep (wait_steps a asks.waits.got) (reply_got a ∷ []) (wait_links a asks.waits.got) (tt, tt)));
-    }
-
-pub exchange_links : {Own : Type 0} (Tells : Type 0) (x : Exchange Own) → IsExchange Tells x → Tells → LinksOnly x.before x.after
-exchange_links Tells x is told = exchange_by Tells x is told (answer_of_host x.dpid x.bytes x.net) refl
-
--- ---- An undo that succeeded
-
-none_first : (a b : Option TxnFault) → first_fault_of a b ≡ None → a ≡ None
-none_first None b h = refl
-none_first (Some fault) b h = absurd cc
-
-none_second : (a b : Option TxnFault) → first_fault_of a b ≡ None → b ≡ None
-none_second None b h = h
-none_second (Some fault) b h = absurd cc
-
-part_links : (d : ℕ) (p : Part) → fault_in p ≡ None → AllByRecursion IsLinkStep (part_steps d p)
-part_links d (Inverse xid k) none = (tt, tt)
-part_links d (Settled xid got) none = (tt, all_append IsLinkStep (wait_steps (alone d xid) got) (reply_got (alone d xid) ∷ []) (wait_links (alone d xid) got) (tt, tt))
-part_links d (Stuck xid fault steps) none = absurd cc
-
-parts_links : (parts : List (ℕ × Part)) → first_fault parts ≡ None → AllByRecursion IsLinkStep (steps_of parts)
-parts_links [] none = tt
-parts_links (p ∷ older) none =
-    all_append IsLinkStep (steps_of older) (part_steps p.0 p.1) (parts_links older (none_first (first_fault older) (fault_in p.1) none)) (part_links p.0 p.1 (none_second (first_fault older) (fault_in p.1) none))
-
-no_fault : (o : Option TxnFault) → Ok tt ≡ ended_by o → o ≡ None
-no_fault None is = refl
-no_fault (Some fault) is = absurd cc
-
-pub undo_links : {Own : Type 0} (Tells : Type 0) (start : ℕ) (old new : Seen Own) (net now_net : NetState) → Undoes Tells start old new net now_net (Ok tt) → Tells → LinksOnly old new
-undo_links Tells start old new net now_net undoes told =
-    record { steps = steps_of undoes.parts; history = undoes.told told; are = parts_links undoes.parts (no_fault (first_fault undoes.parts) undoes.result_so) }
-
--- ---- What they leave
-
-pub links_state : {Own : Type 0} (old new : Seen Own) → new.given ≡ old.given → LinksOnly old new → OnlyLinks (state old) (state new)
+pub links_state : {Own : Type 0} (old new : Seen Own) → new.given ≡ old.given → LinkSteps old new → OnlyLinks (state old) (state new)
 links_state old new given only =
-    subst (λ (s : State). OnlyLinks (state old) s) (sym (state-append old new only.steps given only.history)) (link_steps only.steps (state old) only.are)
+    subst (λ (s : State). OnlyLinks (state old) s) (sym (state-append old new only.steps given only.history)) (link_steps only.steps (state old) only.all)
 
 pub links_rest : {Own : Type 0} (old new : Seen Own) → OnlyLinks (state old) (state new) → Rests (state old) (state new)
 links_rest old new only = record { begun = only.begun; due = only.due; moment = only.moment }
 
--- the journal tells the same of the application
-pub record TellsSame {Own : Type 0} (old new : Seen Own) : Type 0 where
-  pub acts : own_acts new ≡ own_acts old
-  pub given : given_in new ≡ given_in old
-  pub stims : stimuli_in new ≡ stimuli_in old
-
-pub links_tell : {Own : Type 0} (old new : Seen Own) → LinksOnly old new → TellsSame old new
+pub links_tell : {Own : Type 0} (old new : Seen Own) → LinkSteps old new → TellsSame old new
 links_tell old new only =
-    let tells = link_steps-tell index only.steps only.are in
+    let tells = link_steps-tell index only.steps only.all in
     let longer : journal new.history ≡ journal old.history ++ journal only.steps = ap journal only.history ∙ journal-append old.history only.steps in
     record {
       acts = ap (filter (is_of index)) longer ∙ filter-append (is_of index) (journal old.history) (journal only.steps)
@@ -150,7 +75,7 @@ chain_rests Tells app (Talk act ∷ trace) old new net now_net told chain =
     Rests-trans (state old) (state next) (state new) one (chain_rests Tells app trace next new net now_net told chain.1.1.1)
 chain_rests Tells app (Asks x ∷ trace) old new net now_net told chain =
     let is = chain.1.0 in
-    let only = links_state x.before x.after is.changes.continues.given (exchange_links Tells x is told) in
+    let only = links_state x.before x.after is.changes.continues.given (is.changes.links told) in
     let one = subst (λ (s : Seen _). Rests (state s) (state x.after)) chain.0.0 (links_rest x.before x.after only) in
     Rests-trans (state old) (state x.after) (state new) one (chain_rests Tells app trace x.after new x.now_net now_net told chain.1.1)
 
@@ -163,7 +88,7 @@ chain_marks Tells app (Talk act ∷ trace) old new net now_net told chain none =
     chain_marks Tells app trace next new net now_net told chain.1.1.1 one.rest ∙ ap (λ (s : State). s.marks) (told_state Tells act old next told chain.1.1.0) ∙ one.marks (state old)
 chain_marks Tells app (Asks x ∷ trace) old new net now_net told chain none =
     let is = chain.1.0 in
-    let only = links_state x.before x.after is.changes.continues.given (exchange_links Tells x is told) in
+    let only = links_state x.before x.after is.changes.continues.given (is.changes.links told) in
     chain_marks Tells app trace x.after new x.now_net now_net told chain.1.1 none ∙ only.marks ∙ ap (λ (s : Seen _). (state s).marks) chain.0.0
 
 -- what is sound stays so
@@ -175,7 +100,7 @@ chain_sound Tells app start first net0 (Talk act ∷ trace) old new net now_net 
     let t = chain.1.1.0 in
     let same : (state next).links ≡ (state old).links = ap (λ (s : State). s.links) (told_state Tells act old next told t) ∙ (talk_step app act (state old) chain.0).links in
     chain_sound Tells app start first net0 trace next new net now_net told keeps chain.1.1.1 (goes-same start first old next net0 net t.continues.given same goes)
-    (record { entries = λ d x is. sound.entries d x (sym (switch_stays d (state old) (state next) same) ∙ is) })
+    (record { entries = λ d x is. sound.entries d x (sym (links_switch d (state old) (state next) same) ∙ is) })
 chain_sound Tells app start first net0 (Asks x ∷ trace) old new net now_net told keeps chain goes sound =
     let is = chain.1.0 in
     let kept = Conforming-before told (Chain-continues Tells app trace x.after new x.now_net now_net chain.1.1) keeps in
@@ -197,12 +122,6 @@ answers_no_events [] = tt
 answers_no_events (a ∷ answers) = (answer_number a, answers_no_events answers)
 
 -- ---- Attempts to start
-
--- what no attempt changes
-pub record TriesKeep (s t : State) : Type 0 where
-  pub links : t.links ≡ s.links
-  pub rests : Rests s t
-  pub marks : t.marks ≡ s.marks
 
 TriesKeep-refl : (s : State) → TriesKeep s s
 TriesKeep-refl s = record { links = refl; rests = Rests-refl s; marks = refl }

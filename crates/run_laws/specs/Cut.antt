@@ -1,135 +1,47 @@
 -- A run that a fault ends before its end: how far it is the reference controller's, and what was written. All of this is our own.
-use Rattle.std.specs.Prelude.{◌≡◌, ℕ, ◌+◌, ◌≤◌, ◌⊎◌, Bool, true, if◌then◌else◌, List, [], ◌++◌, length, fold, Option}
-use Rattle.std.specs.Io.KnownBytes.{append_known}
-use Rattle.std.specs.List.{AllByRecursion}
+use Rattle.std.specs.Prelude.{◌≡◌, ℕ, ◌≤◌, Bool, List, ◌++◌, length, Option}
 use Rattle.of_types.specs.declared.journal.WorldStim.{WorldStim}
-use Rattle.lego_io.specs.Sink.{TookPart}
-use Rattle.lego_model.specs.Journal.{Reply, Start}
 use Rattle.lego_model.specs.Places.{Place}
-use Rattle.lego_model.specs.Controller.{Run, happen}
-use Rattle.lego_model.specs.RunReport.{run_report}
 use Rattle.lego_model.specs.AtOnce.{AtOnce}
 use Rattle.outside.specs.Seen.{Seen, Longer, journal}
 use Rattle.outside.specs.Conforming.{Conforming}
 use Rattle.outside.specs.InOrder.{InOrder, BringMessages}
-use Rattle.outside.specs.Quiet.{IsLastQuiet}
+use Rattle.outside.specs.Quiescence.{IsLastQuiescent}
 use Rattle.app_visor.specs.CallsFor.{CallsFor}
-use Rattle.journal_laws.specs.Readings.{starts_in, replies_in}
-use Rattle.switch_laws.specs.Orderly.{IsOrderly}
-use Rattle.run_laws.specs.Engine.{Engine, index, names, own_acts, stimuli_in, text_of}
-use Rattle.run_laws.specs.Moves.{Moved, dispatch_next, times, rounds}
-use Rattle.run_laws.specs.WholeRun.{RunsAlike, AreSaid, fresh, before_start, all_started}
-
--- ---- The reference controller in the middle of a run
-
--- before anything is started, with an application that does this
-abbrev pub start_said : {Own : Type 0} → Seen Own → List Start → List Reply → Run
-start_said seen starts replies = before_start seen.given.declared (fresh starts replies)
-
--- with one that does what the history tells of it
-abbrev pub start_of : {Own : Type 0} → Seen Own → Run
-start_of seen = start_said seen (starts_in (own_acts seen)) (replies_in (own_acts seen))
-
--- The application is started or not yet, these stimuli happened with all that follows of each, then perhaps one more was begun, and so
--- many of the events that wait then were dispatched.
-abbrev pub so_far : (List Place → Bool) → Bool → List WorldStim → List WorldStim → ℕ → Run → Run
-so_far allows started stimuli begun number r = times number (dispatch_next allows) (fold (λ q x. happen x q) (rounds allows stimuli (if started then all_started r else r)) begun)
-
--- how far a run came to a place: these stimuli are all that happened before it
-pub record Far {Own : Type 0} (last : Seen Own) : Type 0 where
-  pub started : Bool
-  pub stimuli : List WorldStim
-  pub begun : List WorldStim
-  pub number : ℕ
-  pub begun_one : length begun ≤ 1
-  pub at_most : number ≤ 1000
-  pub stimuli_so : stimuli_in last ≡ stimuli ++ begun
-
--- the reference controller up to there
-abbrev pub run_to : {Own : Type 0} {last : Seen Own} → (List Place → Bool) → Far last → Run → Run
-run_to allows far r = so_far allows far.started far.stimuli far.begun far.number r
-
--- ---- What was written
-
--- The lines of all that was done up to there were written.
-pub record CutAs {Own : Type 0} (allows : List Place → Bool) (last : Seen Own) (contents now_contents : Option (List ℕ)) (far : Far last) (r : Run) : Type 0 where
-  pub alike : RunsAlike last (run_to allows far r)
-  pub written : now_contents ≡ append_known contents (text_of (run_to allows far r))
-
--- Where the sink failed, it did so at these lines, and had taken this text before: at the lines of the start,
-pub record StartLines {Own : Type 0} {last : Seen Own} (allows : List Place → Bool) (far : Far last) (text more : List ℕ) (r : Run) : Type 0 where
-  pub is_started : far.started ≡ true
-  pub none_happened : stimuli_in last ≡ []
-  pub none_dispatched : far.number ≡ 0
-  pub text_so : text ≡ []
-  pub more_so : text_of (run_to allows far r) ≡ more
-
--- at those of the event that was dispatched last, behind the lines of all before it,
-pub record EventLines {Own : Type 0} {last : Seen Own} (allows : List Place → Bool) (far : Far last) (text more : List ℕ) (r : Run) : Type 0 where
-  pub before : ℕ
-  pub one_more : far.number ≡ before + 1
-  pub text_so : text_of (so_far allows far.started far.stimuli far.begun before r) ≡ text
-  pub more_so : text_of (run_to allows far r) ≡ text ++ more
-
--- or at the end of the report.
-pub record EndLines {Own : Type 0} {last : Seen Own} (allows : List Place → Bool) (far : Far last) (text more : List ℕ) (r : Run) : Type 0 where
-  pub none_left : (run_to allows far r).queue ≡ []
-  pub text_so : text_of (run_to allows far r) ≡ text
-  pub more_so : run_report names (run_to allows far r) ≡ text ++ more
-
--- These lines were to be written, behind this text, which is all that was done before.
-pub record WritingAs {Own : Type 0} (allows : List Place → Bool) (last : Seen Own) (text more : List ℕ) (far : Far last) (r : Run) : Type 0 where
-  pub alike : RunsAlike last (run_to allows far r)
-  pub lines : StartLines allows far text more r ⊎ EventLines allows far text more r ⊎ EndLines allows far text more r
-
--- ---- A place of a run
-
--- Up to a place the run is that of the reference controller so far, over what was told and over all that was said of the application: the
--- tables agree at every quiet place, that one included, and the application was given what it is given there. The journal is a dialogue
--- with it, and all steps were in order.
-pub record AlikeUpTo {Own : Type 0} (last : Seen Own) (IsSo : Far last → Run → Type 0) : Type 0 where
-  pub far : Far last
-  pub as_told : IsSo far (start_of last)
-  pub as_said : (starts : List Start) (replies : List Reply) → AreSaid last starts replies → IsSo far (start_said last starts replies)
-  pub at_once : AtOnce index (journal last.history)
-  pub in_order : AllByRecursion (IsOrderly index) last.history
-
--- and the lines of all that was done were written,
-abbrev pub CutSo : {Own : Type 0} → (List Place → Bool) → Seen Own → Option (List ℕ) → Option (List ℕ) → Type 0
-CutSo allows last contents now_contents = AlikeUpTo last (CutAs allows last contents now_contents)
-
--- or the sink took a part of the lines of what was done last, behind all lines of what was done before.
-pub record WritingSo {Own : Type 0} (allows : List Place → Bool) (last : Seen Own) (contents now_contents : Option (List ℕ)) : Type 0 where
-  pub text : List ℕ
-  pub more : List ℕ
-  pub up_to : AlikeUpTo last (WritingAs allows last text more)
-  pub part : TookPart (append_known contents text) now_contents more
+use Rattle.run_laws.specs.Engine.{Engine}
+use Rattle.lego_model.specs.Application.{index}
+use Rattle.run_laws.specs.Moves.{Moved}
+use Rattle.lego_model.specs.CutRun.{reference_so_far, CutBetweenLines, CutWhileWriting, start_said}
+use Rattle.lego_model.specs.Journal.{Reply, Start}
+use Rattle.lego_model.specs.Controller.{Run}
+use Rattle.lego_model.specs.ReferenceRun.{AreSaid}
+use Rattle.run_laws.specs.Whole.{RanAs}
 
 -- ---- What is promised of a run that a fault ends
 
--- There is a place of it up to which it is so, where the world kept its word as far as there, whatever came behind it; and the whole journal
+-- There is a point of it up to which it is so, where the world kept its word as far as there, whatever came behind it; and the whole journal
 -- is a dialogue with the application then. In a world that tells in order all bytes that came of switches up to there are messages, so that
--- it kept its word as far as there, and no quiet place lies behind. Behind it no other application was called.
+-- it kept its word as far as there, and no quiescent point lies behind. Behind it no other application was called.
 pub record CutAlike {Own : Type 0} (allows : List Place → Bool) (seen : Seen Own) (contents now_contents : Option (List ℕ)) : Type 0 where
   pub last : Seen Own
   pub given : seen.given ≡ last.given
   pub later : Longer last.history seen.history
-  pub so : Conforming last → CutSo allows last contents now_contents
+  pub alike : Conforming last → CutBetweenLines allows last contents now_contents
   pub at_once : Conforming last → AtOnce index (journal seen.history)
-  pub read : InOrder seen → BringMessages last.history
-  pub quiet : InOrder seen → IsLastQuiet last seen
-  pub own : CallsFor index last seen
+  pub messages : InOrder seen → BringMessages last.history
+  pub last_point : InOrder seen → IsLastQuiescent last seen
+  pub no_other_called : CallsFor index last seen
 
 -- the same where the sink failed
 pub record CutWriting {Own : Type 0} (allows : List Place → Bool) (seen : Seen Own) (contents now_contents : Option (List ℕ)) : Type 0 where
   pub last : Seen Own
   pub given : seen.given ≡ last.given
   pub later : Longer last.history seen.history
-  pub so : Conforming last → WritingSo allows last contents now_contents
+  pub alike : Conforming last → CutWhileWriting allows last contents now_contents
   pub at_once : Conforming last → AtOnce index (journal seen.history)
-  pub read : InOrder seen → BringMessages last.history
-  pub quiet : InOrder seen → IsLastQuiet last seen
-  pub own : CallsFor index last seen
+  pub messages : InOrder seen → BringMessages last.history
+  pub last_point : InOrder seen → IsLastQuiescent last seen
+  pub no_other_called : CallsFor index last seen
 
 -- ---- What parts of a run come to
 
@@ -138,4 +50,8 @@ pub record GoneSoFar {Own : Type 0} (allows : List Place → Bool) (started : Bo
   pub stimuli : List WorldStim
   pub begun : List WorldStim
   pub begun_one : length begun ≤ 1
-  pub moved : Moved (stimuli ++ begun) (so_far allows started stimuli begun number) text first last e now_e
+  pub moved : Moved (stimuli ++ begun) (reference_so_far allows started stimuli begun number) text first last e now_e
+
+-- engine and reference controller stand alike, and what this said so far was noted; so it is over what is said of the application
+pub record RanTo {Own : Type 0} (f : Run → Run) (text : List ℕ) (last : Seen Own) (e : Engine) : Type 0 where
+  pub as_said : (starts : List Start) (replies : List Reply) → AreSaid last starts replies → RanAs text last e (f (start_said last starts replies))

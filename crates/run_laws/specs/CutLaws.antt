@@ -11,25 +11,29 @@ use Rattle.lego_model.specs.ScriptedLaws.{fronts-parts, start_fronts-parts}
 use Rattle.lego_model.specs.Controller.{Run, happen}
 use Rattle.outside.specs.Seen.{Given, Seen}
 use Rattle.outside.specs.Conforming.{Conforming}
-use Rattle.journal_laws.specs.Readings.{starts_in, replies_in}
+use Rattle.lego_model.specs.History.{starts_in, replies_in, own_acts, stimuli_in}
 use Rattle.switch_laws.specs.OrderlyLaws.{orderly-none}
-use Rattle.run_laws.specs.Engine.{index, Engine, Stands, own_acts, stimuli_in, text_of}
-use Rattle.run_laws.specs.Moves.{Settled, Moves, Moved, Rounds, OneHappens, dispatch_next, times, rounds}
+use Rattle.run_laws.specs.Engine.{Engine, Stands}
+use Rattle.lego_model.specs.Application.{index}
+use Rattle.lego_model.specs.ReferenceRun.{text_of, dispatch_next, times, rounds, AreSaid, fresh, before_start, all_started, RunsAlike}
+use Rattle.run_laws.specs.Moves.{AtRest, Moves, Moved, Rounds, OneHappens}
 use Rattle.run_laws.specs.MoveLaws.{moved-none, moved-then, moved-as}
-use Rattle.run_laws.specs.SettleLaws.{settle-times, times-more}
+use Rattle.run_laws.specs.DispatchWaitingLaws.{settle-times, times-more}
 use Rattle.run_laws.specs.LastReport.{last_text}
 use Rattle.run_laws.specs.LastReportLaws.{report-ends, last-shown}
-use Rattle.run_laws.specs.WholeRun.{RunsAlike, AreSaid, fresh, before_start, all_started}
-use Rattle.run_laws.specs.WholeLaws.{whole, no-stimuli, RanAs, said-of, told-said}
-use Rattle.run_laws.specs.FirstLaws.{IsOpened, engine_at_first, stands-first}
+use Rattle.run_laws.specs.WholeLaws.{no-stimuli, said-of, told-said}
+use Rattle.run_laws.specs.Whole.{whole, RanAs}
+use Rattle.run_laws.specs.FirstLaws.{stands-first}
+use Rattle.run_laws.specs.First.{IsOpened, engine_at_first}
 use Rattle.run_laws.specs.Endings.{WholeMoves, Leaves}
 use Rattle.run_laws.specs.FinishLaws.{said-before, runs-alike, all-in-order}
-use Rattle.run_laws.specs.Cut.{start_said, so_far, Far, CutAs, WritingAs, AlikeUpTo, CutSo, WritingSo, GoneSoFar}
+use Rattle.run_laws.specs.Cut.{GoneSoFar, RanTo}
+use Rattle.lego_model.specs.CutRun.{start_said, reference_so_far, Progress, WroteSoFar, WasWriting, AlikeUpTo, CutBetweenLines, CutWhileWriting}
 
 -- ---- Parts of a run, one behind the other
 
 -- nothing is done yet
-pub gone-none : {Own : Type 0} (allows : List Place → Bool) (seen : Seen Own) (e : Engine) → Settled seen e → GoneSoFar allows false 0 [] seen seen e e
+pub gone-none : {Own : Type 0} (allows : List Place → Bool) (seen : Seen Own) (e : Engine) → AtRest seen e → GoneSoFar allows false 0 [] seen seen e e
 gone-none allows seen e settled = record { stimuli = []; begun = []; begun_one = omega arith; moved = moved-none seen e settled }
 
 -- rounds follow
@@ -38,7 +42,7 @@ gone-rounds allows number first second a b c e1 e2 e3 m rs = record {
   stimuli = rs.stimuli;
   begun = [];
   begun_one = omega arith;
-  moved = subst (λ (xs : List WorldStim). Moved xs (so_far allows true rs.stimuli [] 0) (first ++ second) a c e1 e3) (sym (append-nil rs.stimuli))
+  moved = subst (λ (xs : List WorldStim). Moved xs (reference_so_far allows true rs.stimuli [] 0) (first ++ second) a c e1 e3) (sym (append-nil rs.stimuli))
       (moved-then [] rs.stimuli all_started (rounds allows rs.stimuli) first second a b c e1 e2 e3 m rs.moved);
 }
 
@@ -49,7 +53,7 @@ gone-happens allows number first second a b c d e1 e2 e3 e4 m rs one = record {
   stimuli = rs.stimuli;
   begun = one.stimulus ∷ [];
   begun_one = omega arith;
-  moved = subst (λ (text : List ℕ). Moved (rs.stimuli ++ one.stimulus ∷ []) (so_far allows true rs.stimuli (one.stimulus ∷ []) 0) text a d e1 e4) (append-nil (first ++ second))
+  moved = subst (λ (text : List ℕ). Moved (rs.stimuli ++ one.stimulus ∷ []) (reference_so_far allows true rs.stimuli (one.stimulus ∷ []) 0) text a d e1 e4) (append-nil (first ++ second))
       (moved-then rs.stimuli (one.stimulus ∷ []) (λ r. rounds allows rs.stimuli (all_started r)) (happen one.stimulus) (first ++ second) [] a c d e1 e3 e4
       (moved-then [] rs.stimuli all_started (rounds allows rs.stimuli) first second a b c e1 e2 e3 m rs.moved) one.moved);
 }
@@ -57,7 +61,7 @@ gone-happens allows number first second a b c d e1 e2 e3 e4 m rs one = record {
 -- a part does nothing
 pub gone-still : {Own : Type 0} (allows : List Place → Bool) (started : Bool) (number : ℕ) (text : List ℕ) (a b c : Seen Own) (e1 e2 e3 : Engine) → GoneSoFar allows started number text a b e1 e2 → Moved [] (λ r. r) [] b c e2 e3 → GoneSoFar allows started number text a c e1 e3
 gone-still allows started number text a b c e1 e2 e3 g m =
-    let f = so_far allows started g.stimuli g.begun number in
+    let f = reference_so_far allows started g.stimuli g.begun number in
     record {
       stimuli = g.stimuli;
       begun = g.begun;
@@ -73,17 +77,17 @@ gone-more allows started m first second a b c e1 e2 e3 g more = record {
   stimuli = g.stimuli;
   begun = g.begun;
   begun_one = g.begun_one;
-  moved = subst (λ (xs : List WorldStim). Moved xs (so_far allows started g.stimuli g.begun m) (first ++ second) a c e1 e3) (append-nil (g.stimuli ++ g.begun))
-      (moved-then (g.stimuli ++ g.begun) [] (so_far allows started g.stimuli g.begun 0) (times m (dispatch_next allows)) first second a b c e1 e2 e3 g.moved more);
+  moved = subst (λ (xs : List WorldStim). Moved xs (reference_so_far allows started g.stimuli g.begun m) (first ++ second) a c e1 e3) (append-nil (g.stimuli ++ g.begun))
+      (moved-then (g.stimuli ++ g.begun) [] (reference_so_far allows started g.stimuli g.begun 0) (times m (dispatch_next allows)) first second a b c e1 e2 e3 g.moved more);
 }
 
 -- one event more is dispatched
 pub gone-next : {Own : Type 0} (allows : List Place → Bool) (n : ℕ) (first second : List ℕ) (a b c : Seen Own) (e1 e2 e3 : Engine) (g : GoneSoFar allows true n first a b e1 e2) → Moved [] (dispatch_next allows) second b c e2 e3
-    → Moved (g.stimuli ++ g.begun) (so_far allows true g.stimuli g.begun (n + 1)) (first ++ second) a c e1 e3
+    → Moved (g.stimuli ++ g.begun) (reference_so_far allows true g.stimuli g.begun (n + 1)) (first ++ second) a c e1 e3
 gone-next allows n first second a b c e1 e2 e3 g more =
-    let f = so_far allows true g.stimuli g.begun n in
-    moved-as (g.stimuli ++ g.begun) (λ r. dispatch_next allows (f r)) (so_far allows true g.stimuli g.begun (n + 1)) (first ++ second) a c e1 e3
-    (λ ss rs r s. sym (times-more n 1 (dispatch_next allows) (so_far allows true g.stimuli g.begun 0 r)))
+    let f = reference_so_far allows true g.stimuli g.begun n in
+    moved-as (g.stimuli ++ g.begun) (λ r. dispatch_next allows (f r)) (reference_so_far allows true g.stimuli g.begun (n + 1)) (first ++ second) a c e1 e3
+    (λ ss rs r s. sym (times-more n 1 (dispatch_next allows) (reference_so_far allows true g.stimuli g.begun 0 r)))
     (subst (λ (xs : List WorldStim). Moved xs (λ r. dispatch_next allows (f r)) (first ++ second) a c e1 e3) (append-nil (g.stimuli ++ g.begun))
     (moved-then (g.stimuli ++ g.begun) [] f (dispatch_next allows) first second a b c e1 e2 e3 g.moved more))
 
@@ -93,15 +97,11 @@ gone-whole allows text a b e1 e2 w = record {
   stimuli = w.stimuli;
   begun = [];
   begun_one = omega arith;
-  moved = subst (λ (xs : List WorldStim). Moved xs (so_far allows true w.stimuli [] 1000) text a b e1 e2) (sym (append-nil w.stimuli))
-      (moved-as w.stimuli (whole allows w.stimuli) (so_far allows true w.stimuli [] 1000) text a b e1 e2 (λ ss rs r s. sym (settle-times allows (rounds allows w.stimuli (all_started r)))) w.moved);
+  moved = subst (λ (xs : List WorldStim). Moved xs (reference_so_far allows true w.stimuli [] 1000) text a b e1 e2) (sym (append-nil w.stimuli))
+      (moved-as w.stimuli (whole allows w.stimuli) (reference_so_far allows true w.stimuli [] 1000) text a b e1 e2 (λ ss rs r s. sym (settle-times allows (rounds allows w.stimuli (all_started r)))) w.moved);
 }
 
 -- ---- From a world that was just opened
-
--- engine and reference controller stand alike, and what this said so far was noted; so it is over what is said of the application
-pub record RanTo {Own : Type 0} (f : Run → Run) (text : List ℕ) (last : Seen Own) (e : Engine) : Type 0 where
-  pub as_said : (starts : List Start) (replies : List Reply) → AreSaid last starts replies → RanAs text last e (f (start_said last starts replies))
 
 begun-same : {Own : Type 0} (first last : Seen Own) (starts : List Start) (replies : List Reply) → last.given ≡ first.given → before_start first.given.declared (fresh starts replies) ≡ start_said last starts replies
 begun-same {Own} first last starts replies given = ap (λ (g : Given Own). before_start g.declared (fresh starts replies)) (sym given)
@@ -139,7 +139,7 @@ ran-before f g xs ys text more first mid last e1 e2 starts replies is m n said =
     let given = fronts-parts m.replies n.replies replies fronts.1 in
     subst (λ (r : Run). text_of (f r) ≡ text) same (m.says starts replies r0 firsts.0 given.0 (stands-first first starts replies is))
 
--- ---- The place up to which all is alike
+-- ---- The point up to which all is alike
 
 leaves-nothing : {Own : Type 0} (seen : Seen Own) → Leaves seen seen
 leaves-nothing seen = record { given = refl; starts = refl; replies = refl; inputs = refl; stimuli = refl; marks = refl; switches = λ d. refl; at_once = λ said. said; orderly = orderly-none index seen }
@@ -150,7 +150,7 @@ stimuli-so first last xs is read = read ∙ ap (λ (ys : List WorldStim). ys ++ 
 runs-so : {Own : Type 0} {text : List ℕ} (last : Seen Own) (e : Engine) (r : Run) → Conforming last → RanAs text last e r → RunsAlike last r
 runs-so last e r keeps so = runs-alike last last e so.starts so.replies r keeps (leaves-nothing last) so.stands
 
-abbrev far-of : {Own : Type 0} {allows : List Place → Bool} {started : Bool} {n : ℕ} {text : List ℕ} {first last : Seen Own} {e : Engine} → IsOpened first → GoneSoFar allows started n text first last engine_at_first e → n ≤ 1000 → Far last
+abbrev far-of : {Own : Type 0} {allows : List Place → Bool} {started : Bool} {n : ℕ} {text : List ℕ} {first last : Seen Own} {e : Engine} → IsOpened first → GoneSoFar allows started n text first last engine_at_first e → n ≤ 1000 → Progress last
 far-of {started = started} {n = n} {first = first} {last = last} is g few = record {
   started = started;
   stimuli = g.stimuli;
@@ -162,7 +162,7 @@ far-of {started = started} {n = n} {first = first} {last = last} is g few = reco
 }
 
 -- what holds over all that is said holds over what is told
-up-to : {Own : Type 0} {xs : List WorldStim} {f : Run → Run} {text : List ℕ} {first last : Seen Own} {e0 e : Engine} (IsSo : Far last → Run → Type 0) (far : Far last) → Moved xs f text first last e0 e
+up-to : {Own : Type 0} {xs : List WorldStim} {f : Run → Run} {text : List ℕ} {first last : Seen Own} {e0 e : Engine} (IsSo : Progress last → Run → Type 0) (far : Progress last) → Moved xs f text first last e0 e
     → ((starts : List Start) (replies : List Reply) → AreSaid last starts replies → IsSo far (start_said last starts replies)) → AlikeUpTo last IsSo
 up-to {last = last} IsSo far m so = record {
   far = far;
@@ -175,11 +175,11 @@ up-to {last = last} IsSo far m so = record {
 -- ---- What a run that a fault ends comes to
 
 pub cut-so : {Own : Type 0} (allows : List Place → Bool) (started : Bool) (n : ℕ) (text : List ℕ) (contents now_contents : Option (List ℕ)) (first last : Seen Own) (e : Engine) → IsOpened first → GoneSoFar allows started n text first last engine_at_first e → n ≤ 1000
-    → Conforming last → now_contents ≡ append_known contents text → CutSo allows last contents now_contents
+    → Conforming last → now_contents ≡ append_known contents text → CutBetweenLines allows last contents now_contents
 cut-so allows started n text contents now_contents first last e is g few keeps written =
-    let f = so_far allows started g.stimuli g.begun n in
+    let f = reference_so_far allows started g.stimuli g.begun n in
     let ran = ran-to f (g.stimuli ++ g.begun) text first last e is g.moved.moves in
-    up-to (CutAs allows last contents now_contents) (far-of is g few) g.moved (λ starts replies said.
+    up-to (WroteSoFar allows last contents now_contents) (far-of is g few) g.moved (λ starts replies said.
     let so = ran.as_said starts replies said in
     record {
       alike = runs-so last e (f (start_said last starts replies)) keeps so;
@@ -188,15 +188,15 @@ cut-so allows started n text contents now_contents first last e is g few keeps w
 
 -- the sink failed at the lines of the start
 pub start-so : {Own : Type 0} (allows : List Place → Bool) (more : List ℕ) (contents now_contents : Option (List ℕ)) (first last : Seen Own) (e : Engine) → IsOpened first → Moved [] all_started more first last engine_at_first e → Conforming last → TookPart contents now_contents more
-    → WritingSo allows last contents now_contents
+    → CutWhileWriting allows last contents now_contents
 start-so allows more contents now_contents first last e is m keeps part =
     let none = stimuli-so first last [] is m.moves.read_stimuli in
-    let far : Far last = record { started = true; stimuli = []; begun = []; number = 0; begun_one = omega arith; at_most = omega arith; stimuli_so = none } in
+    let far : Progress last = record { started = true; stimuli = []; begun = []; number = 0; begun_one = omega arith; at_most = omega arith; stimuli_so = none } in
     let ran = ran-to all_started [] more first last e is m.moves in
     record {
       text = [];
       more = more;
-      up_to = up-to (WritingAs allows last [] more) far m (λ starts replies said.
+      up_to = up-to (WasWriting allows last [] more) far m (λ starts replies said.
           let so = ran.as_said starts replies said in
           record {
             alike = runs-so last e (all_started (start_said last starts replies)) keeps so;
@@ -207,11 +207,11 @@ start-so allows more contents now_contents first last e is m keeps part =
 
 -- at those of an event
 pub event-so : {Own : Type 0} (allows : List Place → Bool) (n : ℕ) (text more : List ℕ) (contents now_contents : Option (List ℕ)) (first mid last : Seen Own) (e1 e2 : Engine) → IsOpened first → GoneSoFar allows true n text first mid engine_at_first e1
-    → Moved [] (dispatch_next allows) more mid last e1 e2 → n ≤ 999 → Conforming last → TookPart (append_known contents text) now_contents more → WritingSo allows last contents now_contents
+    → Moved [] (dispatch_next allows) more mid last e1 e2 → n ≤ 999 → Conforming last → TookPart (append_known contents text) now_contents more → CutWhileWriting allows last contents now_contents
 event-so allows n text more contents now_contents first mid last e1 e2 is g m few keeps part =
     let next = gone-next allows n text more first mid last engine_at_first e1 e2 g m in
-    let f = so_far allows true g.stimuli g.begun (n + 1) in
-    let far : Far last = record {
+    let f = reference_so_far allows true g.stimuli g.begun (n + 1) in
+    let far : Progress last = record {
       started = true;
       stimuli = g.stimuli;
       begun = g.begun;
@@ -224,14 +224,14 @@ event-so allows n text more contents now_contents first mid last e1 e2 is g m fe
     record {
       text = text;
       more = more;
-      up_to = up-to (WritingAs allows last text more) far next (λ starts replies said.
+      up_to = up-to (WasWriting allows last text more) far next (λ starts replies said.
           let so = ran.as_said starts replies said in
           record {
             alike = runs-so last e2 (f (start_said last starts replies)) keeps so;
             lines = inr (inl (record {
               before = n;
               one_more = refl;
-              text_so = ran-before (so_far allows true g.stimuli g.begun n) (dispatch_next allows) (g.stimuli ++ g.begun) [] text more first mid last e1 e2 starts replies is g.moved.moves m.moves said;
+              text_so = ran-before (reference_so_far allows true g.stimuli g.begun n) (dispatch_next allows) (g.stimuli ++ g.begun) [] text more first mid last e1 e2 starts replies is g.moved.moves m.moves said;
               more_so = so.text_so;
             }));
           });
@@ -240,11 +240,11 @@ event-so allows n text more contents now_contents first mid last e1 e2 is g m fe
 
 -- at those of the end, before which switches were asked
 pub end-so : {Own : Type 0} (allows : List Place → Bool) (text more : List ℕ) (contents now_contents : Option (List ℕ)) (first last stop : Seen Own) (e : Engine) → IsOpened first → GoneSoFar allows true 1000 text first last engine_at_first e → e.queue ≡ []
-    → more ≡ last_text last e → Leaves last stop → Conforming stop → TookPart (append_known contents text) now_contents more → WritingSo allows stop contents now_contents
+    → more ≡ last_text last e → Leaves last stop → Conforming stop → TookPart (append_known contents text) now_contents more → CutWhileWriting allows stop contents now_contents
 end-so {Own} allows text more contents now_contents first last stop e is g none ends leaves keeps part =
-    let f = so_far allows true g.stimuli g.begun 1000 in
+    let f = reference_so_far allows true g.stimuli g.begun 1000 in
     let ran = ran-to f (g.stimuli ++ g.begun) text first last e is g.moved.moves in
-    let far : Far stop = record {
+    let far : Progress stop = record {
       started = true;
       stimuli = g.stimuli;
       begun = g.begun;
@@ -253,10 +253,10 @@ end-so {Own} allows text more contents now_contents first last stop e is g none 
       at_most = omega arith;
       stimuli_so = leaves.stimuli ∙ stimuli-so first last (g.stimuli ++ g.begun) is g.moved.moves.read_stimuli;
     } in
-    let so : (starts : List Start) (replies : List Reply) → AreSaid stop starts replies → WritingAs allows stop text more far (start_said stop starts replies) = λ starts replies said.
+    let so : (starts : List Start) (replies : List Reply) → AreSaid stop starts replies → WasWriting allows stop text more far (start_said stop starts replies) = λ starts replies said.
     let were = ran.as_said starts replies (said-before last stop starts replies leaves said) in
     let r = f (start_said last starts replies) in
-    subst (λ (s : Run). WritingAs allows stop text more far s) (sym (ap (λ (g : Given Own). before_start g.declared (fresh starts replies)) leaves.given)) (record {
+    subst (λ (s : Run). WasWriting allows stop text more far s) (sym (ap (λ (g : Given Own). before_start g.declared (fresh starts replies)) leaves.given)) (record {
       alike = runs-alike last stop e were.starts were.replies r keeps leaves were.stands;
       lines = inr (inr (record {
         none_left = were.stands.queue ∙ none;

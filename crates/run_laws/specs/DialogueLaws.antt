@@ -4,8 +4,8 @@ use Rattle.std.proofs.Common.{sym, ap, ◌∙◌, subst}
 use Rattle.of_types.specs.declared.journal.Act.{Act}
 use Rattle.flow_table.specs.declared.view.TableView.{TableView}
 use Rattle.app_frames.specs.declared.frame.Event.{Event}
-use Rattle.lego_model.specs.Journal.{is_of, is_event}
-use Rattle.lego_model.specs.Controller.{attempts, event_frame}
+use Rattle.lego_model.specs.Journal.{is_of}
+use Rattle.lego_model.specs.Controller.{attempts}
 use Rattle.outside.specs.declared.step.WorldStep.{WorldStep}
 use Rattle.outside.specs.Seen.{Given, Seen, journal}
 use Rattle.outside.specs.SeenLaws.{journal-append}
@@ -16,14 +16,14 @@ use Rattle.journal_laws.specs.AtOnceLaws.{Dialogue-append, others_say}
 use Rattle.journal_laws.specs.FrameLaws.{event_is}
 use Rattle.app_visor.specs.declared.state.TurnEnd.{TurnEnd}
 use Rattle.app_visor.specs.declared.state.TurnEnd.TheVariants as ends
-use Rattle.app_visor.specs.Dialogues.{Converses, Speaks, is_done, AreInPlace}
+use Rattle.app_visor.specs.Dialogues.{Converses, Speaks, is_done, CallsKeepOrder}
 use Rattle.app_visor.specs.RunningLaws.{dialogue_runs, dialogue_in_place}
 use Rattle.app_visor.specs.Attempts.{ready_rest}
 use Rattle.app_visor.specs.TryLaws.{tries_speak}
-use Rattle.run_laws.specs.Engine.{Engine, index}
+use Rattle.run_laws.specs.Engine.{Engine}
+use Rattle.lego_model.specs.Application.{index}
 use Rattle.run_laws.specs.Facts.{StartsAgain, IsClosed, TakesTurn, IsTurn}
 use Rattle.run_laws.specs.LinkStepLaws.{link_steps-tell}
-use Rattle.run_laws.specs.ChainLaws.{undo_links}
 use Rattle.run_laws.specs.Moves.{Conversing}
 
 -- ---- Behind what happened before
@@ -46,8 +46,8 @@ pub runs_now : {Own : Type 0} (seen : Seen Own) (a : AtOnce index (journal seen.
 unfolding state
 runs_now seen a = dialogue_runs index seen.history nobody_yet a.last (at_first seen.given) a.dialogue (none_runs seen.given)
 
--- no call for it was out of place
-pub applications_in_place : {Own : Type 0} (seen : Seen Own) → AtOnce index (journal seen.history) → AreInPlace index seen.history (at_first seen.given)
+-- no call for it was a stray one
+pub applications_in_place : {Own : Type 0} (seen : Seen Own) → AtOnce index (journal seen.history) → CallsKeepOrder index seen.history (at_first seen.given)
 applications_in_place seen a = dialogue_in_place index seen.history nobody_yet a.last (at_first seen.given) a.dialogue (none_runs seen.given)
 
 -- ---- Acts of others
@@ -79,18 +79,14 @@ starts_converse Tells text old new e now_e told a s =
 
 -- ---- A turn
 
--- it begins with an event
-pub event_told : (number moment : ℕ) (event : Event) → is_event (event_frame number moment event) ≡ true
-event_told number moment event = event_is number moment event
-
 closed_converses : {Own : Type 0} (Tells : Type 0) (end : TurnEnd) (unread text : List ℕ) (start : ℕ) (old mid new : Seen Own) (mid_net : NetState) (e now_e : Engine) → Tells → (a : AtOnce index (journal old.history))
     → Speaks index a.last old mid (is_done end) unread → IsClosed Tells end unread text start mid new mid_net e now_e → Conversing new now_e
 closed_converses Tells (ends.Done stop) unread text start old mid new mid_net e now_e told a says closed =
     subst (λ (s : Seen _). Conversing s now_e) (sym closed.seen) (speaks_on old mid now_e true unread a says (λ alive. (refl, ap (λ (x : Engine). x.rest) closed.engine)))
 closed_converses Tells (ends.Failed cause) unread text start old mid new mid_net e now_e told a says closed =
     let undone = closed.undone in
-    let only = undo_links Tells start mid undone mid_net closed.undone_net closed.undoes told in
-    let there = others_at_once mid undone only.steps only.history (link_steps-tell index only.steps only.are).acts (at_once_then says.after old mid a says.converses) in
+    let only = closed.undoes.links told in
+    let there = others_at_once mid undone only.steps only.history (link_steps-tell index only.steps only.all).acts (at_once_then says.after old mid a says.converses) in
     starts_converse Tells closed.later_text undone new (record e { net = closed.undone_net; rest = []; failed = e.failed + 1 }) now_e told there closed.starts
 
 turn_converses : {Own : Type 0} (Tells : Type 0) (accepts : List TableView → Bool) (event : Event) (text : List ℕ) (old new : Seen Own) (e now_e : Engine) → Tells → e.alive ≡ true → Conversing old e → TakesTurn Tells accepts event text old new e now_e

@@ -1,5 +1,5 @@
 -- The law of an event: what the engine does at it is what the reference controller does, whether the application is alive or gone.
-use Rattle.std.proofs.Common.{◌≡◌, ℕ, ◌+◌, ◌^◌, ◌<◌, Bool, true, false, List, [], ◌∷◌, ◌++◌, length, drop, map, if◌then◌else◌, Some, refl, sym, ap, ap₂, ◌∙◌, subst}
+use Rattle.std.proofs.Common.{◌≡◌, ℕ, ◌+◌, ◌^◌, ◌<◌, Bool, true, false, List, [], ◌∷◌, ◌++◌, length, drop, if◌then◌else◌, Some, refl, sym, ap, ap₂, ◌∙◌, subst}
 use Rattle.std.proofs.lemmas.List.{append-nil}
 use Rattle.flow_table.specs.declared.view.TableView.{TableView}
 use Rattle.app_frames.specs.declared.frame.Event.{Event}
@@ -7,7 +7,7 @@ use Rattle.lego_model.specs.Journal.{Reply, Start}
 use Rattle.lego_model.specs.Places.{Place}
 use Rattle.lego_model.specs.Scripted.{IsFront, AreFronts, AreStartFronts}
 use Rattle.lego_model.specs.Controller.{Dispatched, Ended, Run, Turned, restart_lines, turn, marked, dispatch}
-use Rattle.lego_model.specs.Agreement.{AgreeQuiets}
+use Rattle.lego_model.specs.Agreement.{AgreeMarks}
 use Rattle.lego_model.specs.RunReport.{event_line}
 use Rattle.outside.specs.Seen.{Given, Seen, Continues}
 use Rattle.outside.specs.State.{Mark, state, marks_at_event}
@@ -18,19 +18,20 @@ use Rattle.app_visor.specs.declared.state.TurnEnd.{TurnEnd}
 use Rattle.app_visor.specs.declared.state.TurnEnd.TheVariants as ends
 use Rattle.switch_laws.specs.Shown.{shown_places}
 use Rattle.switch_laws.specs.StandLaws.{state-links}
-use Rattle.journal_laws.specs.Readings.{starts_in, replies_in, LastStands}
-use Rattle.run_laws.specs.Engine.{Engine, own_acts, given_in, stimuli_in, quiet_by, quiets_in, app_at, Stands, text_of}
+use Rattle.journal_laws.specs.Readings.{LastStands}
+use Rattle.lego_model.specs.History.{starts_in, replies_in, own_acts, given_in, stimuli_in, points_in}
+use Rattle.run_laws.specs.Engine.{Engine, app_at, Stands, with_number}
+use Rattle.lego_model.specs.ReferenceRun.{text_of, next_dispatched, dispatch_next}
 use Rattle.run_laws.specs.Facts.{IsClosed, IsTurn, Dispatches}
-use Rattle.run_laws.specs.Moves.{Moves, next_dispatched, dispatch_next}
+use Rattle.run_laws.specs.Moves.{Moves}
 use Rattle.run_laws.specs.Readings.{AreRead, JudgesAlike}
-use Rattle.run_laws.specs.ReferenceLaws.{numbered, after_turn, without_turn, dispatch_alive, dispatch_dead}
-use Rattle.run_laws.specs.QuietLaws.{quiets_at_event}
-use Rattle.run_laws.specs.LineLaws.{lines_text, event_lines}
-use Rattle.run_laws.specs.TurnMoveLaws.{TurnAlike, TurnMoves, turn_moves}
-
--- the event has its number
-abbrev pub with_number : Engine → Engine
-with_number e = record e { events = e.events + 1 }
+use Rattle.run_laws.specs.ReferenceLaws.{dispatch_alive, dispatch_dead}
+use Rattle.run_laws.specs.ReferenceTurn.{numbered, after_turn, without_turn}
+use Rattle.run_laws.specs.PointLaws.{marks_at_events}
+use Rattle.run_laws.specs.LineLaws.{event_lines}
+use Rattle.run_laws.specs.LastReport.{lines_text}
+use Rattle.run_laws.specs.TurnMoveLaws.{turn_moves}
+use Rattle.run_laws.specs.EventMoves.{TurnAlike, TurnMoves}
 
 -- ---- The application is alive
 
@@ -53,13 +54,13 @@ module _ {Own : Type 0} (allows : List Place → Bool) (event : Event) (text : L
       ∙ ap (λ (ps : List Place). turn allows (e.events + 1) e.net.moment event ps a) s.places
       ∙ alike.turned said_starts said later_replies starts_so front)
 
-  quiets_so : Conforming old → (alike : TurnAlike allows event text old new (with_number e) now_e starts reply) → (r : Run) → r.events ≡ e.events → r.places ≡ shown_places old.given.declared e.net.views (state old) → AgreeQuiets (quiets_in old) r.quiets
-      → AgreeQuiets (quiets_in new) (marked alike.given (r.events + 1) r.places r.quiets)
-  quiets_so keeps alike r events places quiets =
-      subst (λ (ms : List Mark). AgreeQuiets (map quiet_by ms) (marked alike.given (r.events + 1) r.places r.quiets)) (sym alike.marks)
-      (subst (λ (n : ℕ). AgreeQuiets (map quiet_by (if alike.given then marks_at_event (Some (e.events + 1)) (state old) else (state old).marks)) (marked alike.given (n + 1) r.places r.quiets)) (sym events)
-      (subst (λ (ps : List Place). AgreeQuiets (map quiet_by (if alike.given then marks_at_event (Some (e.events + 1)) (state old) else (state old).marks)) (marked alike.given (e.events + 1) ps r.quiets)) (sym places)
-      (quiets_at_event alike.given (e.events + 1) old.given.declared e.net.views (state old) r.quiets (state-links old).declared_so keeps.declared quiets)))
+  marks_so : Conforming old → (alike : TurnAlike allows event text old new (with_number e) now_e starts reply) → (r : Run) → r.events ≡ e.events → r.places ≡ shown_places old.given.declared e.net.views (state old) → AgreeMarks (points_in old) r.marks
+      → AgreeMarks (points_in new) (marked alike.given (r.events + 1) r.places r.marks)
+  marks_so keeps alike r events places marks =
+      subst (λ (ms : List Mark). AgreeMarks ms (marked alike.given (r.events + 1) r.places r.marks)) (sym alike.marks)
+      (subst (λ (n : ℕ). AgreeMarks ((if alike.given then marks_at_event (Some (e.events + 1)) (state old) else (state old).marks)) (marked alike.given (n + 1) r.places r.marks)) (sym events)
+      (subst (λ (ps : List Place). AgreeMarks ((if alike.given then marks_at_event (Some (e.events + 1)) (state old) else (state old).marks)) (marked alike.given (e.events + 1) ps r.marks)) (sym places)
+      (marks_at_events alike.given (e.events + 1) old.given.declared e.net.views (state old) r.marks (state-links old).declared_so keeps.declared marks)))
 
   stands_alive : Conforming old → e.alive ≡ true → new.given ≡ old.given → (now_e.alive ≡ true → LastStands (own_acts new)) → (alike : TurnAlike allows event text old new (with_number e) now_e starts reply)
       → (said_starts : List Start) (said_replies : List Reply) (r : Run) → AreStartFronts starts said_starts → AreFronts (reply ∷ []) said_replies → Stands old e said_starts said_replies r → Stands new now_e (drop (length starts) said_starts) (drop 1 said_replies) (dispatch allows event r)
@@ -72,7 +73,7 @@ module _ {Own : Type 0} (allows : List Place → Bool) (event : Event) (text : L
         queue = s.queue ∙ sym alike.queue;
         events = ap (λ (n : ℕ). n + 1) s.events ∙ sym alike.events;
         apps = refl;
-        quiets = quiets_so keeps alike r s.events s.places s.quiets;
+        marks = marks_so keeps alike r s.events s.places s.marks;
         life = life;
       })
 
@@ -118,7 +119,7 @@ dead_moves allows event text seen e dead text_is = record {
         queue = s.queue;
         events = ap (λ (n : ℕ). n + 1) s.events;
         apps = refl;
-        quiets = s.quiets;
+        marks = s.marks;
         life = s.life;
       });
   says = λ later_starts later_replies r starts_so replies_so s.
@@ -196,7 +197,7 @@ queue_taken seen e queue starts replies r s = record {
   queue = refl;
   events = s.events;
   apps = s.apps;
-  quiets = s.quiets;
+  marks = s.marks;
   life = s.life;
 }
 

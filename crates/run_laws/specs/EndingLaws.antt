@@ -9,20 +9,24 @@ use Rattle.outside.specs.Seen.{Seen, Continues}
 use Rattle.outside.specs.Conforming.{Conforming}
 use Rattle.outside.specs.StateLaws.{Conforming-before}
 use Rattle.switch_laws.specs.OrderlyLaws.{orderly-then}
-use Rattle.run_laws.specs.Engine.{Engine, index, stimuli_in}
+use Rattle.run_laws.specs.Engine.{Engine}
+use Rattle.lego_model.specs.Application.{index}
+use Rattle.lego_model.specs.History.{stimuli_in}
 use Rattle.run_laws.specs.StimuliLaws.{fewer-before}
 use Rattle.run_laws.specs.Readings.{JudgesAlike}
-use Rattle.run_laws.specs.Moves.{rounds, ShownToEnd}
+use Rattle.run_laws.specs.Moves.{ShownToEnd}
+use Rattle.lego_model.specs.ReferenceRun.{rounds, all_started}
 use Rattle.run_laws.specs.MoveLaws.{moved-then}
 use Rattle.run_laws.specs.LastReport.{last_text}
-use Rattle.run_laws.specs.WholeRun.{all_started}
 use Rattle.run_laws.specs.WholeLaws.{ran}
-use Rattle.run_laws.specs.FirstLaws.{IsOpened, engine_at_first, settled-first}
-use Rattle.run_laws.specs.Promise.{most_rounds, EndsAlike, LeavesAlike}
+use Rattle.run_laws.specs.FirstLaws.{settled-first}
+use Rattle.run_laws.specs.First.{IsOpened, engine_at_first}
+use Rattle.run_laws.specs.Promise.{most_rounds}
+use Rattle.lego_model.specs.WholeRun.{EndsAlike, LeavesAlike}
 use Rattle.run_laws.specs.FinishLaws.{ends-alike, leaves-alike}
 use Rattle.run_laws.specs.Endings.{ShownStart, ShownWhole, Leaves, RanOut, RanFull}
 
-known-append : (o : Option (List ℕ)) (s t : List ℕ) → append_known (append_known o s) t ≡ append_known o (s ++ t)
+pub known-append : (o : Option (List ℕ)) (s t : List ℕ) → append_known (append_known o s) t ≡ append_known o (s ++ t)
 known-append None s t = refl
 known-append (Some xs) s t = ap (λ (l : List ℕ). Some l) (append_assoc xs s t)
 

@@ -9,19 +9,20 @@ use Rattle.outside.specs.Conforming.{Conforming}
 use Rattle.outside.specs.State.{state, switch_of}
 use Rattle.switch_laws.specs.Orderly.{OrderlySince}
 use Rattle.batch_laws.specs.Calm.{Calm}
-use Rattle.journal_laws.specs.Readings.{starts_in, replies_in}
+use Rattle.lego_model.specs.History.{starts_in, replies_in, own_acts, given_in, stimuli_in}
 use Rattle.lego_model.specs.AtOnce.{AtOnce}
-use Rattle.run_laws.specs.Engine.{Engine, index, own_acts, given_in, stimuli_in}
+use Rattle.run_laws.specs.Engine.{Engine}
+use Rattle.lego_model.specs.Application.{index}
 use Rattle.run_laws.specs.Readings.{JudgesAlike}
-use Rattle.run_laws.specs.Moves.{Settled, Moved}
+use Rattle.run_laws.specs.Moves.{AtRest, Moved}
 use Rattle.run_laws.specs.LastReport.{last_text}
-use Rattle.run_laws.specs.WholeRun.{all_started}
-use Rattle.run_laws.specs.WholeLaws.{whole}
+use Rattle.lego_model.specs.ReferenceRun.{all_started}
+use Rattle.run_laws.specs.Whole.{whole}
 
 -- ---- The start
 
 pub record ShownStart {Own : Type 0} (Tells : Type 0) (text : List ℕ) (old new : Seen Own) (e now_e : Engine) : Type 0 where
-  pub moved : Tells → Conforming new → Settled old e → Moved [] all_started text old new e now_e
+  pub moved : Tells → Conforming new → AtRest old e → Moved [] all_started text old new e now_e
 
 -- ---- From the start to the last batch
 
@@ -31,7 +32,7 @@ pub record WholeMoves {Own : Type 0} (allows : List Place → Bool) (text : List
 
 -- the same in a world that keeps its word, where the stimuli are fewer than this number of rounds
 pub record ShownWhole {Own : Type 0} (Tells : Type 0) (accepts : List TableView → Bool) (most : ℕ) (text : List ℕ) (old new : Seen Own) (e now_e : Engine) : Type 0 where
-  pub whole_so : (allows : List Place → Bool) → Tells → Conforming new → JudgesAlike Own allows accepts → Settled old e → length (stimuli_in new) < most → WholeMoves allows text old new e now_e
+  pub whole_so : (allows : List Place → Bool) → Tells → Conforming new → JudgesAlike Own allows accepts → AtRest old e → length (stimuli_in new) < most → WholeMoves allows text old new e now_e
 
 -- ---- The last part
 

@@ -15,10 +15,12 @@ use Rattle.app_visor.specs.ReadTryLaws.{tries_told}
 use Rattle.journal_laws.specs.FrameLaws.{event_is}
 use Rattle.switch_laws.specs.OrderlyLaws.{orderly-whole}
 use Rattle.batch_laws.specs.Calm.{Calm}
-use Rattle.run_laws.specs.Engine.{Engine, index}
+use Rattle.run_laws.specs.Engine.{Engine, with_number}
+use Rattle.lego_model.specs.Application.{index}
 use Rattle.run_laws.specs.Facts.{IsTurn, Dispatches}
 use Rattle.run_laws.specs.Readings.{AreRead, JudgesAlike}
-use Rattle.run_laws.specs.Moves.{Settled, Moved, Shown, dispatch_next}
+use Rattle.run_laws.specs.Moves.{AtRest, Moved, Shown}
+use Rattle.lego_model.specs.ReferenceRun.{dispatch_next}
 use Rattle.run_laws.specs.TurnMoveLaws.{turn_moves}
 use Rattle.run_laws.specs.DialogueLaws.{turn_goes_on}
 use Rattle.run_laws.specs.DispatchLaws.{dispatch-moves, dispatch-life, next-moves, none-moves}
@@ -51,25 +53,22 @@ are-read Tells accepts = record {
 
 -- ---- An event
 
-abbrev numbered_engine : Engine → Engine
-numbered_engine e = record e { events = e.events + 1 }
-
 calm-by : {Own : Type 0} (Tells : Type 0) (accepts : List TableView → Bool) (allows : List Place → Bool) (event : Event) (text : List ℕ) (old new : Seen Own) (e now_e : Engine) (alive : Bool) → e.alive ≡ alive → Tells → Conforming new → JudgesAlike Own allows accepts
-    → e.events + 1 < 2 ^ 64 → Settled old e → IsTurn Tells accepts event alive text old new (numbered_engine e) now_e → Calm new now_e.net
+    → e.events + 1 < 2 ^ 64 → AtRest old e → IsTurn Tells accepts event alive text old new (with_number e) now_e → Calm new now_e.net
 calm-by Tells accepts allows event text old new e now_e true is told keeps judges few settled turn =
-    ((turn_moves Tells accepts allows event text old new (numbered_engine e) now_e told keeps judges (are-read Tells accepts) few (settled.life is) turn).alike settled.calm).calm
+    ((turn_moves Tells accepts allows event text old new (with_number e) now_e told keeps judges (are-read Tells accepts) few (settled.life is) turn).alike settled.calm).calm
 calm-by Tells accepts allows event text old new e now_e false is told keeps judges few settled turn =
     subst (λ (s : Seen _). Calm s now_e.net) (sym turn.0) (subst (λ (x : Engine). Calm old x.net) (sym turn.1) settled.calm)
 
 pub dispatch-moved : {Own : Type 0} (Tells : Type 0) (accepts : List TableView → Bool) (allows : List Place → Bool) (event : Event) (text : List ℕ) (old new : Seen Own) (e now_e : Engine) → Tells → Conforming new → Continues Tells old new → JudgesAlike Own allows accepts
-    → e.events + 1 < 2 ^ 64 → Settled old e → Dispatches Tells accepts event text old new e now_e → Moved [] (dispatch allows event) text old new e now_e
+    → e.events + 1 < 2 ^ 64 → AtRest old e → Dispatches Tells accepts event text old new e now_e → Moved [] (dispatch allows event) text old new e now_e
 dispatch-moved Tells accepts allows event text old new e now_e told keeps continues judges few settled d = record {
   moves = dispatch-moves Tells accepts allows event text old new e now_e told keeps continues judges (are-read Tells accepts) few settled.life d;
   settled = record {
     calm = calm-by Tells accepts allows event d.turn_text old new e now_e e.alive refl told keeps judges few settled d.turn;
     life = dispatch-life Tells accepts allows event text old new e now_e told keeps judges (are-read Tells accepts) few settled.life d;
-    speaks = turn_goes_on Tells accepts event e.alive d.turn_text old new (numbered_engine e) now_e told refl (record { at_once = settled.speaks.at_once; rest_so = settled.speaks.rest_so }) d.turn;
-    orderly = orderly-whole index old new settled.orderly (turn-orderly Tells accepts event e.alive d.turn_text old new (numbered_engine e) now_e told (are-read Tells accepts) d.turn);
+    speaks = turn_goes_on Tells accepts event e.alive d.turn_text old new (with_number e) now_e told refl (record { at_once = settled.speaks.at_once; rest_so = settled.speaks.rest_so }) d.turn;
+    orderly = orderly-whole index old new settled.orderly (turn-orderly Tells accepts event e.alive d.turn_text old new (with_number e) now_e told (are-read Tells accepts) d.turn);
   };
 }
 
@@ -78,7 +77,7 @@ pub next-shown : {Own : Type 0} (Tells : Type 0) (accepts : List TableView → B
     → Dispatches Tells accepts event text old new (record e { queue = queue }) now_e → Shown Tells accepts [] dispatch_next text old new e now_e
 next-shown Tells accepts event queue text old new e now_e continues few waits d = record {
   moved = λ allows told keeps judges settled.
-      let taken : Settled old (record e { queue = queue }) = record { calm = settled.calm; life = settled.life; speaks = record { at_once = settled.speaks.at_once; rest_so = settled.speaks.rest_so }; orderly = settled.orderly } in
+      let taken : AtRest old (record e { queue = queue }) = record { calm = settled.calm; life = settled.life; speaks = record { at_once = settled.speaks.at_once; rest_so = settled.speaks.rest_so }; orderly = settled.orderly } in
       let one = dispatch-moved Tells accepts allows event text old new (record e { queue = queue }) now_e told keeps continues judges few taken d in
       record { moves = next-moves allows event queue text old new e now_e waits one.moves; settled = one.settled };
 }

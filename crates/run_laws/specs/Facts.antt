@@ -17,11 +17,8 @@ use Rattle.app_visor.specs.declared.state.TurnEnd.{TurnEnd}
 use Rattle.app_visor.specs.declared.state.TurnEnd.TheVariants as ends
 use Rattle.app_visor.specs.Turns.{Turns}
 use Rattle.app_visor.specs.Attempts.{Restarts}
-use Rattle.std.specs.Prelude.{codes}
-use Rattle.run_laws.specs.Engine.{Engine, index, budget}
-
-abbrev pub name : List ℕ
-name = codes "app"
+use Rattle.run_laws.specs.Engine.{Engine}
+use Rattle.lego_model.specs.Application.{index, budget, name}
 
 -- ---- Starting
 

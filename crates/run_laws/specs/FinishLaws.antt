@@ -10,8 +10,8 @@ use Rattle.app_frames.specs.declared.frame.Event.{Event}
 use Rattle.lego_model.specs.Journal.{Reply, Start}
 use Rattle.lego_model.specs.Places.{Place}
 use Rattle.lego_model.specs.Scripted.{AreFronts, AreStartFronts}
-use Rattle.lego_model.specs.Controller.{App, Run, quiet_of, reference}
-use Rattle.lego_model.specs.Agreement.{AgreeQuiet, AgreeQuiets}
+use Rattle.lego_model.specs.Controller.{App, Run, reference_mark, reference}
+use Rattle.lego_model.specs.Agreement.{AgreeMark, AgreeMarks}
 use Rattle.lego_model.specs.RunReport.{run_report}
 use Rattle.outside.specs.Seen.{Given, Seen, journal}
 use Rattle.outside.specs.State.{Mark, State, switch_of, state}
@@ -19,19 +19,21 @@ use Rattle.outside.specs.Conforming.{Conforming}
 use Rattle.flow_table.specs.declared.view.TableView.{TableView}
 use Rattle.switch_laws.specs.Shown.{flags_at, shown_switch, places, shown_places}
 use Rattle.batch_laws.specs.HistoryLaws.{links-declared}
-use Rattle.journal_laws.specs.Readings.{starts_in, replies_in}
+use Rattle.lego_model.specs.History.{starts_in, replies_in, own_acts, stimuli_in, points_in, last_point}
 use Rattle.lego_model.specs.AtOnce.{AtOnce}
-use Rattle.run_laws.specs.Engine.{Engine, Stands, index, names, own_acts, stimuli_in, quiet_by, quiets_in}
-use Rattle.run_laws.specs.QuietLaws.{quiets_more, mark_alike}
+use Rattle.run_laws.specs.Engine.{Engine, Stands}
+use Rattle.lego_model.specs.Application.{index, names}
+use Rattle.run_laws.specs.PointLaws.{marks_more, mark_alike}
 use Rattle.run_laws.specs.LastReport.{last_text}
 use Rattle.run_laws.specs.LastReportLaws.{report-ends, last-shown}
-use Rattle.run_laws.specs.WholeRun.{RunsAlike, fresh, reference_said, AreSaid, last_quiet}
-use Rattle.run_laws.specs.WholeLaws.{Ran, told-said}
-use Rattle.switch_laws.specs.Orderly.{IsOrderly}
+use Rattle.lego_model.specs.ReferenceRun.{RunsAlike, fresh, reference_said, AreSaid}
+use Rattle.run_laws.specs.WholeLaws.{told-said}
+use Rattle.run_laws.specs.Whole.{Ran}
+use Rattle.lego_model.specs.OrderlySteps.{IsOrderly}
 use Rattle.switch_laws.specs.OrderlyLaws.{orderly-whole, released-none}
-use Rattle.run_laws.specs.Moves.{Settled}
+use Rattle.run_laws.specs.Moves.{AtRest}
 use Rattle.run_laws.specs.Endings.{Leaves}
-use Rattle.run_laws.specs.Promise.{EndsAs, LeavesAs, EndsAlike, LeavesAlike}
+use Rattle.lego_model.specs.WholeRun.{EndsAs, LeavesAs, EndsAlike, LeavesAlike}
 
 -- the reference controller's run is the same
 reference-same : {Own : Type 0} (allows : List Place → Bool) (last new : Seen Own) (starts : List Start) (replies : List Reply) → Leaves last new → reference_said allows new starts replies ≡ reference_said allows last starts replies
@@ -60,16 +62,16 @@ runs-alike {Own} last new e starts replies r keeps l s =
     let same_declared : declared ≡ last.given.declared = ap (λ (g : Given Own). g.declared) l.given in
     let here : r.places ≡ shown_places declared e.net.views (state new) =
     s.places ∙ sym (ap (λ (ds : List Declared). shown_places ds e.net.views (state last)) same_declared) ∙ sym (shown-still declared e.net.views (state last) (state new) l.switches) in
-    let quiets : AgreeQuiets (quiets_in new) r.quiets = subst (λ (ms : List Mark). AgreeQuiets (map quiet_by ms) r.quiets) (sym l.marks) s.quiets in
-    let end : AgreeQuiet (last_quiet new) (quiet_of None r.places) =
-    subst (λ (ps : List Place). AgreeQuiet (last_quiet new) (quiet_of None ps)) (sym here) (mark_alike None declared e.net.views (state new) (links-declared new) keeps.declared) in
+    let marks : AgreeMarks (points_in new) r.marks = subst (λ (ms : List Mark). AgreeMarks ms r.marks) (sym l.marks) s.marks in
+    let end : AgreeMark (last_point new) (reference_mark None r.places) =
+    subst (λ (ps : List Place). AgreeMark (last_point new) (reference_mark None ps)) (sym here) (mark_alike None declared e.net.views (state new) (links-declared new) keeps.declared) in
     record {
-      tables = quiets_more (quiets_in new) r.quiets (last_quiet new) (quiet_of None r.places) quiets end;
+      tables = marks_more (points_in new) r.marks (last_point new) (reference_mark None r.places) marks end;
       inputs = ap (λ (all : List App). map (λ a. a.inputs) all) s.apps ∙ ap (λ (given : List (List ℕ)). given ∷ []) (sym l.inputs);
     }
 
 -- all steps were in order
-pub all-in-order : {Own : Type 0} {e : Engine} (last new : Seen Own) → Settled last e → Leaves last new → AllByRecursion (IsOrderly index) new.history
+pub all-in-order : {Own : Type 0} {e : Engine} (last new : Seen Own) → AtRest last e → Leaves last new → AllByRecursion (IsOrderly index) new.history
 all-in-order last new settled l = orderly-whole index last new settled.orderly l.orderly
 
 -- ---- All was dispatched
@@ -88,7 +90,7 @@ ends-as allows text last new e contents now_contents starts replies keeps l ran 
       report = written ∙ ap (append_known contents) (sym report);
     })
 
-pub ends-alike : {Own : Type 0} (allows : List Place → Bool) (text : List ℕ) (last new : Seen Own) (e : Engine) (contents now_contents : Option (List ℕ)) → Conforming new → Leaves last new → Settled last e → Ran allows text last e
+pub ends-alike : {Own : Type 0} (allows : List Place → Bool) (text : List ℕ) (last new : Seen Own) (e : Engine) (contents now_contents : Option (List ℕ)) → Conforming new → Leaves last new → AtRest last e → Ran allows text last e
     → AtOnce index (journal new.history) → e.queue ≡ [] → now_contents ≡ append_known contents (text ++ last_text last e) → EndsAlike allows new contents now_contents e.events
 ends-alike allows text last new e contents now_contents keeps l settled ran said none written =
     record {
@@ -112,7 +114,7 @@ leaves-as allows text last new e contents now_contents starts replies keeps l ra
       report = written ∙ ap (append_known contents) (sym so.text_so);
     })
 
-pub leaves-alike : {Own : Type 0} (allows : List Place → Bool) (text : List ℕ) (last new : Seen Own) (e : Engine) (contents now_contents : Option (List ℕ)) → Conforming new → Leaves last new → Settled last e → Ran allows text last e
+pub leaves-alike : {Own : Type 0} (allows : List Place → Bool) (text : List ℕ) (last new : Seen Own) (e : Engine) (contents now_contents : Option (List ℕ)) → Conforming new → Leaves last new → AtRest last e → Ran allows text last e
     → AtOnce index (journal new.history) → now_contents ≡ append_known contents text → LeavesAlike allows new contents now_contents (length e.queue)
 leaves-alike allows text last new e contents now_contents keeps l settled ran said written =
     record {

@@ -1,40 +1,31 @@
 -- Where a run begins: a world that was just opened, and an engine before anything happened, stand as the reference controller does before it
 -- starts its application.
-use Rattle.std.proofs.Common.{◌≡◌, ◌==◌, ℕ, true, false, List, [], ◌∷◌, map, Option, Some, None, refl, sym, ap, ap₂, ◌∙◌, subst, inl, inr, true≢false}
+use Rattle.std.proofs.Common.{◌≡◌, ◌==◌, ℕ, true, List, [], ◌∷◌, map, Option, Some, None, refl, sym, ap, ap₂, ◌∙◌, subst, inl, inr, true≢false}
 use Rattle.std.proofs.lemmas.Bool.{cases_Bool}
 use Rattle.std.specs.Option.{option_map}
 use Rattle.std.specs.List.{AllByRecursion}
 use Rattle.flow_table.specs.Switch.{Declared, SwitchState}
 use Rattle.of_types.specs.declared.journal.Act.{Act}
 use Rattle.lego_model.specs.Journal.{Reply, Start, inputs}
-use Rattle.lego_model.specs.Agreement.{AgreeQuiets}
+use Rattle.lego_model.specs.Agreement.{AgreeMarks}
 use Rattle.undo_laws.specs.Owned.{owned_switch}
 use Rattle.lego_model.specs.Answers.{rows_of_table}
 use Rattle.lego_model.specs.Places.{Place}
 use Rattle.lego_model.specs.Controller.{ports_of}
 use Rattle.outside.specs.declared.call.FailCall.{FailCall}
 use Rattle.outside.specs.declared.step.WorldStep.{WorldStep}
-use Rattle.outside.specs.declared.step.WorldStep.TheVariants.{Opened}
 use Rattle.outside.specs.Seen.{Seen, journal}
 use Rattle.outside.specs.State.{State, link_at_first, at_first, link_of, waits_in, switch_in, waits_of, switch_of, after_steps, after_step, state}
-use Rattle.net_txn.specs.Net.{NetState}
-use Rattle.switch_laws.specs.Orderly.{IsOrderly}
+use Rattle.lego_model.specs.OrderlySteps.{IsOrderly}
 use Rattle.switch_laws.specs.Shown.{flags_at, places, shown_switch, shown_places}
 use Rattle.lego_model.specs.AtOnce.{at_first as nobody_yet, Dialogue}
 use Rattle.batch_laws.specs.Calm.{Calm}
-use Rattle.run_laws.specs.Engine.{Engine, Stands, index, quiet_by, app_at, given_in}
-use Rattle.run_laws.specs.Moves.{Settled}
-use Rattle.run_laws.specs.WholeRun.{fresh, before_start}
-
--- a world that was opened, and nothing more
-abbrev pub IsOpened : {Own : Type 0} → Seen Own → Type 0
-IsOpened seen = seen.history ≡ Opened ∷ []
-
-abbrev pub net_at_first : NetState
-net_at_first = record { views = []; ports = []; log = []; xid = 1; moment = 0; kept = []; room = 2 }
-
-abbrev pub engine_at_first : Engine
-engine_at_first = record { net = net_at_first; queue = []; events = 0; alive = false; rest = []; done = 0; failed = 0 }
+use Rattle.run_laws.specs.Engine.{Stands, app_at}
+use Rattle.lego_model.specs.Application.{index}
+use Rattle.lego_model.specs.History.{given_in}
+use Rattle.run_laws.specs.Moves.{AtRest}
+use Rattle.lego_model.specs.ReferenceRun.{fresh, before_start}
+use Rattle.run_laws.specs.First.{IsOpened, net_at_first, engine_at_first}
 
 -- ---- The world
 
@@ -91,7 +82,7 @@ pub no-acts : {Own : Type 0} (seen : Seen Own) → IsOpened seen → journal see
 unfolding journal
 no-acts seen is = ap (λ (h : List WorldStep). journal h) is
 
-pub settled-first : {Own : Type 0} (seen : Seen Own) → IsOpened seen → Settled seen engine_at_first
+pub settled-first : {Own : Type 0} (seen : Seen Own) → IsOpened seen → AtRest seen engine_at_first
 settled-first seen is = record {
   calm = calm-first seen is;
   life = λ alive. absurd (true≢false (sym alive));
@@ -122,6 +113,6 @@ stands-first seen starts replies is = record {
   queue = refl;
   events = refl;
   apps = sym (ap (λ (given : List (List ℕ)). app_at engine_at_first given starts replies ∷ []) (given-first seen is));
-  quiets = subst (λ (s : State). AgreeQuiets (map quiet_by s.marks) []) (sym (state-opened seen is)) tt;
+  marks = subst (λ (s : State). AgreeMarks s.marks []) (sym (state-opened seen is)) tt;
   life = λ alive. absurd (true≢false (sym alive));
 }

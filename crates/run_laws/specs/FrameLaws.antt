@@ -31,10 +31,6 @@ event_so : (count : ℕ) (more : List ℕ) → count < 2 ^ 64 → event_number (
 unfolding event_number
 event_so count more few = rw (kind_read 2 (number_bytes 8 count ++ more) (omega arith)) (ap (λ (n : ℕ). Some n) (count_read 2 count more few))
 
-other_so : (kind : ℕ) (body : List ℕ) → number_at 1 4 (framed kind body) ≡ kind → (kind ≡ 1) → event_number (framed kind body) ≡ None
-unfolding event_number
-other_so kind body read is = rw (read, is) refl
-
 pub restore_number : event_number restore_frame ≡ None
 unfolding host_bytes event_number
 restore_number = rw (kind_read 1 (host_body_bytes (host.Restore [])) (omega arith)) refl

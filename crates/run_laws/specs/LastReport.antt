@@ -1,18 +1,21 @@
 -- The last lines of a report, of the engine and of the reference controller. All of this is our own.
-use Rattle.std.specs.Prelude.{◌≡◌, ℕ, List, [], ◌∷◌, ◌++◌, length}
+use Rattle.std.specs.Prelude.{◌≡◌, ℕ, List, [], ◌∷◌, ◌++◌, length, Option, Some}
 use Rattle.std.specs.List.{flat_map}
 use Rattle.of_stats.specs.declared.flow_row.FlowRow.{FlowRow}
 use Rattle.flow_table.specs.declared.view.ViewRow.{ViewRow}
-use Rattle.lego_model.specs.Controller.{Run}
-use Rattle.lego_model.specs.RunReport.{switch_line, flow_line, app_line, end_line, switch_text, apps_text}
+use Rattle.lego_model.specs.Controller.{Run, Line}
+use Rattle.lego_model.specs.RunReport.{switch_line, flow_line, app_line, end_line, switch_text, apps_text, line_text}
 use Rattle.outside.specs.Seen.{Seen, journal}
 use Rattle.outside.specs.State.{State, state}
 use Rattle.lego_model.specs.AtOnce.{AtOnce}
 use Rattle.flow_table.specs.declared.view.TableView.{TableView}
 use Rattle.switch_laws.specs.Orderly.{OrderlySince}
 use Rattle.switch_laws.specs.Shown.{shown_switch, shown_places}
-use Rattle.run_laws.specs.Engine.{Engine, index, names, own_acts, given_in, stimuli_in}
-use Rattle.run_laws.specs.Facts.{name}
+use Rattle.run_laws.specs.Engine.{Engine}
+use Rattle.lego_model.specs.Application.{index, names, name}
+use Rattle.lego_model.specs.History.{own_acts, given_in, stimuli_in}
+use Rattle.flow_table.specs.Switch.{SwitchState}
+use Rattle.lego_model.specs.Answers.{rows_of_table, rows_of_view}
 
 -- ---- A switch
 
@@ -62,3 +65,12 @@ pub record OnlyAsked {Own : Type 0} (old new : Seen Own) : Type 0 where
   pub marks : (state new).marks ≡ (state old).marks
   pub at_once : AtOnce index (journal old.history) → AtOnce index (journal new.history)
   pub orderly : OrderlySince index old new
+
+-- a switch that has a view is joined, and its table has these rows
+pub record JoinedWith (vs : List ViewRow) (o : Option SwitchState) : Type 0 where
+  pub switch : SwitchState
+  pub is : o ≡ Some switch
+  pub rows : rows_of_view vs ≡ rows_of_table switch.table.entries
+
+abbrev pub lines_text : List Line → List ℕ
+lines_text lines = flat_map (line_text names) lines

@@ -24,10 +24,10 @@ use Rattle.undo_laws.specs.Owned.{owned, owned_switch}
 use Rattle.lego_model.specs.Answers.{Rows, rows_of_table, rows_of_view}
 use Rattle.lego_model.specs.Controller.{Run}
 use Rattle.lego_model.specs.RunReport.{switch_line, flow_line, app_line, end_line, entry_text, switch_text, apps_text, run_report}
-use Rattle.outside.specs.Seen.{Seen, is_declared}
-use Rattle.outside.specs.State.{State, state, switch_of}
+use Rattle.outside.specs.Seen.{Seen, is_declared, journal}
+use Rattle.outside.specs.State.{State, state, switch_of, after_act, after_step, after_steps}
 use Rattle.outside.specs.Conforming.{AreDeclaredFrom}
-use Rattle.net_txn.specs.Views.{rows_at}
+use Rattle.net_txn.specs.Views.{rows_at, ViewsAscend}
 use Rattle.net_txn.specs.Agreement.{Agrees}
 use Rattle.net_txn.specs.AskSteps.{own_rows}
 use Rattle.switch_laws.specs.Shown.{rows_or_none, flags_in, flags_at, shown_switch, places, shown_places, Stand}
@@ -36,23 +36,25 @@ use Rattle.lego_model.specs.Journal.{Reply, Start, is_of, inputs, stimuli}
 use Rattle.lego_model.specs.JournalLaws.{inputs-append, stimuli-append}
 use Rattle.outside.specs.declared.step.WorldStep.{WorldStep}
 use Rattle.outside.specs.declared.step.WorldStep.TheVariants.{Acted, TookInto, From, Joined, Left, Moment, Idle, End, Opened, NotOpened, NextFailed, SendFailed, RecvFailed}
-use Rattle.outside.specs.Seen.{journal}
 use Rattle.outside.specs.SeenLaws.{journal-append}
-use Rattle.outside.specs.State.{after_act, after_step, after_steps}
 use Rattle.outside.specs.StateLaws.{state-append}
-use Rattle.net_txn.specs.declared.heard.Awaited.{Awaited}
-use Rattle.net_txn.specs.declared.heard.Heard.{Heard}
-use Rattle.net_txn.specs.declared.heard.Heard.TheVariants as kinds
-use Rattle.net_txn.specs.declared.heard.Refusal.{Refusal}
-use Rattle.net_txn.specs.Waits.{heard, steps_by, wait_steps, barrier_sent, reply_got, Waits}
-use Rattle.net_txn.specs.Asks.{asked_from, request_sent, GivesRows}
-use Rattle.batch_laws.specs.Calm.{ViewsAscend}
-use Rattle.switch_laws.specs.Orderly.{IsOrderly}
+use Rattle.lego_model.specs.declared.wait.Awaited.{Awaited}
+use Rattle.lego_model.specs.declared.wait.Heard.{Heard}
+use Rattle.lego_model.specs.declared.wait.Heard.TheVariants as kinds
+use Rattle.lego_model.specs.declared.wait.Refusal.{Refusal}
+use Rattle.net_txn.specs.Waits.{Waits}
+use Rattle.lego_model.specs.BarrierWaits.{heard, steps_by, wait_steps, barrier_sent, reply_got}
+use Rattle.net_txn.specs.Asks.{GivesRows}
+use Rattle.lego_model.specs.FlowQueries.{asked_from, request_sent}
+use Rattle.lego_model.specs.OrderlySteps.{IsOrderly}
 use Rattle.switch_laws.specs.OrderlyLaws.{orderly-none, orderly-then, rows-orderly}
-use Rattle.run_laws.specs.Engine.{Engine, index, names, own_acts, given_in, stimuli_in, Stands, text_of}
-use Rattle.run_laws.specs.Facts.{name}
+use Rattle.run_laws.specs.Engine.{Engine, Stands}
+use Rattle.lego_model.specs.Application.{index, names, name}
+use Rattle.lego_model.specs.History.{own_acts, given_in, stimuli_in}
+use Rattle.lego_model.specs.ReferenceRun.{text_of}
 use Rattle.run_laws.specs.DialogueLaws.{others_at_once}
-use Rattle.run_laws.specs.LastReport.{SameKeys, flow_lines, table_lines, shown_text, last_text, last_lines, OnlyAsked}
+use Rattle.run_laws.specs.LastReport.{SameKeys, flow_lines, table_lines, shown_text, last_text, last_lines, OnlyAsked, JoinedWith}
+use Rattle.batch_laws.specs.PortTellLaws.{some_is_none}
 
 -- ---- A switch
 
@@ -94,12 +96,6 @@ table-shown d views vs s is same table number =
 
 one_rows : (a b : Rows) → Some a ≡ Some b → a ≡ b
 one_rows a b h = cc
-
--- a switch that has a view is joined, and its table has these rows
-pub record JoinedWith (vs : List ViewRow) (o : Option SwitchState) : Type 0 where
-  pub switch : SwitchState
-  pub is : o ≡ Some switch
-  pub rows : rows_of_view vs ≡ rows_of_table switch.table.entries
 
 pub joined-with : (d : ℕ) (views : List TableView) (s : State) (vs : List ViewRow) → Agrees d views s → rows_at d views ≡ Some vs → JoinedWith vs (switch_of d s)
 joined-with d views s vs agrees is = joined_with (switch_of d s) (sym (ap (λ (o : Option (List ViewRow)). option_map rows_of_view o) is) ∙ agrees)
@@ -145,16 +141,13 @@ declared_text g ds = flat_map (λ x. g x.dpid) ds
 abbrev viewed_text : (ℕ → List ℕ) → List TableView → List ℕ
 viewed_text g vs = flat_map (λ v. g v.dpid) vs
 
-some_rows : {X : Type 0} (x : X) → Some x ≡ None → ⊥
-some_rows x h = cc
-
 -- What has text only where there is a view, over the declared switches: it is that over the views.
 over-views : (g : ℕ → List ℕ) (first least : ℕ) (vs : List TableView) (ds : List Declared) → ViewsAscend first vs → AreDeclaredFrom least ds → ((d : ℕ) → is_declared d ds ≡ false → rows_at d vs ≡ None)
     → ((d : ℕ) → least ≤ d → rows_at d vs ≡ None → g d ≡ []) → viewed_text g vs ≡ declared_text g ds
 over-views g first least [] [] up are known quiet = refl
 over-views g first least (v ∷ vs) [] up are known quiet =
     let none : (if v.dpid == v.dpid then Some v.rows else rows_at v.dpid vs) ≡ None = known v.dpid refl in
-    absurd (some_rows v.rows (rw (eq-eqb v.dpid v.dpid refl) at none))
+    absurd (some_is_none v.rows (rw (eq-eqb v.dpid v.dpid refl) at none))
 over-views g first least [] (x ∷ xs) up are known quiet =
     over-views g first (x.dpid + 1) [] xs tt are.2 (λ d h. refl) (λ d le h. quiet d (omega (arith, le, are.0)) refl) ∙ ap (λ (text : List ℕ). text ++ declared_text g xs) (sym (quiet x.dpid are.0 refl))
 over-views g first least (v ∷ vs) (x ∷ xs) up are known quiet =
@@ -192,7 +185,7 @@ over-views g first least (v ∷ vs) (x ∷ xs) up are known quiet =
       | inl is ↦ is
       | inr not ↦
           let none : rows_at v.dpid (v ∷ vs) ≡ None = known (rw (ne_eqb x.dpid v.dpid (λ e. apart (sym e))) not) in
-          absurd (some_rows v.rows (rw (eq-eqb v.dpid v.dpid refl) at none))
+          absurd (some_is_none v.rows (rw (eq-eqb v.dpid v.dpid refl) at none))
     ]
 
 places-text : (f : ℕ → Option SwitchState) (ds : List Declared) → flat_map (λ p. switch_text p.switch) (places f ds) ≡ declared_text (λ d. switch_text (f d)) ds

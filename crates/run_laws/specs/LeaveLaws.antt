@@ -13,12 +13,13 @@ use Rattle.outside.specs.State.{State, is_running, switch_of, after_act, after_s
 use Rattle.outside.specs.Calls.{end_steps, Ends}
 use Rattle.outside.specs.CallLaws.{Ends-state}
 use Rattle.std.specs.List.{AllByRecursion}
-use Rattle.switch_laws.specs.Orderly.{IsOrderly}
-use Rattle.journal_laws.specs.Readings.{starts_in, replies_in, ReadsSame, end_part}
+use Rattle.lego_model.specs.OrderlySteps.{IsOrderly}
+use Rattle.journal_laws.specs.Readings.{ReadsSame, end_acts}
+use Rattle.lego_model.specs.History.{starts_in, replies_in, own_acts, given_in, stimuli_in}
 use Rattle.journal_laws.specs.ReadingLaws.{part_read}
 use Rattle.app_visor.specs.DialogueLaws.{converses_ended}
 use Rattle.run_laws.specs.DialogueLaws.{at_once_then, runs_now}
-use Rattle.run_laws.specs.Engine.{index, own_acts, given_in, stimuli_in}
+use Rattle.lego_model.specs.Application.{index}
 use Rattle.run_laws.specs.LastReport.{OnlyAsked}
 use Rattle.run_laws.specs.Endings.{Leaves}
 
@@ -40,7 +41,7 @@ asked-leaves old new asked switches = record {
 
 -- an end, of an application that runs or of one that does not
 record IsEnd (running : Bool) : Type 0 where
-  own : filter (is_of index) (journal (end_steps index running)) ≡ end_part running index
+  own : filter (is_of index) (journal (end_steps index running)) ≡ end_acts running index
   inputs_so : inputs index (journal (end_steps index running)) ≡ []
   stimuli_so : stimuli (journal (end_steps index running)) ≡ []
   marks : (s : State) → (after_steps (end_steps index running) s).marks ≡ s.marks
@@ -59,7 +60,7 @@ end-leaves Tells old new told ends =
     let steps : List WorldStep = end_steps index running in
     let is = is-end running in
     let longer : journal new.history ≡ journal old.history ++ journal steps = ap journal (ends.told told).history ∙ journal-append old.history steps in
-    let own : own_acts new ≡ own_acts old ++ end_part running index =
+    let own : own_acts new ≡ own_acts old ++ end_acts running index =
     ap (λ (acts : List Act). filter (is_of index) acts) longer ∙ filter-append (is_of index) (journal old.history) (journal steps) ∙ ap (λ (acts : List Act). own_acts old ++ acts) is.own in
     let reads : ReadsSame (own_acts old) (own_acts new) = subst (λ (acts : List Act). ReadsSame (own_acts old) acts) (sym own) (part_read index running (own_acts old)) in
     let after : state new ≡ after_steps steps (state old) = Ends-state told ends in

@@ -2,9 +2,8 @@ pub mod Engine
 pub mod Moves
 pub mod Facts
 pub mod MoveLaws
-pub mod SettleLaws
+pub mod DispatchWaitingLaws
 pub mod RoundLaws
-pub mod WholeRun
 pub mod FirstLaws
 pub mod WholeLaws
 pub mod Promise
@@ -19,7 +18,7 @@ pub mod Readings
 pub mod FrameLaws
 pub mod ReferenceLaws
 pub mod LinkStepLaws
-pub mod QuietLaws
+pub mod PointLaws
 pub mod CalmLaws
 pub mod ChainLaws
 pub mod DialogueLaws
@@ -34,3 +33,8 @@ pub mod StartShownLaws
 pub mod OrderlyRunLaws
 pub mod Cut
 pub mod CutLaws
+pub mod LinkSteps
+pub mod First
+pub mod ReferenceTurn
+pub mod EventMoves
+pub mod Whole

@@ -12,11 +12,9 @@ use Rattle.lego_model.specs.RunReport.{event_line, start_line, gone_line as gone
 use Rattle.app_visor.specs.declared.state.TurnEnd.{TurnEnd}
 use Rattle.app_visor.specs.declared.state.TurnEnd.TheVariants as ends
 use Rattle.app_visor.specs.Turns.{IsEnd}
-use Rattle.run_laws.specs.Engine.{names}
-use Rattle.run_laws.specs.Facts.{name, gone_text, starts_text, turn_word}
-
-abbrev pub lines_text : List Line → List ℕ
-lines_text lines = flat_map (line_text names) lines
+use Rattle.lego_model.specs.Application.{names, name}
+use Rattle.run_laws.specs.Facts.{gone_text, starts_text, turn_word}
+use Rattle.run_laws.specs.LastReport.{lines_text}
 
 gone_lines : (back : Bool) → lines_text (gone_line 0 back) ≡ gone_text back
 gone_lines true = refl

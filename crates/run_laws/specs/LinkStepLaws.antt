@@ -1,5 +1,5 @@
 -- What steps leave of a state beside its switches: calls of links change the switches alone, and calls for an application no switch.
-use Rattle.std.proofs.Common.{◌≡◌, ◌==◌, ℕ, true, List, [], ◌∷◌, ◌++◌, map, filter, Some, None, refl, sym, ◌∙◌, subst, true≢false}
+use Rattle.std.proofs.Common.{◌≡◌, ◌==◌, ℕ, true, List, [], ◌∷◌, map, Some, None, refl, sym, ◌∙◌, subst, true≢false}
 use Rattle.std.specs.List.{AllByRecursion}
 use Rattle.of_types.specs.declared.journal.Act.{Act}
 use Rattle.of_types.specs.declared.journal.Act.TheVariants.{Stim, Started, Gave, Gone, Took, Ended, Sent, Got}
@@ -9,28 +9,10 @@ use Rattle.outside.specs.declared.step.WorldStep.TheVariants.{Acted, TookInto, F
 use Rattle.outside.specs.Seen.{journal}
 use Rattle.outside.specs.State.{State, event_number, marks_at_event, marks_after_gave, after_act, after_step, after_steps}
 use Rattle.app_visor.specs.Talks.{step_of}
-
-pub all_append : {X : Type 0} (P : X → Type 0) (xs ys : List X) → AllByRecursion P xs → AllByRecursion P ys → AllByRecursion P (xs ++ ys)
-all_append P [] ys all rest = rest
-all_append P (x ∷ xs) ys all rest = (all.0, all_append P xs ys all.1 rest)
+use Rattle.net_txn.specs.LinkSteps.{is_link_step, AreLinkSteps}
+use Rattle.run_laws.specs.LinkSteps.{OnlyLinks, TellsNothing, OnlyTalk, NoEvents, MarksNothing}
 
 -- ---- Calls of links
-
--- all but the switches stands as it stood
-pub record OnlyLinks (s t : State) : Type 0 where
-  pub begun : t.begun ≡ s.begun
-  pub due : t.due ≡ s.due
-  pub moment : t.moment ≡ s.moment
-  pub to_come : t.to_come ≡ s.to_come
-  pub running : t.running ≡ s.running
-  pub marks : t.marks ≡ s.marks
-
-abbrev pub IsLinkStep : WorldStep → Type 0
-IsLinkStep (Acted (Sent d bytes)) = Unit {0}
-IsLinkStep (Acted (Got d bytes)) = Unit {0}
-IsLinkStep (SendFailed d) = Unit {0}
-IsLinkStep (RecvFailed d) = Unit {0}
-IsLinkStep other = ⊥
 
 pub OnlyLinks-refl : (s : State) → OnlyLinks s s
 OnlyLinks-refl s = record { begun = refl; due = refl; moment = refl; to_come = refl; running = refl; marks = refl }
@@ -45,72 +27,58 @@ OnlyLinks-trans s t u first second = record {
   marks = second.marks ∙ first.marks;
 }
 
-pub link_step : (step : WorldStep) (s : State) → IsLinkStep step → OnlyLinks s (after_step step s)
+pub link_step : (step : WorldStep) (s : State) → is_link_step step ≡ true → OnlyLinks s (after_step step s)
 unfolding after_step after_act
 link_step (Acted (Sent d bytes)) s is = record { begun = refl; due = refl; moment = refl; to_come = refl; running = refl; marks = refl }
 link_step (Acted (Got d bytes)) s is = record { begun = refl; due = refl; moment = refl; to_come = refl; running = refl; marks = refl }
 link_step (SendFailed d) s is = record { begun = refl; due = refl; moment = refl; to_come = refl; running = refl; marks = refl }
 link_step (RecvFailed d) s is = record { begun = refl; due = refl; moment = refl; to_come = refl; running = refl; marks = refl }
-link_step (Acted (Stim x)) s is = absurd is
-link_step (Acted (Started app ok)) s is = absurd is
-link_step (Acted (Gave app bytes)) s is = absurd is
-link_step (Acted (Gone app bytes)) s is = absurd is
-link_step (Acted (Took app what)) s is = absurd is
-link_step (Acted (Ended app)) s is = absurd is
-link_step (TookInto app what room) s is = absurd is
-link_step (From d bytes) s is = absurd is
-link_step (Joined d bytes) s is = absurd is
-link_step (Left d) s is = absurd is
-link_step (Moment t) s is = absurd is
-link_step Idle s is = absurd is
-link_step End s is = absurd is
-link_step Opened s is = absurd is
-link_step NotOpened s is = absurd is
-link_step NextFailed s is = absurd is
+link_step (Acted (Stim x)) s is = absurd (true≢false (sym is))
+link_step (Acted (Started app ok)) s is = absurd (true≢false (sym is))
+link_step (Acted (Gave app bytes)) s is = absurd (true≢false (sym is))
+link_step (Acted (Gone app bytes)) s is = absurd (true≢false (sym is))
+link_step (Acted (Took app what)) s is = absurd (true≢false (sym is))
+link_step (Acted (Ended app)) s is = absurd (true≢false (sym is))
+link_step (TookInto app what room) s is = absurd (true≢false (sym is))
+link_step (From d bytes) s is = absurd (true≢false (sym is))
+link_step (Joined d bytes) s is = absurd (true≢false (sym is))
+link_step (Left d) s is = absurd (true≢false (sym is))
+link_step (Moment t) s is = absurd (true≢false (sym is))
+link_step Idle s is = absurd (true≢false (sym is))
+link_step End s is = absurd (true≢false (sym is))
+link_step Opened s is = absurd (true≢false (sym is))
+link_step NotOpened s is = absurd (true≢false (sym is))
+link_step NextFailed s is = absurd (true≢false (sym is))
 
-pub link_steps : (steps : List WorldStep) (s : State) → AllByRecursion IsLinkStep steps → OnlyLinks s (after_steps steps s)
+pub link_steps : (steps : List WorldStep) (s : State) → AreLinkSteps steps → OnlyLinks s (after_steps steps s)
 link_steps [] s are = OnlyLinks-refl s
 link_steps (step ∷ steps) s are = OnlyLinks-trans s (after_step step s) (after_steps steps (after_step step s)) (link_step step s are.0) (link_steps steps (after_step step s) are.1)
 
--- they tell nothing of an application, and no stimulus
-pub record TellsNothing (app : ℕ) (steps : List WorldStep) : Type 0 where
-  pub acts : filter (is_of app) (journal steps) ≡ []
-  pub given : inputs app (journal steps) ≡ []
-  pub stims : stimuli (journal steps) ≡ []
-
-pub link_steps-tell : (app : ℕ) (steps : List WorldStep) → AllByRecursion IsLinkStep steps → TellsNothing app steps
+pub link_steps-tell : (app : ℕ) (steps : List WorldStep) → AreLinkSteps steps → TellsNothing app steps
 unfolding journal inputs stimuli
 link_steps-tell app [] are = record { acts = refl; given = refl; stims = refl }
 link_steps-tell app (Acted (Sent d bytes) ∷ steps) are = let rest = link_steps-tell app steps are.1 in record { acts = rest.acts; given = rest.given; stims = rest.stims }
 link_steps-tell app (Acted (Got d bytes) ∷ steps) are = let rest = link_steps-tell app steps are.1 in record { acts = rest.acts; given = rest.given; stims = rest.stims }
 link_steps-tell app (SendFailed d ∷ steps) are = let rest = link_steps-tell app steps are.1 in record { acts = rest.acts; given = rest.given; stims = rest.stims }
 link_steps-tell app (RecvFailed d ∷ steps) are = let rest = link_steps-tell app steps are.1 in record { acts = rest.acts; given = rest.given; stims = rest.stims }
-link_steps-tell app (Acted (Stim x) ∷ steps) are = absurd are.0
-link_steps-tell app (Acted (Started of ok) ∷ steps) are = absurd are.0
-link_steps-tell app (Acted (Gave of bytes) ∷ steps) are = absurd are.0
-link_steps-tell app (Acted (Gone of bytes) ∷ steps) are = absurd are.0
-link_steps-tell app (Acted (Took of what) ∷ steps) are = absurd are.0
-link_steps-tell app (Acted (Ended of) ∷ steps) are = absurd are.0
-link_steps-tell app (TookInto of what room ∷ steps) are = absurd are.0
-link_steps-tell app (From d bytes ∷ steps) are = absurd are.0
-link_steps-tell app (Joined d bytes ∷ steps) are = absurd are.0
-link_steps-tell app (Left d ∷ steps) are = absurd are.0
-link_steps-tell app (Moment t ∷ steps) are = absurd are.0
-link_steps-tell app (Idle ∷ steps) are = absurd are.0
-link_steps-tell app (End ∷ steps) are = absurd are.0
-link_steps-tell app (Opened ∷ steps) are = absurd are.0
-link_steps-tell app (NotOpened ∷ steps) are = absurd are.0
-link_steps-tell app (NextFailed ∷ steps) are = absurd are.0
+link_steps-tell app (Acted (Stim x) ∷ steps) are = absurd (true≢false (sym are.0))
+link_steps-tell app (Acted (Started of ok) ∷ steps) are = absurd (true≢false (sym are.0))
+link_steps-tell app (Acted (Gave of bytes) ∷ steps) are = absurd (true≢false (sym are.0))
+link_steps-tell app (Acted (Gone of bytes) ∷ steps) are = absurd (true≢false (sym are.0))
+link_steps-tell app (Acted (Took of what) ∷ steps) are = absurd (true≢false (sym are.0))
+link_steps-tell app (Acted (Ended of) ∷ steps) are = absurd (true≢false (sym are.0))
+link_steps-tell app (TookInto of what room ∷ steps) are = absurd (true≢false (sym are.0))
+link_steps-tell app (From d bytes ∷ steps) are = absurd (true≢false (sym are.0))
+link_steps-tell app (Joined d bytes ∷ steps) are = absurd (true≢false (sym are.0))
+link_steps-tell app (Left d ∷ steps) are = absurd (true≢false (sym are.0))
+link_steps-tell app (Moment t ∷ steps) are = absurd (true≢false (sym are.0))
+link_steps-tell app (Idle ∷ steps) are = absurd (true≢false (sym are.0))
+link_steps-tell app (End ∷ steps) are = absurd (true≢false (sym are.0))
+link_steps-tell app (Opened ∷ steps) are = absurd (true≢false (sym are.0))
+link_steps-tell app (NotOpened ∷ steps) are = absurd (true≢false (sym are.0))
+link_steps-tell app (NextFailed ∷ steps) are = absurd (true≢false (sym are.0))
 
 -- ---- Calls for an application
-
--- no switch moved, and no stimulus was begun or is over
-pub record OnlyTalk (s t : State) : Type 0 where
-  pub links : t.links ≡ s.links
-  pub begun : t.begun ≡ s.begun
-  pub due : t.due ≡ s.due
-  pub moment : t.moment ≡ s.moment
-  pub to_come : t.to_come ≡ s.to_come
 
 pub OnlyTalk-refl : (s : State) → OnlyTalk s s
 OnlyTalk-refl s = record { links = refl; begun = refl; due = refl; moment = refl; to_come = refl }
@@ -142,9 +110,6 @@ talk_steps app (act ∷ acts) s are =
 
 -- ---- Marks: only a frame that tells an event makes one
 
-abbrev pub NoEvents : List (List ℕ) → Type 0
-NoEvents frames = AllByRecursion (λ frame. event_number frame ≡ None) frames
-
 pub gave_first : (app to : ℕ) (bytes : List ℕ) (acts : List Act) → (to == app) ≡ true → inputs app (Gave to bytes ∷ acts) ≡ bytes ∷ inputs app acts
 unfolding inputs
 gave_first app to bytes acts is = rw is refl
@@ -161,11 +126,6 @@ event_marks n app bytes s is = rw is refl
 pub gone_marks : (app : ℕ) (bytes : List ℕ) (s : State) → (after_step (Acted (Gone app bytes)) s).marks ≡ s.marks
 unfolding after_step after_act
 gone_marks app bytes s = refl
-
--- an act that makes no mark, and the frames behind it
-pub record MarksNothing (app : ℕ) (act : Act) (acts : List Act) : Type 0 where
-  pub marks : (s : State) → (after_step (step_of act) s).marks ≡ s.marks
-  pub rest : NoEvents (inputs app acts)
 
 pub talk_marks : (app : ℕ) (act : Act) (acts : List Act) → is_of app act ≡ true → NoEvents (inputs app (act ∷ acts)) → MarksNothing app act acts
 unfolding after_step after_act inputs

@@ -9,9 +9,10 @@ use Rattle.lego_model.specs.Controller.{Run}
 use Rattle.lego_model.specs.ScriptedLaws.{fronts-parts, start_fronts-parts, drop-parts}
 use Rattle.outside.specs.Seen.{Seen, Continues}
 use Rattle.outside.specs.StateLaws.{Conforming-before}
-use Rattle.journal_laws.specs.Readings.{starts_in, replies_in}
-use Rattle.run_laws.specs.Engine.{Engine, Stands, own_acts, stimuli_in, text_of}
-use Rattle.run_laws.specs.Moves.{Settled, Moves, Moved, Shown}
+use Rattle.lego_model.specs.History.{starts_in, replies_in, own_acts, stimuli_in}
+use Rattle.run_laws.specs.Engine.{Engine, Stands}
+use Rattle.lego_model.specs.ReferenceRun.{text_of}
+use Rattle.run_laws.specs.Moves.{AtRest, Moves, Moved, Shown}
 
 pub moves-none : {Own : Type 0} (seen : Seen Own) (e : Engine) → Moves [] (λ r. r) [] seen seen e e
 moves-none seen e = record {
@@ -65,7 +66,7 @@ moves-as xs f g text a b e1 e2 same m = record {
   says = λ ss rs r starts_so replies_so s. subst (λ (q : Run). text_of q ≡ text_of r ++ text) (same ss rs r s) (m.says ss rs r starts_so replies_so s);
 }
 
-pub moved-none : {Own : Type 0} (seen : Seen Own) (e : Engine) → Settled seen e → Moved [] (λ r. r) [] seen seen e e
+pub moved-none : {Own : Type 0} (seen : Seen Own) (e : Engine) → AtRest seen e → Moved [] (λ r. r) [] seen seen e e
 moved-none seen e settled = record { moves = moves-none seen e; settled = settled }
 
 pub moved-then : {Own : Type 0} (xs ys : List WorldStim) (f g : Run → Run) (first second : List ℕ) (a b c : Seen Own) (e1 e2 e3 : Engine)

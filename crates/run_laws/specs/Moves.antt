@@ -1,20 +1,22 @@
 -- What a part of a run does is what the reference controller does, with what the part tells of the application. All of this is our own.
-use Rattle.std.specs.Prelude.{◌≡◌, ℕ, zero, suc, Bool, true, List, [], ◌∷◌, ◌++◌, length, drop, ◌<◌, fold}
+use Rattle.std.specs.Prelude.{◌≡◌, ℕ, Bool, true, List, [], ◌∷◌, ◌++◌, length, drop, ◌<◌}
 use Rattle.of_types.specs.declared.journal.WorldStim.{WorldStim}
 use Rattle.flow_table.specs.declared.view.TableView.{TableView}
 use Rattle.lego_model.specs.Journal.{Reply, Start}
 use Rattle.lego_model.specs.Places.{Place}
 use Rattle.lego_model.specs.Scripted.{AreFronts, AreStartFronts}
-use Rattle.lego_model.specs.Controller.{Run, dispatch, settle, happen}
-use Rattle.app_frames.specs.declared.frame.Event.{Event}
+use Rattle.lego_model.specs.Controller.{Run, settle, happen}
 use Rattle.outside.specs.Seen.{Seen, journal}
 use Rattle.outside.specs.Conforming.{Conforming}
 use Rattle.std.specs.List.{AllByRecursion}
-use Rattle.switch_laws.specs.Orderly.{IsOrderly}
-use Rattle.journal_laws.specs.Readings.{starts_in, replies_in, LastStands}
+use Rattle.lego_model.specs.OrderlySteps.{IsOrderly}
+use Rattle.journal_laws.specs.Readings.{LastStands}
+use Rattle.lego_model.specs.History.{starts_in, replies_in, own_acts, stimuli_in}
 use Rattle.lego_model.specs.AtOnce.{Passes, AtOnce}
 use Rattle.batch_laws.specs.Calm.{Calm}
-use Rattle.run_laws.specs.Engine.{Engine, Stands, index, own_acts, stimuli_in, text_of}
+use Rattle.run_laws.specs.Engine.{Engine, Stands}
+use Rattle.lego_model.specs.Application.{index}
+use Rattle.lego_model.specs.ReferenceRun.{text_of, rounds}
 use Rattle.run_laws.specs.Readings.{JudgesAlike}
 
 -- A part of a run with these stimuli and this text: what the journal tells is longer by these starts and replies, and wherever engine and
@@ -39,7 +41,7 @@ pub record Conversing {Own : Type 0} (seen : Seen Own) (e : Engine) : Type 0 whe
   pub rest_so : e.alive ≡ true → (at_once.last.running ≡ true) × Passes at_once.last.unread e.rest
 
 -- between parts all is calm, where the application is alive its last start stands, and all steps were in order
-pub record Settled {Own : Type 0} (seen : Seen Own) (e : Engine) : Type 0 where
+pub record AtRest {Own : Type 0} (seen : Seen Own) (e : Engine) : Type 0 where
   pub calm : Calm seen e.net
   pub life : e.alive ≡ true → LastStands (own_acts seen)
   pub speaks : Conversing seen e
@@ -47,33 +49,11 @@ pub record Settled {Own : Type 0} (seen : Seen Own) (e : Engine) : Type 0 where
 
 pub record Moved {Own : Type 0} (xs : List WorldStim) (f : Run → Run) (text : List ℕ) (old new : Seen Own) (e now_e : Engine) : Type 0 where
   pub moves : Moves xs f text old new e now_e
-  pub settled : Settled new now_e
+  pub settled : AtRest new now_e
 
 -- In a world that keeps its word a part does what the reference controller does, whatever its judge is, if the two judge alike.
 pub record Shown {Own : Type 0} (Tells : Type 0) (accepts : List TableView → Bool) (xs : List WorldStim) (f : (List Place → Bool) → Run → Run) (text : List ℕ) (old new : Seen Own) (e now_e : Engine) : Type 0 where
-  pub moved : (allows : List Place → Bool) → Tells → Conforming new → JudgesAlike Own allows accepts → Settled old e → Moved xs (f allows) text old new e now_e
-
--- ---- The parts of a run of the reference controller
-
--- the oldest event that waits is dispatched, where there is one
-abbrev pub next_dispatched : (List Place → Bool) → List Event → Run → Run
-next_dispatched allows [] r = r
-next_dispatched allows (event ∷ queue) r = dispatch allows event (record r { queue = queue })
-
-abbrev pub dispatch_next : (List Place → Bool) → Run → Run
-dispatch_next allows r = next_dispatched allows r.queue r
-
--- so often
-abbrev pub times : ℕ → (Run → Run) → Run → Run
-times zero f r = r
-times (suc n) f r = times n f (f r)
-
--- a stimulus, and then the events that wait
-abbrev pub round : (List Place → Bool) → Run → WorldStim → Run
-round allows r x = settle allows (happen x r)
-
-abbrev pub rounds : (List Place → Bool) → List WorldStim → Run → Run
-rounds allows xs r = fold (round allows) r xs
+  pub moved : (allows : List Place → Bool) → Tells → Conforming new → JudgesAlike Own allows accepts → AtRest old e → Moved xs (f allows) text old new e now_e
 
 -- ---- Batch after batch
 
@@ -95,14 +75,14 @@ pub record ToEnd {Own : Type 0} (allows : List Place → Bool) (text : List ℕ)
 
 -- the same in a world that keeps its word
 pub record ShownIdle {Own : Type 0} (Tells : Type 0) (old new : Seen Own) (e now_e : Engine) : Type 0 where
-  pub happens : Tells → Conforming new → Settled old e → OneHappens old new e now_e
+  pub happens : Tells → Conforming new → AtRest old e → OneHappens old new e now_e
 
 pub record ShownOver {Own : Type 0} (Tells : Type 0) (old new : Seen Own) (e now_e : Engine) : Type 0 where
-  pub moved : Tells → Conforming new → Settled old e → Moved [] (λ r. r) [] old new e now_e
+  pub moved : Tells → Conforming new → AtRest old e → Moved [] (λ r. r) [] old new e now_e
 
 pub record ShownRounds {Own : Type 0} (Tells : Type 0) (accepts : List TableView → Bool) (number : ℕ) (text : List ℕ) (old new : Seen Own) (e now_e : Engine) : Type 0 where
-  pub rounds_so : (allows : List Place → Bool) → Tells → Conforming new → JudgesAlike Own allows accepts → Settled old e → Rounds allows number text old new e now_e
+  pub rounds_so : (allows : List Place → Bool) → Tells → Conforming new → JudgesAlike Own allows accepts → AtRest old e → Rounds allows number text old new e now_e
 
 -- where the stimuli are fewer than this number of rounds
 pub record ShownToEnd {Own : Type 0} (Tells : Type 0) (accepts : List TableView → Bool) (most : ℕ) (text : List ℕ) (old new : Seen Own) (e now_e : Engine) : Type 0 where
-  pub to_end : (allows : List Place → Bool) → Tells → Conforming new → JudgesAlike Own allows accepts → Settled old e → length (stimuli_in new) < most → ToEnd allows text old new e now_e
+  pub to_end : (allows : List Place → Bool) → Tells → Conforming new → JudgesAlike Own allows accepts → AtRest old e → length (stimuli_in new) < most → ToEnd allows text old new e now_e

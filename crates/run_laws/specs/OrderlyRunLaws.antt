@@ -1,6 +1,6 @@
 -- Laws of steps in order in a run: calls for an application, turns, starts and the end of the report release no packet, and no call of a
 -- link failed where they succeed.
-use Rattle.std.proofs.Common.{◌≡◌, ℕ, suc, zero, ◌+◌, Bool, true, false, List, [], ◌∷◌, ◌++◌, length, map, Ok, refl, sym, ◌∙◌, subst, true≢false, inl, inr}
+use Rattle.std.proofs.Common.{◌≡◌, ℕ, suc, zero, ◌+◌, Bool, true, false, List, [], ◌∷◌, ◌++◌, length, map, refl, sym, subst, true≢false, inl, inr}
 use Rattle.std.specs.List.{AllByRecursion}
 use Rattle.std.proofs.lemmas.Bool.{eq-eqb, eqb-true}
 use Rattle.of_types.specs.declared.journal.Act.{Act}
@@ -14,12 +14,15 @@ use Rattle.outside.specs.State.{is_running, state}
 use Rattle.net_txn.specs.Net.{NetState}
 use Rattle.app_visor.specs.declared.state.TurnEnd.{TurnEnd}
 use Rattle.app_visor.specs.declared.state.TurnEnd.TheVariants as ends
-use Rattle.app_visor.specs.Talks.{Told, step_of, give_act}
+use Rattle.app_visor.specs.Talks.{step_of, give_act}
 use Rattle.app_visor.specs.Beats.{Beat, Talk, Asks, Chain}
-use Rattle.app_visor.specs.Attempts.{IsTry, OneTry, AreTries, end_acts}
-use Rattle.switch_laws.specs.Orderly.{IsOrderly, OrderlySince}
+use Rattle.app_visor.specs.Attempts.{IsTry, OneTry, AreTries}
+use Rattle.journal_laws.specs.Readings.{end_acts}
+use Rattle.switch_laws.specs.Orderly.{OrderlySince}
+use Rattle.lego_model.specs.OrderlySteps.{IsOrderly}
 use Rattle.switch_laws.specs.OrderlyLaws.{orderly-same, orderly-then, exchange-orderly, undo-orderly}
-use Rattle.run_laws.specs.Engine.{Engine, index}
+use Rattle.run_laws.specs.Engine.{Engine}
+use Rattle.lego_model.specs.Application.{index}
 use Rattle.run_laws.specs.Facts.{StartsAgain, IsClosed, TakesTurn, IsTurn}
 use Rattle.run_laws.specs.Readings.{AreRead}
 use Rattle.run_laws.specs.ChainLaws.{try_own}

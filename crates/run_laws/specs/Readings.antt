@@ -16,8 +16,9 @@ use Rattle.app_visor.specs.Beats.{Beat}
 use Rattle.app_visor.specs.Turns.{reply_by, Turns}
 use Rattle.app_visor.specs.Attempts.{OneTry, starts_of, Restarts}
 use Rattle.switch_laws.specs.Shown.{shown_places}
-use Rattle.journal_laws.specs.Readings.{starts_in, replies_in, LastStands}
-use Rattle.run_laws.specs.Engine.{index, budget, own_acts}
+use Rattle.journal_laws.specs.Readings.{LastStands}
+use Rattle.lego_model.specs.History.{starts_in, replies_in, own_acts}
+use Rattle.lego_model.specs.Application.{index, budget}
 
 -- a turn: one reply more, which tells enough of it, and the last attempt stands still
 pub record TurnRead {Own : Type 0} (rest : List ℕ) (old mid : Seen Own) (given : Bool) (trace : List (Beat Own)) : Type 0 where

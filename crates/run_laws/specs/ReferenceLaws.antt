@@ -1,26 +1,11 @@
 -- What the reference controller does at an event where it has one application: its parts one by one.
-use Rattle.std.proofs.Common.{◌≡◌, ℕ, ◌+◌, Bool, true, false, List, [], ◌∷◌, ◌++◌, drop, if◌then◌else◌, refl, ap, ◌∙◌}
+use Rattle.std.proofs.Common.{◌≡◌, ℕ, ◌+◌, Bool, true, false, List, [], ◌∷◌, ◌++◌, if◌then◌else◌, refl, ap, ◌∙◌}
 use Rattle.app_frames.specs.declared.frame.Event.{Event}
 use Rattle.lego_model.specs.Journal.{Reply}
 use Rattle.lego_model.specs.Places.{Place}
 use Rattle.lego_model.specs.Turns.{Played, turn_of}
-use Rattle.lego_model.specs.Controller.{App, Dispatched, Ended, Run, Turned, table_of, next_reply, event_frame, given_in, after_outcome, places_by, restart_lines, turn, says_stop, marked, given_to, dispatch}
-
--- the event has its number and its line
-abbrev pub numbered : Event → Run → Run
-numbered event r = record r { events = r.events + 1; lines = r.lines ++ Dispatched (r.events + 1) event ∷ [] }
-
--- the run behind a turn of the application
-abbrev pub after_turn : Turned → Run → Run
-after_turn t r = record r {
-  places = t.places;
-  apps = t.app.0 ∷ [];
-  lines = r.lines ++ Ended 0 t.outcome ∷ restart_lines 0 t.outcome t.app;
-  quiets = marked t.given r.events r.places r.quiets;
-}
-
-abbrev pub without_turn : App → Run → Run
-without_turn a r = record r { apps = a ∷ [] }
+use Rattle.lego_model.specs.Controller.{App, Ended, Run, Turned, table_of, next_reply, restart_lines, turn, says_stop, marked, given_to, dispatch}
+use Rattle.run_laws.specs.ReferenceTurn.{numbered, after_turn, without_turn, turned_by}
 
 both_same : {X : Type 0} (b : Bool) (x : X) → (if b then x else x) ≡ x
 both_same true x = refl
@@ -30,7 +15,7 @@ abbrev next_run : Turned → Run → Run
 next_run t r = record r {
   places = t.places;
   lines = r.lines ++ Ended 0 t.outcome ∷ restart_lines 0 t.outcome t.app;
-  quiets = marked t.given r.events r.places r.quiets;
+  marks = marked t.given r.events r.places r.marks;
 }
 
 abbrev turned_one : Turned → Run → List App × Run
@@ -68,18 +53,6 @@ dispatch_dead allows event a r apps dead =
     ap with_apps (ap (λ (all : List App). given_to allows event 0 all (numbered event r)) apps ∙ given_dead allows event a (numbered event r) dead)
 
 -- ---- A turn
-
--- the application with its reply used up and what it was given in its turn
-abbrev pub after_given : App → Reply → List (List ℕ) → App
-after_given a reply given = record a { replies = drop 1 a.replies; inputs = a.inputs ++ given }
-
-abbrev pub turned_by : (number moment : ℕ) → Event → List Place → App → Reply → Played (List Place) → Turned
-turned_by number moment event ps a reply played = record {
-  places = places_by played.outcome ps played.state;
-  app = after_outcome played.outcome (after_given a reply (given_in reply.given (event_frame number moment event) played.answers));
-  outcome = played.outcome;
-  given = reply.given;
-}
 
 pub turn_so : (allows : List Place → Bool) (number moment : ℕ) (event : Event) (ps : List Place) (a : App) (reply : Reply) (played : Played (List Place)) → next_reply a.replies ≡ reply
     → turn_of (table_of allows) a.budget a.rest reply ps ≡ played → turn allows number moment event ps a ≡ turned_by number moment event ps a reply played

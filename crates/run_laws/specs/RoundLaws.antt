@@ -1,5 +1,5 @@
 -- Laws of rounds: one round more, the last batch, and the whole.
-use Rattle.std.proofs.Common.{◌≡◌, ℕ, ◌+◌, Bool, List, [], ◌∷◌, ◌++◌, length, refl, sym, ap, ◌∙◌, subst, arith}
+use Rattle.std.proofs.Common.{ℕ, ◌+◌, Bool, List, [], ◌∷◌, ◌++◌, refl, sym, ap, ◌∙◌, subst}
 use Rattle.std.proofs.lemmas.List.{append-nil, length-append}
 use Rattle.std.proofs.lemmas.List.Sums.{fold-append}
 use Rattle.of_types.specs.declared.journal.WorldStim.{WorldStim}
@@ -7,8 +7,9 @@ use Rattle.flow_table.specs.declared.view.TableView.{TableView}
 use Rattle.lego_model.specs.Controller.{settle, happen}
 use Rattle.outside.specs.Seen.{Seen, Continues}
 use Rattle.outside.specs.StateLaws.{Conforming-before}
-use Rattle.run_laws.specs.Engine.{Engine, stimuli_in}
-use Rattle.run_laws.specs.Moves.{Moved, Shown, round, rounds, ShownIdle, ShownOver, ShownRounds, ShownToEnd}
+use Rattle.run_laws.specs.Engine.{Engine}
+use Rattle.run_laws.specs.Moves.{Moved, Shown, ShownIdle, ShownOver, ShownRounds, ShownToEnd}
+use Rattle.lego_model.specs.ReferenceRun.{round, rounds}
 use Rattle.run_laws.specs.MoveLaws.{moved-none, moved-then, moved-as}
 
 -- no round
@@ -58,15 +59,4 @@ rounds-end Tells accepts number most first second a b c d e1 e2 e3 e4 later last
             (subst (λ (xs : List WorldStim). Moved xs (λ r. settle allows (rounds allows one.stimuli r)) ((first ++ []) ++ second) a d e1 e4) (append-nil one.stimuli ∙ refl)
             (subst (λ (xs : List WorldStim). Moved xs (λ r. settle allows (rounds allows one.stimuli r)) ((first ++ []) ++ second) a d e1 e4) (append-nil (one.stimuli ++ [])) all));
       };
-}
-
--- so many rounds that there are not so many stimuli
-pub rounds-spent : {Own : Type 0} (Tells : Type 0) (accepts : List TableView → Bool) (most : ℕ) (text : List ℕ) (a b : Seen Own) (e1 e2 : Engine)
-    → ShownRounds Tells accepts most text a b e1 e2 → ShownToEnd Tells accepts most text a b e1 e2
-rounds-spent Tells accepts most text a b e1 e2 rs = record {
-  to_end = λ allows told keeps judges settled few.
-      let one = rs.rounds_so allows told keeps judges settled in
-      let long : length (stimuli_in b) ≡ length (stimuli_in a) + most =
-      ap (λ (xs : List WorldStim). length xs) one.moved.moves.read_stimuli ∙ length-append (stimuli_in a) one.stimuli ∙ ap (λ (n : ℕ). length (stimuli_in a) + n) one.number_so in
-      absurd (omega (arith, long, few));
 }

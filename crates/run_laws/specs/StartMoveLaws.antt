@@ -1,51 +1,30 @@
 -- The law of starts: the attempts of the engine are those of the reference controller, where its application has starts before it of which
 -- theirs are the fronts.
-use Rattle.std.proofs.Common.{◌≡◌, ℕ, zero, suc, ◌&&◌, Bool, true, false, List, [], ◌∷◌, ◌++◌, length, drop, map, Option, is_some, refl, sym, ap, ap₂, ◌∙◌, subst, append_assoc, inl, inr}
+use Rattle.std.proofs.Common.{◌≡◌, ℕ, zero, suc, ◌&&◌, Bool, true, false, List, [], ◌∷◌, ◌++◌, length, drop, Option, is_some, refl, sym, ap, ap₂, ◌∙◌, subst, append_assoc, inl, inr}
 use Rattle.std.specs.Prelude.{if◌then◌else◌, unwrap_or}
 use Rattle.std.specs.List.{AllByRecursion}
 use Rattle.std.proofs.lemmas.List.{append-nil}
 use Rattle.flow_table.specs.declared.view.TableView.{TableView}
-use Rattle.flow_table.specs.Switch.{Declared}
 use Rattle.app_frames.specs.declared.cause.Tried.{Tried}
 use Rattle.lego_model.specs.Journal.{Reply, Start, start_of}
 use Rattle.lego_model.specs.Turns.{outcome_of}
-use Rattle.lego_model.specs.Controller.{App, Started, restore_frame, is_ready, attempts, started, gone_line}
+use Rattle.lego_model.specs.Controller.{App, restore_frame, is_ready, attempts, started}
 use Rattle.lego_model.specs.Scripted.{IsStartFront, AreStartFronts, is_start_heard}
 use Rattle.lego_model.specs.ScriptedLaws.{start-front}
-use Rattle.outside.specs.Seen.{Seen, Continues}
+use Rattle.outside.specs.Seen.{Seen}
 use Rattle.outside.specs.State.{state}
 use Rattle.app_visor.specs.Attempts.{OneTry, AreTries, restored, restarted, starts_of, given_by, tries_of}
-use Rattle.switch_laws.specs.Shown.{shown_places}
-use Rattle.turn_laws.specs.ChainShown.{shown-same}
-use Rattle.batch_laws.specs.Calm.{Calm}
-use Rattle.journal_laws.specs.Readings.{starts_in, replies_in, LastStands}
-use Rattle.run_laws.specs.Engine.{Engine, index, budget, own_acts, given_in, stimuli_in, app_at}
+use Rattle.turn_laws.specs.ChainLaws.{shown-same}
+use Rattle.run_laws.specs.Engine.{Engine, app_at}
+use Rattle.lego_model.specs.Application.{index, budget}
+use Rattle.lego_model.specs.History.{given_in}
 use Rattle.run_laws.specs.Facts.{StartsAgain}
 use Rattle.run_laws.specs.Readings.{AreRead}
 use Rattle.run_laws.specs.CalmLaws.{calm_talk}
-use Rattle.run_laws.specs.ChainLaws.{TriesKeep, tries_keep, tries_continue}
+use Rattle.run_laws.specs.ChainLaws.{tries_keep, tries_continue}
 use Rattle.run_laws.specs.TellLaws.{tries_tell}
-use Rattle.run_laws.specs.LineLaws.{lines_text, starts_lines}
-
--- It was started, in attempts that the reference controller makes too: its application comes to the same by these starts, and prints the
--- same. No switch moved, and a calm run stays calm.
-pub record StartsAlike {Own : Type 0} (Tells : Type 0) (text : List ℕ) (old new : Seen Own) (e now_e : Engine) : Type 0 where
-  pub starts : List Start
-  pub tries : List Tried
-  pub continues : Continues Tells old new
-  pub keeps : TriesKeep (state old) (state new)
-  pub net : now_e.net ≡ e.net
-  pub queue : now_e.queue ≡ e.queue
-  pub events : now_e.events ≡ e.events
-  pub calm : Calm old e.net → Calm new now_e.net
-  pub places : (declared : List Declared) → shown_places declared now_e.net.views (state new) ≡ shown_places declared e.net.views (state old)
-  pub app : (said_starts : List Start) (said_replies : List Reply) → AreStartFronts starts said_starts
-      → started attempts (app_at e (given_in old) said_starts said_replies) ≡ (app_at now_e (given_in new) (drop (length starts) said_starts) said_replies, tries)
-  pub text_so : text ≡ lines_text (map (Started 0) tries ++ gone_line 0 now_e.alive)
-  pub read_starts : starts_in (own_acts new) ≡ starts_in (own_acts old) ++ starts
-  pub read_replies : replies_in (own_acts new) ≡ replies_in (own_acts old)
-  pub read_stimuli : stimuli_in new ≡ stimuli_in old
-  pub life : now_e.alive ≡ true → LastStands (own_acts new)
+use Rattle.run_laws.specs.LineLaws.{starts_lines}
+use Rattle.run_laws.specs.EventMoves.{StartsAlike}
 
 -- ---- The same starts, or fronts of those that are said
 

@@ -4,21 +4,22 @@ use Rattle.std.proofs.lemmas.List.{append-nil}
 use Rattle.std.proofs.lemmas.List.Concat.{flat_map-append}
 use Rattle.flow_table.specs.declared.view.TableView.{TableView}
 use Rattle.app_frames.specs.declared.cause.Tried.{Tried}
-use Rattle.lego_model.specs.Agreement.{AgreeQuiets}
+use Rattle.lego_model.specs.Agreement.{AgreeMarks}
 use Rattle.lego_model.specs.Controller.{App, Line, Run, Started, gone_line, start_all, started, attempts}
 use Rattle.lego_model.specs.RunReport.{line_text}
 use Rattle.outside.specs.Seen.{Given, Seen}
 use Rattle.outside.specs.State.{Mark, state}
-use Rattle.journal_laws.specs.Readings.{replies_in}
+use Rattle.lego_model.specs.History.{replies_in, own_acts, stimuli_in, given_in}
 use Rattle.switch_laws.specs.Shown.{shown_places}
 use Rattle.switch_laws.specs.OrderlyLaws.{orderly-whole}
-use Rattle.run_laws.specs.Engine.{Engine, index, Stands, names, own_acts, stimuli_in, given_in, quiet_by, app_at, text_of}
+use Rattle.run_laws.specs.Engine.{Engine, Stands, app_at}
+use Rattle.lego_model.specs.Application.{index, names}
+use Rattle.lego_model.specs.ReferenceRun.{text_of, all_started}
 use Rattle.run_laws.specs.Facts.{StartsAgain}
 use Rattle.run_laws.specs.StartMoveLaws.{starts_alike}
 use Rattle.run_laws.specs.EventLaws.{are-read}
 use Rattle.run_laws.specs.DialogueLaws.{starts_converse}
 use Rattle.run_laws.specs.OrderlyRunLaws.{starts-orderly}
-use Rattle.run_laws.specs.WholeRun.{all_started}
 use Rattle.run_laws.specs.Endings.{ShownStart}
 
 -- the reference controller's one application is started
@@ -51,7 +52,7 @@ start-shown {Own} Tells text old new e now_e starts = record {
                 queue = t.queue ∙ sym s.queue;
                 events = t.events ∙ sym s.events;
                 apps = refl;
-                quiets = subst (λ (ms : List Mark). AgreeQuiets (map quiet_by ms) r.quiets) (sym s.keeps.marks) t.quiets;
+                marks = subst (λ (ms : List Mark). AgreeMarks ms r.marks) (sym s.keeps.marks) t.marks;
                 life = s.life;
               });
           says = λ ss rs r starts_so replies_so t.

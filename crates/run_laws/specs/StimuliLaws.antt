@@ -14,7 +14,7 @@ use Rattle.outside.specs.State.{State, at_first, after_stim, after_act, after_st
 use Rattle.outside.specs.SeenLaws.{journal-append}
 use Rattle.outside.specs.StateLaws.{Conforming-before}
 use Rattle.outside.specs.Conforming.{MayAct, MayStep, MaySteps, Conforming}
-use Rattle.run_laws.specs.Engine.{stimuli_in}
+use Rattle.lego_model.specs.History.{stimuli_in}
 
 -- the stimuli of steps
 abbrev told_in : List WorldStep → List WorldStim

@@ -14,26 +14,18 @@ use Rattle.outside.specs.State.{state, is_running}
 use Rattle.net_txn.specs.Net.{NetState}
 use Rattle.app_visor.specs.Talks.{step_of}
 use Rattle.app_visor.specs.Beats.{Beat, Talk, Asks, Chain, acts_in}
-use Rattle.app_visor.specs.Attempts.{end_acts, restored, IsTry, OneTry, AreTries, given_by}
-use Rattle.run_laws.specs.Engine.{index, given_in, stimuli_in}
-use Rattle.run_laws.specs.ChainLaws.{exchange_links, links_tell, try_own, try_given}
+use Rattle.app_visor.specs.Attempts.{restored, IsTry, OneTry, AreTries, given_by}
+use Rattle.journal_laws.specs.Readings.{end_acts}
+use Rattle.lego_model.specs.Application.{index}
+use Rattle.lego_model.specs.History.{given_in, stimuli_in}
+use Rattle.run_laws.specs.ChainLaws.{links_tell, try_own, try_given}
+use Rattle.run_laws.specs.LinkSteps.{TellsGiven}
+use Rattle.app_visor.specs.TellingLaws.{journal_steps}
 
 abbrev AreOwn : List Act → Type 0
 AreOwn acts = AllByRecursion (λ act. is_of index act ≡ true) acts
 
 -- ---- Calls for the application
-
-journal_talk : (acts : List Act) → journal (map step_of acts) ≡ acts
-unfolding journal
-journal_talk [] = refl
-journal_talk (Stim x ∷ acts) = ap (λ (more : List Act). Stim x ∷ more) (journal_talk acts)
-journal_talk (Started app stands ∷ acts) = ap (λ (more : List Act). Started app stands ∷ more) (journal_talk acts)
-journal_talk (Gave app bytes ∷ acts) = ap (λ (more : List Act). Gave app bytes ∷ more) (journal_talk acts)
-journal_talk (Gone app bytes ∷ acts) = ap (λ (more : List Act). Gone app bytes ∷ more) (journal_talk acts)
-journal_talk (Took app what ∷ acts) = ap (λ (more : List Act). Took app what ∷ more) (journal_talk acts)
-journal_talk (Ended app ∷ acts) = ap (λ (more : List Act). Ended app ∷ more) (journal_talk acts)
-journal_talk (Sent d bytes ∷ acts) = ap (λ (more : List Act). Sent d bytes ∷ more) (journal_talk acts)
-journal_talk (Got d bytes ∷ acts) = ap (λ (more : List Act). Got d bytes ∷ more) (journal_talk acts)
 
 no_stimuli : (acts : List Act) → AreOwn acts → stimuli acts ≡ []
 unfolding stimuli
@@ -47,11 +39,6 @@ no_stimuli (Ended app ∷ acts) own = no_stimuli acts own.1
 no_stimuli (Sent d bytes ∷ acts) own = no_stimuli acts own.1
 no_stimuli (Got d bytes ∷ acts) own = no_stimuli acts own.1
 
--- what the application was given more, and no stimulus
-pub record TellsGiven {Own : Type 0} (old new : Seen Own) (frames : List (List ℕ)) : Type 0 where
-  pub given : given_in new ≡ given_in old ++ frames
-  pub stims : stimuli_in new ≡ stimuli_in old
-
 tells_none : {Own : Type 0} (seen : Seen Own) → TellsGiven seen seen []
 tells_none seen = record { given = sym (append-nil (given_in seen)); stims = refl }
 
@@ -64,7 +51,7 @@ tells_then a b c xs ys first second = record {
 tells_talk : {Own : Type 0} (old new : Seen Own) (acts : List Act) → new.history ≡ old.history ++ map step_of acts → AreOwn acts → TellsGiven old new (inputs index acts)
 tells_talk old new acts history own =
     let longer : journal new.history ≡ journal old.history ++ acts =
-    ap journal history ∙ journal-append old.history (map step_of acts) ∙ ap (λ (more : List Act). journal old.history ++ more) (journal_talk acts) in
+    ap journal history ∙ journal-append old.history (map step_of acts) ∙ ap (λ (more : List Act). journal old.history ++ more) (journal_steps acts) in
     record {
       given = ap (inputs index) longer ∙ inputs-append index (journal old.history) acts;
       stims = ap stimuli longer ∙ stimuli-append (journal old.history) acts ∙ ap (λ (xs : List WorldStim). stimuli_in old ++ xs) (no_stimuli acts own) ∙ append-nil (stimuli_in old);
@@ -84,7 +71,7 @@ chain_tells Tells (Talk act ∷ trace) old new net now_net told chain =
     subst (TellsGiven old new) (sym (inputs-append index (act ∷ []) (acts_in trace)))
     (tells_then old next new (inputs index (act ∷ [])) (inputs index (acts_in trace)) (tells_talk old next (act ∷ []) (chain.1.1.0.history told) (chain.0, tt)) (chain_tells Tells trace next new net now_net told chain.1.1.1))
 chain_tells Tells (Asks x ∷ trace) old new net now_net told chain =
-    let same = links_tell x.before x.after (exchange_links Tells x chain.1.0 told) in
+    let same = links_tell x.before x.after (chain.1.0.changes.links told) in
     let one : TellsGiven old x.after [] = subst (λ (s : Seen _). TellsGiven s x.after []) chain.0.0 (record { given = same.given ∙ sym (append-nil (given_in x.before)); stims = same.stims }) in
     tells_then old x.after new [] (inputs index (acts_in trace)) one (chain_tells Tells trace x.after new x.now_net now_net told chain.1.1)
 

@@ -1,6 +1,6 @@
 -- The law of a turn: the engine's turn is the turn of the reference controller, whose switches and application come to the same, whether
 -- the turn was done, or failed and was undone, and the application started again.
-use Rattle.std.proofs.Common.{◌≡◌, ℕ, ◌+◌, ◌^◌, ◌<◌, Bool, true, false, List, [], ◌∷◌, ◌++◌, length, drop, map, take, Some, Ok, if◌then◌else◌, refl, sym, ap, ap₂, ◌∙◌, subst}
+use Rattle.std.proofs.Common.{◌≡◌, ℕ, ◌+◌, ◌^◌, ◌<◌, Bool, true, false, List, [], ◌∷◌, ◌++◌, length, map, take, Some, Ok, if◌then◌else◌, refl, sym, ap, ap₂, ◌∙◌, subst}
 use Rattle.std.proofs.lemmas.Bool.{eq-eqb}
 use Rattle.std.proofs.lemmas.List.{append-nil}
 use Rattle.of_types.specs.declared.journal.Act.{Act}
@@ -13,9 +13,9 @@ use Rattle.lego_model.specs.declared.turn.TurnWord.{TurnWord}
 use Rattle.lego_model.specs.Journal.{Reply, Start, inputs, reply_of}
 use Rattle.lego_model.specs.Places.{Place, undone_places}
 use Rattle.lego_model.specs.Turns.{Outcome, Completed, Failed}
-use Rattle.lego_model.specs.Scripted.{IsFront, AreStartFronts, is_heard}
+use Rattle.lego_model.specs.Scripted.{IsFront, is_heard}
 use Rattle.lego_model.specs.ScriptedLaws.{turn-front}
-use Rattle.lego_model.specs.Controller.{table_of, App, Ended, Turned, attempts, started, event_frame, answer_frame, given_in as given_by_turn, restart_lines, turn}
+use Rattle.lego_model.specs.Controller.{table_of, App, Turned, attempts, started, event_frame, answer_frame, given_in as given_by_turn, turn}
 use Rattle.lego_model.specs.RunReport.{turn_line, outcome_word}
 use Rattle.outside.specs.Seen.{Given, Seen}
 use Rattle.outside.specs.State.{State, Mark, state, marks_at_event}
@@ -34,21 +34,26 @@ use Rattle.switch_laws.specs.Shown.{shown_places}
 use Rattle.switch_laws.specs.Since.{Goes}
 use Rattle.switch_laws.specs.SinceLaws.{begun}
 use Rattle.switch_laws.specs.Sound.{Sound}
-use Rattle.switch_laws.specs.UndoShown.{undo-shown}
-use Rattle.turn_laws.specs.ChainShown.{turn-shown}
+use Rattle.switch_laws.specs.ShownUndoLaws.{undo-shown}
+use Rattle.turn_laws.specs.ChainLaws.{turn-shown}
 use Rattle.batch_laws.specs.Calm.{Calm}
-use Rattle.journal_laws.specs.Readings.{starts_in, replies_in, LastStands}
-use Rattle.run_laws.specs.Engine.{Engine, index, budget, own_acts, given_in, stimuli_in, app_at}
-use Rattle.run_laws.specs.Facts.{name, turn_word, IsClosed, TakesTurn}
+use Rattle.journal_laws.specs.Readings.{LastStands}
+use Rattle.lego_model.specs.History.{starts_in, replies_in, own_acts, given_in}
+use Rattle.run_laws.specs.Engine.{Engine, app_at}
+use Rattle.lego_model.specs.Application.{index, budget, name}
+use Rattle.run_laws.specs.Facts.{turn_word, IsClosed, TakesTurn}
 use Rattle.run_laws.specs.Readings.{AreRead, JudgesAlike}
 use Rattle.run_laws.specs.FrameLaws.{event_numbered}
-use Rattle.run_laws.specs.ReferenceLaws.{turned_by, turn_so}
-use Rattle.run_laws.specs.LinkStepLaws.{NoEvents, gave_first}
-use Rattle.run_laws.specs.CalmLaws.{Rests, Rests-trans, calm_log, calm_since, calm_undone}
-use Rattle.run_laws.specs.ChainLaws.{chain_rests, chain_marks, chain_sound, given_marks, answers_no_events, undo_links, links_state, links_rest, links_tell}
-use Rattle.run_laws.specs.TellLaws.{TellsGiven, chain_tells}
-use Rattle.run_laws.specs.LineLaws.{lines_text, word_so}
-use Rattle.run_laws.specs.StartMoveLaws.{StartsAlike, starts_alike}
+use Rattle.run_laws.specs.ReferenceLaws.{turn_so}
+use Rattle.run_laws.specs.ReferenceTurn.{turned_by}
+use Rattle.run_laws.specs.LinkStepLaws.{gave_first}
+use Rattle.run_laws.specs.LinkSteps.{NoEvents, Rests, TellsGiven}
+use Rattle.run_laws.specs.CalmLaws.{Rests-trans, calm_log, calm_since, calm_undone}
+use Rattle.run_laws.specs.ChainLaws.{chain_rests, chain_marks, chain_sound, given_marks, answers_no_events, links_state, links_rest, links_tell}
+use Rattle.run_laws.specs.TellLaws.{chain_tells}
+use Rattle.run_laws.specs.LineLaws.{word_so}
+use Rattle.run_laws.specs.StartMoveLaws.{starts_alike}
+use Rattle.run_laws.specs.EventMoves.{StartsAlike, TurnAlike, TurnMoves}
 
 -- ---- How all stands when the application is done or failed
 
@@ -101,40 +106,6 @@ at_end Tells accepts allows event old mid e mid_net end unread told keeps judges
     }
 
 -- ---- What a turn tells, and what it leaves
-
--- what the journal has of the application by it: a reply, and the starts behind a failed turn
-pub record TurnTells {Own : Type 0} (old new : Seen Own) (now_e : Engine) (starts : List Start) (reply : Reply) : Type 0 where
-  pub given : new.given ≡ old.given
-  pub read_starts : starts_in (own_acts new) ≡ starts_in (own_acts old) ++ starts
-  pub read_replies : replies_in (own_acts new) ≡ replies_in (own_acts old) ++ reply ∷ []
-  pub read_stimuli : stimuli_in new ≡ stimuli_in old
-  pub life : now_e.alive ≡ true → LastStands (own_acts new)
-
--- the reference controller's turn leaves the same, where its application has a reply and starts before it of which these are the fronts
-pub record TurnAlike {Own : Type 0} (allows : List Place → Bool) (event : Event) (text : List ℕ) (old new : Seen Own) (e now_e : Engine) (starts : List Start) (reply : Reply) : Type 0 where
-  pub outcome : Outcome
-  pub tries : List Tried
-  pub given : Bool
-  pub calm : Calm new now_e.net
-  pub moment : (state new).moment ≡ (state old).moment
-  pub queue : now_e.queue ≡ e.queue
-  pub events : now_e.events ≡ e.events
-  pub marks : (state new).marks ≡ (if given then marks_at_event (Some e.events) (state old) else (state old).marks)
-  pub turned : (said_starts : List Start) (said : Reply) (later_replies : List Reply) → AreStartFronts starts said_starts → IsFront reply said
-      → turn allows e.events e.net.moment event (shown_places old.given.declared e.net.views (state old)) (app_at e (given_in old) said_starts (said ∷ later_replies))
-      ≡ record {
-        places = shown_places old.given.declared now_e.net.views (state new);
-        app = (app_at now_e (given_in new) (drop (length starts) said_starts) later_replies, tries);
-        outcome = outcome;
-        given = given;
-      }
-  pub text_so : (later_starts : List Start) (later_replies : List Reply) → text ≡ lines_text (Ended 0 outcome ∷ restart_lines 0 outcome (app_at now_e (given_in new) later_starts later_replies, tries))
-
-pub record TurnMoves {Own : Type 0} (allows : List Place → Bool) (event : Event) (text : List ℕ) (old new : Seen Own) (e now_e : Engine) : Type 0 where
-  pub starts : List Start
-  pub reply : Reply
-  pub tells : TurnTells old new now_e starts reply
-  pub alike : Calm old e.net → TurnAlike allows event text old new e now_e starts reply
 
 given_so : {Own : Type 0} (given : Bool) (trace : List (Beat Own)) → (reply_by given trace).given ≡ given
 unfolding reply_of
@@ -215,7 +186,7 @@ failed_alike Tells allows event cause unread text later_text old mid undone new 
     let reply = reply_by given trace in
     let outcome = Failed why in
     let start = length e.net.log in
-    let only_steps = undo_links Tells start mid undone mid_net undone_net undoes told in
+    let only_steps = undoes.links told in
     let only = links_state mid undone undoes.continues.given only_steps in
     let tells = links_tell mid undone only_steps in
     let rests = Rests-trans (state old) (state mid) (state undone) at.rests (links_rest mid undone only) in
@@ -280,7 +251,7 @@ closed_moves Tells accepts allows event text old mid new e now_e mid_net (ends.F
     let keeps_mid = Conforming-before told closed.undoes.continues keeps_undone in
     let told_so = turn_tells Tells accepts event old mid e mid_net (ends.Failed cause) unread told t in
     let given_stays : mid.given ≡ old.given = (Chain-continues Tells index (Talk (give_act t.given index (event_frame e.events e.net.moment event)) ∷ t.trace) old mid e.net mid_net t.chain).given in
-    let tells = links_tell mid undone (undo_links Tells (length e.net.log) mid undone mid_net undone_net closed.undoes told) in
+    let tells = links_tell mid undone (closed.undoes.links told) in
     record {
       starts = again.starts;
       reply = reply_by t.given t.trace;

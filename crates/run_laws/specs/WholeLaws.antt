@@ -7,29 +7,16 @@ use Rattle.lego_model.specs.Journal.{Reply, Start, is_of, stimuli}
 use Rattle.lego_model.specs.Places.{Place}
 use Rattle.lego_model.specs.Scripted.{AreFronts, AreStartFronts}
 use Rattle.lego_model.specs.ScriptedLaws.{fronts-refl, start_fronts-refl}
-use Rattle.lego_model.specs.Controller.{App, Run, settle, reference}
+use Rattle.lego_model.specs.Controller.{App, Run, reference}
 use Rattle.outside.specs.Seen.{Given, Seen}
-use Rattle.journal_laws.specs.Readings.{starts_in, replies_in}
-use Rattle.run_laws.specs.Engine.{Engine, Stands, index, own_acts, stimuli_in, text_of}
-use Rattle.run_laws.specs.Moves.{Moves, rounds}
-use Rattle.run_laws.specs.WholeRun.{fresh, before_start, all_started, reference_said, AreSaid}
-use Rattle.run_laws.specs.FirstLaws.{IsOpened, engine_at_first, no-acts, stands-first}
-
--- the whole run of the reference controller
-abbrev pub whole : (List Place → Bool) → List WorldStim → Run → Run
-whole allows xs r = settle allows (rounds allows xs (all_started r))
-
--- engine and reference controller stand alike at the end, with more starts and replies before its application, and its report so far is
--- what was noted
-pub record RanAs {Own : Type 0} (text : List ℕ) (last : Seen Own) (e : Engine) (r : Run) : Type 0 where
-  pub starts : List Start
-  pub replies : List Reply
-  pub stands : Stands last e starts replies r
-  pub text_so : text_of r ≡ text
-
--- so it is over what is said of the application
-pub record Ran {Own : Type 0} (allows : List Place → Bool) (text : List ℕ) (last : Seen Own) (e : Engine) : Type 0 where
-  pub as_said : (starts : List Start) (replies : List Reply) → AreSaid last starts replies → RanAs text last e (reference_said allows last starts replies)
+use Rattle.lego_model.specs.History.{starts_in, replies_in, own_acts, stimuli_in}
+use Rattle.run_laws.specs.Engine.{Engine, Stands}
+use Rattle.lego_model.specs.Application.{index}
+use Rattle.lego_model.specs.ReferenceRun.{text_of, fresh, before_start, reference_said, AreSaid}
+use Rattle.run_laws.specs.Moves.{Moves}
+use Rattle.run_laws.specs.FirstLaws.{no-acts, stands-first}
+use Rattle.run_laws.specs.First.{IsOpened, engine_at_first}
+use Rattle.run_laws.specs.Whole.{whole, RanAs, Ran}
 
 -- what is told is said
 pub told-said : {Own : Type 0} (seen : Seen Own) → AreSaid seen (starts_in (own_acts seen)) (replies_in (own_acts seen))

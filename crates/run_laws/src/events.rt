@@ -8,12 +8,13 @@ ghost use Rattle.lego_model.specs.Controller.{dispatch};
 ghost use Rattle.outside.specs.Seen.{Seen, Continues};
 ghost use Rattle.outside.specs.Conforming.{Conforming};
 ghost use Rattle.journal_laws.specs.Readings.{LastStands};
-ghost use Rattle.run_laws.specs.Engine.{Engine, own_acts};
+ghost use Rattle.run_laws.specs.Engine.{Engine};
+ghost use Rattle.lego_model.specs.History.{own_acts};
 ghost use Rattle.run_laws.specs.Facts.{StartsAgain, TakesTurn, Dispatches};
-ghost use Rattle.run_laws.specs.Moves.{Moves, dispatch_next};
+ghost use Rattle.run_laws.specs.Moves.{Moves};
+ghost use Rattle.lego_model.specs.ReferenceRun.{dispatch_next};
 ghost use Rattle.run_laws.specs.Readings.{AreRead, JudgesAlike};
-ghost use Rattle.run_laws.specs.StartMoveLaws.{StartsAlike};
-ghost use Rattle.run_laws.specs.TurnMoveLaws.{TurnMoves};
+ghost use Rattle.run_laws.specs.EventMoves.{StartsAlike, TurnMoves};
 
 use outside::World;
 

@@ -12,17 +12,20 @@ ghost use Rattle.outside.specs.Calls.{Ends};
 ghost use Rattle.outside.specs.Conforming.{Conforming};
 ghost use Rattle.net_txn.specs.Net.{NetState};
 ghost use Rattle.batch_laws.specs.InBatch.{BatchDone, BatchOver};
-ghost use Rattle.run_laws.specs.Engine.{Engine, index, stimuli_in};
+ghost use Rattle.run_laws.specs.Engine.{Engine, engine_then};
+ghost use Rattle.lego_model.specs.Application.{index};
+ghost use Rattle.lego_model.specs.History.{stimuli_in};
 ghost use Rattle.run_laws.specs.Facts.{Dispatches};
 ghost use Rattle.run_laws.specs.Readings.{JudgesAlike};
-ghost use Rattle.run_laws.specs.Moves.{Settled, Moved, Shown, OneHappens, dispatch_next};
-ghost use Rattle.run_laws.specs.BatchMoveLaws.{engine_then};
-ghost use Rattle.run_laws.specs.FirstLaws.{IsOpened, engine_at_first};
-ghost use Rattle.run_laws.specs.Promise.{most_rounds, EndsAlike, LeavesAlike};
+ghost use Rattle.run_laws.specs.Moves.{AtRest, Moved, Shown, OneHappens};
+ghost use Rattle.lego_model.specs.ReferenceRun.{dispatch_next, all_started};
+ghost use Rattle.run_laws.specs.First.{IsOpened, engine_at_first};
+ghost use Rattle.run_laws.specs.Promise.{most_rounds};
+ghost use Rattle.lego_model.specs.WholeRun.{EndsAlike, LeavesAlike};
 ghost use Rattle.run_laws.specs.Endings.{Leaves, RanOut, RanFull};
 ghost use Rattle.run_laws.specs.LastReport.{last_text};
-ghost use Rattle.run_laws.specs.WholeRun.{all_started};
-ghost use Rattle.run_laws.specs.Cut.{CutSo, WritingSo, GoneSoFar};
+ghost use Rattle.run_laws.specs.Cut.{GoneSoFar};
+ghost use Rattle.lego_model.specs.CutRun.{CutBetweenLines, CutWhileWriting};
 
 use outside::World;
 
@@ -30,10 +33,10 @@ use outside::World;
 /// and the last one, that has none, is nothing.
 pub fn batches_move<W: World>()
     ensures happens { (x : WorldStim) (old new : Seen W.Own) (net now_net : NetState) (queue now_queue : List Event) (e : Engine) → W.Tells
-        → Continues W.Tells old new → Conforming old → Conforming new → Settled old e → e.net ≡ net → e.queue ≡ queue
+        → Continues W.Tells old new → Conforming old → Conforming new → AtRest old e → e.net ≡ net → e.queue ≡ queue
         → BatchDone x (record { seen = old; net = net; queue = queue }) (record { seen = new; net = now_net; queue = now_queue })
         → OneHappens old new e (engine_then e now_net now_queue) }
-    ensures over { (old new : Seen W.Own) (net now_net : NetState) (queue now_queue : List Event) (e : Engine) → Settled old e → e.net ≡ net
+    ensures over { (old new : Seen W.Own) (net now_net : NetState) (queue now_queue : List Event) (e : Engine) → AtRest old e → e.net ≡ net
         → e.queue ≡ queue → BatchOver (record { seen = old; net = net; queue = queue }) (record { seen = new; net = now_net; queue = now_queue })
         → Moved [] (λ r. r) [] old new e (engine_then e now_net now_queue) }
 {}
@@ -54,10 +57,10 @@ pub fn ends_leave<W: World>()
 
 /// Of a world that was just opened and that keeps its word: a run whose parts are those of the reference controller is the run
 /// of the reference controller over what the world told, and over all that was said of the application, of which the world
-/// told the front. At every quiet place the tables agree, the application was given what
+/// told the front. At every quiescent point the tables agree, the application was given what
 /// it is given there, and what was written is its report, whole where all events were dispatched. The journal is a dialogue
 /// with the application: each answer is to its next message, a change has reached its switch at once where it is answered, and
-/// no call for the application is out of place.
+/// no call for the application is a stray one.
 pub fn runs_are_the_references<W: World>()
     ensures out { (accepts : List TableView → Bool) (allows : List Place → Bool) (contents now_contents : Option (List ℕ)) (old new : Seen W.Own) (e : Engine)
         → W.Tells → Conforming new → JudgesAlike W.Own allows accepts → IsOpened old → length (stimuli_in new) < most_rounds
@@ -67,20 +70,20 @@ pub fn runs_are_the_references<W: World>()
         → RanFull W.Tells accepts most_rounds left contents now_contents old new engine_at_first → LeavesAlike allows new contents now_contents left }
 {}
 
-/// Of a world that was just opened and that keeps its word up to a place: where a fault ends a run whose parts are those of the
+/// Of a world that was just opened and that keeps its word up to a point: where a fault ends a run whose parts are those of the
 /// reference controller so far, the run is the reference controller's up to there, and what was written is what this says so
 /// far; or the sink failed at the lines of the start, of an event or of the end, behind all lines before them.
 pub fn cut_runs_are_the_references<W: World>()
     ensures cut { (allows : List Place → Bool) (started : Bool) (number : ℕ) (text : List ℕ) (contents now_contents : Option (List ℕ)) (first last : Seen W.Own) (e : Engine)
         → IsOpened first → GoneSoFar allows started number text first last engine_at_first e → number ≤ 1000 → Conforming last
-        → now_contents ≡ append_known contents text → CutSo allows last contents now_contents }
+        → now_contents ≡ append_known contents text → CutBetweenLines allows last contents now_contents }
     ensures start { (allows : List Place → Bool) (more : List ℕ) (contents now_contents : Option (List ℕ)) (first last : Seen W.Own) (e : Engine)
         → IsOpened first → Moved [] all_started more first last engine_at_first e → Conforming last → TookPart contents now_contents more
-        → WritingSo allows last contents now_contents }
+        → CutWhileWriting allows last contents now_contents }
     ensures event { (allows : List Place → Bool) (number : ℕ) (text more : List ℕ) (contents now_contents : Option (List ℕ)) (first mid last : Seen W.Own) (e now_e : Engine)
         → IsOpened first → GoneSoFar allows true number text first mid engine_at_first e → Moved [] (dispatch_next allows) more mid last e now_e → number ≤ 999
-        → Conforming last → TookPart (append_known contents text) now_contents more → WritingSo allows last contents now_contents }
+        → Conforming last → TookPart (append_known contents text) now_contents more → CutWhileWriting allows last contents now_contents }
     ensures end { (allows : List Place → Bool) (text more : List ℕ) (contents now_contents : Option (List ℕ)) (first last stop : Seen W.Own) (e : Engine)
         → IsOpened first → GoneSoFar allows true 1000 text first last engine_at_first e → e.queue ≡ [] → more ≡ last_text last e → Leaves last stop
-        → Conforming stop → TookPart (append_known contents text) now_contents more → WritingSo allows stop contents now_contents }
+        → Conforming stop → TookPart (append_known contents text) now_contents more → CutWhileWriting allows stop contents now_contents }
 {}

@@ -1,15 +1,18 @@
 -- What the lines of an application have yet to say, and which of its acts may come then. All of this is our own.
-use Rattle.std.specs.Prelude.{◌≡◌, Bool, true, false, not, List, [], ◌∷◌, length, drop, slice_get, if◌then◌else◌}
+use Rattle.std.specs.Prelude.{◌≡◌, Bool, true, false, not, List, [], ◌∷◌, length, drop, slice_get, if◌then◌else◌, ◌≤◌, ℕ, ◌++◌, map}
 use Rattle.of_types.specs.declared.journal.Act.{Act}
 use Rattle.of_types.specs.declared.journal.Act.TheVariants.{Started, Gave, Took, Ended}
 use Rattle.of_types.specs.declared.journal.TookWhat.{TookWhat}
 use Rattle.of_types.specs.declared.journal.TookWhat.TheVariants as took
 use Rattle.app_frames.specs.declared.script.ScriptStep.{ScriptStep}
 use Rattle.app_frames.specs.declared.script.StartScript.{StartScript}
-use Rattle.lego_model.specs.Journal.{is_event}
+use Rattle.lego_model.specs.Journal.{is_event, Start, Reply, in_attempts, in_turns, any_gone, reply_of}
 use Rattle.outside.specs.declared.step.WorldStep.{WorldStep}
 use Rattle.outside.specs.declared.step.WorldStep.TheVariants.{TookInto}
 use Rattle.sim_world.specs.Scripts.{start_or_ready, turn_or_plain, steps_of_start, is_refused, given_of, left_of, taken_bytes}
+use Rattle.lego_model.specs.Scripted.{starts_said, replies_said, AreFronts, AreStartFronts}
+use Rattle.lego_model.specs.History.{starts_in, replies_in}
+use Rattle.script_laws.specs.Looks.{Looks}
 
 -- ---- How much is taken at once
 
@@ -63,3 +66,24 @@ May other p = ⊥
 abbrev pub Goes : Ahead → List Act → Type 0
 Goes p [] = Unit {0}
 Goes p (act ∷ acts) = May act p × Goes (after act p) acts
+
+-- the acts of the start or turn in hand
+abbrev pub hand : List Act → List Act
+hand acts = (in_turns (in_attempts acts).0).0
+
+-- the replies behind it
+abbrev pub replies_now : List Act → List Reply
+replies_now acts = map reply_of (in_turns (in_attempts acts).0).1 ++ replies_in acts
+
+abbrev pub StartsSo : List StartScript → List Start → Type 0
+StartsSo lines told = (more : ℕ) → length told ≤ more → AreStartFronts told (starts_said more lines)
+
+abbrev pub RepliesSo : List (List ScriptStep) → List Reply → Type 0
+RepliesSo lines told = (more : ℕ) → length told ≤ more → AreFronts told (replies_said more lines)
+
+pub record Reads (p : Ahead) (acts : List Act) : Type 0 where
+  pub idle : p.running ≡ false → (in_attempts acts).0 ≡ []
+  pub none_gone : any_gone (hand acts) ≡ false
+  pub looks : Looks p.ended p.left (hand acts)
+  pub replies : RepliesSo p.replies (replies_now acts)
+  pub starts : StartsSo p.starts (starts_in acts)

@@ -17,7 +17,7 @@ use Rattle.app_frames.specs.declared.script.StartScript.{StartScript}
 use Rattle.lego_model.specs.Journal.{is_of, is_event}
 use Rattle.lego_model.specs.AtOnce.{Before, attempted, besides, took_piece, took_end, LooksFor, is_answer, GivesFrame, Says, Dialogue, AtOnce, at_first}
 use Rattle.lego_model.specs.Scripted.{starts_said, replies_said, AreFronts, AreStartFronts}
-use Rattle.journal_laws.specs.Readings.{starts_in, replies_in}
+use Rattle.lego_model.specs.History.{starts_in, replies_in}
 use Rattle.outside.specs.declared.call.CallKind.{CallKind}
 use Rattle.outside.specs.declared.call.CallKind.TheVariants as kinds
 use Rattle.outside.specs.declared.step.WorldStep.{WorldStep}

@@ -1,5 +1,5 @@
 -- Laws of pieces: what was taken of a start or a turn up to now is the front of what its steps say.
-use Rattle.std.proofs.Common.{◌≡◌, ℕ, zero, suc, Bool, true, false, List, [], ◌∷◌, ◌++◌, length, take, drop, refl, sym, ap, ◌∙◌, inl, inr, subst, if◌then◌else◌}
+use Rattle.std.proofs.Common.{◌≡◌, ℕ, zero, suc, true, false, List, [], ◌∷◌, ◌++◌, length, take, drop, refl, sym, ap, ◌∙◌, inl, inr, subst, if◌then◌else◌}
 use Rattle.of_types.specs.declared.journal.Act.{Act}
 use Rattle.of_types.specs.declared.journal.Act.TheVariants.{Took}
 use Rattle.app_frames.specs.declared.script.ScriptStep.{ScriptStep}
@@ -9,10 +9,11 @@ use Rattle.app_frames.specs.declared.script.StartScript.TheVariants as start
 use Rattle.app_frames.specs.declared.frame.AppFrame.TheVariants.{Ready}
 use Rattle.app_frames.specs.Spelling.{app_bytes}
 use Rattle.lego_model.specs.Journal.{End, Closes, Stalls, Untold, pieces, end_from, any_gone}
-use Rattle.lego_model.specs.Scripted.{cut_from, pieces_of, pieces_said, end_said, start_said, IsLookedAt, IsStartFront}
+use Rattle.lego_model.specs.Scripted.{cut_from, pieces_of, pieces_said, start_said, IsLookedAt, IsStartFront}
 use Rattle.sim_world.specs.Scripts.{ready_bytes, garbled_bytes, steps_of_start, is_refused, given_of, left_of, taken_bytes}
 use Rattle.sim_world.specs.ScriptLaws.{ready_bytes-spelled}
 use Rattle.script_laws.specs.Ahead.{is_end}
+use Rattle.script_laws.specs.Looks.{TakesNothing, LooksAt, Looks}
 
 -- ---- Bytes in pieces
 
@@ -35,24 +36,10 @@ drop_taken (suc n) (b ∷ bytes) = drop_taken n bytes
 
 -- ---- Acts that take
 
--- nothing is taken
-pub record Quiet (acts : List Act) : Type 0 where
-  pub pieces_so : pieces acts ≡ []
-  pub end_so : (before : End) → end_from before acts ≡ before
-
--- what is taken is the front of what these steps give
-abbrev pub LooksAt : List ScriptStep → List Act → Type 0
-LooksAt left acts = IsLookedAt (pieces acts) (end_from Untold acts) (pieces_said left) (end_said left)
-
--- where the end was taken nothing is, and else the front of these steps
-pub record Looks (ended : Bool) (left : List ScriptStep) (acts : List Act) : Type 0 where
-  pub quiet : ended ≡ true → Quiet acts
-  pub looked : ended ≡ false → LooksAt left acts
-
-pub looks_none : (left : List ScriptStep) (acts : List Act) → Quiet acts → LooksAt left acts
+pub looks_none : (left : List ScriptStep) (acts : List Act) → TakesNothing acts → LooksAt left acts
 looks_none left acts q = (pieces_said left, sym (ap (λ (ps : List (List ℕ)). ps ++ pieces_said left) q.pieces_so), inl (q.end_so Untold))
 
-ends_here : (end : End) (acts : List Act) → Quiet acts → IsLookedAt (pieces acts) (end_from end acts) [] end
+ends_here : (end : End) (acts : List Act) → TakesNothing acts → IsLookedAt (pieces acts) (end_from end acts) [] end
 ends_here end acts q = ([], sym (ap (λ (ps : List (List ℕ)). ps ++ []) q.pieces_so), inr (refl, sym (q.end_so end)))
 
 -- a step of no bytes says nothing

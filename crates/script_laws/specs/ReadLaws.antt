@@ -1,5 +1,5 @@
 -- Laws of what is read of an application's acts: where each came as its lines say, its starts and replies are the fronts of them.
-use Rattle.std.proofs.Common.{◌≡◌, ◌≤◌, ℕ, zero, suc, Bool, true, false, not, List, [], ◌∷◌, ◌++◌, length, map, drop, refl, sym, ap, ◌∙◌, subst, true≢false, arith, inl, if◌then◌else◌}
+use Rattle.std.proofs.Common.{◌≡◌, ℕ, zero, suc, Bool, true, false, not, List, [], ◌∷◌, ◌++◌, map, drop, refl, sym, ap, ◌∙◌, subst, true≢false, arith, inl, if◌then◌else◌}
 use Rattle.of_types.specs.declared.journal.Act.{Act}
 use Rattle.of_types.specs.declared.journal.Act.TheVariants.{Stim, Started, Gave, Gone, Took, Ended, Sent, Got}
 use Rattle.of_types.specs.declared.journal.TookWhat.{TookWhat}
@@ -8,37 +8,17 @@ use Rattle.app_frames.specs.declared.script.ScriptStep.TheVariants.{Bytes}
 use Rattle.app_frames.specs.declared.script.StartScript.{StartScript}
 use Rattle.app_frames.specs.declared.script.StartScript.TheVariants as start
 use Rattle.lego_model.specs.Journal.{Asked, Start, Reply, in_attempts, in_turns, is_event, any_gone, start_of, reply_of}
-use Rattle.lego_model.specs.Scripted.{reply_said, start_said, starts_said, replies_said, IsFront, IsStartFront, AreFronts, AreStartFronts}
-use Rattle.journal_laws.specs.Readings.{starts_in, replies_in}
+use Rattle.lego_model.specs.Scripted.{reply_said, start_said, starts_said, replies_said, IsFront, IsStartFront}
+use Rattle.lego_model.specs.History.{starts_in, replies_in}
 use Rattle.sim_world.specs.Scripts.{steps_of_start, is_refused, given_of}
 use Rattle.sim_world.specs.ScriptLaws.{done_bytes-spelled}
-use Rattle.script_laws.specs.Ahead.{Ahead, start_ahead, turn_ahead, after, May, Goes}
-use Rattle.script_laws.specs.PieceLaws.{Quiet, Looks, LooksAt, looks_none, looks_took, start_front}
+use Rattle.script_laws.specs.Ahead.{Ahead, start_ahead, turn_ahead, after, May, Goes, hand, replies_now, StartsSo, RepliesSo, Reads}
+use Rattle.script_laws.specs.PieceLaws.{looks_none, looks_took, start_front}
+use Rattle.script_laws.specs.Looks.{TakesNothing, Looks, LooksAt}
 
 -- ---- What is read from a place on
 
--- the acts of the start or turn in hand
-abbrev hand : List Act → List Act
-hand acts = (in_turns (in_attempts acts).0).0
-
--- the replies behind it
-abbrev replies_now : List Act → List Reply
-replies_now acts = map reply_of (in_turns (in_attempts acts).0).1 ++ replies_in acts
-
-abbrev StartsSo : List StartScript → List Start → Type 0
-StartsSo lines told = (more : ℕ) → length told ≤ more → AreStartFronts told (starts_said more lines)
-
-abbrev RepliesSo : List (List ScriptStep) → List Reply → Type 0
-RepliesSo lines told = (more : ℕ) → length told ≤ more → AreFronts told (replies_said more lines)
-
-pub record Reads (p : Ahead) (acts : List Act) : Type 0 where
-  pub idle : p.running ≡ false → (in_attempts acts).0 ≡ []
-  pub none_gone : any_gone (hand acts) ≡ false
-  pub looks : Looks p.ended p.left (hand acts)
-  pub replies : RepliesSo p.replies (replies_now acts)
-  pub starts : StartsSo p.starts (starts_in acts)
-
-nothing_quiet : Quiet []
+nothing_quiet : TakesNothing []
 nothing_quiet = record { pieces_so = refl; end_so = λ before. refl }
 
 nothing_looks : (ended : Bool) (left : List ScriptStep) → Looks ended left []
@@ -159,7 +139,7 @@ reads_frame p of frame acts event may r =
       starts = r.starts;
     }
   where
-    given_quiet : Quiet (hand acts) → Quiet (Gave of frame ∷ hand acts)
+    given_quiet : TakesNothing (hand acts) → TakesNothing (Gave of frame ∷ hand acts)
     given_quiet q = record { pieces_so = q.pieces_so; end_so = q.end_so }
 
     given_looks : Looks p.ended p.left (hand acts) → Looks p.ended p.left (Gave of frame ∷ hand acts)
@@ -177,7 +157,7 @@ reads_gave p of frame acts may = elim (is_event frame) as (λ (b : Bool). is_eve
 reads_ended : (p : Ahead) (of : ℕ) (acts : List Act) → May (Ended of) p → Reads (after (Ended of) p) acts → Reads p (Ended of ∷ acts)
 reads_ended p of acts may r =
     let none : hand acts ≡ [] = ap (λ (xs : List Act). (in_turns xs).0) (r.idle refl) in
-    let quiet : Quiet (Ended of ∷ hand acts) = subst (λ (xs : List Act). Quiet (Ended of ∷ xs)) (sym none) (record { pieces_so = refl; end_so = λ before. refl }) in
+    let quiet : TakesNothing (Ended of ∷ hand acts) = subst (λ (xs : List Act). TakesNothing (Ended of ∷ xs)) (sym none) (record { pieces_so = refl; end_so = λ before. refl }) in
     record {
       idle = λ is. absurd (true≢false (sym may ∙ is));
       none_gone = r.none_gone;

@@ -1,5 +1,6 @@
-//! Laws of what a world's journal tells of an application that keeps to its lines: it is the front of what they say. There is
-//! no call here but laws, each the contract of a function that does nothing.
+//! Laws of scripts: what a journal tells of an application that keeps to its lines is the front of what these say.
+//!
+//! There is no call here but one law, the contract of a function that does nothing: `journals_tell_fronts`.
 #![tactic(auto)]
 
 mod scripts;

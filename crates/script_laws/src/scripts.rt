@@ -5,7 +5,7 @@ ghost use Rattle.std.specs.List.{AllByRecursion};
 ghost use Rattle.lego_model.specs.Journal.{is_of};
 ghost use Rattle.lego_model.specs.AtOnce.{AtOnce};
 ghost use Rattle.lego_model.specs.Scripted.{starts_said, replies_said, AreStartFronts, AreFronts};
-ghost use Rattle.journal_laws.specs.Readings.{starts_in, replies_in};
+ghost use Rattle.lego_model.specs.History.{starts_in, replies_in};
 ghost use Rattle.outside.specs.Seen.{Seen, journal};
 ghost use Rattle.sim_world.specs.Scripts.{Scripts, starts_of, replies_of, KeepsScripts};
 ghost use Rattle.script_laws.specs.Ahead.{HasRoom};

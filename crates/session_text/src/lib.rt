@@ -1,4 +1,8 @@
 //! The text of a session, read as the session that it spells and given to a simulated world.
+//!
+//! `read_session` gives a new world the session of the text, or tells the text's first fault with its line (`exact`,
+//! `new`). `parse_session` reads it as a value (`exact`), which keeps all limits (`sound`) and names only known
+//! applications (`named`). docs/SESSION.md describes the text.
 #![tactic(auto)]
 
 mod loading;

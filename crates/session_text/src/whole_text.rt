@@ -2,7 +2,8 @@
 
 ghost use Rattle.std.specs.Prelude.{◌≡◌, ◌+◌, ◌^◌, ◌<◌, ◌≤◌, ◌∷◌, [], List, ℕ, IfOk, IfErr, IfSome, IfNone, length, map, string_bytes};
 ghost use Rattle.std.specs.List.{list_all};
-ghost use Rattle.lego_model.specs.Words.{most_line, words_of as words_in};
+ghost use Rattle.lego_model.specs.Words.{words_of as words_in};
+ghost use Rattle.lego_io.specs.Lines.{most_line};
 ghost use Rattle.lego_model.specs.SessionLines.{line_of as line_in};
 ghost use Rattle.lego_model.specs.SessionText.{at_first as at_first_in, is_skipped as is_skipped_in, is_printable, is_opening as is_opening_in, going_on, plain_line as plain_line_in, next_line as next_line_in, in_line, lines_from, session_text};
 ghost use Rattle.lego_model.specs.SessionFacts.{IsSession, IsOf};

@@ -1,4 +1,9 @@
-//! A simulated world.
+//! A simulated world: declared switches, a scripted application, stimuli, and calls that fail as told.
+//!
+//! `SimWorld` is a `World` that tells. `SimWorld::keeps_word` hands out what its type keeps: what its switches send is
+//! told in order (`word`), its applications keep to their lines (`scripts`), calls fail exactly where they are told to or
+//! are stray (`told`), and expected calls are not counted as stray (`strays`). The builders give one thing more or
+//! nothing (`ok`, `err`). Laws: `longer_scripted_history`, `lives_of_a_history`, `links_move_no_life`.
 #![tactic(auto)]
 
 mod app_calls;

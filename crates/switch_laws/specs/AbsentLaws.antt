@@ -1,6 +1,6 @@
 -- What follows about a change that was neither stopped by the host nor refused: unless it is a DELETE, its key was in neither table nor
 -- view before.
-use Rattle.std.proofs.Common.{◌≡◌, ◌==◌, ℕ, ◌+◌, ◌-◌, ◌*◌, ◌/◌, ◌%◌, ◌^◌, ◌<◌, ◌≤◌, Bool, true, false, not, ◌&&◌, ◌||◌, List, [], ◌∷◌, map, Option, Some, None, nat_lt, if◌then◌else◌, refl, sym, ap, ap₂, ◌∙◌, subst, arith, inl, inr, true≢false}
+use Rattle.std.proofs.Common.{◌≡◌, ◌==◌, ℕ, ◌+◌, ◌-◌, ◌*◌, ◌/◌, ◌%◌, ◌^◌, ◌≤◌, Bool, true, false, not, ◌&&◌, ◌||◌, List, [], ◌∷◌, map, Option, Some, None, nat_lt, if◌then◌else◌, refl, sym, ap, ◌∙◌, subst, arith, inl, inr, true≢false}
 use Rattle.std.proofs.lemmas.Bool.{cases_Bool, eqb-true, eqb-false, le-ltb}
 use Rattle.std.specs.List.{list_any}
 use Rattle.of_types.specs.declared.errors.OfError.{OfError}
@@ -14,12 +14,11 @@ use Rattle.of_action.specs.declared.action.Action.{Action}
 use Rattle.of_wire.specs.declared.bodies.FlowMod.{FlowMod as Change}
 use Rattle.flow_table.specs.declared.entry.Entry.{Entry}
 use Rattle.flow_table.specs.declared.view.ViewRow.{ViewRow}
-use Rattle.flow_table.specs.Table.{has_key, entry_at, place_of}
+use Rattle.flow_table.specs.Table.{has_key, entry_at}
 use Rattle.flow_table.specs.Change.{key_in, is_modify, is_delete, is_strict, describes, adds, clashes, refusal}
-use Rattle.lego_model.specs.Answers.{Rows, rows_of_table, rows_of_view, would_clash, would_touch, flow_mod_refused}
+use Rattle.lego_model.specs.Answers.{Rows, rows_of_table, rows_of_view, would_clash, would_touch}
 use Rattle.net_txn.specs.RowLaws.{known_command}
-use Rattle.switch_laws.specs.Shown.{Passes}
-use Rattle.switch_laws.specs.ViewLaws.{has_row}
+use Rattle.switch_laws.specs.Shown.{Passes, has_row}
 
 -- ---- Keys of one place have one match
 
@@ -42,11 +41,11 @@ one_match a b same =
 
 -- ---- Tests of lists
 
-any-map : {X Y : Type 0} (f : Y → Bool) (g : X → Y) (xs : List X) → list_any f (map g xs) ≡ list_any (λ x. f (g x)) xs
+pub any-map : {X Y : Type 0} (f : Y → Bool) (g : X → Y) (xs : List X) → list_any f (map g xs) ≡ list_any (λ x. f (g x)) xs
 any-map f g [] = refl
 any-map f g (x ∷ xs) = ap (λ (b : Bool). f (g x) || b) (any-map f g xs)
 
-neither : (a b : Bool) → (a || b) ≡ false → (a ≡ false) × (b ≡ false)
+pub neither : (a b : Bool) → (a || b) ≡ false → (a ≡ false) × (b ≡ false)
 neither true b h = absurd (true≢false h)
 neither false b h = (refl, h)
 

@@ -12,6 +12,7 @@ use Rattle.flow_table.specs.Errors.{bad_type}
 use Rattle.flow_table.specs.Refusals.{or_else, stats_refusal}
 use Rattle.app_frames.specs.declared.frame.Answer.{Answer}
 use Rattle.lego_model.specs.Answers.{Rows, host_refusal, host_answer_to, refused_or, host_answer_read, host_answer}
+use Rattle.switch_laws.specs.Asked.{ReadAsChange}
 
 some_answer : (o : Option OfError) (e : OfError) (answer : Option Answer) → refused_or (or_else o (Some e)) answer ≡ None → ⊥
 some_answer None e answer h = cc
@@ -41,12 +42,6 @@ asked-change rows (StatsReply s) h = absurd cc
 asked-change rows BarrierReply h = absurd cc
 asked-change rows (QueueGetConfigRequest payload) h = absurd cc
 asked-change rows (QueueGetConfigReply payload) h = absurd cc
-
--- what was read of bytes that are left to the switch
-pub record ReadAsChange (bytes : List ℕ) : Type 0 where
-  pub xid : ℕ
-  pub change : Change
-  pub read : reading_of bytes ≡ Ok (enveloped xid (FlowMod change))
 
 asked-read : (rows : Rows) (bytes : List ℕ) (r : Result Envelope WireFault) → reading_of bytes ≡ r → host_answer_read rows r ≡ None → ReadAsChange bytes
 asked-read rows bytes (Err fault) read h = absurd cc

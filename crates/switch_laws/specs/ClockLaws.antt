@@ -29,13 +29,9 @@ use Rattle.outside.specs.declared.call.FailCall.{FailCall}
 use Rattle.outside.specs.Seen.{Seen}
 use Rattle.outside.specs.State.{Link, State, link_at_first, at_first, link_of, switch_in, switch_of, with_link, switch_joined, link_joined, link_left, link_stimulated, switch_told, link_sent, link_got, link_told, link_failed, after_stim, after_act, after_step, after_steps, state}
 use Rattle.outside.specs.Conforming.{IsStimulus, IsWorldStim, MayAct, MayStep, MaySteps, Conforming}
+use Rattle.switch_laws.specs.Clock.{StandsAt, InTime}
 
 -- ---- One switch
-
--- it is the declared one, and stands at a moment
-pub record StandsAt (moment : ℕ) (d : Declared) (s : SwitchState) : Type 0 where
-  pub moment_so : s.moment ≡ moment
-  pub declared : s.declared ≡ d
 
 -- what keeps both
 abbrev Lasting : ℕ → Declared → (SwitchState → SwitchState) → Type 0
@@ -262,11 +258,6 @@ state-clock seen keeps =
     steps-clock seen.given.declared seen.history (at_first seen.given) keeps.steps (record { links = first-links seen.given.fails seen.given.declared; within = omega arith })
 
 -- ---- A switch that is joined
-
--- it has this number, and stands at this moment
-pub record InTime (d moment : ℕ) (x : SwitchState) : Type 0 where
-  pub number : x.declared.dpid ≡ d
-  pub moment_so : x.moment ≡ moment
 
 switch_in_time : (moment d : ℕ) (ls : List Link) (x : SwitchState) → LinksAt moment ls → switch_in (link_of d ls) ≡ Some x → InTime d moment x
 switch_in_time moment d [] x all is = absurd cc

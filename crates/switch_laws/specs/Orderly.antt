@@ -1,32 +1,10 @@
 -- Steps that are in order: no call of a link failed, nor one for what comes next, no packet was released, and the calls for applications
 -- are of one, whose bytes are taken up to 65,536 at once. All of this is our own.
-use Rattle.std.specs.Prelude.{◌≡◌, ℕ, List, ◌++◌, None}
+use Rattle.std.specs.Prelude.{◌≡◌, ℕ, List, ◌++◌}
 use Rattle.std.specs.List.{AllByRecursion}
-use Rattle.of_types.specs.declared.journal.Act.{Act}
-use Rattle.of_types.specs.declared.journal.Act.TheVariants.{Stim, Started, Gave, Gone, Took, Ended, Sent, Got}
-use Rattle.lego_model.specs.Journal.{released_in}
 use Rattle.outside.specs.declared.step.WorldStep.{WorldStep}
-use Rattle.outside.specs.declared.step.WorldStep.TheVariants.{Acted, TookInto, NotOpened, NextFailed, SendFailed, RecvFailed}
 use Rattle.outside.specs.Seen.{Seen}
-
-abbrev pub IsOrderlyAct : ℕ → Act → Type 0
-IsOrderlyAct app (Stim x) = Unit {0}
-IsOrderlyAct app (Started of stands) = of ≡ app
-IsOrderlyAct app (Gave of bytes) = of ≡ app
-IsOrderlyAct app (Gone of bytes) = of ≡ app
-IsOrderlyAct app (Took of what) = of ≡ app
-IsOrderlyAct app (Ended of) = of ≡ app
-IsOrderlyAct app (Sent d bytes) = released_in (Sent d bytes) ≡ None
-IsOrderlyAct app (Got d bytes) = Unit {0}
-
-abbrev pub IsOrderly : ℕ → WorldStep → Type 0
-IsOrderly app (Acted act) = IsOrderlyAct app act
-IsOrderly app (TookInto of what room) = (of ≡ app) × (room ≡ 65536)
-IsOrderly app NotOpened = ⊥
-IsOrderly app NextFailed = ⊥
-IsOrderly app (SendFailed d) = ⊥
-IsOrderly app (RecvFailed d) = ⊥
-IsOrderly app other = Unit {0}
+use Rattle.lego_model.specs.OrderlySteps.{IsOrderly}
 
 -- the history goes on by such steps
 pub record OrderlySince {Own : Type 0} (app : ℕ) (old new : Seen Own) : Type 0 where

@@ -1,7 +1,7 @@
 -- Laws of steps in order: what the network does where it succeeds releases no packet, and no call of it failed.
 use Rattle.std.proofs.Common.{◌≡◌, ℕ, ◌==◌, Bool, true, false, List, [], ◌∷◌, ◌++◌, length, Option, Some, None, Result, Ok, Err, refl, sym, ap, ◌∙◌, subst, append_assoc, arith, true≢false, inl, inr}
 use Rattle.std.specs.Prelude.{◌⊎◌, nat_lt, drop}
-use Rattle.std.specs.List.{AllByRecursion, cons_option}
+use Rattle.std.specs.List.{AllByRecursion}
 use Rattle.std.proofs.lemmas.Bool.{cases_Bool}
 use Rattle.std.proofs.lemmas.List.{append-nil}
 use Rattle.of_types.specs.Fields.{number_at}
@@ -21,27 +21,27 @@ use Rattle.of_wire.specs.declared.bodies.Stats.{Stats as Statistics}
 use Rattle.of_wire.specs.declared.fault.WireFault.{WireFault}
 use Rattle.of_wire.specs.declared.fault.WireFault.TheVariants.{BadVersion, BadLength}
 use Rattle.of_wire.specs.Kinds.{kind_of_number}
-use Rattle.of_wire.specs.Reading.{of_actions, flow_mod_of, body_of, has_length, if_sized, front_of, reading_of}
+use Rattle.of_wire.specs.Reading.{of_actions, flow_mod_of, body_of, has_length, front_of, reading_of}
 use Rattle.of_wire.specs.Spelling.{body_bytes, message_bytes}
 use Rattle.app_frames.specs.declared.frame.Answer.{Answer}
-use Rattle.lego_model.specs.Answers.{as_sent}
-use Rattle.lego_model.specs.Journal.{packet_read, released_in, released}
+use Rattle.lego_model.specs.Journal.{packet_read, released}
 use Rattle.outside.specs.declared.step.WorldStep.{WorldStep}
 use Rattle.outside.specs.declared.step.WorldStep.TheVariants.{Acted, TookInto, From, Joined, Left, Moment, Idle, End, Opened, NotOpened, NextFailed, SendFailed, RecvFailed}
-use Rattle.outside.specs.Seen.{Seen, act_of, journal}
-use Rattle.net_txn.specs.declared.fault.TxnFault.{TxnFault}
-use Rattle.net_txn.specs.declared.heard.Awaited.{Awaited}
-use Rattle.net_txn.specs.declared.heard.Heard.{Heard}
-use Rattle.net_txn.specs.declared.heard.Heard.TheVariants.{Reply, Refused, Notice, Echo, Other}
-use Rattle.net_txn.specs.Net.{NetState, next_xid, awaited_from, inverse_bytes, delete_strict}
-use Rattle.net_txn.specs.Waits.{heard, steps_by, echo_reply, heard_steps, wait_steps, barrier_sent, reply_got}
-use Rattle.net_txn.specs.Asks.{GivesRows, asked_from, request_sent, flows_request}
+use Rattle.outside.specs.Seen.{Seen, journal}
+use Rattle.lego_model.specs.declared.fault.TxnFault.{TxnFault}
+use Rattle.lego_model.specs.declared.wait.Awaited.{Awaited}
+use Rattle.lego_model.specs.declared.wait.Heard.{Heard}
+use Rattle.lego_model.specs.declared.wait.Heard.TheVariants.{Reply, Refused, Notice, Echo, Other}
+use Rattle.net_txn.specs.Net.{NetState, awaited_from, inverse_bytes, delete_strict}
+use Rattle.lego_model.specs.BarrierWaits.{next_xid, heard, steps_by, wait_steps, barrier_sent, reply_got}
+use Rattle.lego_model.specs.FlowQueries.{asked_from, request_sent}
 use Rattle.net_txn.specs.Changes.{Changes, answer_of_host, known_rows, change_sent}
-use Rattle.net_txn.specs.Joining.{Joins, greeting, greeted_from, delete_all}
-use Rattle.net_txn.specs.Undos.{Part, Inverse, Settled, Stuck, part_steps, steps_of, alone, fault_in, first_fault, first_fault_of, ended_by, Undoes}
+use Rattle.net_txn.specs.Joining.{greeting, greeted_from, delete_all}
+use Rattle.net_txn.specs.Undos.{Part, Inverse, BarrierPassed, Stuck, part_steps, steps_of, alone, fault_in, first_fault, first_fault_of, ended_by, Undoes}
 use Rattle.net_txn.specs.NoticeLaws.{kind_of_header}
 use Rattle.switch_laws.specs.AskedLaws.{asked}
-use Rattle.switch_laws.specs.Orderly.{IsOrderlyAct, IsOrderly, OrderlySince}
+use Rattle.switch_laws.specs.Orderly.{OrderlySince}
+use Rattle.lego_model.specs.OrderlySteps.{IsOrderlyAct, IsOrderly}
 
 -- ---- Messages of another type than PACKET_OUT (13)
 
@@ -272,7 +272,7 @@ module _ (app : ℕ) where
 
   part-orderly : (d : ℕ) (p : Part) → fault_in p ≡ None → AllByRecursion (IsOrderly app) (part_steps d p)
   part-orderly d (Inverse xid k) is = (inverse-orderly d xid k, tt)
-  part-orderly d (Settled xid got) is = (barrier-orderly d xid, ended-orderly (alone d xid) got)
+  part-orderly d (BarrierPassed xid got) is = (barrier-orderly d xid, ended-orderly (alone d xid) got)
   part-orderly d (Stuck xid fault steps) is = absurd cc
 
   parts-orderly : (parts : List (ℕ × Part)) → first_fault parts ≡ None → AllByRecursion (IsOrderly app) (steps_of parts)

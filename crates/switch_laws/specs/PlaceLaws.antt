@@ -1,10 +1,10 @@
 -- What follows about declared switches in their places: which switch stands at a number, and what becomes of them where one changes.
-use Rattle.std.proofs.Common.{◌≡◌, ◌≢◌, ◌==◌, ℕ, ◌+◌, ◌<◌, ◌≤◌, Bool, true, false, ◌||◌, List, [], ◌∷◌, map, Option, Some, None, if◌then◌else◌, refl, sym, ap, ap₂, ◌∙◌, arith, inl, inr}
-use Rattle.std.proofs.lemmas.Bool.{cases_Bool, eqb-true, eqb-false, ne_eqb}
+use Rattle.std.proofs.Common.{◌≡◌, ◌≢◌, ◌==◌, ℕ, ◌+◌, ◌≤◌, true, false, List, [], ◌∷◌, Option, None, refl, sym, ap, ap₂, ◌∙◌, arith, inl, inr}
+use Rattle.std.proofs.lemmas.Bool.{cases_Bool, eqb-true, eqb-false}
 use Rattle.flow_table.specs.Switch.{Declared, SwitchState}
 use Rattle.outside.specs.Seen.{is_declared}
 use Rattle.outside.specs.Conforming.{AreDeclaredFrom}
-use Rattle.lego_model.specs.Places.{Place, switch_at, with_place}
+use Rattle.lego_model.specs.Places.{switch_at, with_place}
 use Rattle.switch_laws.specs.Shown.{places}
 
 pub switch_at-declared : (f : ℕ → Option SwitchState) (d : ℕ) (ds : List Declared) → is_declared d ds ≡ true → switch_at d (places f ds) ≡ f d

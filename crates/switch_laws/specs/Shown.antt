@@ -12,9 +12,10 @@ use Rattle.flow_table.specs.Switch.{Declared, SwitchState}
 use Rattle.undo_laws.specs.Owned.{owned_switch}
 use Rattle.outside.specs.Seen.{is_declared}
 use Rattle.outside.specs.State.{State, switch_of}
-use Rattle.lego_model.specs.Answers.{Rows, flow_mod_refused, would_touch}
+use Rattle.lego_model.specs.Answers.{Rows, flow_mod_refused, would_touch, rows_of_table}
 use Rattle.lego_model.specs.Places.{Place}
 use Rattle.net_txn.specs.Views.{rows_at, rows_after}
+use Rattle.std.specs.List.{list_any}
 
 -- the flags with which the owner of a key's entry asked for it, or 0 where there is none
 abbrev pub flags_in : List ViewRow → Key → ℕ
@@ -56,3 +57,15 @@ flags_after m rows = flags_in (rows_after m rows)
 pub record Stand (declared : List Declared) (s : State) : Type 0 where
   pub undeclared : (d : ℕ) → is_declared d declared ≡ false → switch_of d s ≡ None
   pub table : (d : ℕ) (x : SwitchState) → switch_of d s ≡ Some x → IsTable x.table.entries
+
+-- no row has the key
+abbrev pub has_row : Key → List ViewRow → Bool
+has_row k rows = list_any (λ r. key_number r.key == key_number k) rows
+
+-- what is known of the switch before
+pub record Known (d : ℕ) (m : Change) (views : List TableView) (s : State) : Type 0 where
+  pub switch : SwitchState
+  pub rows : List ViewRow
+  pub switch_is : switch_of d s ≡ Some switch
+  pub rows_are : rows_at d views ≡ Some rows
+  pub passes : Passes m (rows_of_table switch.table.entries)

@@ -1,14 +1,16 @@
 -- How a world and what the host keeps of it stand to where a transaction began: the logged keys were added since, and nothing else
 -- changed. All of this is our own.
-use Rattle.std.specs.Prelude.{◌≡◌, ℕ, ◌≤◌, List, [], length, drop, map, Option, Some, None}
+use Rattle.std.specs.Prelude.{◌≡◌, ℕ, ◌≤◌, List, [], length, drop, map, Option, Some, None, ◌∷◌, if◌then◌else◌}
 use Rattle.of_match.specs.declared.key.Key.{Key}
 use Rattle.flow_table.specs.Switch.{SwitchState}
 use Rattle.undo_laws.specs.Removal.{OnlyAdded}
 use Rattle.outside.specs.Seen.{Seen}
-use Rattle.outside.specs.State.{State, state, switch_of, waits_of}
+use Rattle.outside.specs.State.{state, switch_of, waits_of}
 use Rattle.net_txn.specs.Net.{NetState}
 use Rattle.net_txn.specs.Agreement.{Agrees}
-use Rattle.net_txn.specs.Undos.{but_fare, without_keys, keys_of}
+use Rattle.net_txn.specs.Undos.{key_logged, without_keys, keys_of}
+use Rattle.of_wire.specs.declared.bodies.FlowMod.{FlowMod as Change}
+use Rattle.flow_table.specs.Change.{key_in, is_delete}
 
 -- nothing of any switch waits, and each view shows its table
 pub record Ready {Own : Type 0} (seen : Seen Own) (net : NetState) : Type 0 where
@@ -17,7 +19,7 @@ pub record Ready {Own : Type 0} (seen : Seen Own) (net : NetState) : Type 0 wher
 
 -- the keys that were logged from a place on, with their switches
 abbrev pub logged_since : ℕ → NetState → List (ℕ × Key)
-logged_since start net = map but_fare (drop start net.log)
+logged_since start net = map key_logged (drop start net.log)
 
 -- a switch to whose table these keys were added since
 pub record SwitchSince (keys : List Key) (before now : SwitchState) : Type 0 where
@@ -43,3 +45,7 @@ pub record Since {Own : Type 0} (start : ℕ) (first now : Seen Own) (net0 net :
 pub record Goes {Own : Type 0} (start : ℕ) (first now : Seen Own) (net0 net : NetState) : Type 0 where
   pub since : Since start first now net0 net
   pub ready : Ready now net
+
+-- the keys that a change logs
+abbrev pub keys_by : Change → List Key
+keys_by m = if is_delete m then [] else key_in m ∷ []

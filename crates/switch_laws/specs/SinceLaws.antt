@@ -1,6 +1,6 @@
 -- What follows about a transaction that is open: it stands so where it began, and each message that was answered keeps it so.
-use Rattle.std.proofs.Common.{◌≡◌, ◌≢◌, ◌==◌, ℕ, ◌≤◌, Bool, true, false, not, ◌&&◌, ◌||◌, List, [], ◌∷◌, ◌++◌, length, drop, map, filter, Option, Some, None, Ok, if◌then◌else◌, refl, sym, ap, ap₂, ◌∙◌, subst, inl, inr, arith, true≢false}
-use Rattle.std.proofs.lemmas.Bool.{cases_Bool, cases_eq, eqb-true, eqb-false, eq-eqb, ne_eqb}
+use Rattle.std.proofs.Common.{◌≡◌, ◌≢◌, ◌==◌, ℕ, ◌≤◌, Bool, true, false, not, ◌&&◌, List, [], ◌∷◌, ◌++◌, length, drop, map, filter, Option, Some, None, Ok, refl, sym, ap, ◌∙◌, subst, inl, inr, arith, true≢false}
+use Rattle.std.proofs.lemmas.Bool.{cases_Bool, cases_eq, eqb-true, eq-eqb, ne_eqb}
 use Rattle.std.proofs.lemmas.List.{drop-append-le, map-append, length-append, append-nil}
 use Rattle.std.specs.List.{list_any}
 use Rattle.std.specs.Option.{option_map}
@@ -12,7 +12,6 @@ use Rattle.of_wire.specs.declared.message.Message.TheVariants.{FlowMod}
 use Rattle.flow_table.specs.declared.entry.Entry.{Entry}
 use Rattle.flow_table.specs.declared.view.ViewRow.{ViewRow}
 use Rattle.flow_table.specs.declared.view.TableView.{TableView}
-use Rattle.flow_table.specs.Table.{TableState, IsTable}
 use Rattle.flow_table.specs.Change.{key_in, is_modify, is_delete, describes, sends_to, deletes, adds, entries_after, changed, refusal}
 use Rattle.flow_table.specs.Switch.{SwitchState}
 use Rattle.flow_table.specs.Refusals.{or_else, message_refusal}
@@ -21,26 +20,26 @@ use Rattle.undo_laws.specs.Removal.{OnlyAdded}
 use Rattle.undo_laws.specs.RemovalLaws.{OnlyAdded-nothing, OnlyAdded-more}
 use Rattle.undo_laws.specs.CorrectedLaws.{refusal-asked}
 use Rattle.app_frames.specs.declared.frame.Answer.{Answer}
-use Rattle.lego_model.specs.Answers.{Rows, rows_of_table, rows_of_view, would_touch, as_sent}
+use Rattle.lego_model.specs.Answers.{rows_of_table, rows_of_view, would_touch, as_sent}
 use Rattle.outside.specs.Seen.{Seen}
-use Rattle.outside.specs.State.{State, state, switch_of, waits_of}
+use Rattle.outside.specs.State.{state, switch_of, waits_of}
 use Rattle.outside.specs.Conforming.{Conforming}
-use Rattle.net_txn.specs.declared.heard.Refusal.{Refusal}
+use Rattle.lego_model.specs.declared.wait.Refusal.{Refusal}
 use Rattle.net_txn.specs.declared.logged.Logged.{Logged}
 use Rattle.net_txn.specs.Views.{rows_at, with_rows, with_row, row_in, rows_after}
 use Rattle.net_txn.specs.ViewLaws.{with_rows-kept}
 use Rattle.net_txn.specs.RowLaws.{sent, sent_adds, known_command}
-use Rattle.net_txn.specs.Net.{NetState, logged_at, logged_by, with_logged}
+use Rattle.net_txn.specs.Net.{NetState, logged_at}
 use Rattle.net_txn.specs.Changes.{known_rows, answer_of_host, error_in, views_by, log_by, Asked, Changes}
 use Rattle.net_txn.specs.Agreement.{Agrees, InStep, Steps}
-use Rattle.net_txn.specs.Undos.{but_fare, without_keys, keys_of}
-use Rattle.switch_laws.specs.Shown.{Passes, Stand}
-use Rattle.switch_laws.specs.ChangeShown.{asks_the_same}
+use Rattle.net_txn.specs.Undos.{key_logged, without_keys, keys_of}
+use Rattle.switch_laws.specs.Shown.{Passes, has_row, Known}
+use Rattle.switch_laws.specs.ShownChangeLaws.{asks_the_same}
 use Rattle.switch_laws.specs.AskedLaws.{asked}
-use Rattle.switch_laws.specs.ViewLaws.{has_row, without-added}
-use Rattle.switch_laws.specs.AbsentLaws.{absent-entry, absent-row}
-use Rattle.switch_laws.specs.ExchangeShown.{Known, known, judged}
-use Rattle.switch_laws.specs.Since.{Ready, logged_since, SwitchSince, JoinedSince, Since, Goes}
+use Rattle.switch_laws.specs.ViewLaws.{without-added}
+use Rattle.switch_laws.specs.AbsentLaws.{absent-entry, absent-row, any-map, neither}
+use Rattle.switch_laws.specs.ShownExchangeLaws.{known, judged}
+use Rattle.switch_laws.specs.Since.{Ready, logged_since, SwitchSince, JoinedSince, Since, Goes, keys_by}
 
 -- ---- Where it begins
 
@@ -53,7 +52,7 @@ begun-switch s = record { rest = refl; added = OnlyAdded-nothing s.table.entries
 
 pub begun : {Own : Type 0} (seen : Seen Own) (net : NetState) → Since (length net.log) seen seen net net
 begun seen net =
-    let none : logged_since (length net.log) net ≡ [] = ap (map but_fare) (nothing_behind net.log) in
+    let none : logged_since (length net.log) net ≡ [] = ap (map key_logged) (nothing_behind net.log) in
     record {
       started = omega arith;
       given = refl;
@@ -82,18 +81,10 @@ keys_of-other d e k other (p ∷ ps) =
       | inr not_here ↦ rw not_here (keys_of-other d e k other ps)
     ]
 
-logged_more : (start : ℕ) (log : List Logged) (x : Logged) → start ≤ length log → map but_fare (drop start (log ++ x ∷ [])) ≡ map but_fare (drop start log) ++ but_fare x ∷ []
-logged_more start log x le = ap (map but_fare) (drop-append-le start log (x ∷ []) le) ∙ map-append but_fare (drop start log) (x ∷ [])
+logged_more : (start : ℕ) (log : List Logged) (x : Logged) → start ≤ length log → map key_logged (drop start (log ++ x ∷ [])) ≡ map key_logged (drop start log) ++ key_logged x ∷ []
+logged_more start log x le = ap (map key_logged) (drop-append-le start log (x ∷ []) le) ∙ map-append key_logged (drop start log) (x ∷ [])
 
 -- ---- A DELETE that touches no row
-
-any-map : {X Y : Type 0} (f : Y → Bool) (g : X → Y) (xs : List X) → list_any f (map g xs) ≡ list_any (λ x. f (g x)) xs
-any-map f g [] = refl
-any-map f g (x ∷ xs) = ap (λ (b : Bool). f (g x) || b) (any-map f g xs)
-
-neither : (a b : Bool) → (a || b) ≡ false → (a ≡ false) × (b ≡ false)
-neither true b h = absurd (true≢false h)
-neither false b h = (refl, h)
 
 filter_all : (p : Entry → Bool) (es : List Entry) → list_any p es ≡ false → filter (λ e. not (p e)) es ≡ es
 filter_all p [] none = refl
@@ -123,10 +114,6 @@ delete_leaves now serial m es is none =
 
 -- ---- The table of a switch that took a change
 
--- the keys that a change logs
-abbrev pub keys_by : Change → List Key
-keys_by m = if is_delete m then [] else key_in m ∷ []
-
 table_refusal : (a b : Option OfError) → or_else a b ≡ None → b ≡ None
 table_refusal None b h = h
 table_refusal (Some e) b h = absurd cc
@@ -150,9 +137,6 @@ taken-added m keys before s p none only =
 
 -- ---- A message that the switch judged
 
-some_switch : SwitchState → Option SwitchState
-some_switch s = Some s
-
 stays : (m : Change) (s : SwitchState) (e : OfError) → message_refusal s (as_sent (FlowMod m)) ≡ Some e → after_message (as_sent (FlowMod m)) s ≡ s
 unfolding after_message
 stays m s e refused = rw refused refl
@@ -166,20 +150,20 @@ keys_then : (refusal_of : Option Refusal) (m : Change) → List Key
 keys_then None m = keys_by m
 keys_then (Some r) m = []
 
-logged_here : (start d : ℕ) (m : Change) (log : List Logged) (refusal_of : Option Refusal) → start ≤ length log → keys_of d (map but_fare (drop start (log_by refusal_of d m log))) ≡ keys_of d (map but_fare (drop start log)) ++ keys_then refusal_of m
+logged_here : (start d : ℕ) (m : Change) (log : List Logged) (refusal_of : Option Refusal) → start ≤ length log → keys_of d (map key_logged (drop start (log_by refusal_of d m log))) ≡ keys_of d (map key_logged (drop start log)) ++ keys_then refusal_of m
 unfolding keys_then
 logged_here start d m log None le =
     elim (cases_Bool (is_delete m)) [
-      | inl deletes_it ↦ rw deletes_it (sym (append-nil (keys_of d (map but_fare (drop start log)))))
-      | inr other ↦ rw other (ap (keys_of d) (logged_more start log (logged_at d (key_in m)) le) ∙ keys_of-same d (key_in m) (map but_fare (drop start log)))
+      | inl deletes_it ↦ rw deletes_it (sym (append-nil (keys_of d (map key_logged (drop start log)))))
+      | inr other ↦ rw other (ap (keys_of d) (logged_more start log (logged_at d (key_in m)) le) ∙ keys_of-same d (key_in m) (map key_logged (drop start log)))
     ]
-logged_here start d m log (Some r) le = sym (append-nil (keys_of d (map but_fare (drop start log))))
+logged_here start d m log (Some r) le = sym (append-nil (keys_of d (map key_logged (drop start log))))
 
-logged_elsewhere : (start d e : ℕ) (m : Change) (log : List Logged) (refusal_of : Option Refusal) → e ≢ d → start ≤ length log → keys_of e (map but_fare (drop start (log_by refusal_of d m log))) ≡ keys_of e (map but_fare (drop start log))
+logged_elsewhere : (start d e : ℕ) (m : Change) (log : List Logged) (refusal_of : Option Refusal) → e ≢ d → start ≤ length log → keys_of e (map key_logged (drop start (log_by refusal_of d m log))) ≡ keys_of e (map key_logged (drop start log))
 logged_elsewhere start d e m log None other le =
     elim (cases_Bool (is_delete m)) [
       | inl deletes_it ↦ rw deletes_it refl
-      | inr not_delete ↦ rw not_delete (ap (keys_of e) (logged_more start log (logged_at d (key_in m)) le) ∙ keys_of-other d e (key_in m) other (map but_fare (drop start log)))
+      | inr not_delete ↦ rw not_delete (ap (keys_of e) (logged_more start log (logged_at d (key_in m)) le) ∙ keys_of-other d e (key_in m) other (map key_logged (drop start log)))
     ]
 logged_elsewhere start d e m log (Some r) other le = refl
 
@@ -193,15 +177,15 @@ longer start d m log (Some r) le = le
 
 -- the views without the logged keys stay
 views_then : (start d : ℕ) (m : Change) (log : List Logged) (refusal_of : Option Refusal) (rows : List ViewRow) (views : List TableView) → start ≤ length log → rows_at d views ≡ Some rows → (is_delete m ≡ false → refusal_of ≡ None → has_row (key_in m) rows ≡ false)
-    → without_keys (map but_fare (drop start (log_by refusal_of d m log))) (views_by refusal_of d m views) ≡ without_keys (map but_fare (drop start log)) views
+    → without_keys (map key_logged (drop start (log_by refusal_of d m log))) (views_by refusal_of d m views) ≡ without_keys (map key_logged (drop start log)) views
 unfolding rows_after
 views_then start d m log None rows views le is new =
     elim (cases_Bool (is_delete m)) [
-      | inl deletes_it ↦ rw deletes_it (ap (without_keys (map but_fare (drop start log))) (with_rows-kept d views))
+      | inl deletes_it ↦ rw deletes_it (ap (without_keys (map key_logged (drop start log))) (with_rows-kept d views))
       | inr other ↦
           rw other
           (ap (λ (ps : List (ℕ × Key)). without_keys ps (with_rows d (with_row (row_in m)) views)) (logged_more start log (logged_at d (key_in m)) le)
-          ∙ without-added (map but_fare (drop start log)) d (row_in m) rows views is (new other refl))
+          ∙ without-added (map key_logged (drop start log)) d (row_in m) rows views is (new other refl))
     ]
 views_then start d m log (Some r) rows views le is new = refl
 
@@ -245,7 +229,7 @@ module _ {Own : Type 0} (Tells : Type 0) (d start : ℕ) (first old new : Seen O
             let j = since.joined d s (ap (λ (n : ℕ). switch_of n (state first)) (sym same) ∙ is) in
             let this : j.switch ≡ k.switch = one_value j.switch k.switch (sym j.is ∙ k.switch_is) in
             let keys : keys_of d (logged_since start now_net) ≡ keys_of d (logged_since start net) ++ keys_then refusal_of m =
-            ap (λ (log : List Logged). keys_of d (map but_fare (drop start log))) log_so ∙ logged_here start d m net.log refusal_of since.started in
+            ap (λ (log : List Logged). keys_of d (map key_logged (drop start log))) log_so ∙ logged_here start d m net.log refusal_of since.started in
             let after = switch_then m (keys_of d (logged_since start net)) s k.switch refusal_of k.passes refused (subst (SwitchSince (keys_of d (logged_since start net)) s) this j.since) in
             subst (λ (n : ℕ). JoinedSince (keys_of n (logged_since start now_net)) s (switch_of n (state new))) (sym same)
             (record {
@@ -256,7 +240,7 @@ module _ {Own : Type 0} (Tells : Type 0) (d start : ℕ) (first old new : Seen O
         | inr other ↦
             let j = since.joined e s is in
             let keys : keys_of e (logged_since start now_net) ≡ keys_of e (logged_since start net) =
-            ap (λ (log : List Logged). keys_of e (map but_fare (drop start log))) log_so ∙ logged_elsewhere start d e m net.log refusal_of other since.started in
+            ap (λ (log : List Logged). keys_of e (map key_logged (drop start log))) log_so ∙ logged_elsewhere start d e m net.log refusal_of other since.started in
             record {
               switch = j.switch;
               is = step.others e other ∙ j.is;

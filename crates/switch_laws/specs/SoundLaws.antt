@@ -21,7 +21,7 @@ use Rattle.flow_timeouts.specs.declared.timeouts.Reason.TheVariants as reasons
 use Rattle.flow_table.specs.declared.entry.Entry.{Entry}
 use Rattle.flow_table.specs.Table.{TableState, place_of, with_entry}
 use Rattle.flow_table.specs.Change.{is_modify, is_delete, refusal, describes, adds, deletes, modified, new_entry, entries_after, changed, unless_refused}
-use Rattle.flow_table.specs.ChangeLaws.{entries_after-adds, entries_after-modify, entries_after-delete}
+use Rattle.flow_table.specs.ChangeLaws.{entries_after-adds, entries_after-modify, entries_after-delete, is_delete-modify}
 use Rattle.flow_table.specs.Hit.{rank, best, better, counted, hit, hit_by, with_more, with_counts}
 use Rattle.flow_table.specs.Expiry.{deadline, has_come, is_due, reason_number, notice_at, expire}
 use Rattle.flow_table.specs.Undone.{restored, undone}
@@ -34,6 +34,7 @@ use Rattle.lego_model.specs.Answers.{as_sent, with_notice}
 use Rattle.net_txn.specs.RowLaws.{sent}
 use Rattle.net_txn.specs.AskSteps.{own_rows}
 use Rattle.switch_laws.specs.Sound.{SoundEntry, AllSound}
+use Rattle.switch_laws.specs.ShownChangeLaws.{addition_passed}
 
 -- ---- Lists
 
@@ -70,12 +71,6 @@ both_none : (a b : Option OfError) → or_else a b ≡ None → a ≡ None
 both_none None b h = refl
 both_none (Some e) b h = absurd cc
 
-change_passed : (first second deletes : Bool) (x y : OfError) (rest : Option OfError) → (if first then Some x else if second then Some y else if deletes then None else rest) ≡ None → deletes ≡ false → rest ≡ None
-change_passed true second deletes x y rest h other = absurd cc
-change_passed false true deletes x y rest h other = absurd cc
-change_passed false false true x y rest h other = absurd cc
-change_passed false false false x y rest h other = h
-
 size_passed : (buffered long : Bool) (x y : OfError) (rest : Option OfError) → (if buffered then Some x else if long then Some y else rest) ≡ None → long ≡ false
 size_passed true long x y rest h = absurd cc
 size_passed false true x y rest h = absurd cc
@@ -89,7 +84,7 @@ actions-fit had m h =
 
 change-fits : (had : List ℕ) (m : Change) → flow_refusal had m ≡ None → Fits m
 unfolding flow_refusal
-change-fits had m h other = actions-fit had m (change_passed (is_emergency m.flags) (nat_lt 4 m.command) (is_delete m) _ _ _ h other)
+change-fits had m h other = actions-fit had m (addition_passed (is_emergency m.flags) (nat_lt 4 m.command) (is_delete m) _ _ _ h other)
 
 sent-fits : (m : Change) (s : SwitchState) → message_refusal s (as_sent (FlowMod m)) ≡ None → Fits m
 unfolding message_refusal
@@ -115,14 +110,6 @@ no_delete m x h =
 adds-no_delete : (m : Change) (es : List Entry) → adds (sent m) es ≡ true → is_delete m ≡ false
 unfolding adds
 adds-no_delete m es h = no_delete m _ h
-
-modifies-no_delete : (m : Change) → is_modify m ≡ true → is_delete m ≡ false
-modifies-no_delete m h = no_delete m true (either (m.command == 0) (is_modify m) h)
-  where
-    either : (a b : Bool) → b ≡ true → (a || (b && true)) ≡ true
-    either true b h = refl
-    either false true h = refl
-    either false false h = absurd (true≢false (sym h))
 
 notice-asked : (flags : ℕ) → (with_notice flags % 2 % 2 == 1) ≡ true
 notice-asked flags = let one : (flags / 2 * 2 + 1) % 2 % 2 ≡ 1 = omega arith in eq-eqb ((flags / 2 * 2 + 1) % 2 % 2) 1 one
@@ -160,7 +147,7 @@ entries-sound now serial m es is fits all =
     elim (cases_Bool (adds (sent m) es)) [
       | inl puts ↦ subst AllSound (sym (entries_after-adds now serial (sent m) es puts)) (sound-with (new_entry now serial (sent m)) es (new-sound now serial m is (fits (adds-no_delete m es puts))) all)
       | inr keeps ↦ elim (cases_Bool (is_modify (sent m))) [
-        | inl modifies ↦ subst AllSound (sym (entries_after-modify now serial (sent m) es keeps modifies)) (sound-map (modified (sent m)) (λ e one. sent-sound m e is (fits (modifies-no_delete m modifies)) one) es all)
+        | inl modifies ↦ subst AllSound (sym (entries_after-modify now serial (sent m) es keeps modifies)) (sound-map (modified (sent m)) (λ e one. sent-sound m e is (fits (is_delete-modify m modifies)) one) es all)
         | inr removes ↦ subst AllSound (sym (entries_after-delete now serial (sent m) es keeps removes)) (sound-filter (λ e. not (deletes (sent m) e)) es all)
       ]
     ]

@@ -1,7 +1,6 @@
 -- In every history the switches that are joined are declared ones, and their tables stand in key order with serials that differ.
-use Rattle.std.proofs.Common.{◌≡◌, ◌==◌, ℕ, Bool, true, false, ◌||◌, List, [], ◌∷◌, ◌++◌, map, Option, Some, None, Result, Ok, Err, if◌then◌else◌, refl, sym, ap, ap₂, ◌∙◌, subst, inl, inr, true≢false}
+use Rattle.std.proofs.Common.{◌≡◌, ◌==◌, ℕ, false, List, [], ◌∷◌, map, Option, Some, None, Result, Ok, Err, refl, ap, ap₂, ◌∙◌, subst, inl, inr, true≢false}
 use Rattle.std.proofs.lemmas.Bool.{cases_Bool}
-use Rattle.std.specs.List.{AllByRecursion}
 use Rattle.std.specs.Option.{option_map}
 use Rattle.of_types.specs.declared.errors.OfError.{OfError}
 use Rattle.of_types.specs.declared.journal.Act.{Act}
@@ -18,7 +17,6 @@ use Rattle.of_wire.specs.declared.message.Envelope.{Envelope}
 use Rattle.of_wire.specs.declared.fault.WireFault.{WireFault}
 use Rattle.of_wire.specs.Reading.{reading_of}
 use Rattle.eth_key.specs.PacketFields.{key_of}
-use Rattle.flow_table.specs.Table.{IsTable}
 use Rattle.flow_table.specs.Change.{unless_refused}
 use Rattle.flow_table.specs.Switch.{Declared, SwitchState, port_at}
 use Rattle.flow_table.specs.Refusals.{message_refusal}
@@ -29,13 +27,11 @@ use Rattle.undo_laws.specs.SerialsLaws.{IsSerialed-empty, IsSerialed-changed, Is
 use Rattle.outside.specs.declared.step.WorldStep.{WorldStep}
 use Rattle.outside.specs.declared.step.WorldStep.TheVariants.{Acted, TookInto, From, Joined, Left, Moment, Idle, End, Opened, NotOpened, NextFailed, SendFailed, RecvFailed}
 use Rattle.outside.specs.Seen.{Given, Seen, is_declared}
-use Rattle.outside.specs.State.{Link, State, link_at_first, at_first, link_of, switch_in, switch_of, with_link, switch_joined, link_joined, link_left, link_stimulated, switch_told, link_sent, link_got, link_told, link_failed, links_after, after_stim, after_act, after_step, after_steps, state}
+use Rattle.outside.specs.State.{Link, State, link_at_first, at_first, link_of, switch_in, switch_of, with_link, switch_joined, link_joined, link_left, link_stimulated, switch_told, link_sent, link_got, link_told, link_failed, links_after, after_stim, after_act, after_step, after_steps, state, declared_in}
 use Rattle.switch_laws.specs.Shown.{Stand}
+use Rattle.switch_laws.specs.Standing.{Serialed, SerialedIn, Tables, Keeps, AreLinks}
 
 -- ---- One switch
-
-abbrev Serialed : SwitchState → Type 0
-Serialed s = IsSerialed s.table
 
 outputs-serialed : (in_port : ℕ) (outs : List (ℕ × List ℕ)) (s : SwitchState) → Serialed s → Serialed (after_outputs in_port outs s)
 unfolding after_outputs
@@ -122,21 +118,6 @@ message-serialed m s h = unless-serialed (message_refusal s m) s (after_taken m 
 
 -- ---- Links
 
-abbrev SerialedIn : Option SwitchState → Type 0
-SerialedIn None = Unit {0}
-SerialedIn (Some s) = Serialed s
-
-abbrev Tables : List Link → Type 0
-Tables ls = AllByRecursion (λ l. SerialedIn l.switch) ls
-
-abbrev declared_in : List Link → List Declared
-declared_in ls = map (λ l. l.declared) ls
-
--- a change that keeps what is declared, and tables that stand
-pub record Keeps (change : Link → Link) : Type 0 where
-  pub declared : (l : Link) → (change l).declared ≡ l.declared
-  pub table : (l : Link) → SerialedIn l.switch → SerialedIn (change l).switch
-
 stimulated : (x : Stimulus) (o : Option SwitchState) → SerialedIn o → SerialedIn (option_map (after_stimulus x) o)
 stimulated x None h = tt
 stimulated x (Some s) h = stimulus-serialed x s h
@@ -180,11 +161,6 @@ unfolding link_failed
 keeps-failed = record { declared = λ l. refl; table = λ l h. h }
 
 -- ---- All links
-
--- the links are of the declared switches, and their tables stand
-pub record AreLinks (declared : List Declared) (ls : List Link) : Type 0 where
-  pub declared_so : declared_in ls ≡ declared
-  pub tables : Tables ls
 
 with_link-declared : (d : ℕ) (change : Link → Link) → Keeps change → (ls : List Link) → declared_in (with_link d change ls) ≡ declared_in ls
 with_link-declared d change keeps [] = refl

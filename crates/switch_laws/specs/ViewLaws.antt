@@ -1,15 +1,15 @@
 -- What follows about views from which the keys of a log are taken out again: where all of them were added since, the earlier views.
-use Rattle.std.proofs.Common.{◌≡◌, ◌≢◌, ◌==◌, ℕ, Bool, true, false, not, ◌||◌, nat_lt, List, [], ◌∷◌, ◌++◌, filter, Option, Some, None, if◌then◌else◌, refl, sym, ap, ap₂, ◌∙◌, inl, inr, true≢false}
+use Rattle.std.proofs.Common.{◌≡◌, ◌≢◌, ◌==◌, ℕ, Bool, true, false, not, nat_lt, List, [], ◌∷◌, ◌++◌, filter, Some, refl, sym, ap, ◌∙◌, inl, inr}
 use Rattle.std.proofs.lemmas.Bool.{cases_Bool, eqb-true, eqb-false, eq-eqb, ne_eqb}
-use Rattle.std.specs.List.{list_any}
 use Rattle.of_match.specs.declared.key.Key.{Key}
 use Rattle.of_match.specs.Key.{key_number}
 use Rattle.flow_table.specs.declared.view.ViewRow.{ViewRow}
 use Rattle.flow_table.specs.declared.view.TableView.{TableView}
 use Rattle.net_txn.specs.Views.{rows_at, with_rows, with_row}
-use Rattle.net_txn.specs.ViewLaws.{with_rows-none}
 use Rattle.net_txn.specs.Arriving.{without_key}
 use Rattle.net_txn.specs.Undos.{without_keys}
+use Rattle.switch_laws.specs.Shown.{has_row}
+use Rattle.switch_laws.specs.AbsentLaws.{neither}
 
 -- ---- Rows without a key
 
@@ -26,14 +26,6 @@ swap p q (x ∷ xs) =
         | inr not_second ↦ rw (not_first, not_second) (swap p q xs)
       ]
     ]
-
--- no row has the key
-abbrev pub has_row : Key → List ViewRow → Bool
-has_row k rows = list_any (λ r. key_number r.key == key_number k) rows
-
-neither : (a b : Bool) → (a || b) ≡ false → (a ≡ false) × (b ≡ false)
-neither true b h = absurd (true≢false h)
-neither false b h = (refl, h)
 
 without_none : (k : Key) (rows : List ViewRow) → has_row k rows ≡ false → without_key k rows ≡ rows
 without_none k [] h = refl

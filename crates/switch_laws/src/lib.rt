@@ -1,6 +1,9 @@
-//! Laws of the switches of a world as the owners of their entries see them: in a world that keeps its word they go through
-//! what the switches of the reference controller go through. There is no call here but laws, each the contract of a
-//! function that does nothing; the crates above are proved against these words.
+//! Laws of the switches of a world as the owners of their entries see them: they move as those of the reference
+//! controller.
+//!
+//! There is no call here but laws, each the contract of a function that does nothing. In a world that keeps its word:
+//! `changes_are_shown` and `exchanges_are_shown` (answers and tables), `undos_are_shown`, `transactions_stand`,
+//! `histories_stand`, `flags_are_kept`. In any world: `steps_are_in_order`.
 #![tactic(auto)]
 
 mod exchange;

@@ -9,7 +9,8 @@ ghost use Rattle.outside.specs.Seen.{Seen, journal};
 ghost use Rattle.net_txn.specs.Net.{NetState};
 ghost use Rattle.net_txn.specs.Changes.{Changes};
 ghost use Rattle.net_txn.specs.Undos.{Undoes};
-ghost use Rattle.switch_laws.specs.Orderly.{IsOrderly, OrderlySince};
+ghost use Rattle.switch_laws.specs.Orderly.{OrderlySince};
+ghost use Rattle.lego_model.specs.OrderlySteps.{IsOrderly};
 
 use outside::World;
 

@@ -1,2 +1,4 @@
-pub mod ChainShown
-pub mod StopShown
+pub mod ChainLaws
+pub mod StopLaws
+pub mod Chain
+pub mod Stop

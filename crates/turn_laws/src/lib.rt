@@ -1,5 +1,7 @@
-//! Laws of turns: in a world that keeps its word a turn of an application goes as the reference controller plays it. There is no
-//! call here but laws, each the contract of a function that does nothing.
+//! Laws of turns: in a world that keeps its word, a turn goes as the reference controller plays it.
+//!
+//! There is no call here but laws, each the contract of a function that does nothing: `turns_are_shown`, and
+//! `stops_are_plain` (a turn that stops does so by a link or for want of memory).
 #![tactic(auto)]
 
 mod turns;

@@ -6,15 +6,15 @@ ghost use Rattle.lego_model.specs.Places.{Place};
 ghost use Rattle.outside.specs.Seen.{Seen};
 ghost use Rattle.outside.specs.State.{state};
 ghost use Rattle.outside.specs.Conforming.{Conforming};
-ghost use Rattle.net_txn.specs.declared.fault.TxnFault.{TxnFault};
+ghost use Rattle.lego_model.specs.declared.fault.TxnFault.{TxnFault};
 ghost use Rattle.net_txn.specs.Net.{NetState};
 ghost use Rattle.app_visor.specs.declared.state.TurnEnd.{TurnEnd};
 ghost use Rattle.app_visor.specs.Beats.{Stops};
 ghost use Rattle.app_visor.specs.Turns.{reply_by, Turns};
 ghost use Rattle.switch_laws.specs.Shown.{shown_places};
 ghost use Rattle.switch_laws.specs.Since.{Ready};
-ghost use Rattle.turn_laws.specs.ChainShown.{PlayedAlike};
-ghost use Rattle.turn_laws.specs.StopShown.{IsPlainStop};
+ghost use Rattle.turn_laws.specs.Chain.{PlayedAlike};
+ghost use Rattle.turn_laws.specs.Stop.{IsPlainStop};
 
 use outside::World;
 

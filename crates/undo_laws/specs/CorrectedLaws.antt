@@ -17,8 +17,8 @@ use Rattle.undo_laws.specs.LookupLaws.{filter-same}
 use Rattle.undo_laws.specs.Serials.{IsSerialed}
 use Rattle.undo_laws.specs.SerialsLaws.{IsSerialed-from, ComeFrom-map}
 use Rattle.undo_laws.specs.Log.{Remove, PutBack, GiveActions, logged_addition, logged, give_actions, back, undo_one}
-use Rattle.undo_laws.specs.Playing.{Plays}
-use Rattle.undo_laws.specs.PlayingLaws.{removal-plays, modification-plays, addition-plays}
+use Rattle.undo_laws.specs.Reverting.{Reverts}
+use Rattle.undo_laws.specs.RevertingLaws.{removal-reverts, modification-reverts, addition-reverts, map-same}
 use Rattle.undo_laws.specs.Corrected.{IsCorrection, AgreeBut, corrected, AsksTheSame}
 
 -- ---- Lists of entries
@@ -182,10 +182,6 @@ logged-asked sent m es a =
       filter-same (deletes sent) (deletes m) (deletes-asked sent m a) es,
     ) refl
 
-map-pointwise : (f g : Entry → Entry) → ((e : Entry) → f e ≡ g e) → (es : List Entry) → map f es ≡ map g es
-map-pointwise f g same [] = refl
-map-pointwise f g same (e ∷ es) = ap₂ (λ x xs. x ∷ xs) (same e) (map-pointwise f g same es)
-
 -- ---- Changes
 
 kept-entries : (now serial : ℕ) (g : Entry → Entry) (sent m : FlowMod) (es : List Entry) → IsCorrection g → AsksTheSame sent m → adds m es ≡ false → map g (entries_after now serial sent es) ≡ entries_after now serial m (map g es)
@@ -194,7 +190,7 @@ kept-entries now serial g sent m es c a keeps =
     let shown : adds m (map g es) ≡ false = adds-corrected g c m es ∙ keeps in
     elim (cases_Bool (is_modify m)) [
       | inl modifies ↦
-          ap (map g) (entries_after-modify now serial sent es still (modify-asked sent m a ∙ modifies) ∙ map-pointwise (modified sent) (modified m) (modified-asked sent m a) es)
+          ap (map g) (entries_after-modify now serial sent es still (modify-asked sent m a ∙ modifies) ∙ map-same (modified sent) (modified m) (modified-asked sent m a) es)
           ∙ sym (entries_after-modify now serial m (map g es) shown modifies ∙ map-shown (modified m) g (modified-shown g c m) es)
       | inr removes ↦
           let left : (f : FlowMod) (e : Entry) → Bool = λ f e. not (deletes f e) in
@@ -229,18 +225,18 @@ addition-corrected now g h sent m t is c d agree a puts new =
     rw (after, still, shown) refl
 
 -- an entry that is put back, which is shown as it was
-pub put_back-corrected : (now : ℕ) (g h : Entry → Entry) (e : Entry) (m : FlowMod) (t : TableState) → IsTable t.entries → IsCorrection g → IsCorrection h → AgreeBut e.key g h → Plays (PutBack e) m → h (new_entry now t.next m) ≡ back now t.next e → corrected h (changed now m t) ≡ undo_one now (PutBack e) (corrected g t)
+pub put_back-corrected : (now : ℕ) (g h : Entry → Entry) (e : Entry) (m : FlowMod) (t : TableState) → IsTable t.entries → IsCorrection g → IsCorrection h → AgreeBut e.key g h → Reverts (PutBack e) m → h (new_entry now t.next m) ≡ back now t.next e → corrected h (changed now m t) ≡ undo_one now (PutBack e) (corrected g t)
 unfolding undo_one
-put_back-corrected now g h e m t is c d agree plays new =
+put_back-corrected now g h e m t is c d agree reverts new =
     let n : Entry = new_entry now t.next m in
-    let at : n.key ≡ e.key = new-key now t.next m ∙ plays.key in
-    ap (corrected h) (addition-plays now e m t plays)
+    let at : n.key ≡ e.key = new-key now t.next m ∙ reverts.key in
+    ap (corrected h) (addition-reverts now e m t reverts)
     ∙ ap (λ (es : List Entry). record { entries = es; next = t.next + 1 })
     (with_entry-shown g h n (key_number-shown g c) (key_number-shown h d n) (λ f other. agree f (λ same. other (same ∙ sym (ap key_number at)))) t.entries 0 is
     ∙ ap (λ x. with_entry x (map g t.entries)) new)
 
-pub remove-corrected : (now : ℕ) (g : Entry → Entry) (k : Key) (m : FlowMod) (t : TableState) → IsCorrection g → Plays (Remove k) m → corrected g (changed now m t) ≡ undo_one now (Remove k) (corrected g t)
-remove-corrected now g k m t c plays = ap (corrected g) (removal-plays now k m t plays) ∙ removal-corrected g c now k t
+pub remove-corrected : (now : ℕ) (g : Entry → Entry) (k : Key) (m : FlowMod) (t : TableState) → IsCorrection g → Reverts (Remove k) m → corrected g (changed now m t) ≡ undo_one now (Remove k) (corrected g t)
+remove-corrected now g k m t c reverts = ap (corrected g) (removal-reverts now k m t reverts) ∙ removal-corrected g c now k t
 
-pub give-corrected : (now : ℕ) (g : Entry → Entry) (k : Key) (actions : List Action) (m : FlowMod) (t : TableState) → IsCorrection g → IsSome (entry_at k t.entries) → Plays (GiveActions k actions) m → corrected g (changed now m t) ≡ undo_one now (GiveActions k actions) (corrected g t)
-give-corrected now g k actions m t c some plays = ap (corrected g) (modification-plays now k actions m t some plays) ∙ actions-corrected g c now k actions t
+pub give-corrected : (now : ℕ) (g : Entry → Entry) (k : Key) (actions : List Action) (m : FlowMod) (t : TableState) → IsCorrection g → IsSome (entry_at k t.entries) → Reverts (GiveActions k actions) m → corrected g (changed now m t) ≡ undo_one now (GiveActions k actions) (corrected g t)
+give-corrected now g k actions m t c some reverts = ap (corrected g) (modification-reverts now k actions m t some reverts) ∙ actions-corrected g c now k actions t

@@ -18,8 +18,8 @@ use Rattle.undo_laws.specs.Stands.{used_at, Standing, Stands, is_gone}
 use Rattle.undo_laws.specs.StandingLaws.{IsBelow, Changes, stays, comes, gives_way, goes, acts, after_goes, before_puts}
 use Rattle.undo_laws.specs.StandsLaws.{Changes-changed, used_by_key, undo-restores}
 use Rattle.undo_laws.specs.Same.{SameButSerials}
-use Rattle.undo_laws.specs.Playing.{CanPlay, SameKeys}
-use Rattle.undo_laws.specs.PlayingLaws.{StandsIn, stand-itself, length-same_keys, can-gives, can-addition, keys-replaced, CanPlay-fits, CanPlay-append, CanPlay-same_keys}
+use Rattle.undo_laws.specs.Reverting.{CanRevert, SameKeys}
+use Rattle.undo_laws.specs.RevertingLaws.{StandsIn, stand-itself, length-same_keys, can-gives, can-addition, keys-replaced, CanRevert-fits, CanRevert-append, CanRevert-same_keys}
 use Rattle.std.proofs.lemmas.List.Elements.{All-head, All-tail, All-filter}
 use Rattle.flow_table.specs.Undone.{used_or, undone}
 
@@ -172,13 +172,13 @@ used-in_flight now earlier log m t k e h was =
       | inr (gone, anew) ↦ inr (gone, after ∙ anew)
     ]
 
--- the log with it, played backwards, gives the table that is restored from there
+-- the log with it, reverted backwards, gives the table that is restored from there
 pub undo-in_flight : (now : ℕ) (earlier : TableState) (log : List Inverse) (m : FlowMod) (t : TableState) → Stands now earlier log t → SameButSerials (undo now (log ++ logged m t.entries) t).entries (undone earlier (undo now (logged m t.entries) t) now).entries
 undo-in_flight now earlier log m t h =
     ap (λ (u : TableState). map seen u.entries) (undo-append now log (logged m t.entries) t)
     ∙ undo-restores now earlier log (undo now (logged m t.entries) t) (Stands-in_flight now earlier log m t h)
 
--- ---- It can be played all the same.
+-- ---- It can be reverted all the same.
 
 some-redone : (now least : ℕ) (j : Image) (o p : Option Entry) → Redone now least j o p → is_some p ≡ is_some o
 some-redone now least j o p (inl same) = ap is_some same
@@ -200,14 +200,14 @@ same_again now (d ∷ ds) t stand k =
     let rest = same_again now ds t (All-tail (StandsIn t) d ds stand) in
     same_one now d u (rest d.key ∙ All-head (StandsIn t) d ds stand) k ∙ rest k
 
-can-again : (cap now : ℕ) (ds : List Entry) (t : TableState) → IsSerialed t → length t.entries ≤ cap → All (StandsIn t) ds → CanPlay cap now (map old_entry ds) t
+can-again : (cap now : ℕ) (ds : List Entry) (t : TableState) → IsSerialed t → length t.entries ≤ cap → All (StandsIn t) ds → CanRevert cap now (map old_entry ds) t
 can-again cap now [] t h fits stand = fits
 can-again cap now (d ∷ ds) t h fits stand =
     let log : List Inverse = map old_entry (d ∷ ds) in
     let long = length-same_keys (undo now log t).entries t.entries (IsSerialed-undo now log t h).table h.table (same_again now (d ∷ ds) t stand) in
     (can-again cap now ds t h fits (All-tail (StandsIn t) d ds stand), tt, omega arith)
 
-can-logged_still : (cap now : ℕ) (m : FlowMod) (t : TableState) → IsSerialed t → length t.entries ≤ cap → length (undo now (logged m t.entries) t).entries ≤ cap → CanPlay cap now (logged m t.entries) t
+can-logged_still : (cap now : ℕ) (m : FlowMod) (t : TableState) → IsSerialed t → length t.entries ≤ cap → length (undo now (logged m t.entries) t).entries ≤ cap → CanRevert cap now (logged m t.entries) t
 unfolding logged
 can-logged_still cap now m t h fits after =
     elim (cases_Bool (adds m t.entries)) [
@@ -220,11 +220,11 @@ can-logged_still cap now m t h fits after =
       ]
     ]
 
-pub CanPlay-in_flight : (cap now : ℕ) (log : List Inverse) (m : FlowMod) (t : TableState) → IsSerialed t → CanPlay cap now log t → CanPlay cap now (log ++ logged m t.entries) t
-CanPlay-in_flight cap now log m t h can =
+pub CanRevert-in_flight : (cap now : ℕ) (log : List Inverse) (m : FlowMod) (t : TableState) → IsSerialed t → CanRevert cap now log t → CanRevert cap now (log ++ logged m t.entries) t
+CanRevert-in_flight cap now log m t h can =
     let l : List Inverse = logged m t.entries in
     let i = IsSerialed-undo now l t h in
-    let fits = CanPlay-fits cap now log t can in
+    let fits = CanRevert-fits cap now log t can in
     let long = length-same_keys (undo now l t).entries t.entries i.table h.table (SameKeys-redone now m t h) in
-    CanPlay-append cap now log l t (can-logged_still cap now m t h fits (omega arith))
-    (CanPlay-same_keys cap now log t (undo now l t) h i (λ k. sym (SameKeys-redone now m t h k)) can)
+    CanRevert-append cap now log l t (can-logged_still cap now m t h fits (omega arith))
+    (CanRevert-same_keys cap now log t (undo now l t) h i (λ k. sym (SameKeys-redone now m t h k)) can)

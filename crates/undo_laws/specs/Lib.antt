@@ -9,8 +9,8 @@ pub mod LogLaws
 pub mod Stands
 pub mod StandingLaws
 pub mod StandsLaws
-pub mod Playing
-pub mod PlayingLaws
+pub mod Reverting
+pub mod RevertingLaws
 pub mod Same
 pub mod SameLaws
 pub mod RestoredLaws

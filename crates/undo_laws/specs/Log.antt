@@ -1,4 +1,4 @@
--- What a log holds of changes to one flow table, and what playing it backwards gives. A log is oldest first; it is played newest
+-- What a log holds of changes to one flow table, and what reverting it backwards gives. A log is oldest first; it is reverted newest
 -- first. All of it is our own: OpenFlow 1.0.0 has no undo, only messages that change entries (4.6 Flow Table Modification Messages).
 use Rattle.std.specs.Prelude.{◌==◌, ℕ, ◌+◌, List, [], ◌∷◌, map, filter, Option, Some, None, if◌then◌else◌}
 use Rattle.std.specs.Option.{option_map}
@@ -65,7 +65,7 @@ undo_one now (Remove k) t = record t { entries = without k t.entries }
 undo_one now (PutBack e) t = record { entries = with_entry (back now t.next e) t.entries; next = t.next + 1 }
 undo_one now (GiveActions k actions) t = record t { entries = map (give_actions k actions) t.entries }
 
--- the table after a log is played backwards at a moment
+-- the table after a log is reverted backwards at a moment
 unfoldable pub undo : ℕ → List Inverse → TableState → TableState
 undo now [] t = t
 undo now (x ∷ log) t = undo_one now x (undo now log t)
@@ -101,7 +101,7 @@ unfoldable pub image_of : Key → List Inverse → Image
 image_of k [] = Untouched
 image_of k (x ∷ log) = merge (image_at k x) (image_of k log)
 
--- what stands under a key after its image is played back, but for the serial
+-- what stands under a key after its image is reverted back, but for the serial
 abbrev pub given_back : ℕ → Image → Option Entry → Option Entry
 given_back now Untouched o = o
 given_back now Absent o = None

@@ -145,7 +145,7 @@ Undoes-seen (removes o p is) = ap (option_map seen) is
 Undoes-seen (puts e o p is) = ap (option_map seen) is
 Undoes-seen (gives actions o p is) = ap (option_map seen) is
 
--- but for serials, a log played backwards gives at each key what its image there gives back
+-- but for serials, a log reverted backwards gives at each key what its image there gives back
 pub undo-image : (now : ℕ) (k : Key) (log : List Inverse) (t : TableState) → IsSerialed t → option_map seen (entry_at k (undo now log t).entries) ≡ option_map seen (given_back now (image_of k log) (entry_at k t.entries))
 unfolding undo image_of
 undo-image now k [] t h = refl

@@ -17,7 +17,7 @@ use Rattle.undo_laws.specs.LogLaws.{given_back-merge, given_back-seen, image_of-
 use Rattle.undo_laws.specs.Stands.{used_at, restored_at, Standing, Stands}
 use Rattle.undo_laws.specs.StandingLaws.{IsBelow}
 use Rattle.undo_laws.specs.StandsLaws.{used_by_key, undo-restores}
-use Rattle.undo_laws.specs.Playing.{SameKeys}
+use Rattle.undo_laws.specs.Reverting.{SameKeys}
 use Rattle.undo_laws.specs.Same.{SameButSerials}
 use Rattle.undo_laws.specs.SameLaws.{adds-seen, filter-seen, image-seen, same-undo}
 

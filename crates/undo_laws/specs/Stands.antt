@@ -1,4 +1,4 @@
--- When a log, played backwards, gives back an earlier table: said key by key, with what makes it last through further changes and
+-- When a log, reverted backwards, gives back an earlier table: said key by key, with what makes it last through further changes and
 -- through undos of newer parts of the log. The moment stays from the earlier table on.
 use Rattle.std.specs.Prelude.{◌≡◌, ◌==◌, ℕ, ◌<◌, ◌≤◌, Bool, true, false, List, Option, Some, None, if◌then◌else◌}
 use Rattle.std.specs.Option.{option_map}

@@ -243,7 +243,7 @@ restored_by_key : (now : ℕ) (es : List Entry) (present o : Option Entry) → (
 restored_by_key now es present None same = refl
 restored_by_key now es present (Some e) same = ap (λ (u : ℕ). Some (seen (record e { used = u }))) (sym (same e refl))
 
--- a log that stands, played backwards, gives the earlier table as it is to be restored
+-- a log that stands, reverted backwards, gives the earlier table as it is to be restored
 pub undo-restores : (now : ℕ) (earlier : TableState) (log : List Inverse) (t : TableState) → Stands now earlier log t → map seen (undo now log t).entries ≡ map seen (undone earlier t now).entries
 unfolding undone
 undo-restores now earlier log t h =

@@ -38,7 +38,7 @@ pub fn additions_are_kept()
 {}
 
 /// Removals of all keys that were added give back the earlier table, each entry as it was, in whatever order they
-/// are played: newest first as well.
+/// are reverted: newest first as well.
 pub fn removals_restore()
     ensures restores { (now : ℕ) (ks ls : List Key) (ms : List FlowMod) (before : List Entry) (t : TableState)
         → IsTable before → IsTable t.entries → OnlyAdded ks before t.entries

@@ -9,7 +9,7 @@ ghost use Rattle.flow_table.specs.Table.{TableState, IsTable, entry_at};
 ghost use Rattle.flow_table.specs.Change.{key_in, adds, deletes, refusal, changed, new_entry};
 ghost use Rattle.undo_laws.specs.Serials.{IsSerialed};
 ghost use Rattle.undo_laws.specs.Log.{Remove, PutBack, GiveActions, logged, back, undo_one};
-ghost use Rattle.undo_laws.specs.Playing.{Plays};
+ghost use Rattle.undo_laws.specs.Reverting.{Reverts};
 ghost use Rattle.undo_laws.specs.Corrected.{IsCorrection, AgreeBut, corrected, AsksTheSame};
 
 /// A message with the engine's own flags, buffer, cookie and timeouts is refused alike and logs the same.
@@ -35,16 +35,16 @@ pub fn changes_are_shown()
         → corrected after (changed now sent t) ≡ changed now m (corrected shown t) }
 {}
 
-/// The messages that play inverses do to the table as it is shown what the inverses say. Where an entry is put
+/// The messages that revert inverses do to the table as it is shown what the inverses say. Where an entry is put
 /// back, what is shown of its key alone is new.
 pub fn inverses_are_shown()
     ensures removal { (now : ℕ) (shown : Entry → Entry) (k : Key) (m : FlowMod) (t : TableState) → IsCorrection shown
-        → Plays (Remove k) m → corrected shown (changed now m t) ≡ undo_one now (Remove k) (corrected shown t) }
+        → Reverts (Remove k) m → corrected shown (changed now m t) ≡ undo_one now (Remove k) (corrected shown t) }
     ensures actions { (now : ℕ) (shown : Entry → Entry) (k : Key) (actions : List Action) (m : FlowMod) (t : TableState)
-        → IsCorrection shown → IsSome (entry_at k t.entries) → Plays (GiveActions k actions) m
+        → IsCorrection shown → IsSome (entry_at k t.entries) → Reverts (GiveActions k actions) m
         → corrected shown (changed now m t) ≡ undo_one now (GiveActions k actions) (corrected shown t) }
     ensures put_back { (now : ℕ) (shown after : Entry → Entry) (e : Entry) (m : FlowMod) (t : TableState) → IsTable t.entries
-        → IsCorrection shown → IsCorrection after → AgreeBut e.key shown after → Plays (PutBack e) m
+        → IsCorrection shown → IsCorrection after → AgreeBut e.key shown after → Reverts (PutBack e) m
         → after (new_entry now t.next m) ≡ back now t.next e
         → corrected after (changed now m t) ≡ undo_one now (PutBack e) (corrected shown t) }
 {}

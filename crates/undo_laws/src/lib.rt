@@ -1,12 +1,14 @@
-//! Exact undo on a flow table: what a log of changes holds, what playing it backwards gives, and that this is
-//! the earlier table. There is no call here but laws, each the contract of a function that does nothing; the
-//! crates above are proved against these words.
+//! Laws of exact undo on one flow table, for all five commands, and of switches as the owners of their entries see them.
+//!
+//! There is no call here but laws, each the contract of a function that does nothing. `removals_restore`, `undo_restores`
+//! and `undo_agrees`: a log that is undone gives the earlier table. `logs_stand`: changes, refusals and inner undos keep
+//! every mark. `no_inverse_is_refused`. `owners_see`: flags that the engine adds change nothing that owners see.
 #![tactic(auto)]
 
 mod adding;
 mod corrected;
 mod owned;
-mod playing;
+mod reverting;
 mod same;
 mod serials;
 mod undoing;
@@ -14,7 +16,7 @@ mod undoing;
 pub use adding::{additions_are_kept, removal_is_exact, removals_restore};
 pub use corrected::{changes_are_shown, inverses_are_shown, same_is_asked};
 pub use owned::owners_see;
-pub use playing::{logs_can_be_played, messages_play, no_inverse_is_refused};
+pub use reverting::{logs_can_be_reverted, messages_revert, no_inverse_is_refused};
 pub use same::{same_changes, same_events, undo_agrees};
 pub use serials::{serials_differ, used_is_by_serial};
 pub use undoing::{change_in_flight, logs_stand, longer_logs, undo_is_by_key, undo_restores};

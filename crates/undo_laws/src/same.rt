@@ -15,7 +15,7 @@ ghost use Rattle.flow_table.specs.Step.{flow_removed};
 ghost use Rattle.flow_table.specs.Undone.{undone};
 ghost use Rattle.undo_laws.specs.Log.{Inverse, logged, undo, seen};
 ghost use Rattle.undo_laws.specs.Stands.{Stands};
-ghost use Rattle.undo_laws.specs.Playing.{SameKeys};
+ghost use Rattle.undo_laws.specs.Reverting.{SameKeys};
 ghost use Rattle.undo_laws.specs.Same.{SameButSerials};
 
 /// A change does the same to both: it is refused alike, logs and tells the same, and leaves them the same.
@@ -45,7 +45,7 @@ pub fn same_events()
         → SameButSerials (selected m out_port es) (selected m out_port fs) }
 {}
 
-/// A log that stands for one table, played backwards on another that is the same but for serials, gives the restored
+/// A log that stands for one table, reverted backwards on another that is the same but for serials, gives the restored
 /// one; and in a table that is so restored, the log of a still earlier table up to there stands again.
 pub fn undo_agrees()
     ensures undo { (now : ℕ) (log : List Inverse) (t u : TableState) → SameButSerials t.entries u.entries

@@ -11,12 +11,12 @@ ghost use Rattle.flow_table.specs.Change.{refusal, changed, change};
 ghost use Rattle.flow_table.specs.Undone.{undone, used_or};
 ghost use Rattle.undo_laws.specs.Serials.{IsSerialed};
 ghost use Rattle.undo_laws.specs.Log.{Inverse, Image, logged, logged_by, undo, merge, image_of, given_back, seen};
-ghost use Rattle.undo_laws.specs.Playing.{CanPlay};
+ghost use Rattle.undo_laws.specs.Reverting.{CanRevert};
 ghost use Rattle.undo_laws.specs.Same.{SameButSerials};
 ghost use Rattle.undo_laws.specs.Stands.{Stands, is_gone};
 
-/// What a longer log says of a key is the older image and the newer one in one, and playing them one after the
-/// other is playing both in one.
+/// What a longer log says of a key is the older image and the newer one in one, and reverting them one after the
+/// other is reverting both in one.
 pub fn longer_logs()
     ensures image { (k : Key) (older newer : List Inverse)
         → image_of k (older ++ newer) ≡ merge (image_of k older) (image_of k newer) }
@@ -26,7 +26,7 @@ pub fn longer_logs()
         → undo now (older ++ newer) t ≡ undo now older (undo now newer t) }
 {}
 
-/// A log that is played backwards gives at each key what its image there gives back, but for the serial.
+/// A log that is reverted backwards gives at each key what its image there gives back, but for the serial.
 pub fn undo_is_by_key()
     ensures image { (now : ℕ) (k : Key) (log : List Inverse) (t : TableState) → IsSerialed t
         → option_map seen (entry_at k (undo now log t).entries)
@@ -51,7 +51,7 @@ pub fn logs_stand()
         → ((k : Key) → image_of k other ≡ image_of k log) → Stands now earlier log t → Stands now earlier other t }
 {}
 
-/// Exact undo: the log since an earlier table, played backwards, gives that table back but for serials, each entry
+/// Exact undo: the log since an earlier table, reverted backwards, gives that table back but for serials, each entry
 /// used when it was, and now where it had been removed meanwhile.
 pub fn undo_restores()
     ensures { (now : ℕ) (earlier : TableState) (log : List Inverse) (t : TableState) → Stands now earlier log t
@@ -72,6 +72,6 @@ pub fn change_in_flight()
         → (used_or now e.serial (undo now (logged m t.entries) t).entries ≡ used_or now e.serial t.entries)
         ⊎ ((is_gone (image_of k (logged m t.entries)) ≡ true)
         × (used_or now e.serial (undo now (logged m t.entries) t).entries ≡ now)) }
-    ensures played { (cap now : ℕ) (log : List Inverse) (m : FlowMod) (t : TableState) → IsSerialed t → CanPlay cap now log t
-        → CanPlay cap now (log ++ logged m t.entries) t }
+    ensures reverted { (cap now : ℕ) (log : List Inverse) (m : FlowMod) (t : TableState) → IsSerialed t → CanRevert cap now log t
+        → CanRevert cap now (log ++ logged m t.entries) t }
 {}

@@ -1,6 +1,6 @@
 use Rattle.std.proofs.Common.{◌∙◌}
 use Rattle.std.proofs.lemmas.Result.{err_from_is_err_and}
-use Rattle.net_txn.specs.declared.fault.TxnFault.TheVariants.{NoMemory}
+use Rattle.lego_model.specs.declared.fault.TxnFault.TheVariants.{NoMemory}
 use Rattle.app_visor.specs.ResultLaws.{err_so}
 use Rattle.app_visor.specs.ReadLaws.{Wants-refl}
 use Rattle.app_visor.specs.Beats.{IsExchange, exchange_of}

@@ -7,7 +7,7 @@ use Rattle.app_visor.specs.OwnLaws.{own_none, own_then, own_wanting, own_started
 use Rattle.app_visor.proofs.starting.attempt.Goals as goal
 
 pub returns-then-not-branch-clause-ok : goal.returns-then-not-branch-clause-ok
-returns-then-not-branch-clause-ok g c = try_refused c.new-then-not-branch.result c.new-then-not-branch.ensures c.end.ensures (rw c.if-not-branch.true at c.in_ok-start.ensures.ok)
+returns-then-not-branch-clause-ok g c = try_refused c.new.result c.new.ensures c.end.ensures (rw c.if-not-branch.true at c.in_ok-start.ensures.ok)
 
 pub returns-then-not-branch-clause-continues : goal.returns-then-not-branch-clause-continues
 returns-then-not-branch-clause-continues g c =

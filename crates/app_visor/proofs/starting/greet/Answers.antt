@@ -20,7 +20,7 @@ returns-in_err-next_frame-clause-continues g c =
 
 pub returns-clause-ok : goal.returns-clause-ok
 returns-clause-ok g c =
-    subst (λ t. Greets g.W.World.Tells c.args.app t c.next_frame.new.intake (g.W.World.seen c.args.world.now) (g.W.World.seen c.next_frame.new.world)) (sym c.judge.ensures)
+    subst (λ t. Greets g.W.World.Tells c.args.app t c.next_frame.new.intake (g.W.World.seen c.args.world.now) (g.W.World.seen c.next_frame.new.world)) (sym c.tried_by.ensures)
     (greets_came c.args.frame.now c.in_ok-next_frame.field-0 c.requires.frame c.requires.intake (rw c.if-not-branch.false at c.in_ok-give.ensures.ok) c.in_ok-next_frame.ensures.ok)
 
 pub returns-clause-continues : goal.returns-clause-continues

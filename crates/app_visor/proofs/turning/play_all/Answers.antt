@@ -1,6 +1,6 @@
 use Rattle.std.proofs.Common.{◌≡◌, ◌+◌, ◌-◌, zero, suc, refl, ◌∙◌, arith}
 use Rattle.std.proofs.lemmas.Result.{err_from_is_err_and}
-use Rattle.net_txn.specs.declared.fault.TxnFault.TheVariants.{NoMemory}
+use Rattle.lego_model.specs.declared.fault.TxnFault.TheVariants.{NoMemory}
 use Rattle.app_visor.specs.ResultLaws.{err_so}
 use Rattle.app_visor.specs.BeatLaws.{Leads-refl, Leads-trans, stops_then, stops_breaking}
 use Rattle.app_visor.specs.PlayLaws.{goes_none, goes_more, ends_then, spent_then}
@@ -46,7 +46,7 @@ returns-in_err-next_frame-clause-err g c =
 pub returns-clause-ok : goal.returns-clause-ok
 returns-clause-ok g c =
     let none : c.args.budget - c.loop-played._played ≡ zero = omega arith in
-    rw c.judge_came.ensures (spent_then c.in_ok-next_frame.field-0 none c.loop-played.invariant.on c.in_ok-next_frame.ensures.ok)
+    rw c.cause_of.ensures (spent_then c.in_ok-next_frame.field-0 none c.loop-played.invariant.on c.in_ok-next_frame.ensures.ok)
 
 pub returns-in_err-end-clause-talks : goal.returns-in_err-end-clause-talks
 returns-in_err-end-clause-talks g c =

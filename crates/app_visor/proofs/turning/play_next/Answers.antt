@@ -1,6 +1,6 @@
 use Rattle.std.proofs.Common.{refl}
 use Rattle.std.proofs.lemmas.Result.{err_from_is_err_and, IfOk-weaker, on_ok_weaker, on_err_weaker}
-use Rattle.net_txn.specs.declared.fault.TxnFault.TheVariants.{NoMemory}
+use Rattle.lego_model.specs.declared.fault.TxnFault.TheVariants.{NoMemory}
 use Rattle.app_visor.specs.ResultLaws.{err_so, err_then}
 use Rattle.app_visor.specs.BeatLaws.{Leads-trans, leads_comes, stops_then, stops_breaking}
 use Rattle.app_visor.specs.PlayLaws.{plays_came, ends_over, not_frame}
@@ -31,7 +31,7 @@ returns-in_default g c = record {
   same_reference = refl;
   start = refl;
   leads = leads_comes c.in_ok-came.came c.args.txn.now.net.now c.in_ok-came.ensures.ok;
-  ok = rw c.judge_came.ensures (ends_over g.W.World.Tells (g.J.Judge.accepts c.args.judge.now) c.args.app c.in_ok-came.came c.args.intake.now c.next_frame.new.intake (g.W.World.seen c.args.world.now)
+  ok = rw c.cause_of.ensures (ends_over g.W.World.Tells (g.J.Judge.accepts c.args.judge.now) c.args.app c.in_ok-came.came c.args.intake.now c.next_frame.new.intake (g.W.World.seen c.args.world.now)
       (g.W.World.seen c.next_frame.new.world) c.args.txn.now.net.now (not_frame c.in_ok-came.came c.in_default.not-Frame) c.in_ok-came.ensures.ok);
   err = tt;
   talks = tt;

@@ -1,5 +1,5 @@
 use Rattle.event_dispatch.specs.TalkingLaws.{keeps_next}
-use Rattle.event_dispatch.specs.NextQuietLaws.{next_quietly, next_in_place}
+use Rattle.event_dispatch.specs.NextPointLaws.{next_quietly, next_in_place}
 use Rattle.event_dispatch.proofs.batch.next_item.Goals as goal
 
 pub returns-in-Ok-clause-talks : goal.returns-in-Ok-clause-talks
@@ -11,20 +11,20 @@ returns-in-Err-Failed-clause-talks g c = keeps_next c.next.ensures
 pub returns-in-Err-Short-clause-talks : goal.returns-in-Err-Short-clause-talks
 returns-in-Err-Short-clause-talks g c = keeps_next c.next.ensures
 
-pub returns-in-Ok-clause-quietly : goal.returns-in-Ok-clause-quietly
-returns-in-Ok-clause-quietly g c = next_quietly c.next.ensures
+pub returns-in-Ok-clause-no_point : goal.returns-in-Ok-clause-no_point
+returns-in-Ok-clause-no_point g c = next_quietly c.next.ensures
 
 pub returns-in-Ok-clause-places : goal.returns-in-Ok-clause-places
 returns-in-Ok-clause-places g c = next_in_place c.next.ensures
 
-pub returns-in-Err-Failed-clause-quietly : goal.returns-in-Err-Failed-clause-quietly
-returns-in-Err-Failed-clause-quietly g c = next_quietly c.next.ensures
+pub returns-in-Err-Failed-clause-no_point : goal.returns-in-Err-Failed-clause-no_point
+returns-in-Err-Failed-clause-no_point g c = next_quietly c.next.ensures
 
 pub returns-in-Err-Failed-clause-places : goal.returns-in-Err-Failed-clause-places
 returns-in-Err-Failed-clause-places g c = next_in_place c.next.ensures
 
-pub returns-in-Err-Short-clause-quietly : goal.returns-in-Err-Short-clause-quietly
-returns-in-Err-Short-clause-quietly g c = next_quietly c.next.ensures
+pub returns-in-Err-Short-clause-no_point : goal.returns-in-Err-Short-clause-no_point
+returns-in-Err-Short-clause-no_point g c = next_quietly c.next.ensures
 
 pub returns-in-Err-Short-clause-places : goal.returns-in-Err-Short-clause-places
 returns-in-Err-Short-clause-places g c = next_in_place c.next.ensures

@@ -9,8 +9,8 @@ returns-clause-leaves g c = record { shown = λ told keeps. end-leaves g.W.World
 pub returns-clause-talks : goal.returns-clause-talks
 returns-clause-talks g c = keeps_ended g.W.World.Tells (g.W.World.seen c.args.world.now) (g.W.World.seen c.end.new.self) c.end.ensures
 
-pub returns-clause-quietly : goal.returns-clause-quietly
-returns-clause-quietly g c = end_quietly g.W.World.Tells (g.W.World.seen c.args.world.now) (g.W.World.seen c.end.new.self) c.end.ensures
+pub returns-clause-no_point : goal.returns-clause-no_point
+returns-clause-no_point g c = end_quietly g.W.World.Tells (g.W.World.seen c.args.world.now) (g.W.World.seen c.end.new.self) c.end.ensures
 
 pub returns-clause-places : goal.returns-clause-places
 returns-clause-places g c = end_places g.W.World.Tells (g.W.World.seen c.args.world.now) (g.W.World.seen c.end.new.self) c.end.ensures

@@ -1,15 +1,14 @@
 use Rattle.event_dispatch.specs.declared.served.Served.TheVariants as ends
 use Rattle.event_dispatch.specs.WholeLaws.{runs_done, runs_by, runs_short}
-use Rattle.event_dispatch.specs.PlainLaws.{err_is, whole_anyway}
+use Rattle.event_dispatch.specs.PlainLaws.{whole_anyway}
+use Rattle.event_dispatch.specs.CutLaws.{if_err, short_cut}
 use Rattle.event_dispatch.specs.Plain.{PlainWhole}
-use Rattle.run_laws.specs.FirstLaws.{engine_at_first}
+use Rattle.run_laws.specs.First.{engine_at_first}
 use Rattle.std.proofs.Common.{subst}
 use Rattle.run_laws.specs.Engine.{Engine}
 use Rattle.event_dispatch.specs.declared.served.Served.{Served}
-use Rattle.event_dispatch.specs.Cut.{CutAs}
-use Rattle.event_dispatch.specs.CutLaws.{if_err, short_cut}
-use Rattle.event_dispatch.specs.Steady.{InPlace}
-use Rattle.event_dispatch.specs.Cut.{HasRead, ReadsEnd}
+use Rattle.event_dispatch.specs.Cut.{CutAs, HasRead, ReadsEnd}
+use Rattle.event_dispatch.specs.Steady.{NoStray}
 use Rattle.event_dispatch.specs.SteadyLaws.{places_none}
 use Rattle.event_dispatch.specs.ReadLaws.{reads_as}
 use Rattle.event_dispatch.proofs.whole.run.Goals as goal
@@ -20,27 +19,27 @@ returns-in_err-run-clause-runs g c = runs_short g.W.World.Tells (g.J.Judge.accep
 pub returns-in_err-buf-clause-runs : goal.returns-in_err-buf-clause-runs
 returns-in_err-buf-clause-runs g c = runs_short g.W.World.Tells (g.J.Judge.accepts c.args.judge.now) (g.K.Sink.contents c.args.sink.now) (g.K.Sink.contents c.args.sink.now) (g.W.World.seen c.args.world.now) (g.W.World.seen c.args.world.now) c.from_residual-in_err-buf.result c.from_residual-in_err-buf.ensures.1
 
-pub returns-in_err-go_to_end-clause-runs : goal.returns-in_err-go_to_end-clause-runs
-returns-in_err-go_to_end-clause-runs g c =
-    runs_by g.W.World.Tells (g.J.Judge.accepts c.args.judge.now) (g.K.Sink.contents c.args.sink.now) (g.K.Sink.contents c.go_to_end.new.sink) (g.W.World.seen c.args.world.now) (g.W.World.seen c.go_to_end.new.world) c.in_ok-run.run' c.go_to_end.new.run c.in_err-go_to_end.field-0.0 c.from_residual-in_err-go_to_end.result c.from_residual-in_err-go_to_end.ensures.1 c.in_ok-run.ensures.first
-    c.in_err-go_to_end.ensures.goes
+pub returns-in_err-run_then_end-clause-runs : goal.returns-in_err-run_then_end-clause-runs
+returns-in_err-run_then_end-clause-runs g c =
+    runs_by g.W.World.Tells (g.J.Judge.accepts c.args.judge.now) (g.K.Sink.contents c.args.sink.now) (g.K.Sink.contents c.run_then_end.new.sink) (g.W.World.seen c.args.world.now) (g.W.World.seen c.run_then_end.new.world) c.in_ok-run.run' c.run_then_end.new.run c.in_err-run_then_end.field-0.0 c.from_residual-in_err-run_then_end.result c.from_residual-in_err-run_then_end.ensures.1 c.in_ok-run.ensures.first
+    c.in_err-run_then_end.ensures.goes
 
 pub returns-clause-runs : goal.returns-clause-runs
 returns-clause-runs g c =
-    runs_done g.W.World.Tells (g.J.Judge.accepts c.args.judge.now) (g.K.Sink.contents c.args.sink.now) (g.K.Sink.contents c.go_to_end.new.sink) (g.W.World.seen c.args.world.now) (g.W.World.seen c.go_to_end.new.world) c.in_ok-run.run' c.go_to_end.new.run c.in_ok-run.ensures.first c.in_ok-go_to_end.ensures.goes
+    runs_done g.W.World.Tells (g.J.Judge.accepts c.args.judge.now) (g.K.Sink.contents c.args.sink.now) (g.K.Sink.contents c.run_then_end.new.sink) (g.W.World.seen c.args.world.now) (g.W.World.seen c.run_then_end.new.world) c.in_ok-run.run' c.run_then_end.new.run c.in_ok-run.ensures.first c.in_ok-run_then_end.ensures.goes
 
 pub returns-in_err-run-clause-plain : goal.returns-in_err-run-clause-plain
 returns-in_err-run-clause-plain g c =
-    err_is (PlainWhole g.W.World.Tells (g.J.Judge.accepts c.args.judge.now) (g.W.World.seen c.args.world.now) (g.W.World.seen c.args.world.now) engine_at_first) ends.NoMemory c.from_residual.result c.from_residual.ensures.1 (whole_anyway (g.W.World.seen c.args.world.now) (g.W.World.seen c.args.world.now) engine_at_first ends.NoMemory tt)
+    if_err (PlainWhole g.W.World.Tells (g.J.Judge.accepts c.args.judge.now) (g.W.World.seen c.args.world.now) (g.W.World.seen c.args.world.now) engine_at_first) ends.NoMemory c.from_residual.result c.from_residual.ensures.1 (whole_anyway (g.W.World.seen c.args.world.now) (g.W.World.seen c.args.world.now) engine_at_first ends.NoMemory tt)
 
 pub returns-in_err-buf-clause-plain : goal.returns-in_err-buf-clause-plain
 returns-in_err-buf-clause-plain g c =
-    err_is (PlainWhole g.W.World.Tells (g.J.Judge.accepts c.args.judge.now) (g.W.World.seen c.args.world.now) (g.W.World.seen c.args.world.now) engine_at_first) ends.NoMemory c.from_residual-in_err-buf.result c.from_residual-in_err-buf.ensures.1 (whole_anyway (g.W.World.seen c.args.world.now) (g.W.World.seen c.args.world.now) engine_at_first ends.NoMemory tt)
+    if_err (PlainWhole g.W.World.Tells (g.J.Judge.accepts c.args.judge.now) (g.W.World.seen c.args.world.now) (g.W.World.seen c.args.world.now) engine_at_first) ends.NoMemory c.from_residual-in_err-buf.result c.from_residual-in_err-buf.ensures.1 (whole_anyway (g.W.World.seen c.args.world.now) (g.W.World.seen c.args.world.now) engine_at_first ends.NoMemory tt)
 
-pub returns-in_err-go_to_end-clause-plain : goal.returns-in_err-go_to_end-clause-plain
-returns-in_err-go_to_end-clause-plain g c =
-    err_is (PlainWhole g.W.World.Tells (g.J.Judge.accepts c.args.judge.now) (g.W.World.seen c.args.world.now) (g.W.World.seen c.go_to_end.new.world) engine_at_first) c.in_err-go_to_end.field-0.0 c.from_residual-in_err-go_to_end.result c.from_residual-in_err-go_to_end.ensures.1
-    (subst (λ (e : Engine). PlainWhole g.W.World.Tells (g.J.Judge.accepts c.args.judge.now) (g.W.World.seen c.args.world.now) (g.W.World.seen c.go_to_end.new.world) e c.in_err-go_to_end.field-0.0) c.in_ok-run.ensures.first c.in_err-go_to_end.ensures.plain)
+pub returns-in_err-run_then_end-clause-plain : goal.returns-in_err-run_then_end-clause-plain
+returns-in_err-run_then_end-clause-plain g c =
+    if_err (PlainWhole g.W.World.Tells (g.J.Judge.accepts c.args.judge.now) (g.W.World.seen c.args.world.now) (g.W.World.seen c.run_then_end.new.world) engine_at_first) c.in_err-run_then_end.field-0.0 c.from_residual-in_err-run_then_end.result c.from_residual-in_err-run_then_end.ensures.1
+    (subst (λ (e : Engine). PlainWhole g.W.World.Tells (g.J.Judge.accepts c.args.judge.now) (g.W.World.seen c.args.world.now) (g.W.World.seen c.run_then_end.new.world) e c.in_err-run_then_end.field-0.0) c.in_ok-run.ensures.first c.in_err-run_then_end.ensures.plain)
 
 pub returns-in_err-run-clause-cut : goal.returns-in_err-run-clause-cut
 returns-in_err-run-clause-cut g c =
@@ -52,10 +51,10 @@ returns-in_err-buf-clause-cut g c =
     if_err (λ (end : Served). CutAs g.W.World.Tells (g.J.Judge.accepts c.args.judge.now) end (g.K.Sink.contents c.args.sink.now) (g.K.Sink.contents c.args.sink.now) (g.W.World.seen c.args.world.now) (g.W.World.seen c.args.world.now) engine_at_first) ends.NoMemory c.from_residual-in_err-buf.result c.from_residual-in_err-buf.ensures.1
     (short_cut g.W.World.Tells (g.J.Judge.accepts c.args.judge.now) (g.K.Sink.contents c.args.sink.now) (g.W.World.seen c.args.world.now) engine_at_first)
 
-pub returns-in_err-go_to_end-clause-cut : goal.returns-in_err-go_to_end-clause-cut
-returns-in_err-go_to_end-clause-cut g c =
-    if_err (λ (end : Served). CutAs g.W.World.Tells (g.J.Judge.accepts c.args.judge.now) end (g.K.Sink.contents c.args.sink.now) (g.K.Sink.contents c.go_to_end.new.sink) (g.W.World.seen c.args.world.now) (g.W.World.seen c.go_to_end.new.world) engine_at_first) c.in_err-go_to_end.field-0.0 c.from_residual-in_err-go_to_end.result c.from_residual-in_err-go_to_end.ensures.1
-    (subst (λ (e : Engine). CutAs g.W.World.Tells (g.J.Judge.accepts c.args.judge.now) c.in_err-go_to_end.field-0.0 (g.K.Sink.contents c.args.sink.now) (g.K.Sink.contents c.go_to_end.new.sink) (g.W.World.seen c.args.world.now) (g.W.World.seen c.go_to_end.new.world) e) c.in_ok-run.ensures.first c.in_err-go_to_end.ensures.cut)
+pub returns-in_err-run_then_end-clause-cut : goal.returns-in_err-run_then_end-clause-cut
+returns-in_err-run_then_end-clause-cut g c =
+    if_err (λ (end : Served). CutAs g.W.World.Tells (g.J.Judge.accepts c.args.judge.now) end (g.K.Sink.contents c.args.sink.now) (g.K.Sink.contents c.run_then_end.new.sink) (g.W.World.seen c.args.world.now) (g.W.World.seen c.run_then_end.new.world) engine_at_first) c.in_err-run_then_end.field-0.0 c.from_residual-in_err-run_then_end.result c.from_residual-in_err-run_then_end.ensures.1
+    (subst (λ (e : Engine). CutAs g.W.World.Tells (g.J.Judge.accepts c.args.judge.now) c.in_err-run_then_end.field-0.0 (g.K.Sink.contents c.args.sink.now) (g.K.Sink.contents c.run_then_end.new.sink) (g.W.World.seen c.args.world.now) (g.W.World.seen c.run_then_end.new.world) e) c.in_ok-run.ensures.first c.in_err-run_then_end.ensures.cut)
 
 pub returns-in_err-run-clause-places : goal.returns-in_err-run-clause-places
 returns-in_err-run-clause-places g c = places_none g.W.World.Tells (g.W.World.seen c.args.world.now) engine_at_first.net
@@ -63,13 +62,13 @@ returns-in_err-run-clause-places g c = places_none g.W.World.Tells (g.W.World.se
 pub returns-in_err-buf-clause-places : goal.returns-in_err-buf-clause-places
 returns-in_err-buf-clause-places g c = places_none g.W.World.Tells (g.W.World.seen c.args.world.now) engine_at_first.net
 
-pub returns-in_err-go_to_end-clause-places : goal.returns-in_err-go_to_end-clause-places
-returns-in_err-go_to_end-clause-places g c =
-    subst (λ (e : Engine). InPlace g.W.World.Tells (g.W.World.seen c.args.world.now) (g.W.World.seen c.go_to_end.new.world) e.net) c.in_ok-run.ensures.first c.in_err-go_to_end.ensures.places
+pub returns-in_err-run_then_end-clause-places : goal.returns-in_err-run_then_end-clause-places
+returns-in_err-run_then_end-clause-places g c =
+    subst (λ (e : Engine). NoStray g.W.World.Tells (g.W.World.seen c.args.world.now) (g.W.World.seen c.run_then_end.new.world) e.net) c.in_ok-run.ensures.first c.in_err-run_then_end.ensures.places
 
 pub returns-clause-places : goal.returns-clause-places
 returns-clause-places g c =
-    subst (λ (e : Engine). InPlace g.W.World.Tells (g.W.World.seen c.args.world.now) (g.W.World.seen c.go_to_end.new.world) e.net) c.in_ok-run.ensures.first c.in_ok-go_to_end.ensures.places
+    subst (λ (e : Engine). NoStray g.W.World.Tells (g.W.World.seen c.args.world.now) (g.W.World.seen c.run_then_end.new.world) e.net) c.in_ok-run.ensures.first c.in_ok-run_then_end.ensures.places
 
 pub returns-in_err-run-clause-reads : goal.returns-in_err-run-clause-reads
 returns-in_err-run-clause-reads g c = reads_as g.W.World.Tells ends.NoMemory c.from_residual.result (g.W.World.seen c.args.world.now) (g.W.World.seen c.args.world.now) engine_at_first.net c.from_residual.ensures.1 tt
@@ -77,11 +76,11 @@ returns-in_err-run-clause-reads g c = reads_as g.W.World.Tells ends.NoMemory c.f
 pub returns-in_err-buf-clause-reads : goal.returns-in_err-buf-clause-reads
 returns-in_err-buf-clause-reads g c = reads_as g.W.World.Tells ends.NoMemory c.from_residual-in_err-buf.result (g.W.World.seen c.args.world.now) (g.W.World.seen c.args.world.now) engine_at_first.net c.from_residual-in_err-buf.ensures.1 tt
 
-pub returns-in_err-go_to_end-clause-reads : goal.returns-in_err-go_to_end-clause-reads
-returns-in_err-go_to_end-clause-reads g c =
-    reads_as g.W.World.Tells c.in_err-go_to_end.field-0.0 c.from_residual-in_err-go_to_end.result (g.W.World.seen c.args.world.now) (g.W.World.seen c.go_to_end.new.world) engine_at_first.net c.from_residual-in_err-go_to_end.ensures.1
-    (subst (λ (e : Engine). ReadsEnd g.W.World.Tells c.in_err-go_to_end.field-0.0 (g.W.World.seen c.args.world.now) (g.W.World.seen c.go_to_end.new.world) e.net) c.in_ok-run.ensures.first c.in_err-go_to_end.ensures.reads)
+pub returns-in_err-run_then_end-clause-reads : goal.returns-in_err-run_then_end-clause-reads
+returns-in_err-run_then_end-clause-reads g c =
+    reads_as g.W.World.Tells c.in_err-run_then_end.field-0.0 c.from_residual-in_err-run_then_end.result (g.W.World.seen c.args.world.now) (g.W.World.seen c.run_then_end.new.world) engine_at_first.net c.from_residual-in_err-run_then_end.ensures.1
+    (subst (λ (e : Engine). ReadsEnd g.W.World.Tells c.in_err-run_then_end.field-0.0 (g.W.World.seen c.args.world.now) (g.W.World.seen c.run_then_end.new.world) e.net) c.in_ok-run.ensures.first c.in_err-run_then_end.ensures.reads)
 
 pub returns-clause-reads : goal.returns-clause-reads
 returns-clause-reads g c =
-    subst (λ (e : Engine). HasRead g.W.World.Tells (g.W.World.seen c.args.world.now) (g.W.World.seen c.go_to_end.new.world) e.net) c.in_ok-run.ensures.first c.in_ok-go_to_end.ensures.reads
+    subst (λ (e : Engine). HasRead g.W.World.Tells (g.W.World.seen c.args.world.now) (g.W.World.seen c.run_then_end.new.world) e.net) c.in_ok-run.ensures.first c.in_ok-run_then_end.ensures.reads

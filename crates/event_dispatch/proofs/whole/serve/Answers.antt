@@ -3,62 +3,62 @@ use Rattle.event_dispatch.specs.PlainLaws.{unopened_plain, served_plain}
 use Rattle.event_dispatch.specs.ReadLaws.{unopened_places, opened_places, unopened_read, all_read, failed_read}
 use Rattle.event_dispatch.proofs.whole.serve.Goals as goal
 
-pub returns-in-Err-clause-alike : goal.returns-in-Err-clause-alike
-returns-in-Err-clause-alike g c =
+pub returns-in-Err-clause-reference_run : goal.returns-in-Err-clause-reference_run
+returns-in-Err-clause-reference_run g c =
     alike_unopened g.W.World.Tells (g.J.Judge.accepts c.args.judge.now) (g.K.Sink.contents c.args.sink.now) (g.W.World.seen c.args.world.now) (g.W.World.seen c.open.new.world) c.in-Err.served c.in-Err.ensures.unopened
 
-pub returns-in-Ok-clause-alike : goal.returns-in-Ok-clause-alike
-returns-in-Ok-clause-alike g c =
+pub returns-in-Ok-clause-reference_run : goal.returns-in-Ok-clause-reference_run
+returns-in-Ok-clause-reference_run g c =
     alike_done g.W.World.Tells (g.J.Judge.accepts c.args.judge.now) c.in-Ok.events (g.K.Sink.contents c.args.sink.now) (g.K.Sink.contents c.run.new.sink) (g.W.World.seen c.args.world.now) (g.W.World.seen c.open.new.world) (g.W.World.seen c.run.new.world) c.in_default.ensures.opened c.in-Ok.ensures.runs
 
-pub returns-in-Err-run-clause-alike : goal.returns-in-Err-run-clause-alike
-returns-in-Err-run-clause-alike g c =
+pub returns-in-Err-run-clause-reference_run : goal.returns-in-Err-run-clause-reference_run
+returns-in-Err-run-clause-reference_run g c =
     alike_failed g.W.World.Tells (g.J.Judge.accepts c.args.judge.now) c.in-Err-run.served (g.K.Sink.contents c.args.sink.now) (g.K.Sink.contents c.run.new.sink) (g.W.World.seen c.args.world.now) (g.W.World.seen c.open.new.world) (g.W.World.seen c.run.new.world) c.in_default.ensures.opened c.in-Err-run.ensures.continues c.in-Err-run.ensures.runs c.in-Err-run.ensures.cut
 
-pub returns-in-Err-clause-cut : goal.returns-in-Err-clause-cut
-returns-in-Err-clause-cut g c =
+pub returns-in-Err-clause-reference_run_until_fault : goal.returns-in-Err-clause-reference_run_until_fault
+returns-in-Err-clause-reference_run_until_fault g c =
     λ allows p. cut_unopened g.W.World.Tells (g.K.Sink.contents c.args.sink.now) (g.W.World.seen c.args.world.now) (g.W.World.seen c.open.new.world) c.in-Err.served c.in-Err.ensures.unopened allows p.told p.untouched
 
-pub returns-in-Ok-clause-cut : goal.returns-in-Ok-clause-cut
-returns-in-Ok-clause-cut g c =
+pub returns-in-Ok-clause-reference_run_until_fault : goal.returns-in-Ok-clause-reference_run_until_fault
+returns-in-Ok-clause-reference_run_until_fault g c =
     λ allows p. tt
 
-pub returns-in-Err-run-clause-cut : goal.returns-in-Err-run-clause-cut
-returns-in-Err-run-clause-cut g c =
+pub returns-in-Err-run-clause-reference_run_until_fault : goal.returns-in-Err-run-clause-reference_run_until_fault
+returns-in-Err-run-clause-reference_run_until_fault g c =
     cut_failed g.W.World.Tells (g.J.Judge.accepts c.args.judge.now) c.in-Err-run.served (g.K.Sink.contents c.args.sink.now) (g.K.Sink.contents c.run.new.sink) (g.W.World.seen c.args.world.now) (g.W.World.seen c.open.new.world) (g.W.World.seen c.run.new.world) c.in_default.ensures.opened c.in-Err-run.ensures.continues c.in-Err-run.ensures.runs c.in-Err-run.ensures.cut
 
-pub returns-in-Err-clause-plain : goal.returns-in-Err-clause-plain
-returns-in-Err-clause-plain g c =
+pub returns-in-Err-clause-no_switch_at_fault : goal.returns-in-Err-clause-no_switch_at_fault
+returns-in-Err-clause-no_switch_at_fault g c =
     λ allows p. unopened_plain g.W.World.Tells (g.W.World.seen c.args.world.now) (g.W.World.seen c.open.new.world) c.in-Err.served c.in-Err.ensures.unopened
 
-pub returns-in-Ok-clause-plain : goal.returns-in-Ok-clause-plain
-returns-in-Ok-clause-plain g c =
+pub returns-in-Ok-clause-no_switch_at_fault : goal.returns-in-Ok-clause-no_switch_at_fault
+returns-in-Ok-clause-no_switch_at_fault g c =
     λ allows p. tt
 
-pub returns-in-Err-run-clause-plain : goal.returns-in-Err-run-clause-plain
-returns-in-Err-run-clause-plain g c =
+pub returns-in-Err-run-clause-no_switch_at_fault : goal.returns-in-Err-run-clause-no_switch_at_fault
+returns-in-Err-run-clause-no_switch_at_fault g c =
     served_plain g.W.World.Tells (g.J.Judge.accepts c.args.judge.now) c.in-Err-run.served (g.W.World.seen c.args.world.now) (g.W.World.seen c.open.new.world) (g.W.World.seen c.run.new.world) c.in_default.ensures.opened c.in-Err-run.ensures.plain
 
-pub returns-in-Err-clause-places : goal.returns-in-Err-clause-places
-returns-in-Err-clause-places g c =
+pub returns-in-Err-clause-no_stray_call : goal.returns-in-Err-clause-no_stray_call
+returns-in-Err-clause-no_stray_call g c =
     λ told none order. unopened_places g.W.World.Tells (g.W.World.seen c.args.world.now) (g.W.World.seen c.open.new.world) c.in-Err.served c.in-Err.ensures.unopened told
 
-pub returns-in-Ok-clause-places : goal.returns-in-Ok-clause-places
-returns-in-Ok-clause-places g c =
+pub returns-in-Ok-clause-no_stray_call : goal.returns-in-Ok-clause-no_stray_call
+returns-in-Ok-clause-no_stray_call g c =
     opened_places g.W.World.Tells (g.W.World.seen c.args.world.now) (g.W.World.seen c.open.new.world) (g.W.World.seen c.run.new.world) c.open.ensures.continues c.in-Ok.ensures.continues c.in_default.ensures.opened c.in-Ok.ensures.places
 
-pub returns-in-Err-run-clause-places : goal.returns-in-Err-run-clause-places
-returns-in-Err-run-clause-places g c =
+pub returns-in-Err-run-clause-no_stray_call : goal.returns-in-Err-run-clause-no_stray_call
+returns-in-Err-run-clause-no_stray_call g c =
     opened_places g.W.World.Tells (g.W.World.seen c.args.world.now) (g.W.World.seen c.open.new.world) (g.W.World.seen c.run.new.world) c.open.ensures.continues c.in-Err-run.ensures.continues c.in_default.ensures.opened c.in-Err-run.ensures.places
 
-pub returns-in-Err-clause-read : goal.returns-in-Err-clause-read
-returns-in-Err-clause-read g c =
+pub returns-in-Err-clause-all_bytes_are_messages : goal.returns-in-Err-clause-all_bytes_are_messages
+returns-in-Err-clause-all_bytes_are_messages g c =
     λ told none order. unopened_read g.W.World.Tells (g.W.World.seen c.args.world.now) (g.W.World.seen c.open.new.world) c.in-Err.served c.in-Err.ensures.unopened
 
-pub returns-in-Ok-clause-read : goal.returns-in-Ok-clause-read
-returns-in-Ok-clause-read g c =
+pub returns-in-Ok-clause-all_bytes_are_messages : goal.returns-in-Ok-clause-all_bytes_are_messages
+returns-in-Ok-clause-all_bytes_are_messages g c =
     all_read g.W.World.Tells (g.W.World.seen c.args.world.now) (g.W.World.seen c.open.new.world) (g.W.World.seen c.run.new.world) c.in-Ok.ensures.continues c.in_default.ensures.opened c.in-Ok.ensures.reads
 
-pub returns-in-Err-run-clause-read : goal.returns-in-Err-run-clause-read
-returns-in-Err-run-clause-read g c =
+pub returns-in-Err-run-clause-all_bytes_are_messages : goal.returns-in-Err-run-clause-all_bytes_are_messages
+returns-in-Err-run-clause-all_bytes_are_messages g c =
     failed_read g.W.World.Tells (g.J.Judge.accepts c.args.judge.now) c.in-Err-run.served (g.K.Sink.contents c.args.sink.now) (g.K.Sink.contents c.run.new.sink) (g.W.World.seen c.args.world.now) (g.W.World.seen c.open.new.world) (g.W.World.seen c.run.new.world) c.in-Err-run.ensures.continues c.in_default.ensures.opened c.in-Err-run.ensures.runs c.in-Err-run.ensures.reads

@@ -1,10 +1,11 @@
 use Rattle.std.proofs.lemmas.Result.{on_err_weaker}
-use Rattle.legosdn.proofs.Pieces.{part_of_second, part_of_third, whenever}
+use Rattle.legosdn.proofs.Pieces.{part_of_second, part_of_third}
+use Rattle.event_dispatch.specs.TalkingLaws.{holds_on_err}
 use Rattle.legosdn.proofs.stop.write_numbered.Goals as goal
 
 pub returns-in_err-write_number-clause-part : goal.returns-in_err-write_number-clause-part
 returns-in_err-write_number-clause-part g c =
-    whenever _ (part_of_second _ _ _ c.args.front.now _ c.args.end.now c.in_ok-write_all.ensures.all c.in_err-write_number.ensures.part)
+    holds_on_err _ (part_of_second _ _ _ c.args.front.now _ c.args.end.now c.in_ok-write_all.ensures.all c.in_err-write_number.ensures.part)
 
 pub returns-clause-part : goal.returns-clause-part
 returns-clause-part g c =

@@ -8,8 +8,8 @@ use Rattle.legosdn.proofs.top.run.Goals as goal
 pub returns-clause-why : goal.returns-clause-why
 returns-clause-why g c =
     run_causes (map (λ s. string_bytes s) c.args.words.now) (g.S.Source.remaining c.args.source.now) (g.S.Source.faults c.args.source.now) (g.S.Source.faults c.load.new.source)
-    (g.K.Sink.faults c.args.sink.now) (g.K.Sink.faults c.play.new.sink) (seen_of c.args.sim.now) (seen_of c.load.new.sim) (seen_of c.play.new.sim) c.play.result
-    (are_new c.args.sim.now c.requires.new) (are_new c.load.new.sim c.in_ok-load.ensures.new) c.play.ensures.why
+    (g.K.Sink.faults c.args.sink.now) (g.K.Sink.faults c.run_world.new.sink) (seen_of c.args.sim.now) (seen_of c.load.new.sim) (seen_of c.run_world.new.sim) c.run_world.result
+    (are_new c.args.sim.now c.requires.new) (are_new c.load.new.sim c.in_ok-load.ensures.new) c.run_world.ensures.why
 
 pub returns-in_err-load-clause-runs : goal.returns-in_err-load-clause-runs
 returns-in_err-load-clause-runs g c =
@@ -21,7 +21,7 @@ returns-in_err-load-clause-late_lines g c =
     lines_by_read (KeepsLines c.load.new.sim) (g.S.Source.remaining c.args.source.now) (g.S.Source.faults c.args.source.now) (g.S.Source.faults c.load.new.source) c.in_err-load.field-0.0 c.from_residual.result c.from_residual.ensures.1 c.in_err-load.ensures.why
 
 pub returns-clause-runs : goal.returns-clause-runs
-returns-clause-runs g c = c.play.ensures.runs (untouched c.load.new.sim c.in_ok-load.ensures.new) c.in_ok-load.ensures.few
+returns-clause-runs g c = c.run_world.ensures.runs (untouched c.load.new.sim c.in_ok-load.ensures.new) c.in_ok-load.ensures.few
 
 pub returns-then-not-is_command-clause-strays : goal.returns-then-not-is_command-clause-strays
 returns-then-not-is_command-clause-strays g c = λ shorts. new_strays c.args.sim.now c.requires.new
@@ -30,4 +30,4 @@ pub returns-in_err-load-clause-strays : goal.returns-in_err-load-clause-strays
 returns-in_err-load-clause-strays g c = λ shorts. new_strays c.load.new.sim c.load.ensures.new
 
 pub returns-clause-strays : goal.returns-clause-strays
-returns-clause-strays g c = c.play.ensures.strays (untouched c.load.new.sim c.in_ok-load.ensures.new) c.in_ok-load.ensures.few
+returns-clause-strays g c = c.run_world.ensures.strays (untouched c.load.new.sim c.in_ok-load.ensures.new) c.in_ok-load.ensures.few

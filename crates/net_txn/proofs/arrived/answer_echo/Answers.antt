@@ -1,5 +1,5 @@
-use Rattle.net_txn.specs.LinkPlaceLaws.{in_place_none}
+use Rattle.net_txn.specs.LinkStrayLaws.{no_strays_none}
 use Rattle.net_txn.proofs.arrived.answer_echo.Goals as goal
 
-pub returns-in_err-reply-clause-in_place : goal.returns-in_err-reply-clause-in_place
-returns-in_err-reply-clause-in_place g c = λ told keeps joined. in_place_none (g.W.World.seen c.args.world.now)
+pub returns-in_err-reply-clause-no_strays : goal.returns-in_err-reply-clause-no_strays
+returns-in_err-reply-clause-no_strays g c = λ told keeps joined. no_strays_none (g.W.World.seen c.args.world.now)

@@ -3,11 +3,11 @@ use Rattle.std.proofs.lemmas.Result.{IfOk-weaker, err_from_is_err_and}
 use Rattle.of_types.specs.declared.journal.Act.TheVariants.{Sent}
 use Rattle.outside.specs.declared.step.WorldStep.TheVariants.{Acted}
 use Rattle.net_txn.specs.CauseLaws.{cause_later}
-use Rattle.net_txn.specs.Waits.{barrier_sent}
+use Rattle.lego_model.specs.BarrierWaits.{barrier_sent}
 use Rattle.net_txn.specs.WaitLaws.{step_before}
 use Rattle.net_txn.specs.FloodLaws.{floods_not, floods_later}
 use Rattle.net_txn.specs.LinkStepLaws.{OnLinks-trans}
-use Rattle.net_txn.specs.LinkPlaceLaws.{behind_place}
+use Rattle.net_txn.specs.LinkStrayLaws.{behind_place}
 use Rattle.net_txn.proofs.greeting.greet.Goals as goal
 
 pub returns-clause-ok : goal.returns-clause-ok
@@ -32,10 +32,10 @@ pub returns-clause-links : goal.returns-clause-links
 returns-clause-links g c =
     OnLinks-trans g.W.World.Tells (g.W.World.seen c.args.world.now) (g.W.World.seen c.send.new.world) (g.W.World.seen c.ask.new.world) c.in_ok-send.ensures.links c.ask.ensures.links
 
-pub returns-clause-in_place : goal.returns-clause-in_place
-returns-clause-in_place g c =
+pub returns-clause-no_strays : goal.returns-clause-no_strays
+returns-clause-no_strays g c =
     let s = c.in_ok-send.ensures in
-    behind_place c.args.awaited.now.dpid c.args.first.now (g.W.World.seen c.args.world.now) (g.W.World.seen c.send.new.world) (g.W.World.seen c.ask.new.world) s.continues c.ask.ensures.continues s.told s.in_place c.ask.ensures.in_place
+    behind_place c.args.awaited.now.dpid c.args.first.now (g.W.World.seen c.args.world.now) (g.W.World.seen c.send.new.world) (g.W.World.seen c.ask.new.world) s.continues c.ask.ensures.continues s.told s.no_strays c.ask.ensures.no_strays
 
-pub returns-in_err-send-clause-in_place : goal.returns-in_err-send-clause-in_place
-returns-in_err-send-clause-in_place g c = λ told keeps joined. c.in_err-send.ensures.in_place told joined
+pub returns-in_err-send-clause-no_strays : goal.returns-in_err-send-clause-no_strays
+returns-in_err-send-clause-no_strays g c = λ told keeps joined. c.in_err-send.ensures.no_strays told joined

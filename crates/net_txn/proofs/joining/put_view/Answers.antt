@@ -9,7 +9,7 @@ placed : (views seen : List TableView) (d i : ℕ) → seen ≡ views → IsView
 placed views seen d i e is = with_view-place d views i (subst (λ (vs : List TableView). IsViewPlace d vs i) e is)
 
 pub insert-requires : goal.insert-requires
-insert-requires c = omega (arith, IsViewPlace-le c.args.dpid c.deref.result.now c.place_for-at.result c.place_for-at.ensures, c.deref.ensures.len)
+insert-requires c = omega (arith, IsViewPlace-le c.args.dpid c.deref.result.now c.position_for-at.result c.position_for-at.ensures, c.deref.ensures.len)
 
 pub returns-clause-ok : goal.returns-clause-ok
-returns-clause-ok c = c.in_ok-insert.ensures.items ∙ (rw c.new.ensures (placed _ c.deref.result.now c.args.dpid c.place_for-at.result c.deref.ensures.value c.place_for-at.ensures))
+returns-clause-ok c = c.in_ok-insert.ensures.items ∙ (rw c.new.ensures (placed _ c.deref.result.now c.args.dpid c.position_for-at.result c.deref.ensures.value c.position_for-at.ensures))

@@ -1,5 +1,5 @@
 use Rattle.std.proofs.Common.{◌≡◌, take}
-use Rattle.net_txn.specs.Asks.{all_parts}
+use Rattle.lego_model.specs.FlowQueries.{all_parts}
 use Rattle.net_txn.proofs.replies.all_parts.Given as goal
 
 abbrev pub invariant-loop-message : goal.invariant-loop-message

@@ -1,6 +1,6 @@
 use Rattle.std.proofs.Common.{sym, ap, ◌∙◌}
 use Rattle.std.proofs.lemmas.List.{append-nil}
-use Rattle.net_txn.specs.Asks.{is_about}
+use Rattle.lego_model.specs.FlowQueries.{is_about}
 use Rattle.net_txn.specs.AskLaws.{part_refuses_not}
 use Rattle.net_txn.proofs.replies.sort_one.Goals as goal
 

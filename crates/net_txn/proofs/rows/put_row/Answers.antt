@@ -7,7 +7,7 @@ use Rattle.net_txn.specs.ViewLaws.{with_row-found, with_row-absent, IsRowPlace-l
 use Rattle.net_txn.proofs.rows.put_row.Goals as goal
 
 pub insert-requires : goal.insert-requires
-insert-requires c = omega (arith, IsRowPlace-le (key_number c.args.row.key) c.deref.result.now c.place_of-at.result c.place_of-at.ensures, c.deref.ensures.len)
+insert-requires c = omega (arith, IsRowPlace-le (key_number c.args.row.key) c.deref.result.now c.position_of-at.result c.position_of-at.ensures, c.deref.ensures.len)
 
 found : (rows seen here : List ViewRow) (r : ViewRow) (i : ℕ) → seen ≡ rows → here ≡ rows → IsRowPlace (key_number r.key) seen i → i < length here → key_number r.key ≡ key_number (get_or here i r).key → set rows i r ≡ with_row r rows
 found rows seen here r i e f is within same =
@@ -20,9 +20,9 @@ absent rows seen here r i e f is other =
 pub returns-then-stands_at-clause-ok : goal.returns-then-stands_at-clause-ok
 returns-then-stands_at-clause-ok c =
     let s = c.stands_at.ensures in
-    found _ c.deref.result.now c.deref-2.result.now c.args.row c.place_of-at.result c.deref.ensures.value c.deref-2.ensures.value c.place_of-at.ensures (s.within c.if-stands_at.true) (s.same c.args.row c.if-stands_at.true)
+    found _ c.deref.result.now c.deref-2.result.now c.args.row c.position_of-at.result c.deref.ensures.value c.deref-2.ensures.value c.position_of-at.ensures (s.within c.if-stands_at.true) (s.same c.args.row c.if-stands_at.true)
 
 pub returns-in_ok-insert-clause-ok : goal.returns-in_ok-insert-clause-ok
 returns-in_ok-insert-clause-ok c =
     let s = c.stands_at.ensures in
-    c.in_ok-insert.ensures.items ∙ absent _ c.deref.result.now c.deref-2.result.now c.args.row c.place_of-at.result c.deref.ensures.value c.deref-2.ensures.value c.place_of-at.ensures (s.other c.args.row c.if-stands_at.false)
+    c.in_ok-insert.ensures.items ∙ absent _ c.deref.result.now c.deref-2.result.now c.args.row c.position_of-at.result c.deref.ensures.value c.deref-2.ensures.value c.position_of-at.ensures (s.other c.args.row c.if-stands_at.false)

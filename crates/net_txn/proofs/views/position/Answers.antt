@@ -1,7 +1,7 @@
 use Rattle.std.proofs.Common.{arith}
 use Rattle.std.proofs.lemmas.Bool.{ne_eqb}
 use Rattle.std.proofs.lemmas.Grind.{common_steps}
-use Rattle.net_txn.proofs.Places.{views_more, views_stop}
+use Rattle.net_txn.proofs.ViewPositions.{views_more, views_stop}
 use Rattle.net_txn.proofs.views.position.Goals as goal
 
 pub returns-then-view-dpid : goal.returns-then-view-dpid

@@ -4,7 +4,7 @@ use Rattle.outside.specs.State.{state}
 use Rattle.net_txn.specs.CauseLaws.{cause_later}
 use Rattle.net_txn.specs.WaitLaws.{heard_one}
 use Rattle.net_txn.specs.LinkStepLaws.{OnLinks-trans}
-use Rattle.net_txn.specs.LinkPlaceLaws.{heard_place, awaits_waiting}
+use Rattle.net_txn.specs.LinkStrayLaws.{heard_place, awaits_waiting}
 use Rattle.net_txn.proofs.wait.hear.Goals as goal
 
 pub returns-clause-ok : goal.returns-clause-ok
@@ -24,10 +24,10 @@ pub returns-clause-links : goal.returns-clause-links
 returns-clause-links g c =
     OnLinks-trans g.W.World.Tells (g.W.World.seen c.args.world.now) (g.W.World.seen c.receive.new.world) (g.W.World.seen c.treat.new.world) c.in_ok-len.ensures.links c.treat.ensures.links
 
-pub returns-clause-in_place : goal.returns-clause-in_place
-returns-clause-in_place g c =
+pub returns-clause-no_strays : goal.returns-clause-no_strays
+returns-clause-no_strays g c =
     let r = c.in_ok-len.ensures in
-    heard_place c.args.awaited.now (take c.in_ok-len.len c.receive.new.buf) (g.W.World.seen c.args.world.now) (g.W.World.seen c.receive.new.world) (g.W.World.seen c.treat.new.world) r.continues c.treat.ensures.continues r.told r.in_place c.treat.ensures.in_place
+    heard_place c.args.awaited.now (take c.in_ok-len.len c.receive.new.buf) (g.W.World.seen c.args.world.now) (g.W.World.seen c.receive.new.world) (g.W.World.seen c.treat.new.world) r.continues c.treat.ensures.continues r.told r.no_strays c.treat.ensures.no_strays
 
-pub returns-in_err-len-clause-in_place : goal.returns-in_err-len-clause-in_place
-returns-in_err-len-clause-in_place g c = λ told w. c.in_err-len.ensures.in_place told (awaits_waiting c.args.awaited.now (state (g.W.World.seen c.args.world.now)) w)
+pub returns-in_err-len-clause-no_strays : goal.returns-in_err-len-clause-no_strays
+returns-in_err-len-clause-no_strays g c = λ told w. c.in_err-len.ensures.no_strays told (awaits_waiting c.args.awaited.now (state (g.W.World.seen c.args.world.now)) w)

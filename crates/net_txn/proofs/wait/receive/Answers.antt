@@ -1,7 +1,7 @@
 use Rattle.std.proofs.Common.{[], refl}
 use Rattle.outside.specs.Calls.{receive_steps}
 use Rattle.net_txn.specs.LinkStepLaws.{Receives-links}
-use Rattle.net_txn.specs.LinkPlaceLaws.{Receives-in_place}
+use Rattle.net_txn.specs.LinkStrayLaws.{Receives-no_strays}
 use Rattle.net_txn.proofs.wait.receive.Goals as goal
 
 pub returns-in-Ok-check-clause-told : goal.returns-in-Ok-check-clause-told
@@ -32,17 +32,17 @@ returns-in-Err-Failed-clause-links g c = Receives-links c.recv.ensures
 pub returns-in-Err-Short-clause-links : goal.returns-in-Err-Short-clause-links
 returns-in-Err-Short-clause-links g c = Receives-links c.recv.ensures
 
-pub returns-in-Ok-check-clause-in_place : goal.returns-in-Ok-check-clause-in_place
-returns-in-Ok-check-clause-in_place g c = Receives-in_place c.recv.ensures
+pub returns-in-Ok-check-clause-no_strays : goal.returns-in-Ok-check-clause-no_strays
+returns-in-Ok-check-clause-no_strays g c = Receives-no_strays c.recv.ensures
 
-pub returns-in_ok-bytes-in-Err-clause-in_place : goal.returns-in_ok-bytes-in-Err-clause-in_place
-returns-in_ok-bytes-in-Err-clause-in_place g c = Receives-in_place c.recv.ensures
+pub returns-in_ok-bytes-in-Err-clause-no_strays : goal.returns-in_ok-bytes-in-Err-clause-no_strays
+returns-in_ok-bytes-in-Err-clause-no_strays g c = Receives-no_strays c.recv.ensures
 
-pub returns-in_err-bytes-in-Err-clause-in_place : goal.returns-in_err-bytes-in-Err-clause-in_place
-returns-in_err-bytes-in-Err-clause-in_place g c = Receives-in_place c.recv.ensures
+pub returns-in_err-bytes-in-Err-clause-no_strays : goal.returns-in_err-bytes-in-Err-clause-no_strays
+returns-in_err-bytes-in-Err-clause-no_strays g c = Receives-no_strays c.recv.ensures
 
-pub returns-in-Err-Failed-clause-in_place : goal.returns-in-Err-Failed-clause-in_place
-returns-in-Err-Failed-clause-in_place g c = Receives-in_place c.recv.ensures
+pub returns-in-Err-Failed-clause-no_strays : goal.returns-in-Err-Failed-clause-no_strays
+returns-in-Err-Failed-clause-no_strays g c = Receives-no_strays c.recv.ensures
 
-pub returns-in-Err-Short-clause-in_place : goal.returns-in-Err-Short-clause-in_place
-returns-in-Err-Short-clause-in_place g c = Receives-in_place c.recv.ensures
+pub returns-in-Err-Short-clause-no_strays : goal.returns-in-Err-Short-clause-no_strays
+returns-in-Err-Short-clause-no_strays g c = Receives-no_strays c.recv.ensures

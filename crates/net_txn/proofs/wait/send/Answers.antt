@@ -1,6 +1,6 @@
 use Rattle.outside.specs.Calls.{send_steps}
 use Rattle.net_txn.specs.LinkStepLaws.{Sends-links}
-use Rattle.net_txn.specs.LinkPlaceLaws.{Sends-in_place}
+use Rattle.net_txn.specs.LinkStrayLaws.{Sends-no_strays}
 use Rattle.net_txn.proofs.wait.send.Goals as goal
 
 pub returns-in-Ok-clause-told : goal.returns-in-Ok-clause-told
@@ -16,11 +16,11 @@ returns-in-Err-Failed-clause-links g c = Sends-links c.send.ensures
 pub returns-in-Err-Short-clause-links : goal.returns-in-Err-Short-clause-links
 returns-in-Err-Short-clause-links g c = Sends-links c.send.ensures
 
-pub returns-in-Ok-clause-in_place : goal.returns-in-Ok-clause-in_place
-returns-in-Ok-clause-in_place g c = Sends-in_place c.send.ensures
+pub returns-in-Ok-clause-no_strays : goal.returns-in-Ok-clause-no_strays
+returns-in-Ok-clause-no_strays g c = Sends-no_strays c.send.ensures
 
-pub returns-in-Err-Failed-clause-in_place : goal.returns-in-Err-Failed-clause-in_place
-returns-in-Err-Failed-clause-in_place g c = Sends-in_place c.send.ensures
+pub returns-in-Err-Failed-clause-no_strays : goal.returns-in-Err-Failed-clause-no_strays
+returns-in-Err-Failed-clause-no_strays g c = Sends-no_strays c.send.ensures
 
-pub returns-in-Err-Short-clause-in_place : goal.returns-in-Err-Short-clause-in_place
-returns-in-Err-Short-clause-in_place g c = Sends-in_place c.send.ensures
+pub returns-in-Err-Short-clause-no_strays : goal.returns-in-Err-Short-clause-no_strays
+returns-in-Err-Short-clause-no_strays g c = Sends-no_strays c.send.ensures

@@ -4,7 +4,7 @@ use Rattle.net_txn.specs.CauseLaws.{IsCause-later}
 use Rattle.net_txn.specs.WaitLaws.{none_yet, one_more, ended, kept_so_far}
 use Rattle.net_txn.specs.FloodLaws.{floods_not, flooded}
 use Rattle.net_txn.specs.LinkStepLaws.{OnLinks-trans, WaitsOn-links}
-use Rattle.net_txn.specs.LinkPlaceLaws.{on_place, got_in_place, told_so_far}
+use Rattle.net_txn.specs.LinkStrayLaws.{on_place, got_in_place, told_so_far}
 use Rattle.net_txn.proofs.wait.wait.Goals as goal
 
 pub loop-heard-init : goal.loop-heard-init
@@ -49,17 +49,17 @@ returns-then-branch-clause-links g c =
 pub returns-clause-links : goal.returns-clause-links
 returns-clause-links g c = WaitsOn-links c.loop-heard.invariant
 
-pub returns-in_err-hear-clause-in_place : goal.returns-in_err-hear-clause-in_place
-returns-in_err-hear-clause-in_place g c =
+pub returns-in_err-hear-clause-no_strays : goal.returns-in_err-hear-clause-no_strays
+returns-in_err-hear-clause-no_strays g c =
     let w = c.loop-heard.invariant in
-    on_place c.args.awaited.now w.got (g.W.World.seen c.args.world.now) (g.W.World.seen c.loop-heard.world) (g.W.World.seen c.hear.new.world) w.hears.continues (told_so_far w) w.hears.before_reply c.in_err-hear.ensures.continues c.in_err-hear.ensures.in_place
+    on_place c.args.awaited.now w.got (g.W.World.seen c.args.world.now) (g.W.World.seen c.loop-heard.world) (g.W.World.seen c.hear.new.world) w.hears.continues (told_so_far w) w.hears.before_reply c.in_err-hear.ensures.continues c.in_err-hear.ensures.no_strays
 
-pub returns-then-branch-clause-in_place : goal.returns-then-branch-clause-in_place
-returns-then-branch-clause-in_place g c =
+pub returns-then-branch-clause-no_strays : goal.returns-then-branch-clause-no_strays
+returns-then-branch-clause-no_strays g c =
     let w = c.loop-heard.invariant in
-    on_place c.args.awaited.now w.got (g.W.World.seen c.args.world.now) (g.W.World.seen c.loop-heard.world) (g.W.World.seen c.hear.new.world) w.hears.continues (told_so_far w) w.hears.before_reply c.in_ok-hear.ensures.continues c.in_ok-hear.ensures.in_place
+    on_place c.args.awaited.now w.got (g.W.World.seen c.args.world.now) (g.W.World.seen c.loop-heard.world) (g.W.World.seen c.hear.new.world) w.hears.continues (told_so_far w) w.hears.before_reply c.in_ok-hear.ensures.continues c.in_ok-hear.ensures.no_strays
 
-pub returns-clause-in_place : goal.returns-clause-in_place
-returns-clause-in_place g c = λ told keeps before.
+pub returns-clause-no_strays : goal.returns-clause-no_strays
+returns-clause-no_strays g c = λ told keeps before.
     let w = c.loop-heard.invariant in
     got_in_place c.args.awaited.now w.got (g.W.World.seen c.args.world.now) (g.W.World.seen c.loop-heard.world) (told_so_far w told)

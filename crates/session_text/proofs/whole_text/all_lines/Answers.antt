@@ -1,7 +1,7 @@
 use Rattle.std.proofs.Common.{◌≡◌, ℕ, ◌<◌, true, List, ◌∷◌, length, nat_lt, Err, refl, sym, ap, ◌∙◌, arith}
 use Rattle.std.proofs.lemmas.Result.{err_from_is_err_and}
 use Rattle.lego_model.specs.declared.session.SessionKind.TheVariants.{Long}
-use Rattle.lego_model.specs.Words.{most_line}
+use Rattle.lego_io.specs.Lines.{most_line}
 use Rattle.lego_model.specs.SessionText.{Progress, next_line, lines_from}
 use Rattle.session_text.proofs.whole_text.all_lines.Goals as goal
 

@@ -1,4 +1,4 @@
-use Rattle.undo_laws.specs.InFlightLaws.{Stands-in_flight, undo-in_flight, used-in_flight, CanPlay-in_flight}
+use Rattle.undo_laws.specs.InFlightLaws.{Stands-in_flight, undo-in_flight, used-in_flight, CanRevert-in_flight}
 use Rattle.undo_laws.proofs.undoing.change_in_flight.Goals as goal
 
 pub returns-clause-stands : goal.returns-clause-stands
@@ -10,5 +10,5 @@ returns-clause-restored c = undo-in_flight
 pub returns-clause-used : goal.returns-clause-used
 returns-clause-used c = used-in_flight
 
-pub returns-clause-played : goal.returns-clause-played
-returns-clause-played c = CanPlay-in_flight
+pub returns-clause-reverted : goal.returns-clause-reverted
+returns-clause-reverted c = CanRevert-in_flight

@@ -8,7 +8,7 @@ use Rattle.event_dispatch.specs.FaultLaws.{asks_why}
 use Rattle.event_dispatch.specs.LastLaws.{net_stays}
 use Rattle.event_dispatch.specs.PlainLaws.{table_asked}
 use Rattle.event_dispatch.specs.Plain.{PlainTable}
-use Rattle.event_dispatch.specs.DispatchPlaceLaws.{asked_places, asked_reads, links_quietly}
+use Rattle.event_dispatch.specs.DispatchStrayLaws.{asked_places, asked_reads, links_quietly}
 use Rattle.event_dispatch.proofs.run.Run.ask_rows.Goals as goal
 
 -- src/last.rt:81:5
@@ -34,14 +34,14 @@ returns-in-Err-clause-plain g c =
 pub returns-in-Ok-clause-places : goal.returns-in-Ok-clause-places
 returns-in-Ok-clause-places g c = asked_places c.args.self.now.net c.requires c.in-Ok.ensures.asks
 
-pub returns-in-Ok-clause-quietly : goal.returns-in-Ok-clause-quietly
-returns-in-Ok-clause-quietly g c = links_quietly c.in-Ok.ensures.asks.links
+pub returns-in-Ok-clause-no_point : goal.returns-in-Ok-clause-no_point
+returns-in-Ok-clause-no_point g c = links_quietly c.in-Ok.ensures.asks.links
 
 pub returns-in-Err-clause-places : goal.returns-in-Err-clause-places
 returns-in-Err-clause-places g c = asked_places c.args.self.now.net c.requires c.in-Err.ensures.asks
 
-pub returns-in-Err-clause-quietly : goal.returns-in-Err-clause-quietly
-returns-in-Err-clause-quietly g c = links_quietly c.in-Err.ensures.asks.links
+pub returns-in-Err-clause-no_point : goal.returns-in-Err-clause-no_point
+returns-in-Err-clause-no_point g c = links_quietly c.in-Err.ensures.asks.links
 
 pub returns-in-Ok-clause-reads : goal.returns-in-Ok-clause-reads
 returns-in-Ok-clause-reads g c = asked_reads c.args.self.now.net c.rows.new.self (ap (λ (n : NetState). n.views) c.in-Ok.ensures.stays) c.in-Ok.ensures.asks

@@ -1,11 +1,10 @@
 use Rattle.event_dispatch.specs.declared.fault.Fault.TheVariants as faults
 use Rattle.event_dispatch.specs.RoundLaws.{begins_so}
-use Rattle.event_dispatch.specs.PlainLaws.{err_is}
+use Rattle.event_dispatch.specs.CutLaws.{if_err, start_unwritten}
 use Rattle.event_dispatch.specs.Plain.{IsPlainEnd}
 use Rattle.event_dispatch.specs.declared.fault.Fault.{Fault}
 use Rattle.event_dispatch.specs.Shows.{engine_of}
 use Rattle.event_dispatch.specs.Cut.{CutStart}
-use Rattle.event_dispatch.specs.CutLaws.{if_err, start_unwritten}
 use Rattle.std.proofs.Common.{refl}
 use Rattle.event_dispatch.specs.ReadLaws.{reads_engine}
 use Rattle.event_dispatch.proofs.run.Run.begin.Goals as goal
@@ -17,15 +16,15 @@ returns-clause-begins g c =
 
 pub returns-in_err-start-clause-plain : goal.returns-in_err-start-clause-plain
 returns-in_err-start-clause-plain g c =
-    err_is IsPlainEnd faults.NoMemory c.from_residual.result c.from_residual.ensures.1 tt
+    if_err IsPlainEnd faults.NoMemory c.from_residual.result c.from_residual.ensures.1 tt
 
 pub returns-in_err-write-clause-plain : goal.returns-in_err-write-clause-plain
 returns-in_err-write-clause-plain g c =
-    err_is IsPlainEnd faults.Write c.from_residual-in_err-write.result c.from_residual-in_err-write.ensures.1 tt
+    if_err IsPlainEnd faults.Write c.from_residual-in_err-write.result c.from_residual-in_err-write.ensures.1 tt
 
 pub returns-in_err-start-clause-cut : goal.returns-in_err-start-clause-cut
 returns-in_err-start-clause-cut g c =
-    if_err (λ (fault : Fault). CutStart g.W.World.Tells fault (g.K.Sink.contents c.args.sink.now) (g.K.Sink.contents c.args.sink.now) (g.W.World.seen c.args.world.now) (g.W.World.seen c.start.new.world) (engine_of c.args.self.now)) faults.NoMemory c.from_residual.result c.from_residual.ensures.1 (refl, c.start.ensures.talks, c.start.ensures.quietly)
+    if_err (λ (fault : Fault). CutStart g.W.World.Tells fault (g.K.Sink.contents c.args.sink.now) (g.K.Sink.contents c.args.sink.now) (g.W.World.seen c.args.world.now) (g.W.World.seen c.start.new.world) (engine_of c.args.self.now)) faults.NoMemory c.from_residual.result c.from_residual.ensures.1 (refl, c.start.ensures.talks, c.start.ensures.no_point)
 
 pub returns-in_err-write-clause-cut : goal.returns-in_err-write-clause-cut
 returns-in_err-write-clause-cut g c =

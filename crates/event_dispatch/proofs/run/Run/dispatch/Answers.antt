@@ -1,5 +1,6 @@
 use Rattle.event_dispatch.specs.declared.fault.Fault.TheVariants as faults
-use Rattle.event_dispatch.specs.PlainLaws.{err_is, on_err, turn_memory, turn_noted}
+use Rattle.event_dispatch.specs.PlainLaws.{on_err, turn_memory, turn_noted}
+use Rattle.event_dispatch.specs.CutLaws.{if_err}
 use Rattle.event_dispatch.specs.Plain.{PlainTurn}
 use Rattle.std.proofs.Common.{refl, ap, sym, ◌∙◌, rules}
 use Rattle.run_laws.specs.Engine.{Engine}
@@ -7,18 +8,18 @@ use Rattle.event_dispatch.specs.TalkingLaws.{goes_none, goes_turn, holds_on_err,
 use Rattle.event_dispatch.specs.Shows.{engine_of}
 use Rattle.std.proofs.lemmas.Result.{on_ok_weaker}
 use Rattle.app_visor.specs.CalmLaws.{calm_none, calm_later}
-use Rattle.run_laws.specs.Engine.{index}
+use Rattle.lego_model.specs.Application.{index}
 use Rattle.event_dispatch.specs.SteadyLaws.{places_none, reads_none, quietly_none, quietly_here}
-use Rattle.event_dispatch.specs.DispatchPlaceLaws.{places_as, reads_over, later_here}
+use Rattle.event_dispatch.specs.DispatchStrayLaws.{places_as, reads_over, later_here}
 use Rattle.event_dispatch.proofs.run.Run.dispatch.Goals as goal
 
 pub returns-in_err-line-clause-plain : goal.returns-in_err-line-clause-plain
 returns-in_err-line-clause-plain g c =
-    err_is (PlainTurn g.W.World.Tells (g.W.World.seen c.args.world.now) (g.W.World.seen c.args.world.now) c.args.self.now.net) faults.NoMemory c.from_residual.result c.from_residual.ensures.1 (turn_memory (g.W.World.seen c.args.world.now) (g.W.World.seen c.args.world.now) c.args.self.now.net)
+    if_err (PlainTurn g.W.World.Tells (g.W.World.seen c.args.world.now) (g.W.World.seen c.args.world.now) c.args.self.now.net) faults.NoMemory c.from_residual.result c.from_residual.ensures.1 (turn_memory (g.W.World.seen c.args.world.now) (g.W.World.seen c.args.world.now) c.args.self.now.net)
 
 pub returns-in_err-note-clause-plain : goal.returns-in_err-note-clause-plain
 returns-in_err-note-clause-plain g c =
-    err_is (PlainTurn g.W.World.Tells (g.W.World.seen c.args.world.now) (g.W.World.seen c.args.world.now) c.args.self.now.net) faults.NoMemory c.from_residual-in_err-note.result c.from_residual-in_err-note.ensures.1 (turn_memory (g.W.World.seen c.args.world.now) (g.W.World.seen c.args.world.now) c.args.self.now.net)
+    if_err (PlainTurn g.W.World.Tells (g.W.World.seen c.args.world.now) (g.W.World.seen c.args.world.now) c.args.self.now.net) faults.NoMemory c.from_residual-in_err-note.result c.from_residual-in_err-note.ensures.1 (turn_memory (g.W.World.seen c.args.world.now) (g.W.World.seen c.args.world.now) c.args.self.now.net)
 
 pub returns-then-len-gt-MOST_BODY-clause-plain : goal.returns-then-len-gt-MOST_BODY-clause-plain
 returns-then-len-gt-MOST_BODY-clause-plain g c =

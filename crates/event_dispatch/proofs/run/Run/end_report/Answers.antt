@@ -1,12 +1,12 @@
 use Rattle.event_dispatch.specs.declared.fault.Fault.TheVariants as faults
 use Rattle.event_dispatch.specs.WholeLaws.{ends_so}
-use Rattle.event_dispatch.specs.PlainLaws.{err_is, calm_anyway}
+use Rattle.event_dispatch.specs.PlainLaws.{calm_anyway}
+use Rattle.event_dispatch.specs.CutLaws.{if_err, still_so, end_still, end_unwritten}
 use Rattle.event_dispatch.specs.Plain.{PlainCalm}
 use Rattle.event_dispatch.specs.Why.{served_by}
 use Rattle.event_dispatch.specs.declared.fault.Fault.{Fault}
 use Rattle.event_dispatch.specs.Shows.{engine_of}
 use Rattle.event_dispatch.specs.Cut.{CutEnd}
-use Rattle.event_dispatch.specs.CutLaws.{if_err, still_so, end_still, end_unwritten}
 use Rattle.std.proofs.Common.{refl}
 use Rattle.event_dispatch.specs.ReadLaws.{reads_engine}
 use Rattle.event_dispatch.proofs.run.Run.end_report.Goals as goal
@@ -18,17 +18,17 @@ returns-clause-ends g c =
 
 pub returns-in_err-note_last-clause-plain : goal.returns-in_err-note_last-clause-plain
 returns-in_err-note_last-clause-plain g c =
-    err_is (λ fault. PlainCalm g.W.World.Tells (g.W.World.seen c.args.world.now) (g.W.World.seen c.note_last.new.world) c.args.self.now.net (served_by fault)) c.in_err-note_last.field-0.0 c.from_residual.result c.from_residual.ensures.1 c.in_err-note_last.ensures.plain
+    if_err (λ fault. PlainCalm g.W.World.Tells (g.W.World.seen c.args.world.now) (g.W.World.seen c.note_last.new.world) c.args.self.now.net (served_by fault)) c.in_err-note_last.field-0.0 c.from_residual.result c.from_residual.ensures.1 c.in_err-note_last.ensures.plain
 
 pub returns-in_err-write-clause-plain : goal.returns-in_err-write-clause-plain
 returns-in_err-write-clause-plain g c =
-    err_is (λ fault. PlainCalm g.W.World.Tells (g.W.World.seen c.args.world.now) (g.W.World.seen c.note_last.new.world) c.args.self.now.net (served_by fault)) faults.Write c.from_residual-in_err-write.result c.from_residual-in_err-write.ensures.1 (calm_anyway (g.W.World.seen c.args.world.now) (g.W.World.seen c.note_last.new.world) c.args.self.now.net (served_by faults.Write) tt)
+    if_err (λ fault. PlainCalm g.W.World.Tells (g.W.World.seen c.args.world.now) (g.W.World.seen c.note_last.new.world) c.args.self.now.net (served_by fault)) faults.Write c.from_residual-in_err-write.result c.from_residual-in_err-write.ensures.1 (calm_anyway (g.W.World.seen c.args.world.now) (g.W.World.seen c.note_last.new.world) c.args.self.now.net (served_by faults.Write) tt)
 
 pub returns-in_err-note_last-clause-cut : goal.returns-in_err-note_last-clause-cut
 returns-in_err-note_last-clause-cut g c =
     if_err (λ (fault : Fault). CutEnd g.W.World.Tells fault (g.K.Sink.contents c.args.sink.now) (g.K.Sink.contents c.args.sink.now) (g.W.World.seen c.args.world.now) (g.W.World.seen c.note_last.new.world) (engine_of c.args.self.now)) c.in_err-note_last.field-0.0 c.from_residual.result c.from_residual.ensures.1
     (end_still g.W.World.Tells c.in_err-note_last.field-0.0 (g.K.Sink.contents c.args.sink.now) (g.K.Sink.contents c.args.sink.now) (g.W.World.seen c.args.world.now) (g.W.World.seen c.note_last.new.world) (engine_of c.args.self.now)
-    (still_so g.W.World.Tells (g.W.World.seen c.args.world.now) (g.W.World.seen c.note_last.new.world) c.in_err-note_last.field-0.0 (g.K.Sink.contents c.args.sink.now) (g.K.Sink.contents c.args.sink.now) c.in_err-note_last.ensures.why refl) c.note_last.ensures.talks c.note_last.ensures.quietly)
+    (still_so g.W.World.Tells (g.W.World.seen c.args.world.now) (g.W.World.seen c.note_last.new.world) c.in_err-note_last.field-0.0 (g.K.Sink.contents c.args.sink.now) (g.K.Sink.contents c.args.sink.now) c.in_err-note_last.ensures.why refl) c.note_last.ensures.talks c.note_last.ensures.no_point)
 
 pub returns-in_err-write-clause-cut : goal.returns-in_err-write-clause-cut
 returns-in_err-write-clause-cut g c =

@@ -1,12 +1,12 @@
 use Rattle.std.proofs.Common.{rules, refl}
 use Rattle.event_dispatch.specs.WholeLaws.{finishes_by}
-use Rattle.event_dispatch.specs.PlainLaws.{err_is, calm_anyway}
+use Rattle.event_dispatch.specs.PlainLaws.{calm_anyway}
+use Rattle.event_dispatch.specs.CutLaws.{if_err, finish_cut}
 use Rattle.event_dispatch.specs.Plain.{PlainCalm}
 use Rattle.event_dispatch.specs.Why.{served_by}
 use Rattle.event_dispatch.specs.declared.served.Served.{Served}
 use Rattle.event_dispatch.specs.Shows.{engine_of}
 use Rattle.event_dispatch.specs.Cut.{CutFinishAs}
-use Rattle.event_dispatch.specs.CutLaws.{if_err, finish_cut}
 use Rattle.event_dispatch.specs.SteadyLaws.{places_none}
 use Rattle.event_dispatch.specs.ReadLaws.{read_none, read_of, reads_by}
 use Rattle.event_dispatch.proofs.run.Run.finish.Goals as goal
@@ -27,7 +27,7 @@ returns-then-not-is_empty-clause-plain g c =
 
 pub returns-in_err-end_report-clause-plain : goal.returns-in_err-end_report-clause-plain
 returns-in_err-end_report-clause-plain g c =
-    err_is (PlainCalm g.W.World.Tells (g.W.World.seen c.args.world.now) (g.W.World.seen c.end_report.new.world) c.args.self.now.net) (served_by c.in_err-end_report.field-0.0) c.from_residual.result c.from_residual.ensures.1 c.in_err-end_report.ensures.plain
+    if_err (PlainCalm g.W.World.Tells (g.W.World.seen c.args.world.now) (g.W.World.seen c.end_report.new.world) c.args.self.now.net) (served_by c.in_err-end_report.field-0.0) c.from_residual.result c.from_residual.ensures.1 c.in_err-end_report.ensures.plain
 
 pub returns-in_err-end_report-clause-cut : goal.returns-in_err-end_report-clause-cut
 returns-in_err-end_report-clause-cut g c =

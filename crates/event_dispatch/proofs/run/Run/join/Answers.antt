@@ -1,12 +1,13 @@
 use Rattle.event_dispatch.specs.declared.fault.Fault.TheVariants as faults
-use Rattle.event_dispatch.specs.PlainLaws.{err_is, join_memory, join_fault}
+use Rattle.event_dispatch.specs.PlainLaws.{join_memory, join_fault}
+use Rattle.event_dispatch.specs.CutLaws.{if_err}
 use Rattle.event_dispatch.specs.Plain.{PlainJoin}
 use Rattle.event_dispatch.specs.Why.{IsReason, fault_of}
 use Rattle.event_dispatch.specs.FaultLaws.{join_why}
 use Rattle.std.proofs.Common.{sym, ap, subst}
 use Rattle.outside.specs.Seen.{Seen}
-use Rattle.net_txn.specs.LinkSteps.{AsksInPlace}
-use Rattle.net_txn.specs.LinkPlaceLaws.{in_place_none}
+use Rattle.net_txn.specs.LinkSteps.{AsksWithoutStrays}
+use Rattle.net_txn.specs.LinkStrayLaws.{no_strays_none}
 use Rattle.event_dispatch.specs.Told.{OnlyMessages}
 use Rattle.event_dispatch.specs.BatchSteadyLaws.{only_none}
 use Rattle.event_dispatch.specs.Talking.{KeepsTalking}
@@ -16,16 +17,16 @@ use Rattle.event_dispatch.proofs.run.Run.join.Goals as goal
 
 pub returns-in_err-joined-clause-plain : goal.returns-in_err-joined-clause-plain
 returns-in_err-joined-clause-plain g c =
-    err_is (PlainJoin g.W.World.Tells c.args.dpid (g.W.World.seen c.args.world.now) (g.W.World.seen c.joined.new.world)) (fault_of c.in_err-joined.field-0.0) c.from_residual.result c.from_residual.ensures.1
+    if_err (PlainJoin g.W.World.Tells c.args.dpid (g.W.World.seen c.args.world.now) (g.W.World.seen c.joined.new.world)) (fault_of c.in_err-joined.field-0.0) c.from_residual.result c.from_residual.ensures.1
     (join_fault c.args.dpid (g.W.World.seen c.args.world.now) (g.W.World.seen c.joined.new.world) c.args.self.now.net c.joined.new.self c.in_err-joined.field-0.0 c.in_err-joined.ensures.in_step)
 
 pub returns-in_err-announce-clause-plain : goal.returns-in_err-announce-clause-plain
 returns-in_err-announce-clause-plain g c =
-    err_is (PlainJoin g.W.World.Tells c.args.dpid (g.W.World.seen c.args.world.now) (g.W.World.seen c.joined.new.world)) faults.NoMemory c.from_residual-in_err-announce.result c.from_residual-in_err-announce.ensures.1 (join_memory c.args.dpid (g.W.World.seen c.args.world.now) (g.W.World.seen c.joined.new.world))
+    if_err (PlainJoin g.W.World.Tells c.args.dpid (g.W.World.seen c.args.world.now) (g.W.World.seen c.joined.new.world)) faults.NoMemory c.from_residual-in_err-announce.result c.from_residual-in_err-announce.ensures.1 (join_memory c.args.dpid (g.W.World.seen c.args.world.now) (g.W.World.seen c.joined.new.world))
 
 pub returns-in_err-joined-clause-why : goal.returns-in_err-joined-clause-why
 returns-in_err-joined-clause-why g c =
-    err_is (IsReason g.W.World.Tells (g.W.World.seen c.args.world.now) (g.W.World.seen c.joined.new.world) 0 0) (fault_of c.in_err-joined.field-0.0) c.from_residual.result c.from_residual.ensures.1
+    if_err (IsReason g.W.World.Tells (g.W.World.seen c.args.world.now) (g.W.World.seen c.joined.new.world) 0 0) (fault_of c.in_err-joined.field-0.0) c.from_residual.result c.from_residual.ensures.1
     (join_why g.W.World.Tells c.args.dpid c.args.self.now.net.xid (g.W.World.seen c.args.world.now) (g.W.World.seen c.joined.new.world) c.in_err-joined.field-0.0 c.in_err-joined.ensures.cause c.in_err-joined.ensures.flooded)
 
 pub returns-clause-talks : goal.returns-clause-talks
@@ -41,9 +42,9 @@ pub returns-clause-places : goal.returns-clause-places
 returns-clause-places g c =
     elim c.match-message.branch [
       | in-FeaturesReply+in_ok-joined+in_ok-announce w ↦
-          subst (λ (s : Seen _). AsksInPlace g.W.World.Tells c.args.dpid (g.W.World.seen c.args.world.now) s) (sym (ap g.W.World.seen w.world-is)) w.joined.ensures.in_place
+          subst (λ (s : Seen _). AsksWithoutStrays g.W.World.Tells c.args.dpid (g.W.World.seen c.args.world.now) s) (sym (ap g.W.World.seen w.world-is)) w.joined.ensures.no_strays
       | in_default w ↦
-          subst (λ (s : Seen _). AsksInPlace g.W.World.Tells c.args.dpid (g.W.World.seen c.args.world.now) s) (sym (ap g.W.World.seen w.world-is)) (λ told order joined. in_place_none (g.W.World.seen c.args.world.now))
+          subst (λ (s : Seen _). AsksWithoutStrays g.W.World.Tells c.args.dpid (g.W.World.seen c.args.world.now) s) (sym (ap g.W.World.seen w.world-is)) (λ told order joined. no_strays_none (g.W.World.seen c.args.world.now))
     ]
 
 pub returns-clause-messages : goal.returns-clause-messages

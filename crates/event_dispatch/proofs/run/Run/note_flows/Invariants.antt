@@ -3,7 +3,7 @@ use Rattle.flow_table.specs.declared.view.ViewRow.{ViewRow}
 use Rattle.net_txn.specs.Views.{rows_at}
 use Rattle.run_laws.specs.LastReport.{SameKeys}
 use Rattle.event_dispatch.specs.Runs.{Waits}
-use Rattle.event_dispatch.specs.LastShown.{FlowsSoFar}
+use Rattle.event_dispatch.specs.ReportEnd.{FlowsSoFar}
 use Rattle.event_dispatch.proofs.run.Run.note_flows.Given as goal
 
 abbrev pub invariant-loop-row : goal.invariant-loop-row

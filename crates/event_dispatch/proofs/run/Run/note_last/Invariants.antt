@@ -2,8 +2,8 @@ use Rattle.event_dispatch.specs.Talking.{KeepsTalking}
 use Rattle.std.proofs.Common.{take}
 use Rattle.outside.specs.Seen.{Continues}
 use Rattle.event_dispatch.specs.Runs.{Waits}
-use Rattle.event_dispatch.specs.Steady.{InPlace, Reads, Quietly}
-use Rattle.event_dispatch.specs.LastShown.{TablesShown}
+use Rattle.event_dispatch.specs.Steady.{NoStray, Reads, NoPoint}
+use Rattle.event_dispatch.specs.ReportEnd.{TablesShown}
 use Rattle.event_dispatch.proofs.run.Run.note_last.Given as goal
 
 abbrev pub invariant-loop-dpid : goal.invariant-loop-dpid
@@ -11,8 +11,8 @@ invariant-loop-dpid g l = record {
   waits : Waits l.fn.self l.self;
   continues : Continues g.W.World.Tells (g.W.World.seen l.fn.world) (g.W.World.seen l.world);
   talks : KeepsTalking g.W.World.Tells (g.W.World.seen l.fn.world) (g.W.World.seen l.world);
-  places : InPlace g.W.World.Tells (g.W.World.seen l.fn.world) (g.W.World.seen l.world) l.fn.self.net;
+  places : NoStray g.W.World.Tells (g.W.World.seen l.fn.world) (g.W.World.seen l.world) l.fn.self.net;
   reads : Reads g.W.World.Tells (g.W.World.seen l.fn.world) (g.W.World.seen l.world) l.fn.self.net l.self.net;
-  quietly : Quietly g.W.World.Tells (g.W.World.seen l.fn.world) (g.W.World.seen l.world);
+  no_point : NoPoint g.W.World.Tells (g.W.World.seen l.fn.world) (g.W.World.seen l.world);
   shown : TablesShown g.W.World.Tells (take l.dpid-index l.dpid-items) (g.W.World.seen l.fn.world) (g.W.World.seen l.world) l.fn.self l.self;
 }

@@ -1,7 +1,7 @@
 use Rattle.std.proofs.Common.{take}
 use Rattle.std.specs.List.{flat_map}
 use Rattle.lego_model.specs.RunReport.{start_line}
-use Rattle.run_laws.specs.Facts.{name}
+use Rattle.lego_model.specs.Application.{name}
 use Rattle.event_dispatch.specs.Runs.{Waits}
 use Rattle.event_dispatch.specs.Shows.{Adds}
 use Rattle.event_dispatch.proofs.run.Run.note_start.Given as goal

@@ -1,12 +1,12 @@
 use Rattle.event_dispatch.specs.declared.fault.Fault.TheVariants as faults
-use Rattle.std.proofs.Common.{rules}
+use Rattle.std.proofs.Common.{rules, refl, ap}
 use Rattle.event_dispatch.specs.LastLaws.{table_told, table_out}
-use Rattle.event_dispatch.specs.PlainLaws.{err_is, table_memory}
+use Rattle.event_dispatch.specs.PlainLaws.{table_memory}
+use Rattle.event_dispatch.specs.CutLaws.{if_err}
 use Rattle.event_dispatch.specs.Plain.{PlainTable}
-use Rattle.std.proofs.Common.{refl, ap}
 use Rattle.net_txn.specs.Net.{NetState}
 use Rattle.event_dispatch.specs.SteadyLaws.{places_none, reads_none, quietly_none}
-use Rattle.event_dispatch.specs.DispatchPlaceLaws.{reads_over}
+use Rattle.event_dispatch.specs.DispatchStrayLaws.{reads_over}
 use Rattle.event_dispatch.proofs.run.Run.note_table.Goals as goal
 
 -- src/last.rt:129:13
@@ -19,17 +19,17 @@ returns-clause-shown g c = table_told (c.is_joined.ensures.joined (search rules)
 
 pub returns-in_err-rows-clause-plain : goal.returns-in_err-rows-clause-plain
 returns-in_err-rows-clause-plain g c =
-    err_is (PlainTable g.W.World.Tells (g.W.World.seen c.args.world.now) (g.W.World.seen c.ask_rows.new.world) c.args.self.now.net) c.in_err-rows.field-0.0 c.from_residual.result c.from_residual.ensures.1 c.in_err-rows.ensures.plain
+    if_err (PlainTable g.W.World.Tells (g.W.World.seen c.args.world.now) (g.W.World.seen c.ask_rows.new.world) c.args.self.now.net) c.in_err-rows.field-0.0 c.from_residual.result c.from_residual.ensures.1 c.in_err-rows.ensures.plain
 
 pub returns-in_err-note_rows-clause-plain : goal.returns-in_err-note_rows-clause-plain
 returns-in_err-note_rows-clause-plain g c =
-    err_is (PlainTable g.W.World.Tells (g.W.World.seen c.args.world.now) (g.W.World.seen c.ask_rows.new.world) c.args.self.now.net) faults.NoMemory c.from_residual-in_err-note_rows.result c.from_residual-in_err-note_rows.ensures.1 (table_memory (g.W.World.seen c.args.world.now) (g.W.World.seen c.ask_rows.new.world) c.args.self.now.net)
+    if_err (PlainTable g.W.World.Tells (g.W.World.seen c.args.world.now) (g.W.World.seen c.ask_rows.new.world) c.args.self.now.net) faults.NoMemory c.from_residual-in_err-note_rows.result c.from_residual-in_err-note_rows.ensures.1 (table_memory (g.W.World.seen c.args.world.now) (g.W.World.seen c.ask_rows.new.world) c.args.self.now.net)
 
 pub returns-then-not-is_joined-clause-places : goal.returns-then-not-is_joined-clause-places
 returns-then-not-is_joined-clause-places g c = places_none g.W.World.Tells (g.W.World.seen c.args.world.now) c.args.self.now.net
 
-pub returns-then-not-is_joined-clause-quietly : goal.returns-then-not-is_joined-clause-quietly
-returns-then-not-is_joined-clause-quietly g c = quietly_none g.W.World.Tells (g.W.World.seen c.args.world.now)
+pub returns-then-not-is_joined-clause-no_point : goal.returns-then-not-is_joined-clause-no_point
+returns-then-not-is_joined-clause-no_point g c = quietly_none g.W.World.Tells (g.W.World.seen c.args.world.now)
 
 pub returns-then-not-is_joined-clause-reads : goal.returns-then-not-is_joined-clause-reads
 returns-then-not-is_joined-clause-reads g c = reads_none g.W.World.Tells (g.W.World.seen c.args.world.now) c.args.self.now.net c.args.self.now.net refl

@@ -1,6 +1,6 @@
 use Rattle.event_dispatch.specs.TalkingLaws.{keeps_tried, keeps_restarted}
 use Rattle.std.proofs.lemmas.Result.{on_ok_weaker}
-use Rattle.event_dispatch.specs.DispatchPlaceLaws.{started_quietly, started_places, started_reads}
+use Rattle.event_dispatch.specs.DispatchStrayLaws.{started_quietly, started_places, started_reads}
 use Rattle.std.proofs.Common.{ap}
 use Rattle.run_laws.specs.Engine.{Engine}
 use Rattle.event_dispatch.proofs.run.Run.start.Goals as goal
@@ -14,14 +14,14 @@ returns-clause-talks g c = keeps_restarted g.W.World.Tells c.args.self.now.app.s
 pub returns-in_err-back-clause-places : goal.returns-in_err-back-clause-places
 returns-in_err-back-clause-places g c = started_places c.args.self.now.app.state.index c.args.self.now.net c.restart.ensures.own
 
-pub returns-in_err-back-clause-quietly : goal.returns-in_err-back-clause-quietly
-returns-in_err-back-clause-quietly g c = started_quietly c.args.self.now.app.state.index c.requires c.restart.ensures.own
+pub returns-in_err-back-clause-no_point : goal.returns-in_err-back-clause-no_point
+returns-in_err-back-clause-no_point g c = started_quietly c.args.self.now.app.state.index c.requires c.restart.ensures.own
 
 pub returns-clause-places : goal.returns-clause-places
 returns-clause-places g c = started_places c.args.self.now.app.state.index c.args.self.now.net c.restart.ensures.own
 
-pub returns-clause-quietly : goal.returns-clause-quietly
-returns-clause-quietly g c = started_quietly c.args.self.now.app.state.index c.requires c.restart.ensures.own
+pub returns-clause-no_point : goal.returns-clause-no_point
+returns-clause-no_point g c = started_quietly c.args.self.now.app.state.index c.requires c.restart.ensures.own
 
 pub returns-clause-reads : goal.returns-clause-reads
 returns-clause-reads g c = on_ok_weaker c.note_start.result

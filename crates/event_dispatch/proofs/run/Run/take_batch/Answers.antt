@@ -3,7 +3,8 @@ use Rattle.event_dispatch.specs.declared.batch.Rest.{Rest}
 use Rattle.event_dispatch.specs.Batch.{NextTaken}
 use Rattle.event_dispatch.specs.WhyLaws.{continues_then, waits_then}
 use Rattle.event_dispatch.specs.BatchLaws.{batch_goes, batch_ends, batch_too_long}
-use Rattle.event_dispatch.specs.PlainLaws.{err_is, batch_kept, batch_next}
+use Rattle.event_dispatch.specs.PlainLaws.{batch_kept, batch_next}
+use Rattle.event_dispatch.specs.CutLaws.{if_err}
 use Rattle.event_dispatch.specs.Plain.{PlainCalm}
 use Rattle.event_dispatch.specs.Why.{served_by}
 use Rattle.event_dispatch.specs.TalkingLaws.{keeps_then, holds_on_err}
@@ -36,17 +37,17 @@ loop-item-preserved g c = record {
   talks = keeps_then g.W.World.Tells (g.W.World.seen c.args.world.now) (g.W.World.seen c.loop-item.world) (g.W.World.seen c.take_next.new.world) c.loop-item.invariant.talks c.in_ok-rest.ensures.talks;
   places = places_then (g.W.World.seen c.args.world.now) (g.W.World.seen c.loop-item.world) (g.W.World.seen c.take_next.new.world) c.args.self.now.net c.loop-item.self.net c.loop-item.invariant.continues c.in_ok-rest.ensures.continues c.loop-item.invariant.places c.loop-item.invariant.reads c.in_ok-rest.ensures.places;
   reads = reads_then (g.W.World.seen c.args.world.now) (g.W.World.seen c.loop-item.world) (g.W.World.seen c.take_next.new.world) c.args.self.now.net c.loop-item.self.net c.take_next.new.self.net c.loop-item.invariant.continues c.in_ok-rest.ensures.continues c.loop-item.invariant.reads c.in_ok-rest.ensures.reads;
-  here = here_goes (g.W.World.seen c.args.world.now) (g.W.World.seen c.loop-item.world) (g.W.World.seen c.take_next.new.world) c.args.self.now.net c.in_ok-rest.ensures.continues c.loop-item.invariant.here c.in_ok-rest.ensures.quietly
+  here = here_goes (g.W.World.seen c.args.world.now) (g.W.World.seen c.loop-item.world) (g.W.World.seen c.take_next.new.world) c.args.self.now.net c.in_ok-rest.ensures.continues c.loop-item.invariant.here c.in_ok-rest.ensures.no_point
       (subst (λ (rest : Option Rest). GoesBegun g.W.World.Tells rest (g.W.World.seen c.loop-item.world) (g.W.World.seen c.take_next.new.world)) c.in_default.is c.in_ok-rest.ensures.begun);
 }
 
 pub returns-in_err-left-clause-plain : goal.returns-in_err-left-clause-plain
 returns-in_err-left-clause-plain g c =
-    err_is (λ fault. PlainCalm g.W.World.Tells (g.W.World.seen c.args.world.now) (g.W.World.seen c.take_kept.new.world) c.args.self.now.net (served_by fault)) c.in_err-left.field-0.0 c.from_residual.result c.from_residual.ensures.1 (batch_kept (g.W.World.seen c.args.world.now) (g.W.World.seen c.take_kept.new.world) c.args.self.now.net c.in_err-left.field-0.0 c.in_err-left.ensures.plain)
+    if_err (λ fault. PlainCalm g.W.World.Tells (g.W.World.seen c.args.world.now) (g.W.World.seen c.take_kept.new.world) c.args.self.now.net (served_by fault)) c.in_err-left.field-0.0 c.from_residual.result c.from_residual.ensures.1 (batch_kept (g.W.World.seen c.args.world.now) (g.W.World.seen c.take_kept.new.world) c.args.self.now.net c.in_err-left.field-0.0 c.in_err-left.ensures.plain)
 
 pub returns-in_err-rest-clause-plain : goal.returns-in_err-rest-clause-plain
 returns-in_err-rest-clause-plain g c =
-    err_is (λ fault. PlainCalm g.W.World.Tells (g.W.World.seen c.args.world.now) (g.W.World.seen c.take_next.new.world) c.args.self.now.net (served_by fault)) c.in_err-rest.field-0.0 c.from_residual-in_err-rest.result c.from_residual-in_err-rest.ensures.1
+    if_err (λ fault. PlainCalm g.W.World.Tells (g.W.World.seen c.args.world.now) (g.W.World.seen c.take_next.new.world) c.args.self.now.net (served_by fault)) c.in_err-rest.field-0.0 c.from_residual-in_err-rest.result c.from_residual-in_err-rest.ensures.1
     (batch_next c.loop-item._item (g.W.World.seen c.args.world.now) (g.W.World.seen c.loop-item.world) (g.W.World.seen c.take_next.new.world) c.args.self.now c.loop-item.self c.in_err-rest.field-0.0 c.loop-item.invariant.goes c.in_err-rest.ensures.continues c.in_err-rest.ensures.plain)
 
 pub returns-in-Some-clause-places : goal.returns-in-Some-clause-places
@@ -63,11 +64,11 @@ returns-in_err-left-clause-here g c = holds_on_err c.from_residual.result (λ no
 
 pub returns-in_err-rest-clause-here : goal.returns-in_err-rest-clause-here
 returns-in_err-rest-clause-here g c =
-    holds_on_err c.from_residual-in_err-rest.result (λ none. here_ends (g.W.World.seen c.args.world.now) (g.W.World.seen c.loop-item.world) (g.W.World.seen c.take_next.new.world) c.args.self.now.net c.in_err-rest.ensures.continues c.loop-item.invariant.here c.in_err-rest.ensures.quietly none)
+    holds_on_err c.from_residual-in_err-rest.result (λ none. here_ends (g.W.World.seen c.args.world.now) (g.W.World.seen c.loop-item.world) (g.W.World.seen c.take_next.new.world) c.args.self.now.net c.in_err-rest.ensures.continues c.loop-item.invariant.here c.in_err-rest.ensures.no_point none)
 
 pub returns-in_err-left-clause-own : goal.returns-in_err-left-clause-own
 returns-in_err-left-clause-own g c = holds_on_err c.from_residual.result (here_kept (g.W.World.seen c.args.world.now) (g.W.World.seen c.take_kept.new.world) c.in_err-left.ensures.links).own
 
 pub returns-in_err-rest-clause-own : goal.returns-in_err-rest-clause-own
 returns-in_err-rest-clause-own g c =
-    holds_on_err c.from_residual-in_err-rest.result (λ told. calls_then (c.loop-item.invariant.here.own told) (c.in_err-rest.ensures.quietly.own told))
+    holds_on_err c.from_residual-in_err-rest.result (λ told. calls_then (c.loop-item.invariant.here.own told) (c.in_err-rest.ensures.no_point.own told))

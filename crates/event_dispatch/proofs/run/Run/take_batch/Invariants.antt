@@ -1,8 +1,8 @@
 use Rattle.event_dispatch.specs.Talking.{KeepsTalking}
 use Rattle.std.proofs.Common.{◌≡◌, length}
 use Rattle.outside.specs.Seen.{Continues}
-use Rattle.event_dispatch.specs.Steady.{InPlace, Reads}
-use Rattle.event_dispatch.specs.Told.{BatchHere}
+use Rattle.event_dispatch.specs.Steady.{NoStray, Reads}
+use Rattle.event_dispatch.specs.Told.{BatchPoint}
 use Rattle.event_dispatch.specs.Runs.{AreRead, Waits}
 use Rattle.event_dispatch.specs.Batch.{BatchGoes}
 use Rattle.event_dispatch.proofs.run.Run.take_batch.Given as goal
@@ -17,7 +17,7 @@ invariant-loop-item g l = record {
   buffer : length l.buf ≡ length l.fn.buf;
   continues : Continues g.W.World.Tells (g.W.World.seen l.fn.world) (g.W.World.seen l.world);
   talks : KeepsTalking g.W.World.Tells (g.W.World.seen l.fn.world) (g.W.World.seen l.world);
-  places : InPlace g.W.World.Tells (g.W.World.seen l.fn.world) (g.W.World.seen l.world) l.fn.self.net;
+  places : NoStray g.W.World.Tells (g.W.World.seen l.fn.world) (g.W.World.seen l.world) l.fn.self.net;
   reads : Reads g.W.World.Tells (g.W.World.seen l.fn.world) (g.W.World.seen l.world) l.fn.self.net l.self.net;
-  here : BatchHere g.W.World.Tells (g.W.World.seen l.fn.world) (g.W.World.seen l.world) l.fn.self.net;
+  here : BatchPoint g.W.World.Tells (g.W.World.seen l.fn.world) (g.W.World.seen l.world) l.fn.self.net;
 }

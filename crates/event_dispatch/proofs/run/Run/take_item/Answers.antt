@@ -5,7 +5,8 @@ use Rattle.outside.specs.declared.step.WorldStep.{WorldStep}
 use Rattle.batch_laws.specs.Items.{Handles}
 use Rattle.batch_laws.specs.HandleLaws.{departs_handles, moment_handles}
 use Rattle.event_dispatch.specs.BatchLaws.{from_step, joined_step, left_step, moment_step, rest_handles}
-use Rattle.event_dispatch.specs.PlainLaws.{on_err, err_is, item_from, item_joined, item_memory}
+use Rattle.event_dispatch.specs.PlainLaws.{on_err, item_from, item_joined, item_memory}
+use Rattle.event_dispatch.specs.CutLaws.{if_err}
 use Rattle.event_dispatch.specs.Plain.{PlainItem}
 use Rattle.outside.specs.Calls.{item_step}
 use Rattle.event_dispatch.specs.Why.{WhyItem}
@@ -50,7 +51,7 @@ returns-in-Joined-clause-plain g c =
 
 pub returns-in_err-take_out-in-Left-clause-plain : goal.returns-in_err-take_out-in-Left-clause-plain
 returns-in_err-take_out-in-Left-clause-plain g c =
-    err_is (PlainItem g.W.World.Tells (item_step c.args.item c.args.buf.now) (g.W.World.seen c.args.world.now) (g.W.World.seen c.args.world.now)) faults.NoMemory c.from_residual.result c.from_residual.ensures.1 (item_memory c.args.item c.args.buf.now (g.W.World.seen c.args.world.now) (g.W.World.seen c.args.world.now))
+    if_err (PlainItem g.W.World.Tells (item_step c.args.item c.args.buf.now) (g.W.World.seen c.args.world.now) (g.W.World.seen c.args.world.now)) faults.NoMemory c.from_residual.result c.from_residual.ensures.1 (item_memory c.args.item c.args.buf.now (g.W.World.seen c.args.world.now) (g.W.World.seen c.args.world.now))
 
 pub returns-in-From-clause-why : goal.returns-in-From-clause-why
 returns-in-From-clause-why g c =
@@ -62,7 +63,7 @@ returns-in-Joined-clause-why g c =
 
 pub returns-in_err-take_out-in-Left-clause-why : goal.returns-in_err-take_out-in-Left-clause-why
 returns-in_err-take_out-in-Left-clause-why g c =
-    err_is (WhyItem g.W.World.Tells (item_step c.args.item c.args.buf.now) (g.W.World.seen c.args.world.now) (g.W.World.seen c.args.world.now)) faults.NoMemory c.from_residual.result c.from_residual.ensures.1 (why.item_memory (item_step c.args.item c.args.buf.now) (g.W.World.seen c.args.world.now) (g.W.World.seen c.args.world.now))
+    if_err (WhyItem g.W.World.Tells (item_step c.args.item c.args.buf.now) (g.W.World.seen c.args.world.now) (g.W.World.seen c.args.world.now)) faults.NoMemory c.from_residual.result c.from_residual.ensures.1 (why.item_memory (item_step c.args.item c.args.buf.now) (g.W.World.seen c.args.world.now) (g.W.World.seen c.args.world.now))
 
 pub returns-in-From-clause-places : goal.returns-in-From-clause-places
 returns-in-From-clause-places g c =

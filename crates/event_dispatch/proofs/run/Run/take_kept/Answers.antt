@@ -2,7 +2,8 @@ use Rattle.event_dispatch.specs.declared.fault.Fault.TheVariants as faults
 use Rattle.std.proofs.Common.{refl, sym, ◌∙◌}
 use Rattle.outside.specs.SeenLaws.{Continues-refl}
 use Rattle.event_dispatch.specs.BatchLaws.{kept_at_first, kept_one_more, kept_ends, kept_all}
-use Rattle.event_dispatch.specs.PlainLaws.{err_is, kept_memory, kept_none}
+use Rattle.event_dispatch.specs.PlainLaws.{kept_memory, kept_none}
+use Rattle.event_dispatch.specs.CutLaws.{if_err}
 use Rattle.event_dispatch.specs.Plain.{PlainKept}
 use Rattle.event_dispatch.specs.Why.{IsReason}
 use Rattle.event_dispatch.specs.ItemLaws.{kept_why}
@@ -22,16 +23,16 @@ returns-clause-kept g c =
 
 pub returns-in_err-dpid-clause-plain : goal.returns-in_err-dpid-clause-plain
 returns-in_err-dpid-clause-plain g c =
-    err_is (PlainKept c.args.self.now.net) faults.NoMemory c.from_residual.result c.from_residual.ensures.1 (kept_memory c.args.self.now.net)
+    if_err (PlainKept c.args.self.now.net) faults.NoMemory c.from_residual.result c.from_residual.ensures.1 (kept_memory c.args.self.now.net)
 
 pub returns-in_err-take_message-clause-plain : goal.returns-in_err-take_message-clause-plain
 returns-in_err-take_message-clause-plain g c =
-    err_is (PlainKept c.args.self.now.net) c.in_err-take_message.field-0.0 c.from_residual-in_err-take_message.result c.from_residual-in_err-take_message.ensures.1
+    if_err (PlainKept c.args.self.now.net) c.in_err-take_message.field-0.0 c.from_residual-in_err-take_message.result c.from_residual-in_err-take_message.ensures.1
     (kept_none c.args.self.now c.loop-taken.self _ c.in_err-take_message.field-0.0 c.loop-taken.invariant.kept (sym c.in-Some.is ∙ c.in_ok-dpid.ensures.first))
 
 pub returns-in_err-take_message-clause-why : goal.returns-in_err-take_message-clause-why
 returns-in_err-take_message-clause-why g c =
-    err_is (IsReason g.W.World.Tells (g.W.World.seen c.args.world.now) (g.W.World.seen c.take_message.new.world) 0 0) c.in_err-take_message.field-0.0 c.from_residual-in_err-take_message.result c.from_residual-in_err-take_message.ensures.1
+    if_err (IsReason g.W.World.Tells (g.W.World.seen c.args.world.now) (g.W.World.seen c.take_message.new.world) 0 0) c.in_err-take_message.field-0.0 c.from_residual-in_err-take_message.result c.from_residual-in_err-take_message.ensures.1
     (kept_why c.loop-taken.self.net.kept _ _ _ (g.W.World.seen c.args.world.now) (g.W.World.seen c.loop-taken.world) (g.W.World.seen c.take_message.new.world) c.in_err-take_message.field-0.0 c.loop-taken.invariant.read (sym c.in_ok-dpid.ensures.first ∙ c.in-Some.is) c.as_slice.ensures c.loop-taken.invariant.continues c.in_err-take_message.ensures.why)
 
 pub loop-taken-init : goal.loop-taken-init

@@ -2,7 +2,7 @@ use Rattle.event_dispatch.specs.Talking.{KeepsTalking}
 use Rattle.std.proofs.Common.{◌≡◌}
 use Rattle.outside.specs.Seen.{Continues}
 use Rattle.net_txn.specs.LinkSteps.{OnLinks}
-use Rattle.event_dispatch.specs.Steady.{InPlace, Reads}
+use Rattle.event_dispatch.specs.Steady.{NoStray, Reads}
 use Rattle.event_dispatch.specs.Runs.{AreRead, Waits}
 use Rattle.event_dispatch.specs.Batch.{KeptSoFar}
 use Rattle.event_dispatch.proofs.run.Run.take_kept.Given as goal
@@ -17,6 +17,6 @@ invariant-loop-taken g l = record {
   continues : Continues g.W.World.Tells (g.W.World.seen l.fn.world) (g.W.World.seen l.world);
   talks : KeepsTalking g.W.World.Tells (g.W.World.seen l.fn.world) (g.W.World.seen l.world);
   links : OnLinks g.W.World.Tells (g.W.World.seen l.fn.world) (g.W.World.seen l.world);
-  places : InPlace g.W.World.Tells (g.W.World.seen l.fn.world) (g.W.World.seen l.world) l.fn.self.net;
+  places : NoStray g.W.World.Tells (g.W.World.seen l.fn.world) (g.W.World.seen l.world) l.fn.self.net;
   reads : Reads g.W.World.Tells (g.W.World.seen l.fn.world) (g.W.World.seen l.world) l.fn.self.net l.self.net;
 }

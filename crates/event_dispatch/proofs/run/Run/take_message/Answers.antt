@@ -2,13 +2,13 @@ use Rattle.event_dispatch.specs.declared.fault.Fault.TheVariants as faults
 use Rattle.std.proofs.Common.{rules, refl, subst, Option, Result}
 use Rattle.of_types.specs.Fields.{IsBytes}
 use Rattle.app_frames.specs.declared.frame.Event.{Event}
-use Rattle.net_txn.specs.declared.fault.TxnFault.{TxnFault}
+use Rattle.lego_model.specs.declared.fault.TxnFault.{TxnFault}
 use Rattle.net_txn.specs.Arriving.{Arrives}
 use Rattle.batch_laws.specs.HandleLaws.{arrived_handles, from_ignored}
-use Rattle.event_dispatch.specs.PlainLaws.{err_is, read_memory, read_arrived}
+use Rattle.event_dispatch.specs.PlainLaws.{read_memory, read_arrived}
+use Rattle.event_dispatch.specs.CutLaws.{if_err}
 use Rattle.event_dispatch.specs.Plain.{PlainRead}
-use Rattle.event_dispatch.specs.Why.{fault_of}
-use Rattle.event_dispatch.specs.Why.{WhyMessage}
+use Rattle.event_dispatch.specs.Why.{fault_of, WhyMessage}
 use Rattle.event_dispatch.specs.FaultLaws.{arrival_why}
 use Rattle.event_dispatch.specs.KeptLaws.{arrived_read}
 use Rattle.event_dispatch.specs.BatchSteadyLaws.{arrived_places, arrived_reads, arrived_only}
@@ -27,21 +27,21 @@ returns-clause-handles g c =
 
 pub returns-in_err-event-clause-plain : goal.returns-in_err-event-clause-plain
 returns-in_err-event-clause-plain g c =
-    err_is (PlainRead c.args.frame.now) (fault_of c.in_err-event.field-0.0) c.from_residual.result c.from_residual.ensures.1
+    if_err (PlainRead c.args.frame.now) (fault_of c.in_err-event.field-0.0) c.from_residual.result c.from_residual.ensures.1
     (read_arrived c.args.dpid c.args.frame.now (g.W.World.seen c.args.world.now) (g.W.World.seen c.arrived.new.world) c.in_err-event.field-0.0 c.in_err-event.ensures.cause)
 
 pub returns-in_err-append-clause-plain : goal.returns-in_err-append-clause-plain
 returns-in_err-append-clause-plain g c =
-    err_is (PlainRead c.args.frame.now) faults.NoMemory c.from_residual-in_err-append.result c.from_residual-in_err-append.ensures.1 (read_memory c.args.frame.now)
+    if_err (PlainRead c.args.frame.now) faults.NoMemory c.from_residual-in_err-append.result c.from_residual-in_err-append.ensures.1 (read_memory c.args.frame.now)
 
 pub returns-in_err-event-clause-why : goal.returns-in_err-event-clause-why
 returns-in_err-event-clause-why g c =
-    err_is (WhyMessage g.W.World.Tells c.args.dpid c.args.frame.now (g.W.World.seen c.args.world.now) (g.W.World.seen c.arrived.new.world)) (fault_of c.in_err-event.field-0.0) c.from_residual.result c.from_residual.ensures.1
+    if_err (WhyMessage g.W.World.Tells c.args.dpid c.args.frame.now (g.W.World.seen c.args.world.now) (g.W.World.seen c.arrived.new.world)) (fault_of c.in_err-event.field-0.0) c.from_residual.result c.from_residual.ensures.1
     (arrival_why c.args.dpid c.args.frame.now (g.W.World.seen c.args.world.now) (g.W.World.seen c.arrived.new.world) c.in_err-event.field-0.0 c.in_err-event.ensures.continues c.in_err-event.ensures.cause)
 
 pub returns-in_err-append-clause-why : goal.returns-in_err-append-clause-why
 returns-in_err-append-clause-why g c =
-    err_is (WhyMessage g.W.World.Tells c.args.dpid c.args.frame.now (g.W.World.seen c.args.world.now) (g.W.World.seen c.arrived.new.world)) faults.NoMemory c.from_residual-in_err-append.result c.from_residual-in_err-append.ensures.1 (message_memory c.args.dpid c.args.frame.now (g.W.World.seen c.args.world.now) (g.W.World.seen c.arrived.new.world))
+    if_err (WhyMessage g.W.World.Tells c.args.dpid c.args.frame.now (g.W.World.seen c.args.world.now) (g.W.World.seen c.arrived.new.world)) faults.NoMemory c.from_residual-in_err-append.result c.from_residual-in_err-append.ensures.1 (message_memory c.args.dpid c.args.frame.now (g.W.World.seen c.args.world.now) (g.W.World.seen c.arrived.new.world))
 
 pub returns-clause-read : goal.returns-clause-read
 returns-clause-read g c =

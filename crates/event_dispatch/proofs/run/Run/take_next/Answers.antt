@@ -2,7 +2,8 @@ use Rattle.std.proofs.Common.{sym, ap, inl, inr}
 use Rattle.event_dispatch.specs.Batch.{rest_by}
 use Rattle.event_dispatch.specs.WhyLaws.{continues_then}
 use Rattle.event_dispatch.specs.BatchLaws.{rest_handles, no_rest}
-use Rattle.event_dispatch.specs.PlainLaws.{err_is, next_anyway, next_taken}
+use Rattle.event_dispatch.specs.PlainLaws.{next_anyway, next_taken}
+use Rattle.event_dispatch.specs.CutLaws.{if_err}
 use Rattle.event_dispatch.specs.Plain.{PlainNext}
 use Rattle.event_dispatch.specs.Why.{IsReason}
 use Rattle.event_dispatch.specs.ItemLaws.{next_why}
@@ -46,7 +47,7 @@ returns-in_ok-take_item-in_default g c = record {
   places = handled_places g.W.World.Tells c.in_ok-item.item c.next_item.new.buf (g.W.World.seen c.args.world.now) (g.W.World.seen c.next_item.new.world) (g.W.World.seen c.take_item.new.world) c.args.self.now.net c.in_ok-item.ensures.nexts c.in_ok-take_item-in_default.ensures.continues c.in_ok-take_item-in_default.ensures.places;
   reads = handled_reads g.W.World.Tells c.in_ok-item.item c.next_item.new.buf (g.W.World.seen c.args.world.now) (g.W.World.seen c.next_item.new.world) (g.W.World.seen c.take_item.new.world) c.args.self.now.net c.take_item.new.self.net c.args.self.now.queue c.take_item.new.self.queue c.in_ok-item.ensures.nexts c.in_ok-take_item-in_default.ensures.handles
       c.in_ok-take_item-in_default.ensures.links c.in_ok-take_item-in_default.ensures.messages;
-  quietly = handled_quietly g.W.World.Tells (g.W.World.seen c.args.world.now) (g.W.World.seen c.next_item.new.world) (g.W.World.seen c.take_item.new.world) c.in_ok-take_item-in_default.ensures.continues c.in_ok-item.ensures.quietly c.in_ok-take_item-in_default.ensures.links;
+  no_point = handled_quietly g.W.World.Tells (g.W.World.seen c.args.world.now) (g.W.World.seen c.next_item.new.world) (g.W.World.seen c.take_item.new.world) c.in_ok-take_item-in_default.ensures.continues c.in_ok-item.ensures.no_point c.in_ok-take_item-in_default.ensures.links;
   begun = goes_begun g.W.World.Tells c.in_ok-item.item c.next_item.new.buf (g.W.World.seen c.args.world.now) (g.W.World.seen c.next_item.new.world) (g.W.World.seen c.take_item.new.world) c.in_ok-item.ensures.nexts c.in_ok-take_item-in_default.ensures.continues c.in_ok-take_item-in_default.ensures.links (no_rest c.in_ok-item.item c.in_default.not-Idle c.in_default.not-End);
   read = c.in_ok-take_item-in_default.ensures.read;
   why = tt;
@@ -61,16 +62,16 @@ returns-in_ok-take_item-in_default g c = record {
 
 pub returns-in_err-item-clause-plain : goal.returns-in_err-item-clause-plain
 returns-in_err-item-clause-plain g c =
-    err_is (PlainNext g.W.World.Tells (g.W.World.seen c.args.world.now) (g.W.World.seen c.next_item.new.world)) c.in_err-item.field-0.0 c.from_residual.result c.from_residual.ensures.1 (next_anyway (g.W.World.seen c.args.world.now) (g.W.World.seen c.next_item.new.world) c.in_err-item.field-0.0 c.in_err-item.ensures.plain)
+    if_err (PlainNext g.W.World.Tells (g.W.World.seen c.args.world.now) (g.W.World.seen c.next_item.new.world)) c.in_err-item.field-0.0 c.from_residual.result c.from_residual.ensures.1 (next_anyway (g.W.World.seen c.args.world.now) (g.W.World.seen c.next_item.new.world) c.in_err-item.field-0.0 c.in_err-item.ensures.plain)
 
 pub returns-in_err-take_item-in_default-clause-plain : goal.returns-in_err-take_item-in_default-clause-plain
 returns-in_err-take_item-in_default-clause-plain g c =
-    err_is (PlainNext g.W.World.Tells (g.W.World.seen c.args.world.now) (g.W.World.seen c.take_item.new.world)) c.in_err-take_item-in_default.field-0.0 c.from_residual-in_err-take_item-in_default.result c.from_residual-in_err-take_item-in_default.ensures.1
+    if_err (PlainNext g.W.World.Tells (g.W.World.seen c.args.world.now) (g.W.World.seen c.take_item.new.world)) c.in_err-take_item-in_default.field-0.0 c.from_residual-in_err-take_item-in_default.result c.from_residual-in_err-take_item-in_default.ensures.1
     (next_taken c.in_ok-item.item c.next_item.new.buf (g.W.World.seen c.args.world.now) (g.W.World.seen c.next_item.new.world) (g.W.World.seen c.take_item.new.world) c.in_err-take_item-in_default.field-0.0 c.in_ok-item.ensures.nexts c.in_err-take_item-in_default.ensures.continues c.in_err-take_item-in_default.ensures.plain)
 
 pub returns-in_err-take_item-in_default-clause-why : goal.returns-in_err-take_item-in_default-clause-why
 returns-in_err-take_item-in_default-clause-why g c =
-    err_is (IsReason g.W.World.Tells (g.W.World.seen c.args.world.now) (g.W.World.seen c.take_item.new.world) 0 0) c.in_err-take_item-in_default.field-0.0 c.from_residual-in_err-take_item-in_default.result c.from_residual-in_err-take_item-in_default.ensures.1
+    if_err (IsReason g.W.World.Tells (g.W.World.seen c.args.world.now) (g.W.World.seen c.take_item.new.world) 0 0) c.in_err-take_item-in_default.field-0.0 c.from_residual-in_err-take_item-in_default.result c.from_residual-in_err-take_item-in_default.ensures.1
     (next_why c.in_ok-item.item c.next_item.new.buf (g.W.World.seen c.args.world.now) (g.W.World.seen c.next_item.new.world) (g.W.World.seen c.take_item.new.world) c.in_err-take_item-in_default.field-0.0 c.in_ok-item.ensures.nexts c.in_err-take_item-in_default.ensures.why)
 
 pub returns-in-Idle-clause-places : goal.returns-in-Idle-clause-places
@@ -98,6 +99,6 @@ pub returns-in_err-take_item-in_default-clause-places : goal.returns-in_err-take
 returns-in_err-take_item-in_default-clause-places g c =
     handled_places g.W.World.Tells c.in_ok-item.item c.next_item.new.buf (g.W.World.seen c.args.world.now) (g.W.World.seen c.next_item.new.world) (g.W.World.seen c.take_item.new.world) c.args.self.now.net c.in_ok-item.ensures.nexts c.in_err-take_item-in_default.ensures.continues c.in_err-take_item-in_default.ensures.places
 
-pub returns-in_err-take_item-in_default-clause-quietly : goal.returns-in_err-take_item-in_default-clause-quietly
-returns-in_err-take_item-in_default-clause-quietly g c =
-    handled_quietly g.W.World.Tells (g.W.World.seen c.args.world.now) (g.W.World.seen c.next_item.new.world) (g.W.World.seen c.take_item.new.world) c.in_err-take_item-in_default.ensures.continues c.in_ok-item.ensures.quietly c.in_err-take_item-in_default.ensures.links
+pub returns-in_err-take_item-in_default-clause-no_point : goal.returns-in_err-take_item-in_default-clause-no_point
+returns-in_err-take_item-in_default-clause-no_point g c =
+    handled_quietly g.W.World.Tells (g.W.World.seen c.args.world.now) (g.W.World.seen c.next_item.new.world) (g.W.World.seen c.take_item.new.world) c.in_err-take_item-in_default.ensures.continues c.in_ok-item.ensures.no_point c.in_err-take_item-in_default.ensures.links

@@ -2,7 +2,7 @@ use Rattle.std.proofs.Common.{rules}
 use Rattle.std.proofs.lemmas.Result.{err_from_is_err_and}
 use Rattle.outside.specs.SeenLaws.{Continues-refl}
 use Rattle.net_txn.specs.LinkStepLaws.{OnLinks-refl}
-use Rattle.net_txn.specs.LinkPlaceLaws.{in_place_none}
+use Rattle.net_txn.specs.LinkStrayLaws.{no_strays_none}
 use Rattle.net_txn.proofs.net.Net.arrived.Goals as goal
 
 pub returns-in_err-bytes-in-Err : goal.returns-in_err-bytes-in-Err
@@ -11,7 +11,7 @@ returns-in_err-bytes-in-Err g c =
     rw (p.1, p.2) (record {
       continues = Continues-refl g.W.World.Tells (g.W.World.seen c.args.world.now);
       links = OnLinks-refl g.W.World.Tells (g.W.World.seen c.args.world.now);
-      in_place = λ told keeps joined. in_place_none (g.W.World.seen c.args.world.now);
+      no_strays = λ told keeps joined. no_strays_none (g.W.World.seen c.args.world.now);
       cause = tt;
       err = search rules;
       read = tt;
@@ -22,7 +22,7 @@ returns-in-Err-NoMemory g c =
     record {
       continues = Continues-refl g.W.World.Tells (g.W.World.seen c.args.world.now);
       links = OnLinks-refl g.W.World.Tells (g.W.World.seen c.args.world.now);
-      in_place = λ told keeps joined. in_place_none (g.W.World.seen c.args.world.now);
+      no_strays = λ told keeps joined. no_strays_none (g.W.World.seen c.args.world.now);
       cause = tt;
       err = search rules;
       read = tt;
@@ -33,7 +33,7 @@ returns-in_ok-bytes-in-Err g c =
     record {
       continues = Continues-refl g.W.World.Tells (g.W.World.seen c.args.world.now);
       links = OnLinks-refl g.W.World.Tells (g.W.World.seen c.args.world.now);
-      in_place = λ told keeps joined. in_place_none (g.W.World.seen c.args.world.now);
+      no_strays = λ told keeps joined. no_strays_none (g.W.World.seen c.args.world.now);
       cause = search rules;
       err = search rules;
       read = tt;

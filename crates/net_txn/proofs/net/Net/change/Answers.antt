@@ -22,9 +22,9 @@ pub returns-in-Asks : goal.returns-in-Asks
 returns-in-Asks g c =
     let v : c.deref.result.now ≡ c.args.self.now.views = c.deref.ensures.value ∙ ap (λ (n : NetState). n.views) c.self.view_is in
     let knows = host_knows c.args.dpid c.args.bytes.now c.args.self.now c.deref.result.now c.in-Some.view.now.rows c.as_slice.result.now v c.in-Some.ensures c.as_slice.ensures in
-    let judged = rw c.in-Asks.is at c.in_ok-answer.ensures in
-    let h = Changes-by_switch c.args.dpid c.args.bytes.now (g.W.World.seen c.args.world.now) (g.W.World.seen c.make.new.world) c.args.self.now c.make.new.self c.make.result judged.1.0 c.in-Asks.flow
-    (knows ∙ judged.0) judged.1.1 c.make.ensures.result c.make.ensures.continues c.make.ensures.links c.make.ensures.in_place c.make.ensures.cause c.make.ensures.ports c.make.ensures.moment c.make.ensures.room c.make.ensures.flooded in
+    let asked = rw c.in-Asks.is at c.in_ok-answer.ensures in
+    let h = Changes-by_switch c.args.dpid c.args.bytes.now (g.W.World.seen c.args.world.now) (g.W.World.seen c.make.new.world) c.args.self.now c.make.new.self c.make.result asked.1.0 c.in-Asks.flow
+    (knows ∙ asked.0) asked.1.1 c.make.ensures.result c.make.ensures.continues c.make.ensures.links c.make.ensures.no_strays c.make.ensures.cause c.make.ensures.ports c.make.ensures.moment c.make.ensures.room c.make.ensures.flooded in
     record { changes = h; reached = Changes-reaches h; in_step = Changes-steps h }
 
 pub returns-in_err-answer-clause-changes : goal.returns-in_err-answer-clause-changes

@@ -3,12 +3,12 @@ use Rattle.std.proofs.lemmas.Result.{err_from_is_err_and}
 use Rattle.of_wire.specs.declared.message.Message.TheVariants.{SetConfig}
 use Rattle.of_wire.specs.Spelling.{message_bytes}
 use Rattle.flow_table.specs.Switch.{first_config}
-use Rattle.net_txn.specs.declared.heard.Awaited.{Awaited}
+use Rattle.lego_model.specs.declared.wait.Awaited.{Awaited}
 use Rattle.net_txn.specs.Net.{NetState}
 use Rattle.net_txn.specs.WaitLaws.{waits_kept}
 use Rattle.net_txn.specs.ChangeLaws.{kept_for}
 use Rattle.net_txn.specs.JoiningFaultLaws.{greeted_flooded}
-use Rattle.net_txn.specs.LinkPlaceLaws.{in_place_none}
+use Rattle.net_txn.specs.LinkStrayLaws.{no_strays_none}
 use Rattle.net_txn.proofs.net.Net.join.Goals as goal
 
 pub returns-in_err-admit-clause-err : goal.returns-in_err-admit-clause-err
@@ -28,14 +28,14 @@ returns-in_err-greet-clause-flooded g c =
     rw (p.1, p.2, ← x) (greeted_flooded g.W.World.Tells c.args.dpid c.self.inside.xid c.greeted-awaited.result c.as_slice.result.now c.as_slice-2.result.now (g.W.World.seen c.args.world.now) (g.W.World.seen c.greet.new.world) c.in_err-greet.field-0.0
     c.greeted-awaited.ensures (c.as_slice.ensures ∙ c.in_ok-emptying.ensures.bytes) (c.as_slice-2.ensures ∙ c.configuring.ensures.bytes ∙ ap (λ (x : ℕ). message_bytes x (SetConfig first_config)) c.following.ensures.next) c.in_err-greet.ensures.flooded)
 
-pub returns-in_err-emptying-clause-in_place : goal.returns-in_err-emptying-clause-in_place
-returns-in_err-emptying-clause-in_place g c = λ told keeps joined. in_place_none (g.W.World.seen c.args.world.now)
+pub returns-in_err-emptying-clause-no_strays : goal.returns-in_err-emptying-clause-no_strays
+returns-in_err-emptying-clause-no_strays g c = λ told keeps joined. no_strays_none (g.W.World.seen c.args.world.now)
 
-pub returns-in_err-known-clause-in_place : goal.returns-in_err-known-clause-in_place
-returns-in_err-known-clause-in_place g c = λ told keeps joined. in_place_none (g.W.World.seen c.args.world.now)
+pub returns-in_err-known-clause-no_strays : goal.returns-in_err-known-clause-no_strays
+returns-in_err-known-clause-no_strays g c = λ told keeps joined. no_strays_none (g.W.World.seen c.args.world.now)
 
-pub returns-in_err-reserve-clause-in_place : goal.returns-in_err-reserve-clause-in_place
-returns-in_err-reserve-clause-in_place g c = λ told keeps joined. in_place_none (g.W.World.seen c.args.world.now)
+pub returns-in_err-reserve-clause-no_strays : goal.returns-in_err-reserve-clause-no_strays
+returns-in_err-reserve-clause-no_strays g c = λ told keeps joined. no_strays_none (g.W.World.seen c.args.world.now)
 
-pub returns-in_err-reserve-2-clause-in_place : goal.returns-in_err-reserve-2-clause-in_place
-returns-in_err-reserve-2-clause-in_place g c = λ told keeps joined. in_place_none (g.W.World.seen c.args.world.now)
+pub returns-in_err-reserve-2-clause-no_strays : goal.returns-in_err-reserve-2-clause-no_strays
+returns-in_err-reserve-2-clause-no_strays g c = λ told keeps joined. no_strays_none (g.W.World.seen c.args.world.now)

@@ -1,11 +1,12 @@
 use Rattle.std.proofs.Common.{◌≡◌, ◌≤◌, ◌<◌, ◌^◌, None, Some, refl, ap, ◌∙◌, inl, inr, arith}
 use Rattle.std.proofs.lemmas.Result.{err_from_is_err_and}
-use Rattle.net_txn.specs.declared.heard.Awaited.{Awaited}
+use Rattle.lego_model.specs.declared.wait.Awaited.{Awaited}
 use Rattle.net_txn.specs.Views.{rows_after}
-use Rattle.net_txn.specs.Net.{NetState, next_xid, awaited_from}
+use Rattle.net_txn.specs.Net.{NetState, awaited_from}
+use Rattle.lego_model.specs.BarrierWaits.{next_xid}
 use Rattle.net_txn.specs.WaitLaws.{waits_kept}
 use Rattle.net_txn.specs.ChangeLaws.{sent_waits, given_up, kept_for, same_log, same_views, log_cut}
-use Rattle.net_txn.specs.LinkPlaceLaws.{in_place_none}
+use Rattle.net_txn.specs.LinkStrayLaws.{no_strays_none}
 use Rattle.net_txn.proofs.net.Net.make.Goals as goal
 
 pub returns-in_err-put_added-in-None-clause-result : goal.returns-in_err-put_added-in-None-clause-result
@@ -62,11 +63,11 @@ returns-in_err-refusal-clause-flooded g c =
     rw (p.1, p.2) (given_up g.W.World.Tells c.args.dpid c.args.flow c.args.self.now c.await_from-awaited.result c.as_slice.result.now (g.W.World.seen c.args.world.now) (g.W.World.seen c.ask.new.world) c.in_err-refusal.field-0.0
     a (c.as_slice.ensures ∙ c.in_ok-frame.ensures.frame) c.requires small c.in_err-refusal.ensures.flooded)
 
-pub returns-in_err-frame-clause-in_place : goal.returns-in_err-frame-clause-in_place
-returns-in_err-frame-clause-in_place g c = λ told keeps joined. in_place_none (g.W.World.seen c.args.world.now)
+pub returns-in_err-frame-clause-no_strays : goal.returns-in_err-frame-clause-no_strays
+returns-in_err-frame-clause-no_strays g c = λ told keeps joined. no_strays_none (g.W.World.seen c.args.world.now)
 
-pub returns-in_err-make_room-clause-in_place : goal.returns-in_err-make_room-clause-in_place
-returns-in_err-make_room-clause-in_place g c = λ told keeps joined. in_place_none (g.W.World.seen c.args.world.now)
+pub returns-in_err-make_room-clause-no_strays : goal.returns-in_err-make_room-clause-no_strays
+returns-in_err-make_room-clause-no_strays g c = λ told keeps joined. no_strays_none (g.W.World.seen c.args.world.now)
 
-pub returns-in_err-push_logged-clause-in_place : goal.returns-in_err-push_logged-clause-in_place
-returns-in_err-push_logged-clause-in_place g c = λ told keeps joined. in_place_none (g.W.World.seen c.args.world.now)
+pub returns-in_err-push_logged-clause-no_strays : goal.returns-in_err-push_logged-clause-no_strays
+returns-in_err-push_logged-clause-no_strays g c = λ told keeps joined. no_strays_none (g.W.World.seen c.args.world.now)

@@ -1,0 +1,18 @@
+use Rattle.std.proofs.Common.{◌+◌, ◌≤◌}
+use Rattle.lego_io.specs.Count.{NeverFell}
+use Rattle.outside.specs.Seen.{Continues}
+use Rattle.event_dispatch.specs.Runs.{Going}
+use Rattle.event_dispatch.specs.Steady.{NoStray, Reads}
+use Rattle.event_dispatch.specs.Serves.{DispatchesSome}
+use Rattle.event_dispatch.proofs.run.Run.dispatch_waiting.Given as goal
+
+abbrev pub invariant-loop-event : goal.invariant-loop-event
+invariant-loop-event g l = record {
+  going : Going l.self;
+  events : l.self.events ≤ l.fn.self.events + l._event;
+  continues : Continues g.W.World.Tells (g.W.World.seen l.fn.world) (g.W.World.seen l.world);
+  places : NoStray g.W.World.Tells (g.W.World.seen l.fn.world) (g.W.World.seen l.world) l.fn.self.net;
+  reads : Reads g.W.World.Tells (g.W.World.seen l.fn.world) (g.W.World.seen l.world) l.fn.self.net l.self.net;
+  dispatches : DispatchesSome g.W.World.Tells (g.J.Judge.accepts l.fn.judge) l._event (g.K.Sink.contents l.fn.sink) (g.K.Sink.contents l.sink) (g.W.World.seen l.fn.world) (g.W.World.seen l.world) l.fn.self l.self;
+  never_fell : NeverFell (g.K.Sink.faults l.fn.sink) (g.K.Sink.faults l.sink);
+}

@@ -1,0 +1,48 @@
+use Rattle.std.proofs.Common.{refl, inl}
+use Rattle.event_dispatch.specs.RoundLaws.{round_so}
+use Rattle.event_dispatch.specs.PlainLaws.{run_calm, run_batch}
+use Rattle.event_dispatch.specs.CutLaws.{if_err, still_so, round_behind}
+use Rattle.event_dispatch.specs.Plain.{PlainRun}
+use Rattle.event_dispatch.specs.Shows.{engine_of}
+use Rattle.event_dispatch.specs.Why.{served_by}
+use Rattle.event_dispatch.specs.declared.fault.Fault.{Fault}
+use Rattle.event_dispatch.specs.Cut.{CutRound}
+use Rattle.event_dispatch.specs.SteadyLaws.{places_then, reads_then}
+use Rattle.event_dispatch.proofs.run.Run.run_round.Goals as goal
+
+pub returns-clause-round : goal.returns-clause-round
+returns-clause-round g c =
+    round_so c.in_ok-rest.ensures.continues c.in_ok-rest.ensures.app c.in_ok-rest.ensures.waits c.in_ok-rest.ensures.batch c.in_ok-dispatch_waiting.ensures.continues c.in_ok-dispatch_waiting.ensures.dispatches
+
+pub returns-in_err-rest-clause-plain : goal.returns-in_err-rest-clause-plain
+returns-in_err-rest-clause-plain g c =
+    if_err (λ fault. PlainRun g.W.World.Tells (g.J.Judge.accepts c.args.judge.now) (g.W.World.seen c.args.world.now) (g.W.World.seen c.take_batch.new.world) (engine_of c.args.self.now) (served_by fault)) c.in_err-rest.field-0.0 c.from_residual.result c.from_residual.ensures.1 (run_calm (g.W.World.seen c.args.world.now) (g.W.World.seen c.take_batch.new.world) c.args.self.now (served_by c.in_err-rest.field-0.0) c.in_err-rest.ensures.plain)
+
+pub returns-in_err-dispatch_waiting-clause-plain : goal.returns-in_err-dispatch_waiting-clause-plain
+returns-in_err-dispatch_waiting-clause-plain g c =
+    if_err (λ fault. PlainRun g.W.World.Tells (g.J.Judge.accepts c.args.judge.now) (g.W.World.seen c.args.world.now) (g.W.World.seen c.dispatch_waiting.new.world) (engine_of c.args.self.now) (served_by fault)) c.in_err-dispatch_waiting.field-0.0 c.from_residual-in_err-dispatch_waiting.result c.from_residual-in_err-dispatch_waiting.ensures.1
+    (run_batch c.in_ok-rest.rest (g.W.World.seen c.args.world.now) (g.W.World.seen c.take_batch.new.world) (g.W.World.seen c.dispatch_waiting.new.world) c.args.self.now c.take_batch.new.self (served_by c.in_err-dispatch_waiting.field-0.0) c.in_ok-rest.ensures.continues c.in_ok-rest.ensures.app c.in_ok-rest.ensures.waits c.in_ok-rest.ensures.batch
+    c.in_err-dispatch_waiting.ensures.continues c.in_err-dispatch_waiting.ensures.plain)
+
+pub returns-in_err-rest-clause-cut : goal.returns-in_err-rest-clause-cut
+returns-in_err-rest-clause-cut g c =
+    if_err (λ (fault : Fault). CutRound g.W.World.Tells (g.J.Judge.accepts c.args.judge.now) fault (g.K.Sink.contents c.args.sink.now) (g.K.Sink.contents c.args.sink.now) (g.W.World.seen c.args.world.now) (g.W.World.seen c.take_batch.new.world) c.args.self.now) c.in_err-rest.field-0.0 c.from_residual.result c.from_residual.ensures.1
+    (inl (still_so g.W.World.Tells (g.W.World.seen c.args.world.now) (g.W.World.seen c.take_batch.new.world) c.in_err-rest.field-0.0 (g.K.Sink.contents c.args.sink.now) (g.K.Sink.contents c.args.sink.now) c.in_err-rest.ensures.why refl, c.take_batch.ensures.talks, record { here = c.in_err-rest.ensures.here; own = c.in_err-rest.ensures.own }))
+
+pub returns-in_err-dispatch_waiting-clause-cut : goal.returns-in_err-dispatch_waiting-clause-cut
+returns-in_err-dispatch_waiting-clause-cut g c =
+    if_err (λ (fault : Fault). CutRound g.W.World.Tells (g.J.Judge.accepts c.args.judge.now) fault (g.K.Sink.contents c.args.sink.now) (g.K.Sink.contents c.dispatch_waiting.new.sink) (g.W.World.seen c.args.world.now) (g.W.World.seen c.dispatch_waiting.new.world) c.args.self.now) c.in_err-dispatch_waiting.field-0.0 c.from_residual-in_err-dispatch_waiting.result c.from_residual-in_err-dispatch_waiting.ensures.1
+    (round_behind g.W.World.Tells (g.J.Judge.accepts c.args.judge.now) c.in_ok-rest.rest c.in_err-dispatch_waiting.field-0.0 (g.K.Sink.contents c.args.sink.now) (g.K.Sink.contents c.dispatch_waiting.new.sink) (g.W.World.seen c.args.world.now) (g.W.World.seen c.take_batch.new.world) (g.W.World.seen c.dispatch_waiting.new.world) c.args.self.now c.take_batch.new.self
+    c.in_ok-rest.ensures.continues c.in_ok-rest.ensures.app c.in_ok-rest.ensures.waits c.in_ok-rest.ensures.batch c.in_ok-rest.ensures.reads c.dispatch_waiting.ensures.continues c.in_err-dispatch_waiting.ensures.cut)
+
+pub returns-in_err-dispatch_waiting-clause-places : goal.returns-in_err-dispatch_waiting-clause-places
+returns-in_err-dispatch_waiting-clause-places g c =
+    places_then (g.W.World.seen c.args.world.now) (g.W.World.seen c.take_batch.new.world) (g.W.World.seen c.dispatch_waiting.new.world) c.args.self.now.net c.take_batch.new.self.net c.in_ok-rest.ensures.continues c.in_err-dispatch_waiting.ensures.continues c.in_ok-rest.ensures.places c.in_ok-rest.ensures.reads c.in_err-dispatch_waiting.ensures.places
+
+pub returns-clause-places : goal.returns-clause-places
+returns-clause-places g c =
+    places_then (g.W.World.seen c.args.world.now) (g.W.World.seen c.take_batch.new.world) (g.W.World.seen c.dispatch_waiting.new.world) c.args.self.now.net c.take_batch.new.self.net c.in_ok-rest.ensures.continues c.in_ok-dispatch_waiting.ensures.continues c.in_ok-rest.ensures.places c.in_ok-rest.ensures.reads c.in_ok-dispatch_waiting.ensures.places
+
+pub returns-clause-reads : goal.returns-clause-reads
+returns-clause-reads g c =
+    reads_then (g.W.World.seen c.args.world.now) (g.W.World.seen c.take_batch.new.world) (g.W.World.seen c.dispatch_waiting.new.world) c.args.self.now.net c.take_batch.new.self.net c.dispatch_waiting.new.self.net c.in_ok-rest.ensures.continues c.in_ok-dispatch_waiting.ensures.continues c.in_ok-rest.ensures.reads c.in_ok-dispatch_waiting.ensures.reads

@@ -1,0 +1,19 @@
+use Rattle.std.proofs.Common.{◌≡◌, ◌*◌, ◌≤◌, length}
+use Rattle.lego_io.specs.Count.{NeverFell}
+use Rattle.outside.specs.Seen.{Continues}
+use Rattle.event_dispatch.specs.Runs.{Going}
+use Rattle.event_dispatch.specs.Steady.{NoStray, Reads}
+use Rattle.event_dispatch.specs.Serves.{GoesRounds}
+use Rattle.event_dispatch.proofs.run.Run.run_rounds.Given as goal
+
+abbrev pub invariant-loop-round : goal.invariant-loop-round
+invariant-loop-round g l = record {
+  buffer : length l.buf ≡ length l.fn.buf;
+  going : Going l.self;
+  events : l.self.events ≤ 1000 * l._round;
+  continues : Continues g.W.World.Tells (g.W.World.seen l.fn.world) (g.W.World.seen l.world);
+  places : NoStray g.W.World.Tells (g.W.World.seen l.fn.world) (g.W.World.seen l.world) l.fn.self.net;
+  reads : Reads g.W.World.Tells (g.W.World.seen l.fn.world) (g.W.World.seen l.world) l.fn.self.net l.self.net;
+  rounds : GoesRounds g.W.World.Tells (g.J.Judge.accepts l.fn.judge) l._round (g.K.Sink.contents l.fn.sink) (g.K.Sink.contents l.sink) (g.W.World.seen l.fn.world) (g.W.World.seen l.world) l.fn.self l.self;
+  never_fell : NeverFell (g.K.Sink.faults l.fn.sink) (g.K.Sink.faults l.sink);
+}

@@ -1,0 +1,26 @@
+use Rattle.event_dispatch.specs.WholeLaws.{goes_then}
+use Rattle.event_dispatch.specs.PlainLaws.{whole_then}
+use Rattle.event_dispatch.specs.Shows.{engine_of}
+use Rattle.event_dispatch.specs.CutLaws.{goes_on_cut}
+use Rattle.event_dispatch.specs.ReadLaws.{ended_places, ended_read}
+use Rattle.event_dispatch.proofs.whole.run_then_end.Goals as goal
+
+pub returns-clause-goes : goal.returns-clause-goes
+returns-clause-goes g c =
+    goes_then g.W.World.Tells (g.J.Judge.accepts c.args.judge.now) c.run_opened-ended.result (g.K.Sink.contents c.args.sink.now) (g.K.Sink.contents c.run_opened-ended.new.sink) (g.W.World.seen c.args.world.now) (g.W.World.seen c.run_opened-ended.new.world) (g.W.World.seen c.end.new.world) c.args.run.now c.run_opened-ended.new.self c.end.ensures.continues c.end.ensures.leaves c.run_opened-ended.ensures.goes
+
+pub returns-clause-plain : goal.returns-clause-plain
+returns-clause-plain g c =
+    whole_then (g.J.Judge.accepts c.args.judge.now) (g.W.World.seen c.args.world.now) (g.W.World.seen c.run_opened-ended.new.world) (g.W.World.seen c.end.new.world) (engine_of c.args.run.now) c.run_opened-ended.result c.end.ensures.continues c.run_opened-ended.ensures.plain
+
+pub returns-clause-cut : goal.returns-clause-cut
+returns-clause-cut g c =
+    goes_on_cut g.W.World.Tells (g.J.Judge.accepts c.args.judge.now) c.run_opened-ended.result (g.K.Sink.contents c.args.sink.now) (g.K.Sink.contents c.run_opened-ended.new.sink) (g.W.World.seen c.args.world.now) (g.W.World.seen c.run_opened-ended.new.world) (g.W.World.seen c.end.new.world) (engine_of c.args.run.now) c.end.ensures.continues c.end.ensures.talks c.end.ensures.no_point c.run_opened-ended.ensures.cut
+
+pub returns-clause-places : goal.returns-clause-places
+returns-clause-places g c =
+    ended_places g.W.World.Tells (g.W.World.seen c.args.world.now) (g.W.World.seen c.run_opened-ended.new.world) (g.W.World.seen c.end.new.world) c.args.run.now.net c.run_opened-ended.ensures.continues c.end.ensures.continues c.run_opened-ended.ensures.places c.end.ensures.places
+
+pub returns-clause-reads : goal.returns-clause-reads
+returns-clause-reads g c =
+    ended_read g.W.World.Tells c.run_opened-ended.result (g.W.World.seen c.args.world.now) (g.W.World.seen c.run_opened-ended.new.world) (g.W.World.seen c.end.new.world) c.args.run.now.net c.run_opened-ended.ensures.continues c.end.ensures.continues c.end.ensures.messages c.run_opened-ended.ensures.reads

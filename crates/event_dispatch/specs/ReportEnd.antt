@@ -1,0 +1,75 @@
+-- What the end of a report says in a world that keeps its word, and what it leaves. All of this is our own.
+use Rattle.std.specs.Prelude.{◌≡◌, ℕ, ◌+◌, List, [], ◌∷◌, ◌++◌, take, drop, Some}
+use Rattle.std.specs.List.{flat_map}
+use Rattle.of_match.specs.declared.key.Key.{Key}
+use Rattle.of_stats.specs.declared.flow_row.FlowRow.{FlowRow}
+use Rattle.flow_table.specs.declared.view.ViewRow.{ViewRow}
+use Rattle.flow_table.specs.Switch.{SwitchState}
+use Rattle.net_txn.specs.Views.{rows_at}
+use Rattle.net_txn.specs.AskSteps.{RowsInStep}
+use Rattle.outside.specs.Seen.{Seen}
+use Rattle.outside.specs.State.{state, switch_of, waits_of}
+use Rattle.outside.specs.Conforming.{Conforming}
+use Rattle.switch_laws.specs.Since.{Ready}
+use Rattle.switch_laws.specs.Sound.{Sound}
+use Rattle.batch_laws.specs.Calm.{Calm}
+use Rattle.run_laws.specs.LastReport.{SameKeys, flow_lines, table_lines, shown_text, last_text, OnlyAsked}
+use Rattle.event_dispatch.specs.declared.run.Run.{Run}
+use Rattle.event_dispatch.specs.Shows.{engine_of, Adds}
+
+-- ---- A switch, whatever the world does
+
+-- the flags of the row that stands at this position, where it has the key, and the next position
+pub record FindsFlags (from : ℕ) (key : Key) (rows : List ViewRow) (found : ℕ × ℕ) : Type 0 where
+  pub here : (v : ViewRow) (later : List ViewRow) → drop from rows ≡ v ∷ later → v.key ≡ key → found ≡ (v.flags, from + 1)
+
+-- the first rows are told so far
+pub record FlowsSoFar (rows : List FlowRow) (vs : List ViewRow) (place from : ℕ) (r now_r : Run) : Type 0 where
+  pub from_so : from ≡ place
+  pub adds : Adds (flow_lines (take place rows) vs) r now_r
+
+pub record FlowsSaid (d : ℕ) (rows : List FlowRow) (r now_r : Run) : Type 0 where
+  pub adds : (vs : List ViewRow) → rows_at d r.net.views ≡ Some vs → SameKeys rows vs → Adds (flow_lines rows vs) r now_r
+
+pub record TableSaid (d : ℕ) (rows : List FlowRow) (r now_r : Run) : Type 0 where
+  pub adds : (vs : List ViewRow) → rows_at d r.net.views ≡ Some vs → SameKeys rows vs → Adds (table_lines d rows vs) r now_r
+
+-- ---- Rows are asked for
+
+pub record AsksShown {Own : Type 0} (Tells : Type 0) (d : ℕ) (old new : Seen Own) (r now_r : Run) (rows : List FlowRow) : Type 0 where
+  pub in_step : (s : SwitchState) → Tells → Conforming new → switch_of d (state old) ≡ Some s → waits_of d (state old) ≡ [] → RowsInStep d s old new r.net.kept now_r.net.kept rows
+  pub asked : Tells → OnlyAsked old new
+  pub engine : engine_of now_r ≡ record (engine_of r) { net = record r.net { xid = now_r.net.xid; kept = now_r.net.kept } }
+  pub index : now_r.app.state.index ≡ r.app.state.index
+  pub lines : now_r.lines.items ≡ r.lines.items
+
+-- ---- What is said in a world that keeps its word: text, with nothing else of the run moved but the transaction id; no switch moved, and
+-- nothing of one waits
+
+pub record Says {Own : Type 0} (text : List ℕ) (old new : Seen Own) (r now_r : Run) : Type 0 where
+  pub lines : now_r.lines.items ≡ r.lines.items ++ text
+  pub engine : engine_of now_r ≡ record (engine_of r) { net = record r.net { xid = now_r.net.xid } }
+  pub index : now_r.app.state.index ≡ r.app.state.index
+  pub switches : (d : ℕ) → switch_of d (state new) ≡ switch_of d (state old)
+  pub waits : (d : ℕ) → waits_of d (state new) ≡ []
+  pub asked : OnlyAsked old new
+
+-- of one switch
+pub record TableShown {Own : Type 0} (Tells : Type 0) (d : ℕ) (old new : Seen Own) (r now_r : Run) : Type 0 where
+  pub shown : Tells → Conforming new → Ready old r.net → Sound (state old) → Says (shown_text r.net.views (state old) d) old new r now_r
+
+-- of these switches
+pub record TablesShown {Own : Type 0} (Tells : Type 0) (ds : List ℕ) (old new : Seen Own) (r now_r : Run) : Type 0 where
+  pub shown : Tells → Conforming new → Ready old r.net → Sound (state old) → Says (flat_map (shown_text r.net.views (state old)) ds) old new r now_r
+
+-- the whole end
+pub record LastShown {Own : Type 0} (Tells : Type 0) (old new : Seen Own) (r now_r : Run) : Type 0 where
+  pub shown : Tells → Conforming new → Calm old r.net → Says (last_text old (engine_of r)) old new r now_r
+
+-- one row more
+pub record NextRow (row : FlowRow) (ws : List ViewRow) (rest : List FlowRow) : Type 0 where
+  pub first : ViewRow
+  pub later : List ViewRow
+  pub is : ws ≡ first ∷ later
+  pub key : first.key ≡ row.key
+  pub same : SameKeys rest later

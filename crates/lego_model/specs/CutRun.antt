@@ -1,0 +1,110 @@
+-- What is promised of a run that a fault ends before its end: how far it is the reference controller's, and what was written. All of this is
+-- our own.
+use Rattle.std.specs.Prelude.{◌≡◌, ℕ, ◌+◌, ◌≤◌, ◌⊎◌, Bool, true, if◌then◌else◌, List, [], ◌++◌, length, fold, Option}
+use Rattle.std.specs.Io.KnownBytes.{append_known}
+use Rattle.std.specs.List.{AllByRecursion}
+use Rattle.of_types.specs.declared.journal.WorldStim.{WorldStim}
+use Rattle.lego_io.specs.Sink.{TookPart}
+use Rattle.lego_model.specs.Journal.{Reply, Start}
+use Rattle.lego_model.specs.Places.{Place}
+use Rattle.lego_model.specs.Controller.{Run, happen}
+use Rattle.lego_model.specs.RunReport.{run_report}
+use Rattle.lego_model.specs.AtOnce.{AtOnce}
+use Rattle.outside.specs.Seen.{Seen, journal}
+use Rattle.lego_model.specs.History.{starts_in, replies_in, own_acts, stimuli_in}
+use Rattle.lego_model.specs.OrderlySteps.{IsOrderly}
+use Rattle.lego_model.specs.Application.{index, names}
+use Rattle.lego_model.specs.ReferenceRun.{text_of, dispatch_next, times, rounds, AreSaid, fresh, before_start, all_started, RunsAlike}
+use Rattle.outside.specs.declared.step.WorldStep.{WorldStep}
+
+-- ---- The reference controller in the middle of a run
+
+-- before anything is started, with an application that does this
+abbrev pub start_said : {Own : Type 0} → Seen Own → List Start → List Reply → Run
+start_said seen starts replies = before_start seen.given.declared (fresh starts replies)
+
+-- with one that does what the history tells of it
+abbrev pub start_of : {Own : Type 0} → Seen Own → Run
+start_of seen = start_said seen (starts_in (own_acts seen)) (replies_in (own_acts seen))
+
+-- The application is started or not yet, these stimuli happened with all that follows of each, then perhaps one more was begun, and so
+-- many of the events that wait then were dispatched.
+abbrev pub reference_so_far : (List Place → Bool) → Bool → List WorldStim → List WorldStim → ℕ → Run → Run
+reference_so_far allows started stimuli begun number r = times number (dispatch_next allows) (fold (λ q x. happen x q) (rounds allows stimuli (if started then all_started r else r)) begun)
+
+-- how far a run came to a point: these stimuli are all that happened before it
+pub record Progress {Own : Type 0} (last : Seen Own) : Type 0 where
+  pub started : Bool
+  pub stimuli : List WorldStim
+  pub begun : List WorldStim
+  pub number : ℕ
+  pub begun_one : length begun ≤ 1
+  pub at_most : number ≤ 1000
+  pub stimuli_so : stimuli_in last ≡ stimuli ++ begun
+
+-- the reference controller up to there
+abbrev pub reference_to : {Own : Type 0} {last : Seen Own} → (List Place → Bool) → Progress last → Run → Run
+reference_to allows far r = reference_so_far allows far.started far.stimuli far.begun far.number r
+
+-- ---- What was written
+
+-- The lines of all that was done up to there were written.
+pub record WroteSoFar {Own : Type 0} (allows : List Place → Bool) (last : Seen Own) (contents now_contents : Option (List ℕ)) (far : Progress last) (r : Run) : Type 0 where
+  pub alike : RunsAlike last (reference_to allows far r)
+  pub written : now_contents ≡ append_known contents (text_of (reference_to allows far r))
+
+-- Where the sink failed, it did so at these lines, and had taken this text before: at the lines of the start,
+pub record StartLines {Own : Type 0} {last : Seen Own} (allows : List Place → Bool) (far : Progress last) (text more : List ℕ) (r : Run) : Type 0 where
+  pub is_started : far.started ≡ true
+  pub none_happened : stimuli_in last ≡ []
+  pub none_dispatched : far.number ≡ 0
+  pub text_so : text ≡ []
+  pub more_so : text_of (reference_to allows far r) ≡ more
+
+-- at those of the event that was dispatched last, behind the lines of all before it,
+pub record EventLines {Own : Type 0} {last : Seen Own} (allows : List Place → Bool) (far : Progress last) (text more : List ℕ) (r : Run) : Type 0 where
+  pub before : ℕ
+  pub one_more : far.number ≡ before + 1
+  pub text_so : text_of (reference_so_far allows far.started far.stimuli far.begun before r) ≡ text
+  pub more_so : text_of (reference_to allows far r) ≡ text ++ more
+
+-- or at the end of the report.
+pub record EndLines {Own : Type 0} {last : Seen Own} (allows : List Place → Bool) (far : Progress last) (text more : List ℕ) (r : Run) : Type 0 where
+  pub none_left : (reference_to allows far r).queue ≡ []
+  pub text_so : text_of (reference_to allows far r) ≡ text
+  pub more_so : run_report names (reference_to allows far r) ≡ text ++ more
+
+-- These lines were to be written, behind this text, which is all that was done before.
+pub record WasWriting {Own : Type 0} (allows : List Place → Bool) (last : Seen Own) (text more : List ℕ) (far : Progress last) (r : Run) : Type 0 where
+  pub alike : RunsAlike last (reference_to allows far r)
+  pub lines : StartLines allows far text more r ⊎ EventLines allows far text more r ⊎ EndLines allows far text more r
+
+-- ---- A point of a run
+
+-- Up to a point the run is that of the reference controller so far, over what was told and over all that was said of the application: the
+-- tables agree at every quiescent point, that one included, and the application was given what it is given there. The journal is a dialogue
+-- with it, and all steps were in order.
+pub record AlikeUpTo {Own : Type 0} (last : Seen Own) (Holds : Progress last → Run → Type 0) : Type 0 where
+  pub far : Progress last
+  pub as_told : Holds far (start_of last)
+  pub as_said : (starts : List Start) (replies : List Reply) → AreSaid last starts replies → Holds far (start_said last starts replies)
+  pub at_once : AtOnce index (journal last.history)
+  pub in_order : AllByRecursion (IsOrderly index) last.history
+
+-- and the lines of all that was done were written,
+abbrev pub CutBetweenLines : {Own : Type 0} → (List Place → Bool) → Seen Own → Option (List ℕ) → Option (List ℕ) → Type 0
+CutBetweenLines allows last contents now_contents = AlikeUpTo last (WroteSoFar allows last contents now_contents)
+
+-- or the sink took a part of the lines of what was done last, behind all lines of what was done before.
+pub record CutWhileWriting {Own : Type 0} (allows : List Place → Bool) (last : Seen Own) (contents now_contents : Option (List ℕ)) : Type 0 where
+  pub text : List ℕ
+  pub more : List ℕ
+  pub up_to : AlikeUpTo last (WasWriting allows last text more)
+  pub part : TookPart (append_known contents text) now_contents more
+
+-- ---- A run of which nothing was done
+
+-- The world was not opened, which its history tells, and nothing was written.
+pub record NothingDone {Own : Type 0} (steps : List WorldStep) (seen : Seen Own) (contents now_contents : Option (List ℕ)) : Type 0 where
+  pub history : seen.history ≡ steps
+  pub still : now_contents ≡ contents

@@ -1,0 +1,45 @@
+-- What the history of a world tells of a run: the calls for the application, what it did, what it was given, the stimuli, and how the
+-- switches stood at each quiescent point. All of this is our own.
+use Rattle.std.specs.Prelude.{ℕ, List, map, filter, None}
+use Rattle.std.specs.List.{flat_map}
+use Rattle.of_types.specs.declared.journal.Act.{Act}
+use Rattle.of_types.specs.declared.journal.WorldStim.{WorldStim}
+use Rattle.outside.specs.Seen.{Seen, journal}
+use Rattle.outside.specs.State.{Mark, mark_of, state}
+use Rattle.lego_model.specs.Journal.{is_of, inputs, stimuli, Reply, Start, Attempt, in_attempts, in_turns, start_of, reply_of}
+use Rattle.lego_model.specs.Application.{index}
+
+-- ---- The application
+
+-- the calls for it
+abbrev pub own_acts : {Own : Type 0} → Seen Own → List Act
+own_acts seen = filter (is_of index) (journal seen.history)
+
+-- how its starts ended, of these calls
+abbrev pub starts_in : List Act → List Start
+starts_in acts = map start_of (in_attempts acts).1
+
+-- its replies in one life, and in all of them, life after life
+abbrev pub replies_at : Attempt → List Reply
+replies_at attempt = map reply_of (in_turns attempt.acts).1
+
+abbrev pub replies_in : List Act → List Reply
+replies_in acts = flat_map replies_at (filter (λ a. a.stands) (in_attempts acts).1)
+
+-- the frames that it was given
+abbrev pub given_in : {Own : Type 0} → Seen Own → List (List ℕ)
+given_in seen = inputs index (journal seen.history)
+
+-- ---- The world
+
+-- the stimuli that happened
+abbrev pub stimuli_in : {Own : Type 0} → Seen Own → List WorldStim
+stimuli_in seen = stimuli (journal seen.history)
+
+-- the quiescent points, in order, each with the switches as they stood
+abbrev pub points_in : {Own : Type 0} → Seen Own → List Mark
+points_in seen = (state seen).marks
+
+-- how the switches stand at the end
+abbrev pub last_point : {Own : Type 0} → Seen Own → Mark
+last_point seen = mark_of None (state seen)

@@ -1,0 +1,86 @@
+-- The run of the reference controller over what a world told, whole and in parts. All of this is our own.
+use Rattle.std.specs.Prelude.{◌≡◌, Bool, false, List, [], ◌∷◌, ◌++◌, map, None, ℕ, zero, suc, fold}
+use Rattle.std.specs.List.{flat_map}
+use Rattle.flow_table.specs.Switch.{Declared}
+use Rattle.lego_model.specs.Journal.{Reply, Start}
+use Rattle.lego_model.specs.Places.{Place}
+use Rattle.lego_model.specs.Scripted.{AreFronts, AreStartFronts}
+use Rattle.lego_model.specs.Controller.{App, Run, reference_mark, start_all, reference, dispatch, settle, happen}
+use Rattle.outside.specs.Seen.{Seen}
+use Rattle.lego_model.specs.History.{starts_in, replies_in, own_acts, stimuli_in, given_in, points_in, last_point}
+use Rattle.lego_model.specs.Agreement.{AgreeMarks}
+use Rattle.lego_model.specs.Application.{budget, names}
+use Rattle.of_types.specs.declared.journal.WorldStim.{WorldStim}
+use Rattle.app_frames.specs.declared.frame.Event.{Event}
+use Rattle.lego_model.specs.RunReport.{line_text}
+
+-- ---- The application of the reference controller at first, with what it will do
+
+abbrev pub fresh : List Start → List Reply → App
+fresh starts replies = record { alive = false; budget = budget; rest = []; inputs = []; starts = starts; replies = replies; done = 0; failed = 0 }
+
+-- before anything is started
+abbrev pub before_start : List Declared → App → Run
+before_start declared a = record {
+  moment = 0;
+  places = map (λ d. record { declared = d; switch = None }) declared;
+  queue = [];
+  events = 0;
+  apps = a ∷ [];
+  lines = [];
+  marks = [];
+}
+
+-- all applications are started
+abbrev pub all_started : Run → Run
+all_started r = let begun = start_all 0 r.apps in record r { apps = begun.0; lines = r.lines ++ begun.1 }
+
+-- ---- What the reference controller does with what a world tells
+
+-- over the stimuli that it told, with an application that does this
+abbrev pub reference_said : {Own : Type 0} → (List Place → Bool) → Seen Own → List Start → List Reply → Run
+reference_said allows seen starts replies = reference allows seen.given.declared (fresh starts replies ∷ []) (stimuli_in seen)
+
+-- with one that does what it told of it
+abbrev pub reference_of : {Own : Type 0} → (List Place → Bool) → Seen Own → Run
+reference_of allows seen = reference_said allows seen (starts_in (own_acts seen)) (replies_in (own_acts seen))
+
+-- what is said of the application, of which the fronts are told
+abbrev pub AreSaid : {Own : Type 0} → Seen Own → List Start → List Reply → Type 0
+AreSaid seen starts replies = AreStartFronts (starts_in (own_acts seen)) starts × AreFronts (replies_in (own_acts seen)) replies
+
+-- ---- The parts of its run
+
+-- the oldest event that waits is dispatched, where there is one
+abbrev pub next_dispatched : (List Place → Bool) → List Event → Run → Run
+next_dispatched allows [] r = r
+next_dispatched allows (event ∷ queue) r = dispatch allows event (record r { queue = queue })
+
+abbrev pub dispatch_next : (List Place → Bool) → Run → Run
+dispatch_next allows r = next_dispatched allows r.queue r
+
+-- so often
+abbrev pub times : ℕ → (Run → Run) → Run → Run
+times zero f r = r
+times (suc n) f r = times n f (f r)
+
+-- a stimulus, and then the events that wait
+abbrev pub round : (List Place → Bool) → Run → WorldStim → Run
+round allows r x = settle allows (happen x r)
+
+abbrev pub rounds : (List Place → Bool) → List WorldStim → Run → Run
+rounds allows xs r = fold (round allows) r xs
+
+-- ---- What it writes
+
+-- the text of the lines so far
+abbrev pub text_of : Run → List ℕ
+text_of r = flat_map (line_text names) r.lines
+
+-- ---- A run of a world stands alike to one of it
+
+-- The run is that of the reference controller: at every quiescent point, the end included, the switches agree; and the application was given
+-- what the reference controller gives it.
+pub record RunsAlike {Own : Type 0} (seen : Seen Own) (r : Run) : Type 0 where
+  pub tables : AgreeMarks (points_in seen ++ last_point seen ∷ []) (r.marks ++ reference_mark None r.places ∷ [])
+  pub inputs : map (λ (a : App). a.inputs) r.apps ≡ given_in seen ∷ []

@@ -1,5 +1,0 @@
-use Rattle.net_txn.specs.KnownLaws.{Looked}
-use Rattle.net_txn.proofs.arriving.place_known.Given as goal
-
-abbrev pub invariant-loop-i : goal.invariant-loop-i
-invariant-loop-i l = Looked l.dpid l.all l.i

@@ -1,0 +1,5 @@
+use Rattle.net_txn.specs.JoiningLaws.{LowerBefore}
+use Rattle.net_txn.proofs.joining.position_for.Given as goal
+
+abbrev pub invariant-loop-i : goal.invariant-loop-i
+invariant-loop-i l = LowerBefore l.dpid l.views l.i

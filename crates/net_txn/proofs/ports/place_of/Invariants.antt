@@ -1,5 +1,0 @@
-use Rattle.net_txn.specs.PortLaws.{PortsBefore}
-use Rattle.net_txn.proofs.ports.place_of.Given as goal
-
-abbrev pub invariant-loop-i : goal.invariant-loop-i
-invariant-loop-i l = PortsBefore l.number l.ports l.i

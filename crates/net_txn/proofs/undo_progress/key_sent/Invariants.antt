@@ -1,0 +1,7 @@
+use Rattle.std.proofs.Common.{◌≡◌, drop}
+use Rattle.net_txn.specs.Undos.{key_sent, inverses_in}
+use Rattle.net_txn.proofs.undo_progress.key_sent.Given as goal
+
+abbrev pub invariant-loop-entry : goal.invariant-loop-entry
+invariant-loop-entry l =
+    key_sent l.xid (inverses_in l.dpid (drop l.entry-index l.reverted)) ≡ key_sent l.xid (inverses_in l.dpid l.reverted)

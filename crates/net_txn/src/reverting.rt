@@ -1,0 +1,258 @@
+//! The inverses of a log, sent newest first.
+
+ghost use Rattle.std.specs.Prelude.{◌≡◌, ◌+◌, ◌^◌, ◌<◌, ◌≤◌, ℕ, true, false, List, [], ◌∷◌, length, drop, map, Option, IfErr, OnOk, is_err, slice_index_or, slice_set};
+ghost use Rattle.outside.specs.Seen.{Seen};
+ghost use Rattle.flow_table.specs.declared.view.TableView.{TableView};
+ghost use Rattle.lego_model.specs.declared.fault.TxnFault.{TxnFault};
+ghost use Rattle.of_types.specs.declared.journal.Act.TheVariants.{Sent};
+ghost use Rattle.of_match.specs.declared.key.Key.{Key};
+ghost use Rattle.outside.specs.Calls.{most_message};
+ghost use Rattle.outside.specs.declared.step.WorldStep.TheVariants.{Acted};
+ghost use Rattle.net_txn.specs.declared.logged.Logged.{Logged};
+ghost use Rattle.net_txn.specs.Net.{inverse_bytes};
+ghost use Rattle.lego_model.specs.BarrierWaits.{next_xid, barrier_sent};
+ghost use Rattle.net_txn.specs.Waits.{KeptMore};
+ghost use Rattle.net_txn.specs.Undos.{HasPassedBarrier, Further, first_fault_of, fault_of, progress_of, Moves, Fails, AwaitsReplies, fault_by, inverses_in, alone, with_progress, key_logged};
+ghost use Rattle.net_txn.specs.Views.{is_viewed};
+
+use crate::logged::{Logged, UndoProgress, inverse_of};
+use crate::net::following;
+use crate::queue::MessageQueue;
+use crate::trouble::Trouble;
+use crate::undo_progress::{position_of, progress_of};
+use crate::undo_wait::{await_barrier, send};
+use flow_table::TableView;
+use of_types::{Dpid, Xid};
+use outside::World;
+use std::alloc::Global;
+
+/// How many inverses are sent to a switch before a barrier.
+const MOST_BEHIND_BARRIER: u32 = 4_096;
+
+/// Tells whether a switch has a view, so that it is joined.
+fn is_viewed(views: &[TableView], dpid: Dpid) -> bool
+    ensures { result ≡ is_viewed dpid views.now }
+{
+    views.iter().any(|view| view.dpid == dpid)
+}
+
+/// Returns the log from a position on.
+pub(crate) fn behind(log: &[Logged], from: usize) -> &[Logged]
+    requires { from ≤ length log.now }
+    ensures { result.now ≡ drop from log.now }
+{
+    &log[from..]
+}
+
+/// Notes how far an inverse came.
+fn mark(log: &mut [Logged], at: usize, progress: UndoProgress)
+    requires { at < length log.old }
+    ensures marked { (e : Logged) → log.new ≡ slice_set log.old at (with_progress progress (slice_index_or log.old at e)) }
+    ensures same { map key_logged log.new ≡ map key_logged log.old }
+{
+    log[at].progress = progress;
+}
+
+/// Sends the inverse at a position.
+fn send_at<W: World>(
+    world: &mut W,
+    alloc: Global,
+    log: &mut [Logged],
+    at: usize,
+    since: u32,
+    xid: Xid,
+) -> Result<(), Trouble>
+    requires { at < length log.old }
+    ensures ok { (e : Logged) → let entry = slice_index_or log.old at e in
+        OnOk result (Moves W.Tells entry.dpid (Acted (Sent entry.dpid (inverse_bytes xid entry.key)) ∷ []) (W.seen world.old) (W.seen world.new)) }
+    ensures err { (e : Logged) (sent : List (ℕ × Key)) (buf : List ℕ) → let entry = slice_index_or log.old at e in
+        IfErr result (λ t. Fails W.Tells entry.dpid sent (W.seen world.old) (W.seen world.new) (fault_by entry.dpid t buf)) }
+    ensures marked { (e : Logged) → log.new ≡ slice_set log.old at (with_progress (record { xid = xid; since = since; failed = is_err result }) (slice_index_or log.old at e)) }
+    ensures same { map key_logged log.new ≡ map key_logged log.old }
+    ensures priority { (e : Logged) → (slice_index_or log.old at e).key.priority < 2 ^ 16 }
+{
+    let dpid = log[at].dpid;
+    let _priority = log[at].key.priority;
+    let inverse = inverse_of(alloc, &log[at].key, xid);
+    let sent = send(world, dpid, &inverse);
+    let progress = UndoProgress {
+        xid,
+        since,
+        failed: sent.is_err(),
+    };
+    mark(log, at, progress);
+    sent
+}
+
+/// Sends a barrier to the switch of the inverse at a position, the newest of those that were reverted to it from another
+/// place on, and waits for its reply.
+fn await_at<W: World>(
+    world: &mut W,
+    buf: &mut [u8],
+    kept: &mut MessageQueue,
+    log: &mut [Logged],
+    from: usize,
+    at: usize,
+    xid: Xid,
+) -> Result<(), Trouble>
+    requires room { most_message ≤ length buf.old }
+    requires place { (from ≤ at) × (at < length log.old) }
+    ensures ok { (e : Logged) → let d = (slice_index_or log.old at e).dpid in
+        OnOk result (AwaitsReplies W.Tells (alone d xid) (barrier_sent (alone d xid) ∷ []) (inverses_in d (drop from log.old)) (W.seen world.old) (W.seen world.new) kept.old kept.new) }
+    ensures err { (e : Logged) → let d = (slice_index_or log.old at e).dpid in
+        IfErr result (λ t. Fails W.Tells d (inverses_in d (drop from log.old)) (W.seen world.old) (W.seen world.new) (fault_by d t buf.new)) }
+    ensures marked { (e : Logged) → let entry = slice_index_or log.old at e in
+        log.new ≡ slice_set log.old at (with_progress (record { xid = entry.progress.xid; since = 0; failed = is_err result }) entry) }
+    ensures same { map key_logged log.new ≡ map key_logged log.old }
+    ensures kept { (e : Logged) → KeptMore (slice_index_or log.old at e).dpid kept.old kept.new }
+    ensures len { length buf.new ≡ length buf.old }
+{
+    let dpid = log[at].dpid;
+    let sent = log[at].progress.xid;
+    let barred = await_barrier(world, buf, kept, behind(log, from), dpid, xid);
+    let progress = UndoProgress {
+        xid: sent,
+        since: 0,
+        failed: barred.is_err(),
+    };
+    mark(log, at, progress);
+    barred
+}
+
+/// Takes the next transaction id.
+fn take_xid(xid: &mut Xid) -> Xid
+    ensures taken { result ≡ xid.old }
+    ensures next { xid.new ≡ next_xid xid.old }
+    ensures least { 1 ≤ xid.new }
+{
+    let taken = *xid;
+    *xid = following(taken);
+    taken
+}
+
+/// Counts one inverse more behind the last barrier.
+fn one_more(since: u32) -> u32
+    ensures { since < 4096 → result ≡ since + 1 }
+{
+    if since < MOST_BEHIND_BARRIER {
+        since + 1
+    } else {
+        MOST_BEHIND_BARRIER
+    }
+}
+
+/// Sends the inverse at a position, to a switch that is joined and has not failed.
+fn revert_to<W: World>(
+    world: &mut W,
+    alloc: Global,
+    buf: &mut [u8],
+    kept: &mut MessageQueue,
+    log: &mut [Logged],
+    at: usize,
+    since: u32,
+    xid: &mut Xid,
+) -> Result<(), Trouble>
+    requires room { most_message ≤ length buf.old }
+    requires place { at < length log.old }
+    ensures undoing { (base : Seen W.Own) (views : List TableView) (x : ℕ) (first : List (ℕ × List ℕ)) (fault : Option TxnFault) (e : Logged) →
+        let d = (slice_index_or log.old at e).dpid in
+        let reverted = drop (at + 1) log.old in
+        Further W.Tells views base (W.seen world.old) first kept.old x xid.old [] reverted fault → is_viewed d views ≡ true → (progress_of d reverted).failed ≡ false
+        → ((progress_of d reverted).since < 4096 → since ≡ (progress_of d reverted).since + 1)
+        → Further W.Tells views base (W.seen world.new) first kept.new x xid.new [] (drop at log.new) (first_fault_of fault (fault_of d result buf.new)) }
+    ensures same { map key_logged log.new ≡ map key_logged log.old }
+    ensures least { 1 ≤ xid.new }
+    ensures len { length buf.new ≡ length buf.old }
+{
+    let id = take_xid(xid);
+    send_at(world, alloc, log, at, since, id)?;
+    if since < MOST_BEHIND_BARRIER {
+        return Ok(());
+    }
+    let id = take_xid(xid);
+    await_at(world, buf, kept, log, at, at, id)
+}
+
+/// Tells whether an inverse is sent to a switch: it is joined and has not failed.
+fn reverts(progress: UndoProgress, views: &[TableView], dpid: Dpid) -> bool
+    ensures yes { result ≡ true → (is_viewed dpid views.now ≡ true) × (progress.failed ≡ false) }
+    ensures no { result ≡ false → is_viewed dpid views.now ≡ true → progress.failed ≡ true }
+{
+    !progress.failed && is_viewed(views, dpid)
+}
+
+/// Sends the inverse at a position, unless its switch has failed or is not joined.
+pub(crate) fn revert<W: World>(
+    world: &mut W,
+    alloc: Global,
+    buf: &mut [u8],
+    kept: &mut MessageQueue,
+    views: &[TableView],
+    log: &mut [Logged],
+    at: usize,
+    xid: &mut Xid,
+) -> Result<(), Trouble>
+    requires room { most_message ≤ length buf.old }
+    requires place { at < length log.old }
+    requires least { 1 ≤ xid.old }
+    ensures undoing { (base : Seen W.Own) (x : ℕ) (first : List (ℕ × List ℕ)) (fault : Option TxnFault) (e : Logged) →
+        Further W.Tells views.now base (W.seen world.old) first kept.old x xid.old [] (drop (at + 1) log.old) fault
+        → Further W.Tells views.now base (W.seen world.new) first kept.new x xid.new [] (drop at log.new)
+        (first_fault_of fault (fault_of (slice_index_or log.old at e).dpid result buf.new)) }
+    ensures same { map key_logged log.new ≡ map key_logged log.old }
+    ensures least { 1 ≤ xid.new }
+    ensures len { length buf.new ≡ length buf.old }
+{
+    let dpid = log[at].dpid;
+    let progress = progress_of(behind(log, at + 1), dpid);
+    if reverts(progress, views, dpid) {
+        revert_to(
+            world,
+            alloc,
+            buf,
+            kept,
+            log,
+            at,
+            one_more(progress.since),
+            xid,
+        )
+    } else {
+        let left_alone = UndoProgress {
+            xid: 0,
+            since: 0,
+            failed: true,
+        };
+        mark(log, at, left_alone);
+        Ok(())
+    }
+}
+
+/// Sends a barrier to a switch for which some inverse was reverted, unless it has failed, and waits for its reply.
+pub(crate) fn await_switch<W: World>(
+    world: &mut W,
+    buf: &mut [u8],
+    kept: &mut MessageQueue,
+    log: &mut [Logged],
+    dpid: Dpid,
+    xid: &mut Xid,
+) -> Result<(), Trouble>
+    requires room { most_message ≤ length buf.old }
+    requires least { 1 ≤ xid.old }
+    ensures undoing { (base : Seen W.Own) (views : List TableView) (x : ℕ) (first : List (ℕ × List ℕ)) (switches : List ℕ) (fault : Option TxnFault) →
+        Further W.Tells views base (W.seen world.old) first kept.old x xid.old switches log.old fault → is_viewed dpid views ≡ true
+        → Further W.Tells views base (W.seen world.new) first kept.new x xid.new (dpid ∷ switches) log.new (first_fault_of fault (fault_of dpid result buf.new)) }
+    ensures barred { HasPassedBarrier dpid log.new }
+    ensures others { (c : ℕ) → HasPassedBarrier c log.old → HasPassedBarrier c log.new }
+    ensures same { map key_logged log.new ≡ map key_logged log.old }
+    ensures least { 1 ≤ xid.new }
+    ensures len { length buf.new ≡ length buf.old }
+{
+    let Some(at) = position_of(log, dpid) else {
+        return Ok(());
+    };
+    if log[at].progress.failed {
+        return Ok(());
+    }
+    let id = take_xid(xid);
+    await_at(world, buf, kept, log, 0, at, id)
+}

@@ -1,0 +1,108 @@
+//! The rows of a switch.
+
+ghost use Rattle.std.specs.Prelude.{◌≡◌, ◌≤◌, length, IfOk, IsOk, IsSome};
+ghost use Rattle.of_wire.specs.Reading.{reading_of};
+ghost use Rattle.outside.specs.Calls.{most_message};
+ghost use Rattle.net_txn.specs.Views.{rows_at};
+ghost use Rattle.lego_model.specs.BarrierWaits.{next_xid};
+ghost use Rattle.net_txn.specs.Asks.{Asks};
+ghost use Rattle.lego_model.specs.FlowQueries.{all_flows, flows_request, asked_from};
+ghost use Rattle.net_txn.specs.AskSteps.{AskSteps};
+
+use crate::exchange::ask;
+use crate::net::{Net, following};
+use crate::queue::MessageQueue;
+use crate::replies::{read_replies, sort_out};
+use lego_model::{Awaited, TxnFault};
+use of_match::Match;
+use of_stats::RowList;
+use of_types::{ByteList, Dpid, Xid, ports, put_array, put_u8, put_u16, stats};
+use of_wire::{Message, Stats, encode};
+use outside::World;
+use std::alloc::{AllocError, Global};
+
+/// The number that means all tables.
+const ALL_TABLES: u8 = 0xff;
+
+/// Tells what is awaited where a request is sent with this id, and then a barrier.
+fn asked(dpid: Dpid, xid: Xid) -> Awaited
+    ensures { result ≡ asked_from dpid xid }
+{
+    let barrier = following(xid);
+    Awaited {
+        dpid,
+        first: barrier,
+        barrier,
+    }
+}
+
+/// Returns the body of a request of flows: of any match, in all tables, whatever their outputs.
+#[tactic(auto, unfolding(lego_model::specs::FlowQueries::all_flows))]
+fn all_flows() -> [u8; 44]
+    ensures { result ≡ all_flows }
+{
+    let mut body = [0; 44];
+    put_array(&mut body, 0, &Match::any().encode());
+    put_u8(&mut body, 40, ALL_TABLES);
+    put_array(&mut body, 41, &[0]);
+    put_u16(&mut body, 42, ports::NONE);
+    body
+}
+
+/// Returns the request of all flows.
+#[tactic(auto, unfolding(of_wire::specs::Spelling::message_size))]
+fn flows_request(alloc: Global, xid: Xid) -> Result<ByteList, AllocError>
+    ensures bytes { IfOk result (λ b. b ≡ flows_request xid) }
+    ensures read { IfOk result (λ b. IsOk (reading_of b)) }
+{
+    let body = ByteList::from_slice(alloc, &all_flows())?;
+    let request = Stats {
+        kind: stats::FLOW,
+        flags: 0,
+        body,
+    };
+    encode(alloc, xid, &Message::StatsRequest(request))
+}
+
+/// Asks a switch for the rows of all its flows, from this transaction id on.
+fn request_rows<W: World>(
+    world: &mut W,
+    alloc: Global,
+    buf: &mut [u8],
+    kept: &mut MessageQueue,
+    dpid: Dpid,
+    xid: Xid,
+) -> Result<RowList, TxnFault>
+    requires { most_message ≤ length buf.old }
+    ensures { Asks W.Tells dpid xid (W.seen world.old) (W.seen world.new) kept.old kept.new result }
+{
+    let awaited = asked(dpid, xid);
+    let request = flows_request(alloc, xid)?;
+    let mut came = MessageQueue::new(alloc)?;
+    let waited = ask(world, alloc, buf, &mut came, &awaited, request.as_slice());
+    let replies = sort_out(alloc, came, kept, xid)?;
+    waited?;
+    read_replies(alloc, dpid, request, awaited.barrier, replies)
+}
+
+impl Net {
+    /// Asks a switch for the rows of all its flows, behind a barrier.
+    ///
+    /// `SwitchBroke` has the part that is at fault, or the last one where the whole spells no rows. `Diverged` has the
+    /// request and the ERROR that answered it, or the reply to the barrier where nothing did.
+    pub fn rows<W: World>(&mut self, world: &mut W, dpid: Dpid) -> Result<RowList, TxnFault>
+        requires { IsSome (rows_at dpid self.old.views) }
+        ensures asks { Asks W.Tells dpid self.old.xid (W.seen world.old) (W.seen world.new) self.old.kept self.new.kept result }
+
+        // Where the world keeps its word and nothing of the switch waited, the rows are the switch's own, and all else stays; a
+        // fault is one of the switch's link, or of memory, or its own rows have no spelling.
+        ensures in_step { AskSteps W.Tells dpid (W.seen world.old) (W.seen world.new) self.old.kept self.new.kept result }
+
+        // Views, ports, log and moment stay.
+        ensures stays { self.new ≡ record self.old { xid = next_xid (next_xid self.old.xid); kept = self.new.kept } }
+    {
+        let xid = self.xid;
+        self.xid = following(following(xid));
+        request_rows(world, self.alloc, &mut self.buf, &mut self.kept, dpid, xid)
+    }
+}

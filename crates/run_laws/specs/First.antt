@@ -1,0 +1,16 @@
+-- A world that was just opened, and the engine at first. All of this is our own.
+use Rattle.std.specs.Prelude.{◌≡◌, false, [], ◌∷◌}
+use Rattle.outside.specs.declared.step.WorldStep.TheVariants.{Opened}
+use Rattle.outside.specs.Seen.{Seen}
+use Rattle.net_txn.specs.Net.{NetState}
+use Rattle.run_laws.specs.Engine.{Engine}
+
+-- a world that was opened, and nothing more
+abbrev pub IsOpened : {Own : Type 0} → Seen Own → Type 0
+IsOpened seen = seen.history ≡ Opened ∷ []
+
+abbrev pub net_at_first : NetState
+net_at_first = record { views = []; ports = []; log = []; xid = 1; moment = 0; kept = []; room = 2 }
+
+abbrev pub engine_at_first : Engine
+engine_at_first = record { net = net_at_first; queue = []; events = 0; alive = false; rest = []; done = 0; failed = 0 }

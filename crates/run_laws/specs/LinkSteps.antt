@@ -1,0 +1,64 @@
+-- Steps of links alone, and what they leave. All of this is our own.
+use Rattle.std.specs.Prelude.{◌≡◌, ℕ, List, [], filter, None, ◌++◌}
+use Rattle.std.specs.List.{AllByRecursion}
+use Rattle.of_types.specs.declared.journal.Act.{Act}
+use Rattle.lego_model.specs.Journal.{is_of, inputs, stimuli}
+use Rattle.outside.specs.declared.step.WorldStep.{WorldStep}
+use Rattle.outside.specs.Seen.{journal, Seen}
+use Rattle.outside.specs.State.{State, event_number, after_step}
+use Rattle.app_visor.specs.Talks.{step_of}
+use Rattle.lego_model.specs.History.{own_acts, given_in, stimuli_in}
+
+-- all but the switches stands as it stood
+pub record OnlyLinks (s t : State) : Type 0 where
+  pub begun : t.begun ≡ s.begun
+  pub due : t.due ≡ s.due
+  pub moment : t.moment ≡ s.moment
+  pub to_come : t.to_come ≡ s.to_come
+  pub running : t.running ≡ s.running
+  pub marks : t.marks ≡ s.marks
+
+-- they tell nothing of an application, and no stimulus
+pub record TellsNothing (app : ℕ) (steps : List WorldStep) : Type 0 where
+  pub acts : filter (is_of app) (journal steps) ≡ []
+  pub given : inputs app (journal steps) ≡ []
+  pub stims : stimuli (journal steps) ≡ []
+
+-- no switch moved, and no stimulus was begun or is over
+pub record OnlyTalk (s t : State) : Type 0 where
+  pub links : t.links ≡ s.links
+  pub begun : t.begun ≡ s.begun
+  pub due : t.due ≡ s.due
+  pub moment : t.moment ≡ s.moment
+  pub to_come : t.to_come ≡ s.to_come
+
+abbrev pub NoEvents : List (List ℕ) → Type 0
+NoEvents frames = AllByRecursion (λ frame. event_number frame ≡ None) frames
+
+-- an act that makes no mark, and the frames behind it
+pub record MarksNothing (app : ℕ) (act : Act) (acts : List Act) : Type 0 where
+  pub marks : (s : State) → (after_step (step_of act) s).marks ≡ s.marks
+  pub rest : NoEvents (inputs app acts)
+
+-- nothing was begun since, and the moment stays
+pub record Rests (s t : State) : Type 0 where
+  pub begun : t.begun ≡ s.begun
+  pub due : t.due ≡ s.due
+  pub moment : t.moment ≡ s.moment
+
+-- the journal tells the same of the application
+pub record TellsSame {Own : Type 0} (old new : Seen Own) : Type 0 where
+  pub acts : own_acts new ≡ own_acts old
+  pub given : given_in new ≡ given_in old
+  pub stims : stimuli_in new ≡ stimuli_in old
+
+-- what no attempt changes
+pub record TriesKeep (s t : State) : Type 0 where
+  pub links : t.links ≡ s.links
+  pub rests : Rests s t
+  pub marks : t.marks ≡ s.marks
+
+-- what the application was given more, and no stimulus
+pub record TellsGiven {Own : Type 0} (old new : Seen Own) (frames : List (List ℕ)) : Type 0 where
+  pub given : given_in new ≡ given_in old ++ frames
+  pub stims : stimuli_in new ≡ stimuli_in old

@@ -1,0 +1,35 @@
+-- A turn of the reference controller, step by step. All of this is our own.
+use Rattle.std.specs.Prelude.{ℕ, ◌+◌, List, [], ◌∷◌, ◌++◌, drop}
+use Rattle.app_frames.specs.declared.frame.Event.{Event}
+use Rattle.lego_model.specs.Journal.{Reply}
+use Rattle.lego_model.specs.Places.{Place}
+use Rattle.lego_model.specs.Turns.{Played}
+use Rattle.lego_model.specs.Controller.{App, Dispatched, Ended, Run, Turned, event_frame, given_in, after_outcome, places_by, restart_lines, marked}
+
+-- the event has its number and its line
+abbrev pub numbered : Event → Run → Run
+numbered event r = record r { events = r.events + 1; lines = r.lines ++ Dispatched (r.events + 1) event ∷ [] }
+
+-- the run behind a turn of the application
+abbrev pub after_turn : Turned → Run → Run
+after_turn t r = record r {
+  places = t.places;
+  apps = t.app.0 ∷ [];
+  lines = r.lines ++ Ended 0 t.outcome ∷ restart_lines 0 t.outcome t.app;
+  marks = marked t.given r.events r.places r.marks;
+}
+
+abbrev pub without_turn : App → Run → Run
+without_turn a r = record r { apps = a ∷ [] }
+
+-- the application with its reply used up and what it was given in its turn
+abbrev pub after_given : App → Reply → List (List ℕ) → App
+after_given a reply given = record a { replies = drop 1 a.replies; inputs = a.inputs ++ given }
+
+abbrev pub turned_by : (number moment : ℕ) → Event → List Place → App → Reply → Played (List Place) → Turned
+turned_by number moment event ps a reply played = record {
+  places = places_by played.outcome ps played.state;
+  app = after_outcome played.outcome (after_given a reply (given_in reply.given (event_frame number moment event) played.answers));
+  outcome = played.outcome;
+  given = reply.given;
+}

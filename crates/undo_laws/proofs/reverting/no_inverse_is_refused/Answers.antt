@@ -1,0 +1,5 @@
+use Rattle.undo_laws.specs.RevertingLaws.{revert-refusal}
+use Rattle.undo_laws.proofs.reverting.no_inverse_is_refused.Goals as goal
+
+pub returns : goal.returns
+returns c = revert-refusal
