@@ -30,12 +30,13 @@ pub(super) fn send(
 
 /// Each message to a new switch is answered by one ERROR of this kind and code.
 fn refuses(rt: &impl Abort, alloc: Global, rows: &[(&[u8], [u8; 2])]) -> Result<(), Fail> {
-    for (bytes, [kind, code]) in rows {
+    for row in rows {
+        let (bytes, [kind, code]) = *row;
         let mut switch = SimSwitch::new(alloc, 1, 1, &[1, 2])?;
         let sent = send(rt, alloc, &mut switch, bytes)?;
         assert_eq!(rt; sent.len(), 1, "{bytes:?}");
         let error = sent.as_slice()[0].as_slice();
-        let front = [0, 0, 0, 9, 0, *kind, 0, *code];
+        let front = [0, 0, 0, 9, 0, kind, 0, code];
         assert!(rt; error.len() >= 20 && error[1] == 1, "{bytes:?}");
         assert_eq!(rt; &error[4..12], front.as_slice(), "{bytes:?}");
     }
