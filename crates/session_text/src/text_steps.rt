@@ -9,9 +9,10 @@ ghost use Rattle.session_text.specs.TextGives.{Gives};
 use crate::text_fault::LineFault;
 use crate::text_words::{a_number, cut_at, some_bytes};
 use crate::words::is;
-use app_frames::{AppFrame, Script, ScriptStep, encode_app};
+use app_frames::{AppFrame, ScriptStep, encode_app};
 use lego_model::SessionKind;
 use of_types::ByteList;
+use session_lists::StepList;
 use std::alloc::Global;
 
 /// How many bytes a message of OpenFlow 1.0 has at least: its header (OpenFlow 1.0.0, 5.1 OpenFlow Header).
@@ -196,12 +197,12 @@ fn step_of(alloc: Global, step: &[u8]) -> Result<ScriptStep, LineFault>
 }
 
 /// What the steps of a turn give.
-pub fn steps_of(alloc: Global, steps: &[&[u8]]) -> Result<Script, LineFault>
+pub fn steps_of(alloc: Global, steps: &[&[u8]]) -> Result<StepList, LineFault>
     ensures { Gives (λ s. s) result (steps_in (map (λ w. w.now) steps.now)) }
 {
-    let mut given = Vec::new(alloc);
+    let mut given = StepList::new(alloc);
     for step in steps {
-        given.push(step_of(alloc, step)?)?;
+        given.push(&step_of(alloc, step)?)?;
     }
-    Ok(Script::from_vec(given))
+    Ok(given)
 }

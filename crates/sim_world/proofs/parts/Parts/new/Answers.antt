@@ -1,12 +1,12 @@
 use Rattle.std.proofs.Common.{ap, refl}
-use Rattle.sim_world.specs.Lives.{Playing}
+use Rattle.sim_world.specs.Lives.{ScriptedLives}
 use Rattle.sim_world.specs.BuildingLaws.{IsNew-nothing, given-nothing}
 use Rattle.sim_world.proofs.parts.Parts.new.Goals as goal
 
 pub returns-clause-new : goal.returns-clause-new
 returns-clause-new c =
     IsNew-nothing _ (record {
-      scripts = ap (λ (p : Playing). p.own) c.in_ok-new.ensures;
+      scripts = ap (λ (p : ScriptedLives). p.own) c.in_ok-new.ensures;
       stimuli = c.new-2.ensures.items;
       fails = c.new-3.ensures.items;
       told = c.new-4.ensures;
@@ -14,7 +14,7 @@ returns-clause-new c =
       nexts = refl;
       calls = refl;
       tally = c.new-6.ensures;
-      lives = ap (λ (p : Playing). p.lives) c.in_ok-new.ensures;
+      lives = ap (λ (p : ScriptedLives). p.lives) c.in_ok-new.ensures;
       state = refl;
       running = c.new-7.ensures.items;
       to_come = c.new-2.ensures.items;
@@ -25,7 +25,7 @@ returns-clause-new c =
 pub returns-clause-given : goal.returns-clause-given
 returns-clause-given c =
     given-nothing _ (record {
-      scripts = ap (λ (p : Playing). p.own) c.in_ok-new.ensures;
+      scripts = ap (λ (p : ScriptedLives). p.own) c.in_ok-new.ensures;
       stimuli = c.new-2.ensures.items;
       fails = c.new-3.ensures.items;
       told = c.new-4.ensures;
@@ -33,7 +33,7 @@ returns-clause-given c =
       nexts = refl;
       calls = refl;
       tally = c.new-6.ensures;
-      lives = ap (λ (p : Playing). p.lives) c.in_ok-new.ensures;
+      lives = ap (λ (p : ScriptedLives). p.lives) c.in_ok-new.ensures;
       state = refl;
       running = c.new-7.ensures.items;
       to_come = c.new-2.ensures.items;
