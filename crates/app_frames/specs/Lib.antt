@@ -3,8 +3,4 @@ pub mod Reading
 pub mod Bodies
 pub mod Spelling
 pub mod Frames
-pub mod KindLaws
-pub mod ReadingLaws
-pub mod BodyLaws
-pub mod AppLaws
-pub mod HostLaws
+pub mod laws

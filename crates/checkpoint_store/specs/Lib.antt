@@ -1,4 +1,4 @@
 pub mod Past
 pub mod Slots
 pub mod Inside
-pub mod SlotLaws
+pub mod laws

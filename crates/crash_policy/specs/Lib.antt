@@ -4,8 +4,7 @@ pub mod Keys
 pub mod Ascending
 pub mod Order
 pub mod Steps
-pub mod OrderLaws
 pub mod Named
 pub mod Asking
 pub mod Replacing
-pub mod BoundLaws
+pub mod laws

@@ -5,7 +5,7 @@ ghost use Rattle.toml.specs.View.{table_view};
 ghost use Rattle.crash_policy.specs.Policies.{policy_value, default_policy};
 ghost use Rattle.crash_policy.specs.Faults.{Gives};
 ghost use Rattle.crash_policy.specs.Order.{document_of, policy_of};
-ghost use Rattle.crash_policy.specs.BoundLaws.{IsSized};
+ghost use Rattle.crash_policy.specs.laws.BoundLaws.{IsSized};
 
 use crate::document::file;
 use crate::policy_fault::PolicyFault;

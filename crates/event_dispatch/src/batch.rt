@@ -48,7 +48,7 @@ fn has_view(net: &Net, dpid: Dpid) -> bool
 }
 
 /// Tells whether a switch is joined.
-#[tactic(auto, using(crate::specs::ViewedLaws::joined_rows, switch_laws::specs::ShownUndoLaws::rows_of_none))]
+#[tactic(auto, using(crate::specs::laws::ViewedLaws::joined_rows, switch_laws::specs::laws::ShownUndoLaws::rows_of_none))]
 pub(crate) fn is_joined(net: &Net, dpid: Dpid) -> bool
     ensures joined { result ≡ true → IsSome (rows_at dpid net.now.views) }
     ensures out { result ≡ false → rows_at dpid net.now.views ≡ None }
@@ -96,7 +96,7 @@ fn next_item<W: World>(world: &mut W, buf: &mut [u8]) -> Result<Item, Fault>
 
 impl Run {
     /// Takes a message that came from a switch. One of a switch that is not joined is ignored.
-    #[tactic(auto, using(crate::specs::BatchSteadyLaws::links_none, crate::specs::BatchSteadyLaws::only_none, crate::specs::SteadyLaws::places_none, crate::specs::SteadyLaws::reads_none, crate::specs::FaultLaws::arrival_why, crate::specs::TalkingLaws::keeps_none, crate::specs::TalkingLaws::keeps_links))]
+    #[tactic(auto, using(crate::specs::laws::BatchSteadyLaws::links_none, crate::specs::laws::BatchSteadyLaws::only_none, crate::specs::laws::SteadyLaws::places_none, crate::specs::laws::SteadyLaws::reads_none, crate::specs::laws::FaultLaws::arrival_why, crate::specs::laws::TalkingLaws::keeps_none, crate::specs::laws::TalkingLaws::keeps_links))]
     pub(crate) fn take_message<W: World>(
         &mut self,
         world: &mut W,
@@ -142,7 +142,7 @@ impl Run {
     }
 
     /// Takes a switch in that describes itself as it joins. One that is joined is not taken in again.
-    #[tactic(auto, using(crate::specs::BatchSteadyLaws::links_none, crate::specs::BatchSteadyLaws::puts_none, crate::specs::BatchSteadyLaws::only_none, crate::specs::BatchSteadyLaws::joined_puts, crate::specs::TalkingLaws::keeps_none))]
+    #[tactic(auto, using(crate::specs::laws::BatchSteadyLaws::links_none, crate::specs::laws::BatchSteadyLaws::puts_none, crate::specs::laws::BatchSteadyLaws::only_none, crate::specs::laws::BatchSteadyLaws::joined_puts, crate::specs::laws::TalkingLaws::keeps_none))]
     fn take_in<W: World>(&mut self, world: &mut W, dpid: Dpid, frame: &[u8]) -> Result<(), Fault>
         ensures waits { OnOk result (Waits self.old self.new) }
         ensures app { self.new.app ≡ self.old.app }
@@ -173,7 +173,7 @@ impl Run {
     }
 
     /// Lets a switch join with what it says of itself.
-    #[tactic(auto, using(crate::specs::BatchSteadyLaws::links_none, crate::specs::BatchSteadyLaws::only_none, crate::specs::KeptLaws::joins_read, crate::specs::TalkingLaws::keeps_none, crate::specs::TalkingLaws::keeps_links))]
+    #[tactic(auto, using(crate::specs::laws::BatchSteadyLaws::links_none, crate::specs::laws::BatchSteadyLaws::only_none, crate::specs::laws::KeptLaws::joins_read, crate::specs::laws::TalkingLaws::keeps_none, crate::specs::laws::TalkingLaws::keeps_links))]
     fn join<W: World>(&mut self, world: &mut W, dpid: Dpid, message: &Message) -> Result<(), Fault>
         requires out { rows_at dpid self.old.net.views ≡ None }
         requires fits { message_size message.now ≤ 65535 }
@@ -215,7 +215,7 @@ impl Run {
     }
 
     /// Takes one item. Bytes that it has stand in the buffer.
-    #[tactic(auto, using(crate::specs::BatchSteadyLaws::links_none, crate::specs::BatchSteadyLaws::puts_none, crate::specs::BatchSteadyLaws::only_none, crate::specs::TalkingLaws::keeps_none))]
+    #[tactic(auto, using(crate::specs::laws::BatchSteadyLaws::links_none, crate::specs::laws::BatchSteadyLaws::puts_none, crate::specs::laws::BatchSteadyLaws::only_none, crate::specs::laws::TalkingLaws::keeps_none))]
     fn take_item<W: World>(&mut self, world: &mut W, item: Item, buf: &[u8]) -> Result<(), Fault>
         requires { IsItemIn W.Tells item buf.now }
         ensures waits { OnOk result (Waits self.old self.new) }
@@ -248,7 +248,7 @@ impl Run {
 
     /// Takes the messages that were kept while something else was awaited, oldest first, and answers how many items the
     /// batch can still have.
-    #[tactic(auto, using(crate::specs::BatchSteadyLaws::links_none, crate::specs::BatchSteadyLaws::links_then, crate::specs::SteadyLaws::places_none, crate::specs::SteadyLaws::reads_none, crate::specs::WhyLaws::continues_then, crate::specs::WhyLaws::why_then, crate::specs::WhyLaws::waits_then, crate::specs::TalkingLaws::keeps_none, crate::specs::TalkingLaws::keeps_then))]
+    #[tactic(auto, using(crate::specs::laws::BatchSteadyLaws::links_none, crate::specs::laws::BatchSteadyLaws::links_then, crate::specs::laws::SteadyLaws::places_none, crate::specs::laws::SteadyLaws::reads_none, crate::specs::laws::WhyLaws::continues_then, crate::specs::laws::WhyLaws::why_then, crate::specs::laws::WhyLaws::waits_then, crate::specs::laws::TalkingLaws::keeps_none, crate::specs::laws::TalkingLaws::keeps_then))]
     fn take_kept<W: World>(&mut self, world: &mut W) -> Result<u32, Fault>
         requires read { AreRead self.old.net.kept }
         ensures waits { OnOk result (Waits self.old self.new) }
@@ -274,7 +274,7 @@ impl Run {
     }
 
     /// Takes what the outside tells next, and answers whether the batch is over.
-    #[tactic(auto, using(crate::specs::WhyLaws::continues_then, crate::specs::TalkingLaws::keeps_none, crate::specs::TalkingLaws::keeps_then))]
+    #[tactic(auto, using(crate::specs::laws::WhyLaws::continues_then, crate::specs::laws::TalkingLaws::keeps_none, crate::specs::laws::TalkingLaws::keeps_then))]
     fn take_next<W: World>(&mut self, world: &mut W, buf: &mut [u8]) -> Result<Option<Rest>, Fault>
         requires { most_message ≤ length buf.old }
         ensures waits { OnOk result (Waits self.old self.new) }
@@ -306,7 +306,7 @@ impl Run {
     }
 
     /// Takes a batch: the messages that were kept while something else was awaited, then what the outside tells.
-    #[tactic(auto, using(crate::specs::WhyLaws::continues_then, crate::specs::WhyLaws::why_then, crate::specs::WhyLaws::waits_then, crate::specs::TalkingLaws::keeps_none, crate::specs::TalkingLaws::keeps_then))]
+    #[tactic(auto, using(crate::specs::laws::WhyLaws::continues_then, crate::specs::laws::WhyLaws::why_then, crate::specs::laws::WhyLaws::waits_then, crate::specs::laws::TalkingLaws::keeps_none, crate::specs::laws::TalkingLaws::keeps_then))]
     pub(crate) fn take_batch<W: World>(
         &mut self,
         world: &mut W,

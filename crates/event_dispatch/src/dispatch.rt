@@ -30,7 +30,7 @@ use report_text::{TurnWord, event_line, gone_line, start_line, turn_line};
 use std::alloc::{AllocError, Global};
 
 /// Holds a turn of the application, whose changes are kept where it was done and undone where it failed.
-#[tactic(auto, using(crate::specs::WhyLaws::continues_then, crate::specs::WhyLaws::why_then, crate::specs::WhyLaws::why_before, crate::specs::FaultLaws::undo_why, crate::specs::FaultLaws::stops_why))]
+#[tactic(auto, using(crate::specs::laws::WhyLaws::continues_then, crate::specs::laws::WhyLaws::why_then, crate::specs::laws::WhyLaws::why_before, crate::specs::laws::FaultLaws::undo_why, crate::specs::laws::FaultLaws::stops_why))]
 fn hold_turn<W: World, J: Judge>(
     alloc: Global,
     world: &mut W,
@@ -86,7 +86,7 @@ impl Run {
     }
 
     /// Starts the application, in at most three attempts.
-    #[tactic(auto, using(crate::specs::WhyLaws::waits_then))]
+    #[tactic(auto, using(crate::specs::laws::WhyLaws::waits_then))]
     pub(crate) fn start<W: World>(&mut self, world: &mut W) -> Result<(), AllocError>
         requires { self.old.app.state.index ≡ index }
         ensures waits { OnOk result (Waits self.old self.new) }
@@ -104,7 +104,7 @@ impl Run {
     }
 
     /// Appends the lines of the attempts to start the application.
-    #[tactic(auto, using(crate::specs::WhyLaws::waits_then))]
+    #[tactic(auto, using(crate::specs::laws::WhyLaws::waits_then))]
     fn note_start(&mut self, back: Back) -> Result<(), AllocError>
         ensures waits { OnOk result (Waits self.old self.new) }
         ensures adds { OnOk result (Adds (starts_text back.tries.items back.back) self.old self.new) }
@@ -121,7 +121,7 @@ impl Run {
     }
 
     /// Closes a turn: counts and tells it, and starts an application again that failed.
-    #[tactic(auto, using(crate::specs::TalkingLaws::keeps_none))]
+    #[tactic(auto, using(crate::specs::laws::TalkingLaws::keeps_none))]
     fn close<W: World>(&mut self, world: &mut W, end: TurnEnd) -> Result<(), AllocError>
         requires done { self.old.app.done < self.old.events }
         requires failed { self.old.app.failed < self.old.events }
@@ -221,7 +221,7 @@ impl Run {
     }
 
     /// Dispatches the oldest event that waits, and writes its lines; answers whether there was one.
-    #[tactic(auto, using(crate::specs::WhyLaws::why_sink))]
+    #[tactic(auto, using(crate::specs::laws::WhyLaws::why_sink))]
     fn dispatch_oldest<W: World, J: Judge, K: Sink>(
         &mut self,
         world: &mut W,
@@ -254,7 +254,7 @@ impl Run {
     }
 
     /// Dispatches the events that wait, first in first out, and those that join them meanwhile, up to 1,000.
-    #[tactic(auto, using(crate::specs::WhyLaws::continues_then, crate::specs::WhyLaws::why_behind, crate::specs::WhyLaws::fell_then))]
+    #[tactic(auto, using(crate::specs::laws::WhyLaws::continues_then, crate::specs::laws::WhyLaws::why_behind, crate::specs::laws::WhyLaws::fell_then))]
     pub(crate) fn dispatch_waiting<W: World, J: Judge, K: Sink>(
         &mut self,
         world: &mut W,

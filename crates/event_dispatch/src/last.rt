@@ -81,7 +81,7 @@ impl Run {
     }
 
     /// Appends the lines of the entries of a switch.
-    #[tactic(auto, using(crate::specs::WhyLaws::waits_then))]
+    #[tactic(auto, using(crate::specs::laws::WhyLaws::waits_then))]
     fn note_flows(&mut self, dpid: Dpid, rows: &RowList) -> Result<(), AllocError>
         ensures waits { OnOk result (Waits self.old self.new) }
         ensures net { OnOk result (self.new.net ≡ self.old.net) }
@@ -97,7 +97,7 @@ impl Run {
     }
 
     /// Appends how many entries a switch has, and each.
-    #[tactic(auto, using(crate::specs::WhyLaws::waits_then))]
+    #[tactic(auto, using(crate::specs::laws::WhyLaws::waits_then))]
     fn note_rows(&mut self, dpid: Dpid, rows: &RowList) -> Result<(), AllocError>
         ensures waits { OnOk result (Waits self.old self.new) }
         ensures net { OnOk result (self.new.net ≡ self.old.net) }
@@ -109,7 +109,7 @@ impl Run {
     }
 
     /// Asks a joined switch for its entries.
-    #[tactic(auto, using(crate::specs::TalkingLaws::keeps_links))]
+    #[tactic(auto, using(crate::specs::laws::TalkingLaws::keeps_links))]
     fn ask_rows<W: World>(&mut self, world: &mut W, dpid: Dpid) -> Result<RowList, Fault>
         requires { IsSome (rows_at dpid self.old.net.views) }
         ensures waits { OnOk result (Waits self.old self.new) }
@@ -129,7 +129,7 @@ impl Run {
     }
 
     /// Asks a switch for its entries, and appends their lines. One that is not joined has none.
-    #[tactic(auto, using(crate::specs::WhyLaws::waits_then, crate::specs::TalkingLaws::keeps_none))]
+    #[tactic(auto, using(crate::specs::laws::WhyLaws::waits_then, crate::specs::laws::TalkingLaws::keeps_none))]
     fn note_table<W: World>(&mut self, world: &mut W, dpid: Dpid) -> Result<(), Fault>
         ensures waits { OnOk result (Waits self.old self.new) }
         ensures continues { Continues W.Tells (W.seen world.old) (W.seen world.new) }
@@ -172,7 +172,7 @@ impl Run {
     }
 
     /// Appends the last lines: the tables of the joined switches, by number, the application, and the end.
-    #[tactic(auto, using(crate::specs::WhyLaws::continues_then, crate::specs::WhyLaws::why_then, crate::specs::WhyLaws::waits_then, crate::specs::TalkingLaws::keeps_none, crate::specs::TalkingLaws::keeps_then))]
+    #[tactic(auto, using(crate::specs::laws::WhyLaws::continues_then, crate::specs::laws::WhyLaws::why_then, crate::specs::laws::WhyLaws::waits_then, crate::specs::laws::TalkingLaws::keeps_none, crate::specs::laws::TalkingLaws::keeps_then))]
     pub(crate) fn note_last<W: World>(&mut self, world: &mut W) -> Result<(), Fault>
         ensures waits { OnOk result (Waits self.old self.new) }
         ensures continues { Continues W.Tells (W.seen world.old) (W.seen world.new) }

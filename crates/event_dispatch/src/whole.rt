@@ -31,7 +31,7 @@ use std::alloc::Global;
 
 impl Run {
     /// Runs one round: a batch, and then the events that wait.
-    #[tactic(auto, using(crate::specs::WhyLaws::continues_then, crate::specs::WhyLaws::why_behind, crate::specs::WhyLaws::why_sink))]
+    #[tactic(auto, using(crate::specs::laws::WhyLaws::continues_then, crate::specs::laws::WhyLaws::why_behind, crate::specs::laws::WhyLaws::why_sink))]
     fn run_round<W: World, J: Judge, K: Sink>(
         &mut self,
         world: &mut W,
@@ -63,7 +63,7 @@ impl Run {
     }
 
     /// Runs batch after batch, until nothing comes any more.
-    #[tactic(auto, using(crate::specs::WhyLaws::continues_then, crate::specs::WhyLaws::why_behind, crate::specs::WhyLaws::fell_then))]
+    #[tactic(auto, using(crate::specs::laws::WhyLaws::continues_then, crate::specs::laws::WhyLaws::why_behind, crate::specs::laws::WhyLaws::fell_then))]
     fn run_rounds<W: World, J: Judge, K: Sink>(
         &mut self,
         world: &mut W,
@@ -96,7 +96,7 @@ impl Run {
     }
 
     /// Starts the application, and writes how its attempts ended.
-    #[tactic(auto, using(crate::specs::WhyLaws::why_sink))]
+    #[tactic(auto, using(crate::specs::laws::WhyLaws::why_sink))]
     fn begin<W: World, K: Sink>(&mut self, world: &mut W, sink: &mut K) -> Result<(), Fault>
         requires going { Going self.old }
         requires none { self.old.events ≡ 0 }
@@ -118,7 +118,7 @@ impl Run {
     }
 
     /// Writes the end of the report.
-    #[tactic(auto, using(crate::specs::WhyLaws::why_sink))]
+    #[tactic(auto, using(crate::specs::laws::WhyLaws::why_sink))]
     fn end_report<W: World, K: Sink>(&mut self, world: &mut W, sink: &mut K) -> Result<(), Fault>
         requires none_waits { self.old.lines.items ≡ [] }
         ensures ends { OnOk result (EndsReport W.Tells (K.contents sink.old) (K.contents sink.new) (W.seen world.old) (W.seen world.new) self.old self.new) }
@@ -136,7 +136,7 @@ impl Run {
     }
 
     /// Writes the end of the report, where no event is left.
-    #[tactic(auto, using(crate::specs::WhyLaws::why_sink))]
+    #[tactic(auto, using(crate::specs::laws::WhyLaws::why_sink))]
     fn finish<W: World, K: Sink>(&mut self, world: &mut W, sink: &mut K) -> Result<(), Served>
         requires none_waits { self.old.lines.items ≡ [] }
         ensures finishes { Finishes W.Tells result (K.contents sink.old) (K.contents sink.new) (W.seen world.old) (W.seen world.new) self.old self.new }
@@ -155,7 +155,7 @@ impl Run {
     }
 
     /// Runs a world that was opened, from the start of its application to the end of the report.
-    #[tactic(auto, using(crate::specs::WhyLaws::continues_then, crate::specs::WhyLaws::why_behind, crate::specs::WhyLaws::fell_then))]
+    #[tactic(auto, using(crate::specs::laws::WhyLaws::continues_then, crate::specs::laws::WhyLaws::why_behind, crate::specs::laws::WhyLaws::fell_then))]
     fn run_opened<W: World, J: Judge, K: Sink>(
         &mut self,
         world: &mut W,
@@ -197,7 +197,7 @@ fn open<W: World>(world: &mut W) -> Result<(), Served>
 }
 
 /// Ends the application, if it runs.
-#[tactic(auto, using(crate::specs::WhyLaws::ends_continue))]
+#[tactic(auto, using(crate::specs::laws::WhyLaws::ends_continue))]
 fn end<W: World>(world: &mut W)
     ensures continues { Continues W.Tells (W.seen world.old) (W.seen world.new) }
     ensures no_point { NoPoint W.Tells (W.seen world.old) (W.seen world.new) }
@@ -210,7 +210,7 @@ fn end<W: World>(world: &mut W)
 }
 
 /// Runs an opened world to its end, after which its application is ended.
-#[tactic(auto, using(crate::specs::WhyLaws::continues_then, crate::specs::WhyLaws::why_still))]
+#[tactic(auto, using(crate::specs::laws::WhyLaws::continues_then, crate::specs::laws::WhyLaws::why_still))]
 fn run_then_end<W: World, J: Judge, K: Sink>(
     run: &mut Run,
     world: &mut W,
@@ -262,7 +262,7 @@ fn run<W: World, J: Judge, K: Sink>(
 ///
 /// The lines of an event are written when its dispatch has ended. However the run ends, the application is ended. What is
 /// wrong with the outside, the sink or a switch ends the run, and so do events that are left after the last batch.
-#[tactic(auto, using(crate::specs::WhyLaws::continues_then, crate::specs::WhyLaws::why_behind, crate::specs::WhyLaws::why_sink, crate::specs::WhyLaws::same_fell))]
+#[tactic(auto, using(crate::specs::laws::WhyLaws::continues_then, crate::specs::laws::WhyLaws::why_behind, crate::specs::laws::WhyLaws::why_sink, crate::specs::laws::WhyLaws::same_fell))]
 pub fn serve<W: World, J: Judge, K: Sink>(
     alloc: Global,
     world: &mut W,

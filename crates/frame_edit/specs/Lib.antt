@@ -1,11 +1,5 @@
 pub mod Checksum
-pub mod ChecksumLaws
 pub mod Datagram
-pub mod DatagramLaws
 pub mod Edits
-pub mod FieldLaws
-pub mod OutputLaws
-pub mod TagLaws
-pub mod VerifyLaws
 pub mod Written
-pub mod WrittenLaws
+pub mod laws

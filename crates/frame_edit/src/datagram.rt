@@ -17,7 +17,7 @@ const TCP_CHECKSUM: usize = 16;
 /// The offset of the checksum in a UDP header (RFC 768).
 const UDP_CHECKSUM: usize = 6;
 
-#[tactic(auto, using(crate::specs::FieldLaws::with_field_again), unfolding(crate::specs::Datagram::with_header_checksum, crate::specs::Datagram::header_checksum))]
+#[tactic(auto, using(crate::specs::laws::FieldLaws::with_field_again), unfolding(crate::specs::Datagram::with_header_checksum, crate::specs::Datagram::header_checksum))]
 fn renew_header_checksum(frame: &mut [u8], header: &Ipv4Header)
     requires { IsWithin header.now frame.old }
     ensures { frame.new ≡ with_header_checksum header.now frame.old }
@@ -73,7 +73,7 @@ fn pseudo_header(frame: &[u8], header: &Ipv4Header, len: u16) -> [u8; 12]
 }
 
 /// Clears the field at `at`, and gives the checksum that is to stand there.
-#[tactic(auto, using(crate::specs::DatagramLaws::end_of_cleared, crate::specs::ChecksumLaws::word_sum_of_joined), unfolding(crate::specs::Datagram::has_field, crate::specs::Datagram::segment_checksum))]
+#[tactic(auto, using(crate::specs::laws::DatagramLaws::end_of_cleared, crate::specs::laws::ChecksumLaws::word_sum_of_joined), unfolding(crate::specs::Datagram::has_field, crate::specs::Datagram::segment_checksum))]
 fn clear_and_sum(frame: &mut [u8], header: &Ipv4Header, at: usize) -> u16
     requires within { IsWithin header.now frame.old }
     requires field { IsTrue (has_field header.now at frame.old) }
@@ -87,7 +87,7 @@ fn clear_and_sum(frame: &mut [u8], header: &Ipv4Header, at: usize) -> u16
     checksum(word_sum(&pseudo) + word_sum(&frame[header.end..end]))
 }
 
-#[tactic(auto, using(crate::specs::FieldLaws::with_field_again), unfolding(crate::specs::Datagram::with_tcp_checksum))]
+#[tactic(auto, using(crate::specs::laws::FieldLaws::with_field_again), unfolding(crate::specs::Datagram::with_tcp_checksum))]
 fn renew_tcp_checksum(frame: &mut [u8], header: &Ipv4Header)
     requires { IsWithin header.now frame.old }
     ensures { frame.new ≡ with_tcp_checksum header.now frame.old }
@@ -99,7 +99,7 @@ fn renew_tcp_checksum(frame: &mut [u8], header: &Ipv4Header)
     }
 }
 
-#[tactic(auto, using(crate::specs::FieldLaws::with_field_again), unfolding(crate::specs::Datagram::with_udp_checksum))]
+#[tactic(auto, using(crate::specs::laws::FieldLaws::with_field_again), unfolding(crate::specs::Datagram::with_udp_checksum))]
 fn renew_udp_checksum(frame: &mut [u8], header: &Ipv4Header)
     requires { IsWithin header.now frame.old }
     ensures { frame.new ≡ with_udp_checksum header.now frame.old }

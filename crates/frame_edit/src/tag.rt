@@ -13,7 +13,7 @@ const TAG: usize = 12;
 /// The offset of its control information: priority and identifier.
 const CONTROL: usize = 14;
 
-#[tactic(auto, using(crate::specs::TagLaws::insert_here), unfolding(of_types::specs::Fields::number_bytes))]
+#[tactic(auto, using(crate::specs::laws::TagLaws::insert_here), unfolding(of_types::specs::Fields::number_bytes))]
 fn insert_tag(frame: &mut Vec<u8>, control: u16) -> Result<(), AllocError>
     requires { 14 ≤ vec_len frame.old }
     ensures { OnOk result (frame.new.items ≡ tagged control frame.old.items) }
@@ -57,7 +57,7 @@ pub(crate) fn set_priority(frame: &mut Vec<u8>, pcp: u8) -> Result<(), AllocErro
     Ok(())
 }
 
-#[tactic(auto, using(crate::specs::TagLaws::remove_here), unfolding(crate::specs::Edits::without_tag))]
+#[tactic(auto, using(crate::specs::laws::TagLaws::remove_here), unfolding(crate::specs::Edits::without_tag))]
 pub(crate) fn strip(frame: &mut Vec<u8>)
     ensures { frame.new.items ≡ without_tag frame.old.items }
 {

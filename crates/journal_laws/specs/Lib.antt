@@ -1,5 +1,2 @@
 pub mod Readings
-pub mod FrameLaws
-pub mod ReadingLaws
-pub mod CallLaws
-pub mod AtOnceLaws
+pub mod laws

@@ -2,7 +2,7 @@
 use Rattle.std.proofs.Common.{◌≡◌, ℕ, ◌≤◌, List, ◌++◌, length, Option, sym, ap, ◌∙◌}
 use Rattle.std.specs.Io.KnownBytes.{prepend_known}
 use Rattle.lego_io.specs.Source.{GavePart}
-use Rattle.lego_io.specs.ToldLaws.{prepend_known-append}
+use Rattle.lego_io.specs.laws.ToldLaws.{prepend_known-append}
 
 -- what came is the front of what was left, and is not too much
 pub record Came (old new : Option (List ℕ)) (bytes : List ℕ) (most : ℕ) (faults_old faults_new : ℕ) : Type 0 where

@@ -4,7 +4,7 @@ use Rattle.std.proofs.lemmas.List.{take_at, take-append-drop, take_rest}
 use Rattle.std.proofs.Math.Seq.{take-length}
 use Rattle.std.specs.Io.KnownBytes.{append_known}
 use Rattle.lego_io.specs.Sink.{TookPart}
-use Rattle.lego_io.specs.ToldLaws.{append_known-nil, append_known-append}
+use Rattle.lego_io.specs.laws.ToldLaws.{append_known-nil, append_known-append}
 
 -- of these bytes all but the rest was taken
 pub record Written (old new : Option (List ℕ)) (bytes rest : List ℕ) : Type 0 where

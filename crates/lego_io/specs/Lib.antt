@@ -1,9 +1,7 @@
 pub mod Count
-pub mod CountLaws
 pub mod Source
 pub mod Sink
-pub mod ToldLaws
 pub mod MemSource
 pub mod MemSink
 pub mod Lines
-pub mod LinesLaws
+pub mod laws

@@ -9,14 +9,10 @@ pub mod Places
 pub mod Controller
 pub mod Agreement
 pub mod RunReport
-pub mod JournalLaws
 pub mod AtOnce
 pub mod Scripted
-pub mod ScriptedLaws
 pub mod Answers
 pub mod SessionFacts
-pub mod SessionWordLaws
-pub mod SessionTextLaws
 pub mod BarrierWaits
 pub mod FlowQueries
 pub mod History
@@ -26,3 +22,4 @@ pub mod OrderlySteps
 pub mod ReferenceRun
 pub mod SwitchFaults
 pub mod WholeRun
+pub mod laws

@@ -1,7 +1,7 @@
 -- Why a run stops.
 use Rattle.std.proofs.Common.{◌≡◌, ◌⊎◌, ℕ, List, [], ◌∷◌, Contains, Option, Some, None, Result, Ok, Err, OnOk, OnErr, IfErr, IfSome, refl, sym, ap, subst, ◌∙◌, arith, inl, inr}
 use Rattle.lego_io.specs.Count.{NeverFell}
-use Rattle.lego_io.specs.CountLaws.{Rose-after, Rose-before}
+use Rattle.lego_io.specs.laws.CountLaws.{Rose-after, Rose-before}
 use Rattle.outside.specs.Seen.{Counts, NoneFell, Seen, Longer}
 use Rattle.sim_world.specs.Scripts.{Scripts}
 use Rattle.sim_world.specs.World.{WorldData, seen_of}
@@ -9,7 +9,7 @@ use Rattle.sim_world.specs.Building.{AreZero, IsNew}
 use Rattle.lego_model.specs.declared.fault.TxnFault.{TxnFault}
 use Rattle.lego_model.specs.declared.fault.TxnFault.TheVariants as faults
 use Rattle.lego_model.specs.SwitchFaults.{IsWhyTxn}
-use Rattle.event_dispatch.specs.WhyLaws.{IsWhyTxn-behind}
+use Rattle.event_dispatch.specs.laws.WhyLaws.{IsWhyTxn-behind}
 use Rattle.lego_model.specs.SessionLines.{SessionValue}
 use Rattle.legosdn.specs.declared.stop.Refusal.{Refusal}
 use Rattle.legosdn.specs.declared.stop.Stop.{Stop}

@@ -7,7 +7,7 @@ use Rattle.outside.specs.Seen.{Given, Seen, Longer, Continues}
 use Rattle.outside.specs.State.{at_first}
 use Rattle.outside.specs.Conforming.{Conforming}
 use Rattle.outside.specs.InOrder.{BringMessages, InOrder}
-use Rattle.outside.specs.InOrderLaws.{in_order-Conforming, InOrder-front}
+use Rattle.outside.specs.laws.InOrderLaws.{in_order-Conforming, InOrder-front}
 use Rattle.outside.specs.Quiescence.{IsLastQuiescent}
 use Rattle.net_txn.specs.LinkSteps.{AreExpectedOnLinks}
 use Rattle.lego_model.specs.Places.{Place}
@@ -16,11 +16,11 @@ use Rattle.sim_world.specs.Told.{without_links}
 use Rattle.sim_world.specs.Scripts.{Scripts, AreScripted, KeepsScripts, all_fresh}
 use Rattle.sim_world.specs.World.{WorldData, given_of, seen_of}
 use Rattle.lego_model.specs.History.{stimuli_in}
-use Rattle.run_laws.specs.StimuliLaws.{told-few}
+use Rattle.run_laws.specs.laws.StimuliLaws.{told-few}
 use Rattle.run_laws.specs.Promise.{PremiseSoFar}
 use Rattle.run_laws.specs.Cut.{CutAlike, CutWriting}
 use Rattle.lego_model.specs.CutRun.{Progress, WroteSoFar, WasWriting, AlikeUpTo, NothingDone}
-use Rattle.run_laws.specs.DialogueLaws.{applications_in_place}
+use Rattle.run_laws.specs.laws.DialogueLaws.{applications_in_place}
 use Rattle.event_dispatch.specs.declared.served.Served.{Served}
 use Rattle.event_dispatch.specs.declared.served.Served.TheVariants as served
 use Rattle.event_dispatch.specs.Serves.{IsCut}
@@ -28,7 +28,7 @@ use Rattle.legosdn.specs.Said.{all_allowed, HoldsAsSaid, CutRun, WritingRun}
 use Rattle.legosdn.specs.Headline.{KeepsLines, UpToPoint}
 use Rattle.legosdn.proofs.Said.{told_in, are_said, kept_to_lines}
 use Rattle.legosdn.proofs.Places.{CountsNone, behind_for, none_strays, shut_strays, idle_strays}
-use Rattle.sim_world.specs.ScriptLaws.{AreScripted-front}
+use Rattle.sim_world.specs.laws.ScriptLaws.{AreScripted-front}
 
 -- ---- A front of what happened
 

@@ -10,7 +10,7 @@ use Rattle.std.proofs.lemmas.Bool.{eqb-true, eqb-false, cases_Bool}
 use Rattle.std.proofs.lemmas.Slice.Eq.{bytes_eq-Decides}
 use Rattle.std.proofs.Math.Seq.{take-length}
 use Rattle.lego_io.specs.Lines.{without_cr, lines_of, most_line}
-use Rattle.lego_io.specs.LinesLaws.{lines_of-nil, lines_of-line, lines_of-last}
+use Rattle.lego_io.specs.laws.LinesLaws.{lines_of-nil, lines_of-line, lines_of-last}
 use Rattle.lego_model.specs.Words.{is_word}
 use Rattle.legosdn.specs.Input.{is_separator, behind_separator}
 

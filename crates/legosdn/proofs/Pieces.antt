@@ -10,7 +10,7 @@ use Rattle.legosdn.specs.declared.stop.Refusal.{Refusal}
 use Rattle.legosdn.specs.declared.stop.Refusal.TheVariants.{Session}
 use Rattle.legosdn.specs.Stops.{refusal_line, kind_word}
 use Rattle.lego_io.specs.Sink.{TookPart}
-use Rattle.lego_io.specs.ToldLaws.{append_known-append}
+use Rattle.lego_io.specs.laws.ToldLaws.{append_known-append}
 
 -- a part of the first of two
 pub part_of_two : (old new : Option (List ℕ)) (a b : List ℕ) → TookPart old new a → TookPart old new (a ++ b)

@@ -6,12 +6,12 @@ use Rattle.flow_table.specs.declared.view.TableView.{TableView}
 use Rattle.lego_model.specs.Places.{Place}
 use Rattle.lego_model.specs.SessionLines.{SessionValue}
 use Rattle.lego_model.specs.SessionText.{session_text}
-use Rattle.lego_model.specs.SessionTextLaws.{session_read}
+use Rattle.lego_model.specs.laws.SessionTextLaws.{session_read}
 use Rattle.outside.specs.Seen.{Seen, Continues}
 use Rattle.outside.specs.Conforming.{Conforming}
 use Rattle.outside.specs.State.{at_first}
 use Rattle.outside.specs.InOrder.{BringMessages, InOrder}
-use Rattle.outside.specs.InOrderLaws.{in_order-Conforming}
+use Rattle.outside.specs.laws.InOrderLaws.{in_order-Conforming}
 use Rattle.net_txn.specs.LinkSteps.{AreExpectedOnLinks}
 use Rattle.sim_world.specs.Told.{without_links}
 use Rattle.sim_world.specs.Scripts.{Scripts, KeepsScripts}
@@ -20,11 +20,11 @@ use Rattle.sim_world.specs.Tally.{counts_of}
 use Rattle.sim_world.specs.Building.{IsNew, Begins}
 use Rattle.session_text.specs.Loading.{given_by}
 use Rattle.lego_model.specs.History.{stimuli_in}
-use Rattle.run_laws.specs.StimuliLaws.{told-few, told-all}
+use Rattle.run_laws.specs.laws.StimuliLaws.{told-few, told-all}
 use Rattle.run_laws.specs.Promise.{Premise}
 use Rattle.event_dispatch.specs.declared.served.Served.{Served}
 use Rattle.event_dispatch.specs.declared.served.Served.TheVariants as served
-use Rattle.run_laws.specs.DialogueLaws.{applications_in_place}
+use Rattle.run_laws.specs.laws.DialogueLaws.{applications_in_place}
 use Rattle.event_dispatch.specs.Serves.{IsAlike}
 use Rattle.event_dispatch.specs.Cut.{IsReadServed}
 use Rattle.event_dispatch.specs.Plain.{IsPlainServed}

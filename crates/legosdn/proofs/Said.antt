@@ -17,7 +17,7 @@ use Rattle.sim_world.specs.Told.{without_links}
 use Rattle.sim_world.specs.Scripts.{Scripts, starts_of, replies_of, KeepsScripts}
 use Rattle.lego_model.specs.OrderlySteps.{IsOrderly}
 use Rattle.script_laws.specs.Ahead.{HasRoom}
-use Rattle.script_laws.specs.FollowLaws.{tells_fronts}
+use Rattle.script_laws.specs.laws.FollowLaws.{tells_fronts}
 use Rattle.lego_model.specs.Application.{index, names}
 use Rattle.lego_model.specs.ReferenceRun.{fresh, AreSaid}
 use Rattle.lego_model.specs.WholeRun.{EndsAs, EndsAlike, LeavesAs, LeavesAlike}

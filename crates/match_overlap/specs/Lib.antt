@@ -1,5 +1,3 @@
 pub mod Fieldwise
 pub mod Relations
-pub mod ValueLaws
-pub mod PrefixLaws
-pub mod RelationsLaws
+pub mod laws

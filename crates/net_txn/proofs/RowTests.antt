@@ -9,7 +9,7 @@ use Rattle.of_wire.specs.declared.bodies.FlowMod.{FlowMod}
 use Rattle.flow_table.specs.declared.view.ViewRow.{ViewRow}
 use Rattle.flow_table.specs.Change.{checks_overlap, is_modify, key_in, describes, sends_to}
 use Rattle.lego_model.specs.Answers.{rows_of_view, would_clash, would_touch}
-use Rattle.net_txn.specs.RowLaws.{any_of_map, shown}
+use Rattle.net_txn.specs.laws.RowLaws.{any_of_map, shown}
 
 pub clash_checked : (m : FlowMod) (rows : List ViewRow) (k : Key) → k ≡ key_in m → checks_overlap m.flags ≡ true
     → list_any (λ r. r.key.priority == k.priority && (not (key_number r.key == key_number k) && is_overlapping r.key.matching k.matching)) rows ≡ would_clash m (rows_of_view rows)

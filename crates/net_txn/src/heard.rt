@@ -57,7 +57,7 @@ fn read_error(message: &[u8]) -> Refusal
 }
 
 /// Tells what a message is to a wait.
-#[tactic(auto, unfolding(lego_model::specs::BarrierWaits::heard), using(crate::specs::SizeLaws::sizes))]
+#[tactic(auto, unfolding(lego_model::specs::BarrierWaits::heard), using(crate::specs::laws::SizeLaws::sizes))]
 pub(crate) fn classify(message: &[u8], awaited: &Awaited) -> Heard
     requires { IsOk (reading_of message.now) }
     ensures { result ≡ heard awaited.now message.now }

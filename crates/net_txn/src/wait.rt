@@ -76,7 +76,7 @@ pub(crate) fn receive<W: World>(
 }
 
 /// Makes an ECHO_REQUEST its reply.
-#[tactic(auto, using(crate::specs::SizeLaws::sizes))]
+#[tactic(auto, using(crate::specs::laws::SizeLaws::sizes))]
 pub(crate) fn make_reply(message: &mut [u8])
     requires bytes { IsBytes message.old }
     requires read { IsOk (reading_of message.old) }

@@ -8,7 +8,7 @@ use Rattle.of_action.specs.declared.fault.ActionKind.{ActionKind}
 use Rattle.of_action.specs.declared.fault.ActionFault.{ActionFault}
 use Rattle.of_action.specs.declared.fault.ActionFault.TheVariants.{Bad, NoMemory}
 use Rattle.of_action.specs.Reading.{◌>>=◌, Fails, Tells, length_at, action_of, action_at, actions_from, actions_of}
-use Rattle.of_action.specs.ReadingLaws.{IsLength-length_at, action_at-ok, actions_from-steps}
+use Rattle.of_action.specs.laws.ReadingLaws.{IsLength-length_at, action_at-ok, actions_from-steps}
 
 -- what was read before, and what is still read from a place on
 unfoldable pub with_front : List Action → Result (List Action) ActionFault → Result (List Action) ActionFault

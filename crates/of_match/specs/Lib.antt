@@ -1,10 +1,7 @@
 pub mod Fields
-pub mod FieldsLaws
 pub mod Match
-pub mod MatchLaws
 pub mod Text
 pub mod Key
-pub mod KeyLaws
 pub mod PacketKey
 pub mod Covers
-pub mod CoversLaws
+pub mod laws

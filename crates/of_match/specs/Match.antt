@@ -4,7 +4,7 @@ use Rattle.std.specs.Prelude.{ℕ, List}
 use Rattle.of_match.specs.declared.fields.Fields.{Fields}
 use Rattle.of_match.specs.declared.flow_match.Match.{Match}
 use Rattle.of_match.specs.Fields.{fields_of, bytes_of}
-use Rattle.of_match.specs.FieldsLaws.{normal_again}
+use Rattle.of_match.specs.laws.FieldsLaws.{normal_again}
 
 -- The match of any bytes: those that differ in ignored bits alone give one match.
 unfoldable pub match_of : List ℕ → Match

@@ -7,7 +7,7 @@ use Rattle.of_stats.specs.declared.flow_row.FlowRow.{FlowRow}
 use Rattle.of_stats.specs.declared.fault.StatsFault.{StatsFault}
 use Rattle.of_stats.specs.declared.fault.StatsFault.TheVariants.{Bad, NoMemory}
 use Rattle.of_stats.specs.Reading.{Fails, row_at, rows_from, rows_of}
-use Rattle.of_stats.specs.ReadingLaws.{IsRowLength-row_length_at, IsReadRow-row_at, rows_from-steps}
+use Rattle.of_stats.specs.laws.ReadingLaws.{IsRowLength-row_length_at, IsReadRow-row_at, rows_from-steps}
 
 -- what was read before, and what is still read from a place on
 unfoldable pub with_front : List FlowRow → Result (List FlowRow) StatsFault → Result (List FlowRow) StatsFault

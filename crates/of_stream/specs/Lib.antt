@@ -1,5 +1,4 @@
 pub mod Frames
 pub mod Front
 pub mod Runs
-pub mod FrameLaws
-pub mod RunLaws
+pub mod laws

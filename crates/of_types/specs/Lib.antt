@@ -1,4 +1,3 @@
 pub mod Fields
 pub mod Layout
-pub mod FieldLaws
-pub mod LayoutLaws
+pub mod laws

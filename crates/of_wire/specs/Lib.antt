@@ -3,8 +3,5 @@ pub mod Faults
 pub mod Spelling
 pub mod Reading
 pub mod Grammar
-pub mod SpellingLaws
-pub mod ReadingLaws
-pub mod GrammarLaws
 pub mod Stats
-pub mod RewritingLaws
+pub mod laws

@@ -1,5 +1,3 @@
 pub mod Ahead
-pub mod PieceLaws
-pub mod ReadLaws
-pub mod FollowLaws
 pub mod Looks
+pub mod laws

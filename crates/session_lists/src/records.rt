@@ -2,7 +2,7 @@
 
 ghost use Rattle.std.specs.Prelude.{◌≡◌, ◌+◌, ◌-◌, ◌^◌, ◌<◌, ◌≤◌, [], ◌∷◌, ◌++◌, length, take, drop, Some, IfOk, OnOk, OnErr, slice_get};
 ghost use Rattle.session_lists.specs.Records.{records_in as all_records, IsCut as IsCutSo};
-ghost use Rattle.session_lists.specs.RecordLaws.{start_of};
+ghost use Rattle.session_lists.specs.laws.RecordLaws.{start_of};
 
 use std::alloc::{AllocError, Global};
 use std::marker::Model;

@@ -122,7 +122,7 @@ fn step_ref(kind: StepKind, bytes: &[u8]) -> StepRef<'_>
 }
 
 /// The step of a number among the steps from one number to another.
-#[tactic(auto, using(crate::specs::StepLaws::step_at))]
+#[tactic(auto, using(crate::specs::laws::StepLaws::step_at))]
 fn step_at(records: &Records<StepKind>, first: usize, end: usize, number: usize) -> StepRef<'_>
     requires within { IsLaidWithin (length records.now) first end }
     requires less { number < end - first }

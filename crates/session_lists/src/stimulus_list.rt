@@ -86,7 +86,7 @@ impl StimulusList {
     }
 
     /// The stimulus that a record of two pieces spells, behind the others.
-    #[tactic(auto, using(crate::specs::StimulusLaws::stimuli_more, crate::specs::StimulusLaws::whole_more))]
+    #[tactic(auto, using(crate::specs::laws::StimulusLaws::stimuli_more, crate::specs::laws::StimulusLaws::whole_more))]
     fn put(&mut self, kind: StimulusKind, head: &[u8], tail: &[u8]) -> Result<(), AllocError>
         requires { size_of kind ≤ length (head.now ++ tail.now) }
         ensures ok { OnOk result (self.new ≡ self.old ++ stimulus_in kind (head.now ++ tail.now) ∷ []) }

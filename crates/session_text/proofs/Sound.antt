@@ -9,7 +9,7 @@ use Rattle.session_text.specs.SessionView.{view_session}
 use Rattle.lego_model.specs.SessionLines.{SessionValue}
 use Rattle.lego_model.specs.SessionText.{session_text}
 use Rattle.lego_model.specs.SessionFacts.{IsSession, IsOf}
-use Rattle.lego_model.specs.SessionTextLaws.{session_read}
+use Rattle.lego_model.specs.laws.SessionTextLaws.{session_read}
 
 session_of_names : (names : List (String Global)) (n : ℕ) (text : List ℕ) (s : SessionValue)
     → session_text (map (λ name. string_bytes name) names) n text ≡ Ok s → IsSession s × IsOf (length names) s

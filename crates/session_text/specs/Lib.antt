@@ -1,4 +1,4 @@
 pub mod TextGives
 pub mod SessionView
 pub mod Loading
-pub mod LoadingLaws
+pub mod laws

@@ -7,7 +7,7 @@ ghost use Rattle.sim_world.specs.World.{given_of, seen_of, CanCome};
 ghost use Rattle.sim_world.specs.Building.{nothing_given, last_moment_of, IsNew, Begins};
 ghost use Rattle.session_text.specs.SessionView.{view_session, view_declared};
 ghost use Rattle.session_text.specs.Loading.{given_by, with_switches, with_faults, with_starts, with_replies, with_stimuli, Loads};
-ghost use Rattle.session_text.specs.LoadingLaws.{MayDeclare};
+ghost use Rattle.session_text.specs.laws.LoadingLaws.{MayDeclare};
 
 use crate::text_fault::SessionError;
 use crate::whole_text::parse_session;

@@ -3,7 +3,7 @@ use Rattle.std.proofs.Common.{◌≡◌, ℕ, List, Option, Some, None, Result, 
 use Rattle.std.proofs.lemmas.List.{append-nil, drop_all, take_all}
 use Rattle.outside.specs.State.{Link, link_of}
 use Rattle.sim_world.specs.Links.{Held, HasPlace, HasNoPlace, links_in}
-use Rattle.sim_world.specs.LinksLaws.{link_of-held, link_of-not_held}
+use Rattle.sim_world.specs.laws.LinksLaws.{link_of-held, link_of-not_held}
 
 -- ---- What follows in one case of an answer
 

@@ -2,7 +2,7 @@
 use Rattle.std.specs.Prelude.{◌≡◌, ◌≤◌, length, All}
 use Rattle.outside.specs.State.{at_first}
 use Rattle.sim_world.specs.Links.{IsDue}
-use Rattle.sim_world.specs.LinkStepLaws.{AreStanding}
+use Rattle.sim_world.specs.laws.LinkStepLaws.{AreStanding}
 use Rattle.sim_world.specs.Places.{AreInPlace}
 use Rattle.sim_world.specs.World.{WorldData, given_of, Stands}
 

@@ -45,7 +45,7 @@ impl Parts {
     }
 
     /// Starts an application.
-    #[tactic(auto, using(crate::specs::WorldLaws::Moves_ready, crate::specs::DoingLaws::started_in_place), unfolding(outside::specs::Calls::start_steps, crate::specs::Scripts::IsScripted))]
+    #[tactic(auto, using(crate::specs::laws::WorldLaws::Moves_ready, crate::specs::laws::DoingLaws::started_in_place), unfolding(outside::specs::Calls::start_steps, crate::specs::Scripts::IsScripted))]
     pub(crate) fn start(&mut self, app: u32) -> Result<(), StartFault>
         requires { AppsStand self.old }
         ensures does { DoesStart app self.old self.new result }
@@ -72,7 +72,7 @@ impl Parts {
     }
 
     /// Gives bytes to an application.
-    #[tactic(auto, using(crate::specs::WorldLaws::Moves_ready, crate::specs::DoingLaws::given_in_place), unfolding(outside::specs::Calls::give_steps, crate::specs::Scripts::IsScripted))]
+    #[tactic(auto, using(crate::specs::laws::WorldLaws::Moves_ready, crate::specs::laws::DoingLaws::given_in_place), unfolding(outside::specs::Calls::give_steps, crate::specs::Scripts::IsScripted))]
     pub(crate) fn give(&mut self, app: u32, bytes: &[u8]) -> Result<(), GiveFault>
         requires { AppsStand self.old }
         ensures does { DoesGive app bytes.now self.old self.new result }
@@ -141,7 +141,7 @@ impl Parts {
     }
 
     /// Takes bytes from an application.
-    #[tactic(auto, using(crate::specs::WorldLaws::Moves_ready), unfolding(outside::specs::Calls::take_steps))]
+    #[tactic(auto, using(crate::specs::laws::WorldLaws::Moves_ready), unfolding(outside::specs::Calls::take_steps))]
     pub(crate) fn take(&mut self, app: u32, buf: &mut [u8]) -> Result<Taken, Short>
         requires stands { AppsStand self.old }
         requires room { 0 < length buf.old }
@@ -164,7 +164,7 @@ impl Parts {
     }
 
     /// Ends an application, if it was started.
-    #[tactic(auto, using(crate::specs::DoingLaws::fewer_run, crate::specs::DoingLaws::Moves_none), unfolding(outside::specs::Calls::end_steps, crate::specs::Scripts::IsScripted))]
+    #[tactic(auto, using(crate::specs::laws::DoingLaws::fewer_run, crate::specs::laws::DoingLaws::Moves_none), unfolding(outside::specs::Calls::end_steps, crate::specs::Scripts::IsScripted))]
     pub(crate) fn end(&mut self, app: u32)
         requires { AppsStand self.old }
         ensures moves { Moves self.old self.new (end_steps app (is_running app self.old.state)) self.old.tally }

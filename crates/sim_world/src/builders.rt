@@ -6,7 +6,7 @@ ghost use Rattle.outside.specs.Seen.{is_declared};
 ghost use Rattle.outside.specs.State.{is_link_call, fails_of, link_at_first};
 ghost use Rattle.sim_world.specs.World.{given_of};
 ghost use Rattle.sim_world.specs.Building.{nothing_given, with_switch, with_stimulus, with_fail, with_start, with_reply, IsNew, Gets};
-ghost use Rattle.sim_world.specs.BuildingLaws.{switch_more, stimulus_more, link_fail_more, other_fail_more};
+ghost use Rattle.sim_world.specs.laws.BuildingLaws.{switch_more, stimulus_more, link_fail_more, other_fail_more};
 
 use crate::history::History;
 use crate::link::SimLink;

@@ -12,7 +12,7 @@ ghost use Rattle.outside.specs.Calls.{item_step, next_steps, IsItemIn, IsIdle, I
 ghost use Rattle.outside.specs.Conforming.{IsWorldStim, IsNext};
 ghost use Rattle.lego_io.specs.Count.{raised};
 ghost use Rattle.sim_world.specs.Links.{IsDue, StandsAt, waiting_in};
-ghost use Rattle.sim_world.specs.NextLaws.{IsMessage};
+ghost use Rattle.sim_world.specs.laws.NextLaws.{IsMessage};
 ghost use Rattle.sim_world.specs.Doing.{Tells, NextStands, DoesNext};
 ghost use Rattle.sim_world.specs.World.{Moves, declared_in, next_told, short_told};
 
@@ -128,7 +128,7 @@ impl Parts {
 
     /// A stimulus begins, the next of those to come; a copy of it goes into the history. After want of memory all is as
     /// before.
-    #[tactic(auto, using(crate::specs::NextLaws::due_is, crate::specs::NextLaws::one_fewer, crate::specs::NextLaws::all_due, crate::specs::NextLaws::next_within), unfolding(crate::specs::World::declared_in, outside::specs::State::after_step, outside::specs::State::after_act, outside::specs::State::after_stim, crate::specs::Scripts::life_after))]
+    #[tactic(auto, using(crate::specs::laws::NextLaws::due_is, crate::specs::laws::NextLaws::one_fewer, crate::specs::laws::NextLaws::all_due, crate::specs::laws::NextLaws::next_within), unfolding(crate::specs::World::declared_in, outside::specs::State::after_step, outside::specs::State::after_act, outside::specs::State::after_stim, crate::specs::Scripts::life_after))]
     fn begin_with(&mut self, x: WorldStim) -> Result<(), AllocError>
         requires next { slice_get self.old.state.to_come 0 ≡ Some x }
         requires room { length self.old.state.running + 2 ≤ self.old.room }
@@ -156,7 +156,7 @@ impl Parts {
     }
 
     /// Tells what is due, if anything is.
-    #[tactic(auto, using(crate::specs::NextLaws::due_moves, crate::specs::NextLaws::due_lives, crate::specs::NextLaws::due_counts, crate::specs::NextLaws::first_due))]
+    #[tactic(auto, using(crate::specs::laws::NextLaws::due_moves, crate::specs::laws::NextLaws::due_lives, crate::specs::laws::NextLaws::due_counts, crate::specs::laws::NextLaws::first_due))]
     fn tell_due(&mut self, buf: &mut [u8]) -> Option<Item>
         requires room { length self.old.state.running + 1 ≤ self.old.room }
         requires few { self.old.nexts < 2 ^ 64 - 1 }
@@ -197,7 +197,7 @@ impl Parts {
     }
 
     /// Tells what comes next of the stimulus that is begun.
-    #[tactic(auto, using(crate::specs::TellLaws::Tells_by_due, crate::specs::TellLaws::Tells_by_message, crate::specs::TellLaws::Tells_by_idle))]
+    #[tactic(auto, using(crate::specs::laws::TellLaws::Tells_by_due, crate::specs::laws::TellLaws::Tells_by_message, crate::specs::laws::TellLaws::Tells_by_idle))]
     fn tell(&mut self, buf: &mut [u8]) -> Item
         requires begun { self.old.state.begun ≡ true }
         requires room { length self.old.state.running + 1 ≤ self.old.room }
@@ -237,7 +237,7 @@ impl Parts {
     }
 
     /// Begins a stimulus and tells what comes first of it, or wants memory.
-    #[tactic(auto, using(crate::specs::NextCallLaws::Next_begun, crate::specs::NextCallLaws::Next_short, crate::specs::NextCallLaws::can_come_next))]
+    #[tactic(auto, using(crate::specs::laws::NextCallLaws::Next_begun, crate::specs::laws::NextCallLaws::Next_short, crate::specs::laws::NextCallLaws::can_come_next))]
     fn begin_and_tell(&mut self, x: WorldStim, buf: &mut [u8]) -> Result<Item, NextFault>
         requires stands { NextStands self.old }
         requires told { next_told self.old.told self.old.nexts ≡ false }
@@ -258,7 +258,7 @@ impl Parts {
     }
 
     /// What comes next, where there is room for two steps.
-    #[tactic(auto, using(crate::specs::NextCallLaws::Next_failed, crate::specs::NextCallLaws::Next_told, crate::specs::NextCallLaws::Next_end, crate::specs::NextCallLaws::Next_short))]
+    #[tactic(auto, using(crate::specs::laws::NextCallLaws::Next_failed, crate::specs::laws::NextCallLaws::Next_told, crate::specs::laws::NextCallLaws::Next_end, crate::specs::laws::NextCallLaws::Next_short))]
     fn next_in_room(&mut self, buf: &mut [u8]) -> Result<Item, NextFault>
         requires stands { NextStands self.old }
         requires room { length self.old.state.running + 2 ≤ self.old.room }
@@ -287,7 +287,7 @@ impl Parts {
     }
 
     /// What comes next.
-    #[tactic(auto, using(crate::specs::NextCallLaws::NextStands_ready, crate::specs::NextCallLaws::Next_short_ready))]
+    #[tactic(auto, using(crate::specs::laws::NextCallLaws::NextStands_ready, crate::specs::laws::NextCallLaws::Next_short_ready))]
     pub(crate) fn next(&mut self, buf: &mut [u8]) -> Result<Item, NextFault>
         requires stands { NextStands self.old }
         requires buf { 65535 ≤ length buf.old }

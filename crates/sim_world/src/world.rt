@@ -41,7 +41,7 @@ impl SimWorld {
     /// messages it conforms to what a world of switches may do; applications do what their scripts say; calls fail where
     /// they are told to or out of place, and nowhere else; and where each call was in place and none wanted memory, none
     /// was counted as out of place.
-    #[tactic(auto, using(crate::specs::StandingLaws::in_order, crate::specs::StandingLaws::scripts_kept, crate::specs::StandingLaws::told_kept, crate::specs::StandingLaws::strays_kept))]
+    #[tactic(auto, using(crate::specs::laws::StandingLaws::in_order, crate::specs::laws::StandingLaws::scripts_kept, crate::specs::laws::StandingLaws::told_kept, crate::specs::laws::StandingLaws::strays_kept))]
     pub fn keeps_word(&self)
         ensures word { InOrder (seen_of self.now) }
         ensures scripts { KeepsScripts self.now.scripts (without_links self.now.fails) self.now.history }
@@ -62,7 +62,7 @@ impl World for SimWorld {
 
     ghost seen = { λ w. seen_of w };
 
-    #[tactic(auto, using(crate::specs::StandingLaws::links_stand, crate::specs::StandingLaws::short_kept, crate::specs::DoingLaws::Opens_by, crate::specs::KeepingLaws::keeps_open))]
+    #[tactic(auto, using(crate::specs::laws::StandingLaws::links_stand, crate::specs::laws::StandingLaws::short_kept, crate::specs::laws::DoingLaws::Opens_by, crate::specs::laws::KeepingLaws::keeps_open))]
     fn open(&mut self, _port: u16) -> Result<(), OpenFault>
         ensures seen { Opens (Unit {0}) (seen_of self.old) (seen_of self.new) result }
         ensures short { short_told self.old.fails self.old.calls ≡ true → IsErrOf result OpenFault.Short }
@@ -72,7 +72,7 @@ impl World for SimWorld {
         self.parts.open()
     }
 
-    #[tactic(auto, using(crate::specs::StandingLaws::next_stands, crate::specs::StandingLaws::short_kept, crate::specs::DoingLaws::Nexts_by, crate::specs::KeepingLaws::keeps_next))]
+    #[tactic(auto, using(crate::specs::laws::StandingLaws::next_stands, crate::specs::laws::StandingLaws::short_kept, crate::specs::laws::DoingLaws::Nexts_by, crate::specs::laws::KeepingLaws::keeps_next))]
     fn next(&mut self, buf: &mut [u8]) -> Result<Item, NextFault>
         requires { most_message ≤ length buf.old }
         ensures seen { Nexts (Unit {0}) (seen_of self.old) (seen_of self.new) result buf.new }
@@ -83,7 +83,7 @@ impl World for SimWorld {
         self.parts.next(buf)
     }
 
-    #[tactic(auto, using(crate::specs::StandingLaws::apps_stand, crate::specs::StandingLaws::short_kept, crate::specs::DoingLaws::Starts_by, crate::specs::KeepingLaws::keeps_start))]
+    #[tactic(auto, using(crate::specs::laws::StandingLaws::apps_stand, crate::specs::laws::StandingLaws::short_kept, crate::specs::laws::DoingLaws::Starts_by, crate::specs::laws::KeepingLaws::keeps_start))]
     fn start(&mut self, app: u32, _words: &[String]) -> Result<(), StartFault>
         ensures seen { Starts (Unit {0}) app (seen_of self.old) (seen_of self.new) result }
         ensures short { short_told self.old.fails self.old.calls ≡ true → IsErrOf result StartFault.Short }
@@ -93,7 +93,7 @@ impl World for SimWorld {
         self.parts.start(app)
     }
 
-    #[tactic(auto, using(crate::specs::StandingLaws::apps_stand, crate::specs::StandingLaws::short_kept, crate::specs::DoingLaws::Gives_by, crate::specs::KeepingLaws::keeps_give))]
+    #[tactic(auto, using(crate::specs::laws::StandingLaws::apps_stand, crate::specs::laws::StandingLaws::short_kept, crate::specs::laws::DoingLaws::Gives_by, crate::specs::laws::KeepingLaws::keeps_give))]
     fn give(&mut self, app: u32, bytes: &[u8]) -> Result<(), GiveFault>
         ensures seen { Gives (Unit {0}) app bytes.now (seen_of self.old) (seen_of self.new) result }
         ensures short { short_told self.old.fails self.old.calls ≡ true → IsErrOf result GiveFault.Short }
@@ -103,7 +103,7 @@ impl World for SimWorld {
         self.parts.give(app, bytes)
     }
 
-    #[tactic(auto, using(crate::specs::StandingLaws::apps_stand, crate::specs::StandingLaws::short_kept, crate::specs::DoingLaws::Takes_by, crate::specs::KeepingLaws::keeps_take))]
+    #[tactic(auto, using(crate::specs::laws::StandingLaws::apps_stand, crate::specs::laws::StandingLaws::short_kept, crate::specs::laws::DoingLaws::Takes_by, crate::specs::laws::KeepingLaws::keeps_take))]
     fn take(&mut self, app: u32, buf: &mut [u8]) -> Result<Taken, Short>
         requires { 0 < length buf.old }
         ensures seen { Takes (Unit {0}) app (seen_of self.old) (seen_of self.new) result buf.new }
@@ -114,7 +114,7 @@ impl World for SimWorld {
         self.parts.take(app, buf)
     }
 
-    #[tactic(auto, using(crate::specs::StandingLaws::apps_stand, crate::specs::DoingLaws::Ends_by, crate::specs::KeepingLaws::keeps_end))]
+    #[tactic(auto, using(crate::specs::laws::StandingLaws::apps_stand, crate::specs::laws::DoingLaws::Ends_by, crate::specs::laws::KeepingLaws::keeps_end))]
     fn end(&mut self, app: u32)
         ensures seen { Ends (Unit {0}) app (seen_of self.old) (seen_of self.new) }
         ensures calls { self.new.calls ≡ self.old.calls }
@@ -123,7 +123,7 @@ impl World for SimWorld {
         self.parts.end(app);
     }
 
-    #[tactic(auto, using(crate::specs::StandingLaws::links_stand, crate::specs::StandingLaws::short_kept, crate::specs::DoingLaws::Sends_by, crate::specs::KeepingLaws::keeps_send))]
+    #[tactic(auto, using(crate::specs::laws::StandingLaws::links_stand, crate::specs::laws::StandingLaws::short_kept, crate::specs::laws::DoingLaws::Sends_by, crate::specs::laws::KeepingLaws::keeps_send))]
     fn send(&mut self, dpid: u64, frame: &[u8]) -> Result<(), LinkFault>
         requires { IsOk (reading_of frame.now) }
         ensures seen { Sends (Unit {0}) dpid frame.now (seen_of self.old) (seen_of self.new) result }
@@ -134,7 +134,7 @@ impl World for SimWorld {
         self.parts.send(dpid, frame)
     }
 
-    #[tactic(auto, using(crate::specs::StandingLaws::links_stand, crate::specs::StandingLaws::short_kept, crate::specs::DoingLaws::Receives_by, crate::specs::KeepingLaws::keeps_recv))]
+    #[tactic(auto, using(crate::specs::laws::StandingLaws::links_stand, crate::specs::laws::StandingLaws::short_kept, crate::specs::laws::DoingLaws::Receives_by, crate::specs::laws::KeepingLaws::keeps_recv))]
     fn recv(&mut self, dpid: u64, buf: &mut [u8]) -> Result<usize, LinkFault>
         requires { most_message ≤ length buf.old }
         ensures seen { Receives (Unit {0}) dpid (seen_of self.old) (seen_of self.new) result buf.new }

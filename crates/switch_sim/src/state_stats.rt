@@ -105,7 +105,7 @@ impl SimSwitch {
     }
 
     /// The rows of a reply.
-    #[tactic(auto, using(crate::specs::StepLaws::query_fits), unfolding(flow_table::specs::Statistics::reply_rows))]
+    #[tactic(auto, using(crate::specs::laws::StepLaws::query_fits), unfolding(flow_table::specs::Statistics::reply_rows))]
     fn rows(&self, request: &Stats) -> Result<Vec<ByteList>, AllocError>
         requires { stats_refusal request.now ≡ None }
         ensures rows { IfOk result (λ rows. rows.items ≡ reply_rows request.now self.now) }

@@ -1,4 +1,3 @@
-pub mod ChainLaws
-pub mod StopLaws
 pub mod Chain
 pub mod Stop
+pub mod laws

@@ -1,8 +1,8 @@
 use Rattle.std.proofs.Common.{ap, subst, ◌∙◌, arith}
 use Rattle.app_frames.specs.Reading.{Gives}
-use Rattle.app_frames.specs.ReadingLaws.{none_from_Gives, found_from_Gives}
+use Rattle.app_frames.specs.laws.ReadingLaws.{none_from_Gives, found_from_Gives}
 use Rattle.app_frames.specs.Frames.{app_reading, IsAppAtFront}
-use Rattle.app_frames.specs.AppLaws.{app_none, app_at_front, app_reading-app_bytes}
+use Rattle.app_frames.specs.laws.AppLaws.{app_none, app_at_front, app_reading-app_bytes}
 use Rattle.app_frames.proofs.app.decode_app.Goals as goal
 
 pub returns-clause-none : goal.returns-clause-none

@@ -1,8 +1,8 @@
 use Rattle.std.proofs.Common.{ap, subst, ◌∙◌, arith}
 use Rattle.app_frames.specs.Reading.{Gives}
-use Rattle.app_frames.specs.ReadingLaws.{none_from_Gives, found_from_Gives}
+use Rattle.app_frames.specs.laws.ReadingLaws.{none_from_Gives, found_from_Gives}
 use Rattle.app_frames.specs.Frames.{host_reading, IsHostAtFront}
-use Rattle.app_frames.specs.HostLaws.{host_none, host_at_front, host_reading-host_bytes}
+use Rattle.app_frames.specs.laws.HostLaws.{host_none, host_at_front, host_reading-host_bytes}
 use Rattle.app_frames.proofs.host.decode_host.Goals as goal
 
 pub returns-clause-none : goal.returns-clause-none

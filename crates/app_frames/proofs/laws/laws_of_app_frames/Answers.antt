@@ -1,4 +1,4 @@
-use Rattle.app_frames.specs.AppLaws.{app_reading-app_bytes, app_one, app_at_front, app_size, app_alone, app_whole_stays, app_fault_stays, app_none, app_before, app_ends}
+use Rattle.app_frames.specs.laws.AppLaws.{app_reading-app_bytes, app_one, app_at_front, app_size, app_alone, app_whole_stays, app_fault_stays, app_none, app_before, app_ends}
 use Rattle.app_frames.proofs.laws.laws_of_app_frames.Goals as goal
 
 pub returns-clause-again : goal.returns-clause-again

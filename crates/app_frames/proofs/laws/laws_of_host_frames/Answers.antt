@@ -1,4 +1,4 @@
-use Rattle.app_frames.specs.HostLaws.{host_reading-host_bytes, host_one, host_at_front, host_size, host_alone, host_whole_stays, host_fault_stays, host_never_too_long, host_none, host_before}
+use Rattle.app_frames.specs.laws.HostLaws.{host_reading-host_bytes, host_one, host_at_front, host_size, host_alone, host_whole_stays, host_fault_stays, host_never_too_long, host_none, host_before}
 use Rattle.app_frames.proofs.laws.laws_of_host_frames.Goals as goal
 
 pub returns-clause-again : goal.returns-clause-again

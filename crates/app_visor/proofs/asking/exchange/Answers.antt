@@ -1,14 +1,14 @@
 use Rattle.std.proofs.Common.{◌∙◌}
 use Rattle.std.proofs.lemmas.Result.{err_from_is_err_and}
 use Rattle.lego_model.specs.declared.fault.TxnFault.TheVariants.{NoMemory}
-use Rattle.app_visor.specs.ResultLaws.{err_so}
-use Rattle.app_visor.specs.ReadLaws.{Wants-refl}
+use Rattle.app_visor.specs.laws.ResultLaws.{err_so}
+use Rattle.app_visor.specs.laws.ReadLaws.{Wants-refl}
 use Rattle.app_visor.specs.Beats.{IsExchange, exchange_of}
-use Rattle.app_visor.specs.BeatLaws.{stops_wanting}
-use Rattle.app_visor.specs.PlayLaws.{stops_at_change, leads_asked, exchanges_so}
-use Rattle.app_visor.specs.AnswerLaws.{answer_fits}
-use Rattle.app_visor.specs.LeadsOnLaws.{leads_on_wanting, leads_on_links, leads_on_then}
-use Rattle.app_visor.specs.CalmLaws.{calm_then, calm_links, calm_wanting, calm_answered}
+use Rattle.app_visor.specs.laws.BeatLaws.{stops_wanting}
+use Rattle.app_visor.specs.laws.PlayLaws.{stops_at_change, leads_asked, exchanges_so}
+use Rattle.app_visor.specs.laws.AnswerLaws.{answer_fits}
+use Rattle.app_visor.specs.laws.LeadsOnLaws.{leads_on_wanting, leads_on_links, leads_on_then}
+use Rattle.app_visor.specs.laws.CalmLaws.{calm_then, calm_links, calm_wanting, calm_answered}
 use Rattle.app_visor.proofs.asking.exchange.Goals as goal
 
 pub returns-in_err-answer-clause-err : goal.returns-in_err-answer-clause-err

@@ -1,4 +1,4 @@
-use Rattle.app_visor.specs.JournalLaws.{chain_told}
+use Rattle.app_visor.specs.laws.JournalLaws.{chain_told}
 use Rattle.app_visor.proofs.laws.acts_of_a_turn.Goals as goal
 
 pub returns : goal.returns

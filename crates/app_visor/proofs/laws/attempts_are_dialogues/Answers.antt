@@ -1,4 +1,4 @@
-use Rattle.app_visor.specs.TryLaws.{tries_speak}
+use Rattle.app_visor.specs.laws.TryLaws.{tries_speak}
 use Rattle.app_visor.proofs.laws.attempts_are_dialogues.Goals as goal
 
 pub returns : goal.returns

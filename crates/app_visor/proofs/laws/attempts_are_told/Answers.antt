@@ -1,4 +1,4 @@
-use Rattle.app_visor.specs.ReadTryLaws.{tries_told}
+use Rattle.app_visor.specs.laws.ReadTryLaws.{tries_told}
 use Rattle.app_visor.proofs.laws.attempts_are_told.Goals as goal
 
 pub returns : goal.returns

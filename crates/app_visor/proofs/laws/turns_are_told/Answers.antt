@@ -1,4 +1,4 @@
-use Rattle.app_visor.specs.ReadTurnLaws.{turn_told}
+use Rattle.app_visor.specs.laws.ReadTurnLaws.{turn_told}
 use Rattle.app_visor.proofs.laws.turns_are_told.Goals as goal
 
 pub returns : goal.returns

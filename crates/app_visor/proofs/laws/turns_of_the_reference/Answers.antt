@@ -1,5 +1,5 @@
 use Rattle.lego_model.specs.Controller.{table_of}
-use Rattle.app_visor.specs.TableLaws.{turn_alike}
+use Rattle.app_visor.specs.laws.TableLaws.{turn_alike}
 use Rattle.app_visor.proofs.laws.turns_of_the_reference.Goals as goal
 
 pub returns : goal.returns

@@ -1,9 +1,9 @@
-use Rattle.app_visor.specs.TryLaws.{try_refused, try_stood, unless_continues}
+use Rattle.app_visor.specs.laws.TryLaws.{try_refused, try_stood, unless_continues}
 use Rattle.lego_model.specs.Controller.{is_ready}
-use Rattle.outside.specs.SeenLaws.{Continues-trans, Ends-continues}
+use Rattle.outside.specs.laws.SeenLaws.{Continues-trans, Ends-continues}
 use Rattle.std.proofs.lemmas.Result.{err_from_is_err_and}
-use Rattle.app_visor.specs.LeadsOnLaws.{leads_on_wanting, leads_on_ended, leads_on_started, leads_on_greeted, talks_none}
-use Rattle.app_visor.specs.OwnLaws.{own_none, own_then, own_wanting, own_started, own_ended, own_unless}
+use Rattle.app_visor.specs.laws.LeadsOnLaws.{leads_on_wanting, leads_on_ended, leads_on_started, leads_on_greeted, talks_none}
+use Rattle.app_visor.specs.laws.OwnLaws.{own_none, own_then, own_wanting, own_started, own_ended, own_unless}
 use Rattle.app_visor.proofs.starting.attempt.Goals as goal
 
 pub returns-then-not-branch-clause-ok : goal.returns-then-not-branch-clause-ok

@@ -1,13 +1,13 @@
 use Rattle.std.proofs.Common.{ℕ, List, [], sym, subst}
 use Rattle.app_visor.specs.Attempts.{Greets}
-use Rattle.app_visor.specs.AttemptLaws.{greets_gone, greets_came}
-use Rattle.app_visor.specs.ReadLaws.{Comes-continues, Breaks-continues}
-use Rattle.outside.specs.SeenLaws.{Continues-trans}
+use Rattle.app_visor.specs.laws.AttemptLaws.{greets_gone, greets_came}
+use Rattle.app_visor.specs.laws.ReadLaws.{Comes-continues, Breaks-continues}
+use Rattle.outside.specs.laws.SeenLaws.{Continues-trans}
 use Rattle.std.proofs.lemmas.Result.{err_from_is_err_and}
 use Rattle.lego_model.specs.AtOnce.{before, nothing_said}
 use Rattle.app_visor.specs.Dialogues.{LeadsOn}
-use Rattle.app_visor.specs.LeadsOnLaws.{leads_on_wanting, leads_on_breaking, leads_on_restored}
-use Rattle.app_visor.specs.OwnLaws.{own_then, own_wanting, own_restored, own_comes, own_breaking}
+use Rattle.app_visor.specs.laws.LeadsOnLaws.{leads_on_wanting, leads_on_breaking, leads_on_restored}
+use Rattle.app_visor.specs.laws.OwnLaws.{own_then, own_wanting, own_restored, own_comes, own_breaking}
 use Rattle.app_visor.proofs.starting.greet.Goals as goal
 
 pub returns-then-not-branch-clause-ok : goal.returns-then-not-branch-clause-ok

@@ -1,8 +1,8 @@
 use Rattle.std.proofs.Common.{refl}
 use Rattle.std.proofs.lemmas.Result.{err_from_is_err_and}
-use Rattle.outside.specs.SeenLaws.{Continues-refl}
-use Rattle.app_visor.specs.LeadsOnLaws.{leads_on_here, talks_of}
-use Rattle.app_visor.specs.OwnLaws.{own_none}
+use Rattle.outside.specs.laws.SeenLaws.{Continues-refl}
+use Rattle.app_visor.specs.laws.LeadsOnLaws.{leads_on_here, talks_of}
+use Rattle.app_visor.specs.laws.OwnLaws.{own_none}
 use Rattle.app_visor.proofs.starting.restart.Goals as goal
 
 pub returns-in_err-frame-clause-talks : goal.returns-in_err-frame-clause-talks

@@ -1,4 +1,4 @@
-use Rattle.app_visor.specs.TalkLaws.{told_started, told_not_started, wants_start}
+use Rattle.app_visor.specs.laws.TalkLaws.{told_started, told_not_started, wants_start}
 use Rattle.app_visor.proofs.starting.start.Goals as goal
 
 pub returns-in-Ok-clause-ok : goal.returns-in-Ok-clause-ok

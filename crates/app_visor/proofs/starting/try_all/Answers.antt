@@ -1,9 +1,9 @@
 use Rattle.std.proofs.Common.{◌≡◌, ◌+◌, ◌-◌, suc, sym, ◌∙◌, arith}
-use Rattle.app_visor.specs.TryLaws.{none_tried, back_then, not_yet, none_back}
-use Rattle.outside.specs.SeenLaws.{Continues-refl, Continues-trans}
+use Rattle.app_visor.specs.laws.TryLaws.{none_tried, back_then, not_yet, none_back}
+use Rattle.outside.specs.laws.SeenLaws.{Continues-refl, Continues-trans}
 use Rattle.std.proofs.lemmas.Result.{err_from_is_err_and}
-use Rattle.app_visor.specs.LeadsOnLaws.{talks_none, talks_then, talks_tried}
-use Rattle.app_visor.specs.OwnLaws.{own_none, own_then}
+use Rattle.app_visor.specs.laws.LeadsOnLaws.{talks_none, talks_then, talks_tried}
+use Rattle.app_visor.specs.laws.OwnLaws.{own_none, own_then}
 use Rattle.app_visor.proofs.starting.try_all.Goals as goal
 
 pub returns-then-is_ready-clause-ok : goal.returns-then-is_ready-clause-ok

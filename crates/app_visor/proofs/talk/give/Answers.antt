@@ -1,4 +1,4 @@
-use Rattle.app_visor.specs.TalkLaws.{told_gave, told_gone, wants_give}
+use Rattle.app_visor.specs.laws.TalkLaws.{told_gave, told_gone, wants_give}
 use Rattle.app_visor.proofs.talk.give.Goals as goal
 
 pub returns-in-Ok-clause-ok : goal.returns-in-Ok-clause-ok

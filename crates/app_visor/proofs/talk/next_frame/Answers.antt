@@ -1,5 +1,5 @@
 use Rattle.std.proofs.lemmas.Result.{err_from_is_err_and}
-use Rattle.app_visor.specs.ReadLaws.{takes_more, came_then, broke_then}
+use Rattle.app_visor.specs.laws.ReadLaws.{takes_more, came_then, broke_then}
 use Rattle.app_visor.proofs.talk.next_frame.Goals as goal
 
 pub returns-in_err-came-clause-err : goal.returns-in_err-came-clause-err

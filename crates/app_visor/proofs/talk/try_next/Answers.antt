@@ -1,5 +1,5 @@
 use Rattle.std.proofs.lemmas.Result.{err_from_is_err_and}
-use Rattle.app_visor.specs.ReadLaws.{broke_at_once, Wants-refl, broke_taking}
+use Rattle.app_visor.specs.laws.ReadLaws.{broke_at_once, Wants-refl, broke_taking}
 use Rattle.app_visor.proofs.talk.try_next.Goals as goal
 
 pub returns-in_err-came-clause-err : goal.returns-in_err-came-clause-err

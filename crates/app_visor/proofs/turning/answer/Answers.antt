@@ -1,7 +1,7 @@
 use Rattle.std.proofs.Common.{subst}
 use Rattle.app_visor.specs.Beats.{Exchanges}
-use Rattle.app_visor.specs.TurnLaws.{leads_exchanged}
-use Rattle.app_visor.specs.PlayLaws.{plays_answered, plays_unanswered}
+use Rattle.app_visor.specs.laws.TurnLaws.{leads_exchanged}
+use Rattle.app_visor.specs.laws.PlayLaws.{plays_answered, plays_unanswered}
 use Rattle.app_visor.proofs.turning.answer.Goals as goal
 
 pub returns-then-branch-clause-leads : goal.returns-then-branch-clause-leads

@@ -1,8 +1,8 @@
 use Rattle.std.proofs.Common.{refl}
-use Rattle.app_visor.specs.TurnLaws.{plays_done, plays_unbalanced}
-use Rattle.app_visor.specs.PlayLaws.{is_unbalanced}
-use Rattle.app_visor.specs.BeatLaws.{Leads-refl}
-use Rattle.app_visor.specs.CalmLaws.{calm_none}
+use Rattle.app_visor.specs.laws.TurnLaws.{plays_done, plays_unbalanced}
+use Rattle.app_visor.specs.laws.PlayLaws.{is_unbalanced}
+use Rattle.app_visor.specs.laws.BeatLaws.{Leads-refl}
+use Rattle.app_visor.specs.laws.CalmLaws.{calm_none}
 use Rattle.app_visor.proofs.turning.play.Goals as goal
 
 pub returns-in-Done-clause-ok : goal.returns-in-Done-clause-ok

@@ -1,11 +1,11 @@
 use Rattle.std.proofs.Common.{◌≡◌, ◌+◌, ◌-◌, zero, suc, refl, ◌∙◌, arith}
 use Rattle.std.proofs.lemmas.Result.{err_from_is_err_and}
 use Rattle.lego_model.specs.declared.fault.TxnFault.TheVariants.{NoMemory}
-use Rattle.app_visor.specs.ResultLaws.{err_so}
-use Rattle.app_visor.specs.BeatLaws.{Leads-refl, Leads-trans, stops_then, stops_breaking}
-use Rattle.app_visor.specs.PlayLaws.{goes_none, goes_more, ends_then, spent_then}
-use Rattle.app_visor.specs.LeadsOnLaws.{leads_on_breaking, leads_on_played}
-use Rattle.app_visor.specs.CalmLaws.{calm_none, calm_then, calm_comes, calm_breaking}
+use Rattle.app_visor.specs.laws.ResultLaws.{err_so}
+use Rattle.app_visor.specs.laws.BeatLaws.{Leads-refl, Leads-trans, stops_then, stops_breaking}
+use Rattle.app_visor.specs.laws.PlayLaws.{goes_none, goes_more, ends_then, spent_then}
+use Rattle.app_visor.specs.laws.LeadsOnLaws.{leads_on_breaking, leads_on_played}
+use Rattle.app_visor.specs.laws.CalmLaws.{calm_none, calm_then, calm_comes, calm_breaking}
 use Rattle.app_visor.proofs.turning.play_all.Goals as goal
 
 pub loop-played-init : goal.loop-played-init

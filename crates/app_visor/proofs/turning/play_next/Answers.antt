@@ -1,11 +1,11 @@
 use Rattle.std.proofs.Common.{refl}
 use Rattle.std.proofs.lemmas.Result.{err_from_is_err_and, IfOk-weaker, on_ok_weaker, on_err_weaker}
 use Rattle.lego_model.specs.declared.fault.TxnFault.TheVariants.{NoMemory}
-use Rattle.app_visor.specs.ResultLaws.{err_so, err_then}
-use Rattle.app_visor.specs.BeatLaws.{Leads-trans, leads_comes, stops_then, stops_breaking}
-use Rattle.app_visor.specs.PlayLaws.{plays_came, ends_over, not_frame}
-use Rattle.app_visor.specs.LeadsOnLaws.{leads_on_breaking, leads_on_came}
-use Rattle.app_visor.specs.CalmLaws.{calm_then, calm_comes, calm_breaking}
+use Rattle.app_visor.specs.laws.ResultLaws.{err_so, err_then}
+use Rattle.app_visor.specs.laws.BeatLaws.{Leads-trans, leads_comes, stops_then, stops_breaking}
+use Rattle.app_visor.specs.laws.PlayLaws.{plays_came, ends_over, not_frame}
+use Rattle.app_visor.specs.laws.LeadsOnLaws.{leads_on_breaking, leads_on_came}
+use Rattle.app_visor.specs.laws.CalmLaws.{calm_then, calm_comes, calm_breaking}
 use Rattle.app_visor.proofs.turning.play_next.Goals as goal
 
 pub returns-in_err-came-clause-err : goal.returns-in_err-came-clause-err

@@ -1,15 +1,15 @@
 use Rattle.std.proofs.Common.{ℕ, refl, ap, ◌∙◌}
 use Rattle.std.proofs.lemmas.Result.{err_from_is_err_and}
 use Rattle.lego_model.specs.Controller.{event_frame}
-use Rattle.outside.specs.SeenLaws.{Continues-refl, Continues-trans}
+use Rattle.outside.specs.laws.SeenLaws.{Continues-refl, Continues-trans}
 use Rattle.lego_model.specs.declared.fault.TxnFault.TheVariants.{NoMemory}
-use Rattle.app_visor.specs.ResultLaws.{err_so}
-use Rattle.app_visor.specs.ReadLaws.{Wants-refl}
-use Rattle.app_visor.specs.BeatLaws.{Leads-refl, Leads-trans, Leads-continues, stops_wanting, stops_then, Stops-continues, Leads-stays, Stops-stays}
-use Rattle.app_visor.specs.PlayLaws.{turns_gone, turns_given, leads_turn, leads_told}
-use Rattle.journal_laws.specs.FrameLaws.{event_is}
-use Rattle.app_visor.specs.LeadsOnLaws.{leads_on_here, leads_on_wanting, leads_on_event, leads_on_turned, talks_of}
-use Rattle.app_visor.specs.CalmLaws.{calm_none, calm_wanting, calm_later, later_given, later_then}
+use Rattle.app_visor.specs.laws.ResultLaws.{err_so}
+use Rattle.app_visor.specs.laws.ReadLaws.{Wants-refl}
+use Rattle.app_visor.specs.laws.BeatLaws.{Leads-refl, Leads-trans, Leads-continues, stops_wanting, stops_then, Stops-continues, Leads-stays, Stops-stays}
+use Rattle.app_visor.specs.laws.PlayLaws.{turns_gone, turns_given, leads_turn, leads_told}
+use Rattle.journal_laws.specs.laws.FrameLaws.{event_is}
+use Rattle.app_visor.specs.laws.LeadsOnLaws.{leads_on_here, leads_on_wanting, leads_on_event, leads_on_turned, talks_of}
+use Rattle.app_visor.specs.laws.CalmLaws.{calm_none, calm_wanting, calm_later, later_given, later_then}
 use Rattle.app_visor.proofs.turning.turn.Goals as goal
 
 pub returns-in_err-frame-clause-err : goal.returns-in_err-frame-clause-err

@@ -1,4 +1,4 @@
-use Rattle.batch_laws.specs.StimulusLaws.{stimulus-handled}
+use Rattle.batch_laws.specs.laws.StimulusLaws.{stimulus-handled}
 use Rattle.batch_laws.proofs.laws.stimuli_are_handled.Goals as goal
 
 pub returns : goal.returns

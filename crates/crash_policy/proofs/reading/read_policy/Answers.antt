@@ -1,4 +1,4 @@
-use Rattle.crash_policy.specs.BoundLaws.{IsSized-Gives}
+use Rattle.crash_policy.specs.laws.BoundLaws.{IsSized-Gives}
 use Rattle.crash_policy.proofs.reading.read_policy.Goals as goal
 
 pub returns-clause-sized : goal.returns-clause-sized

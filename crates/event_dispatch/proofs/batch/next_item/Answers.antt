@@ -1,5 +1,5 @@
-use Rattle.event_dispatch.specs.TalkingLaws.{keeps_next}
-use Rattle.event_dispatch.specs.NextPointLaws.{next_quietly, next_in_place}
+use Rattle.event_dispatch.specs.laws.TalkingLaws.{keeps_next}
+use Rattle.event_dispatch.specs.laws.NextPointLaws.{next_quietly, next_in_place}
 use Rattle.event_dispatch.proofs.batch.next_item.Goals as goal
 
 pub returns-in-Ok-clause-talks : goal.returns-in-Ok-clause-talks

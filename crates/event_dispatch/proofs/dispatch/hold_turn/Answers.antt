@@ -1,14 +1,14 @@
 use Rattle.event_dispatch.specs.declared.fault.Fault.TheVariants as faults
 use Rattle.std.proofs.Common.{◌≡◌, rules, sym, subst, IsErrAnd}
-use Rattle.event_dispatch.specs.TurnLaws.{play_done, play_failed}
-use Rattle.event_dispatch.specs.PlainLaws.{turn_memory, turn_noted, turn_stopped, turn_not_undone}
-use Rattle.event_dispatch.specs.CutLaws.{if_err}
+use Rattle.event_dispatch.specs.laws.TurnLaws.{play_done, play_failed}
+use Rattle.event_dispatch.specs.laws.PlainLaws.{turn_memory, turn_noted, turn_stopped, turn_not_undone}
+use Rattle.event_dispatch.specs.laws.CutLaws.{if_err}
 use Rattle.event_dispatch.specs.Plain.{PlainTurn}
 use Rattle.event_dispatch.specs.Why.{fault_of}
-use Rattle.event_dispatch.specs.KeptLaws.{turn_read}
-use Rattle.event_dispatch.specs.TalkingLaws.{turn_stops, turn_ends, turn_ended, holds_on_err}
-use Rattle.journal_laws.specs.FrameLaws.{event_is}
-use Rattle.event_dispatch.specs.DispatchStrayLaws.{later_same, later_undone, turn_kept, turn_undone, stop_undone, played_places, played_reads}
+use Rattle.event_dispatch.specs.laws.KeptLaws.{turn_read}
+use Rattle.event_dispatch.specs.laws.TalkingLaws.{turn_stops, turn_ends, turn_ended, holds_on_err}
+use Rattle.journal_laws.specs.laws.FrameLaws.{event_is}
+use Rattle.event_dispatch.specs.laws.DispatchStrayLaws.{later_same, later_undone, turn_kept, turn_undone, stop_undone, played_places, played_reads}
 use Rattle.event_dispatch.proofs.dispatch.hold_turn.Goals as goal
 
 pub returns-in_ok-commit-in-Ok-Done-clause-plays : goal.returns-in_ok-commit-in-Ok-Done-clause-plays

@@ -1,6 +1,6 @@
 use Rattle.std.proofs.Common.{◌∙◌, ℕ, drop, sym, ap, true≢false}
 use Rattle.flow_table.specs.declared.view.ViewRow.{ViewRow}
-use Rattle.event_dispatch.specs.LastLaws.{drop_head, key_same}
+use Rattle.event_dispatch.specs.laws.LastLaws.{drop_head, key_same}
 use Rattle.event_dispatch.proofs.last.place_from.Goals as goal
 
 -- src/last.rt:30:5

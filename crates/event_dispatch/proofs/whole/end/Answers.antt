@@ -1,6 +1,6 @@
-use Rattle.run_laws.specs.LeaveLaws.{end-leaves}
-use Rattle.event_dispatch.specs.TalkingLaws.{keeps_ended}
-use Rattle.event_dispatch.specs.ReadLaws.{end_quietly, end_places, end_messages}
+use Rattle.run_laws.specs.laws.LeaveLaws.{end-leaves}
+use Rattle.event_dispatch.specs.laws.TalkingLaws.{keeps_ended}
+use Rattle.event_dispatch.specs.laws.ReadLaws.{end_quietly, end_places, end_messages}
 use Rattle.event_dispatch.proofs.whole.end.Goals as goal
 
 pub returns-clause-leaves : goal.returns-clause-leaves

@@ -1,5 +1,5 @@
-use Rattle.event_dispatch.specs.WholeLaws.{opened_by}
-use Rattle.event_dispatch.specs.WholeLaws.{shut_by, short_by}
+use Rattle.event_dispatch.specs.laws.WholeLaws.{opened_by}
+use Rattle.event_dispatch.specs.laws.WholeLaws.{shut_by, short_by}
 use Rattle.event_dispatch.proofs.whole.open.Goals as goal
 
 pub returns-in-Ok-clause-opened : goal.returns-in-Ok-clause-opened

@@ -1,7 +1,7 @@
 use Rattle.event_dispatch.specs.declared.served.Served.TheVariants as ends
-use Rattle.event_dispatch.specs.WholeLaws.{runs_done, runs_by, runs_short}
-use Rattle.event_dispatch.specs.PlainLaws.{whole_anyway}
-use Rattle.event_dispatch.specs.CutLaws.{if_err, short_cut}
+use Rattle.event_dispatch.specs.laws.WholeLaws.{runs_done, runs_by, runs_short}
+use Rattle.event_dispatch.specs.laws.PlainLaws.{whole_anyway}
+use Rattle.event_dispatch.specs.laws.CutLaws.{if_err, short_cut}
 use Rattle.event_dispatch.specs.Plain.{PlainWhole}
 use Rattle.run_laws.specs.First.{engine_at_first}
 use Rattle.std.proofs.Common.{subst}
@@ -9,8 +9,8 @@ use Rattle.run_laws.specs.Engine.{Engine}
 use Rattle.event_dispatch.specs.declared.served.Served.{Served}
 use Rattle.event_dispatch.specs.Cut.{CutAs, HasRead, ReadsEnd}
 use Rattle.event_dispatch.specs.Steady.{NoStray}
-use Rattle.event_dispatch.specs.SteadyLaws.{places_none}
-use Rattle.event_dispatch.specs.ReadLaws.{reads_as}
+use Rattle.event_dispatch.specs.laws.SteadyLaws.{places_none}
+use Rattle.event_dispatch.specs.laws.ReadLaws.{reads_as}
 use Rattle.event_dispatch.proofs.whole.run.Goals as goal
 
 pub returns-in_err-run-clause-runs : goal.returns-in_err-run-clause-runs

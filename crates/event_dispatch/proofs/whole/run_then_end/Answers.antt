@@ -1,8 +1,8 @@
-use Rattle.event_dispatch.specs.WholeLaws.{goes_then}
-use Rattle.event_dispatch.specs.PlainLaws.{whole_then}
+use Rattle.event_dispatch.specs.laws.WholeLaws.{goes_then}
+use Rattle.event_dispatch.specs.laws.PlainLaws.{whole_then}
 use Rattle.event_dispatch.specs.Shows.{engine_of}
-use Rattle.event_dispatch.specs.CutLaws.{goes_on_cut}
-use Rattle.event_dispatch.specs.ReadLaws.{ended_places, ended_read}
+use Rattle.event_dispatch.specs.laws.CutLaws.{goes_on_cut}
+use Rattle.event_dispatch.specs.laws.ReadLaws.{ended_places, ended_read}
 use Rattle.event_dispatch.proofs.whole.run_then_end.Goals as goal
 
 pub returns-clause-goes : goal.returns-clause-goes

@@ -1,6 +1,6 @@
-use Rattle.event_dispatch.specs.WholeLaws.{cut_unopened, cut_failed, alike_unopened, alike_done, alike_failed}
-use Rattle.event_dispatch.specs.PlainLaws.{unopened_plain, served_plain}
-use Rattle.event_dispatch.specs.ReadLaws.{unopened_places, opened_places, unopened_read, all_read, failed_read}
+use Rattle.event_dispatch.specs.laws.WholeLaws.{cut_unopened, cut_failed, alike_unopened, alike_done, alike_failed}
+use Rattle.event_dispatch.specs.laws.PlainLaws.{unopened_plain, served_plain}
+use Rattle.event_dispatch.specs.laws.ReadLaws.{unopened_places, opened_places, unopened_read, all_read, failed_read}
 use Rattle.event_dispatch.proofs.whole.serve.Goals as goal
 
 pub returns-in-Err-clause-reference_run : goal.returns-in-Err-clause-reference_run

@@ -1,5 +1,5 @@
 use Rattle.std.proofs.Common.{◌≡◌}
-use Rattle.flow_table.specs.RunLaws.{IsPlan-at}
+use Rattle.flow_table.specs.laws.RunLaws.{IsPlan-at}
 use Rattle.flow_table.proofs.calls.is_plan.Goals as goal
 
 pub returns-then-start-le-LAST_MOMENT : goal.returns-then-start-le-LAST_MOMENT

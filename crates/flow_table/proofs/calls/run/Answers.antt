@@ -4,7 +4,7 @@ use Rattle.flow_table.specs.declared.calls.TableAnswer.{TableAnswer}
 use Rattle.flow_table.specs.declared.calls.TableCall.{TableCall}
 use Rattle.flow_table.specs.Table.{TableState}
 use Rattle.flow_table.specs.Run.{after_call, after_calls, IsPlan, IsAnswer, AreAnswers}
-use Rattle.flow_table.specs.RunLaws.{next-after_call, IsAllowed-first, IsPlan-rest, after_calls-push, AreAnswers-push}
+use Rattle.flow_table.specs.laws.RunLaws.{next-after_call, IsAllowed-first, IsPlan-rest, after_calls-push, AreAnswers-push}
 use Rattle.flow_table.proofs.calls.run.Goals as goal
 
 split : (cs : List TableCall) (i : ℕ) (c : TableCall) → i < length cs → c ≡ get_or cs i c → drop i cs ≡ c ∷ drop (i + 1) cs

@@ -4,7 +4,7 @@ use Rattle.of_wire.specs.declared.bodies.FlowMod.{FlowMod}
 use Rattle.flow_table.specs.declared.entry.Entry.{Entry}
 use Rattle.flow_table.specs.declared.notice.Notice.{Notice}
 use Rattle.flow_table.specs.Change.{is_modify, is_delete, adds, deletes, notice, notices_of, entries_after, tells}
-use Rattle.flow_table.specs.ChangeLaws.{is_delete-adds, is_delete-modify, is_delete-rest, notices_of-kept, notices_of-delete, entries_after-adds, entries_after-modify, entries_after-delete}
+use Rattle.flow_table.specs.laws.ChangeLaws.{is_delete-adds, is_delete-modify, is_delete-rest, notices_of-kept, notices_of-delete, entries_after-adds, entries_after-modify, entries_after-delete}
 use Rattle.flow_table.proofs.changing.apply.Goals as goal
 
 no_map : (f : Entry → Notice) (es : List Entry) → map f es ≡ [] → es ≡ []

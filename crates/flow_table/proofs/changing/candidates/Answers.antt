@@ -3,9 +3,9 @@ use Rattle.of_match.specs.declared.key.Key.{Key}
 use Rattle.of_match.specs.Key.{key_number}
 use Rattle.flow_table.specs.declared.entry.Entry.{Entry}
 use Rattle.flow_table.specs.Table.{IsPlaceOf}
-use Rattle.flow_table.specs.TableLaws.{NonePass-absent, filter-found, filter-none}
+use Rattle.flow_table.specs.laws.TableLaws.{NonePass-absent, filter-found, filter-none}
 use Rattle.flow_table.specs.Change.{key_in, is_strict, tells}
-use Rattle.flow_table.specs.ChangeLaws.{IsOnlyAt-tells}
+use Rattle.flow_table.specs.laws.ChangeLaws.{IsOnlyAt-tells}
 use Rattle.flow_table.proofs.changing.candidates.Goals as goal
 
 pub returns-in-Ok : goal.returns-in-Ok

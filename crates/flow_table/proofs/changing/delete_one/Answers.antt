@@ -7,9 +7,9 @@ use Rattle.of_match.specs.Key.{key_number}
 use Rattle.of_wire.specs.declared.bodies.FlowMod.{FlowMod}
 use Rattle.flow_table.specs.declared.entry.Entry.{Entry}
 use Rattle.flow_table.specs.Table.{IsTable, IsPlaceOf}
-use Rattle.flow_table.specs.TableLaws.{an_entry, NonePass-absent, NonePass-found, filter_not-found, filter_not-none}
+use Rattle.flow_table.specs.laws.TableLaws.{an_entry, NonePass-absent, NonePass-found, filter_not-found, filter_not-none}
 use Rattle.flow_table.specs.Change.{key_in, is_strict, deletes}
-use Rattle.flow_table.specs.ChangeLaws.{IsOnlyAt-deletes}
+use Rattle.flow_table.specs.laws.ChangeLaws.{IsOnlyAt-deletes}
 use Rattle.flow_table.proofs.changing.delete_one.Goals as goal
 
 strict_is : (m : FlowMod) → m.command ≡ 4 → is_strict m ≡ true

@@ -6,9 +6,9 @@ use Rattle.of_wire.specs.declared.bodies.FlowMod.{FlowMod}
 use Rattle.of_action.specs.declared.action.Action.{Action}
 use Rattle.flow_table.specs.declared.entry.Entry.{Entry}
 use Rattle.flow_table.specs.Table.{place_of, IsTable, IsPlaceOf}
-use Rattle.flow_table.specs.TableLaws.{NonePass-absent, map-found, map-none}
+use Rattle.flow_table.specs.laws.TableLaws.{NonePass-absent, map-found, map-none}
 use Rattle.flow_table.specs.Change.{key_in, is_strict, modified, means}
-use Rattle.flow_table.specs.ChangeLaws.{describes-strict, IsOnlyAt-means}
+use Rattle.flow_table.specs.laws.ChangeLaws.{describes-strict, IsOnlyAt-means}
 use Rattle.flow_table.proofs.changing.modify_one.Goals as goal
 
 strict_is : (m : FlowMod) → m.command ≡ 2 → is_strict m ≡ true

@@ -2,7 +2,7 @@ use Rattle.std.proofs.Common.{◌≡◌, ◌≢◌, ◌<◌, ℕ, true, List, []
 use Rattle.std.proofs.lemmas.Bool.{cases_Bool}
 use Rattle.flow_table.specs.declared.entry.Entry.{Entry}
 use Rattle.flow_table.specs.Change.{tells}
-use Rattle.flow_table.specs.TableLaws.{filter-some}
+use Rattle.flow_table.specs.laws.TableLaws.{filter-some}
 use Rattle.flow_table.proofs.changing.notices_among.Goals as goal
 
 on_err : {T E P : Type 0} (r : Result T E) → P → OnErr r P

@@ -2,7 +2,7 @@ use Rattle.std.proofs.Common.{◌≡◌, ℕ, List, Ok, Err, set, sym, ◌∙◌
 use Rattle.std.specs.List.{insert}
 use Rattle.flow_table.specs.declared.entry.Entry.{Entry}
 use Rattle.flow_table.specs.Table.{place_of, IsTable, IsPlaceOf, with_entry}
-use Rattle.flow_table.specs.TableLaws.{with_entry-found, with_entry-absent}
+use Rattle.flow_table.specs.laws.TableLaws.{with_entry-found, with_entry-absent}
 use Rattle.flow_table.proofs.changing.put.Goals as goal
 
 found : (es seen : List Entry) (e : Entry) (at : ℕ) → seen ≡ es → IsTable es → IsPlaceOf (place_of e) seen (Ok at) → set es at e ≡ with_entry e es

@@ -3,7 +3,7 @@ use Rattle.std.specs.List.{count_by}
 use Rattle.std.proofs.lemmas.List.{drop_more, take_more_set, drop-set-lt, length-set}
 use Rattle.of_wire.specs.declared.bodies.FlowMod.{FlowMod}
 use Rattle.flow_table.specs.declared.entry.Entry.{Entry}
-use Rattle.flow_table.specs.TableLaws.{an_entry}
+use Rattle.flow_table.specs.laws.TableLaws.{an_entry}
 use Rattle.flow_table.specs.Change.{modified, means}
 use Rattle.flow_table.proofs.changing.replace_actions.Goals as goal
 

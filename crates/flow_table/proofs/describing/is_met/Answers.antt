@@ -2,7 +2,7 @@ use Rattle.std.proofs.Common.{◌≡◌, ◌∙◌, sym, ap, refl, true}
 use Rattle.std.specs.List.{list_any}
 use Rattle.flow_table.specs.Change.{is_strict}
 use Rattle.flow_table.specs.Table.{has_key}
-use Rattle.flow_table.specs.ChangeLaws.{list_any-strict}
+use Rattle.flow_table.specs.laws.ChangeLaws.{list_any-strict}
 use Rattle.flow_table.proofs.describing.is_met.Goals as goal
 
 pub returns-then-m-eq-MODIFY_STRICT : goal.returns-then-m-eq-MODIFY_STRICT

@@ -6,7 +6,7 @@ use Rattle.std.specs.declared.cmp.Ordering.TheVariants.{Less, Equal, Greater}
 use Rattle.of_match.specs.Key.{key_number}
 use Rattle.flow_table.specs.declared.entry.Entry.{Entry}
 use Rattle.flow_table.specs.Table.{place_of, IsTable, Parts}
-use Rattle.flow_table.specs.TableLaws.{key_number-rises}
+use Rattle.flow_table.specs.laws.TableLaws.{key_number-rises}
 use Rattle.flow_table.proofs.describing.position.Goals as goal
 
 -- where the entry in the middle stands below, all up to it do

@@ -3,7 +3,7 @@ use Rattle.std.proofs.Math.ListN.{drop_of_length-le}
 use Rattle.std.proofs.lemmas.List.{take_all}
 use Rattle.std.proofs.lemmas.List.Edits.{map_over_more}
 use Rattle.flow_table.specs.Hit.{with_more, with_counts}
-use Rattle.flow_table.specs.HitLaws.{IsTable-with_counts}
+use Rattle.flow_table.specs.laws.HitLaws.{IsTable-with_counts}
 use Rattle.flow_table.proofs.hitting.add_counts.Goals as goal
 
 -- past the end each entry has its counts

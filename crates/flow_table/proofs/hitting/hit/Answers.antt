@@ -4,7 +4,7 @@ use Rattle.of_match.specs.declared.packet_key.PacketKey.{PacketKey}
 use Rattle.flow_table.specs.declared.entry.Entry.{Entry}
 use Rattle.flow_table.specs.Table.{IsTable, IsPositionOf}
 use Rattle.flow_table.specs.Hit.{best, counted, hit}
-use Rattle.flow_table.specs.HitLaws.{hit-set, IsTable-hit}
+use Rattle.flow_table.specs.laws.HitLaws.{hit-set, IsTable-hit}
 use Rattle.flow_table.proofs.hitting.hit.Goals as goal
 
 found : (o : Option Entry) (es : List Entry) (i : ℕ) (e : Entry) → e ≡ get_or es i e → IsPositionOf o es (Some i) → (o ≡ Some e) × (i < length es)

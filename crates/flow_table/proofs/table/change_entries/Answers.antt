@@ -1,5 +1,5 @@
 use Rattle.std.proofs.Common.{◌≡◌, None, sym, ◌∙◌}
-use Rattle.flow_table.specs.ChangeLaws.{refusal-delete}
+use Rattle.flow_table.specs.laws.ChangeLaws.{refusal-delete}
 use Rattle.flow_table.proofs.table.change_entries.Goals as goal
 
 pub returns-in-Some-clause-without_notices : goal.returns-in-Some-clause-without_notices

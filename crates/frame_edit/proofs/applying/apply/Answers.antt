@@ -1,6 +1,6 @@
 use Rattle.std.proofs.Common.{sym, ap, ◌∙◌}
 use Rattle.frame_edit.specs.Edits.{outputs}
-use Rattle.frame_edit.specs.OutputLaws.{outputs-drop, outputs-drop_all}
+use Rattle.frame_edit.specs.laws.OutputLaws.{outputs-drop, outputs-drop_all}
 use Rattle.frame_edit.proofs.applying.apply.Goals as goal
 
 pub loop-action-preserved : goal.loop-action-preserved

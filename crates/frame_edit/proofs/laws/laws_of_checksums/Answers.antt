@@ -1,5 +1,5 @@
-use Rattle.frame_edit.specs.ChecksumLaws.{checksum-verified, carried_sum-is}
-use Rattle.frame_edit.specs.VerifyLaws.{with_checksums-verify}
+use Rattle.frame_edit.specs.laws.ChecksumLaws.{checksum-verified, carried_sum-is}
+use Rattle.frame_edit.specs.laws.VerifyLaws.{with_checksums-verify}
 use Rattle.frame_edit.proofs.laws.laws_of_checksums.Goals as goal
 
 pub returns-clause-complement : goal.returns-clause-complement

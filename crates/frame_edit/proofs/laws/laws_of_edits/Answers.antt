@@ -1,4 +1,4 @@
-use Rattle.frame_edit.specs.WrittenLaws.{edited-renews, with_address-keeps, with_control-keeps, without_tag-with_control}
+use Rattle.frame_edit.specs.laws.WrittenLaws.{edited-renews, with_address-keeps, with_control-keeps, without_tag-with_control}
 use Rattle.frame_edit.proofs.laws.laws_of_edits.Goals as goal
 
 pub returns-clause-datagram : goal.returns-clause-datagram

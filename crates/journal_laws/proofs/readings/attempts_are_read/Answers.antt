@@ -1,4 +1,4 @@
-use Rattle.journal_laws.specs.ReadingLaws.{attempt_read}
+use Rattle.journal_laws.specs.laws.ReadingLaws.{attempt_read}
 use Rattle.journal_laws.proofs.readings.attempts_are_read.Goals as goal
 
 pub returns : goal.returns

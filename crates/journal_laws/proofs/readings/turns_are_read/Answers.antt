@@ -1,5 +1,5 @@
 use Rattle.std.specs.Prelude.{true, false}
-use Rattle.journal_laws.specs.ReadingLaws.{turn_read}
+use Rattle.journal_laws.specs.laws.ReadingLaws.{turn_read}
 use Rattle.journal_laws.proofs.readings.turns_are_read.Goals as goal
 
 pub returns : goal.returns

@@ -1,5 +1,5 @@
 use Rattle.std.proofs.Common.{sym, ◌∙◌}
-use Rattle.lego_io.specs.LinesLaws.{lines_of-some, lines_of-none}
+use Rattle.lego_io.specs.laws.LinesLaws.{lines_of-some, lines_of-none}
 use Rattle.lego_io.proofs.lines.first_line.Goals as goal
 
 pub returns-in-Some : goal.returns-in-Some

@@ -1,7 +1,7 @@
 use Rattle.std.proofs.Common.{List, ℕ, refl, ap, ◌∙◌, rules}
 use Rattle.std.proofs.lemmas.List.{nil_from_length}
 use Rattle.lego_io.specs.Lines.{lines_of}
-use Rattle.lego_io.specs.LinesLaws.{lines_of-nil}
+use Rattle.lego_io.specs.laws.LinesLaws.{lines_of-nil}
 use Rattle.legosdn.specs.Input.{behind_separator}
 use Rattle.legosdn.proofs.input.cut.Goals as goal
 

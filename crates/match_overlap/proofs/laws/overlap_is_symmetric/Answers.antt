@@ -1,4 +1,4 @@
-use Rattle.match_overlap.specs.RelationsLaws.{Overlaps-sym, Overlaps-subsumed, Overlaps-wider}
+use Rattle.match_overlap.specs.laws.RelationsLaws.{Overlaps-sym, Overlaps-subsumed, Overlaps-wider}
 use Rattle.match_overlap.proofs.laws.overlap_is_symmetric.Goals as goal
 
 pub returns : goal.returns

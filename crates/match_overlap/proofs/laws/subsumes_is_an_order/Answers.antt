@@ -1,4 +1,4 @@
-use Rattle.match_overlap.specs.RelationsLaws.{Subsumes-refl, Subsumes-trans, Subsumes-antisym}
+use Rattle.match_overlap.specs.laws.RelationsLaws.{Subsumes-refl, Subsumes-trans, Subsumes-antisym}
 use Rattle.match_overlap.proofs.laws.subsumes_is_an_order.Goals as goal
 
 pub returns : goal.returns

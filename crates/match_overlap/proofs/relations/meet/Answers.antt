@@ -1,4 +1,4 @@
-use Rattle.match_overlap.specs.RelationsLaws.{meet_of-is, meet_of-some}
+use Rattle.match_overlap.specs.laws.RelationsLaws.{meet_of-is, meet_of-some}
 use Rattle.match_overlap.proofs.relations.meet.Goals as goal
 
 pub returns-clause-some : goal.returns-clause-some

@@ -1,6 +1,6 @@
-use Rattle.of_match.specs.FieldsLaws.{HasPrefixes-from}
+use Rattle.of_match.specs.laws.FieldsLaws.{HasPrefixes-from}
 use Rattle.match_overlap.specs.Fieldwise.{fields_meet}
-use Rattle.match_overlap.specs.RelationsLaws.{fields_meet-within}
+use Rattle.match_overlap.specs.laws.RelationsLaws.{fields_meet-within}
 use Rattle.match_overlap.proofs.relations.meeting.Goals as goal
 
 pub new-requires : goal.new-requires

@@ -1,7 +1,7 @@
 use Rattle.std.proofs.Common.{◌≡◌, refl}
 use Rattle.std.proofs.lemmas.Bool.Decides.{Decides-at}
 use Rattle.match_overlap.specs.Relations.{is_overlapping}
-use Rattle.match_overlap.specs.RelationsLaws.{is_overlapping-Decides}
+use Rattle.match_overlap.specs.laws.RelationsLaws.{is_overlapping-Decides}
 use Rattle.match_overlap.proofs.relations.overlaps.Goals as goal
 
 pub returns-clause-overlaps : goal.returns-clause-overlaps

@@ -1,7 +1,7 @@
 use Rattle.std.proofs.Common.{◌≡◌, refl}
 use Rattle.std.proofs.lemmas.Bool.Decides.{Decides-at}
 use Rattle.match_overlap.specs.Relations.{is_subsuming}
-use Rattle.match_overlap.specs.RelationsLaws.{is_subsuming-Decides}
+use Rattle.match_overlap.specs.laws.RelationsLaws.{is_subsuming-Decides}
 use Rattle.match_overlap.proofs.relations.subsumes.Goals as goal
 
 pub returns-clause-subsumes : goal.returns-clause-subsumes

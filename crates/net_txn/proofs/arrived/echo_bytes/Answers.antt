@@ -3,7 +3,7 @@ use Rattle.std.proofs.lemmas.Result.{IfOk-weaker}
 use Rattle.of_wire.specs.declared.message.Message.TheVariants.{EchoRequest, EchoReply}
 use Rattle.of_wire.specs.Spelling.{message_size}
 use Rattle.of_wire.specs.Grammar.{IsMessage}
-use Rattle.of_wire.specs.ReadingLaws.{reading_of-message_bytes}
+use Rattle.of_wire.specs.laws.ReadingLaws.{reading_of-message_bytes}
 use Rattle.net_txn.proofs.arrived.echo_bytes.Goals as goal
 
 a_reply : (payload : List ℕ) → IsMessage (EchoRequest payload) → IsMessage (EchoReply payload)

@@ -2,7 +2,7 @@ use Rattle.std.proofs.Common.{refl, arith}
 use Rattle.of_wire.specs.declared.message.Message.TheVariants.{SetConfig}
 use Rattle.of_wire.specs.Spelling.{message_size}
 use Rattle.of_wire.specs.Grammar.{IsMessage}
-use Rattle.of_wire.specs.ReadingLaws.{reading_of-message_bytes}
+use Rattle.of_wire.specs.laws.ReadingLaws.{reading_of-message_bytes}
 use Rattle.flow_table.specs.Switch.{first_config}
 use Rattle.net_txn.proofs.greeting.configuring.Goals as goal
 

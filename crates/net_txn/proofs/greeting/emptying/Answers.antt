@@ -3,7 +3,7 @@ use Rattle.std.proofs.lemmas.Result.{IfOk-weaker}
 use Rattle.of_wire.specs.declared.message.Message.TheVariants.{FlowMod}
 use Rattle.of_wire.specs.Spelling.{message_size}
 use Rattle.of_wire.specs.Grammar.{IsMessage}
-use Rattle.of_wire.specs.ReadingLaws.{reading_of-message_bytes}
+use Rattle.of_wire.specs.laws.ReadingLaws.{reading_of-message_bytes}
 use Rattle.net_txn.specs.Joining.{delete_all}
 use Rattle.net_txn.proofs.greeting.emptying.Goals as goal
 

@@ -2,12 +2,12 @@ use Rattle.std.proofs.Common.{[], ◌∷◌}
 use Rattle.std.proofs.lemmas.Result.{IfOk-weaker, err_from_is_err_and}
 use Rattle.of_types.specs.declared.journal.Act.TheVariants.{Sent}
 use Rattle.outside.specs.declared.step.WorldStep.TheVariants.{Acted}
-use Rattle.net_txn.specs.CauseLaws.{cause_later}
+use Rattle.net_txn.specs.laws.CauseLaws.{cause_later}
 use Rattle.lego_model.specs.BarrierWaits.{barrier_sent}
-use Rattle.net_txn.specs.WaitLaws.{step_before}
-use Rattle.net_txn.specs.FloodLaws.{floods_not, floods_later}
-use Rattle.net_txn.specs.LinkStepLaws.{OnLinks-trans}
-use Rattle.net_txn.specs.LinkStrayLaws.{behind_place}
+use Rattle.net_txn.specs.laws.WaitLaws.{step_before}
+use Rattle.net_txn.specs.laws.FloodLaws.{floods_not, floods_later}
+use Rattle.net_txn.specs.laws.LinkStepLaws.{OnLinks-trans}
+use Rattle.net_txn.specs.laws.LinkStrayLaws.{behind_place}
 use Rattle.net_txn.proofs.greeting.greet.Goals as goal
 
 pub returns-clause-ok : goal.returns-clause-ok

@@ -1,5 +1,5 @@
 use Rattle.std.proofs.Common.{arith}
-use Rattle.net_txn.specs.JoiningLaws.{lower_more, lower_stop, lower_end}
+use Rattle.net_txn.specs.laws.JoiningLaws.{lower_more, lower_stop, lower_end}
 use Rattle.net_txn.proofs.joining.position_for.Goals as goal
 
 pub loop-i-preserved : goal.loop-i-preserved

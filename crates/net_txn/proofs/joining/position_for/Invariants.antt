@@ -1,4 +1,4 @@
-use Rattle.net_txn.specs.JoiningLaws.{LowerBefore}
+use Rattle.net_txn.specs.laws.JoiningLaws.{LowerBefore}
 use Rattle.net_txn.proofs.joining.position_for.Given as goal
 
 abbrev pub invariant-loop-i : goal.invariant-loop-i

@@ -1,4 +1,4 @@
-use Rattle.net_txn.specs.OrderLaws.{with_rows-ascends, with_view-ascends, left-ascends}
+use Rattle.net_txn.specs.laws.OrderLaws.{with_rows-ascends, with_view-ascends, left-ascends}
 use Rattle.net_txn.proofs.laws.views_stay_in_order.Goals as goal
 
 pub returns-clause-changed : goal.returns-clause-changed

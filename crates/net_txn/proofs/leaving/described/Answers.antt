@@ -1,5 +1,5 @@
 use Rattle.std.proofs.Common.{ap, drop, ◌∙◌, List, ℕ}
-use Rattle.net_txn.specs.LeavingLaws.{port_text-described}
+use Rattle.net_txn.specs.laws.LeavingLaws.{port_text-described}
 use Rattle.net_txn.proofs.leaving.described.Goals as goal
 
 pub returns-clause-text : goal.returns-clause-text

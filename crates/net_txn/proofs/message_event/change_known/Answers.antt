@@ -2,7 +2,7 @@ use Rattle.std.proofs.Common.{sym, arith, subst, List}
 use Rattle.std.proofs.lemmas.Result.{on_ok_weaker}
 use Rattle.net_txn.specs.declared.ports.KnownPorts.{KnownPorts}
 use Rattle.net_txn.specs.Arriving.{IsNoKnown}
-use Rattle.net_txn.specs.KnownLaws.{known_after-none, known_placed, IsKnownAt-within}
+use Rattle.net_txn.specs.laws.KnownLaws.{known_after-none, known_placed, IsKnownAt-within}
 use Rattle.net_txn.proofs.message_event.change_known.Goals as goal
 
 pub index_mut-requires : goal.index_mut-requires

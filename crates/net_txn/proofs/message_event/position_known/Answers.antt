@@ -1,6 +1,6 @@
 use Rattle.std.proofs.Common.{arith}
 use Rattle.std.proofs.lemmas.Bool.{ne_eqb}
-use Rattle.net_txn.specs.KnownLaws.{looked_none, looked_more, looked_stop, looked_all}
+use Rattle.net_txn.specs.laws.KnownLaws.{looked_none, looked_more, looked_stop, looked_all}
 use Rattle.net_txn.proofs.message_event.position_known.Goals as goal
 
 pub loop-i-init : goal.loop-i-init

@@ -2,7 +2,7 @@ use Rattle.std.proofs.Common.{◌≡◌, ◌≢◌, ℕ, ◌<◌, List, length, 
 use Rattle.std.specs.List.{insert}
 use Rattle.of_types.specs.declared.port_desc.PortDesc.{PortDesc}
 use Rattle.net_txn.specs.Arriving.{with_port, IsPortPlace}
-use Rattle.net_txn.specs.PortLaws.{with_port-found, with_port-absent, IsPortPlace-le}
+use Rattle.net_txn.specs.laws.PortLaws.{with_port-found, with_port-absent, IsPortPlace-le}
 use Rattle.net_txn.proofs.ports.put_port.Goals as goal
 
 pub insert-requires : goal.insert-requires

@@ -1,6 +1,6 @@
 use Rattle.std.proofs.Common.{refl, arith}
 use Rattle.std.proofs.lemmas.Result.{IfOk-weaker}
-use Rattle.net_txn.specs.SentLaws.{IsMessage-as_sent, reading_of-as_sent}
+use Rattle.net_txn.specs.laws.SentLaws.{IsMessage-as_sent, reading_of-as_sent}
 use Rattle.net_txn.proofs.prepared.frame_of.Goals as goal
 
 pub encode-requires : goal.encode-requires

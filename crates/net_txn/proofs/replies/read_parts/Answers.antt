@@ -2,7 +2,7 @@ use Rattle.std.proofs.Common.{ℕ, List, Result, Err, inl, ap, subst, ◌∙◌}
 use Rattle.of_stats.specs.declared.fault.StatsFault.{StatsFault}
 use Rattle.of_stats.specs.Parts.{IsFirstBad}
 use Rattle.lego_model.specs.FlowQueries.{all_parts}
-use Rattle.net_txn.specs.AskLaws.{within_messages, broken_at}
+use Rattle.net_txn.specs.laws.AskLaws.{within_messages, broken_at}
 use Rattle.net_txn.proofs.replies.read_parts.Goals as goal
 
 abbrev failed : StatsFault → Result (List ℕ) StatsFault

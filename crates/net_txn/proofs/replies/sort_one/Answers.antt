@@ -1,7 +1,7 @@
 use Rattle.std.proofs.Common.{sym, ap, ◌∙◌}
 use Rattle.std.proofs.lemmas.List.{append-nil}
 use Rattle.lego_model.specs.FlowQueries.{is_about}
-use Rattle.net_txn.specs.AskLaws.{part_refuses_not}
+use Rattle.net_txn.specs.laws.AskLaws.{part_refuses_not}
 use Rattle.net_txn.proofs.replies.sort_one.Goals as goal
 
 pub returns-in_ok-push-clause-refusals : goal.returns-in_ok-push-clause-refusals

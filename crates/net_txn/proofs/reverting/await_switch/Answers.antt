@@ -1,5 +1,5 @@
 use Rattle.std.proofs.Common.{refl, arith}
-use Rattle.net_txn.specs.RevertLaws.{unfaulted, passed_none, passed_failed, await_expected, barred_here, barred_there, barred_failed, barred_none}
+use Rattle.net_txn.specs.laws.RevertLaws.{unfaulted, passed_none, passed_failed, await_expected, barred_here, barred_there, barred_failed, barred_none}
 use Rattle.net_txn.proofs.reverting.await_switch.Goals as goal
 
 pub returns-in_default-clause-barred : goal.returns-in_default-clause-barred

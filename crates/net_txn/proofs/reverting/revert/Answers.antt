@@ -1,7 +1,7 @@
 use Rattle.std.proofs.Common.{◌≡◌, ◌+◌, get_or, drop, refl, sym, ap, ◌∙◌}
 use Rattle.net_txn.specs.declared.logged.UndoProgress.{UndoProgress}
 use Rattle.net_txn.specs.Undos.{progress_of}
-use Rattle.net_txn.specs.RevertLaws.{skipped_at, unfaulted}
+use Rattle.net_txn.specs.laws.RevertLaws.{skipped_at, unfaulted}
 use Rattle.net_txn.proofs.reverting.revert.Goals as goal
 
 pub returns-else-reverts-clause-undoing : goal.returns-else-reverts-clause-undoing

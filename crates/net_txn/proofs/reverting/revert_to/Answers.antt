@@ -4,7 +4,7 @@ use Rattle.std.proofs.lemmas.List.{get_or-set_same}
 use Rattle.std.proofs.Math.Seq.{lt-length-set}
 use Rattle.net_txn.specs.declared.logged.Logged.{Logged}
 use Rattle.net_txn.specs.Undos.{with_progress}
-use Rattle.net_txn.specs.RevertLaws.{stuck_at, sent_at, few_at, unfaulted, await_reverted}
+use Rattle.net_txn.specs.laws.RevertLaws.{stuck_at, sent_at, few_at, unfaulted, await_reverted}
 use Rattle.net_txn.proofs.reverting.revert_to.Goals as goal
 
 pub returns-in_err-send_at-clause-undoing : goal.returns-in_err-send_at-clause-undoing

@@ -3,7 +3,7 @@ use Rattle.std.proofs.lemmas.Result.{IfOk-weaker}
 use Rattle.of_wire.specs.declared.message.Message.TheVariants.{StatsRequest}
 use Rattle.of_wire.specs.Spelling.{message_size}
 use Rattle.of_wire.specs.Grammar.{IsMessage}
-use Rattle.of_wire.specs.ReadingLaws.{reading_of-message_bytes}
+use Rattle.of_wire.specs.laws.ReadingLaws.{reading_of-message_bytes}
 use Rattle.net_txn.proofs.row_request.flows_request.Goals as goal
 
 a_message : (body : List ℕ) → length body ≡ 44 → IsMessage (StatsRequest (record { kind = 1; flags = 0; body = body }))

@@ -3,13 +3,13 @@ use Rattle.std.proofs.lemmas.Result.{err_from_is_err_and}
 use Rattle.of_wire.specs.declared.message.Message.TheVariants.{BarrierReply}
 use Rattle.of_wire.specs.Spelling.{message_bytes}
 use Rattle.lego_model.specs.declared.wait.Awaited.{Awaited}
-use Rattle.net_txn.specs.AskLaws.{long_parts, sorted_more, sorted_some, came_more, asked_cause, asked_place, asked_waits, asked_flooded, replies_no_flood, answer_by_replies}
-use Rattle.outside.specs.SeenLaws.{Continues-refl}
-use Rattle.net_txn.specs.WaitLaws.{none_kept}
-use Rattle.net_txn.specs.LinkStepLaws.{OnLinks-refl}
-use Rattle.net_txn.specs.LinkStrayLaws.{no_strays_none}
-use Rattle.net_txn.specs.HeardLaws.{next_xid-lt}
-use Rattle.net_txn.specs.ReadLaws.{waits_read}
+use Rattle.net_txn.specs.laws.AskLaws.{long_parts, sorted_more, sorted_some, came_more, asked_cause, asked_place, asked_waits, asked_flooded, replies_no_flood, answer_by_replies}
+use Rattle.outside.specs.laws.SeenLaws.{Continues-refl}
+use Rattle.net_txn.specs.laws.WaitLaws.{none_kept}
+use Rattle.net_txn.specs.laws.LinkStepLaws.{OnLinks-refl}
+use Rattle.net_txn.specs.laws.LinkStrayLaws.{no_strays_none}
+use Rattle.net_txn.specs.laws.HeardLaws.{next_xid-lt}
+use Rattle.net_txn.specs.laws.ReadLaws.{waits_read}
 use Rattle.net_txn.proofs.row_request.request_rows.Goals as goal
 
 pub returns-in_err-replies : goal.returns-in_err-replies

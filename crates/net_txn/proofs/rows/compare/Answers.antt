@@ -1,5 +1,5 @@
 use Rattle.std.proofs.Common.{sym, ◌∙◌, arith}
-use Rattle.of_match.specs.KeyLaws.{key_number-cmp}
+use Rattle.of_match.specs.laws.KeyLaws.{key_number-cmp}
 use Rattle.net_txn.proofs.rows.compare.Goals as goal
 
 pub returns : goal.returns

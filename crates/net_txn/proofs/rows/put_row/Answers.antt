@@ -3,7 +3,7 @@ use Rattle.std.specs.List.{insert}
 use Rattle.of_match.specs.Key.{key_number}
 use Rattle.flow_table.specs.declared.view.ViewRow.{ViewRow}
 use Rattle.net_txn.specs.Views.{with_row, IsRowPlace}
-use Rattle.net_txn.specs.ViewLaws.{with_row-found, with_row-absent, IsRowPlace-le}
+use Rattle.net_txn.specs.laws.ViewLaws.{with_row-found, with_row-absent, IsRowPlace-le}
 use Rattle.net_txn.proofs.rows.put_row.Goals as goal
 
 pub insert-requires : goal.insert-requires

@@ -2,7 +2,7 @@ use Rattle.std.proofs.Common.{◌≡◌, ◌+◌, ◌-◌, ℕ, [], List, length
 use Rattle.std.proofs.lemmas.List.{drop_all, length-map}
 use Rattle.of_match.specs.declared.key.Key.{Key}
 use Rattle.net_txn.specs.Undos.{Further, key_logged}
-use Rattle.net_txn.specs.FurtherLaws.{Further-none, room_same, room_then}
+use Rattle.net_txn.specs.laws.FurtherLaws.{Further-none, room_same, room_then}
 use Rattle.net_txn.proofs.undo.revert_all.Goals as goal
 
 pub loop-done-init : goal.loop-done-init

@@ -1,4 +1,4 @@
-use Rattle.net_txn.specs.FurtherLaws.{faultless}
+use Rattle.net_txn.specs.laws.FurtherLaws.{faultless}
 use Rattle.net_txn.proofs.undo.revert_noted.Goals as goal
 
 pub returns-in_default-clause-undoing : goal.returns-in_default-clause-undoing

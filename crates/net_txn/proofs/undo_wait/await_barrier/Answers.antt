@@ -2,7 +2,7 @@ use Rattle.std.proofs.Common.{arith, List, ℕ, ◌∷◌, [], ap}
 use Rattle.std.proofs.lemmas.Result.{on_ok_weaker, IfErr-weaker}
 use Rattle.of_types.specs.declared.journal.Act.TheVariants.{Sent}
 use Rattle.outside.specs.declared.step.WorldStep.TheVariants.{Acted}
-use Rattle.net_txn.specs.UndoWaitLaws.{Settles-behind, Fails-behind, Moves-same}
+use Rattle.net_txn.specs.laws.UndoWaitLaws.{Settles-behind, Fails-behind, Moves-same}
 use Rattle.net_txn.proofs.undo_wait.await_barrier.Goals as goal
 
 pub returns-clause-ok : goal.returns-clause-ok

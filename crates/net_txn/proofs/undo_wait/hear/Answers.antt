@@ -1,10 +1,10 @@
 use Rattle.std.proofs.Common.{◌∷◌, take, sym, ◌∙◌}
 use Rattle.std.proofs.lemmas.Result.{IfErr-weaker, err_from_is_err_and}
-use Rattle.net_txn.specs.UndoWaitLaws.{heard_next, refused_next, Fails-behind}
+use Rattle.net_txn.specs.laws.UndoWaitLaws.{heard_next, refused_next, Fails-behind}
 use Rattle.lego_model.specs.BarrierWaits.{wait_steps, barrier_sent}
 use Rattle.net_txn.specs.Undos.{inverses_in}
-use Rattle.net_txn.specs.SizeLaws.{header-read}
-use Rattle.net_txn.specs.UndoWithoutStraysLaws.{goes_got, goes_barrier, barrier_waits}
+use Rattle.net_txn.specs.laws.SizeLaws.{header-read}
+use Rattle.net_txn.specs.laws.UndoWithoutStraysLaws.{goes_got, goes_barrier, barrier_waits}
 use Rattle.net_txn.proofs.undo_wait.hear.Goals as goal
 
 pub get_u32-requires : goal.get_u32-requires

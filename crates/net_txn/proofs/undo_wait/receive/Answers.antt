@@ -1,5 +1,5 @@
 use Rattle.std.proofs.Common.{refl}
-use Rattle.net_txn.specs.UndoWaitLaws.{got_moves, receive_stuck, received_broke}
+use Rattle.net_txn.specs.laws.UndoWaitLaws.{got_moves, receive_stuck, received_broke}
 use Rattle.net_txn.proofs.undo_wait.receive.Goals as goal
 
 pub returns-in-Err-clause-err : goal.returns-in-Err-clause-err

@@ -1,4 +1,4 @@
-use Rattle.net_txn.specs.UndoWaitLaws.{sent_moves, send_stuck}
+use Rattle.net_txn.specs.laws.UndoWaitLaws.{sent_moves, send_stuck}
 use Rattle.net_txn.proofs.undo_wait.send.Goals as goal
 
 pub returns-in-Ok-clause-ok : goal.returns-in-Ok-clause-ok

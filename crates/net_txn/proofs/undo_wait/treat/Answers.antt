@@ -1,5 +1,5 @@
 use Rattle.std.proofs.Common.{sym, ◌∙◌}
-use Rattle.net_txn.specs.WaitLaws.{echo_is}
+use Rattle.net_txn.specs.laws.WaitLaws.{echo_is}
 use Rattle.net_txn.proofs.undo_wait.treat.Goals as goal
 
 pub make_reply-requires-clause-kind : goal.make_reply-requires-clause-kind

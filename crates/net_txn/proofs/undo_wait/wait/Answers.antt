@@ -1,8 +1,8 @@
 use Rattle.std.proofs.Common.{◌∙◌, refl, arith}
 use Rattle.std.proofs.lemmas.Result.{err_from_is_err_and}
-use Rattle.net_txn.specs.WaitLaws.{none_kept}
+use Rattle.net_txn.specs.laws.WaitLaws.{none_kept}
 use Rattle.net_txn.specs.Undos.{inverses_in}
-use Rattle.net_txn.specs.UndoWaitLaws.{none_heard, one_heard, heard_all, Fails-behind, Fails-flooded, kept_then}
+use Rattle.net_txn.specs.laws.UndoWaitLaws.{none_heard, one_heard, heard_all, Fails-behind, Fails-flooded, kept_then}
 use Rattle.net_txn.proofs.undo_wait.wait.Goals as goal
 
 pub loop-heard-init : goal.loop-heard-init

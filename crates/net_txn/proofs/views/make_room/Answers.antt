@@ -1,5 +1,5 @@
 use Rattle.std.proofs.Common.{arith}
-use Rattle.net_txn.specs.ViewLaws.{IsViewAt-within}
+use Rattle.net_txn.specs.laws.ViewLaws.{IsViewAt-within}
 use Rattle.net_txn.proofs.views.make_room.Goals as goal
 
 pub index_mut-requires : goal.index_mut-requires

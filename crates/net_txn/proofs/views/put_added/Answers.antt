@@ -1,5 +1,5 @@
 use Rattle.std.proofs.Common.{sym}
-use Rattle.net_txn.specs.ViewLaws.{with_rows-kept}
+use Rattle.net_txn.specs.laws.ViewLaws.{with_rows-kept}
 use Rattle.net_txn.proofs.views.put_added.Goals as goal
 
 pub returns-in-None-clause-ok : goal.returns-in-None-clause-ok

@@ -1,7 +1,7 @@
 use Rattle.std.proofs.Common.{sym, arith}
 use Rattle.std.proofs.lemmas.Result.{on_ok_weaker}
 use Rattle.net_txn.specs.Views.{with_row}
-use Rattle.net_txn.specs.ViewLaws.{with_rows-none, with_rows-placed, IsViewAt-within}
+use Rattle.net_txn.specs.laws.ViewLaws.{with_rows-none, with_rows-placed, IsViewAt-within}
 use Rattle.net_txn.proofs.views.put_in.Goals as goal
 
 pub index_mut-requires : goal.index_mut-requires

@@ -1,6 +1,6 @@
 use Rattle.std.proofs.Common.{sym, arith}
 use Rattle.net_txn.specs.Arriving.{without_key}
-use Rattle.net_txn.specs.ViewLaws.{with_rows-none, with_rows-placed, IsViewAt-within}
+use Rattle.net_txn.specs.laws.ViewLaws.{with_rows-none, with_rows-placed, IsViewAt-within}
 use Rattle.net_txn.proofs.views.remove_in.Goals as goal
 
 pub index_mut-requires : goal.index_mut-requires

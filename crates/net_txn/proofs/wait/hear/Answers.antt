@@ -1,10 +1,10 @@
 use Rattle.std.proofs.Common.{take}
-use Rattle.of_types.specs.FieldLaws.{IsBytes-take}
+use Rattle.of_types.specs.laws.FieldLaws.{IsBytes-take}
 use Rattle.outside.specs.State.{state}
-use Rattle.net_txn.specs.CauseLaws.{cause_later}
-use Rattle.net_txn.specs.WaitLaws.{heard_one}
-use Rattle.net_txn.specs.LinkStepLaws.{OnLinks-trans}
-use Rattle.net_txn.specs.LinkStrayLaws.{heard_place, awaits_waiting}
+use Rattle.net_txn.specs.laws.CauseLaws.{cause_later}
+use Rattle.net_txn.specs.laws.WaitLaws.{heard_one}
+use Rattle.net_txn.specs.laws.LinkStepLaws.{OnLinks-trans}
+use Rattle.net_txn.specs.laws.LinkStrayLaws.{heard_place, awaits_waiting}
 use Rattle.net_txn.proofs.wait.hear.Goals as goal
 
 pub returns-clause-ok : goal.returns-clause-ok

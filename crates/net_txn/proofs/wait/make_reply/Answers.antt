@@ -1,5 +1,5 @@
 use Rattle.std.proofs.Common.{◌∙◌}
-use Rattle.net_txn.specs.EchoLaws.{echo_reply-with_field, echo_reply-read}
+use Rattle.net_txn.specs.laws.EchoLaws.{echo_reply-with_field, echo_reply-read}
 use Rattle.net_txn.proofs.wait.make_reply.Goals as goal
 
 pub returns-clause-reply : goal.returns-clause-reply

@@ -1,7 +1,7 @@
 use Rattle.std.proofs.Common.{[], refl}
 use Rattle.outside.specs.Calls.{receive_steps}
-use Rattle.net_txn.specs.LinkStepLaws.{Receives-links}
-use Rattle.net_txn.specs.LinkStrayLaws.{Receives-no_strays}
+use Rattle.net_txn.specs.laws.LinkStepLaws.{Receives-links}
+use Rattle.net_txn.specs.laws.LinkStrayLaws.{Receives-no_strays}
 use Rattle.net_txn.proofs.wait.receive.Goals as goal
 
 pub returns-in-Ok-check-clause-told : goal.returns-in-Ok-check-clause-told

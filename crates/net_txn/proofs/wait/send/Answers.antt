@@ -1,6 +1,6 @@
 use Rattle.outside.specs.Calls.{send_steps}
-use Rattle.net_txn.specs.LinkStepLaws.{Sends-links}
-use Rattle.net_txn.specs.LinkStrayLaws.{Sends-no_strays}
+use Rattle.net_txn.specs.laws.LinkStepLaws.{Sends-links}
+use Rattle.net_txn.specs.laws.LinkStrayLaws.{Sends-no_strays}
 use Rattle.net_txn.proofs.wait.send.Goals as goal
 
 pub returns-in-Ok-clause-told : goal.returns-in-Ok-clause-told

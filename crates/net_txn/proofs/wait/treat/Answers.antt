@@ -1,6 +1,6 @@
 use Rattle.std.proofs.Common.{sym, ◌∙◌}
-use Rattle.net_txn.specs.WaitLaws.{echo_is}
-use Rattle.net_txn.specs.LinkStrayLaws.{no_strays_none}
+use Rattle.net_txn.specs.laws.WaitLaws.{echo_is}
+use Rattle.net_txn.specs.laws.LinkStrayLaws.{no_strays_none}
 use Rattle.net_txn.proofs.wait.treat.Goals.{in-Refused, in-Notice, in-Echo+in_ok-send-in-Echo, in-Other+in_ok-push-in-Other}
 use Rattle.net_txn.proofs.wait.treat.Goals as goal
 

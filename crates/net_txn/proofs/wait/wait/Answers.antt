@@ -1,10 +1,10 @@
 use Rattle.std.proofs.Common.{[], ◌∙◌, arith}
 use Rattle.std.proofs.lemmas.Result.{err_from_is_err_and}
-use Rattle.net_txn.specs.CauseLaws.{IsCause-later}
-use Rattle.net_txn.specs.WaitLaws.{none_yet, one_more, ended, kept_so_far}
-use Rattle.net_txn.specs.FloodLaws.{floods_not, flooded}
-use Rattle.net_txn.specs.LinkStepLaws.{OnLinks-trans, WaitsOn-links}
-use Rattle.net_txn.specs.LinkStrayLaws.{on_place, got_in_place, told_so_far}
+use Rattle.net_txn.specs.laws.CauseLaws.{IsCause-later}
+use Rattle.net_txn.specs.laws.WaitLaws.{none_yet, one_more, ended, kept_so_far}
+use Rattle.net_txn.specs.laws.FloodLaws.{floods_not, flooded}
+use Rattle.net_txn.specs.laws.LinkStepLaws.{OnLinks-trans, WaitsOn-links}
+use Rattle.net_txn.specs.laws.LinkStrayLaws.{on_place, got_in_place, told_so_far}
 use Rattle.net_txn.proofs.wait.wait.Goals as goal
 
 pub loop-heard-init : goal.loop-heard-init

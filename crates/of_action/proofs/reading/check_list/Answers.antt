@@ -2,7 +2,7 @@ use Rattle.std.proofs.Common.{◌≡◌, ◌+◌, ◌≤◌, [], ◌∷◌, ◌+
 use Rattle.std.proofs.lemmas.List.{take_rest, length-drop}
 use Rattle.of_types.specs.Fields.{number_at}
 use Rattle.of_action.specs.Reading.{length_at, action_of, actions_of}
-use Rattle.of_action.specs.ReadingLaws.{IsLength-length_at}
+use Rattle.of_action.specs.laws.ReadingLaws.{IsLength-length_at}
 use Rattle.of_action.proofs.Loop.{begins, goes_on, ends, is_done, action_at-length, action_at-fault, tells_done}
 use Rattle.of_action.proofs.reading.check_list.Goals as goal
 

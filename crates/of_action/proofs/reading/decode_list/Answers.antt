@@ -1,6 +1,6 @@
 use Rattle.std.proofs.Common.{subst, arith}
 use Rattle.of_action.specs.Reading.{Gives}
-use Rattle.of_action.specs.ActionLaws.{found_from_gives, actions_of-Spell}
+use Rattle.of_action.specs.laws.ActionLaws.{found_from_gives, actions_of-Spell}
 use Rattle.of_action.proofs.reading.decode_list.Goals as goal
 
 pub returns-clause-found : goal.returns-clause-found

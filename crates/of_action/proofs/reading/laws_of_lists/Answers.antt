@@ -1,4 +1,4 @@
-use Rattle.of_action.specs.ActionLaws.{Spell-list_bytes, actions_of-list_bytes, same_from_Spell, SameButPads-list_bytes}
+use Rattle.of_action.specs.laws.ActionLaws.{Spell-list_bytes, actions_of-list_bytes, same_from_Spell, SameButPads-list_bytes}
 use Rattle.of_action.proofs.reading.laws_of_lists.Goals as goal
 
 pub returns-clause-written : goal.returns-clause-written

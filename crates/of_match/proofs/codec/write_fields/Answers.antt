@@ -1,6 +1,6 @@
 use Rattle.std.proofs.Common.{refl}
 use Rattle.of_match.specs.Fields.{bytes_of}
-use Rattle.of_match.specs.FieldsLaws.{value_within}
+use Rattle.of_match.specs.laws.FieldsLaws.{value_within}
 use Rattle.of_match.proofs.codec.write_fields.Goals as goal
 
 pub returns-clause-value : goal.returns-clause-value

@@ -1,7 +1,7 @@
 use Rattle.std.proofs.Common.{ap, ◌∙◌}
 use Rattle.std.proofs.lemmas.Bool.Decides.{same_from_decides}
 use Rattle.of_match.specs.Covers.{fields_agree}
-use Rattle.of_match.specs.CoversLaws.{fields_agree-Decides}
+use Rattle.of_match.specs.laws.CoversLaws.{fields_agree-Decides}
 use Rattle.of_match.proofs.covering.covers.Goals as goal
 
 pub returns-clause-value : goal.returns-clause-value

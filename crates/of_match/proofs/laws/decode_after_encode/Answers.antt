@@ -1,4 +1,4 @@
-use Rattle.of_match.specs.MatchLaws.{match_of-bytes_of}
+use Rattle.of_match.specs.laws.MatchLaws.{match_of-bytes_of}
 use Rattle.of_match.proofs.laws.decode_after_encode.Goals as goal
 
 pub returns : goal.returns

@@ -1,4 +1,4 @@
-use Rattle.of_match.specs.MatchLaws.{fields_in-within, fields_in-match_of-bytes_of}
+use Rattle.of_match.specs.laws.MatchLaws.{fields_in-within, fields_in-match_of-bytes_of}
 use Rattle.of_match.proofs.laws.fields_of_matches.Goals as goal
 
 pub returns : goal.returns

@@ -1,4 +1,4 @@
-use Rattle.of_match.specs.MatchLaws.{match_of-same, fields_in-injective}
+use Rattle.of_match.specs.laws.MatchLaws.{match_of-same, fields_in-injective}
 use Rattle.of_match.proofs.laws.one_normal_form.Goals as goal
 
 pub returns : goal.returns

@@ -1,4 +1,4 @@
-use Rattle.of_stats.specs.LayoutLaws.{sum_again, table_again, port_again}
+use Rattle.of_stats.specs.laws.LayoutLaws.{sum_again, table_again, port_again}
 use Rattle.of_stats.proofs.laws.laws_of_layouts.Goals as goal
 
 pub returns-clause-sums : goal.returns-clause-sums

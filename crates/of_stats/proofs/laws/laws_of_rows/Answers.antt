@@ -1,4 +1,4 @@
-use Rattle.of_stats.specs.FlowLaws.{SpellRows-rows_bytes, rows_of-rows_bytes, same_from_SpellRows}
+use Rattle.of_stats.specs.laws.FlowLaws.{SpellRows-rows_bytes, rows_of-rows_bytes, same_from_SpellRows}
 use Rattle.of_stats.proofs.laws.laws_of_rows.Goals as goal
 
 pub returns-clause-written : goal.returns-clause-written

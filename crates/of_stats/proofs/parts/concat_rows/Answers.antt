@@ -1,5 +1,5 @@
 use Rattle.std.proofs.Common.{◌++◌, ℕ, List, sym, ap, ◌∙◌, arith}
-use Rattle.of_stats.specs.PartLaws.{concat_more}
+use Rattle.of_stats.specs.laws.PartLaws.{concat_more}
 use Rattle.of_stats.proofs.parts.concat_rows.Goals as goal
 
 pub loop-row-preserved : goal.loop-row-preserved

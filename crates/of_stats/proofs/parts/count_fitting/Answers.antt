@@ -1,6 +1,6 @@
 use Rattle.std.proofs.Common.{take, ap, ◌∙◌, length, length-append, arith}
 use Rattle.std.specs.List.{concat}
-use Rattle.of_stats.specs.PartLaws.{concat_more}
+use Rattle.of_stats.specs.laws.PartLaws.{concat_more}
 use Rattle.of_stats.proofs.parts.count_fitting.Goals as goal
 
 pub loop-count-preserved : goal.loop-count-preserved

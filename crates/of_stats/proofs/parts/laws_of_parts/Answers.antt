@@ -1,4 +1,4 @@
-use Rattle.of_stats.specs.PartLaws.{split_is_whole, joined_split, one_split, flows_again}
+use Rattle.of_stats.specs.laws.PartLaws.{split_is_whole, joined_split, one_split, flows_again}
 use Rattle.of_stats.proofs.parts.laws_of_parts.Goals as goal
 
 pub returns-clause-whole : goal.returns-clause-whole

@@ -4,7 +4,7 @@ use Rattle.std.specs.List.{concat}
 use Rattle.std.proofs.lemmas.Bool.{eqb-false}
 use Rattle.std.proofs.lemmas.List.Elements.{All-drop}
 use Rattle.of_stats.specs.Parts.{Part, room, AreParts}
-use Rattle.of_stats.specs.PartLaws.{more_parts}
+use Rattle.of_stats.specs.laws.PartLaws.{more_parts}
 use Rattle.of_stats.proofs.parts.split_reply.Goals as goal
 
 pub loop-parts-preserved : goal.loop-parts-preserved

@@ -1,6 +1,6 @@
 use Rattle.std.proofs.Common.{subst, arith}
 use Rattle.of_stats.specs.Reading.{Gives}
-use Rattle.of_stats.specs.FlowLaws.{found_from_gives, rows_of-spelled}
+use Rattle.of_stats.specs.laws.FlowLaws.{found_from_gives, rows_of-spelled}
 use Rattle.of_stats.proofs.reading.read_flow_rows.Goals as goal
 
 pub returns-clause-found : goal.returns-clause-found

@@ -1,5 +1,5 @@
 use Rattle.std.proofs.Common.{◌≤◌, length, arith}
-use Rattle.of_stream.specs.FrameLaws.{IsFrame-take}
+use Rattle.of_stream.specs.laws.FrameLaws.{IsFrame-take}
 use Rattle.of_stream.proofs.cutter.front_of.Goals as goal
 
 pub returns-else-held-size : goal.returns-else-held-size

@@ -3,7 +3,7 @@ use Rattle.std.specs.List.{concat}
 use Rattle.std.proofs.lemmas.List.{append-nil, take_all, take_more}
 use Rattle.std.proofs.lemmas.List.Folds.{concat-append}
 use Rattle.of_stream.specs.Frames.{IsPartial, IsBroken, stream_of, Cuts}
-use Rattle.of_stream.specs.FrameLaws.{one_cut}
+use Rattle.of_stream.specs.laws.FrameLaws.{one_cut}
 use Rattle.of_stream.proofs.streams.cut_pieces.Goals as goal
 
 concat_more : (pieces : List (List ℕ)) (i : ℕ) (piece : List ℕ) → i < length pieces → piece ≡ get_or pieces i piece → concat (take (i + 1) pieces) ≡ concat (take i pieces) ++ piece

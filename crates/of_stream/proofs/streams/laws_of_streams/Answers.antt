@@ -1,6 +1,6 @@
 use Rattle.std.proofs.Common.{[]}
-use Rattle.of_stream.specs.FrameLaws.{one_cut, cut_is_first}
-use Rattle.of_stream.specs.RunLaws.{stream_of_run, frames_of_run}
+use Rattle.of_stream.specs.laws.FrameLaws.{one_cut, cut_is_first}
+use Rattle.of_stream.specs.laws.RunLaws.{stream_of_run, frames_of_run}
 use Rattle.of_stream.proofs.streams.laws_of_streams.Goals as goal
 
 pub returns-clause-so_far : goal.returns-clause-so_far

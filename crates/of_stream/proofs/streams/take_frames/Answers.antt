@@ -2,7 +2,7 @@ use Rattle.std.proofs.Common.{List, ℕ, sym, ap, ◌∙◌, subst}
 use Rattle.std.specs.Prelude.{All}
 use Rattle.std.proofs.lemmas.List.Elements.{All-push}
 use Rattle.of_stream.specs.Frames.{IsFrame, stream_of}
-use Rattle.of_stream.specs.FrameLaws.{stream_of-push}
+use Rattle.of_stream.specs.laws.FrameLaws.{stream_of-push}
 use Rattle.of_stream.proofs.streams.take_frames.Goals as goal
 
 pub loop-frame-preserved : goal.loop-frame-preserved

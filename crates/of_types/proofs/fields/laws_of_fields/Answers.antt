@@ -1,4 +1,4 @@
-use Rattle.of_types.specs.FieldLaws.{number_at-with_field, number_bytes-number_at}
+use Rattle.of_types.specs.laws.FieldLaws.{number_at-with_field, number_bytes-number_at}
 use Rattle.of_types.proofs.fields.laws_of_fields.Goals as goal
 
 pub returns-clause-put_is_got : goal.returns-clause-put_is_got

@@ -1,5 +1,5 @@
-use Rattle.of_wire.specs.SpellingLaws.{SpellMessage-message_bytes}
-use Rattle.of_wire.specs.ReadingLaws.{reading_of-message_bytes}
+use Rattle.of_wire.specs.laws.SpellingLaws.{SpellMessage-message_bytes}
+use Rattle.of_wire.specs.laws.ReadingLaws.{reading_of-message_bytes}
 use Rattle.of_wire.proofs.laws.decode_after_encode.Goals as goal
 
 pub returns-clause-written : goal.returns-clause-written

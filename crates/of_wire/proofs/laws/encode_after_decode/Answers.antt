@@ -1,5 +1,5 @@
-use Rattle.of_wire.specs.GrammarLaws.{read_again}
-use Rattle.of_wire.specs.RewritingLaws.{SameButIgnored-message_bytes}
+use Rattle.of_wire.specs.laws.GrammarLaws.{read_again}
+use Rattle.of_wire.specs.laws.RewritingLaws.{SameButIgnored-message_bytes}
 use Rattle.of_wire.proofs.laws.encode_after_decode.Goals as goal
 
 pub returns-clause-again : goal.returns-clause-again

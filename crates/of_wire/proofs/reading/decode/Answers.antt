@@ -1,7 +1,7 @@
 use Rattle.std.proofs.Common.{subst, arith}
 use Rattle.of_wire.specs.Reading.{Gives}
-use Rattle.of_wire.specs.ReadingLaws.{reading_of-SpellMessage}
-use Rattle.of_wire.specs.GrammarLaws.{found_from_Gives}
+use Rattle.of_wire.specs.laws.ReadingLaws.{reading_of-SpellMessage}
+use Rattle.of_wire.specs.laws.GrammarLaws.{found_from_Gives}
 use Rattle.of_wire.proofs.reading.decode.Goals as goal
 
 pub returns-clause-found : goal.returns-clause-found

@@ -1,4 +1,4 @@
-use Rattle.outside.specs.StateLaws.{Conforming-front, Conforming-rest}
+use Rattle.outside.specs.laws.StateLaws.{Conforming-front, Conforming-rest}
 use Rattle.outside.proofs.laws.conforming_before.Goals as goal
 
 pub returns-clause-front : goal.returns-clause-front

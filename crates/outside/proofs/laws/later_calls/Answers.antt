@@ -1,4 +1,4 @@
-use Rattle.outside.specs.SeenLaws.{Continues-trans, LinkHeld-first, LinkHeld-second}
+use Rattle.outside.specs.laws.SeenLaws.{Continues-trans, LinkHeld-first, LinkHeld-second}
 use Rattle.outside.proofs.laws.later_calls.Goals as goal
 
 pub returns-clause-continues : goal.returns-clause-continues

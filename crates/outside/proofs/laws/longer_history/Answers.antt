@@ -1,5 +1,5 @@
-use Rattle.outside.specs.SeenLaws.{journal-append}
-use Rattle.outside.specs.StateLaws.{after_steps-append}
+use Rattle.outside.specs.laws.SeenLaws.{journal-append}
+use Rattle.outside.specs.laws.StateLaws.{after_steps-append}
 use Rattle.outside.proofs.laws.longer_history.Goals as goal
 
 pub returns-clause-journal : goal.returns-clause-journal

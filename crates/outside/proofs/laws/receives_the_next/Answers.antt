@@ -1,4 +1,4 @@
-use Rattle.outside.specs.CallLaws.{Receives-conforming, Receives-state}
+use Rattle.outside.specs.laws.CallLaws.{Receives-conforming, Receives-state}
 use Rattle.outside.proofs.laws.receives_the_next.Goals as goal
 
 pub returns-clause-next : goal.returns-clause-next

@@ -1,4 +1,4 @@
-use Rattle.outside.specs.CallLaws.{MayStep-at_rest}
+use Rattle.outside.specs.laws.CallLaws.{MayStep-at_rest}
 use Rattle.outside.proofs.laws.rests_until_a_stimulus.Goals as goal
 
 pub returns : goal.returns

@@ -1,4 +1,4 @@
-use Rattle.outside.specs.LinkLaws.{switch_of-sent, waits_of-sent, switch_of-sent_other, waits_of-sent_other}
+use Rattle.outside.specs.laws.LinkLaws.{switch_of-sent, waits_of-sent, switch_of-sent_other, waits_of-sent_other}
 use Rattle.outside.proofs.laws.sent_moves_one.Goals as goal
 
 pub returns-clause-moved : goal.returns-clause-moved

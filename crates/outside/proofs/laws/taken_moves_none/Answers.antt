@@ -1,4 +1,4 @@
-use Rattle.outside.specs.LinkLaws.{switch_of-got, waits_of-got, switch_of-got_other, waits_of-got_other}
+use Rattle.outside.specs.laws.LinkLaws.{switch_of-got, waits_of-got, switch_of-got_other, waits_of-got_other}
 use Rattle.outside.proofs.laws.taken_moves_none.Goals as goal
 
 pub returns-clause-waits : goal.returns-clause-waits

@@ -1,4 +1,4 @@
-use Rattle.run_laws.specs.DispatchLaws.{dispatch-moves, dispatch-life, dispatch-count, next-moves, none-moves}
+use Rattle.run_laws.specs.laws.DispatchLaws.{dispatch-moves, dispatch-life, dispatch-count, next-moves, none-moves}
 use Rattle.run_laws.proofs.events.events_move.Goals as goal
 
 pub returns-clause-dispatched : goal.returns-clause-dispatched

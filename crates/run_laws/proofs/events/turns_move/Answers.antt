@@ -1,4 +1,4 @@
-use Rattle.run_laws.specs.TurnMoveLaws.{turn_moves}
+use Rattle.run_laws.specs.laws.TurnMoveLaws.{turn_moves}
 use Rattle.run_laws.proofs.events.turns_move.Goals as goal
 
 pub returns : goal.returns

@@ -1,4 +1,4 @@
-use Rattle.run_laws.specs.BatchMoveLaws.{batch-happens, batch-over}
+use Rattle.run_laws.specs.laws.BatchMoveLaws.{batch-happens, batch-over}
 use Rattle.run_laws.proofs.whole.batches_move.Goals as goal
 
 pub returns-clause-happens : goal.returns-clause-happens

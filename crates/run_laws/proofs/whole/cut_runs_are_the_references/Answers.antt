@@ -1,4 +1,4 @@
-use Rattle.run_laws.specs.CutLaws.{cut-so, start-so, event-so, end-so}
+use Rattle.run_laws.specs.laws.CutLaws.{cut-so, start-so, event-so, end-so}
 use Rattle.run_laws.proofs.whole.cut_runs_are_the_references.Goals as goal
 
 pub returns-clause-cut : goal.returns-clause-cut

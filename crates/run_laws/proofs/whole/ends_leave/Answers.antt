@@ -1,5 +1,5 @@
-use Rattle.run_laws.specs.EndingLaws.{leaves-then}
-use Rattle.run_laws.specs.LeaveLaws.{end-leaves}
+use Rattle.run_laws.specs.laws.EndingLaws.{leaves-then}
+use Rattle.run_laws.specs.laws.LeaveLaws.{end-leaves}
 use Rattle.run_laws.proofs.whole.ends_leave.Goals as goal
 
 pub returns-clause-end : goal.returns-clause-end

@@ -1,4 +1,4 @@
-use Rattle.run_laws.specs.EndingLaws.{ran-out, ran-full}
+use Rattle.run_laws.specs.laws.EndingLaws.{ran-out, ran-full}
 use Rattle.run_laws.proofs.whole.runs_are_the_references.Goals as goal
 
 pub returns-clause-out : goal.returns-clause-out

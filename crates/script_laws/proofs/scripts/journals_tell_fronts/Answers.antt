@@ -1,4 +1,4 @@
-use Rattle.script_laws.specs.FollowLaws.{tells_fronts}
+use Rattle.script_laws.specs.laws.FollowLaws.{tells_fronts}
 use Rattle.script_laws.proofs.scripts.journals_tell_fronts.Goals as goal
 
 pub returns : goal.returns

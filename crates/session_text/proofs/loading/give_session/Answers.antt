@@ -1,9 +1,9 @@
 use Rattle.std.proofs.Common.{map, sym, ap, ◌∙◌, subst}
 use Rattle.sim_world.specs.World.{given_of}
-use Rattle.sim_world.specs.BuildingLaws.{Begins-given}
+use Rattle.sim_world.specs.laws.BuildingLaws.{Begins-given}
 use Rattle.session_text.specs.SessionView.{view_session, view_declared}
 use Rattle.session_text.specs.Loading.{with_switches, with_faults, with_starts}
-use Rattle.session_text.specs.LoadingLaws.{MayDeclare, before_stimuli, stimuli_follow, all_given, switches_declare, on_ok}
+use Rattle.session_text.specs.laws.LoadingLaws.{MayDeclare, before_stimuli, stimuli_follow, all_given, switches_declare, on_ok}
 use Rattle.session_text.proofs.loading.give_session.Goals as goal
 
 pub give_switches-requires-clause-may : goal.give_switches-requires-clause-may

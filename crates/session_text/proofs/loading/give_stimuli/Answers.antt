@@ -1,7 +1,7 @@
 use Rattle.sim_world.specs.World.{given_of}
 use Rattle.sim_world.specs.Building.{with_stimulus}
 use Rattle.session_text.specs.Loading.{with_stimuli}
-use Rattle.session_text.specs.LoadingLaws.{given_step, stimuli_law, follow_rest}
+use Rattle.session_text.specs.laws.LoadingLaws.{given_step, stimuli_law, follow_rest}
 use Rattle.session_text.proofs.loading.give_stimuli.Goals as goal
 
 pub loop-x-preserved : goal.loop-x-preserved

@@ -3,7 +3,7 @@ use Rattle.sim_world.specs.World.{given_of}
 use Rattle.sim_world.specs.Building.{IsNew}
 use Rattle.session_text.specs.SessionView.{view_declared}
 use Rattle.session_text.specs.Loading.{with_switches}
-use Rattle.session_text.specs.LoadingLaws.{MayDeclare}
+use Rattle.session_text.specs.laws.LoadingLaws.{MayDeclare}
 use Rattle.session_text.proofs.loading.give_switches.Given as goal
 
 abbrev pub invariant-loop-dpid : goal.invariant-loop-dpid

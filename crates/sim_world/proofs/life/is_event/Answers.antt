@@ -1,5 +1,5 @@
 use Rattle.std.proofs.Common.{arith}
-use Rattle.sim_world.specs.LifeLaws.{no_event}
+use Rattle.sim_world.specs.laws.LifeLaws.{no_event}
 use Rattle.sim_world.proofs.life.is_event.Goals as goal
 
 pub returns-else-bytes-gt4 : goal.returns-else-bytes-gt4

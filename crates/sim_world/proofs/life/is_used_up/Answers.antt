@@ -1,7 +1,7 @@
 use Rattle.std.proofs.Common.{sym, ◌∙◌, ap, leb, ℕ}
 use Rattle.app_frames.specs.declared.script.ScriptStep.TheVariants.{Bytes}
 use Rattle.sim_world.specs.Lives.{begins_empty}
-use Rattle.sim_world.specs.LifeLaws.{found-at, from_place-bytes, begins_empty-bytes}
+use Rattle.sim_world.specs.laws.LifeLaws.{found-at, from_place-bytes, begins_empty-bytes}
 use Rattle.sim_world.proofs.life.is_used_up.Goals as goal
 
 pub returns-in-Bytes-clause-same : goal.returns-in-Bytes-clause-same

@@ -1,5 +1,5 @@
 use Rattle.std.proofs.Common.{sym, ◌∙◌}
-use Rattle.sim_world.specs.LifeLaws.{passed-next}
+use Rattle.sim_world.specs.laws.LifeLaws.{passed-next}
 use Rattle.sim_world.proofs.life.pass.Goals as goal
 
 pub loop-at-preserved : goal.loop-at-preserved

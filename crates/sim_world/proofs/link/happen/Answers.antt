@@ -1,4 +1,4 @@
-use Rattle.sim_world.specs.LinkLaws.{IsPossible-stimulus, IsShortIfRaw-stimulus}
+use Rattle.sim_world.specs.laws.LinkLaws.{IsPossible-stimulus, IsShortIfRaw-stimulus}
 use Rattle.sim_world.proofs.link.happen.Goals as goal
 
 pub stimulus-requires : goal.stimulus-requires

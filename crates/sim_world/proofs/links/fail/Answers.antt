@@ -2,7 +2,7 @@ use Rattle.std.proofs.Common.{IfSome, sym}
 use Rattle.std.proofs.Common.{Option}
 use Rattle.outside.specs.State.{Link, link_failed}
 use Rattle.sim_world.specs.Links.{MayCall}
-use Rattle.sim_world.specs.LinksLaws.{links_in-changed, declared_in-set, with_link-not_held}
+use Rattle.sim_world.specs.laws.LinksLaws.{links_in-changed, declared_in-set, with_link-not_held}
 use Rattle.sim_world.proofs.Places.{from_place}
 use Rattle.sim_world.proofs.links.fail.Goals as goal
 

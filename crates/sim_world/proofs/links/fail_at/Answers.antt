@@ -1,6 +1,6 @@
 use Rattle.std.proofs.Common.{sym}
 use Rattle.sim_world.specs.Links.{fails_at}
-use Rattle.sim_world.specs.LinksLaws.{links_in-changed, links_in-kept, declared_in-set, with_link-not_held}
+use Rattle.sim_world.specs.laws.LinksLaws.{links_in-changed, links_in-kept, declared_in-set, with_link-not_held}
 use Rattle.sim_world.proofs.Places.{on_ok, on_err}
 use Rattle.sim_world.proofs.links.fail_at.Goals as goal
 

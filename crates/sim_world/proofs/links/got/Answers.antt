@@ -2,7 +2,7 @@ use Rattle.std.proofs.Common.{◌≡◌, [], Some, IfSome, refl}
 use Rattle.std.specs.Prelude.{slice_get}
 use Rattle.outside.specs.State.{Link, waits_in, link_got}
 use Rattle.sim_world.specs.Links.{MayCall}
-use Rattle.sim_world.specs.LinksLaws.{links_in-changed, links_in-kept, declared_in-set}
+use Rattle.sim_world.specs.laws.LinksLaws.{links_in-changed, links_in-kept, declared_in-set}
 use Rattle.sim_world.proofs.Places.{if_some, if_none, at_place, from_place, at_none}
 use Rattle.std.proofs.Common.{Option}
 use Rattle.sim_world.proofs.links.got.Goals as goal

@@ -1,7 +1,7 @@
 use Rattle.std.proofs.Common.{List, sym, ap, ◌∙◌}
 use Rattle.std.specs.List.{insert}
 use Rattle.sim_world.specs.Links.{Held, insert_held, links_in}
-use Rattle.sim_world.specs.LinksLaws.{links_in-insert}
+use Rattle.sim_world.specs.laws.LinksLaws.{links_in-insert}
 use Rattle.sim_world.proofs.links.insert.Goals as goal
 
 pub returns-clause-ok : goal.returns-clause-ok

@@ -1,5 +1,5 @@
 use Rattle.std.proofs.Common.{◌∙◌}
-use Rattle.sim_world.specs.LinksLaws.{is_declared-place}
+use Rattle.sim_world.specs.laws.LinksLaws.{is_declared-place}
 use Rattle.sim_world.proofs.links.is_held.Goals as goal
 
 pub returns : goal.returns

@@ -2,7 +2,7 @@ use Rattle.std.proofs.Common.{◌≡◌, refl, sym}
 use Rattle.std.proofs.Common.{None}
 use Rattle.outside.specs.State.{Link, link_joined}
 use Rattle.sim_world.specs.Links.{features_of_join}
-use Rattle.sim_world.specs.LinksLaws.{links_in-changed, links_in-kept, declared_in-set, with_link-not_held}
+use Rattle.sim_world.specs.laws.LinksLaws.{links_in-changed, links_in-kept, declared_in-set, with_link-not_held}
 use Rattle.sim_world.proofs.Places.{on_ok, on_err, if_ok, at_place, at_none}
 use Rattle.std.proofs.Common.{Option}
 use Rattle.sim_world.proofs.links.join.Goals as goal

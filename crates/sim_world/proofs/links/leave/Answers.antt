@@ -1,6 +1,6 @@
 use Rattle.std.proofs.Common.{sym}
 use Rattle.outside.specs.State.{link_left}
-use Rattle.sim_world.specs.LinksLaws.{links_in-changed, declared_in-set, with_link-not_held}
+use Rattle.sim_world.specs.laws.LinksLaws.{links_in-changed, declared_in-set, with_link-not_held}
 use Rattle.sim_world.proofs.links.leave.Goals as goal
 
 pub returns-in-Some-clause-left : goal.returns-in-Some-clause-left

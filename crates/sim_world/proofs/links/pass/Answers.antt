@@ -2,7 +2,7 @@ use Rattle.std.proofs.Common.{sym, subst, arith}
 use Rattle.of_types.specs.declared.journal.Stimulus.TheVariants.{Advance}
 use Rattle.outside.specs.State.{Link, link_stimulated}
 use Rattle.sim_world.specs.Links.{Held, StandsBy}
-use Rattle.sim_world.specs.LinksLaws.{All-at, links_in-mapped}
+use Rattle.sim_world.specs.laws.LinksLaws.{All-at, links_in-mapped}
 use Rattle.sim_world.proofs.links.pass.Goals as goal
 
 pub pass-requires-clause-after : goal.pass-requires-clause-after

@@ -2,7 +2,7 @@ use Rattle.std.proofs.Common.{sym, subst, ◌∙◌, arith}
 use Rattle.std.specs.List.{AllByRecursion}
 use Rattle.outside.specs.State.{Link}
 use Rattle.sim_world.specs.Links.{StandsBy, IsReady}
-use Rattle.sim_world.specs.LinksLaws.{All-at, below_set, links_in-kept}
+use Rattle.sim_world.specs.laws.LinksLaws.{All-at, below_set, links_in-kept}
 use Rattle.sim_world.proofs.links.prepare.Goals as goal
 
 pub prepare-requires-clause-after : goal.prepare-requires-clause-after

@@ -1,7 +1,7 @@
 use Rattle.std.proofs.Common.{IfSome, sym}
 use Rattle.outside.specs.State.{Link, link_sent}
 use Rattle.sim_world.specs.Links.{MayCall}
-use Rattle.sim_world.specs.LinksLaws.{links_in-changed, links_in-kept, declared_in-set, with_link-not_held}
+use Rattle.sim_world.specs.laws.LinksLaws.{links_in-changed, links_in-kept, declared_in-set, with_link-not_held}
 use Rattle.sim_world.proofs.Places.{on_ok, on_err, from_place}
 use Rattle.std.proofs.Common.{Option}
 use Rattle.sim_world.proofs.links.send.Goals as goal

@@ -1,7 +1,7 @@
 use Rattle.std.proofs.Common.{sym, arith}
 use Rattle.std.proofs.Common.{slice_index_or}
 use Rattle.outside.specs.State.{link_stimulated}
-use Rattle.sim_world.specs.LinksLaws.{links_in-changed, links_in-kept, declared_in-set, with_link-not_held, cap_at, few-set, few_after}
+use Rattle.sim_world.specs.laws.LinksLaws.{links_in-changed, links_in-kept, declared_in-set, with_link-not_held, cap_at, few-set, few_after}
 use Rattle.sim_world.proofs.Places.{on_ok, on_err}
 use Rattle.sim_world.proofs.links.stimulate.Goals as goal
 

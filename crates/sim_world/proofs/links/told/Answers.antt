@@ -4,7 +4,7 @@ use Rattle.sim_world.specs.Links.{HasPlace}
 use Rattle.std.specs.Prelude.{slice_get}
 use Rattle.outside.specs.State.{link_told}
 use Rattle.sim_world.specs.Links.{links_in, waiting_in}
-use Rattle.sim_world.specs.LinksLaws.{links_in-changed, declared_in-set, HasPlace-ascending, waiting_in-first, waiting_in-none}
+use Rattle.sim_world.specs.laws.LinksLaws.{links_in-changed, declared_in-set, HasPlace-ascending, waiting_in-first, waiting_in-none}
 use Rattle.sim_world.proofs.links.told.Goals as goal
 
 pub returns-in_err-place-clause-none : goal.returns-in_err-place-clause-none

@@ -1,6 +1,6 @@
 use Rattle.std.proofs.Common.{ap, ◌∙◌}
 use Rattle.sim_world.specs.Links.{Held}
-use Rattle.sim_world.specs.LinksLaws.{waiting_in-none, waiting_next, waits_at_first}
+use Rattle.sim_world.specs.laws.LinksLaws.{waiting_in-none, waiting_next, waits_at_first}
 use Rattle.sim_world.proofs.links.waiting_switch.Goals as goal
 
 pub returns-in_err-place-clause-none : goal.returns-in_err-place-clause-none

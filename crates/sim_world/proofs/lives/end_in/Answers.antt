@@ -1,6 +1,6 @@
 use Rattle.std.proofs.Common.{◌∙◌}
 use Rattle.sim_world.specs.Scripts.{after_end}
-use Rattle.sim_world.specs.CellLaws.{Moved-cell, Moved-unknown, has_life-cell}
+use Rattle.sim_world.specs.laws.CellLaws.{Moved-cell, Moved-unknown, has_life-cell}
 use Rattle.sim_world.proofs.lives.end_in.Goals as goal
 
 pub returns-in-Some-clause-moved : goal.returns-in-Some-clause-moved

@@ -1,5 +1,5 @@
 use Rattle.std.proofs.Common.{arith}
-use Rattle.sim_world.specs.CellLaws.{first_cell, no_cell}
+use Rattle.sim_world.specs.laws.CellLaws.{first_cell, no_cell}
 use Rattle.sim_world.proofs.lives.find.Goals as goal
 
 pub returns-then-cells-i-clause-some : goal.returns-then-cells-i-clause-some

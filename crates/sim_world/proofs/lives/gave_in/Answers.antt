@@ -1,6 +1,6 @@
 use Rattle.std.proofs.Common.{ℕ, ◌-◌, ◌^◌, ◌<◌, subst}
 use Rattle.sim_world.specs.Scripts.{after_gave}
-use Rattle.sim_world.specs.CellLaws.{first_give_calls, Moved-cell}
+use Rattle.sim_world.specs.laws.CellLaws.{first_give_calls, Moved-cell}
 use Rattle.std.specs.Prelude.{is_some}
 use Rattle.outside.specs.State.{event_number}
 use Rattle.sim_world.proofs.lives.gave_in.Goals as goal

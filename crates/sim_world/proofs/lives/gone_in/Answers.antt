@@ -1,6 +1,6 @@
 use Rattle.std.proofs.Common.{ℕ, ◌-◌, ◌^◌, ◌<◌, subst}
 use Rattle.sim_world.specs.Scripts.{after_gone}
-use Rattle.sim_world.specs.CellLaws.{first_give_calls, Moved-cell}
+use Rattle.sim_world.specs.laws.CellLaws.{first_give_calls, Moved-cell}
 use Rattle.sim_world.proofs.lives.gone_in.Goals as goal
 
 pub gone-requires : goal.gone-requires

@@ -1,6 +1,6 @@
 use Rattle.std.proofs.Common.{sym, ap, ◌∙◌}
 use Rattle.sim_world.specs.Scripts.{Life}
-use Rattle.sim_world.specs.CellLaws.{first_running, has_life-cell, unknown_is_fresh}
+use Rattle.sim_world.specs.laws.CellLaws.{first_running, has_life-cell, unknown_is_fresh}
 use Rattle.sim_world.specs.Scripts.{fresh}
 use Rattle.sim_world.proofs.lives.is_running_in.Goals as goal
 

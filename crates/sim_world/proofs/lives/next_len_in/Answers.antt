@@ -1,6 +1,6 @@
 use Rattle.std.proofs.Common.{ℕ, ◌-◌, ◌^◌, ◌<◌, length, subst, ◌∙◌}
 use Rattle.sim_world.specs.Scripts.{Life, next_taken, taken_bytes}
-use Rattle.sim_world.specs.CellLaws.{first_take_calls, first_is}
+use Rattle.sim_world.specs.laws.CellLaws.{first_take_calls, first_is}
 use Rattle.sim_world.proofs.lives.next_len_in.Goals as goal
 
 pub next_len-requires-clause-few : goal.next_len-requires-clause-few

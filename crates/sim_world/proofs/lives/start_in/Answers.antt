@@ -1,6 +1,6 @@
 use Rattle.std.proofs.Common.{ℕ, ◌-◌, ◌^◌, ◌<◌, subst}
 use Rattle.sim_world.specs.Scripts.{after_start}
-use Rattle.sim_world.specs.CellLaws.{first_start_calls, Moved-cell}
+use Rattle.sim_world.specs.laws.CellLaws.{first_start_calls, Moved-cell}
 use Rattle.sim_world.proofs.lives.start_in.Goals as goal
 
 pub start-requires-clause-few : goal.start-requires-clause-few

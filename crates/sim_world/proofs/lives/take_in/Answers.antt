@@ -1,7 +1,7 @@
 use Rattle.std.proofs.Common.{ℕ, ◌-◌, ◌^◌, ◌<◌, subst, ◌∙◌, length}
 use Rattle.sim_world.specs.Scripts.{Life, after_take, next_taken}
 use Rattle.sim_world.specs.Lives.{took_of}
-use Rattle.sim_world.specs.CellLaws.{first_take_calls, first_is, Moved-cell}
+use Rattle.sim_world.specs.laws.CellLaws.{first_take_calls, first_is, Moved-cell}
 use Rattle.sim_world.proofs.lives.take_in.Goals as goal
 
 pub take-requires-clause-few : goal.take-requires-clause-few

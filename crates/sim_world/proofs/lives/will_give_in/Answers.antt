@@ -1,6 +1,6 @@
 use Rattle.std.proofs.Common.{ℕ, ◌-◌, ◌^◌, ◌<◌, subst, ◌∙◌}
 use Rattle.sim_world.specs.Scripts.{Life, will_give}
-use Rattle.sim_world.specs.CellLaws.{first_give_calls, first_is}
+use Rattle.sim_world.specs.laws.CellLaws.{first_give_calls, first_is}
 use Rattle.sim_world.proofs.lives.will_give_in.Goals as goal
 
 pub will_give-requires : goal.will_give-requires

@@ -1,6 +1,6 @@
 use Rattle.std.proofs.Common.{ℕ, ◌-◌, ◌^◌, ◌<◌, subst, ◌∙◌}
 use Rattle.sim_world.specs.Scripts.{Life, will_start}
-use Rattle.sim_world.specs.CellLaws.{first_start_calls, first_is}
+use Rattle.sim_world.specs.laws.CellLaws.{first_start_calls, first_is}
 use Rattle.sim_world.proofs.lives.will_start_in.Goals as goal
 
 pub will_start-requires-clause-few : goal.will_start-requires-clause-few

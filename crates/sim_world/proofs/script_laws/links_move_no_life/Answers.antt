@@ -1,5 +1,5 @@
 use Rattle.sim_world.specs.Told.{TellSame-without_links}
-use Rattle.sim_world.specs.ScriptLaws.{same-will_start, same-will_give, same-next_taken, same-life_after}
+use Rattle.sim_world.specs.laws.ScriptLaws.{same-will_start, same-will_give, same-next_taken, same-life_after}
 use Rattle.sim_world.proofs.script_laws.links_move_no_life.Goals as goal
 
 pub returns-clause-same : goal.returns-clause-same

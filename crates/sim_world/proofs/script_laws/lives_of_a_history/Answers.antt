@@ -1,4 +1,4 @@
-use Rattle.sim_world.specs.ScriptLaws.{running-state, FewCalls-history}
+use Rattle.sim_world.specs.laws.ScriptLaws.{running-state, FewCalls-history}
 use Rattle.sim_world.proofs.script_laws.lives_of_a_history.Goals as goal
 
 pub returns-clause-running : goal.returns-clause-running

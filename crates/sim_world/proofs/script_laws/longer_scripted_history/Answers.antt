@@ -1,4 +1,4 @@
-use Rattle.sim_world.specs.ScriptLaws.{KeepsScripts-front, KeepsScripts-rest, KeepsScripts-append}
+use Rattle.sim_world.specs.laws.ScriptLaws.{KeepsScripts-front, KeepsScripts-rest, KeepsScripts-append}
 use Rattle.sim_world.proofs.script_laws.longer_scripted_history.Goals as goal
 
 pub returns-clause-front : goal.returns-clause-front

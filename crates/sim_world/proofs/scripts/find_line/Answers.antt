@@ -1,6 +1,6 @@
 use Rattle.std.proofs.Common.{◌∙◌, arith, get_or}
 use Rattle.std.proofs.lemmas.Option.{slice_get-get_or}
-use Rattle.sim_world.specs.LifeLaws.{lines_of-same, lines_of-other, lines_of-end}
+use Rattle.sim_world.specs.laws.LifeLaws.{lines_of-same, lines_of-other, lines_of-end}
 use Rattle.sim_world.proofs.scripts.find_line.Goals as goal
 
 pub returns-then-lines-i : goal.returns-then-lines-i

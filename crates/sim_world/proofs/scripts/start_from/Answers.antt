@@ -2,7 +2,7 @@ use Rattle.std.proofs.Common.{sym, ap, get_or}
 use Rattle.std.proofs.lemmas.Option.{slice_get-get_or, slice_get_within}
 use Rattle.app_frames.specs.declared.script.StartScript.TheVariants.{Ready}
 use Rattle.sim_world.specs.Scripts.{start_or_ready}
-use Rattle.sim_world.specs.LifeLaws.{Follows-line, Follows-none, first-line, first-none}
+use Rattle.sim_world.specs.laws.LifeLaws.{Follows-line, Follows-none, first-line, first-none}
 use Rattle.sim_world.proofs.scripts.start_from.Goals as goal
 
 pub returns-in-Some-clause-start : goal.returns-in-Some-clause-start

@@ -2,7 +2,7 @@ use Rattle.std.proofs.Common.{sym, ap, ◌∙◌}
 use Rattle.std.proofs.lemmas.Option.{slice_get_within}
 use Rattle.sim_world.specs.Scripts.{turn_or_plain}
 use Rattle.sim_world.specs.Lives.{steps_given, steps_of_line}
-use Rattle.sim_world.specs.LifeLaws.{Follows-line, Follows-none, first-line, first-none}
+use Rattle.sim_world.specs.laws.LifeLaws.{Follows-line, Follows-none, first-line, first-none}
 use Rattle.sim_world.proofs.scripts.turn_from.Goals as goal
 
 pub returns-in-Some-clause-steps : goal.returns-in-Some-clause-steps

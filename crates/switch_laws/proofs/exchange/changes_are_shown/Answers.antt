@@ -1,5 +1,5 @@
-use Rattle.switch_laws.specs.ShownChangeLaws.{taken-shown, refused-shown}
-use Rattle.switch_laws.specs.ShownExchangeLaws.{answer-shown}
+use Rattle.switch_laws.specs.laws.ShownChangeLaws.{taken-shown, refused-shown}
+use Rattle.switch_laws.specs.laws.ShownExchangeLaws.{answer-shown}
 use Rattle.switch_laws.proofs.exchange.changes_are_shown.Goals as goal
 
 pub returns-clause-answer : goal.returns-clause-answer

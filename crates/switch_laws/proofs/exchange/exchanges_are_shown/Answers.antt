@@ -1,4 +1,4 @@
-use Rattle.switch_laws.specs.ShownExchangeLaws.{exchange-shown}
+use Rattle.switch_laws.specs.laws.ShownExchangeLaws.{exchange-shown}
 use Rattle.switch_laws.proofs.exchange.exchanges_are_shown.Goals as goal
 
 pub returns : goal.returns

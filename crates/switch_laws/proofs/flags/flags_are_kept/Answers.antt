@@ -1,4 +1,4 @@
-use Rattle.switch_laws.specs.FlagLaws.{flags_in-added, flags_in-kept}
+use Rattle.switch_laws.specs.laws.FlagLaws.{flags_in-added, flags_in-kept}
 use Rattle.switch_laws.proofs.flags.flags_are_kept.Goals as goal
 
 pub returns-clause-added : goal.returns-clause-added

@@ -1,4 +1,4 @@
-use Rattle.switch_laws.specs.OrderlyLaws.{released-none, exchange-orderly, undo-orderly}
+use Rattle.switch_laws.specs.laws.OrderlyLaws.{released-none, exchange-orderly, undo-orderly}
 use Rattle.switch_laws.proofs.order.steps_are_in_order.Goals as goal
 
 pub returns-clause-exchange : goal.returns-clause-exchange

@@ -1,4 +1,4 @@
-use Rattle.switch_laws.specs.StandLaws.{all-stand, table-serialed}
+use Rattle.switch_laws.specs.laws.StandLaws.{all-stand, table-serialed}
 use Rattle.switch_laws.proofs.transaction.histories_stand.Goals as goal
 
 pub returns-clause-all : goal.returns-clause-all

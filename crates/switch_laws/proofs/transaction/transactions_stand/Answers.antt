@@ -1,4 +1,4 @@
-use Rattle.switch_laws.specs.SinceLaws.{begun, goes-on}
+use Rattle.switch_laws.specs.laws.SinceLaws.{begun, goes-on}
 use Rattle.switch_laws.proofs.transaction.transactions_stand.Goals as goal
 
 pub returns-clause-begun : goal.returns-clause-begun

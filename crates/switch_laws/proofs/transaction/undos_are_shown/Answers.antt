@@ -1,4 +1,4 @@
-use Rattle.switch_laws.specs.ShownUndoLaws.{undo-shown, undo-ready}
+use Rattle.switch_laws.specs.laws.ShownUndoLaws.{undo-shown, undo-ready}
 use Rattle.switch_laws.proofs.transaction.undos_are_shown.Goals as goal
 
 pub returns-clause-shown : goal.returns-clause-shown

@@ -1,4 +1,4 @@
-use Rattle.switch_sim.specs.MomentLaws.{declared-after_message, declared-after_stimulus}
+use Rattle.switch_sim.specs.laws.MomentLaws.{declared-after_message, declared-after_stimulus}
 use Rattle.switch_sim.proofs.laws.declarations_stay.Goals as goal
 
 pub returns-clause-message : goal.returns-clause-message

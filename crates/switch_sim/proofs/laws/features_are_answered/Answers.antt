@@ -1,4 +1,4 @@
-use Rattle.switch_sim.specs.StepLaws.{features_sent, features_stay}
+use Rattle.switch_sim.specs.laws.StepLaws.{features_sent, features_stay}
 use Rattle.switch_sim.proofs.laws.features_are_answered.Goals as goal
 
 pub returns-clause-sent : goal.returns-clause-sent

@@ -1,4 +1,4 @@
-use Rattle.switch_sim.specs.MomentLaws.{moment-after_message, moment-after_stimulus}
+use Rattle.switch_sim.specs.laws.MomentLaws.{moment-after_message, moment-after_stimulus}
 use Rattle.switch_sim.proofs.laws.moments_stay.Goals as goal
 
 pub returns-clause-message : goal.returns-clause-message

@@ -1,7 +1,7 @@
 use Rattle.std.proofs.Common.{◌≤◌, ◌∙◌, ℕ, List, length, subst, sym}
 use Rattle.std.specs.Prelude.{All}
 use Rattle.of_action.specs.declared.action.Action.{Action}
-use Rattle.switch_sim.specs.EditLaws.{outputs_short}
+use Rattle.switch_sim.specs.laws.EditLaws.{outputs_short}
 use Rattle.switch_sim.specs.Words.{HasAddress}
 use Rattle.switch_sim.proofs.looking.act.Goals as goal
 

@@ -2,8 +2,8 @@ use Rattle.std.proofs.Common.{◌≡◌, ◌∙◌, ℕ, ◌≤◌, false, List,
 use Rattle.of_wire.specs.declared.bodies.FlowMod.{FlowMod}
 use Rattle.flow_table.specs.declared.entry.Entry.{Entry}
 use Rattle.flow_table.specs.Change.{is_delete, notices_of}
-use Rattle.flow_table.specs.ChangeLaws.{notices_of-kept}
-use Rattle.switch_sim.specs.NoticeLaws.{length-notices_of}
+use Rattle.flow_table.specs.laws.ChangeLaws.{notices_of-kept}
+use Rattle.switch_sim.specs.laws.NoticeLaws.{length-notices_of}
 use Rattle.switch_sim.proofs.notices.count_told.Goals as goal
 
 none_kept : (now : ℕ) (m : FlowMod) (es : List Entry) → is_delete m ≡ false → length (notices_of now m es) ≤ 0

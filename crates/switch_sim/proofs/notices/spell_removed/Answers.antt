@@ -2,7 +2,7 @@ use Rattle.std.proofs.Common.{arith}
 use Rattle.of_wire.specs.declared.message.Message.TheVariants.{FlowRemoved}
 use Rattle.of_wire.specs.Grammar.{IsMessage}
 use Rattle.of_wire.specs.Spelling.{message_size}
-use Rattle.switch_sim.specs.ReadableLaws.{IsReadable-message_bytes}
+use Rattle.switch_sim.specs.laws.ReadableLaws.{IsReadable-message_bytes}
 use Rattle.switch_sim.proofs.notices.spell_removed.Goals as goal
 
 pub returns-clause-readable : goal.returns-clause-readable

@@ -2,7 +2,7 @@ use Rattle.std.proofs.Common.{arith}
 use Rattle.std.proofs.lemmas.List.{length-map}
 use Rattle.of_wire.specs.Spelling.{message_size}
 use Rattle.flow_table.specs.Switch.{port_desc}
-use Rattle.switch_sim.specs.ReadableLaws.{ports_spelled}
+use Rattle.switch_sim.specs.laws.ReadableLaws.{ports_spelled}
 use Rattle.switch_sim.proofs.reply.features.Goals as goal
 
 pub spell-requires : goal.spell-requires

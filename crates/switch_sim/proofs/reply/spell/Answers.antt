@@ -1,5 +1,5 @@
 use Rattle.std.proofs.Common.{arith}
-use Rattle.switch_sim.specs.ReadableLaws.{spelled_read, spelled_readable}
+use Rattle.switch_sim.specs.laws.ReadableLaws.{spelled_read, spelled_readable}
 use Rattle.switch_sim.proofs.reply.spell.Goals as goal
 
 pub encode-requires : goal.encode-requires

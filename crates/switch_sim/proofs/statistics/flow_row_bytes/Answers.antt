@@ -3,7 +3,7 @@ use Rattle.std.specs.Prelude.{IfOk}
 use Rattle.of_stats.specs.declared.flow_row.FlowRow.{FlowRow}
 use Rattle.of_stats.specs.Flows.{row_bytes}
 use Rattle.flow_table.specs.Statistics.{flow_row}
-use Rattle.switch_sim.specs.RowLaws.{row_fits}
+use Rattle.switch_sim.specs.laws.RowLaws.{row_fits}
 use Rattle.switch_sim.proofs.statistics.flow_row_bytes.Goals as goal
 
 pub returns-clause-len : goal.returns-clause-len

@@ -2,7 +2,7 @@ use Rattle.std.proofs.Common.{subst, ◌≡◌, ◌∙◌, List, map}
 use Rattle.std.specs.Prelude.{IfOk}
 use Rattle.of_stats.specs.Parts.{Part}
 use Rattle.flow_table.specs.Statistics.{part_bytes}
-use Rattle.switch_sim.specs.PartLaws.{parts_fit, same_parts}
+use Rattle.switch_sim.specs.laws.PartLaws.{parts_fit, same_parts}
 use Rattle.switch_sim.proofs.statistics.reply.Goals as goal
 
 pub encode_parts-requires : goal.encode_parts-requires

@@ -3,7 +3,7 @@ use Rattle.of_stats.specs.declared.sum.Sum.{Sum}
 use Rattle.flow_table.specs.declared.entry.Entry.{Entry}
 use Rattle.flow_table.specs.Rows.{is_selected, selected}
 use Rattle.switch_sim.specs.Words.{counted_in}
-use Rattle.switch_sim.specs.SumLaws.{IsSumBefore-more, sum_of-whole}
+use Rattle.switch_sim.specs.laws.SumLaws.{IsSumBefore-more, sum_of-whole}
 use Rattle.switch_sim.proofs.statistics.sum.Goals as goal
 
 one_at_most : (counts : Bool) (sum : Sum) (e : Entry) → (counted_in counts sum e).flows ≤ sum.flows + 1

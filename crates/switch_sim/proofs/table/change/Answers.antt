@@ -1,7 +1,7 @@
 use Rattle.std.proofs.Common.{◌≡◌, ◌∙◌, ◌≤◌, List, length, ap, subst, arith}
 use Rattle.flow_table.specs.declared.entry.Entry.{Entry}
 use Rattle.flow_table.specs.Change.{notices_of}
-use Rattle.switch_sim.specs.NoticeLaws.{AreShort-notices_of}
+use Rattle.switch_sim.specs.laws.NoticeLaws.{AreShort-notices_of}
 use Rattle.switch_sim.proofs.table.change.Goals as goal
 
 pub write_all-requires-clause-len : goal.write_all-requires-clause-len

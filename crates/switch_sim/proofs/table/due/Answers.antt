@@ -2,7 +2,7 @@ use Rattle.std.proofs.Common.{◌≡◌, ◌∙◌, ◌&&◌, List, length, filt
 use Rattle.flow_table.specs.declared.entry.Entry.{Entry}
 use Rattle.flow_table.specs.Change.{asks_notice}
 use Rattle.flow_table.specs.Expiry.{is_due, expiry_notices}
-use Rattle.switch_sim.specs.NoticeLaws.{length-expiry_notices, AreShort-expiry_notices}
+use Rattle.switch_sim.specs.laws.NoticeLaws.{length-expiry_notices, AreShort-expiry_notices}
 use Rattle.switch_sim.proofs.table.due.Goals as goal
 
 pub write_all-requires-clause-len : goal.write_all-requires-clause-len

@@ -1,4 +1,4 @@
-use Rattle.turn_laws.specs.StopLaws.{stop-plain}
+use Rattle.turn_laws.specs.laws.StopLaws.{stop-plain}
 use Rattle.turn_laws.proofs.turns.stops_are_plain.Goals as goal
 
 pub returns : goal.returns

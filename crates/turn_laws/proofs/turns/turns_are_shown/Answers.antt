@@ -1,4 +1,4 @@
-use Rattle.turn_laws.specs.ChainLaws.{turn-shown}
+use Rattle.turn_laws.specs.laws.ChainLaws.{turn-shown}
 use Rattle.turn_laws.proofs.turns.turns_are_shown.Goals as goal
 
 pub returns : goal.returns

@@ -1,4 +1,4 @@
-use Rattle.undo_laws.specs.RemovalLaws.{OnlyAdded-nothing, OnlyAdded-more, OnlyAdded-fewer}
+use Rattle.undo_laws.specs.laws.RemovalLaws.{OnlyAdded-nothing, OnlyAdded-more, OnlyAdded-fewer}
 use Rattle.undo_laws.proofs.adding.additions_are_kept.Goals as goal
 
 pub returns-clause-nothing : goal.returns-clause-nothing

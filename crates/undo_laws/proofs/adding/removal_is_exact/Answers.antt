@@ -1,4 +1,4 @@
-use Rattle.undo_laws.specs.RemovalLaws.{removal-refusal, removal-changed, removal-change, entry_at-without-same, entry_at-without-other, removal-notices}
+use Rattle.undo_laws.specs.laws.RemovalLaws.{removal-refusal, removal-changed, removal-change, entry_at-without-same, entry_at-without-other, removal-notices}
 use Rattle.undo_laws.proofs.adding.removal_is_exact.Goals as goal
 
 pub returns-clause-taken : goal.returns-clause-taken

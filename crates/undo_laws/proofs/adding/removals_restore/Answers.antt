@@ -1,5 +1,5 @@
-use Rattle.undo_laws.specs.RemovalLaws.{removals-restore, is_among-reverse}
-use Rattle.undo_laws.specs.AddedLaws.{undone-added}
+use Rattle.undo_laws.specs.laws.RemovalLaws.{removals-restore, is_among-reverse}
+use Rattle.undo_laws.specs.laws.AddedLaws.{undone-added}
 use Rattle.undo_laws.proofs.adding.removals_restore.Goals as goal
 
 pub returns-clause-restores : goal.returns-clause-restores

@@ -1,4 +1,4 @@
-use Rattle.undo_laws.specs.CorrectedLaws.{IsSerialed-corrected, refusal-corrected, adds-corrected, removed-corrected, kept-corrected, addition-corrected}
+use Rattle.undo_laws.specs.laws.CorrectedLaws.{IsSerialed-corrected, refusal-corrected, adds-corrected, removed-corrected, kept-corrected, addition-corrected}
 use Rattle.undo_laws.proofs.corrected.changes_are_shown.Goals as goal
 
 pub returns-clause-serials : goal.returns-clause-serials

@@ -1,4 +1,4 @@
-use Rattle.undo_laws.specs.CorrectedLaws.{remove-corrected, give-corrected, put_back-corrected}
+use Rattle.undo_laws.specs.laws.CorrectedLaws.{remove-corrected, give-corrected, put_back-corrected}
 use Rattle.undo_laws.proofs.corrected.inverses_are_shown.Goals as goal
 
 pub returns-clause-removal : goal.returns-clause-removal

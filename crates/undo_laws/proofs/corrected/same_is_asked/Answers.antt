@@ -1,4 +1,4 @@
-use Rattle.undo_laws.specs.CorrectedLaws.{refusal-asked, logged-asked}
+use Rattle.undo_laws.specs.laws.CorrectedLaws.{refusal-asked, logged-asked}
 use Rattle.undo_laws.proofs.corrected.same_is_asked.Goals as goal
 
 pub returns-clause-refusal : goal.returns-clause-refusal

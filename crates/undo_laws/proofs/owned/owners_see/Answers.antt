@@ -1,4 +1,4 @@
-use Rattle.undo_laws.specs.OwnedLaws.{owned-corrects, stimulus-owned, sent-owned, expiry-owned}
+use Rattle.undo_laws.specs.laws.OwnedLaws.{owned-corrects, stimulus-owned, sent-owned, expiry-owned}
 use Rattle.undo_laws.proofs.owned.owners_see.Goals as goal
 
 pub returns-clause-corrects : goal.returns-clause-corrects

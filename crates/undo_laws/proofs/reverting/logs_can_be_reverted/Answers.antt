@@ -1,4 +1,4 @@
-use Rattle.undo_laws.specs.RevertingLaws.{CanRevert-nothing, CanRevert-changed, CanRevert-change, CanRevert-undone, CanRevert-same_keys}
+use Rattle.undo_laws.specs.laws.RevertingLaws.{CanRevert-nothing, CanRevert-changed, CanRevert-change, CanRevert-undone, CanRevert-same_keys}
 use Rattle.undo_laws.proofs.reverting.logs_can_be_reverted.Goals as goal
 
 pub returns-clause-nothing : goal.returns-clause-nothing

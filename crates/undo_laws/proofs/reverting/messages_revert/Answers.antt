@@ -1,4 +1,4 @@
-use Rattle.undo_laws.specs.RevertingLaws.{removal-reverts, modification-reverts, addition-reverts, new_entry-back, deadline-back, no_notice-addition, no_notice-modification}
+use Rattle.undo_laws.specs.laws.RevertingLaws.{removal-reverts, modification-reverts, addition-reverts, new_entry-back, deadline-back, no_notice-addition, no_notice-modification}
 use Rattle.undo_laws.proofs.reverting.messages_revert.Goals as goal
 
 pub returns-clause-removal : goal.returns-clause-removal

@@ -1,5 +1,5 @@
-use Rattle.undo_laws.specs.SameLaws.{same-adds, same-refusal, same-after, same-notices}
-use Rattle.undo_laws.specs.RestoredLaws.{same-logged, SameKeys-same}
+use Rattle.undo_laws.specs.laws.SameLaws.{same-adds, same-refusal, same-after, same-notices}
+use Rattle.undo_laws.specs.laws.RestoredLaws.{same-logged, SameKeys-same}
 use Rattle.undo_laws.proofs.same.same_changes.Goals as goal
 
 pub returns-clause-adds : goal.returns-clause-adds

@@ -1,4 +1,4 @@
-use Rattle.undo_laws.specs.SameLaws.{same-best, same-hit, same-counts, same-expire, same-expiry_notices, same-selected}
+use Rattle.undo_laws.specs.laws.SameLaws.{same-best, same-hit, same-counts, same-expire, same-expiry_notices, same-selected}
 use Rattle.undo_laws.proofs.same.same_events.Goals as goal
 
 pub returns-clause-best : goal.returns-clause-best

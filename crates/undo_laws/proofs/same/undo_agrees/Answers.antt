@@ -1,5 +1,5 @@
-use Rattle.undo_laws.specs.SameLaws.{same-undo}
-use Rattle.undo_laws.specs.RestoredLaws.{undo-agrees, Stands-restored}
+use Rattle.undo_laws.specs.laws.SameLaws.{same-undo}
+use Rattle.undo_laws.specs.laws.RestoredLaws.{undo-agrees, Stands-restored}
 use Rattle.undo_laws.proofs.same.undo_agrees.Goals as goal
 
 pub returns-clause-undo : goal.returns-clause-undo

@@ -1,5 +1,5 @@
-use Rattle.undo_laws.specs.SerialsLaws.{IsSerialed-empty, IsSerialed-changed, IsSerialed-change, IsSerialed-expire, IsSerialed-hit, IsSerialed-with_counts}
-use Rattle.undo_laws.specs.RestoredLaws.{IsSerialed-undone}
+use Rattle.undo_laws.specs.laws.SerialsLaws.{IsSerialed-empty, IsSerialed-changed, IsSerialed-change, IsSerialed-expire, IsSerialed-hit, IsSerialed-with_counts}
+use Rattle.undo_laws.specs.laws.RestoredLaws.{IsSerialed-undone}
 use Rattle.undo_laws.proofs.serials.serials_differ.Goals as goal
 
 pub returns-clause-empty : goal.returns-clause-empty

@@ -1,4 +1,4 @@
-use Rattle.undo_laws.specs.SerialsLaws.{used_or-stands, used_or-gone}
+use Rattle.undo_laws.specs.laws.SerialsLaws.{used_or-stands, used_or-gone}
 use Rattle.undo_laws.proofs.serials.used_is_by_serial.Goals as goal
 
 pub returns-clause-stands : goal.returns-clause-stands

@@ -1,4 +1,4 @@
-use Rattle.undo_laws.specs.InFlightLaws.{Stands-in_flight, undo-in_flight, used-in_flight, CanRevert-in_flight}
+use Rattle.undo_laws.specs.laws.InFlightLaws.{Stands-in_flight, undo-in_flight, used-in_flight, CanRevert-in_flight}
 use Rattle.undo_laws.proofs.undoing.change_in_flight.Goals as goal
 
 pub returns-clause-stands : goal.returns-clause-stands

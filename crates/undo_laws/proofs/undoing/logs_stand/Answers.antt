@@ -1,4 +1,4 @@
-use Rattle.undo_laws.specs.StandsLaws.{Stands-nothing, Stands-changed, Stands-change, refused-stays, Stands-undone, Stands-images}
+use Rattle.undo_laws.specs.laws.StandsLaws.{Stands-nothing, Stands-changed, Stands-change, refused-stays, Stands-undone, Stands-images}
 use Rattle.undo_laws.proofs.undoing.logs_stand.Goals as goal
 
 pub returns-clause-nothing : goal.returns-clause-nothing

@@ -1,4 +1,4 @@
-use Rattle.undo_laws.specs.LogLaws.{image_of-append, given_back-merge, undo-append}
+use Rattle.undo_laws.specs.laws.LogLaws.{image_of-append, given_back-merge, undo-append}
 use Rattle.undo_laws.proofs.undoing.longer_logs.Goals as goal
 
 pub returns-clause-image : goal.returns-clause-image

@@ -1,4 +1,4 @@
-use Rattle.undo_laws.specs.LogLaws.{undo-image, IsSerialed-undo}
+use Rattle.undo_laws.specs.laws.LogLaws.{undo-image, IsSerialed-undo}
 use Rattle.undo_laws.proofs.undoing.undo_is_by_key.Goals as goal
 
 pub returns-clause-image : goal.returns-clause-image

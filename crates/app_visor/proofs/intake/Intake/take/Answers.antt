@@ -1,7 +1,7 @@
 use Rattle.std.proofs.Common.{◌≡◌, inl, inr, refl, arith, take, length, ◌++◌}
 use Rattle.std.proofs.lemmas.Grind.{common_steps}
 use Rattle.std.proofs.lemmas.Result.{err_from_is_err_and}
-use Rattle.app_visor.specs.TalkLaws.{took_one, told_closed, told_silent, wants_take}
+use Rattle.app_visor.specs.laws.TalkLaws.{took_one, told_closed, told_silent, wants_take}
 use Rattle.app_visor.proofs.intake.Intake.take.Goals as goal
 
 pub returns-in_err-extend_from_slice-in-Ok-Some-clause-err : goal.returns-in_err-extend_from_slice-in-Ok-Some-clause-err

@@ -1,14 +1,14 @@
 use Rattle.std.proofs.Common.{refl, sym, ap, subst}
 use Rattle.net_txn.specs.Net.{NetState}
-use Rattle.run_laws.specs.LastReportLaws.{rows-asked}
+use Rattle.run_laws.specs.laws.LastReportLaws.{rows-asked}
 use Rattle.event_dispatch.specs.declared.fault.Fault.{Fault}
 use Rattle.event_dispatch.specs.Shows.{engine_of}
 use Rattle.event_dispatch.specs.Why.{IsReason}
-use Rattle.event_dispatch.specs.FaultLaws.{asks_why}
-use Rattle.event_dispatch.specs.LastLaws.{net_stays}
-use Rattle.event_dispatch.specs.PlainLaws.{table_asked}
+use Rattle.event_dispatch.specs.laws.FaultLaws.{asks_why}
+use Rattle.event_dispatch.specs.laws.LastLaws.{net_stays}
+use Rattle.event_dispatch.specs.laws.PlainLaws.{table_asked}
 use Rattle.event_dispatch.specs.Plain.{PlainTable}
-use Rattle.event_dispatch.specs.DispatchStrayLaws.{asked_places, asked_reads, links_quietly}
+use Rattle.event_dispatch.specs.laws.DispatchStrayLaws.{asked_places, asked_reads, links_quietly}
 use Rattle.event_dispatch.proofs.run.Run.ask_rows.Goals as goal
 
 -- src/last.rt:81:5

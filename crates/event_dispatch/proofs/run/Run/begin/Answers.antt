@@ -1,12 +1,12 @@
 use Rattle.event_dispatch.specs.declared.fault.Fault.TheVariants as faults
-use Rattle.event_dispatch.specs.RoundLaws.{begins_so}
-use Rattle.event_dispatch.specs.CutLaws.{if_err, start_unwritten}
+use Rattle.event_dispatch.specs.laws.RoundLaws.{begins_so}
+use Rattle.event_dispatch.specs.laws.CutLaws.{if_err, start_unwritten}
 use Rattle.event_dispatch.specs.Plain.{IsPlainEnd}
 use Rattle.event_dispatch.specs.declared.fault.Fault.{Fault}
 use Rattle.event_dispatch.specs.Shows.{engine_of}
 use Rattle.event_dispatch.specs.Cut.{CutStart}
 use Rattle.std.proofs.Common.{refl}
-use Rattle.event_dispatch.specs.ReadLaws.{reads_engine}
+use Rattle.event_dispatch.specs.laws.ReadLaws.{reads_engine}
 use Rattle.event_dispatch.proofs.run.Run.begin.Goals as goal
 
 pub returns-clause-begins : goal.returns-clause-begins

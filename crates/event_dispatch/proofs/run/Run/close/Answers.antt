@@ -1,7 +1,7 @@
 use Rattle.std.proofs.Common.{ap}
 use Rattle.std.proofs.lemmas.Result.{on_ok_weaker}
 use Rattle.run_laws.specs.Engine.{Engine}
-use Rattle.event_dispatch.specs.SteadyLaws.{places_none, reads_none}
+use Rattle.event_dispatch.specs.laws.SteadyLaws.{places_none, reads_none}
 use Rattle.event_dispatch.proofs.run.Run.close.Goals as goal
 
 pub returns-in_err-note_turn-in-Failed-clause-places : goal.returns-in_err-note_turn-in-Failed-clause-places

@@ -1,16 +1,16 @@
 use Rattle.event_dispatch.specs.declared.fault.Fault.TheVariants as faults
-use Rattle.event_dispatch.specs.PlainLaws.{on_err, turn_memory, turn_noted}
-use Rattle.event_dispatch.specs.CutLaws.{if_err}
+use Rattle.event_dispatch.specs.laws.PlainLaws.{on_err, turn_memory, turn_noted}
+use Rattle.event_dispatch.specs.laws.CutLaws.{if_err}
 use Rattle.event_dispatch.specs.Plain.{PlainTurn}
 use Rattle.std.proofs.Common.{refl, ap, sym, ◌∙◌, rules}
 use Rattle.run_laws.specs.Engine.{Engine}
-use Rattle.event_dispatch.specs.TalkingLaws.{goes_none, goes_turn, holds_on_err, then_on_err}
+use Rattle.event_dispatch.specs.laws.TalkingLaws.{goes_none, goes_turn, holds_on_err, then_on_err}
 use Rattle.event_dispatch.specs.Shows.{engine_of}
 use Rattle.std.proofs.lemmas.Result.{on_ok_weaker}
-use Rattle.app_visor.specs.CalmLaws.{calm_none, calm_later}
+use Rattle.app_visor.specs.laws.CalmLaws.{calm_none, calm_later}
 use Rattle.lego_model.specs.Application.{index}
-use Rattle.event_dispatch.specs.SteadyLaws.{places_none, reads_none, quietly_none, quietly_here}
-use Rattle.event_dispatch.specs.DispatchStrayLaws.{places_as, reads_over, later_here}
+use Rattle.event_dispatch.specs.laws.SteadyLaws.{places_none, reads_none, quietly_none, quietly_here}
+use Rattle.event_dispatch.specs.laws.DispatchStrayLaws.{places_as, reads_over, later_here}
 use Rattle.event_dispatch.proofs.run.Run.dispatch.Goals as goal
 
 pub returns-in_err-line-clause-plain : goal.returns-in_err-line-clause-plain

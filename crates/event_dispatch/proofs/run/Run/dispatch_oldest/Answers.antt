@@ -1,17 +1,17 @@
 use Rattle.event_dispatch.specs.declared.fault.Fault.TheVariants as faults
 use Rattle.std.proofs.Common.{rules, refl, ap}
-use Rattle.event_dispatch.specs.RoundLaws.{one_settled, none_settled}
-use Rattle.event_dispatch.specs.PlainLaws.{run_anyway, run_turn}
-use Rattle.event_dispatch.specs.CutLaws.{if_err, still_so, one_still, one_unwritten}
+use Rattle.event_dispatch.specs.laws.RoundLaws.{one_settled, none_settled}
+use Rattle.event_dispatch.specs.laws.PlainLaws.{run_anyway, run_turn}
+use Rattle.event_dispatch.specs.laws.CutLaws.{if_err, still_so, one_still, one_unwritten}
 use Rattle.event_dispatch.specs.Plain.{PlainRun}
 use Rattle.event_dispatch.specs.Shows.{engine_of}
 use Rattle.event_dispatch.specs.Why.{served_by}
 use Rattle.event_dispatch.specs.declared.fault.Fault.{Fault}
 use Rattle.event_dispatch.specs.Cut.{CutOne}
-use Rattle.event_dispatch.specs.TalkingLaws.{goes_as}
+use Rattle.event_dispatch.specs.laws.TalkingLaws.{goes_as}
 use Rattle.run_laws.specs.Engine.{Engine}
-use Rattle.event_dispatch.specs.SteadyLaws.{places_none, reads_none}
-use Rattle.event_dispatch.specs.DispatchStrayLaws.{reads_over}
+use Rattle.event_dispatch.specs.laws.SteadyLaws.{places_none, reads_none}
+use Rattle.event_dispatch.specs.laws.DispatchStrayLaws.{reads_over}
 use Rattle.event_dispatch.proofs.run.Run.dispatch_oldest.Goals as goal
 
 pub returns-in_default-clause-dispatches : goal.returns-in_default-clause-dispatches

@@ -1,14 +1,14 @@
 use Rattle.std.proofs.Common.{◌+◌, rules, arith, refl}
-use Rattle.event_dispatch.specs.WhyLaws.{continues_then, fell_then}
-use Rattle.event_dispatch.specs.RoundLaws.{some_none, some_more, settles_early, settles_all}
-use Rattle.event_dispatch.specs.PlainLaws.{run_settled}
-use Rattle.event_dispatch.specs.CutLaws.{if_err}
+use Rattle.event_dispatch.specs.laws.WhyLaws.{continues_then, fell_then}
+use Rattle.event_dispatch.specs.laws.RoundLaws.{some_none, some_more, settles_early, settles_all}
+use Rattle.event_dispatch.specs.laws.PlainLaws.{run_settled}
+use Rattle.event_dispatch.specs.laws.CutLaws.{if_err}
 use Rattle.event_dispatch.specs.Plain.{PlainRun}
 use Rattle.event_dispatch.specs.Shows.{engine_of}
 use Rattle.event_dispatch.specs.Why.{served_by}
 use Rattle.event_dispatch.specs.declared.fault.Fault.{Fault}
 use Rattle.event_dispatch.specs.Cut.{CutSome}
-use Rattle.event_dispatch.specs.SteadyLaws.{places_none, reads_none, places_then, reads_then}
+use Rattle.event_dispatch.specs.laws.SteadyLaws.{places_none, reads_none, places_then, reads_then}
 use Rattle.event_dispatch.proofs.run.Run.dispatch_waiting.Goals as goal
 
 pub loop-event-init : goal.loop-event-init

@@ -1,14 +1,14 @@
 use Rattle.event_dispatch.specs.declared.fault.Fault.TheVariants as faults
-use Rattle.event_dispatch.specs.WholeLaws.{ends_so}
-use Rattle.event_dispatch.specs.PlainLaws.{calm_anyway}
-use Rattle.event_dispatch.specs.CutLaws.{if_err, still_so, end_still, end_unwritten}
+use Rattle.event_dispatch.specs.laws.WholeLaws.{ends_so}
+use Rattle.event_dispatch.specs.laws.PlainLaws.{calm_anyway}
+use Rattle.event_dispatch.specs.laws.CutLaws.{if_err, still_so, end_still, end_unwritten}
 use Rattle.event_dispatch.specs.Plain.{PlainCalm}
 use Rattle.event_dispatch.specs.Why.{served_by}
 use Rattle.event_dispatch.specs.declared.fault.Fault.{Fault}
 use Rattle.event_dispatch.specs.Shows.{engine_of}
 use Rattle.event_dispatch.specs.Cut.{CutEnd}
 use Rattle.std.proofs.Common.{refl}
-use Rattle.event_dispatch.specs.ReadLaws.{reads_engine}
+use Rattle.event_dispatch.specs.laws.ReadLaws.{reads_engine}
 use Rattle.event_dispatch.proofs.run.Run.end_report.Goals as goal
 
 pub returns-clause-ends : goal.returns-clause-ends

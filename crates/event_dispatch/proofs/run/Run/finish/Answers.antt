@@ -1,14 +1,14 @@
 use Rattle.std.proofs.Common.{rules, refl}
-use Rattle.event_dispatch.specs.WholeLaws.{finishes_by}
-use Rattle.event_dispatch.specs.PlainLaws.{calm_anyway}
-use Rattle.event_dispatch.specs.CutLaws.{if_err, finish_cut}
+use Rattle.event_dispatch.specs.laws.WholeLaws.{finishes_by}
+use Rattle.event_dispatch.specs.laws.PlainLaws.{calm_anyway}
+use Rattle.event_dispatch.specs.laws.CutLaws.{if_err, finish_cut}
 use Rattle.event_dispatch.specs.Plain.{PlainCalm}
 use Rattle.event_dispatch.specs.Why.{served_by}
 use Rattle.event_dispatch.specs.declared.served.Served.{Served}
 use Rattle.event_dispatch.specs.Shows.{engine_of}
 use Rattle.event_dispatch.specs.Cut.{CutFinishAs}
-use Rattle.event_dispatch.specs.SteadyLaws.{places_none}
-use Rattle.event_dispatch.specs.ReadLaws.{read_none, read_of, reads_by}
+use Rattle.event_dispatch.specs.laws.SteadyLaws.{places_none}
+use Rattle.event_dispatch.specs.laws.ReadLaws.{read_none, read_of, reads_by}
 use Rattle.event_dispatch.proofs.run.Run.finish.Goals as goal
 
 pub returns-then-not-is_empty-clause-finishes : goal.returns-then-not-is_empty-clause-finishes

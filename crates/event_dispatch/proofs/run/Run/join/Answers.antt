@@ -1,17 +1,17 @@
 use Rattle.event_dispatch.specs.declared.fault.Fault.TheVariants as faults
-use Rattle.event_dispatch.specs.PlainLaws.{join_memory, join_fault}
-use Rattle.event_dispatch.specs.CutLaws.{if_err}
+use Rattle.event_dispatch.specs.laws.PlainLaws.{join_memory, join_fault}
+use Rattle.event_dispatch.specs.laws.CutLaws.{if_err}
 use Rattle.event_dispatch.specs.Plain.{PlainJoin}
 use Rattle.event_dispatch.specs.Why.{IsReason, fault_of}
-use Rattle.event_dispatch.specs.FaultLaws.{join_why}
+use Rattle.event_dispatch.specs.laws.FaultLaws.{join_why}
 use Rattle.std.proofs.Common.{sym, ap, subst}
 use Rattle.outside.specs.Seen.{Seen}
 use Rattle.net_txn.specs.LinkSteps.{AsksWithoutStrays}
-use Rattle.net_txn.specs.LinkStrayLaws.{no_strays_none}
+use Rattle.net_txn.specs.laws.LinkStrayLaws.{no_strays_none}
 use Rattle.event_dispatch.specs.Told.{OnlyMessages}
-use Rattle.event_dispatch.specs.BatchSteadyLaws.{only_none}
+use Rattle.event_dispatch.specs.laws.BatchSteadyLaws.{only_none}
 use Rattle.event_dispatch.specs.Talking.{KeepsTalking}
-use Rattle.event_dispatch.specs.TalkingLaws.{keeps_none, keeps_links}
+use Rattle.event_dispatch.specs.laws.TalkingLaws.{keeps_none, keeps_links}
 use Rattle.event_dispatch.proofs.run.Run.join.Goals.{in-FeaturesReply+in_ok-joined+in_ok-announce, in_default}
 use Rattle.event_dispatch.proofs.run.Run.join.Goals as goal
 

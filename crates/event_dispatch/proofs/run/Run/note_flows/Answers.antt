@@ -1,8 +1,8 @@
 use Rattle.std.proofs.Common.{◌≡◌, ◌∷◌, suc, List, drop, subst, ap, ◌∙◌}
 use Rattle.run_laws.specs.Engine.{Engine}
 use Rattle.of_stats.specs.declared.flow_row.FlowRow.{FlowRow}
-use Rattle.event_dispatch.specs.WhyLaws.{waits_then}
-use Rattle.event_dispatch.specs.LastLaws.{drop_first, flows_next, views_kept}
+use Rattle.event_dispatch.specs.laws.WhyLaws.{waits_then}
+use Rattle.event_dispatch.specs.laws.LastLaws.{drop_first, flows_next, views_kept}
 use Rattle.event_dispatch.proofs.run.Run.note_flows.Goals as goal
 
 -- src/last.rt:87:9

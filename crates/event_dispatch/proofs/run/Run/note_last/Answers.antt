@@ -1,17 +1,17 @@
 use Rattle.event_dispatch.specs.declared.fault.Fault.TheVariants as faults
 use Rattle.std.proofs.Common.{◌∙◌, ℕ, List, get_or, take, sym, subst, refl, ap, rules}
 use Rattle.std.proofs.lemmas.List.{take_more}
-use Rattle.event_dispatch.specs.WhyLaws.{waits_then, continues_then}
+use Rattle.event_dispatch.specs.laws.WhyLaws.{waits_then, continues_then}
 use Rattle.event_dispatch.specs.ReportEnd.{TablesShown}
-use Rattle.event_dispatch.specs.LastLaws.{take_whole, tables_next, last_shown}
-use Rattle.event_dispatch.specs.PlainLaws.{calm_anyway, tables_then}
-use Rattle.event_dispatch.specs.CutLaws.{if_err}
+use Rattle.event_dispatch.specs.laws.LastLaws.{take_whole, tables_next, last_shown}
+use Rattle.event_dispatch.specs.laws.PlainLaws.{calm_anyway, tables_then}
+use Rattle.event_dispatch.specs.laws.CutLaws.{if_err}
 use Rattle.event_dispatch.specs.Plain.{PlainCalm}
 use Rattle.event_dispatch.specs.Why.{served_by}
-use Rattle.event_dispatch.specs.TalkingLaws.{keeps_none, keeps_then}
+use Rattle.event_dispatch.specs.laws.TalkingLaws.{keeps_none, keeps_then}
 use Rattle.run_laws.specs.Engine.{Engine}
-use Rattle.event_dispatch.specs.SteadyLaws.{places_none, reads_none, quietly_none, places_then, reads_then, quietly_then}
-use Rattle.event_dispatch.specs.DispatchStrayLaws.{reads_over}
+use Rattle.event_dispatch.specs.laws.SteadyLaws.{places_none, reads_none, quietly_none, places_then, reads_then, quietly_then}
+use Rattle.event_dispatch.specs.laws.DispatchStrayLaws.{reads_over}
 use Rattle.event_dispatch.proofs.run.Run.note_last.Goals as goal
 
 -- src/last.rt:169:9

@@ -1,12 +1,12 @@
 use Rattle.event_dispatch.specs.declared.fault.Fault.TheVariants as faults
 use Rattle.std.proofs.Common.{rules, refl, ap}
-use Rattle.event_dispatch.specs.LastLaws.{table_told, table_out}
-use Rattle.event_dispatch.specs.PlainLaws.{table_memory}
-use Rattle.event_dispatch.specs.CutLaws.{if_err}
+use Rattle.event_dispatch.specs.laws.LastLaws.{table_told, table_out}
+use Rattle.event_dispatch.specs.laws.PlainLaws.{table_memory}
+use Rattle.event_dispatch.specs.laws.CutLaws.{if_err}
 use Rattle.event_dispatch.specs.Plain.{PlainTable}
 use Rattle.net_txn.specs.Net.{NetState}
-use Rattle.event_dispatch.specs.SteadyLaws.{places_none, reads_none, quietly_none}
-use Rattle.event_dispatch.specs.DispatchStrayLaws.{reads_over}
+use Rattle.event_dispatch.specs.laws.SteadyLaws.{places_none, reads_none, quietly_none}
+use Rattle.event_dispatch.specs.laws.DispatchStrayLaws.{reads_over}
 use Rattle.event_dispatch.proofs.run.Run.note_table.Goals as goal
 
 -- src/last.rt:129:13

@@ -1,15 +1,15 @@
-use Rattle.event_dispatch.specs.WholeLaws.{went_as, goes_by}
-use Rattle.event_dispatch.specs.PlainLaws.{on_err, whole_anyway, whole_rounds, whole_finish}
-use Rattle.event_dispatch.specs.CutLaws.{if_err, goes_cut, rounds_cut, went_cut}
+use Rattle.event_dispatch.specs.laws.WholeLaws.{went_as, goes_by}
+use Rattle.event_dispatch.specs.laws.PlainLaws.{on_err, whole_anyway, whole_rounds, whole_finish}
+use Rattle.event_dispatch.specs.laws.CutLaws.{if_err, goes_cut, rounds_cut, went_cut}
 use Rattle.event_dispatch.specs.Plain.{PlainWhole}
 use Rattle.event_dispatch.specs.Why.{served_by}
 use Rattle.event_dispatch.specs.Shows.{engine_of}
 use Rattle.event_dispatch.specs.declared.served.Served.{Served}
 use Rattle.event_dispatch.specs.Cut.{CutAs}
 use Rattle.std.proofs.Common.{inl}
-use Rattle.event_dispatch.specs.WhyLaws.{continues_then, why_behind, fell_then}
-use Rattle.event_dispatch.specs.SteadyLaws.{places_then, reads_then}
-use Rattle.event_dispatch.specs.ReadLaws.{went_read, reads_by}
+use Rattle.event_dispatch.specs.laws.WhyLaws.{continues_then, why_behind, fell_then}
+use Rattle.event_dispatch.specs.laws.SteadyLaws.{places_then, reads_then}
+use Rattle.event_dispatch.specs.laws.ReadLaws.{went_read, reads_by}
 use Rattle.event_dispatch.proofs.run.Run.run_opened.Goals as goal
 
 pub returns-in_err-begin-clause-goes : goal.returns-in_err-begin-clause-goes

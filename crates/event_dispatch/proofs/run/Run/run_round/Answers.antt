@@ -1,13 +1,13 @@
 use Rattle.std.proofs.Common.{refl, inl}
-use Rattle.event_dispatch.specs.RoundLaws.{round_so}
-use Rattle.event_dispatch.specs.PlainLaws.{run_calm, run_batch}
-use Rattle.event_dispatch.specs.CutLaws.{if_err, still_so, round_behind}
+use Rattle.event_dispatch.specs.laws.RoundLaws.{round_so}
+use Rattle.event_dispatch.specs.laws.PlainLaws.{run_calm, run_batch}
+use Rattle.event_dispatch.specs.laws.CutLaws.{if_err, still_so, round_behind}
 use Rattle.event_dispatch.specs.Plain.{PlainRun}
 use Rattle.event_dispatch.specs.Shows.{engine_of}
 use Rattle.event_dispatch.specs.Why.{served_by}
 use Rattle.event_dispatch.specs.declared.fault.Fault.{Fault}
 use Rattle.event_dispatch.specs.Cut.{CutRound}
-use Rattle.event_dispatch.specs.SteadyLaws.{places_then, reads_then}
+use Rattle.event_dispatch.specs.laws.SteadyLaws.{places_then, reads_then}
 use Rattle.event_dispatch.proofs.run.Run.run_round.Goals as goal
 
 pub returns-clause-round : goal.returns-clause-round

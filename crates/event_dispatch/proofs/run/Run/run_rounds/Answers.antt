@@ -1,16 +1,16 @@
 use Rattle.std.proofs.Common.{rules, arith, refl, subst, ◌∙◌}
 use Rattle.event_dispatch.specs.declared.batch.Rest.{Rest}
 use Rattle.event_dispatch.specs.Serves.{GoesRound}
-use Rattle.event_dispatch.specs.WhyLaws.{continues_then, fell_then}
-use Rattle.event_dispatch.specs.RoundLaws.{rounds_none, rounds_next, rounds_last, rounds_out}
-use Rattle.event_dispatch.specs.PlainLaws.{run_rounds}
-use Rattle.event_dispatch.specs.CutLaws.{if_err}
+use Rattle.event_dispatch.specs.laws.WhyLaws.{continues_then, fell_then}
+use Rattle.event_dispatch.specs.laws.RoundLaws.{rounds_none, rounds_next, rounds_last, rounds_out}
+use Rattle.event_dispatch.specs.laws.PlainLaws.{run_rounds}
+use Rattle.event_dispatch.specs.laws.CutLaws.{if_err}
 use Rattle.event_dispatch.specs.Plain.{PlainRun}
 use Rattle.event_dispatch.specs.Shows.{engine_of}
 use Rattle.event_dispatch.specs.Why.{served_by}
 use Rattle.event_dispatch.specs.declared.fault.Fault.{Fault}
 use Rattle.event_dispatch.specs.Cut.{CutRounds}
-use Rattle.event_dispatch.specs.SteadyLaws.{places_none, reads_none, places_then, reads_then}
+use Rattle.event_dispatch.specs.laws.SteadyLaws.{places_none, reads_none, places_then, reads_then}
 use Rattle.event_dispatch.proofs.run.Run.run_rounds.Goals as goal
 
 pub loop-round-init : goal.loop-round-init

@@ -1,6 +1,6 @@
-use Rattle.event_dispatch.specs.TalkingLaws.{keeps_tried, keeps_restarted}
+use Rattle.event_dispatch.specs.laws.TalkingLaws.{keeps_tried, keeps_restarted}
 use Rattle.std.proofs.lemmas.Result.{on_ok_weaker}
-use Rattle.event_dispatch.specs.DispatchStrayLaws.{started_quietly, started_places, started_reads}
+use Rattle.event_dispatch.specs.laws.DispatchStrayLaws.{started_quietly, started_places, started_reads}
 use Rattle.std.proofs.Common.{ap}
 use Rattle.run_laws.specs.Engine.{Engine}
 use Rattle.event_dispatch.proofs.run.Run.start.Goals as goal

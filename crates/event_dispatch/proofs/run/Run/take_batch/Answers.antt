@@ -1,17 +1,17 @@
 use Rattle.std.proofs.Common.{subst, ◌∙◌, Option}
 use Rattle.event_dispatch.specs.declared.batch.Rest.{Rest}
 use Rattle.event_dispatch.specs.Batch.{NextTaken}
-use Rattle.event_dispatch.specs.WhyLaws.{continues_then, waits_then}
-use Rattle.event_dispatch.specs.BatchLaws.{batch_goes, batch_ends, batch_too_long}
-use Rattle.event_dispatch.specs.PlainLaws.{batch_kept, batch_next}
-use Rattle.event_dispatch.specs.CutLaws.{if_err}
+use Rattle.event_dispatch.specs.laws.WhyLaws.{continues_then, waits_then}
+use Rattle.event_dispatch.specs.laws.BatchLaws.{batch_goes, batch_ends, batch_too_long}
+use Rattle.event_dispatch.specs.laws.PlainLaws.{batch_kept, batch_next}
+use Rattle.event_dispatch.specs.laws.CutLaws.{if_err}
 use Rattle.event_dispatch.specs.Plain.{PlainCalm}
 use Rattle.event_dispatch.specs.Why.{served_by}
-use Rattle.event_dispatch.specs.TalkingLaws.{keeps_then, holds_on_err}
+use Rattle.event_dispatch.specs.laws.TalkingLaws.{keeps_then, holds_on_err}
 use Rattle.event_dispatch.specs.Told.{GoesBegun}
-use Rattle.app_visor.specs.CalmLaws.{calls_then}
-use Rattle.event_dispatch.specs.SteadyLaws.{places_then, reads_then}
-use Rattle.event_dispatch.specs.BatchSteadyLaws.{here_goes, here_ends, here_kept}
+use Rattle.app_visor.specs.laws.CalmLaws.{calls_then}
+use Rattle.event_dispatch.specs.laws.SteadyLaws.{places_then, reads_then}
+use Rattle.event_dispatch.specs.laws.BatchSteadyLaws.{here_goes, here_ends, here_kept}
 use Rattle.event_dispatch.proofs.run.Run.take_batch.Goals as goal
 
 pub returns-in-Some-clause-batch : goal.returns-in-Some-clause-batch

@@ -1,7 +1,7 @@
 use Rattle.std.proofs.Common.{refl, sym}
-use Rattle.batch_laws.specs.HandleLaws.{joined_ignored, enters_handles, unread_handles}
-use Rattle.event_dispatch.specs.BatchLaws.{on_ok, unread}
-use Rattle.event_dispatch.specs.PlainLaws.{join_memory}
+use Rattle.batch_laws.specs.laws.HandleLaws.{joined_ignored, enters_handles, unread_handles}
+use Rattle.event_dispatch.specs.laws.BatchLaws.{on_ok, unread}
+use Rattle.event_dispatch.specs.laws.PlainLaws.{join_memory}
 use Rattle.event_dispatch.proofs.run.Run.take_in.Goals as goal
 
 pub returns-then-is_joined-clause-handles : goal.returns-then-is_joined-clause-handles

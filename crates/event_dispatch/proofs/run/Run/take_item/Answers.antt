@@ -3,15 +3,15 @@ use Rattle.std.specs.Prelude.{OnOk}
 use Rattle.std.proofs.Common.{subst}
 use Rattle.outside.specs.declared.step.WorldStep.{WorldStep}
 use Rattle.batch_laws.specs.Items.{Handles}
-use Rattle.batch_laws.specs.HandleLaws.{departs_handles, moment_handles}
-use Rattle.event_dispatch.specs.BatchLaws.{from_step, joined_step, left_step, moment_step, rest_handles}
-use Rattle.event_dispatch.specs.PlainLaws.{on_err, item_from, item_joined, item_memory}
-use Rattle.event_dispatch.specs.CutLaws.{if_err}
+use Rattle.batch_laws.specs.laws.HandleLaws.{departs_handles, moment_handles}
+use Rattle.event_dispatch.specs.laws.BatchLaws.{from_step, joined_step, left_step, moment_step, rest_handles}
+use Rattle.event_dispatch.specs.laws.PlainLaws.{on_err, item_from, item_joined, item_memory}
+use Rattle.event_dispatch.specs.laws.CutLaws.{if_err}
 use Rattle.event_dispatch.specs.Plain.{PlainItem}
 use Rattle.outside.specs.Calls.{item_step}
 use Rattle.event_dispatch.specs.Why.{WhyItem}
-use Rattle.event_dispatch.specs.ItemLaws as why
-use Rattle.event_dispatch.specs.BatchSteadyLaws.{from_puts, joined_item}
+use Rattle.event_dispatch.specs.laws.ItemLaws as why
+use Rattle.event_dispatch.specs.laws.BatchSteadyLaws.{from_puts, joined_item}
 use Rattle.event_dispatch.proofs.run.Run.take_item.Goals as goal
 
 pub returns-in-From-clause-handles : goal.returns-in-From-clause-handles

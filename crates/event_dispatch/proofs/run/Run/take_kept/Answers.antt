@@ -1,16 +1,16 @@
 use Rattle.event_dispatch.specs.declared.fault.Fault.TheVariants as faults
 use Rattle.std.proofs.Common.{refl, sym, ◌∙◌}
-use Rattle.outside.specs.SeenLaws.{Continues-refl}
-use Rattle.event_dispatch.specs.BatchLaws.{kept_at_first, kept_one_more, kept_ends, kept_all}
-use Rattle.event_dispatch.specs.PlainLaws.{kept_memory, kept_none}
-use Rattle.event_dispatch.specs.CutLaws.{if_err}
+use Rattle.outside.specs.laws.SeenLaws.{Continues-refl}
+use Rattle.event_dispatch.specs.laws.BatchLaws.{kept_at_first, kept_one_more, kept_ends, kept_all}
+use Rattle.event_dispatch.specs.laws.PlainLaws.{kept_memory, kept_none}
+use Rattle.event_dispatch.specs.laws.CutLaws.{if_err}
 use Rattle.event_dispatch.specs.Plain.{PlainKept}
 use Rattle.event_dispatch.specs.Why.{IsReason}
-use Rattle.event_dispatch.specs.ItemLaws.{kept_why}
-use Rattle.event_dispatch.specs.WhyLaws.{continues_then}
-use Rattle.event_dispatch.specs.TalkingLaws.{keeps_none, keeps_then}
-use Rattle.event_dispatch.specs.SteadyLaws.{places_none, reads_none}
-use Rattle.event_dispatch.specs.BatchSteadyLaws.{links_none, links_then, taken_read, taken_waits, taken_places, taken_reads}
+use Rattle.event_dispatch.specs.laws.ItemLaws.{kept_why}
+use Rattle.event_dispatch.specs.laws.WhyLaws.{continues_then}
+use Rattle.event_dispatch.specs.laws.TalkingLaws.{keeps_none, keeps_then}
+use Rattle.event_dispatch.specs.laws.SteadyLaws.{places_none, reads_none}
+use Rattle.event_dispatch.specs.laws.BatchSteadyLaws.{links_none, links_then, taken_read, taken_waits, taken_places, taken_reads}
 use Rattle.event_dispatch.proofs.run.Run.take_kept.Goals as goal
 
 pub returns-in_default-clause-kept : goal.returns-in_default-clause-kept

@@ -4,15 +4,15 @@ use Rattle.of_types.specs.Fields.{IsBytes}
 use Rattle.app_frames.specs.declared.frame.Event.{Event}
 use Rattle.lego_model.specs.declared.fault.TxnFault.{TxnFault}
 use Rattle.net_txn.specs.Arriving.{Arrives}
-use Rattle.batch_laws.specs.HandleLaws.{arrived_handles, from_ignored}
-use Rattle.event_dispatch.specs.PlainLaws.{read_memory, read_arrived}
-use Rattle.event_dispatch.specs.CutLaws.{if_err}
+use Rattle.batch_laws.specs.laws.HandleLaws.{arrived_handles, from_ignored}
+use Rattle.event_dispatch.specs.laws.PlainLaws.{read_memory, read_arrived}
+use Rattle.event_dispatch.specs.laws.CutLaws.{if_err}
 use Rattle.event_dispatch.specs.Plain.{PlainRead}
 use Rattle.event_dispatch.specs.Why.{fault_of, WhyMessage}
-use Rattle.event_dispatch.specs.FaultLaws.{arrival_why}
-use Rattle.event_dispatch.specs.KeptLaws.{arrived_read}
-use Rattle.event_dispatch.specs.BatchSteadyLaws.{arrived_places, arrived_reads, arrived_only}
-use Rattle.event_dispatch.specs.ItemLaws.{message_memory}
+use Rattle.event_dispatch.specs.laws.FaultLaws.{arrival_why}
+use Rattle.event_dispatch.specs.laws.KeptLaws.{arrived_read}
+use Rattle.event_dispatch.specs.laws.BatchSteadyLaws.{arrived_places, arrived_reads, arrived_only}
+use Rattle.event_dispatch.specs.laws.ItemLaws.{message_memory}
 use Rattle.event_dispatch.proofs.run.Run.take_message.Goals as goal
 
 pub returns-then-not-is_joined-clause-handles : goal.returns-then-not-is_joined-clause-handles

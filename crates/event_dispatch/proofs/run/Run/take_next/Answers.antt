@@ -1,14 +1,14 @@
 use Rattle.std.proofs.Common.{sym, ap, inl, inr}
 use Rattle.event_dispatch.specs.Batch.{rest_by}
-use Rattle.event_dispatch.specs.WhyLaws.{continues_then}
-use Rattle.event_dispatch.specs.BatchLaws.{rest_handles, no_rest}
-use Rattle.event_dispatch.specs.PlainLaws.{next_anyway, next_taken}
-use Rattle.event_dispatch.specs.CutLaws.{if_err}
+use Rattle.event_dispatch.specs.laws.WhyLaws.{continues_then}
+use Rattle.event_dispatch.specs.laws.BatchLaws.{rest_handles, no_rest}
+use Rattle.event_dispatch.specs.laws.PlainLaws.{next_anyway, next_taken}
+use Rattle.event_dispatch.specs.laws.CutLaws.{if_err}
 use Rattle.event_dispatch.specs.Plain.{PlainNext}
 use Rattle.event_dispatch.specs.Why.{IsReason}
-use Rattle.event_dispatch.specs.ItemLaws.{next_why}
-use Rattle.event_dispatch.specs.TalkingLaws.{keeps_then}
-use Rattle.event_dispatch.specs.BatchSteadyLaws.{next_places, handled_places, handled_reads, over_reads, handled_quietly, over_begun, goes_begun}
+use Rattle.event_dispatch.specs.laws.ItemLaws.{next_why}
+use Rattle.event_dispatch.specs.laws.TalkingLaws.{keeps_then}
+use Rattle.event_dispatch.specs.laws.BatchSteadyLaws.{next_places, handled_places, handled_reads, over_reads, handled_quietly, over_begun, goes_begun}
 use Rattle.event_dispatch.proofs.run.Run.take_next.Goals as goal
 
 pub returns-in-Idle-clause-taken : goal.returns-in-Idle-clause-taken

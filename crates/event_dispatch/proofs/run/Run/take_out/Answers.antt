@@ -1,7 +1,7 @@
 use Rattle.std.proofs.Common.{refl}
-use Rattle.batch_laws.specs.HandleLaws.{left_departs, left_ignored}
+use Rattle.batch_laws.specs.laws.HandleLaws.{left_departs, left_ignored}
 use Rattle.net_txn.specs.Leaving.{without}
-use Rattle.event_dispatch.specs.KeptLaws.{read_left, read_same}
+use Rattle.event_dispatch.specs.laws.KeptLaws.{read_left, read_same}
 use Rattle.event_dispatch.proofs.run.Run.take_out.Goals as goal
 
 pub returns-in_ok-push-clause-departs : goal.returns-in_ok-push-clause-departs

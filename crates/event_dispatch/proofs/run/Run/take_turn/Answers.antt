@@ -1,11 +1,11 @@
 use Rattle.event_dispatch.specs.declared.fault.Fault.TheVariants as faults
-use Rattle.event_dispatch.specs.TurnLaws.{turn_so}
-use Rattle.event_dispatch.specs.PlainLaws.{turn_memory}
-use Rattle.event_dispatch.specs.CutLaws.{if_err}
+use Rattle.event_dispatch.specs.laws.TurnLaws.{turn_so}
+use Rattle.event_dispatch.specs.laws.PlainLaws.{turn_memory}
+use Rattle.event_dispatch.specs.laws.CutLaws.{if_err}
 use Rattle.event_dispatch.specs.Plain.{PlainTurn}
-use Rattle.event_dispatch.specs.TalkingLaws.{turn_of, turn_closed, holds_on_err}
-use Rattle.event_dispatch.specs.SteadyLaws.{places_then, reads_then}
-use Rattle.event_dispatch.specs.DispatchStrayLaws.{later_of, later_quietly}
+use Rattle.event_dispatch.specs.laws.TalkingLaws.{turn_of, turn_closed, holds_on_err}
+use Rattle.event_dispatch.specs.laws.SteadyLaws.{places_then, reads_then}
+use Rattle.event_dispatch.specs.laws.DispatchStrayLaws.{later_of, later_quietly}
 use Rattle.event_dispatch.proofs.run.Run.take_turn.Goals as goal
 
 pub returns-clause-turn : goal.returns-clause-turn

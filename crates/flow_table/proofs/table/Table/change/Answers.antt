@@ -3,7 +3,7 @@ use Rattle.of_wire.specs.declared.bodies.FlowMod.{FlowMod}
 use Rattle.flow_table.specs.declared.entry.Entry.{Entry}
 use Rattle.flow_table.specs.Table.{IsTable, TableState}
 use Rattle.flow_table.specs.Change.{entries_after, changed, serial_after}
-use Rattle.flow_table.specs.ChangeLaws.{IsTable-entries_after}
+use Rattle.flow_table.specs.laws.ChangeLaws.{IsTable-entries_after}
 use Rattle.flow_table.proofs.table.Table.change.Goals as goal
 
 stays : {T E : Type 0} (r : Result T E) (new old : List Entry) (now serial : ℕ) (m : FlowMod) → IsTable old → OnOk r (new ≡ entries_after now serial m old) → OnErr r (new ≡ old) → IsTable new

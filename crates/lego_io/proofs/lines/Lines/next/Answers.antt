@@ -1,7 +1,7 @@
 use Rattle.std.proofs.Common.{◌≡◌, [], sym, ap, ◌∙◌, rules}
 use Rattle.std.proofs.lemmas.List.{nil_from_length}
 use Rattle.lego_io.specs.Lines.{lines_of}
-use Rattle.lego_io.specs.LinesLaws.{lines_of-nil}
+use Rattle.lego_io.specs.laws.LinesLaws.{lines_of-nil}
 use Rattle.lego_io.proofs.lines.Lines.next.Goals as goal
 
 pub returns-then-is_empty-clause-line : goal.returns-then-is_empty-clause-line

@@ -1,8 +1,8 @@
 use Rattle.std.proofs.Common.{rules}
 use Rattle.std.proofs.lemmas.Result.{err_from_is_err_and}
-use Rattle.outside.specs.SeenLaws.{Continues-refl}
-use Rattle.net_txn.specs.LinkStepLaws.{OnLinks-refl}
-use Rattle.net_txn.specs.LinkStrayLaws.{no_strays_none}
+use Rattle.outside.specs.laws.SeenLaws.{Continues-refl}
+use Rattle.net_txn.specs.laws.LinkStepLaws.{OnLinks-refl}
+use Rattle.net_txn.specs.laws.LinkStrayLaws.{no_strays_none}
 use Rattle.net_txn.proofs.net.Net.arrived.Goals as goal
 
 pub returns-in_err-bytes-in-Err : goal.returns-in_err-bytes-in-Err

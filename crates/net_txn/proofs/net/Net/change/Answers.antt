@@ -1,7 +1,7 @@
 use Rattle.std.proofs.Common.{◌≡◌, ap, ◌∙◌}
 use Rattle.net_txn.specs.Net.{NetState}
-use Rattle.net_txn.specs.ChangeLaws.{Changes-short, Changes-by_host, Changes-by_switch, host_unknown, host_knows}
-use Rattle.net_txn.specs.ConsequenceLaws.{Changes-reaches, Changes-steps}
+use Rattle.net_txn.specs.laws.ChangeLaws.{Changes-short, Changes-by_host, Changes-by_switch, host_unknown, host_knows}
+use Rattle.net_txn.specs.laws.ConsequenceLaws.{Changes-reaches, Changes-steps}
 use Rattle.std.proofs.lemmas.Result.{err_from_is_err_and}
 use Rattle.net_txn.proofs.net.Net.change.Goals as goal
 

@@ -5,10 +5,10 @@ use Rattle.of_wire.specs.Spelling.{message_bytes}
 use Rattle.flow_table.specs.Switch.{first_config}
 use Rattle.lego_model.specs.declared.wait.Awaited.{Awaited}
 use Rattle.net_txn.specs.Net.{NetState}
-use Rattle.net_txn.specs.WaitLaws.{waits_kept}
-use Rattle.net_txn.specs.ChangeLaws.{kept_for}
-use Rattle.net_txn.specs.JoiningFaultLaws.{greeted_flooded}
-use Rattle.net_txn.specs.LinkStrayLaws.{no_strays_none}
+use Rattle.net_txn.specs.laws.WaitLaws.{waits_kept}
+use Rattle.net_txn.specs.laws.ChangeLaws.{kept_for}
+use Rattle.net_txn.specs.laws.JoiningFaultLaws.{greeted_flooded}
+use Rattle.net_txn.specs.laws.LinkStrayLaws.{no_strays_none}
 use Rattle.net_txn.proofs.net.Net.join.Goals as goal
 
 pub returns-in_err-admit-clause-err : goal.returns-in_err-admit-clause-err

@@ -1,5 +1,5 @@
-use Rattle.net_txn.specs.JoiningFaultLaws.{join_steps}
-use Rattle.net_txn.specs.ReadLaws.{joins_read}
+use Rattle.net_txn.specs.laws.JoiningFaultLaws.{join_steps}
+use Rattle.net_txn.specs.laws.ReadLaws.{joins_read}
 use Rattle.net_txn.proofs.net.Net.joined.Goals as goal
 
 pub returns-clause-in_step : goal.returns-clause-in_step

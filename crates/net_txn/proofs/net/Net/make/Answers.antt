@@ -4,9 +4,9 @@ use Rattle.lego_model.specs.declared.wait.Awaited.{Awaited}
 use Rattle.net_txn.specs.Views.{rows_after}
 use Rattle.net_txn.specs.Net.{NetState, awaited_from}
 use Rattle.lego_model.specs.BarrierWaits.{next_xid}
-use Rattle.net_txn.specs.WaitLaws.{waits_kept}
-use Rattle.net_txn.specs.ChangeLaws.{sent_waits, given_up, kept_for, same_log, same_views, log_cut}
-use Rattle.net_txn.specs.LinkStrayLaws.{no_strays_none}
+use Rattle.net_txn.specs.laws.WaitLaws.{waits_kept}
+use Rattle.net_txn.specs.laws.ChangeLaws.{sent_waits, given_up, kept_for, same_log, same_views, log_cut}
+use Rattle.net_txn.specs.laws.LinkStrayLaws.{no_strays_none}
 use Rattle.net_txn.proofs.net.Net.make.Goals as goal
 
 pub returns-in_err-put_added-in-None-clause-result : goal.returns-in_err-put_added-in-None-clause-result

@@ -1,6 +1,6 @@
 use Rattle.std.proofs.Common.{ap, arith}
 use Rattle.net_txn.specs.Net.{NetState}
-use Rattle.net_txn.specs.AskFaultLaws.{ask_steps}
+use Rattle.net_txn.specs.laws.AskFaultLaws.{ask_steps}
 use Rattle.net_txn.proofs.net.Net.rows.Goals as goal
 
 pub returns-clause-in_step : goal.returns-clause-in_step

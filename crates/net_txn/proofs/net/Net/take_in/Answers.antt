@@ -1,7 +1,7 @@
 use Rattle.std.proofs.Common.{rules}
-use Rattle.outside.specs.SeenLaws.{Continues-refl}
-use Rattle.net_txn.specs.LinkStepLaws.{OnLinks-refl}
-use Rattle.net_txn.specs.LinkStrayLaws.{no_strays_none}
+use Rattle.outside.specs.laws.SeenLaws.{Continues-refl}
+use Rattle.net_txn.specs.laws.LinkStepLaws.{OnLinks-refl}
+use Rattle.net_txn.specs.laws.LinkStrayLaws.{no_strays_none}
 use Rattle.net_txn.proofs.net.Net.take_in.Goals as goal
 
 pub returns-in_err-event_with-in-PacketIn-clause-no_strays : goal.returns-in_err-event_with-in-PacketIn-clause-no_strays

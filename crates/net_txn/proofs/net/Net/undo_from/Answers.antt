@@ -3,7 +3,7 @@ use Rattle.std.specs.Prelude.{vec_len}
 use Rattle.net_txn.specs.declared.logged.Logged.{Logged}
 use Rattle.net_txn.specs.Net.{NetState}
 use Rattle.net_txn.specs.Undos.{Undoes}
-use Rattle.net_txn.specs.WholeLaws.{undoes}
+use Rattle.net_txn.specs.laws.WholeLaws.{undoes}
 use Rattle.net_txn.proofs.net.Net.undo_from.Goals as goal
 
 pub returns : goal.returns

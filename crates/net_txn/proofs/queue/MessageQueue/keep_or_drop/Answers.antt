@@ -1,4 +1,4 @@
-use Rattle.net_txn.specs.MessageStoreLaws.{where_fit_one}
+use Rattle.net_txn.specs.laws.MessageStoreLaws.{where_fit_one}
 use Rattle.net_txn.proofs.MessageStoreSteps.{put_last}
 use Rattle.net_txn.proofs.queue.MessageQueue.keep_or_drop.Goals as goal
 

@@ -1,4 +1,4 @@
-use Rattle.of_match.specs.FieldsLaws.{normal_again}
+use Rattle.of_match.specs.laws.FieldsLaws.{normal_again}
 use Rattle.of_match.proofs.flow_match.Match.decode.Goals as goal
 
 pub invariant_of-result : goal.invariant_of-result

@@ -1,4 +1,4 @@
-use Rattle.of_match.specs.FieldsLaws.{fields_within}
+use Rattle.of_match.specs.laws.FieldsLaws.{fields_within}
 use Rattle.of_match.proofs.flow_match.Match.fields.Goals as goal
 
 pub returns-clause-within : goal.returns-clause-within

@@ -1,6 +1,6 @@
 use Rattle.std.proofs.Common.{ap, ◌∙◌}
 use Rattle.of_match.specs.Fields.{fields_of}
-use Rattle.of_match.specs.FieldsLaws.{bytes_of-normal, fields_of-bytes_of_any}
+use Rattle.of_match.specs.laws.FieldsLaws.{bytes_of-normal, fields_of-bytes_of_any}
 use Rattle.of_match.specs.Match.{fields_in}
 use Rattle.of_match.proofs.flow_match.Match.new.Goals as goal
 

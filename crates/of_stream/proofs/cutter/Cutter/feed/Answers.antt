@@ -1,7 +1,7 @@
 use Rattle.std.proofs.Common.{◌≡◌, Result, Ok, Err, List, ℕ, ◌++◌, sym, subst}
 use Rattle.std.specs.Prelude.{OnOk, OnErr}
 use Rattle.of_stream.specs.Frames.{IsBroken}
-use Rattle.of_stream.specs.FrameLaws.{IsBroken-append}
+use Rattle.of_stream.specs.laws.FrameLaws.{IsBroken-append}
 use Rattle.of_stream.proofs.cutter.Cutter.feed.Goals as goal
 
 stays : {T E : Type 0} (r : Result T E) (old bytes new : List ℕ) → OnOk r (new ≡ old ++ bytes) → OnErr r (new ≡ old) → IsBroken old → IsBroken new

@@ -1,7 +1,7 @@
 use Rattle.std.proofs.Common.{sym, subst, ◌∙◌}
 use Rattle.std.proofs.lemmas.Result.{err_from_is_err_and}
 use Rattle.of_stream.specs.Frames.{IsPartial, IsBroken}
-use Rattle.of_stream.specs.FrameLaws.{front_not_partial, front_not_broken}
+use Rattle.of_stream.specs.laws.FrameLaws.{front_not_partial, front_not_broken}
 use Rattle.of_stream.proofs.cutter.Cutter.next.Goals as goal
 
 pub returns-in_err-frame-in-Whole-clause-none : goal.returns-in_err-frame-in-Whole-clause-none

@@ -1,5 +1,5 @@
 use Rattle.std.proofs.Common.{length, ap, arith}
-use Rattle.session_lists.specs.RecordLaws.{records_count}
+use Rattle.session_lists.specs.laws.RecordLaws.{records_count}
 use Rattle.session_lists.proofs.records.Records.get.Goals as goal
 
 pub record_of-requires-clause-within : goal.record_of-requires-clause-within

@@ -1,5 +1,5 @@
 use Rattle.std.proofs.Common.{length, sym, ap, ◌∙◌}
-use Rattle.session_lists.specs.RecordLaws.{records_count}
+use Rattle.session_lists.specs.laws.RecordLaws.{records_count}
 use Rattle.session_lists.proofs.records.Records.len.Goals as goal
 
 pub returns : goal.returns

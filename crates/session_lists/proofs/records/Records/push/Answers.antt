@@ -1,5 +1,5 @@
 use Rattle.std.proofs.Common.{length, sym, ap, ◌∙◌, ◌++◌, ◌∷◌, [], ◌+◌}
-use Rattle.session_lists.specs.RecordLaws.{records_pushed, cut_pushed}
+use Rattle.session_lists.specs.laws.RecordLaws.{records_pushed, cut_pushed}
 use Rattle.session_lists.proofs.records.Records.push.Goals as goal
 
 pub invariant_of-self-2 : goal.invariant_of-self-2

@@ -1,7 +1,7 @@
 use Rattle.std.proofs.Common.{◌++◌, ◌∷◌, [], ap, sym, ◌∙◌, length}
 use Rattle.session_lists.specs.declared.reply_list.ReplyLine.{ReplyLine}
 use Rattle.session_lists.specs.Steps.{steps_in}
-use Rattle.session_lists.specs.StepLaws.{kept_lines, added_line, err_holds}
+use Rattle.session_lists.specs.laws.StepLaws.{kept_lines, added_line, err_holds}
 use Rattle.session_lists.proofs.reply_list.ReplyList.push.Goals as goal
 
 pub returns-in_err-append-clause-err : goal.returns-in_err-append-clause-err

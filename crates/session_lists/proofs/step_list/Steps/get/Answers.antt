@@ -1,5 +1,5 @@
 use Rattle.std.proofs.Common.{length, sym, ap, ◌∙◌, arith}
-use Rattle.session_lists.specs.StepLaws.{between_count}
+use Rattle.session_lists.specs.laws.StepLaws.{between_count}
 use Rattle.session_lists.proofs.step_list.Steps.get.Goals as goal
 
 pub step_at-requires-clause-less : goal.step_at-requires-clause-less

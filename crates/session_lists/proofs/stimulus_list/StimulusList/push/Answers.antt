@@ -1,7 +1,7 @@
 use Rattle.std.proofs.Common.{◌++◌, [], ap, sym, ◌∙◌}
 use Rattle.session_lists.specs.declared.kinds.StimulusKind.TheVariants.{Join, Leave}
 use Rattle.session_lists.specs.Stimuli.{stimulus_in}
-use Rattle.session_lists.specs.StimulusLaws.{put_same, joins, leaves}
+use Rattle.session_lists.specs.laws.StimulusLaws.{put_same, joins, leaves}
 use Rattle.session_lists.proofs.stimulus_list.StimulusList.push.Goals as goal
 
 pub returns-in-Join-clause-ok : goal.returns-in-Join-clause-ok

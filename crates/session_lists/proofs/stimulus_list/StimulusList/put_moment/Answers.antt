@@ -1,7 +1,7 @@
 use Rattle.std.proofs.Common.{◌++◌, [], ap, ◌∙◌}
 use Rattle.session_lists.specs.declared.kinds.StimulusKind.TheVariants.{At, LateAt}
 use Rattle.session_lists.specs.Stimuli.{stimulus_in}
-use Rattle.session_lists.specs.StimulusLaws.{put_same, is_at, is_late}
+use Rattle.session_lists.specs.laws.StimulusLaws.{put_same, is_at, is_late}
 use Rattle.session_lists.proofs.stimulus_list.StimulusList.put_moment.Goals as goal
 
 pub returns-then-moment-le4294967295-clause-ok : goal.returns-then-moment-le4294967295-clause-ok

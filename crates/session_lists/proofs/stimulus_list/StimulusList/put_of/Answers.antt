@@ -3,7 +3,7 @@ use Rattle.of_types.specs.Fields.{number_bytes}
 use Rattle.of_types.specs.declared.journal.WorldStim.TheVariants.{Of}
 use Rattle.session_lists.specs.declared.kinds.StimulusKind.TheVariants.{Frame, Advance, Port, Counts, Raw}
 use Rattle.session_lists.specs.Stimuli.{stimulus_in}
-use Rattle.session_lists.specs.StimulusLaws.{put_same, is_frame, is_port, advances, is_raw, counts}
+use Rattle.session_lists.specs.laws.StimulusLaws.{put_same, is_frame, is_port, advances, is_raw, counts}
 use Rattle.session_lists.proofs.stimulus_list.StimulusList.put_of.Goals as goal
 
 pub returns-in-Frame-clause-ok : goal.returns-in-Frame-clause-ok

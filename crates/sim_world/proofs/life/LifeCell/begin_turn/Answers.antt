@@ -1,5 +1,5 @@
 use Rattle.std.proofs.Common.{◌∙◌}
-use Rattle.sim_world.specs.LifeLaws.{next_turn-cell, life-turn, IsCellOf-turn}
+use Rattle.sim_world.specs.laws.LifeLaws.{next_turn-cell, life-turn, IsCellOf-turn}
 use Rattle.sim_world.proofs.life.LifeCell.begin_turn.Goals as goal
 
 pub returns-clause-life : goal.returns-clause-life

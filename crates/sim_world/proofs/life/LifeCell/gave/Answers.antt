@@ -1,6 +1,6 @@
 use Rattle.std.proofs.Common.{sym, ◌∙◌}
 use Rattle.sim_world.specs.Lives.{life_of_cell}
-use Rattle.sim_world.specs.LifeLaws.{after_gave-other}
+use Rattle.sim_world.specs.laws.LifeLaws.{after_gave-other}
 use Rattle.sim_world.proofs.life.LifeCell.gave.Goals as goal
 
 pub returns-else-is_event-clause-life : goal.returns-else-is_event-clause-life

@@ -1,6 +1,6 @@
 use Rattle.std.proofs.Common.{ap, ◌∙◌}
 use Rattle.sim_world.specs.Scripts.{is_refused}
-use Rattle.sim_world.specs.LifeLaws.{next_start-cell}
+use Rattle.sim_world.specs.laws.LifeLaws.{next_start-cell}
 use Rattle.sim_world.proofs.life.LifeCell.is_next_refused.Goals as goal
 
 pub returns : goal.returns

@@ -2,7 +2,7 @@ use Rattle.std.proofs.Common.{length, sym, ap, ◌∙◌}
 use Rattle.of_types.specs.declared.journal.TookWhat.{TookWhat}
 use Rattle.sim_world.specs.Scripts.{taken_bytes}
 use Rattle.sim_world.specs.Lives.{life_of_cell}
-use Rattle.sim_world.specs.ScriptLaws.{fault-closed, fault-silent, fault-none, taken-fault, taken-left}
+use Rattle.sim_world.specs.laws.ScriptLaws.{fault-closed, fault-silent, fault-none, taken-fault, taken-left}
 use Rattle.sim_world.proofs.life.LifeCell.next_len.Goals as goal
 
 pub returns-then-closed : goal.returns-then-closed

@@ -1,6 +1,6 @@
 use Rattle.std.proofs.Common.{sym, ◌∙◌}
 use Rattle.sim_world.specs.Lives.{life_of_cell}
-use Rattle.sim_world.specs.LifeLaws.{after_start-refused, after_start-missed}
+use Rattle.sim_world.specs.laws.LifeLaws.{after_start-refused, after_start-missed}
 use Rattle.sim_world.proofs.life.LifeCell.not_started.Goals as goal
 
 pub returns-then-comes_to_refusal-clause-life : goal.returns-then-comes_to_refusal-clause-life

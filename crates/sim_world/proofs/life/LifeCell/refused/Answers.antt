@@ -1,6 +1,6 @@
 use Rattle.std.proofs.Common.{refl}
 use Rattle.sim_world.specs.Lives.{life_of_cell}
-use Rattle.sim_world.specs.LifeLaws.{IsCellOf-start}
+use Rattle.sim_world.specs.laws.LifeLaws.{IsCellOf-start}
 use Rattle.sim_world.proofs.life.LifeCell.refused.Goals as goal
 
 pub returns-clause-life : goal.returns-clause-life

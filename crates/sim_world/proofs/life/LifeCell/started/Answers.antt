@@ -1,5 +1,5 @@
 use Rattle.std.proofs.Common.{◌∙◌}
-use Rattle.sim_world.specs.LifeLaws.{next_start-cell, life-started, IsCellOf-start}
+use Rattle.sim_world.specs.laws.LifeLaws.{next_start-cell, life-started, IsCellOf-start}
 use Rattle.sim_world.proofs.life.LifeCell.started.Goals as goal
 
 pub returns-clause-life : goal.returns-clause-life

@@ -1,6 +1,6 @@
 use Rattle.std.proofs.Common.{sym, ◌∙◌}
 use Rattle.sim_world.specs.Lives.{life_of_cell}
-use Rattle.sim_world.specs.ScriptLaws.{fault-closed, fault-silent, fault-none, taken-fault, taken-left, kept-fault, kept-left}
+use Rattle.sim_world.specs.laws.ScriptLaws.{fault-closed, fault-silent, fault-none, taken-fault, taken-left, kept-fault, kept-left}
 use Rattle.sim_world.proofs.life.LifeCell.take.Goals as goal
 
 pub returns-then-closed-clause-what : goal.returns-then-closed-clause-what

@@ -2,7 +2,7 @@ use Rattle.std.proofs.Common.{sym, subst}
 use Rattle.of_types.specs.declared.journal.Stimulus.TheVariants.{Advance}
 use Rattle.flow_table.specs.Switch.{Declared}
 use Rattle.sim_world.specs.Links.{IsDeclaredAs}
-use Rattle.sim_world.specs.LinkLaws.{IsDeclaredAs-happened}
+use Rattle.sim_world.specs.laws.LinkLaws.{IsDeclaredAs-happened}
 use Rattle.sim_world.proofs.link.SimLink.pass.Goals as goal
 
 pub invariant_of-self : goal.invariant_of-self

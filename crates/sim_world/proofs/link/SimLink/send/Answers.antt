@@ -2,7 +2,7 @@ use Rattle.std.proofs.Common.{sym, subst}
 use Rattle.of_wire.specs.Reading.{reading_of}
 use Rattle.flow_table.specs.Switch.{Declared}
 use Rattle.sim_world.specs.Links.{IsDeclaredAs}
-use Rattle.sim_world.specs.LinkLaws.{IsDeclaredAs-told}
+use Rattle.sim_world.specs.laws.LinkLaws.{IsDeclaredAs-told}
 use Rattle.sim_world.proofs.link.SimLink.send.Goals as goal
 
 pub invariant_of-self-2 : goal.invariant_of-self-2

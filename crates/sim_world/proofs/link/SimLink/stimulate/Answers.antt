@@ -1,7 +1,7 @@
 use Rattle.std.proofs.Common.{sym, subst}
 use Rattle.flow_table.specs.Switch.{Declared}
 use Rattle.sim_world.specs.Links.{IsDeclaredAs}
-use Rattle.sim_world.specs.LinkLaws.{IsDeclaredAs-happened}
+use Rattle.sim_world.specs.laws.LinkLaws.{IsDeclaredAs-happened}
 use Rattle.sim_world.proofs.link.SimLink.stimulate.Goals as goal
 
 pub invariant_of-self-2 : goal.invariant_of-self-2

@@ -1,7 +1,7 @@
 use Rattle.std.proofs.Common.{◌≡◌, ◌<◌, List, None, length, sym, subst}
 use Rattle.outside.specs.State.{Link, link_of}
 use Rattle.sim_world.specs.Links.{links_in}
-use Rattle.sim_world.specs.LinksLaws.{AreLinks-inserted}
+use Rattle.sim_world.specs.laws.LinksLaws.{AreLinks-inserted}
 use Rattle.sim_world.proofs.links.Links.insert.Goals as goal
 
 pub invariant_of-self : goal.invariant_of-self

@@ -4,7 +4,7 @@ use Rattle.outside.specs.declared.step.WorldStep.TheVariants.{Acted}
 use Rattle.std.proofs.lemmas.List.{with_items_is}
 use Rattle.sim_world.specs.declared.life.LifeCell.{LifeCell}
 use Rattle.sim_world.specs.Lives.{life_of, is_known, life_in, has_life, named_lives}
-use Rattle.sim_world.specs.CellLaws.{seen_known, seen_steps, lives-ended}
+use Rattle.sim_world.specs.laws.CellLaws.{seen_known, seen_steps, lives-ended}
 use Rattle.sim_world.proofs.lives.Lives.end.Goals as goal
 
 pub returns-clause-known : goal.returns-clause-known

@@ -1,7 +1,7 @@
 use Rattle.std.proofs.Common.{refl, sym, ap, ◌∙◌}
 use Rattle.sim_world.specs.Scripts.{fresh}
 use Rattle.sim_world.specs.Lives.{life_in, has_life, life_of, is_known}
-use Rattle.sim_world.specs.CellLaws.{pushed, has_life-new, has_life-kept, has_life-cell, first_known, life_in-fresh, seen_life, seen_known}
+use Rattle.sim_world.specs.laws.CellLaws.{pushed, has_life-new, has_life-kept, has_life-cell, first_known, life_in-fresh, seen_life, seen_known}
 use Rattle.sim_world.proofs.lives.Lives.ensure.Goals as goal
 
 pub returns-in_ok-push-in-None-clause-known : goal.returns-in_ok-push-in-None-clause-known

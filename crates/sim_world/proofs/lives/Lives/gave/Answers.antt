@@ -5,7 +5,7 @@ use Rattle.sim_world.specs.Scripts.{Life}
 use Rattle.std.proofs.lemmas.List.{with_items_is}
 use Rattle.sim_world.specs.declared.life.LifeCell.{LifeCell}
 use Rattle.sim_world.specs.Lives.{life_of, is_known, life_in, has_life, named_lives}
-use Rattle.sim_world.specs.CellLaws.{seen_life, seen_known, seen_cell, seen_steps, lives-gave}
+use Rattle.sim_world.specs.laws.CellLaws.{seen_life, seen_known, seen_cell, seen_steps, lives-gave}
 use Rattle.sim_world.proofs.lives.Lives.gave.Goals as goal
 
 pub gave_in-requires-clause-known : goal.gave_in-requires-clause-known

@@ -1,6 +1,6 @@
 use Rattle.std.proofs.Common.{ap, ◌∙◌}
 use Rattle.sim_world.specs.Scripts.{Life}
-use Rattle.sim_world.specs.CellLaws.{seen_life}
+use Rattle.sim_world.specs.laws.CellLaws.{seen_life}
 use Rattle.sim_world.proofs.lives.Lives.is_running.Goals as goal
 
 pub returns : goal.returns

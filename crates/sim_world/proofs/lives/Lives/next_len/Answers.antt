@@ -1,6 +1,6 @@
 use Rattle.std.proofs.Common.{◌-◌, ◌^◌, ◌<◌, length, sym, ap, subst, ◌∙◌}
 use Rattle.sim_world.specs.Scripts.{Life, next_taken, taken_bytes}
-use Rattle.sim_world.specs.CellLaws.{seen_life, seen_cell}
+use Rattle.sim_world.specs.laws.CellLaws.{seen_life, seen_cell}
 use Rattle.sim_world.proofs.lives.Lives.next_len.Goals as goal
 
 pub next_len_in-requires-clause-known : goal.next_len_in-requires-clause-known

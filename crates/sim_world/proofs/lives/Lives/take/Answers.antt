@@ -4,7 +4,7 @@ use Rattle.sim_world.specs.Scripts.{Life, next_taken}
 use Rattle.std.proofs.lemmas.List.{with_items_is}
 use Rattle.sim_world.specs.declared.life.LifeCell.{LifeCell}
 use Rattle.sim_world.specs.Lives.{life_of, is_known, took_of, life_in, has_life, named_lives}
-use Rattle.sim_world.specs.CellLaws.{seen_life, seen_known, seen_cell, seen_steps, lives-taken}
+use Rattle.sim_world.specs.laws.CellLaws.{seen_life, seen_known, seen_cell, seen_steps, lives-taken}
 use Rattle.sim_world.proofs.lives.Lives.take.Goals as goal
 
 pub take_in-requires-clause-known : goal.take_in-requires-clause-known

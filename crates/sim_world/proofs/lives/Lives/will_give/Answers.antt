@@ -1,6 +1,6 @@
 use Rattle.std.proofs.Common.{◌-◌, ◌^◌, ◌<◌, sym, ap, subst, ◌∙◌}
 use Rattle.sim_world.specs.Scripts.{Life, will_give}
-use Rattle.sim_world.specs.CellLaws.{seen_life, seen_cell}
+use Rattle.sim_world.specs.laws.CellLaws.{seen_life, seen_cell}
 use Rattle.sim_world.proofs.lives.Lives.will_give.Goals as goal
 
 pub will_give_in-requires-clause-known : goal.will_give_in-requires-clause-known

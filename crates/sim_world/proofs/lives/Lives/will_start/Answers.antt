@@ -1,7 +1,7 @@
 use Rattle.std.proofs.Common.{◌-◌, ◌^◌, ◌<◌, sym, subst, ◌∙◌}
 use Rattle.sim_world.specs.Scripts.{Life}
 use Rattle.sim_world.specs.Lives.{life_of}
-use Rattle.sim_world.specs.CellLaws.{seen_life, seen_cell, seen_start}
+use Rattle.sim_world.specs.laws.CellLaws.{seen_life, seen_cell, seen_start}
 use Rattle.sim_world.proofs.lives.Lives.will_start.Goals as goal
 
 pub will_start_in-requires-clause-known : goal.will_start_in-requires-clause-known

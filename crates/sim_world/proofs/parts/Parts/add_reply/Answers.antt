@@ -1,5 +1,5 @@
 use Rattle.std.proofs.Common.{[], ◌∷◌, ◌++◌}
-use Rattle.sim_world.specs.BuildingLaws.{Gets-same, Gets-reply, put_lines}
+use Rattle.sim_world.specs.laws.BuildingLaws.{Gets-same, Gets-reply, put_lines}
 use Rattle.sim_world.proofs.Places.{on_ok}
 use Rattle.sim_world.proofs.parts.Parts.add_reply.Goals as goal
 

@@ -1,4 +1,4 @@
-use Rattle.sim_world.specs.BuildingLaws.{Gets-same, Gets-stimulus}
+use Rattle.sim_world.specs.laws.BuildingLaws.{Gets-same, Gets-stimulus}
 use Rattle.sim_world.proofs.Places.{on_ok}
 use Rattle.sim_world.proofs.parts.Parts.add_stimulus.Goals as goal
 

@@ -1,7 +1,7 @@
 use Rattle.std.proofs.Common.{ap, ◌∙◌}
 use Rattle.flow_table.specs.Switch.{Declared}
 use Rattle.outside.specs.State.{Link}
-use Rattle.sim_world.specs.BuildingLaws.{Gets-same, Gets-switch, switch_more}
+use Rattle.sim_world.specs.laws.BuildingLaws.{Gets-same, Gets-switch, switch_more}
 use Rattle.sim_world.proofs.Places.{on_ok}
 use Rattle.sim_world.proofs.parts.Parts.add_switch.Goals as goal
 

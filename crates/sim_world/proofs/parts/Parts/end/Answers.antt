@@ -1,7 +1,7 @@
 use Rattle.std.proofs.Common.{◌≡◌, false, sym, ◌∙◌, arith}
 use Rattle.outside.specs.State.{is_running}
 use Rattle.outside.specs.Calls.{end_steps}
-use Rattle.sim_world.specs.DoingLaws.{fewer_run, Moves_none}
+use Rattle.sim_world.specs.laws.DoingLaws.{fewer_run, Moves_none}
 use Rattle.sim_world.proofs.parts.Parts.end.Goals as goal
 
 pub ended-requires : goal.ended-requires

@@ -2,7 +2,7 @@ use Rattle.std.proofs.Common.{sym, ◌∙◌, subst}
 use Rattle.outside.specs.Conforming.{AreDeclaredFrom}
 use Rattle.outside.specs.declared.call.FailCall.{FailCall}
 use Rattle.sim_world.specs.World.{WorldData, given_of, declared_in}
-use Rattle.sim_world.specs.BuildingLaws.{Gets-same, Gets-link_fail, Gets-other_fail}
+use Rattle.sim_world.specs.laws.BuildingLaws.{Gets-same, Gets-link_fail, Gets-other_fail}
 use Rattle.sim_world.proofs.Places.{on_ok}
 use Rattle.sim_world.proofs.parts.Parts.fail_call.Goals as goal
 

@@ -1,6 +1,6 @@
 use Rattle.std.proofs.Common.{ap, refl}
 use Rattle.sim_world.specs.Lives.{Playing}
-use Rattle.sim_world.specs.BuildingLaws.{IsNew-nothing, given-nothing}
+use Rattle.sim_world.specs.laws.BuildingLaws.{IsNew-nothing, given-nothing}
 use Rattle.sim_world.proofs.parts.Parts.new.Goals as goal
 
 pub returns-clause-new : goal.returns-clause-new

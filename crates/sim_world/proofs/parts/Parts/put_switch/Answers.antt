@@ -1,6 +1,6 @@
 use Rattle.std.proofs.Common.{ap, ◌∙◌}
 use Rattle.sim_world.specs.World.{WorldData}
-use Rattle.sim_world.specs.BuildingLaws.{put_back, counting-removed, link-absent, links-few}
+use Rattle.sim_world.specs.laws.BuildingLaws.{put_back, counting-removed, link-absent, links-few}
 use Rattle.sim_world.proofs.Places.{on_err}
 use Rattle.sim_world.proofs.parts.Parts.put_switch.Goals as goal
 

@@ -5,10 +5,10 @@ use Rattle.sim_world.specs.Tally.{TallyState, tally_stray}
 use Rattle.sim_world.specs.Scripts.{next_taken, IsScripted}
 use Rattle.sim_world.specs.Lives.{took_of}
 use Rattle.sim_world.specs.World.{WorldData, Moves}
-use Rattle.sim_world.specs.WorldLaws.{Moves_ready}
-use Rattle.sim_world.specs.LifeLaws.{take_steps-took}
+use Rattle.sim_world.specs.laws.WorldLaws.{Moves_ready}
+use Rattle.sim_world.specs.laws.LifeLaws.{take_steps-took}
 use Rattle.sim_world.specs.Doing.{lives_of, take_tally}
-use Rattle.sim_world.specs.DoingLaws.{taken_out_of_place}
+use Rattle.sim_world.specs.laws.DoingLaws.{taken_out_of_place}
 use Rattle.sim_world.proofs.parts.Parts.take.Goals as goal
 
 -- what was taken is what the life before says

@@ -2,7 +2,7 @@ use Rattle.std.proofs.Common.{◌≡◌, [], ◌∷◌, subst, ◌∙◌}
 use Rattle.outside.specs.declared.step.WorldStep.TheVariants.{Idle}
 use Rattle.sim_world.specs.Links.{waiting_in}
 use Rattle.sim_world.specs.World.{WorldData, Moves}
-use Rattle.sim_world.specs.TellLaws.{Tells_by_idle}
+use Rattle.sim_world.specs.laws.TellLaws.{Tells_by_idle}
 use Rattle.sim_world.proofs.parts.Parts.tell.Goals as goal
 
 pub returns-clause-tells : goal.returns-clause-tells

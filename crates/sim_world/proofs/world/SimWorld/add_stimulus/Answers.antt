@@ -2,7 +2,7 @@ use Rattle.std.proofs.Common.{subst}
 use Rattle.sim_world.specs.World.{Stands, given_of}
 use Rattle.sim_world.specs.Keeping.{Keeps}
 use Rattle.sim_world.specs.Building.{with_stimulus}
-use Rattle.sim_world.specs.BuildingLaws.{Keeps-new, MayBeGiven-stands, MayBeGiven-stimulus, built, begins}
+use Rattle.sim_world.specs.laws.BuildingLaws.{Keeps-new, MayBeGiven-stands, MayBeGiven-stimulus, built, begins}
 use Rattle.sim_world.proofs.world.SimWorld.add_stimulus.Goals as goal
 
 pub invariant_of-self : goal.invariant_of-self

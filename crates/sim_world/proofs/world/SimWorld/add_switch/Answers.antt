@@ -4,7 +4,7 @@ use Rattle.outside.specs.Conforming.{MayDeclare}
 use Rattle.sim_world.specs.World.{Stands, given_of}
 use Rattle.sim_world.specs.Keeping.{Keeps}
 use Rattle.sim_world.specs.Building.{with_switch}
-use Rattle.sim_world.specs.BuildingLaws.{Keeps-new, MayBeGiven-stands, MayBeGiven-switch, built, begins}
+use Rattle.sim_world.specs.laws.BuildingLaws.{Keeps-new, MayBeGiven-stands, MayBeGiven-switch, built, begins}
 use Rattle.sim_world.proofs.world.SimWorld.add_switch.Goals as goal
 
 pub invariant_of-self : goal.invariant_of-self

@@ -3,7 +3,7 @@ use Rattle.outside.specs.declared.call.FailCall.{FailCall}
 use Rattle.sim_world.specs.World.{Stands, given_of}
 use Rattle.sim_world.specs.Keeping.{Keeps}
 use Rattle.sim_world.specs.Building.{with_fail}
-use Rattle.sim_world.specs.BuildingLaws.{Keeps-new, MayBeGiven-stands, MayBeGiven-fail, built, begins}
+use Rattle.sim_world.specs.laws.BuildingLaws.{Keeps-new, MayBeGiven-stands, MayBeGiven-fail, built, begins}
 use Rattle.sim_world.proofs.world.SimWorld.fail_call.Goals as goal
 
 pub invariant_of-self : goal.invariant_of-self

@@ -1,6 +1,6 @@
 use Rattle.std.proofs.Common.{sym, subst}
 use Rattle.sim_world.specs.Building.{MayBeGiven, nothing_given}
-use Rattle.sim_world.specs.BuildingLaws.{Keeps-new, MayBeGiven-nothing, Begins-given}
+use Rattle.sim_world.specs.laws.BuildingLaws.{Keeps-new, MayBeGiven-nothing, Begins-given}
 use Rattle.sim_world.proofs.world.SimWorld.new.Goals as goal
 
 pub invariant_of-result : goal.invariant_of-result

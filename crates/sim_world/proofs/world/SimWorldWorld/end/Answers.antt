@@ -1,8 +1,8 @@
 use Rattle.std.proofs.Common.{subst}
 use Rattle.outside.specs.Calls.{Ends}
 use Rattle.sim_world.specs.World.{WorldData, seen_of}
-use Rattle.sim_world.specs.DoingLaws.{Ends_by}
-use Rattle.sim_world.specs.KeepingLaws.{keeps_end}
+use Rattle.sim_world.specs.laws.DoingLaws.{Ends_by}
+use Rattle.sim_world.specs.laws.KeepingLaws.{keeps_end}
 use Rattle.sim_world.proofs.world.SimWorldWorld.end.Goals as goal
 
 pub invariant_of-self : goal.invariant_of-self

@@ -1,8 +1,8 @@
 use Rattle.std.proofs.Common.{subst}
 use Rattle.outside.specs.Calls.{Nexts}
 use Rattle.sim_world.specs.World.{WorldData, seen_of}
-use Rattle.sim_world.specs.DoingLaws.{Nexts_by}
-use Rattle.sim_world.specs.KeepingLaws.{keeps_next}
+use Rattle.sim_world.specs.laws.DoingLaws.{Nexts_by}
+use Rattle.sim_world.specs.laws.KeepingLaws.{keeps_next}
 use Rattle.sim_world.proofs.world.SimWorldWorld.next.Goals as goal
 
 pub invariant_of-self : goal.invariant_of-self

@@ -1,8 +1,8 @@
 use Rattle.std.proofs.Common.{subst}
 use Rattle.outside.specs.Calls.{Opens}
 use Rattle.sim_world.specs.World.{WorldData, seen_of}
-use Rattle.sim_world.specs.DoingLaws.{Opens_by}
-use Rattle.sim_world.specs.KeepingLaws.{keeps_open}
+use Rattle.sim_world.specs.laws.DoingLaws.{Opens_by}
+use Rattle.sim_world.specs.laws.KeepingLaws.{keeps_open}
 use Rattle.sim_world.proofs.world.SimWorldWorld.open.Goals as goal
 
 pub invariant_of-self : goal.invariant_of-self

@@ -1,8 +1,8 @@
 use Rattle.std.proofs.Common.{subst}
 use Rattle.outside.specs.Calls.{Receives}
 use Rattle.sim_world.specs.World.{WorldData, seen_of}
-use Rattle.sim_world.specs.DoingLaws.{Receives_by}
-use Rattle.sim_world.specs.KeepingLaws.{keeps_recv}
+use Rattle.sim_world.specs.laws.DoingLaws.{Receives_by}
+use Rattle.sim_world.specs.laws.KeepingLaws.{keeps_recv}
 use Rattle.sim_world.proofs.world.SimWorldWorld.recv.Goals as goal
 
 pub invariant_of-self : goal.invariant_of-self

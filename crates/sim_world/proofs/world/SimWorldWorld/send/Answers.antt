@@ -1,8 +1,8 @@
 use Rattle.std.proofs.Common.{subst}
 use Rattle.outside.specs.Calls.{Sends}
 use Rattle.sim_world.specs.World.{WorldData, seen_of}
-use Rattle.sim_world.specs.DoingLaws.{Sends_by}
-use Rattle.sim_world.specs.KeepingLaws.{keeps_send}
+use Rattle.sim_world.specs.laws.DoingLaws.{Sends_by}
+use Rattle.sim_world.specs.laws.KeepingLaws.{keeps_send}
 use Rattle.sim_world.proofs.world.SimWorldWorld.send.Goals as goal
 
 pub invariant_of-self : goal.invariant_of-self

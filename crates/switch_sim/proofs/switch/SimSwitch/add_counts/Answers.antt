@@ -1,4 +1,4 @@
-use Rattle.switch_sim.specs.SoundLaws.{IsSound-counts}
+use Rattle.switch_sim.specs.laws.SoundLaws.{IsSound-counts}
 use Rattle.switch_sim.proofs.switch.SimSwitch.add_counts.Goals as goal
 
 pub invariant_of-self : goal.invariant_of-self

@@ -1,4 +1,4 @@
-use Rattle.switch_sim.specs.ReadableLaws.{AreReadable-both}
+use Rattle.switch_sim.specs.laws.ReadableLaws.{AreReadable-both}
 use Rattle.switch_sim.proofs.switch.SimSwitch.advance.Goals as goal
 
 pub returns-clause-readable : goal.returns-clause-readable

@@ -6,7 +6,7 @@ use Rattle.flow_table.specs.Change.{refusal, changed}
 use Rattle.flow_table.specs.Switch.{PortState}
 use Rattle.flow_table.specs.Refusals.{flow_refusal}
 use Rattle.switch_sim.specs.Sound.{IsSound}
-use Rattle.switch_sim.specs.SoundLaws.{IsSound-changed}
+use Rattle.switch_sim.specs.laws.SoundLaws.{IsSound-changed}
 use Rattle.switch_sim.specs.Words.{AnswersWith}
 use Rattle.switch_sim.proofs.switch.SimSwitch.change_table.Goals as goal
 

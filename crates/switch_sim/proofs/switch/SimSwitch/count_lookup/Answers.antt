@@ -2,7 +2,7 @@ use Rattle.std.proofs.Common.{length, subst, sym}
 use Rattle.eth_key.specs.PacketFields.{key_of}
 use Rattle.flow_table.specs.Table.{TableState}
 use Rattle.switch_sim.specs.Sound.{IsSound}
-use Rattle.switch_sim.specs.SoundLaws.{IsSound-hit}
+use Rattle.switch_sim.specs.laws.SoundLaws.{IsSound-hit}
 use Rattle.switch_sim.proofs.switch.SimSwitch.count_lookup.Goals as goal
 
 pub invariant_of-self : goal.invariant_of-self

@@ -1,6 +1,6 @@
 use Rattle.std.proofs.Common.{ap, length, arith}
-use Rattle.switch_sim.specs.SoundLaws.{IsSound-ports}
-use Rattle.switch_sim.specs.PortLaws.{length-without_port}
+use Rattle.switch_sim.specs.laws.SoundLaws.{IsSound-ports}
+use Rattle.switch_sim.specs.laws.PortLaws.{length-without_port}
 use Rattle.switch_sim.proofs.switch.SimSwitch.delete_port.Goals as goal
 
 pub invariant_of-self : goal.invariant_of-self

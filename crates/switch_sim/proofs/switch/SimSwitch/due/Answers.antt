@@ -1,5 +1,5 @@
-use Rattle.switch_sim.specs.FewLaws.{few_due}
-use Rattle.switch_sim.specs.ReadableLaws.{all_read, all_short}
+use Rattle.switch_sim.specs.laws.FewLaws.{few_due}
+use Rattle.switch_sim.specs.laws.ReadableLaws.{all_read, all_short}
 use Rattle.switch_sim.proofs.switch.SimSwitch.due.Goals as goal
 
 pub returns-clause-readable : goal.returns-clause-readable

@@ -1,5 +1,5 @@
 use Rattle.flow_table.specs.Switch.{features_of}
-use Rattle.switch_sim.specs.ReadableLaws.{features_read, one_short}
+use Rattle.switch_sim.specs.laws.ReadableLaws.{features_read, one_short}
 use Rattle.switch_sim.proofs.switch.SimSwitch.features.Goals as goal
 
 pub returns-clause-own : goal.returns-clause-own

@@ -1,6 +1,6 @@
 use Rattle.std.proofs.Common.{◌∙◌, ℕ, List, sym, ap}
 use Rattle.flow_table.specs.Frames.{hit_outputs, entry_hit, after_outputs, after_lookup}
-use Rattle.switch_sim.specs.LookLaws.{after_outputs-ports}
+use Rattle.switch_sim.specs.laws.LookLaws.{after_outputs-ports}
 use Rattle.switch_sim.proofs.switch.SimSwitch.finish_lookup.Goals as goal
 
 pub returns : goal.returns

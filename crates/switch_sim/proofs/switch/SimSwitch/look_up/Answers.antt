@@ -1,5 +1,5 @@
 use Rattle.std.proofs.Common.{arith}
-use Rattle.switch_sim.specs.EditLaws.{reach-least}
+use Rattle.switch_sim.specs.laws.EditLaws.{reach-least}
 use Rattle.switch_sim.proofs.switch.SimSwitch.look_up.Goals as goal
 
 pub miss-requires : goal.miss-requires

@@ -1,5 +1,5 @@
-use Rattle.switch_sim.specs.ReadableLaws.{all_read, all_short}
-use Rattle.switch_sim.specs.SerialLaws.{next_message_result}
+use Rattle.switch_sim.specs.laws.ReadableLaws.{all_read, all_short}
+use Rattle.switch_sim.specs.laws.SerialLaws.{next_message_result}
 use Rattle.switch_sim.proofs.switch.SimSwitch.message.Goals as goal
 
 pub returns-clause-readable : goal.returns-clause-readable

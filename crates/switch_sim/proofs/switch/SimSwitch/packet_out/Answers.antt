@@ -2,9 +2,9 @@ use Rattle.std.proofs.Common.{◌≤◌, ◌∙◌, ℕ, List, sym, ap, subst}
 use Rattle.std.specs.Prelude.{All}
 use Rattle.of_action.specs.declared.action.Action.{Action}
 use Rattle.frame_edit.specs.Edits.{outputs}
-use Rattle.switch_sim.specs.EditLaws.{packet_outputs_fit}
+use Rattle.switch_sim.specs.laws.EditLaws.{packet_outputs_fit}
 use Rattle.switch_sim.specs.Words.{HasAddress, reach}
-use Rattle.switch_sim.specs.PlanLaws.{packet_edits, packet_size}
+use Rattle.switch_sim.specs.laws.PlanLaws.{packet_edits, packet_size}
 use Rattle.switch_sim.proofs.switch.SimSwitch.packet_out.Goals as goal
 
 pub apply-requires : goal.apply-requires

@@ -1,9 +1,9 @@
 use Rattle.std.proofs.Common.{◌∙◌, sym, ap, subst, arith}
 use Rattle.flow_table.specs.Table.{TableState}
 use Rattle.flow_table.specs.Switch.{SwitchState}
-use Rattle.switch_sim.specs.SerialLaws.{next_expire}
+use Rattle.switch_sim.specs.laws.SerialLaws.{next_expire}
 use Rattle.switch_sim.specs.Sound.{IsSound}
-use Rattle.switch_sim.specs.SoundLaws.{IsSound-later, IsSound-expire}
+use Rattle.switch_sim.specs.laws.SoundLaws.{IsSound-later, IsSound-expire}
 use Rattle.switch_sim.proofs.switch.SimSwitch.pass.Goals as goal
 
 pub invariant_of-self : goal.invariant_of-self

@@ -3,9 +3,9 @@ use Rattle.std.proofs.lemmas.List.{drop_all}
 use Rattle.flow_table.specs.Switch.{SwitchState}
 use Rattle.flow_table.specs.Frames.{after_packet_outputs}
 use Rattle.switch_sim.specs.declared.packet_out.Planned.{Planned}
-use Rattle.switch_sim.specs.LookLaws.{LooksLike, LooksLike-packet_output}
+use Rattle.switch_sim.specs.laws.LookLaws.{LooksLike, LooksLike-packet_output}
 use Rattle.switch_sim.specs.Plan.{planned_output}
-use Rattle.switch_sim.specs.PlanLaws.{performed_more}
+use Rattle.switch_sim.specs.laws.PlanLaws.{performed_more}
 use Rattle.switch_sim.proofs.switch.SimSwitch.perform_all.Goals as goal
 
 pub loop-step-preserved : goal.loop-step-preserved

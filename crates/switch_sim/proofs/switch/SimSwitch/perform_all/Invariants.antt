@@ -1,7 +1,7 @@
 use Rattle.std.proofs.Common.{◌≡◌, map, drop}
 use Rattle.flow_table.specs.Frames.{after_packet_outputs}
 use Rattle.switch_sim.specs.Plan.{planned_output}
-use Rattle.switch_sim.specs.LookLaws.{LooksLike}
+use Rattle.switch_sim.specs.laws.LookLaws.{LooksLike}
 use Rattle.switch_sim.proofs.switch.SimSwitch.perform_all.Given as goal
 
 abbrev pub invariant-loop-step : goal.invariant-loop-step

@@ -1,5 +1,5 @@
 use Rattle.std.proofs.Common.{arith}
-use Rattle.switch_sim.specs.EditLaws.{reach-least}
+use Rattle.switch_sim.specs.laws.EditLaws.{reach-least}
 use Rattle.switch_sim.proofs.switch.SimSwitch.plan_output.Goals as goal
 
 pub push_output-requires-clause-fits : goal.push_output-requires-clause-fits

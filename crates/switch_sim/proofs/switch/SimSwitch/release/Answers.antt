@@ -1,6 +1,6 @@
 use Rattle.std.proofs.Common.{◌∙◌, sym}
-use Rattle.switch_sim.specs.LookLaws.{LooksLike-itself, sent_from_the_start}
-use Rattle.switch_sim.specs.PlanLaws.{short_steps}
+use Rattle.switch_sim.specs.laws.LookLaws.{LooksLike-itself, sent_from_the_start}
+use Rattle.switch_sim.specs.laws.PlanLaws.{short_steps}
 use Rattle.switch_sim.proofs.switch.SimSwitch.release.Goals as goal
 
 pub perform_all-requires-clause-len : goal.perform_all-requires-clause-len

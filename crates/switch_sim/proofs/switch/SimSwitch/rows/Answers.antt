@@ -1,5 +1,5 @@
 use Rattle.std.proofs.Common.{◌≡◌, ◌∙◌, ap, length, arith}
-use Rattle.switch_sim.specs.StepLaws.{known_kind, port_query}
+use Rattle.switch_sim.specs.laws.StepLaws.{known_kind, port_query}
 use Rattle.switch_sim.proofs.switch.SimSwitch.rows.Goals as goal
 
 pub port_stats-requires : goal.port_stats-requires

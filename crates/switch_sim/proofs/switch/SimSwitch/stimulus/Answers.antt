@@ -1,6 +1,6 @@
-use Rattle.switch_sim.specs.FewLaws.{few_sent}
-use Rattle.switch_sim.specs.ReadableLaws.{all_read}
-use Rattle.switch_sim.specs.SerialLaws.{next_stimulus_result}
+use Rattle.switch_sim.specs.laws.FewLaws.{few_sent}
+use Rattle.switch_sim.specs.laws.ReadableLaws.{all_read}
+use Rattle.switch_sim.specs.laws.SerialLaws.{next_stimulus_result}
 use Rattle.switch_sim.proofs.switch.SimSwitch.stimulus.Goals as goal
 
 pub returns-clause-readable : goal.returns-clause-readable

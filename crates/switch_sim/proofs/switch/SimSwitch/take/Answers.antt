@@ -7,7 +7,7 @@ use Rattle.flow_table.specs.Statistics.{statistics_replies}
 use Rattle.flow_table.specs.Frames.{after_packet_out, sent_by_packet_out}
 use Rattle.flow_table.specs.Step.{after_taken, sent_by_taken, after_message, sent_by_message}
 use Rattle.switch_sim.specs.Words.{IsQuestion, early_refusal}
-use Rattle.switch_sim.specs.StepLaws.{taken_sent, taken_after, question_other, question_free, question_after, if_gives, ok_gives, on_ok}
+use Rattle.switch_sim.specs.laws.StepLaws.{taken_sent, taken_after, question_other, question_free, question_after, if_gives, ok_gives, on_ok}
 use Rattle.switch_sim.proofs.switch.SimSwitch.take.Goals as goal
 
 -- a message of another kind than FLOW_MOD that is not refused early is not refused

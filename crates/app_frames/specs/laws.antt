@@ -1,0 +1,5 @@
+pub mod KindLaws
+pub mod ReadingLaws
+pub mod BodyLaws
+pub mod AppLaws
+pub mod HostLaws

@@ -1,0 +1,371 @@
+-- Laws of attempts to start an application.
+use Rattle.std.specs.Prelude.{◌≡◌, ℕ, ◌==◌, Bool, true, false, not, ◌||◌, List, [], ◌∷◌, ◌++◌, map, if◌then◌else◌, refl}
+use Rattle.std.proofs.Common.{sym, ap, ◌∙◌, subst, append_assoc, true≢false}
+use Rattle.std.proofs.lemmas.List.{append-nil, map-append}
+use Rattle.std.proofs.lemmas.Map.Views.{any-filter_same}
+use Rattle.of_types.specs.declared.journal.Act.{Act}
+use Rattle.of_types.specs.declared.journal.Act.TheVariants.{Started, Gave, Gone, Took}
+use Rattle.of_types.specs.declared.journal.TookWhat.TheVariants as took
+use Rattle.app_frames.specs.declared.cause.Tried.TheVariants.{Closed}
+use Rattle.app_frames.specs.declared.frame.AppFrame.TheVariants as frames
+use Rattle.lego_model.specs.Journal.{Start, End, Untold, Closes, Stalls, inputs, start_of, in_turns, pieces, end_from, any_gone}
+use Rattle.lego_model.specs.Turns.{Next, outcome_of, first_frame, next_of}
+use Rattle.lego_model.specs.Scripted.{is_told, is_whole, is_start_heard}
+use Rattle.lego_model.specs.Controller.{restore_frame, is_ready}
+use Rattle.lego_io.specs.laws.CountLaws.{Rose-after}
+use Rattle.outside.specs.declared.step.WorldStep.{WorldStep}
+use Rattle.outside.specs.declared.step.WorldStep.TheVariants.{Acted}
+use Rattle.outside.specs.Seen.{Seen, Continues}
+use Rattle.outside.specs.laws.SeenLaws.{Continues-trans}
+use Rattle.outside.specs.State.{State, state, is_running, marks_after_gave, after_act, after_step, after_steps}
+use Rattle.outside.specs.laws.StateLaws.{state-append}
+use Rattle.outside.specs.Calls.{Ends, end_steps}
+use Rattle.journal_laws.specs.Readings.{is_within, Within, end_acts}
+use Rattle.journal_laws.specs.laws.ReadingLaws.{Within-append}
+use Rattle.journal_laws.specs.laws.FrameLaws.{restore_is_none}
+use Rattle.lego_model.specs.AtOnce.{before, nothing_said, besides, took_end}
+use Rattle.app_visor.specs.declared.came.Came.{Came}
+use Rattle.app_visor.specs.declared.came.Came.TheVariants as comes
+use Rattle.app_visor.specs.Talks.{Told, step_of}
+use Rattle.app_visor.specs.Reads.{takes, TakesAll, CameSo, Comes}
+use Rattle.app_visor.specs.laws.ReadLaws.{Taken-continues, Comes-continues, next_taken, next_framed, next_faulty, next_over, pieces_takes, end_takes, gone_takes, inputs_takes, turns_takes, within_takes}
+use Rattle.app_visor.specs.Dialogues.{Converses, Speaks}
+use Rattle.app_visor.specs.laws.DialogueLaws.{passes_next, Converses-refl, Converses-then, converses_told, converses_takes, converses_restored}
+use Rattle.app_visor.specs.laws.RunningLaws.{started_runs}
+use Rattle.app_visor.specs.Attempts.{TryRises, restored, tried_by, rest_of, stood, Greets}
+use Rattle.app_visor.specs.laws.BeatLaws.{same}
+
+-- ---- What is read of a start
+
+-- acts that tell of no event, nothing given and nobody gone
+record IsPlainEnd (app : ℕ) (acts : List Act) : Type 0 where
+  turns : (in_turns acts).0 ≡ acts
+  gone : any_gone acts ≡ false
+  given : inputs app acts ≡ []
+  none : pieces acts ≡ []
+
+-- what ends the taking
+abbrev last_acts : Came → ℕ → List Act
+last_acts comes.Closed app = Took app took.Closed ∷ []
+last_acts comes.Silent app = Took app took.Silent ∷ []
+last_acts (comes.Frame frame) app = []
+last_acts (comes.Refused fault) app = []
+
+abbrev end_of : Came → End
+end_of comes.Closed = Closes
+end_of comes.Silent = Stalls
+end_of (comes.Frame frame) = Untold
+end_of (comes.Refused fault) = Untold
+
+abbrev lasts : Came → Bool → ℕ → List Act
+lasts came running app = last_acts came app ++ end_acts running app
+
+plain_lasts : (came : Came) (running : Bool) (app : ℕ) → IsPlainEnd app (lasts came running app)
+unfolding inputs
+plain_lasts comes.Closed true app = record { turns = refl; gone = refl; given = refl; none = refl }
+plain_lasts comes.Closed false app = record { turns = refl; gone = refl; given = refl; none = refl }
+plain_lasts comes.Silent true app = record { turns = refl; gone = refl; given = refl; none = refl }
+plain_lasts comes.Silent false app = record { turns = refl; gone = refl; given = refl; none = refl }
+plain_lasts (comes.Frame frame) true app = record { turns = refl; gone = refl; given = refl; none = refl }
+plain_lasts (comes.Frame frame) false app = record { turns = refl; gone = refl; given = refl; none = refl }
+plain_lasts (comes.Refused fault) true app = record { turns = refl; gone = refl; given = refl; none = refl }
+plain_lasts (comes.Refused fault) false app = record { turns = refl; gone = refl; given = refl; none = refl }
+
+end_lasts : (came : Came) (running : Bool) (app : ℕ) → end_from Untold (lasts came running app) ≡ end_of came
+end_lasts comes.Closed true app = refl
+end_lasts comes.Closed false app = refl
+end_lasts comes.Silent true app = refl
+end_lasts comes.Silent false app = refl
+end_lasts (comes.Frame frame) true app = refl
+end_lasts (comes.Frame frame) false app = refl
+end_lasts (comes.Refused fault) true app = refl
+end_lasts (comes.Refused fault) false app = refl
+
+-- the acts of a start that was given Restore
+abbrev all_acts : ℕ → List (List ℕ) → List Act → List Act
+all_acts app ps last = Gave app restore_frame ∷ (takes app ps ++ last)
+
+abbrev start_by : List (List ℕ) → End → Start
+start_by ps end = record { stands = true; restored = true; pieces = ps; end = end }
+
+turns_all : (app : ℕ) (ps : List (List ℕ)) (last : List Act) → IsPlainEnd app last → (in_turns (all_acts app ps last)).0 ≡ all_acts app ps last
+turns_all app ps last plain =
+    let e : (in_turns (takes app ps ++ last)).0 ≡ takes app ps ++ last = turns_takes app ps last ∙ ap (λ (x : List Act). takes app ps ++ x) plain.turns in
+    rw restore_is_none (ap (λ (x : List Act). Gave app restore_frame ∷ x) e)
+
+abbrev start_in : Bool → List Act → Start
+start_in stands acts = record { stands = stands; restored = if any_gone acts then false else true; pieces = pieces acts; end = end_from Untold acts }
+
+start_greeted : (app : ℕ) (ps : List (List ℕ)) (last : List Act) (end : End) → IsPlainEnd app last → end_from Untold last ≡ end → start_of (stood (all_acts app ps last)) ≡ start_by ps end
+unfolding start_of
+start_greeted app ps last end plain ends =
+    let p : pieces (takes app ps ++ last) ≡ ps = pieces_takes app ps last ∙ ap (λ (x : List (List ℕ)). ps ++ x) plain.none ∙ append-nil ps in
+    let g : any_gone (takes app ps ++ last) ≡ false = gone_takes app ps last ∙ plain.gone in
+    let n : end_from Untold (takes app ps ++ last) ≡ end = end_takes app ps last ∙ ends in
+    ap (λ (acts : List Act). start_in true acts) (turns_all app ps last plain) ∙ rw (p, g, n) refl
+
+inputs_greeted : (app : ℕ) (ps : List (List ℕ)) (last : List Act) → IsPlainEnd app last → inputs app (all_acts app ps last) ≡ restore_frame ∷ []
+unfolding inputs
+inputs_greeted app ps last plain =
+    let e : inputs app (takes app ps ++ last) ≡ [] = inputs_takes app ps last ∙ plain.given in
+    rw same (ap (λ (x : List (List ℕ)). restore_frame ∷ x) e)
+
+-- ---- What a telling world's history has of it
+
+abbrev pub Adds : {Own : Type 0} → Type 0 → List Act → Seen Own → Seen Own → Type 0
+Adds Tells acts old new = Tells → new.history ≡ old.history ++ map step_of acts
+
+pub Adds-append : {Own : Type 0} (Tells : Type 0) (xs ys : List Act) (a b c : Seen Own) → Adds Tells xs a b → Adds Tells ys b c → Adds Tells (xs ++ ys) a c
+Adds-append Tells xs ys a b c first second = λ told.
+    second told ∙ ap (λ (h : List WorldStep). h ++ map step_of ys) (first told) ∙ append_assoc a.history (map step_of xs) (map step_of ys)
+    ∙ ap (λ (steps : List WorldStep). a.history ++ steps) (sym (map-append step_of xs ys))
+
+pub Adds-none : {Own : Type 0} (Tells : Type 0) (a b : Seen Own) → b ≡ a → Adds Tells [] a b
+Adds-none Tells a b is = λ told. ap (λ (s : Seen _). s.history) is ∙ sym (append-nil a.history)
+
+pub Adds-takes : {Own : Type 0} (Tells : Type 0) (app : ℕ) (ps : List (List ℕ)) (rest left : List ℕ) (old new : Seen Own) → TakesAll Tells app ps rest left old new → Adds Tells (takes app ps) old new
+Adds-takes Tells app [] rest left old new all = Adds-none Tells old new all.1
+Adds-takes Tells app (p ∷ ps) rest left old new all =
+    Adds-append Tells (Took app (took.Bytes p) ∷ []) (takes app ps) old all.1.0 new all.1.1.0.history (Adds-takes Tells app ps (rest ++ p) left all.1.0 new all.1.1.1)
+
+Adds-last : {Own : Type 0} (Tells : Type 0) (app : ℕ) (came : Came) (rest left : List ℕ) (old new : Seen Own) → CameSo Tells app came rest left old new → Adds Tells (last_acts came app) old new
+Adds-last Tells app (comes.Frame frame) rest left old new so = Adds-none Tells old new so.1
+Adds-last Tells app (comes.Refused fault) rest left old new so = Adds-none Tells old new so.1
+Adds-last Tells app comes.Closed rest left old new so = so.1.history
+Adds-last Tells app comes.Silent rest left old new so = so.1.history
+
+ended_steps : (app : ℕ) (running : Bool) → end_steps app running ≡ map step_of (end_acts running app)
+unfolding end_steps
+ended_steps app true = refl
+ended_steps app false = refl
+
+pub Adds-ended : {Own : Type 0} (Tells : Type 0) (app : ℕ) (old new : Seen Own) → Ends Tells app old new → Adds Tells (end_acts (is_running app (state old)) app) old new
+Adds-ended Tells app old new ends = λ told. (ends.told told).history ∙ ap (λ (steps : List WorldStep). old.history ++ steps) (ended_steps app (is_running app (state old)))
+
+-- ---- It does not run
+
+stopped : (app : ℕ) (running : Bool) (s : State) → is_running app s ≡ running → is_running app (after_steps (end_steps app running) s) ≡ false
+unfolding end_steps after_step after_act
+stopped app true s is = any-filter_same (λ a. a == app) (λ a. not (a == app)) false (λ k e. rw e refl) s.running
+stopped app false s is = is
+
+pub ends_so : {Own : Type 0} (Tells : Type 0) (app : ℕ) (old new : Seen Own) → Ends Tells app old new → Tells → is_running app (state new) ≡ false
+ends_so Tells app old new ends told =
+    ap (λ (s : State). is_running app s) (state-append old new (end_steps app (is_running app (state old))) ends.given (ends.told told).history) ∙ stopped app (is_running app (state old)) (state old) refl
+
+pub not_started_so : {Own : Type 0} (Tells : Type 0) (app : ℕ) (old new : Seen Own) → Told Tells (Started app false) old new → Tells → is_running app (state old) ≡ false → is_running app (state new) ≡ false
+unfolding after_step after_act
+not_started_so Tells app old new told tells is =
+    ap (λ (s : State). is_running app s) (state-append old new (Acted (Started app false) ∷ []) told.continues.given (told.history tells)) ∙ is
+
+-- ---- A start that stands
+
+abbrev gone_acts : ℕ → Bool → List Act
+gone_acts app running = Gone app restore_frame ∷ end_acts running app
+
+gone_outcome : (app : ℕ) (running : Bool) → outcome_of (start_of (stood (gone_acts app running))) ≡ (Closed, [])
+unfolding start_of outcome_of
+gone_outcome app true = rw restore_is_none refl
+gone_outcome app false = rw restore_is_none refl
+
+gone_given : (app : ℕ) (running : Bool) → inputs app (gone_acts app running) ≡ restored (start_of (stood (gone_acts app running)))
+unfolding start_of inputs
+gone_given app true = rw restore_is_none refl
+gone_given app false = rw restore_is_none refl
+
+gone_heard : (app : ℕ) (running : Bool) → is_start_heard (start_of (stood (gone_acts app running))) ≡ true
+unfolding start_of is_start_heard
+gone_heard app true = rw restore_is_none refl
+gone_heard app false = rw restore_is_none refl
+
+within_restored : (app : ℕ) → is_within app (Gave app restore_frame) ≡ true
+within_restored app = rw (same app, restore_is_none) refl
+
+within_gone : (app : ℕ) → is_within app (Gone app restore_frame) ≡ true
+within_gone app = rw (same app, restore_is_none) refl
+
+within_last : (app : ℕ) (came : Came) → Within app (last_acts came app)
+within_last app comes.Closed = (same app, tt)
+within_last app comes.Silent = (same app, tt)
+within_last app (comes.Frame frame) = tt
+within_last app (comes.Refused fault) = tt
+
+within_all : (app : ℕ) (ps : List (List ℕ)) (came : Came) → Within app (all_acts app ps (last_acts came app))
+within_all app ps came = (within_restored app, Within-append app (takes app ps) (last_acts came app) (within_takes app ps) (within_last app came))
+
+-- what is given and taken starts and ends nothing
+abbrev runs_after : ℕ → List Act → State → Bool
+runs_after app acts s = is_running app (after_steps (map step_of acts) s)
+
+runs_last : (app : ℕ) (came : Came) (s : State) → runs_after app (last_acts came app) s ≡ is_running app s
+unfolding after_step
+runs_last app comes.Closed s = refl
+runs_last app comes.Silent s = refl
+runs_last app (comes.Frame frame) s = refl
+runs_last app (comes.Refused fault) s = refl
+
+runs_taken : (app : ℕ) (ps : List (List ℕ)) (came : Came) (s : State) → runs_after app (takes app ps ++ last_acts came app) s ≡ is_running app s
+unfolding after_step
+runs_taken app [] came s = runs_last app came s
+runs_taken app (p ∷ ps) came s = runs_taken app ps came s
+
+runs_given : (app : ℕ) (ps : List (List ℕ)) (came : Came) (s : State) → runs_after app (all_acts app ps (last_acts came app)) s ≡ is_running app s
+unfolding after_step after_act
+runs_given app ps came s = runs_taken app ps came (record s { marks = marks_after_gave restore_frame s })
+
+runs_gone : (app : ℕ) (s : State) → runs_after app (Gone app restore_frame ∷ []) s ≡ is_running app s
+unfolding after_step after_act
+runs_gone app s = refl
+
+runs_by : {Own : Type 0} (Tells : Type 0) (app : ℕ) (acts : List Act) (old new : Seen Own) → Continues Tells old new → Adds Tells acts old new → ((s : State) → runs_after app acts s ≡ is_running app s)
+    → Tells → is_running app (state new) ≡ is_running app (state old)
+runs_by Tells app acts old new continues adds stays told =
+    ap (λ (s : State). is_running app s) (state-append old new (map step_of acts) continues.given (adds told)) ∙ stays (state old)
+
+-- it runs once it was started
+pub runs_started : {Own : Type 0} (Tells : Type 0) (app : ℕ) (old new : Seen Own) → Told Tells (Started app true) old new → Tells → is_running app (state new) ≡ true
+unfolding after_step after_act
+runs_started Tells app old new told tells =
+    ap (λ (s : State). is_running app s) (state-append old new (Acted (Started app true) ∷ []) told.continues.given (told.history tells)) ∙ started_runs app app (state old).running (same app)
+
+pub greets_gone : {Own : Type 0} {Tells : Type 0} {app : ℕ} {old new : Seen Own} (frame unread : List ℕ) → frame ≡ restore_frame → Told Tells (Gone app frame) old new → Greets Tells app Closed unread old new
+greets_gone {Tells = Tells} {app = app} {old = old} {new = new} frame unread is told_so =
+    let told : Told Tells (Gone app restore_frame) old new = subst (λ (f : List ℕ). Told Tells (Gone app f) old new) is told_so in
+    record {
+      acts = Gone app restore_frame ∷ [];
+      continues = told.continues;
+      history = told.history;
+      outcome = λ running. gone_outcome app running;
+      given = λ running. gone_given app running;
+      heard = λ running. gone_heard app running;
+      rises = told.rises;
+      within = (within_gone app, tt);
+      running = runs_by Tells app (Gone app restore_frame ∷ []) old new told.continues told.history (runs_gone app);
+      speaks = λ tells. record {
+        after = besides nothing_said (Gone app restore_frame);
+        converses = converses_told Tells app (Gone app restore_frame) nothing_said (besides nothing_said (Gone app restore_frame)) old new told tells (same app) (refl, refl);
+        runs = λ ready. refl;
+        passes = λ ready. absurd (true≢false (sym ready));
+      };
+    }
+
+first_so : {Own : Type 0} (Tells : Type 0) (app : ℕ) (came : Came) (unread left : List ℕ) (old new : Seen Own) → CameSo Tells app came unread left old new
+    → first_frame (end_of came) (next_of unread []) ≡ (tried_by came, rest_of (tried_by came) left)
+first_so Tells app (comes.Frame frames.Ready) unread left old new so = rw (next_framed frames.Ready unread left [] so.0) refl
+first_so Tells app (comes.Frame frames.Save) unread left old new so = rw (next_framed frames.Save unread left [] so.0) refl
+first_so Tells app (comes.Frame frames.Keep) unread left old new so = rw (next_framed frames.Keep unread left [] so.0) refl
+first_so Tells app (comes.Frame frames.Undo) unread left old new so = rw (next_framed frames.Undo unread left [] so.0) refl
+first_so Tells app (comes.Frame (frames.Message dpid bytes)) unread left old new so = rw (next_framed (frames.Message dpid bytes) unread left [] so.0) refl
+first_so Tells app (comes.Frame (frames.Done stop checkpoint)) unread left old new so = rw (next_framed (frames.Done stop checkpoint) unread left [] so.0) refl
+first_so Tells app (comes.Refused fault) unread left old new so = rw (next_faulty fault unread [] so.0) refl
+first_so Tells app comes.Closed unread left old new so = rw (next_over unread so.0) refl
+first_so Tells app comes.Silent unread left old new so = rw (next_over unread so.0) refl
+
+came_heard : {Own : Type 0} (Tells : Type 0) (app : ℕ) (came : Came) (unread left : List ℕ) (old new : Seen Own) → CameSo Tells app came unread left old new
+    → (is_told (end_of came) || is_whole (next_of unread [])) ≡ true
+came_heard Tells app (comes.Frame frame) unread left old new so = ap is_whole (next_framed frame unread left [] so.0)
+came_heard Tells app (comes.Refused fault) unread left old new so = ap is_whole (next_faulty fault unread [] so.0)
+came_heard Tells app comes.Closed unread left old new so = refl
+came_heard Tells app comes.Silent unread left old new so = refl
+
+came_rises : {Own : Type 0} (Tells : Type 0) (app : ℕ) (came : Came) (unread left : List ℕ) (first old new : Seen Own) → Continues Tells first old → CameSo Tells app came unread left old new
+    → TryRises (tried_by came) first.counts new.counts
+came_rises Tells app (comes.Frame frames.Ready) unread left first old new c so = tt
+came_rises Tells app (comes.Frame frames.Save) unread left first old new c so = tt
+came_rises Tells app (comes.Frame frames.Keep) unread left first old new c so = tt
+came_rises Tells app (comes.Frame frames.Undo) unread left first old new c so = tt
+came_rises Tells app (comes.Frame (frames.Message dpid bytes)) unread left first old new c so = tt
+came_rises Tells app (comes.Frame (frames.Done stop checkpoint)) unread left first old new c so = tt
+came_rises Tells app (comes.Refused fault) unread left first old new c so = tt
+came_rises Tells app comes.Closed unread left first old new c so = Rose-after first.counts.closings old.counts.closings new.counts.closings c.none_fell.closings so.1.rises
+came_rises Tells app comes.Silent unread left first old new c so = Rose-after first.counts.silences old.counts.silences new.counts.silences c.none_fell.silences so.1.rises
+
+-- what came first goes on with the dialogue
+speaks_came : {Own : Type 0} (Tells : Type 0) (app : ℕ) (came : Came) (unread left : List ℕ) (since : List Act) (old new : Seen Own) → CameSo Tells app came unread left old new → Tells
+    → Speaks app (before unread since) old new (is_ready (tried_by came)) left
+speaks_came Tells app (comes.Frame frames.Ready) unread left since old new so tells =
+    record { after = before unread since; converses = Converses-refl app (before unread since) old new so.1; runs = λ ready. refl; passes = λ ready. passes_next frames.Ready unread left refl so.0 }
+speaks_came Tells app (comes.Frame frames.Save) unread left since old new so tells =
+    record { after = before unread since; converses = Converses-refl app (before unread since) old new so.1; runs = λ ready. refl; passes = λ ready. absurd (true≢false (sym ready)) }
+speaks_came Tells app (comes.Frame frames.Keep) unread left since old new so tells =
+    record { after = before unread since; converses = Converses-refl app (before unread since) old new so.1; runs = λ ready. refl; passes = λ ready. absurd (true≢false (sym ready)) }
+speaks_came Tells app (comes.Frame frames.Undo) unread left since old new so tells =
+    record { after = before unread since; converses = Converses-refl app (before unread since) old new so.1; runs = λ ready. refl; passes = λ ready. absurd (true≢false (sym ready)) }
+speaks_came Tells app (comes.Frame (frames.Message dpid bytes)) unread left since old new so tells =
+    record { after = before unread since; converses = Converses-refl app (before unread since) old new so.1; runs = λ ready. refl; passes = λ ready. absurd (true≢false (sym ready)) }
+speaks_came Tells app (comes.Frame (frames.Done stop checkpoint)) unread left since old new so tells =
+    record { after = before unread since; converses = Converses-refl app (before unread since) old new so.1; runs = λ ready. refl; passes = λ ready. absurd (true≢false (sym ready)) }
+speaks_came Tells app (comes.Refused fault) unread left since old new so tells =
+    record { after = before unread since; converses = Converses-refl app (before unread since) old new so.1; runs = λ ready. refl; passes = λ ready. absurd (true≢false (sym ready)) }
+speaks_came Tells app comes.Closed unread left since old new so tells =
+    let act = Took app took.Closed in
+    record {
+      after = took_end (before unread since) act;
+      converses = converses_told Tells app act (before unread since) (took_end (before unread since) act) old new so.1 tells (same app) (refl, (record { not_ended = refl; none_whole = so.0 }, refl));
+      runs = λ ready. refl;
+      passes = λ ready. absurd (true≢false (sym ready));
+    }
+speaks_came Tells app comes.Silent unread left since old new so tells =
+    let act = Took app took.Silent in
+    record {
+      after = took_end (before unread since) act;
+      converses = converses_told Tells app act (before unread since) (took_end (before unread since) act) old new so.1 tells (same app) (refl, (record { not_ended = refl; none_whole = so.0 }, refl));
+      runs = λ ready. refl;
+      passes = λ ready. absurd (true≢false (sym ready));
+    }
+
+outcome_by : (ps : List (List ℕ)) (end : End) → outcome_of (start_by ps end) ≡ first_frame end (next_of [] ps)
+unfolding outcome_of
+outcome_by ps end = refl
+
+heard_start : (ps : List (List ℕ)) (end : End) → is_start_heard (start_by ps end) ≡ (is_told end || is_whole (next_of [] ps))
+unfolding is_start_heard
+heard_start ps end = refl
+
+-- behind all acts of the start it may be ended
+then_ended : (app : ℕ) (ps : List (List ℕ)) (came : Came) (running : Bool) → all_acts app ps (last_acts came app) ++ end_acts running app ≡ all_acts app ps (lasts came running app)
+then_ended app ps came running = ap (λ (x : List Act). Gave app restore_frame ∷ x) (append_assoc (takes app ps) (last_acts came app) (end_acts running app))
+
+start_came : (app : ℕ) (ps : List (List ℕ)) (came : Came) (running : Bool) → start_of (stood (all_acts app ps (last_acts came app) ++ end_acts running app)) ≡ start_by ps (end_of came)
+start_came app ps came running =
+    ap (λ (acts : List Act). start_of (stood acts)) (then_ended app ps came running)
+    ∙ start_greeted app ps (lasts came running app) (end_of came) (plain_lasts came running app) (end_lasts came running app)
+
+pub greets_came : {Own : Type 0} {Tells : Type 0} {app : ℕ} {rest left : List ℕ} {old mid new : Seen Own} (frame : List ℕ) (came : Came) → frame ≡ restore_frame → rest ≡ [] → Told Tells (Gave app frame) old mid
+    → Comes Tells app rest left mid new came → Greets Tells app (tried_by came) left old new
+greets_came {Tells = Tells} {app = app} {rest = rest} {left = left} {old = old} {mid = mid} {new = new} frame came is none told_so comes =
+    let told : Told Tells (Gave app restore_frame) old mid = subst (λ (f : List ℕ). Told Tells (Gave app f) old mid) is told_so in
+    let ps = comes.taken.pieces in
+    let then_seen = comes.then_seen in
+    let taken = Taken-continues comes.taken in
+    let next : next_of [] ps ≡ next_of comes.unread [] =
+    ap (λ (r : List ℕ). next_of r ps) (sym none) ∙ ap (λ (x : List (List ℕ)). next_of rest x) (sym (append-nil ps)) ∙ next_taken [] comes.taken in
+    let continues = Continues-trans Tells old mid new told.continues (Comes-continues comes) in
+    let adds : Adds Tells (all_acts app ps (last_acts came app)) old new = Adds-append Tells (Gave app restore_frame ∷ []) (takes app ps ++ last_acts came app) old mid new told.history
+    (Adds-append Tells (takes app ps) (last_acts came app) mid then_seen new (Adds-takes Tells app ps rest comes.unread mid then_seen comes.taken.all)
+    (Adds-last Tells app came comes.unread left then_seen new comes.so)) in
+    record {
+      acts = all_acts app ps (last_acts came app);
+      continues = continues;
+      history = adds;
+      outcome = λ running. ap (λ (s : Start). outcome_of s) (start_came app ps came running) ∙ outcome_by ps (end_of came) ∙ ap (λ (n : Next). first_frame (end_of came) n) next
+          ∙ first_so Tells app came comes.unread left then_seen new comes.so;
+      given = λ running. ap (λ (acts : List Act). inputs app acts) (then_ended app ps came running) ∙ inputs_greeted app ps (lasts came running app) (plain_lasts came running app)
+          ∙ ap (λ (s : Start). restored s) (sym (start_came app ps came running));
+      heard = λ running. ap (λ (s : Start). is_start_heard s) (start_came app ps came running) ∙ heard_start ps (end_of came) ∙ ap (λ (n : Next). is_told (end_of came) || is_whole n) next
+          ∙ came_heard Tells app came comes.unread left then_seen new comes.so;
+      rises = came_rises Tells app came comes.unread left old then_seen new (Continues-trans Tells old mid then_seen told.continues taken) comes.so;
+      within = within_all app ps came;
+      running = runs_by Tells app (all_acts app ps (last_acts came app)) old new continues adds (runs_given app ps came);
+      speaks = λ tells.
+          let last = speaks_came Tells app came comes.unread left (takes app ps) then_seen new comes.so tells in
+          let front : Converses app nothing_said (before comes.unread (takes app ps)) mid then_seen =
+          subst (λ (r : List ℕ). Converses app (before r []) (before comes.unread (takes app ps)) mid then_seen) none (converses_takes Tells app ps rest comes.unread [] mid then_seen comes.taken.all tells) in
+          record {
+            after = last.after;
+            converses = Converses-then app nothing_said nothing_said last.after old mid new (converses_restored Tells app old mid told tells)
+                (Converses-then app nothing_said (before comes.unread (takes app ps)) last.after mid then_seen new front last.converses);
+            runs = last.runs;
+            passes = last.passes;
+          };
+    }

@@ -1,0 +1,169 @@
+-- Laws of a turn: what a telling world's history tells once it was played.
+use Rattle.std.specs.Prelude.{◌≡◌, ℕ, Bool, true, false, List, [], ◌∷◌, ◌++◌, refl}
+use Rattle.std.proofs.Common.{sym, ap, ◌∙◌, subst, inl, inr}
+use Rattle.std.proofs.lemmas.List.{append-nil}
+use Rattle.flow_table.specs.declared.view.TableView.{TableView}
+use Rattle.of_types.specs.declared.journal.Act.{Act}
+use Rattle.of_types.specs.declared.journal.WorldStim.{WorldStim}
+use Rattle.lego_model.specs.Journal.{stimuli, inputs, is_event, is_of}
+use Rattle.lego_model.specs.Controller.{given_in}
+use Rattle.outside.specs.declared.step.WorldStep.{WorldStep}
+use Rattle.outside.specs.Seen.{Seen, journal}
+use Rattle.outside.specs.State.{State, state, after_act, after_step}
+use Rattle.outside.specs.laws.StateLaws.{state-append}
+use Rattle.lego_model.specs.declared.wait.Awaited.{Awaited}
+use Rattle.lego_model.specs.declared.wait.Heard.{Heard}
+use Rattle.lego_model.specs.declared.wait.Heard.TheVariants as hearing
+use Rattle.net_txn.specs.Net.{NetState, awaited_from}
+use Rattle.lego_model.specs.BarrierWaits.{heard, steps_by, wait_steps, echo_reply, reply_got, barrier_sent}
+use Rattle.net_txn.specs.Changes.{known_rows, change_sent}
+use Rattle.journal_laws.specs.Readings.{Within, LastStands}
+use Rattle.lego_model.specs.History.{starts_in, replies_in}
+use Rattle.journal_laws.specs.laws.ReadingLaws.{turn_read}
+use Rattle.journal_laws.specs.laws.CallLaws.{inputs_own, call_within}
+use Rattle.app_visor.specs.declared.state.TurnEnd.{TurnEnd}
+use Rattle.app_visor.specs.Talks.{step_of, Told, give_act}
+use Rattle.app_visor.specs.Beats.{Exchange, IsExchange, Beat, Talk, Asks, Chain, acts_in, acts_of, ActsTold}
+use Rattle.app_visor.specs.laws.BeatLaws.{Chain-continues}
+use Rattle.app_visor.specs.laws.AnswerLaws.{decided}
+use Rattle.app_visor.specs.laws.JournalLaws.{chain_told, acts_append}
+use Rattle.app_visor.specs.Turns.{Turns, reply_by}
+use Rattle.app_visor.specs.Tellings.{Beside, marks_by, TurnTold}
+use Rattle.app_visor.specs.laws.TellingLaws.{stimuli_longer, inputs_longer, Beside-refl, Beside-trans, marks_one, stimuli_one, beside_one, AreWires, wire_sent, wire_got, wires_both, beside_wires, marks_wires, stimuli_wires}
+
+-- ---- One message and its answer
+
+wires_by : (d : ℕ) (h : Heard) (bytes : List ℕ) → AreWires (steps_by d h bytes)
+wires_by d hearing.Reply bytes = tt
+wires_by d (hearing.Refused refusal) bytes = tt
+wires_by d hearing.Notice bytes = tt
+wires_by d hearing.Echo bytes = (wire_sent d (echo_reply bytes), tt)
+wires_by d hearing.Other bytes = tt
+
+wires_wait : (a : Awaited) (got : List (List ℕ)) → AreWires (wait_steps a got)
+wires_wait a [] = tt
+wires_wait a (bytes ∷ got) = (wire_got a.dpid bytes, wires_both (steps_by a.dpid (heard a bytes) bytes) (wait_steps a got) (wires_by a.dpid (heard a bytes) bytes) (wires_wait a got))
+
+-- the history goes on by messages for switches and from them
+record WiresTold {Own : Type 0} (old new : Seen Own) : Type 0 where
+  steps : List WorldStep
+  history : new.history ≡ old.history ++ steps
+  wires : AreWires steps
+
+wires_none : {Own : Type 0} (old new : Seen Own) → new ≡ old → WiresTold old new
+wires_none old new is = record { steps = []; history = ap (λ (s : Seen _). s.history) is ∙ sym (append-nil old.history); wires = tt }
+
+exchange_wires : {Own : Type 0} (Tells : Type 0) (x : Exchange Own) → IsExchange Tells x → Tells → WiresTold x.before x.after
+exchange_wires Tells x is tells = elim (decided (known_rows x.dpid x.net.views) x.bytes) [
+  | inl h ↦ wires_none x.before x.after ((is.changes.by_host h.0 h.1.0).world)
+  | inr h ↦ elim h.1.1.0 [
+    | inl none ↦ let asked = is.changes.by_switch h.0 h.1.0 none h.1.1.1 in
+        let a = awaited_from x.dpid x.net.xid in
+        record {
+          steps = (change_sent x.dpid x.net.xid h.1.0 ∷ barrier_sent a ∷ []) ++ (wait_steps a asked.waits.got ++ reply_got a ∷ []);
+          history = asked.waits.hears.told tells;
+          wires = (wire_sent x.dpid _, (wire_sent x.dpid _, wires_both (wait_steps a asked.waits.got) (reply_got a ∷ []) (wires_wait a asked.waits.got) (wire_got x.dpid _, tt)));
+        }
+    | inr y ↦ wires_none x.before x.after ((is.changes.by_host y.0 y.1.0).world)
+  ]
+]
+
+-- ---- All beats
+
+-- no stimulus came, and all stays but the switches and what runs
+record StaysBeside {Own : Type 0} (old new : Seen Own) : Type 0 where
+  stimuli_so : stimuli (journal new.history) ≡ stimuli (journal old.history)
+  beside : Beside (state old) (state new)
+  marks : (state new).marks ≡ (state old).marks
+
+stays_refl : {Own : Type 0} (old new : Seen Own) → new ≡ old → StaysBeside old new
+stays_refl old new is = rw is (record { stimuli_so = refl; beside = Beside-refl (state old); marks = refl })
+
+stays_trans : {Own : Type 0} (a b c : Seen Own) → StaysBeside a b → StaysBeside b c → StaysBeside a c
+stays_trans a b c first second = record {
+  stimuli_so = second.stimuli_so ∙ first.stimuli_so;
+  beside = Beside-trans (state a) (state b) (state c) first.beside second.beside;
+  marks = second.marks ∙ first.marks;
+}
+
+no_stimuli_more : {Own : Type 0} (old new : Seen Own) (steps : List WorldStep) → new.history ≡ old.history ++ steps → stimuli (journal steps) ≡ [] → stimuli (journal new.history) ≡ stimuli (journal old.history)
+no_stimuli_more old new steps longer none =
+    ap (λ (h : List WorldStep). stimuli (journal h)) longer ∙ stimuli_longer old.history steps ∙ ap (λ (xs : List WorldStim). stimuli (journal old.history) ++ xs) none ∙ append-nil (stimuli (journal old.history))
+
+stays_wires : {Own : Type 0} (old new : Seen Own) → new.given ≡ old.given → WiresTold old new → StaysBeside old new
+stays_wires old new given told =
+    let then_so = state-append old new told.steps given told.history in
+    record {
+      stimuli_so = no_stimuli_more old new told.steps told.history (stimuli_wires told.steps told.wires);
+      beside = subst (λ (s : State). Beside (state old) s) (sym then_so) (beside_wires told.steps (state old) told.wires);
+      marks = ap (λ (s : State). s.marks) then_so ∙ marks_wires told.steps (state old) told.wires;
+    }
+
+stimuli_told : {Own : Type 0} (Tells : Type 0) (app : ℕ) (act : Act) (old new : Seen Own) → is_of app act ≡ true → Told Tells act old new → Tells → stimuli (journal new.history) ≡ stimuli (journal old.history)
+stimuli_told Tells app act old new is told tells = no_stimuli_more old new (step_of act ∷ []) (told.history tells) (stimuli_one app act is)
+
+state_told : {Own : Type 0} (Tells : Type 0) (act : Act) (old new : Seen Own) → Told Tells act old new → Tells → state new ≡ after_step (step_of act) (state old)
+state_told Tells act old new told tells = state-append old new (step_of act ∷ []) told.continues.given (told.history tells)
+
+beside_told : {Own : Type 0} (Tells : Type 0) (app : ℕ) (act : Act) (old new : Seen Own) → is_of app act ≡ true → Told Tells act old new → Tells → Beside (state old) (state new)
+beside_told Tells app act old new is told tells = subst (λ (s : State). Beside (state old) s) (sym (state_told Tells act old new told tells)) (beside_one app act (state old) is)
+
+stays_chain : {Own : Type 0} (Tells : Type 0) (app : ℕ) (trace : List (Beat Own)) (old new : Seen Own) (net now_net : NetState) → Chain Tells app trace old new net now_net → Within app (acts_in trace) → Tells → StaysBeside old new
+stays_chain Tells app [] old new net now_net chain all tells = stays_refl old new chain.0
+stays_chain Tells app (Talk act ∷ trace) old new net now_net chain all tells =
+    let next = chain.1.0 in
+    let told = chain.1.1.0 in
+    let call = call_within app act all.0 in
+    stays_trans old next new (record {
+      stimuli_so = stimuli_told Tells app act old next chain.0 told tells;
+      beside = beside_told Tells app act old next chain.0 told tells;
+      marks = ap (λ (s : State). s.marks) (state_told Tells act old next told tells) ∙ marks_one app act (state old) call;
+    }) (stays_chain Tells app trace next new net now_net chain.1.1.1 all.1 tells)
+stays_chain Tells app (Asks x ∷ trace) old new net now_net chain all tells =
+    let one : StaysBeside old x.after = subst (λ (s : Seen _). StaysBeside s x.after) chain.0.0 (stays_wires x.before x.after chain.1.0.changes.continues.given (exchange_wires Tells x chain.1.0 tells)) in
+    stays_trans old x.after new one (stays_chain Tells app trace x.after new x.now_net now_net chain.1.1 all tells)
+
+-- ---- The whole turn
+
+marks_event : (given : Bool) (app : ℕ) (frame : List ℕ) (s : State) → (after_step (step_of (give_act given app frame)) s).marks ≡ marks_by given frame s
+unfolding after_step after_act
+marks_event true app frame s = refl
+marks_event false app frame s = refl
+
+-- what the acts of an application tell, where its history has these more
+read_more : {Own : Type 0} (app : ℕ) (acts : List Act) (old new : Seen Own) → ActsTold app acts old new → acts_of app new.history ≡ acts_of app old.history ++ acts
+read_more app acts old new told = ap (λ (h : List WorldStep). acts_of app h) told.history ∙ acts_append app old.history told.steps ∙ ap (λ (xs : List Act). acts_of app old.history ++ xs) told.acts_so
+
+-- the acts of the application are longer by the event and the acts behind it
+pub turn_acts : {Own : Type 0} {Tells : Type 0} {accepts : List TableView → Bool} {app budget : ℕ} {rest frame unread : List ℕ} {old new : Seen Own} {net now_net : NetState} {end : TurnEnd}
+    → (t : Turns Tells accepts app budget rest frame old new net now_net end unread) → Tells → acts_of app new.history ≡ acts_of app old.history ++ give_act t.given app frame ∷ acts_in t.trace
+turn_acts {Tells = Tells} {app = app} {frame = frame} {old = old} {new = new} {net = net} {now_net = now_net} t tells =
+    let act = give_act t.given app frame in
+    read_more app (act ∷ acts_in t.trace) old new (chain_told Tells app (Talk act ∷ t.trace) old new net now_net t.chain tells)
+
+inputs_more : {Own : Type 0} (app : ℕ) (acts : List Act) (frames : List (List ℕ)) (old new : Seen Own) → ActsTold app acts old new → inputs app acts ≡ frames → inputs app (journal new.history) ≡ inputs app (journal old.history) ++ frames
+inputs_more app acts frames old new told is =
+    ap (λ (h : List WorldStep). inputs app (journal h)) told.history ∙ inputs_longer app old.history told.steps
+    ∙ ap (λ (xs : List (List ℕ)). inputs app (journal old.history) ++ xs) (sym (inputs_own app (journal told.steps)) ∙ ap (inputs app) told.acts_so ∙ is)
+
+pub turn_told : {Own : Type 0} {Tells : Type 0} {accepts : List TableView → Bool} {app budget : ℕ} {rest frame unread : List ℕ} {old new : Seen Own} {net now_net : NetState} {end : TurnEnd}
+    → (t : Turns Tells accepts app budget rest frame old new net now_net end unread) → Tells → is_event frame ≡ true → LastStands (acts_of app old.history)
+    → TurnTold app t.given frame (reply_by t.given t.trace) (given_in t.given frame t.answers) old new
+turn_told {Tells = Tells} {app = app} {frame = frame} {old = old} {new = new} {net = net} {now_net = now_net} t tells event stood =
+    let act = give_act t.given app frame in
+    let next = t.chain.1.0 in
+    let told = t.chain.1.1.0 in
+    let later = stays_chain Tells app t.trace next new net now_net t.chain.1.1.1 t.within tells in
+    let acts = chain_told Tells app (Talk act ∷ t.trace) old new net now_net t.chain tells in
+    let reads = turn_read app t.given frame (acts_of app old.history) (acts_in t.trace) stood event t.within in
+    let more = turn_acts t tells in
+    record {
+      given_so = (Chain-continues Tells app (Talk act ∷ t.trace) old new net now_net t.chain).given;
+      starts = ap starts_in more ∙ reads.starts;
+      replies = ap replies_in more ∙ reads.replies;
+      life = subst LastStands (sym more) reads.life;
+      inputs_so = inputs_more app (act ∷ acts_in t.trace) (given_in t.given frame t.answers) old new acts t.inputs_so;
+      stimuli_so = later.stimuli_so ∙ stimuli_told Tells app act old next t.chain.0 told tells;
+      beside = Beside-trans (state old) (state next) (state new) (beside_told Tells app act old next t.chain.0 told tells) later.beside;
+      marks = later.marks ∙ ap (λ (s : State). s.marks) (state_told Tells act old next told tells) ∙ marks_event t.given app frame (state old);
+    }

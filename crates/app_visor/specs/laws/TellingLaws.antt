@@ -1,0 +1,204 @@
+-- Laws of what a history tells: what calls for an application and messages to switches leave.
+use Rattle.std.specs.Prelude.{◌≡◌, ◌==◌, ℕ, true, false, List, [], ◌∷◌, ◌++◌, map, filter, None, ◌⊎◌, slice_index, refl}
+use Rattle.std.specs.List.{AllByRecursion}
+use Rattle.std.proofs.Common.{sym, ap, ◌∙◌, subst, inl, inr, true≢false, arith}
+use Rattle.of_types.specs.Fields.{number_at}
+use Rattle.of_types.specs.declared.journal.Act.{Act}
+use Rattle.of_types.specs.declared.journal.Act.TheVariants.{Stim, Started, Gave, Gone, Took, Ended, Sent, Got}
+use Rattle.of_types.specs.declared.journal.WorldStim.{WorldStim}
+use Rattle.lego_model.specs.Journal.{stimuli, inputs, is_of, is_event}
+use Rattle.lego_model.specs.laws.JournalLaws.{stimuli-append, inputs-append}
+use Rattle.outside.specs.declared.step.WorldStep.{WorldStep}
+use Rattle.outside.specs.declared.step.WorldStep.TheVariants.{Acted}
+use Rattle.outside.specs.Seen.{journal}
+use Rattle.outside.specs.laws.SeenLaws.{journal-append}
+use Rattle.outside.specs.State.{State, event_number, marks_after_gave, after_act, after_step, after_steps}
+use Rattle.journal_laws.specs.Readings.{is_call, Calls}
+use Rattle.journal_laws.specs.laws.CallLaws.{both_second, call_of, calls_of, stimulus_called, no_stimuli}
+use Rattle.app_visor.specs.Talks.{step_of}
+use Rattle.app_visor.specs.Beats.{acts_of}
+use Rattle.app_visor.specs.laws.JournalLaws.{journal_told}
+use Rattle.app_visor.specs.Tellings.{Beside, Apart}
+
+-- ---- Longer histories
+
+pub stimuli_longer : (xs ys : List WorldStep) → stimuli (journal (xs ++ ys)) ≡ stimuli (journal xs) ++ stimuli (journal ys)
+stimuli_longer xs ys = ap stimuli (journal-append xs ys) ∙ stimuli-append (journal xs) (journal ys)
+
+pub inputs_longer : (app : ℕ) (xs ys : List WorldStep) → inputs app (journal (xs ++ ys)) ≡ inputs app (journal xs) ++ inputs app (journal ys)
+inputs_longer app xs ys = ap (inputs app) (journal-append xs ys) ∙ inputs-append app (journal xs) (journal ys)
+
+-- ---- The state
+
+pub Beside-refl : (s : State) → Beside s s
+Beside-refl s = record { opened = refl; moment = refl; to_come = refl; due = refl; begun = refl }
+
+pub Beside-trans : (a b c : State) → Beside a b → Beside b c → Beside a c
+Beside-trans a b c first second = record {
+  opened = second.opened ∙ first.opened;
+  moment = second.moment ∙ first.moment;
+  to_come = second.to_come ∙ first.to_come;
+  due = second.due ∙ first.due;
+  begun = second.begun ∙ first.begun;
+}
+
+pub Apart-refl : (s : State) → Apart s s
+Apart-refl s = record { beside = Beside-refl s; links = refl; marks = refl }
+
+pub Apart-trans : (a b c : State) → Apart a b → Apart b c → Apart a c
+Apart-trans a b c first second = record { beside = Beside-trans a b c first.beside second.beside; links = second.links ∙ first.links; marks = second.marks ∙ first.marks }
+
+-- ---- What is no Event makes no mark
+
+kind_at : (bytes : List ℕ) → number_at 1 4 bytes ≡ slice_index bytes 4
+unfolding number_at
+kind_at [] = refl
+kind_at (a ∷ []) = refl
+kind_at (a ∷ b ∷ []) = refl
+kind_at (a ∷ b ∷ c ∷ []) = refl
+kind_at (a ∷ b ∷ c ∷ d ∷ []) = refl
+kind_at (a ∷ b ∷ c ∷ d ∷ e ∷ rest) = omega arith
+
+pub no_number : (bytes : List ℕ) → is_event bytes ≡ false → event_number bytes ≡ None
+unfolding event_number
+no_number bytes is = rw (kind_at bytes, is) refl
+
+pub no_mark : (bytes : List ℕ) (s : State) → is_event bytes ≡ false → marks_after_gave bytes s ≡ s.marks
+unfolding marks_after_gave
+no_mark bytes s is = rw (no_number bytes is) refl
+
+-- ---- Calls for an application, each but the giving of an Event
+
+pub journal_steps : (acts : List Act) → journal (map step_of acts) ≡ acts
+unfolding journal
+journal_steps [] = refl
+journal_steps (act ∷ acts) =
+    journal-append (step_of act ∷ []) (map step_of acts) ∙ ap (λ (front : List Act). front ++ journal (map step_of acts)) (journal_told act) ∙ ap (λ (xs : List Act). act ∷ xs) (journal_steps acts)
+
+pub acts_called : (app : ℕ) (acts : List Act) → Calls app acts → acts_of app (map step_of acts) ≡ acts
+acts_called app acts all = ap (λ (xs : List Act). filter (is_of app) xs) (journal_steps acts) ∙ calls_of app acts all
+
+pub inputs_called : (app : ℕ) (acts : List Act) → inputs app (journal (map step_of acts)) ≡ inputs app acts
+inputs_called app acts = ap (inputs app) (journal_steps acts)
+
+pub stimuli_called : (app : ℕ) (acts : List Act) → Calls app acts → stimuli (journal (map step_of acts)) ≡ []
+stimuli_called app acts all = ap stimuli (journal_steps acts) ∙ no_stimuli app acts all
+
+-- an act of the application that is an Event as well
+pub stimuli_one : (app : ℕ) (act : Act) → is_of app act ≡ true → stimuli (journal (step_of act ∷ [])) ≡ []
+unfolding stimuli
+stimuli_one app act is = ap stimuli (journal_told act) ∙ stimulus_called app act [] is
+
+pub beside_one : (app : ℕ) (act : Act) (s : State) → is_of app act ≡ true → Beside s (after_step (step_of act) s)
+unfolding after_step after_act
+beside_one app (Started of stands) s is = record { opened = refl; moment = refl; to_come = refl; due = refl; begun = refl }
+beside_one app (Gave to bytes) s is = record { opened = refl; moment = refl; to_come = refl; due = refl; begun = refl }
+beside_one app (Gone to bytes) s is = Beside-refl s
+beside_one app (Took from what) s is = Beside-refl s
+beside_one app (Ended of) s is = record { opened = refl; moment = refl; to_come = refl; due = refl; begun = refl }
+beside_one app (Stim x) s is = absurd (true≢false (sym is))
+beside_one app (Sent d bytes) s is = absurd (true≢false (sym is))
+beside_one app (Got d bytes) s is = absurd (true≢false (sym is))
+
+pub links_one : (app : ℕ) (act : Act) (s : State) → is_of app act ≡ true → (after_step (step_of act) s).links ≡ s.links
+unfolding after_step after_act
+links_one app (Started of stands) s is = refl
+links_one app (Gave to bytes) s is = refl
+links_one app (Gone to bytes) s is = refl
+links_one app (Took from what) s is = refl
+links_one app (Ended of) s is = refl
+links_one app (Stim x) s is = absurd (true≢false (sym is))
+links_one app (Sent d bytes) s is = absurd (true≢false (sym is))
+links_one app (Got d bytes) s is = absurd (true≢false (sym is))
+
+pub marks_one : (app : ℕ) (act : Act) (s : State) → is_call app act ≡ true → (after_step (step_of act) s).marks ≡ s.marks
+unfolding after_step after_act
+marks_one app (Started of stands) s is = refl
+marks_one app (Gave to bytes) s is = no_mark bytes s (both_second (to == app) (is_event bytes) is)
+marks_one app (Gone to bytes) s is = refl
+marks_one app (Took from what) s is = refl
+marks_one app (Ended of) s is = refl
+marks_one app (Stim x) s is = absurd (true≢false (sym is))
+marks_one app (Sent d bytes) s is = absurd (true≢false (sym is))
+marks_one app (Got d bytes) s is = absurd (true≢false (sym is))
+
+pub apart_called : (app : ℕ) (acts : List Act) (s : State) → Calls app acts → Apart s (after_steps (map step_of acts) s)
+apart_called app [] s all = Apart-refl s
+apart_called app (act ∷ acts) s all =
+    let is = call_of app act all.0 in
+    let next = after_step (step_of act) s in
+    Apart-trans s next (after_steps (map step_of acts) next) (record { beside = beside_one app act s is; links = links_one app act s is; marks = marks_one app act s all.0 }) (apart_called app acts next all.1)
+
+-- ---- Messages for switches and from them
+
+pub record IsWire (step : WorldStep) : Type 0 where
+  pub dpid : ℕ
+  pub bytes : List ℕ
+  pub is : (step ≡ Acted (Sent dpid bytes)) ⊎ (step ≡ Acted (Got dpid bytes))
+
+abbrev pub AreWires : List WorldStep → Type 0
+AreWires steps = AllByRecursion IsWire steps
+
+pub wire_sent : (d : ℕ) (bytes : List ℕ) → IsWire (Acted (Sent d bytes))
+wire_sent d bytes = record { dpid = d; bytes = bytes; is = inl refl }
+
+pub wire_got : (d : ℕ) (bytes : List ℕ) → IsWire (Acted (Got d bytes))
+wire_got d bytes = record { dpid = d; bytes = bytes; is = inr refl }
+
+pub wires_both : (xs ys : List WorldStep) → AreWires xs → AreWires ys → AreWires (xs ++ ys)
+wires_both [] ys all rest = rest
+wires_both (x ∷ xs) ys all rest = (all.0, wires_both xs ys all.1 rest)
+
+by_wire : (P : WorldStep → Type 0) (step : WorldStep) → IsWire step → ((d : ℕ) (bytes : List ℕ) → P (Acted (Sent d bytes))) → ((d : ℕ) (bytes : List ℕ) → P (Acted (Got d bytes))) → P step
+by_wire P step w sent got = elim w.is [
+  | inl h ↦ subst P (sym h) (sent w.dpid w.bytes)
+  | inr h ↦ subst P (sym h) (got w.dpid w.bytes)
+]
+
+-- what stays where a switch is told, or tells
+record Kept (s t : State) : Type 0 where
+  beside : Beside s t
+  marks : t.marks ≡ s.marks
+
+kept_sent : (d : ℕ) (bytes : List ℕ) (s : State) → Kept s (after_step (Acted (Sent d bytes)) s)
+unfolding after_step after_act
+kept_sent d bytes s = record { beside = record { opened = refl; moment = refl; to_come = refl; due = refl; begun = refl }; marks = refl }
+
+kept_got : (d : ℕ) (bytes : List ℕ) (s : State) → Kept s (after_step (Acted (Got d bytes)) s)
+unfolding after_step after_act
+kept_got d bytes s = record { beside = record { opened = refl; moment = refl; to_come = refl; due = refl; begun = refl }; marks = refl }
+
+kept_wire : (step : WorldStep) (s : State) → IsWire step → Kept s (after_step step s)
+kept_wire step s w = by_wire (λ x. Kept s (after_step x s)) step w (λ d bytes. kept_sent d bytes s) (λ d bytes. kept_got d bytes s)
+
+kept_wires : (steps : List WorldStep) (s : State) → AreWires steps → Kept s (after_steps steps s)
+kept_wires [] s all = record { beside = Beside-refl s; marks = refl }
+kept_wires (step ∷ steps) s all =
+    let first = kept_wire step s all.0 in
+    let later = kept_wires steps (after_step step s) all.1 in
+    record { beside = Beside-trans s (after_step step s) (after_steps steps (after_step step s)) first.beside later.beside; marks = later.marks ∙ first.marks }
+
+pub beside_wires : (steps : List WorldStep) (s : State) → AreWires steps → Beside s (after_steps steps s)
+beside_wires steps s all = (kept_wires steps s all).beside
+
+pub marks_wires : (steps : List WorldStep) (s : State) → AreWires steps → (after_steps steps s).marks ≡ s.marks
+marks_wires steps s all = (kept_wires steps s all).marks
+
+stimuli_sent : (d : ℕ) (bytes : List ℕ) → stimuli (journal (Acted (Sent d bytes) ∷ [])) ≡ []
+unfolding stimuli journal
+stimuli_sent d bytes = refl
+
+stimuli_got : (d : ℕ) (bytes : List ℕ) → stimuli (journal (Acted (Got d bytes) ∷ [])) ≡ []
+unfolding stimuli journal
+stimuli_got d bytes = refl
+
+stimuli_none : stimuli (journal []) ≡ []
+unfolding stimuli journal
+stimuli_none = refl
+
+pub stimuli_wires : (steps : List WorldStep) → AreWires steps → stimuli (journal steps) ≡ []
+stimuli_wires [] all = stimuli_none
+stimuli_wires (step ∷ steps) all =
+    stimuli_longer (step ∷ []) steps
+    ∙ ap (λ (xs : List WorldStim). xs ++ stimuli (journal steps)) (by_wire (λ x. stimuli (journal (x ∷ [])) ≡ []) step all.0 stimuli_sent stimuli_got)
+    ∙ stimuli_wires steps all.1

@@ -1,0 +1,15 @@
+pub mod HistoryLaws
+pub mod TellLaws
+pub mod FrameTellLaws
+pub mod PortTellLaws
+pub mod KeyLaws
+pub mod NoticeTellLaws
+pub mod LinkTellLaws
+pub mod ReferenceLaws
+pub mod AfterLaws
+pub mod LeaveTellLaws
+pub mod JoinTellLaws
+pub mod StimulusLaws
+pub mod HandleLaws
+pub mod ItemLaws
+pub mod InBatchLaws

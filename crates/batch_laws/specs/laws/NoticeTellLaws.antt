@@ -1,0 +1,286 @@
+-- What the engine knows after a moment: of the entries that went those are events whose owners asked for a notice, and the view is without all
+-- of them.
+use Rattle.std.proofs.Common.{◌≡◌, ◌==◌, ℕ, ◌+◌, ◌^◌, ◌<◌, Bool, true, false, not, ◌&&◌, List, [], ◌∷◌, ◌++◌, map, filter, Option, Some, None, Ok, refl, sym, ap, ap₂, ◌∙◌, subst, inl, inr, arith, append_assoc}
+use Rattle.std.proofs.lemmas.Bool.{cases_Bool, and_parts}
+use Rattle.std.proofs.lemmas.List.{append-nil}
+use Rattle.std.proofs.lemmas.List.Elements.{filter_map-append}
+use Rattle.std.specs.List.{AllByRecursion}
+use Rattle.of_types.specs.declared.journal.Stimulus.TheVariants.{Advance}
+use Rattle.of_match.specs.declared.key.Key.{Key}
+use Rattle.of_match.specs.Key.{key_number}
+use Rattle.of_wire.specs.declared.bodies.FlowRemoved.{FlowRemoved as Removed}
+use Rattle.of_wire.specs.declared.message.Message.TheVariants.{FlowRemoved}
+use Rattle.of_wire.specs.Spelling.{message_bytes}
+use Rattle.of_wire.specs.Grammar.{enveloped}
+use Rattle.of_wire.specs.Reading.{reading_of}
+use Rattle.of_wire.specs.laws.ReadingLaws.{reading_of-message_bytes}
+use Rattle.flow_timeouts.specs.declared.timeouts.Reason.{Reason}
+use Rattle.flow_timeouts.specs.declared.timeouts.Reason.TheVariants as reasons
+use Rattle.flow_table.specs.declared.entry.Entry.{Entry}
+use Rattle.flow_table.specs.declared.notice.Notice.{Notice}
+use Rattle.flow_table.specs.declared.view.ViewRow.{ViewRow}
+use Rattle.flow_table.specs.declared.view.TableView.{TableView}
+use Rattle.flow_table.specs.Table.{IsTable}
+use Rattle.flow_table.specs.Change.{asks_notice}
+use Rattle.flow_table.specs.Expiry.{deadline, is_due, notice_at, by_deadline, expire, expiry_notices}
+use Rattle.flow_table.specs.Switch.{SwitchState}
+use Rattle.flow_table.specs.Step.{flow_removed, flow_removed_bytes, after_stimulus, sent_by_stimulus}
+use Rattle.undo_laws.specs.Owned.{owned, is_asked_for, AskAll}
+use Rattle.undo_laws.specs.laws.OwnedLaws.{stimulus-owned, expiry-owned}
+use Rattle.app_frames.specs.declared.frame.Event.{Event}
+use Rattle.lego_model.specs.Answers.{rows_of_table, rows_of_view}
+use Rattle.lego_model.specs.Controller.{event_of_read, events_of}
+use Rattle.outside.specs.declared.step.WorldStep.TheVariants.{From}
+use Rattle.net_txn.specs.Views.{rows_at, with_rows, ViewsAscend}
+use Rattle.net_txn.specs.laws.ViewLaws.{rows_at-same, rows_at-other}
+use Rattle.net_txn.specs.Arriving.{is_asked, without_key}
+use Rattle.switch_laws.specs.Shown.{flags_in}
+use Rattle.switch_laws.specs.Sound.{SoundEntry, AllSound}
+use Rattle.switch_laws.specs.laws.SoundLaws.{notice-message}
+use Rattle.batch_laws.specs.Knowledge.{Knowledge, told_read, handled, handled_all}
+use Rattle.batch_laws.specs.Calm.{known_ports}
+use Rattle.batch_laws.specs.laws.KeyLaws.{all-both, all-filter, all-map, all-by_deadline, filter-alike, has-by_deadline, distinct-by_deadline, distinct-filter, has-filter, without_all-filter, view-filter, table-filter, flags-kept, rows-ascend, asked-flags, asked-without}
+use Rattle.switch_laws.specs.laws.AbsentLaws.{neither}
+use Rattle.batch_laws.specs.Keys.{has_place, Distinct, entry_keys, notice_keys, without_all, AscendRows}
+use Rattle.batch_laws.specs.laws.TellLaws.{known-handled, is-known}
+use Rattle.batch_laws.specs.Tells.{ViewChanged, SwitchHandled, SwitchKnown}
+
+-- ---- Views
+
+pub views-with_rows : (d : ℕ) (change : List ViewRow → List ViewRow) (least : ℕ) (views : List TableView) → ViewsAscend least views → ViewsAscend least (with_rows d change views)
+views-with_rows d change least [] h = tt
+views-with_rows d change least (v ∷ vs) h =
+    elim (cases_Bool (v.dpid == d)) [
+      | inl here ↦ rw here h
+      | inr other ↦ rw other (h.0, views-with_rows d change (v.dpid + 1) vs h.1)
+    ]
+
+view-changed : (d : ℕ) (change : List ViewRow → List ViewRow) (rows : List ViewRow) (views : List TableView) → rows_at d views ≡ Some rows → ViewChanged d (change rows) views (with_rows d change views)
+view-changed d change rows views are = record {
+  here = rows_at-same d change views rows are;
+  others = λ e other. rows_at-other d e change views other;
+  order = λ least ascend. views-with_rows d change least views ascend;
+}
+
+view-then : (d : ℕ) (middle rows : List ViewRow) (a b c : List TableView) → ViewChanged d middle a b → ViewChanged d rows b c → ViewChanged d rows a c
+view-then d middle rows a b c first second = record {
+  here = second.here;
+  others = λ e other. second.others e other ∙ first.others e other;
+  order = λ least ascend. second.order least (first.order least ascend);
+}
+
+-- ---- Notices, one after the other
+
+record ReadNotice (n : Notice) : Type 0 where
+  read : reading_of (flow_removed_bytes n) ≡ Ok (enveloped 0 (FlowRemoved (flow_removed n)))
+  reason : (n.reason == 2) ≡ false
+
+record NoticesHandled (flags : Key → ℕ) (d : ℕ) (ns : List Notice) (rows : List ViewRow) (k now : Knowledge) : Type 0 where
+  views : ViewChanged d (without_all (notice_keys ns) rows) k.views now.views
+  queue : now.queue ≡ k.queue ++ events_of d (map flow_removed_bytes (filter (is_asked_for flags) ns))
+  ports : now.ports ≡ k.ports
+  moment : now.moment ≡ k.moment
+
+abbrev AskedAs : (Key → ℕ) → List ViewRow → Notice → Type 0
+AskedAs flags rows n = is_asked n.removed.key (Some rows) ≡ asks_notice (flags n.removed.key)
+
+asked-later : (flags : Key → ℕ) (j : Key) (rows : List ViewRow) (ns : List Notice) → has_place j (notice_keys ns) ≡ false → AllByRecursion (AskedAs flags rows) ns → AllByRecursion (AskedAs flags (without_key j rows)) ns
+asked-later flags j rows [] new h = tt
+asked-later flags j rows (n ∷ ns) new h =
+    let parts = neither (key_number j == key_number n.removed.key) (has_place j (notice_keys ns)) new in
+    (asked-without n.removed.key j rows parts.0 ∙ h.0, asked-later flags j rows ns parts.1 h.1)
+
+notice-handled : (flags : Key → ℕ) (d : ℕ) (n : Notice) (rows : List ViewRow) (k : Knowledge) → ReadNotice n → AskedAs flags rows n → rows_at d k.views ≡ Some rows
+    → NoticesHandled flags d (n ∷ []) rows k (handled (From d (flow_removed_bytes n)) k)
+unfolding events_of
+notice-handled flags d n rows k reads asked are =
+    let done = known-handled d (flow_removed_bytes n) k (is-known d rows k are) ∙ ap (λ r. told_read d r k) reads.read in
+    let told : is_asked n.removed.key (rows_at d k.views) ≡ asks_notice (flags n.removed.key) = ap (is_asked n.removed.key) are ∙ asked in
+    subst (NoticesHandled flags d (n ∷ []) rows k) (sym done) (record {
+      views = view-changed d (without_key n.removed.key) rows k.views are;
+      queue = elim (cases_Bool (asks_notice (flags n.removed.key))) [
+        | inl asks ↦ rw (reads.reason, told, asks) (rw (reads.read) (rw (reads.reason) refl))
+        | inr silent ↦ rw (reads.reason, told, silent) (sym (append-nil k.queue))
+      ];
+      ports = refl;
+      moment = refl;
+    })
+
+events-append : (d : ℕ) (xs ys : List (List ℕ)) → events_of d (xs ++ ys) ≡ events_of d xs ++ events_of d ys
+unfolding events_of
+events-append d xs ys = filter_map-append (λ bytes. event_of_read d (reading_of bytes)) xs ys
+
+asked-cons : (flags : Key → ℕ) (n : Notice) (ns : List Notice) → map flow_removed_bytes (filter (is_asked_for flags) (n ∷ [])) ++ map flow_removed_bytes (filter (is_asked_for flags) ns) ≡ map flow_removed_bytes (filter (is_asked_for flags) (n ∷ ns))
+asked-cons flags n ns =
+    elim (cases_Bool (asks_notice (flags n.removed.key))) [
+      | inl asks ↦ rw asks refl
+      | inr silent ↦ rw silent refl
+    ]
+
+-- the engine handles notices of entries with other keys each
+notices-handled : (flags : Key → ℕ) (d : ℕ) (ns : List Notice) (rows : List ViewRow) (k : Knowledge) → AllByRecursion ReadNotice ns → Distinct (notice_keys ns) → AllByRecursion (AskedAs flags rows) ns → rows_at d k.views ≡ Some rows
+    → NoticesHandled flags d ns rows k (handled_all (map (From d) (map flow_removed_bytes ns)) k)
+unfolding events_of
+notices-handled flags d [] rows k reads distinct asked are = record {
+  views = record { here = are; others = λ e other. refl; order = λ least ascend. ascend };
+  queue = sym (append-nil k.queue);
+  ports = refl;
+  moment = refl;
+}
+notices-handled flags d (n ∷ ns) rows k reads distinct asked are =
+    let next : Knowledge = handled (From d (flow_removed_bytes n)) k in
+    let first = notice-handled flags d n rows k reads.0 asked.0 are in
+    let rest = notices-handled flags d ns (without_key n.removed.key rows) next reads.1 distinct.1 (asked-later flags n.removed.key rows ns distinct.0 asked.1) first.views.here in
+    record {
+      views = view-then d (without_key n.removed.key rows) (without_all (notice_keys (n ∷ ns)) rows) k.views next.views _ first.views rest.views;
+      queue =
+          rest.queue
+          ∙ ap (λ (q : List Event). q ++ events_of d (map flow_removed_bytes (filter (is_asked_for flags) ns))) first.queue
+          ∙ append_assoc k.queue (events_of d (map flow_removed_bytes (filter (is_asked_for flags) (n ∷ [])))) (events_of d (map flow_removed_bytes (filter (is_asked_for flags) ns)))
+          ∙ ap (λ (q : List Event). k.queue ++ q)
+          (sym (events-append d (map flow_removed_bytes (filter (is_asked_for flags) (n ∷ []))) (map flow_removed_bytes (filter (is_asked_for flags) ns)))
+          ∙ ap (events_of d) (asked-cons flags n ns));
+      ports = rest.ports ∙ first.ports;
+      moment = rest.moment ∙ first.moment;
+    }
+
+-- ---- The notices of a moment
+
+abbrev tells : Entry → Notice
+tells e = notice_at (deadline e) e
+
+removed-at : (o : Option (ℕ × Reason)) (e : Entry) → (notice_at o e).removed ≡ e
+removed-at None e = refl
+removed-at (Some d) e = refl
+
+reason-at : (o : Option (ℕ × Reason)) (e : Entry) → ((notice_at o e).reason == 2) ≡ false
+reason-at None e = refl
+reason-at (Some (t, reasons.Idle)) e = refl
+reason-at (Some (t, reasons.Hard)) e = refl
+
+keys-told : (es : List Entry) → notice_keys (map tells es) ≡ entry_keys es
+keys-told [] = refl
+keys-told (e ∷ es) = ap₂ (λ (k : Key) ks. k ∷ ks) (ap (λ (x : Entry). x.key) (removed-at (deadline e) e)) (keys-told es)
+
+read-notice : (t : ℕ) → t < 2 ^ 32 → (e : Entry) → SoundEntry e × (is_due t e ≡ true) → ReadNotice (tells e)
+unfolding flow_removed_bytes
+read-notice t within e is = record {
+  read = reading_of-message_bytes 0 (FlowRemoved (flow_removed (tells e))) (omega arith) (notice-message t e is.0 within is.1);
+  reason = reason-at (deadline e) e;
+}
+
+asked-all : (flags : Key → ℕ) (rows : List ViewRow) → ((k : Key) → is_asked k (Some rows) ≡ asks_notice (flags k)) → (ns : List Notice) → AllByRecursion (AskedAs flags rows) ns
+asked-all flags rows same [] = tt
+asked-all flags rows same (n ∷ ns) = (same n.removed.key, asked-all flags rows same ns)
+
+ask-all : (es : List Entry) → AllSound es → AskAll es
+ask-all [] h = tt
+ask-all (e ∷ es) h = (h.0.asks, ask-all es h.1)
+
+bytes-by_fields : (ns : List Notice) → map flow_removed_bytes ns ≡ map (λ (f : Removed). message_bytes 0 (FlowRemoved f)) (map flow_removed ns)
+unfolding flow_removed_bytes
+bytes-by_fields [] = refl
+bytes-by_fields (n ∷ ns) = ap (λ xs. message_bytes 0 (FlowRemoved (flow_removed n)) ∷ xs) (bytes-by_fields ns)
+
+-- what the owners see is what they asked for
+seen-bytes : (flags : Key → ℕ) (t : ℕ) (es : List Entry) → AskAll es → map flow_removed_bytes (expiry_notices t (map (owned flags) es)) ≡ map flow_removed_bytes (filter (is_asked_for flags) (expiry_notices t es))
+seen-bytes flags t es asks =
+    bytes-by_fields (expiry_notices t (map (owned flags) es))
+    ∙ ap (map (λ (f : Removed). message_bytes 0 (FlowRemoved f))) (expiry-owned flags t es asks)
+    ∙ sym (bytes-by_fields (filter (is_asked_for flags) (expiry_notices t es)))
+
+abbrev goes : ℕ → Entry → Bool
+goes t e = is_due t e && asks_notice e.flags
+
+due-goes : (t : ℕ) (e : Entry) → SoundEntry e → goes t e ≡ is_due t e
+due-goes t e is = ap (λ (b : Bool). is_due t e && b) is.asks ∙ and-true (is_due t e)
+  where
+    and-true : (a : Bool) → (a && true) ≡ a
+    and-true true = refl
+    and-true false = refl
+
+abbrev going : ℕ → List Entry → List Entry
+going t es = by_deadline (filter (goes t) es)
+
+-- the keys that went are those of entries that were due
+gone-due : (t : ℕ) (es : List Entry) → IsTable es → AllSound es → AllByRecursion (λ e. has_place e.key (entry_keys (going t es)) ≡ is_due t e) es
+gone-due t es is sound =
+    all-both SoundEntry (λ e. has_place e.key (entry_keys (filter (goes t) es)) ≡ goes t e) (λ e. has_place e.key (entry_keys (going t es)) ≡ is_due t e)
+    (λ e s has. has-by_deadline e.key (filter (goes t) es) ∙ has ∙ due-goes t e s) es sound (has-filter (goes t) 0 es is)
+
+owned-alike : (flags flags_now : Key → ℕ) (es : List Entry) → AllByRecursion (λ e. flags_now e.key ≡ flags e.key) es → map (owned flags_now) es ≡ map (owned flags) es
+owned-alike flags flags_now [] h = refl
+owned-alike flags flags_now (e ∷ es) h = ap₂ (λ (n : ℕ) xs. record e { flags = n } ∷ xs) h.0 (owned-alike flags flags_now es h.1)
+
+module _ (d t : ℕ) (s : SwitchState) (rows : List ViewRow) (k : Knowledge) (known : SwitchKnown d s rows k) (is : IsTable s.table.entries) (sound : AllSound s.table.entries) (within : t < 2 ^ 32) where
+  abbrev entries : List Entry
+  entries = s.table.entries
+
+  abbrev gone : List Key
+  gone = entry_keys (going t entries)
+
+  abbrev rows_then : List ViewRow
+  rows_then = filter (λ r. not (has_place r.key gone)) rows
+
+  asked-so : (j : Key) → is_asked j (Some rows) ≡ asks_notice (flags_in rows j)
+  asked-so j = asked-flags j 0 rows (subst (AscendRows 0) (sym known.agrees) (rows-ascend 0 entries is))
+
+  reads-all : AllByRecursion ReadNotice (map tells (going t entries))
+  reads-all =
+      all-map (λ e. SoundEntry e × (is_due t e ≡ true)) ReadNotice tells (read-notice t within) (going t entries)
+      (all-by_deadline (λ e. SoundEntry e × (is_due t e ≡ true)) (filter (goes t) entries)
+      (all-filter SoundEntry (λ e. SoundEntry e × (is_due t e ≡ true)) (goes t) (λ e one passes. (one, (and_parts (is_due t e) (asks_notice e.flags) passes).0)) entries sound))
+
+  handled-so : NoticesHandled (flags_in rows) d (map tells (going t entries)) rows k (handled_all (map (From d) (map flow_removed_bytes (map tells (going t entries)))) k)
+  handled-so =
+      notices-handled (flags_in rows) d (map tells (going t entries)) rows k reads-all
+      (subst Distinct (sym (keys-told (going t entries))) (distinct-by_deadline (filter (goes t) entries) (distinct-filter (goes t) 0 entries is)))
+      (asked-all (flags_in rows) rows asked-so (map tells (going t entries))) known.rows_are
+
+  rows-then-are : without_all (notice_keys (map tells (going t entries))) rows ≡ rows_then
+  rows-then-are = ap (λ (ks : List Key). without_all ks rows) (keys-told (going t entries)) ∙ without_all-filter gone rows
+
+  stays-alike : filter (λ e. not (has_place e.key gone)) entries ≡ filter (λ e. not (is_due t e)) entries
+  stays-alike =
+      filter-alike (λ e. not (has_place e.key gone)) (λ e. not (is_due t e)) entries
+      (all-both SoundEntry (λ e. has_place e.key gone ≡ is_due t e) (λ e. not (has_place e.key gone) ≡ not (is_due t e)) (λ e one has. ap not has) entries sound (gone-due t entries is sound))
+
+  agrees-then : rows_of_view rows_then ≡ rows_of_table (filter (λ e. not (is_due t e)) entries)
+  agrees-then =
+      view-filter (λ j. not (has_place j gone)) rows
+      ∙ ap (filter (λ p. not (has_place p.0 gone))) known.agrees
+      ∙ sym (table-filter (λ j. not (has_place j gone)) entries)
+      ∙ ap rows_of_table stays-alike
+
+  not-true : (a : Bool) → not a ≡ true → a ≡ false
+  not-true true h = absurd cc
+  not-true false h = refl
+
+  flags-then : AllByRecursion (λ e. flags_in rows_then e.key ≡ flags_in rows e.key) (filter (λ e. not (is_due t e)) entries)
+  flags-then =
+      all-filter (λ e. has_place e.key gone ≡ is_due t e) (λ e. flags_in rows_then e.key ≡ flags_in rows e.key) (λ e. not (is_due t e))
+      (λ e has stays. flags-kept gone e.key rows (has ∙ not-true (is_due t e) stays)) entries (gone-due t entries is sound)
+
+  seen-here : map flow_removed_bytes (expiry_notices t (map (owned (flags_in rows)) entries)) ≡ map flow_removed_bytes (filter (is_asked_for (flags_in rows)) (map tells (going t entries)))
+  unfolding expiry_notices
+  seen-here = seen-bytes (flags_in rows) t entries (ask-all entries sound)
+
+  advanced : SwitchHandled d (Advance t) s rows k (handled_all (map (From d) (map flow_removed_bytes (map tells (going t entries)))) k)
+  unfolding after_stimulus sent_by_stimulus expire
+  advanced = record {
+    rows_now = rows_then;
+    views = subst (λ (r : List ViewRow). ViewChanged d r k.views (handled_all (map (From d) (map flow_removed_bytes (map tells (going t entries)))) k).views) rows-then-are handled-so.views;
+    queue = handled-so.queue ∙ ap (λ sent. k.queue ++ events_of d sent) (sym seen-here);
+    agrees = agrees-then;
+    shown =
+        ap (λ (es : List Entry). record s { moment = t; table = record s.table { entries = es } }) (owned-alike (flags_in rows) (flags_in rows_then) (filter (λ e. not (is_due t e)) entries) flags-then)
+        ∙ sym (stimulus-owned (flags_in rows) (Advance t) s);
+    ports = ap (known_ports d) handled-so.ports ∙ known.ports;
+    others = λ e other. ap (known_ports e) handled-so.ports;
+    moment = handled-so.moment;
+  }
+
+pub advance-switch : (d t : ℕ) (s : SwitchState) (rows : List ViewRow) (k : Knowledge) → SwitchKnown d s rows k → IsTable s.table.entries → AllSound s.table.entries → t < 2 ^ 32
+    → SwitchHandled d (Advance t) s rows k (handled_all (map (From d) (sent_by_stimulus (Advance t) s)) k)
+unfolding sent_by_stimulus expiry_notices
+advance-switch d t s rows k known is sound within = advanced d t s rows k known is sound within

@@ -1,0 +1,340 @@
+-- Laws of whole runs that a fault ended: they are the reference controller's as far as they go, if the world kept its word as far as there,
+-- and no quiescent point lies behind.
+use Rattle.std.proofs.Common.{◌≡◌, ℕ, ◌<◌, Bool, true, false, List, [], ◌++◌, length, Option, sym, ap, ◌∙◌, subst, arith, inl, inr}
+use Rattle.std.specs.Io.KnownBytes.{append_known}
+use Rattle.lego_io.specs.Sink.{TookPart}
+use Rattle.lego_io.specs.laws.ToldLaws.{append_known-nil, append_known-append}
+use Rattle.flow_table.specs.declared.view.TableView.{TableView}
+use Rattle.lego_model.specs.Places.{Place}
+use Rattle.outside.specs.Seen.{Seen, Longer, Continues, journal}
+use Rattle.lego_model.specs.AtOnce.{AtOnce}
+use Rattle.outside.specs.laws.SeenLaws.{Continues-trans}
+use Rattle.outside.specs.laws.StateLaws.{Conforming-before}
+use Rattle.outside.specs.Conforming.{Conforming}
+use Rattle.outside.specs.InOrder.{InOrder}
+use Rattle.outside.specs.laws.InOrderLaws.{InOrder-before, messages-of}
+use Rattle.outside.specs.Quiescence.{IsLastQuiescent}
+use Rattle.outside.specs.laws.QuiescenceLaws.{last_quiescent-of, last_quiescent-then}
+use Rattle.app_visor.specs.CallsFor.{CallsFor}
+use Rattle.app_visor.specs.laws.CalmLaws.{calls_then}
+use Rattle.run_laws.specs.Engine.{Engine}
+use Rattle.lego_model.specs.Application.{index}
+use Rattle.lego_model.specs.History.{stimuli_in}
+use Rattle.run_laws.specs.Readings.{JudgesAlike}
+use Rattle.run_laws.specs.Moves.{Moved, Rounds}
+use Rattle.run_laws.specs.laws.FirstLaws.{settled-first}
+use Rattle.run_laws.specs.First.{IsOpened, net_at_first, engine_at_first}
+use Rattle.run_laws.specs.laws.EndingLaws.{whole-of}
+use Rattle.lego_model.specs.ReferenceRun.{all_started}
+use Rattle.run_laws.specs.Promise.{most_rounds, PremiseSoFar}
+use Rattle.run_laws.specs.Cut.{CutAlike, CutWriting, GoneSoFar}
+use Rattle.lego_model.specs.CutRun.{CutBetweenLines, CutWhileWriting}
+use Rattle.run_laws.specs.laws.CutLaws.{gone-none, gone-rounds, gone-happens, gone-still, gone-more, gone-whole, cut-so, start-so, event-so, end-so}
+use Rattle.event_dispatch.specs.declared.batch.Rest.{Rest}
+use Rattle.event_dispatch.specs.declared.batch.Rest.TheVariants as rests
+use Rattle.event_dispatch.specs.declared.fault.Fault.{Fault}
+use Rattle.event_dispatch.specs.declared.fault.Fault.TheVariants as faults
+use Rattle.event_dispatch.specs.declared.served.Served.{Served}
+use Rattle.event_dispatch.specs.Why.{served_by}
+use Rattle.event_dispatch.specs.Shows.{engine_of}
+use Rattle.event_dispatch.specs.laws.RoundLaws.{writes_then}
+use Rattle.event_dispatch.specs.Talking.{KeepsTalking, GoesOnTalking}
+use Rattle.event_dispatch.specs.Steady.{Reads, NoPoint, AtMostThisPoint}
+use Rattle.event_dispatch.specs.laws.SteadyLaws.{reads_then}
+use Rattle.event_dispatch.specs.laws.FrontLaws.{keeps_first, keeps_to, calm_rest}
+use Rattle.event_dispatch.specs.Serves.{IsBatch, IsCut}
+use Rattle.event_dispatch.specs.Cut.{IsStill, CutOne, StopsBatch, CutBehind, CutRound, StartPart, CutStart, CutEnd, CutGoing, CutEnding, CutGoes, CutRun}
+
+-- ---- A fault that is not the sink's
+
+abbrev NotWrite : Fault → Type 0
+NotWrite faults.Write = ⊥
+NotWrite other = Unit {0}
+
+still_held : (fault : Fault) (a b : Option (List ℕ)) → IsStill fault a b → b ≡ a
+still_held faults.Write a b still = absurd still
+still_held faults.Next a b still = still
+still_held (faults.Txn fault) a b still = still
+still_held faults.NoMemory a b still = still
+
+one_held : {Own : Type 0} (Tells : Type 0) (accepts : List TableView → Bool) (fault : Fault) (a b : Option (List ℕ)) (old new : Seen Own) (e : Engine) → NotWrite fault → CutOne Tells accepts fault a b old new e → b ≡ a
+one_held Tells accepts faults.Write a b old new e other cut = absurd other
+one_held Tells accepts faults.Next a b old new e other cut = cut.0
+one_held Tells accepts (faults.Txn fault) a b old new e other cut = cut.0
+one_held Tells accepts faults.NoMemory a b old new e other cut = cut.0
+
+start_held : {Own : Type 0} (Tells : Type 0) (fault : Fault) (a b : Option (List ℕ)) (old new : Seen Own) (e : Engine) → NotWrite fault → CutStart Tells fault a b old new e → b ≡ a
+start_held Tells faults.Write a b old new e other cut = absurd other
+start_held Tells faults.Next a b old new e other cut = cut.0
+start_held Tells (faults.Txn fault) a b old new e other cut = cut.0
+start_held Tells faults.NoMemory a b old new e other cut = cut.0
+
+end_held : {Own : Type 0} (Tells : Type 0) (fault : Fault) (a b : Option (List ℕ)) (old new : Seen Own) (e : Engine) → NotWrite fault → CutEnd Tells fault a b old new e → b ≡ a
+end_held Tells faults.Write a b old new e other cut = absurd other
+end_held Tells faults.Next a b old new e other cut = cut.0
+end_held Tells (faults.Txn fault) a b old new e other cut = cut.0
+end_held Tells faults.NoMemory a b old new e other cut = cut.0
+
+-- ---- Which goes on with the dialogue
+
+one_talks : {Own : Type 0} (Tells : Type 0) (accepts : List TableView → Bool) (fault : Fault) (a b : Option (List ℕ)) (old new : Seen Own) (e : Engine) → NotWrite fault → CutOne Tells accepts fault a b old new e → GoesOnTalking Tells old new e
+one_talks Tells accepts faults.Write a b old new e other cut = absurd other
+one_talks Tells accepts faults.Next a b old new e other cut = cut.1
+one_talks Tells accepts (faults.Txn fault) a b old new e other cut = cut.1
+one_talks Tells accepts faults.NoMemory a b old new e other cut = cut.1
+
+start_talks : {Own : Type 0} (Tells : Type 0) (fault : Fault) (a b : Option (List ℕ)) (old new : Seen Own) (e : Engine) → NotWrite fault → CutStart Tells fault a b old new e → KeepsTalking Tells old new
+start_talks Tells faults.Write a b old new e other cut = absurd other
+start_talks Tells faults.Next a b old new e other cut = cut.1
+start_talks Tells (faults.Txn fault) a b old new e other cut = cut.1
+start_talks Tells faults.NoMemory a b old new e other cut = cut.1
+
+end_talks : {Own : Type 0} (Tells : Type 0) (fault : Fault) (a b : Option (List ℕ)) (old new : Seen Own) (e : Engine) → NotWrite fault → CutEnd Tells fault a b old new e → KeepsTalking Tells old new
+end_talks Tells faults.Write a b old new e other cut = absurd other
+end_talks Tells faults.Next a b old new e other cut = cut.1
+end_talks Tells (faults.Txn fault) a b old new e other cut = cut.1
+end_talks Tells faults.NoMemory a b old new e other cut = cut.1
+
+-- ---- Behind which no quiescent point lies
+
+one_here : {Own : Type 0} (Tells : Type 0) (accepts : List TableView → Bool) (fault : Fault) (a b : Option (List ℕ)) (old new : Seen Own) (e : Engine) → NotWrite fault → CutOne Tells accepts fault a b old new e → AtMostThisPoint Tells old new
+one_here Tells accepts faults.Write a b old new e other cut = absurd other
+one_here Tells accepts faults.Next a b old new e other cut = cut.2
+one_here Tells accepts (faults.Txn fault) a b old new e other cut = cut.2
+one_here Tells accepts faults.NoMemory a b old new e other cut = cut.2
+
+start_quietly : {Own : Type 0} (Tells : Type 0) (fault : Fault) (a b : Option (List ℕ)) (old new : Seen Own) (e : Engine) → NotWrite fault → CutStart Tells fault a b old new e → NoPoint Tells old new
+start_quietly Tells faults.Write a b old new e other cut = absurd other
+start_quietly Tells faults.Next a b old new e other cut = cut.2
+start_quietly Tells (faults.Txn fault) a b old new e other cut = cut.2
+start_quietly Tells faults.NoMemory a b old new e other cut = cut.2
+
+end_quietly : {Own : Type 0} (Tells : Type 0) (fault : Fault) (a b : Option (List ℕ)) (old new : Seen Own) (e : Engine) → NotWrite fault → CutEnd Tells fault a b old new e → NoPoint Tells old new
+end_quietly Tells faults.Write a b old new e other cut = absurd other
+end_quietly Tells faults.Next a b old new e other cut = cut.2
+end_quietly Tells (faults.Txn fault) a b old new e other cut = cut.2
+end_quietly Tells faults.NoMemory a b old new e other cut = cut.2
+
+-- ---- What is supposed of a world that was opened, whose run stopped somewhere
+
+record Supposed {Own : Type 0} (Tells : Type 0) (accepts : List TableView → Bool) (allows : List Place → Bool) (first stop seen : Seen Own) : Type 0 where
+  told : Tells
+  judges : JudgesAlike Own allows accepts
+  opened : IsOpened first
+  few : (front : Seen Own) → Conforming front → seen.given ≡ front.given → Longer front.history seen.history → length (stimuli_in front) < most_rounds
+  whole : Continues Tells first seen
+  before : Continues Tells first stop
+  later : Continues Tells stop seen
+  talks : KeepsTalking Tells stop seen
+  no_point : NoPoint Tells stop seen
+
+-- A point from which the run went on to where it stopped: in a world that tells in order this kept its word as far as there, and no
+-- quiescent point lies behind.
+record IsStop {Own : Type 0} (Tells : Type 0) (last stop : Seen Own) : Type 0 where
+  on : Continues Tells last stop
+  keeps : InOrder last → Conforming last
+  quiet : Conforming last → InOrder stop → IsLastQuiescent last stop
+  own : CallsFor index last stop
+
+-- up to such a point
+cut_at : {Own : Type 0} {Tells : Type 0} {accepts : List TableView → Bool} {allows : List Place → Bool} (a b : Option (List ℕ)) (first stop seen : Seen Own) (p : Supposed Tells accepts allows first stop seen) (last : Seen Own) → IsStop Tells last stop → (Conforming last → AtOnce index (journal stop.history)) → (Conforming last → CutBetweenLines allows last a b) → CutAlike allows seen a b
+cut_at {Tells = Tells} a b first stop seen p last is said so =
+    let later = Continues-trans Tells last stop seen is.on p.later in
+    record {
+      last = last;
+      given = later.given;
+      later = later.told p.told;
+      alike = so;
+      at_once = λ keeps. p.talks.talks p.told (said keeps);
+      messages = λ order. messages-of last (is.keeps (InOrder-before p.told later order));
+      last_point = λ order. last_quiescent-then (is.quiet (is.keeps (InOrder-before p.told later order)) (InOrder-before p.told p.later order)) (p.no_point.none_quiescent p.told);
+      no_other_called = calls_then is.own (p.no_point.own p.told);
+    }
+
+-- up to where it stopped
+writing_at : {Own : Type 0} {Tells : Type 0} {accepts : List TableView → Bool} {allows : List Place → Bool} (a b : Option (List ℕ)) (first stop seen : Seen Own) (p : Supposed Tells accepts allows first stop seen) → (InOrder stop → Conforming stop) → (Conforming stop → CutWhileWriting allows stop a b) → CutWriting allows seen a b
+writing_at a b first stop seen p keeps so = record {
+  last = stop;
+  given = p.later.given;
+  later = p.later.told p.told;
+  alike = so;
+  at_once = λ keeps. p.talks.talks p.told (so keeps).up_to.at_once;
+  messages = λ order. messages-of stop (keeps (InOrder-before p.told p.later order));
+  last_point = λ order. last_quiescent-of (p.no_point.none_quiescent p.told);
+  no_other_called = p.no_point.own p.told;
+}
+
+-- ---- The start
+
+start_alike : {Own : Type 0} {Tells : Type 0} {accepts : List TableView → Bool} {allows : List Place → Bool} {a b : Option (List ℕ)} {first stop seen : Seen Own} (p : Supposed Tells accepts allows first stop seen) → b ≡ a → KeepsTalking Tells first stop → NoPoint Tells first stop → CutAlike allows seen a b
+start_alike {allows = allows} {a = a} {b = b} {first = first} {stop = stop} {seen = seen} p same talks no_point =
+    let is : IsStop _ first stop = record { on = p.before; keeps = keeps_first first p.opened; quiet = λ keeps order. last_quiescent-of (no_point.none_quiescent p.told); own = no_point.own p.told } in
+    cut_at a b first stop seen p first is (λ keeps. talks.talks p.told (settled-first first p.opened).speaks.at_once) (λ keeps.
+    cut-so allows false 0 [] a b first first engine_at_first p.opened (gone-none allows first engine_at_first (settled-first first p.opened)) (omega arith) keeps (same ∙ sym (append_known-nil a)))
+
+start_writing : {Own : Type 0} {Tells : Type 0} {accepts : List TableView → Bool} {allows : List Place → Bool} {a b : Option (List ℕ)} {first stop seen : Seen Own} (p : Supposed Tells accepts allows first stop seen) → StartPart Tells a b first stop engine_at_first → CutWriting allows seen a b
+start_writing {allows = allows} {a = a} {b = b} {first = first} {stop = stop} {seen = seen} p cut =
+    writing_at a b first stop seen p (keeps_to first stop p.told p.opened p.before cut.reads) (λ keeps.
+    start-so allows cut.more a b first stop cut.now_engine p.opened (cut.shown.moved p.told keeps (settled-first first p.opened)) keeps cut.part)
+
+-- ---- Rounds
+
+begun_moved : {Own : Type 0} {Tells : Type 0} {accepts : List TableView → Bool} {allows : List Place → Bool} {fault : Fault} {a b : Option (List ℕ)} {first stop seen : Seen Own} (p : Supposed Tells accepts allows first stop seen) (g : CutGoing Tells accepts fault a b first stop engine_at_first) → Conforming g.rounds.mid → Moved [] all_started g.text first g.begun engine_at_first (engine_of g.begun_run)
+begun_moved {first = first} p g keeps = g.starts.moved p.told (Conforming-before p.told g.rounds.on keeps) (settled-first first p.opened)
+
+rounds_moved : {Own : Type 0} {Tells : Type 0} {accepts : List TableView → Bool} {allows : List Place → Bool} {fault : Fault} {a b : Option (List ℕ)} {first stop seen : Seen Own} (p : Supposed Tells accepts allows first stop seen) (g : CutGoing Tells accepts fault a b first stop engine_at_first) → Conforming g.rounds.mid → Rounds allows g.rounds.number g.rounds.rounds.text g.begun g.rounds.mid (engine_of g.begun_run) (engine_of g.rounds.mid_run)
+rounds_moved {allows = allows} p g keeps = g.rounds.rounds.shown.rounds_so allows p.told keeps p.judges (begun_moved p g keeps).settled
+
+rounds_held : {Own : Type 0} {Tells : Type 0} {accepts : List TableView → Bool} {allows : List Place → Bool} {fault : Fault} {a b : Option (List ℕ)} {first stop seen : Seen Own} (p : Supposed Tells accepts allows first stop seen) (g : CutGoing Tells accepts fault a b first stop engine_at_first) → g.rounds.held ≡ append_known a (g.text ++ g.rounds.rounds.text)
+rounds_held {a = a} p g = (writes_then g.text g.rounds.rounds.text a g.held g.rounds.held g.begun_run g.rounds.mid_run g.writes g.rounds.rounds.writes).written
+
+rounds_gone : {Own : Type 0} {Tells : Type 0} {accepts : List TableView → Bool} {allows : List Place → Bool} {fault : Fault} {a b : Option (List ℕ)} {first stop seen : Seen Own} (p : Supposed Tells accepts allows first stop seen) (g : CutGoing Tells accepts fault a b first stop engine_at_first) → Conforming g.rounds.mid → GoneSoFar allows true 0 (g.text ++ g.rounds.rounds.text) first g.rounds.mid engine_at_first (engine_of g.rounds.mid_run)
+rounds_gone {allows = allows} {first = first} p g keeps =
+    gone-rounds allows g.rounds.number g.text g.rounds.rounds.text first g.begun g.rounds.mid engine_at_first (engine_of g.begun_run) (engine_of g.rounds.mid_run) (begun_moved p g keeps) (rounds_moved p g keeps)
+
+-- a batch more
+batch_gone : {Own : Type 0} {Tells : Type 0} {accepts : List TableView → Bool} {allows : List Place → Bool} {fault : Fault} {a b : Option (List ℕ)} {first stop seen : Seen Own} (p : Supposed Tells accepts allows first stop seen) (g : CutGoing Tells accepts fault a b first stop engine_at_first) (rest : Rest) (behind : Seen Own) (e : Engine) → Conforming g.rounds.mid → Conforming behind → IsBatch Tells rest g.rounds.mid behind (engine_of g.rounds.mid_run) e → GoneSoFar allows true 0 (g.text ++ g.rounds.rounds.text) first behind engine_at_first e
+batch_gone {allows = allows} {first = first} p g rests.Idle behind e keeps_mid keeps batch =
+    gone-happens allows g.rounds.number g.text g.rounds.rounds.text first g.begun g.rounds.mid behind engine_at_first (engine_of g.begun_run) (engine_of g.rounds.mid_run) e (begun_moved p g keeps_mid) (rounds_moved p g keeps_mid)
+    (batch.happens p.told keeps (rounds_moved p g keeps_mid).moved.settled)
+batch_gone {allows = allows} {first = first} p g rests.End behind e keeps_mid keeps batch =
+    gone-still allows true 0 (g.text ++ g.rounds.rounds.text) first g.rounds.mid behind engine_at_first (engine_of g.rounds.mid_run) e (rounds_gone p g keeps_mid) (batch.over.moved p.told keeps (rounds_moved p g keeps_mid).moved.settled)
+
+-- and events behind it
+behind_gone : {Own : Type 0} {Tells : Type 0} {accepts : List TableView → Bool} {allows : List Place → Bool} {fault : Fault} {a b : Option (List ℕ)} {first stop seen : Seen Own} (p : Supposed Tells accepts allows first stop seen) (g : CutGoing Tells accepts fault a b first stop engine_at_first) (h : CutBehind Tells accepts fault g.rounds.held b g.rounds.mid stop g.rounds.mid_run) → Conforming h.mid → GoneSoFar allows true 0 (g.text ++ g.rounds.rounds.text) first h.mid engine_at_first (engine_of h.mid_run)
+behind_gone p g h keeps = batch_gone p g h.rest h.mid (engine_of h.mid_run) (Conforming-before p.told h.first keeps) keeps h.batch
+
+some_gone : {Own : Type 0} {Tells : Type 0} {accepts : List TableView → Bool} {allows : List Place → Bool} {fault : Fault} {a b : Option (List ℕ)} {first stop seen : Seen Own} (p : Supposed Tells accepts allows first stop seen) (g : CutGoing Tells accepts fault a b first stop engine_at_first) (h : CutBehind Tells accepts fault g.rounds.held b g.rounds.mid stop g.rounds.mid_run) → Conforming h.some.mid → GoneSoFar allows true h.some.number ((g.text ++ g.rounds.rounds.text) ++ h.some.some.text) first h.some.mid engine_at_first (engine_of h.some.mid_run)
+some_gone {allows = allows} {first = first} p g h keeps =
+    let before = behind_gone p g h (Conforming-before p.told h.some.on keeps) in
+    gone-more allows true h.some.number (g.text ++ g.rounds.rounds.text) h.some.some.text first h.mid h.some.mid engine_at_first (engine_of h.mid_run) (engine_of h.some.mid_run) before
+    (h.some.some.shown.moved allows p.told keeps p.judges before.moved.settled)
+
+some_held : {Own : Type 0} {Tells : Type 0} {accepts : List TableView → Bool} {allows : List Place → Bool} {fault : Fault} {a b : Option (List ℕ)} {first stop seen : Seen Own} (p : Supposed Tells accepts allows first stop seen) (g : CutGoing Tells accepts fault a b first stop engine_at_first) (h : CutBehind Tells accepts fault g.rounds.held b g.rounds.mid stop g.rounds.mid_run) → h.some.held ≡ append_known a ((g.text ++ g.rounds.rounds.text) ++ h.some.some.text)
+some_held {a = a} p g h =
+    h.some.some.writes.written ∙ ap (λ (o : Option (List ℕ)). append_known o h.some.some.text) (rounds_held p g) ∙ sym (append_known-append a (g.text ++ g.rounds.rounds.text) h.some.some.text)
+
+-- what came up to there was read
+rounds_on : {Own : Type 0} {Tells : Type 0} {accepts : List TableView → Bool} {allows : List Place → Bool} {fault : Fault} {a b : Option (List ℕ)} {first stop seen : Seen Own} (p : Supposed Tells accepts allows first stop seen) (g : CutGoing Tells accepts fault a b first stop engine_at_first) → Continues Tells first g.rounds.mid
+rounds_on {Tells = Tells} {first = first} p g = Continues-trans Tells first g.begun g.rounds.mid g.first g.rounds.on
+
+rounds_read : {Own : Type 0} {Tells : Type 0} {accepts : List TableView → Bool} {allows : List Place → Bool} {fault : Fault} {a b : Option (List ℕ)} {first stop seen : Seen Own} (p : Supposed Tells accepts allows first stop seen) (g : CutGoing Tells accepts fault a b first stop engine_at_first) → Reads Tells first g.rounds.mid net_at_first g.rounds.mid_run.net
+rounds_read {first = first} p g = reads_then first g.begun g.rounds.mid net_at_first g.begun_run.net g.rounds.mid_run.net g.first g.rounds.on g.starts_read g.rounds.reads
+
+some_on : {Own : Type 0} {Tells : Type 0} {accepts : List TableView → Bool} {allows : List Place → Bool} {fault : Fault} {a b : Option (List ℕ)} {first stop seen : Seen Own} (p : Supposed Tells accepts allows first stop seen) (g : CutGoing Tells accepts fault a b first stop engine_at_first) (h : CutBehind Tells accepts fault g.rounds.held b g.rounds.mid stop g.rounds.mid_run) → Continues Tells first h.some.mid
+some_on {Tells = Tells} {first = first} p g h = Continues-trans Tells first h.mid h.some.mid (Continues-trans Tells first g.rounds.mid h.mid (rounds_on p g) h.first) h.some.on
+
+some_read : {Own : Type 0} {Tells : Type 0} {accepts : List TableView → Bool} {allows : List Place → Bool} {fault : Fault} {a b : Option (List ℕ)} {first stop seen : Seen Own} (p : Supposed Tells accepts allows first stop seen) (g : CutGoing Tells accepts fault a b first stop engine_at_first) (h : CutBehind Tells accepts fault g.rounds.held b g.rounds.mid stop g.rounds.mid_run) → Reads Tells first h.some.mid net_at_first h.some.mid_run.net
+some_read {Tells = Tells} {first = first} p g h =
+    let behind = reads_then first g.rounds.mid h.mid net_at_first g.rounds.mid_run.net h.mid_run.net (rounds_on p g) h.first (rounds_read p g) h.reads in
+    reads_then first h.mid h.some.mid net_at_first h.mid_run.net h.some.mid_run.net (Continues-trans Tells first g.rounds.mid h.mid (rounds_on p g) h.first) h.some.on behind h.some.reads
+
+-- a fault ended what comes next, which leaves no quiescent point behind
+round_stop : {Own : Type 0} {Tells : Type 0} {accepts : List TableView → Bool} {allows : List Place → Bool} {fault : Fault} {a b : Option (List ℕ)} {first stop seen : Seen Own} (p : Supposed Tells accepts allows first stop seen) (g : CutGoing Tells accepts fault a b first stop engine_at_first) → StopsBatch Tells g.rounds.mid stop g.rounds.mid_run.net → IsStop Tells g.rounds.mid stop
+round_stop {first = first} {stop = stop} {seen = seen} p g stops = record {
+  on = g.rounds.later;
+  keeps = keeps_to first g.rounds.mid p.told p.opened (rounds_on p g) (rounds_read p g);
+  quiet = λ keeps order.
+      let calm = (rounds_gone p g keeps).moved.settled.calm in
+      (stops.here calm.kept).last p.told order (calm_rest g.rounds.mid g.rounds.mid_run.net keeps calm);
+  own = stops.own p.told;
+}
+
+some_stop : {Own : Type 0} {Tells : Type 0} {accepts : List TableView → Bool} {allows : List Place → Bool} {fault : Fault} {a b : Option (List ℕ)} {first stop seen : Seen Own} (p : Supposed Tells accepts allows first stop seen) (g : CutGoing Tells accepts fault a b first stop engine_at_first) (h : CutBehind Tells accepts fault g.rounds.held b g.rounds.mid stop g.rounds.mid_run) → AtMostThisPoint Tells h.some.mid stop → IsStop Tells h.some.mid stop
+some_stop {first = first} {stop = stop} {seen = seen} p g h here = record {
+  on = h.some.later;
+  keeps = keeps_to first h.some.mid p.told p.opened (some_on p g h) (some_read p g h);
+  quiet = λ keeps order. here.last p.told order (calm_rest h.some.mid h.some.mid_run.net keeps (some_gone p g h keeps).moved.settled.calm);
+  own = here.own p.told;
+}
+
+round_alike : {Own : Type 0} {Tells : Type 0} {accepts : List TableView → Bool} {allows : List Place → Bool} {fault : Fault} {a b : Option (List ℕ)} {first stop seen : Seen Own} (p : Supposed Tells accepts allows first stop seen) (g : CutGoing Tells accepts fault a b first stop engine_at_first) → NotWrite fault → CutRound Tells accepts fault g.rounds.held b g.rounds.mid stop g.rounds.mid_run → CutAlike allows seen a b
+round_alike {allows = allows} {fault = fault} {a = a} {b = b} {first = first} {stop = stop} {seen = seen} p g other (inl still) =
+    cut_at a b first stop seen p g.rounds.mid (round_stop p g still.2) (λ keeps. still.1.talks p.told (rounds_gone p g keeps).moved.settled.speaks.at_once) (λ keeps.
+    cut-so allows true 0 (g.text ++ g.rounds.rounds.text) a b first g.rounds.mid (engine_of g.rounds.mid_run) p.opened (rounds_gone p g keeps) (omega arith) keeps
+    (still_held fault g.rounds.held b still.0 ∙ rounds_held p g))
+round_alike {Tells = Tells} {accepts = accepts} {allows = allows} {fault = fault} {a = a} {b = b} {first = first} {stop = stop} {seen = seen} p g other (inr h) =
+    cut_at a b first stop seen p h.some.mid (some_stop p g h (one_here Tells accepts fault h.some.held b h.some.mid stop (engine_of h.some.mid_run) other h.some.one))
+    (λ keeps. (one_talks Tells accepts fault h.some.held b h.some.mid stop (engine_of h.some.mid_run) other h.some.one).talks p.told (some_gone p g h keeps).moved.settled.speaks) (λ keeps.
+    cut-so allows true h.some.number ((g.text ++ g.rounds.rounds.text) ++ h.some.some.text) a b first h.some.mid (engine_of h.some.mid_run) p.opened (some_gone p g h keeps) (omega (arith, h.some.few)) keeps
+    (one_held Tells accepts fault h.some.held b h.some.mid stop (engine_of h.some.mid_run) other h.some.one ∙ some_held p g h))
+
+round_writing : {Own : Type 0} {Tells : Type 0} {accepts : List TableView → Bool} {allows : List Place → Bool} {a b : Option (List ℕ)} {first stop seen : Seen Own} (p : Supposed Tells accepts allows first stop seen) (g : CutGoing Tells accepts faults.Write a b first stop engine_at_first) → CutRound Tells accepts faults.Write g.rounds.held b g.rounds.mid stop g.rounds.mid_run → CutWriting allows seen a b
+round_writing p g (inl still) = absurd still.0
+round_writing {allows = allows} {a = a} {b = b} {first = first} {stop = stop} {seen = seen} p g (inr h) =
+    let one = h.some.one in
+    let reads = reads_then first h.some.mid stop net_at_first h.some.mid_run.net one.now_engine.net (some_on p g h) h.some.later (some_read p g h) one.reads in
+    writing_at a b first stop seen p (keeps_to first stop p.told p.opened p.before reads) (λ keeps.
+    let gone = some_gone p g h (Conforming-before p.told h.some.later keeps) in
+    event-so allows h.some.number ((g.text ++ g.rounds.rounds.text) ++ h.some.some.text) one.more a b first h.some.mid stop (engine_of h.some.mid_run) one.now_engine p.opened gone
+    (one.shown.moved allows p.told keeps p.judges gone.moved.settled) h.some.few keeps
+    (subst (λ (held : Option (List ℕ)). TookPart held b one.more) (some_held p g h) one.part))
+
+-- ---- The end
+
+last_gone : {Own : Type 0} {Tells : Type 0} {accepts : List TableView → Bool} {allows : List Place → Bool} {fault : Fault} {a b : Option (List ℕ)} {first stop seen : Seen Own} (p : Supposed Tells accepts allows first stop seen) (n : CutEnding Tells accepts fault a b first stop engine_at_first) → Conforming n.last → GoneSoFar allows true 1000 (n.text ++ n.rounds.text) first n.last engine_at_first (engine_of n.last_run)
+last_gone {Tells = Tells} {accepts = accepts} {allows = allows} {first = first} {stop = stop} {seen = seen} p n keeps =
+    let later = Continues-trans Tells n.last stop seen n.later p.later in
+    gone-whole allows (n.text ++ n.rounds.text) first n.last engine_at_first (engine_of n.last_run)
+    ((whole-of Tells accepts most_rounds n.text n.rounds.text first n.begun n.last engine_at_first (engine_of n.begun_run) (engine_of n.last_run) n.on n.starts n.rounds.shown).whole_so allows p.told keeps p.judges (settled-first first p.opened)
+    (p.few n.last keeps later.given (later.told p.told)))
+
+last_held : {Own : Type 0} {Tells : Type 0} {accepts : List TableView → Bool} {allows : List Place → Bool} {fault : Fault} {a b : Option (List ℕ)} {first stop seen : Seen Own} (p : Supposed Tells accepts allows first stop seen) (n : CutEnding Tells accepts fault a b first stop engine_at_first) → n.last_held ≡ append_known a (n.text ++ n.rounds.text)
+last_held {a = a} p n = (writes_then n.text n.rounds.text a n.held n.last_held n.begun_run n.last_run n.writes n.rounds.writes).written
+
+last_on : {Own : Type 0} {Tells : Type 0} {accepts : List TableView → Bool} {allows : List Place → Bool} {fault : Fault} {a b : Option (List ℕ)} {first stop seen : Seen Own} (p : Supposed Tells accepts allows first stop seen) (n : CutEnding Tells accepts fault a b first stop engine_at_first) → Continues Tells first n.last
+last_on {Tells = Tells} {first = first} p n = Continues-trans Tells first n.begun n.last n.first n.on
+
+last_read : {Own : Type 0} {Tells : Type 0} {accepts : List TableView → Bool} {allows : List Place → Bool} {fault : Fault} {a b : Option (List ℕ)} {first stop seen : Seen Own} (p : Supposed Tells accepts allows first stop seen) (n : CutEnding Tells accepts fault a b first stop engine_at_first) → Reads Tells first n.last net_at_first n.last_run.net
+last_read {first = first} p n = reads_then first n.begun n.last net_at_first n.begun_run.net n.last_run.net n.first n.on n.starts_read n.rounds_read
+
+last_stop : {Own : Type 0} {Tells : Type 0} {accepts : List TableView → Bool} {allows : List Place → Bool} {fault : Fault} {a b : Option (List ℕ)} {first stop seen : Seen Own} (p : Supposed Tells accepts allows first stop seen) (n : CutEnding Tells accepts fault a b first stop engine_at_first) → NoPoint Tells n.last stop → IsStop Tells n.last stop
+last_stop {first = first} {stop = stop} {seen = seen} p n no_point = record {
+  on = n.later;
+  keeps = keeps_to first n.last p.told p.opened (last_on p n) (last_read p n);
+  quiet = λ keeps order. last_quiescent-of (no_point.none_quiescent p.told);
+  own = no_point.own p.told;
+}
+
+end_alike : {Own : Type 0} {Tells : Type 0} {accepts : List TableView → Bool} {allows : List Place → Bool} {fault : Fault} {a b : Option (List ℕ)} {first stop seen : Seen Own} (p : Supposed Tells accepts allows first stop seen) (n : CutEnding Tells accepts fault a b first stop engine_at_first) → NotWrite fault → CutAlike allows seen a b
+end_alike {Tells = Tells} {allows = allows} {fault = fault} {a = a} {b = b} {first = first} {stop = stop} {seen = seen} p n other =
+    cut_at a b first stop seen p n.last (last_stop p n (end_quietly Tells fault n.last_held b n.last stop (engine_of n.last_run) other n.ends))
+    (λ keeps. (end_talks Tells fault n.last_held b n.last stop (engine_of n.last_run) other n.ends).talks p.told (last_gone p n keeps).moved.settled.speaks.at_once) (λ keeps.
+    cut-so allows true 1000 (n.text ++ n.rounds.text) a b first n.last (engine_of n.last_run) p.opened (last_gone p n keeps) (omega arith) keeps
+    (end_held Tells fault n.last_held b n.last stop (engine_of n.last_run) other n.ends ∙ last_held p n))
+
+end_writing : {Own : Type 0} {Tells : Type 0} {accepts : List TableView → Bool} {allows : List Place → Bool} {a b : Option (List ℕ)} {first stop seen : Seen Own} (p : Supposed Tells accepts allows first stop seen) (n : CutEnding Tells accepts faults.Write a b first stop engine_at_first) → CutWriting allows seen a b
+end_writing {allows = allows} {a = a} {b = b} {first = first} {stop = stop} {seen = seen} p n =
+    let cut = n.ends in
+    let reads = reads_then first n.last stop net_at_first n.last_run.net cut.now_net (last_on p n) n.later (last_read p n) cut.reads in
+    writing_at a b first stop seen p (keeps_to first stop p.told p.opened p.before reads) (λ keeps.
+    let gone = last_gone p n (Conforming-before p.told n.later keeps) in
+    let shown = cut.shown p.told keeps gone.moved.settled.calm in
+    end-so allows (n.text ++ n.rounds.text) cut.more a b first n.last stop (engine_of n.last_run) p.opened gone n.none_left shown.0 shown.1 keeps
+    (subst (λ (held : Option (List ℕ)). TookPart held b cut.more) (last_held p n) cut.part))
+
+-- ---- All of it
+
+goes_alike : {Own : Type 0} {Tells : Type 0} {accepts : List TableView → Bool} {allows : List Place → Bool} {fault : Fault} {a b : Option (List ℕ)} {first stop seen : Seen Own} (p : Supposed Tells accepts allows first stop seen) → NotWrite fault → CutGoes Tells accepts fault a b first stop engine_at_first → CutAlike allows seen a b
+goes_alike {Tells = Tells} {fault = fault} {a = a} {b = b} {first = first} {stop = stop} p other (inl cut) = start_alike p (start_held Tells fault a b first stop engine_at_first other cut) (start_talks Tells fault a b first stop engine_at_first other cut) (start_quietly Tells fault a b first stop engine_at_first other cut)
+goes_alike p other (inr (inl g)) = round_alike p g other g.rounds.round
+goes_alike p other (inr (inr n)) = end_alike p n other
+
+goes_writing : {Own : Type 0} {Tells : Type 0} {accepts : List TableView → Bool} {allows : List Place → Bool} {a b : Option (List ℕ)} {first stop seen : Seen Own} (p : Supposed Tells accepts allows first stop seen) → CutGoes Tells accepts faults.Write a b first stop engine_at_first → CutWriting allows seen a b
+goes_writing p (inl cut) = start_writing p cut
+goes_writing p (inr (inl g)) = round_writing p g g.rounds.round
+goes_writing p (inr (inr n)) = end_writing p n
+
+by_fault : {Own : Type 0} {Tells : Type 0} {accepts : List TableView → Bool} {allows : List Place → Bool} {a b : Option (List ℕ)} {first stop seen : Seen Own} (fault : Fault) (p : Supposed Tells accepts allows first stop seen) → CutGoes Tells accepts fault a b first stop engine_at_first
+    → IsCut allows seen a b (served_by fault)
+by_fault faults.Write p goes = goes_writing p goes
+by_fault faults.Next p goes = goes_alike p tt goes
+by_fault (faults.Txn fault) p goes = goes_alike p tt goes
+by_fault faults.NoMemory p goes = inl (goes_alike p tt goes)
+
+-- Of a world that was opened, however far it keeps its word.
+pub so_cut : {Own : Type 0} (Tells : Type 0) (accepts : List TableView → Bool) (allows : List Place → Bool) (end : Served) (a b : Option (List ℕ)) (old first seen : Seen Own) → PremiseSoFar Tells accepts allows old seen → IsOpened first
+    → Continues Tells first seen → CutRun Tells accepts end a b first seen engine_at_first → IsCut allows seen a b end
+so_cut Tells accepts allows end a b old first seen premise opened whole cut =
+    let p : Supposed Tells accepts allows first cut.stop seen = record { told = premise.told; judges = premise.judges; opened = opened; few = premise.few; whole = whole; before = cut.before; later = cut.later; talks = cut.talks; no_point = cut.no_point } in
+    subst (IsCut allows seen a b) (sym cut.is) (by_fault cut.fault p cut.goes)

@@ -1,0 +1,187 @@
+-- Laws of what a batch keeps of a world that tells in order: each part of it, and what follows of them.
+use Rattle.std.specs.Prelude.{◌≡◌, ◌⊎◌, ℕ, true, List, [], Option, Some, None, Result, Ok, IsSome, take, drop, refl}
+use Rattle.std.proofs.Common.{sym, ap, ◌∙◌, subst, inl, inr}
+use Rattle.app_frames.specs.declared.frame.Event.{Event}
+use Rattle.outside.specs.declared.item.Item.{Item}
+use Rattle.outside.specs.declared.item.Item.TheVariants as items
+use Rattle.outside.specs.declared.step.WorldStep.{WorldStep}
+use Rattle.outside.specs.declared.step.WorldStep.TheVariants.{Joined}
+use Rattle.outside.specs.Seen.{Seen, Continues}
+use Rattle.outside.specs.laws.SeenLaws.{Nexts-continues}
+use Rattle.outside.specs.State.{state}
+use Rattle.outside.specs.Calls.{Nexts, item_step}
+use Rattle.outside.specs.InOrder.{InOrder}
+use Rattle.outside.specs.laws.InOrderLaws.{InOrder-before, messages-none, messages-then}
+use Rattle.outside.specs.Quiescence.{IsLastQuiescent}
+use Rattle.outside.specs.laws.QuiescenceLaws.{none_since-then, last_quiescent-then}
+use Rattle.lego_model.specs.declared.fault.TxnFault.{TxnFault}
+use Rattle.net_txn.specs.Net.{NetState}
+use Rattle.net_txn.specs.Views.{rows_at}
+use Rattle.net_txn.specs.LinkSteps.{OnLinks, MakesNoStrayCall, AsksWithoutStrays}
+use Rattle.net_txn.specs.laws.LinkStepLaws.{OnLinks-refl, OnLinks-trans}
+use Rattle.net_txn.specs.laws.LinkStrayLaws.{no_strays_none, no_strays_then}
+use Rattle.net_txn.specs.Arriving.{Arrives}
+use Rattle.net_txn.specs.laws.AgreeLaws.{viewed}
+use Rattle.net_txn.specs.laws.AbreastLaws.{links-begun, links-none_quiescent, arrives_abreast}
+use Rattle.net_txn.specs.laws.ReadLaws.{arrives_read}
+use Rattle.app_visor.specs.CallsFor.{CallsFor}
+use Rattle.lego_model.specs.Application.{index}
+use Rattle.batch_laws.specs.Items.{Handles}
+use Rattle.event_dispatch.specs.declared.batch.Rest.{Rest}
+use Rattle.event_dispatch.specs.declared.run.Run.{Run}
+use Rattle.event_dispatch.specs.Runs.{AreRead, Waits}
+use Rattle.event_dispatch.specs.Batch.{rest_by}
+use Rattle.event_dispatch.specs.laws.BatchLaws.{joined_step, rest_handles}
+use Rattle.event_dispatch.specs.laws.KeptLaws.{read_rest, read_same}
+use Rattle.event_dispatch.specs.Steady.{NoStray, Reads, NothingUnderWay, AtMostThisPoint}
+use Rattle.event_dispatch.specs.laws.SteadyLaws.{reads_as, places_then, reads_then, quietly_here, calls_then}
+use Rattle.event_dispatch.specs.Told.{OnlyMessages, NoStrayAtItem, CatchesUp, NextPoint, GoesBegun, BatchPoint}
+use Rattle.event_dispatch.specs.laws.AbreastItemLaws.{next_tells}
+use Rattle.event_dispatch.specs.laws.NextPointLaws.{next_in_place, next_messages, next_still, next_anew}
+use Rattle.event_dispatch.specs.laws.CatchUpLaws.{caught_up}
+use Rattle.event_dispatch.specs.laws.DispatchStrayLaws.{links_quietly}
+
+-- ---- Links
+
+pub links_none : {Own : Type 0} (Tells : Type 0) (seen : Seen Own) → OnLinks Tells seen seen
+links_none Tells seen = OnLinks-refl Tells seen
+
+pub links_then : {Own : Type 0} (Tells : Type 0) (a b c : Seen Own) → OnLinks Tells a b → OnLinks Tells b c → OnLinks Tells a c
+links_then Tells a b c first second = OnLinks-trans Tells a b c first second
+
+links_own : {Own : Type 0} {Tells : Type 0} {old new : Seen Own} → OnLinks Tells old new → Tells → CallsFor index old new
+links_own links told = (links_quietly links).own told
+
+pub only_none : {Own : Type 0} (Tells : Type 0) (seen : Seen Own) → OnlyMessages Tells seen seen
+only_none Tells seen = record { read = λ told. messages-none seen }
+
+-- ---- A message of a switch that has a view
+
+pub arrived_places : {Own : Type 0} (Tells : Type 0) (d : ℕ) (frame : List ℕ) (old new : Seen Own) (net now_net : NetState) (result : Result (Option Event) TxnFault) → IsSome (rows_at d net.views) → Arrives Tells d frame old new net now_net result → NoStray Tells old new net
+arrived_places Tells d frame old new net now_net result known arrives = record {
+  places = λ told order abreast. arrives.no_strays told order (abreast.joined d ∙ viewed d net.views ∙ known);
+}
+
+pub arrived_reads : {Own : Type 0} (Tells : Type 0) (d : ℕ) (frame : List ℕ) (old new : Seen Own) (net now_net : NetState) (event : Option Event) → Arrives Tells d frame old new net now_net (Ok event) → Reads Tells old new net now_net
+arrived_reads Tells d frame old new net now_net event arrives = record {
+  abreast = λ told order abreast. arrives_abreast arrives told abreast;
+  read = λ told order abreast. arrives_read arrives refl told;
+}
+
+pub arrived_only : {Own : Type 0} (Tells : Type 0) (d : ℕ) (frame : List ℕ) (old new : Seen Own) (net now_net : NetState) (event : Option Event) → Arrives Tells d frame old new net now_net (Ok event) → OnlyMessages Tells old new
+arrived_only Tells d frame old new net now_net event arrives = record { read = λ told. arrives_read arrives refl told }
+
+-- ---- Messages that were kept: one was taken out of what is kept, and handled
+
+abbrev WithoutFirst : NetState → NetState → Type 0
+WithoutFirst mid_net taken_net = taken_net ≡ record mid_net { kept = drop 1 mid_net.kept }
+
+same_views : (mid_net taken_net : NetState) → WithoutFirst mid_net taken_net → taken_net.views ≡ mid_net.views
+same_views mid_net taken_net taken = ap (λ (n : NetState). n.views) taken
+
+pub taken_read : (mid_net taken_net : NetState) → WithoutFirst mid_net taken_net → AreRead mid_net.kept → AreRead taken_net.kept
+taken_read mid_net taken_net taken read = read_same (record mid_net { kept = drop 1 mid_net.kept }) taken_net taken (read_rest mid_net.kept read)
+
+pub taken_waits : (run mid later : Run) (taken_net : NetState) → WithoutFirst mid.net taken_net → Waits run mid → Waits (record mid { net = taken_net }) later → Waits run later
+taken_waits run mid later taken_net taken first second = record {
+  room = second.room ∙ ap (λ (n : NetState). n.room) taken ∙ first.room;
+  events = second.events ∙ first.events;
+  done = second.done ∙ first.done;
+  failed = second.failed ∙ first.failed;
+}
+
+pub taken_places : {Own : Type 0} (Tells : Type 0) (old now new : Seen Own) (net mid_net taken_net : NetState) → WithoutFirst mid_net taken_net → Continues Tells old now → Continues Tells now new → NoStray Tells old now net → Reads Tells old now net mid_net → NoStray Tells now new taken_net
+    → NoStray Tells old new net
+taken_places Tells old now new net mid_net taken_net taken before later first so_far second = places_then old now new net taken_net before later first (reads_as Tells old now net mid_net taken_net (same_views mid_net taken_net taken) so_far) second
+
+pub taken_reads : {Own : Type 0} (Tells : Type 0) (old now new : Seen Own) (net mid_net taken_net now_net : NetState) → WithoutFirst mid_net taken_net → Continues Tells old now → Continues Tells now new → Reads Tells old now net mid_net → Reads Tells now new taken_net now_net
+    → Reads Tells old new net now_net
+taken_reads Tells old now new net mid_net taken_net now_net taken before later first second = reads_then old now new net taken_net now_net before later (reads_as Tells old now net mid_net taken_net (same_views mid_net taken_net taken) first) second
+
+-- ---- An item
+
+pub puts_none : {Own : Type 0} (Tells : Type 0) (step : WorldStep) (seen : Seen Own) (net : NetState) → NoStrayAtItem Tells step seen seen net
+puts_none Tells step seen net = record { places = λ told order at. no_strays_none seen }
+
+pub joined_puts : {Own : Type 0} (Tells : Type 0) (d : ℕ) (bytes : List ℕ) (old new : Seen Own) (net : NetState) → AsksWithoutStrays Tells d old new → NoStrayAtItem Tells (Joined d bytes) old new net
+joined_puts Tells d bytes old new net asks = record { places = λ told order at. asks told order at.told_of.0 }
+
+pub from_puts : {Own : Type 0} (Tells : Type 0) (item : Item) (d n : ℕ) (buf : List ℕ) (old new : Seen Own) (net : NetState) → item ≡ items.From d n → NoStray Tells old new net → NoStrayAtItem Tells (item_step item buf) old new net
+unfolding item_step
+from_puts Tells item d n buf old new net is places = rw is (record { places = λ told order at. places.places told order (record { joined = λ e. at.others e refl; none_due = at.none_due }) })
+
+pub joined_item : {Own : Type 0} (Tells : Type 0) (item : Item) (d n : ℕ) (buf : List ℕ) (old new : Seen Own) (net : NetState) → item ≡ items.Joined d n → NoStrayAtItem Tells (Joined d (take n buf)) old new net → NoStrayAtItem Tells (item_step item buf) old new net
+joined_item Tells item d n buf old new net is puts = subst (λ (step : WorldStep). NoStrayAtItem Tells step old new net) (joined_step item d n buf is) puts
+
+-- ---- What is told next
+
+pub next_places : {Own : Type 0} (Tells : Type 0) (old new : Seen Own) (net : NetState) → (Tells → MakesNoStrayCall old new) → NoStray Tells old new net
+next_places Tells old new net places = record { places = λ told order abreast. places told }
+
+pub handled_places : {Own : Type 0} (Tells : Type 0) (item : Item) (buf : List ℕ) (old mid new : Seen Own) (net : NetState) → Nexts Tells old mid (Ok item) buf → Continues Tells mid new → NoStrayAtItem Tells (item_step item buf) mid new net → NoStray Tells old new net
+handled_places Tells item buf old mid new net call later puts = record {
+  places = λ told order abreast.
+      let so_far = InOrder-before told later order in
+      no_strays_then old mid new told (Nexts-continues call) later (next_in_place call told) (puts.places told order (next_tells net call told so_far abreast));
+}
+
+next_reads : {Own : Type 0} (Tells : Type 0) (item : Item) (buf : List ℕ) (old mid new : Seen Own) (net now_net : NetState) → Nexts Tells old mid (Ok item) buf → Continues Tells mid new → CatchesUp Tells (item_step item buf) mid new net now_net → Reads Tells old new net now_net
+next_reads Tells item buf old mid new net now_net call later catches = record {
+  abreast = λ told order abreast. catches.abreast told order (next_tells net call told (InOrder-before told later order) abreast);
+  read = λ told order abreast.
+      let at = next_tells net call told (InOrder-before told later order) abreast in
+      messages-then old mid new told (Nexts-continues call) later (next_messages call told (catches.item told order at)) (catches.read told);
+}
+
+pub handled_reads : {Own : Type 0} (Tells : Type 0) (item : Item) (buf : List ℕ) (old mid new : Seen Own) (net now_net : NetState) (queue now_queue : List Event) → Nexts Tells old mid (Ok item) buf → Handles Tells (item_step item buf) mid new net now_net queue now_queue
+    → OnLinks Tells mid new → OnlyMessages Tells mid new → Reads Tells old new net now_net
+handled_reads Tells item buf old mid new net now_net queue now_queue call handles links only = next_reads Tells item buf old mid new net now_net call handles.continues (caught_up item buf handles links only.read)
+
+-- the batch is over
+pub over_reads : {Own : Type 0} (Tells : Type 0) (item : Item) (buf : List ℕ) (old mid : Seen Own) (net : NetState) → (item ≡ items.Idle) ⊎ (item ≡ items.End) → Nexts Tells old mid (Ok item) buf → Reads Tells old mid net net
+over_reads Tells item buf old mid net over call =
+    handled_reads Tells item buf old mid mid net net [] [] call (rest_handles item buf mid net [] over) (links_none Tells mid) (only_none Tells mid)
+
+pub handled_quietly : {Own : Type 0} (Tells : Type 0) (old mid new : Seen Own) → Continues Tells mid new → NextPoint Tells old mid → OnLinks Tells mid new → NextPoint Tells old new
+handled_quietly Tells old mid new later next links = record {
+  last = λ told. last_quiescent-then (next.last told) (links-none_quiescent (links told));
+  none_quiescent = λ told order is. none_since-then (next.none_quiescent told (InOrder-before told later order) is) (links-none_quiescent (links told));
+  own = λ told. calls_then (next.own told) (links_own links told);
+}
+
+pub over_begun : {Own : Type 0} (Tells : Type 0) (rest : Rest) (old new : Seen Own) → GoesBegun Tells (Some rest) old new
+over_begun Tells rest old new = record { still = λ told none is. absurd cc; anew = λ told order none at. absurd cc }
+
+pub goes_begun : {Own : Type 0} (Tells : Type 0) (item : Item) (buf : List ℕ) (old mid new : Seen Own) → Nexts Tells old mid (Ok item) buf → Continues Tells mid new → OnLinks Tells mid new → None ≡ rest_by item → GoesBegun Tells None old new
+goes_begun Tells item buf old mid new call later links goes = record {
+  still = λ told none is. links-begun later (links told) ∙ next_still call told goes is;
+  anew = λ told order none at. links-begun later (links told) ∙ next_anew call told (InOrder-before told later order) goes at;
+}
+
+-- ---- A batch
+
+-- behind what was done so far
+last_by : {Own : Type 0} {Tells : Type 0} (old now new : Seen Own) → Tells → InOrder new → NextPoint Tells now new → (now ≡ old) ⊎ (((state now).begun ≡ true) × IsLastQuiescent old now) → IsLastQuiescent old new
+last_by old now new told order next (inl same) = subst (λ (x : Seen _). IsLastQuiescent x new) same (next.last told)
+last_by old now new told order next (inr some) = last_quiescent-then some.1 (next.none_quiescent told order some.0)
+
+begun_by : {Own : Type 0} {Tells : Type 0} (old now new : Seen Own) → Tells → InOrder new → NothingUnderWay (state old) → GoesBegun Tells None now new → (now ≡ old) ⊎ (((state now).begun ≡ true) × IsLastQuiescent old now) → (state new).begun ≡ true
+begun_by old now new told order rest goes (inl same) = goes.anew told order refl (subst (λ (x : Seen _). NothingUnderWay (state x)) (sym same) rest)
+begun_by old now new told order rest goes (inr some) = goes.still told refl some.0
+
+pub here_goes : {Own : Type 0} {Tells : Type 0} (old now new : Seen Own) (net : NetState) → Continues Tells now new → BatchPoint Tells old now net → NextPoint Tells now new → GoesBegun Tells None now new → BatchPoint Tells old new net
+here_goes old now new net later so_far next goes = record {
+  here = λ told order rest none.
+      let before = so_far.here told (InOrder-before told later order) rest none in
+      inr (begun_by old now new told order rest goes before, last_by old now new told order next before);
+  own = λ told. calls_then (so_far.own told) (next.own told);
+}
+
+pub here_ends : {Own : Type 0} {Tells : Type 0} (old now new : Seen Own) (net : NetState) → Continues Tells now new → BatchPoint Tells old now net → NextPoint Tells now new → net.kept ≡ [] → AtMostThisPoint Tells old new
+here_ends old now new net later so_far next none = record {
+  last = λ told order rest. last_by old now new told order next (so_far.here told (InOrder-before told later order) rest none);
+  own = λ told. calls_then (so_far.own told) (next.own told);
+}
+
+pub here_kept : {Own : Type 0} {Tells : Type 0} (old new : Seen Own) → OnLinks Tells old new → AtMostThisPoint Tells old new
+here_kept old new links = quietly_here (links_quietly links)

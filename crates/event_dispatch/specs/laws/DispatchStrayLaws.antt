@@ -1,0 +1,143 @@
+-- Laws of what turns, starts and questions for rows keep of a world that tells in order.
+use Rattle.std.specs.Prelude.{◌≡◌, ℕ, Bool, List, IsSome, Result, Ok, refl, ◌∷◌}
+use Rattle.std.proofs.Common.{sym, ap, ◌∙◌, subst}
+use Rattle.flow_table.specs.declared.view.TableView.{TableView}
+use Rattle.of_stats.specs.declared.flow_row.FlowRow.{FlowRow}
+use Rattle.app_frames.specs.declared.frame.Event.{Event}
+use Rattle.outside.specs.Seen.{Seen, Continues}
+use Rattle.outside.specs.State.{state}
+use Rattle.outside.specs.InOrder.{MessagesSince}
+use Rattle.outside.specs.laws.InOrderLaws.{InOrder-before, messages-then}
+use Rattle.lego_model.specs.declared.fault.TxnFault.{TxnFault}
+use Rattle.net_txn.specs.Net.{NetState}
+use Rattle.net_txn.specs.Views.{rows_at}
+use Rattle.net_txn.specs.LinkSteps.{OnLinks}
+use Rattle.net_txn.specs.laws.LinkStrayLaws.{no_strays_then}
+use Rattle.net_txn.specs.Asks.{Asks}
+use Rattle.net_txn.specs.Undos.{AreJoined, Undoes}
+use Rattle.net_txn.specs.Abreast.{Abreast}
+use Rattle.net_txn.specs.laws.AbreastLaws.{asks_abreast, undoes_abreast}
+use Rattle.app_visor.specs.declared.state.TurnEnd.{TurnEnd}
+use Rattle.app_visor.specs.declared.state.TurnEnd.TheVariants as ends
+use Rattle.app_visor.specs.Talks.{give_act}
+use Rattle.app_visor.specs.Beats.{Talk, Stops}
+use Rattle.app_visor.specs.laws.BeatLaws.{Chain-continues, Stops-continues}
+use Rattle.app_visor.specs.Turns.{Turns}
+use Rattle.app_visor.specs.CallsFor.{CallsFor, OwnSteps, CalmLater}
+use Rattle.app_visor.specs.laws.OwnLaws.{own_calls, own_none_quiescent}
+use Rattle.app_visor.specs.laws.CalmLaws.{calm_links, later_then}
+use Rattle.app_visor.specs.laws.CallOrderLaws.{own_places, own_messages, own_abreast, abreast_joined, turn_abreast, turn_places, turn_messages, stops_abreast, stops_places}
+use Rattle.lego_model.specs.Application.{index}
+use Rattle.event_dispatch.specs.Serves.{PlaysTurn}
+use Rattle.event_dispatch.specs.Steady.{NoStray, Reads, NoPoint, AtMostThisPoint}
+use Rattle.event_dispatch.specs.laws.SteadyLaws.{abreast_as}
+
+-- ---- The same views
+
+pub places_as : {Own : Type 0} {Tells : Type 0} {old new : Seen Own} (net now_net : NetState) → now_net.views ≡ net.views → NoStray Tells old new now_net → NoStray Tells old new net
+places_as {old = old} net now_net same all = record { places = λ told order abreast. all.places told order (abreast_as old net now_net same abreast) }
+
+pub reads_over : {Own : Type 0} {Tells : Type 0} {old new : Seen Own} (net mid_net at_net now_net : NetState) → mid_net.views ≡ net.views → now_net.views ≡ at_net.views → Reads Tells old new mid_net at_net → Reads Tells old new net now_net
+reads_over {old = old} {new = new} net mid_net at_net now_net before after all = record {
+  abreast = λ told order abreast. abreast_as new at_net now_net after (all.abreast told order (abreast_as old net mid_net before abreast));
+  read = λ told order abreast. all.read told order (abreast_as old net mid_net before abreast);
+}
+
+-- ---- Links were used
+
+pub links_quietly : {Own : Type 0} {Tells : Type 0} {old new : Seen Own} → OnLinks Tells old new → NoPoint Tells old new
+links_quietly links = record { none_quiescent = λ told. (calm_links index (links told)).none_quiescent; own = λ told. (calm_links index (links told)).own }
+
+pub asked_places : {Own : Type 0} {Tells : Type 0} {d xid : ℕ} {old new : Seen Own} {kept now_kept : List (ℕ × List ℕ)} {result : Result (List FlowRow) TxnFault} (net : NetState) → IsSome (rows_at d net.views) → Asks Tells d xid old new kept now_kept result → NoStray Tells old new net
+asked_places {d = d} net there asks = record { places = λ told order abreast. asks.no_strays told order (abreast_joined d abreast there) }
+
+pub asked_reads : {Own : Type 0} {Tells : Type 0} {d xid : ℕ} {old new : Seen Own} {kept now_kept : List (ℕ × List ℕ)} {rows : List FlowRow} (net now_net : NetState) → now_net.views ≡ net.views → Asks Tells d xid old new kept now_kept (Ok rows) → Reads Tells old new net now_net
+asked_reads net now_net views asks = record {
+  abreast = λ told order abreast. asks_abreast net now_net asks.continues (asks.links told) views abreast;
+  read = λ told order abreast. asks.read refl told;
+}
+
+-- ---- Attempts to start
+
+pub started_quietly : {Own : Type 0} {Tells : Type 0} {old new : Seen Own} (app : ℕ) → app ≡ index → (Tells → OwnSteps app old new) → NoPoint Tells old new
+started_quietly {old = old} {new = new} app is own = record {
+  none_quiescent = λ told. own_none_quiescent (own told);
+  own = λ told. subst (λ (i : ℕ). CallsFor i old new) is (own_calls (own told));
+}
+
+pub started_places : {Own : Type 0} {Tells : Type 0} {old new : Seen Own} (app : ℕ) (net : NetState) → (Tells → OwnSteps app old new) → NoStray Tells old new net
+started_places app net own = record { places = λ told order abreast. own_places (own told) }
+
+pub started_reads : {Own : Type 0} {Tells : Type 0} {old new : Seen Own} (app : ℕ) (net now_net : NetState) → now_net.views ≡ net.views → Continues Tells old new → (Tells → OwnSteps app old new) → Reads Tells old new net now_net
+started_reads {new = new} app net now_net views continues own = record {
+  abreast = λ told order abreast. abreast_as new net now_net views (own_abreast net continues (own told) abreast);
+  read = λ told order abreast. own_messages (own told);
+}
+
+-- ---- No quiescent point behind the one where a turn began
+
+pub later_same : {Own : Type 0} {Tells : Type 0} {app : ℕ} {old mid : Seen Own} (new : Seen Own) → new ≡ mid → (Tells → CalmLater app old mid) → Tells → CalmLater app old new
+later_same {app = app} {old = old} new same later told = subst (λ (s : Seen _). CalmLater app old s) (sym same) (later told)
+
+pub later_undone : {Own : Type 0} {Tells : Type 0} {app : ℕ} {old mid new : Seen Own} → (Tells → CalmLater app old mid) → OnLinks Tells mid new → Tells → CalmLater app old new
+later_undone {app = app} later links told = later_then (later told) (calm_links app (links told))
+
+pub later_of : {Own : Type 0} {Tells : Type 0} {old new : Seen Own} (app : ℕ) → app ≡ index → (Tells → CalmLater app old new) → Tells → CalmLater index old new
+later_of {old = old} {new = new} app is later told = subst (λ (i : ℕ). CalmLater i old new) is (later told)
+
+pub later_quietly : {Own : Type 0} {Tells : Type 0} {old mid new : Seen Own} (app : ℕ) → app ≡ index → (Tells → CalmLater app old mid) → NoPoint Tells mid new → Tells → CalmLater index old new
+later_quietly app is later no_point told = later_then (later_of app is later told) (record { none_quiescent = no_point.none_quiescent told; own = no_point.own told })
+
+pub later_here : {Own : Type 0} {Tells : Type 0} {old new : Seen Own} → (Tells → CalmLater index old new) → AtMostThisPoint Tells old new
+later_here later = record { last = λ told order rest. (later told).last; own = λ told. (later told).own }
+
+-- ---- A turn, and its undo
+
+turn_continues : {Own : Type 0} {Tells : Type 0} {accepts : List TableView → Bool} {app budget : ℕ} {rest frame unread : List ℕ} {old new : Seen Own} {net now_net : NetState} {end : TurnEnd} → Turns Tells accepts app budget rest frame old new net now_net end unread → Continues Tells old new
+turn_continues {Tells = Tells} {app = app} {frame = frame} {old = old} {new = new} {net = net} {now_net = now_net} t = Chain-continues Tells app (Talk (give_act t.given app frame) ∷ t.trace) old new net now_net t.chain
+
+abreast_all : {Own : Type 0} {seen : Seen Own} {net : NetState} → Abreast seen net → AreJoined net.views (state seen)
+abreast_all abreast d there = abreast.joined d ∙ there
+
+-- it was played, and its changes stay
+pub turn_kept : {Own : Type 0} {Tells : Type 0} {accepts : List TableView → Bool} {app budget : ℕ} {rest frame unread : List ℕ} {old mid : Seen Own} {at_net now_net : NetState} {end : TurnEnd} (net : NetState) (new : Seen Own) → at_net ≡ net → new ≡ mid
+    → Turns Tells accepts app budget rest frame old mid at_net now_net end unread → NoStray Tells old new net
+turn_kept {Tells = Tells} {old = old} {at_net = at_net} net new begun same t = subst (λ (n : NetState). NoStray Tells old new n) begun
+    (subst (λ (s : Seen _). NoStray Tells old s at_net) (sym same) (record { places = λ told order abreast. turn_places t told order abreast }))
+
+-- it was played, and an undo followed
+pub turn_undone : {Own : Type 0} {Tells : Type 0} {accepts : List TableView → Bool} {app budget start : ℕ} {rest frame unread : List ℕ} {old mid new : Seen Own} {at_net mid_net now_net : NetState} {end : TurnEnd} {result : Result (Unit {0}) TxnFault} (net : NetState) → at_net ≡ net
+    → Turns Tells accepts app budget rest frame old mid at_net mid_net end unread → Undoes Tells start mid new mid_net now_net result → NoStray Tells old new net
+turn_undone {Tells = Tells} {old = old} {mid = mid} {new = new} net begun t undone = subst (λ (n : NetState). NoStray Tells old new n) begun (record {
+  places = λ told order abreast.
+      no_strays_then old mid new told (turn_continues t) undone.continues (turn_places t told (InOrder-before told undone.continues order) abreast)
+      (undone.no_strays told order (abreast_all (turn_abreast t told abreast)));
+})
+
+-- it stopped, and an undo followed
+pub stop_undone : {Own : Type 0} {Tells : Type 0} {app start : ℕ} {old mid new : Seen Own} {at_net mid_net now_net : NetState} {fault : TxnFault} {result : Result (Unit {0}) TxnFault} (net : NetState) → at_net ≡ net
+    → Stops Tells app old mid at_net mid_net fault → Undoes Tells start mid new mid_net now_net result → NoStray Tells old new net
+stop_undone {Tells = Tells} {old = old} {mid = mid} {new = new} net begun s undone = subst (λ (n : NetState). NoStray Tells old new n) begun (record {
+  places = λ told order abreast.
+      no_strays_then old mid new told (Stops-continues s) undone.continues (stops_places s told (InOrder-before told undone.continues order) abreast)
+      (undone.no_strays told order (abreast_all (stops_abreast s told abreast)));
+})
+
+pub played_places : {Own : Type 0} {Tells : Type 0} {accepts : List TableView → Bool} {app number : ℕ} {event : Event} {old new : Seen Own} {rest unread : List ℕ} (end : TurnEnd) (net now_net : NetState)
+    → PlaysTurn Tells accepts app number event end old new net now_net rest unread → NoStray Tells old new net
+played_places {new = new} (ends.Done stop) net now_net plays = turn_kept net new refl plays.played.0 plays.turns
+played_places (ends.Failed cause) net now_net plays = turn_undone net refl plays.turns plays.played
+
+pub played_reads : {Own : Type 0} {Tells : Type 0} {accepts : List TableView → Bool} {app number : ℕ} {event : Event} {old new : Seen Own} {rest unread : List ℕ} (end : TurnEnd) (net now_net : NetState)
+    → PlaysTurn Tells accepts app number event end old new net now_net rest unread → Reads Tells old new net now_net
+played_reads {Tells = Tells} {old = old} {new = new} (ends.Done stop) net now_net plays = record {
+  abreast = λ told order abreast.
+      subst (λ (s : Seen _). Abreast s now_net) (sym plays.played.0)
+      (abreast_as plays.mid plays.mid_net now_net (ap (λ (n : NetState). n.views) plays.played.1) (turn_abreast plays.turns told abreast));
+  read = λ told order abreast. subst (λ (s : Seen _). MessagesSince old s) (sym plays.played.0) (turn_messages plays.turns told);
+}
+played_reads {old = old} {new = new} (ends.Failed cause) net now_net plays = record {
+  abreast = λ told order abreast. undoes_abreast plays.played told (turn_abreast plays.turns told abreast);
+  read = λ told order abreast.
+      messages-then old plays.mid new told (turn_continues plays.turns) plays.played.continues (turn_messages plays.turns told) (plays.played.read refl told);
+}

@@ -1,0 +1,454 @@
+-- Each fault of the network has its cause in what happened.
+use Rattle.std.proofs.Common.{◌≡◌, ◌⊎◌, ◌==◌, ℕ, zero, suc, Bool, true, false, ◌&&◌, if◌then◌else◌, List, [], ◌∷◌, ◌++◌, length, Option, Some, None, Err, IsErr, slice_get, nat_le, refl, sym, ap, ◌∙◌, subst, append_assoc, arith, inl, inr, true≢false}
+use Rattle.std.specs.Prelude.{take}
+use Rattle.std.specs.List.{flat_map}
+use Rattle.std.proofs.lemmas.List.{append-nil}
+use Rattle.std.proofs.lemmas.Bool.{cases_Bool, eq-eqb, eqb-true}
+use Rattle.lego_io.specs.Count.{Rose}
+use Rattle.lego_io.specs.laws.CountLaws.{Rose-after}
+use Rattle.of_types.specs.Fields.{number_at}
+use Rattle.of_types.specs.declared.journal.Act.TheVariants.{Sent, Got}
+use Rattle.of_match.specs.declared.key.Key.{Key}
+use Rattle.of_wire.specs.declared.bodies.FlowMod.{FlowMod as Change}
+use Rattle.of_wire.specs.Reading.{reading_of}
+use Rattle.of_wire.specs.Spelling.{message_bytes}
+use Rattle.of_wire.specs.declared.message.Message.TheVariants.{FlowMod, StatsRequest, BarrierReply}
+use Rattle.app_frames.specs.declared.frame.Answer.{Answer}
+use Rattle.outside.specs.declared.step.WorldStep.{WorldStep}
+use Rattle.outside.specs.declared.step.WorldStep.TheVariants.{Acted, From}
+use Rattle.outside.specs.Seen.{Counts, Seen, Continues}
+use Rattle.lego_model.specs.declared.fault.TxnFault.{TxnFault}
+use Rattle.lego_model.specs.declared.fault.TxnFault.TheVariants.{SwitchFault, SwitchBroke, Diverged, Flooded, NoMemory}
+use Rattle.lego_model.specs.declared.wait.Awaited.{Awaited}
+use Rattle.lego_model.specs.declared.wait.Heard.{Heard}
+use Rattle.lego_model.specs.declared.wait.Heard.TheVariants.{Reply, Refused, Notice, Echo, Other}
+use Rattle.net_txn.specs.Net.{NetState, delete_strict, inverse_bytes}
+use Rattle.lego_model.specs.BarrierWaits.{next_xid, flood, heard, kept_by, kept_of, steps_by, heard_steps, wait_steps, barrier_sent, reply_got}
+use Rattle.net_txn.specs.Arriving.{IsArrivalCause}
+use Rattle.net_txn.specs.Causes.{EndsByGot, IsCause}
+use Rattle.net_txn.specs.Joining.{greeting, greeted_from}
+use Rattle.net_txn.specs.Waits.{Floods, IfFlooded}
+use Rattle.net_txn.specs.Changes.{known_rows, answer_of_host, change_sent, IfGivenUp, Changes}
+use Rattle.net_txn.specs.Asks.{IsRefusal, IsRepliesFault, IsAskCause, Asks}
+use Rattle.lego_model.specs.FlowQueries.{is_about, all_flows, flows_request, request_sent, asked_from, parts_in, refusals_in}
+use Rattle.net_txn.specs.Undos.{key_sent, key_refused, Part, Inverse, BarrierPassed, Stuck, part_steps, steps_of, parts_of, fault_in, first_fault_of, first_fault, inverses_of, IsFaultOf, IsRun, ended_by as undo_ended, Undoes}
+use Rattle.app_visor.specs.Beats.{Halts, Stops}
+use Rattle.app_visor.specs.laws.BeatLaws.{Leads-continues}
+use Rattle.switch_laws.specs.laws.AskedLaws.{asked}
+use Rattle.event_dispatch.specs.Why.{IsWhy, fault_of, ended_by, IsReason, WhyMessage}
+use Rattle.lego_model.specs.SwitchFaults.{Happened, CameFrom, SentThenGot, rows_steps, came_for, IsBadPart, IsUnanswered, IsErrorFor, IsFlood, IsWhyTxn}
+use Rattle.event_dispatch.specs.laws.WhyLaws.{happened_before, IsWhy-behind}
+
+-- ---- A flood
+
+-- too many messages behind what was sent and a barrier
+flood_of : {Own Tells : Type 0} (a : Awaited) (first : List WorldStep) (old new : Seen Own) → Floods Tells a (first ++ barrier_sent a ∷ []) old new → IsFlood Tells a.dpid flood old new
+flood_of a first old new f = record {
+  awaited = a;
+  of_switch = refl;
+  got = f.got;
+  many = f.many;
+  before_reply = f.before_reply;
+  told = λ told. record {
+    before = first;
+    behind = [];
+    told = f.told told ∙ ap (λ (xs : List WorldStep). old.history ++ xs) (append_assoc first (barrier_sent a ∷ []) (wait_steps a f.got))
+        ∙ ap (λ (xs : List WorldStep). old.history ++ (first ++ (barrier_sent a ∷ xs))) (sym (append-nil (wait_steps a f.got)));
+  };
+}
+
+-- what a fault of a call tells where it may be Flooded
+abbrev FloodSo : {Own : Type 0} → Type 0 → ℕ → Seen Own → Seen Own → TxnFault → Type 0
+FloodSo Tells d old new (Flooded of n) = IsFlood Tells d flood old new
+FloodSo Tells d old new (SwitchFault of) = Unit {0}
+FloodSo Tells d old new (SwitchBroke of bytes) = Unit {0}
+FloodSo Tells d old new (Diverged of sent got) = Unit {0}
+FloodSo Tells d old new NoMemory = Unit {0}
+
+-- ---- Any call
+
+got_last : (d : ℕ) (bytes : List ℕ) (old new : List WorldStep) → EndsByGot d bytes old new → CameFrom d bytes old new
+got_last d bytes old new last = inr (record { before = last.0; behind = []; told = last.1 })
+
+cause_why : {Own : Type 0} (Tells : Type 0) (d : ℕ) (old new : Seen Own) (fault : TxnFault) → IsCause Tells d old new fault → FloodSo Tells d old new fault → IsWhy Tells old new 0 0 (ended_by fault)
+cause_why Tells d old new (SwitchFault e) cause flooded = subst (λ (n : ℕ). Rose (old.counts.link_faults n) (new.counts.link_faults n)) (sym cause.0) cause.1
+cause_why Tells d old new (SwitchBroke e bytes) cause flooded =
+    subst (λ (n : ℕ). (Tells → CameFrom n bytes old.history new.history) × (IsErr (reading_of bytes) ⊎ IsBadPart Tells n bytes old new)) (sym cause.0) ((λ told. got_last d bytes old.history new.history (cause.2 told)), inl cause.1)
+cause_why Tells d old new (Diverged e sent got) cause flooded = absurd cause
+cause_why Tells d old new (Flooded e n) cause flooded =
+    subst (λ (x : ℕ). (n ≡ flood) × IsFlood Tells x n old new) (sym cause.0) (cause.1, subst (λ (m : ℕ). IsFlood Tells d m old new) (sym cause.1) flooded)
+cause_why Tells d old new NoMemory cause flooded = tt
+
+-- ---- A message that came of itself
+
+arrived_why : {Own Tells : Type 0} (d : ℕ) (frame : List ℕ) (before old new : Seen Own) (fault : TxnFault) → Continues Tells before old → Continues Tells old new → (IsErr (reading_of frame) → Tells → Happened (From d frame ∷ []) before.history old.history)
+    → IsArrivalCause d frame old new fault → IsWhy Tells before new 0 0 (ended_by fault)
+arrived_why d frame before old new (SwitchFault e) first later told cause =
+    subst (λ (n : ℕ). Rose (before.counts.link_faults n) (new.counts.link_faults n)) (sym cause.0) (Rose-after (before.counts.link_faults d) (old.counts.link_faults d) (new.counts.link_faults d) (first.none_fell.link_faults d) cause.1)
+arrived_why {Tells = Tells} d frame before old new (SwitchBroke e bytes) first later told cause =
+    let here : (Tells → CameFrom d frame before.history new.history) × (IsErr (reading_of frame) ⊎ IsBadPart Tells d frame before new) =
+    ((λ tells. inl (happened_before _ before.history old.history new.history (later.told tells) (told cause.2 tells))), inl cause.2) in
+    let there = subst (λ (n : ℕ). (Tells → CameFrom n frame before.history new.history) × (IsErr (reading_of frame) ⊎ IsBadPart Tells n frame before new)) (sym cause.0) here in
+    subst (λ (b : List ℕ). (Tells → CameFrom e b before.history new.history) × (IsErr (reading_of b) ⊎ IsBadPart Tells e b before new)) (sym cause.1) there
+arrived_why d frame before old new (Diverged e sent got) first later told cause = absurd cause
+arrived_why d frame before old new (Flooded e n) first later told cause = absurd cause
+arrived_why d frame before old new NoMemory first later told cause = tt
+
+pub arrival_why : {Own Tells : Type 0} (d : ℕ) (frame : List ℕ) (old new : Seen Own) (fault : TxnFault) → Continues Tells old new → IsArrivalCause d frame old new fault → WhyMessage Tells d frame old new (fault_of fault)
+arrival_why d frame old new fault later cause = record { why = λ before first told. arrived_why d frame before old new fault first later told cause }
+
+-- ---- A switch that joins
+
+join_flood : {Own : Type 0} (Tells : Type 0) (d xid : ℕ) (old new : Seen Own) (fault : TxnFault) → IfFlooded Tells (greeted_from d xid) (greeting d xid) old new fault → FloodSo Tells d old new fault
+join_flood Tells d xid old new (Flooded of n) f = flood_of (greeted_from d xid) (take 2 (greeting d xid)) old new f
+join_flood Tells d xid old new (SwitchFault of) f = tt
+join_flood Tells d xid old new (SwitchBroke of bytes) f = tt
+join_flood Tells d xid old new (Diverged of sent got) f = tt
+join_flood Tells d xid old new NoMemory f = tt
+
+pub join_why : {Own : Type 0} (Tells : Type 0) (d xid : ℕ) (old new : Seen Own) (fault : TxnFault) → IsCause Tells d old new fault → IfFlooded Tells (greeted_from d xid) (greeting d xid) old new fault → IsReason Tells old new 0 0 (fault_of fault)
+join_why Tells d xid old new fault cause flooded = cause_why Tells d old new fault cause (join_flood Tells d xid old new fault flooded)
+
+-- ---- A request of rows: what answers it are parts and errors, which came from the switch
+
+second_of : (p q : Bool) → (p && q) ≡ true → q ≡ true
+second_of true q h = h
+second_of false q h = absurd (true≢false (sym h))
+
+first_of : (p q : Bool) → (p && q) ≡ true → p ≡ true
+first_of true q h = refl
+first_of false q h = absurd (true≢false (sym h))
+
+about_kind : (xid kind : ℕ) (bytes : List ℕ) → is_about xid kind bytes ≡ true → number_at 1 1 bytes ≡ kind
+unfolding is_about
+about_kind xid kind bytes h =
+    eqb-true (number_at 1 1 bytes) kind (second_of (number_at 4 4 bytes == xid) (number_at 1 1 bytes == kind) (second_of (nat_le 12 (length bytes)) (number_at 4 4 bytes == xid && number_at 1 1 bytes == kind) h))
+
+about_xid : (xid kind : ℕ) (bytes : List ℕ) → is_about xid kind bytes ≡ true → number_at 4 4 bytes ≡ xid
+unfolding is_about
+about_xid xid kind bytes h =
+    eqb-true (number_at 4 4 bytes) xid (first_of (number_at 4 4 bytes == xid) (number_at 1 1 bytes == kind) (second_of (nat_le 12 (length bytes)) (number_at 4 4 bytes == xid && number_at 1 1 bytes == kind) h))
+
+-- those of one kind
+abbrev about_in : ℕ → ℕ → ℕ × List ℕ → List (List ℕ)
+about_in xid kind m = if is_about xid kind m.1 then m.1 ∷ [] else []
+
+-- a message that answers, and the steps around it
+record IsGot (d xid kind : ℕ) (bytes : List ℕ) (steps : List WorldStep) : Type 0 where
+  about : is_about xid kind bytes ≡ true
+  before : List WorldStep
+  behind : List WorldStep
+  steps_so : steps ≡ before ++ (Acted (Got d bytes) ∷ behind)
+
+abbrev StandsIn : ℕ → ℕ → List ℕ → List (ℕ × List ℕ) → Type 0
+StandsIn xid kind bytes came = (place : ℕ) × (slice_get (flat_map (about_in xid kind) came) place ≡ Some bytes)
+
+same_some : (a b : List ℕ) → Some a ≡ Some b → a ≡ b
+same_some a b h = cc
+
+-- it is this message, or stands among the others
+first_or : (xid kind : ℕ) (b : List ℕ) (rest : List (List ℕ)) (place : ℕ) (bytes : List ℕ) (is : Bool) → is_about xid kind b ≡ is → slice_get ((if is then b ∷ [] else []) ++ rest) place ≡ Some bytes
+    → ((is_about xid kind b ≡ true) × (b ≡ bytes)) ⊎ ((n : ℕ) × (slice_get rest n ≡ Some bytes))
+first_or xid kind b rest zero bytes true about at = inl (about, same_some b bytes at)
+first_or xid kind b rest (suc n) bytes true about at = inr (n, at)
+first_or xid kind b rest place bytes false about at = inr (place, at)
+
+heard_or : (d xid kind : ℕ) (h : Heard) (b : List ℕ) (came : List (ℕ × List ℕ)) (bytes : List ℕ) → StandsIn xid kind bytes (kept_by d h b ++ came) → ((is_about xid kind b ≡ true) × (b ≡ bytes)) ⊎ StandsIn xid kind bytes came
+heard_or d xid kind Reply b came bytes at = inr at
+heard_or d xid kind (Refused refusal) b came bytes at = inr at
+heard_or d xid kind Notice b came bytes at = inr at
+heard_or d xid kind Echo b came bytes at = inr at
+heard_or d xid kind Other b came bytes at = first_or xid kind b (flat_map (about_in xid kind) came) at.0 bytes (is_about xid kind b) refl at.1
+
+got_first : (a : Awaited) (xid kind : ℕ) (b bytes : List ℕ) (rest : List WorldStep) → is_about xid kind b ≡ true → b ≡ bytes → IsGot a.dpid xid kind bytes (heard_steps a b ++ rest)
+got_first a xid kind b bytes rest about same = record {
+  about = subst (λ (x : List ℕ). is_about xid kind x ≡ true) same about;
+  before = [];
+  behind = steps_by a.dpid (heard a b) b ++ rest;
+  steps_so = ap (λ (x : List ℕ). Acted (Got a.dpid x) ∷ (steps_by a.dpid (heard a b) b ++ rest)) same;
+}
+
+got_later : (d xid kind : ℕ) (bytes : List ℕ) (front steps : List WorldStep) → IsGot d xid kind bytes steps → IsGot d xid kind bytes (front ++ steps)
+got_later d xid kind bytes front steps is = record {
+  about = is.about;
+  before = front ++ is.before;
+  behind = is.behind;
+  steps_so = ap (λ (xs : List WorldStep). front ++ xs) is.steps_so ∙ sym (append_assoc front is.before (Acted (Got d bytes) ∷ is.behind));
+}
+
+got_in : (a : Awaited) (xid kind : ℕ) (got : List (List ℕ)) (bytes : List ℕ) → StandsIn xid kind bytes (kept_of a got) → IsGot a.dpid xid kind bytes (wait_steps a got)
+got_in a xid kind [] bytes at = absurd (none_there at.0 bytes at.1)
+  where
+    none_there : (n : ℕ) (bytes : List ℕ) → slice_get [] n ≡ Some bytes → ⊥
+    none_there n bytes h = cc
+got_in a xid kind (b ∷ bs) bytes at =
+    elim (heard_or a.dpid xid kind (heard a b) b (kept_of a bs) bytes at) [
+      | inl here ↦ got_first a xid kind b bytes (wait_steps a bs) here.0 here.1
+      | inr later ↦ got_later a.dpid xid kind bytes (heard_steps a b) (wait_steps a bs) (got_in a xid kind bs bytes later)
+    ]
+
+-- what was asked, by what was got
+module _ {Own Tells : Type 0} (d xid : ℕ) (got : List (List ℕ)) (old new : Seen Own) (told : Tells → Happened (rows_steps d xid got) old.history new.history) where
+  came_among : (kind : ℕ) (bytes : List ℕ) → IsGot d xid kind bytes (wait_steps (asked_from d xid) got) → Tells → CameFrom d bytes old.history new.history
+  came_among kind bytes is tells =
+      let h = told tells in
+      let reply = reply_got (asked_from d xid) ∷ [] in
+      let front = request_sent d xid ∷ barrier_sent (asked_from d xid) ∷ [] in
+      inr (record {
+        before = h.before ++ (front ++ is.before);
+        behind = (is.behind ++ reply) ++ h.behind;
+        told = h.told ∙ ap (λ (w : List WorldStep). old.history ++ (h.before ++ ((front ++ (w ++ reply)) ++ h.behind))) is.steps_so ∙ ap (λ (w : List WorldStep). old.history ++ w) (regroup h.before front is.before (Acted (Got d bytes)) is.behind reply h.behind);
+      })
+    where
+      regroup : (b f x : List WorldStep) (g : WorldStep) (y r k : List WorldStep) → b ++ ((f ++ ((x ++ (g ∷ y)) ++ r)) ++ k) ≡ (b ++ (f ++ x)) ++ ((g ∷ []) ++ ((y ++ r) ++ k))
+      regroup b f x g y r k = simp append_assoc
+
+  sent_among : (kind : ℕ) (bytes : List ℕ) → IsGot d xid kind bytes (wait_steps (asked_from d xid) got) → Tells → SentThenGot d (flows_request xid) bytes old.history new.history
+  sent_among kind bytes is tells =
+      let h = told tells in
+      let reply = reply_got (asked_from d xid) ∷ [] in
+      let ask = request_sent d xid in
+      let bar = barrier_sent (asked_from d xid) in (
+        bar ∷ is.before,
+        record {
+          before = h.before;
+          behind = (is.behind ++ reply) ++ h.behind;
+          told = h.told ∙ ap (λ (w : List WorldStep). old.history ++ (h.before ++ ((ask ∷ bar ∷ (w ++ reply)) ++ h.behind))) is.steps_so
+              ∙ ap (λ (w : List WorldStep). old.history ++ (h.before ++ (ask ∷ bar ∷ w))) (regroup is.before (Acted (Got d bytes)) is.behind reply h.behind);
+        },
+      )
+    where
+      regroup : (x : List WorldStep) (g : WorldStep) (y r k : List WorldStep) → ((x ++ (g ∷ y)) ++ r) ++ k ≡ (x ++ (g ∷ [])) ++ ((y ++ r) ++ k)
+      regroup x g y r k = simp append_assoc
+
+  part_why : (e : ℕ) (bytes : List ℕ) → IsRepliesFault d (flows_request xid) (message_bytes (next_xid xid) BarrierReply) (parts_in xid (came_for d xid got)) (refusals_in xid (came_for d xid got)) (SwitchBroke e bytes)
+      → IsWhyTxn Tells old new (SwitchBroke e bytes)
+  part_why e bytes is =
+      let part = got_in (asked_from d xid) xid 17 got bytes (is.2.0, is.2.1) in
+      let bad : IsBadPart Tells d bytes old new = record { xid = xid; got = got; kind = about_kind xid 17 bytes part.about; no_refusal = is.1; broken = is.2; told = told } in
+      subst (λ (n : ℕ). (Tells → CameFrom n bytes old.history new.history) × (IsErr (reading_of bytes) ⊎ IsBadPart Tells n bytes old new)) (sym is.0) (came_among 17 bytes part, inr bad)
+
+  error_why : (bytes : List ℕ) → slice_get (refusals_in xid (came_for d xid got)) 0 ≡ Some bytes → IsWhyTxn Tells old new (Diverged d (flows_request xid) bytes)
+  error_why bytes at =
+      let is = got_in (asked_from d xid) xid 1 got bytes (0, at) in
+      let request = StatsRequest (record { kind = 1; flags = 0; body = all_flows }) in
+      (sent_among 1 bytes is, inl (record { kind = about_kind xid 1 bytes is.about; message = request; sent_so = ap (λ (n : ℕ). message_bytes n request) (sym (about_xid xid 1 bytes is.about)) }))
+
+  unanswered_why : refusals_in xid (came_for d xid got) ≡ [] → parts_in xid (came_for d xid got) ≡ [] → IsWhyTxn Tells old new (Diverged d (flows_request xid) (message_bytes (next_xid xid) BarrierReply))
+  unanswered_why none_refused no_part =
+      let reply = message_bytes (next_xid xid) BarrierReply in (
+        (λ tells. (barrier_sent (asked_from d xid) ∷ wait_steps (asked_from d xid) got, told tells)),
+        inr (record { xid = xid; got = got; sent_so = refl; reply_so = refl; no_part = no_part; no_refusal = none_refused; told = told }),
+      )
+
+  refused_why : (bytes : List ℕ) → IsRefusal (parts_in xid (came_for d xid got)) (refusals_in xid (came_for d xid got)) (message_bytes (next_xid xid) BarrierReply) bytes → IsWhyTxn Tells old new (Diverged d (flows_request xid) bytes)
+  refused_why bytes (inl first) = error_why bytes first
+  refused_why bytes (inr none) = subst (λ (b : List ℕ). IsWhyTxn Tells old new (Diverged d (flows_request xid) b)) (sym none.2) (unanswered_why none.0 none.1)
+
+  replies_why : (fault : TxnFault) → IsRepliesFault d (flows_request xid) (message_bytes (next_xid xid) BarrierReply) (parts_in xid (came_for d xid got)) (refusals_in xid (came_for d xid got)) fault → IsWhy Tells old new 0 0 (ended_by fault)
+  replies_why (SwitchFault e) is = absurd is
+  replies_why (SwitchBroke e bytes) is = part_why e bytes is
+  replies_why (Diverged e sent bytes) is =
+      subst (λ (n : ℕ). IsWhyTxn Tells old new (Diverged n sent bytes)) (sym is.0) (subst (λ (s : List ℕ). IsWhyTxn Tells old new (Diverged d s bytes)) (sym is.1) (refused_why bytes is.2))
+  replies_why (Flooded e n) is = absurd is
+  replies_why NoMemory is = tt
+
+ask_flood : {Own : Type 0} (Tells : Type 0) (d xid : ℕ) (old new : Seen Own) (fault : TxnFault) → IfFlooded Tells (asked_from d xid) (request_sent d xid ∷ barrier_sent (asked_from d xid) ∷ []) old new fault → FloodSo Tells d old new fault
+ask_flood Tells d xid old new (Flooded of n) f = flood_of (asked_from d xid) (request_sent d xid ∷ []) old new f
+ask_flood Tells d xid old new (SwitchFault of) f = tt
+ask_flood Tells d xid old new (SwitchBroke of bytes) f = tt
+ask_flood Tells d xid old new (Diverged of sent got) f = tt
+ask_flood Tells d xid old new NoMemory f = tt
+
+ask_why : {Own Tells : Type 0} (d xid : ℕ) (old new : Seen Own) (kept now_kept : List (ℕ × List ℕ)) (fault : TxnFault) → IfFlooded Tells (asked_from d xid) (request_sent d xid ∷ barrier_sent (asked_from d xid) ∷ []) old new fault
+    → IsAskCause Tells d xid old new kept now_kept fault → IsWhy Tells old new 0 0 (ended_by fault)
+ask_why {Tells = Tells} d xid old new kept now_kept fault flooded (inl cause) = cause_why Tells d old new fault cause (ask_flood Tells d xid old new fault flooded)
+ask_why {Tells = Tells} d xid old new kept now_kept fault flooded (inr asks) =
+    let waits = asks.1.waits in
+    let steps = rows_steps d xid waits.got in
+    let told : (Tells → Happened steps old.history new.history) = λ tells. record { before = []; behind = []; told = waits.hears.told tells ∙ ap (λ (xs : List WorldStep). old.history ++ xs) (sym (append-nil steps)) } in
+    replies_why d xid waits.got old new told fault
+    (subst (λ (came : List (ℕ × List ℕ)). IsRepliesFault d (flows_request xid) (message_bytes (next_xid xid) BarrierReply) (parts_in xid came) (refusals_in xid came) fault) waits.hears.kept_so asks.2)
+
+pub asks_why : {Own : Type 0} {Tells : Type 0} {d xid : ℕ} {old new : Seen Own} {kept now_kept : List (ℕ × List ℕ)} (fault : TxnFault) → Asks Tells d xid old new kept now_kept (Err fault) → IsWhy Tells old new 0 0 (ended_by fault)
+asks_why {d = d} {xid = xid} {old = old} {new = new} {kept = kept} {now_kept = now_kept} fault asks = ask_why d xid old new kept now_kept fault asks.flooded asks.answer
+
+-- ---- An undo
+
+-- steps of a part of it happened
+in_part : {old new : List WorldStep} (older steps rest front mid back : List WorldStep) → steps ≡ front ++ (mid ++ back) → new ≡ old ++ ((older ++ steps) ++ rest) → Happened mid old new
+in_part {old = old} older steps rest front mid back steps_so told = record {
+  before = older ++ front;
+  behind = back ++ rest;
+  told = told ∙ ap (λ (s : List WorldStep). old ++ ((older ++ s) ++ rest)) steps_so ∙ ap (λ (w : List WorldStep). old ++ w) (regroup older front mid back rest);
+}
+  where
+    regroup : (o f m b r : List WorldStep) → (o ++ (f ++ (m ++ b))) ++ r ≡ (o ++ f) ++ (m ++ (b ++ r))
+    regroup o f m b r = simp append_assoc
+
+-- a message was sent to a switch, with the steps around it
+record IsSent (d : ℕ) (bytes : List ℕ) (steps : List WorldStep) : Type 0 where
+  before : List WorldStep
+  behind : List WorldStep
+  steps_so : steps ≡ before ++ (Acted (Sent d bytes) ∷ behind)
+
+sent_earlier : (d : ℕ) (bytes : List ℕ) (steps more : List WorldStep) → IsSent d bytes steps → IsSent d bytes (steps ++ more)
+sent_earlier d bytes steps more is = record { before = is.before; behind = is.behind ++ more; steps_so = ap (λ (xs : List WorldStep). xs ++ more) is.steps_so ∙ append_assoc is.before (Acted (Sent d bytes) ∷ is.behind) more }
+
+same_key : (a b : Key) → Some a ≡ Some b → a ≡ b
+same_key a b h = cc
+
+sent_last : (c d x xid : ℕ) (k key : Key) (steps : List WorldStep) → c ≡ d → x ≡ xid → k ≡ key → IsSent d (inverse_bytes xid key) (steps ++ Acted (Sent c (inverse_bytes x k)) ∷ [])
+sent_last c d x xid k key steps of_switch of_xid of_key = record { before = steps; behind = []; steps_so = rw (of_switch, of_xid, of_key) refl }
+
+parts_here : (d : ℕ) (p : ℕ × Part) (older : List (ℕ × Part)) → (p.0 == d) ≡ true → parts_of d (p ∷ older) ≡ p.1 ∷ parts_of d older
+parts_here d p older here = rw here refl
+
+parts_there : (d : ℕ) (p : ℕ × Part) (older : List (ℕ × Part)) → (p.0 == d) ≡ false → parts_of d (p ∷ older) ≡ parts_of d older
+parts_there d p older other = rw other refl
+
+inverse_here : (c d xid x : ℕ) (key k : Key) (sent : List (ℕ × Key)) (steps : List WorldStep) (same : Bool) → c ≡ d → (x == xid) ≡ same → (if same then Some k else key_sent xid sent) ≡ Some key → (key_sent xid sent ≡ Some key → IsSent d (inverse_bytes xid key) steps)
+    → IsSent d (inverse_bytes xid key) (steps ++ Acted (Sent c (inverse_bytes x k)) ∷ [])
+inverse_here c d xid x key k sent steps true of_switch same is older = sent_last c d x xid k key steps of_switch (eqb-true x xid same) (same_key k key is)
+inverse_here c d xid x key k sent steps false of_switch same is older = sent_earlier d (inverse_bytes xid key) steps (Acted (Sent c (inverse_bytes x k)) ∷ []) (older is)
+
+part_sent : (c d xid : ℕ) (key : Key) (p : Part) (parts : List Part) (steps : List WorldStep) → c ≡ d → key_sent xid (inverses_of (p ∷ parts)) ≡ Some key → (key_sent xid (inverses_of parts) ≡ Some key → IsSent d (inverse_bytes xid key) steps)
+    → IsSent d (inverse_bytes xid key) (steps ++ part_steps c p)
+part_sent c d xid key (Inverse x k) parts steps of_switch is older = inverse_here c d xid x key k (inverses_of parts) steps (x == xid) of_switch refl is older
+part_sent c d xid key (BarrierPassed x got) parts steps of_switch is older = sent_earlier d (inverse_bytes xid key) steps (part_steps c (BarrierPassed x got)) (older is)
+part_sent c d xid key (Stuck x fault stuck) parts steps of_switch is older = sent_earlier d (inverse_bytes xid key) steps (part_steps c (Stuck x fault stuck)) (older is)
+
+-- an inverse that is refused was sent
+inverse_sent : (d xid : ℕ) (key : Key) (parts : List (ℕ × Part)) → key_sent xid (inverses_of (parts_of d parts)) ≡ Some key → IsSent d (inverse_bytes xid key) (steps_of parts)
+inverse_sent d xid key [] is = absurd cc
+inverse_sent d xid key (p ∷ older) is =
+    elim (cases_Bool (p.0 == d)) [
+      | inl here ↦ part_sent p.0 d xid key p.1 (parts_of d older) (steps_of older) (eqb-true p.0 d here) (subst (λ (ps : List Part). key_sent xid (inverses_of ps) ≡ Some key) (parts_here d p older here) is) (λ earlier. inverse_sent d xid key older earlier)
+      | inr other ↦ sent_earlier d (inverse_bytes xid key) (steps_of older) (part_steps p.0 p.1) (inverse_sent d xid key older (subst (λ (ps : List Part). key_sent xid (inverses_of ps) ≡ Some key) (parts_there d p older other) is))
+    ]
+
+refused_kind : (kind : Bool) (k : Option Key) (key : Key) → (if kind then k else None) ≡ Some key → (kind ≡ true) × (k ≡ Some key)
+refused_kind true k key is = (refl, is)
+refused_kind false k key is = absurd cc
+
+refused_error : (sent : List (ℕ × Key)) (bytes : List ℕ) (key : Key) → key_refused sent bytes ≡ Some key → (number_at 1 1 bytes ≡ 1) × (key_sent (number_at 4 4 bytes) sent ≡ Some key)
+unfolding key_refused
+refused_error sent bytes key is = let both = refused_kind (number_at 1 1 bytes == 1) (key_sent (number_at 4 4 bytes) sent) key is in (eqb-true (number_at 1 1 bytes) 1 both.0, both.1)
+
+inverse_message : (bytes inverse : List ℕ) (key : Key) → number_at 1 1 bytes ≡ 1 → inverse ≡ inverse_bytes (number_at 4 4 bytes) key → IsErrorFor inverse bytes
+unfolding inverse_bytes
+inverse_message bytes inverse key kind is = record { kind = kind; message = FlowMod (delete_strict key); sent_so = is }
+
+-- the inverse, and behind it the message that refuses it
+refused_after : {old new : List WorldStep} (d : ℕ) (inverse bytes : List ℕ) (older steps front rest : List WorldStep) → IsSent d inverse older → steps ≡ front ++ Acted (Got d bytes) ∷ [] → new ≡ old ++ ((older ++ steps) ++ rest) → SentThenGot d inverse bytes old new
+refused_after {old = old} d inverse bytes older steps front rest sent steps_so told = (
+  sent.behind ++ front,
+  record {
+    before = sent.before;
+    behind = rest;
+    told = told ∙ ap (λ (o : List WorldStep). old ++ ((o ++ steps) ++ rest)) sent.steps_so ∙ ap (λ (s : List WorldStep). old ++ (((sent.before ++ (Acted (Sent d inverse) ∷ sent.behind)) ++ s) ++ rest)) steps_so
+        ∙ ap (λ (w : List WorldStep). old ++ w) (regroup sent.before (Acted (Sent d inverse)) sent.behind front (Acted (Got d bytes)) rest);
+  },
+)
+  where
+    regroup : (b : List WorldStep) (s : WorldStep) (k f : List WorldStep) (g : WorldStep) (r : List WorldStep) → ((b ++ (s ∷ k)) ++ (f ++ (g ∷ []))) ++ r ≡ b ++ ((s ∷ ((k ++ f) ++ (g ∷ []))) ++ r)
+    regroup b s k f g r = simp append_assoc
+
+module _ {Own Tells : Type 0} (old new : Seen Own) where
+  fault_why : (d : ℕ) (older : List (ℕ × Part)) (steps rest : List WorldStep) (fault : TxnFault) → (Tells → new.history ≡ old.history ++ ((steps_of older ++ steps) ++ rest)) → IsFaultOf d (inverses_of (parts_of d older)) old.counts new.counts steps fault
+      → IsWhy Tells old new 0 0 (ended_by fault)
+  fault_why d older steps rest (SwitchFault e) told cause = subst (λ (n : ℕ). Rose (old.counts.link_faults n) (new.counts.link_faults n)) (sym cause.0) cause.1
+  fault_why d older steps rest (SwitchBroke e bytes) told cause =
+      subst (λ (n : ℕ). (Tells → CameFrom n bytes old.history new.history) × (IsErr (reading_of bytes) ⊎ IsBadPart Tells n bytes old new)) (sym cause.0)
+      ((λ tells. inr (in_part (steps_of older) steps rest cause.2.0 (Acted (Got d bytes) ∷ []) [] cause.2.1 (told tells))), inl cause.1)
+  fault_why d older steps rest (Diverged e inverse bytes) told cause =
+      let r = cause.1 in
+      let error = refused_error (inverses_of (parts_of d older)) bytes r.key r.of_key in
+      let sent = subst (λ (b : List ℕ). IsSent d b (steps_of older)) (sym r.inverse_so) (inverse_sent d (number_at 4 4 bytes) r.key older error.1) in
+      let last = subst (λ (n : ℕ). steps ≡ (barrier_sent r.awaited ∷ wait_steps r.awaited r.got) ++ Acted (Got n bytes) ∷ []) r.of_switch r.steps_so in
+      subst (λ (n : ℕ). (Tells → SentThenGot n inverse bytes old.history new.history) × (IsErrorFor inverse bytes ⊎ IsUnanswered Tells n inverse bytes old new)) (sym cause.0)
+      ((λ tells. refused_after d inverse bytes (steps_of older) steps (barrier_sent r.awaited ∷ wait_steps r.awaited r.got) rest sent last (told tells)), inl (inverse_message bytes inverse r.key error.0 r.inverse_so))
+  fault_why d older steps rest (Flooded e n) told cause =
+      let o = cause.2 in
+      let mid = barrier_sent o.awaited ∷ wait_steps o.awaited o.got in
+      let here : IsFlood Tells d n old new = record {
+        awaited = o.awaited;
+        of_switch = o.of_switch;
+        got = o.got;
+        many = o.many ∙ sym cause.1;
+        before_reply = o.before_reply;
+        told = λ tells. in_part (steps_of older) steps rest [] mid [] (o.steps_so ∙ sym (append-nil mid)) (told tells);
+      } in
+      subst (λ (x : ℕ). (n ≡ flood) × IsFlood Tells x n old new) (sym cause.0) (cause.1, here)
+  fault_why d older steps rest NoMemory told cause = tt
+
+  stuck_why : (d : ℕ) (p : Part) (older : List (ℕ × Part)) (rest : List WorldStep) (fault : TxnFault) → (Tells → new.history ≡ old.history ++ ((steps_of older ++ part_steps d p) ++ rest)) → IsRun old.counts new.counts d (p ∷ parts_of d older) → fault_in p ≡ Some fault
+      → IsWhy Tells old new 0 0 (ended_by fault)
+  stuck_why d (Inverse xid k) older rest fault told run is = absurd cc
+  stuck_why d (BarrierPassed xid got) older rest fault told run is = absurd cc
+  stuck_why d (Stuck xid why steps) older rest fault told run is = subst (λ (f : TxnFault). IsWhy Tells old new 0 0 (ended_by f)) (one_fault why fault is) (fault_why d older steps rest why told run.0.cause)
+    where
+      one_fault : (a b : TxnFault) → Some a ≡ Some b → a ≡ b
+      one_fault a b h = cc
+
+run_rest : (d : ℕ) (old new : Counts) (p : Part) (older : List Part) → IsRun old new d (p ∷ older) → IsRun old new d older
+run_rest d old new (Inverse xid k) older run = run.3
+run_rest d old new (BarrierPassed xid got) older run = run.2
+run_rest d old new (Stuck xid why steps) older run = run.2
+
+pub runs_rest : (old new : Counts) (p : ℕ × Part) (older : List (ℕ × Part)) → ((d : ℕ) → IsRun old new d (parts_of d (p ∷ older))) → (d : ℕ) → IsRun old new d (parts_of d older)
+runs_rest old new p older runs d =
+    elim (cases_Bool (p.0 == d)) [
+      | inl here ↦ run_rest d old new p.1 (parts_of d older) (subst (IsRun old new d) (parts_here d p older here) (runs d))
+      | inr other ↦ subst (IsRun old new d) (parts_there d p older other) (runs d)
+    ]
+
+pub run_here : (old new : Counts) (p : ℕ × Part) (older : List (ℕ × Part)) → ((d : ℕ) → IsRun old new d (parts_of d (p ∷ older))) → IsRun old new p.0 (p.1 ∷ parts_of p.0 older)
+run_here old new p older runs = subst (IsRun old new p.0) (parts_here p.0 p older (eq-eqb p.0 p.0 refl)) (runs p.0)
+
+module _ {Own Tells : Type 0} (old new : Seen Own) where
+  by_older : (p : ℕ × Part) (older : List (ℕ × Part)) (rest : List WorldStep) (fault : TxnFault) → (Tells → new.history ≡ old.history ++ ((steps_of older ++ part_steps p.0 p.1) ++ rest)) → ((d : ℕ) → IsRun old.counts new.counts d (parts_of d (p ∷ older)))
+      → (first_fault older ≡ Some fault → IsWhy Tells old new 0 0 (ended_by fault)) → (o : Option TxnFault) → first_fault older ≡ o → first_fault_of o (fault_in p.1) ≡ Some fault → IsWhy Tells old new 0 0 (ended_by fault)
+  by_older p older rest fault told runs earlier None none h = stuck_why old new p.0 p.1 older rest fault told (run_here old.counts new.counts p older runs) h
+  by_older p older rest fault told runs earlier (Some first) some h = earlier (some ∙ h)
+
+  parts_why : (parts : List (ℕ × Part)) (rest : List WorldStep) (fault : TxnFault) → (Tells → new.history ≡ old.history ++ (steps_of parts ++ rest)) → ((d : ℕ) → IsRun old.counts new.counts d (parts_of d parts)) → first_fault parts ≡ Some fault
+      → IsWhy Tells old new 0 0 (ended_by fault)
+  parts_why [] rest fault told runs is = absurd cc
+  parts_why (p ∷ older) rest fault told runs is =
+      let steps = part_steps p.0 p.1 in
+      by_older p older rest fault told runs
+      (λ first. parts_why older (steps ++ rest) fault (λ tells. told tells ∙ ap (λ (w : List WorldStep). old.history ++ w) (append_assoc (steps_of older) steps rest)) (runs_rest old.counts new.counts p older runs) first)
+      (first_fault older) refl is
+
+faulted : (o : Option TxnFault) (fault : TxnFault) → Err fault ≡ undo_ended o → o ≡ Some fault
+faulted None fault h = absurd cc
+faulted (Some x) fault h = cc
+
+pub undo_why : {Own : Type 0} {Tells : Type 0} (start : ℕ) (old new : Seen Own) (net now_net : NetState) (fault : TxnFault) → Undoes Tells start old new net now_net (Err fault) → IsWhy Tells old new 0 0 (ended_by fault)
+undo_why start old new net now_net fault u =
+    parts_why old new u.parts [] fault (λ tells. u.told tells ∙ ap (λ (w : List WorldStep). old.history ++ w) (sym (append-nil (steps_of u.parts)))) (λ d. (u.each d).run) (faulted (first_fault u.parts) fault u.result_so)
+
+-- ---- A turn that stopped
+
+given_flood : {Own : Type 0} (Tells : Type 0) (d : ℕ) (m : Change) (old new : Seen Own) (net : NetState) (fault : TxnFault) → IfGivenUp Tells d m old new net fault → FloodSo Tells d old new fault
+given_flood Tells d m old new net (Flooded of n) given = flood_of _ (change_sent d net.xid m ∷ []) old new given.2
+given_flood Tells d m old new net (SwitchFault of) given = tt
+given_flood Tells d m old new net (SwitchBroke of bytes) given = tt
+given_flood Tells d m old new net (Diverged of sent got) given = tt
+given_flood Tells d m old new net NoMemory given = tt
+
+change_flood : {Own Tells : Type 0} (d : ℕ) (bytes : List ℕ) (old new : Seen Own) (net now_net : NetState) (fault : TxnFault) → Changes Tells d bytes old new net now_net (Err fault) → (o : Option Answer) → answer_of_host d bytes net ≡ o → FloodSo Tells d old new fault
+change_flood {Tells = Tells} d bytes old new net now_net fault changes (Some a) host = subst (λ (f : TxnFault). FloodSo Tells d old new f) (sym (changes.by_host a host).fault) tt
+change_flood {Tells = Tells} d bytes old new net now_net fault changes None host =
+    let read = asked (known_rows d net.views) bytes host in
+    given_flood Tells d read.change old new net fault (changes.flooded read.xid read.change host read.read)
+
+pub stops_why : {Own : Type 0} {Tells : Type 0} {app : ℕ} (old new : Seen Own) (net now_net : NetState) (fault : TxnFault) → Stops Tells app old new net now_net fault → IsWhy Tells old new 0 0 (ended_by fault)
+stops_why {Own} {Tells} old new net now_net fault stops =
+    IsWhy-behind old stops.then_seen new 0 0 0 (ended_by fault) (Leads-continues stops.leads) (omega arith) (halts_why stops.then_seen stops.then_net stops.halts)
+  where
+    halts_why : (mid : Seen Own) (mid_net : NetState) → Halts Tells mid new mid_net now_net fault → IsWhy Tells mid new 0 0 (ended_by fault)
+    halts_why mid mid_net (inl wants) = subst (λ (f : TxnFault). IsWhy Tells mid new 0 0 (ended_by f)) (sym wants.0) tt
+    halts_why mid mid_net (inr failed) =
+        cause_why Tells failed.0 mid new fault failed.1.1.0.cause (change_flood failed.0 failed.1.0 mid new mid_net now_net fault failed.1.1.0 (answer_of_host failed.0 failed.1.0 mid_net) refl)

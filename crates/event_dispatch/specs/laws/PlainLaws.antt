@@ -1,0 +1,286 @@
+-- Laws of how a run may end in a world that keeps its word.
+use Rattle.std.proofs.Common.{◌≡◌, ℕ, ◌<◌, ◌^◌, Bool, List, [], ◌∷◌, ◌++◌, Option, Some, IsSome, Result, Ok, Err, IfErr, IsOk, IsErr, slice_get, take, refl, sym, ap, ◌∙◌, subst}
+use Rattle.of_stats.specs.Flows.{AreRows}
+use Rattle.of_wire.specs.Reading.{reading_of}
+use Rattle.flow_table.specs.declared.view.TableView.{TableView}
+use Rattle.flow_table.specs.Switch.{SwitchState}
+use Rattle.lego_model.specs.Places.{Place}
+use Rattle.outside.specs.declared.item.Item.{Item}
+use Rattle.outside.specs.declared.item.Item.TheVariants as items
+use Rattle.outside.specs.declared.step.WorldStep.TheVariants.{Opened}
+use Rattle.outside.specs.Seen.{Seen, Continues}
+use Rattle.outside.specs.Calls.{Nexts, item_step}
+use Rattle.outside.specs.State.{state, switch_of}
+use Rattle.outside.specs.laws.StateLaws.{Conforming-before}
+use Rattle.outside.specs.Conforming.{Conforming}
+use Rattle.lego_model.specs.declared.fault.TxnFault.{TxnFault}
+use Rattle.lego_model.specs.declared.fault.TxnFault.TheVariants.{SwitchFault, SwitchBroke, Diverged, Flooded, NoMemory}
+use Rattle.net_txn.specs.Causes.{IsPlainFault, IsPlain}
+use Rattle.net_txn.specs.Arriving.{IsArrivalCause}
+use Rattle.net_txn.specs.JoiningSteps.{JoinSteps}
+use Rattle.net_txn.specs.AskSteps.{own_rows, IsAskFault, AskSteps}
+use Rattle.net_txn.specs.Net.{NetState}
+use Rattle.net_txn.specs.Undos.{Undoes}
+use Rattle.net_txn.specs.Views.{rows_at}
+use Rattle.app_visor.specs.declared.state.TurnEnd.{TurnEnd}
+use Rattle.app_visor.specs.Beats.{Stops}
+use Rattle.app_visor.specs.Turns.{Turns}
+use Rattle.switch_laws.specs.laws.SoundLaws.{rows-are}
+use Rattle.switch_laws.specs.laws.ClockLaws.{switch-in_time, moment-within}
+use Rattle.turn_laws.specs.laws.StopLaws.{stop-plain, turn-ready}
+use Rattle.turn_laws.specs.Stop.{IsPlainStop}
+use Rattle.batch_laws.specs.laws.InBatchLaws.{next_can}
+use Rattle.run_laws.specs.Engine.{Engine}
+use Rattle.run_laws.specs.laws.CalmLaws.{stands_ready}
+use Rattle.run_laws.specs.laws.FirstLaws.{settled-first}
+use Rattle.run_laws.specs.First.{engine_at_first}
+use Rattle.run_laws.specs.laws.StimuliLaws.{fewer-before}
+use Rattle.run_laws.specs.Promise.{Premise}
+use Rattle.run_laws.specs.laws.LastReportLaws.{joined-with}
+use Rattle.run_laws.specs.Moves.{AtRest}
+use Rattle.event_dispatch.specs.declared.fault.Fault.{Fault}
+use Rattle.event_dispatch.specs.declared.fault.Fault.TheVariants as faults
+use Rattle.event_dispatch.specs.declared.batch.Rest.{Rest}
+use Rattle.event_dispatch.specs.declared.batch.Rest.TheVariants as rests
+use Rattle.event_dispatch.specs.declared.run.Run.{Run}
+use Rattle.event_dispatch.specs.declared.served.Served.{Served}
+use Rattle.event_dispatch.specs.declared.served.Served.TheVariants as ends
+use Rattle.event_dispatch.specs.Why.{fault_of, served_by, ended_by}
+use Rattle.event_dispatch.specs.Runs.{Waits}
+use Rattle.event_dispatch.specs.Shows.{engine_of}
+use Rattle.event_dispatch.specs.Batch.{standing_of, KeptSoFar, BatchGoes, BatchShown}
+use Rattle.event_dispatch.specs.laws.BatchLaws.{some_kept}
+use Rattle.event_dispatch.specs.ReportEnd.{TablesShown}
+use Rattle.event_dispatch.specs.laws.LastLaws.{some_is, says_ready, says_sound}
+use Rattle.event_dispatch.specs.Serves.{DispatchesSome, IsBatch, GoesRounds, GoesToEnd, Begins, IsUnopened}
+use Rattle.event_dispatch.specs.laws.RoundLaws.{batch_is}
+use Rattle.event_dispatch.specs.laws.WholeLaws.{opened_so}
+use Rattle.event_dispatch.specs.Plain.{IsPlainServed, IsPlainEnd, PlainRead, PlainJoin, PlainItem, PlainNext, PlainKept, PlainCalm, PlainTurn, PlainTable, PlainRun, PlainWhole}
+
+-- ---- Want of memory, and faults of the network
+
+plain_fault : (d : ℕ) (fault : TxnFault) → IsPlainFault d fault → IsPlainServed (ended_by fault)
+plain_fault d (SwitchFault e) plain = tt
+plain_fault d NoMemory plain = tt
+plain_fault d (SwitchBroke e bytes) plain = absurd plain
+plain_fault d (Diverged e sent got) plain = absurd plain
+plain_fault d (Flooded e n) plain = absurd plain
+
+plain_stop : (fault : TxnFault) → IsPlainStop fault → IsPlainServed (ended_by fault)
+plain_stop fault plain = plain_fault plain.0 fault plain.1
+
+-- ---- A batch
+
+no_fault : {T E : Type 0} (r : Result T E) → IsOk r → IsErr r → ⊥
+no_fault (Ok x) ok err = absurd cc
+no_fault (Err e) ok err = absurd cc
+
+arrival_plain : {Own : Type 0} (d : ℕ) (frame : List ℕ) (old new : Seen Own) (fault : TxnFault) → IsArrivalCause d frame old new fault → IsOk (reading_of frame) → IsPlainServed (ended_by fault)
+arrival_plain d frame old new (SwitchFault e) cause read = tt
+arrival_plain d frame old new (SwitchBroke e bytes) cause read = absurd (no_fault (reading_of frame) read cause.2)
+arrival_plain d frame old new (Diverged e sent got) cause read = absurd cause
+arrival_plain d frame old new (Flooded e n) cause read = absurd cause
+arrival_plain d frame old new NoMemory cause read = tt
+
+pub read_memory : (bytes : List ℕ) → PlainRead bytes faults.NoMemory
+read_memory bytes = record { plain = λ read. tt }
+
+pub read_arrived : {Own : Type 0} (d : ℕ) (frame : List ℕ) (old new : Seen Own) (fault : TxnFault) → IsArrivalCause d frame old new fault → PlainRead frame (fault_of fault)
+read_arrived d frame old new fault cause = record { plain = λ read. arrival_plain d frame old new fault cause read }
+
+pub join_memory : {Own : Type 0} {Tells : Type 0} (d : ℕ) (old new : Seen Own) → PlainJoin Tells d old new faults.NoMemory
+join_memory d old new = record { plain = λ told keeps free. tt }
+
+pub join_fault : {Own : Type 0} {Tells : Type 0} (d : ℕ) (old new : Seen Own) (net now_net : NetState) (fault : TxnFault) → JoinSteps Tells d old new net now_net (Err fault) → PlainJoin Tells d old new (fault_of fault)
+join_fault d old new net now_net fault steps = record { plain = λ told keeps free. plain_fault d fault (steps told keeps free) }
+
+-- an item
+pub item_from : {Own : Type 0} {Tells : Type 0} (item : Item) (d n : ℕ) (buf : List ℕ) (old new : Seen Own) (fault : Fault) → item ≡ items.From d n → PlainRead (take n buf) fault → PlainItem Tells (item_step item buf) old new fault
+unfolding item_step
+item_from {Tells = Tells} item d n buf old new fault is read = rw is (record { plain = λ told keeps can. read.plain can })
+
+pub item_joined : {Own : Type 0} {Tells : Type 0} (item : Item) (d n : ℕ) (buf : List ℕ) (old new : Seen Own) (fault : Fault) → item ≡ items.Joined d n → PlainJoin Tells d old new fault → PlainItem Tells (item_step item buf) old new fault
+unfolding item_step
+item_joined {Tells = Tells} item d n buf old new fault is join = rw is (record { plain = λ told keeps can. join.plain told keeps can })
+
+pub item_memory : {Own : Type 0} {Tells : Type 0} (item : Item) (buf : List ℕ) (old new : Seen Own) → PlainItem Tells (item_step item buf) old new faults.NoMemory
+item_memory item buf old new = record { plain = λ told keeps can. tt }
+
+-- what is told next
+pub next_anyway : {Own : Type 0} {Tells : Type 0} (old new : Seen Own) (fault : Fault) → IsPlainEnd fault → PlainNext Tells old new fault
+next_anyway old new fault plain = record { plain = λ told keeps can. plain }
+
+pub next_taken : {Own : Type 0} {Tells : Type 0} (item : Item) (buf : List ℕ) (old mid new : Seen Own) (fault : Fault) → Nexts Tells old mid (Ok item) buf → Continues Tells mid new → PlainItem Tells (item_step item buf) mid new fault → PlainNext Tells old new fault
+next_taken item buf old mid new fault call later taken = record { plain = λ told keeps can. taken.plain told keeps (can item buf mid (Conforming-before told later keeps) call) }
+
+-- what was kept
+pub kept_memory : (net : NetState) → PlainKept net faults.NoMemory
+kept_memory net = record { plain = λ none. tt }
+
+pub kept_none : {Own : Type 0} {n : ℕ} {old now : Seen Own} (run mid : Run) (m : ℕ × List ℕ) (fault : Fault) → KeptSoFar n old now run mid → Some m ≡ slice_get mid.net.kept 0 → PlainKept run.net fault
+kept_none run mid m fault so_far is = record { plain = λ none. absurd (some_kept m mid.net.kept is (ap (λ (s : NetState). s.kept) (so_far.none none).1.1 ∙ none)) }
+
+-- a batch
+pub calm_anyway : {Own : Type 0} {Tells : Type 0} (old new : Seen Own) (net : NetState) (end : Served) → IsPlainServed end → PlainCalm Tells old new net end
+calm_anyway old new net end plain = record { plain = λ told keeps calm. plain }
+
+pub batch_kept : {Own : Type 0} {Tells : Type 0} (old new : Seen Own) (net : NetState) (fault : Fault) → PlainKept net fault → PlainCalm Tells old new net (served_by fault)
+batch_kept old new net fault kept = record { plain = λ told keeps calm. kept.plain calm.kept }
+
+pub batch_next : {Own : Type 0} {Tells : Type 0} (n : ℕ) (old now new : Seen Own) (run mid : Run) (fault : Fault) → BatchGoes Tells n old now run mid → Continues Tells now new → PlainNext Tells now new fault → PlainCalm Tells old new run.net (served_by fault)
+batch_next n old now new run mid fault goes later next = record {
+  plain = λ told keeps calm. next.plain told keeps (next_can n (standing_of old run) (standing_of now mid) told calm (goes.so_far told (Conforming-before told later keeps) calm));
+}
+
+-- ---- A turn
+
+pub turn_memory : {Own : Type 0} {Tells : Type 0} (old new : Seen Own) (net : NetState) → PlainTurn Tells old new net faults.NoMemory
+turn_memory old new net = record { plain = λ told keeps ready. tt }
+
+-- what is noted leaves the network
+pub turn_noted : {Own : Type 0} {Tells : Type 0} (old new : Seen Own) (net noted : NetState) (fault : Fault) → noted ≡ net → PlainTurn Tells old new noted fault → PlainTurn Tells old new net fault
+turn_noted {Tells = Tells} old new net noted fault same turn = subst (λ (n : NetState). PlainTurn Tells old new n fault) same turn
+
+pub turn_stopped : {Own : Type 0} {Tells : Type 0} {app : ℕ} (old mid new : Seen Own) (net now_net : NetState) (fault : TxnFault) → Continues Tells mid new → Stops Tells app old mid net now_net fault → PlainTurn Tells old new net (fault_of fault)
+turn_stopped {Tells = Tells} {app = app} old mid new net now_net fault later stops = record {
+  plain = λ told keeps ready. plain_stop fault (stop-plain Tells app old mid net now_net fault told (Conforming-before told later keeps) ready stops);
+}
+
+plain_any : (fault : TxnFault) → IsPlain fault → IsPlainServed (ended_by fault)
+plain_any (SwitchFault e) plain = tt
+plain_any NoMemory plain = tt
+plain_any (SwitchBroke e bytes) plain = absurd plain
+plain_any (Diverged e sent got) plain = absurd plain
+plain_any (Flooded e n) plain = absurd plain
+
+-- a turn that failed, and could not be undone
+pub turn_not_undone : {Own : Type 0} {Tells : Type 0} {accepts : List TableView → Bool} {app budget start : ℕ} {rest frame unread : List ℕ} {end : TurnEnd} (old mid new : Seen Own) (net txn_net mid_net now_net : NetState) (result : Result (Unit {0}) TxnFault) (fault : TxnFault) → txn_net ≡ net
+    → Turns Tells accepts app budget rest frame old mid txn_net mid_net end unread → result ≡ Err fault → Undoes Tells start mid new mid_net now_net result → PlainTurn Tells old new net (fault_of fault)
+turn_not_undone {Own} {Tells} {accepts} {app} {budget} {start} {rest} {frame} {unread} {end} old mid new net txn_net mid_net now_net result fault same turns is undoes =
+    let failed : Undoes Tells start mid new mid_net now_net (Err fault) = subst (Undoes Tells start mid new mid_net now_net) is undoes in
+    turn_noted old new net txn_net (fault_of fault) same (record {
+      plain = λ told keeps ready.
+          let before : Conforming mid = Conforming-before told failed.continues keeps in
+          let again = turn-ready Tells accepts app budget rest frame old mid txn_net mid_net end unread told before ready turns in
+          plain_any fault (failed.plain told keeps (λ d viewed. stands_ready d mid mid_net again viewed (switch_of d (state mid)) refl));
+    })
+
+-- ---- A question for rows
+
+ask_plain : (d : ℕ) (s : SwitchState) (fault : TxnFault) → AreRows (own_rows s) → IsAskFault d s fault → IsPlainServed (ended_by fault)
+ask_plain d s (SwitchFault e) are plain = tt
+ask_plain d s NoMemory are plain = tt
+ask_plain d s (SwitchBroke e bytes) are plain = absurd (plain.1 are)
+ask_plain d s (Diverged e sent got) are plain = absurd plain
+ask_plain d s (Flooded e n) are plain = absurd plain
+
+pub table_asked : {Own : Type 0} {Tells : Type 0} {old new : Seen Own} {net : NetState} (d : ℕ) (kept now_kept : List (ℕ × List ℕ)) (fault : TxnFault) → IsSome (rows_at d net.views) → Continues Tells old new
+    → AskSteps Tells d old new kept now_kept (Err fault) → PlainTable Tells old new net (fault_of fault)
+table_asked {Tells = Tells} {old = old} {new = new} {net = net} d kept now_kept fault known continues steps = record {
+  plain = λ told keeps ready sound.
+      let vs = some_is (rows_at d net.views) known in
+      let j = joined-with d net.views (state old) vs.0 (ready.agrees d) vs.1 in
+      let before : Conforming old = Conforming-before told continues keeps in
+      let time = switch-in_time old before d j.switch j.is in
+      let small = subst (λ (n : ℕ). n < 2 ^ 32) (sym time.moment_so) (moment-within old before) in
+      ask_plain d j.switch fault (rows-are j.switch (sound.entries d j.switch j.is) small) (steps j.switch told keeps j.is (ready.waits d));
+}
+
+pub table_memory : {Own : Type 0} {Tells : Type 0} (old new : Seen Own) (net : NetState) → PlainTable Tells old new net faults.NoMemory
+table_memory old new net = record { plain = λ told keeps ready sound. tt }
+
+pub tables_then : {Own : Type 0} {Tells : Type 0} (ds : List ℕ) (old mid new : Seen Own) (r then_r : Run) (fault : Fault) → TablesShown Tells ds old mid r then_r → Continues Tells mid new → PlainTable Tells mid new then_r.net fault
+    → PlainCalm Tells old new r.net (served_by fault)
+tables_then ds old mid new r then_r fault tables later table = record {
+  plain = λ told keeps calm.
+      let says = tables.shown told (Conforming-before told later keeps) calm.ready calm.sound in
+      table.plain told keeps (says_ready says calm.ready) (says_sound says calm.sound);
+}
+
+-- ---- Parts of a run
+
+pub run_anyway : {Own : Type 0} {Tells : Type 0} {accepts : List TableView → Bool} (old new : Seen Own) (e : Engine) (end : Served) → IsPlainServed end → PlainRun Tells accepts old new e end
+run_anyway old new e end plain = record { plain = λ allows told keeps judges settled. plain }
+
+-- one event
+pub run_turn : {Own : Type 0} {Tells : Type 0} {accepts : List TableView → Bool} (old new : Seen Own) (r : Run) (fault : Fault) → PlainTurn Tells old new r.net fault → PlainRun Tells accepts old new (engine_of r) (served_by fault)
+run_turn old new r fault turn = record { plain = λ allows told keeps judges settled. turn.plain told keeps settled.calm.ready }
+
+-- events, one after the other
+pub run_settled : {Own : Type 0} {Tells : Type 0} {accepts : List TableView → Bool} {n : ℕ} {a b : Option (List ℕ)} (old mid new : Seen Own) (r then_r : Run) (end : Served) → DispatchesSome Tells accepts n a b old mid r then_r → Continues Tells mid new
+    → PlainRun Tells accepts mid new (engine_of then_r) end → PlainRun Tells accepts old new (engine_of r) end
+run_settled old mid new r then_r end some later rest = record {
+  plain = λ allows told keeps judges settled. rest.plain allows told keeps judges (some.shown.moved allows told (Conforming-before told later keeps) judges settled).settled;
+}
+
+-- a batch, and then the events that wait
+pub run_calm : {Own : Type 0} {Tells : Type 0} {accepts : List TableView → Bool} (old new : Seen Own) (r : Run) (end : Served) → PlainCalm Tells old new r.net end → PlainRun Tells accepts old new (engine_of r) end
+run_calm old new r end calm = record { plain = λ allows told keeps judges settled. calm.plain told keeps settled.calm }
+
+batch_settled : {Own : Type 0} {Tells : Type 0} (rest : Rest) (old new : Seen Own) (e now_e : Engine) → IsBatch Tells rest old new e now_e → Tells → Conforming new → AtRest old e → AtRest new now_e
+batch_settled rests.Idle old new e now_e batch told keeps settled = (batch.happens told keeps settled).moved.settled
+batch_settled rests.End old new e now_e batch told keeps settled = (batch.over.moved told keeps settled).settled
+
+pub run_batch : {Own : Type 0} {Tells : Type 0} {accepts : List TableView → Bool} (rest : Rest) (old mid new : Seen Own) (r then_r : Run) (end : Served) → Continues Tells old mid → then_r.app ≡ r.app → Waits r then_r → BatchShown Tells rest old mid r then_r
+    → Continues Tells mid new → PlainRun Tells accepts mid new (engine_of then_r) end → PlainRun Tells accepts old new (engine_of r) end
+run_batch {Tells = Tells} rest old mid new r then_r end first app waits batch later settle = record {
+  plain = λ allows told keeps judges settled.
+      settle.plain allows told keeps judges
+      (batch_settled rest old mid (engine_of r) (engine_of then_r) (batch_is Tells rest old mid r then_r first app waits batch) told (Conforming-before told later keeps) settled);
+}
+
+-- rounds
+pub run_rounds : {Own : Type 0} {Tells : Type 0} {accepts : List TableView → Bool} {n : ℕ} {a b : Option (List ℕ)} (old mid new : Seen Own) (r then_r : Run) (end : Served) → GoesRounds Tells accepts n a b old mid r then_r → Continues Tells mid new
+    → PlainRun Tells accepts mid new (engine_of then_r) end → PlainRun Tells accepts old new (engine_of r) end
+run_rounds old mid new r then_r end rounds later rest = record {
+  plain = λ allows told keeps judges settled. rest.plain allows told keeps judges (rounds.shown.rounds_so allows told (Conforming-before told later keeps) judges settled).moved.settled;
+}
+
+-- ---- A whole run
+
+pub whole_anyway : {Own : Type 0} {Tells : Type 0} {accepts : List TableView → Bool} (old new : Seen Own) (e : Engine) (end : Served) → IsPlainServed end → PlainWhole Tells accepts old new e end
+whole_anyway old new e end plain = record { plain = λ allows told keeps judges settled few. plain }
+
+begun_settled : {Own : Type 0} {Tells : Type 0} {a b : Option (List ℕ)} {old mid : Seen Own} {r then_r : Run} → Begins Tells a b old mid r then_r → Tells → Conforming mid → AtRest old (engine_of r) → AtRest mid (engine_of then_r)
+begun_settled begins told keeps settled = (begins.shown.moved told keeps settled).settled
+
+pub whole_rounds : {Own : Type 0} {Tells : Type 0} {accepts : List TableView → Bool} {a b : Option (List ℕ)} (old mid new : Seen Own) (r then_r : Run) (end : Served) → Begins Tells a b old mid r then_r → Continues Tells mid new
+    → PlainRun Tells accepts mid new (engine_of then_r) end → PlainWhole Tells accepts old new (engine_of r) end
+whole_rounds old mid new r then_r end begins later rest = record {
+  plain = λ allows told keeps judges settled few. rest.plain allows told keeps judges (begun_settled begins told (Conforming-before told later keeps) settled);
+}
+
+pub whole_finish : {Own : Type 0} {Tells : Type 0} {accepts : List TableView → Bool} {a b c : Option (List ℕ)} (old mid last new : Seen Own) (r then_r last_r : Run) (result : Result (Unit {0}) Served) → Begins Tells a b old mid r then_r → Continues Tells mid last
+    → GoesToEnd Tells accepts b c mid last then_r last_r → Continues Tells last new → IfErr result (PlainCalm Tells last new last_r.net) → IfErr result (PlainWhole Tells accepts old new (engine_of r))
+whole_finish old mid last new r then_r last_r (Ok x) begins on rounds later ends = tt
+whole_finish {Tells = Tells} old mid last new r then_r last_r (Err end) begins on rounds later ends = record {
+  plain = λ allows told keeps judges settled few.
+      let keeps_last = Conforming-before told later keeps in
+      let then_settled = begun_settled begins told (Conforming-before told on keeps_last) settled in
+      let all = rounds.shown.to_end allows told keeps_last judges then_settled (fewer-before Tells last new told later few) in
+      ends.plain told keeps all.moved.settled.calm;
+}
+
+pub whole_then : {Own : Type 0} {Tells : Type 0} (accepts : List TableView → Bool) (old mid new : Seen Own) (e : Engine) (result : Result (Unit {0}) Served) → Continues Tells mid new → IfErr result (PlainWhole Tells accepts old mid e) → IfErr result (PlainWhole Tells accepts old new e)
+whole_then accepts old mid new e (Ok x) later whole = tt
+whole_then {Tells = Tells} accepts old mid new e (Err end) later whole = record {
+  plain = λ allows told keeps judges settled few. whole.plain allows told (Conforming-before told later keeps) judges settled (fewer-before Tells mid new told later few);
+}
+
+-- a run that was opened
+pub unopened_plain : {Own : Type 0} (Tells : Type 0) (old new : Seen Own) (end : Served) → IsUnopened Tells old new end → IsPlainServed end
+unopened_plain Tells old new (ends.Ended events) is = tt
+unopened_plain Tells old new ends.WriteFault is = tt
+unopened_plain Tells old new ends.Shut is = tt
+unopened_plain Tells old new ends.NextFault is = tt
+unopened_plain Tells old new (ends.Txn fault) is = absurd is
+unopened_plain Tells old new (ends.EventsLeft left) is = tt
+unopened_plain Tells old new ends.NoMemory is = tt
+
+pub served_plain : {Own : Type 0} (Tells : Type 0) (accepts : List TableView → Bool) (end : Served) (old mid new : Seen Own) → (Tells → mid.history ≡ old.history ++ Opened ∷ []) → PlainWhole Tells accepts mid new engine_at_first end
+    → (allows : List Place → Bool) → Premise Tells accepts allows old new → IsPlainServed end
+served_plain Tells accepts end old mid new opened whole allows p = whole.plain allows p.told p.keeps p.judges (settled-first mid (opened_so old mid p.untouched (opened p.told))) p.few
+
+pub on_err : {T E : Type 0} {P Q : E → Type 0} (r : Result T E) → ((e : E) → P e → Q e) → IfErr r P → IfErr r Q
+on_err (Ok x) f p = tt
+on_err (Err e) f p = f e p

@@ -1,0 +1,228 @@
+-- Laws of a whole run: events one after the other, batches, the start and the end, and what a run of them promises.
+use Rattle.std.proofs.Common.{◌≡◌, ℕ, ◌+◌, ◌-◌, ◌^◌, ◌<◌, ◌≤◌, Bool, true, false, List, [], ◌∷◌, ◌++◌, length, drop, Option, Some, None, refl, sym, ap, ap₂, ◌∙◌, subst, arith}
+use Rattle.std.specs.Prelude.{slice_get}
+use Rattle.std.specs.Io.KnownBytes.{append_known}
+use Rattle.std.proofs.lemmas.List.{append-nil, length-append}
+use Rattle.of_types.specs.declared.journal.WorldStim.{WorldStim}
+use Rattle.flow_table.specs.declared.view.TableView.{TableView}
+use Rattle.app_frames.specs.declared.frame.Event.{Event}
+use Rattle.lego_model.specs.Journal.{Reply, Start}
+use Rattle.lego_model.specs.Places.{Place}
+use Rattle.lego_model.specs.Controller.{Run as ModelRun, settle, per_batch}
+use Rattle.outside.specs.Seen.{Seen, Continues}
+use Rattle.outside.specs.laws.SeenLaws.{Continues-trans}
+use Rattle.outside.specs.laws.StateLaws.{Conforming-before}
+use Rattle.outside.specs.Conforming.{Conforming}
+use Rattle.run_laws.specs.Engine.{Engine, Stands, engine_then}
+use Rattle.lego_model.specs.History.{stimuli_in}
+use Rattle.lego_model.specs.ReferenceRun.{text_of, dispatch_next, times}
+use Rattle.run_laws.specs.Facts.{StartsAgain}
+use Rattle.run_laws.specs.Moves.{AtRest, Moved, Shown, OneHappens}
+use Rattle.run_laws.specs.laws.BatchMoveLaws.{batch-happens, batch-over}
+use Rattle.run_laws.specs.Readings.{JudgesAlike}
+use Rattle.run_laws.specs.laws.StimuliLaws.{none-later}
+use Rattle.run_laws.specs.laws.MoveLaws.{shown-none, shown-then, shown-as}
+use Rattle.run_laws.specs.laws.DispatchWaitingLaws.{settle-times, times-more, times-stop}
+use Rattle.run_laws.specs.laws.RoundLaws.{rounds-none, rounds-more, rounds-end}
+use Rattle.run_laws.specs.laws.StartShownLaws.{start-shown}
+use Rattle.run_laws.specs.laws.EventLaws.{next-shown, rest-shown}
+use Rattle.run_laws.specs.Promise.{most_rounds}
+use Rattle.event_dispatch.specs.declared.batch.Rest.{Rest}
+use Rattle.event_dispatch.specs.declared.batch.Rest.TheVariants as rests
+use Rattle.event_dispatch.specs.declared.run.Managed.{Managed}
+use Rattle.event_dispatch.specs.declared.run.Run.{Run}
+use Rattle.event_dispatch.specs.Runs.{Waits}
+use Rattle.event_dispatch.specs.Batch.{BatchShown}
+use Rattle.event_dispatch.specs.Shows.{engine_of, queued_run}
+use Rattle.event_dispatch.specs.Serves.{Writes, Starts, IsDispatched, DispatchesOldest, DispatchesSome, DispatchesWaiting, IsBatch, GoesRound, GoesRounds, GoesToEnd, Begins}
+use Rattle.run_laws.specs.laws.EndingLaws.{known-append}
+
+-- ---- What is written
+
+nothing_written : (o : Option (List ℕ)) → o ≡ append_known o []
+nothing_written None = refl
+nothing_written (Some xs) = ap (λ (l : List ℕ). Some l) (sym (append-nil xs))
+
+writes_none : (contents : Option (List ℕ)) (r : Run) → r.lines.items ≡ [] → Writes [] contents contents r
+writes_none contents r none = record { written = nothing_written contents; none_waits = none }
+
+pub writes_then : (first second : List ℕ) (a b c : Option (List ℕ)) (r later : Run) → Writes first a b r → Writes second b c later → Writes (first ++ second) a c later
+writes_then first second a b c r later one two = record {
+  written = two.written ∙ ap (λ (o : Option (List ℕ)). append_known o second) one.written ∙ known-append a first second;
+  none_waits = two.none_waits;
+}
+
+-- ---- The oldest event that waits
+
+pub first_event : (queue : List Event) (event : Event) → Some event ≡ slice_get queue 0 → queue ≡ event ∷ drop 1 queue
+first_event [] event is = absurd cc
+first_event (first ∷ queue) event is = cc
+
+no_event : (queue : List Event) → None ≡ slice_get queue 0 → queue ≡ []
+no_event [] is = refl
+no_event (first ∷ queue) is = absurd cc
+
+pub one_settled : {Own : Type 0} (Tells : Type 0) (accepts : List TableView → Bool) (event : Event) (contents now_contents : Option (List ℕ)) (old new : Seen Own) (r : Run) (queue : List Event) (mid now_r : Run) → Continues Tells old new → r.events < 2 ^ 63 → Some event ≡ slice_get r.queue 0
+    → queue ≡ drop 1 r.queue → r.lines.items ≡ [] → IsDispatched Tells accepts event old new (queued_run queue r) mid → engine_of now_r ≡ engine_of mid → Writes mid.lines.items contents now_contents now_r → DispatchesOldest Tells accepts true contents now_contents old new r now_r
+one_settled Tells accepts event contents now_contents old new r queue mid now_r continues few waits left none is same writes = record {
+  text = is.text;
+  shown = subst (λ (e : Engine). Shown Tells accepts [] dispatch_next is.text old new (engine_of r) e) (sym same)
+      (next-shown Tells accepts event queue is.text old new (engine_of r) (engine_of mid) continues (omega (arith, few)) (first_event r.queue event waits ∙ ap (λ (q : List Event). event ∷ q) (sym left)) is.dispatches);
+  writes = subst (λ (text : List ℕ). Writes text contents now_contents now_r) (is.notes ∙ ap (λ (xs : List ℕ). xs ++ is.text) none) writes;
+  none = λ h. absurd cc;
+}
+
+pub none_settled : {Own : Type 0} (Tells : Type 0) (accepts : List TableView → Bool) (contents : Option (List ℕ)) (seen : Seen Own) (r : Run) (queue : List Event) → queue ≡ drop 1 r.queue → None ≡ slice_get r.queue 0 → r.lines.items ≡ []
+    → DispatchesOldest Tells accepts false contents contents seen seen r (queued_run queue r)
+none_settled Tells accepts contents seen r queue left waits none =
+    let empty : r.queue ≡ [] = no_event r.queue waits in
+    let same : queue ≡ r.queue = left ∙ ap (drop 1) empty ∙ sym empty in
+    record {
+      text = [];
+      shown = subst (λ (q : List Event). Shown Tells accepts [] dispatch_next [] seen seen (engine_of r) (record (engine_of r) { queue = q })) (sym same) (rest-shown Tells accepts seen (engine_of r) empty);
+      writes = record { written = nothing_written contents; none_waits = none };
+      none = λ h. same ∙ empty;
+    }
+
+-- ---- Events, one after the other
+
+pub some_none : {Own : Type 0} (Tells : Type 0) (accepts : List TableView → Bool) (contents : Option (List ℕ)) (seen : Seen Own) (r : Run) → r.lines.items ≡ [] → DispatchesSome Tells accepts 0 contents contents seen seen r r
+some_none Tells accepts contents seen r none = record { text = []; shown = shown-none Tells accepts seen (engine_of r); writes = writes_none contents r none }
+
+pub some_more : {Own : Type 0} (Tells : Type 0) (accepts : List TableView → Bool) (n : ℕ) (found : Bool) (a b c : Option (List ℕ)) (old mid new : Seen Own) (r then_r now_r : Run) → Continues Tells mid new → DispatchesSome Tells accepts n a b old mid r then_r
+    → DispatchesOldest Tells accepts found b c mid new then_r now_r → DispatchesSome Tells accepts (n + 1) a c old new r now_r
+some_more Tells accepts n found a b c old mid new r then_r now_r continues some one = record {
+  text = some.text ++ one.text;
+  shown = shown-as Tells accepts [] (λ allows q. dispatch_next allows (times n (dispatch_next allows) q)) (λ allows q. times (n + 1) (dispatch_next allows) q) (some.text ++ one.text) old new (engine_of r) (engine_of now_r)
+      (λ allows q is. sym (times-more n 1 (dispatch_next allows) q))
+      (shown-then Tells accepts [] [] (λ allows q. times n (dispatch_next allows) q) dispatch_next some.text one.text old mid new (engine_of r) (engine_of then_r) (engine_of now_r) continues some.shown one.shown);
+  writes = writes_then some.text one.text a b c then_r now_r some.writes one.writes;
+}
+
+-- where none is left after so many, all were dispatched
+settled_early : {Own : Type 0} (Tells : Type 0) (accepts : List TableView → Bool) (n m : ℕ) (text : List ℕ) (old new : Seen Own) (e now_e : Engine) → n + m ≡ per_batch → now_e.queue ≡ [] → Shown Tells accepts [] (λ allows q. times n (dispatch_next allows) q) text old new e now_e
+    → Shown Tells accepts [] settle text old new e now_e
+settled_early {Own} Tells accepts n m text old new e now_e sum none shown = record {
+  moved = λ allows told keeps judges settled.
+      let m = shown.moved allows told keeps judges settled in
+      record {
+        moves = record {
+          starts = m.moves.starts;
+          replies = m.moves.replies;
+          given = m.moves.given;
+          read_starts = m.moves.read_starts;
+          read_replies = m.moves.read_replies;
+          read_stimuli = m.moves.read_stimuli;
+          stands = λ ss rs q starts_so replies_so s.
+              let later_starts = drop (length m.moves.starts) ss in
+              let later_replies = drop (length m.moves.replies) rs in
+              let t = m.moves.stands ss rs q starts_so replies_so s in
+              subst (Stands new now_e later_starts later_replies) (same allows later_starts later_replies q t) t;
+          says = λ ss rs q starts_so replies_so s.
+              let t = m.moves.stands ss rs q starts_so replies_so s in
+              subst (λ (p : ModelRun). text_of p ≡ text_of q ++ text) (same allows (drop (length m.moves.starts) ss) (drop (length m.moves.replies) rs) q t) (m.moves.says ss rs q starts_so replies_so s);
+        };
+        settled = m.settled;
+      };
+}
+  where
+    same : (allows : List Place → Bool) (ss : List Start) (rs : List Reply) (q : ModelRun) → Stands new now_e ss rs (times n (dispatch_next allows) q) → times n (dispatch_next allows) q ≡ settle allows q
+    same allows ss rs q t = sym (times-stop allows n m q (t.queue ∙ none)) ∙ ap (λ (k : ℕ). times k (dispatch_next allows) q) sum ∙ settle-times allows q
+
+pub settles_early : {Own : Type 0} (Tells : Type 0) (accepts : List TableView → Bool) (n : ℕ) (a b : Option (List ℕ)) (old new : Seen Own) (r now_r : Run) → n ≤ 1000 → now_r.queue ≡ [] → DispatchesSome Tells accepts n a b old new r now_r → DispatchesWaiting Tells accepts a b old new r now_r
+settles_early Tells accepts n a b old new r now_r few none some =
+    let rest : (m : ℕ) × (n + m ≡ 1000) = (1000 - n, omega (arith, few)) in
+    record { text = some.text; shown = settled_early Tells accepts n rest.0 some.text old new (engine_of r) (engine_of now_r) rest.1 none some.shown; writes = some.writes }
+
+pub settles_all : {Own : Type 0} (Tells : Type 0) (accepts : List TableView → Bool) (n : ℕ) (a b : Option (List ℕ)) (old new : Seen Own) (r now_r : Run) → n ≡ 1000 → DispatchesSome Tells accepts n a b old new r now_r → DispatchesWaiting Tells accepts a b old new r now_r
+settles_all Tells accepts n a b old new r now_r all some = record {
+  text = some.text;
+  shown = shown-as Tells accepts [] (λ allows q. times n (dispatch_next allows) q) settle some.text old new (engine_of r) (engine_of now_r)
+      (λ allows q is. ap (λ (k : ℕ). times k (dispatch_next allows) q) all ∙ settle-times allows q) some.shown;
+  writes = some.writes;
+}
+
+-- ---- Rounds
+
+-- the engine with the network and the queue that a batch leaves
+engine_behind : (r now_r : Run) → now_r.app ≡ r.app → Waits r now_r → engine_then (engine_of r) now_r.net now_r.queue ≡ engine_of now_r
+engine_behind r now_r app waits =
+    ap₂ (λ (n : ℕ) (a : Managed). record { net = now_r.net; queue = now_r.queue; events = n; alive = a.state.alive; rest = a.state.rest; done = a.done; failed = a.failed }) (sym waits.events) (sym app)
+
+pub batch_is : {Own : Type 0} (Tells : Type 0) (rest : Rest) (old new : Seen Own) (r now_r : Run) → Continues Tells old new → now_r.app ≡ r.app → Waits r now_r → BatchShown Tells rest old new r now_r → IsBatch Tells rest old new (engine_of r) (engine_of now_r)
+batch_is Tells rests.Idle old new r now_r continues app waits shown = record {
+  happens = λ told keeps settled.
+      let done = shown.shown told keeps settled.calm in
+      subst (OneHappens old new (engine_of r)) (engine_behind r now_r app waits)
+      (batch-happens Tells done.0 old new r.net now_r.net r.queue now_r.queue (engine_of r) told continues (Conforming-before told continues keeps) keeps settled refl refl done.1);
+}
+batch_is Tells rests.End old new r now_r continues app waits shown = record {
+  over = record {
+    moved = λ told keeps settled.
+        subst (Moved [] (λ (q : ModelRun). q) [] old new (engine_of r)) (engine_behind r now_r app waits)
+        (batch-over old new r.net now_r.net r.queue now_r.queue (engine_of r) settled refl refl (shown.shown told keeps settled.calm));
+  };
+  none_to_come = λ told keeps settled. (shown.shown told keeps settled.calm).to_come;
+}
+
+pub round_so : {Own : Type 0} {Tells : Type 0} {accepts : List TableView → Bool} {rest : Rest} {contents now_contents : Option (List ℕ)} {old mid new : Seen Own} {r then_r now_r : Run} → Continues Tells old mid → then_r.app ≡ r.app → Waits r then_r
+    → BatchShown Tells rest old mid r then_r → Continues Tells mid new → DispatchesWaiting Tells accepts contents now_contents mid new then_r now_r → GoesRound Tells accepts rest contents now_contents old new r now_r
+round_so {Tells = Tells} {rest = rest} {old = old} {mid = mid} {r = r} {then_r = then_r} first app waits batch later dispatches = record {
+  mid = mid;
+  mid_run = then_r;
+  first = first;
+  batch = batch_is Tells rest old mid r then_r first app waits batch;
+  later = later;
+  dispatches = dispatches;
+}
+
+pub rounds_none : {Own : Type 0} (Tells : Type 0) (accepts : List TableView → Bool) (contents : Option (List ℕ)) (seen : Seen Own) (r : Run) → r.lines.items ≡ [] → GoesRounds Tells accepts 0 contents contents seen seen r r
+rounds_none Tells accepts contents seen r none = record { text = []; shown = rounds-none Tells accepts seen (engine_of r); writes = writes_none contents r none }
+
+pub rounds_next : {Own : Type 0} (Tells : Type 0) (accepts : List TableView → Bool) (n : ℕ) (a b c : Option (List ℕ)) (old mid new : Seen Own) (r then_r now_r : Run) → GoesRounds Tells accepts n a b old mid r then_r → GoesRound Tells accepts rests.Idle b c mid new then_r now_r
+    → GoesRounds Tells accepts (n + 1) a c old new r now_r
+rounds_next Tells accepts n a b c old mid new r then_r now_r rounds one = record {
+  text = rounds.text ++ one.dispatches.text;
+  shown = rounds-more Tells accepts n rounds.text one.dispatches.text old mid one.mid new (engine_of r) (engine_of then_r) (engine_of one.mid_run) (engine_of now_r) one.first one.later rounds.shown one.batch one.dispatches.shown;
+  writes = writes_then rounds.text one.dispatches.text a b c then_r now_r rounds.writes one.dispatches.writes;
+}
+
+pub rounds_last : {Own : Type 0} (Tells : Type 0) (accepts : List TableView → Bool) (n : ℕ) (a b c : Option (List ℕ)) (old mid new : Seen Own) (r then_r now_r : Run) → GoesRounds Tells accepts n a b old mid r then_r → GoesRound Tells accepts rests.End b c mid new then_r now_r
+    → GoesToEnd Tells accepts a c old new r now_r
+rounds_last Tells accepts n a b c old mid new r then_r now_r rounds one = record {
+  text = rounds.text ++ one.dispatches.text;
+  shown = rounds-end Tells accepts n most_rounds rounds.text one.dispatches.text old mid one.mid new (engine_of r) (engine_of then_r) (engine_of one.mid_run) (engine_of now_r) one.first one.later rounds.shown one.batch.over one.dispatches.shown;
+  none_to_come = record {
+    none = λ allows told keeps judges settled few.
+        let keeps_mid = Conforming-before told one.later keeps in
+        let then_settled = (rounds.shown.rounds_so allows told (Conforming-before told one.first keeps_mid) judges settled).moved.settled in
+        none-later Tells mid new told (Continues-trans Tells mid one.mid new one.first one.later) keeps (one.batch.none_to_come told keeps_mid then_settled);
+  };
+  writes = writes_then rounds.text one.dispatches.text a b c then_r now_r rounds.writes one.dispatches.writes;
+}
+
+-- so many rounds that there are not so many stimuli
+pub rounds_out : {Own : Type 0} (Tells : Type 0) (accepts : List TableView → Bool) (n : ℕ) (a b : Option (List ℕ)) (old new : Seen Own) (r now_r : Run) → 1000000000 ≤ n → GoesRounds Tells accepts n a b old new r now_r → GoesToEnd Tells accepts a b old new r now_r
+rounds_out {Own} Tells accepts n a b old new r now_r many rounds = record {
+  text = rounds.text;
+  shown = record { to_end = λ allows told keeps judges settled few. absurd (never allows told keeps judges settled few) };
+  none_to_come = record { none = λ allows told keeps judges settled few. absurd (never allows told keeps judges settled few) };
+  writes = rounds.writes;
+}
+  where
+    never : (allows : List Place → Bool) → Tells → Conforming new → JudgesAlike Own allows accepts → AtRest old (engine_of r) → length (stimuli_in new) < most_rounds → ⊥
+    never allows told keeps judges settled few =
+        let one = rounds.shown.rounds_so allows told keeps judges settled in
+        let long : length (stimuli_in new) ≡ length (stimuli_in old) + n =
+        ap (λ (xs : List WorldStim). length xs) one.moved.moves.read_stimuli ∙ length-append (stimuli_in old) one.stimuli ∙ ap (λ (k : ℕ). length (stimuli_in old) + k) one.number_so in
+        omega (arith, long, few, many)
+
+-- ---- The start
+
+pub begins_so : {Own : Type 0} (Tells : Type 0) (contents now_contents : Option (List ℕ)) (old new : Seen Own) (r mid now_r : Run) → r.lines.items ≡ [] → Starts Tells old new r mid → engine_of now_r ≡ engine_of mid → Writes mid.lines.items contents now_contents now_r
+    → Begins Tells contents now_contents old new r now_r
+begins_so Tells contents now_contents old new r mid now_r none starts same writes = record {
+  text = starts.text;
+  shown = start-shown Tells starts.text old new (engine_of r) (engine_of now_r) (subst (λ (e : Engine). StartsAgain Tells starts.text old new (engine_of r) e) (sym same) starts.starts);
+  writes = subst (λ (text : List ℕ). Writes text contents now_contents now_r) (starts.notes ∙ ap (λ (xs : List ℕ). xs ++ starts.text) none) writes;
+}

@@ -1,0 +1,4 @@
+pub mod FrameLaws
+pub mod ReadingLaws
+pub mod CallLaws
+pub mod AtOnceLaws

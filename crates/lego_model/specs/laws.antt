@@ -1,0 +1,4 @@
+pub mod JournalLaws
+pub mod ScriptedLaws
+pub mod SessionWordLaws
+pub mod SessionTextLaws

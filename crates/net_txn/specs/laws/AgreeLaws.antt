@@ -1,0 +1,190 @@
+-- After an undo view and table agree again: both lost the same keys, whatever their order.
+use Rattle.std.specs.Prelude.{◌≡◌, ◌==◌, ℕ, Bool, true, false, not, ◌||◌, List, [], ◌∷◌, ◌++◌, map, filter, Option, Some, None, Result, IsOk, if◌then◌else◌, refl}
+use Rattle.std.specs.Option.{option_map, is_some}
+use Rattle.std.proofs.Common.{sym, ap, ◌∙◌, subst, inl, inr}
+use Rattle.std.proofs.lemmas.Bool.{cases_Bool, cases_eq, eq-eqb, ne_eqb}
+use Rattle.of_match.specs.declared.key.Key.{Key}
+use Rattle.of_match.specs.Key.{key_number}
+use Rattle.of_action.specs.declared.action.Action.{Action}
+use Rattle.flow_table.specs.declared.entry.Entry.{Entry}
+use Rattle.flow_table.specs.declared.view.ViewRow.{ViewRow}
+use Rattle.flow_table.specs.declared.view.TableView.{TableView}
+use Rattle.flow_table.specs.Switch.{SwitchState}
+use Rattle.lego_model.specs.Answers.{Rows, rows_of_table, rows_of_view}
+use Rattle.outside.specs.Seen.{Seen}
+use Rattle.outside.specs.State.{state, switch_of, waits_of}
+use Rattle.outside.specs.laws.StateLaws.{Conforming-rest}
+use Rattle.outside.specs.Conforming.{Conforming}
+use Rattle.undo_laws.specs.Removal.{without}
+use Rattle.lego_model.specs.declared.fault.TxnFault.{TxnFault}
+use Rattle.net_txn.specs.Views.{rows_at, with_rows, is_viewed}
+use Rattle.net_txn.specs.laws.ViewLaws.{rows_at-same, rows_at-other, with_rows-none}
+use Rattle.net_txn.specs.Arriving.{without_key}
+use Rattle.net_txn.specs.Agreement.{Agrees}
+use Rattle.net_txn.specs.laws.NoticeLaws.{with_entries}
+use Rattle.net_txn.specs.Undos.{Part, Inverse, BarrierPassed, Stuck, steps_of, parts_of, is_stuck, without_keys, keys_of, fault_in, first_fault_of, first_fault, ended_by, IsRevertedOn, AgreesAgain}
+use Rattle.net_txn.specs.laws.RestoreLaws.{entries_left, keys_reverted, left_all, state_after, others_stay}
+use Rattle.net_txn.specs.laws.InStepLaws.{shown_by, some_rows}
+
+-- ---- Keys and actions without a key
+
+abbrev other_than : Key → Key × List Action → Bool
+other_than k r = not (key_number r.0 == key_number k)
+
+abbrev pairs_without : Key → Rows → Rows
+pairs_without k rows = filter (other_than k) rows
+
+map_if : {X Y : Type 0} (g : X → Y) (keep : Bool) (x : X) (xs : List X) (ys : List Y) → map g xs ≡ ys → map g (if keep then x ∷ xs else xs) ≡ (if keep then g x ∷ ys else ys)
+map_if g true x xs ys rest = ap (λ (zs : List _). g x ∷ zs) rest
+map_if g false x xs ys rest = rest
+
+view_without : (k : Key) (rows : List ViewRow) → rows_of_view (without_key k rows) ≡ pairs_without k (rows_of_view rows)
+view_without k [] = refl
+view_without k (r ∷ rs) = map_if (λ (s : ViewRow). (s.key, s.actions)) (not (key_number r.key == key_number k)) r (without_key k rs) (pairs_without k (rows_of_view rs)) (view_without k rs)
+
+table_without : (k : Key) (es : List Entry) → rows_of_table (without k es) ≡ pairs_without k (rows_of_table es)
+table_without k [] = refl
+table_without k (e ∷ es) = map_if (λ (f : Entry). (f.key, f.actions)) (not (key_number e.key == key_number k)) e (without k es) (pairs_without k (rows_of_table es)) (table_without k es)
+
+swap_if : {X : Type 0} (p q : X → Bool) (x : X) (xs : List X) (a b : Bool) → p x ≡ a → q x ≡ b → filter p (filter q xs) ≡ filter q (filter p xs) → filter p (if b then x ∷ filter q xs else filter q xs) ≡ filter q (if a then x ∷ filter p xs else filter p xs)
+swap_if p q x xs true true is_p is_q rest = rw (is_p, is_q) (ap (λ (ys : List _). x ∷ ys) rest)
+swap_if p q x xs true false is_p is_q rest = rw is_q rest
+swap_if p q x xs false true is_p is_q rest = rw is_p rest
+swap_if p q x xs false false is_p is_q rest = rest
+
+swap : {X : Type 0} (p q : X → Bool) (xs : List X) → filter p (filter q xs) ≡ filter q (filter p xs)
+swap p q [] = refl
+swap p q (x ∷ xs) = swap_if p q x xs (p x) (q x) refl refl (swap p q xs)
+
+-- ---- Without many keys, the first of them first, and the last of them first
+
+abbrev first_to_last : List Key → Rows → Rows
+first_to_last [] rows = rows
+first_to_last (k ∷ ks) rows = first_to_last ks (pairs_without k rows)
+
+abbrev last_to_first : List Key → Rows → Rows
+last_to_first [] rows = rows
+last_to_first (k ∷ ks) rows = pairs_without k (last_to_first ks rows)
+
+one_later : (ks : List Key) (k : Key) (rows : Rows) → first_to_last ks (pairs_without k rows) ≡ pairs_without k (first_to_last ks rows)
+one_later [] k rows = refl
+one_later (l ∷ ls) k rows = ap (first_to_last ls) (swap (other_than l) (other_than k) rows) ∙ one_later ls k (pairs_without l rows)
+
+either_way : (ks : List Key) (rows : Rows) → first_to_last ks rows ≡ last_to_first ks rows
+either_way [] rows = refl
+either_way (k ∷ ks) rows = one_later ks k rows ∙ ap (pairs_without k) (either_way ks rows)
+
+-- ---- The views
+
+abbrev rows_without : List Key → List ViewRow → List ViewRow
+rows_without [] rows = rows
+rows_without (k ∷ ks) rows = rows_without ks (without_key k rows)
+
+shown_without : (ks : List Key) (rows : List ViewRow) → rows_of_view (rows_without ks rows) ≡ first_to_last ks (rows_of_view rows)
+shown_without [] rows = refl
+shown_without (k ∷ ks) rows = shown_without ks (without_key k rows) ∙ ap (first_to_last ks) (view_without k rows)
+
+none_without : (d : ℕ) (ps : List (ℕ × Key)) (views : List TableView) → rows_at d views ≡ None → rows_at d (without_keys ps views) ≡ None
+none_without d [] views none = none
+none_without d (p ∷ ps) views none =
+    none_without d ps (with_rows p.0 (without_key p.1) views) (elim (cases_eq p.0 d) [
+      | inl same ↦ (let gone : rows_at p.0 views ≡ None = ap (λ (n : ℕ). rows_at n views) same ∙ none in ap (rows_at d) (with_rows-none p.0 (without_key p.1) views gone) ∙ none)
+      | inr other ↦ rows_at-other p.0 d (without_key p.1) views (λ is. other (sym is)) ∙ none
+    ])
+
+some_without : (d : ℕ) (ps : List (ℕ × Key)) (views : List TableView) (rows : List ViewRow) → rows_at d views ≡ Some rows → rows_at d (without_keys ps views) ≡ Some (rows_without (keys_of d ps) rows)
+some_without d [] views rows is = is
+some_without d (p ∷ ps) views rows is =
+    let next = with_rows p.0 (without_key p.1) views in
+    elim (cases_eq p.0 d) [
+      | inl same ↦
+          (let here : rows_at d next ≡ Some (without_key p.1 rows) = ap (λ (n : ℕ). rows_at d (with_rows n (without_key p.1) views)) same ∙ rows_at-same d (without_key p.1) views rows is in
+          rw (eq-eqb p.0 d same) (some_without d ps next (without_key p.1 rows) here))
+      | inr other ↦
+          (let there : rows_at d next ≡ Some rows = rows_at-other p.0 d (without_key p.1) views (λ same. other (sym same)) ∙ is in
+          rw (ne_eqb p.0 d other) (some_without d ps next rows there))
+    ]
+
+viewed_if : (here : Bool) (v : TableView) (rest : Bool) (o : Option (List ViewRow)) → rest ≡ is_some o → (here || rest) ≡ is_some (if here then Some v.rows else o)
+viewed_if true v rest o is = refl
+viewed_if false v rest o is = is
+
+pub viewed : (d : ℕ) (views : List TableView) → is_viewed d views ≡ is_some (rows_at d views)
+viewed d [] = refl
+viewed d (v ∷ vs) = viewed_if (v.dpid == d) v (is_viewed d vs) (rows_at d vs) (viewed d vs)
+
+-- ---- The table
+
+table_left : (parts : List Part) (es : List Entry) → rows_of_table (entries_left parts es) ≡ last_to_first (keys_reverted parts) (rows_of_table es)
+table_left [] es = refl
+table_left (Inverse xid k ∷ older) es = table_without k (entries_left older es) ∙ ap (pairs_without k) (table_left older es)
+table_left (BarrierPassed xid got ∷ older) es = table_left older es
+table_left (Stuck xid fault steps ∷ older) es = table_left older es
+
+-- ---- The whole
+
+none_from : {X Y : Type 0} (f : X → Y) (o : Option X) → option_map f o ≡ None → o ≡ None
+none_from f None is = refl
+none_from f (Some x) is = absurd cc
+
+same_value : (x y : Rows) → Some x ≡ Some y → x ≡ y
+same_value x y e = cc
+
+some_from : {X : Type 0} (f : X → Rows) (o : Option X) (y : Rows) → option_map f o ≡ Some y → (x : X) × (o ≡ Some x) × (f x ≡ y)
+some_from f None y is = absurd cc
+some_from f (Some x) y is = (x, refl, same_value (f x) y is)
+
+agrees_by : {Own : Type 0} (old new : Seen Own) (d : ℕ) (views now_views : List TableView) (all : List (ℕ × Key)) (parts : List (ℕ × Part)) (o : Option SwitchState) → new.given ≡ old.given → new.history ≡ old.history ++ steps_of parts
+    → ((c : ℕ) → IsRevertedOn (is_viewed c views) c old.counts new.counts (keys_of c all) (parts_of c parts)) → now_views ≡ without_keys all views → Conforming new → is_stuck (parts_of d parts) ≡ false → waits_of d (state old) ≡ []
+    → Agrees d views (state old) → switch_of d (state old) ≡ o → AgreesAgain d now_views (state new)
+agrees_by old new d views now_views all parts None given told each lost keeps free none before is =
+    let no_rows : rows_at d views ≡ None = none_from rows_of_view (rows_at d views) (before ∙ ap (option_map shown_by) is) in
+    let unknown : is_viewed d views ≡ false = viewed d views ∙ ap is_some no_rows in
+    let same = others_stay old new d parts given told (λ c. (each c).run) ((each d).unknown unknown) in
+    let gone : rows_at d now_views ≡ None = ap (rows_at d) lost ∙ none_without d all views no_rows in
+    record { agrees = rw (gone, same.0, is) refl; waits = same.1 ∙ none }
+agrees_by old new d views now_views all parts (Some s) given told each lost keeps free none before is =
+    let there = some_from rows_of_view (rows_at d views) (shown_by s) (before ∙ ap (option_map shown_by) is) in
+    let rows = there.0 in
+    let known : is_viewed d views ≡ true = viewed d views ∙ ap is_some there.1 in
+    let keys = keys_of d all in
+    let may = Conforming-rest old new (steps_of parts) given told keeps in
+    let l = left_all old.given.declared old.counts new.counts d s parts (state old) (λ c. (each c).run) free may is none in
+    let after = state_after old new (steps_of parts) given told in
+    let now : switch_of d (state new) ≡ Some (with_entries (entries_left (parts_of d parts) s.table.entries) s) = ap (switch_of d) after ∙ l.switch in
+    let shown : rows_at d now_views ≡ Some (rows_without keys rows) = ap (rows_at d) lost ∙ some_without d all views rows there.1 in
+    let same : rows_of_view (rows_without keys rows) ≡ rows_of_table (entries_left (parts_of d parts) s.table.entries) =
+    shown_without keys rows ∙ ap (first_to_last keys) there.2 ∙ either_way keys (shown_by s) ∙ ap (λ (ks : List Key). last_to_first ks (shown_by s)) (sym ((each d).keys_so known free)) ∙ sym (table_left (parts_of d parts) s.table.entries) in
+    record { agrees = rw (shown, now) (ap some_rows same); waits = ap (waits_of d) after ∙ l.barred ((each d).barred known free) }
+
+pub agrees : {Own : Type 0} (old new : Seen Own) (d : ℕ) (views now_views : List TableView) (all : List (ℕ × Key)) (parts : List (ℕ × Part)) → new.given ≡ old.given → new.history ≡ old.history ++ steps_of parts
+    → ((c : ℕ) → IsRevertedOn (is_viewed c views) c old.counts new.counts (keys_of c all) (parts_of c parts)) → now_views ≡ without_keys all views → Conforming new → is_stuck (parts_of d parts) ≡ false → waits_of d (state old) ≡ []
+    → Agrees d views (state old) → AgreesAgain d now_views (state new)
+agrees old new d views now_views all parts given told each lost keeps free none before = agrees_by old new d views now_views all parts (switch_of d (state old)) given told each lost keeps free none before refl
+
+-- ---- After Ok no switch failed.
+
+pub both_none : (o later : Option TxnFault) → first_fault_of o later ≡ None → (o ≡ None) × (later ≡ None)
+both_none None later is = (refl, is)
+both_none (Some f) later is = absurd cc
+
+free_head : (p : Part) (older : List Part) → fault_in p ≡ None → is_stuck (p ∷ older) ≡ false
+free_head (Inverse xid k) older none = refl
+free_head (BarrierPassed xid got) older none = refl
+free_head (Stuck xid fault steps) older none = absurd cc
+
+pub free_all : (parts : List (ℕ × Part)) (d : ℕ) → first_fault parts ≡ None → is_stuck (parts_of d parts) ≡ false
+free_all [] d none = refl
+free_all (p ∷ older) d none =
+    let n = both_none (first_fault older) (fault_in p.1) none in
+    elim (cases_Bool (p.0 == d)) [
+      | inl here ↦ rw here (free_head p.1 (parts_of d older) n.1)
+      | inr other ↦ rw other (free_all older d n.0)
+    ]
+
+pub no_fault : (o : Option TxnFault) → IsOk (ended_by o) → o ≡ None
+no_fault None ok = refl
+no_fault (Some f) ok = absurd cc
+
+pub none_failed : (result : Result (Unit {0}) TxnFault) (parts : List (ℕ × Part)) (d : ℕ) → result ≡ ended_by (first_fault parts) → IsOk result → is_stuck (parts_of d parts) ≡ false
+none_failed result parts d is ok = free_all parts d (no_fault (first_fault parts) (subst (λ (r : Result (Unit {0}) TxnFault). IsOk r) is ok))

@@ -1,0 +1,148 @@
+-- Laws of what comes of a request.
+use Rattle.std.specs.Prelude.{◌≡◌, ◌==◌, ℕ, ◌≤◌, ◌<◌, Bool, true, false, ◌&&◌, ◌||◌, nat_le, List, [], ◌∷◌, ◌++◌, length, take, map, All, Option, Result, Ok, Err, IfOk, IfErr, OnOk, OnErr, MatchResult, if◌then◌else◌, refl}
+use Rattle.std.proofs.Common.{get_or, inr, sym, ap, subst, ◌∙◌, arith}
+use Rattle.std.proofs.lemmas.Bool.{eqb-true, leb-true}
+use Rattle.std.proofs.lemmas.List.{length-map, map-append, take-map}
+use Rattle.std.proofs.lemmas.List.Elements.{All-nil, All-cons, All-append}
+use Rattle.std.proofs.lemmas.Option.{slice_get-get_or}
+use Rattle.of_types.specs.Fields.{number_at}
+use Rattle.of_types.specs.declared.journal.Act.TheVariants.{Sent}
+use Rattle.of_wire.specs.declared.message.Message.TheVariants.{BarrierReply}
+use Rattle.of_wire.specs.Spelling.{message_bytes}
+use Rattle.of_stats.specs.declared.flow_row.FlowRow.{FlowRow}
+use Rattle.of_stats.specs.Parts.{IsFirstBad}
+use Rattle.outside.specs.declared.step.WorldStep.{WorldStep}
+use Rattle.outside.specs.declared.step.WorldStep.TheVariants.{Acted}
+use Rattle.outside.specs.Seen.{Seen}
+use Rattle.lego_model.specs.declared.fault.TxnFault.{TxnFault}
+use Rattle.lego_model.specs.declared.fault.TxnFault.TheVariants.{SwitchFault, SwitchBroke, Diverged, Flooded, NoMemory}
+use Rattle.lego_model.specs.declared.wait.Awaited.{Awaited}
+use Rattle.lego_model.specs.declared.wait.Refusal.{Refusal}
+use Rattle.net_txn.specs.LinkSteps.{AsksWithoutStrays}
+use Rattle.net_txn.specs.Causes.{IsCause}
+use Rattle.net_txn.specs.Waits.{Waits, IfFlooded, KeptMore}
+use Rattle.lego_model.specs.BarrierWaits.{barrier_sent, next_xid}
+use Rattle.net_txn.specs.laws.WaitLaws.{waits_kept, of_switch}
+use Rattle.net_txn.specs.laws.ChangeLaws.{kept_for}
+use Rattle.net_txn.specs.Asks.{others_in, AreRowsOf, IsPartsFault, IsRepliesFault, Answered, GivesRows, IsAskCause}
+use Rattle.lego_model.specs.FlowQueries.{flows_request, request_sent, asked_from, is_about, part_in, parts_in, refusals_in, part_of, all_parts, WhyBroken}
+
+both_true : (a b : Bool) → (a && b) ≡ true → (a ≡ true) × (b ≡ true)
+both_true true b h = (refl, h)
+both_true false b h = absurd cc
+
+abbrev pub IsLong : List ℕ → Type 0
+IsLong bytes = 12 ≤ length bytes
+
+long_about : (xid kind : ℕ) (bytes : List ℕ) → is_about xid kind bytes ≡ true → IsLong bytes
+unfolding is_about
+long_about xid kind bytes is = leb-true _ _ (both_true (nat_le 12 (length bytes)) (number_at 4 4 bytes == xid && number_at 1 1 bytes == kind) is).0
+
+-- a message has one type
+pub part_refuses_not : (xid : ℕ) (bytes : List ℕ) → is_about xid 17 bytes ≡ true → is_about xid 1 bytes ≡ false
+unfolding is_about
+part_refuses_not xid bytes is =
+    let about = both_true (nat_le 12 (length bytes)) (number_at 4 4 bytes == xid && number_at 1 1 bytes == 17) is in
+    let id = both_true (number_at 4 4 bytes == xid) (number_at 1 1 bytes == 17) about.1 in
+    let kind : number_at 1 1 bytes ≡ 17 = eqb-true _ _ id.1 in
+    rw (about.0, id.0, kind) refl
+
+-- a part has 12 bytes at least
+long_if : (b : Bool) (bytes : List ℕ) → (b ≡ true → IsLong bytes) → All IsLong (if b then bytes ∷ [] else [])
+long_if true bytes is = All-cons IsLong bytes [] (is refl) (All-nil IsLong)
+long_if false bytes is = All-nil IsLong
+
+pub long_parts : (xid : ℕ) (came : List (ℕ × List ℕ)) → All IsLong (parts_in xid came)
+long_parts xid [] = All-nil IsLong
+long_parts xid (m ∷ ms) = All-append IsLong (part_in xid m) (parts_in xid ms) (long_if (is_about xid 17 m.1) m.1 (long_about xid 17 m.1)) (long_parts xid ms)
+
+-- ---- Which message is at fault
+
+pub within_messages : (place : ℕ) (messages : List (List ℕ)) → 0 < length messages → IsFirstBad place (all_parts messages) → place < length messages
+within_messages place messages some bad = omega (arith, bad.within, length-map messages part_of)
+
+pub broken_at : (d place : ℕ) (messages : List (List ℕ)) → place < length messages → WhyBroken messages place → IsPartsFault d messages (SwitchBroke d (get_or messages place []))
+broken_at d place messages within why = (refl, (place, slice_get-get_or messages place [] within, why))
+
+-- ---- What is kept
+
+other_one : (d : ℕ) (about : Bool) (b : List ℕ) → (rest : List (List ℕ)) × ((if about then [] else (d, b) ∷ []) ≡ map (of_switch d) rest)
+other_one d true b = ([], refl)
+other_one d false b = (b ∷ [], refl)
+
+others_of : (d xid : ℕ) (more : List (List ℕ)) → (rest : List (List ℕ)) × (others_in xid (map (of_switch d) more) ≡ map (of_switch d) rest)
+others_of d xid [] = ([], refl)
+others_of d xid (b ∷ bs) =
+    let first = other_one d (is_about xid 17 b || is_about xid 1 b) b in
+    let rest = others_of d xid bs in
+    (first.0 ++ rest.0, ap (λ (ms : List (ℕ × List ℕ)). ms ++ others_in xid (map (of_switch d) bs)) first.1 ∙ ap (λ (ms : List (ℕ × List ℕ)). map (of_switch d) first.0 ++ ms) rest.1 ∙ sym (map-append (of_switch d) first.0 rest.0))
+
+pub sorted_more : (d xid : ℕ) (came kept now_kept : List (ℕ × List ℕ)) → KeptMore d [] came → now_kept ≡ kept ++ others_in xid came → KeptMore d kept now_kept
+sorted_more d xid came kept now_kept more is =
+    let rest = others_of d xid more.0 in
+    (rest.0, is ∙ ap (λ (ms : List (ℕ × List ℕ)). kept ++ others_in xid ms) more.1 ∙ ap (λ (ms : List (ℕ × List ℕ)). kept ++ ms) rest.1)
+
+pub sorted_some : (d xid n : ℕ) (came kept now_kept : List (ℕ × List ℕ)) → KeptMore d [] came → now_kept ≡ kept ++ others_in xid (take n came) → KeptMore d kept now_kept
+sorted_some d xid n came kept now_kept more is =
+    sorted_more d xid (take n came) kept now_kept (take n more.0, ap (take n) more.1 ∙ take-map (of_switch d) n more.0) is
+
+-- ---- The whole
+
+pub came_more : {Own : Type 0} (Tells : Type 0) (d xid : ℕ) (a : Awaited) (front : List WorldStep) (old new : Seen Own) (before came : List (ℕ × List ℕ)) (result : Result (Option Refusal) TxnFault)
+    → a ≡ asked_from d xid → before ≡ [] → IfOk result (Waits Tells a front old new before came) → OnErr result (KeptMore a.dpid before came) → KeptMore d [] came
+came_more Tells d xid a front old new before came (Ok answer) is none ok err = kept_for d a.dpid before [] came (ap (λ (x : Awaited). x.dpid) is) none (waits_kept ok)
+came_more Tells d xid a front old new before came (Err fault) is none ok err = kept_for d a.dpid before [] came (ap (λ (x : Awaited). x.dpid) is) none err
+
+pub asked_cause : {Own : Type 0} (Tells : Type 0) (d xid : ℕ) (a : Awaited) (old new : Seen Own) (fault : TxnFault) → a ≡ asked_from d xid → IsCause Tells a.dpid old new fault → IsCause Tells d old new fault
+asked_cause Tells d xid a old new fault is cause = subst (λ (x : Awaited). IsCause Tells x.dpid old new fault) is cause
+
+pub asked_place : {Own : Type 0} (Tells : Type 0) (d xid : ℕ) (a : Awaited) (old new : Seen Own) → a ≡ asked_from d xid → AsksWithoutStrays Tells a.dpid old new → AsksWithoutStrays Tells d old new
+asked_place Tells d xid a old new is asks = subst (λ (x : Awaited). AsksWithoutStrays Tells x.dpid old new) is asks
+
+pub asked_waits : {Own : Type 0} {Tells : Type 0} (d xid : ℕ) (a : Awaited) (frame : List ℕ) (old new : Seen Own) (before came : List (ℕ × List ℕ)) (refusal : Option Refusal)
+    → a ≡ asked_from d xid → frame ≡ flows_request xid → before ≡ [] → Waits Tells a (Acted (Sent a.dpid frame) ∷ barrier_sent a ∷ []) old new before came refusal
+    → Waits Tells (asked_from d xid) (request_sent d xid ∷ barrier_sent (asked_from d xid) ∷ []) old new [] came refusal
+asked_waits {Tells = Tells} d xid a frame old new before came refusal is spelled none w =
+    let here = asked_from d xid in
+    let w1 = subst (λ (x : Awaited). Waits Tells x (Acted (Sent x.dpid frame) ∷ barrier_sent x ∷ []) old new before came refusal) is w in
+    let w2 = subst (λ (b : List ℕ). Waits Tells here (Acted (Sent d b) ∷ barrier_sent here ∷ []) old new before came refusal) spelled w1 in
+    subst (λ (k : List (ℕ × List ℕ)). Waits Tells here (request_sent d xid ∷ barrier_sent here ∷ []) old new k came refusal) none w2
+
+pub answer_by_replies : {Own : Type 0} {Tells : Type 0} (d xid : ℕ) (old new : Seen Own) (kept now_kept came : List (ℕ × List ℕ)) (parts refusals : List (List ℕ)) (request : List ℕ) (barrier : ℕ) (result : Result (List FlowRow) TxnFault)
+    → Answered Tells d xid old new kept now_kept came → parts ≡ parts_in xid came → refusals ≡ refusals_in xid came → request ≡ flows_request xid → barrier ≡ next_xid xid
+    → IfOk result (AreRowsOf parts) → OnOk result (refusals ≡ []) → IfErr result (IsRepliesFault d request (message_bytes barrier BarrierReply) parts refusals)
+    → MatchResult result (GivesRows Tells d xid old new kept now_kept) (IsAskCause Tells d xid old new kept now_kept)
+answer_by_replies d xid old new kept now_kept came parts refusals request barrier (Ok rows) answered parts_are refusals_are request_is barrier_is ok none err = record {
+  came = came;
+  answered = answered;
+  no_refusal = sym refusals_are ∙ none;
+  rows_so = subst (λ (ps : List (List ℕ)). AreRowsOf ps rows) parts_are ok;
+}
+answer_by_replies d xid old new kept now_kept came parts refusals request barrier (Err fault) answered parts_are refusals_are request_is barrier_is ok none err =
+    let e1 = subst (λ (ps : List (List ℕ)). IsRepliesFault d request (message_bytes barrier BarrierReply) ps refusals fault) parts_are err in
+    let e2 = subst (λ (rs : List (List ℕ)). IsRepliesFault d request (message_bytes barrier BarrierReply) (parts_in xid came) rs fault) refusals_are e1 in
+    let e3 = subst (λ (b : List ℕ). IsRepliesFault d b (message_bytes barrier BarrierReply) (parts_in xid came) (refusals_in xid came) fault) request_is e2 in
+    inr (came, answered, subst (λ (x : ℕ). IsRepliesFault d (flows_request xid) (message_bytes x BarrierReply) (parts_in xid came) (refusals_in xid came) fault) barrier_is e3)
+
+-- ---- A flood
+
+pub asked_flooded : {Own : Type 0} (Tells : Type 0) (d xid : ℕ) (a : Awaited) (frame : List ℕ) (old new : Seen Own) (fault : TxnFault) → a ≡ asked_from d xid → frame ≡ flows_request xid
+    → IfFlooded Tells a (Acted (Sent a.dpid frame) ∷ barrier_sent a ∷ []) old new fault → IfFlooded Tells (asked_from d xid) (request_sent d xid ∷ barrier_sent (asked_from d xid) ∷ []) old new fault
+asked_flooded Tells d xid a frame old new fault is spelled f =
+    let here = asked_from d xid in
+    let f1 = subst (λ (x : Awaited). IfFlooded Tells x (Acted (Sent x.dpid frame) ∷ barrier_sent x ∷ []) old new fault) is f in
+    subst (λ (b : List ℕ). IfFlooded Tells here (Acted (Sent d b) ∷ barrier_sent here ∷ []) old new fault) spelled f1
+
+no_flood_of : {Own : Type 0} (Tells : Type 0) (d xid : ℕ) (a : Awaited) (front : List WorldStep) (old new : Seen Own) (request reply : List ℕ) (parts refusals : List (List ℕ)) (fault : TxnFault) → IsRepliesFault d request reply parts refusals fault → IfFlooded Tells a front old new fault
+no_flood_of Tells d xid a front old new request reply parts refusals (SwitchFault of) is = tt
+no_flood_of Tells d xid a front old new request reply parts refusals (SwitchBroke of bytes) is = tt
+no_flood_of Tells d xid a front old new request reply parts refusals (Diverged of sent got) is = tt
+no_flood_of Tells d xid a front old new request reply parts refusals (Flooded of n) is = absurd is
+no_flood_of Tells d xid a front old new request reply parts refusals NoMemory is = tt
+
+-- what came is no flood
+pub replies_no_flood : {Own : Type 0} (Tells : Type 0) (d xid : ℕ) (old new : Seen Own) (request reply : List ℕ) (parts refusals : List (List ℕ)) (result : Result (List FlowRow) TxnFault) → IfErr result (IsRepliesFault d request reply parts refusals)
+    → IfErr result (IfFlooded Tells (asked_from d xid) (request_sent d xid ∷ barrier_sent (asked_from d xid) ∷ []) old new)
+replies_no_flood Tells d xid old new request reply parts refusals (Ok rows) is = tt
+replies_no_flood Tells d xid old new request reply parts refusals (Err fault) is =
+    no_flood_of Tells d xid (asked_from d xid) (request_sent d xid ∷ barrier_sent (asked_from d xid) ∷ []) old new request reply parts refusals fault is

@@ -1,0 +1,302 @@
+-- Where a world keeps its word, a switch that is asked for its rows tells them, and all stays as it was.
+use Rattle.std.specs.Prelude.{◌≡◌, ◌≢◌, ℕ, ◌^◌, ◌<◌, false, List, [], ◌∷◌, ◌++◌, length, drop, map, Some, None, Result, Ok, refl, filter, true}
+use Rattle.std.specs.List.{AllByRecursion, concat, flat_map}
+use Rattle.std.proofs.Common.{sym, ap, ◌∙◌, subst, arith}
+use Rattle.std.proofs.lemmas.List.{append-nil}
+use Rattle.of_types.specs.declared.journal.Act.TheVariants.{Got}
+use Rattle.of_types.specs.laws.LayoutLaws.{length-spelled, IsLaidOut-spelled}
+use Rattle.of_match.specs.declared.fields.Fields.{Fields}
+use Rattle.of_match.specs.Fields.{bytes_of, any_fields, IsFields}
+use Rattle.of_match.specs.Match.{match_of, fields_in}
+use Rattle.of_types.specs.Fields.{piece}
+use Rattle.of_types.specs.Layout.{Field, spelled, AreFields, IsLaidOut}
+use Rattle.of_match.specs.laws.MatchLaws.{fields_in-match_of-bytes_of, match_of-bytes_of}
+use Rattle.of_match.specs.declared.flow_match.Match.{Match}
+use Rattle.match_overlap.specs.Fieldwise.{fields_subsume}
+use Rattle.match_overlap.specs.Relations.{is_subsuming}
+use Rattle.flow_table.specs.Change.{sends_to}
+use Rattle.flow_table.specs.Rows.{is_selected}
+use Rattle.of_wire.specs.declared.bodies.Stats.{Stats as StatsBody}
+use Rattle.of_wire.specs.declared.message.Message.TheVariants.{StatsRequest, BarrierRequest, BarrierReply}
+use Rattle.of_wire.specs.Spelling.{message_size, message_bytes}
+use Rattle.of_wire.specs.Stats.{flow_query_fields}
+use Rattle.of_wire.specs.Grammar.{IsMessage}
+use Rattle.of_wire.specs.laws.ReadingLaws.{reading_of-message_bytes}
+use Rattle.of_stats.specs.declared.flow_row.FlowRow.{FlowRow}
+use Rattle.of_stats.specs.declared.fault.StatsFault.{StatsFault}
+use Rattle.of_stats.specs.Flows.{row_bytes, rows_bytes, AreRows}
+use Rattle.of_stats.specs.Reading.{rows_of}
+use Rattle.of_stats.specs.laws.FlowLaws.{rows_of-spelled, SpellRows-rows_bytes}
+use Rattle.of_stats.specs.Parts.{Part, joined}
+use Rattle.flow_table.specs.declared.entry.Entry.{Entry}
+use Rattle.flow_table.specs.Switch.{Declared, SwitchState}
+use Rattle.flow_table.specs.Refusals.{message_refusal, stats_refusal}
+use Rattle.flow_table.specs.Statistics.{selected_by, flow_row, flow_rows, reply_rows, parts_of, part_bytes, statistics_replies}
+use Rattle.flow_table.specs.Step.{after_taken, after_message, sent_by_taken, sent_by_message}
+use Rattle.outside.specs.declared.step.WorldStep.{WorldStep}
+use Rattle.outside.specs.declared.step.WorldStep.TheVariants.{Acted}
+use Rattle.outside.specs.Seen.{Seen}
+use Rattle.outside.specs.State.{State, after_step, after_steps, state, switch_of, waits_of}
+use Rattle.outside.specs.laws.StateLaws.{state-append, Conforming-rest}
+use Rattle.outside.specs.laws.LinkLaws.{switch_of-sent_other, waits_of-sent_other, waits_of-got}
+use Rattle.outside.specs.Conforming.{MaySteps, Conforming}
+use Rattle.lego_model.specs.declared.wait.Awaited.{Awaited}
+use Rattle.lego_model.specs.declared.wait.Heard.TheVariants.{Reply, Other}
+use Rattle.lego_model.specs.BarrierWaits.{next_xid, heard, is_reply, heard_steps, wait_steps, kept_of, barrier_sent, reply_got}
+use Rattle.net_txn.specs.laws.HeardLaws.{IsMessage-barrier, next_xid-lt, heard-reply}
+use Rattle.net_txn.specs.laws.StepLaws.{told_switch, told_waits, barrier_sends, barrier_stays, gots, gots_switch, gots_other, gots_other_waits, gots_empty, first_got, reply_alone}
+use Rattle.net_txn.specs.Asks.{others_in, Answered, GivesRows}
+use Rattle.lego_model.specs.FlowQueries.{all_flows, flows_request, request_sent, asked_from, parts_in, refusals_in, all_parts}
+use Rattle.net_txn.specs.laws.AskLaws.{part_refuses_not}
+use Rattle.net_txn.specs.AskSteps.{own_rows, RowsInStep}
+use Rattle.net_txn.specs.laws.ReplyLaws.{IsSmallPart, IsPartOf-part_bytes, heard_part, about_part, small_parts, joined_parts}
+use Rattle.net_txn.specs.laws.WaitLaws.{of_switch}
+use Rattle.of_match.specs.laws.FieldsLaws.{bytes_of-length}
+
+-- ---- The request
+
+-- ---- The request selects each entry: any match subsumes each one, and NONE stands for no output.
+
+abbrev any_match : Match
+any_match = match_of (bytes_of any_fields)
+
+pub any_subsumes : (f : Fields) → fields_subsume any_fields f ≡ true
+unfolding fields_subsume
+any_subsumes f = refl
+
+pub IsFields-any : IsFields any_fields
+IsFields-any = record { in_port = tt; dl_src = tt; dl_dst = tt; dl_vlan = tt; dl_vlan_pcp = tt; dl_type = tt; nw_tos = tt; nw_proto = tt; nw_src = tt; nw_dst = tt; tp_src = tt; tp_dst = tt }
+
+selects : (e : Entry) → is_selected any_match 0xffff e ≡ true
+unfolding is_selected is_subsuming sends_to
+selects e = rw (fields_in-match_of-bytes_of any_fields IsFields-any, any_subsumes (fields_in e.key.matching)) refl
+
+all_selected : (es : List Entry) → filter (is_selected any_match 0xffff) es ≡ es
+all_selected [] = refl
+all_selected (e ∷ es) = rw (selects e) (ap (λ (fs : List Entry). e ∷ fs) (all_selected es))
+
+abbrev query_fields : List Field
+query_fields = flow_query_fields (record { matching = any_match; table_id = 0xff; out_port = 0xffff })
+
+query_fit : AreFields query_fields
+query_fit = (bytes_of-length (fields_in any_match), (omega arith, (omega arith, tt)))
+
+length-all_flows : length all_flows ≡ 44
+unfolding all_flows
+length-all_flows =
+    length-spelled query_fields query_fit
+
+query_laid : IsLaidOut 0 query_fields [] all_flows
+unfolding all_flows
+query_laid = subst (λ (b : List ℕ). IsLaidOut 0 query_fields [] b) (append-nil (spelled query_fields)) (IsLaidOut-spelled 0 query_fields [] [] refl query_fit)
+
+pub selected_all : (s : SwitchState) → selected_by all_flows s ≡ s.table.entries
+unfolding selected_by
+selected_all s =
+    let matching : match_of (piece 40 0 all_flows) ≡ any_match = ap match_of query_laid.0 ∙ match_of-bytes_of any_match in
+    rw (query_laid.1.0, query_laid.1.1.0, matching) (all_selected s.table.entries)
+
+abbrev asking : StatsBody
+asking = record { kind = 1; flags = 0; body = all_flows }
+
+IsMessage-asking : IsMessage (StatsRequest asking)
+unfolding message_size
+IsMessage-asking = record { fields = (omega arith, (omega arith, tt)); tail = tt; size = omega (arith, length-all_flows) }
+
+not_refused : (s : SwitchState) → message_refusal s (StatsRequest asking) ≡ None
+unfolding message_refusal stats_refusal
+not_refused s = rw length-all_flows refl
+
+asking_stays : (s : SwitchState) → after_message (StatsRequest asking) s ≡ s
+unfolding after_message after_taken
+asking_stays s = rw (not_refused s) refl
+
+abbrev pub own_parts : SwitchState → List Part
+own_parts s = parts_of 1 (flow_rows all_flows s)
+
+abbrev pub own_replies : ℕ → SwitchState → List (List ℕ)
+own_replies xid s = map (part_bytes xid) (own_parts s)
+
+asking_sends : (xid : ℕ) (s : SwitchState) → sent_by_message xid (StatsRequest asking) s ≡ own_replies xid s
+unfolding sent_by_message sent_by_taken statistics_replies reply_rows
+asking_sends xid s = rw (not_refused s) refl
+
+pub small_own : (s : SwitchState) → AllByRecursion IsSmallPart (own_parts s)
+unfolding parts_of
+small_own s = small_parts 1 [] (flow_rows all_flows s) (omega arith)
+
+concat_rows : (moment : ℕ) (es : List Entry) → concat (map (λ e. row_bytes (flow_row moment e)) es) ≡ flat_map row_bytes (map (flow_row moment) es)
+concat_rows moment [] = refl
+concat_rows moment (e ∷ es) = ap (λ (b : List ℕ). row_bytes (flow_row moment e) ++ b) (concat_rows moment es)
+
+pub joined_own : (s : SwitchState) → joined (own_parts s) ≡ rows_bytes (own_rows s)
+unfolding parts_of flow_rows
+joined_own s = joined_parts 1 [] (flow_rows all_flows s) ∙ concat_rows s.moment (selected_by all_flows s) ∙ ap (λ (es : List Entry). rows_bytes (map (flow_row s.moment) es)) (selected_all s)
+
+-- ---- Before the messages that were got: the request and the barrier were sent.
+
+pub record Asking (d xid : ℕ) (s : SwitchState) (before after : State) : Type 0 where
+  pub switch : switch_of d after ≡ Some s
+  pub waits : waits_of d after ≡ own_replies xid s ++ message_bytes (next_xid xid) BarrierReply ∷ []
+  pub others : (e : ℕ) → e ≢ d → switch_of e after ≡ switch_of e before
+  pub others_wait : (e : ℕ) → e ≢ d → waits_of e after ≡ waits_of e before
+
+abbrev pub after_both : ℕ → ℕ → State → State
+after_both d xid t = after_step (barrier_sent (asked_from d xid)) (after_step (request_sent d xid) t)
+
+pub both_sent : (d xid : ℕ) (s : SwitchState) (t : State) → xid < 2 ^ 32 → switch_of d t ≡ Some s → waits_of d t ≡ [] → Asking d xid s t (after_both d xid t)
+both_sent d xid s t small is none =
+    let request = flows_request xid in
+    let barrier = message_bytes (next_xid xid) BarrierRequest in
+    let read = reading_of-message_bytes xid (StatsRequest asking) small IsMessage-asking in
+    let asks = reading_of-message_bytes (next_xid xid) BarrierRequest (next_xid-lt xid small) IsMessage-barrier in
+    let one = after_step (request_sent d xid) t in
+    let there : switch_of d one ≡ Some s = rw (told_switch d xid (StatsRequest asking) request t s read is, asking_stays s) refl in
+    let sends : waits_of d one ≡ own_replies xid s = rw (told_waits d xid (StatsRequest asking) request t s read is, none) (asking_sends xid s) in
+    record {
+      switch = rw (told_switch d (next_xid xid) BarrierRequest barrier one s asks there, barrier_stays s) refl;
+      waits = rw (told_waits d (next_xid xid) BarrierRequest barrier one s asks there, sends, barrier_sends (next_xid xid) s) refl;
+      others = λ e other. switch_of-sent_other d e barrier one other ∙ switch_of-sent_other d e request t other;
+      others_wait = λ e other. waits_of-sent_other d e barrier one other ∙ waits_of-sent_other d e request t other;
+    }
+
+-- ---- The messages that were got
+
+other_steps : (a : Awaited) (b : List ℕ) → heard a b ≡ Other → heard_steps a b ≡ Acted (Got a.dpid b) ∷ []
+other_steps a b is = rw is refl
+
+other_rest : (a : Awaited) (b : List ℕ) (bs : List (List ℕ)) → heard a b ≡ Other → wait_steps a (b ∷ bs) ++ reply_got a ∷ [] ≡ Acted (Got a.dpid b) ∷ (wait_steps a bs ++ reply_got a ∷ [])
+other_rest a b bs is = ap (λ (steps : List WorldStep). (steps ++ wait_steps a bs) ++ reply_got a ∷ []) (other_steps a b is)
+
+other_no_reply : (a : Awaited) (b : List ℕ) → heard a b ≡ Other → message_bytes a.barrier BarrierReply ≡ b → ⊥
+other_no_reply a b other is = let h : Other ≡ Reply = sym other ∙ ap (heard a) (sym is) ∙ heard-reply a in absurd cc
+
+-- the parts are got, and nothing else
+parts_alone : (declared : List Declared) (a : Awaited) (xid : ℕ) (parts : List Part) (got : List (List ℕ)) (t : State) → xid < 2 ^ 32 → a.barrier < 2 ^ 32 → AllByRecursion IsSmallPart parts
+    → waits_of a.dpid t ≡ map (part_bytes xid) parts ++ message_bytes a.barrier BarrierReply ∷ [] → MaySteps declared (wait_steps a got ++ reply_got a ∷ []) t → AllByRecursion (λ b. is_reply (heard a b) ≡ false) got
+    → got ≡ map (part_bytes xid) parts
+parts_alone declared a xid [] got t lt small fit waits may before = reply_alone declared a got t waits may before
+parts_alone declared a xid (p ∷ ps) [] t lt small fit waits may before =
+    let other = heard_part a xid p (part_bytes xid p) small (IsPartOf-part_bytes xid p lt fit.0) in
+    absurd (other_no_reply a (part_bytes xid p) other (first_got declared a.dpid (message_bytes a.barrier BarrierReply) (part_bytes xid p) (map (part_bytes xid) ps ++ message_bytes a.barrier BarrierReply ∷ []) [] t waits may))
+parts_alone declared a xid (p ∷ ps) (b ∷ bs) t lt small fit waits may before =
+    let part = part_bytes xid p in
+    let later = map (part_bytes xid) ps ++ message_bytes a.barrier BarrierReply ∷ [] in
+    let other = heard_part a xid p part small (IsPartOf-part_bytes xid p lt fit.0) in
+    let is : b ≡ part = first_got declared a.dpid b part later _ t waits may in
+    let here = subst (λ (x : List ℕ). MaySteps declared (wait_steps a (x ∷ bs) ++ reply_got a ∷ []) t) is may in
+    let steps = subst (λ (xs : List WorldStep). MaySteps declared xs t) (other_rest a part bs other) here in
+    let left : waits_of a.dpid (after_step (Acted (Got a.dpid part)) t) ≡ later = waits_of-got a.dpid part t ∙ ap (drop 1) waits in
+    let rest : bs ≡ map (part_bytes xid) ps = parts_alone declared a xid ps bs (after_step (Acted (Got a.dpid part)) t) lt small fit.1 left steps.1 before.1 in
+    ap (λ (x : List ℕ). x ∷ bs) is ∙ ap (λ (xs : List (List ℕ)). part ∷ xs) rest
+
+part_steps : (a : Awaited) (xid : ℕ) (parts : List Part) → xid < 2 ^ 32 → a.barrier < 2 ^ 32 → AllByRecursion IsSmallPart parts
+    → wait_steps a (map (part_bytes xid) parts) ++ reply_got a ∷ [] ≡ gots a.dpid (map (part_bytes xid) parts ++ message_bytes a.barrier BarrierReply ∷ [])
+part_steps a xid [] lt small fit = refl
+part_steps a xid (p ∷ ps) lt small fit =
+    let part = part_bytes xid p in
+    other_rest a part (map (part_bytes xid) ps) (heard_part a xid p part small (IsPartOf-part_bytes xid p lt fit.0))
+    ∙ ap (λ (steps : List WorldStep). Acted (Got a.dpid part) ∷ steps) (part_steps a xid ps lt small fit.1)
+
+-- ---- What came
+
+came_parts : (a : Awaited) (xid : ℕ) (parts : List Part) → xid < 2 ^ 32 → a.barrier < 2 ^ 32 → AllByRecursion IsSmallPart parts → kept_of a (map (part_bytes xid) parts) ≡ map (of_switch a.dpid) (map (part_bytes xid) parts)
+came_parts a xid [] lt small fit = refl
+came_parts a xid (p ∷ ps) lt small fit =
+    let part = part_bytes xid p in
+    rw (heard_part a xid p part small (IsPartOf-part_bytes xid p lt fit.0)) (ap (λ (ms : List (ℕ × List ℕ)). (a.dpid, part) ∷ ms) (came_parts a xid ps lt small fit.1))
+
+parts_there : (d xid : ℕ) (parts : List Part) → xid < 2 ^ 32 → AllByRecursion IsSmallPart parts → parts_in xid (map (of_switch d) (map (part_bytes xid) parts)) ≡ map (part_bytes xid) parts
+parts_there d xid [] lt fit = refl
+parts_there d xid (p ∷ ps) lt fit =
+    let part = part_bytes xid p in
+    rw (about_part xid p part (IsPartOf-part_bytes xid p lt fit.0)) (ap (λ (ms : List (List ℕ)). part ∷ ms) (parts_there d xid ps lt fit.1))
+
+no_others : (d xid : ℕ) (parts : List Part) → xid < 2 ^ 32 → AllByRecursion IsSmallPart parts → others_in xid (map (of_switch d) (map (part_bytes xid) parts)) ≡ []
+no_others d xid [] lt fit = refl
+no_others d xid (p ∷ ps) lt fit =
+    rw (about_part xid p (part_bytes xid p) (IsPartOf-part_bytes xid p lt fit.0)) (no_others d xid ps lt fit.1)
+
+-- a part is no ERROR
+no_refusals : (d xid : ℕ) (parts : List Part) → xid < 2 ^ 32 → AllByRecursion IsSmallPart parts → refusals_in xid (map (of_switch d) (map (part_bytes xid) parts)) ≡ []
+no_refusals d xid [] lt fit = refl
+no_refusals d xid (p ∷ ps) lt fit =
+    let part = part_bytes xid p in
+    rw (part_refuses_not xid part (about_part xid p part (IsPartOf-part_bytes xid p lt fit.0))) (no_refusals d xid ps lt fit.1)
+
+parts_said : (xid : ℕ) (parts : List Part) → xid < 2 ^ 32 → AllByRecursion IsSmallPart parts → all_parts (map (part_bytes xid) parts) ≡ parts
+parts_said xid [] lt fit = refl
+parts_said xid (p ∷ ps) lt fit =
+    let is = IsPartOf-part_bytes xid p lt fit.0 in
+    ap (λ (q : Part). q ∷ all_parts (map (part_bytes xid) ps)) is.said ∙ ap (λ (qs : List Part). p ∷ qs) (parts_said xid ps lt fit.1)
+
+-- ---- What was answered
+
+-- the messages of the transaction id are the switch's own reply, and no ERROR; what the wait leaves
+pub record AskedInStep {Own : Type 0} (d xid : ℕ) (s : SwitchState) (old new : Seen Own) (kept now_kept came : List (ℕ × List ℕ)) : Type 0 where
+  pub parts : parts_in xid came ≡ own_replies xid s
+  pub refusals : refusals_in xid came ≡ []
+  pub said : all_parts (parts_in xid came) ≡ own_parts s
+  pub waits : waits_of d (state new) ≡ []
+  pub stays : switch_of d (state new) ≡ Some s
+  pub others : (e : ℕ) → e ≢ d → switch_of e (state new) ≡ switch_of e (state old)
+  pub others_wait : (e : ℕ) → e ≢ d → waits_of e (state new) ≡ waits_of e (state old)
+  pub kept_so : now_kept ≡ kept
+
+pub asked_in_step : {Own : Type 0} {Tells : Type 0} (d xid : ℕ) (s : SwitchState) (old new : Seen Own) (kept now_kept came : List (ℕ × List ℕ)) → xid < 2 ^ 32 → Tells → Answered Tells d xid old new kept now_kept came
+    → Conforming new → switch_of d (state old) ≡ Some s → waits_of d (state old) ≡ [] → AskedInStep d xid s old new kept now_kept came
+asked_in_step d xid s old new kept now_kept came lt told answered keeps is none =
+    let a = asked_from d xid in
+    let small = next_xid-lt xid lt in
+    let fit = small_own s in
+    let parts = own_replies xid s in
+    let reply = message_bytes (next_xid xid) BarrierReply in
+    let w = answered.waits in
+    let steps = request_sent d xid ∷ barrier_sent a ∷ (wait_steps a w.got ++ reply_got a ∷ []) in
+    let may = Conforming-rest old new steps w.hears.continues.given (w.hears.told told) keeps in
+    let after = state-append old new steps w.hears.continues.given (w.hears.told told) in
+    let mid = after_both d xid (state old) in
+    let sent = both_sent d xid s (state old) lt is none in
+    let got_is : w.got ≡ parts = parts_alone old.given.declared a xid (own_parts s) w.got mid lt small fit sent.waits may.1.1 w.hears.before_reply in
+    let got_steps : wait_steps a w.got ++ reply_got a ∷ [] ≡ gots d (parts ++ reply ∷ []) = ap (λ (gs : List (List ℕ)). wait_steps a gs ++ reply_got a ∷ []) got_is ∙ part_steps a xid (own_parts s) lt small fit in
+    let now : state new ≡ after_steps (gots d (parts ++ reply ∷ [])) mid = after ∙ ap (λ (xs : List WorldStep). after_steps xs mid) got_steps in
+    let came_is : came ≡ map (of_switch d) parts = w.hears.kept_so ∙ ap (kept_of a) got_is ∙ came_parts a xid (own_parts s) lt small fit in
+    let there : parts_in xid came ≡ parts = ap (parts_in xid) came_is ∙ parts_there d xid (own_parts s) lt fit in
+    record {
+      parts = there;
+      refusals = ap (refusals_in xid) came_is ∙ no_refusals d xid (own_parts s) lt fit;
+      said = ap all_parts there ∙ parts_said xid (own_parts s) lt fit;
+      waits = ap (waits_of d) now ∙ gots_empty d (parts ++ reply ∷ []) mid sent.waits;
+      stays = ap (switch_of d) now ∙ gots_switch d (parts ++ reply ∷ []) mid ∙ sent.switch;
+      others = λ e other. ap (switch_of e) now ∙ gots_other d e (parts ++ reply ∷ []) mid other ∙ sent.others e other;
+      others_wait = λ e other. ap (waits_of e) now ∙ gots_other_waits d e (parts ++ reply ∷ []) mid other ∙ sent.others_wait e other;
+      kept_so = answered.kept_so ∙ ap (λ (ms : List (ℕ × List ℕ)). kept ++ others_in xid ms) came_is ∙ ap (λ (ms : List (ℕ × List ℕ)). kept ++ ms) (no_others d xid (own_parts s) lt fit) ∙ append-nil kept;
+    }
+
+-- ---- The rows
+
+abbrev read_as : List FlowRow → Result (List FlowRow) StatsFault
+read_as rows = Ok rows
+
+same_value : (x y : List FlowRow) → read_as x ≡ read_as y → x ≡ y
+same_value x y e = cc
+
+-- where the switch's own rows have a spelling, their bytes are read as they are
+pub own_read : (s : SwitchState) → AreRows (own_rows s) → rows_of (rows_bytes (own_rows s)) ≡ Ok (own_rows s)
+own_read s fits = rows_of-spelled (own_rows s) (rows_bytes (own_rows s)) fits (SpellRows-rows_bytes (own_rows s) fits)
+
+pub rows_in_step : {Own : Type 0} {Tells : Type 0} (d xid : ℕ) (s : SwitchState) (old new : Seen Own) (kept now_kept : List (ℕ × List ℕ)) (rows : List FlowRow) → xid < 2 ^ 32 → Tells → GivesRows Tells d xid old new kept now_kept rows
+    → Conforming new → switch_of d (state old) ≡ Some s → waits_of d (state old) ≡ [] → RowsInStep d s old new kept now_kept rows
+rows_in_step d xid s old new kept now_kept rows lt told gives keeps is none =
+    let in_step = asked_in_step d xid s old new kept now_kept gives.came lt told gives.answered keeps is none in
+    let said : joined (all_parts (parts_in xid gives.came)) ≡ rows_bytes (own_rows s) = ap joined in_step.said ∙ joined_own s in
+    let read : rows_of (rows_bytes (own_rows s)) ≡ Ok rows = ap rows_of (sym said) ∙ gives.rows_so.read in
+    record {
+      rows_so = read;
+      same_rows = λ fits. same_value rows (own_rows s) (sym read ∙ own_read s fits);
+      waits = in_step.waits;
+      stays = in_step.stays;
+      others = in_step.others;
+      others_wait = in_step.others_wait;
+      kept_so = in_step.kept_so;
+    }

@@ -1,0 +1,191 @@
+-- Laws of changes: how the pieces of one make the whole.
+use Rattle.std.specs.Prelude.{◌≡◌, ℕ, ◌^◌, ◌<◌, Bool, List, [], ◌∷◌, Option, Some, None, Result, Ok, Err, MatchResult, IfErr, IsSome, length, take, refl}
+use Rattle.std.specs.Option.{is_some}
+use Rattle.std.proofs.Common.{sym, ap, ◌∙◌, subst, inl, inr, arith}
+use Rattle.std.proofs.lemmas.List.{take_all, take_at}
+use Rattle.of_types.specs.declared.journal.Act.TheVariants.{Sent}
+use Rattle.of_wire.specs.declared.bodies.FlowMod.{FlowMod as Change}
+use Rattle.of_wire.specs.declared.message.Message.{Message}
+use Rattle.of_wire.specs.declared.message.Message.TheVariants.{FlowMod}
+use Rattle.of_wire.specs.declared.message.Envelope.{Envelope}
+use Rattle.of_wire.specs.declared.fault.WireFault.{WireFault}
+use Rattle.of_wire.specs.Reading.{reading_of}
+use Rattle.of_wire.specs.Spelling.{message_bytes}
+use Rattle.of_wire.specs.Grammar.{IsMessage, enveloped}
+use Rattle.app_frames.specs.declared.frame.Answer.{Answer}
+use Rattle.app_frames.specs.declared.frame.Answer.TheVariants.{Unknown}
+use Rattle.lego_model.specs.Answers.{rows_of_view, as_sent, host_answer_read, host_answer}
+use Rattle.outside.specs.declared.step.WorldStep.TheVariants.{Acted}
+use Rattle.outside.specs.Seen.{Seen, Continues}
+use Rattle.outside.specs.laws.SeenLaws.{Continues-refl}
+use Rattle.outside.specs.laws.InOrderLaws.{messages-none}
+use Rattle.lego_model.specs.declared.fault.TxnFault.{TxnFault}
+use Rattle.lego_model.specs.declared.fault.TxnFault.TheVariants.{SwitchFault, SwitchBroke, Diverged, Flooded, NoMemory}
+use Rattle.lego_model.specs.declared.wait.Awaited.{Awaited}
+use Rattle.lego_model.specs.declared.wait.Refusal.{Refusal}
+use Rattle.net_txn.specs.LinkSteps.{OnLinks, AsksWithoutStrays}
+use Rattle.net_txn.specs.laws.LinkStepLaws.{OnLinks-refl}
+use Rattle.net_txn.specs.laws.LinkStrayLaws.{no_strays_none}
+use Rattle.net_txn.specs.laws.ReadLaws.{asked_read}
+use Rattle.net_txn.specs.Causes.{IsCause}
+use Rattle.flow_table.specs.declared.view.ViewRow.{ViewRow}
+use Rattle.flow_table.specs.declared.view.TableView.{TableView}
+use Rattle.net_txn.specs.declared.logged.Logged.{Logged}
+use Rattle.net_txn.specs.Waits.{Waits, Floods, IfFlooded, KeptMore}
+use Rattle.lego_model.specs.BarrierWaits.{barrier_sent}
+use Rattle.net_txn.specs.Views.{rows_at, with_rows, with_added, rows_after}
+use Rattle.net_txn.specs.laws.ViewLaws.{rows_at-stays}
+use Rattle.net_txn.specs.Net.{NetState, awaited_from, with_logged}
+use Rattle.net_txn.specs.Changes.{answer_of_host, views_by, change_sent, Asked, Stopped, IfGivenUp, Changes}
+
+pub sent_waits : {Own : Type 0} {Tells : Type 0} (d : ℕ) (m : Change) (net : NetState) (a : Awaited) (frame : List ℕ) (kept now_kept : List (ℕ × List ℕ)) (old new : Seen Own) (refusal : Option Refusal)
+    → a ≡ awaited_from d net.xid → frame ≡ message_bytes a.first (as_sent (FlowMod m)) → kept ≡ net.kept
+    → Waits Tells a (Acted (Sent a.dpid frame) ∷ barrier_sent a ∷ []) old new kept now_kept refusal
+    → Waits Tells (awaited_from d net.xid) (change_sent d net.xid m ∷ barrier_sent (awaited_from d net.xid) ∷ []) old new net.kept now_kept refusal
+sent_waits {Tells = Tells} d m net a frame kept now_kept old new refusal is spelled same w =
+    let here = awaited_from d net.xid in
+    let first : frame ≡ message_bytes net.xid (as_sent (FlowMod m)) = spelled ∙ ap (λ (x : Awaited). message_bytes x.first (as_sent (FlowMod m))) is in
+    let w1 = subst (λ (x : Awaited). Waits Tells x (Acted (Sent x.dpid frame) ∷ barrier_sent x ∷ []) old new kept now_kept refusal) is w in
+    let w2 = subst (λ (b : List ℕ). Waits Tells here (Acted (Sent d b) ∷ barrier_sent here ∷ []) old new kept now_kept refusal) first w1 in
+    subst (λ (k : List (ℕ × List ℕ)). Waits Tells here (change_sent d net.xid m ∷ barrier_sent here ∷ []) old new k now_kept refusal) same w2
+
+sent_floods : {Own : Type 0} {Tells : Type 0} (d : ℕ) (m : Change) (net : NetState) (a : Awaited) (frame : List ℕ) (old new : Seen Own) → a ≡ awaited_from d net.xid → frame ≡ message_bytes a.first (as_sent (FlowMod m))
+    → Floods Tells a (Acted (Sent a.dpid frame) ∷ barrier_sent a ∷ []) old new → Floods Tells (awaited_from d net.xid) (change_sent d net.xid m ∷ barrier_sent (awaited_from d net.xid) ∷ []) old new
+sent_floods {Tells = Tells} d m net a frame old new is spelled f =
+    let here = awaited_from d net.xid in
+    let first : frame ≡ message_bytes net.xid (as_sent (FlowMod m)) = spelled ∙ ap (λ (x : Awaited). message_bytes x.first (as_sent (FlowMod m))) is in
+    let f1 = subst (λ (x : Awaited). Floods Tells x (Acted (Sent x.dpid frame) ∷ barrier_sent x ∷ []) old new) is f in
+    subst (λ (b : List ℕ). Floods Tells here (Acted (Sent d b) ∷ barrier_sent here ∷ []) old new) first f1
+
+pub given_up : {Own : Type 0} (Tells : Type 0) (d : ℕ) (m : Change) (net : NetState) (a : Awaited) (frame : List ℕ) (old new : Seen Own) (fault : TxnFault) → a ≡ awaited_from d net.xid → frame ≡ message_bytes a.first (as_sent (FlowMod m))
+    → IsMessage (FlowMod m) → net.xid < 2 ^ 32 → IfFlooded Tells a (Acted (Sent a.dpid frame) ∷ barrier_sent a ∷ []) old new fault → IfGivenUp Tells d m old new net fault
+given_up Tells d m net a frame old new (SwitchFault of) is spelled message lt f = tt
+given_up Tells d m net a frame old new (SwitchBroke of bytes) is spelled message lt f = tt
+given_up Tells d m net a frame old new (Diverged of sent got) is spelled message lt f = tt
+given_up Tells d m net a frame old new (Flooded of n) is spelled message lt f = (message, lt, sent_floods d m net a frame old new is spelled f)
+given_up Tells d m net a frame old new NoMemory is spelled message lt f = tt
+
+no_answer : (answer : Answer) → Some answer ≡ None → ⊥
+no_answer answer e = cc
+
+abbrev some_rows : List ViewRow → Option (List ViewRow)
+some_rows rows = Some rows
+
+abbrev read_as : ℕ → Change → Result Envelope WireFault
+read_as xid m = Ok (enveloped xid (FlowMod m))
+
+abbrev message_in : Result Envelope WireFault → Option Message
+message_in (Ok envelope) = Some envelope.message
+message_in (Err fault) = None
+
+same_change : (x y : ℕ) (m n : Change) → read_as x m ≡ read_as y n → m ≡ n
+same_change x y m n e = let f : Some (FlowMod m) ≡ Some (FlowMod n) = ap message_in e in cc
+
+some_is : (a b : Answer) → Some a ≡ Some b → a ≡ b
+some_is a b e = cc
+
+-- the host answers, with nothing sent
+pub Changes-by_host : {Own : Type 0} {Tells : Type 0} (d : ℕ) (bytes : List ℕ) (seen : Seen Own) (net : NetState) (answer : Answer) → answer_of_host d bytes net ≡ Some answer → Changes Tells d bytes seen seen net net (Ok answer)
+Changes-by_host {Tells = Tells} d bytes seen net answer is = record {
+  continues = Continues-refl Tells seen;
+  links = OnLinks-refl Tells seen;
+  no_strays = λ told keeps joined. no_strays_none seen;
+  read = λ ok told. messages-none seen;
+  cause = tt;
+  switches = λ e. refl;
+  ports = refl;
+  moment = refl;
+  room = refl;
+  by_host = λ other h. record { answers = some_is answer other (sym is ∙ h); fault = tt; world = refl; stays = refl };
+  by_switch = λ xid m none read. absurd (no_answer answer (sym is ∙ none));
+  flooded = λ xid m none read. tt;
+}
+
+-- memory was wanting before anything was sent
+pub Changes-short : {Own : Type 0} {Tells : Type 0} (d : ℕ) (bytes : List ℕ) (seen : Seen Own) (net : NetState) → Changes Tells d bytes seen seen net net (Err NoMemory)
+Changes-short {Tells = Tells} d bytes seen net = record {
+  continues = Continues-refl Tells seen;
+  links = OnLinks-refl Tells seen;
+  no_strays = λ told keeps joined. no_strays_none seen;
+  read = λ ok told. messages-none seen;
+  cause = tt;
+  switches = λ e. refl;
+  ports = refl;
+  moment = refl;
+  room = refl;
+  by_host = λ other h. record { answers = tt; fault = refl; world = refl; stays = refl };
+  by_switch = λ xid m none read. inl (record { world = refl; views = refl; log = refl; kept = refl });
+  flooded = λ xid m none read. tt;
+}
+
+pub kept_for : (d e : ℕ) (before kept now_kept : List (ℕ × List ℕ)) → e ≡ d → before ≡ kept → KeptMore e before now_kept → KeptMore d kept now_kept
+kept_for d e before kept now_kept is same more =
+    subst (λ (k : List (ℕ × List ℕ)). KeptMore d k now_kept) same (subst (λ (x : ℕ). KeptMore x before now_kept) is more)
+
+pub same_log : (a b : Option Logged) (before log : List Logged) → a ≡ b → before ≡ log → with_logged a before ≡ with_logged b log
+same_log a b before log is same = ap (λ (o : Option Logged). with_logged o before) is ∙ ap (with_logged b) same
+
+pub log_cut : (a : Option Logged) (log all : List Logged) (n : ℕ) → n ≡ length log → all ≡ with_logged a log → take n all ≡ log
+log_cut None log all n is longer = rw (longer, is) (take_all (length log) log (omega arith))
+log_cut (Some entry) log all n is longer = rw longer (take_at log (entry ∷ []) n (sym is))
+
+pub same_views : (d : ℕ) (a b : Option ViewRow) (before views : List TableView) → a ≡ b → before ≡ views → with_rows d (with_added a) before ≡ with_rows d (with_added b) views
+same_views d a b before views is same = ap (λ (o : Option ViewRow). with_rows d (with_added o) before) is ∙ ap (with_rows d (with_added b)) same
+
+-- ---- What the host makes of it
+
+pub host_unknown : (d : ℕ) (bytes : List ℕ) (net : NetState) (views : List TableView) → views ≡ net.views → rows_at d views ≡ None → answer_of_host d bytes net ≡ Some Unknown
+unfolding host_answer
+host_unknown d bytes net views same none = let here : rows_at d net.views ≡ None = ap (λ (vs : List TableView). rows_at d vs) (sym same) ∙ none in rw here refl
+
+pub host_knows : (d : ℕ) (bytes : List ℕ) (net : NetState) (views : List TableView) (rows seen : List ViewRow) → views ≡ net.views → rows_at d views ≡ Some rows → seen ≡ rows
+    → answer_of_host d bytes net ≡ host_answer_read (rows_of_view seen) (reading_of bytes)
+unfolding host_answer
+host_knows d bytes net views rows seen same known is =
+    let here : rows_at d net.views ≡ Some seen = ap (λ (vs : List TableView). rows_at d vs) (sym same) ∙ known ∙ ap (λ (rs : List ViewRow). some_rows rs) (sym is) in
+    rw here refl
+
+some_rows_there : (o : Option (List ViewRow)) → (o ≡ None → ⊥) → IsSome o
+some_rows_there None some = absurd (some refl)
+some_rows_there (Some rows) some = refl
+
+-- where the host has no answer, the switch is joined
+host_known : (d : ℕ) (bytes : List ℕ) (net : NetState) → answer_of_host d bytes net ≡ None → IsSome (rows_at d net.views)
+host_known d bytes net none = some_rows_there (rows_at d net.views) (λ is. absurd (no_answer Unknown (sym (host_unknown d bytes net net.views refl is) ∙ none)))
+
+-- the views keep their switches
+
+abbrev has_rows : ℕ → List TableView → Bool
+has_rows e views = is_some (rows_at e views)
+
+judged_switches : (refusal : Option Refusal) (d e : ℕ) (m : Change) (views : List TableView) → has_rows e (views_by refusal d m views) ≡ has_rows e views
+judged_switches None d e m views = rows_at-stays d e (rows_after m) views
+judged_switches (Some refusal) d e m views = refl
+
+stopped_switches : {Own : Type 0} (d e : ℕ) (m : Change) (old new : Seen Own) (net now_net : NetState) → Stopped d m old new net now_net → has_rows e now_net.views ≡ has_rows e net.views
+stopped_switches d e m old new net now_net (inl unsent) = ap (has_rows e) unsent.views
+stopped_switches d e m old new net now_net (inr cut) = elim cut.views [ inl same ↦ ap (has_rows e) same | inr moved ↦ ap (has_rows e) moved ∙ rows_at-stays d e (rows_after m) net.views ]
+
+made_switches : {Own : Type 0} (Tells : Type 0) (d e : ℕ) (m : Change) (old new : Seen Own) (net now_net : NetState) (result : Result Answer TxnFault) → MatchResult result (Asked Tells d m old new net now_net) (λ f. Stopped d m old new net now_net)
+    → has_rows e now_net.views ≡ has_rows e net.views
+made_switches Tells d e m old new net now_net (Ok answer) asked = ap (has_rows e) asked.views ∙ judged_switches asked.refusal d e m net.views
+made_switches Tells d e m old new net now_net (Err fault) stopped = stopped_switches d e m old new net now_net stopped
+
+pub Changes-by_switch : {Own : Type 0} {Tells : Type 0} (d : ℕ) (bytes : List ℕ) (old new : Seen Own) (net now_net : NetState) (result : Result Answer TxnFault) (xid : ℕ) (m : Change)
+    → answer_of_host d bytes net ≡ None → reading_of bytes ≡ Ok (enveloped xid (FlowMod m)) → MatchResult result (Asked Tells d m old new net now_net) (λ f. Stopped d m old new net now_net)
+    → Continues Tells old new → OnLinks Tells old new → AsksWithoutStrays Tells d old new → IfErr result (IsCause Tells d old new) → now_net.ports ≡ net.ports → now_net.moment ≡ net.moment → now_net.room ≡ net.room
+    → IfErr result (IfGivenUp Tells d m old new net) → Changes Tells d bytes old new net now_net result
+Changes-by_switch {Tells = Tells} d bytes old new net now_net result xid m none read does continues links no_strays cause ports moment room f = record {
+  continues = continues;
+  links = links;
+  no_strays = λ told keeps joined. no_strays told keeps (joined (host_known d bytes net none));
+  read = asked_read Tells d m old new net now_net result does;
+  cause = cause;
+  switches = λ e. made_switches Tells d e m old new net now_net result does;
+  ports = ports;
+  moment = moment;
+  room = room;
+  by_host = λ answer h. absurd (no_answer answer (sym h ∙ none));
+  by_switch = λ other n _ again. subst (λ (x : Change). MatchResult result (Asked Tells d x old new net now_net) (λ f. Stopped d x old new net now_net)) (same_change xid other m n (sym read ∙ again)) does;
+  flooded = λ other n _ again. subst (λ (x : Change). IfErr result (IfGivenUp Tells d x old new net)) (same_change xid other m n (sym read ∙ again)) f;
+}

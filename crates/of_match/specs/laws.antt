@@ -1,0 +1,4 @@
+pub mod FieldsLaws
+pub mod MatchLaws
+pub mod KeyLaws
+pub mod CoversLaws

@@ -1,0 +1,4 @@
+pub mod ReadingLaws
+pub mod FlowLaws
+pub mod LayoutLaws
+pub mod PartLaws

@@ -1,0 +1,4 @@
+pub mod SpellingLaws
+pub mod ReadingLaws
+pub mod GrammarLaws
+pub mod RewritingLaws

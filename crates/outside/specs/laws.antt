@@ -1,0 +1,6 @@
+pub mod SeenLaws
+pub mod StateLaws
+pub mod LinkLaws
+pub mod CallLaws
+pub mod InOrderLaws
+pub mod QuiescenceLaws

@@ -1,0 +1,278 @@
+-- Laws of runs that a fault ends: their parts are the run of the reference controller so far.
+use Rattle.std.proofs.Common.{◌≡◌, ℕ, ◌+◌, ◌≤◌, Bool, true, false, List, [], ◌∷◌, ◌++◌, length, drop, Option, refl, sym, ap, ap₂, ◌∙◌, subst, arith, inl, inr}
+use Rattle.std.specs.Io.KnownBytes.{append_known}
+use Rattle.std.proofs.lemmas.List.{append-nil, append_assoc}
+use Rattle.of_types.specs.declared.journal.WorldStim.{WorldStim}
+use Rattle.lego_io.specs.Sink.{TookPart}
+use Rattle.lego_io.specs.laws.ToldLaws.{append_known-nil}
+use Rattle.lego_model.specs.Journal.{Reply, Start}
+use Rattle.lego_model.specs.Places.{Place}
+use Rattle.lego_model.specs.laws.ScriptedLaws.{fronts-parts, start_fronts-parts}
+use Rattle.lego_model.specs.Controller.{Run, happen}
+use Rattle.outside.specs.Seen.{Given, Seen}
+use Rattle.outside.specs.Conforming.{Conforming}
+use Rattle.lego_model.specs.History.{starts_in, replies_in, own_acts, stimuli_in}
+use Rattle.switch_laws.specs.laws.OrderlyLaws.{orderly-none}
+use Rattle.run_laws.specs.Engine.{Engine, Stands}
+use Rattle.lego_model.specs.Application.{index}
+use Rattle.lego_model.specs.ReferenceRun.{text_of, dispatch_next, times, rounds, AreSaid, fresh, before_start, all_started, RunsAlike}
+use Rattle.run_laws.specs.Moves.{AtRest, Moves, Moved, Rounds, OneHappens}
+use Rattle.run_laws.specs.laws.MoveLaws.{moved-none, moved-then, moved-as}
+use Rattle.run_laws.specs.laws.DispatchWaitingLaws.{settle-times, times-more}
+use Rattle.run_laws.specs.LastReport.{last_text}
+use Rattle.run_laws.specs.laws.LastReportLaws.{report-ends, last-shown}
+use Rattle.run_laws.specs.laws.WholeLaws.{no-stimuli, said-of, told-said}
+use Rattle.run_laws.specs.Whole.{whole, RanAs}
+use Rattle.run_laws.specs.laws.FirstLaws.{stands-first}
+use Rattle.run_laws.specs.First.{IsOpened, engine_at_first}
+use Rattle.run_laws.specs.Endings.{WholeMoves, Leaves}
+use Rattle.run_laws.specs.laws.FinishLaws.{said-before, runs-alike, all-in-order}
+use Rattle.run_laws.specs.Cut.{GoneSoFar, RanTo}
+use Rattle.lego_model.specs.CutRun.{start_said, reference_so_far, Progress, WroteSoFar, WasWriting, AlikeUpTo, CutBetweenLines, CutWhileWriting}
+
+-- ---- Parts of a run, one behind the other
+
+-- nothing is done yet
+pub gone-none : {Own : Type 0} (allows : List Place → Bool) (seen : Seen Own) (e : Engine) → AtRest seen e → GoneSoFar allows false 0 [] seen seen e e
+gone-none allows seen e settled = record { stimuli = []; begun = []; begun_one = omega arith; moved = moved-none seen e settled }
+
+-- rounds follow
+pub gone-rounds : {Own : Type 0} (allows : List Place → Bool) (number : ℕ) (first second : List ℕ) (a b c : Seen Own) (e1 e2 e3 : Engine) → Moved [] all_started first a b e1 e2 → Rounds allows number second b c e2 e3 → GoneSoFar allows true 0 (first ++ second) a c e1 e3
+gone-rounds allows number first second a b c e1 e2 e3 m rs = record {
+  stimuli = rs.stimuli;
+  begun = [];
+  begun_one = omega arith;
+  moved = subst (λ (xs : List WorldStim). Moved xs (reference_so_far allows true rs.stimuli [] 0) (first ++ second) a c e1 e3) (sym (append-nil rs.stimuli))
+      (moved-then [] rs.stimuli all_started (rounds allows rs.stimuli) first second a b c e1 e2 e3 m rs.moved);
+}
+
+-- one stimulus more is begun
+pub gone-happens : {Own : Type 0} (allows : List Place → Bool) (number : ℕ) (first second : List ℕ) (a b c d : Seen Own) (e1 e2 e3 e4 : Engine) → Moved [] all_started first a b e1 e2 → Rounds allows number second b c e2 e3 → OneHappens c d e3 e4
+    → GoneSoFar allows true 0 (first ++ second) a d e1 e4
+gone-happens allows number first second a b c d e1 e2 e3 e4 m rs one = record {
+  stimuli = rs.stimuli;
+  begun = one.stimulus ∷ [];
+  begun_one = omega arith;
+  moved = subst (λ (text : List ℕ). Moved (rs.stimuli ++ one.stimulus ∷ []) (reference_so_far allows true rs.stimuli (one.stimulus ∷ []) 0) text a d e1 e4) (append-nil (first ++ second))
+      (moved-then rs.stimuli (one.stimulus ∷ []) (λ r. rounds allows rs.stimuli (all_started r)) (happen one.stimulus) (first ++ second) [] a c d e1 e3 e4
+      (moved-then [] rs.stimuli all_started (rounds allows rs.stimuli) first second a b c e1 e2 e3 m rs.moved) one.moved);
+}
+
+-- a part does nothing
+pub gone-still : {Own : Type 0} (allows : List Place → Bool) (started : Bool) (number : ℕ) (text : List ℕ) (a b c : Seen Own) (e1 e2 e3 : Engine) → GoneSoFar allows started number text a b e1 e2 → Moved [] (λ r. r) [] b c e2 e3 → GoneSoFar allows started number text a c e1 e3
+gone-still allows started number text a b c e1 e2 e3 g m =
+    let f = reference_so_far allows started g.stimuli g.begun number in
+    record {
+      stimuli = g.stimuli;
+      begun = g.begun;
+      begun_one = g.begun_one;
+      moved = subst (λ (t : List ℕ). Moved (g.stimuli ++ g.begun) f t a c e1 e3) (append-nil text)
+          (subst (λ (xs : List WorldStim). Moved xs f (text ++ []) a c e1 e3) (append-nil (g.stimuli ++ g.begun)) (moved-then (g.stimuli ++ g.begun) [] f (λ r. r) text [] a b c e1 e2 e3 g.moved m));
+    }
+
+-- so many events are dispatched
+pub gone-more : {Own : Type 0} (allows : List Place → Bool) (started : Bool) (m : ℕ) (first second : List ℕ) (a b c : Seen Own) (e1 e2 e3 : Engine) → GoneSoFar allows started 0 first a b e1 e2 → Moved [] (times m (dispatch_next allows)) second b c e2 e3
+    → GoneSoFar allows started m (first ++ second) a c e1 e3
+gone-more allows started m first second a b c e1 e2 e3 g more = record {
+  stimuli = g.stimuli;
+  begun = g.begun;
+  begun_one = g.begun_one;
+  moved = subst (λ (xs : List WorldStim). Moved xs (reference_so_far allows started g.stimuli g.begun m) (first ++ second) a c e1 e3) (append-nil (g.stimuli ++ g.begun))
+      (moved-then (g.stimuli ++ g.begun) [] (reference_so_far allows started g.stimuli g.begun 0) (times m (dispatch_next allows)) first second a b c e1 e2 e3 g.moved more);
+}
+
+-- one event more is dispatched
+pub gone-next : {Own : Type 0} (allows : List Place → Bool) (n : ℕ) (first second : List ℕ) (a b c : Seen Own) (e1 e2 e3 : Engine) (g : GoneSoFar allows true n first a b e1 e2) → Moved [] (dispatch_next allows) second b c e2 e3
+    → Moved (g.stimuli ++ g.begun) (reference_so_far allows true g.stimuli g.begun (n + 1)) (first ++ second) a c e1 e3
+gone-next allows n first second a b c e1 e2 e3 g more =
+    let f = reference_so_far allows true g.stimuli g.begun n in
+    moved-as (g.stimuli ++ g.begun) (λ r. dispatch_next allows (f r)) (reference_so_far allows true g.stimuli g.begun (n + 1)) (first ++ second) a c e1 e3
+    (λ ss rs r s. sym (times-more n 1 (dispatch_next allows) (reference_so_far allows true g.stimuli g.begun 0 r)))
+    (subst (λ (xs : List WorldStim). Moved xs (λ r. dispatch_next allows (f r)) (first ++ second) a c e1 e3) (append-nil (g.stimuli ++ g.begun))
+    (moved-then (g.stimuli ++ g.begun) [] f (dispatch_next allows) first second a b c e1 e2 e3 g.moved more))
+
+-- up to the last batch, with the events behind it
+pub gone-whole : {Own : Type 0} (allows : List Place → Bool) (text : List ℕ) (a b : Seen Own) (e1 e2 : Engine) → WholeMoves allows text a b e1 e2 → GoneSoFar allows true 1000 text a b e1 e2
+gone-whole allows text a b e1 e2 w = record {
+  stimuli = w.stimuli;
+  begun = [];
+  begun_one = omega arith;
+  moved = subst (λ (xs : List WorldStim). Moved xs (reference_so_far allows true w.stimuli [] 1000) text a b e1 e2) (sym (append-nil w.stimuli))
+      (moved-as w.stimuli (whole allows w.stimuli) (reference_so_far allows true w.stimuli [] 1000) text a b e1 e2 (λ ss rs r s. sym (settle-times allows (rounds allows w.stimuli (all_started r)))) w.moved);
+}
+
+-- ---- From a world that was just opened
+
+begun-same : {Own : Type 0} (first last : Seen Own) (starts : List Start) (replies : List Reply) → last.given ≡ first.given → before_start first.given.declared (fresh starts replies) ≡ start_said last starts replies
+begun-same {Own} first last starts replies given = ap (λ (g : Given Own). before_start g.declared (fresh starts replies)) (sym given)
+
+ran-so : {Own : Type 0} (f : Run → Run) (xs : List WorldStim) (text : List ℕ) (first last : Seen Own) (e : Engine) (starts : List Start) (replies : List Reply) → IsOpened first → Moves xs f text first last engine_at_first e → AreSaid last starts replies
+    → RanAs text last e (f (start_said last starts replies))
+ran-so f xs text first last e starts replies is m said =
+    let fronts = said-of first last starts m.starts replies m.replies is m.read_starts m.read_replies said in
+    let r0 : Run = before_start first.given.declared (fresh starts replies) in
+    let at_first : Stands first engine_at_first starts replies r0 = stands-first first starts replies is in
+    let same : r0 ≡ start_said last starts replies = begun-same first last starts replies m.given in
+    record {
+      starts = drop (length m.starts) starts;
+      replies = drop (length m.replies) replies;
+      stands = subst (λ (r : Run). Stands last e (drop (length m.starts) starts) (drop (length m.replies) replies) (f r)) same (m.stands starts replies r0 fronts.0 fronts.1 at_first);
+      text_so = subst (λ (r : Run). text_of (f r) ≡ text) same (m.says starts replies r0 fronts.0 fronts.1 at_first);
+    }
+
+pub ran-to : {Own : Type 0} (f : Run → Run) (xs : List WorldStim) (text : List ℕ) (first last : Seen Own) (e : Engine) → IsOpened first → Moves xs f text first last engine_at_first e → RanTo f text last e
+ran-to f xs text first last e is m = record { as_said = λ starts replies said. ran-so f xs text first last e starts replies is m said }
+
+longer : {A : Type 0} (p q r x y : List A) → q ≡ p ++ x → r ≡ q ++ y → r ≡ p ++ (x ++ y)
+longer {A} p q r x y h k = k ∙ ap (λ (l : List A). l ++ y) h ∙ append_assoc p x y
+
+-- what was said before the last part
+pub ran-before : {Own : Type 0} (f g : Run → Run) (xs ys : List WorldStim) (text more : List ℕ) (first mid last : Seen Own) (e1 e2 : Engine) (starts : List Start) (replies : List Reply) → IsOpened first → Moves xs f text first mid engine_at_first e1 → Moves ys g more mid last e1 e2
+    → AreSaid last starts replies → text_of (f (start_said last starts replies)) ≡ text
+ran-before f g xs ys text more first mid last e1 e2 starts replies is m n said =
+    let r0 : Run = before_start first.given.declared (fresh starts replies) in
+    let same : r0 ≡ start_said last starts replies = begun-same first last starts replies (n.given ∙ m.given) in
+    let fronts = said-of first last starts (m.starts ++ n.starts) replies (m.replies ++ n.replies) is
+    (longer (starts_in (own_acts first)) (starts_in (own_acts mid)) (starts_in (own_acts last)) m.starts n.starts m.read_starts n.read_starts)
+    (longer (replies_in (own_acts first)) (replies_in (own_acts mid)) (replies_in (own_acts last)) m.replies n.replies m.read_replies n.read_replies) said in
+    let firsts = start_fronts-parts m.starts n.starts starts fronts.0 in
+    let given = fronts-parts m.replies n.replies replies fronts.1 in
+    subst (λ (r : Run). text_of (f r) ≡ text) same (m.says starts replies r0 firsts.0 given.0 (stands-first first starts replies is))
+
+-- ---- The point up to which all is alike
+
+leaves-nothing : {Own : Type 0} (seen : Seen Own) → Leaves seen seen
+leaves-nothing seen = record { given = refl; starts = refl; replies = refl; inputs = refl; stimuli = refl; marks = refl; switches = λ d. refl; at_once = λ said. said; orderly = orderly-none index seen }
+
+stimuli-so : {Own : Type 0} (first last : Seen Own) (xs : List WorldStim) → IsOpened first → stimuli_in last ≡ stimuli_in first ++ xs → stimuli_in last ≡ xs
+stimuli-so first last xs is read = read ∙ ap (λ (ys : List WorldStim). ys ++ xs) (no-stimuli first is)
+
+runs-so : {Own : Type 0} {text : List ℕ} (last : Seen Own) (e : Engine) (r : Run) → Conforming last → RanAs text last e r → RunsAlike last r
+runs-so last e r keeps so = runs-alike last last e so.starts so.replies r keeps (leaves-nothing last) so.stands
+
+abbrev far-of : {Own : Type 0} {allows : List Place → Bool} {started : Bool} {n : ℕ} {text : List ℕ} {first last : Seen Own} {e : Engine} → IsOpened first → GoneSoFar allows started n text first last engine_at_first e → n ≤ 1000 → Progress last
+far-of {started = started} {n = n} {first = first} {last = last} is g few = record {
+  started = started;
+  stimuli = g.stimuli;
+  begun = g.begun;
+  number = n;
+  begun_one = g.begun_one;
+  at_most = few;
+  stimuli_so = stimuli-so first last (g.stimuli ++ g.begun) is g.moved.moves.read_stimuli;
+}
+
+-- what holds over all that is said holds over what is told
+up-to : {Own : Type 0} {xs : List WorldStim} {f : Run → Run} {text : List ℕ} {first last : Seen Own} {e0 e : Engine} (IsSo : Progress last → Run → Type 0) (far : Progress last) → Moved xs f text first last e0 e
+    → ((starts : List Start) (replies : List Reply) → AreSaid last starts replies → IsSo far (start_said last starts replies)) → AlikeUpTo last IsSo
+up-to {last = last} IsSo far m so = record {
+  far = far;
+  as_told = so (starts_in (own_acts last)) (replies_in (own_acts last)) (told-said last);
+  as_said = so;
+  at_once = m.settled.speaks.at_once;
+  in_order = m.settled.orderly;
+}
+
+-- ---- What a run that a fault ends comes to
+
+pub cut-so : {Own : Type 0} (allows : List Place → Bool) (started : Bool) (n : ℕ) (text : List ℕ) (contents now_contents : Option (List ℕ)) (first last : Seen Own) (e : Engine) → IsOpened first → GoneSoFar allows started n text first last engine_at_first e → n ≤ 1000
+    → Conforming last → now_contents ≡ append_known contents text → CutBetweenLines allows last contents now_contents
+cut-so allows started n text contents now_contents first last e is g few keeps written =
+    let f = reference_so_far allows started g.stimuli g.begun n in
+    let ran = ran-to f (g.stimuli ++ g.begun) text first last e is g.moved.moves in
+    up-to (WroteSoFar allows last contents now_contents) (far-of is g few) g.moved (λ starts replies said.
+    let so = ran.as_said starts replies said in
+    record {
+      alike = runs-so last e (f (start_said last starts replies)) keeps so;
+      written = written ∙ ap (append_known contents) (sym so.text_so);
+    })
+
+-- the sink failed at the lines of the start
+pub start-so : {Own : Type 0} (allows : List Place → Bool) (more : List ℕ) (contents now_contents : Option (List ℕ)) (first last : Seen Own) (e : Engine) → IsOpened first → Moved [] all_started more first last engine_at_first e → Conforming last → TookPart contents now_contents more
+    → CutWhileWriting allows last contents now_contents
+start-so allows more contents now_contents first last e is m keeps part =
+    let none = stimuli-so first last [] is m.moves.read_stimuli in
+    let far : Progress last = record { started = true; stimuli = []; begun = []; number = 0; begun_one = omega arith; at_most = omega arith; stimuli_so = none } in
+    let ran = ran-to all_started [] more first last e is m.moves in
+    record {
+      text = [];
+      more = more;
+      up_to = up-to (WasWriting allows last [] more) far m (λ starts replies said.
+          let so = ran.as_said starts replies said in
+          record {
+            alike = runs-so last e (all_started (start_said last starts replies)) keeps so;
+            lines = inl (record { is_started = refl; none_happened = none; none_dispatched = refl; text_so = refl; more_so = so.text_so });
+          });
+      part = subst (λ (held : Option (List ℕ)). TookPart held now_contents more) (sym (append_known-nil contents)) part;
+    }
+
+-- at those of an event
+pub event-so : {Own : Type 0} (allows : List Place → Bool) (n : ℕ) (text more : List ℕ) (contents now_contents : Option (List ℕ)) (first mid last : Seen Own) (e1 e2 : Engine) → IsOpened first → GoneSoFar allows true n text first mid engine_at_first e1
+    → Moved [] (dispatch_next allows) more mid last e1 e2 → n ≤ 999 → Conforming last → TookPart (append_known contents text) now_contents more → CutWhileWriting allows last contents now_contents
+event-so allows n text more contents now_contents first mid last e1 e2 is g m few keeps part =
+    let next = gone-next allows n text more first mid last engine_at_first e1 e2 g m in
+    let f = reference_so_far allows true g.stimuli g.begun (n + 1) in
+    let far : Progress last = record {
+      started = true;
+      stimuli = g.stimuli;
+      begun = g.begun;
+      number = n + 1;
+      begun_one = g.begun_one;
+      at_most = omega (arith, few);
+      stimuli_so = stimuli-so first last (g.stimuli ++ g.begun) is next.moves.read_stimuli;
+    } in
+    let ran = ran-to f (g.stimuli ++ g.begun) (text ++ more) first last e2 is next.moves in
+    record {
+      text = text;
+      more = more;
+      up_to = up-to (WasWriting allows last text more) far next (λ starts replies said.
+          let so = ran.as_said starts replies said in
+          record {
+            alike = runs-so last e2 (f (start_said last starts replies)) keeps so;
+            lines = inr (inl (record {
+              before = n;
+              one_more = refl;
+              text_so = ran-before (reference_so_far allows true g.stimuli g.begun n) (dispatch_next allows) (g.stimuli ++ g.begun) [] text more first mid last e1 e2 starts replies is g.moved.moves m.moves said;
+              more_so = so.text_so;
+            }));
+          });
+      part = part;
+    }
+
+-- at those of the end, before which switches were asked
+pub end-so : {Own : Type 0} (allows : List Place → Bool) (text more : List ℕ) (contents now_contents : Option (List ℕ)) (first last stop : Seen Own) (e : Engine) → IsOpened first → GoneSoFar allows true 1000 text first last engine_at_first e → e.queue ≡ []
+    → more ≡ last_text last e → Leaves last stop → Conforming stop → TookPart (append_known contents text) now_contents more → CutWhileWriting allows stop contents now_contents
+end-so {Own} allows text more contents now_contents first last stop e is g none ends leaves keeps part =
+    let f = reference_so_far allows true g.stimuli g.begun 1000 in
+    let ran = ran-to f (g.stimuli ++ g.begun) text first last e is g.moved.moves in
+    let far : Progress stop = record {
+      started = true;
+      stimuli = g.stimuli;
+      begun = g.begun;
+      number = 1000;
+      begun_one = g.begun_one;
+      at_most = omega arith;
+      stimuli_so = leaves.stimuli ∙ stimuli-so first last (g.stimuli ++ g.begun) is g.moved.moves.read_stimuli;
+    } in
+    let so : (starts : List Start) (replies : List Reply) → AreSaid stop starts replies → WasWriting allows stop text more far (start_said stop starts replies) = λ starts replies said.
+    let were = ran.as_said starts replies (said-before last stop starts replies leaves said) in
+    let r = f (start_said last starts replies) in
+    subst (λ (s : Run). WasWriting allows stop text more far s) (sym (ap (λ (g : Given Own). before_start g.declared (fresh starts replies)) leaves.given)) (record {
+      alike = runs-alike last stop e were.starts were.replies r keeps leaves were.stands;
+      lines = inr (inr (record {
+        none_left = were.stands.queue ∙ none;
+        text_so = were.text_so;
+        more_so = report-ends r ∙ ap₂ (λ (a b : List ℕ). a ++ b) were.text_so (last-shown last e were.starts were.replies r were.stands ∙ sym ends);
+      }));
+    }) in
+    record {
+      text = text;
+      more = more;
+      up_to = record {
+        far = far;
+        as_told = so (starts_in (own_acts stop)) (replies_in (own_acts stop)) (told-said stop);
+        as_said = so;
+        at_once = leaves.at_once g.moved.settled.speaks.at_once;
+        in_order = all-in-order last stop g.moved.settled leaves;
+      };
+      part = part;
+    }

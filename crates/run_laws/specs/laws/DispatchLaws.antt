@@ -1,0 +1,238 @@
+-- The law of an event: what the engine does at it is what the reference controller does, whether the application is alive or gone.
+use Rattle.std.proofs.Common.{◌≡◌, ℕ, ◌+◌, ◌^◌, ◌<◌, Bool, true, false, List, [], ◌∷◌, ◌++◌, length, drop, if◌then◌else◌, Some, refl, sym, ap, ap₂, ◌∙◌, subst}
+use Rattle.std.proofs.lemmas.List.{append-nil}
+use Rattle.flow_table.specs.declared.view.TableView.{TableView}
+use Rattle.app_frames.specs.declared.frame.Event.{Event}
+use Rattle.lego_model.specs.Journal.{Reply, Start}
+use Rattle.lego_model.specs.Places.{Place}
+use Rattle.lego_model.specs.Scripted.{IsFront, AreFronts, AreStartFronts}
+use Rattle.lego_model.specs.Controller.{Dispatched, Ended, Run, Turned, restart_lines, turn, marked, dispatch}
+use Rattle.lego_model.specs.Agreement.{AgreeMarks}
+use Rattle.lego_model.specs.RunReport.{event_line}
+use Rattle.outside.specs.Seen.{Given, Seen, Continues}
+use Rattle.outside.specs.State.{Mark, state, marks_at_event}
+use Rattle.outside.specs.laws.StateLaws.{Conforming-before}
+use Rattle.outside.specs.Conforming.{Conforming}
+use Rattle.net_txn.specs.Net.{NetState}
+use Rattle.app_visor.specs.declared.state.TurnEnd.{TurnEnd}
+use Rattle.app_visor.specs.declared.state.TurnEnd.TheVariants as ends
+use Rattle.switch_laws.specs.Shown.{shown_places}
+use Rattle.switch_laws.specs.laws.StandLaws.{state-links}
+use Rattle.journal_laws.specs.Readings.{LastStands}
+use Rattle.lego_model.specs.History.{starts_in, replies_in, own_acts, given_in, stimuli_in, points_in}
+use Rattle.run_laws.specs.Engine.{Engine, app_at, Stands, with_number}
+use Rattle.lego_model.specs.ReferenceRun.{text_of, next_dispatched, dispatch_next}
+use Rattle.run_laws.specs.Facts.{IsClosed, IsTurn, Dispatches}
+use Rattle.run_laws.specs.Moves.{Moves}
+use Rattle.run_laws.specs.Readings.{AreRead, JudgesAlike}
+use Rattle.run_laws.specs.laws.ReferenceLaws.{dispatch_alive, dispatch_dead}
+use Rattle.run_laws.specs.ReferenceTurn.{numbered, after_turn, without_turn}
+use Rattle.run_laws.specs.laws.PointLaws.{marks_at_events}
+use Rattle.run_laws.specs.laws.LineLaws.{event_lines}
+use Rattle.run_laws.specs.LastReport.{lines_text}
+use Rattle.run_laws.specs.laws.TurnMoveLaws.{turn_moves}
+use Rattle.run_laws.specs.EventMoves.{TurnAlike, TurnMoves}
+
+-- ---- The application is alive
+
+abbrev turned_of : {Own : Type 0} {allows : List Place → Bool} {event : Event} {text : List ℕ} {old new : Seen Own} {e now_e : Engine} {starts : List Start} {reply : Reply} → TurnAlike allows event text old new e now_e starts reply → List Start → List Reply → Turned
+turned_of {old = old} {new = new} {now_e = now_e} alike later_starts later_replies = record {
+  places = shown_places old.given.declared now_e.net.views (state new);
+  app = (app_at now_e (given_in new) later_starts later_replies, alike.tries);
+  outcome = alike.outcome;
+  given = alike.given;
+}
+
+module _ {Own : Type 0} (allows : List Place → Bool) (event : Event) (text : List ℕ) (old new : Seen Own) (e now_e : Engine) (starts : List Start) (reply : Reply) where
+  dispatched_so : e.alive ≡ true → (alike : TurnAlike allows event text old new (with_number e) now_e starts reply) → (said_starts : List Start) (said : Reply) (later_replies : List Reply) (r : Run) → AreStartFronts starts said_starts → IsFront reply said → Stands old e said_starts (said ∷ later_replies) r
+      → dispatch allows event r ≡ after_turn (turned_of alike (drop (length starts) said_starts) later_replies) (numbered event r)
+  dispatched_so alive alike said_starts said later_replies r starts_so front s =
+      let a = app_at e (given_in old) said_starts (said ∷ later_replies) in
+      dispatch_alive allows event a r (turned_of alike (drop (length starts) said_starts) later_replies) s.apps alive
+      (ap (λ (n : ℕ). turn allows (n + 1) r.moment event r.places a) s.events
+      ∙ ap (λ (m : ℕ). turn allows (e.events + 1) m event r.places a) (s.moment ∙ sym s.calm.moment)
+      ∙ ap (λ (ps : List Place). turn allows (e.events + 1) e.net.moment event ps a) s.places
+      ∙ alike.turned said_starts said later_replies starts_so front)
+
+  marks_so : Conforming old → (alike : TurnAlike allows event text old new (with_number e) now_e starts reply) → (r : Run) → r.events ≡ e.events → r.places ≡ shown_places old.given.declared e.net.views (state old) → AgreeMarks (points_in old) r.marks
+      → AgreeMarks (points_in new) (marked alike.given (r.events + 1) r.places r.marks)
+  marks_so keeps alike r events places marks =
+      subst (λ (ms : List Mark). AgreeMarks ms (marked alike.given (r.events + 1) r.places r.marks)) (sym alike.marks)
+      (subst (λ (n : ℕ). AgreeMarks ((if alike.given then marks_at_event (Some (e.events + 1)) (state old) else (state old).marks)) (marked alike.given (n + 1) r.places r.marks)) (sym events)
+      (subst (λ (ps : List Place). AgreeMarks ((if alike.given then marks_at_event (Some (e.events + 1)) (state old) else (state old).marks)) (marked alike.given (e.events + 1) ps r.marks)) (sym places)
+      (marks_at_events alike.given (e.events + 1) old.given.declared e.net.views (state old) r.marks (state-links old).declared_so keeps.declared marks)))
+
+  stands_alive : Conforming old → e.alive ≡ true → new.given ≡ old.given → (now_e.alive ≡ true → LastStands (own_acts new)) → (alike : TurnAlike allows event text old new (with_number e) now_e starts reply)
+      → (said_starts : List Start) (said_replies : List Reply) (r : Run) → AreStartFronts starts said_starts → AreFronts (reply ∷ []) said_replies → Stands old e said_starts said_replies r → Stands new now_e (drop (length starts) said_starts) (drop 1 said_replies) (dispatch allows event r)
+  stands_alive keeps alive given life alike said_starts [] r starts_so fronts s = absurd fronts
+  stands_alive keeps alive given life alike said_starts (said ∷ later_replies) r starts_so fronts s =
+      subst (λ (x : Run). Stands new now_e (drop (length starts) said_starts) later_replies x) (sym (dispatched_so alive alike said_starts said later_replies r starts_so fronts.0 s)) (record {
+        calm = alike.calm;
+        moment = s.moment ∙ sym alike.moment;
+        places = ap (λ (g : Given _). shown_places g.declared now_e.net.views (state new)) (sym given);
+        queue = s.queue ∙ sym alike.queue;
+        events = ap (λ (n : ℕ). n + 1) s.events ∙ sym alike.events;
+        apps = refl;
+        marks = marks_so keeps alike r s.events s.places s.marks;
+        life = life;
+      })
+
+  says_alive : e.alive ≡ true → (alike : TurnAlike allows event text old new (with_number e) now_e starts reply) → (said_starts : List Start) (said_replies : List Reply) (r : Run) → AreStartFronts starts said_starts → AreFronts (reply ∷ []) said_replies → Stands old e said_starts said_replies r
+      → text_of (dispatch allows event r) ≡ text_of r ++ (event_line (e.events + 1) event.kind event.dpid ++ text)
+  says_alive alive alike said_starts [] r starts_so fronts s = absurd fronts
+  says_alive alive alike said_starts (said ∷ later_replies) r starts_so fronts s =
+      let later_starts = drop (length starts) said_starts in
+      ap text_of (dispatched_so alive alike said_starts said later_replies r starts_so fronts.0 s)
+      ∙ event_lines r.lines (Ended 0 alike.outcome ∷ restart_lines 0 alike.outcome (app_at now_e (given_in new) later_starts later_replies, alike.tries)) (r.events + 1) event
+      ∙ ap₂ (λ (n : ℕ) (more : List ℕ). text_of r ++ (event_line (n + 1) event.kind event.dpid ++ more)) s.events (sym (alike.text_so later_starts later_replies))
+
+alive_moves : {Own : Type 0} (allows : List Place → Bool) (event : Event) (turn_text text : List ℕ) (old new : Seen Own) (e now_e : Engine) → Conforming old → e.alive ≡ true → text ≡ event_line (e.events + 1) event.kind event.dpid ++ turn_text
+    → TurnMoves allows event turn_text old new (with_number e) now_e → Moves [] (dispatch allows event) text old new e now_e
+alive_moves allows event turn_text text old new e now_e keeps alive text_is turn = record {
+  starts = turn.starts;
+  replies = turn.reply ∷ [];
+  given = turn.tells.given;
+  read_starts = turn.tells.read_starts;
+  read_replies = turn.tells.read_replies;
+  read_stimuli = turn.tells.read_stimuli ∙ sym (append-nil (stimuli_in old));
+  stands = λ said_starts said_replies r starts_so replies_so s. stands_alive allows event turn_text old new e now_e turn.starts turn.reply keeps alive turn.tells.given turn.tells.life (turn.alike s.calm) said_starts said_replies r starts_so replies_so s;
+  says = λ said_starts said_replies r starts_so replies_so s.
+      says_alive allows event turn_text old new e now_e turn.starts turn.reply alive (turn.alike s.calm) said_starts said_replies r starts_so replies_so s ∙ ap (λ (more : List ℕ). text_of r ++ more) (sym text_is);
+}
+
+-- ---- It is gone
+
+dead_moves : {Own : Type 0} (allows : List Place → Bool) (event : Event) (text : List ℕ) (seen : Seen Own) (e : Engine) → e.alive ≡ false → text ≡ event_line (e.events + 1) event.kind event.dpid ++ []
+    → Moves [] (dispatch allows event) text seen seen e (with_number e)
+dead_moves allows event text seen e dead text_is = record {
+  starts = [];
+  replies = [];
+  given = refl;
+  read_starts = sym (append-nil (starts_in (own_acts seen)));
+  read_replies = sym (append-nil (replies_in (own_acts seen)));
+  read_stimuli = sym (append-nil (stimuli_in seen));
+  stands = λ later_starts later_replies r starts_so replies_so s.
+      subst (λ (x : Run). Stands seen (with_number e) later_starts later_replies x) (sym (dispatch_dead allows event (app_at e (given_in seen) later_starts later_replies) r s.apps dead)) (record {
+        calm = s.calm;
+        moment = s.moment;
+        places = s.places;
+        queue = s.queue;
+        events = ap (λ (n : ℕ). n + 1) s.events;
+        apps = refl;
+        marks = s.marks;
+        life = s.life;
+      });
+  says = λ later_starts later_replies r starts_so replies_so s.
+      ap text_of (dispatch_dead allows event (app_at e (given_in seen) later_starts later_replies) r s.apps dead)
+      ∙ sym (append-nil (text_of (without_turn (app_at e (given_in seen) later_starts later_replies) (numbered event r))))
+      ∙ event_lines_alone r s.events
+      ∙ ap (λ (more : List ℕ). text_of r ++ more) (sym text_is);
+}
+  where
+    event_lines_alone : (r : Run) → r.events ≡ e.events → lines_text (r.lines ++ Dispatched (r.events + 1) event ∷ []) ++ [] ≡ text_of r ++ (event_line (e.events + 1) event.kind event.dpid ++ [])
+    event_lines_alone r events =
+        append-nil (lines_text (r.lines ++ Dispatched (r.events + 1) event ∷ []))
+        ∙ ap lines_text (sym (append-nil (r.lines ++ Dispatched (r.events + 1) event ∷ [])))
+        ∙ event_lines r.lines [] (r.events + 1) event
+        ∙ ap (λ (n : ℕ). text_of r ++ (event_line (n + 1) event.kind event.dpid ++ [])) events
+
+-- ---- The whole
+
+by_alive : {Own : Type 0} (Tells : Type 0) (accepts : List TableView → Bool) (allows : List Place → Bool) (event : Event) (turn_text text : List ℕ) (old new : Seen Own) (e now_e : Engine) (alive : Bool) → e.alive ≡ alive
+    → Tells → Conforming new → Continues Tells old new → JudgesAlike Own allows accepts → AreRead Own Tells accepts → e.events + 1 < 2 ^ 64 → (e.alive ≡ true → LastStands (own_acts old))
+    → IsTurn Tells accepts event alive turn_text old new (with_number e) now_e → text ≡ event_line (e.events + 1) event.kind event.dpid ++ turn_text → Moves [] (dispatch allows event) text old new e now_e
+by_alive Tells accepts allows event turn_text text old new e now_e true alive told keeps continues judges reads few life turn text_is =
+    alive_moves allows event turn_text text old new e now_e (Conforming-before told continues keeps) alive text_is
+    (turn_moves Tells accepts allows event turn_text old new (with_number e) now_e told keeps judges reads few (life alive) turn)
+by_alive Tells accepts allows event turn_text text old new e now_e false dead told keeps continues judges reads few life turn text_is =
+    subst (λ (s : Seen _). Moves [] (dispatch allows event) text old s e now_e) (sym turn.0) (subst (λ (x : Engine). Moves [] (dispatch allows event) text old old e x) (sym turn.1)
+    (dead_moves allows event text old e dead (text_is ∙ ap (λ (more : List ℕ). event_line (e.events + 1) event.kind event.dpid ++ more) turn.2)))
+
+pub dispatch-moves : {Own : Type 0} (Tells : Type 0) (accepts : List TableView → Bool) (allows : List Place → Bool) (event : Event) (text : List ℕ) (old new : Seen Own) (e now_e : Engine)
+    → Tells → Conforming new → Continues Tells old new → JudgesAlike Own allows accepts → AreRead Own Tells accepts → e.events + 1 < 2 ^ 64 → (e.alive ≡ true → LastStands (own_acts old))
+    → Dispatches Tells accepts event text old new e now_e → Moves [] (dispatch allows event) text old new e now_e
+dispatch-moves Tells accepts allows event text old new e now_e told keeps continues judges reads few life d =
+    by_alive Tells accepts allows event d.turn_text text old new e now_e e.alive refl told keeps continues judges reads few life d.turn d.text_so
+
+-- ---- What the next event needs
+
+-- where it is alive then, its last start stands
+life_by : {Own : Type 0} (Tells : Type 0) (accepts : List TableView → Bool) (allows : List Place → Bool) (event : Event) (turn_text : List ℕ) (old new : Seen Own) (e now_e : Engine) (alive : Bool) → e.alive ≡ alive
+    → Tells → Conforming new → JudgesAlike Own allows accepts → AreRead Own Tells accepts → e.events + 1 < 2 ^ 64 → (e.alive ≡ true → LastStands (own_acts old))
+    → IsTurn Tells accepts event alive turn_text old new (with_number e) now_e → now_e.alive ≡ true → LastStands (own_acts new)
+life_by Tells accepts allows event turn_text old new e now_e true alive told keeps judges reads few life turn =
+    (turn_moves Tells accepts allows event turn_text old new (with_number e) now_e told keeps judges reads few (life alive) turn).tells.life
+life_by Tells accepts allows event turn_text old new e now_e false dead told keeps judges reads few life turn =
+    λ up. subst (λ (s : Seen _). LastStands (own_acts s)) (sym turn.0) (life (sym (ap (λ (x : Engine). x.alive) turn.1) ∙ up))
+
+pub dispatch-life : {Own : Type 0} (Tells : Type 0) (accepts : List TableView → Bool) (allows : List Place → Bool) (event : Event) (text : List ℕ) (old new : Seen Own) (e now_e : Engine)
+    → Tells → Conforming new → JudgesAlike Own allows accepts → AreRead Own Tells accepts → e.events + 1 < 2 ^ 64 → (e.alive ≡ true → LastStands (own_acts old))
+    → Dispatches Tells accepts event text old new e now_e → now_e.alive ≡ true → LastStands (own_acts new)
+dispatch-life Tells accepts allows event text old new e now_e told keeps judges reads few life d =
+    life_by Tells accepts allows event d.turn_text old new e now_e e.alive refl told keeps judges reads few life d.turn
+
+closed_count : {Own : Type 0} (Tells : Type 0) (end : TurnEnd) (unread text : List ℕ) (start : ℕ) (mid new : Seen Own) (mid_net : NetState) (e now_e : Engine) → IsClosed Tells end unread text start mid new mid_net e now_e
+    → (now_e.events ≡ e.events) × (now_e.queue ≡ e.queue)
+closed_count Tells (ends.Done stop) unread text start mid new mid_net e now_e closed = (ap (λ (x : Engine). x.events) closed.engine, ap (λ (x : Engine). x.queue) closed.engine)
+closed_count Tells (ends.Failed cause) unread text start mid new mid_net e now_e closed =
+    (ap (λ (x : Engine). x.events) closed.starts.engine, ap (λ (x : Engine). x.queue) closed.starts.engine)
+
+count_by : {Own : Type 0} (Tells : Type 0) (accepts : List TableView → Bool) (event : Event) (text : List ℕ) (old new : Seen Own) (e now_e : Engine) (alive : Bool) → IsTurn Tells accepts event alive text old new e now_e
+    → (now_e.events ≡ e.events) × (now_e.queue ≡ e.queue)
+count_by Tells accepts event text old new e now_e true turn = closed_count Tells turn.end turn.unread text (length e.net.log) turn.mid new turn.mid_net e now_e turn.closed
+count_by Tells accepts event text old new e now_e false turn = (ap (λ (x : Engine). x.events) turn.1, ap (λ (x : Engine). x.queue) turn.1)
+
+-- one event more was dispatched, and those that wait stay
+pub dispatch-count : {Own : Type 0} (Tells : Type 0) (accepts : List TableView → Bool) (event : Event) (text : List ℕ) (old new : Seen Own) (e now_e : Engine) → Dispatches Tells accepts event text old new e now_e
+    → (now_e.events ≡ e.events + 1) × (now_e.queue ≡ e.queue)
+dispatch-count Tells accepts event text old new e now_e d = count_by Tells accepts event d.turn_text old new (with_number e) now_e e.alive d.turn
+
+-- ---- The oldest event that waits
+
+queue_taken : {Own : Type 0} (seen : Seen Own) (e : Engine) (queue : List Event) (starts : List Start) (replies : List Reply) (r : Run) → Stands seen e starts replies r → Stands seen (record e { queue = queue }) starts replies (record r { queue = queue })
+queue_taken seen e queue starts replies r s = record {
+  calm = s.calm;
+  moment = s.moment;
+  places = s.places;
+  queue = refl;
+  events = s.events;
+  apps = s.apps;
+  marks = s.marks;
+  life = s.life;
+}
+
+next_so : {Own : Type 0} (allows : List Place → Bool) (event : Event) (queue : List Event) (seen : Seen Own) (e : Engine) (starts : List Start) (replies : List Reply) (r : Run) → e.queue ≡ event ∷ queue → Stands seen e starts replies r
+    → dispatch_next allows r ≡ dispatch allows event (record r { queue = queue })
+next_so allows event queue seen e starts replies r waits s = ap (λ (events : List Event). next_dispatched allows events r) (s.queue ∙ waits)
+
+-- it is taken out of the queue and dispatched
+pub next-moves : {Own : Type 0} (allows : List Place → Bool) (event : Event) (queue : List Event) (text : List ℕ) (old new : Seen Own) (e now_e : Engine) → e.queue ≡ event ∷ queue
+    → Moves [] (dispatch allows event) text old new (record e { queue = queue }) now_e → Moves [] (dispatch_next allows) text old new e now_e
+next-moves allows event queue text old new e now_e waits moves = record {
+  starts = moves.starts;
+  replies = moves.replies;
+  given = moves.given;
+  read_starts = moves.read_starts;
+  read_replies = moves.read_replies;
+  read_stimuli = moves.read_stimuli;
+  stands = λ said_starts said_replies r starts_so replies_so s.
+      subst (λ (x : Run). Stands new now_e (drop (length moves.starts) said_starts) (drop (length moves.replies) said_replies) x) (sym (next_so allows event queue old e said_starts said_replies r waits s))
+      (moves.stands said_starts said_replies (record r { queue = queue }) starts_so replies_so (queue_taken old e queue said_starts said_replies r s));
+  says = λ said_starts said_replies r starts_so replies_so s.
+      ap text_of (next_so allows event queue old e said_starts said_replies r waits s)
+      ∙ moves.says said_starts said_replies (record r { queue = queue }) starts_so replies_so (queue_taken old e queue said_starts said_replies r s);
+}
+
+-- none waits
+pub none-moves : {Own : Type 0} (allows : List Place → Bool) (seen : Seen Own) (e : Engine) → e.queue ≡ [] → Moves [] (dispatch_next allows) [] seen seen e e
+none-moves allows seen e none = record {
+  starts = [];
+  replies = [];
+  given = refl;
+  read_starts = sym (append-nil (starts_in (own_acts seen)));
+  read_replies = sym (append-nil (replies_in (own_acts seen)));
+  read_stimuli = sym (append-nil (stimuli_in seen));
+  stands = λ later_starts later_replies r starts_so replies_so s.
+      subst (λ (x : Run). Stands seen e later_starts later_replies x) (sym (ap (λ (events : List Event). next_dispatched allows events r) (s.queue ∙ none))) s;
+  says = λ later_starts later_replies r starts_so replies_so s. ap text_of (ap (λ (events : List Event). next_dispatched allows events r) (s.queue ∙ none)) ∙ sym (append-nil (text_of r));
+}

@@ -1,0 +1,76 @@
+-- Laws of endings: what a whole run promises follows of its parts.
+use Rattle.std.proofs.Common.{◌≡◌, ℕ, ◌<◌, Bool, List, [], ◌++◌, length, Option, Some, None, refl, sym, ap, ◌∙◌, subst}
+use Rattle.std.specs.Io.KnownBytes.{append_known}
+use Rattle.std.proofs.lemmas.List.{append_assoc}
+use Rattle.flow_table.specs.declared.view.TableView.{TableView}
+use Rattle.lego_model.specs.Places.{Place}
+use Rattle.lego_model.specs.Controller.{settle}
+use Rattle.outside.specs.Seen.{Seen, Continues}
+use Rattle.outside.specs.Conforming.{Conforming}
+use Rattle.outside.specs.laws.StateLaws.{Conforming-before}
+use Rattle.switch_laws.specs.laws.OrderlyLaws.{orderly-then}
+use Rattle.run_laws.specs.Engine.{Engine}
+use Rattle.lego_model.specs.Application.{index}
+use Rattle.lego_model.specs.History.{stimuli_in}
+use Rattle.run_laws.specs.laws.StimuliLaws.{fewer-before}
+use Rattle.run_laws.specs.Readings.{JudgesAlike}
+use Rattle.run_laws.specs.Moves.{ShownToEnd}
+use Rattle.lego_model.specs.ReferenceRun.{rounds, all_started}
+use Rattle.run_laws.specs.laws.MoveLaws.{moved-then}
+use Rattle.run_laws.specs.LastReport.{last_text}
+use Rattle.run_laws.specs.laws.WholeLaws.{ran}
+use Rattle.run_laws.specs.laws.FirstLaws.{settled-first}
+use Rattle.run_laws.specs.First.{IsOpened, engine_at_first}
+use Rattle.run_laws.specs.Promise.{most_rounds}
+use Rattle.lego_model.specs.WholeRun.{EndsAlike, LeavesAlike}
+use Rattle.run_laws.specs.laws.FinishLaws.{ends-alike, leaves-alike}
+use Rattle.run_laws.specs.Endings.{ShownStart, ShownWhole, Leaves, RanOut, RanFull}
+
+pub known-append : (o : Option (List ℕ)) (s t : List ℕ) → append_known (append_known o s) t ≡ append_known o (s ++ t)
+known-append None s t = refl
+known-append (Some xs) s t = ap (λ (l : List ℕ). Some l) (append_assoc xs s t)
+
+-- the application is started, and then the rounds follow
+pub whole-of : {Own : Type 0} (Tells : Type 0) (accepts : List TableView → Bool) (most : ℕ) (first second : List ℕ) (a b c : Seen Own) (e1 e2 e3 : Engine) → Continues Tells b c
+    → ShownStart Tells first a b e1 e2 → ShownToEnd Tells accepts most second b c e2 e3 → ShownWhole Tells accepts most (first ++ second) a c e1 e3
+whole-of Tells accepts most first second a b c e1 e2 e3 later begins ends = record {
+  whole_so = λ allows told keeps judges settled few.
+      let one = begins.moved told (Conforming-before told later keeps) settled in
+      let two = ends.to_end allows told keeps judges one.settled few in
+      record {
+        stimuli = two.stimuli;
+        moved = moved-then [] two.stimuli all_started (λ r. settle allows (rounds allows two.stimuli r)) first second a b c e1 e2 e3 one two.moved;
+      };
+}
+
+pub leaves-then : {Own : Type 0} (a b c : Seen Own) → Leaves a b → Leaves b c → Leaves a c
+leaves-then a b c m n = record {
+  given = n.given ∙ m.given;
+  starts = n.starts ∙ m.starts;
+  replies = n.replies ∙ m.replies;
+  inputs = n.inputs ∙ m.inputs;
+  stimuli = n.stimuli ∙ m.stimuli;
+  marks = n.marks ∙ m.marks;
+  switches = λ d. n.switches d ∙ m.switches d;
+  at_once = λ said. n.at_once (m.at_once said);
+  orderly = orderly-then index a b c m.orderly n.orderly;
+}
+
+-- ---- Of a world that was opened
+
+pub ran-out : {Own : Type 0} (Tells : Type 0) (accepts : List TableView → Bool) (allows : List Place → Bool) (contents now_contents : Option (List ℕ)) (old new : Seen Own) (e : Engine) → Tells → Conforming new → JudgesAlike Own allows accepts → IsOpened old
+    → length (stimuli_in new) < most_rounds → RanOut Tells accepts most_rounds contents now_contents old new engine_at_first e → EndsAlike allows new contents now_contents e.events
+ran-out Tells accepts allows contents now_contents old new e told keeps judges opened few out =
+    let few_last = fewer-before Tells out.last new told out.later few in
+    let moved = out.whole_so.whole_so allows told (Conforming-before told out.later keeps) judges (settled-first old opened) few_last in
+    let done = out.finish.shown told keeps moved.moved.settled.calm in
+    ends-alike allows out.text out.last new e contents now_contents keeps done.leaves moved.moved.settled (ran allows moved.stimuli out.text old out.last e opened moved.moved.moves) (done.leaves.at_once moved.moved.settled.speaks.at_once) out.none_left
+    (done.written ∙ known-append contents out.text (last_text out.last e))
+
+pub ran-full : {Own : Type 0} (Tells : Type 0) (accepts : List TableView → Bool) (allows : List Place → Bool) (left : ℕ) (contents now_contents : Option (List ℕ)) (old new : Seen Own) → Tells → Conforming new → JudgesAlike Own allows accepts → IsOpened old
+    → length (stimuli_in new) < most_rounds → RanFull Tells accepts most_rounds left contents now_contents old new engine_at_first → LeavesAlike allows new contents now_contents left
+ran-full Tells accepts allows left contents now_contents old new told keeps judges opened few full =
+    let few_last = fewer-before Tells full.last new told full.later few in
+    let moved = full.whole_so.whole_so allows told (Conforming-before told full.later keeps) judges (settled-first old opened) few_last in
+    subst (λ (n : ℕ). LeavesAlike allows new contents now_contents n) (sym full.left_so)
+    (leaves-alike allows full.text full.last new full.now_engine contents now_contents keeps (full.leaves.shown told keeps) moved.moved.settled (ran allows moved.stimuli full.text old full.last full.now_engine opened moved.moved.moves) ((full.leaves.shown told keeps).at_once moved.moved.settled.speaks.at_once) full.contents_so)

@@ -1,0 +1,89 @@
+-- What the engine does at a start and at an event is what the reference controller does, in a world that keeps its word.
+use Rattle.std.proofs.Common.{◌≡◌, ℕ, zero, suc, ◌+◌, ◌^◌, ◌<◌, Bool, true, false, List, [], ◌∷◌, Option, is_some, refl, sym, ap, ◌∙◌, subst, inl, inr}
+use Rattle.std.specs.List.{AllByRecursion}
+use Rattle.flow_table.specs.declared.view.TableView.{TableView}
+use Rattle.app_frames.specs.declared.frame.Event.{Event}
+use Rattle.lego_model.specs.Journal.{start_of}
+use Rattle.lego_model.specs.Scripted.{is_start_heard}
+use Rattle.lego_model.specs.Places.{Place}
+use Rattle.lego_model.specs.Controller.{attempts, dispatch}
+use Rattle.outside.specs.Seen.{Seen, Continues}
+use Rattle.outside.specs.Conforming.{Conforming}
+use Rattle.app_visor.specs.Attempts.{OneTry, AreTries}
+use Rattle.app_visor.specs.laws.ReadTurnLaws.{turn_told}
+use Rattle.app_visor.specs.laws.ReadTryLaws.{tries_told}
+use Rattle.journal_laws.specs.laws.FrameLaws.{event_is}
+use Rattle.switch_laws.specs.laws.OrderlyLaws.{orderly-whole}
+use Rattle.batch_laws.specs.Calm.{Calm}
+use Rattle.run_laws.specs.Engine.{Engine, with_number}
+use Rattle.lego_model.specs.Application.{index}
+use Rattle.run_laws.specs.Facts.{IsTurn, Dispatches}
+use Rattle.run_laws.specs.Readings.{AreRead, JudgesAlike}
+use Rattle.run_laws.specs.Moves.{AtRest, Moved, Shown}
+use Rattle.lego_model.specs.ReferenceRun.{dispatch_next}
+use Rattle.run_laws.specs.laws.TurnMoveLaws.{turn_moves}
+use Rattle.run_laws.specs.laws.DialogueLaws.{turn_goes_on}
+use Rattle.run_laws.specs.laws.DispatchLaws.{dispatch-moves, dispatch-life, next-moves, none-moves}
+use Rattle.run_laws.specs.laws.OrderlyRunLaws.{turn-orderly}
+
+-- ---- Every turn and every restart is read
+
+-- of each attempt enough is told
+tries-heard : {Own : Type 0} (Tells : Type 0) (app n : ℕ) (ts : List (OneTry Own)) (old new : Seen Own) → AreTries Tells app n ts old new → AllByRecursion (λ t. is_start_heard (start_of t.attempt) ≡ true) ts
+tries-heard Tells app zero [] old new are = tt
+tries-heard Tells app zero (t ∷ ts) old new are = absurd are
+tries-heard Tells app (suc n) [] old new are = absurd are
+tries-heard {Own} Tells app (suc n) (t ∷ ts) old new are = (
+  are.0.heard,
+  elim are.1 [
+    | inl h ↦ subst (λ (l : List (OneTry Own)). AllByRecursion (λ x. is_start_heard (start_of x.attempt) ≡ true) l) (sym h.1) tt
+    | inr h ↦ tries-heard Tells app n ts t.after new h.1
+  ],
+)
+
+pub are-read : {Own : Type 0} (Tells : Type 0) (accepts : List TableView → Bool) → AreRead Own Tells accepts
+are-read Tells accepts = record {
+  turn = λ number moment event rest old mid net mid_net end unread told t stood.
+      let r = turn_told t told (event_is number moment event) stood in
+      record { starts = r.starts; replies = r.replies; heard = t.heard; life = r.life };
+  tries = λ old new found tries told s.
+      let r = tries_told Tells index attempts s.all old new s.are told in
+      record { starts = r.starts; replies = r.replies; heard = tries-heard Tells index attempts s.all old new s.are; life = λ some. r.life (sym (ap (λ (o : Option (List ℕ)). is_some o) s.found_so) ∙ some); own = r.own };
+}
+
+-- ---- An event
+
+calm-by : {Own : Type 0} (Tells : Type 0) (accepts : List TableView → Bool) (allows : List Place → Bool) (event : Event) (text : List ℕ) (old new : Seen Own) (e now_e : Engine) (alive : Bool) → e.alive ≡ alive → Tells → Conforming new → JudgesAlike Own allows accepts
+    → e.events + 1 < 2 ^ 64 → AtRest old e → IsTurn Tells accepts event alive text old new (with_number e) now_e → Calm new now_e.net
+calm-by Tells accepts allows event text old new e now_e true is told keeps judges few settled turn =
+    ((turn_moves Tells accepts allows event text old new (with_number e) now_e told keeps judges (are-read Tells accepts) few (settled.life is) turn).alike settled.calm).calm
+calm-by Tells accepts allows event text old new e now_e false is told keeps judges few settled turn =
+    subst (λ (s : Seen _). Calm s now_e.net) (sym turn.0) (subst (λ (x : Engine). Calm old x.net) (sym turn.1) settled.calm)
+
+pub dispatch-moved : {Own : Type 0} (Tells : Type 0) (accepts : List TableView → Bool) (allows : List Place → Bool) (event : Event) (text : List ℕ) (old new : Seen Own) (e now_e : Engine) → Tells → Conforming new → Continues Tells old new → JudgesAlike Own allows accepts
+    → e.events + 1 < 2 ^ 64 → AtRest old e → Dispatches Tells accepts event text old new e now_e → Moved [] (dispatch allows event) text old new e now_e
+dispatch-moved Tells accepts allows event text old new e now_e told keeps continues judges few settled d = record {
+  moves = dispatch-moves Tells accepts allows event text old new e now_e told keeps continues judges (are-read Tells accepts) few settled.life d;
+  settled = record {
+    calm = calm-by Tells accepts allows event d.turn_text old new e now_e e.alive refl told keeps judges few settled d.turn;
+    life = dispatch-life Tells accepts allows event text old new e now_e told keeps judges (are-read Tells accepts) few settled.life d;
+    speaks = turn_goes_on Tells accepts event e.alive d.turn_text old new (with_number e) now_e told refl (record { at_once = settled.speaks.at_once; rest_so = settled.speaks.rest_so }) d.turn;
+    orderly = orderly-whole index old new settled.orderly (turn-orderly Tells accepts event e.alive d.turn_text old new (with_number e) now_e told (are-read Tells accepts) d.turn);
+  };
+}
+
+-- the oldest event is taken out of the queue, and dispatched
+pub next-shown : {Own : Type 0} (Tells : Type 0) (accepts : List TableView → Bool) (event : Event) (queue : List Event) (text : List ℕ) (old new : Seen Own) (e now_e : Engine) → Continues Tells old new → e.events + 1 < 2 ^ 64 → e.queue ≡ event ∷ queue
+    → Dispatches Tells accepts event text old new (record e { queue = queue }) now_e → Shown Tells accepts [] dispatch_next text old new e now_e
+next-shown Tells accepts event queue text old new e now_e continues few waits d = record {
+  moved = λ allows told keeps judges settled.
+      let taken : AtRest old (record e { queue = queue }) = record { calm = settled.calm; life = settled.life; speaks = record { at_once = settled.speaks.at_once; rest_so = settled.speaks.rest_so }; orderly = settled.orderly } in
+      let one = dispatch-moved Tells accepts allows event text old new (record e { queue = queue }) now_e told keeps continues judges few taken d in
+      record { moves = next-moves allows event queue text old new e now_e waits one.moves; settled = one.settled };
+}
+
+-- none waits
+pub rest-shown : {Own : Type 0} (Tells : Type 0) (accepts : List TableView → Bool) (seen : Seen Own) (e : Engine) → e.queue ≡ [] → Shown Tells accepts [] dispatch_next [] seen seen e e
+rest-shown Tells accepts seen e none = record {
+  moved = λ allows told keeps judges settled. record { moves = none-moves allows seen e none; settled = settled };
+}

@@ -1,0 +1,339 @@
+-- What follows about the last lines of a report: those of rows and views are those of the switches as their owners see them, and those of
+-- the engine are those of the reference controller.
+use Rattle.std.proofs.Common.{◌≡◌, ◌≢◌, ◌==◌, ℕ, ◌+◌, ◌<◌, ◌≤◌, true, false, List, [], ◌∷◌, ◌++◌, length, map, Option, Some, None, if◌then◌else◌, refl, sym, ap, ap₂, ◌∙◌, subst, append_assoc, inl, inr, arith, true≢false}
+use Rattle.std.proofs.lemmas.Bool.{cases_Bool, eqb-true, eqb-false, eq-eqb, ne_eqb}
+use Rattle.std.proofs.lemmas.List.{length-map, append-nil}
+use Rattle.std.specs.Prelude.{filter}
+use Rattle.std.specs.List.{flat_map, AllByRecursion}
+use Rattle.std.specs.Option.{option_map}
+use Rattle.std.proofs.lemmas.List.Elements.{filter-append}
+use Rattle.of_types.specs.declared.journal.Act.{Act}
+use Rattle.of_types.specs.declared.journal.Act.TheVariants.{Stim, Started, Gave, Gone, Took, Ended, Sent, Got}
+use Rattle.of_types.specs.declared.journal.WorldStim.{WorldStim}
+use Rattle.of_match.specs.declared.key.Key.{Key}
+use Rattle.of_match.specs.Key.{key_number}
+use Rattle.of_action.specs.declared.action.Action.{Action}
+use Rattle.of_stats.specs.declared.flow_row.FlowRow.{FlowRow}
+use Rattle.flow_table.specs.declared.entry.Entry.{Entry}
+use Rattle.flow_table.specs.declared.view.ViewRow.{ViewRow}
+use Rattle.flow_table.specs.declared.view.TableView.{TableView}
+use Rattle.flow_table.specs.Table.{IsTable, AscendsFrom}
+use Rattle.flow_table.specs.Switch.{Declared, SwitchState}
+use Rattle.flow_table.specs.Statistics.{flow_row}
+use Rattle.undo_laws.specs.Owned.{owned, owned_switch}
+use Rattle.lego_model.specs.Answers.{Rows, rows_of_table, rows_of_view}
+use Rattle.lego_model.specs.Controller.{Run}
+use Rattle.lego_model.specs.RunReport.{switch_line, flow_line, app_line, end_line, entry_text, switch_text, apps_text, run_report}
+use Rattle.outside.specs.Seen.{Seen, is_declared, journal}
+use Rattle.outside.specs.State.{State, state, switch_of, after_act, after_step, after_steps}
+use Rattle.outside.specs.Conforming.{AreDeclaredFrom}
+use Rattle.net_txn.specs.Views.{rows_at, ViewsAscend}
+use Rattle.net_txn.specs.Agreement.{Agrees}
+use Rattle.net_txn.specs.AskSteps.{own_rows}
+use Rattle.switch_laws.specs.Shown.{rows_or_none, flags_in, flags_at, shown_switch, places, shown_places, Stand}
+use Rattle.switch_laws.specs.laws.FlagLaws.{flags_in-here, flags_in-there}
+use Rattle.lego_model.specs.Journal.{Reply, Start, is_of, inputs, stimuli}
+use Rattle.lego_model.specs.laws.JournalLaws.{inputs-append, stimuli-append}
+use Rattle.outside.specs.declared.step.WorldStep.{WorldStep}
+use Rattle.outside.specs.declared.step.WorldStep.TheVariants.{Acted, TookInto, From, Joined, Left, Moment, Idle, End, Opened, NotOpened, NextFailed, SendFailed, RecvFailed}
+use Rattle.outside.specs.laws.SeenLaws.{journal-append}
+use Rattle.outside.specs.laws.StateLaws.{state-append}
+use Rattle.lego_model.specs.declared.wait.Awaited.{Awaited}
+use Rattle.lego_model.specs.declared.wait.Heard.{Heard}
+use Rattle.lego_model.specs.declared.wait.Heard.TheVariants as kinds
+use Rattle.lego_model.specs.declared.wait.Refusal.{Refusal}
+use Rattle.net_txn.specs.Waits.{Waits}
+use Rattle.lego_model.specs.BarrierWaits.{heard, steps_by, wait_steps, barrier_sent, reply_got}
+use Rattle.net_txn.specs.Asks.{GivesRows}
+use Rattle.lego_model.specs.FlowQueries.{asked_from, request_sent}
+use Rattle.lego_model.specs.OrderlySteps.{IsOrderly}
+use Rattle.switch_laws.specs.laws.OrderlyLaws.{orderly-none, orderly-then, rows-orderly}
+use Rattle.run_laws.specs.Engine.{Engine, Stands}
+use Rattle.lego_model.specs.Application.{index, names, name}
+use Rattle.lego_model.specs.History.{own_acts, given_in, stimuli_in}
+use Rattle.lego_model.specs.ReferenceRun.{text_of}
+use Rattle.run_laws.specs.laws.DialogueLaws.{others_at_once}
+use Rattle.run_laws.specs.LastReport.{SameKeys, flow_lines, table_lines, shown_text, last_text, last_lines, OnlyAsked, JoinedWith}
+use Rattle.batch_laws.specs.laws.PortTellLaws.{some_is_none}
+
+-- ---- A switch
+
+first_key : (k l : Key) (a b : List Action) (rs ss : Rows) → (k, a) ∷ rs ≡ (l, b) ∷ ss → k ≡ l
+first_key k l a b rs ss h = let same : (k, a) ≡ (l, b) = cc in ap (λ (p : Key × List Action). p.0) same
+
+other_rows : (p q : Key × List Action) (rs ss : Rows) → p ∷ rs ≡ q ∷ ss → rs ≡ ss
+other_rows p q rs ss h = cc
+
+pub keys-same : (moment : ℕ) (es : List Entry) (vs : List ViewRow) → rows_of_view vs ≡ rows_of_table es → SameKeys (map (flow_row moment) es) vs
+keys-same moment [] [] h = tt
+keys-same moment [] (v ∷ vs) h = absurd cc
+keys-same moment (e ∷ es) [] h = absurd cc
+keys-same moment (e ∷ es) (v ∷ vs) h =
+    (first_key v.key e.key v.actions e.actions (rows_of_view vs) (rows_of_table es) h, keys-same moment es vs (other_rows (v.key, v.actions) (e.key, e.actions) (rows_of_view vs) (rows_of_table es) h))
+
+lines-owned : (moment least : ℕ) (f : Key → ℕ) (es : List Entry) (vs : List ViewRow) → AscendsFrom least es → rows_of_view vs ≡ rows_of_table es → ((k : Key) → least ≤ key_number k → f k ≡ flags_in vs k)
+    → flow_lines (map (flow_row moment) es) vs ≡ flat_map (entry_text moment) (map (owned f) es)
+lines-owned moment least f [] [] up h flags = refl
+lines-owned moment least f [] (v ∷ vs) up h flags = refl
+lines-owned moment least f (e ∷ es) [] up h flags = absurd cc
+lines-owned moment least f (e ∷ es) (v ∷ vs) up h flags =
+    let key : v.key ≡ e.key = first_key v.key e.key v.actions e.actions (rows_of_view vs) (rows_of_table es) h in
+    let there : key_number v.key ≡ key_number e.key = ap key_number key in
+    let own : f e.key ≡ v.flags = flags e.key up.0 ∙ flags_in-here v vs e.key there in
+    ap₂ (λ (n : ℕ) (text : List ℕ). flow_line (flow_row moment e) n ++ text) (sym own)
+    (lines-owned moment (key_number e.key + 1) f es vs up.1 (other_rows (v.key, v.actions) (e.key, e.actions) (rows_of_view vs) (rows_of_table es) h)
+    (λ k above. flags k (omega (arith, above, up.0)) ∙ flags_in-there v vs k (λ same. omega (arith, above, there, same))))
+
+-- the lines of a switch's own rows, with the flags of its view, are those of the switch as its owner sees it
+pub table-shown : (d : ℕ) (views : List TableView) (vs : List ViewRow) (s : SwitchState) → rows_at d views ≡ Some vs → rows_of_view vs ≡ rows_of_table s.table.entries → IsTable s.table.entries → s.declared.dpid ≡ d
+    → table_lines d (own_rows s) vs ≡ switch_text (Some (owned_switch (flags_at d views) s))
+table-shown d views vs s is same table number =
+    let count : length (own_rows s) ≡ length (map (owned (flags_at d views)) s.table.entries) = length-map s.table.entries (flow_row s.moment) ∙ sym (length-map s.table.entries (owned (flags_at d views))) in
+    let flags : (k : Key) → 0 ≤ key_number k → flags_at d views k ≡ flags_in vs k = λ k le. ap (λ (o : Option (List ViewRow)). flags_in (rows_or_none o) k) is in
+    ap₂ (λ (a b : List ℕ). a ++ b) (ap₂ switch_line (sym number) count) (lines-owned s.moment 0 (flags_at d views) s.table.entries vs table same flags)
+
+-- ---- All of them
+
+one_rows : (a b : Rows) → Some a ≡ Some b → a ≡ b
+one_rows a b h = cc
+
+pub joined-with : (d : ℕ) (views : List TableView) (s : State) (vs : List ViewRow) → Agrees d views s → rows_at d views ≡ Some vs → JoinedWith vs (switch_of d s)
+joined-with d views s vs agrees is = joined_with (switch_of d s) (sym (ap (λ (o : Option (List ViewRow)). option_map rows_of_view o) is) ∙ agrees)
+  where
+    joined_with : {vs : List ViewRow} (o : Option SwitchState) → Some (rows_of_view vs) ≡ option_map (λ x. rows_of_table x.table.entries) o → JoinedWith vs o
+    joined_with None h = absurd cc
+    joined_with {vs = vs} (Some x) h = record { switch = x; is = refl; rows = one_rows (rows_of_view vs) (rows_of_table x.table.entries) h }
+
+-- one that has none is out
+pub out-with : (d : ℕ) (views : List TableView) (s : State) → Agrees d views s → rows_at d views ≡ None → switch_of d s ≡ None
+out-with d views s agrees is = out_with (switch_of d s) (sym (ap (λ (o : Option (List ViewRow)). option_map rows_of_view o) is) ∙ agrees)
+  where
+    out_with : (o : Option SwitchState) → None ≡ option_map (λ x. rows_of_table x.table.entries) o → o ≡ None
+    out_with None h = refl
+    out_with (Some x) h = absurd cc
+
+-- and one that is out has none
+none-viewed : (d : ℕ) (views : List TableView) (s : State) → Agrees d views s → switch_of d s ≡ None → rows_at d views ≡ None
+none-viewed d views s agrees out = none_viewed (rows_at d views) (agrees ∙ ap (option_map (λ x. rows_of_table x.table.entries)) out)
+  where
+    none_viewed : (o : Option (List ViewRow)) → option_map rows_of_view o ≡ None → o ≡ None
+    none_viewed None h = refl
+    none_viewed (Some x) h = absurd cc
+
+-- no view stands below the first
+none_below : (d least : ℕ) (views : List TableView) → ViewsAscend least views → d < least → rows_at d views ≡ None
+none_below d least [] up below = refl
+none_below d least (v ∷ vs) up below =
+    rw (ne_eqb v.dpid d (λ same. omega (arith, same, below, up.0))) (none_below d (v.dpid + 1) vs up.1 (omega (arith, below, up.0)))
+
+-- none of these stands below the first
+declared_above : (d least : ℕ) (ds : List Declared) → AreDeclaredFrom least ds → is_declared d ds ≡ true → least ≤ d
+declared_above d least [] are is = absurd (true≢false (sym is))
+declared_above d least (x ∷ xs) are is =
+    elim (cases_Bool (x.dpid == d)) [
+      | inl here ↦ omega (arith, eqb-true x.dpid d here, are.0)
+      | inr other ↦ omega (arith, declared_above d (x.dpid + 1) xs are.2 (rw other at is), are.0)
+    ]
+
+abbrev declared_text : (ℕ → List ℕ) → List Declared → List ℕ
+declared_text g ds = flat_map (λ x. g x.dpid) ds
+
+abbrev viewed_text : (ℕ → List ℕ) → List TableView → List ℕ
+viewed_text g vs = flat_map (λ v. g v.dpid) vs
+
+-- What has text only where there is a view, over the declared switches: it is that over the views.
+over-views : (g : ℕ → List ℕ) (first least : ℕ) (vs : List TableView) (ds : List Declared) → ViewsAscend first vs → AreDeclaredFrom least ds → ((d : ℕ) → is_declared d ds ≡ false → rows_at d vs ≡ None)
+    → ((d : ℕ) → least ≤ d → rows_at d vs ≡ None → g d ≡ []) → viewed_text g vs ≡ declared_text g ds
+over-views g first least [] [] up are known quiet = refl
+over-views g first least (v ∷ vs) [] up are known quiet =
+    let none : (if v.dpid == v.dpid then Some v.rows else rows_at v.dpid vs) ≡ None = known v.dpid refl in
+    absurd (some_is_none v.rows (rw (eq-eqb v.dpid v.dpid refl) at none))
+over-views g first least [] (x ∷ xs) up are known quiet =
+    over-views g first (x.dpid + 1) [] xs tt are.2 (λ d h. refl) (λ d le h. quiet d (omega (arith, le, are.0)) refl) ∙ ap (λ (text : List ℕ). text ++ declared_text g xs) (sym (quiet x.dpid are.0 refl))
+over-views g first least (v ∷ vs) (x ∷ xs) up are known quiet =
+    elim (cases_Bool (v.dpid == x.dpid)) [
+      | inl here ↦
+          let same : v.dpid ≡ x.dpid = eqb-true v.dpid x.dpid here in
+          ap₂ (λ (n : ℕ) (text : List ℕ). g n ++ text) same
+          (over-views g (v.dpid + 1) (x.dpid + 1) vs xs up.1 are.2
+          (λ d undeclared. elim (cases_Bool (x.dpid == d)) [
+            | inl this ↦ none_below d (v.dpid + 1) vs up.1 (omega (arith, same, eqb-true x.dpid d this))
+            | inr that ↦ behind v vs d (λ e. eqb-false x.dpid d that (sym same ∙ e)) (known d (rw that undeclared))
+          ])
+          (λ d le h. quiet d (omega (arith, le, are.0)) (before v vs d (λ e. omega (arith, e, le, same)) h)))
+      | inr other ↦
+          let apart : v.dpid ≢ x.dpid = eqb-false v.dpid x.dpid other in
+          let above : x.dpid + 1 ≤ v.dpid = declared_above v.dpid (x.dpid + 1) xs are.2 (declared_behind v vs x xs apart (known v.dpid)) in
+          let unseen : rows_at x.dpid (v ∷ vs) ≡ None = none_below x.dpid v.dpid (v ∷ vs) (omega arith, up.1) (omega (arith, above)) in
+          over-views g first (x.dpid + 1) (v ∷ vs) xs up are.2
+          (λ d undeclared. elim (cases_Bool (x.dpid == d)) [
+            | inl this ↦ subst (λ (n : ℕ). rows_at n (v ∷ vs) ≡ None) (eqb-true x.dpid d this) unseen
+            | inr that ↦ known d (rw that undeclared)
+          ])
+          (λ d le h. quiet d (omega (arith, le, are.0)) h)
+          ∙ ap (λ (text : List ℕ). text ++ declared_text g xs) (sym (quiet x.dpid are.0 unseen))
+    ]
+  where
+    behind : (v : TableView) (vs : List TableView) (d : ℕ) → v.dpid ≢ d → rows_at d (v ∷ vs) ≡ None → rows_at d vs ≡ None
+    behind v vs d apart h = rw (ne_eqb v.dpid d apart) at h
+
+    before : (v : TableView) (vs : List TableView) (d : ℕ) → v.dpid ≢ d → rows_at d vs ≡ None → rows_at d (v ∷ vs) ≡ None
+    before v vs d apart h = rw (ne_eqb v.dpid d apart) h
+
+    declared_behind : (v : TableView) (vs : List TableView) (x : Declared) (xs : List Declared) → v.dpid ≢ x.dpid → (is_declared v.dpid (x ∷ xs) ≡ false → rows_at v.dpid (v ∷ vs) ≡ None) → is_declared v.dpid xs ≡ true
+    declared_behind v vs x xs apart known = elim (cases_Bool (is_declared v.dpid xs)) [
+      | inl is ↦ is
+      | inr not ↦
+          let none : rows_at v.dpid (v ∷ vs) ≡ None = known (rw (ne_eqb x.dpid v.dpid (λ e. apart (sym e))) not) in
+          absurd (some_is_none v.rows (rw (eq-eqb v.dpid v.dpid refl) at none))
+    ]
+
+places-text : (f : ℕ → Option SwitchState) (ds : List Declared) → flat_map (λ p. switch_text p.switch) (places f ds) ≡ declared_text (λ d. switch_text (f d)) ds
+places-text f [] = refl
+places-text f (x ∷ xs) = ap (λ (text : List ℕ). switch_text (f x.dpid) ++ text) (places-text f xs)
+
+-- Over the views is over the places of the declared switches.
+pub places-shown : (declared : List Declared) (views : List TableView) (s : State) → ViewsAscend 0 views → AreDeclaredFrom 1 declared → Stand declared s → ((d : ℕ) → Agrees d views s)
+    → flat_map (λ v. shown_text views s v.dpid) views ≡ flat_map (λ p. switch_text p.switch) (shown_places declared views s)
+unfolding shown_places
+places-shown declared views s up are stand agrees =
+    over-views (shown_text views s) 0 1 views declared up are (λ d other. none-viewed d views s (agrees d) (stand.undeclared d other))
+    (λ d le none. ap (λ (o : Option SwitchState). switch_text (option_map (owned_switch (flags_at d views)) o)) (out-with d views s (agrees d) none))
+    ∙ sym (places-text (shown_switch views s) declared)
+
+-- ---- The whole
+
+-- the report of a run of the reference controller is the text of its lines, and its last lines
+pub report-ends : (r : Run) → run_report names r ≡ text_of r ++ last_lines r
+unfolding run_report
+report-ends r =
+    ap (λ (text : List ℕ). text ++ end_line r.moment r.events) (append_assoc (text_of r) (places_lines r) (apps_text names r.apps))
+    ∙ append_assoc (text_of r) (places_lines r ++ apps_text names r.apps) (end_line r.moment r.events)
+  where
+    places_lines : Run → List ℕ
+    places_lines q = flat_map (λ p. switch_text p.switch) q.places
+
+-- Where engine and reference controller stand alike, they say the same at the end.
+pub last-shown : {Own : Type 0} (seen : Seen Own) (e : Engine) (starts : List Start) (replies : List Reply) (r : Run) → Stands seen e starts replies r → last_lines r ≡ last_text seen e
+last-shown seen e starts replies r stands =
+    let moment : r.moment ≡ e.net.moment = stands.moment ∙ sym stands.calm.moment in
+    let first_text : List ℕ = flat_map (λ p. switch_text p.switch) (shown_places seen.given.declared e.net.views (state seen)) in
+    rw (stands.places, stands.apps, moment, stands.events)
+    (ap (λ (text : List ℕ). (first_text ++ text) ++ end_line e.net.moment e.events) (append-nil (app_line name e.alive e.done e.failed))
+    ∙ append_assoc first_text (app_line name e.alive e.done e.failed) (end_line e.net.moment e.events))
+
+-- ---- What it leaves
+
+-- a message to or from a switch
+abbrev IsTalk : WorldStep → Type 0
+IsTalk (Acted (Sent d bytes)) = Unit {0}
+IsTalk (Acted (Got d bytes)) = Unit {0}
+IsTalk other = ⊥
+
+all_talk : (xs ys : List WorldStep) → AllByRecursion IsTalk xs → AllByRecursion IsTalk ys → AllByRecursion IsTalk (xs ++ ys)
+all_talk [] ys all rest = rest
+all_talk (x ∷ xs) ys all rest = (all.0, all_talk xs ys all.1 rest)
+
+heard-talk : (d : ℕ) (h : Heard) (bytes : List ℕ) → AllByRecursion IsTalk (steps_by d h bytes)
+heard-talk d kinds.Reply bytes = tt
+heard-talk d (kinds.Refused refusal) bytes = tt
+heard-talk d kinds.Notice bytes = tt
+heard-talk d kinds.Echo bytes = (tt, tt)
+heard-talk d kinds.Other bytes = tt
+
+wait-talk : (a : Awaited) (got : List (List ℕ)) → AllByRecursion IsTalk (wait_steps a got)
+wait-talk a [] = tt
+wait-talk a (b ∷ bs) = (tt, all_talk (steps_by a.dpid (heard a b) b) (wait_steps a bs) (heard-talk a.dpid (heard a b) b) (wait-talk a bs))
+
+-- what such a step tells
+record TellsNothing (steps : List WorldStep) : Type 0 where
+  acts : filter (is_of index) (journal steps) ≡ []
+  given : inputs index (journal steps) ≡ []
+  stims : stimuli (journal steps) ≡ []
+
+talk-tells : (steps : List WorldStep) → AllByRecursion IsTalk steps → TellsNothing steps
+unfolding journal inputs stimuli
+talk-tells [] are = record { acts = refl; given = refl; stims = refl }
+talk-tells (Acted (Sent d bytes) ∷ steps) are = let rest = talk-tells steps are.1 in record { acts = rest.acts; given = rest.given; stims = rest.stims }
+talk-tells (Acted (Got d bytes) ∷ steps) are = let rest = talk-tells steps are.1 in record { acts = rest.acts; given = rest.given; stims = rest.stims }
+talk-tells (Acted (Stim x) ∷ steps) are = absurd are.0
+talk-tells (Acted (Started of ok) ∷ steps) are = absurd are.0
+talk-tells (Acted (Gave of bytes) ∷ steps) are = absurd are.0
+talk-tells (Acted (Gone of bytes) ∷ steps) are = absurd are.0
+talk-tells (Acted (Took of what) ∷ steps) are = absurd are.0
+talk-tells (Acted (Ended of) ∷ steps) are = absurd are.0
+talk-tells (TookInto of what room ∷ steps) are = absurd are.0
+talk-tells (From d bytes ∷ steps) are = absurd are.0
+talk-tells (Joined d bytes ∷ steps) are = absurd are.0
+talk-tells (Left d ∷ steps) are = absurd are.0
+talk-tells (Moment t ∷ steps) are = absurd are.0
+talk-tells (Idle ∷ steps) are = absurd are.0
+talk-tells (End ∷ steps) are = absurd are.0
+talk-tells (Opened ∷ steps) are = absurd are.0
+talk-tells (NotOpened ∷ steps) are = absurd are.0
+talk-tells (NextFailed ∷ steps) are = absurd are.0
+talk-tells (SendFailed d ∷ steps) are = absurd are.0
+talk-tells (RecvFailed d ∷ steps) are = absurd are.0
+
+talk-marks : (steps : List WorldStep) (s : State) → AllByRecursion IsTalk steps → (after_steps steps s).marks ≡ s.marks
+unfolding after_step after_act
+talk-marks [] s are = refl
+talk-marks (Acted (Sent d bytes) ∷ steps) s are = talk-marks steps (after_step (Acted (Sent d bytes)) s) are.1
+talk-marks (Acted (Got d bytes) ∷ steps) s are = talk-marks steps (after_step (Acted (Got d bytes)) s) are.1
+talk-marks (Acted (Stim x) ∷ steps) s are = absurd are.0
+talk-marks (Acted (Started of ok) ∷ steps) s are = absurd are.0
+talk-marks (Acted (Gave of bytes) ∷ steps) s are = absurd are.0
+talk-marks (Acted (Gone of bytes) ∷ steps) s are = absurd are.0
+talk-marks (Acted (Took of what) ∷ steps) s are = absurd are.0
+talk-marks (Acted (Ended of) ∷ steps) s are = absurd are.0
+talk-marks (TookInto of what room ∷ steps) s are = absurd are.0
+talk-marks (From d bytes ∷ steps) s are = absurd are.0
+talk-marks (Joined d bytes ∷ steps) s are = absurd are.0
+talk-marks (Left d ∷ steps) s are = absurd are.0
+talk-marks (Moment t ∷ steps) s are = absurd are.0
+talk-marks (Idle ∷ steps) s are = absurd are.0
+talk-marks (End ∷ steps) s are = absurd are.0
+talk-marks (Opened ∷ steps) s are = absurd are.0
+talk-marks (NotOpened ∷ steps) s are = absurd are.0
+talk-marks (NextFailed ∷ steps) s are = absurd are.0
+talk-marks (SendFailed d ∷ steps) s are = absurd are.0
+talk-marks (RecvFailed d ∷ steps) s are = absurd are.0
+
+only-asked : {Own : Type 0} (old new : Seen Own) (steps : List WorldStep) → new.given ≡ old.given → new.history ≡ old.history ++ steps → AllByRecursion IsTalk steps → AllByRecursion (IsOrderly index) steps → OnlyAsked old new
+only-asked old new steps given more are orderly =
+    let tells = talk-tells steps are in
+    let longer : journal new.history ≡ journal old.history ++ journal steps = ap journal more ∙ journal-append old.history steps in
+    record {
+      given = given;
+      acts = ap (filter (is_of index)) longer ∙ filter-append (is_of index) (journal old.history) (journal steps) ∙ ap (λ (xs : List Act). own_acts old ++ xs) tells.acts ∙ append-nil (own_acts old);
+      inputs = ap (inputs index) longer ∙ inputs-append index (journal old.history) (journal steps) ∙ ap (λ (xs : List (List ℕ)). given_in old ++ xs) tells.given ∙ append-nil (given_in old);
+      stimuli = ap stimuli longer ∙ stimuli-append (journal old.history) (journal steps) ∙ ap (λ (xs : List WorldStim). stimuli_in old ++ xs) tells.stims ∙ append-nil (stimuli_in old);
+      marks = ap (λ (s : State). s.marks) (state-append old new steps given more) ∙ talk-marks steps (state old) are;
+      at_once = others_at_once old new steps more tells.acts;
+      orderly = record { steps = steps; history = more; orderly = orderly };
+    }
+
+waits-asked : {Own : Type 0} (Tells : Type 0) (d xid : ℕ) (old new : Seen Own) (came : List (ℕ × List ℕ)) (refusal : Option Refusal) → Tells → Waits Tells (asked_from d xid) (request_sent d xid ∷ barrier_sent (asked_from d xid) ∷ []) old new [] came refusal
+    → OnlyAsked old new
+waits-asked Tells d xid old new came refusal told waits =
+    let a : Awaited = asked_from d xid in
+    only-asked old new (request_sent d xid ∷ barrier_sent a ∷ (wait_steps a waits.got ++ reply_got a ∷ [])) waits.hears.continues.given (waits.hears.told told)
+    (tt, (tt, all_talk (wait_steps a waits.got) (reply_got a ∷ []) (wait-talk a waits.got) (tt, tt))) (rows-orderly index d xid waits.got)
+
+-- To ask a switch for its rows leaves all that is told of the application.
+pub rows-asked : {Own : Type 0} (Tells : Type 0) (d xid : ℕ) (old new : Seen Own) (kept now_kept : List (ℕ × List ℕ)) (rows : List FlowRow) → Tells → GivesRows Tells d xid old new kept now_kept rows → OnlyAsked old new
+rows-asked Tells d xid old new kept now_kept rows told gives = waits-asked Tells d xid old new gives.came gives.answered.refusal told gives.answered.waits
+
+pub asked-nothing : {Own : Type 0} (seen : Seen Own) → OnlyAsked seen seen
+asked-nothing seen = record { given = refl; acts = refl; inputs = refl; stimuli = refl; marks = refl; at_once = λ said. said; orderly = orderly-none index seen }
+
+pub asked-then : {Own : Type 0} (old mid new : Seen Own) → OnlyAsked old mid → OnlyAsked mid new → OnlyAsked old new
+asked-then old mid new first rest = record {
+  given = rest.given ∙ first.given;
+  acts = rest.acts ∙ first.acts;
+  inputs = rest.inputs ∙ first.inputs;
+  stimuli = rest.stimuli ∙ first.stimuli;
+  marks = rest.marks ∙ first.marks;
+  at_once = λ said. rest.at_once (first.at_once said);
+  orderly = orderly-then index old mid new first.orderly rest.orderly;
+}

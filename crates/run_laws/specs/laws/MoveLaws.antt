@@ -1,0 +1,101 @@
+-- Laws of parts of runs: one behind another is a part, and so is one that does nothing.
+use Rattle.std.proofs.Common.{◌≡◌, ℕ, Bool, List, [], ◌++◌, length, drop, refl, sym, ap, ◌∙◌, subst}
+use Rattle.std.proofs.lemmas.List.{append-nil, append_assoc}
+use Rattle.of_types.specs.declared.journal.WorldStim.{WorldStim}
+use Rattle.lego_model.specs.Journal.{Reply, Start}
+use Rattle.flow_table.specs.declared.view.TableView.{TableView}
+use Rattle.lego_model.specs.Places.{Place}
+use Rattle.lego_model.specs.Controller.{Run}
+use Rattle.lego_model.specs.laws.ScriptedLaws.{fronts-parts, start_fronts-parts, drop-parts}
+use Rattle.outside.specs.Seen.{Seen, Continues}
+use Rattle.outside.specs.laws.StateLaws.{Conforming-before}
+use Rattle.lego_model.specs.History.{starts_in, replies_in, own_acts, stimuli_in}
+use Rattle.run_laws.specs.Engine.{Engine, Stands}
+use Rattle.lego_model.specs.ReferenceRun.{text_of}
+use Rattle.run_laws.specs.Moves.{AtRest, Moves, Moved, Shown}
+
+pub moves-none : {Own : Type 0} (seen : Seen Own) (e : Engine) → Moves [] (λ r. r) [] seen seen e e
+moves-none seen e = record {
+  starts = [];
+  replies = [];
+  given = refl;
+  read_starts = sym (append-nil (starts_in (own_acts seen)));
+  read_replies = sym (append-nil (replies_in (own_acts seen)));
+  read_stimuli = sym (append-nil (stimuli_in seen));
+  stands = λ ss rs r starts_so replies_so s. s;
+  says = λ ss rs r starts_so replies_so s. sym (append-nil (text_of r));
+}
+
+pub moves-then : {Own : Type 0} (xs ys : List WorldStim) (f g : Run → Run) (first second : List ℕ) (a b c : Seen Own) (e1 e2 e3 : Engine)
+    → Moves xs f first a b e1 e2 → Moves ys g second b c e2 e3 → Moves (xs ++ ys) (λ r. g (f r)) (first ++ second) a c e1 e3
+moves-then {Own} xs ys f g first second a b c e1 e2 e3 m n = record {
+  starts = m.starts ++ n.starts;
+  replies = m.replies ++ n.replies;
+  given = n.given ∙ m.given;
+  read_starts = longer (starts_in (own_acts a)) (starts_in (own_acts b)) (starts_in (own_acts c)) m.starts n.starts m.read_starts n.read_starts;
+  read_replies = longer (replies_in (own_acts a)) (replies_in (own_acts b)) (replies_in (own_acts c)) m.replies n.replies m.read_replies n.read_replies;
+  read_stimuli = longer (stimuli_in a) (stimuli_in b) (stimuli_in c) xs ys m.read_stimuli n.read_stimuli;
+  stands = λ ss rs r starts_so replies_so s.
+      let fs = start_fronts-parts m.starts n.starts ss starts_so in
+      let fr = fronts-parts m.replies n.replies rs replies_so in
+      subst (λ (l : List Reply). Stands c e3 (drop (length (m.starts ++ n.starts)) ss) l (g (f r))) (sym (drop-parts m.replies n.replies rs))
+      (subst (λ (l : List Start). Stands c e3 l (drop (length n.replies) (drop (length m.replies) rs)) (g (f r))) (sym (drop-parts m.starts n.starts ss))
+      (n.stands (drop (length m.starts) ss) (drop (length m.replies) rs) (f r) fs.1 fr.1 (m.stands ss rs r fs.0 fr.0 s)));
+  says = λ ss rs r starts_so replies_so s.
+      let fs = start_fronts-parts m.starts n.starts ss starts_so in
+      let fr = fronts-parts m.replies n.replies rs replies_so in
+      n.says (drop (length m.starts) ss) (drop (length m.replies) rs) (f r) fs.1 fr.1 (m.stands ss rs r fs.0 fr.0 s)
+      ∙ ap (λ (t : List ℕ). t ++ second) (m.says ss rs r fs.0 fr.0 s)
+      ∙ append_assoc (text_of r) first second;
+}
+  where
+    longer : {A : Type 0} (p q r x y : List A) → q ≡ p ++ x → r ≡ q ++ y → r ≡ p ++ (x ++ y)
+    longer p q r x y h k = k ∙ ap (λ (l : List _). l ++ y) h ∙ append_assoc p x y
+
+-- another function that does the same wherever the two stand alike
+pub moves-as : {Own : Type 0} (xs : List WorldStim) (f g : Run → Run) (text : List ℕ) (a b : Seen Own) (e1 e2 : Engine)
+    → ((ss : List Start) (rs : List Reply) (r : Run) → Stands a e1 ss rs r → f r ≡ g r) → Moves xs f text a b e1 e2 → Moves xs g text a b e1 e2
+moves-as xs f g text a b e1 e2 same m = record {
+  starts = m.starts;
+  replies = m.replies;
+  given = m.given;
+  read_starts = m.read_starts;
+  read_replies = m.read_replies;
+  read_stimuli = m.read_stimuli;
+  stands = λ ss rs r starts_so replies_so s. subst (Stands b e2 (drop (length m.starts) ss) (drop (length m.replies) rs)) (same ss rs r s) (m.stands ss rs r starts_so replies_so s);
+  says = λ ss rs r starts_so replies_so s. subst (λ (q : Run). text_of q ≡ text_of r ++ text) (same ss rs r s) (m.says ss rs r starts_so replies_so s);
+}
+
+pub moved-none : {Own : Type 0} (seen : Seen Own) (e : Engine) → AtRest seen e → Moved [] (λ r. r) [] seen seen e e
+moved-none seen e settled = record { moves = moves-none seen e; settled = settled }
+
+pub moved-then : {Own : Type 0} (xs ys : List WorldStim) (f g : Run → Run) (first second : List ℕ) (a b c : Seen Own) (e1 e2 e3 : Engine)
+    → Moved xs f first a b e1 e2 → Moved ys g second b c e2 e3 → Moved (xs ++ ys) (λ r. g (f r)) (first ++ second) a c e1 e3
+moved-then xs ys f g first second a b c e1 e2 e3 m n = record {
+  moves = moves-then xs ys f g first second a b c e1 e2 e3 m.moves n.moves;
+  settled = n.settled;
+}
+
+pub moved-as : {Own : Type 0} (xs : List WorldStim) (f g : Run → Run) (text : List ℕ) (a b : Seen Own) (e1 e2 : Engine)
+    → ((ss : List Start) (rs : List Reply) (r : Run) → Stands a e1 ss rs r → f r ≡ g r) → Moved xs f text a b e1 e2 → Moved xs g text a b e1 e2
+moved-as xs f g text a b e1 e2 same m = record { moves = moves-as xs f g text a b e1 e2 same m.moves; settled = m.settled }
+
+-- ---- In a world that keeps its word
+
+pub shown-none : {Own : Type 0} (Tells : Type 0) (accepts : List TableView → Bool) (seen : Seen Own) (e : Engine) → Shown Tells accepts [] (λ allows r. r) [] seen seen e e
+shown-none Tells accepts seen e = record { moved = λ allows told keeps judges settled. moved-none seen e settled }
+
+pub shown-then : {Own : Type 0} (Tells : Type 0) (accepts : List TableView → Bool) (xs ys : List WorldStim) (f g : (List Place → Bool) → Run → Run) (first second : List ℕ) (a b c : Seen Own) (e1 e2 e3 : Engine)
+    → Continues Tells b c → Shown Tells accepts xs f first a b e1 e2 → Shown Tells accepts ys g second b c e2 e3
+    → Shown Tells accepts (xs ++ ys) (λ allows r. g allows (f allows r)) (first ++ second) a c e1 e3
+shown-then Tells accepts xs ys f g first second a b c e1 e2 e3 later m n = record {
+  moved = λ allows told keeps judges settled.
+      let one = m.moved allows told (Conforming-before told later keeps) judges settled in
+      moved-then xs ys (f allows) (g allows) first second a b c e1 e2 e3 one (n.moved allows told keeps judges one.settled);
+}
+
+pub shown-as : {Own : Type 0} (Tells : Type 0) (accepts : List TableView → Bool) (xs : List WorldStim) (f g : (List Place → Bool) → Run → Run) (text : List ℕ) (a b : Seen Own) (e1 e2 : Engine)
+    → ((allows : List Place → Bool) (r : Run) → r.queue ≡ e1.queue → f allows r ≡ g allows r) → Shown Tells accepts xs f text a b e1 e2 → Shown Tells accepts xs g text a b e1 e2
+shown-as Tells accepts xs f g text a b e1 e2 same m = record {
+  moved = λ allows told keeps judges settled. moved-as xs (f allows) (g allows) text a b e1 e2 (λ ss rs r s. same allows r s.queue) (m.moved allows told keeps judges settled);
+}

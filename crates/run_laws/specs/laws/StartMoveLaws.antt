@@ -1,0 +1,113 @@
+-- The law of starts: the attempts of the engine are those of the reference controller, where its application has starts before it of which
+-- theirs are the fronts.
+use Rattle.std.proofs.Common.{◌≡◌, ℕ, zero, suc, ◌&&◌, Bool, true, false, List, [], ◌∷◌, ◌++◌, length, drop, Option, is_some, refl, sym, ap, ap₂, ◌∙◌, subst, append_assoc, inl, inr}
+use Rattle.std.specs.Prelude.{if◌then◌else◌, unwrap_or}
+use Rattle.std.specs.List.{AllByRecursion}
+use Rattle.std.proofs.lemmas.List.{append-nil}
+use Rattle.flow_table.specs.declared.view.TableView.{TableView}
+use Rattle.app_frames.specs.declared.cause.Tried.{Tried}
+use Rattle.lego_model.specs.Journal.{Reply, Start, start_of}
+use Rattle.lego_model.specs.Turns.{outcome_of}
+use Rattle.lego_model.specs.Controller.{App, restore_frame, is_ready, attempts, started}
+use Rattle.lego_model.specs.Scripted.{IsStartFront, AreStartFronts, is_start_heard}
+use Rattle.lego_model.specs.laws.ScriptedLaws.{start-front}
+use Rattle.outside.specs.Seen.{Seen}
+use Rattle.outside.specs.State.{state}
+use Rattle.app_visor.specs.Attempts.{OneTry, AreTries, restored, restarted, starts_of, given_by, tries_of}
+use Rattle.turn_laws.specs.laws.ChainLaws.{shown-same}
+use Rattle.run_laws.specs.Engine.{Engine, app_at}
+use Rattle.lego_model.specs.Application.{index, budget}
+use Rattle.lego_model.specs.History.{given_in}
+use Rattle.run_laws.specs.Facts.{StartsAgain}
+use Rattle.run_laws.specs.Readings.{AreRead}
+use Rattle.run_laws.specs.laws.CalmLaws.{calm_talk}
+use Rattle.run_laws.specs.laws.ChainLaws.{tries_keep, tries_continue}
+use Rattle.run_laws.specs.laws.TellLaws.{tries_tell}
+use Rattle.run_laws.specs.laws.LineLaws.{starts_lines}
+use Rattle.run_laws.specs.EventMoves.{StartsAlike}
+
+-- ---- The same starts, or fronts of those that are said
+
+restored-same : (told said : Start) → IsStartFront told said → restored said ≡ restored told
+restored-same told said front = ap₂ (λ (stands back : Bool). if stands && back then restore_frame ∷ [] else []) front.stands front.restored
+
+-- what the first attempt leaves, where this was said of it
+abbrev tried_first : App → Start → List Start → List ℕ → App
+tried_first a s more rest = record a { alive = true; rest = rest; inputs = a.inputs ++ restored s; starts = more }
+
+abbrev by_tried : ℕ → Tried → App → App × List Tried
+by_tried n tried next = if is_ready tried then (next, tried ∷ []) else ((started n next).0, tried ∷ (started n next).1)
+
+started-first : (n : ℕ) (a : App) (s : Start) (more : List Start) (tried : Tried) (rest : List ℕ) → a.starts ≡ s ∷ more → outcome_of s ≡ (tried, rest) → started (suc n) a ≡ by_tried n tried (tried_first a s more rest)
+unfolding started
+started-first n a s more tried rest has is = rw (has, is) refl
+
+-- it is ready then
+ready_so : {Own : Type 0} (n : ℕ) (t : OneTry Own) (ts : List (OneTry Own)) (s : Start) (said : List Start) (a : App) → IsStartFront (start_of t.attempt) s → is_ready t.tried ≡ true → ts ≡ []
+    → by_tried n t.tried (tried_first a s said t.rest) ≡ restarted (t ∷ ts) (drop (length (starts_of ts)) said) a
+ready_so n t ts s said a front ready last = rw (ready, last, append-nil, restored-same (start_of t.attempt) s front) refl
+
+-- it is tried again
+again_so : {Own : Type 0} (n : ℕ) (t : OneTry Own) (ts : List (OneTry Own)) (s : Start) (said : List Start) (a : App) → IsStartFront (start_of t.attempt) s → is_ready t.tried ≡ false
+    → started n (tried_first a s said t.rest) ≡ restarted ts (drop (length (starts_of ts)) said) (tried_first a s said t.rest) → by_tried n t.tried (tried_first a s said t.rest) ≡ restarted (t ∷ ts) (drop (length (starts_of ts)) said) a
+again_so n t ts s said a front unready then_so = rw (unready, then_so, append_assoc, restored-same (start_of t.attempt) s front) refl
+
+starts_so : {Own : Type 0} (Tells : Type 0) (app n : ℕ) (ts : List (OneTry Own)) (old new : Seen Own) → AreTries Tells app n ts old new → AllByRecursion (λ t. is_start_heard (start_of t.attempt) ≡ true) ts → (a : App) (said : List Start) → a.starts ≡ said → AreStartFronts (starts_of ts) said
+    → started n a ≡ restarted ts (drop (length (starts_of ts)) said) a
+unfolding started
+starts_so Tells app zero [] old new are heard a said has fronts = rw (append-nil, ← has) refl
+starts_so Tells app zero (t ∷ ts) old new are heard a said has fronts = absurd are
+starts_so Tells app (suc n) [] old new are heard a said has fronts = absurd are
+starts_so Tells app (suc n) (t ∷ ts) old new are heard a [] has fronts = absurd fronts
+starts_so Tells app (suc n) (t ∷ ts) old new are heard a (s ∷ said) has fronts =
+    started-first n a s said t.tried t.rest has (start-front (start_of t.attempt) s heard.0 fronts.0 ∙ are.0.outcome)
+    ∙ elim are.1 [
+      | inl h ↦ ready_so n t ts s said a fronts.0 h.0 h.1
+      | inr h ↦ again_so n t ts s said a fronts.0 h.0 (starts_so Tells app n ts t.after new h.1 heard.1 (tried_first a s said t.rest) said refl fronts.1)
+    ]
+
+-- an application that was started so
+abbrev started_as : Engine → List Start → List Reply → Option (List ℕ) → List (List ℕ) → List Tried → App × List Tried
+started_as e starts replies found inputs tries = (
+  record {
+    alive = is_some found;
+    budget = budget;
+    rest = unwrap_or found [];
+    inputs = inputs;
+    starts = starts;
+    replies = replies;
+    done = e.done;
+    failed = e.failed;
+  },
+  tries,
+)
+
+pub starts_alike : {Own : Type 0} (Tells : Type 0) (accepts : List TableView → Bool) (text : List ℕ) (old new : Seen Own) (e now_e : Engine) → Tells → AreRead Own Tells accepts → StartsAgain Tells text old new e now_e → StartsAlike Tells text old new e now_e
+starts_alike Tells accepts text old new e now_e told reads s =
+    let found = s.found in
+    let all = s.restarts.all in
+    let read = reads.tries old new found s.tries told s.restarts in
+    let keeps = tries_keep Tells index attempts all old new told s.restarts.are read.own in
+    let tells = tries_tell Tells attempts all old new told s.restarts.are read.own in
+    subst (λ (x : Engine). StartsAlike Tells text old new e x) (sym s.engine) (record {
+      starts = starts_of all;
+      tries = s.tries;
+      continues = tries_continue Tells index attempts all old new s.restarts.are;
+      keeps = keeps;
+      net = refl;
+      queue = refl;
+      events = refl;
+      calm = λ calm. calm_talk old new e.net keeps.links keeps.rests calm;
+      places = λ declared. shown-same declared e.net.views (state old) (state new) keeps.links;
+      app = λ said_starts said_replies fronts.
+          let later_starts = drop (length (starts_of all)) said_starts in
+          starts_so Tells index attempts all old new s.restarts.are read.heard (app_at e (given_in old) said_starts said_replies) said_starts refl fronts
+          ∙ ap (λ (f : Option (List ℕ)). started_as e later_starts said_replies f (given_in old ++ given_by all) (tries_of all)) (sym s.restarts.found_so)
+          ∙ ap (λ (i : List (List ℕ)). started_as e later_starts said_replies found i (tries_of all)) (sym tells.given)
+          ∙ ap (λ (t : List Tried). started_as e later_starts said_replies found (given_in new) t) (sym s.restarts.tries_so);
+      text_so = s.text_so ∙ sym (starts_lines s.tries (is_some found));
+      read_starts = read.starts;
+      read_replies = read.replies;
+      read_stimuli = tells.stims;
+      life = read.life;
+    })

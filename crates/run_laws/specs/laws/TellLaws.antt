@@ -1,0 +1,97 @@
+-- Laws of what the journal tells of a turn and of attempts to start: what the application was given, and that no stimulus came.
+use Rattle.std.proofs.Common.{◌≡◌, ℕ, zero, suc, true, List, [], ◌∷◌, ◌++◌, map, refl, sym, ap, ◌∙◌, subst, inl, inr, append_assoc, true≢false}
+use Rattle.std.proofs.lemmas.Bool.{eq-eqb}
+use Rattle.std.proofs.lemmas.List.{append-nil}
+use Rattle.std.specs.List.{AllByRecursion}
+use Rattle.of_types.specs.declared.journal.Act.{Act}
+use Rattle.of_types.specs.declared.journal.Act.TheVariants.{Stim, Started, Gave, Gone, Took, Ended, Sent, Got}
+use Rattle.of_types.specs.declared.journal.WorldStim.{WorldStim}
+use Rattle.lego_model.specs.Journal.{is_of, inputs, stimuli, start_of}
+use Rattle.lego_model.specs.laws.JournalLaws.{inputs-append, stimuli-append}
+use Rattle.outside.specs.Seen.{Seen, journal}
+use Rattle.outside.specs.laws.SeenLaws.{journal-append}
+use Rattle.outside.specs.State.{state, is_running}
+use Rattle.net_txn.specs.Net.{NetState}
+use Rattle.app_visor.specs.Talks.{step_of}
+use Rattle.app_visor.specs.Beats.{Beat, Talk, Asks, Chain, acts_in}
+use Rattle.app_visor.specs.Attempts.{restored, IsTry, OneTry, AreTries, given_by}
+use Rattle.journal_laws.specs.Readings.{end_acts}
+use Rattle.lego_model.specs.Application.{index}
+use Rattle.lego_model.specs.History.{given_in, stimuli_in}
+use Rattle.run_laws.specs.laws.ChainLaws.{links_tell, try_own, try_given}
+use Rattle.run_laws.specs.LinkSteps.{TellsGiven}
+use Rattle.app_visor.specs.laws.TellingLaws.{journal_steps}
+
+abbrev AreOwn : List Act → Type 0
+AreOwn acts = AllByRecursion (λ act. is_of index act ≡ true) acts
+
+-- ---- Calls for the application
+
+no_stimuli : (acts : List Act) → AreOwn acts → stimuli acts ≡ []
+unfolding stimuli
+no_stimuli [] own = refl
+no_stimuli (Stim x ∷ acts) own = absurd (true≢false (sym own.0))
+no_stimuli (Started app stands ∷ acts) own = no_stimuli acts own.1
+no_stimuli (Gave app bytes ∷ acts) own = no_stimuli acts own.1
+no_stimuli (Gone app bytes ∷ acts) own = no_stimuli acts own.1
+no_stimuli (Took app what ∷ acts) own = no_stimuli acts own.1
+no_stimuli (Ended app ∷ acts) own = no_stimuli acts own.1
+no_stimuli (Sent d bytes ∷ acts) own = no_stimuli acts own.1
+no_stimuli (Got d bytes ∷ acts) own = no_stimuli acts own.1
+
+tells_none : {Own : Type 0} (seen : Seen Own) → TellsGiven seen seen []
+tells_none seen = record { given = sym (append-nil (given_in seen)); stims = refl }
+
+tells_then : {Own : Type 0} (a b c : Seen Own) (xs ys : List (List ℕ)) → TellsGiven a b xs → TellsGiven b c ys → TellsGiven a c (xs ++ ys)
+tells_then a b c xs ys first second = record {
+  given = second.given ∙ ap (λ (frames : List (List ℕ)). frames ++ ys) first.given ∙ append_assoc (given_in a) xs ys;
+  stims = second.stims ∙ first.stims;
+}
+
+tells_talk : {Own : Type 0} (old new : Seen Own) (acts : List Act) → new.history ≡ old.history ++ map step_of acts → AreOwn acts → TellsGiven old new (inputs index acts)
+tells_talk old new acts history own =
+    let longer : journal new.history ≡ journal old.history ++ acts =
+    ap journal history ∙ journal-append old.history (map step_of acts) ∙ ap (λ (more : List Act). journal old.history ++ more) (journal_steps acts) in
+    record {
+      given = ap (inputs index) longer ∙ inputs-append index (journal old.history) acts;
+      stims = ap stimuli longer ∙ stimuli-append (journal old.history) acts ∙ ap (λ (xs : List WorldStim). stimuli_in old ++ xs) (no_stimuli acts own) ∙ append-nil (stimuli_in old);
+    }
+
+-- ---- Beats
+
+none_given : inputs index [] ≡ []
+unfolding inputs
+none_given = refl
+
+pub chain_tells : {Own : Type 0} (Tells : Type 0) (trace : List (Beat Own)) (old new : Seen Own) (net now_net : NetState) → Tells → Chain Tells index trace old new net now_net → TellsGiven old new (inputs index (acts_in trace))
+chain_tells Tells [] old new net now_net told chain =
+    subst (λ (s : Seen _). TellsGiven old s (inputs index [])) (sym chain.0) (subst (TellsGiven old old) (sym none_given) (tells_none old))
+chain_tells Tells (Talk act ∷ trace) old new net now_net told chain =
+    let next = chain.1.0 in
+    subst (TellsGiven old new) (sym (inputs-append index (act ∷ []) (acts_in trace)))
+    (tells_then old next new (inputs index (act ∷ [])) (inputs index (acts_in trace)) (tells_talk old next (act ∷ []) (chain.1.1.0.history told) (chain.0, tt)) (chain_tells Tells trace next new net now_net told chain.1.1.1))
+chain_tells Tells (Asks x ∷ trace) old new net now_net told chain =
+    let same = links_tell x.before x.after (chain.1.0.changes.links told) in
+    let one : TellsGiven old x.after [] = subst (λ (s : Seen _). TellsGiven s x.after []) chain.0.0 (record { given = same.given ∙ sym (append-nil (given_in x.before)); stims = same.stims }) in
+    tells_then old x.after new [] (inputs index (acts_in trace)) one (chain_tells Tells trace x.after new x.now_net now_net told chain.1.1)
+
+-- ---- Attempts to start
+
+try_tells : {Own : Type 0} (Tells : Type 0) (t : OneTry Own) (old : Seen Own) → Tells → IsTry Tells index t.attempt t.tried t.rest old t.after → AreOwn t.attempt.acts → TellsGiven old t.after (restored (start_of t.attempt))
+try_tells Tells t old told is own =
+    let running = is_running index (state old) in
+    let acts = end_acts running index ++ Started index t.attempt.stands ∷ t.attempt.acts in
+    subst (TellsGiven old t.after) (try_given index running t.attempt.stands t.attempt.acts ∙ is.given)
+    (tells_talk old t.after acts (is.history told) (try_own index running t.attempt.stands t.attempt.acts (eq-eqb index index refl) own))
+
+pub tries_tell : {Own : Type 0} (Tells : Type 0) (n : ℕ) (ts : List (OneTry Own)) (old new : Seen Own) → Tells → AreTries Tells index n ts old new → AllByRecursion (λ t. AreOwn t.attempt.acts) ts → TellsGiven old new (given_by ts)
+tries_tell Tells zero [] old new told are own = subst (λ (s : Seen _). TellsGiven old s []) (sym are) (tells_none old)
+tries_tell Tells zero (t ∷ ts) old new told are own = absurd are
+tries_tell Tells (suc n) [] old new told are own = absurd are
+tries_tell Tells (suc n) (t ∷ ts) old new told are own =
+    let one = try_tells Tells t old told are.0 own.0 in
+    elim are.1 [
+      | inl last ↦ subst (λ (s : Seen _). TellsGiven old s (given_by (t ∷ ts))) (sym last.2)
+          (subst (λ (more : List (OneTry _)). TellsGiven old t.after (given_by (t ∷ more))) (sym last.1) (subst (TellsGiven old t.after) (sym (append-nil (restored (start_of t.attempt)))) one))
+      | inr more ↦ tells_then old t.after new (restored (start_of t.attempt)) (given_by ts) one (tries_tell Tells n ts t.after new told more.1 own.1)
+    ]

@@ -1,0 +1,16 @@
+pub mod LinkLaws
+pub mod LinksLaws
+pub mod LinkStepLaws
+pub mod ScriptLaws
+pub mod LifeLaws
+pub mod CellLaws
+pub mod WorldLaws
+pub mod TallyLaws
+pub mod DoingLaws
+pub mod PlaceLaws
+pub mod NextLaws
+pub mod TellLaws
+pub mod NextCallLaws
+pub mod KeepingLaws
+pub mod StandingLaws
+pub mod BuildingLaws

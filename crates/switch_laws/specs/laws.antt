@@ -1,0 +1,14 @@
+pub mod FlagLaws
+pub mod PlaceLaws
+pub mod ShownChangeLaws
+pub mod AskedLaws
+pub mod ShownExchangeLaws
+pub mod StandLaws
+pub mod ViewLaws
+pub mod AbsentLaws
+pub mod SinceLaws
+pub mod ShownUndoLaws
+pub mod SoundLaws
+pub mod SoundStepLaws
+pub mod ClockLaws
+pub mod OrderlyLaws

@@ -1,0 +1,189 @@
+-- What follows where an application's message was answered in a world that keeps its word: the reference controller answers the same, and
+-- its switches move as the world's do, with the flags of the owners.
+use Rattle.std.proofs.Common.{◌≡◌, ◌≢◌, ℕ, true, List, [], ◌∷◌, map, Option, Some, None, Ok, refl, sym, ap, ap₂, ◌∙◌, subst, inl, inr}
+use Rattle.std.proofs.lemmas.Bool.{cases_Bool}
+use Rattle.std.specs.Option.{option_map}
+use Rattle.of_types.specs.declared.errors.OfError.{OfError}
+use Rattle.of_match.specs.declared.key.Key.{Key}
+use Rattle.of_wire.specs.declared.bodies.FlowMod.{FlowMod as Change}
+use Rattle.of_wire.specs.declared.message.Message.TheVariants.{FlowMod}
+use Rattle.of_wire.specs.Reading.{reading_of}
+use Rattle.of_wire.specs.Grammar.{enveloped}
+use Rattle.flow_table.specs.declared.entry.Entry.{Entry}
+use Rattle.flow_table.specs.declared.view.ViewRow.{ViewRow}
+use Rattle.flow_table.specs.declared.view.TableView.{TableView}
+use Rattle.flow_table.specs.Table.{IsTable}
+use Rattle.flow_table.specs.Switch.{Declared, SwitchState}
+use Rattle.flow_table.specs.Refusals.{message_refusal}
+use Rattle.flow_table.specs.Step.{after_message}
+use Rattle.undo_laws.specs.Owned.{owned, owned_switch}
+use Rattle.app_frames.specs.declared.frame.Answer.{Answer}
+use Rattle.lego_model.specs.Answers.{Rows, rows_of_table, rows_of_view, host_answer, as_sent, answer_by, switch_answer}
+use Rattle.lego_model.specs.Places.{Place, switch_at, with_place, rows_at as rows_in, by_switch, by_host, answer}
+use Rattle.outside.specs.Seen.{Given, Seen, is_declared}
+use Rattle.outside.specs.State.{State, state, switch_of, waits_of}
+use Rattle.outside.specs.Conforming.{AreDeclaredFrom, Conforming}
+use Rattle.lego_model.specs.declared.wait.Refusal.{Refusal}
+use Rattle.net_txn.specs.Views.{rows_at, rows_after}
+use Rattle.net_txn.specs.Net.{NetState}
+use Rattle.net_txn.specs.Changes.{known_rows, answer_of_host, error_in, views_by, Asked, Changes}
+use Rattle.net_txn.specs.Agreement.{Agrees, InStep, Steps}
+use Rattle.net_txn.specs.laws.ViewLaws.{rows_at-same, rows_at-other}
+use Rattle.switch_laws.specs.Shown.{rows_or_none, flags_in, flags_at, shown_switch, places, shown_places, Stand, Passes, Known}
+use Rattle.switch_laws.specs.laws.PlaceLaws.{switch_at-declared, switch_at-undeclared, with_place-places}
+use Rattle.switch_laws.specs.laws.ShownChangeLaws.{passes, refusal-shown, taken-shown, refused-shown}
+use Rattle.switch_laws.specs.laws.AskedLaws.{asked}
+
+-- ---- What the host knows
+
+rows-owned : (flags : Key → ℕ) (es : List Entry) → rows_of_table (map (owned flags) es) ≡ rows_of_table es
+rows-owned flags [] = refl
+rows-owned flags (e ∷ es) = ap (λ (rows : Rows). (e.key, e.actions) ∷ rows) (rows-owned flags es)
+
+rows_in-shown : (flags : Key → ℕ) (o : Option SwitchState) → rows_in (option_map (owned_switch flags) o) ≡ option_map (λ x. rows_of_table x.table.entries) o
+rows_in-shown flags None = refl
+rows_in-shown flags (Some s) = ap (λ (rows : Rows). some rows) (rows-owned flags s.table.entries)
+  where
+    some : Rows → Option Rows
+    some rows = Some rows
+
+switch_at-shown : (declared : List Declared) (views : List TableView) (s : State) (d : ℕ) → Stand declared s → switch_at d (places (shown_switch views s) declared) ≡ shown_switch views s d
+switch_at-shown declared views s d stand =
+    elim (cases_Bool (is_declared d declared)) [
+      | inl is ↦ switch_at-declared (shown_switch views s) d declared is
+      | inr other ↦ switch_at-undeclared (shown_switch views s) d declared other ∙ sym (ap (option_map (owned_switch (flags_at d views))) (stand.undeclared d other))
+    ]
+
+-- ---- Answers
+
+answer_by-one : (a b : Option OfError) → answer_by a ≡ answer_by b → a ≡ b
+answer_by-one None None e = refl
+answer_by-one None (Some y) e = absurd cc
+answer_by-one (Some x) None e = absurd cc
+answer_by-one (Some x) (Some y) e = cc
+
+pub answer-shown : (flags : Key → ℕ) (m : Change) (s : SwitchState) (rows : Rows) → Passes m rows → switch_answer (owned_switch flags s) (FlowMod m) ≡ switch_answer s (as_sent (FlowMod m))
+unfolding switch_answer
+answer-shown flags m s rows p = ap answer_by (refusal-shown flags m s p.unrefused)
+
+-- ---- The declared switches are those at first
+
+declared_before : {Own : Type 0} (old new : Seen Own) → new.given ≡ old.given → Conforming new → AreDeclaredFrom 1 old.given.declared
+declared_before old new same keeps = subst (λ (g : Given _). AreDeclaredFrom 1 g.declared) same keeps.declared
+
+-- ---- The views then
+
+abbrev rows_by : Option Refusal → Change → List ViewRow → List ViewRow
+rows_by None m rows = rows_after m rows
+rows_by (Some r) m rows = rows
+
+flags-here : (refusal : Option Refusal) (d : ℕ) (m : Change) (views : List TableView) (rows : List ViewRow) → rows_at d views ≡ Some rows → flags_at d (views_by refusal d m views) ≡ flags_in (rows_by refusal m rows)
+flags-here None d m views rows is = ap (λ (o : Option (List ViewRow)). flags_in (rows_or_none o)) (rows_at-same d (rows_after m) views rows is)
+flags-here (Some r) d m views rows is = ap (λ (o : Option (List ViewRow)). flags_in (rows_or_none o)) is
+
+flags-elsewhere : (refusal : Option Refusal) (d e : ℕ) (m : Change) (views : List TableView) → e ≢ d → flags_at e (views_by refusal d m views) ≡ flags_at e views
+flags-elsewhere None d e m views other = ap (λ (o : Option (List ViewRow)). flags_in (rows_or_none o)) (rows_at-other d e (rows_after m) views other)
+flags-elsewhere (Some r) d e m views other = refl
+
+declared_of : (d : ℕ) (declared : List Declared) (s : State) → Stand declared s → (x : SwitchState) → switch_of d s ≡ Some x → is_declared d declared ≡ true
+declared_of d declared s stand x is =
+    elim (cases_Bool (is_declared d declared)) [
+      | inl there ↦ there
+      | inr other ↦ let none : switch_of d s ≡ None = stand.undeclared d other in absurd cc
+    ]
+
+-- ---- The switch then
+
+moved-shown : (refusal : Option Refusal) (m : Change) (rows : List ViewRow) (s : SwitchState) → IsTable s.table.entries → Passes m (rows_of_table s.table.entries) → error_in refusal ≡ message_refusal s (as_sent (FlowMod m))
+    → after_message (FlowMod m) (owned_switch (flags_in rows) s) ≡ owned_switch (flags_in (rows_by refusal m rows)) (after_message (as_sent (FlowMod m)) s)
+moved-shown None m rows s is p refused = taken-shown m rows s is p (sym refused)
+moved-shown (Some r) m rows s is p refused = refused-shown m rows s r.error p (sym refused)
+
+-- ---- A change that the switch judged
+
+abbrev pub some_switch : SwitchState → Option SwitchState
+some_switch s = Some s
+
+known-from : (d : ℕ) (bytes : List ℕ) (m : Change) (xid : ℕ) (views : List TableView) (s : State) (o : Option (List ViewRow)) (x : Option SwitchState) → rows_at d views ≡ o → switch_of d s ≡ x
+    → option_map rows_of_view o ≡ option_map (λ y. rows_of_table y.table.entries) x → host_answer (option_map rows_of_view o) bytes ≡ None → reading_of bytes ≡ Ok (enveloped xid (FlowMod m)) → Known d m views s
+unfolding host_answer
+known-from d bytes m xid views s None x rows_are switch_is same host read = absurd cc
+known-from d bytes m xid views s (Some rows) None rows_are switch_is same host read = absurd cc
+known-from d bytes m xid views s (Some rows) (Some switch) rows_are switch_is same host read = record {
+  switch = switch;
+  rows = rows;
+  switch_is = switch_is;
+  rows_are = rows_are;
+  passes = passes (rows_of_table switch.table.entries) bytes m xid (ap (λ (k : Option Rows). host_answer k bytes) (sym same) ∙ host) read;
+}
+
+pub known : (d : ℕ) (bytes : List ℕ) (m : Change) (xid : ℕ) (net : NetState) (s : State) → Agrees d net.views s → answer_of_host d bytes net ≡ None → reading_of bytes ≡ Ok (enveloped xid (FlowMod m)) → Known d m net.views s
+known d bytes m xid net s agrees host read = known-from d bytes m xid net.views s (rows_at d net.views) (switch_of d s) refl refl agrees host read
+
+module _ {Own : Type 0} (Tells : Type 0) (d : ℕ) (old new : Seen Own) (net now_net : NetState) (m : Change) (given : Answer) where
+  pub judged : (k : Known d m net.views (state old)) → Asked Tells d m old new net now_net given → InStep d (as_sent (FlowMod m)) old new net now_net given → (refusal : Option Refusal) → now_net.views ≡ views_by refusal d m net.views
+      → given ≡ answer_by (error_in refusal) → error_in refusal ≡ message_refusal k.switch (as_sent (FlowMod m))
+  unfolding switch_answer
+  judged k is step refusal views_so answer_so =
+      let by_switch_is : given ≡ answer_by (message_refusal k.switch (as_sent (FlowMod m))) = rw k.switch_is at step.answer_so in
+      answer_by-one (error_in refusal) (message_refusal k.switch (as_sent (FlowMod m))) (sym answer_so ∙ by_switch_is)
+
+  -- the switches of the reference controller after the change
+  places-then : (declared : List Declared) → AreDeclaredFrom 1 declared → Stand declared (state old) → (k : Known d m net.views (state old)) → InStep d (as_sent (FlowMod m)) old new net now_net given → (refusal : Option Refusal)
+      → now_net.views ≡ views_by refusal d m net.views → error_in refusal ≡ message_refusal k.switch (as_sent (FlowMod m))
+      → with_place d (λ o. Some (after_message (FlowMod m) (owned_switch (flags_in k.rows) k.switch))) (places (shown_switch net.views (state old)) declared) ≡ places (shown_switch now_net.views (state new)) declared
+  places-then declared are stand k step refusal views_so refused =
+      let is : is_declared d declared ≡ true = declared_of d declared (state old) stand k.switch k.switch_is in
+      let after : SwitchState = after_message (as_sent (FlowMod m)) k.switch in
+      let moved : switch_of d (state new) ≡ Some after = step.moved ∙ ap (option_map (after_message (as_sent (FlowMod m)))) k.switch_is in
+      let flags : flags_at d now_net.views ≡ flags_in (rows_by refusal m k.rows) = ap (flags_at d) views_so ∙ flags-here refusal d m net.views k.rows k.rows_are in
+      let shown : after_message (FlowMod m) (owned_switch (flags_in k.rows) k.switch) ≡ owned_switch (flags_in (rows_by refusal m k.rows)) after = moved-shown refusal m k.rows k.switch (stand.table d k.switch k.switch_is) k.passes refused in
+      let here : shown_switch now_net.views (state new) d ≡ Some (after_message (FlowMod m) (owned_switch (flags_in k.rows) k.switch)) =
+      ap₂ (λ (f : Key → ℕ) (o : Option SwitchState). option_map (owned_switch f) o) flags moved ∙ ap some_switch (sym shown) in
+      let others : (e : ℕ) → e ≢ d → shown_switch now_net.views (state new) e ≡ shown_switch net.views (state old) e =
+      λ e other. ap₂ (λ (f : Key → ℕ) (o : Option SwitchState). option_map (owned_switch f) o) (ap (flags_at e) views_so ∙ flags-elsewhere refusal d e m net.views other) (step.others e other) in
+      with_place-places (shown_switch net.views (state old)) (shown_switch now_net.views (state new)) d (λ o. Some (after_message (FlowMod m) (owned_switch (flags_in k.rows) k.switch))) 1 declared are is here others
+
+  by_switch-shown : (declared : List Declared) → AreDeclaredFrom 1 declared → Stand declared (state old) → (bytes : List ℕ) (xid : ℕ) → reading_of bytes ≡ Ok (enveloped xid (FlowMod m)) → (k : Known d m net.views (state old))
+      → Asked Tells d m old new net now_net given → InStep d (as_sent (FlowMod m)) old new net now_net given
+      → by_switch d (reading_of bytes) (switch_at d (places (shown_switch net.views (state old)) declared)) (places (shown_switch net.views (state old)) declared) ≡ (given, places (shown_switch now_net.views (state new)) declared)
+  by_switch-shown declared are stand bytes xid read k asks step =
+      let at : switch_at d (places (shown_switch net.views (state old)) declared) ≡ Some (owned_switch (flags_in k.rows) k.switch) =
+      switch_at-shown declared net.views (state old) d stand
+      ∙ ap₂ (λ (f : Key → ℕ) (o : Option SwitchState). option_map (owned_switch f) o) (ap (λ (o : Option (List ViewRow)). flags_in (rows_or_none o)) k.rows_are) k.switch_is in
+      let refused = judged k asks step asks.refusal asks.views asks.answer_so in
+      let answered : given ≡ switch_answer k.switch (as_sent (FlowMod m)) = rw k.switch_is at step.answer_so in
+      rw (read, at)
+      (ap₂ (λ (a : Answer) (ps : List Place). (a, ps)) (answer-shown (flags_in k.rows) m k.switch (rows_of_table k.switch.table.entries) k.passes ∙ sym answered)
+      (places-then declared are stand k step asks.refusal asks.views refused))
+
+exchange-by : {Own : Type 0} {Tells : Type 0} (d : ℕ) (bytes : List ℕ) (old new : Seen Own) (net now_net : NetState) (given : Answer) → Tells → Conforming new → Changes Tells d bytes old new net now_net (Ok given)
+    → Steps Tells d bytes old new net now_net (Ok given) → waits_of d (state old) ≡ [] → Agrees d net.views (state old) → Stand old.given.declared (state old)
+    → (o : Option Answer) → answer_of_host d bytes net ≡ o
+    → by_host o d bytes (places (shown_switch net.views (state old)) old.given.declared) ≡ (given, places (shown_switch now_net.views (state new)) old.given.declared)
+exchange-by d bytes old new net now_net given told keeps changes steps waits agrees stand (Some a) host =
+    let by = changes.by_host a host in
+    let same : given ≡ a = by.answers in
+    ap₂ (λ (x : Answer) (ps : List Place). (x, ps)) (sym same)
+    (ap₂ (λ (n : NetState) (w : Seen _). places (shown_switch n.views (state w)) old.given.declared) (sym by.stays) (sym by.world))
+exchange-by {Own} {Tells} d bytes old new net now_net given told keeps changes steps waits agrees stand None host =
+    let read = asked (known_rows d net.views) bytes host in
+    let k = known d bytes read.change read.xid net (state old) agrees host read.read in
+    let asks = changes.by_switch read.xid read.change host read.read in
+    let step = steps read.xid read.change told host read.read keeps waits agrees in
+    by_switch-shown Tells d old new net now_net read.change given old.given.declared (declared_before old new changes.continues.given keeps) stand bytes read.xid read.read k asks step
+
+-- ---- The whole
+
+-- A message that was answered: the reference controller answers the same, and its switches stand then as the world's do.
+pub exchange-shown : {Own : Type 0} {Tells : Type 0} (d : ℕ) (bytes : List ℕ) (old new : Seen Own) (net now_net : NetState) (given : Answer) → Tells → Conforming new → Changes Tells d bytes old new net now_net (Ok given)
+    → Steps Tells d bytes old new net now_net (Ok given) → waits_of d (state old) ≡ [] → Agrees d net.views (state old) → Stand old.given.declared (state old)
+    → answer (shown_places old.given.declared net.views (state old)) d bytes ≡ (given, shown_places old.given.declared now_net.views (state new))
+unfolding answer shown_places
+exchange-shown d bytes old new net now_net given told keeps changes steps waits agrees stand =
+    let declared : List Declared = old.given.declared in
+    let ps : List Place = places (shown_switch net.views (state old)) declared in
+    let rows : rows_in (switch_at d ps) ≡ known_rows d net.views =
+    ap rows_in (switch_at-shown declared net.views (state old) d stand) ∙ rows_in-shown (flags_at d net.views) (switch_of d (state old)) ∙ sym agrees in
+    let host : host_answer (rows_in (switch_at d ps)) bytes ≡ answer_of_host d bytes net = ap (λ (k : Option Rows). host_answer k bytes) rows in
+    ap (λ (o : Option Answer). by_host o d bytes ps) host ∙ exchange-by d bytes old new net now_net given told keeps changes steps waits agrees stand (answer_of_host d bytes net) refl

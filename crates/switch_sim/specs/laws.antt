@@ -1,0 +1,14 @@
+pub mod PartLaws
+pub mod SumLaws
+pub mod RowLaws
+pub mod SoundLaws
+pub mod NoticeLaws
+pub mod StepLaws
+pub mod EditLaws
+pub mod LookLaws
+pub mod PlanLaws
+pub mod PortLaws
+pub mod SerialLaws
+pub mod ReadableLaws
+pub mod FewLaws
+pub mod MomentLaws

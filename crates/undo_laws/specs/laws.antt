@@ -1,0 +1,13 @@
+pub mod LookupLaws
+pub mod RemovalLaws
+pub mod SerialsLaws
+pub mod AddedLaws
+pub mod LogLaws
+pub mod StandingLaws
+pub mod StandsLaws
+pub mod RevertingLaws
+pub mod SameLaws
+pub mod RestoredLaws
+pub mod InFlightLaws
+pub mod CorrectedLaws
+pub mod OwnedLaws
