@@ -1,7 +1,8 @@
 #!/usr/bin/env python3
 """What the gate costs: bench/gate.py [--write] [CRATE ..]
 
-Clones the last commit into a temporary folder and runs `rt ci --anew` there, of these crates and those below them if any are named.
+Clones the last commit into a temporary folder and runs `rt ci` there, from nothing: with `--anew`, if this kit's `rt ci` keeps what earlier
+runs passed. Where it takes names, only these crates and those below them are run if any are named.
 Prints, for each crate, the processor minutes of its proof, of its tests' proof, of what its edits begin with, and of its edits; then
 the whole, and how busy the machine was with other work. With --write the figures go into docs/GATE.md too.
 
@@ -128,6 +129,15 @@ def table(found, whole):
     return lines
 
 
+def gate(names):
+    """The words of the gate from nothing, by what this kit's `rt` says of itself."""
+    helped = subprocess.run(["rt", "help"], stdout=subprocess.PIPE, stderr=subprocess.STDOUT, errors="replace").stdout
+    keeps = "--anew" in helped
+    if names and not keeps:
+        sys.exit("bench/gate.py: the `rt ci` of this kit takes no names of crates")
+    return ["rt", "ci"] + ["--anew"] * keeps + names
+
+
 def measured(names, room):
     """Runs the gate in a clone: the status, the last line, and the text of the figures."""
     clone = os.path.join(room, "repo")
@@ -135,7 +145,8 @@ def measured(names, room):
     commit = subprocess.run(["git", "-C", clone, "log", "-1", "--format=%h"], check=True, stdout=subprocess.PIPE).stdout.decode().strip()
     start, before = time.monotonic(), busy()
     last = ""
-    with subprocess.Popen(["rt", "ci", "--anew"] + names, cwd=clone, stdout=subprocess.PIPE, stderr=subprocess.STDOUT, errors="replace") as ran:
+    words = gate(names)
+    with subprocess.Popen(words, cwd=clone, stdout=subprocess.PIPE, stderr=subprocess.STDOUT, errors="replace") as ran:
         watch = Watch(ran.pid)
         watch.start()
         for line in ran.stdout:
@@ -148,7 +159,7 @@ def measured(names, room):
     watch.join()
     seconds, whole = time.monotonic() - start, used.ru_utime + used.ru_stime
     others = max(busy() - before - whole, 0)
-    text = ["Commit %s, `rt ci --anew%s`: %s." % (commit, "".join(" " + name for name in names), last), ""]
+    text = ["Commit %s, `%s`: %s." % (commit, " ".join(words), last), ""]
     text += ["%.0f processor seconds in all, %.0f minutes by the clock on %d processors. Other work kept %.1f of the processors busy meanwhile, so that %s." % (
         whole, seconds / 60, os.cpu_count(), others / seconds, "the figures are those of a quiet machine" if others < seconds / 10 else "they are higher than on a quiet machine"), ""]
     text += ["Processor minutes:", ""] + table(watch.figures(), whole)
