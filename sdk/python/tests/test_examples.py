@@ -1,0 +1,134 @@
+"""The examples as programs of their own, against a host that knows their messages by heart."""
+
+import os
+import tempfile
+import unittest
+
+from . import PYTHON
+from .fake_host import child
+from .vectors import ANSWER_DONE, ANY, DONE, G, OUT_2, event, flow_mod, framed, in_port, joined, message, packet_in, port
+
+OUT_1 = "0000 0008 0001 0000"
+OUT_3 = "0000 0008 0003 0000"
+TELL = "0000 0008 fffd ffff"
+FLOOD = "0000 0008 fffb 0000"
+# From 10.0.0.1 to 10.0.0.2, UDP from port 53 to port 54.
+UDP = "ffffffffffff 020000000001 0800 4500 001c 0000 0000 40 11 66cf 0a000001 0a000002 0035 0036 0008 eb70"
+
+
+class Examples(unittest.TestCase):
+    def example(self, name, **environment):
+        return child(self, os.path.join(PYTHON, "examples", f"{name}.py"), **environment)
+
+    def all_done(self, host, given, messages, done=DONE):
+        """Gives an event, expects these messages to switch 1, answers each as done, and expects Done."""
+        for sent in messages:
+            host.ask(given, message(1, sent))
+            given = ANSWER_DONE
+        host.ask(given, done)
+
+    def ends_well(self, program, errors):
+        self.assertEqual(program.end(), b"")
+        self.assertEqual((program.errors, program.status), (errors, 0))
+
+    def test_learning_switch(self):
+        def done(state):
+            return framed(5, "00 01" + state.encode().hex())
+
+        first, both = '{"1":{"02:00:00:00:00:01":1}}', '{"1":{"02:00:00:00:00:01":1,"02:00:00:00:00:02":2}}'
+        # in_port, dl_src and dl_dst are the bits 0, 2 and 3 of the wildcards.
+        pair = flow_mod("003820f2 0002 020000000002 020000000001" + "00" * 22, OUT_1, priority=100, idle=60, hard=300)
+        answer = "020000000001 020000000002 88b5"
+        with self.example("learning_switch") as program:
+            host = program.host
+            host.start()
+            self.all_done(host, joined(1, 1, 2), [flow_mod(ANY, FLOOD + TELL)], done('{"1":{}}'))
+            self.all_done(host, packet_in(2, 1, G), [], done(first))
+            self.all_done(host, packet_in(3, 2, answer), [pair], done(both))
+            self.all_done(host, packet_in(4, 2, "0000"), [], done(both))
+            host.ask(packet_in(5, 2, answer), message(1, pair))
+            host.ask(framed(3, "01 0003 0000"), done(both))
+            self.all_done(host, event(6, 2, 1, port(1) + port(2)), [], done("{}"))
+            self.all_done(host, packet_in(7, 1, G, reason=0), [flow_mod(ANY, FLOOD + TELL)], done(first))
+            said = "event 5: no entry from 02:00:00:00:00:02 to 02:00:00:00:00:01: "
+            self.ends_well(program, said + "OFPET_FLOW_MOD_FAILED/OFPFMFC_ALL_TABLES_FULL (3,0)\n")
+        with self.example("learning_switch") as program:
+            program.host.start(framed(1, first.encode().hex()))
+            self.all_done(program.host, packet_in(7, 2, answer), [pair], done(both))
+            self.ends_well(program, "")
+
+    def test_static_router(self):
+        # dl_type is bit 4 of the wildcards; the count of ignored bits of nw_dst begins at bit 14: 8 and 24 of them.
+        def route(wildcards, network, number, out):
+            match = f"{wildcards}" + "00" * 18 + "0800" + "00" * 8 + network + "00" * 4
+            return match, f"0004 0010 02000000{number}fe 000000000000 0005 0010 02000000{number}01 000000000000" + out
+
+        with self.example("static_router") as program:
+            host = program.host
+            host.start()
+            routes = [
+                (route("003220ef", "0a000100", "01", OUT_1), 124),
+                (route("003220ef", "0a000200", "02", OUT_2), 124),
+                (route("003620ef", "0a000000", "03", OUT_3), 108),
+            ]
+            arp = flow_mod("003820ef" + "00" * 18 + "0806" + "00" * 16, FLOOD, priority=1)
+            self.all_done(host, joined(1, 1, 2, 3), [arp, *(flow_mod(*it, priority=priority) for it, priority in routes)])
+            self.all_done(host, joined(2, 1, dpid=7), [])
+            self.all_done(host, event(3, 5, 1, "01 0c 0040 00000000 02 00000000000000" + port(2, 1)), [])
+            said = "event 1: 3 routes are in\nevent 2: switch 7 is not the router\n"
+            self.ends_well(program, said + "event 3: the link to 10.0.2.0/24 is down\n")
+
+    def test_firewall(self):
+        # Of the wildcards in_port is bit 0, dl_type bit 4, nw_proto bit 5; dl_vlan, dl_src, dl_dst are 1 to 3.
+        def arp(number):
+            return f"003820ee {number:04x}" + "00" * 16 + "0806" + "00" * 16
+
+        def ends(number, rest):
+            return f"0030000e {number:04x}" + "00" * 16 + "0800 00 11 0000" + rest
+
+        protocols = [f"003820ce 0001{'00' * 16} 0800 00 {it} 0000 {'00' * 12}" for it in ("06", "11")]
+        first = [
+            flow_mod(in_port(2), priority=1),
+            flow_mod(in_port(1), OUT_2, priority=1),
+            flow_mod(arp(1), OUT_2, priority=2),
+            flow_mod(arp(2), OUT_1, priority=2),
+            *(flow_mod(it, OUT_2 + TELL, priority=2) for it in protocols),
+        ]
+        back = flow_mod(ends(2, "0a000002 0a000001 0036 0035"), OUT_1, priority=10, hard=120)
+        there = flow_mod(ends(1, "0a000001 0a000002 0035 0036"), OUT_2, priority=10, hard=120)
+        with self.example("firewall") as program:
+            host = program.host
+            host.start()
+            self.all_done(host, joined(1, 1, 2), first)
+            self.all_done(host, packet_in(2, 1, UDP), [back, there])
+            self.all_done(host, packet_in(3, 2, UDP), [])
+            self.all_done(host, packet_in(4, 1, G), [])
+            self.all_done(host, packet_in(5, 1, G, reason=0), first)
+            self.all_done(host, packet_in(6, 3, G, reason=0), [])
+            self.ends_well(program, "")
+        with self.example("firewall") as program:
+            host = program.host
+            host.start()
+            host.ask(packet_in(1, 1, UDP), message(1, back))
+            host.ask(ANSWER_DONE, message(1, there))
+            host.give(framed(3, "01 0003 0000"))
+            self.assertEqual(program.end(), b"")
+            self.assertEqual(program.status, 1)
+            self.assertTrue(program.errors.endswith("OFPET_FLOW_MOD_FAILED/OFPFMFC_ALL_TABLES_FULL (3,0)\n"), program.errors)
+
+    def test_crash_on_purpose(self):
+        one, other = flow_mod(in_port(1), OUT_2, priority=0x8000), flow_mod(in_port(2), OUT_1, priority=0x8000)
+        with tempfile.TemporaryDirectory() as room:
+            crashed = os.path.join(room, "crashed")
+            with self.example("crash_on_purpose", CRASHED=crashed) as program:
+                program.host.start()
+                program.host.ask(joined(1, 1, 2), message(1, one))
+                program.host.give(ANSWER_DONE)
+                self.assertEqual(program.end(), b"")
+                self.assertEqual(program.status, 1)
+                self.assertRegex(program.errors, "^event 1: one direction is in, and now this fails\nTraceback")
+            with self.example("crash_on_purpose", CRASHED=crashed) as program:
+                program.host.start()
+                changed = event(2, 5, 1, "01 0c 0040 00000000 02 00000000000000" + port(2, 1))
+                self.all_done(program.host, changed, [one, other])
+                self.ends_well(program, "event 2: both directions are in\n")
