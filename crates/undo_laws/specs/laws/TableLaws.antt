@@ -1,6 +1,6 @@
 -- What follows about one message a key: it gives back what the whole log gives back, and none is refused.
-use Rattle.std.proofs.Common.{◌≡◌, ◌≢◌, ◌==◌, ℕ, ◌+◌, ◌≤◌, Bool, true, false, not, if◌then◌else◌, List, [], ◌∷◌, ◌++◌, length, map, filter, Option, Some, None, All, refl, sym, ap, ◌∙◌, arith, inl, inr}
-use Rattle.std.proofs.lemmas.Bool.{cases_lt, cases_eq, cases_Bool, cond-true, cond-false, eq-eqb, ne_eqb}
+use Rattle.std.proofs.Common.{◌≡◌, ◌≢◌, ℕ, ◌+◌, ◌≤◌, Bool, true, false, not, List, [], ◌∷◌, ◌++◌, length, map, Option, Some, None, refl, sym, ap, ◌∙◌, arith, inl, inr}
+use Rattle.std.proofs.lemmas.Bool.{cases_lt, cases_eq, cases_Bool, eq-eqb, ne_eqb}
 use Rattle.std.proofs.lemmas.List.{length-map}
 use Rattle.std.proofs.lemmas.List.Elements.{All-head, All-tail, All-weaker}
 use Rattle.std.proofs.lemmas.List.Filters.{length-filter_both}
@@ -14,7 +14,7 @@ use Rattle.flow_table.specs.Undone.{restored, undone}
 use Rattle.flow_table.specs.laws.TableLaws.{with_entry-before, with_entry-after, with_entry-same, entry_at-map}
 use Rattle.undo_laws.specs.Removal.{is_among}
 use Rattle.undo_laws.specs.Serials.{IsSerialed}
-use Rattle.undo_laws.specs.Log.{Inverse, Remove, PutBack, GiveActions, Image, Untouched, Absent, Gone, Acted, back, undo_one, undo, image_of, given_back, with_actions, give_actions, seen}
+use Rattle.undo_laws.specs.Log.{Inverse, Remove, PutBack, Image, Untouched, Absent, Gone, Acted, back, undo_one, undo, image_of, given_back, with_actions, give_actions, seen}
 use Rattle.undo_laws.specs.laws.RemovalLaws.{entry_at-without-other}
 use Rattle.undo_laws.specs.laws.LogLaws.{undo-append, key_number-give_actions, IsSerialed-undo}
 use Rattle.undo_laws.specs.Stands.{Stands, is_gone}
