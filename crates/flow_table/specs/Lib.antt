@@ -6,6 +6,8 @@ pub mod Expiry
 pub mod Rows
 pub mod Run
 pub mod Undone
+pub mod Sorted
+pub mod Corrected
 pub mod Switch
 pub mod Refusals
 pub mod Frames

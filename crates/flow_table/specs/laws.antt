@@ -4,3 +4,5 @@ pub mod HitLaws
 pub mod ExpiryLaws
 pub mod MomentLaws
 pub mod RunLaws
+pub mod CorrectedLaws
+pub mod SortedLaws

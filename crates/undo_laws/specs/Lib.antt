@@ -6,4 +6,5 @@ pub mod Reverting
 pub mod Same
 pub mod Corrected
 pub mod Owned
+pub mod Table
 pub mod laws

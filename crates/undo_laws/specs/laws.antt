@@ -11,3 +11,4 @@ pub mod RestoredLaws
 pub mod InFlightLaws
 pub mod CorrectedLaws
 pub mod OwnedLaws
+pub mod TableLaws

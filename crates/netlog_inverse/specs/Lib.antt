@@ -1,0 +1,7 @@
+pub mod Messages
+pub mod Plans
+pub mod Log
+pub mod Meaning
+pub mod Restoring
+pub mod Sending
+pub mod laws

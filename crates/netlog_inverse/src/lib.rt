@@ -1,0 +1,25 @@
+//! What undoes changes of flow tables: an image of each key before it was touched, and a log of them.
+//!
+//! `plan` says what a FLOW_MOD would change of its owner's view, or the first key whose entry goes without a row, or the
+//! first row without an entry (`Plans`). `Log` keeps the first image of each key since a mark; it is a list, of which
+//! `since`, `pop`, `cut` and `mend` say the parts. Laws: `plans_undo`, `first_images_undo`, `first_images_stay`,
+//! `mended_images_say`, `inner_undo_leaves_marks`, `messages_put_back`, `messages_in_order`. See docs/GUARANTEES.md.
+#![tactic(auto)]
+
+mod copying;
+mod fault;
+mod image;
+mod laws;
+mod log;
+mod messages;
+mod planning;
+mod rows;
+
+pub use fault::PlanFault;
+pub use image::{Image, Inverse, Logged, PutBack};
+pub use laws::{
+    first_images_stay, first_images_undo, inner_undo_leaves_marks, mended_images_say,
+    messages_in_order, messages_put_back, plans_undo,
+};
+pub use log::{Log, Mark};
+pub use planning::plan;

@@ -1,0 +1,235 @@
+//! The log of images.
+
+ghost use Rattle.std.specs.Prelude.{◌≡◌, ◌↔◌, ◌+◌, ◌≤◌, ◌<◌, [], ◌++◌, length, take, drop, vec_capacity, vec_len, option_to_list, IfOk, OnOk, IsNone};
+ghost use Rattle.std.specs.List.{list_any};
+ghost use Rattle.netlog_inverse.specs.Log.{is_one_place, is_of, with_image, pushed, mended, changed_at, with_hard, with_lost_row, HasEntryAt};
+
+use crate::image::{Image, Inverse, Logged, PutBack};
+use crate::rows::is_same;
+use flow_table::Lost;
+use of_types::{ByteList, Dpid, put_u16};
+use std::alloc::{AllocError, Global};
+use std::marker::Model;
+use std::mem::replace;
+
+/// Where the hard timeout of an encoded FLOW_MOD stands.
+const HARD_AT: usize = 60;
+
+/// A position in a log: what is logged behind it was logged since the mark.
+#[derive(Clone, Copy, Debug, PartialEq, Eq)]
+pub struct Mark {
+    at: usize,
+}
+
+/// The images of places of switches that were touched, oldest first. Contracts see the list, and for how many images more
+/// there is room.
+#[derive(Drop, Debug)]
+pub struct Log {
+    alloc: Global,
+    logged: Vec<Logged>,
+}
+
+impl Model for Log {
+    ghost use Rattle.std.specs.Prelude.{◌-◌, ◌≤◌, vec_capacity, vec_len};
+    ghost use Rattle.netlog_inverse.specs.Log.{LogState};
+
+    ghost Value = { LogState };
+
+    ghost view = { λ s. record { logged = s.logged.items; spare = vec_capacity s.logged - vec_len s.logged } };
+
+    ghost invariant = { λ s. vec_len s.logged ≤ vec_capacity s.logged };
+}
+
+/// Tells whether two images are of one key, of one port, or both of the configuration.
+fn is_one_place(a: &PutBack, b: &PutBack) -> bool
+    ensures { result ≡ is_one_place a.now b.now }
+{
+    match (a, b) {
+        (PutBack::Row { key: first, .. }, PutBack::Row { key: second, .. }) => is_same(
+            first, second,
+        ),
+        (PutBack::Config { port: first, .. }, PutBack::Config { port: second, .. }) => {
+            *first == *second
+        }
+        (PutBack::Settings { .. }, PutBack::Settings { .. }) => true,
+        _ => false,
+    }
+}
+
+fn is_of(dpid: Dpid, put: &PutBack, logged: &Logged) -> bool
+    ensures { result ≡ is_of dpid put.now logged.now }
+{
+    logged.dpid == dpid && is_one_place(&logged.image.put, put)
+}
+
+/// Tells whether some images have one of a place of a switch.
+fn has_image(logged: &[Logged], dpid: Dpid, put: &PutBack) -> bool
+    ensures { result ≡ list_any (is_of dpid put.now) logged.now }
+{
+    logged.iter().any(|one| is_of(dpid, put, one))
+}
+
+fn behind(logged: &[Logged], mark: usize) -> &[Logged]
+    requires { mark ≤ length logged.now }
+    ensures { result.now ≡ drop mark logged.now }
+{
+    &logged[mark..]
+}
+
+/// Logs an image, where its place has none since the mark.
+#[tactic(auto, unfolding(crate::specs::Log::with_image))]
+fn push_first(logged: &mut Vec<Logged>, mark: usize, dpid: Dpid, image: Image)
+    requires mark { mark ≤ vec_len logged.old }
+    requires room { length (with_image mark dpid logged.old.items image) ≤ vec_capacity logged.old }
+    ensures items { logged.new.items ≡ with_image mark dpid logged.old.items image }
+    ensures room { vec_capacity logged.new ≡ vec_capacity logged.old }
+    ensures longer { vec_len logged.old ≤ vec_len logged.new }
+{
+    if !has_image(behind(logged, mark), dpid, &image.put) {
+        logged.push_reserved(Logged { dpid, image });
+    }
+}
+
+/// Logs images, one after the other.
+fn push_all(logged: &mut Vec<Logged>, mark: usize, dpid: Dpid, images: Vec<Image>)
+    requires mark { mark ≤ vec_len logged.old }
+    requires room { length (pushed mark dpid images.items logged.old.items) ≤ vec_capacity logged.old }
+    ensures items { logged.new.items ≡ pushed mark dpid images.items logged.old.items }
+    ensures room { vec_capacity logged.new ≡ vec_capacity logged.old }
+{
+    for image in images {
+        push_first(logged, mark, dpid, image);
+    }
+}
+
+/// Writes a hard timeout into the bytes of a FLOW_MOD, if there are any.
+fn put_hard(bytes: &mut [u8], hard: u16)
+    ensures { bytes.new ≡ with_hard hard bytes.old }
+{
+    if HARD_AT + 2 <= bytes.len() {
+        put_u16(bytes, HARD_AT, hard);
+    }
+}
+
+/// Sets the hard timeout of an encoded FLOW_MOD, if there is one.
+fn set_hard(alloc: Global, message: &mut ByteList, hard: u16)
+    ensures { message.new ≡ with_hard hard message.old }
+{
+    let mut bytes = replace(message, ByteList::new(alloc)).into_vec();
+    put_hard(&mut bytes, hard);
+    *message = ByteList::from_vec(bytes);
+}
+
+fn set_lost(put: &mut PutBack, lost: Option<Lost>)
+    ensures { put.new ≡ with_lost_row lost put.old }
+{
+    if let PutBack::Row { lost: before, .. } = put {
+        *before = lost;
+    }
+}
+
+#[tactic(auto, unfolding(crate::specs::Log::mended))]
+fn mend_one(alloc: Global, logged: &mut Logged, lost: Option<Lost>, hard: u16, stands: bool)
+    ensures { logged.new ≡ mended lost hard stands logged.old }
+{
+    set_lost(&mut logged.image.put, lost);
+    set_hard(alloc, &mut logged.image.add, hard);
+    logged.image.stands = stands;
+}
+
+fn mend_at(
+    alloc: Global,
+    logged: &mut [Logged],
+    at: usize,
+    lost: Option<Lost>,
+    hard: u16,
+    stands: bool,
+)
+    requires { HasEntryAt at logged.old }
+    ensures { logged.new ≡ changed_at at (mended lost hard stands) logged.old }
+{
+    mend_one(alloc, &mut logged[at], lost, hard, stands);
+}
+
+impl Log {
+    /// Makes an empty log; takes no memory.
+    pub fn new(alloc: Global) -> Result<Log, AllocError>
+        ensures { IfOk result (λ log. log.logged ≡ []) }
+    {
+        Ok(Log {
+            alloc,
+            logged: Vec::new(alloc),
+        })
+    }
+
+    /// Makes room for so many images at least, and changes nothing else.
+    pub fn reserve(&mut self, keys: usize) -> Result<(), AllocError>
+        ensures logged { self.new.logged ≡ self.old.logged }
+        ensures room { self.old.spare ≤ self.new.spare }
+        ensures ok { OnOk result (keys ≤ self.new.spare) }
+    {
+        self.logged.reserve(keys)
+    }
+
+    /// Logs those images of an inverse whose key, port or configuration has none since the mark, which is the innermost
+    /// one. Takes no memory: there is room for those images. For each image all that was logged since the mark is looked
+    /// through.
+    pub fn push(&mut self, mark: Mark, dpid: Dpid, inverse: Inverse)
+        requires mark { mark.at ≤ length self.old.logged }
+        requires room { length (pushed mark.at dpid inverse.images.items self.old.logged) ≤ length self.old.logged + self.old.spare }
+        ensures logged { self.new.logged ≡ pushed mark.at dpid inverse.images.items self.old.logged }
+        ensures room { length self.new.logged + self.new.spare ≡ length self.old.logged + self.old.spare }
+    {
+        push_all(&mut self.logged, mark.at, dpid, inverse.images);
+    }
+
+    /// Marks the end of the log; takes no memory.
+    pub fn mark(&self) -> Mark
+        ensures { result.at ≡ length self.now.logged }
+    {
+        Mark {
+            at: self.logged.len(),
+        }
+    }
+
+    /// Lends what was logged since a mark, oldest first; takes no memory.
+    pub fn since(&self, mark: Mark) -> &[Logged]
+        requires { mark.at ≤ length self.now.logged }
+        ensures { result.now ≡ drop mark.at self.now.logged }
+    {
+        behind(&self.logged, mark.at)
+    }
+
+    /// Takes the last image out that was logged since a mark; `None` exactly where nothing was. Takes no memory.
+    pub fn pop(&mut self, mark: Mark) -> Option<Logged>
+        requires { mark.at ≤ length self.old.logged }
+        ensures logged { self.old.logged ≡ self.new.logged ++ option_to_list result }
+        ensures none { IsNone result ↔ (length self.old.logged ≡ mark.at) }
+        ensures room { length self.new.logged + self.new.spare ≡ length self.old.logged + self.old.spare }
+    {
+        if mark.at < self.logged.len() {
+            self.logged.pop()
+        } else {
+            None
+        }
+    }
+
+    /// Drops what was logged since a mark; takes no memory.
+    pub fn cut(&mut self, mark: Mark)
+        requires { mark.at ≤ length self.old.logged }
+        ensures logged { self.new.logged ≡ take mark.at self.old.logged }
+        ensures room { length self.new.logged + self.new.spare ≡ length self.old.logged + self.old.spare }
+    {
+        self.logged.truncate(mark.at);
+    }
+
+    /// Sets an image of an entry right, at a position in the whole log: its cache row, the hard timeout of its ADD, and
+    /// whether the entry at its key stands for it. Changes nothing else and takes no memory.
+    pub fn mend(&mut self, at: usize, lost: Option<Lost>, hard: u16, stands: bool)
+        requires { HasEntryAt at self.old.logged }
+        ensures logged { self.new.logged ≡ changed_at at (mended lost hard stands) self.old.logged }
+        ensures room { self.new.spare ≡ self.old.spare }
+    {
+        mend_at(self.alloc, &mut self.logged, at, lost, hard, stands);
+    }
+}
