@@ -1,0 +1,11 @@
+-- What came of one step on a connection. Our own choice.
+use Rattle.std.specs.Prelude.{ℕ, ◌≤◌, List, length, take}
+use Rattle.outside.specs.Calls.{most_message, IsMessageIn, IsFeaturesOf}
+use Rattle.live_world.specs.declared.connection.Heard.{Heard}
+use Rattle.live_world.specs.declared.connection.Heard.TheVariants.{Told, Features}
+
+-- what stands in the front of the buffer
+abbrev pub IsHeardIn : Heard → List ℕ → Type 0
+IsHeardIn (Told d n) buf = IsMessageIn ⊥ n buf
+IsHeardIn (Features d n) buf = (n ≤ length buf) × (n ≤ most_message) × IsFeaturesOf d (take n buf)
+IsHeardIn other buf = Unit {0}

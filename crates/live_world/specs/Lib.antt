@@ -1,0 +1,10 @@
+pub mod Connection
+pub mod Faults
+pub mod Greetings
+pub mod Hearing
+pub mod Inbound
+pub mod Life
+pub mod Live
+pub mod Moments
+pub mod Patience
+pub mod Turns

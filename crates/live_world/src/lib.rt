@@ -1,0 +1,27 @@
+//! The world of real switches and real applications: connections of switches over TCP, and child programs behind pipes.
+//!
+//! `LiveWorld` meets each clause of the trait `World` as a world that tells nothing: each fault comes only with its own
+//! count, `From` and `recv` give one whole message, `Joined` the FEATURES_REPLY of that switch. What a message is to it is
+//! said by `hear_greeting` (`exact`, `features`) and `hear_joined`, when a connection is asked or closed by `Life::due`.
+//! What switches and applications do is no part of any contract.
+#![tactic(auto)]
+
+mod apps;
+mod clock;
+mod connection;
+mod counts;
+mod hearing;
+mod inbound;
+mod life;
+mod links;
+mod moments;
+mod own_messages;
+mod patience;
+mod places;
+mod waiter;
+mod world;
+
+pub use clock::Clock;
+pub use hearing::{Greeting, Hearing, hear_greeting, hear_joined};
+pub use life::{Due, Life, Stage};
+pub use world::LiveWorld;
