@@ -189,8 +189,7 @@ def _explain_step(step: str) -> tuple[str, str]:
         if not dpid.isdigit() or not _HEX.fullmatch(digits):
             return step, "no number of a switch and digits of a message"
         told, remark = _explain_message(bytes.fromhex(digits))
-        named, rest = words.split_name(told.split(" "))
-        return (" ".join([named, dpid, *rest]), remark) if told else (step, remark)
+        return (words.with_switch(told, dpid) if told else step), remark
     if not colon:
         return step, ""
     if not _HEX.fullmatch(digits):

@@ -7,7 +7,7 @@ import json
 import struct
 import sys
 from collections.abc import Callable, Iterable
-from typing import Any, BinaryIO, Optional, TypeVar
+from typing import Any, BinaryIO, Optional, Protocol, TypeVar
 
 from . import frames, messages
 from .actions import Action
@@ -28,9 +28,19 @@ from .stats import AggregateStats, DescStats, FlowQuestion, FlowStats, PortStats
 _Handler = TypeVar("_Handler", bound=Callable[..., None])
 
 
+class Host(Protocol):
+    """The other end of an application."""
+
+    def give(self, frame: frames.AppFrame) -> None:
+        """Takes a frame of the application."""
+
+    def take(self) -> Optional[frames.HostFrame]:
+        """The next frame of the host; None if it has closed its end between two frames."""
+
+
 class App:
     """An application. Make a class of it with methods such as `on_join`, or put `@app.on("join")` above functions;
-    then call `run`.
+    then call `run`. A class with an `__init__` of its own calls `super().__init__()` in it.
 
     A handler is called for one event at a time: its turn. In it the calls below change and ask switches, each named by
     its dpid, 0 to 2^64 - 1. A call comes back when the host has answered: what it changed then stands in the switch.
@@ -43,7 +53,7 @@ class App:
 
     def __init__(self) -> None:
         self._handlers: dict[str, Callable[[Any], None]] = {}
-        self._host: Optional[_Host] = None
+        self._host: Optional[Host] = None
         self._event: Optional[frames.Event] = None
         self._stop = False
 
@@ -263,13 +273,23 @@ class App:
         While it runs, what the program prints goes to standard error.
         """
         with contextlib.redirect_stdout(sys.stderr):
-            self._host = _Host(source or sys.stdin.buffer, sink or sys.__stdout__.buffer)
-            try:
-                self._serve(self._host)
-            finally:
-                self._host = self._event = None
+            self.serve(_Streams(source or sys.stdin.buffer, sink or sys.__stdout__.buffer))
 
-    def _serve(self, host: _Host) -> None:
+    def serve(self, host: Host) -> None:
+        """Speaks with a host until it closes its end."""
+        self._host = host
+        try:
+            self._start(host)
+            for frame in iter(host.take, None):
+                if not isinstance(frame, frames.Event):
+                    raise HostError(f"{type(frame).__name__} stands where an Event has to")
+                self._event, self._stop = frame, False
+                host.give(self._turn(frame))
+                self._event = None
+        finally:
+            self._host = self._event = None
+
+    def _start(self, host: Host) -> None:
         frame = host.take()
         if frame is None:
             return
@@ -278,12 +298,6 @@ class App:
         if frame.checkpoint:
             self.set_state(frame.checkpoint)
         host.give(frames.Ready())
-        for frame in iter(host.take, None):
-            if not isinstance(frame, frames.Event):
-                raise HostError(f"{type(frame).__name__} stands where an Event has to")
-            self._event, self._stop = frame, False
-            host.give(self._turn(frame))
-            self._event = None
 
     def _turn(self, frame: frames.Event) -> frames.Done:
         event = read_event(frame)
@@ -305,14 +319,14 @@ class App:
             raise HostError(f"{type(answer).__name__} stands where an Answer has to")
         return answer
 
-    def _in_turn(self) -> _Host:
+    def _in_turn(self) -> Host:
         if self._host is None or self._event is None:
             raise RuntimeError("a switch can be asked only while an event is handled")
         return self._host
 
 
-class _Host:
-    """The other end: frames that are taken from one stream and given to another."""
+class _Streams:
+    """A host behind two streams."""
 
     def __init__(self, source: BinaryIO, sink: BinaryIO) -> None:
         self._source, self._sink = source, sink
@@ -322,7 +336,6 @@ class _Host:
         self._sink.flush()
 
     def take(self) -> Optional[frames.HostFrame]:
-        """The next frame; None if the host has closed its end between two frames."""
         front = self._source.read(4)
         if not front:
             return None

@@ -14,7 +14,7 @@ import struct
 from collections.abc import Callable, Iterable, Sequence
 from dataclasses import dataclass, field
 from enum import IntEnum, IntFlag
-from typing import Any, NamedTuple
+from typing import Any, NamedTuple, Union
 
 from . import actions, frame_words, messages
 from .codes import ALL_TABLES, NO_BUFFER, FlowCommand, FlowFlag, PacketInReason, Port, PortConfig, StatsKind
@@ -274,6 +274,12 @@ def split_name(words: Sequence[str]) -> tuple[str, list[str]]:
     """The name of a message, which is one word or `stats` and another, and the words behind it."""
     size = 2 if words[:1] == ["stats"] else 1
     return " ".join(words[:size]), list(words[size:])
+
+
+def with_switch(told: str, dpid: Union[int, str]) -> str:
+    """A message in words with the number of its switch behind the name, as a step of a session has it."""
+    name, rest = split_name(told.split(" "))
+    return " ".join([name, str(dpid), *rest])
 
 
 def tell_error(kind: int, code: int) -> str:

@@ -2,11 +2,16 @@
 
 import os
 import subprocess
+import sys
 import unittest
 
 import session
+from legosdn.rehearsal import join, packet_in, rehearse
 
-from . import TOP
+from . import PYTHON, TOP
+
+sys.path.insert(0, os.path.join(PYTHON, "examples"))
+from learning_switch import LearningSwitch  # noqa: E402
 
 PROGRAM = os.path.join(TOP, "crates", "legosdn", "out", "legosdn")
 
@@ -37,9 +42,38 @@ end 0 events 2
 """
 
 
+# A question from port 1 and its answer from port 2, 42 bytes each. Both meet the entry that floods, which tells them too.
+ASKED = "eth dst=02:00:00:00:00:02 src=02:00:00:00:00:01 ip src=10.0.0.1 dst=10.0.0.2 udp src=53 dst=54"
+ANSWERED = "eth dst=02:00:00:00:00:01 src=02:00:00:00:00:02 ip src=10.0.0.2 dst=10.0.0.1 udp src=54 dst=53"
+LEARNT = """\
+start app ready
+event 1 join 1
+turn app done
+event 2 packet_in 1
+turn app done
+event 3 packet_in 1
+turn app done
+switch 1 flows 2
+flow 100 in_port=2,dl_src=02:00:00:00:00:02,dl_dst=02:00:00:00:00:01 cookie=0 idle=60 hard=300 flags=0 packets=0 bytes=0 age=0 \
+actions=0000000800010000  # out=1
+flow 0 any cookie=0 idle=0 hard=0 flags=0 packets=2 bytes=84 age=0 actions=00000008fffb000000000008fffdffff  \
+# out=flood out=controller:65535
+app app alive done 3 failed 0
+end 0 events 3
+"""
+
+
+@unittest.skipUnless(os.access(PROGRAM, os.X_OK), f"there is no program {os.path.relpath(PROGRAM, TOP)} yet")
 class Replay(unittest.TestCase):
-    @unittest.skipUnless(os.access(PROGRAM, os.X_OK), f"there is no program {os.path.relpath(PROGRAM, TOP)} yet")
-    def test_a_session_in_words(self):
-        done = subprocess.run([PROGRAM, "replay"], input=session.write(WORDS).encode(), capture_output=True, check=False, timeout=60)
-        self.assertEqual(session.explain(done.stdout.decode()), REPORT)
+    def check(self, words, report):
+        done = subprocess.run([PROGRAM, "replay"], input=session.write(words).encode(), capture_output=True, check=False, timeout=60)
+        self.assertEqual(session.explain(done.stdout.decode()), report)
         self.assertEqual((done.returncode, done.stderr), (0, b""))
+
+    def test_a_session_in_words(self):
+        self.check(WORDS, REPORT)
+
+    def test_an_application_that_was_rehearsed(self):
+        turns = rehearse(LearningSwitch(), [join(1, [1, 2]), packet_in(1, 1, ASKED), packet_in(1, 2, ANSWERED)])
+        front = ["---", "session 1", "switch 1 ports 1,2 room 4", *(turn.line() for turn in turns)]
+        self.check("\n".join([*front, "join 1", f"frame 1 port 1 {ASKED}", f"frame 1 port 2 {ANSWERED}"]), LEARNT)
