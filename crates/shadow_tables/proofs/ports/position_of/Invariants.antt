@@ -1,0 +1,5 @@
+use Rattle.shadow_tables.specs.laws.PortLaws.{PortsBefore}
+use Rattle.shadow_tables.proofs.ports.position_of.Given as goal
+
+abbrev pub invariant-loop-i : goal.invariant-loop-i
+invariant-loop-i l = PortsBefore l.number l.ports l.i

@@ -1,0 +1,4 @@
+pub mod Known
+pub mod Kept
+pub mod Inside
+pub mod laws
