@@ -46,11 +46,3 @@ IsPlain NoMemory = Unit {0}
 IsPlain (SwitchBroke of bytes) = ⊥
 IsPlain (Diverged of sent got) = ⊥
 IsPlain (Flooded of n) = ⊥
-
--- any fault but Flooded
-abbrev pub IsNoFlood : TxnFault → Type 0
-IsNoFlood (SwitchFault of) = Unit {0}
-IsNoFlood NoMemory = Unit {0}
-IsNoFlood (SwitchBroke of bytes) = Unit {0}
-IsNoFlood (Diverged of sent got) = Unit {0}
-IsNoFlood (Flooded of n) = ⊥

@@ -10,6 +10,7 @@ pub mod Arriving
 pub mod Changes
 pub mod Agreement
 pub mod Undos
+pub mod Said
 pub mod Asks
 pub mod AskSteps
 pub mod JoiningSteps

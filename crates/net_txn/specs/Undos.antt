@@ -1,7 +1,7 @@
 -- How logged additions are undone: newest first over all switches each key is removed again (OpenFlow 1.0.0, 5.3.3 Modify State
 -- Messages: DELETE_STRICT), with barriers behind (5.3.7 Barrier Message). A switch that fails is left alone from then on. What is
 -- done is a list of parts, newest first, as the log is read from its end. All of this is our own choice.
-use Rattle.std.specs.Prelude.{◌≡◌, ◌≢◌, ◌==◌, ℕ, ◌+◌, ◌^◌, ◌<◌, ◌≤◌, Bool, true, false, List, [], ◌∷◌, ◌++◌, length, take, drop, map, reverse, ◌⊎◌, Option, Some, None, Result, Ok, Err, IsOk, IsErr, IfErr, if◌then◌else◌, not, ◌&&◌, filter}
+use Rattle.std.specs.Prelude.{◌≡◌, ◌≢◌, ◌==◌, ℕ, ◌+◌, ◌^◌, ◌<◌, ◌≤◌, Bool, true, false, List, [], ◌∷◌, ◌++◌, length, take, drop, map, reverse, ◌⊎◌, Option, Some, None, Result, Ok, Err, IsOk, IsErr, IfErr, OnOk, if◌then◌else◌, not, ◌&&◌, filter}
 use Rattle.std.specs.List.{AllByRecursion, list_any}
 use Rattle.std.proofs.Common.{zero, suc}
 use Rattle.lego_io.specs.Count.{Rose}
@@ -31,7 +31,7 @@ use Rattle.net_txn.specs.declared.logged.Logged.{Logged}
 use Rattle.net_txn.specs.declared.trouble.Trouble.{Trouble}
 use Rattle.net_txn.specs.declared.trouble.Trouble.TheVariants as troubles
 use Rattle.net_txn.specs.Causes.{IsPlain}
-use Rattle.lego_model.specs.BarrierWaits.{flood, next_xid, heard, is_reply, kept_by, kept_of, wait_steps, barrier_sent, reply_got}
+use Rattle.lego_model.specs.BarrierWaits.{flood, next_xid, heard, is_reply, kept_of, wait_steps, barrier_sent, reply_got}
 use Rattle.net_txn.specs.LinkSteps.{OnLinks, MakesNoStrayCall, GoesWithoutStrays}
 use Rattle.net_txn.specs.Views.{with_rows, is_viewed}
 use Rattle.net_txn.specs.Arriving.{without_key}
@@ -88,6 +88,7 @@ fault_by d (troubles.Broke n) buf = SwitchBroke d (take n buf)
 fault_by d (troubles.Refused k xid n) buf = Diverged d (inverse_bytes xid k) (take n buf)
 fault_by d troubles.Flooded buf = Flooded d flood
 fault_by d troubles.Short buf = NoMemory
+fault_by d troubles.Full buf = NoMemory
 
 -- the last of the steps is that these bytes were got
 abbrev pub EndsBy : ℕ → List ℕ → List WorldStep → Type 0
@@ -124,15 +125,12 @@ IsFaultOf d sent old new steps (Diverged e inverse bytes) = (e ≡ d) × Refuses
 IsFaultOf d sent old new steps (Flooded e n) = (e ≡ d) × (n ≡ flood) × Overruns d steps
 IsFaultOf d sent old new steps NoMemory = Rose old.shorts new.shorts × Rose (old.shorts_of d) (new.shorts_of d)
 
--- calls of one switch behind others of it, the last of which failed, all in place
-pub record FailsAfter {Own : Type 0} (Tells : Type 0) (d : ℕ) (sent : List (ℕ × Key)) (front : List WorldStep) (old new : Seen Own) (fault : TxnFault) : Type 0 where
+-- calls of one switch, the last of which failed, all in place
+pub record Fails {Own : Type 0} (Tells : Type 0) (d : ℕ) (sent : List (ℕ × Key)) (old new : Seen Own) (fault : TxnFault) : Type 0 where
   pub steps : List WorldStep
   pub moves : Moves Tells d steps old new
-  pub cause : IsFaultOf d sent old.counts new.counts (front ++ steps) fault
-  pub places : GoesWithoutStrays d (front ++ steps)
-
-abbrev pub Fails : {Own : Type 0} → Type 0 → ℕ → List (ℕ × Key) → Seen Own → Seen Own → TxnFault → Type 0
-Fails Tells d sent old new fault = FailsAfter Tells d sent [] old new fault
+  pub cause : IsFaultOf d sent old.counts new.counts steps fault
+  pub places : GoesWithoutStrays d steps
 
 -- a barrier whose reply was got, at most 65,535 messages before it
 pub record AwaitsReplies {Own : Type 0} (Tells : Type 0) (a : Awaited) (front : List WorldStep) (sent : List (ℕ × Key)) (old new : Seen Own) (kept now_kept : List (ℕ × List ℕ)) : Type 0 where
@@ -142,22 +140,11 @@ pub record AwaitsReplies {Own : Type 0} (Tells : Type 0) (a : Awaited) (front : 
   pub before : AreBefore a sent got
   pub moves : Moves Tells a.dpid (front ++ (wait_steps a got ++ reply_got a ∷ [])) old new
 
--- a wait that has not ended yet, after so many messages
-pub record HearsOn {Own : Type 0} (Tells : Type 0) (a : Awaited) (sent : List (ℕ × Key)) (old new : Seen Own) (kept now_kept : List (ℕ × List ℕ)) (n : ℕ) : Type 0 where
-  pub got : List (List ℕ)
-  pub kept_so : KeptWhereFit kept (kept_of a got) now_kept
-  pub count : length got ≡ n
-  pub before : AreBefore a sent got
-  pub moves : Moves Tells a.dpid (wait_steps a got) old new
-
--- one message was got, and it was the reply or it was not
-pub record HearsNext {Own : Type 0} (Tells : Type 0) (a : Awaited) (sent : List (ℕ × Key)) (old new : Seen Own) (kept now_kept : List (ℕ × List ℕ)) (ended : Bool) : Type 0 where
-  pub bytes : List ℕ
-  pub kept_so : KeptWhereFit kept (kept_by a.dpid (heard a bytes) bytes) now_kept
-  pub read : IsOk (reading_of bytes)
-  pub ends : ended ≡ is_reply (heard a bytes)
-  pub unrefused : key_refused sent bytes ≡ None
-  pub moves : Moves Tells a.dpid (wait_steps a (bytes ∷ [])) old new
+-- a barrier, whose reply was got or not, and what was kept before it
+pub record PassesBarrier {Own : Type 0} (Tells : Type 0) (d xid : ℕ) (sent : List (ℕ × Key)) (old new : Seen Own) (kept now_kept : List (ℕ × List ℕ)) (buf : List ℕ) (result : Result (Unit {0}) Trouble) : Type 0 where
+  pub replied : OnOk result (AwaitsReplies Tells (alone d xid) (barrier_sent (alone d xid) ∷ []) sent old new kept now_kept)
+  pub failed : IfErr result (λ t. Fails Tells d sent old new (fault_by d t buf))
+  pub kept_more : KeptMore d kept now_kept
 
 -- ---- The parts of an undo, each with its switch, newest first
 

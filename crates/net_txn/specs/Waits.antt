@@ -1,6 +1,6 @@
 -- What a wait for the reply to a barrier leaves (OpenFlow 1.0.0, 4.2 Message Handling and 5.3.7 Barrier Message): the steps that it made,
 -- what it kept, and the first refusal that came. All of this is our own choice.
-use Rattle.std.specs.Prelude.{◌≡◌, ℕ, ◌≤◌, Bool, false, List, [], ◌∷◌, ◌++◌, length, map, Option, Some, None, IsOk}
+use Rattle.std.specs.Prelude.{◌≡◌, ℕ, ◌≤◌, false, List, [], ◌∷◌, ◌++◌, length, map, Option, Some, None, IsOk}
 use Rattle.std.specs.List.{AllByRecursion}
 use Rattle.of_types.specs.Fields.{IsBytes}
 use Rattle.of_wire.specs.Reading.{reading_of}
@@ -12,7 +12,7 @@ use Rattle.lego_model.specs.declared.wait.Awaited.{Awaited}
 use Rattle.lego_model.specs.declared.wait.Refusal.{Refusal}
 use Rattle.lego_model.specs.declared.wait.Heard.{Heard}
 use Rattle.lego_model.specs.declared.wait.Heard.TheVariants.{Refused}
-use Rattle.lego_model.specs.BarrierWaits.{flood, heard, is_reply, kept_by, heard_steps, wait_steps, kept_of, reply_got}
+use Rattle.lego_model.specs.BarrierWaits.{flood, heard, is_reply, wait_steps, kept_of, reply_got}
 
 -- ---- The first refusal among messages
 
@@ -64,22 +64,6 @@ IfFlooded Tells a front old new (SwitchFault of) = Unit {0}
 IfFlooded Tells a front old new (SwitchBroke of bytes) = Unit {0}
 IfFlooded Tells a front old new (Diverged of sent got) = Unit {0}
 IfFlooded Tells a front old new NoMemory = Unit {0}
-
--- A wait that has not ended yet, after so many messages.
-pub record WaitsOn {Own : Type 0} (Tells : Type 0) (a : Awaited) (old new : Seen Own) (kept now_kept : List (ℕ × List ℕ)) (answer : Option Refusal) (n : ℕ) : Type 0 where
-  pub got : List (List ℕ)
-  pub count : length got ≡ n
-  pub hears : Hears Tells a [] [] old new kept now_kept answer got
-
--- One message was got, and it was the reply or it was not.
-pub record HearsOne {Own : Type 0} (Tells : Type 0) (a : Awaited) (old new : Seen Own) (kept now_kept : List (ℕ × List ℕ)) (answer now_answer : Option Refusal) (ended : Bool) : Type 0 where
-  pub bytes : List ℕ
-  pub continues : Continues Tells old new
-  pub read : IsRead bytes
-  pub ends : ended ≡ is_reply (heard a bytes)
-  pub kept_so : now_kept ≡ kept ++ kept_by a.dpid (heard a bytes) bytes
-  pub answer_so : now_answer ≡ first_of answer (refusal_in (heard a bytes))
-  pub told : Tells → new.history ≡ old.history ++ heard_steps a bytes
 
 -- More messages of the switch were kept.
 abbrev pub KeptMore : ℕ → List (ℕ × List ℕ) → List (ℕ × List ℕ) → Type 0

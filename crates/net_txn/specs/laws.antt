@@ -1,4 +1,3 @@
-pub mod CauseLaws
 pub mod WaitLaws
 pub mod SizeLaws
 pub mod EchoLaws
@@ -18,6 +17,9 @@ pub mod InStepLaws
 pub mod ChangeFaultLaws
 pub mod ReachedLaws
 pub mod ConsequenceLaws
+pub mod SaidLaws
+pub mod ExchangeLaws
+pub mod TalkLaws
 pub mod UndoWaitLaws
 pub mod ProgressLaws
 pub mod PartOrderLaws

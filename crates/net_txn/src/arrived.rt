@@ -6,17 +6,16 @@ ghost use Rattle.of_wire.specs.declared.message.Message.TheVariants as messages;
 ghost use Rattle.of_wire.specs.Reading.{reading_of};
 ghost use Rattle.of_wire.specs.Spelling.{message_bytes};
 ghost use Rattle.of_wire.specs.Grammar.{IsMessage};
-ghost use Rattle.outside.specs.Seen.{Continues};
 ghost use Rattle.outside.specs.declared.step.WorldStep.TheVariants.{Acted};
-ghost use Rattle.net_txn.specs.LinkSteps.{OnLinks, AsksWithoutStrays};
 ghost use Rattle.net_txn.specs.Causes.{IsLinkCause};
 ghost use Rattle.net_txn.specs.Views.{rows_at};
+ghost use Rattle.net_txn.specs.Said.{Speaks};
 ghost use Rattle.net_txn.specs.Arriving.{event_of, Becomes, Arrives};
 
+use crate::exchange::say;
 use crate::message_event::{change_known, error_event, event_with, removed_key, tells};
 use crate::net::Net;
 use crate::views::remove_in;
-use crate::wait::send;
 use app_frames::{Event, EventKind};
 use flow_table::TableView;
 use lego_model::TxnFault;
@@ -44,15 +43,13 @@ fn answer_echo<W: World>(
     payload: &ByteList,
 ) -> Result<(), TxnFault>
     requires { IsMessage (messages.EchoRequest payload.now) }
-    ensures continues { Continues W.Tells (W.seen world.old) (W.seen world.new) }
-    ensures links { OnLinks W.Tells (W.seen world.old) (W.seen world.new) }
-    ensures no_strays { AsksWithoutStrays W.Tells dpid (W.seen world.old) (W.seen world.new) }
+    ensures speaks { Speaks W.Tells dpid (W.seen world.old) (W.seen world.new) }
     ensures link { IfErr result (IsLinkCause dpid (W.seen world.old) (W.seen world.new)) }
     ensures told { W.Tells → OnOk result ((W.seen world.new).history
         ≡ (W.seen world.old).history ++ Acted (Sent dpid (message_bytes xid (messages.EchoReply payload.now))) ∷ []) }
 {
     let reply = echo_bytes(alloc, xid, payload)?;
-    send(world, dpid, reply.as_slice())
+    say(world, alloc, dpid, reply.as_slice())
 }
 
 /// Returns the event of a flow that was removed, where its owner is told.
@@ -86,9 +83,7 @@ impl Net {
         requires { IsMessage message.now }
         ensures ok { IfOk result (Becomes W.Tells dpid xid message.now (W.seen world.old) (W.seen world.new) self.old self.new) }
         ensures err { OnErr result (self.new ≡ self.old) }
-        ensures continues { Continues W.Tells (W.seen world.old) (W.seen world.new) }
-        ensures links { OnLinks W.Tells (W.seen world.old) (W.seen world.new) }
-        ensures no_strays { AsksWithoutStrays W.Tells dpid (W.seen world.old) (W.seen world.new) }
+        ensures speaks { Speaks W.Tells dpid (W.seen world.old) (W.seen world.new) }
         ensures link { IfErr result (IsLinkCause dpid (W.seen world.old) (W.seen world.new)) }
     {
         match message {

@@ -3,8 +3,7 @@
 ghost use Rattle.std.specs.Prelude.{◌≡◌, IfErr, OnOk, OnErr, MatchResult};
 ghost use Rattle.of_wire.specs.declared.message.Message.TheVariants as messages;
 ghost use Rattle.of_wire.specs.Grammar.{IsMessage};
-ghost use Rattle.outside.specs.Seen.{Continues};
-ghost use Rattle.net_txn.specs.LinkSteps.{OnLinks, AsksWithoutStrays};
+ghost use Rattle.net_txn.specs.Said.{Speaks};
 ghost use Rattle.net_txn.specs.Causes.{IsCause};
 ghost use Rattle.net_txn.specs.Changes.{Asked, Stopped, IfGivenUp, Changes};
 ghost use Rattle.net_txn.specs.Agreement.{Reaches, Steps};
@@ -45,9 +44,7 @@ impl Net {
         requires { IsMessage (messages.FlowMod flow) }
         ensures result { MatchResult result (Asked W.Tells dpid flow (W.seen world.old) (W.seen world.new) self.old self.new)
             (λ f. Stopped dpid flow (W.seen world.old) (W.seen world.new) self.old self.new) }
-        ensures continues { Continues W.Tells (W.seen world.old) (W.seen world.new) }
-        ensures links { OnLinks W.Tells (W.seen world.old) (W.seen world.new) }
-        ensures no_strays { AsksWithoutStrays W.Tells dpid (W.seen world.old) (W.seen world.new) }
+        ensures speaks { Speaks W.Tells dpid (W.seen world.old) (W.seen world.new) }
         ensures cause { IfErr result (IsCause W.Tells dpid (W.seen world.old) (W.seen world.new)) }
         ensures flooded { IfErr result (IfGivenUp W.Tells dpid flow (W.seen world.old) (W.seen world.new) self.old) }
         ensures ports { self.new.ports ≡ self.old.ports }

@@ -1,21 +1,88 @@
 //! A message, a barrier behind it, and what the switch answers.
 
-ghost use Rattle.std.specs.Prelude.{◌≡◌, ◌≤◌, [], ◌∷◌, length, IsOk, IfOk, IfErr, OnErr};
-ghost use Rattle.of_types.specs.declared.journal.Act.TheVariants.{Sent};
+ghost use Rattle.std.specs.Prelude.{◌≡◌, ◌⊎◌, ◌≤◌, [], ◌∷◌, length, IsOk, IfOk};
 ghost use Rattle.of_wire.specs.Reading.{reading_of};
 ghost use Rattle.outside.specs.Calls.{most_message};
-ghost use Rattle.outside.specs.Seen.{Continues};
-ghost use Rattle.outside.specs.declared.step.WorldStep.TheVariants.{Acted};
-ghost use Rattle.net_txn.specs.LinkSteps.{OnLinks, AsksWithoutStrays};
-ghost use Rattle.net_txn.specs.Causes.{IsCause};
-ghost use Rattle.net_txn.specs.Waits.{Waits, IfFlooded, KeptMore};
-ghost use Rattle.lego_model.specs.BarrierWaits.{barrier_sent};
+ghost use Rattle.net_txn.specs.Undos.{fault_by};
+ghost use Rattle.net_txn.specs.Said.{barrier_of, SaysTo, Exchanges, Talks};
+ghost use Rattle.net_txn.specs.declared.queue.Storage.TheVariants.{Growing};
 
-use crate::queue::MessageQueue;
-use crate::wait::{await_barrier, send};
+use crate::logged::inverse_of;
+use crate::queue::{MessageQueue, Storage};
+use crate::room::front;
+use crate::trouble::Trouble;
+use crate::wait::{FLOOD, await_barrier, send};
 use lego_model::{Awaited, Refusal, TxnFault};
+use of_types::{ByteList, Dpid};
 use outside::World;
-use std::alloc::Global;
+use std::alloc::{AllocError, Global};
+
+/// Returns the fault that a switch's trouble is, with copies of its bytes.
+fn fault_with(
+    alloc: Global,
+    dpid: Dpid,
+    trouble: Trouble,
+    buf: &[u8],
+) -> Result<TxnFault, AllocError>
+    ensures { IfOk result (λ fault. fault ≡ fault_by dpid trouble buf.now) }
+{
+    match trouble {
+        Trouble::Link => Ok(TxnFault::SwitchFault(dpid)),
+        Trouble::Broke(len) => {
+            let bytes = ByteList::from_slice(alloc, front(buf, len))?;
+            Ok(TxnFault::SwitchBroke(dpid, bytes))
+        }
+        Trouble::Refused(key, xid, len) => {
+            let inverse = ByteList::from_slice(alloc, &inverse_of(alloc, &key, xid))?;
+            let bytes = ByteList::from_slice(alloc, front(buf, len))?;
+            Ok(TxnFault::Diverged(dpid, inverse, bytes))
+        }
+        Trouble::Flooded => Ok(TxnFault::Flooded(dpid, FLOOD)),
+        Trouble::Short | Trouble::Full => Ok(TxnFault::NoMemory),
+    }
+}
+
+/// Returns the fault that a switch's trouble is, or `NoMemory` where none is left for its bytes.
+fn fault_of(alloc: Global, dpid: Dpid, trouble: Trouble, buf: &[u8]) -> TxnFault
+    ensures { (result ≡ fault_by dpid trouble buf.now) ⊎ (result ≡ TxnFault.NoMemory) }
+{
+    match fault_with(alloc, dpid, trouble, buf) {
+        Ok(fault) => fault,
+        Err(_) => TxnFault::NoMemory,
+    }
+}
+
+/// Sends one message to a switch.
+pub(crate) fn say<W: World>(
+    world: &mut W,
+    alloc: Global,
+    dpid: Dpid,
+    frame: &[u8],
+) -> Result<(), TxnFault>
+    requires { IsOk (reading_of frame.now) }
+    ensures { SaysTo W.Tells dpid frame.now (W.seen world.old) (W.seen world.new) result }
+{
+    match send(world, dpid, frame) {
+        Ok(()) => Ok(()),
+        Err(trouble) => Err(fault_of(alloc, dpid, trouble, &[])),
+    }
+}
+
+/// Sends a message and a barrier, and waits for its reply; answers the first refusal that came before it.
+fn exchange<W: World>(
+    world: &mut W,
+    buf: &mut [u8],
+    kept: &mut MessageQueue,
+    awaited: &Awaited,
+    frame: &[u8],
+) -> Result<Option<Refusal>, Trouble>
+    requires room { most_message ≤ length buf.old }
+    requires read { IsOk (reading_of frame.now) }
+    ensures { Exchanges W.Tells awaited.now (frame.now ∷ barrier_of awaited.now ∷ []) Growing [] (W.seen world.old) (W.seen world.new) kept.old kept.new buf.new result }
+{
+    send(world, awaited.dpid, frame)?;
+    await_barrier(world, buf, kept, awaited, Storage::Growing, &[])
+}
 
 /// Sends a message and a barrier, and waits for its reply; answers the first refusal that came before it.
 pub(crate) fn ask<W: World>(
@@ -28,16 +95,10 @@ pub(crate) fn ask<W: World>(
 ) -> Result<Option<Refusal>, TxnFault>
     requires room { most_message ≤ length buf.old }
     requires read { IsOk (reading_of frame.now) }
-    ensures ok { IfOk result (Waits W.Tells awaited.now (Acted (Sent awaited.now.dpid frame.now) ∷ barrier_sent awaited.now ∷ [])
-        (W.seen world.old) (W.seen world.new) kept.old kept.new) }
-    ensures continues { Continues W.Tells (W.seen world.old) (W.seen world.new) }
-    ensures links { OnLinks W.Tells (W.seen world.old) (W.seen world.new) }
-    ensures no_strays { AsksWithoutStrays W.Tells awaited.now.dpid (W.seen world.old) (W.seen world.new) }
-    ensures cause { IfErr result (IsCause W.Tells awaited.now.dpid (W.seen world.old) (W.seen world.new)) }
-    ensures flooded { IfErr result (IfFlooded W.Tells awaited.now (Acted (Sent awaited.now.dpid frame.now) ∷ barrier_sent awaited.now ∷ [])
-        (W.seen world.old) (W.seen world.new)) }
-    ensures kept { OnErr result (KeptMore awaited.now.dpid kept.old kept.new) }
+    ensures { Talks W.Tells awaited.now (frame.now ∷ []) (W.seen world.old) (W.seen world.new) kept.old kept.new result }
 {
-    send(world, awaited.dpid, frame)?;
-    await_barrier(world, alloc, buf, kept, awaited)
+    match exchange(world, buf, kept, awaited, frame) {
+        Ok(answer) => Ok(answer),
+        Err(trouble) => Err(fault_of(alloc, awaited.dpid, trouble, buf)),
+    }
 }

@@ -1,23 +1,16 @@
 //! What a switch is sent when it joins.
 
-ghost use Rattle.std.specs.Prelude.{◌≡◌, ◌≤◌, [], ◌∷◌, length, IsOk, IfOk, IfErr, OnErr};
-ghost use Rattle.of_types.specs.declared.journal.Act.TheVariants.{Sent};
+ghost use Rattle.std.specs.Prelude.{◌≡◌, ◌≤◌, [], ◌∷◌, length, IsOk, IfOk};
 ghost use Rattle.of_wire.specs.declared.message.Message.TheVariants as messages;
 ghost use Rattle.of_wire.specs.Reading.{reading_of};
 ghost use Rattle.of_wire.specs.Spelling.{message_bytes};
 ghost use Rattle.flow_table.specs.Switch.{first_config};
 ghost use Rattle.outside.specs.Calls.{most_message};
-ghost use Rattle.outside.specs.Seen.{Continues};
-ghost use Rattle.outside.specs.declared.step.WorldStep.TheVariants.{Acted};
-ghost use Rattle.net_txn.specs.LinkSteps.{OnLinks, AsksWithoutStrays};
-ghost use Rattle.net_txn.specs.Causes.{IsCause};
-ghost use Rattle.net_txn.specs.Waits.{Waits, IfFlooded, KeptMore};
-ghost use Rattle.lego_model.specs.BarrierWaits.{barrier_sent};
 ghost use Rattle.net_txn.specs.Joining.{delete_all};
+ghost use Rattle.net_txn.specs.Said.{Talks};
 
-use crate::exchange::ask;
+use crate::exchange::{ask, say};
 use crate::queue::MessageQueue;
-use crate::wait::send;
 use lego_model::{Awaited, Refusal, TxnFault};
 use of_action::ActionList;
 use of_match::Match;
@@ -81,16 +74,8 @@ pub(crate) fn greet<W: World>(
     requires room { most_message ≤ length buf.old }
     requires first { IsOk (reading_of first.now) }
     requires second { IsOk (reading_of second.now) }
-    ensures ok { IfOk result (Waits W.Tells awaited.now (Acted (Sent awaited.now.dpid first.now) ∷ Acted (Sent awaited.now.dpid second.now) ∷ barrier_sent awaited.now ∷ [])
-        (W.seen world.old) (W.seen world.new) kept.old kept.new) }
-    ensures continues { Continues W.Tells (W.seen world.old) (W.seen world.new) }
-    ensures links { OnLinks W.Tells (W.seen world.old) (W.seen world.new) }
-    ensures no_strays { AsksWithoutStrays W.Tells awaited.now.dpid (W.seen world.old) (W.seen world.new) }
-    ensures cause { IfErr result (IsCause W.Tells awaited.now.dpid (W.seen world.old) (W.seen world.new)) }
-    ensures flooded { IfErr result (IfFlooded W.Tells awaited.now (Acted (Sent awaited.now.dpid first.now) ∷ Acted (Sent awaited.now.dpid second.now) ∷ barrier_sent awaited.now ∷ [])
-        (W.seen world.old) (W.seen world.new)) }
-    ensures kept { OnErr result (KeptMore awaited.now.dpid kept.old kept.new) }
+    ensures { Talks W.Tells awaited.now (first.now ∷ second.now ∷ []) (W.seen world.old) (W.seen world.new) kept.old kept.new result }
 {
-    send(world, awaited.dpid, first)?;
+    say(world, alloc, awaited.dpid, first)?;
     ask(world, alloc, buf, kept, awaited, second)
 }

@@ -5,10 +5,10 @@ ghost use Rattle.outside.specs.Seen.{Continues};
 ghost use Rattle.outside.specs.InOrder.{MessagesSince};
 ghost use Rattle.net_txn.specs.declared.ports.KnownPorts.{KnownPorts};
 ghost use Rattle.net_txn.specs.LinkSteps.{OnLinks, AsksWithoutStrays};
+ghost use Rattle.net_txn.specs.Said.{Speaks};
 ghost use Rattle.net_txn.specs.Causes.{IsCause};
 ghost use Rattle.net_txn.specs.Waits.{IfFlooded};
 ghost use Rattle.net_txn.specs.Views.{rows_at};
-ghost use Rattle.lego_model.specs.BarrierWaits.{next_xid};
 ghost use Rattle.net_txn.specs.Joining.{greeted_from, greeting, with_view, IsViewPlace, Joins, DoesNotJoin};
 ghost use Rattle.net_txn.specs.JoiningSteps.{JoinSteps};
 
@@ -106,9 +106,7 @@ impl Net {
     ) -> Result<(), TxnFault>
         ensures joins { OnOk result (Joins W.Tells dpid features.now.ports (W.seen world.old) (W.seen world.new) self.old self.new) }
         ensures err { OnErr result (DoesNotJoin dpid self.old self.new) }
-        ensures continues { Continues W.Tells (W.seen world.old) (W.seen world.new) }
-        ensures links { OnLinks W.Tells (W.seen world.old) (W.seen world.new) }
-        ensures no_strays { AsksWithoutStrays W.Tells dpid (W.seen world.old) (W.seen world.new) }
+        ensures speaks { Speaks W.Tells dpid (W.seen world.old) (W.seen world.new) }
         ensures cause { IfErr result (IsCause W.Tells dpid (W.seen world.old) (W.seen world.new)) }
         ensures flooded { IfErr result (IfFlooded W.Tells (greeted_from dpid self.old.xid) (greeting dpid self.old.xid) (W.seen world.old) (W.seen world.new)) }
         ensures log { self.new.log ≡ self.old.log }

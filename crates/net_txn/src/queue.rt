@@ -1,10 +1,13 @@
 //! Events, and messages of switches, in the order in which they came.
 
-ghost use Rattle.std.specs.Prelude.{◌≡◌, ◌==◌, ◌↔◌, ◌⊎◌, true, not, filter, [], ◌∷◌, ◌++◌, drop, length, slice_get, IsTrue, IfOk, OnOk, OnErr};
+ghost use Rattle.std.specs.Prelude.{◌≡◌, ◌==◌, ◌↔◌, ◌⊎◌, true, not, filter, [], ◌∷◌, ◌++◌, drop, length, slice_get, IsTrue, IfOk, IfErr, OnOk, OnErr};
 ghost use Rattle.net_txn.specs.MessageStore.{fits, KeptWhereFit};
 ghost use Rattle.net_txn.specs.Waits.{KeptMore};
+ghost use Rattle.net_txn.specs.declared.queue.Storage.TheVariants.{Growing};
+ghost use Rattle.net_txn.specs.Said.{KeptAs};
 
 use crate::message_store::MessageStore;
+use crate::trouble::Trouble;
 use app_frames::Event;
 use of_types::{ByteList, Dpid};
 use std::alloc::{AllocError, Global};
@@ -66,6 +69,15 @@ impl EventQueue {
     {
         self.events.pop_front()
     }
+}
+
+/// Where messages are kept that come while a reply is awaited.
+#[derive(Clone, Copy, Debug, PartialEq, Eq)]
+pub(crate) enum Storage {
+    /// In memory that is taken as they come.
+    Growing,
+    /// In room that was taken before; one that does not fit is dropped.
+    Reserved,
 }
 
 /// Messages that switches sent while something else was awaited, each with its switch, first in first out. The
@@ -137,6 +149,29 @@ impl MessageQueue {
         ensures more { KeptMore dpid self.old self.new }
     {
         self.store.keep_or_drop(dpid, message);
+    }
+
+    /// Keeps a copy of a message. It fails only where memory is taken.
+    pub(crate) fn keep(
+        &mut self,
+        storage: Storage,
+        dpid: Dpid,
+        message: &[u8],
+    ) -> Result<(), Trouble>
+        ensures ok { OnOk result (KeptAs storage self.old ((dpid, message.now) ∷ []) self.new) }
+        ensures err { OnErr result ((storage ≡ Growing) × (self.new ≡ self.old)) }
+        ensures full { IfErr result (λ t. t ≡ Trouble.Full) }
+    {
+        match storage {
+            Storage::Growing => match self.push(dpid, message) {
+                Ok(()) => Ok(()),
+                Err(_) => Err(Trouble::Full),
+            },
+            Storage::Reserved => {
+                self.keep_or_drop(dpid, message);
+                Ok(())
+            }
+        }
     }
 
     /// Takes the oldest message out.

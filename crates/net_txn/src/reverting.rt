@@ -1,18 +1,15 @@
 //! The inverses of a log, sent newest first.
 
-ghost use Rattle.std.specs.Prelude.{◌≡◌, ◌+◌, ◌^◌, ◌<◌, ◌≤◌, ℕ, true, false, List, [], ◌∷◌, length, drop, map, Option, IfErr, OnOk, is_err, slice_index_or, slice_set};
+ghost use Rattle.std.specs.Prelude.{◌≡◌, ◌+◌, ◌^◌, ◌<◌, ◌≤◌, ℕ, true, false, List, [], ◌∷◌, length, drop, map, Option, is_err, slice_index_or, slice_set};
 ghost use Rattle.outside.specs.Seen.{Seen};
 ghost use Rattle.flow_table.specs.declared.view.TableView.{TableView};
 ghost use Rattle.lego_model.specs.declared.fault.TxnFault.{TxnFault};
-ghost use Rattle.of_types.specs.declared.journal.Act.TheVariants.{Sent};
-ghost use Rattle.of_match.specs.declared.key.Key.{Key};
 ghost use Rattle.outside.specs.Calls.{most_message};
-ghost use Rattle.outside.specs.declared.step.WorldStep.TheVariants.{Acted};
 ghost use Rattle.net_txn.specs.declared.logged.Logged.{Logged};
 ghost use Rattle.net_txn.specs.Net.{inverse_bytes};
-ghost use Rattle.lego_model.specs.BarrierWaits.{next_xid, barrier_sent};
-ghost use Rattle.net_txn.specs.Waits.{KeptMore};
-ghost use Rattle.net_txn.specs.Undos.{HasPassedBarrier, Further, first_fault_of, fault_of, progress_of, Moves, Fails, AwaitsReplies, fault_by, inverses_in, alone, with_progress, key_logged};
+ghost use Rattle.lego_model.specs.BarrierWaits.{next_xid};
+ghost use Rattle.net_txn.specs.Undos.{HasPassedBarrier, Further, first_fault_of, fault_of, progress_of, inverses_in, with_progress, key_logged, PassesBarrier};
+ghost use Rattle.net_txn.specs.Said.{SaysOne};
 ghost use Rattle.net_txn.specs.Views.{is_viewed};
 
 use crate::logged::{Logged, UndoProgress, inverse_of};
@@ -20,7 +17,8 @@ use crate::net::following;
 use crate::queue::MessageQueue;
 use crate::trouble::Trouble;
 use crate::undo_progress::{position_of, progress_of};
-use crate::undo_wait::{await_barrier, send};
+use crate::undo_wait::pass_barrier;
+use crate::wait::send;
 use flow_table::TableView;
 use of_types::{Dpid, Xid};
 use outside::World;
@@ -63,10 +61,8 @@ fn send_at<W: World>(
     xid: Xid,
 ) -> Result<(), Trouble>
     requires { at < length log.old }
-    ensures ok { (e : Logged) → let entry = slice_index_or log.old at e in
-        OnOk result (Moves W.Tells entry.dpid (Acted (Sent entry.dpid (inverse_bytes xid entry.key)) ∷ []) (W.seen world.old) (W.seen world.new)) }
-    ensures err { (e : Logged) (sent : List (ℕ × Key)) (buf : List ℕ) → let entry = slice_index_or log.old at e in
-        IfErr result (λ t. Fails W.Tells entry.dpid sent (W.seen world.old) (W.seen world.new) (fault_by entry.dpid t buf)) }
+    ensures says { (e : Logged) → let entry = slice_index_or log.old at e in
+        SaysOne W.Tells entry.dpid (inverse_bytes xid entry.key) (W.seen world.old) (W.seen world.new) result }
     ensures marked { (e : Logged) → log.new ≡ slice_set log.old at (with_progress (record { xid = xid; since = since; failed = is_err result }) (slice_index_or log.old at e)) }
     ensures same { map key_logged log.new ≡ map key_logged log.old }
     ensures priority { (e : Logged) → (slice_index_or log.old at e).key.priority < 2 ^ 16 }
@@ -97,19 +93,16 @@ fn await_at<W: World>(
 ) -> Result<(), Trouble>
     requires room { most_message ≤ length buf.old }
     requires place { (from ≤ at) × (at < length log.old) }
-    ensures ok { (e : Logged) → let d = (slice_index_or log.old at e).dpid in
-        OnOk result (AwaitsReplies W.Tells (alone d xid) (barrier_sent (alone d xid) ∷ []) (inverses_in d (drop from log.old)) (W.seen world.old) (W.seen world.new) kept.old kept.new) }
-    ensures err { (e : Logged) → let d = (slice_index_or log.old at e).dpid in
-        IfErr result (λ t. Fails W.Tells d (inverses_in d (drop from log.old)) (W.seen world.old) (W.seen world.new) (fault_by d t buf.new)) }
+    ensures passes { (e : Logged) → let d = (slice_index_or log.old at e).dpid in
+        PassesBarrier W.Tells d xid (inverses_in d (drop from log.old)) (W.seen world.old) (W.seen world.new) kept.old kept.new buf.new result }
     ensures marked { (e : Logged) → let entry = slice_index_or log.old at e in
         log.new ≡ slice_set log.old at (with_progress (record { xid = entry.progress.xid; since = 0; failed = is_err result }) entry) }
     ensures same { map key_logged log.new ≡ map key_logged log.old }
-    ensures kept { (e : Logged) → KeptMore (slice_index_or log.old at e).dpid kept.old kept.new }
     ensures len { length buf.new ≡ length buf.old }
 {
     let dpid = log[at].dpid;
     let sent = log[at].progress.xid;
-    let barred = await_barrier(world, buf, kept, behind(log, from), dpid, xid);
+    let barred = pass_barrier(world, buf, kept, behind(log, from), dpid, xid);
     let progress = UndoProgress {
         xid: sent,
         since: 0,

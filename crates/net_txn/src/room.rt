@@ -69,7 +69,7 @@ fn filled(room: Vec<u8>, bytes: &[u8]) -> ByteList
 }
 
 /// Returns the front of a buffer.
-fn front(buf: &[u8], len: usize) -> &[u8]
+pub(crate) fn front(buf: &[u8], len: usize) -> &[u8]
     ensures { result.now ≡ take len buf.now }
 {
     if len < buf.len() { &buf[..len] } else { buf }
@@ -98,7 +98,7 @@ fn fault_by(
             front(buf, len),
         ),
         Trouble::Flooded => TxnFault::Flooded(dpid, FLOOD),
-        Trouble::Short => TxnFault::NoMemory,
+        Trouble::Short | Trouble::Full => TxnFault::NoMemory,
     }
 }
 

@@ -1,9 +1,9 @@
-//! Why a switch failed in an undo, told without memory.
+//! Why calls of a switch failed, told without memory.
 
 use of_match::Key;
 use of_types::Xid;
 
-/// Why a switch failed in an undo. A `usize` is how many bytes stand in the front of the buffer.
+/// Why calls of a switch failed. A `usize` is how many bytes stand in the front of the buffer.
 #[derive(Clone, Copy, Debug, PartialEq, Eq)]
 pub(crate) enum Trouble {
     /// Its link failed.
@@ -16,4 +16,6 @@ pub(crate) enum Trouble {
     Flooded,
     /// The world's own memory ran out.
     Short,
+    /// No memory was left to keep a message.
+    Full,
 }

@@ -16,7 +16,8 @@ use Rattle.lego_model.specs.declared.fault.TxnFault.{TxnFault}
 use Rattle.lego_model.specs.declared.fault.TxnFault.TheVariants.{SwitchFault, SwitchBroke, Diverged, Flooded, NoMemory}
 use Rattle.lego_model.specs.declared.wait.Awaited.{Awaited}
 use Rattle.net_txn.specs.Causes.{IsCause, IsPlainFault}
-use Rattle.net_txn.specs.Waits.{Floods, IfFlooded}
+use Rattle.net_txn.specs.Waits.{Waits, Floods, IfFlooded}
+use Rattle.lego_model.specs.declared.wait.Refusal.{Refusal}
 use Rattle.lego_model.specs.BarrierWaits.{wait_steps, barrier_sent, next_xid}
 use Rattle.net_txn.specs.Net.{NetState}
 use Rattle.net_txn.specs.laws.NoticeLaws.{AllNotices, notice_steps}
@@ -36,6 +37,16 @@ greeted_flooded Tells d xid a first second old new fault is first_is second_is f
     let f1 = subst (λ (x : Awaited). IfFlooded Tells x (Acted (Sent x.dpid first) ∷ Acted (Sent x.dpid second) ∷ barrier_sent x ∷ []) old new fault) is f in
     let f2 = subst (λ (b : List ℕ). IfFlooded Tells here (Acted (Sent d b) ∷ Acted (Sent d second) ∷ barrier_sent here ∷ []) old new fault) first_is f1 in
     subst (λ (b : List ℕ). IfFlooded Tells here (Acted (Sent d (message_bytes xid (FlowMod delete_all))) ∷ Acted (Sent d b) ∷ barrier_sent here ∷ []) old new fault) second_is f2
+
+pub greeted_waits : {Own : Type 0} (Tells : Type 0) (d xid : ℕ) (a : Awaited) (first second : List ℕ) (old new : Seen Own) (kept net_kept now_kept : List (ℕ × List ℕ)) (answer : Option Refusal) → a ≡ greeted_from d xid → first ≡ message_bytes xid (FlowMod delete_all)
+    → second ≡ message_bytes (next_xid xid) (SetConfig first_config) → kept ≡ net_kept → Waits Tells a (Acted (Sent a.dpid first) ∷ Acted (Sent a.dpid second) ∷ barrier_sent a ∷ []) old new kept now_kept answer
+    → Waits Tells (greeted_from d xid) (greeting d xid) old new net_kept now_kept answer
+greeted_waits Tells d xid a first second old new kept net_kept now_kept answer is first_is second_is kept_is f =
+    let here = greeted_from d xid in
+    let f0 = subst (λ (k : List (ℕ × List ℕ)). Waits Tells a (Acted (Sent a.dpid first) ∷ Acted (Sent a.dpid second) ∷ barrier_sent a ∷ []) old new k now_kept answer) kept_is f in
+    let f1 = subst (λ (x : Awaited). Waits Tells x (Acted (Sent x.dpid first) ∷ Acted (Sent x.dpid second) ∷ barrier_sent x ∷ []) old new net_kept now_kept answer) is f0 in
+    let f2 = subst (λ (b : List ℕ). Waits Tells here (Acted (Sent d b) ∷ Acted (Sent d second) ∷ barrier_sent here ∷ []) old new net_kept now_kept answer) first_is f1 in
+    subst (λ (b : List ℕ). Waits Tells here (Acted (Sent d (message_bytes xid (FlowMod delete_all))) ∷ Acted (Sent d b) ∷ barrier_sent here ∷ []) old new net_kept now_kept answer) second_is f2
 
 -- ---- Where a world keeps its word
 

@@ -45,7 +45,7 @@ use Rattle.net_txn.specs.laws.AskStepLaws.{any_subsumes, IsFields-any}
 use Rattle.net_txn.specs.Undos.{IsStepOf, SameSwitch}
 use Rattle.net_txn.specs.laws.PartLaws.{steps_other}
 use Rattle.net_txn.specs.laws.RestoreLaws.{wait_of}
-use Rattle.net_txn.specs.laws.UndoWaitLaws.{all_two}
+use Rattle.net_txn.specs.laws.SaidLaws.{all_two}
 use Rattle.net_txn.specs.Joining.{delete_all, greeted_from, greeting, Joins}
 use Rattle.net_txn.specs.laws.JoiningLaws.{rows_at-with_view, rows_at-with_view-other}
 use Rattle.net_txn.specs.JoiningSteps.{emptied, JoinsInStep}

@@ -1,17 +1,12 @@
 -- Laws of histories that go on by steps of links alone.
-use Rattle.std.specs.Prelude.{◌≡◌, ℕ, List, [], ◌∷◌, ◌++◌, Option, Result, Ok, Err, refl}
+use Rattle.std.specs.Prelude.{◌≡◌, ℕ, List, [], ◌∷◌, ◌++◌, refl}
 use Rattle.std.proofs.Common.{sym, ap, ◌∙◌, append_assoc}
 use Rattle.std.proofs.lemmas.List.{append-nil}
-use Rattle.outside.specs.declared.faults.LinkFault.{LinkFault}
-use Rattle.outside.specs.declared.faults.LinkFault.TheVariants as linking
 use Rattle.outside.specs.declared.step.WorldStep.{WorldStep}
 use Rattle.outside.specs.Seen.{Seen}
-use Rattle.outside.specs.Calls.{Sends, Receives, send_steps, receive_steps}
 use Rattle.lego_model.specs.declared.wait.Awaited.{Awaited}
-use Rattle.lego_model.specs.declared.wait.Refusal.{Refusal}
 use Rattle.lego_model.specs.declared.wait.Heard.{Heard}
 use Rattle.lego_model.specs.declared.wait.Heard.TheVariants.{Reply, Refused, Notice, Echo, Other}
-use Rattle.net_txn.specs.Waits.{WaitsOn}
 use Rattle.lego_model.specs.BarrierWaits.{heard, steps_by, wait_steps}
 use Rattle.net_txn.specs.LinkSteps.{AreLinkSteps, OnLinks}
 
@@ -40,24 +35,6 @@ OnLinks-by Tells old new steps all history told = record { steps = steps; histor
 
 -- ---- One call of a link
 
-sent_links : {T : Type 0} (d : ℕ) (frame : List ℕ) (result : Result T LinkFault) → AreLinkSteps (send_steps d frame result)
-unfolding send_steps
-sent_links d frame (Ok x) = (refl, tt)
-sent_links d frame (Err linking.Failed) = (refl, tt)
-sent_links d frame (Err linking.Short) = tt
-
-pub Sends-links : {Own T : Type 0} {Tells : Type 0} {d : ℕ} {frame : List ℕ} {old new : Seen Own} {result : Result T LinkFault} → Sends Tells d frame old new result → OnLinks Tells old new
-Sends-links {d = d} {frame = frame} {result = result} call told = record { steps = send_steps d frame result; history = (call.told told).history; all = sent_links d frame result }
-
-received_links : (d : ℕ) (buf : List ℕ) (result : Result ℕ LinkFault) → AreLinkSteps (receive_steps d result buf)
-unfolding receive_steps
-received_links d buf (Ok n) = (refl, tt)
-received_links d buf (Err linking.Failed) = (refl, tt)
-received_links d buf (Err linking.Short) = tt
-
-pub Receives-links : {Own : Type 0} {Tells : Type 0} {d : ℕ} {buf : List ℕ} {old new : Seen Own} {result : Result ℕ LinkFault} → Receives Tells d old new result buf → OnLinks Tells old new
-Receives-links {d = d} {buf = buf} {result = result} call told = record { steps = receive_steps d result buf; history = (call.told told).history; all = received_links d buf result }
-
 -- ---- A wait
 
 by_links : (d : ℕ) (h : Heard) (bytes : List ℕ) → AreLinkSteps (steps_by d h bytes)
@@ -70,8 +47,3 @@ by_links d Other bytes = tt
 pub wait_links : (a : Awaited) (got : List (List ℕ)) → AreLinkSteps (wait_steps a got)
 wait_links a [] = tt
 wait_links a (b ∷ bs) = (refl, links_append (steps_by a.dpid (heard a b) b) (wait_steps a bs) (by_links a.dpid (heard a b) b) (wait_links a bs))
-
--- one that has not ended yet
-pub WaitsOn-links : {Own : Type 0} {Tells : Type 0} {a : Awaited} {old new : Seen Own} {kept kept1 : List (ℕ × List ℕ)} {answer : Option Refusal} {n : ℕ} → WaitsOn Tells a old new kept kept1 answer n → OnLinks Tells old new
-WaitsOn-links {Tells = Tells} {a = a} {old = old} {new = new} w =
-    OnLinks-by Tells old new (wait_steps a w.got ++ []) (links_append (wait_steps a w.got) [] (wait_links a w.got) tt) w.hears.told

@@ -12,26 +12,21 @@ use Rattle.of_wire.specs.Reading.{reading_of}
 use Rattle.of_wire.specs.laws.ReadingLaws.{reading_of-message_bytes}
 use Rattle.of_wire.specs.Spelling.{message_bytes}
 use Rattle.flow_table.specs.Switch.{Declared, SwitchState}
-use Rattle.outside.specs.declared.faults.LinkFault.{LinkFault}
-use Rattle.outside.specs.declared.faults.LinkFault.TheVariants as linking
 use Rattle.outside.specs.declared.step.WorldStep.{WorldStep}
 use Rattle.outside.specs.declared.step.WorldStep.TheVariants.{Acted}
 use Rattle.outside.specs.Seen.{Seen, Continues}
-use Rattle.outside.specs.Calls.{Sends, Receives, send_steps, receive_steps}
 use Rattle.outside.specs.State.{State, after_step, after_steps, state, switch_of, switch_told, message_sends, waits_of, is_joined, has_waiting, is_empty}
 use Rattle.outside.specs.laws.LinkLaws.{switch_of-sent, waits_of-sent, switch_of-got, waits_of-got}
 use Rattle.outside.specs.laws.StateLaws.{after_steps-append, state-append}
-use Rattle.outside.specs.InOrder.{MayComeAll, InOrder}
-use Rattle.outside.specs.laws.InOrderLaws.{InOrder-rest, InOrder-before, come_rest}
+use Rattle.outside.specs.InOrder.{MayComeAll}
+use Rattle.outside.specs.laws.InOrderLaws.{come_rest}
 use Rattle.lego_model.specs.declared.wait.Awaited.{Awaited}
-use Rattle.lego_model.specs.declared.wait.Refusal.{Refusal}
 use Rattle.lego_model.specs.declared.wait.Heard.{Heard}
 use Rattle.lego_model.specs.declared.wait.Heard.TheVariants.{Reply, Refused, Notice, Echo, Other}
-use Rattle.net_txn.specs.Waits.{WaitsOn}
 use Rattle.lego_model.specs.BarrierWaits.{heard, is_reply, echo_reply, steps_by, heard_steps, wait_steps, barrier_sent, reply_got}
 use Rattle.net_txn.specs.laws.HeardLaws.{IsMessage-barrier}
 use Rattle.net_txn.specs.laws.StepLaws.{first_came, reply_is_none, told_waits, barrier_sends}
-use Rattle.net_txn.specs.LinkSteps.{IsExpectedOnLink, AreExpectedOnLinks, MakesNoStrayCall, AsksWithoutStrays, Awaits}
+use Rattle.net_txn.specs.LinkSteps.{IsExpectedOnLink, AreExpectedOnLinks, MakesNoStrayCall, Awaits}
 
 -- ---- One after the other
 
@@ -77,28 +72,6 @@ pub sure_wait : (a : Awaited) (got : List (List ℕ)) → AllByRecursion IsSure 
 sure_wait a [] = tt
 sure_wait a (b ∷ bs) = (λ s. tt, sure_append (steps_by a.dpid (heard a b) b) (wait_steps a bs) (sure_by a.dpid (heard a b) b) (sure_wait a bs))
 
--- ---- One call of a link
-
-sent_place : {T : Type 0} (d : ℕ) (frame : List ℕ) (result : Result T LinkFault) (s : State) → is_joined d s ≡ true → AreExpectedOnLinks (send_steps d frame result) s
-unfolding send_steps
-sent_place d frame (Ok x) s joined = (tt, tt)
-sent_place d frame (Err linking.Failed) s joined = (joined, tt)
-sent_place d frame (Err linking.Short) s joined = tt
-
-pub Sends-no_strays : {Own T : Type 0} {Tells : Type 0} {d : ℕ} {frame : List ℕ} {old new : Seen Own} {result : Result T LinkFault} → Sends Tells d frame old new result → Tells → is_joined d (state old) ≡ true → MakesNoStrayCall old new
-Sends-no_strays {d = d} {frame = frame} {old = old} {new = new} {result = result} call told joined =
-    no_strays_by old new (send_steps d frame result) (call.told told).history (sent_place d frame result (state old) joined)
-
-received_place : (d : ℕ) (buf : List ℕ) (result : Result ℕ LinkFault) (s : State) → has_waiting d s ≡ true → AreExpectedOnLinks (receive_steps d result buf) s
-unfolding receive_steps
-received_place d buf (Ok n) s waiting = (tt, tt)
-received_place d buf (Err linking.Failed) s waiting = (waiting, tt)
-received_place d buf (Err linking.Short) s waiting = tt
-
-pub Receives-no_strays : {Own : Type 0} {Tells : Type 0} {d : ℕ} {buf : List ℕ} {old new : Seen Own} {result : Result ℕ LinkFault} → Receives Tells d old new result buf → Tells → has_waiting d (state old) ≡ true → MakesNoStrayCall old new
-Receives-no_strays {d = d} {buf = buf} {old = old} {new = new} {result = result} call told waiting =
-    no_strays_by old new (receive_steps d result buf) (call.told told).history (received_place d buf result (state old) waiting)
-
 -- ---- A switch stays joined
 
 told_some : (read : Result Envelope WireFault) (o : Option SwitchState) → is_some o ≡ true → is_some (switch_told read o) ≡ true
@@ -111,11 +84,6 @@ joined_sent d bytes s joined = ap (λ (o : Option SwitchState). is_some o) (swit
 
 pub joined_got : (d : ℕ) (bytes : List ℕ) (s : State) → is_joined d s ≡ true → is_joined d (after_step (Acted (Got d bytes)) s) ≡ true
 joined_got d bytes s joined = ap (λ (o : Option SwitchState). is_some o) (switch_of-got d bytes s) ∙ joined
-
--- behind a message that was sent
-pub joined_behind : {Own : Type 0} {Tells : Type 0} (d : ℕ) (bytes : List ℕ) (old mid : Seen Own) → Tells → Continues Tells old mid → (Tells → mid.history ≡ old.history ++ Acted (Sent d bytes) ∷ []) → is_joined d (state old) ≡ true → is_joined d (state mid) ≡ true
-joined_behind d bytes old mid told later history joined =
-    ap (λ (s : State). is_joined d s) (state-append old mid (Acted (Sent d bytes) ∷ []) later.given (history told)) ∙ joined_sent d bytes (state old) joined
 
 some_switch : (o : Option SwitchState) → is_some o ≡ true → (s : SwitchState) × (o ≡ Some s)
 some_switch None some = absurd cc
@@ -181,49 +149,6 @@ awaits_wait declared a (b ∷ bs) s may other w =
     let heard_so = awaits_by a (heard a b) b (after_step (Acted (Got a.dpid b)) s) first in
     subst (λ (t : State). Awaits a t) (sym (after_steps-append (heard_steps a b) (wait_steps a bs) s))
     (awaits_wait declared a bs (after_steps (heard_steps a b) s) (come_rest declared (heard_steps a b) (wait_steps a bs) s may) other.1 heard_so)
-
--- behind messages that were got, none of which is the reply
-awaits_behind : {Own : Type 0} {Tells : Type 0} (a : Awaited) (got : List (List ℕ)) (old mid : Seen Own) → Continues Tells old mid → mid.history ≡ old.history ++ wait_steps a got → AllByRecursion (λ b. is_reply (heard a b) ≡ false) got → InOrder mid
-    → Awaits a (state old) → Awaits a (state mid)
-awaits_behind a got old mid later longer other keeps before =
-    let steps = wait_steps a got in
-    let may = InOrder-rest old mid steps later.given longer keeps in
-    subst (λ (s : State). Awaits a s) (sym (state-append old mid steps later.given longer)) (awaits_wait old.given.declared a got (state old) may other before)
-
-pub got_in_place : {Own : Type 0} (a : Awaited) (got : List (List ℕ)) (old mid : Seen Own) → mid.history ≡ old.history ++ wait_steps a got → MakesNoStrayCall old mid
-got_in_place a got old mid longer = no_strays_by old mid (wait_steps a got) longer (sure_places (wait_steps a got) (state old) (sure_wait a got))
-
-pub told_so_far : {Own : Type 0} {Tells : Type 0} {a : Awaited} {old mid : Seen Own} {kept kept1 : List (ℕ × List ℕ)} {answer : Option Refusal} {n : ℕ} (w : WaitsOn Tells a old mid kept kept1 answer n) → Tells → mid.history ≡ old.history ++ wait_steps a w.got
-told_so_far {a = a} {old = old} w told = w.hears.told told ∙ ap (λ (xs : List WorldStep). old.history ++ xs) (append-nil (wait_steps a w.got))
-
--- ---- Asking
-
--- a message was got, and then what it asks for is done
-pub heard_place : {Own : Type 0} {Tells : Type 0} (a : Awaited) (bytes : List ℕ) (old mid new : Seen Own) → Continues Tells old mid → Continues Tells mid new → (Tells → mid.history ≡ old.history ++ Acted (Got a.dpid bytes) ∷ [])
-    → (Tells → has_waiting a.dpid (state old) ≡ true → MakesNoStrayCall old mid) → (Tells → is_joined a.dpid (state mid) ≡ true → MakesNoStrayCall mid new) → Tells → Awaits a (state old) → MakesNoStrayCall old new
-heard_place a bytes old mid new before later got first second told w =
-    let joined : is_joined a.dpid (state mid) ≡ true =
-    ap (λ (s : State). is_joined a.dpid s) (state-append old mid (Acted (Got a.dpid bytes) ∷ []) before.given (got told)) ∙ joined_got a.dpid bytes (state old) w.joined in
-    no_strays_then old mid new told before later (first told (awaits_waiting a (state old) w)) (second told joined)
-
--- some were got before, and then the next
-pub on_place : {Own : Type 0} {Tells : Type 0} (a : Awaited) (got : List (List ℕ)) (old mid new : Seen Own) → Continues Tells old mid → (Tells → mid.history ≡ old.history ++ wait_steps a got) → AllByRecursion (λ b. is_reply (heard a b) ≡ false) got
-    → Continues Tells mid new → (Tells → Awaits a (state mid) → MakesNoStrayCall mid new) → Tells → InOrder new → Awaits a (state old) → MakesNoStrayCall old new
-on_place a got old mid new before longer other later second told keeps waits =
-    no_strays_then old mid new told before later (got_in_place a got old mid (longer told)) (second told (awaits_behind a got old mid before (longer told) other (InOrder-before told later keeps) waits))
-
--- a barrier was sent, and its reply awaited
-pub barred_place : {Own : Type 0} {Tells : Type 0} (a : Awaited) (old mid new : Seen Own) → a.barrier < 2 ^ 32 → Continues Tells old mid → Continues Tells mid new → (Tells → mid.history ≡ old.history ++ barrier_sent a ∷ [])
-    → (Tells → is_joined a.dpid (state old) ≡ true → MakesNoStrayCall old mid) → (Tells → InOrder new → Awaits a (state mid) → MakesNoStrayCall mid new) → AsksWithoutStrays Tells a.dpid old new
-barred_place a old mid new small before later sent first second told keeps joined =
-    let waits : Awaits a (state mid) = subst (λ (s : State). Awaits a s) (sym (state-append old mid (barrier_sent a ∷ []) before.given (sent told))) (awaits_barrier a (state old) small joined) in
-    no_strays_then old mid new told before later (first told joined) (second told keeps waits)
-
--- a message was sent before
-pub behind_place : {Own : Type 0} {Tells : Type 0} (d : ℕ) (bytes : List ℕ) (old mid new : Seen Own) → Continues Tells old mid → Continues Tells mid new → (Tells → mid.history ≡ old.history ++ Acted (Sent d bytes) ∷ [])
-    → (Tells → is_joined d (state old) ≡ true → MakesNoStrayCall old mid) → AsksWithoutStrays Tells d mid new → AsksWithoutStrays Tells d old new
-behind_place d bytes old mid new before later sent first second told keeps joined =
-    no_strays_then old mid new told before later (first told joined) (second told keeps (joined_behind d bytes old mid told before sent joined))
 
 -- a barrier whose reply was got
 pub sure_settled : (a : Awaited) (got : List (List ℕ)) → AllByRecursion IsSure (barrier_sent a ∷ (wait_steps a got ++ reply_got a ∷ []))

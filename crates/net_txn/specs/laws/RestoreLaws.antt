@@ -38,7 +38,7 @@ use Rattle.net_txn.specs.laws.StepLaws.{first_got, reply_is_none, told_switch, t
 use Rattle.net_txn.specs.Undos.{key_sent, key_refused, Refuses, IsFaultOf, fault_in, first_fault_of, first_fault, ended_by, SameSwitch, Restored, IsStepOf, CanBeSent, IsBarrierPassed, alone, Part, Inverse, BarrierPassed, Stuck, part_steps, steps_of, parts_of, is_stuck, since_of, inverses_of, IsRun}
 use Rattle.net_txn.specs.laws.PartLaws.{steps_other, reading_of-inverse}
 use Rattle.net_txn.specs.laws.NoticeLaws.{reply_kind, notice_steps, with_entries, inverse_moves, inverse_sends, inverse_sends-few, AllNotices, notices_steps, notices_alone}
-use Rattle.net_txn.specs.laws.UndoWaitLaws.{all_two}
+use Rattle.net_txn.specs.laws.SaidLaws.{all_two}
 
 -- ---- The steps of a part are those of its switch.
 

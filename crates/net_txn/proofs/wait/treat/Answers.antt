@@ -1,23 +1,49 @@
-use Rattle.std.proofs.Common.{sym, ◌∙◌}
-use Rattle.net_txn.specs.laws.WaitLaws.{echo_is}
-use Rattle.net_txn.specs.laws.LinkStrayLaws.{no_strays_none}
-use Rattle.net_txn.proofs.wait.treat.Goals.{in-Refused, in-Notice, in-Echo+in_ok-send-in-Echo, in-Other+in_ok-push-in-Other}
+use Rattle.std.proofs.Common.{refl, sym, subst, ◌∙◌}
+use Rattle.std.proofs.lemmas.Result.{err_from_is_err_and}
+use Rattle.lego_model.specs.declared.wait.Heard.TheVariants as heards
+use Rattle.net_txn.specs.declared.trouble.Trouble.{Trouble}
+use Rattle.net_txn.specs.Said.{Calls, unsaid, IsUntreated}
+use Rattle.net_txn.specs.laws.WaitLaws.{echo_is, first_of_none}
+use Rattle.net_txn.specs.laws.SaidLaws.{Calls-none}
+use Rattle.net_txn.specs.laws.ExchangeLaws.{none_kept, untreated_by, treats_by}
 use Rattle.net_txn.proofs.wait.treat.Goals as goal
 
 pub make_reply-requires-clause-kind : goal.make_reply-requires-clause-kind
 make_reply-requires-clause-kind g c = echo_is c.args.awaited.now c.args.message.now (sym c.classify.ensures ∙ c.in-Echo.is)
 
-pub returns-in-Reply-clause-no_strays : goal.returns-in-Reply-clause-no_strays
-returns-in-Reply-clause-no_strays g c = λ told joined. no_strays_none (g.W.World.seen c.args.world.now)
+pub returns-in-Reply : goal.returns-in-Reply
+returns-in-Reply g c =
+    treats_by heards.Reply (sym c.classify.ensures ∙ c.in-Reply.is) refl (Calls-none g.W.World.Tells c.args.awaited.now.dpid (g.W.World.seen c.args.world.now)) (none_kept c.args.storage c.args.kept.now) (sym (first_of_none c.args.answer.now))
 
-pub returns-in_err-push-in-Other-clause-no_strays : goal.returns-in_err-push-in-Other-clause-no_strays
-returns-in_err-push-in-Other-clause-no_strays g c = λ told joined. no_strays_none (g.W.World.seen c.args.world.now)
+pub returns-in-Refused : goal.returns-in-Refused
+returns-in-Refused g c =
+    treats_by (heards.Refused c.in-Refused.refusal) (sym c.classify.ensures ∙ c.in-Refused.is) refl (Calls-none g.W.World.Tells c.args.awaited.now.dpid (g.W.World.seen c.args.world.now)) (none_kept c.args.storage c.args.kept.now) c.note.ensures
 
-pub returns-clause-no_strays : goal.returns-clause-no_strays
-returns-clause-no_strays g c = λ told joined.
-    elim c.match-classify.branch [
-      | in-Refused w ↦ rw w.world-is (no_strays_none (g.W.World.seen c.args.world.now))
-      | in-Notice w ↦ rw w.world-is (no_strays_none (g.W.World.seen c.args.world.now))
-      | in-Echo+in_ok-send-in-Echo w ↦ rw w.world-is (w.in_ok-send-in-Echo.ensures.no_strays told joined)
-      | in-Other+in_ok-push-in-Other w ↦ rw w.world-is (no_strays_none (g.W.World.seen c.args.world.now))
-    ]
+pub returns-in-Notice : goal.returns-in-Notice
+returns-in-Notice g c =
+    treats_by heards.Notice (sym c.classify.ensures ∙ c.in-Notice.is) refl (Calls-none g.W.World.Tells c.args.awaited.now.dpid (g.W.World.seen c.args.world.now)) (none_kept c.args.storage c.args.kept.now) (sym (first_of_none c.args.answer.now))
+
+pub returns-in_err-send-in-Echo : goal.returns-in_err-send-in-Echo
+returns-in_err-send-in-Echo g c =
+    let p = err_from_is_err_and c.from_residual.result c.from_residual.ensures.1 in
+    rw (p.1, p.2) (record { why = untreated_by c.args.storage c.in_err-send-in-Echo.field-0.0 c.in_err-send-in-Echo.ensures.0; calls = c.in_err-send-in-Echo.ensures.1; kept_so = refl })
+
+pub returns-in_ok-send-in-Echo : goal.returns-in_ok-send-in-Echo
+returns-in_ok-send-in-Echo g c =
+    treats_by heards.Echo (sym c.classify.ensures ∙ c.in-Echo.is) refl (rw c.make_reply.ensures.reply at c.in_ok-send-in-Echo.ensures) (none_kept c.args.storage c.args.kept.now) (sym (first_of_none c.args.answer.now))
+
+pub returns-in_ok-keep-in-Other : goal.returns-in_ok-keep-in-Other
+returns-in_ok-keep-in-Other g c =
+    treats_by heards.Other (sym c.classify.ensures ∙ c.in-Other.is) refl (Calls-none g.W.World.Tells c.args.awaited.now.dpid (g.W.World.seen c.args.world.now)) c.in_ok-keep-in-Other.ensures.ok (sym (first_of_none c.args.answer.now))
+
+pub returns-in_err-keep-in-Other : goal.returns-in_err-keep-in-Other
+returns-in_err-keep-in-Other g c =
+    let p = err_from_is_err_and c.from_residual-in_err-keep-in-Other.result c.from_residual-in_err-keep-in-Other.ensures.1 in
+    let e = c.in_err-keep-in-Other.ensures in
+    let seen = g.W.World.seen c.args.world.now in
+    let d = c.args.awaited.now.dpid in
+    rw (p.1, p.2) (record {
+      why = subst (λ (t : Trouble). IsUntreated c.args.storage t) (sym e.full) e.err.0;
+      calls = subst (λ (t : Trouble). Calls g.W.World.Tells d (unsaid d t) seen seen) (sym e.full) (Calls-none g.W.World.Tells d seen);
+      kept_so = e.err.1;
+    })

@@ -3,6 +3,7 @@ use Rattle.std.proofs.lemmas.Result.{err_from_is_err_and}
 use Rattle.outside.specs.laws.SeenLaws.{Continues-refl}
 use Rattle.net_txn.specs.laws.LinkStepLaws.{OnLinks-refl}
 use Rattle.net_txn.specs.laws.LinkStrayLaws.{no_strays_none}
+use Rattle.net_txn.specs.laws.TalkLaws.{speaks_on, speaks_links, speaks_place}
 use Rattle.net_txn.proofs.net.Net.arrived.Goals as goal
 
 pub returns-in_err-bytes-in-Err : goal.returns-in_err-bytes-in-Err
@@ -37,4 +38,16 @@ returns-in_ok-bytes-in-Err g c =
       cause = search rules;
       err = search rules;
       read = tt;
+    }
+
+pub returns-in-Ok : goal.returns-in-Ok
+returns-in-Ok g c =
+    let e = c.take_in.ensures in
+    record {
+      continues = speaks_on e.speaks;
+      links = speaks_links e.speaks;
+      no_strays = speaks_place e.speaks;
+      cause = search rules;
+      err = search rules;
+      read = search rules;
     }

@@ -1,6 +1,7 @@
 use Rattle.std.proofs.Common.{◌≡◌, ap, ◌∙◌}
 use Rattle.net_txn.specs.Net.{NetState}
 use Rattle.net_txn.specs.laws.ChangeLaws.{Changes-short, Changes-by_host, Changes-by_switch, host_unknown, host_knows}
+use Rattle.net_txn.specs.laws.TalkLaws.{speaks_on, speaks_links, speaks_place}
 use Rattle.net_txn.specs.laws.ConsequenceLaws.{Changes-reaches, Changes-steps}
 use Rattle.std.proofs.lemmas.Result.{err_from_is_err_and}
 use Rattle.net_txn.proofs.net.Net.change.Goals as goal
@@ -24,7 +25,7 @@ returns-in-Asks g c =
     let knows = host_knows c.args.dpid c.args.bytes.now c.args.self.now c.deref.result.now c.in-Some.view.now.rows c.as_slice.result.now v c.in-Some.ensures c.as_slice.ensures in
     let asked = rw c.in-Asks.is at c.in_ok-answer.ensures in
     let h = Changes-by_switch c.args.dpid c.args.bytes.now (g.W.World.seen c.args.world.now) (g.W.World.seen c.make.new.world) c.args.self.now c.make.new.self c.make.result asked.1.0 c.in-Asks.flow
-    (knows ∙ asked.0) asked.1.1 c.make.ensures.result c.make.ensures.continues c.make.ensures.links c.make.ensures.no_strays c.make.ensures.cause c.make.ensures.ports c.make.ensures.moment c.make.ensures.room c.make.ensures.flooded in
+    (knows ∙ asked.0) asked.1.1 c.make.ensures.result (speaks_on c.make.ensures.speaks) (speaks_links c.make.ensures.speaks) (speaks_place c.make.ensures.speaks) c.make.ensures.cause c.make.ensures.ports c.make.ensures.moment c.make.ensures.room c.make.ensures.flooded in
     record { changes = h; reached = Changes-reaches h; in_step = Changes-steps h }
 
 pub returns-in_err-answer-clause-changes : goal.returns-in_err-answer-clause-changes

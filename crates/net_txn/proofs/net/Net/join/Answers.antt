@@ -1,14 +1,16 @@
-use Rattle.std.proofs.Common.{◌≡◌, ℕ, ap, ◌∙◌}
+use Rattle.std.proofs.Common.{rules, ◌≡◌, ℕ, [], ◌∷◌, ap, ◌∙◌}
 use Rattle.std.proofs.lemmas.Result.{err_from_is_err_and}
-use Rattle.of_wire.specs.declared.message.Message.TheVariants.{SetConfig}
+use Rattle.of_wire.specs.declared.message.Message.TheVariants.{FlowMod, SetConfig}
 use Rattle.of_wire.specs.Spelling.{message_bytes}
 use Rattle.flow_table.specs.Switch.{first_config}
 use Rattle.lego_model.specs.declared.wait.Awaited.{Awaited}
+use Rattle.lego_model.specs.BarrierWaits.{next_xid}
+use Rattle.net_txn.specs.Joining.{delete_all, greeted_from, with_view}
 use Rattle.net_txn.specs.Net.{NetState}
 use Rattle.net_txn.specs.laws.WaitLaws.{waits_kept}
 use Rattle.net_txn.specs.laws.ChangeLaws.{kept_for}
-use Rattle.net_txn.specs.laws.JoiningFaultLaws.{greeted_flooded}
-use Rattle.net_txn.specs.laws.LinkStrayLaws.{no_strays_none}
+use Rattle.net_txn.specs.laws.JoiningFaultLaws.{greeted_flooded, greeted_waits}
+use Rattle.net_txn.specs.laws.TalkLaws.{speaks_none, talks_speak, talks_waits, talks_cause, talks_flooded, talks_kept}
 use Rattle.net_txn.proofs.net.Net.join.Goals as goal
 
 pub returns-in_err-admit-clause-err : goal.returns-in_err-admit-clause-err
@@ -18,7 +20,7 @@ returns-in_err-admit-clause-err g c =
     rw p.1 (record {
       views = c.in_err-admit.ensures.views_err ∙ c.reserve.ensures.items ∙ ap (λ (n : NetState). n.views) v;
       known = c.in_err-admit.ensures.ports_err ∙ c.reserve-2.ensures.items ∙ ap (λ (n : NetState). n.ports) v;
-      kept = kept_for c.args.dpid c.greeted-awaited.result.dpid _ c.args.self.now.kept c.greet.new.kept (ap (λ (a : Awaited). a.dpid) c.greeted-awaited.ensures) (ap (λ (n : NetState). n.kept) v) (waits_kept c.in_ok-greet.ensures.ok);
+      kept = kept_for c.args.dpid c.greeted-awaited.result.dpid _ c.args.self.now.kept c.greet.new.kept (ap (λ (a : Awaited). a.dpid) c.greeted-awaited.ensures) (ap (λ (n : NetState). n.kept) v) (waits_kept (talks_waits (c.as_slice.result.now ∷ c.as_slice-2.result.now ∷ []) c.in_ok-greet.ensures));
     })
 
 pub returns-in_err-greet-clause-flooded : goal.returns-in_err-greet-clause-flooded
@@ -26,16 +28,58 @@ returns-in_err-greet-clause-flooded g c =
     let p = err_from_is_err_and c.from_residual-in_err-greet.result c.from_residual-in_err-greet.ensures.1 in
     let x : c.self.inside.xid ≡ c.args.self.now.xid = ap (λ (n : NetState). n.xid) c.self.view_is in
     rw (p.1, p.2, ← x) (greeted_flooded g.W.World.Tells c.args.dpid c.self.inside.xid c.greeted-awaited.result c.as_slice.result.now c.as_slice-2.result.now (g.W.World.seen c.args.world.now) (g.W.World.seen c.greet.new.world) c.in_err-greet.field-0.0
-    c.greeted-awaited.ensures (c.as_slice.ensures ∙ c.in_ok-emptying.ensures.bytes) (c.as_slice-2.ensures ∙ c.configuring.ensures.bytes ∙ ap (λ (x : ℕ). message_bytes x (SetConfig first_config)) c.following.ensures.next) c.in_err-greet.ensures.flooded)
+    c.greeted-awaited.ensures (c.as_slice.ensures ∙ c.in_ok-emptying.ensures.bytes) (c.as_slice-2.ensures ∙ c.configuring.ensures.bytes ∙ ap (λ (x : ℕ). message_bytes x (SetConfig first_config)) c.following.ensures.next) (talks_flooded (c.as_slice.result.now ∷ c.as_slice-2.result.now ∷ []) c.in_err-greet.field-0.0 c.in_err-greet.ensures))
 
-pub returns-in_err-emptying-clause-no_strays : goal.returns-in_err-emptying-clause-no_strays
-returns-in_err-emptying-clause-no_strays g c = λ told keeps joined. no_strays_none (g.W.World.seen c.args.world.now)
+pub returns-in_err-greet-clause-cause : goal.returns-in_err-greet-clause-cause
+returns-in_err-greet-clause-cause g c =
+    let p = err_from_is_err_and c.from_residual-in_err-greet.result c.from_residual-in_err-greet.ensures.1 in
+    rw (p.1, p.2) (talks_cause c.args.dpid (c.as_slice.result.now ∷ c.as_slice-2.result.now ∷ []) c.in_err-greet.field-0.0 (ap (λ (a : Awaited). a.dpid) c.greeted-awaited.ensures) c.in_err-greet.ensures)
 
-pub returns-in_err-known-clause-no_strays : goal.returns-in_err-known-clause-no_strays
-returns-in_err-known-clause-no_strays g c = λ told keeps joined. no_strays_none (g.W.World.seen c.args.world.now)
+pub returns-in_err-greet-clause-err : goal.returns-in_err-greet-clause-err
+returns-in_err-greet-clause-err g c =
+    let p = err_from_is_err_and c.from_residual-in_err-greet.result c.from_residual-in_err-greet.ensures.1 in
+    let v = c.self.view_is in
+    rw p.1 (record {
+      views = c.reserve.ensures.items ∙ ap (λ (n : NetState). n.views) v;
+      known = c.reserve-2.ensures.items ∙ ap (λ (n : NetState). n.ports) v;
+      kept = kept_for c.args.dpid c.greeted-awaited.result.dpid _ c.args.self.now.kept c.greet.new.kept (ap (λ (a : Awaited). a.dpid) c.greeted-awaited.ensures) (ap (λ (n : NetState). n.kept) v) (talks_kept c.in_err-greet.ensures);
+    })
 
-pub returns-in_err-reserve-clause-no_strays : goal.returns-in_err-reserve-clause-no_strays
-returns-in_err-reserve-clause-no_strays g c = λ told keeps joined. no_strays_none (g.W.World.seen c.args.world.now)
+pub returns-in_err-greet-clause-speaks : goal.returns-in_err-greet-clause-speaks
+returns-in_err-greet-clause-speaks g c = talks_speak _ _ _ c.args.dpid (c.as_slice.result.now ∷ c.as_slice-2.result.now ∷ []) c.greet.result (ap (λ (a : Awaited). a.dpid) c.greeted-awaited.ensures) c.greet.ensures
 
-pub returns-in_err-reserve-2-clause-no_strays : goal.returns-in_err-reserve-2-clause-no_strays
-returns-in_err-reserve-2-clause-no_strays g c = λ told keeps joined. no_strays_none (g.W.World.seen c.args.world.now)
+pub returns-in_err-admit-clause-speaks : goal.returns-in_err-admit-clause-speaks
+returns-in_err-admit-clause-speaks g c = talks_speak _ _ _ c.args.dpid (c.as_slice.result.now ∷ c.as_slice-2.result.now ∷ []) c.greet.result (ap (λ (a : Awaited). a.dpid) c.greeted-awaited.ensures) c.greet.ensures
+
+pub returns-clause-speaks : goal.returns-clause-speaks
+returns-clause-speaks g c = talks_speak _ _ _ c.args.dpid (c.as_slice.result.now ∷ c.as_slice-2.result.now ∷ []) c.greet.result (ap (λ (a : Awaited). a.dpid) c.greeted-awaited.ensures) c.greet.ensures
+
+pub returns-in_err-emptying-clause-speaks : goal.returns-in_err-emptying-clause-speaks
+returns-in_err-emptying-clause-speaks g c = speaks_none g.W.World.Tells c.args.dpid (g.W.World.seen c.args.world.now)
+
+pub returns-in_err-known-clause-speaks : goal.returns-in_err-known-clause-speaks
+returns-in_err-known-clause-speaks g c = speaks_none g.W.World.Tells c.args.dpid (g.W.World.seen c.args.world.now)
+
+pub returns-in_err-reserve-clause-speaks : goal.returns-in_err-reserve-clause-speaks
+returns-in_err-reserve-clause-speaks g c = speaks_none g.W.World.Tells c.args.dpid (g.W.World.seen c.args.world.now)
+
+pub returns-in_err-reserve-2-clause-speaks : goal.returns-in_err-reserve-2-clause-speaks
+returns-in_err-reserve-2-clause-speaks g c = speaks_none g.W.World.Tells c.args.dpid (g.W.World.seen c.args.world.now)
+
+pub returns-clause-joins : goal.returns-clause-joins
+returns-clause-joins g c =
+    let v = c.self.view_is in
+    let first = c.as_slice.result.now in
+    let second = c.as_slice-2.result.now in
+    record {
+      answer = c.in_ok-greet.field-0;
+      waits = greeted_waits g.W.World.Tells c.args.dpid c.args.self.now.xid c.greeted-awaited.result first second (g.W.World.seen c.args.world.now) (g.W.World.seen c.greet.new.world) _ c.args.self.now.kept c.greet.new.kept c.in_ok-greet.field-0
+          (c.greeted-awaited.ensures ∙ ap (λ (n : NetState). greeted_from c.args.dpid n.xid) v)
+          (c.as_slice.ensures ∙ c.in_ok-emptying.ensures.bytes ∙ ap (λ (n : NetState). message_bytes n.xid (FlowMod delete_all)) v)
+          (c.as_slice-2.ensures ∙ c.configuring.ensures.bytes ∙ ap (λ (x : ℕ). message_bytes x (SetConfig first_config)) c.following.ensures.next ∙ ap (λ (n : NetState). message_bytes (next_xid n.xid) (SetConfig first_config)) v)
+          (ap (λ (n : NetState). n.kept) v)
+          (talks_waits (first ∷ second ∷ []) c.in_ok-greet.ensures);
+      views = search rules;
+      known = search rules;
+      xid = search rules;
+    }

@@ -1,4 +1,4 @@
-use Rattle.std.proofs.Common.{◌≡◌, ◌≤◌, ◌<◌, ◌^◌, None, Some, refl, ap, ◌∙◌, inl, inr, arith}
+use Rattle.std.proofs.Common.{◌≡◌, ◌≤◌, ◌<◌, ◌^◌, [], ◌∷◌, None, Some, refl, ap, ◌∙◌, inl, inr, arith}
 use Rattle.std.proofs.lemmas.Result.{err_from_is_err_and}
 use Rattle.lego_model.specs.declared.wait.Awaited.{Awaited}
 use Rattle.net_txn.specs.Views.{rows_after}
@@ -6,7 +6,7 @@ use Rattle.net_txn.specs.Net.{NetState, awaited_from}
 use Rattle.lego_model.specs.BarrierWaits.{next_xid}
 use Rattle.net_txn.specs.laws.WaitLaws.{waits_kept}
 use Rattle.net_txn.specs.laws.ChangeLaws.{sent_waits, given_up, kept_for, same_log, same_views, log_cut}
-use Rattle.net_txn.specs.laws.LinkStrayLaws.{no_strays_none}
+use Rattle.net_txn.specs.laws.TalkLaws.{speaks_none, talks_speak, talks_waits, talks_cause, talks_flooded, talks_kept}
 use Rattle.net_txn.proofs.net.Net.make.Goals as goal
 
 pub returns-in_err-put_added-in-None-clause-result : goal.returns-in_err-put_added-in-None-clause-result
@@ -16,7 +16,7 @@ returns-in_err-put_added-in-None-clause-result g c =
     rw p.1 (inr (record {
       views = inl (c.in_err-put_added-in-None.ensures.err ∙ c.make_room.ensures ∙ ap (λ (n : NetState). n.views) v);
       log = c.in_ok-push_logged.ensures.ok ∙ same_log _ _ _ _ c.in_ok-frame.ensures.logged (ap (λ (n : NetState). n.log) v);
-      kept = kept_for c.args.dpid c.await_from-awaited.result.dpid _ c.args.self.now.kept c.ask.new.kept (ap (λ (a : Awaited). a.dpid) c.await_from-awaited.ensures) (ap (λ (n : NetState). n.kept) v) (waits_kept c.in_ok-refusal.ensures.ok);
+      kept = kept_for c.args.dpid c.await_from-awaited.result.dpid _ c.args.self.now.kept c.ask.new.kept (ap (λ (a : Awaited). a.dpid) c.await_from-awaited.ensures) (ap (λ (n : NetState). n.kept) v) (waits_kept (talks_waits (c.as_slice.result.now ∷ []) c.in_ok-refusal.ensures));
     }))
 
 pub returns-in-None-clause-result : goal.returns-in-None-clause-result
@@ -30,7 +30,7 @@ returns-in-None-clause-result g c =
       is_xid = is_xid;
       refusal = None;
       waits = sent_waits c.args.dpid c.args.flow c.args.self.now c.await_from-awaited.result c.as_slice.result.now _ c.ask.new.kept (g.W.World.seen c.args.world.now) (g.W.World.seen c.ask.new.world) None
-          a (c.as_slice.ensures ∙ c.in_ok-frame.ensures.frame) (ap (λ (n : NetState). n.kept) v) (rw c.in-None.is at c.in_ok-refusal.ensures.ok);
+          a (c.as_slice.ensures ∙ c.in_ok-frame.ensures.frame) (ap (λ (n : NetState). n.kept) v) (talks_waits (c.as_slice.result.now ∷ []) (rw c.in-None.is at c.in_ok-refusal.ensures));
       answer_so = refl;
       views = c.in_ok-put_added-in-None.ensures.ok ∙ same_views c.args.dpid _ _ _ _ c.in_ok-frame.ensures.row (c.make_room.ensures ∙ ap (λ (n : NetState). n.views) v);
       log = c.in_ok-push_logged.ensures.ok ∙ same_log _ _ _ _ c.in_ok-frame.ensures.logged (ap (λ (n : NetState). n.log) v);
@@ -47,7 +47,7 @@ returns-clause-result g c =
       is_xid = is_xid;
       refusal = Some c.in-Some.refusal;
       waits = sent_waits c.args.dpid c.args.flow c.args.self.now c.await_from-awaited.result c.as_slice.result.now _ c.ask.new.kept (g.W.World.seen c.args.world.now) (g.W.World.seen c.ask.new.world) (Some c.in-Some.refusal)
-          a (c.as_slice.ensures ∙ c.in_ok-frame.ensures.frame) (ap (λ (n : NetState). n.kept) v) (rw c.in-Some.is at c.in_ok-refusal.ensures.ok);
+          a (c.as_slice.ensures ∙ c.in_ok-frame.ensures.frame) (ap (λ (n : NetState). n.kept) v) (talks_waits (c.as_slice.result.now ∷ []) (rw c.in-Some.is at c.in_ok-refusal.ensures));
       answer_so = refl;
       views = c.make_room.ensures ∙ ap (λ (n : NetState). n.views) v;
       log = c.truncate.ensures.items ∙ log_cut _ c.self.inside.log.items _ c.len-before.result (c.len-before.ensures ∙ c.self.inside.log.ok.0) c.in_ok-push_logged.ensures.ok ∙ ap (λ (n : NetState). n.log) v;
@@ -61,13 +61,40 @@ returns-in_err-refusal-clause-flooded g c =
     let a : c.await_from-awaited.result ≡ awaited_from c.args.dpid c.args.self.now.xid = c.await_from-awaited.ensures ∙ ap (λ (n : NetState). awaited_from c.args.dpid n.xid) v in
     let small : c.args.self.now.xid < 2 ^ 32 = rw (← ap (λ (n : NetState). n.xid) v) (omega arith) in
     rw (p.1, p.2) (given_up g.W.World.Tells c.args.dpid c.args.flow c.args.self.now c.await_from-awaited.result c.as_slice.result.now (g.W.World.seen c.args.world.now) (g.W.World.seen c.ask.new.world) c.in_err-refusal.field-0.0
-    a (c.as_slice.ensures ∙ c.in_ok-frame.ensures.frame) c.requires small c.in_err-refusal.ensures.flooded)
+    a (c.as_slice.ensures ∙ c.in_ok-frame.ensures.frame) c.requires small (talks_flooded (c.as_slice.result.now ∷ []) c.in_err-refusal.field-0.0 c.in_err-refusal.ensures))
 
-pub returns-in_err-frame-clause-no_strays : goal.returns-in_err-frame-clause-no_strays
-returns-in_err-frame-clause-no_strays g c = λ told keeps joined. no_strays_none (g.W.World.seen c.args.world.now)
+pub returns-in_err-refusal-clause-result : goal.returns-in_err-refusal-clause-result
+returns-in_err-refusal-clause-result g c =
+    let p = err_from_is_err_and c.from_residual-in_err-refusal.result c.from_residual-in_err-refusal.ensures.1 in
+    let v = c.self.view_is in
+    rw p.1 (inr (record {
+      views = inl (c.make_room.ensures ∙ ap (λ (n : NetState). n.views) v);
+      log = c.in_ok-push_logged.ensures.ok ∙ same_log _ _ _ _ c.in_ok-frame.ensures.logged (ap (λ (n : NetState). n.log) v);
+      kept = kept_for c.args.dpid c.await_from-awaited.result.dpid _ c.args.self.now.kept c.ask.new.kept (ap (λ (a : Awaited). a.dpid) c.await_from-awaited.ensures) (ap (λ (n : NetState). n.kept) v) (talks_kept c.in_err-refusal.ensures);
+    }))
 
-pub returns-in_err-make_room-clause-no_strays : goal.returns-in_err-make_room-clause-no_strays
-returns-in_err-make_room-clause-no_strays g c = λ told keeps joined. no_strays_none (g.W.World.seen c.args.world.now)
+pub returns-in_err-refusal-clause-cause : goal.returns-in_err-refusal-clause-cause
+returns-in_err-refusal-clause-cause g c =
+    let p = err_from_is_err_and c.from_residual-in_err-refusal.result c.from_residual-in_err-refusal.ensures.1 in
+    rw (p.1, p.2) (talks_cause c.args.dpid (c.as_slice.result.now ∷ []) c.in_err-refusal.field-0.0 (ap (λ (a : Awaited). a.dpid) c.await_from-awaited.ensures) c.in_err-refusal.ensures)
 
-pub returns-in_err-push_logged-clause-no_strays : goal.returns-in_err-push_logged-clause-no_strays
-returns-in_err-push_logged-clause-no_strays g c = λ told keeps joined. no_strays_none (g.W.World.seen c.args.world.now)
+pub returns-in_err-refusal-clause-speaks : goal.returns-in_err-refusal-clause-speaks
+returns-in_err-refusal-clause-speaks g c = talks_speak _ _ _ c.args.dpid (c.as_slice.result.now ∷ []) c.ask.result (ap (λ (a : Awaited). a.dpid) c.await_from-awaited.ensures) c.ask.ensures
+
+pub returns-in_err-put_added-in-None-clause-speaks : goal.returns-in_err-put_added-in-None-clause-speaks
+returns-in_err-put_added-in-None-clause-speaks g c = talks_speak _ _ _ c.args.dpid (c.as_slice.result.now ∷ []) c.ask.result (ap (λ (a : Awaited). a.dpid) c.await_from-awaited.ensures) c.ask.ensures
+
+pub returns-in-None-clause-speaks : goal.returns-in-None-clause-speaks
+returns-in-None-clause-speaks g c = talks_speak _ _ _ c.args.dpid (c.as_slice.result.now ∷ []) c.ask.result (ap (λ (a : Awaited). a.dpid) c.await_from-awaited.ensures) c.ask.ensures
+
+pub returns-clause-speaks : goal.returns-clause-speaks
+returns-clause-speaks g c = talks_speak _ _ _ c.args.dpid (c.as_slice.result.now ∷ []) c.ask.result (ap (λ (a : Awaited). a.dpid) c.await_from-awaited.ensures) c.ask.ensures
+
+pub returns-in_err-frame-clause-speaks : goal.returns-in_err-frame-clause-speaks
+returns-in_err-frame-clause-speaks g c = speaks_none g.W.World.Tells c.args.dpid (g.W.World.seen c.args.world.now)
+
+pub returns-in_err-make_room-clause-speaks : goal.returns-in_err-make_room-clause-speaks
+returns-in_err-make_room-clause-speaks g c = speaks_none g.W.World.Tells c.args.dpid (g.W.World.seen c.args.world.now)
+
+pub returns-in_err-push_logged-clause-speaks : goal.returns-in_err-push_logged-clause-speaks
+returns-in_err-push_logged-clause-speaks g c = speaks_none g.W.World.Tells c.args.dpid (g.W.World.seen c.args.world.now)

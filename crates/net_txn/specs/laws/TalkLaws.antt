@@ -1,0 +1,260 @@
+-- Laws of a message, a barrier behind it and the wait for its reply: what was said is of links alone and in place, and why it failed.
+use Rattle.std.specs.Prelude.{◌≡◌, ℕ, ◌==◌, Bool, true, false, List, [], ◌∷◌, ◌++◌, length, take, ◌⊎◌, Option, Some, None, Result, Ok, Err, IfErr, IfOk, OnOk, OnErr, refl, if◌then◌else◌}
+use Rattle.std.specs.List.{AllByRecursion}
+use Rattle.std.proofs.Common.{sym, ap, ◌∙◌, subst, append_assoc, inl, inr}
+use Rattle.std.proofs.lemmas.List.{append-nil}
+use Rattle.of_types.specs.Fields.{number_at}
+use Rattle.of_types.specs.declared.journal.Act.TheVariants.{Got}
+use Rattle.of_match.specs.declared.key.Key.{Key}
+use Rattle.outside.specs.declared.step.WorldStep.{WorldStep}
+use Rattle.outside.specs.declared.step.WorldStep.TheVariants.{Acted}
+use Rattle.outside.specs.Seen.{Seen, Continues}
+use Rattle.outside.specs.State.{state}
+use Rattle.outside.specs.laws.InOrderLaws.{InOrder-rest}
+use Rattle.lego_model.specs.declared.fault.TxnFault.{TxnFault}
+use Rattle.lego_model.specs.declared.fault.TxnFault.TheVariants.{NoMemory}
+use Rattle.lego_model.specs.declared.wait.Awaited.{Awaited}
+use Rattle.lego_model.specs.declared.wait.Refusal.{Refusal}
+use Rattle.lego_model.specs.BarrierWaits.{flood, wait_steps, barrier_sent, reply_got}
+use Rattle.net_txn.specs.declared.queue.Storage.TheVariants.{Growing}
+use Rattle.net_txn.specs.declared.trouble.Trouble.{Trouble}
+use Rattle.net_txn.specs.declared.trouble.Trouble.TheVariants as troubles
+use Rattle.net_txn.specs.LinkSteps.{OnLinks, GoesWithoutStrays, AsksWithoutStrays}
+use Rattle.net_txn.specs.Causes.{EndsByGot, IsCause, IsLinkCause}
+use Rattle.net_txn.specs.Waits.{Waits, IfFlooded, KeptMore}
+use Rattle.net_txn.specs.Undos.{key_sent, key_refused, fault_by}
+use Rattle.net_txn.specs.Said.{Said, Says, HearsNoise, Speaks, said_steps, IsSaid, Calls, unsaid, wait_said, last_said, IsOfLink, IsBreak, frames_said, barrier_of, reply_heard, Replied, Breaks, BreaksBy, Talks, SaysNot, SaysTo}
+use Rattle.net_txn.specs.laws.WaitLaws.{kept_of_more}
+use Rattle.net_txn.specs.laws.LinkStepLaws.{links_append, wait_links}
+use Rattle.net_txn.specs.laws.LinkStrayLaws.{sure_settled, no_strays_by}
+use Rattle.net_txn.specs.laws.UndoWithoutStraysLaws.{goes_none, goes_append, goes_sure}
+use Rattle.net_txn.specs.laws.SaidLaws.{all_behind, steps_append, Calls-none, Calls-links, whole_steps, frames_go, unsaid_goes, whole_goes}
+use Rattle.net_txn.specs.laws.ExchangeLaws.{replied_behind, breaks_behind}
+
+-- ---- A message before
+
+pub talks_behind : {Own : Type 0} {Tells : Type 0} {old mid : Seen Own} (a : Awaited) (first : List (List ℕ)) (new : Seen Own) (kept now_kept : List (ℕ × List ℕ)) (frame : List ℕ) (result : Result (Option Refusal) TxnFault)
+    → Calls Tells a.dpid (Says a.dpid frame ∷ []) old mid → Talks Tells a first mid new kept now_kept result → Talks Tells a (frame ∷ first) old new kept now_kept result
+talks_behind a first new kept now_kept frame (Ok answer) before t = replied_behind frame before t
+talks_behind a first new kept now_kept frame (Err fault) before t = record { trouble = t.trouble; buf = t.buf; breaks = breaks_behind frame before t.breaks; fault_so = t.fault_so }
+
+pub talks_not : {Own : Type 0} {Tells : Type 0} {a : Awaited} {old new : Seen Own} (first : List (List ℕ)) (kept : List (ℕ × List ℕ)) (fault : TxnFault) → SaysNot Tells a.dpid old new fault → BreaksBy Tells a (first ++ barrier_of a ∷ []) old new kept kept fault
+talks_not {a = a} first kept fault s = record {
+  trouble = s.trouble;
+  buf = s.buf;
+  breaks = inl (record { first = []; rest = first ++ barrier_of a ∷ []; frames_so = refl; why = s.why; calls = s.calls; kept_so = refl });
+  fault_so = s.fault_so;
+}
+
+-- ---- What was said
+
+pub speaks_none : {Own : Type 0} (Tells : Type 0) (d : ℕ) (seen : Seen Own) → Speaks Tells d seen seen
+speaks_none Tells d seen = record { said = []; calls = Calls-none Tells d seen; goes = goes_none d }
+
+replied_speaks : {Own : Type 0} {Tells : Type 0} (a : Awaited) (first : List (List ℕ)) (old new : Seen Own) (kept now_kept : List (ℕ × List ℕ)) (answer : Option Refusal)
+    → Replied Tells a (first ++ barrier_of a ∷ []) Growing [] old new kept now_kept answer → Speaks Tells a.dpid old new
+replied_speaks a first old new kept now_kept answer r =
+    let d = a.dpid in
+    let settled = barrier_sent a ∷ (wait_steps a r.got ++ reply_got a ∷ []) in
+    record {
+      said = frames_said d (first ++ barrier_of a ∷ []) ++ (wait_said a r.got ++ reply_heard a ∷ []);
+      calls = r.calls;
+      goes = subst (GoesWithoutStrays d) (sym (whole_steps a first r.got (reply_heard a ∷ [])))
+          (goes_append d (said_steps (frames_said d first)) settled (frames_go d first)
+          (goes_sure d settled (refl, links_append (wait_steps a r.got) (reply_got a ∷ []) (wait_links a r.got) (refl, tt)) (sure_settled a r.got)));
+    }
+
+pub unsent_goes : (d : ℕ) (frames : List (List ℕ)) (t : Trouble) → GoesWithoutStrays d (said_steps (frames_said d frames ++ unsaid d t))
+unsent_goes d frames t = subst (GoesWithoutStrays d) (sym (steps_append (frames_said d frames) (unsaid d t))) (unsaid_goes d (said_steps (frames_said d frames)) t (frames_go d frames))
+
+breaks_speaks : {Own : Type 0} {Tells : Type 0} (a : Awaited) (first : List (List ℕ)) (old new : Seen Own) (kept now_kept : List (ℕ × List ℕ)) (buf : List ℕ) (t : Trouble)
+    → Breaks Tells a (first ++ barrier_of a ∷ []) Growing [] old new kept now_kept buf t → Speaks Tells a.dpid old new
+breaks_speaks a first old new kept now_kept buf t (inl u) = record { said = frames_said a.dpid u.first ++ unsaid a.dpid t; calls = u.calls; goes = unsent_goes a.dpid u.first t }
+breaks_speaks a first old new kept now_kept buf t (inr u) = record {
+  said = frames_said a.dpid (first ++ barrier_of a ∷ []) ++ (wait_said a u.got ++ last_said a.dpid u.by t buf);
+  calls = u.calls;
+  goes = whole_goes a first u.got u.by t buf u.is_xid u.before.before_reply;
+}
+
+pub talks_speak : {Own : Type 0} {Tells : Type 0} {old new : Seen Own} (a : Awaited) (kept now_kept : List (ℕ × List ℕ)) (d : ℕ) (first : List (List ℕ)) (result : Result (Option Refusal) TxnFault) → a.dpid ≡ d
+    → Talks Tells a first old new kept now_kept result → Speaks Tells d old new
+talks_speak {Tells = Tells} {old = old} {new = new} a kept now_kept d first (Ok answer) is r =
+    subst (λ (x : ℕ). Speaks Tells x old new) is (replied_speaks a first old new kept now_kept answer r)
+talks_speak {Tells = Tells} {old = old} {new = new} a kept now_kept d first (Err fault) is b =
+    subst (λ (x : ℕ). Speaks Tells x old new) is (breaks_speaks a first old new kept now_kept b.buf b.trouble b.breaks)
+
+-- one message alone
+pub says_speak : {Own T : Type 0} {Tells : Type 0} {d : ℕ} {old new : Seen Own} (frame : List ℕ) (result : Result T TxnFault) → SaysTo Tells d frame old new result → Speaks Tells d old new
+says_speak {d = d} frame (Ok x) c = record { said = frames_said d (frame ∷ []); calls = c; goes = frames_go d (frame ∷ []) }
+says_speak {d = d} frame (Err fault) s = record { said = unsaid d s.trouble; calls = s.calls; goes = unsent_goes d [] s.trouble }
+
+-- ---- So of links alone, and in place
+
+pub speaks_on : {Own : Type 0} {Tells : Type 0} {d : ℕ} {old new : Seen Own} → Speaks Tells d old new → Continues Tells old new
+speaks_on p = p.calls.continues
+
+pub speaks_links : {Own : Type 0} {Tells : Type 0} {d : ℕ} {old new : Seen Own} → Speaks Tells d old new → OnLinks Tells old new
+speaks_links p = Calls-links p.calls
+
+pub speaks_place : {Own : Type 0} {Tells : Type 0} {d : ℕ} {old new : Seen Own} → Speaks Tells d old new → AsksWithoutStrays Tells d old new
+speaks_place {d = d} {old = old} {new = new} p told order joined =
+    let steps = said_steps p.said in
+    let history = p.calls.told told in
+    no_strays_by old new steps history (p.goes old.given.declared (state old) (InOrder-rest old new steps p.calls.continues.given history order) joined).places
+
+-- ---- The reply
+
+-- what was sent before the wait
+abbrev pub front_steps : Awaited → List (List ℕ) → List WorldStep
+front_steps a first = said_steps (frames_said a.dpid first) ++ barrier_sent a ∷ []
+
+pub talks_waits : {Own : Type 0} {Tells : Type 0} {a : Awaited} {old new : Seen Own} {kept now_kept : List (ℕ × List ℕ)} {answer : Option Refusal} (first : List (List ℕ))
+    → Replied Tells a (first ++ barrier_of a ∷ []) Growing [] old new kept now_kept answer → Waits Tells a (front_steps a first) old new kept now_kept answer
+talks_waits {a = a} {old = old} first r = record {
+  got = r.got;
+  few = r.few;
+  hears = record {
+    continues = r.calls.continues;
+    read = r.before.read;
+    before_reply = r.before.before_reply;
+    kept_so = r.kept_so;
+    answer_so = r.answer_so;
+    told = λ t. r.calls.told t ∙ ap (λ (s : List WorldStep). old.history ++ s) (whole_steps a first r.got (reply_heard a ∷ [])
+        ∙ sym (append_assoc (said_steps (frames_said a.dpid first)) (barrier_sent a ∷ []) (wait_steps a r.got ++ reply_got a ∷ [])));
+  };
+}
+
+pub talks_ok : {Own : Type 0} (Tells : Type 0) (a : Awaited) (old new : Seen Own) (kept now_kept : List (ℕ × List ℕ)) (first : List (List ℕ)) (result : Result (Option Refusal) TxnFault) → Talks Tells a first old new kept now_kept result
+    → IfOk result (Waits Tells a (front_steps a first) old new kept now_kept)
+talks_ok Tells a old new kept now_kept first (Ok answer) t = talks_waits first t
+talks_ok Tells a old new kept now_kept first (Err fault) t = tt
+
+-- ---- Why it failed
+
+unsent_cause : {Own : Type 0} {Tells : Type 0} (d : ℕ) (frames : List (List ℕ)) (old new : Seen Own) (t : Trouble) (buf : List ℕ) → IsOfLink t → Calls Tells d (frames_said d frames ++ unsaid d t) old new → IsLinkCause d old new (fault_by d t buf)
+unsent_cause d frames old new troubles.Link buf why c = (refl, (all_behind (IsSaid d old.counts new.counts) (frames_said d frames) (unsaid d troubles.Link) c.each).0.1)
+unsent_cause d frames old new (troubles.Broke n) buf why c = absurd why
+unsent_cause d frames old new (troubles.Refused k x n) buf why c = absurd why
+unsent_cause d frames old new troubles.Flooded buf why c = absurd why
+unsent_cause d frames old new troubles.Short buf why c = tt
+unsent_cause d frames old new troubles.Full buf why c = absurd why
+
+unsent_is : {Own : Type 0} (Tells : Type 0) (d : ℕ) (old new : Seen Own) (t : Trouble) (buf : List ℕ) → IsOfLink t → IsLinkCause d old new (fault_by d t buf) → IsCause Tells d old new (fault_by d t buf)
+unsent_is Tells d old new troubles.Link buf why cause = cause
+unsent_is Tells d old new (troubles.Broke n) buf why cause = absurd why
+unsent_is Tells d old new (troubles.Refused k x n) buf why cause = absurd why
+unsent_is Tells d old new troubles.Flooded buf why cause = absurd why
+unsent_is Tells d old new troubles.Short buf why cause = tt
+unsent_is Tells d old new troubles.Full buf why cause = absurd why
+
+-- the last of what was said
+pub last_of : {Own : Type 0} {Tells : Type 0} {d : ℕ} {old new : Seen Own} (xs ys last : List Said) → Calls Tells d (xs ++ (ys ++ last)) old new → AllByRecursion (IsSaid d old.counts new.counts) last
+last_of {d = d} {old = old} {new = new} xs ys last c =
+    all_behind (IsSaid d old.counts new.counts) ys last (all_behind (IsSaid d old.counts new.counts) xs (ys ++ last) c.each)
+
+ends_by : {Own : Type 0} {Tells : Type 0} {d : ℕ} {old new : Seen Own} (xs ys : List Said) (bytes : List ℕ) → Calls Tells d (xs ++ (ys ++ HearsNoise d bytes ∷ [])) old new → Tells → EndsByGot d bytes old.history new.history
+ends_by {d = d} {old = old} xs ys bytes c told =
+    let last = Acted (Got d bytes) ∷ [] in (
+      said_steps xs ++ said_steps ys,
+      c.told told ∙ ap (λ (s : List WorldStep). old.history ++ s) (steps_append xs (ys ++ HearsNoise d bytes ∷ []) ∙ ap (λ (s : List WorldStep). said_steps xs ++ s) (steps_append ys (HearsNoise d bytes ∷ []))
+          ∙ sym (append_assoc (said_steps xs) (said_steps ys) last)),
+    )
+
+-- nothing was to be undone
+none_refused : (bytes : List ℕ) (key : Key) → key_refused [] bytes ≡ Some key → ⊥
+unfolding key_refused
+none_refused bytes key is = neither (number_at 1 1 bytes == 1) is
+  where
+    neither : (b : Bool) → (if b then key_sent (number_at 4 4 bytes) [] else None) ≡ Some key → ⊥
+    neither true is = absurd cc
+    neither false is = absurd cc
+
+unreplied_cause : {Own : Type 0} {Tells : Type 0} (d : ℕ) (xs ys : List Said) (old new : Seen Own) (n : ℕ) (by : Option (List ℕ)) (t : Trouble) (buf : List ℕ) → IsBreak [] Growing n by t buf → Calls Tells d (xs ++ (ys ++ last_said d by t buf)) old new
+    → IsCause Tells d old new (fault_by d t buf)
+unreplied_cause d xs ys old new n None troubles.Link buf why c = (refl, (last_of xs ys _ c).0.1)
+unreplied_cause d xs ys old new n None (troubles.Broke m) buf why c = (refl, (last_of xs ys _ c).0.1, ends_by xs ys (take m buf) c)
+unreplied_cause d xs ys old new n None (troubles.Refused k x m) buf why c = absurd why
+unreplied_cause d xs ys old new n None troubles.Flooded buf why c = (refl, refl)
+unreplied_cause d xs ys old new n None troubles.Short buf why c = tt
+unreplied_cause d xs ys old new n None troubles.Full buf why c = tt
+unreplied_cause d xs ys old new n (Some b) troubles.Link buf why c = (refl, (last_of xs ys _ c).1.0.1)
+unreplied_cause d xs ys old new n (Some b) (troubles.Broke m) buf why c = absurd why
+unreplied_cause d xs ys old new n (Some b) (troubles.Refused k x m) buf why c = absurd (none_refused b k why.1)
+unreplied_cause d xs ys old new n (Some b) troubles.Flooded buf why c = absurd why
+unreplied_cause d xs ys old new n (Some b) troubles.Short buf why c = tt
+unreplied_cause d xs ys old new n (Some b) troubles.Full buf why c = tt
+
+breaks_cause : {Own : Type 0} {Tells : Type 0} (a : Awaited) (frames : List (List ℕ)) (old new : Seen Own) (kept now_kept : List (ℕ × List ℕ)) (buf : List ℕ) (t : Trouble) → Breaks Tells a frames Growing [] old new kept now_kept buf t
+    → IsCause Tells a.dpid old new (fault_by a.dpid t buf)
+breaks_cause {Tells = Tells} a frames old new kept now_kept buf t (inl u) = unsent_is Tells a.dpid old new t buf u.why (unsent_cause a.dpid u.first old new t buf u.why u.calls)
+breaks_cause a frames old new kept now_kept buf t (inr u) = unreplied_cause a.dpid (frames_said a.dpid frames) (wait_said a u.got) old new (length u.got) u.by t buf u.why u.calls
+
+-- a fault, or want of memory for it
+fault_or : (P : TxnFault → Type 0) (fault is : TxnFault) → (fault ≡ is) ⊎ (fault ≡ NoMemory) → P is → P NoMemory → P fault
+fault_or P fault is (inl same) holds none = subst P (sym same) holds
+fault_or P fault is (inr same) holds none = subst P (sym same) none
+
+pub talks_cause : {Own : Type 0} {Tells : Type 0} {a : Awaited} {old new : Seen Own} {kept now_kept : List (ℕ × List ℕ)} (d : ℕ) (first : List (List ℕ)) (fault : TxnFault) → a.dpid ≡ d → BreaksBy Tells a (first ++ barrier_of a ∷ []) old new kept now_kept fault
+    → IsCause Tells d old new fault
+talks_cause {Tells = Tells} {a = a} {old = old} {new = new} {kept = kept} {now_kept = now_kept} d first fault is b =
+    subst (λ (x : ℕ). IsCause Tells x old new fault) is
+    (fault_or (IsCause Tells a.dpid old new) fault (fault_by a.dpid b.trouble b.buf) b.fault_so (breaks_cause a (first ++ barrier_of a ∷ []) old new kept now_kept b.buf b.trouble b.breaks) tt)
+
+pub says_cause : {Own T : Type 0} (Tells : Type 0) (d : ℕ) (frame : List ℕ) (old new : Seen Own) (result : Result T TxnFault) → SaysTo Tells d frame old new result → IfErr result (IsLinkCause d old new)
+says_cause Tells d frame old new (Ok x) c = tt
+says_cause Tells d frame old new (Err fault) s = fault_or (IsLinkCause d old new) fault (fault_by d s.trouble s.buf) s.fault_so (unsent_cause d [] old new s.trouble s.buf s.why s.calls) tt
+
+pub says_told : {Own T : Type 0} (Tells : Type 0) (d : ℕ) (frame bytes : List ℕ) (old new : Seen Own) (result : Result T TxnFault) → frame ≡ bytes → SaysTo Tells d frame old new result → Tells → OnOk result (new.history ≡ old.history ++ said_steps (frames_said d (bytes ∷ [])))
+says_told Tells d frame bytes old new (Ok x) same c told = c.told told ∙ ap (λ (b : List ℕ). old.history ++ said_steps (frames_said d (b ∷ []))) same
+says_told Tells d frame bytes old new (Err fault) same s told = tt
+
+-- ---- A flood
+
+flooded_by : {Own : Type 0} {Tells : Type 0} (a : Awaited) (first : List (List ℕ)) (old new : Seen Own) (kept now_kept : List (ℕ × List ℕ)) (buf : List ℕ) (t : Trouble) → Breaks Tells a (first ++ barrier_of a ∷ []) Growing [] old new kept now_kept buf t
+    → IfFlooded Tells a (front_steps a first) old new (fault_by a.dpid t buf)
+flooded_by a first old new kept now_kept buf troubles.Link b = tt
+flooded_by a first old new kept now_kept buf (troubles.Broke n) b = tt
+flooded_by a first old new kept now_kept buf (troubles.Refused k x n) b = tt
+flooded_by a first old new kept now_kept buf troubles.Flooded (inl u) = absurd u.why
+flooded_by a first old new kept now_kept buf troubles.Flooded (inr u) = record {
+  got = u.got;
+  many = many u.by u.why;
+  before_reply = u.before.before_reply;
+  continues = u.calls.continues;
+  told = λ t. u.calls.told t ∙ ap (λ (s : List WorldStep). old.history ++ s) (whole_steps a first u.got (last_said a.dpid u.by troubles.Flooded buf)
+      ∙ ap (λ (s : List WorldStep). said_steps (frames_said a.dpid first) ++ (barrier_sent a ∷ s)) (ap (λ (s : List WorldStep). wait_steps a u.got ++ s) (none_last u.by u.why) ∙ append-nil (wait_steps a u.got))
+      ∙ sym (append_assoc (said_steps (frames_said a.dpid first)) (barrier_sent a ∷ []) (wait_steps a u.got)));
+}
+  where
+    many : (by : Option (List ℕ)) → IsBreak [] Growing (length u.got) by troubles.Flooded buf → length u.got ≡ flood
+    many None why = why
+    many (Some b) why = absurd why
+
+    none_last : (by : Option (List ℕ)) → IsBreak [] Growing (length u.got) by troubles.Flooded buf → said_steps (last_said a.dpid by troubles.Flooded buf) ≡ []
+    none_last None why = refl
+    none_last (Some b) why = absurd why
+flooded_by a first old new kept now_kept buf troubles.Short b = tt
+flooded_by a first old new kept now_kept buf troubles.Full b = tt
+
+pub talks_flooded : {Own : Type 0} {Tells : Type 0} {a : Awaited} {old new : Seen Own} {kept now_kept : List (ℕ × List ℕ)} (first : List (List ℕ)) (fault : TxnFault) → BreaksBy Tells a (first ++ barrier_of a ∷ []) old new kept now_kept fault
+    → IfFlooded Tells a (front_steps a first) old new fault
+talks_flooded {Tells = Tells} {a = a} {old = old} {new = new} {kept = kept} {now_kept = now_kept} first fault b =
+    fault_or (IfFlooded Tells a (front_steps a first) old new) fault (fault_by a.dpid b.trouble b.buf) b.fault_so (flooded_by a first old new kept now_kept b.buf b.trouble b.breaks) tt
+
+-- ---- What was kept
+
+none_more : (d : ℕ) (kept now : List (ℕ × List ℕ)) → now ≡ kept → KeptMore d kept now
+none_more d kept now same = ([], same ∙ sym (append-nil kept))
+
+breaks_kept : {Own : Type 0} {Tells : Type 0} (a : Awaited) (frames : List (List ℕ)) (old new : Seen Own) (kept now_kept : List (ℕ × List ℕ)) (buf : List ℕ) (t : Trouble) → Breaks Tells a frames Growing [] old new kept now_kept buf t → KeptMore a.dpid kept now_kept
+breaks_kept a frames old new kept now_kept buf t (inl u) = none_more a.dpid kept now_kept u.kept_so
+breaks_kept a frames old new kept now_kept buf t (inr u) =
+    let more = kept_of_more a u.got in
+    (more.0, u.kept_so ∙ ap (λ (s : List (ℕ × List ℕ)). kept ++ s) more.1)
+
+pub talks_kept : {Own : Type 0} {Tells : Type 0} {a : Awaited} {frames : List (List ℕ)} {old new : Seen Own} {kept now_kept : List (ℕ × List ℕ)} {fault : TxnFault} → BreaksBy Tells a frames old new kept now_kept fault → KeptMore a.dpid kept now_kept
+talks_kept {a = a} {frames = frames} {old = old} {new = new} {kept = kept} {now_kept = now_kept} b = breaks_kept a frames old new kept now_kept b.buf b.trouble b.breaks
+
+pub talks_err : {Own : Type 0} (Tells : Type 0) (a : Awaited) (old new : Seen Own) (kept now_kept : List (ℕ × List ℕ)) (first : List (List ℕ)) (result : Result (Option Refusal) TxnFault) → Talks Tells a first old new kept now_kept result → OnErr result (KeptMore a.dpid kept now_kept)
+talks_err Tells a old new kept now_kept first (Ok answer) t = tt
+talks_err Tells a old new kept now_kept first (Err fault) t = talks_kept t
