@@ -1,7 +1,7 @@
 //! Messages of OpenFlow 1.0 and frames of applications in plain words, a line each, with the standard's names.
 //!
 //! `MessageWords`, `AppWords` and `HostWords` are printed by `{}`. They take memory while they are printed, and no clause
-//! speaks of their text: docs/TRACE.md shows it, and the tests of `trace_world` have it.
+//! speaks of their text: docs/TRACE.md shows it.
 #![tactic(auto)]
 
 mod actions;

@@ -209,7 +209,9 @@ impl<K: Sink + Drop> Scribe<K> {
         let Some(mut unread) = self.take_unread(app) else {
             return self.write(format!(in self.alloc; "app {app} -> {count} bytes\n"));
         };
-        if unread.len().saturating_add(count) > MOST_UNREAD || unread.extend_from_slice(piece).is_err() {
+        if unread.len().saturating_add(count) > MOST_UNREAD
+            || unread.extend_from_slice(piece).is_err()
+        {
             return self.write(format!(in self.alloc;
                 "app {app} -> {count} bytes more than are kept\n"
             ));
