@@ -9,7 +9,7 @@ use Rattle.of_action.specs.declared.action.Action.TheVariants.{Output, SetVlanVi
 use Rattle.eth_key.specs.declared.ipv4.Ipv4Header.{Ipv4Header}
 use Rattle.eth_key.specs.Ethernet.{has_header, is_tagged}
 use Rattle.eth_key.specs.Ipv4.{IsWithin, ipv4_header, protocol, has_ports, is_fragment}
-use Rattle.eth_key.specs.Ipv4Laws.{IsWithin-ipv4_header}
+use Rattle.eth_key.specs.laws.Ipv4Laws.{IsWithin-ipv4_header}
 use Rattle.frame_edit.specs.Datagram.{header_checksum_place, header_checksum, with_header_checksum, segment_checksum, has_field, tcp_checksum_place, udp_checksum_place, nonzero, with_tcp_checksum, with_udp_checksum, with_segment_checksum, with_checksums, Verifies}
 use Rattle.frame_edit.specs.laws.DatagramLaws.{has_field-true}
 use Rattle.frame_edit.specs.Edits.{edited, rewritten, in_header, in_ipv4, tagged, with_control, without_tag, with_address, with_network_address, with_service, with_port}

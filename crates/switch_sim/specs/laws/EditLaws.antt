@@ -16,7 +16,7 @@ use Rattle.eth_key.specs.declared.ethernet.Payload.{Payload}
 use Rattle.eth_key.specs.declared.ipv4.Ipv4Header.{Ipv4Header}
 use Rattle.eth_key.specs.Ethernet.{has_header, is_tagged, payload_of, payload_behind, type_place, is_snap}
 use Rattle.eth_key.specs.Ipv4.{ipv4_header, header_in, header_at, is_header, protocol}
-use Rattle.eth_key.specs.Ipv4Laws.{IsWithin-ipv4_header}
+use Rattle.eth_key.specs.laws.Ipv4Laws.{IsWithin-ipv4_header}
 use Rattle.frame_edit.specs.Datagram.{tcp_checksum_place, udp_checksum_place}
 use Rattle.frame_edit.specs.Edits.{AreEdits, IsEdit, edited, tagged, with_control, with_identifier, with_priority, without_tag, with_address, with_network_address, with_service, with_port, output_of, outputs}
 use Rattle.frame_edit.specs.laws.FieldLaws.{length-with_field, number_at-with_field_later, number_at-with_field_earlier}
