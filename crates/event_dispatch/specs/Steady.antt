@@ -1,8 +1,9 @@
 -- What the engine keeps of a world that tells in order: no call of a link is a stray one, all bytes that came of switches were read where a part
--- of a run was done, and no quiescent point lies behind the one where a part began that was not. All of this is our own.
+-- of a run was done, and no quiescent point lies behind the one where a part began that was not; and of any world that tells: no other application
+-- is called, and none runs at last. All of this is our own.
 use Rattle.std.specs.Prelude.{◌≡◌, false, []}
 use Rattle.outside.specs.Seen.{Seen}
-use Rattle.outside.specs.State.{State, state, upcoming}
+use Rattle.outside.specs.State.{State, state, upcoming, is_running}
 use Rattle.outside.specs.InOrder.{InOrder, MessagesSince}
 use Rattle.outside.specs.Quiescence.{NoneQuiescentSince, IsLastQuiescent}
 use Rattle.net_txn.specs.Net.{NetState}
@@ -11,9 +12,10 @@ use Rattle.net_txn.specs.Abreast.{Abreast}
 use Rattle.app_visor.specs.CallsFor.{CallsFor}
 use Rattle.lego_model.specs.Application.{index}
 
--- however it ended: no call of a link was a stray one
+-- however it ended: no call of a link was a stray one, and none was for another application
 pub record NoStray {Own : Type 0} (Tells : Type 0) (old new : Seen Own) (net : NetState) : Type 0 where
   pub places : Tells → InOrder new → Abreast old net → MakesNoStrayCall old new
+  pub own : Tells → CallsFor index old new
 
 -- where it was done: the host keeps up with the switches, and what came of them are messages
 pub record Reads {Own : Type 0} (Tells : Type 0) (old new : Seen Own) (net now_net : NetState) : Type 0 where
@@ -34,3 +36,17 @@ pub record NoPoint {Own : Type 0} (Tells : Type 0) (old new : Seen Own) : Type 0
 pub record AtMostThisPoint {Own : Type 0} (Tells : Type 0) (old new : Seen Own) : Type 0 where
   pub last : Tells → InOrder new → NothingUnderWay (state old) → IsLastQuiescent old new
   pub own : Tells → CallsFor index old new
+
+-- ---- The application is ended at last
+
+-- it does not run then: no call of a link was a stray one, no bytes came of a switch, and no quiescent point lies behind
+pub record IsEnded {Own : Type 0} (Tells : Type 0) (old new : Seen Own) : Type 0 where
+  pub no_point : NoPoint Tells old new
+  pub places : Tells → MakesNoStrayCall old new
+  pub messages : Tells → MessagesSince old new
+  pub ended : Tells → is_running index (state new) ≡ false
+
+-- however a run ended, which ended its application: no call was a stray one, and no application runs where none ran before
+pub record NoneRuns {Own : Type 0} (Tells : Type 0) (old new : Seen Own) (net : NetState) : Type 0 where
+  pub no_stray : NoStray Tells old new net
+  pub none_runs : Tells → (state old).running ≡ [] → (state new).running ≡ []

@@ -21,3 +21,4 @@ pub mod BatchSteadyLaws
 pub mod DispatchStrayLaws
 pub mod FrontLaws
 pub mod ReadLaws
+pub mod EndedLaws

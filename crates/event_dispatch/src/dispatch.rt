@@ -42,6 +42,7 @@ fn hold_turn<W: World, J: Judge>(
     event: &Event,
 ) -> Result<TurnEnd, Fault>
     requires room { 1 ≤ net.old.room }
+    requires index { app.old.index ≡ index }
     requires fits { HostFits (host.Event number net.old.moment event.now) }
     ensures room { OnOk result (net.new.room ≡ net.old.room) }
     ensures index { app.new.index ≡ app.old.index }

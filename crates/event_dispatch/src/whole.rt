@@ -4,7 +4,8 @@ ghost use Rattle.std.specs.Prelude.{◌≡◌, ℕ, ◌+◌, ◌^◌, ◌<◌, �
 ghost use Rattle.lego_io.specs.Count.{NeverFell};
 ghost use Rattle.outside.specs.Seen.{Continues};
 ghost use Rattle.outside.specs.Calls.{most_message};
-ghost use Rattle.outside.specs.InOrder.{InOrder, MessagesSince};
+ghost use Rattle.outside.specs.State.{state};
+ghost use Rattle.outside.specs.InOrder.{InOrder};
 ghost use Rattle.net_txn.specs.LinkSteps.{MakesNoStrayCall};
 ghost use Rattle.event_dispatch.specs.Runs.{Going};
 ghost use Rattle.event_dispatch.specs.Why.{IsWhy, IsReason, served_by};
@@ -16,7 +17,7 @@ ghost use Rattle.run_laws.specs.Endings.{ShownLeaves};
 ghost use Rattle.run_laws.specs.First.{net_at_first, engine_at_first};
 ghost use Rattle.run_laws.specs.Promise.{PremiseSoFar, Premise};
 ghost use Rattle.event_dispatch.specs.Talking.{KeepsTalking};
-ghost use Rattle.event_dispatch.specs.Steady.{NoStray, Reads, NoPoint};
+ghost use Rattle.event_dispatch.specs.Steady.{NoStray, Reads, IsEnded, NoneRuns};
 ghost use Rattle.event_dispatch.specs.Cut.{CutRound, CutRounds, CutStart, CutEnd, CutFinishAs, CutAs, ReadsAs, IsReadServed};
 ghost use Rattle.event_dispatch.specs.Serves.{GoesRound, GoesToEnd, Begins, EndsReport, Finishes, GoesAs, RunsAs, IsUnopened, IsCut, IsAlike};
 
@@ -200,9 +201,7 @@ fn open<W: World>(world: &mut W) -> Result<(), Served>
 #[tactic(auto, using(crate::specs::laws::WhyLaws::ends_continue))]
 fn end<W: World>(world: &mut W)
     ensures continues { Continues W.Tells (W.seen world.old) (W.seen world.new) }
-    ensures no_point { NoPoint W.Tells (W.seen world.old) (W.seen world.new) }
-    ensures places { W.Tells → MakesNoStrayCall (W.seen world.old) (W.seen world.new) }
-    ensures messages { W.Tells → MessagesSince (W.seen world.old) (W.seen world.new) }
+    ensures ended { IsEnded W.Tells (W.seen world.old) (W.seen world.new) }
     ensures leaves { ShownLeaves W.Tells (W.seen world.old) (W.seen world.new) }
     ensures talks { KeepsTalking W.Tells (W.seen world.old) (W.seen world.new) }
 {
@@ -225,7 +224,7 @@ fn run_then_end<W: World, J: Judge, K: Sink>(
     ensures goes { GoesAs W.Tells (J.accepts judge.now) result (K.contents sink.old) (K.contents sink.new) (W.seen world.old) (W.seen world.new) run.old run.new }
     ensures cut { IfErr result (λ end. CutAs W.Tells (J.accepts judge.now) end (K.contents sink.old) (K.contents sink.new) (W.seen world.old) (W.seen world.new) (engine_of run.old)) }
     ensures continues { Continues W.Tells (W.seen world.old) (W.seen world.new) }
-    ensures places { NoStray W.Tells (W.seen world.old) (W.seen world.new) run.old.net }
+    ensures none_runs { NoneRuns W.Tells (W.seen world.old) (W.seen world.new) run.old.net }
     ensures reads { ReadsAs W.Tells result (W.seen world.old) (W.seen world.new) run.old.net }
     ensures never_fell { NeverFell (K.faults sink.old) (K.faults sink.new) }
     ensures why { IfErr result (IsWhy W.Tells (W.seen world.old) (W.seen world.new) (K.faults sink.old) (K.faults sink.new)) }
@@ -246,7 +245,7 @@ fn run<W: World, J: Judge, K: Sink>(
     ensures runs { RunsAs W.Tells (J.accepts judge.now) result (K.contents sink.old) (K.contents sink.new) (W.seen world.old) (W.seen world.new) }
     ensures cut { IfErr result (λ end. CutAs W.Tells (J.accepts judge.now) end (K.contents sink.old) (K.contents sink.new) (W.seen world.old) (W.seen world.new) engine_at_first) }
     ensures continues { Continues W.Tells (W.seen world.old) (W.seen world.new) }
-    ensures places { NoStray W.Tells (W.seen world.old) (W.seen world.new) net_at_first }
+    ensures none_runs { NoneRuns W.Tells (W.seen world.old) (W.seen world.new) net_at_first }
     ensures reads { ReadsAs W.Tells result (W.seen world.old) (W.seen world.new) net_at_first }
     ensures never_fell { NeverFell (K.faults sink.old) (K.faults sink.new) }
     ensures why { IfErr result (IsWhy W.Tells (W.seen world.old) (W.seen world.new) (K.faults sink.old) (K.faults sink.new)) }
@@ -291,6 +290,8 @@ pub fn serve<W: World, J: Judge, K: Sink>(
     // of a run that no fault ends all that came of switches is messages, so that the world kept its word.
     ensures no_stray_call { W.Tells → (W.seen world.old).history ≡ [] → InOrder (W.seen world.new) → MakesNoStrayCall (W.seen world.old) (W.seen world.new) }
     ensures all_bytes_are_messages { W.Tells → (W.seen world.old).history ≡ [] → InOrder (W.seen world.new) → IsReadServed (W.seen world.new) result }
+    // However the run ends, each application that was started is ended: where no call was made before, none runs.
+    ensures every_application_ended { W.Tells → (W.seen world.old).history ≡ [] → (state (W.seen world.new)).running ≡ [] }
 {
     if let Err(served) = open(world) {
         return served;

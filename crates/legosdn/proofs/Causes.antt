@@ -16,8 +16,9 @@ use Rattle.legosdn.specs.declared.stop.Stop.{Stop}
 use Rattle.legosdn.specs.declared.stop.Stop.TheVariants.{Usage, Refused, ReadFault, WriteFault, Shut, NextFault, SwitchFault, SwitchBroke, Diverged, EventsLeft, NoMemory}
 use Rattle.legosdn.specs.Input.{session_of}
 use Rattle.legosdn.specs.Stops.{stop_status, stop_line, refusal_line, stop_of_switch}
-use Rattle.legosdn.specs.Headline.{Faults, faults_of, IsRunCause, IsCause, IsEarly, IsLate, Loaded, Wrote}
+use Rattle.legosdn.specs.Headline.{Faults, faults_of, IsRunCause, IsCause, IsEarly, IsLate, Loaded, LoadedAt, RunsNoOther, NeverRuns, Wrote}
 use Rattle.legosdn.proofs.Statuses.{is_refused, not_late}
+use Rattle.legosdn.proofs.Loads.{late_loaded, no_other}
 
 pub switch_cause : (k l : ℕ) (old new : Seen Scripts) (fault : TxnFault) → IsWhyTxn (Unit {0}) old new fault → IsRunCause k l old new (stop_of_switch fault)
 switch_cause k l old new (faults.SwitchFault d) why = why
@@ -124,7 +125,10 @@ no_both session refusal e = absurd cc
 refused_or_loaded : {left : Option (List ℕ)} {seen : Seen Scripts} {bytes : List ℕ} {refusal : Refusal} → Loaded (Some bytes) left seen → session_of bytes ≡ Err refusal → ⊥
 refused_or_loaded loaded e = no_both _ _ (sym loaded.spelled ∙ ap session_of loaded.whole ∙ e)
 
-pub refuses : (told left : Option (List ℕ)) (seen : Seen Scripts) (stop : Stop) (refusal : Refusal) → (IsLate stop → Loaded told left seen)
-    → IfSome told (λ input. session_of input ≡ Err refusal → Contains (2 ∷ 3 ∷ 4 ∷ 12 ∷ []) (stop_status stop))
+none_done : (bytes : List ℕ) (left : Option (List ℕ)) (seen : Seen Scripts) (refusal : Refusal) → RunsNoOther (Some bytes) left seen → session_of bytes ≡ Err refusal → seen.history ≡ []
+none_done bytes left seen refusal (inl none) e = none
+none_done bytes left seen refusal (inr loaded) e = absurd (refused_or_loaded loaded e)
+
+pub refuses : (told left : Option (List ℕ)) (seen : Seen Scripts) (stop : Stop) (refusal : Refusal) → LoadedAt stop told left seen → IfSome told (λ input. session_of input ≡ Err refusal → NeverRuns (stop_status stop) seen)
 refuses None left seen stop refusal loaded = tt
-refuses (Some bytes) left seen stop refusal loaded = λ e. not_late stop (λ late. refused_or_loaded (loaded late) e)
+refuses (Some bytes) left seen stop refusal loaded = λ e. (not_late stop (λ late. refused_or_loaded (late_loaded (Some bytes) left seen stop late loaded) e), none_done bytes left seen refusal (no_other (Some bytes) left seen stop loaded) e)

@@ -1,9 +1,9 @@
 -- What is read of an input, and why it is not.
-use Rattle.std.proofs.Common.{◌≡◌, ℕ, List, Option, Some, None, Result, Ok, Err, IfSome, IfErr, refl, sym, ap, subst, ◌∙◌}
+use Rattle.std.proofs.Common.{◌≡◌, ℕ, List, Option, Some, None, Result, Ok, Err, IfSome, IfErr, [], refl, sym, ap, subst, ◌∙◌, inl, inr}
 use Rattle.std.specs.Result.{IsErrAnd}
 use Rattle.lego_io.specs.Lines.{lines_of}
 use Rattle.lego_io.specs.Source.{ended}
-use Rattle.outside.specs.Seen.{Seen}
+use Rattle.outside.specs.Seen.{Seen, Continues}
 use Rattle.sim_world.specs.Scripts.{Scripts}
 use Rattle.sim_world.specs.World.{WorldData}
 use Rattle.sim_world.specs.Building.{Begins}
@@ -15,10 +15,11 @@ use Rattle.session_text.specs.Loading.{given_by, LoadFails}
 use Rattle.legosdn.specs.declared.stop.Refusal.{Refusal}
 use Rattle.legosdn.specs.declared.stop.Refusal.TheVariants.{Session}
 use Rattle.legosdn.specs.declared.stop.Stop.{Stop}
+use Rattle.legosdn.specs.declared.stop.Stop.TheVariants.{Usage, Refused, ReadFault, WriteFault, Shut, NextFault, SwitchFault, SwitchBroke, Diverged, EventsLeft, NoMemory}
 use Rattle.lego_model.specs.Application.{names as app_names}
 use Rattle.legosdn.specs.Input.{or_refused, session_lines, session_of}
 use Rattle.legosdn.specs.Stops.{stop_of_session}
-use Rattle.legosdn.specs.Headline.{IsReadCause, Loaded}
+use Rattle.legosdn.specs.Headline.{IsReadCause, IsRunCause, IsLate, Loaded, LoadedAt, LoadedAs, RunsNoOther}
 
 session_text-lines : (names : List (List ℕ)) (n : ℕ) (bytes : List ℕ) → names ≡ app_names → session_text names n bytes ≡ session_lines n (lines_of bytes)
 unfolding session_text session_lines
@@ -55,3 +56,73 @@ pub session_causes : {T : Type 0} (told : Option (List ℕ)) (old new : ℕ) (in
     → IsErrAnd result (λ stop. stop ≡ stop_of_session error) → Behind told input n bytes names → LoadFails error w v (session_text names n bytes) → IfErr result (IsReadCause told old new)
 session_causes told old new input n bytes names w v error (Ok x) is behind fails = tt
 session_causes told old new input n bytes names w v error (Err stop) is behind fails = rw is (session_cause told old new input n bytes names w v error behind fails)
+
+-- ---- What the world was given, however a command ended
+
+-- it may have been read before what was done
+pub loaded_on : {told left : Option (List ℕ)} (old new : Seen Scripts) → Continues (Unit {0}) old new → Loaded told left old → Loaded told left new
+loaded_on old new on loaded = record { input = loaded.input; session = loaded.session; whole = loaded.whole; end = loaded.end; spelled = loaded.spelled; given = on.given ∙ loaded.given }
+
+-- the world was run
+loaded_at : (told left : Option (List ℕ)) (seen old : Seen Scripts) (k l : ℕ) (stop : Stop) → IsRunCause k l old seen stop → Loaded told left seen → LoadedAt stop told left seen
+loaded_at told left seen old k l Usage cause loaded = absurd cause
+loaded_at told left seen old k l (Refused refusal) cause loaded = absurd cause
+loaded_at told left seen old k l ReadFault cause loaded = absurd cause
+loaded_at told left seen old k l WriteFault cause loaded = loaded
+loaded_at told left seen old k l Shut cause loaded = loaded
+loaded_at told left seen old k l NextFault cause loaded = loaded
+loaded_at told left seen old k l (SwitchFault d) cause loaded = loaded
+loaded_at told left seen old k l (SwitchBroke d) cause loaded = loaded
+loaded_at told left seen old k l (Diverged d) cause loaded = loaded
+loaded_at told left seen old k l (EventsLeft n) cause loaded = loaded
+loaded_at told left seen old k l NoMemory cause loaded = inr loaded
+
+pub loaded_as : {T : Type 0} (told left : Option (List ℕ)) (seen old : Seen Scripts) (k l : ℕ) (result : Result T Stop) → IfErr result (IsRunCause k l old seen) → Loaded told left seen → LoadedAs result told left seen
+loaded_as told left seen old k l (Ok x) cause loaded = loaded
+loaded_as told left seen old k l (Err stop) cause loaded = loaded_at told left seen old k l stop cause loaded
+
+-- the input was not read
+unread_at : (told left : Option (List ℕ)) (seen : Seen Scripts) (k l : ℕ) (stop : Stop) → seen.history ≡ [] → IsReadCause told k l stop → LoadedAt stop told left seen
+unread_at told left seen k l Usage none cause = absurd cause
+unread_at told left seen k l (Refused refusal) none cause = none
+unread_at told left seen k l ReadFault none cause = none
+unread_at told left seen k l WriteFault none cause = absurd cause
+unread_at told left seen k l Shut none cause = absurd cause
+unread_at told left seen k l NextFault none cause = absurd cause
+unread_at told left seen k l (SwitchFault d) none cause = absurd cause
+unread_at told left seen k l (SwitchBroke d) none cause = absurd cause
+unread_at told left seen k l (Diverged d) none cause = absurd cause
+unread_at told left seen k l (EventsLeft n) none cause = absurd cause
+unread_at told left seen k l NoMemory none cause = inl none
+
+pub unread_as : {T : Type 0} (told left : Option (List ℕ)) (seen : Seen Scripts) (k l : ℕ) (stop : Stop) (result : Result T Stop) → IsErrAnd result (λ s. s ≡ stop) → seen.history ≡ [] → IsReadCause told k l stop → LoadedAs result told left seen
+unread_as told left seen k l stop (Ok x) is none cause = absurd is
+unread_as told left seen k l stop (Err s) is none cause = subst (λ (t : Stop). LoadedAt t told left seen) (sym is) (unread_at told left seen k l stop none cause)
+
+-- ---- What follows
+
+pub late_loaded : (told left : Option (List ℕ)) (seen : Seen Scripts) (stop : Stop) → IsLate stop → LoadedAt stop told left seen → Loaded told left seen
+late_loaded told left seen Usage late loaded = absurd late
+late_loaded told left seen (Refused refusal) late loaded = absurd late
+late_loaded told left seen ReadFault late loaded = absurd late
+late_loaded told left seen WriteFault late loaded = loaded
+late_loaded told left seen Shut late loaded = loaded
+late_loaded told left seen NextFault late loaded = loaded
+late_loaded told left seen (SwitchFault d) late loaded = loaded
+late_loaded told left seen (SwitchBroke d) late loaded = loaded
+late_loaded told left seen (Diverged d) late loaded = loaded
+late_loaded told left seen (EventsLeft n) late loaded = loaded
+late_loaded told left seen NoMemory late loaded = absurd late
+
+pub no_other : (told left : Option (List ℕ)) (seen : Seen Scripts) (stop : Stop) → LoadedAt stop told left seen → RunsNoOther told left seen
+no_other told left seen Usage loaded = inl loaded
+no_other told left seen (Refused refusal) loaded = inl loaded
+no_other told left seen ReadFault loaded = inl loaded
+no_other told left seen WriteFault loaded = inr loaded
+no_other told left seen Shut loaded = inr loaded
+no_other told left seen NextFault loaded = inr loaded
+no_other told left seen (SwitchFault d) loaded = inr loaded
+no_other told left seen (SwitchBroke d) loaded = inr loaded
+no_other told left seen (Diverged d) loaded = inr loaded
+no_other told left seen (EventsLeft n) loaded = inr loaded
+no_other told left seen NoMemory loaded = loaded

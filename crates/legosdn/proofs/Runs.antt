@@ -9,7 +9,8 @@ use Rattle.lego_model.specs.SessionText.{session_text}
 use Rattle.lego_model.specs.laws.SessionTextLaws.{session_read}
 use Rattle.outside.specs.Seen.{Seen, Continues}
 use Rattle.outside.specs.Conforming.{Conforming}
-use Rattle.outside.specs.State.{at_first}
+use Rattle.outside.specs.declared.step.WorldStep.{WorldStep}
+use Rattle.outside.specs.State.{at_first, after_steps, state}
 use Rattle.outside.specs.InOrder.{BringMessages, InOrder}
 use Rattle.outside.specs.laws.InOrderLaws.{in_order-Conforming}
 use Rattle.net_txn.specs.LinkSteps.{AreExpectedOnLinks}
@@ -53,6 +54,11 @@ loads_few names n bytes seen read =
 pub untouched : (w : WorldData) → IsNew w → (seen_of w).history ≡ []
 unfolding seen_of
 untouched w is = is.history
+
+-- and no application runs in it
+pub none_runs : (w : WorldData) → IsNew w → (state (seen_of w)).running ≡ []
+unfolding state at_first
+none_runs w is = ap (λ (steps : List WorldStep). (after_steps steps (at_first (seen_of w).given)).running) (untouched w is)
 
 -- what the engine promises of a world
 abbrev pub Promises : Seen Scripts → Seen Scripts → Option (List ℕ) → Option (List ℕ) → Served → Type 0

@@ -1,5 +1,5 @@
 -- What a command promises: how it ends, why, and what it wrote last.
-use Rattle.std.specs.Prelude.{◌≡◌, ◌⊎◌, ◌≤◌, ℕ, Bool, false, List, [], ◌∷◌, Option, IfSome, Result, Ok, Err, codes}
+use Rattle.std.specs.Prelude.{◌≡◌, ◌⊎◌, ◌≤◌, ℕ, Bool, false, List, [], ◌∷◌, Option, IfSome, Result, Ok, Err, Contains, codes}
 use Rattle.std.specs.Str.{bytes_eq}
 use Rattle.std.specs.Io.KnownBytes.{append_known}
 use Rattle.lego_io.specs.Count.{Rose, NeverFell}
@@ -107,6 +107,27 @@ pub record Loaded (told left : Option (List ℕ)) (seen : Seen Scripts) : Type 0
   pub end : left ≡ ended told
   pub spelled : session_of input ≡ Ok session
   pub given : seen.given ≡ given_by session
+
+-- Nothing was done in the world, or the world was given that session.
+abbrev pub RunsNoOther : Option (List ℕ) → Option (List ℕ) → Seen Scripts → Type 0
+RunsNoOther told left seen = (seen.history ≡ []) ⊎ Loaded told left seen
+
+-- So it is at each stop: nothing was done at those that come before anything runs; once the world runs, it was given that session; and memory
+-- may have been wanting before or then.
+abbrev pub LoadedAt : Stop → Option (List ℕ) → Option (List ℕ) → Seen Scripts → Type 0
+LoadedAt Usage told left seen = seen.history ≡ []
+LoadedAt (Refused refusal) told left seen = seen.history ≡ []
+LoadedAt ReadFault told left seen = seen.history ≡ []
+LoadedAt NoMemory told left seen = RunsNoOther told left seen
+LoadedAt other told left seen = Loaded told left seen
+
+abbrev pub LoadedAs : {T : Type 0} → Result T Stop → Option (List ℕ) → Option (List ℕ) → Seen Scripts → Type 0
+LoadedAs (Ok x) told left seen = Loaded told left seen
+LoadedAs (Err stop) told left seen = LoadedAt stop told left seen
+
+-- a refused input: no such status comes once the world runs, and nothing was done in the world
+abbrev pub NeverRuns : ℕ → Seen Scripts → Type 0
+NeverRuns status seen = Contains (2 ∷ 3 ∷ 4 ∷ 12 ∷ []) status × (seen.history ≡ [])
 
 -- ---- What a run is
 

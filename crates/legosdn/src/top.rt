@@ -3,6 +3,7 @@
 ghost use Rattle.std.specs.Prelude.{◌≡◌, ◌≤◌, ◌↔◌, ◌⊎◌, ◌∷◌, [], ℕ, List, Some, Ok, Err, true, false, length, map, Contains, IfSome, IfOk, OnOk, IfErr, string_bytes};
 ghost use Rattle.lego_io.specs.Count.{Rose, NeverFell};
 ghost use Rattle.outside.specs.Seen.{Continues};
+ghost use Rattle.outside.specs.State.{state};
 ghost use Rattle.outside.specs.InOrder.{BringMessages};
 ghost use Rattle.sim_world.specs.World.{given_of, seen_of};
 ghost use Rattle.sim_world.specs.Building.{nothing_given, IsNew, Begins};
@@ -14,7 +15,7 @@ ghost use Rattle.lego_model.specs.RunReport.{run_report};
 ghost use Rattle.lego_model.specs.Application.{names};
 ghost use Rattle.legosdn.specs.Said.{reference_of_session, WithEnough};
 ghost use Rattle.legosdn.specs.Stops.{stop_status, stop_line, refusal_line};
-ghost use Rattle.legosdn.specs.Headline.{is_command as is_command_in, faults_of, IsReadCause, IsRunCause, IsCause, NoneFailed, IsEarly, IsLate, Loaded, RunsWhole, RunsAs, KeepsLines, LeftAs, CutShort, SomeRefused, Wrote, WroteLast, Stopped};
+ghost use Rattle.legosdn.specs.Headline.{is_command as is_command_in, faults_of, IsReadCause, IsRunCause, IsCause, NoneFailed, IsEarly, IsLate, Loaded, RunsNoOther, LoadedAs, NeverRuns, RunsWhole, RunsAs, KeepsLines, LeftAs, CutShort, SomeRefused, Wrote, WroteLast, Stopped};
 
 use crate::input::{parts_of, read_input};
 use crate::stop::Stop;
@@ -71,6 +72,7 @@ pub fn run_world<K: Sink>(alloc: Global, sink: &mut K, sim: &mut SimWorld) -> Re
         → (seen_of sim.new).counts.shorts ≡ 0 → (seen_of sim.new).counts.strays ≡ 0 }
     ensures why { IfErr result (IsRunCause (K.faults sink.old) (K.faults sink.new) (seen_of sim.old) (seen_of sim.new)) }
     ensures continues { Continues (Unit {0}) (seen_of sim.old) (seen_of sim.new) }
+    ensures ended { (seen_of sim.old).history ≡ [] → (state (seen_of sim.new)).running ≡ [] }
     ensures never_fell { NeverFell (K.faults sink.old) (K.faults sink.new) }
 {
     let served = serve(alloc, sim, &AllowAll, sink);
@@ -96,7 +98,8 @@ fn run<S: Source, K: Sink>(
 ) -> Result<(), Stop>
     requires new { IsNew sim.old }
     requires nothing { given_of sim.old ≡ nothing_given }
-    ensures loaded { OnOk result (Loaded (S.remaining source.old) (S.remaining source.new) (seen_of sim.new)) }
+    ensures loaded { LoadedAs result (S.remaining source.old) (S.remaining source.new) (seen_of sim.new) }
+    ensures ended { (state (seen_of sim.new)).running ≡ [] }
     ensures runs { RunsAs result sim.new (K.contents sink.old) (K.contents sink.new) }
     ensures lines { OnOk result (KeepsLines sim.new) }
     ensures late_lines { IfErr result (λ stop. IsLate stop → KeepsLines sim.new) }
@@ -105,7 +108,6 @@ fn run<S: Source, K: Sink>(
         (faults_of (S.faults source.old) (K.faults sink.old) (seen_of sim.old))
         (faults_of (S.faults source.new) (K.faults sink.new) (seen_of sim.new))) }
     ensures early { IfErr result (λ stop. IsEarly stop → (sim.new ≡ sim.old) × (sink.new ≡ sink.old)) }
-    ensures late { IfErr result (λ stop. IsLate stop → Loaded (S.remaining source.old) (S.remaining source.new) (seen_of sim.new)) }
     ensures usage { IfErr result (λ stop. (stop ≡ Stop.Usage) ↔ (is_command_in (map string_bytes words.now) ≡ false)) }
     ensures command { OnOk result (is_command_in (map string_bytes words.now) ≡ true) }
     ensures never_fell { NeverFell (K.faults sink.old) (K.faults sink.new) }
@@ -197,7 +199,12 @@ pub fn legosdn<S: Source, K: Sink>(
 
     // Where the world runs, the input was read to its end and is a session, which the world was given.
     ensures input_loaded { Contains (0 ∷ 5 ∷ 6 ∷ 7 ∷ 8 ∷ 9 ∷ 10 ∷ []) result → Loaded (S.remaining source.old) (S.remaining source.new) (seen_of sim.new) }
-    ensures refused_input_never_runs { (refusal : Refusal) → IfSome (S.remaining source.old) (λ input. session_of input ≡ Err refusal → Contains (2 ∷ 3 ∷ 4 ∷ 12 ∷ []) result) }
+    // At every status: what was done in the world was done with the session that the input spells, if anything was. A refused input never runs.
+    ensures no_other_session { RunsNoOther (S.remaining source.old) (S.remaining source.new) (seen_of sim.new) }
+    ensures refused_input_never_runs { (refusal : Refusal) → IfSome (S.remaining source.old) (λ input. session_of input ≡ Err refusal → NeverRuns result (seen_of sim.new)) }
+
+    // At every status: each application that was started is ended.
+    ensures every_application_ended { (state (seen_of sim.new)).running ≡ [] }
 {
     match run(alloc, words, source, sink, sim) {
         Ok(()) => 0,

@@ -60,6 +60,7 @@ only_none Tells seen = record { read = λ told. messages-none seen }
 pub arrived_places : {Own : Type 0} (Tells : Type 0) (d : ℕ) (frame : List ℕ) (old new : Seen Own) (net now_net : NetState) (result : Result (Option Event) TxnFault) → IsSome (rows_at d net.views) → Arrives Tells d frame old new net now_net result → NoStray Tells old new net
 arrived_places Tells d frame old new net now_net result known arrives = record {
   places = λ told order abreast. arrives.no_strays told order (abreast.joined d ∙ viewed d net.views ∙ known);
+  own = links_own arrives.links;
 }
 
 pub arrived_reads : {Own : Type 0} (Tells : Type 0) (d : ℕ) (frame : List ℕ) (old new : Seen Own) (net now_net : NetState) (event : Option Event) → Arrives Tells d frame old new net now_net (Ok event) → Reads Tells old new net now_net
@@ -115,14 +116,16 @@ joined_item Tells item d n buf old new net is puts = subst (λ (step : WorldStep
 
 -- ---- What is told next
 
-pub next_places : {Own : Type 0} (Tells : Type 0) (old new : Seen Own) (net : NetState) → (Tells → MakesNoStrayCall old new) → NoStray Tells old new net
-next_places Tells old new net places = record { places = λ told order abreast. places told }
+pub next_places : {Own : Type 0} (Tells : Type 0) (old new : Seen Own) (net : NetState) → (Tells → MakesNoStrayCall old new) → NextPoint Tells old new → NoStray Tells old new net
+next_places Tells old new net places next = record { places = λ told order abreast. places told; own = next.own }
 
-pub handled_places : {Own : Type 0} (Tells : Type 0) (item : Item) (buf : List ℕ) (old mid new : Seen Own) (net : NetState) → Nexts Tells old mid (Ok item) buf → Continues Tells mid new → NoStrayAtItem Tells (item_step item buf) mid new net → NoStray Tells old new net
-handled_places Tells item buf old mid new net call later puts = record {
+pub handled_places : {Own : Type 0} (Tells : Type 0) (item : Item) (buf : List ℕ) (old mid new : Seen Own) (net : NetState) → Nexts Tells old mid (Ok item) buf → Continues Tells mid new → NextPoint Tells old mid → OnLinks Tells mid new → NoStrayAtItem Tells (item_step item buf) mid new net
+    → NoStray Tells old new net
+handled_places Tells item buf old mid new net call later next links puts = record {
   places = λ told order abreast.
       let so_far = InOrder-before told later order in
       no_strays_then old mid new told (Nexts-continues call) later (next_in_place call told) (puts.places told order (next_tells net call told so_far abreast));
+  own = λ told. calls_then (next.own told) (links_own links told);
 }
 
 next_reads : {Own : Type 0} (Tells : Type 0) (item : Item) (buf : List ℕ) (old mid new : Seen Own) (net now_net : NetState) → Nexts Tells old mid (Ok item) buf → Continues Tells mid new → CatchesUp Tells (item_step item buf) mid new net now_net → Reads Tells old new net now_net

@@ -6,12 +6,12 @@ use Rattle.of_stats.specs.declared.flow_row.FlowRow.{FlowRow}
 use Rattle.app_frames.specs.declared.frame.Event.{Event}
 use Rattle.outside.specs.Seen.{Seen, Continues}
 use Rattle.outside.specs.State.{state}
-use Rattle.outside.specs.InOrder.{MessagesSince}
+use Rattle.outside.specs.InOrder.{InOrder, MessagesSince}
 use Rattle.outside.specs.laws.InOrderLaws.{InOrder-before, messages-then}
 use Rattle.lego_model.specs.declared.fault.TxnFault.{TxnFault}
 use Rattle.net_txn.specs.Net.{NetState}
 use Rattle.net_txn.specs.Views.{rows_at}
-use Rattle.net_txn.specs.LinkSteps.{OnLinks}
+use Rattle.net_txn.specs.LinkSteps.{OnLinks, MakesNoStrayCall}
 use Rattle.net_txn.specs.laws.LinkStrayLaws.{no_strays_then}
 use Rattle.net_txn.specs.Asks.{Asks}
 use Rattle.net_txn.specs.Undos.{AreJoined, Undoes}
@@ -35,7 +35,7 @@ use Rattle.event_dispatch.specs.laws.SteadyLaws.{abreast_as}
 -- ---- The same views
 
 pub places_as : {Own : Type 0} {Tells : Type 0} {old new : Seen Own} (net now_net : NetState) → now_net.views ≡ net.views → NoStray Tells old new now_net → NoStray Tells old new net
-places_as {old = old} net now_net same all = record { places = λ told order abreast. all.places told order (abreast_as old net now_net same abreast) }
+places_as {old = old} net now_net same all = record { places = λ told order abreast. all.places told order (abreast_as old net now_net same abreast); own = all.own }
 
 pub reads_over : {Own : Type 0} {Tells : Type 0} {old new : Seen Own} (net mid_net at_net now_net : NetState) → mid_net.views ≡ net.views → now_net.views ≡ at_net.views → Reads Tells old new mid_net at_net → Reads Tells old new net now_net
 reads_over {old = old} {new = new} net mid_net at_net now_net before after all = record {
@@ -49,7 +49,7 @@ pub links_quietly : {Own : Type 0} {Tells : Type 0} {old new : Seen Own} → OnL
 links_quietly links = record { none_quiescent = λ told. (calm_links index (links told)).none_quiescent; own = λ told. (calm_links index (links told)).own }
 
 pub asked_places : {Own : Type 0} {Tells : Type 0} {d xid : ℕ} {old new : Seen Own} {kept now_kept : List (ℕ × List ℕ)} {result : Result (List FlowRow) TxnFault} (net : NetState) → IsSome (rows_at d net.views) → Asks Tells d xid old new kept now_kept result → NoStray Tells old new net
-asked_places {d = d} net there asks = record { places = λ told order abreast. asks.no_strays told order (abreast_joined d abreast there) }
+asked_places {d = d} net there asks = record { places = λ told order abreast. asks.no_strays told order (abreast_joined d abreast there); own = (links_quietly asks.links).own }
 
 pub asked_reads : {Own : Type 0} {Tells : Type 0} {d xid : ℕ} {old new : Seen Own} {kept now_kept : List (ℕ × List ℕ)} {rows : List FlowRow} (net now_net : NetState) → now_net.views ≡ net.views → Asks Tells d xid old new kept now_kept (Ok rows) → Reads Tells old new net now_net
 asked_reads net now_net views asks = record {
@@ -65,8 +65,8 @@ started_quietly {old = old} {new = new} app is own = record {
   own = λ told. subst (λ (i : ℕ). CallsFor i old new) is (own_calls (own told));
 }
 
-pub started_places : {Own : Type 0} {Tells : Type 0} {old new : Seen Own} (app : ℕ) (net : NetState) → (Tells → OwnSteps app old new) → NoStray Tells old new net
-started_places app net own = record { places = λ told order abreast. own_places (own told) }
+pub started_places : {Own : Type 0} {Tells : Type 0} {old new : Seen Own} (app : ℕ) (net : NetState) → app ≡ index → (Tells → OwnSteps app old new) → NoStray Tells old new net
+started_places app net is own = record { places = λ told order abreast. own_places (own told); own = (started_quietly app is own).own }
 
 pub started_reads : {Own : Type 0} {Tells : Type 0} {old new : Seen Own} (app : ℕ) (net now_net : NetState) → now_net.views ≡ net.views → Continues Tells old new → (Tells → OwnSteps app old new) → Reads Tells old new net now_net
 started_reads {new = new} app net now_net views continues own = record {
@@ -81,6 +81,9 @@ later_same {app = app} {old = old} new same later told = subst (λ (s : Seen _).
 
 pub later_undone : {Own : Type 0} {Tells : Type 0} {app : ℕ} {old mid new : Seen Own} → (Tells → CalmLater app old mid) → OnLinks Tells mid new → Tells → CalmLater app old new
 later_undone {app = app} later links told = later_then (later told) (calm_links app (links told))
+
+pub later_own : {Own : Type 0} {Tells : Type 0} {old new : Seen Own} (app : ℕ) → app ≡ index → (Tells → CalmLater app old new) → Tells → CallsFor index old new
+later_own {old = old} {new = new} app is later told = subst (λ (i : ℕ). CallsFor i old new) is (later told).own
 
 pub later_of : {Own : Type 0} {Tells : Type 0} {old new : Seen Own} (app : ℕ) → app ≡ index → (Tells → CalmLater app old new) → Tells → CalmLater index old new
 later_of {old = old} {new = new} app is later told = subst (λ (i : ℕ). CalmLater i old new) is (later told)
@@ -100,33 +103,37 @@ abreast_all : {Own : Type 0} {seen : Seen Own} {net : NetState} → Abreast seen
 abreast_all abreast d there = abreast.joined d ∙ there
 
 -- it was played, and its changes stay
-pub turn_kept : {Own : Type 0} {Tells : Type 0} {accepts : List TableView → Bool} {app budget : ℕ} {rest frame unread : List ℕ} {old mid : Seen Own} {at_net now_net : NetState} {end : TurnEnd} (net : NetState) (new : Seen Own) → at_net ≡ net → new ≡ mid
+pub turn_kept : {Own : Type 0} {Tells : Type 0} {accepts : List TableView → Bool} {app budget : ℕ} {rest frame unread : List ℕ} {old mid : Seen Own} {at_net now_net : NetState} {end : TurnEnd} (net : NetState) (new : Seen Own) → at_net ≡ net → new ≡ mid → (Tells → CallsFor index old new)
     → Turns Tells accepts app budget rest frame old mid at_net now_net end unread → NoStray Tells old new net
-turn_kept {Tells = Tells} {old = old} {at_net = at_net} net new begun same t = subst (λ (n : NetState). NoStray Tells old new n) begun
-    (subst (λ (s : Seen _). NoStray Tells old s at_net) (sym same) (record { places = λ told order abreast. turn_places t told order abreast }))
+turn_kept {Tells = Tells} {old = old} {at_net = at_net} net new begun same own t = subst (λ (n : NetState). NoStray Tells old new n) begun (record {
+  places = subst (λ (s : Seen _). Tells → InOrder s → Abreast old at_net → MakesNoStrayCall old s) (sym same) (λ told order abreast. turn_places t told order abreast);
+  own = own;
+})
 
 -- it was played, and an undo followed
-pub turn_undone : {Own : Type 0} {Tells : Type 0} {accepts : List TableView → Bool} {app budget start : ℕ} {rest frame unread : List ℕ} {old mid new : Seen Own} {at_net mid_net now_net : NetState} {end : TurnEnd} {result : Result (Unit {0}) TxnFault} (net : NetState) → at_net ≡ net
+pub turn_undone : {Own : Type 0} {Tells : Type 0} {accepts : List TableView → Bool} {app budget start : ℕ} {rest frame unread : List ℕ} {old mid new : Seen Own} {at_net mid_net now_net : NetState} {end : TurnEnd} {result : Result (Unit {0}) TxnFault} (net : NetState) → at_net ≡ net → (Tells → CallsFor index old new)
     → Turns Tells accepts app budget rest frame old mid at_net mid_net end unread → Undoes Tells start mid new mid_net now_net result → NoStray Tells old new net
-turn_undone {Tells = Tells} {old = old} {mid = mid} {new = new} net begun t undone = subst (λ (n : NetState). NoStray Tells old new n) begun (record {
+turn_undone {Tells = Tells} {old = old} {mid = mid} {new = new} net begun own t undone = subst (λ (n : NetState). NoStray Tells old new n) begun (record {
   places = λ told order abreast.
       no_strays_then old mid new told (turn_continues t) undone.continues (turn_places t told (InOrder-before told undone.continues order) abreast)
       (undone.no_strays told order (abreast_all (turn_abreast t told abreast)));
+  own = own;
 })
 
 -- it stopped, and an undo followed
-pub stop_undone : {Own : Type 0} {Tells : Type 0} {app start : ℕ} {old mid new : Seen Own} {at_net mid_net now_net : NetState} {fault : TxnFault} {result : Result (Unit {0}) TxnFault} (net : NetState) → at_net ≡ net
+pub stop_undone : {Own : Type 0} {Tells : Type 0} {app start : ℕ} {old mid new : Seen Own} {at_net mid_net now_net : NetState} {fault : TxnFault} {result : Result (Unit {0}) TxnFault} (net : NetState) → at_net ≡ net → (Tells → CallsFor index old new)
     → Stops Tells app old mid at_net mid_net fault → Undoes Tells start mid new mid_net now_net result → NoStray Tells old new net
-stop_undone {Tells = Tells} {old = old} {mid = mid} {new = new} net begun s undone = subst (λ (n : NetState). NoStray Tells old new n) begun (record {
+stop_undone {Tells = Tells} {old = old} {mid = mid} {new = new} net begun own s undone = subst (λ (n : NetState). NoStray Tells old new n) begun (record {
   places = λ told order abreast.
       no_strays_then old mid new told (Stops-continues s) undone.continues (stops_places s told (InOrder-before told undone.continues order) abreast)
       (undone.no_strays told order (abreast_all (stops_abreast s told abreast)));
+  own = own;
 })
 
-pub played_places : {Own : Type 0} {Tells : Type 0} {accepts : List TableView → Bool} {app number : ℕ} {event : Event} {old new : Seen Own} {rest unread : List ℕ} (end : TurnEnd) (net now_net : NetState)
+pub played_places : {Own : Type 0} {Tells : Type 0} {accepts : List TableView → Bool} {app number : ℕ} {event : Event} {old new : Seen Own} {rest unread : List ℕ} (end : TurnEnd) (net now_net : NetState) → (Tells → CallsFor index old new)
     → PlaysTurn Tells accepts app number event end old new net now_net rest unread → NoStray Tells old new net
-played_places {new = new} (ends.Done stop) net now_net plays = turn_kept net new refl plays.played.0 plays.turns
-played_places (ends.Failed cause) net now_net plays = turn_undone net refl plays.turns plays.played
+played_places {new = new} (ends.Done stop) net now_net own plays = turn_kept net new refl plays.played.0 own plays.turns
+played_places (ends.Failed cause) net now_net own plays = turn_undone net refl own plays.turns plays.played
 
 pub played_reads : {Own : Type 0} {Tells : Type 0} {accepts : List TableView → Bool} {app number : ℕ} {event : Event} {old new : Seen Own} {rest unread : List ℕ} (end : TurnEnd) (net now_net : NetState)
     → PlaysTurn Tells accepts app number event end old new net now_net rest unread → Reads Tells old new net now_net

@@ -89,11 +89,6 @@ pub end_messages : {Own : Type 0} (Tells : Type 0) (old new : Seen Own) → Ends
 end_messages Tells old new ends told =
     messages-by old new (end_steps index (is_running index (state old))) (ends.told told).history (is_end (is_running index (state old))).messages
 
-pub ended_places : {Own : Type 0} (Tells : Type 0) (old mid new : Seen Own) (net : NetState) → Continues Tells old mid → Continues Tells mid new → NoStray Tells old mid net → (Tells → MakesNoStrayCall mid new) → NoStray Tells old new net
-ended_places Tells old mid new net before later first last = record {
-  places = λ told order abreast. no_strays_then old mid new told before later (first.places told (InOrder-before told later order) abreast) (last told);
-}
-
 read_then : {Own : Type 0} (Tells : Type 0) (old mid new : Seen Own) (net : NetState) → Continues Tells old mid → Continues Tells mid new → (Tells → MessagesSince mid new) → HasRead Tells old mid net → HasRead Tells old new net
 read_then Tells old mid new net before later last first = record {
   read = λ told order abreast. messages-then old mid new told before later (first.read told (InOrder-before told later order) abreast) (last told);

@@ -16,7 +16,7 @@ use Rattle.event_dispatch.specs.Steady.{NoStray, Reads, NoPoint, AtMostThisPoint
 -- ---- Nothing was done
 
 pub places_none : {Own : Type 0} (Tells : Type 0) (seen : Seen Own) (net : NetState) → NoStray Tells seen seen net
-places_none Tells seen net = record { places = λ told order abreast. no_strays_none seen }
+places_none Tells seen net = record { places = λ told order abreast. no_strays_none seen; own = λ told. calls_none index seen }
 
 -- the same switches have views
 pub abreast_as : {Own : Type 0} (seen : Seen Own) (net now_net : NetState) → now_net.views ≡ net.views → Abreast seen net → Abreast seen now_net
@@ -39,6 +39,7 @@ places_then old mid new net mid_net before later first reads second = record {
   places = λ told order abreast.
       let so_far = InOrder-before told later order in
       no_strays_then old mid new told before later (first.places told so_far abreast) (second.places told order (reads.abreast told so_far abreast));
+  own = λ told. calls_then (first.own told) (second.own told);
 }
 
 pub reads_then : {Own : Type 0} {Tells : Type 0} (old mid new : Seen Own) (net mid_net now_net : NetState) → Continues Tells old mid → Continues Tells mid new → Reads Tells old mid net mid_net → Reads Tells mid new mid_net now_net → Reads Tells old new net now_net

@@ -8,7 +8,7 @@ use Rattle.event_dispatch.specs.Why.{fault_of}
 use Rattle.event_dispatch.specs.laws.KeptLaws.{turn_read}
 use Rattle.event_dispatch.specs.laws.TalkingLaws.{turn_stops, turn_ends, turn_ended, holds_on_err}
 use Rattle.journal_laws.specs.laws.FrameLaws.{event_is}
-use Rattle.event_dispatch.specs.laws.DispatchStrayLaws.{later_same, later_undone, turn_kept, turn_undone, stop_undone, played_places, played_reads}
+use Rattle.event_dispatch.specs.laws.DispatchStrayLaws.{later_same, later_undone, later_own, turn_kept, turn_undone, stop_undone, played_places, played_reads}
 use Rattle.event_dispatch.proofs.dispatch.hold_turn.Goals as goal
 
 pub returns-in_ok-commit-in-Ok-Done-clause-plays : goal.returns-in_ok-commit-in-Ok-Done-clause-plays
@@ -54,27 +54,6 @@ pub returns-in-Err-clause-talks : goal.returns-in-Err-clause-talks
 returns-in-Err-clause-talks g c =
     turn_stops g.W.World.Tells c.args.app.now.index c.args.app.now.rest (g.W.World.seen c.args.world.now) (g.W.World.seen c.turn.new.world) (g.W.World.seen c.abort-in-Err.new.world) c.in-Err.ensures.talks c.abort-in-Err.ensures.links
 
-pub returns-in_ok-commit-in-Ok-Done-clause-places : goal.returns-in_ok-commit-in-Ok-Done-clause-places
-returns-in_ok-commit-in-Ok-Done-clause-places g c = played_places _ _ _ (returns-in_ok-commit-in-Ok-Done-clause-plays g c)
-
-pub returns-in_ok-abort-in-Ok-Failed-clause-places : goal.returns-in_ok-abort-in-Ok-Failed-clause-places
-returns-in_ok-abort-in-Ok-Failed-clause-places g c = played_places _ _ _ (returns-in_ok-abort-in-Ok-Failed-clause-plays g c)
-
-pub returns-in_err-commit-in-Ok-Done-clause-places : goal.returns-in_err-commit-in-Ok-Done-clause-places
-returns-in_err-commit-in-Ok-Done-clause-places g c = turn_kept c.args.net.now (g.W.World.seen c.commit.new._world) c.begin-txn.ensures.net c.commit.ensures.world c.in-Ok-Done.ensures.ok
-
-pub returns-in_err-abort-in-Ok-Failed-clause-places : goal.returns-in_err-abort-in-Ok-Failed-clause-places
-returns-in_err-abort-in-Ok-Failed-clause-places g c = turn_undone c.args.net.now c.begin-txn.ensures.net c.in-Ok-Failed.ensures.ok c.abort.ensures
-
-pub returns-in-Err-clause-places : goal.returns-in-Err-clause-places
-returns-in-Err-clause-places g c = stop_undone c.args.net.now c.begin-txn.ensures.net c.in-Err.ensures.err c.abort-in-Err.ensures
-
-pub returns-in_ok-commit-in-Ok-Done-clause-reads : goal.returns-in_ok-commit-in-Ok-Done-clause-reads
-returns-in_ok-commit-in-Ok-Done-clause-reads g c = played_reads _ _ _ (returns-in_ok-commit-in-Ok-Done-clause-plays g c)
-
-pub returns-in_ok-abort-in-Ok-Failed-clause-reads : goal.returns-in_ok-abort-in-Ok-Failed-clause-reads
-returns-in_ok-abort-in-Ok-Failed-clause-reads g c = played_reads _ _ _ (returns-in_ok-abort-in-Ok-Failed-clause-plays g c)
-
 pub returns-in_ok-commit-in-Ok-Done-clause-later : goal.returns-in_ok-commit-in-Ok-Done-clause-later
 returns-in_ok-commit-in-Ok-Done-clause-later g c = later_same (g.W.World.seen c.commit.new._world) c.commit.ensures.world c.turn.ensures.later
 
@@ -89,3 +68,24 @@ returns-in_err-abort-in-Ok-Failed-clause-later g c = later_undone c.turn.ensures
 
 pub returns-in-Err-clause-later : goal.returns-in-Err-clause-later
 returns-in-Err-clause-later g c = later_undone c.turn.ensures.later c.abort-in-Err.ensures.links
+
+pub returns-in_ok-commit-in-Ok-Done-clause-places : goal.returns-in_ok-commit-in-Ok-Done-clause-places
+returns-in_ok-commit-in-Ok-Done-clause-places g c = played_places _ _ _ (later_own c.args.app.now.index c.requires.index (returns-in_ok-commit-in-Ok-Done-clause-later g c)) (returns-in_ok-commit-in-Ok-Done-clause-plays g c)
+
+pub returns-in_ok-abort-in-Ok-Failed-clause-places : goal.returns-in_ok-abort-in-Ok-Failed-clause-places
+returns-in_ok-abort-in-Ok-Failed-clause-places g c = played_places _ _ _ (later_own c.args.app.now.index c.requires.index (returns-in_ok-abort-in-Ok-Failed-clause-later g c)) (returns-in_ok-abort-in-Ok-Failed-clause-plays g c)
+
+pub returns-in_err-commit-in-Ok-Done-clause-places : goal.returns-in_err-commit-in-Ok-Done-clause-places
+returns-in_err-commit-in-Ok-Done-clause-places g c = turn_kept c.args.net.now (g.W.World.seen c.commit.new._world) c.begin-txn.ensures.net c.commit.ensures.world (later_own c.args.app.now.index c.requires.index (returns-in_err-commit-in-Ok-Done-clause-later g c)) c.in-Ok-Done.ensures.ok
+
+pub returns-in_err-abort-in-Ok-Failed-clause-places : goal.returns-in_err-abort-in-Ok-Failed-clause-places
+returns-in_err-abort-in-Ok-Failed-clause-places g c = turn_undone c.args.net.now c.begin-txn.ensures.net (later_own c.args.app.now.index c.requires.index (returns-in_err-abort-in-Ok-Failed-clause-later g c)) c.in-Ok-Failed.ensures.ok c.abort.ensures
+
+pub returns-in-Err-clause-places : goal.returns-in-Err-clause-places
+returns-in-Err-clause-places g c = stop_undone c.args.net.now c.begin-txn.ensures.net (later_own c.args.app.now.index c.requires.index (returns-in-Err-clause-later g c)) c.in-Err.ensures.err c.abort-in-Err.ensures
+
+pub returns-in_ok-commit-in-Ok-Done-clause-reads : goal.returns-in_ok-commit-in-Ok-Done-clause-reads
+returns-in_ok-commit-in-Ok-Done-clause-reads g c = played_reads _ _ _ (returns-in_ok-commit-in-Ok-Done-clause-plays g c)
+
+pub returns-in_ok-abort-in-Ok-Failed-clause-reads : goal.returns-in_ok-abort-in-Ok-Failed-clause-reads
+returns-in_ok-abort-in-Ok-Failed-clause-reads g c = played_reads _ _ _ (returns-in_ok-abort-in-Ok-Failed-clause-plays g c)

@@ -8,8 +8,8 @@ use Rattle.std.proofs.Common.{subst}
 use Rattle.run_laws.specs.Engine.{Engine}
 use Rattle.event_dispatch.specs.declared.served.Served.{Served}
 use Rattle.event_dispatch.specs.Cut.{CutAs, HasRead, ReadsEnd}
-use Rattle.event_dispatch.specs.Steady.{NoStray}
-use Rattle.event_dispatch.specs.laws.SteadyLaws.{places_none}
+use Rattle.event_dispatch.specs.Steady.{NoneRuns}
+use Rattle.event_dispatch.specs.laws.EndedLaws.{none_runs_none}
 use Rattle.event_dispatch.specs.laws.ReadLaws.{reads_as}
 use Rattle.event_dispatch.proofs.whole.run.Goals as goal
 
@@ -56,19 +56,19 @@ returns-in_err-run_then_end-clause-cut g c =
     if_err (λ (end : Served). CutAs g.W.World.Tells (g.J.Judge.accepts c.args.judge.now) end (g.K.Sink.contents c.args.sink.now) (g.K.Sink.contents c.run_then_end.new.sink) (g.W.World.seen c.args.world.now) (g.W.World.seen c.run_then_end.new.world) engine_at_first) c.in_err-run_then_end.field-0.0 c.from_residual-in_err-run_then_end.result c.from_residual-in_err-run_then_end.ensures.1
     (subst (λ (e : Engine). CutAs g.W.World.Tells (g.J.Judge.accepts c.args.judge.now) c.in_err-run_then_end.field-0.0 (g.K.Sink.contents c.args.sink.now) (g.K.Sink.contents c.run_then_end.new.sink) (g.W.World.seen c.args.world.now) (g.W.World.seen c.run_then_end.new.world) e) c.in_ok-run.ensures.first c.in_err-run_then_end.ensures.cut)
 
-pub returns-in_err-run-clause-places : goal.returns-in_err-run-clause-places
-returns-in_err-run-clause-places g c = places_none g.W.World.Tells (g.W.World.seen c.args.world.now) engine_at_first.net
+pub returns-in_err-run-clause-none_runs : goal.returns-in_err-run-clause-none_runs
+returns-in_err-run-clause-none_runs g c = none_runs_none g.W.World.Tells (g.W.World.seen c.args.world.now) engine_at_first.net
 
-pub returns-in_err-buf-clause-places : goal.returns-in_err-buf-clause-places
-returns-in_err-buf-clause-places g c = places_none g.W.World.Tells (g.W.World.seen c.args.world.now) engine_at_first.net
+pub returns-in_err-buf-clause-none_runs : goal.returns-in_err-buf-clause-none_runs
+returns-in_err-buf-clause-none_runs g c = none_runs_none g.W.World.Tells (g.W.World.seen c.args.world.now) engine_at_first.net
 
-pub returns-in_err-run_then_end-clause-places : goal.returns-in_err-run_then_end-clause-places
-returns-in_err-run_then_end-clause-places g c =
-    subst (λ (e : Engine). NoStray g.W.World.Tells (g.W.World.seen c.args.world.now) (g.W.World.seen c.run_then_end.new.world) e.net) c.in_ok-run.ensures.first c.in_err-run_then_end.ensures.places
+pub returns-in_err-run_then_end-clause-none_runs : goal.returns-in_err-run_then_end-clause-none_runs
+returns-in_err-run_then_end-clause-none_runs g c =
+    subst (λ (e : Engine). NoneRuns g.W.World.Tells (g.W.World.seen c.args.world.now) (g.W.World.seen c.run_then_end.new.world) e.net) c.in_ok-run.ensures.first c.in_err-run_then_end.ensures.none_runs
 
-pub returns-clause-places : goal.returns-clause-places
-returns-clause-places g c =
-    subst (λ (e : Engine). NoStray g.W.World.Tells (g.W.World.seen c.args.world.now) (g.W.World.seen c.run_then_end.new.world) e.net) c.in_ok-run.ensures.first c.in_ok-run_then_end.ensures.places
+pub returns-clause-none_runs : goal.returns-clause-none_runs
+returns-clause-none_runs g c =
+    subst (λ (e : Engine). NoneRuns g.W.World.Tells (g.W.World.seen c.args.world.now) (g.W.World.seen c.run_then_end.new.world) e.net) c.in_ok-run.ensures.first c.in_ok-run_then_end.ensures.none_runs
 
 pub returns-in_err-run-clause-reads : goal.returns-in_err-run-clause-reads
 returns-in_err-run-clause-reads g c = reads_as g.W.World.Tells ends.NoMemory c.from_residual.result (g.W.World.seen c.args.world.now) (g.W.World.seen c.args.world.now) engine_at_first.net c.from_residual.ensures.1 tt

@@ -2,7 +2,8 @@ use Rattle.event_dispatch.specs.laws.WholeLaws.{goes_then}
 use Rattle.event_dispatch.specs.laws.PlainLaws.{whole_then}
 use Rattle.event_dispatch.specs.Shows.{engine_of}
 use Rattle.event_dispatch.specs.laws.CutLaws.{goes_on_cut}
-use Rattle.event_dispatch.specs.laws.ReadLaws.{ended_places, ended_read}
+use Rattle.event_dispatch.specs.laws.ReadLaws.{ended_read}
+use Rattle.event_dispatch.specs.laws.EndedLaws.{none_runs_then}
 use Rattle.event_dispatch.proofs.whole.run_then_end.Goals as goal
 
 pub returns-clause-goes : goal.returns-clause-goes
@@ -15,12 +16,12 @@ returns-clause-plain g c =
 
 pub returns-clause-cut : goal.returns-clause-cut
 returns-clause-cut g c =
-    goes_on_cut g.W.World.Tells (g.J.Judge.accepts c.args.judge.now) c.run_opened-ended.result (g.K.Sink.contents c.args.sink.now) (g.K.Sink.contents c.run_opened-ended.new.sink) (g.W.World.seen c.args.world.now) (g.W.World.seen c.run_opened-ended.new.world) (g.W.World.seen c.end.new.world) (engine_of c.args.run.now) c.end.ensures.continues c.end.ensures.talks c.end.ensures.no_point c.run_opened-ended.ensures.cut
+    goes_on_cut g.W.World.Tells (g.J.Judge.accepts c.args.judge.now) c.run_opened-ended.result (g.K.Sink.contents c.args.sink.now) (g.K.Sink.contents c.run_opened-ended.new.sink) (g.W.World.seen c.args.world.now) (g.W.World.seen c.run_opened-ended.new.world) (g.W.World.seen c.end.new.world) (engine_of c.args.run.now) c.end.ensures.continues c.end.ensures.talks c.end.ensures.ended.no_point c.run_opened-ended.ensures.cut
 
-pub returns-clause-places : goal.returns-clause-places
-returns-clause-places g c =
-    ended_places g.W.World.Tells (g.W.World.seen c.args.world.now) (g.W.World.seen c.run_opened-ended.new.world) (g.W.World.seen c.end.new.world) c.args.run.now.net c.run_opened-ended.ensures.continues c.end.ensures.continues c.run_opened-ended.ensures.places c.end.ensures.places
+pub returns-clause-none_runs : goal.returns-clause-none_runs
+returns-clause-none_runs g c =
+    none_runs_then (g.W.World.seen c.args.world.now) (g.W.World.seen c.run_opened-ended.new.world) (g.W.World.seen c.end.new.world) c.args.run.now.net c.run_opened-ended.ensures.continues c.end.ensures.continues c.run_opened-ended.ensures.places c.end.ensures.ended
 
 pub returns-clause-reads : goal.returns-clause-reads
 returns-clause-reads g c =
-    ended_read g.W.World.Tells c.run_opened-ended.result (g.W.World.seen c.args.world.now) (g.W.World.seen c.run_opened-ended.new.world) (g.W.World.seen c.end.new.world) c.args.run.now.net c.run_opened-ended.ensures.continues c.end.ensures.continues c.end.ensures.messages c.run_opened-ended.ensures.reads
+    ended_read g.W.World.Tells c.run_opened-ended.result (g.W.World.seen c.args.world.now) (g.W.World.seen c.run_opened-ended.new.world) (g.W.World.seen c.end.new.world) c.args.run.now.net c.run_opened-ended.ensures.continues c.end.ensures.continues c.end.ensures.ended.messages c.run_opened-ended.ensures.reads

@@ -1,6 +1,8 @@
 use Rattle.event_dispatch.specs.laws.WholeLaws.{cut_unopened, cut_failed, alike_unopened, alike_done, alike_failed}
 use Rattle.event_dispatch.specs.laws.PlainLaws.{unopened_plain, served_plain}
 use Rattle.event_dispatch.specs.laws.ReadLaws.{unopened_places, opened_places, unopened_read, all_read, failed_read}
+use Rattle.run_laws.specs.First.{net_at_first}
+use Rattle.event_dispatch.specs.laws.EndedLaws.{unopened_ended, opened_ended}
 use Rattle.event_dispatch.proofs.whole.serve.Goals as goal
 
 pub returns-in-Err-clause-reference_run : goal.returns-in-Err-clause-reference_run
@@ -45,11 +47,11 @@ returns-in-Err-clause-no_stray_call g c =
 
 pub returns-in-Ok-clause-no_stray_call : goal.returns-in-Ok-clause-no_stray_call
 returns-in-Ok-clause-no_stray_call g c =
-    opened_places g.W.World.Tells (g.W.World.seen c.args.world.now) (g.W.World.seen c.open.new.world) (g.W.World.seen c.run.new.world) c.open.ensures.continues c.in-Ok.ensures.continues c.in_default.ensures.opened c.in-Ok.ensures.places
+    opened_places g.W.World.Tells (g.W.World.seen c.args.world.now) (g.W.World.seen c.open.new.world) (g.W.World.seen c.run.new.world) c.open.ensures.continues c.in-Ok.ensures.continues c.in_default.ensures.opened c.in-Ok.ensures.none_runs.no_stray
 
 pub returns-in-Err-run-clause-no_stray_call : goal.returns-in-Err-run-clause-no_stray_call
 returns-in-Err-run-clause-no_stray_call g c =
-    opened_places g.W.World.Tells (g.W.World.seen c.args.world.now) (g.W.World.seen c.open.new.world) (g.W.World.seen c.run.new.world) c.open.ensures.continues c.in-Err-run.ensures.continues c.in_default.ensures.opened c.in-Err-run.ensures.places
+    opened_places g.W.World.Tells (g.W.World.seen c.args.world.now) (g.W.World.seen c.open.new.world) (g.W.World.seen c.run.new.world) c.open.ensures.continues c.in-Err-run.ensures.continues c.in_default.ensures.opened c.in-Err-run.ensures.none_runs.no_stray
 
 pub returns-in-Err-clause-all_bytes_are_messages : goal.returns-in-Err-clause-all_bytes_are_messages
 returns-in-Err-clause-all_bytes_are_messages g c =
@@ -62,3 +64,15 @@ returns-in-Ok-clause-all_bytes_are_messages g c =
 pub returns-in-Err-run-clause-all_bytes_are_messages : goal.returns-in-Err-run-clause-all_bytes_are_messages
 returns-in-Err-run-clause-all_bytes_are_messages g c =
     failed_read g.W.World.Tells (g.J.Judge.accepts c.args.judge.now) c.in-Err-run.served (g.K.Sink.contents c.args.sink.now) (g.K.Sink.contents c.run.new.sink) (g.W.World.seen c.args.world.now) (g.W.World.seen c.open.new.world) (g.W.World.seen c.run.new.world) c.in-Err-run.ensures.continues c.in_default.ensures.opened c.in-Err-run.ensures.runs c.in-Err-run.ensures.reads
+
+pub returns-in-Err-clause-every_application_ended : goal.returns-in-Err-clause-every_application_ended
+returns-in-Err-clause-every_application_ended g c =
+    λ told none. unopened_ended g.W.World.Tells (g.W.World.seen c.args.world.now) (g.W.World.seen c.open.new.world) c.in-Err.served c.in-Err.ensures.unopened told none
+
+pub returns-in-Ok-clause-every_application_ended : goal.returns-in-Ok-clause-every_application_ended
+returns-in-Ok-clause-every_application_ended g c =
+    opened_ended g.W.World.Tells (g.W.World.seen c.args.world.now) (g.W.World.seen c.open.new.world) (g.W.World.seen c.run.new.world) net_at_first c.in_default.ensures.opened c.in-Ok.ensures.none_runs
+
+pub returns-in-Err-run-clause-every_application_ended : goal.returns-in-Err-run-clause-every_application_ended
+returns-in-Err-run-clause-every_application_ended g c =
+    opened_ended g.W.World.Tells (g.W.World.seen c.args.world.now) (g.W.World.seen c.open.new.world) (g.W.World.seen c.run.new.world) net_at_first c.in_default.ensures.opened c.in-Err-run.ensures.none_runs

@@ -1,7 +1,8 @@
-use Rattle.std.proofs.Common.{ℕ, [], ◌∷◌, Contains, map, string_bytes, refl, sym, subst, ◌∙◌, arith}
+use Rattle.std.proofs.Common.{ℕ, [], ◌∷◌, Contains, map, string_bytes, refl, sym, subst, ◌∙◌, arith, inr}
 use Rattle.sim_world.specs.World.{seen_of}
 use Rattle.legosdn.specs.Headline.{faults_of}
 use Rattle.legosdn.proofs.Causes.{cause_then, refused_at_three, refuses}
+use Rattle.legosdn.proofs.Loads.{late_loaded, no_other}
 use Rattle.legosdn.proofs.Statuses.{is_left, is_late, not_zero}
 use Rattle.legosdn.proofs.Said.{reports}
 use Rattle.legosdn.proofs.Runs.{left_as, broke_as, diverged_as, completes, cut_short}
@@ -15,7 +16,18 @@ returns-in-Err-clause-input_refused g c = λ three.
     c.in-Err.stop c.in-Err.ensures.why (λ early. (c.in-Err.ensures.early early).1) c.halt.ensures.line (sym c.halt.ensures.status ∙ three)
 
 pub returns-in-Err-clause-refused_input_never_runs : goal.returns-in-Err-clause-refused_input_never_runs
-returns-in-Err-clause-refused_input_never_runs g c = λ refusal. rw c.halt.ensures.status (refuses (g.S.Source.remaining c.args.source.now) _ _ c.in-Err.stop refusal c.in-Err.ensures.late)
+returns-in-Err-clause-refused_input_never_runs g c = λ refusal. rw c.halt.ensures.status (refuses (g.S.Source.remaining c.args.source.now) _ (seen_of c.run.new.sim) c.in-Err.stop refusal c.in-Err.ensures.loaded)
+
+pub returns-in-Err-clause-input_loaded : goal.returns-in-Err-clause-input_loaded
+returns-in-Err-clause-input_loaded g c = λ within.
+    late_loaded (g.S.Source.remaining c.args.source.now) (g.S.Source.remaining c.run.new.source) (seen_of c.run.new.sim) c.in-Err.stop
+    (is_late c.in-Err.stop (subst (λ (status : ℕ). Contains (0 ∷ 5 ∷ 6 ∷ 7 ∷ 8 ∷ 9 ∷ 10 ∷ []) status) c.halt.ensures.status within)) c.in-Err.ensures.loaded
+
+pub returns-in-Ok-clause-no_other_session : goal.returns-in-Ok-clause-no_other_session
+returns-in-Ok-clause-no_other_session g c = inr c.in-Ok.ensures.loaded
+
+pub returns-in-Err-clause-no_other_session : goal.returns-in-Err-clause-no_other_session
+returns-in-Err-clause-no_other_session g c = no_other (g.S.Source.remaining c.args.source.now) (g.S.Source.remaining c.run.new.source) (seen_of c.run.new.sim) c.in-Err.stop c.in-Err.ensures.loaded
 
 pub returns-in-Ok-clause-whole_run : goal.returns-in-Ok-clause-whole_run
 returns-in-Ok-clause-whole_run g c = λ zero. c.in-Ok.ensures.runs

@@ -86,3 +86,24 @@ returns-in-Txn-clause-strays g c = λ none few.
     strays_of c.serve-served.new.world (g.K.Sink.contents c.args.sink.now) (g.K.Sink.contents c.serve-served.new.sink) (served.Txn c.in-Txn.fault) c.keeps_word.ensures.word c.keeps_word.ensures.strays
     (links_from_first (seen_of c.args.sim.now) (seen_of c.serve-served.new.world) none c.serve-served.ensures.continues.given (c.serve-served.ensures.no_stray_call tt none c.keeps_word.ensures.word)) tt
     (so_cut c.args.sim.now c.serve-served.new.world (g.K.Sink.contents c.args.sink.now) (g.K.Sink.contents c.serve-served.new.sink) none few c.serve-served.ensures.continues c.serve-served.result (served.Txn c.in-Txn.fault) c.in-Txn.is c.serve-served.ensures.reference_run_until_fault)
+
+pub returns-in-Ended-clause-ended : goal.returns-in-Ended-clause-ended
+returns-in-Ended-clause-ended g c = λ none. c.serve-served.ensures.every_application_ended tt none
+
+pub returns-in-EventsLeft-clause-ended : goal.returns-in-EventsLeft-clause-ended
+returns-in-EventsLeft-clause-ended g c = λ none. c.serve-served.ensures.every_application_ended tt none
+
+pub returns-in-WriteFault-clause-ended : goal.returns-in-WriteFault-clause-ended
+returns-in-WriteFault-clause-ended g c = λ none. c.serve-served.ensures.every_application_ended tt none
+
+pub returns-in-Shut-clause-ended : goal.returns-in-Shut-clause-ended
+returns-in-Shut-clause-ended g c = λ none. c.serve-served.ensures.every_application_ended tt none
+
+pub returns-in-NextFault-clause-ended : goal.returns-in-NextFault-clause-ended
+returns-in-NextFault-clause-ended g c = λ none. c.serve-served.ensures.every_application_ended tt none
+
+pub returns-in-NoMemory-clause-ended : goal.returns-in-NoMemory-clause-ended
+returns-in-NoMemory-clause-ended g c = λ none. c.serve-served.ensures.every_application_ended tt none
+
+pub returns-in-Txn-clause-ended : goal.returns-in-Txn-clause-ended
+returns-in-Txn-clause-ended g c = λ none. c.serve-served.ensures.every_application_ended tt none

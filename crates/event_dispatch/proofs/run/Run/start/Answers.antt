@@ -12,13 +12,13 @@ pub returns-clause-talks : goal.returns-clause-talks
 returns-clause-talks g c = keeps_restarted g.W.World.Tells c.args.self.now.app.state.index (g.W.World.seen c.args.world.now) (g.W.World.seen c.restart.new.world) c.requires c.in_ok-back.ensures.ok
 
 pub returns-in_err-back-clause-places : goal.returns-in_err-back-clause-places
-returns-in_err-back-clause-places g c = started_places c.args.self.now.app.state.index c.args.self.now.net c.restart.ensures.own
+returns-in_err-back-clause-places g c = started_places c.args.self.now.app.state.index c.args.self.now.net c.requires c.restart.ensures.own
 
 pub returns-in_err-back-clause-no_point : goal.returns-in_err-back-clause-no_point
 returns-in_err-back-clause-no_point g c = started_quietly c.args.self.now.app.state.index c.requires c.restart.ensures.own
 
 pub returns-clause-places : goal.returns-clause-places
-returns-clause-places g c = started_places c.args.self.now.app.state.index c.args.self.now.net c.restart.ensures.own
+returns-clause-places g c = started_places c.args.self.now.app.state.index c.args.self.now.net c.requires c.restart.ensures.own
 
 pub returns-clause-no_point : goal.returns-clause-no_point
 returns-clause-no_point g c = started_quietly c.args.self.now.app.state.index c.requires c.restart.ensures.own
