@@ -18,13 +18,14 @@ use Rattle.sim_world.specs.World.{WorldData, given_of, seen_of}
 use Rattle.lego_model.specs.History.{stimuli_in}
 use Rattle.run_laws.specs.laws.StimuliLaws.{told-few}
 use Rattle.run_laws.specs.Promise.{PremiseSoFar}
-use Rattle.run_laws.specs.Cut.{CutAlike, CutWriting}
+use Rattle.run_laws.specs.AllLines.{WroteAll}
+use Rattle.run_laws.specs.Cut.{CutAlike, CutWithLines, CutWriting}
 use Rattle.lego_model.specs.CutRun.{Progress, WroteSoFar, WasWriting, AlikeUpTo, NothingDone}
 use Rattle.run_laws.specs.laws.DialogueLaws.{applications_in_place}
 use Rattle.event_dispatch.specs.declared.served.Served.{Served}
 use Rattle.event_dispatch.specs.declared.served.Served.TheVariants as served
 use Rattle.event_dispatch.specs.Serves.{IsCut}
-use Rattle.legosdn.specs.Said.{all_allowed, HoldsAsSaid, CutRun, WritingRun}
+use Rattle.legosdn.specs.Said.{all_allowed, HoldsAsSaid, CutRun, LinesRun, WritingRun}
 use Rattle.legosdn.specs.Headline.{KeepsLines, UpToPoint}
 use Rattle.legosdn.proofs.Said.{told_in, are_said, kept_to_lines}
 use Rattle.legosdn.proofs.Places.{CountsNone, behind_for, none_strays, shut_strays, idle_strays}
@@ -68,6 +69,21 @@ cut_at_place sim a b order lines cut =
       at_once = cut.at_once keeps;
     }
 
+-- no line is missing up to there
+pub lines_at_place : (sim : WorldData) (a b : Option (List ℕ)) → InOrder (seen_of sim) → KeepsLines sim → CutWithLines all_allowed (seen_of sim) a b → UpToPoint sim (λ last. LinesRun last a b)
+lines_at_place sim a b order lines cut =
+    let quiet = cut.last_point order in
+    let keeps = conforms_at sim cut.last order cut.given quiet (cut.messages order) in
+    let behind = cut.alike keeps in
+    record {
+      last = cut.last;
+      given = sym cut.given;
+      last_point = quiet;
+      messages = cut.messages order;
+      holds = record { behind = behind; as_said = said_so (WroteAll all_allowed cut.last a b) behind.run (lines_at sim cut.last lines cut.given cut.later) };
+      at_once = cut.at_once keeps;
+    }
+
 pub writing_at_place : (sim : WorldData) (a b : Option (List ℕ)) → InOrder (seen_of sim) → KeepsLines sim → CutWriting all_allowed (seen_of sim) a b → UpToPoint sim (λ last. WritingRun last a b)
 writing_at_place sim a b order lines cut =
     let quiet = cut.last_point order in
@@ -100,6 +116,12 @@ cut_strays sim a b order none links cut =
     let keeps = conforms_at sim cut.last order cut.given (cut.last_point order) (cut.messages order) in
     none_strays sim none (behind_for (cut.alike keeps).in_order cut.no_other_called) (applications_in_place (seen_of sim) (cut.at_once keeps)) links
 
+lines_strays : (sim : WorldData) (a b : Option (List ℕ)) → InOrder (seen_of sim) → CountsNone sim → AreExpectedOnLinks (seen_of sim).history (at_first (seen_of sim).given) → CutWithLines all_allowed (seen_of sim) a b
+    → (seen_of sim).counts.shorts ≡ 0 → (seen_of sim).counts.strays ≡ 0
+lines_strays sim a b order none links cut =
+    let keeps = conforms_at sim cut.last order cut.given (cut.last_point order) (cut.messages order) in
+    none_strays sim none (behind_for (cut.alike keeps).run.in_order cut.no_other_called) (applications_in_place (seen_of sim) (cut.at_once keeps)) links
+
 writing_strays : (sim : WorldData) (a b : Option (List ℕ)) → InOrder (seen_of sim) → CountsNone sim → AreExpectedOnLinks (seen_of sim).history (at_first (seen_of sim).given) → CutWriting all_allowed (seen_of sim) a b
     → (seen_of sim).counts.shorts ≡ 0 → (seen_of sim).counts.strays ≡ 0
 writing_strays sim a b order none links cut =
@@ -118,8 +140,8 @@ strays_of sim a b (served.Ended events) order none links fault cut = absurd faul
 strays_of sim a b (served.EventsLeft left) order none links fault cut = absurd fault
 strays_of sim a b served.WriteFault order none links fault cut = writing_strays sim a b order none links cut
 strays_of sim a b served.Shut order none links fault cut = shut_strays sim none cut.history
-strays_of sim a b served.NextFault order none links fault cut = cut_strays sim a b order none links cut
-strays_of sim a b (served.Txn fault_of) order none links fault cut = cut_strays sim a b order none links cut
+strays_of sim a b served.NextFault order none links fault cut = lines_strays sim a b order none links cut
+strays_of sim a b (served.Txn fault_of) order none links fault cut = lines_strays sim a b order none links cut
 strays_of sim a b served.NoMemory order none links fault cut = strays_or_nothing sim a b order none links cut
 
 -- ---- What the engine promises of a run that a fault ends

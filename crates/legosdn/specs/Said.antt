@@ -10,6 +10,7 @@ use Rattle.lego_model.specs.SessionLines.{SessionValue}
 use Rattle.session_text.specs.Loading.{given_by}
 use Rattle.lego_model.specs.Application.{index}
 use Rattle.lego_model.specs.ReferenceRun.{fresh}
+use Rattle.run_laws.specs.AllLines.{WroteAll, CutBehindLines}
 use Rattle.lego_model.specs.CutRun.{start_said, Progress, WroteSoFar, WasWriting, AlikeUpTo, CutBetweenLines, CutWhileWriting}
 
 -- the judge lets every table be
@@ -44,6 +45,11 @@ HoldsAsSaid {last} Holds up_to = without_links last.given.fails ≡ [] → WithE
 pub record CutRun (last : Seen Scripts) (contents now_contents : Option (List ℕ)) : Type 0 where
   pub run : CutBetweenLines all_allowed last contents now_contents
   pub as_said : HoldsAsSaid (WroteSoFar all_allowed last contents now_contents) run
+
+-- and none is missing of the start and of all events before the fault
+pub record LinesRun (last : Seen Scripts) (contents now_contents : Option (List ℕ)) : Type 0 where
+  pub behind : CutBehindLines all_allowed last contents now_contents
+  pub as_said : HoldsAsSaid (WroteAll all_allowed last contents now_contents) behind.run
 
 -- the sink took a part of those of what was done last
 pub record WritingRun (last : Seen Scripts) (contents now_contents : Option (List ℕ)) : Type 0 where

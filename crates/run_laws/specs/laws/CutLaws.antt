@@ -1,5 +1,6 @@
 -- Laws of runs that a fault ends: their parts are the run of the reference controller so far.
-use Rattle.std.proofs.Common.{◌≡◌, ℕ, ◌+◌, ◌≤◌, Bool, true, false, List, [], ◌∷◌, ◌++◌, length, drop, Option, refl, sym, ap, ap₂, ◌∙◌, subst, arith, inl, inr}
+use Rattle.std.specs.List.{AllByRecursion, list_any}
+use Rattle.std.proofs.Common.{◌≡◌, ◌⊎◌, ℕ, ◌+◌, ◌≤◌, ◌||◌, Bool, true, false, List, [], ◌∷◌, ◌++◌, length, drop, Option, refl, sym, ap, ap₂, ◌∙◌, subst, arith, inl, inr}
 use Rattle.std.specs.Io.KnownBytes.{append_known}
 use Rattle.std.proofs.lemmas.List.{append-nil, append_assoc}
 use Rattle.of_types.specs.declared.journal.WorldStim.{WorldStim}
@@ -8,7 +9,7 @@ use Rattle.lego_io.specs.laws.ToldLaws.{append_known-nil}
 use Rattle.lego_model.specs.Journal.{Reply, Start}
 use Rattle.lego_model.specs.Places.{Place}
 use Rattle.lego_model.specs.laws.ScriptedLaws.{fronts-parts, start_fronts-parts}
-use Rattle.lego_model.specs.Controller.{Run, happen}
+use Rattle.lego_model.specs.Controller.{App, Run, happen}
 use Rattle.outside.specs.Seen.{Given, Seen}
 use Rattle.outside.specs.Conforming.{Conforming}
 use Rattle.lego_model.specs.History.{starts_in, replies_in, own_acts, stimuli_in}
@@ -21,14 +22,15 @@ use Rattle.run_laws.specs.laws.MoveLaws.{moved-none, moved-then, moved-as}
 use Rattle.run_laws.specs.laws.DispatchWaitingLaws.{settle-times, times-more}
 use Rattle.run_laws.specs.LastReport.{last_text}
 use Rattle.run_laws.specs.laws.LastReportLaws.{report-ends, last-shown}
-use Rattle.run_laws.specs.laws.WholeLaws.{no-stimuli, said-of, told-said}
+use Rattle.run_laws.specs.laws.WholeLaws.{no-own, no-stimuli, said-of, told-said}
 use Rattle.run_laws.specs.Whole.{whole, RanAs}
 use Rattle.run_laws.specs.laws.FirstLaws.{stands-first}
 use Rattle.run_laws.specs.First.{IsOpened, engine_at_first}
 use Rattle.run_laws.specs.Endings.{WholeMoves, Leaves}
 use Rattle.run_laws.specs.laws.FinishLaws.{said-before, runs-alike, all-in-order}
 use Rattle.run_laws.specs.Cut.{GoneSoFar, RanTo}
-use Rattle.lego_model.specs.CutRun.{start_said, reference_so_far, Progress, WroteSoFar, WasWriting, AlikeUpTo, CutBetweenLines, CutWhileWriting}
+use Rattle.run_laws.specs.AllLines.{NoneMissing, WroteAll, AllTold, CutBehindLines}
+use Rattle.lego_model.specs.CutRun.{start_said, start_of, reference_so_far, reference_to, Progress, WroteSoFar, WasWriting, AlikeUpTo, CutBetweenLines, CutWhileWriting}
 
 -- ---- Parts of a run, one behind the other
 
@@ -37,7 +39,7 @@ pub gone-none : {Own : Type 0} (allows : List Place → Bool) (seen : Seen Own) 
 gone-none allows seen e settled = record { stimuli = []; begun = []; begun_one = omega arith; moved = moved-none seen e settled }
 
 -- rounds follow
-pub gone-rounds : {Own : Type 0} (allows : List Place → Bool) (number : ℕ) (first second : List ℕ) (a b c : Seen Own) (e1 e2 e3 : Engine) → Moved [] all_started first a b e1 e2 → Rounds allows number second b c e2 e3 → GoneSoFar allows true 0 (first ++ second) a c e1 e3
+abbrev pub gone-rounds : {Own : Type 0} (allows : List Place → Bool) (number : ℕ) (first second : List ℕ) (a b c : Seen Own) (e1 e2 e3 : Engine) → Moved [] all_started first a b e1 e2 → Rounds allows number second b c e2 e3 → GoneSoFar allows true 0 (first ++ second) a c e1 e3
 gone-rounds allows number first second a b c e1 e2 e3 m rs = record {
   stimuli = rs.stimuli;
   begun = [];
@@ -185,6 +187,62 @@ cut-so allows started n text contents now_contents first last e is g few keeps w
       alike = runs-so last e (f (start_said last starts replies)) keeps so;
       written = written ∙ ap (append_known contents) (sym so.text_so);
     })
+
+-- ---- No line is missing
+
+module _ {Own : Type 0} (allows : List Place → Bool) where
+  none-missing : {last : Seen Own} (far : Progress last) (e : Engine) (starts : List Start) (replies : List Reply) (r : Run) → far.started ≡ true → Stands last e starts replies (reference_to allows far r) → ((far.begun ≡ []) × (far.number ≡ 0)) ⊎ (e.queue ≡ []) ⊎ (e.alive ≡ true)
+      → NoneMissing allows far r
+  none-missing far e starts replies r started stands (inl settled) = record { started = started; next = inl (record { none_begun = settled.0; none_dispatched = settled.1 }) }
+  none-missing far e starts replies r started stands (inr (inl none)) = record { started = started; next = inr (inl (stands.queue ∙ none)) }
+  none-missing far e starts replies r started stands (inr (inr alive)) = record {
+    started = started;
+    next = inr (inr (ap (λ (apps : List App). list_any (λ a. a.alive) apps) stands.apps ∙ ap (λ (b : Bool). b || false) alive));
+  }
+
+  nothing-behind : {X : Type 0} (xs : List X) → drop (length xs) xs ≡ []
+  nothing-behind [] = refl
+  nothing-behind (x ∷ xs) = nothing-behind xs
+
+  used-up : {X : Type 0} (told before more : List X) → told ≡ before ++ more → before ≡ [] → drop (length more) told ≡ []
+  used-up told before more is none = ap (drop (length more)) (is ∙ ap (λ (xs : List _). xs ++ more) none) ∙ nothing-behind more
+
+  -- all that is told was done
+  all-told : (f : Run → Run) (xs : List WorldStim) (text : List ℕ) (first last : Seen Own) (e : Engine) → IsOpened first → Moves xs f text first last engine_at_first e → AllTold (f (start_of last))
+  all-told f xs text first last e is m =
+      let starts = starts_in (own_acts last) in
+      let replies = replies_in (own_acts last) in
+      let fronts = said-of first last starts m.starts replies m.replies is m.read_starts m.read_replies (told-said last) in
+      let r0 : Run = before_start first.given.declared (fresh starts replies) in
+      let stands = m.stands starts replies r0 fronts.0 fronts.1 (stands-first first starts replies is) in
+      subst (λ (r : Run). AllTold (f r)) (begun-same first last starts replies m.given)
+      (subst (λ (apps : List App). AllByRecursion (λ a. (a.starts ≡ []) × (a.replies ≡ [])) apps) (sym stands.apps)
+      ((used-up starts (starts_in (own_acts first)) m.starts m.read_starts (ap starts_in (no-own first is)), used-up replies (replies_in (own_acts first)) m.replies m.read_replies (ap replies_in (no-own first is))), tt))
+
+  pub all-so : (n : ℕ) (text : List ℕ) (contents now_contents : Option (List ℕ)) (first last : Seen Own) (e : Engine) (is : IsOpened first) (g : GoneSoFar allows true n text first last engine_at_first e) → n ≤ 1000 → ((g.begun ≡ []) × (n ≡ 0)) ⊎ (e.queue ≡ []) ⊎ (e.alive ≡ true)
+      → Conforming last → now_contents ≡ append_known contents text → CutBehindLines allows last contents now_contents
+  all-so n text contents now_contents first last e is g few next keeps written =
+      let f = reference_so_far allows true g.stimuli g.begun n in
+      let far : Progress last = far-of is g few in
+      let ran = ran-to f (g.stimuli ++ g.begun) text first last e is g.moved.moves in
+      let so : (starts : List Start) (replies : List Reply) → AreSaid last starts replies → WroteAll allows last contents now_contents far (start_said last starts replies) = λ starts replies said.
+      let were = ran.as_said starts replies said in
+      record {
+        so_far = record { alike = runs-so last e (f (start_said last starts replies)) keeps were; written = written ∙ ap (append_known contents) (sym were.text_so) };
+        none_missing = none-missing far e were.starts were.replies (start_said last starts replies) refl were.stands next;
+      } in
+      record {
+        run = record { far = far; as_told = so (starts_in (own_acts last)) (replies_in (own_acts last)) (told-said last); as_said = so; at_once = g.moved.settled.speaks.at_once; in_order = g.moved.settled.orderly };
+        all_told = all-told f (g.stimuli ++ g.begun) text first last e is g.moved.moves;
+      }
+
+  -- behind whole rounds
+  pub rounds-so : (number : ℕ) (first_text second_text : List ℕ) (contents now_contents : Option (List ℕ)) (first begun last : Seen Own) (e1 e2 : Engine) → IsOpened first → Moved [] all_started first_text first begun engine_at_first e1 → Rounds allows number second_text begun last e1 e2
+      → Conforming last → now_contents ≡ append_known contents (first_text ++ second_text) → CutBehindLines allows last contents now_contents
+  rounds-so number first_text second_text contents now_contents first begun last e1 e2 is m rs keeps written =
+      all-so 0 (first_text ++ second_text) contents now_contents first last e2 is (gone-rounds allows number first_text second_text first begun last engine_at_first e1 e2 m rs) (omega arith) (inl (refl, refl)) keeps written
+
+-- ---- Where the sink failed
 
 -- the sink failed at the lines of the start
 pub start-so : {Own : Type 0} (allows : List Place → Bool) (more : List ℕ) (contents now_contents : Option (List ℕ)) (first last : Seen Own) (e : Engine) → IsOpened first → Moved [] all_started more first last engine_at_first e → Conforming last → TookPart contents now_contents more
