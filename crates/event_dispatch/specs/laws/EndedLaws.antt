@@ -1,5 +1,5 @@
 -- Laws of the end of the application: no application runs behind it, where none ran before the run and no other one was called.
-use Rattle.std.specs.Prelude.{◌≡◌, ◌==◌, ℕ, Bool, true, false, not, List, [], ◌∷◌, ◌++◌, filter, if◌then◌else◌, refl}
+use Rattle.std.specs.Prelude.{◌≡◌, ◌==◌, ℕ, Bool, true, false, not, List, [], ◌∷◌, ◌++◌, ◌||◌, refl}
 use Rattle.std.specs.List.{AllByRecursion, list_any}
 use Rattle.std.proofs.Common.{sym, ap, ◌∙◌, subst, true≢false}
 use Rattle.std.proofs.lemmas.Bool.{eq-eqb}
@@ -72,10 +72,7 @@ steps_run app (step ∷ steps) s own all = steps_run app steps (after_step step 
 
 none_of : (app : ℕ) (running : List ℕ) → AreAll app running → list_any (λ a. a == app) running ≡ false → running ≡ []
 none_of app [] all none = refl
-none_of app (x ∷ xs) all none = absurd (true≢false (sym (ap (λ b. any_by b (list_any (λ a. a == app) xs)) (eq-eqb x app all.0)) ∙ none))
-  where
-    any_by : Bool → Bool → Bool
-    any_by b c = if b then true else c
+none_of app (x ∷ xs) all none = absurd (true≢false (sym (ap (λ (b : Bool). b || list_any (λ a. a == app) xs) (eq-eqb x app all.0)) ∙ none))
 
 -- no other one was called, and that one does not run
 none_left : {Own : Type 0} (Tells : Type 0) (old new : Seen Own) → Tells → Continues Tells old new → CallsFor index old new → is_running index (state new) ≡ false → (state old).running ≡ [] → (state new).running ≡ []
