@@ -129,6 +129,11 @@ none_done : (bytes : List ℕ) (left : Option (List ℕ)) (seen : Seen Scripts) 
 none_done bytes left seen refusal (inl none) e = none
 none_done bytes left seen refusal (inr loaded) e = absurd (refused_or_loaded loaded e)
 
+-- one that spells a session is none
+pub none_refused : (told left : Option (List ℕ)) (seen : Seen Scripts) (refusal : Refusal) (status : ℕ) → Loaded told left seen → IfSome told (λ input. session_of input ≡ Err refusal → NeverRuns status seen)
+none_refused None left seen refusal status loaded = tt
+none_refused (Some bytes) left seen refusal status loaded = λ e. absurd (refused_or_loaded loaded e)
+
 pub refuses : (told left : Option (List ℕ)) (seen : Seen Scripts) (stop : Stop) (refusal : Refusal) → LoadedAt stop told left seen → IfSome told (λ input. session_of input ≡ Err refusal → NeverRuns (stop_status stop) seen)
 refuses None left seen stop refusal loaded = tt
 refuses (Some bytes) left seen stop refusal loaded = λ e. (not_late stop (λ late. refused_or_loaded (late_loaded (Some bytes) left seen stop late loaded) e), none_done bytes left seen refusal (no_other (Some bytes) left seen stop loaded) e)

@@ -1,7 +1,7 @@
 use Rattle.std.proofs.Common.{ℕ, [], ◌∷◌, Contains, map, string_bytes, refl, sym, subst, ◌∙◌, arith, inr}
 use Rattle.sim_world.specs.World.{seen_of}
 use Rattle.legosdn.specs.Headline.{faults_of}
-use Rattle.legosdn.proofs.Causes.{cause_then, refused_at_three, refuses}
+use Rattle.legosdn.proofs.Causes.{cause_then, refused_at_three, none_refused, refuses}
 use Rattle.legosdn.proofs.Loads.{late_loaded, no_other}
 use Rattle.legosdn.proofs.Statuses.{is_left, is_late, not_zero}
 use Rattle.legosdn.proofs.Said.{reports}
@@ -14,6 +14,12 @@ returns-in-Err-clause-input_refused g c = λ three.
     (faults_of (g.S.Source.faults c.args.source.now) (g.K.Sink.faults c.args.sink.now) (seen_of c.args.sim.now))
     (faults_of (g.S.Source.faults c.run.new.source) (g.K.Sink.faults c.run.new.sink) (seen_of c.run.new.sim))
     c.in-Err.stop c.in-Err.ensures.why (λ early. (c.in-Err.ensures.early early).1) c.halt.ensures.line (sym c.halt.ensures.status ∙ three)
+
+pub returns-in-Ok-clause-refused_input_never_runs : goal.returns-in-Ok-clause-refused_input_never_runs
+returns-in-Ok-clause-refused_input_never_runs g c = λ refusal. none_refused (g.S.Source.remaining c.args.source.now) (g.S.Source.remaining c.run.new.source) (seen_of c.run.new.sim) refusal 0 c.in-Ok.ensures.loaded
+
+pub returns-in-Ok-clause-input_loaded : goal.returns-in-Ok-clause-input_loaded
+returns-in-Ok-clause-input_loaded g c = λ within. c.in-Ok.ensures.loaded
 
 pub returns-in-Err-clause-refused_input_never_runs : goal.returns-in-Err-clause-refused_input_never_runs
 returns-in-Err-clause-refused_input_never_runs g c = λ refusal. rw c.halt.ensures.status (refuses (g.S.Source.remaining c.args.source.now) _ (seen_of c.run.new.sim) c.in-Err.stop refusal c.in-Err.ensures.loaded)
