@@ -190,6 +190,13 @@ cut-so allows started n text contents now_contents first last e is g few keeps w
 
 -- ---- No line is missing
 
+nothing-behind : {X : Type 0} (xs : List X) → drop (length xs) xs ≡ []
+nothing-behind [] = refl
+nothing-behind (x ∷ xs) = nothing-behind xs
+
+used-up : {X : Type 0} (told before more : List X) → told ≡ before ++ more → before ≡ [] → drop (length more) told ≡ []
+used-up told before more is none = ap (drop (length more)) (is ∙ ap (λ (xs : List _). xs ++ more) none) ∙ nothing-behind more
+
 module _ {Own : Type 0} (allows : List Place → Bool) where
   none-missing : {last : Seen Own} (far : Progress last) (e : Engine) (starts : List Start) (replies : List Reply) (r : Run) → far.started ≡ true → Stands last e starts replies (reference_to allows far r) → ((far.begun ≡ []) × (far.number ≡ 0)) ⊎ (e.queue ≡ []) ⊎ (e.alive ≡ true)
       → NoneMissing allows far r
@@ -199,13 +206,6 @@ module _ {Own : Type 0} (allows : List Place → Bool) where
     started = started;
     next = inr (inr (ap (λ (apps : List App). list_any (λ a. a.alive) apps) stands.apps ∙ ap (λ (b : Bool). b || false) alive));
   }
-
-  nothing-behind : {X : Type 0} (xs : List X) → drop (length xs) xs ≡ []
-  nothing-behind [] = refl
-  nothing-behind (x ∷ xs) = nothing-behind xs
-
-  used-up : {X : Type 0} (told before more : List X) → told ≡ before ++ more → before ≡ [] → drop (length more) told ≡ []
-  used-up told before more is none = ap (drop (length more)) (is ∙ ap (λ (xs : List _). xs ++ more) none) ∙ nothing-behind more
 
   -- all that is told was done
   all-told : (f : Run → Run) (xs : List WorldStim) (text : List ℕ) (first last : Seen Own) (e : Engine) → IsOpened first → Moves xs f text first last engine_at_first e → AllTold (f (start_of last))
