@@ -6,6 +6,8 @@
 #![tactic(auto)]
 
 mod scribe;
+#[cfg(test)]
+mod tests;
 mod traced;
 
 pub use traced::Traced;
