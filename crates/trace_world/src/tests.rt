@@ -1,8 +1,10 @@
-//! The words of messages. Bytes and words are written out by hand, from the layouts of OpenFlow 1.0.0 and
+//! The words of messages, frames and calls. Bytes and words are written out by hand, from the layouts of OpenFlow 1.0.0 and
 //! of docs/FRAMES.md.
 
 use crate::scribe::Scribe;
+use crate::traced::Traced;
 use lego_io::MemSink;
+use outside::{Mute, Taken, World};
 use std::alloc::Global;
 use std::test::Fail;
 
@@ -41,6 +43,56 @@ const MESSAGES: &str = "0100000800000000 => HELLO xid=0 bytes=0
 0116000800000000 => 8 bytes that are no message: BadType
 010d001800000004 ffffffff00010008 000c0008 *4 => 24 bytes that are no message: BadAction { place: 0, kind: BadType }";
 
+/// What the host gives an application, by `<`, and what the application gives in pieces, by `>`: their bytes as digits.
+const FRAMES: &str = "< 0000000101
+< 0000001a02 0000000000000001 0000000000000005 01 0000000000000001
+< 0000002c02 0000000000000002 0000000000000005 03 0000000000000001 010a001200000000 00000007006400010100
+< 0000001e02 0000000000000003 0000000000000005 06 0000000000000001 00030001
+< 000000020300 000000060301 00030001 000000060302 0001abcd 000000020303
+< 00000002
+> 0000000106
+> 000000110100000000
+> 00000001 0112000800000004
+> 0000000102000000
+> 0103000000010400
+> 00000305
+> 0000
+> 00000005050101abcd
+> 0000000001020304
+> 0000000106";
+
+/// The lines of these frames.
+const LINES: &str = "app 0 started
+app 0 <- RESTORE bytes=0
+app 0 <- EVENT 1 join switch 1
+app 0 <- EVENT 2 packet_in switch 1 PACKET_IN xid=0 in_port=1 reason=ACTION bytes=0 of=100 buffer=7
+app 0 <- EVENT 3 error switch 1 FLOW_MOD_FAILED OVERLAP
+app 0 <- ANSWER fine
+app 0 <- ANSWER error FLOW_MOD_FAILED OVERLAP
+app 0 <- ANSWER statistics FLOW bytes=2
+app 0 <- ANSWER unknown switch
+app 0 <- 4 bytes that are no frame
+app 0 -> READY
+app 0 -> MESSAGE switch 1 BARRIER_REQUEST xid=4
+app 0 -> SAVE
+app 0 -> KEEP
+app 0 -> UNDO
+app 0 -> DONE
+app 0 -> DONE stop checkpoint bytes=2
+app 0 -> 8 bytes that are no frame: BadKind
+app 0 -> 5 bytes
+app 0 ended
+";
+
+/// The lines of each call of a world in which nothing happens; the second write fails.
+const FAILED: &str = "world stays shut, port 6633
+app 0 not started
+app 0 gone
+app 0 silent
+switch 1 link failed
+switch 1 link failed
+";
+
 /// The bytes of words of digits and counts of zeros.
 fn bytes_of(alloc: Global, words: &str) -> Result<Vec<u8>, Fail> {
     let mut bytes = Vec::new(alloc);
@@ -68,5 +120,44 @@ fn messages_in_words(rt: HostRuntime) -> Result<(), Fail> {
         let line = format!(in rt.alloc(); "switch 1 <- {words}\n")?;
         assert!(rt; sink.bytes() == line.as_bytes(), "{row}");
     }
+    Ok(())
+}
+
+#[test]
+fn frames_in_words(rt: HostRuntime) -> Result<(), Fail> {
+    let mut scribe = Scribe::new(rt.alloc(), MemSink::new(rt.alloc(), 2048, &[])?);
+    scribe.started(0, Ok(()));
+    for row in FRAMES.lines() {
+        let (way, digits) = row.split_once(" ").ok_or("no way")?;
+        let bytes = bytes_of(rt.alloc(), digits)?;
+        if way == "<" {
+            scribe.gave(0, &bytes, Ok(()));
+        } else {
+            scribe.took(0, Ok(Taken::Some(bytes.len())), &bytes);
+        }
+    }
+    scribe.ended(0);
+    assert!(rt; scribe.into_sink().bytes() == LINES.as_bytes());
+    Ok(())
+}
+
+#[test]
+fn failed_calls_in_words(rt: HostRuntime) -> Result<(), Fail> {
+    let (mut world, mut buf) = (Mute::new(), vec![in rt.alloc(); 0; 65_535]?);
+    let sink = MemSink::new(rt.alloc(), 2048, &[2])?;
+    let mut traced = Traced::new(rt.alloc(), &mut world, sink);
+    assert!(rt; traced.open(6633).is_err());
+    assert!(rt; traced.next(&mut buf).is_err());
+    assert!(rt; traced.start(0, &[]).is_err());
+    assert!(rt; traced.give(0, b"").is_err());
+    assert!(rt; traced.take(0, &mut buf) == Ok(Taken::Silent));
+    traced.end(0);
+    let barrier = [1, 18, 0, 8, 0, 0, 0, 4];
+    if of_wire::check(&barrier).is_ok() {
+        assert!(rt; traced.send(1, &barrier).is_err());
+    }
+    assert!(rt; traced.recv(1, &mut buf).is_err());
+    let (_, sink) = traced.into_parts();
+    assert!(rt; sink.bytes() == FAILED.as_bytes());
     Ok(())
 }
