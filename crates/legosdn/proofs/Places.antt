@@ -15,7 +15,7 @@ use Rattle.app_visor.specs.CallsFor.{IsActFor, IsCallFor, CallsFor}
 use Rattle.lego_model.specs.OrderlySteps.{IsOrderlyAct, IsOrderly}
 use Rattle.lego_model.specs.Application.{index}
 use Rattle.sim_world.specs.Scripts.{Scripts}
-use Rattle.sim_world.specs.Places.{IsActInPlace, IsInPlace, AreInPlace}
+use Rattle.sim_world.specs.Places.{IsActExpected, IsExpected, AreExpected}
 use Rattle.sim_world.specs.World.{WorldData, given_of, seen_of}
 
 -- ---- Calls for the one application
@@ -63,7 +63,7 @@ behind_for {last} {seen} ordered own = subst (AllByRecursion (IsCallFor index)) 
 runs_as : (of : ℕ) (running : Bool) (s : State) → of ≡ index → ((of == index) ≡ true → is_running index s ≡ running) → is_running of s ≡ running
 runs_as of running s is so = subst (λ (app : ℕ). is_running app s ≡ running) (sym is) (so (eq-eqb of index is))
 
-act_in_place : (act : Act) (s : State) → IsActFor index act → IsInPlaceOf index (act_of (Acted act)) (is_running index s) → IsActInPlace act s
+act_in_place : (act : Act) (s : State) → IsActFor index act → IsInPlaceOf index (act_of (Acted act)) (is_running index s) → IsActExpected act s
 act_in_place (Stim x) s own so = tt
 act_in_place (Started of true) s own so = tt
 act_in_place (Started of false) s own so = runs_as of false s own so
@@ -74,7 +74,7 @@ act_in_place (Ended of) s own so = tt
 act_in_place (Sent d bytes) s own so = tt
 act_in_place (Got d bytes) s own so = tt
 
-step_in_place : (step : WorldStep) (s : State) → IsCallFor index step → IsInPlaceOf index (act_of step) (is_running index s) → IsExpectedOnLink step s → IsInPlace step s
+step_in_place : (step : WorldStep) (s : State) → IsCallFor index step → IsInPlaceOf index (act_of step) (is_running index s) → IsExpectedOnLink step s → IsExpected step s
 step_in_place (Acted act) s own so link = act_in_place act s own so
 step_in_place (TookInto of (took.Bytes bytes) room) s own so link = tt
 step_in_place (TookInto of took.Closed room) s own so link = runs_as of true s own so
@@ -91,7 +91,7 @@ step_in_place NextFailed s own so link = tt
 step_in_place (SendFailed d) s own so link = link
 step_in_place (RecvFailed d) s own so link = link
 
-steps_in_place : (steps : List WorldStep) (s : State) → AllByRecursion (IsCallFor index) steps → AreInPlaceOf index steps s → AreExpectedOnLinks steps s → AreInPlace steps s
+steps_in_place : (steps : List WorldStep) (s : State) → AllByRecursion (IsCallFor index) steps → AreInPlaceOf index steps s → AreExpectedOnLinks steps s → AreExpected steps s
 steps_in_place [] s own so links = tt
 steps_in_place (step ∷ steps) s own so links = (step_in_place step s own.0 so.0 links.0, steps_in_place steps (after_step step s) own.1 so.1 links.1)
 
@@ -107,7 +107,7 @@ links_from_first old new none given stays =
 
 -- what the world says of calls that are no stray ones
 abbrev pub CountsNone : WorldData → Type 0
-CountsNone sim = AreInPlace sim.history (at_first (given_of sim)) → (seen_of sim).counts.shorts ≡ 0 → (seen_of sim).counts.strays ≡ 0
+CountsNone sim = AreExpected sim.history (at_first (given_of sim)) → (seen_of sim).counts.shorts ≡ 0 → (seen_of sim).counts.strays ≡ 0
 
 pub none_strays : (sim : WorldData) → CountsNone sim → AllByRecursion (IsCallFor index) (seen_of sim).history → AreInPlaceOf index (seen_of sim).history (at_first (seen_of sim).given)
     → AreExpectedOnLinks (seen_of sim).history (at_first (seen_of sim).given) → (seen_of sim).counts.shorts ≡ 0 → (seen_of sim).counts.strays ≡ 0
@@ -117,8 +117,8 @@ none_strays sim none own so links shorts = none (steps_in_place sim.history (at_
 -- where the world stayed shut, or nothing was done
 pub shut_strays : (sim : WorldData) → CountsNone sim → (seen_of sim).history ≡ NotOpened ∷ [] → (seen_of sim).counts.shorts ≡ 0 → (seen_of sim).counts.strays ≡ 0
 unfolding seen_of at_first
-shut_strays sim none is = none (subst (λ (h : List WorldStep). AreInPlace h (at_first (given_of sim))) (sym is) (refl, tt))
+shut_strays sim none is = none (subst (λ (h : List WorldStep). AreExpected h (at_first (given_of sim))) (sym is) (refl, tt))
 
 pub idle_strays : (sim : WorldData) → CountsNone sim → (seen_of sim).history ≡ [] → (seen_of sim).counts.shorts ≡ 0 → (seen_of sim).counts.strays ≡ 0
 unfolding seen_of
-idle_strays sim none is = none (subst (λ (h : List WorldStep). AreInPlace h (at_first (given_of sim))) (sym is) tt)
+idle_strays sim none is = none (subst (λ (h : List WorldStep). AreExpected h (at_first (given_of sim))) (sym is) tt)

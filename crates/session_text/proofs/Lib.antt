@@ -3,3 +3,4 @@ pub mod Ports
 pub mod Cuts
 pub mod LineCount
 pub mod Sound
+pub mod FixedLines

@@ -1,7 +1,5 @@
 -- A session as what a simulated world is given. All of this is our own choice.
 use Rattle.std.specs.Prelude.{◌≡◌, ℕ, List, [], ◌∷◌, ◌++◌, map, Result, Ok, Err}
-use Rattle.of_types.specs.declared.journal.WorldStim.{WorldStim}
-use Rattle.app_frames.specs.declared.script.ScriptStep.{ScriptStep}
 use Rattle.app_frames.specs.declared.script.StartScript.{StartScript}
 use Rattle.flow_table.specs.Switch.{Declared}
 use Rattle.outside.specs.declared.call.CallKind.TheVariants as kinds
@@ -47,12 +45,6 @@ with_faults faults given = record given { fails = given.fails ++ map fail_of fau
 
 abbrev pub with_starts : List (ℕ × StartScript) → Given Scripts → Given Scripts
 with_starts starts given = record given { own = record given.own { starts = given.own.starts ++ starts } }
-
-abbrev pub with_replies : List (ℕ × List ScriptStep) → Given Scripts → Given Scripts
-with_replies replies given = record given { own = record given.own { replies = given.own.replies ++ replies } }
-
-abbrev pub with_stimuli : List WorldStim → Given Scripts → Given Scripts
-with_stimuli stimuli given = record given { stimuli = given.stimuli ++ stimuli }
 
 -- ---- A text that is loaded
 

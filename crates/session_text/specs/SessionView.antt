@@ -15,9 +15,9 @@ abbrev pub view_session : Session → SessionValue
 view_session s = record {
   switches = map view_declared s.switches.items;
   starts = s.starts.items;
-  replies = s.replies.items;
+  replies = s.replies;
   faults = s.faults.items;
-  stimuli = s.stimuli.items;
+  stimuli = s.stimuli;
 }
 
 abbrev pub view_so_far : SoFar → Read

@@ -3,17 +3,17 @@
 ghost use Rattle.std.specs.Prelude.{◌≡◌, ◌^◌, ◌<◌, map, string_bytes, OnOk, OnErr};
 ghost use Rattle.lego_model.specs.SessionFacts.{IsSession};
 ghost use Rattle.lego_model.specs.SessionText.{session_text};
-ghost use Rattle.sim_world.specs.World.{given_of, seen_of, CanCome};
-ghost use Rattle.sim_world.specs.Building.{nothing_given, last_moment_of, IsNew, Begins};
+ghost use Rattle.sim_world.specs.World.{given_of, seen_of};
+ghost use Rattle.sim_world.specs.Building.{nothing_given, IsNew, Begins};
 ghost use Rattle.session_text.specs.SessionView.{view_session, view_declared};
-ghost use Rattle.session_text.specs.Loading.{given_by, with_switches, with_faults, with_starts, with_replies, with_stimuli, Loads};
+ghost use Rattle.session_text.specs.Loading.{given_by, with_switches, with_faults, with_starts, Loads};
 ghost use Rattle.session_text.specs.laws.LoadingLaws.{MayDeclare};
 
 use crate::text_fault::SessionError;
 use crate::whole_text::parse_session;
-use app_frames::{Script, StartScript};
+use app_frames::StartScript;
 use lego_model::Session;
-use of_types::{Dpid, WorldStim};
+use of_types::Dpid;
 use outside::CallKind;
 use sim_world::SimWorld;
 use std::alloc::{AllocError, Global};
@@ -55,31 +55,6 @@ fn give_starts(sim: &mut SimWorld, starts: &[(u32, StartScript)]) -> Result<(), 
     Ok(())
 }
 
-/// Says what applications give in their turns, in this order.
-fn give_replies(sim: &mut SimWorld, replies: Vec<(u32, Script)>) -> Result<(), AllocError>
-    requires { IsNew sim.old }
-    ensures new { IsNew sim.new }
-    ensures given { OnOk result (given_of sim.new ≡ with_replies replies.items (given_of sim.old)) }
-{
-    for (app, reply) in replies {
-        sim.add_reply(app, reply)?;
-    }
-    Ok(())
-}
-
-/// Lets stimuli come, in this order.
-fn give_stimuli(sim: &mut SimWorld, stimuli: Vec<WorldStim>) -> Result<(), AllocError>
-    requires new { IsNew sim.old }
-    requires may { CanCome (given_of sim.old).declared (last_moment_of (given_of sim.old).stimuli) stimuli.items }
-    ensures new { IsNew sim.new }
-    ensures given { OnOk result (given_of sim.new ≡ with_stimuli stimuli.items (given_of sim.old)) }
-{
-    for x in stimuli {
-        sim.add_stimulus(x)?;
-    }
-    Ok(())
-}
-
 /// Gives a session to a world that was given nothing.
 fn give_session(sim: &mut SimWorld, session: Session) -> Result<(), AllocError>
     requires new { IsNew sim.old }
@@ -91,8 +66,9 @@ fn give_session(sim: &mut SimWorld, session: Session) -> Result<(), AllocError>
     give_switches(sim, &session.switches)?;
     give_faults(sim, &session.faults)?;
     give_starts(sim, &session.starts)?;
-    give_replies(sim, session.replies)?;
-    give_stimuli(sim, session.stimuli)
+    sim.add_replies(session.replies);
+    sim.add_stimuli(session.stimuli);
+    Ok(())
 }
 
 /// Reads a session text into a simulated world that was given nothing.

@@ -37,7 +37,7 @@ impl<T: Drop> From<AllocFailed<T>> for LineFault {
 #[derive(Clone, Copy, Debug, PartialEq, Eq, Error)]
 pub enum SessionError {
     /// The text is no session: the first fault.
-    #[error("the text is no session")]
+    #[error("the text is no session: {0}")]
     Bad(SessionFault),
     /// Memory ran out, which says nothing of the text.
     #[error("no memory")]

@@ -17,31 +17,12 @@ use crate::text_steps::{are_steps, steps_of};
 use crate::text_words::{a_number, an_app, some_bytes, some_ports};
 use crate::words::is;
 use app_frames::StartScript;
+use flow_timeouts::LAST_MOMENT;
 use lego_model::SessionKind;
-use of_types::{ByteList, PortChange, Stimulus, WorldStim};
+use of_types::limits::{LEAST_FRAME_BYTES, MOST_ENTRIES, MOST_FRAME_BYTES, MOST_MESSAGE_BYTES};
+use of_types::{ByteList, PortChange, Stimulus, WorldStim, ports};
 use of_wire::{Message, WireFault, decode};
 use std::alloc::Global;
-
-/// How many entries a simulated switch has room for at most.
-const MOST_ENTRIES: u64 = 4_096;
-
-/// The greatest number of a physical port (OpenFlow 1.0.0, 5.2.1 Port Structures; we stop at 0xff00).
-const LAST_PORT: u64 = 65_280;
-
-/// The last moment, in seconds.
-const LAST_MOMENT: u64 = 4_294_967_295;
-
-/// The greatest number of 16 bits.
-const LAST_SHORT: u64 = 65_535;
-
-/// The fewest bytes of a frame: an Ethernet header (IEEE 802.3).
-const LEAST_FRAME: usize = 14;
-
-/// The most bytes of a frame.
-const MOST_FRAME: usize = 9_216;
-
-/// The most bytes that a switch sends at a time.
-const MOST_RAW: usize = 65_535;
 
 /// The fault of an unknown word.
 const UNKNOWN: LineFault = LineFault::Kind(SessionKind::Word);
@@ -64,7 +45,7 @@ fn switch_line(
         return Err(TOO_MANY);
     }
     let dpid = a_new_switch(&so_far, dpid)?;
-    let capacity = a_number(capacity, 1, MOST_ENTRIES)? as u32;
+    let capacity = a_number(capacity, 1, u64::from(MOST_ENTRIES))? as u32;
     let ports = some_ports(alloc, ports)?;
     with_switch(so_far, dpid, capacity, ports)
 }
@@ -202,8 +183,8 @@ fn frame_line(
         return Err(TOO_MANY);
     }
     let dpid = a_switch(&so_far, dpid)?;
-    let port = a_number(port, 0, LAST_SHORT)? as u16;
-    let bytes = ByteList::from_vec(some_bytes(alloc, hex, LEAST_FRAME, MOST_FRAME)?);
+    let port = a_number(port, 0, u64::from(u16::MAX))? as u16;
+    let bytes = ByteList::from_vec(some_bytes(alloc, hex, LEAST_FRAME_BYTES, MOST_FRAME_BYTES)?);
     with_stimulus(so_far, WorldStim::Of(dpid, Stimulus::Frame { port, bytes }))
 }
 
@@ -237,7 +218,7 @@ fn port_line(so_far: SoFar, dpid: &[u8], port: &[u8], word: &[u8]) -> Result<SoF
         return Err(TOO_MANY);
     }
     let dpid = a_switch(&so_far, dpid)?;
-    let port = a_number(port, 1, LAST_PORT)? as u16;
+    let port = a_number(port, 1, u64::from(ports::MAX))? as u16;
     with_stimulus(so_far, WorldStim::Of(dpid, Stimulus::Port { port, change }))
 }
 
@@ -256,7 +237,7 @@ fn count_line(
         return Err(TOO_MANY);
     }
     let dpid = a_switch(&so_far, dpid)?;
-    let priority = a_number(priority, 0, LAST_SHORT)? as u16;
+    let priority = a_number(priority, 0, u64::from(u16::MAX))? as u16;
     let packets = a_number(packets, 0, u64::MAX)?;
     let bytes = a_number(bytes, 0, u64::MAX)?;
     let counts = Stimulus::Counts {
@@ -301,7 +282,7 @@ fn raw_line(alloc: Global, so_far: SoFar, dpid: &[u8], hex: &[u8]) -> Result<SoF
         return Err(TOO_MANY);
     }
     let dpid = a_switch(&so_far, dpid)?;
-    let bytes = some_bytes(alloc, hex, 0, MOST_RAW)?;
+    let bytes = some_bytes(alloc, hex, 0, MOST_MESSAGE_BYTES)?;
     if !may_be_raw(alloc, &bytes)? {
         return Err(LineFault::Kind(SessionKind::Raw));
     }

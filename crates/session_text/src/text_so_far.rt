@@ -9,9 +9,10 @@ ghost use Rattle.session_text.specs.SessionView.{view_so_far, view_declared};
 
 use crate::text_fault::LineFault;
 use crate::text_words::a_number;
-use app_frames::{Script, StartScript};
+use app_frames::StartScript;
 use lego_model::{Session, SessionKind};
 use of_types::{Dpid, WorldStim};
+use session_lists::{ReplyList, StepList, StimulusList};
 use std::alloc::Global;
 
 /// How many switches a session has at most.
@@ -36,9 +37,9 @@ pub fn nothing(alloc: Global) -> SoFar
         session: Session {
             switches: Vec::new(alloc),
             starts: Vec::new(alloc),
-            replies: Vec::new(alloc),
+            replies: ReplyList::new(alloc),
             faults: Vec::new(alloc),
-            stimuli: Vec::new(alloc),
+            stimuli: StimulusList::new(alloc),
         },
         moment: 0,
     }
@@ -130,10 +131,10 @@ pub fn with_start(mut so_far: SoFar, app: u32, start: StartScript) -> Result<SoF
 }
 
 /// With one more turn.
-pub fn with_reply(mut so_far: SoFar, app: u32, script: Script) -> Result<SoFar, LineFault>
+pub fn with_reply(mut so_far: SoFar, app: u32, script: StepList) -> Result<SoFar, LineFault>
     ensures { Gives view_so_far result (Ok (with_reply_in (view_so_far so_far) (app, script))) }
 {
-    so_far.session.replies.push((app, script))?;
+    so_far.session.replies.push(app, &script)?;
     Ok(so_far)
 }
 
@@ -149,6 +150,6 @@ pub fn with_fault(mut so_far: SoFar, dpid: Dpid, count: u64) -> Result<SoFar, Li
 pub fn with_stimulus(mut so_far: SoFar, stimulus: WorldStim) -> Result<SoFar, LineFault>
     ensures { Gives view_so_far result (Ok (with_stimulus_in (view_so_far so_far) stimulus)) }
 {
-    so_far.session.stimuli.push(stimulus)?;
+    so_far.session.stimuli.push(&stimulus)?;
     Ok(so_far)
 }

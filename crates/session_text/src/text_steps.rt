@@ -9,19 +9,15 @@ ghost use Rattle.session_text.specs.TextGives.{Gives};
 use crate::text_fault::LineFault;
 use crate::text_words::{a_number, cut_at, some_bytes};
 use crate::words::is;
-use app_frames::{AppFrame, Script, ScriptStep, encode_app};
+use app_frames::{AppFrame, MOST_CHECKPOINT_BYTES, ScriptStep, encode_app};
 use lego_model::SessionKind;
 use of_types::ByteList;
+use of_types::limits::MOST_MESSAGE_BYTES;
+use session_lists::StepList;
 use std::alloc::Global;
 
 /// How many bytes a message of OpenFlow 1.0 has at least: its header (OpenFlow 1.0.0, 5.1 OpenFlow Header).
 const LEAST_MESSAGE: usize = 8;
-
-/// How many bytes a message has at most.
-const MOST_MESSAGE: usize = 65_535;
-
-/// How many bytes a checkpoint has at most (1 MiB).
-const MOST_CHECKPOINT: usize = 1_048_576;
 
 /// Whether a step begins with this name and a colon.
 fn has_head(step: &[u8], name: &[u8]) -> bool
@@ -104,7 +100,7 @@ fn message_step(alloc: Global, dpid: &[u8], hex: &[u8]) -> Result<ScriptStep, Li
     ensures { Gives (λ s. s) result (message_step_in dpid.now hex.now) }
 {
     let dpid = a_number(dpid, 0, u64::MAX)?;
-    let bytes = some_bytes(alloc, hex, LEAST_MESSAGE, MOST_MESSAGE)?;
+    let bytes = some_bytes(alloc, hex, LEAST_MESSAGE, MOST_MESSAGE_BYTES)?;
     gives_frame(alloc, &AppFrame::Message(dpid, ByteList::from_vec(bytes)))
 }
 
@@ -122,7 +118,7 @@ fn bytes_step(alloc: Global, hex: &[u8]) -> Result<ScriptStep, LineFault>
 fn checkpoint_step(alloc: Global, stop: bool, hex: &[u8]) -> Result<ScriptStep, LineFault>
     ensures { Gives (λ s. s) result (checkpoint_step_in stop hex.now) }
 {
-    let bytes = some_bytes(alloc, hex, 0, MOST_CHECKPOINT)?;
+    let bytes = some_bytes(alloc, hex, 0, MOST_CHECKPOINT_BYTES)?;
     let checkpoint = Some(ByteList::from_vec(bytes));
     gives_frame(alloc, &AppFrame::Done { stop, checkpoint })
 }
@@ -196,12 +192,12 @@ fn step_of(alloc: Global, step: &[u8]) -> Result<ScriptStep, LineFault>
 }
 
 /// What the steps of a turn give.
-pub fn steps_of(alloc: Global, steps: &[&[u8]]) -> Result<Script, LineFault>
+pub fn steps_of(alloc: Global, steps: &[&[u8]]) -> Result<StepList, LineFault>
     ensures { Gives (λ s. s) result (steps_in (map (λ w. w.now) steps.now)) }
 {
-    let mut given = Vec::new(alloc);
+    let mut given = StepList::new(alloc);
     for step in steps {
-        given.push(step_of(alloc, step)?)?;
+        given.push(&step_of(alloc, step)?)?;
     }
-    Ok(Script::from_vec(given))
+    Ok(given)
 }

@@ -9,13 +9,9 @@ ghost use Rattle.session_text.specs.TextGives.{Gives, numbers as numbers_in, ord
 use crate::text_fault::LineFault;
 use crate::words::{is, is_numeral, split, value_of};
 use lego_model::SessionKind;
+use of_types::limits::MOST_PORTS;
+use of_types::ports;
 use std::alloc::Global;
-
-/// How many ports a switch has at most.
-const MOST_PORTS: usize = 64;
-
-/// The greatest number of a physical port (OpenFlow 1.0.0, 5.2.1 Port Structures; we stop at 0xff00).
-const LAST_PORT: u64 = 65_280;
 
 /// The number that a word spells, from `least` to `most`. A number has any length; what is beyond is out of
 /// range, and what is no number is told first.
@@ -85,7 +81,7 @@ fn port_numbers(alloc: Global, words: &[&[u8]]) -> Result<Vec<u16>, LineFault>
 {
     let mut ports = Vec::new(alloc);
     for word in words {
-        ports.push(a_number(word, 1, LAST_PORT)? as u16)?;
+        ports.push(a_number(word, 1, u64::from(ports::MAX))? as u16)?;
     }
     Ok(ports)
 }

@@ -39,6 +39,13 @@ with_start app start given = record given { own = record given.own { starts = gi
 abbrev pub with_reply : ℕ → List ScriptStep → Given Scripts → Given Scripts
 with_reply app reply given = record given { own = record given.own { replies = given.own.replies ++ (app, reply) ∷ [] } }
 
+-- all lines of the applications' turns, and all stimuli, behind those before
+abbrev pub with_replies : List (ℕ × List ScriptStep) → Given Scripts → Given Scripts
+with_replies replies given = record given { own = record given.own { replies = given.own.replies ++ replies } }
+
+abbrev pub with_stimuli : List WorldStim → Given Scripts → Given Scripts
+with_stimuli stimuli given = record given { stimuli = given.stimuli ++ stimuli }
+
 -- ---- Nothing
 
 abbrev pub nothing_given : Given Scripts

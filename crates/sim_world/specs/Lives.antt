@@ -91,7 +91,7 @@ pub record IsCellOf (own : Scripts) (c : LifeCell) : Type 0 where
 -- ---- All lives
 
 -- the lines, and the lives of those applications that were spoken of
-pub record Playing : Type 0 where
+pub record ScriptedLives : Type 0 where
   pub own : Scripts
   pub lives : List (ℕ × Life)
 
@@ -103,10 +103,10 @@ abbrev pub has_life : ℕ → List (ℕ × Life) → Bool
 has_life app [] = false
 has_life app (x ∷ xs) = if x.0 == app then true else has_life app xs
 
-unfoldable pub life_of : ℕ → Playing → Life
+unfoldable pub life_of : ℕ → ScriptedLives → Life
 life_of app s = life_in app s.lives
 
-unfoldable pub is_known : ℕ → Playing → Bool
+unfoldable pub is_known : ℕ → ScriptedLives → Bool
 is_known app s = has_life app s.lives
 
 unfoldable pub named_life : List (ℕ × List ScriptStep) → LifeCell → ℕ × Life

@@ -12,34 +12,34 @@ use Rattle.outside.specs.State.{State, after_step, is_running, is_joined, has_wa
 use Rattle.sim_world.specs.Tally.{TallyState}
 
 -- a start that failed is in place where the application did not run
-abbrev pub IsStartInPlace : ℕ → Bool → State → Type 0
-IsStartInPlace app true s = Unit {0}
-IsStartInPlace app false s = is_running app s ≡ false
+abbrev pub IsStartExpected : ℕ → Bool → State → Type 0
+IsStartExpected app true s = Unit {0}
+IsStartExpected app false s = is_running app s ≡ false
 
 -- a take that found the end closed is in place where the application ran
-abbrev pub IsTakeInPlace : ℕ → TookWhat → State → Type 0
-IsTakeInPlace app took.Closed s = is_running app s ≡ true
-IsTakeInPlace app other s = Unit {0}
+abbrev pub IsTakeExpected : ℕ → TookWhat → State → Type 0
+IsTakeExpected app took.Closed s = is_running app s ≡ true
+IsTakeExpected app other s = Unit {0}
 
 -- the act is of a call in place
-abbrev pub IsActInPlace : Act → State → Type 0
-IsActInPlace (Started app ok) s = IsStartInPlace app ok s
-IsActInPlace (Gone app bytes) s = is_running app s ≡ true
-IsActInPlace other s = Unit {0}
+abbrev pub IsActExpected : Act → State → Type 0
+IsActExpected (Started app ok) s = IsStartExpected app ok s
+IsActExpected (Gone app bytes) s = is_running app s ≡ true
+IsActExpected other s = Unit {0}
 
 -- the step is of a call in place, in the state before it
-abbrev pub IsInPlace : WorldStep → State → Type 0
-IsInPlace (Acted act) s = IsActInPlace act s
-IsInPlace (TookInto app what room) s = IsTakeInPlace app what s
-IsInPlace NotOpened s = s.opened ≡ false
-IsInPlace (SendFailed d) s = is_joined d s ≡ true
-IsInPlace (RecvFailed d) s = has_waiting d s ≡ true
-IsInPlace other s = Unit {0}
+abbrev pub IsExpected : WorldStep → State → Type 0
+IsExpected (Acted act) s = IsActExpected act s
+IsExpected (TookInto app what room) s = IsTakeExpected app what s
+IsExpected NotOpened s = s.opened ≡ false
+IsExpected (SendFailed d) s = is_joined d s ≡ true
+IsExpected (RecvFailed d) s = has_waiting d s ≡ true
+IsExpected other s = Unit {0}
 
 -- each step is of a call in place, in the state that those before it leave
-abbrev pub AreInPlace : List WorldStep → State → Type 0
-AreInPlace [] s = Unit {0}
-AreInPlace (step ∷ steps) s = IsInPlace step s × AreInPlace steps (after_step step s)
+abbrev pub AreExpected : List WorldStep → State → Type 0
+AreExpected [] s = Unit {0}
+AreExpected (step ∷ steps) s = IsExpected step s × AreExpected steps (after_step step s)
 
 -- where no call is counted that wanted memory, none was counted before, and no more calls are counted as out of place than were before
 abbrev pub NoneStrays : TallyState → TallyState → Type 0

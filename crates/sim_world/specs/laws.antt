@@ -14,3 +14,4 @@ pub mod NextCallLaws
 pub mod KeepingLaws
 pub mod StandingLaws
 pub mod BuildingLaws
+pub mod RoomLaws

@@ -5,7 +5,7 @@ ghost use Rattle.flow_table.specs.Switch.{Declared};
 ghost use Rattle.outside.specs.Seen.{is_declared};
 ghost use Rattle.outside.specs.State.{is_link_call, fails_of, link_at_first};
 ghost use Rattle.sim_world.specs.World.{given_of};
-ghost use Rattle.sim_world.specs.Building.{nothing_given, with_switch, with_stimulus, with_fail, with_start, with_reply, IsNew, Gets};
+ghost use Rattle.sim_world.specs.Building.{nothing_given, with_switch, with_stimulus, with_fail, with_start, with_reply, with_replies, with_stimuli, IsNew, Gets};
 ghost use Rattle.sim_world.specs.laws.BuildingLaws.{switch_more, stimulus_more, link_fail_more, other_fail_more};
 
 use crate::history::History;
@@ -18,6 +18,7 @@ use crate::told::Told;
 use app_frames::{Script, StartScript};
 use of_types::{Dpid, PortNo, WorldStim};
 use outside::{CallKind, FailCall};
+use session_lists::{ReplyList, StepList, StimulusList};
 use std::alloc::{AllocError, Global};
 use std::collections::VecDeque;
 
@@ -67,10 +68,10 @@ impl Parts {
         Ok(Parts {
             alloc,
             lives: Lives::new(alloc)?,
-            stimuli: Vec::new(alloc),
+            stimuli: StimulusList::new(alloc),
             fails: Vec::new(alloc),
             told: Told::new(alloc),
-            history: History::new(alloc),
+            history: History::new(),
             tally: Tally::new(alloc),
             opened: false,
             running: Vec::new(alloc),
@@ -128,7 +129,7 @@ impl Parts {
         ensures ok { OnOk result (self.new ≡ stimulus_more x self.old) }
         ensures err { OnErr result (self.new ≡ self.old) }
     {
-        self.stimuli.push(x)?;
+        self.stimuli.push(&x)?;
         self.begun_stimuli = 0;
         Ok(())
     }
@@ -142,13 +143,33 @@ impl Parts {
         self.put_stimulus(x)
     }
 
+    /// All stimuli at once, where none was given.
+    pub(crate) fn add_stimuli(&mut self, stimuli: StimulusList)
+        requires new { IsNew self.old }
+        requires none { (given_of self.old).stimuli ≡ [] }
+        ensures { Gets (with_stimuli stimuli) self.old self.new }
+    {
+        self.stimuli = stimuli;
+        self.begun_stimuli = 0;
+    }
+
+    /// All that applications give in their turns, where nothing of it was given.
+    pub(crate) fn add_replies(&mut self, replies: ReplyList)
+        requires new { IsNew self.old }
+        requires none { (given_of self.old).own.replies ≡ [] }
+        ensures { Gets (with_replies replies) self.old self.new }
+    {
+        self.lives.add_replies(replies);
+    }
+
     /// What an application gives in its next turn. After want of memory the world is as before.
     pub(crate) fn add_reply(&mut self, app: u32, reply: Script) -> Result<(), AllocError>
         requires new { IsNew self.old }
         ensures ok { OnOk result (Gets (with_reply app reply) self.old self.new) }
         ensures err { OnErr result (self.new ≡ self.old) }
     {
-        self.lives.add_reply(app, reply)
+        self.lives
+            .add_reply(app, &StepList::from_script(self.alloc, &reply)?)
     }
 
     /// How the next start of an application ends. After want of memory the world is as before.

@@ -1,16 +1,17 @@
 //! What a simulated world is given before anything happens, one thing at a time.
 
-ghost use Rattle.std.specs.Prelude.{◌≡◌, ◌<◌, ◌≤◌, false, length, IfOk, OnOk, OnErr};
+ghost use Rattle.std.specs.Prelude.{◌≡◌, ◌<◌, ◌≤◌, [], false, length, IfOk, OnOk, OnErr};
 ghost use Rattle.outside.specs.Conforming.{ArePortsFrom, IsWorldStim};
 ghost use Rattle.outside.specs.Seen.{is_declared};
-ghost use Rattle.sim_world.specs.World.{given_of, seen_of};
-ghost use Rattle.sim_world.specs.Building.{nothing_given, last_moment_of, with_switch, with_stimulus, with_fail, with_start, with_reply, IsNew, Gets, Begins};
+ghost use Rattle.sim_world.specs.World.{given_of, seen_of, CanCome};
+ghost use Rattle.sim_world.specs.Building.{nothing_given, last_moment_of, with_switch, with_stimulus, with_fail, with_start, with_reply, with_replies, with_stimuli, IsNew, Gets, Begins};
 
 use crate::parts::Parts;
 use crate::world::SimWorld;
 use app_frames::{Script, StartScript};
 use of_types::WorldStim;
 use outside::CallKind;
+use session_lists::{ReplyList, StimulusList};
 use std::alloc::{AllocError, Global};
 
 impl SimWorld {
@@ -63,6 +64,26 @@ impl SimWorld {
         ensures err { OnErr result (self.new ≡ self.old) }
     {
         self.parts.add_reply(app, reply)
+    }
+
+    /// All stimuli at once, where none was given: each of a declared switch and within its limits, with moments that do
+    /// not go back. Takes no memory.
+    pub fn add_stimuli(&mut self, stimuli: StimulusList)
+        requires new { IsNew self.old }
+        requires none { (given_of self.old).stimuli ≡ [] }
+        requires may { CanCome (given_of self.old).declared 0 stimuli }
+        ensures gets { Gets (with_stimuli stimuli) self.old self.new }
+    {
+        self.parts.add_stimuli(stimuli);
+    }
+
+    /// All that applications give in their turns at once, where nothing of it was given. Takes no memory.
+    pub fn add_replies(&mut self, replies: ReplyList)
+        requires new { IsNew self.old }
+        requires none { (given_of self.old).own.replies ≡ [] }
+        ensures gets { Gets (with_replies replies) self.old self.new }
+    {
+        self.parts.add_replies(replies);
     }
 
     /// How the next start of an application ends. After want of memory the world is as before.

@@ -11,9 +11,10 @@ ghost use Rattle.sim_world.specs.Lives.{IsCellOf, life_of_cell, from_place, begi
 
 use crate::scripts::ScriptLines;
 use crate::told::Told;
-use app_frames::{ScriptStep, StartScript};
+use app_frames::StartScript;
 use of_types::get_u8;
 use outside::{CallKind, Taken};
+use session_lists::{StepRef, Steps};
 
 /// What an application is giving.
 #[derive(Clone, Copy, Debug, PartialEq, Eq)]
@@ -56,21 +57,23 @@ const FIRST: Place = Place { step: 0, offset: 0 };
 
 /// Whether the step at a place has no byte left.
 #[tactic(auto, unfolding(crate::specs::Lives::from_place))]
-fn is_used_up(steps: &[ScriptStep], at: Place) -> bool
+fn is_used_up(steps: &Steps<'_>, at: Place) -> bool
     ensures same { result ≡ begins_empty (from_place at steps.now) }
     ensures within { IsTrue result → at.step < length steps.now }
+    ensures few { IsTrue result → at.step < 2 ^ 64 - 1 }
 {
     if at.step >= steps.len() {
         return false;
     }
-    match &steps[at.step] {
-        ScriptStep::Bytes(bytes) => bytes.len() <= at.offset,
-        _ => false,
+    match steps.get(at.step) {
+        StepRef::Bytes(bytes) => bytes.len() <= at.offset,
+        StepRef::Closed => false,
+        StepRef::Silent => false,
     }
 }
 
 /// The place behind the steps that have no byte left.
-fn pass(steps: &[ScriptStep], at: Place) -> Place
+fn pass(steps: &Steps<'_>, at: Place) -> Place
     ensures passed { from_place result steps.now ≡ passed (from_place at steps.now) }
     ensures begun { begins_empty (from_place result steps.now) ≡ false }
 {
@@ -105,7 +108,7 @@ fn take_bytes(bytes: &[u8], offset: usize, buf: &mut [u8]) -> usize
 
 /// Takes what comes first at a place where the step has a byte left, and the place behind it.
 #[tactic(auto, unfolding(crate::specs::Lives::from_place))]
-fn take_first(steps: &[ScriptStep], at: Place, buf: &mut [u8]) -> (Taken, Place)
+fn take_first(steps: &Steps<'_>, at: Place, buf: &mut [u8]) -> (Taken, Place)
     requires room { 0 < length buf.old }
     requires begun { begins_empty (from_place at steps.now) ≡ false }
     ensures what { took_of result.0 buf.new ≡ first_given (length buf.old) (from_place at steps.now) }
@@ -119,9 +122,9 @@ fn take_first(steps: &[ScriptStep], at: Place, buf: &mut [u8]) -> (Taken, Place)
         step: at.step + 1,
         offset: 0,
     };
-    match &steps[at.step] {
-        ScriptStep::Bytes(bytes) => {
-            let count = take_bytes(bytes.as_slice(), at.offset, buf);
+    match steps.get(at.step) {
+        StepRef::Bytes(bytes) => {
+            let count = take_bytes(bytes, at.offset, buf);
             let offset = at.offset + count;
             (
                 Taken::Some(count),
@@ -131,14 +134,14 @@ fn take_first(steps: &[ScriptStep], at: Place, buf: &mut [u8]) -> (Taken, Place)
                 },
             )
         }
-        ScriptStep::Closed => (Taken::Closed, behind),
-        ScriptStep::Silent => (Taken::Silent, behind),
+        StepRef::Closed => (Taken::Closed, behind),
+        StepRef::Silent => (Taken::Silent, behind),
     }
 }
 
 /// Takes what comes next from a place on, and the place behind it.
 #[tactic(auto, unfolding(crate::specs::Scripts::given_of, crate::specs::Scripts::left_of))]
-fn take_next(steps: &[ScriptStep], at: Place, buf: &mut [u8]) -> (Taken, Place)
+fn take_next(steps: &Steps<'_>, at: Place, buf: &mut [u8]) -> (Taken, Place)
     requires { 0 < length buf.old }
     ensures what { took_of result.0 buf.new ≡ given_of (length buf.old) (from_place at steps.now) }
     ensures left { from_place result.1 steps.now ≡ left_of (length (taken_bytes (took_of result.0 buf.new))) (from_place at steps.now) }
@@ -149,22 +152,23 @@ fn take_next(steps: &[ScriptStep], at: Place, buf: &mut [u8]) -> (Taken, Place)
 
 /// How many bytes are taken at a place where the step has a byte left.
 #[tactic(auto, unfolding(crate::specs::Lives::from_place))]
-fn len_first(steps: &[ScriptStep], at: Place, room: usize) -> usize
+fn len_first(steps: &Steps<'_>, at: Place, room: usize) -> usize
     requires { begins_empty (from_place at steps.now) ≡ false }
     ensures { result ≡ length (taken_bytes (first_given room (from_place at steps.now))) }
 {
     if at.step >= steps.len() {
         return 0;
     }
-    match &steps[at.step] {
-        ScriptStep::Bytes(bytes) => room.min(bytes.len() - at.offset),
-        _ => 0,
+    match steps.get(at.step) {
+        StepRef::Bytes(bytes) => room.min(bytes.len() - at.offset),
+        StepRef::Closed => 0,
+        StepRef::Silent => 0,
     }
 }
 
 /// How many bytes are taken from a place on.
 #[tactic(auto, unfolding(crate::specs::Scripts::given_of))]
-fn len_next(steps: &[ScriptStep], at: Place, room: usize) -> usize
+fn len_next(steps: &Steps<'_>, at: Place, room: usize) -> usize
     ensures { result ≡ length (taken_bytes (given_of room (from_place at steps.now))) }
 {
     len_first(steps, pass(steps, at), room)
@@ -409,7 +413,7 @@ impl LifeCell {
         ensures cell { IsCellOf lines.now self.new }
         ensures taken { IsTakenIn result buf.new }
     {
-        let (taken, at) = take_next(lines.steps(self.giving), self.at, buf);
+        let (taken, at) = take_next(&lines.steps(self.giving), self.at, buf);
         self.at = at;
         taken
     }
@@ -420,7 +424,7 @@ impl LifeCell {
         requires { IsCellOf lines.now self.now }
         ensures { result ≡ length (taken_bytes (given_of room (life_of_cell lines.now.replies self.now).left)) }
     {
-        len_next(lines.steps(self.giving), self.at, room)
+        len_next(&lines.steps(self.giving), self.at, room)
     }
 
     /// How many bytes the next take from it gives.

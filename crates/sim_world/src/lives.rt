@@ -13,8 +13,9 @@ ghost use Rattle.sim_world.specs.Lives.{IsCellOf, IsFirst, Moved, took_of, life_
 use crate::life::LifeCell;
 use crate::scripts::ScriptLines;
 use crate::told::Told;
-use app_frames::{Script, StartScript};
+use app_frames::StartScript;
 use outside::Taken;
+use session_lists::{ReplyList, StepList};
 use std::alloc::{AllocError, Global};
 use std::marker::Model;
 
@@ -29,9 +30,9 @@ pub struct Lives {
 
 impl Model for Lives {
     ghost use Rattle.std.specs.Prelude.{All};
-    ghost use Rattle.sim_world.specs.Lives.{Playing, IsCellOf, named_lives};
+    ghost use Rattle.sim_world.specs.Lives.{ScriptedLives, IsCellOf, named_lives};
 
-    ghost Value = { Playing };
+    ghost Value = { ScriptedLives };
 
     ghost view = { λ s. record { own = s.lines; lives = named_lives s.lines.replies s.cells.items } };
 
@@ -199,14 +200,22 @@ impl Lives {
 
     /// One line more: what the application gives in its next turn. No application was spoken of yet. Want of memory
     /// changes nothing.
-    pub fn add_reply(&mut self, app: u32, reply: Script) -> Result<(), AllocError>
+    pub fn add_reply(&mut self, app: u32, reply: &StepList) -> Result<(), AllocError>
         requires { self.old.lives ≡ [] }
         ensures ok { OnOk result (self.new ≡ record self.old {
-          own = record self.old.own { replies = self.old.own.replies ++ (app, reply) ∷ [] };
+          own = record self.old.own { replies = self.old.own.replies ++ (app, reply.now) ∷ [] };
         }) }
         ensures err { OnErr result (self.new ≡ self.old) }
     {
         self.lines.add_reply(app, reply)
+    }
+
+    /// All lines of turns at once, in the place of those before. No application was spoken of yet.
+    pub fn add_replies(&mut self, replies: ReplyList)
+        requires { self.old.lives ≡ [] }
+        ensures { self.new ≡ record self.old { own = record self.old.own { replies = replies } } }
+    {
+        self.lines.add_replies(replies);
     }
 
     /// Makes room for the life of an application, so that all calls below take no memory. No life moves. Want of

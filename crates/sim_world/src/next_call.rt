@@ -18,49 +18,10 @@ ghost use Rattle.sim_world.specs.World.{Moves, declared_in, next_told, short_tol
 
 use crate::parts::Parts;
 use crate::waits::copy_to_front;
-use of_types::{Act, ByteList, Stimulus, WorldStim};
+use of_types::{Act, WorldStim};
 use outside::{CallKind, Item, NextFault, WorldStep};
-use std::alloc::{AllocError, Global};
+use std::alloc::AllocError;
 use std::collections::VecDeque;
-
-/// A copy of what happens to a switch.
-fn copy_stimulus(alloc: Global, x: &Stimulus) -> Result<Stimulus, AllocError>
-    ensures { IfOk result (λ copy. copy ≡ x.now) }
-{
-    Ok(match x {
-        Stimulus::Frame { port, bytes } => Stimulus::Frame {
-            port: *port,
-            bytes: ByteList::from_slice(alloc, bytes.as_slice())?,
-        },
-        Stimulus::Advance(moment) => Stimulus::Advance(*moment),
-        Stimulus::Port { port, change } => Stimulus::Port {
-            port: *port,
-            change: *change,
-        },
-        Stimulus::Counts {
-            priority,
-            packets,
-            bytes,
-        } => Stimulus::Counts {
-            priority: *priority,
-            packets: *packets,
-            bytes: *bytes,
-        },
-        Stimulus::Raw(bytes) => Stimulus::Raw(ByteList::from_slice(alloc, bytes.as_slice())?),
-    })
-}
-
-/// A copy of what happens.
-fn copy_stim(alloc: Global, x: &WorldStim) -> Result<WorldStim, AllocError>
-    ensures { IfOk result (λ copy. copy ≡ x.now) }
-{
-    Ok(match x {
-        WorldStim::Join(dpid) => WorldStim::Join(*dpid),
-        WorldStim::Leave(dpid) => WorldStim::Leave(*dpid),
-        WorldStim::At(moment) => WorldStim::At(*moment),
-        WorldStim::Of(dpid, x) => WorldStim::Of(*dpid, copy_stimulus(alloc, x)?),
-    })
-}
 
 /// The item that tells a step that is due, with its bytes in the front of the buffer.
 #[tactic(auto, unfolding(outside::specs::Calls::item_step, crate::specs::Links::IsDue))]
@@ -145,6 +106,8 @@ impl Parts {
         ensures err { OnErr result (self.new ≡ self.old) }
         ensures calls { self.new.calls ≡ self.old.calls }
     {
+        // There are fewer stimuli than a number of this size counts.
+        let _count = self.stimuli.len();
         self.due.reserve(1)?;
         let due = self.links.begin(&x, self.moment)?;
         push_due(&mut self.due, due);
@@ -222,10 +185,7 @@ impl Parts {
         ensures none { IfOk result (λ next. IfNone next (self.now.state.to_come ≡ [])) }
         ensures some { IfOk result (λ next. IfSome next (λ x. slice_get self.now.state.to_come 0 ≡ Some x)) }
     {
-        match self.stimuli.get(self.begun_stimuli) {
-            None => Ok(None),
-            Some(x) => Ok(Some(copy_stim(self.alloc, x)?)),
-        }
+        self.stimuli.get(self.alloc, self.begun_stimuli)
     }
 
     /// The next answer of `next` is told to fail.

@@ -15,8 +15,9 @@ use crate::links::Links;
 use crate::lives::Lives;
 use crate::tally::Tally;
 use crate::told::Told;
-use of_types::{Act, ByteList, WorldStim};
+use of_types::{Act, ByteList};
 use outside::{CallKind, FailCall, OpenFault, WorldStep};
+use session_lists::StimulusList;
 use std::alloc::{AllocError, Global};
 use std::collections::VecDeque;
 use std::marker::Model;
@@ -26,7 +27,7 @@ use std::marker::Model;
 pub(crate) struct Parts {
     pub(crate) alloc: Global,
     pub(crate) lives: Lives,
-    pub(crate) stimuli: Vec<WorldStim>,
+    pub(crate) stimuli: StimulusList,
     pub(crate) fails: Vec<FailCall>,
     pub(crate) told: Told,
     pub(crate) history: History,
@@ -50,7 +51,7 @@ impl Model for Parts {
 
     ghost view = { λ w. record {
       scripts = w.lives.own;
-      stimuli = w.stimuli.items;
+      stimuli = w.stimuli;
       fails = w.fails.items;
       told = w.told;
       history = w.history.steps;
@@ -62,7 +63,7 @@ impl Model for Parts {
         opened = w.opened;
         running = w.running.items;
         moment = w.moment;
-        to_come = drop w.begun_stimuli w.stimuli.items;
+        to_come = drop w.begun_stimuli w.stimuli;
         links = w.links;
         due = w.due.items;
         begun = w.begun;
@@ -84,7 +85,7 @@ impl Parts {
     pub(crate) fn are_few(&self)
         ensures { length self.now.history < 2 ^ 63 }
     {
-        let _steps = self.history.steps();
+        self.history.are_few();
     }
 
     /// Counts a call that can want memory, and makes room for so many steps and for the ends that are promised; answers

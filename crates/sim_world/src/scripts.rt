@@ -5,8 +5,9 @@ ghost use Rattle.sim_world.specs.Scripts.{lines_of, steps_of_start, plain_turn, 
 ghost use Rattle.sim_world.specs.Lives.{IsGivingIn, IsNextLine, Follows, steps_given};
 
 use crate::life::Giving;
-use app_frames::{Script, ScriptStep, StartScript};
+use app_frames::{ScriptStep, StartScript};
 use of_types::ByteList;
+use session_lists::{ReplyList, StepList, Steps};
 use std::alloc::{AllocError, Global};
 use std::marker::Model;
 
@@ -24,13 +25,13 @@ const DONE: [u8; 7] = [0, 0, 0, 3, 5, 0, 0];
 #[derive(Drop, Debug)]
 pub(crate) struct ScriptLines {
     starts: Vec<(u32, StartScript)>,
-    replies: Vec<(u32, Script)>,
-    nothing: Script,
-    ready: Script,
-    closed: Script,
-    silent: Script,
-    garbled: Script,
-    plain: Script,
+    replies: ReplyList,
+    nothing: StepList,
+    ready: StepList,
+    closed: StepList,
+    silent: StepList,
+    garbled: StepList,
+    plain: StepList,
 }
 
 impl Model for ScriptLines {
@@ -38,22 +39,22 @@ impl Model for ScriptLines {
 
     ghost Value = { Scripts };
 
-    ghost view = { λ s. record { starts = s.starts.items; replies = s.replies.items } };
+    ghost view = { λ s. record { starts = s.starts.items; replies = s.replies } };
 
     ghost invariant = { λ s. AreFixed s.nothing s.ready s.closed s.silent s.garbled s.plain };
 }
 
 /// A script of one step.
-fn script_of(alloc: Global, step: ScriptStep) -> Result<Script, AllocError>
+fn script_of(alloc: Global, step: ScriptStep) -> Result<StepList, AllocError>
     ensures { IfOk result (λ s. s ≡ step ∷ []) }
 {
-    let mut steps = Vec::new(alloc);
-    steps.push(step)?;
-    Ok(Script::from_vec(steps))
+    let mut steps = StepList::new(alloc);
+    steps.push(&step)?;
+    Ok(steps)
 }
 
 /// A script of one step of bytes.
-fn script_of_bytes(alloc: Global, bytes: &[u8]) -> Result<Script, AllocError>
+fn script_of_bytes(alloc: Global, bytes: &[u8]) -> Result<StepList, AllocError>
     ensures { IfOk result (λ s. s ≡ ScriptStep.Bytes bytes.now ∷ []) }
 {
     script_of(
@@ -74,6 +75,18 @@ fn find_line<A>(lines: &[(u32, A)], app: u32, from: usize) -> Option<usize>
     None
 }
 
+/// Where the next turn of an application stands, not before `from`.
+fn find_turn(replies: &ReplyList, app: u32, from: usize) -> Option<usize>
+    ensures { IsNextLine app from replies.now result }
+{
+    for i in from..replies.len() {
+        if replies.app(i) == app {
+            return Some(i);
+        }
+    }
+    None
+}
+
 /// How the next start of an application ends, not before the line `from`, and the line behind it.
 fn start_from(starts: &[(u32, StartScript)], app: u32, from: usize) -> (StartScript, usize)
     ensures start { result.0 ≡ start_or_ready (slice_get (lines_of app (drop from starts.now)) 0) }
@@ -86,14 +99,15 @@ fn start_from(starts: &[(u32, StartScript)], app: u32, from: usize) -> (StartScr
 }
 
 /// What an application gives in its next turn, not before the line `from`, and the line behind it.
-fn turn_from(replies: &[(u32, Script)], app: u32, from: usize) -> (Giving, usize)
+fn turn_from(replies: &ReplyList, app: u32, from: usize) -> (Giving, usize)
     ensures steps { steps_given replies.now result.0 ≡ turn_or_plain (slice_get (lines_of app (drop from replies.now)) 0) }
     ensures within { IsGivingIn replies.now result.0 }
     ensures next { Follows app from result.1 replies.now }
 {
-    match find_line(replies, app, from) {
+    let count = replies.len();
+    match find_turn(replies, app, from) {
         Some(i) => (Giving::Reply(i), i + 1),
-        None => (Giving::Plain, replies.len()),
+        None => (Giving::Plain, count),
     }
 }
 
@@ -105,8 +119,8 @@ impl ScriptLines {
     {
         Ok(ScriptLines {
             starts: Vec::new(alloc),
-            replies: Vec::new(alloc),
-            nothing: Script::new(alloc),
+            replies: ReplyList::new(alloc),
+            nothing: StepList::new(alloc),
             ready: script_of_bytes(alloc, &READY)?,
             closed: script_of(alloc, ScriptStep::Closed)?,
             silent: script_of(alloc, ScriptStep::Silent)?,
@@ -125,38 +139,44 @@ impl ScriptLines {
     }
 
     /// One turn more. Want of memory changes nothing.
-    pub(crate) fn add_reply(&mut self, app: u32, reply: Script) -> Result<(), AllocError>
-        ensures ok { OnOk result (self.new ≡ record self.old { replies = self.old.replies ++ (app, reply) ∷ [] }) }
+    pub(crate) fn add_reply(&mut self, app: u32, reply: &StepList) -> Result<(), AllocError>
+        ensures ok { OnOk result (self.new ≡ record self.old { replies = self.old.replies ++ (app, reply.now) ∷ [] }) }
         ensures err { OnErr result (self.new ≡ self.old) }
     {
-        self.replies.push((app, reply))?;
-        Ok(())
+        self.replies.push(app, reply)
+    }
+
+    /// All turns at once, in the place of those before.
+    pub(crate) fn add_replies(&mut self, replies: ReplyList)
+        ensures { self.new ≡ record self.old { replies = replies } }
+    {
+        self.replies = replies;
     }
 
     /// The steps that are being given.
-    #[tactic(auto, unfolding(crate::specs::Lives::steps_given, crate::specs::Scripts::steps_of_start))]
-    pub(crate) fn steps(&self, giving: Giving) -> &[ScriptStep]
+    #[tactic(auto, using(crate::specs::laws::LifeLaws::steps_of_reply), unfolding(crate::specs::Lives::steps_given, crate::specs::Scripts::steps_of_start))]
+    pub(crate) fn steps(&self, giving: Giving) -> Steps<'_>
         requires { IsGivingIn self.now.replies giving }
-        ensures { result.now ≡ steps_given self.now.replies giving }
+        ensures { result ≡ steps_given self.now.replies giving }
     {
         match giving {
-            Giving::Nothing => self.nothing.as_slice(),
+            Giving::Nothing => self.nothing.steps(),
             Giving::Start(start) => self.start_steps(start),
-            Giving::Reply(i) => self.replies[i].1.as_slice(),
-            Giving::Plain => self.plain.as_slice(),
+            Giving::Reply(i) => self.replies.steps(i),
+            Giving::Plain => self.plain.steps(),
         }
     }
 
     #[tactic(auto, unfolding(crate::specs::Scripts::steps_of_start))]
-    fn start_steps(&self, start: StartScript) -> &[ScriptStep]
-        ensures { result.now ≡ steps_of_start start }
+    fn start_steps(&self, start: StartScript) -> Steps<'_>
+        ensures { result ≡ steps_of_start start }
     {
         match start {
-            StartScript::Ready => self.ready.as_slice(),
-            StartScript::Refused => self.nothing.as_slice(),
-            StartScript::Closed => self.closed.as_slice(),
-            StartScript::Silent => self.silent.as_slice(),
-            StartScript::Garbled => self.garbled.as_slice(),
+            StartScript::Ready => self.ready.steps(),
+            StartScript::Refused => self.nothing.steps(),
+            StartScript::Closed => self.closed.steps(),
+            StartScript::Silent => self.silent.steps(),
+            StartScript::Garbled => self.garbled.steps(),
         }
     }
 

@@ -8,7 +8,7 @@ ghost use Rattle.outside.specs.InOrder.{InOrder};
 ghost use Rattle.outside.specs.declared.step.WorldStep.{WorldStep};
 ghost use Rattle.sim_world.specs.Told.{without_links};
 ghost use Rattle.sim_world.specs.Scripts.{KeepsScripts};
-ghost use Rattle.sim_world.specs.Places.{AreInPlace};
+ghost use Rattle.sim_world.specs.Places.{AreExpected};
 ghost use Rattle.sim_world.specs.World.{AreAsTold, seen_of, given_of, short_told};
 ghost use Rattle.outside.specs.State.{at_first};
 
@@ -46,7 +46,7 @@ impl SimWorld {
         ensures word { InOrder (seen_of self.now) }
         ensures scripts { KeepsScripts self.now.scripts (without_links self.now.fails) self.now.history }
         ensures told { AreAsTold (without_links self.now.fails) 0 self.now.history (at_first (given_of self.now)) }
-        ensures strays { AreInPlace self.now.history (at_first (given_of self.now)) → (seen_of self.now).counts.shorts ≡ 0 → (seen_of self.now).counts.strays ≡ 0 }
+        ensures strays { AreExpected self.now.history (at_first (given_of self.now)) → (seen_of self.now).counts.shorts ≡ 0 → (seen_of self.now).counts.strays ≡ 0 }
     {
         let _parts = &self.parts;
     }

@@ -1,7 +1,7 @@
 -- Laws of a session that is given to a simulated world: that it may be given.
-use Rattle.std.specs.Prelude.{◌≡◌, ◌≢◌, ◌==◌, ℕ, ◌+◌, ◌<◌, ◌≤◌, Bool, true, false, ◌||◌, List, [], ◌∷◌, ◌++◌, length, slice_index_or, All, Result, Ok, Err, OnOk, IsTrue, refl}
+use Rattle.std.specs.Prelude.{◌≡◌, ◌≢◌, ◌==◌, ℕ, ◌+◌, ◌<◌, ◌≤◌, Bool, true, false, ◌||◌, List, [], ◌∷◌, ◌++◌, length, slice_index_or, All, Result, Ok, Err, IsTrue, refl}
 use Rattle.std.specs.List.{AllPairs, list_any}
-use Rattle.std.proofs.Common.{zero, suc, sym, ap, ◌∙◌, subst, arith, append_assoc}
+use Rattle.std.proofs.Common.{zero, suc, sym, ap, ◌∙◌, subst, arith}
 use Rattle.std.proofs.lemmas.Bool.{ne_eqb}
 use Rattle.std.proofs.Math.Bool.{or-false}
 use Rattle.std.proofs.lemmas.List.Elements.{All-head, All-tail}
@@ -20,12 +20,12 @@ use Rattle.outside.specs.Seen.{Given, is_declared}
 use Rattle.outside.specs.State.{moment_after}
 use Rattle.outside.specs.Conforming.{ArePortsFrom, IsWorldStim, IsStimulus as IsStimulusOf, may_be_raw as may_send, is_unasked as sends_unasked}
 use Rattle.sim_world.specs.Scripts.{Scripts}
-use Rattle.sim_world.specs.World.{WorldData, given_of, CanCome}
-use Rattle.sim_world.specs.Building.{insert_declared, with_stimulus, last_moment_from, last_moment_of, nothing_given, Gets}
+use Rattle.sim_world.specs.World.{CanCome}
+use Rattle.sim_world.specs.Building.{insert_declared, with_replies, with_stimuli, nothing_given}
 use Rattle.sim_world.specs.laws.BuildingLaws.{is_declared-insert, length-insert_declared}
 use Rattle.lego_model.specs.SessionLines.{SessionValue, may_be_raw, is_unasked}
 use Rattle.lego_model.specs.SessionFacts.{IsPort, IsSwitch, IsKnown, IsStimulus, MayHappen, moments, IsSession}
-use Rattle.session_text.specs.Loading.{declared_of, declared_with, with_switches, with_faults, with_starts, with_replies, with_stimuli, given_by}
+use Rattle.session_text.specs.Loading.{declared_of, declared_with, with_switches, with_faults, with_starts, given_by}
 
 -- ---- Switches
 
@@ -176,34 +176,6 @@ can_come ds moment (Of n x ∷ xs) are rise after =
 pub CanCome-session : (s : SessionValue) → IsSession s → CanCome (declared_with [] s.switches) 0 s.stimuli
 CanCome-session s is = can_come s.switches 0 s.stimuli is.stimuli is.moments_rise (λ i e less. omega arith)
 
--- ---- One part of a session given, and the rest behind it
-
-abbrev Change : Type 0
-Change = Given Scripts → Given Scripts
-
--- what is given with the rest stays, where one thing is taken from the rest and given
-pub given_step : {A : Type 0} (all_of : List A → Change) (change : Change) (x : A) (xs rest : List A) (old new : WorldData) (all : Given Scripts)
-    → all_of (x ∷ xs) (given_of old) ≡ all_of xs (change (given_of old)) → rest ≡ x ∷ xs → Gets change old new → all_of rest (given_of old) ≡ all → all_of xs (given_of new) ≡ all
-given_step all_of change x xs rest old new all law is gets before =
-    ap (all_of xs) gets.given ∙ sym law ∙ sym (ap (λ r. all_of r (given_of old)) is) ∙ before
-
-pub stimuli_law : (x : WorldStim) (xs : List WorldStim) (g : Given Scripts) → with_stimuli (x ∷ xs) g ≡ with_stimuli xs (with_stimulus x g)
-stimuli_law x xs g = ap (λ stimuli. record g { stimuli = stimuli }) (sym (append_assoc g.stimuli (x ∷ []) xs))
-
-last_moment-more : (moment : ℕ) (xs : List WorldStim) (x : WorldStim) → last_moment_from moment (xs ++ x ∷ []) ≡ moment_after x (last_moment_from moment xs)
-last_moment-more moment [] x = refl
-last_moment-more moment (y ∷ ys) x = last_moment-more (moment_after y moment) ys x
-
--- the rest can come behind the first
-abbrev pub CanFollow : List WorldStim → Given Scripts → Type 0
-CanFollow xs g = CanCome g.declared (last_moment_of g.stimuli) xs
-
-pub follow_rest : (x : WorldStim) (xs rest : List WorldStim) (old new : WorldData) → rest ≡ x ∷ xs → Gets (with_stimulus x) old new → CanFollow rest (given_of old) → CanFollow xs (given_of new)
-follow_rest x xs rest old new is gets can =
-    let g = given_of old in
-    subst (CanFollow xs) (sym gets.given)
-    (subst (λ moment. CanCome g.declared moment xs) (sym (last_moment-more 0 g.stimuli x)) (subst (λ r. CanFollow r g) is can).1)
-
 -- ---- A whole session given to a world that was given nothing
 
 -- what was given before the stimuli
@@ -218,9 +190,21 @@ before_stimuli s nothing declared failing started replied none switches faults s
     ∙ ap (λ (g : Given Scripts). with_replies s.replies (with_starts s.starts (with_faults s.faults g))) switches
     ∙ ap (λ (g : Given Scripts). with_replies s.replies (with_starts s.starts (with_faults s.faults (with_switches s.switches g)))) none
 
-pub stimuli_follow : (s : SessionValue) (replied : Given Scripts) → replied ≡ record (given_by s) { stimuli = [] } → IsSession s → CanFollow s.stimuli replied
+-- no turn is said before those of the session, and no stimulus is given before them
+pub no_replies : (s : SessionValue) (nothing declared failing started : Given Scripts) → nothing ≡ nothing_given
+    → declared ≡ with_switches s.switches nothing → failing ≡ with_faults s.faults declared → started ≡ with_starts s.starts failing → started.own.replies ≡ []
+no_replies s nothing declared failing started none switches faults starts =
+    ap (λ (g : Given Scripts). g.own.replies) starts
+    ∙ ap (λ (g : Given Scripts). g.own.replies) faults
+    ∙ ap (λ (g : Given Scripts). g.own.replies) switches
+    ∙ ap (λ (g : Given Scripts). g.own.replies) none
+
+pub no_stimuli : (s : SessionValue) (replied : Given Scripts) → replied ≡ record (given_by s) { stimuli = [] } → replied.stimuli ≡ []
+no_stimuli s replied is = ap (λ (g : Given Scripts). g.stimuli) is
+
+pub stimuli_follow : (s : SessionValue) (replied : Given Scripts) → replied ≡ record (given_by s) { stimuli = [] } → IsSession s → CanCome replied.declared 0 s.stimuli
 unfolding given_by
-stimuli_follow s replied is session = subst (CanFollow s.stimuli) (sym is) (CanCome-session s session)
+stimuli_follow s replied is session = subst (λ (g : Given Scripts). CanCome g.declared 0 s.stimuli) (sym is) (CanCome-session s session)
 
 pub all_given : (s : SessionValue) (replied all : Given Scripts) → replied ≡ record (given_by s) { stimuli = [] } → all ≡ with_stimuli s.stimuli replied → all ≡ given_by s
 unfolding given_by
@@ -228,7 +212,3 @@ all_given s replied all is stimuli = stimuli ∙ ap (with_stimuli s.stimuli) is
 
 pub switches_declare : (s : SessionValue) (g : Given Scripts) → g ≡ nothing_given → IsSession s → MayDeclare g.declared s.switches
 switches_declare s g none session = subst (λ (h : Given Scripts). MayDeclare h.declared s.switches) (sym none) (MayDeclare-session s session)
-
-pub on_ok : {T E A B : Type 0} (r : Result T E) → (A → B) → OnOk r A → OnOk r B
-on_ok (Ok x) f a = f a
-on_ok (Err e) f a = tt

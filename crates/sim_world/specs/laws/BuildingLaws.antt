@@ -27,11 +27,11 @@ use Rattle.sim_world.specs.laws.LinkStepLaws.{AreStanding, AreStanding-may_call}
 use Rattle.sim_world.specs.Tally.{last_count, LinkCounts, TallyState, IsTally, CountsFor, counts_of, count_at, none_of, no_counts}
 use Rattle.sim_world.specs.Told.{without_links, without_links-link, without_links-other}
 use Rattle.sim_world.specs.Scripts.{Scripts, Life, fresh, life_through, KeepsScripts}
-use Rattle.sim_world.specs.Lives.{Playing, life_in}
+use Rattle.sim_world.specs.Lives.{ScriptedLives, life_in}
 use Rattle.sim_world.specs.World.{WorldData, declared_in, given_of, seen_of, nexts_through, IsHistory, Stands, CanCome}
 use Rattle.sim_world.specs.Doing.{AppsStand, LinksStand}
 use Rattle.sim_world.specs.Keeping.{Keeps}
-use Rattle.sim_world.specs.Building.{Begins, Gets, nothing_given, insert_declared, with_switch, with_stimulus, with_fail, with_start, with_reply, last_moment_from, last_moment_of, MayBeGiven, AreZero, IsNew}
+use Rattle.sim_world.specs.Building.{Begins, Gets, nothing_given, insert_declared, with_switch, with_stimulus, with_fail, with_start, with_reply, with_replies, with_stimuli, last_moment_from, last_moment_of, MayBeGiven, AreZero, IsNew}
 
 -- ---- One switch more
 
@@ -454,6 +454,33 @@ Gets-stimulus x w is = record {
   given = refl;
 }
 
+-- all stimuli, where none was given
+abbrev pub stimuli_all : List WorldStim → WorldData → WorldData
+stimuli_all xs w = record w { stimuli = xs; state = record w.state { to_come = xs } }
+
+pub Gets-stimuli : (xs : List WorldStim) (w : WorldData) → (given_of w).stimuli ≡ [] → IsNew w → Gets (with_stimuli xs) w (stimuli_all xs w)
+unfolding given_of declared_in at_first
+Gets-stimuli xs w none is = record {
+  still = record {
+    history = is.history;
+    nexts = is.nexts;
+    calls = is.calls;
+    lives = is.lives;
+    told = is.told;
+    state = ap (λ (s : State). record s { to_come = xs }) is.state;
+    counts = is.counts;
+    tally = is.tally;
+  };
+  given = ap (λ (ys : List WorldStim). record (given_of w) { stimuli = ys ++ xs }) (sym none);
+}
+
+pub MayBeGiven-stimuli : (given : Given Scripts) (xs : List WorldStim) → MayBeGiven given → given.stimuli ≡ [] → CanCome given.declared 0 xs → MayBeGiven (with_stimuli xs given)
+MayBeGiven-stimuli given xs may none can = record {
+  declared = may.declared;
+  switches = may.switches;
+  stimuli = subst (λ (ys : List WorldStim). CanCome given.declared 0 (ys ++ xs)) (sym none) can;
+}
+
 -- a line more of the scripts
 abbrev pub scripts_more : Scripts → WorldData → WorldData
 scripts_more own w = record w { scripts = own }
@@ -482,10 +509,20 @@ pub Gets-reply : (app : ℕ) (reply : List ScriptStep) (w : WorldData) → IsNew
 unfolding given_of
 Gets-reply app reply w is = Gets-scripts (record w.scripts { replies = w.scripts.replies ++ (app, reply) ∷ [] }) (with_reply app reply) w refl is
 
+-- all lines of turns, where none was given
+pub Gets-replies : (replies : List (ℕ × List ScriptStep)) (w : WorldData) → (given_of w).own.replies ≡ [] → IsNew w → Gets (with_replies replies) w (scripts_more (record w.scripts { replies = replies }) w)
+unfolding given_of
+Gets-replies replies w none is =
+    Gets-scripts (record w.scripts { replies = replies }) (with_replies replies) w
+    (ap (λ (lines : List (ℕ × List ScriptStep)). record (given_of w) { own = record w.scripts { replies = lines ++ replies } }) (sym none)) is
+
+pub MayBeGiven-replies : (given : Given Scripts) (replies : List (ℕ × List ScriptStep)) → MayBeGiven given → MayBeGiven (with_replies replies given)
+MayBeGiven-replies given replies may = record { declared = may.declared; switches = may.switches; stimuli = may.stimuli }
+
 -- with the lines and lives at hand put back it has one line more
-pub put_lines : (w old : WorldData) (p : Playing) (change : Scripts → Scripts) → w ≡ old → p ≡ record { own = change w.scripts; lives = w.lives } → record w { scripts = p.own; lives = p.lives } ≡ scripts_more (change old.scripts) old
+pub put_lines : (w old : WorldData) (p : ScriptedLives) (change : Scripts → Scripts) → w ≡ old → p ≡ record { own = change w.scripts; lives = w.lives } → record w { scripts = p.own; lives = p.lives } ≡ scripts_more (change old.scripts) old
 put_lines w old p change is played =
-    ap (λ (q : Playing). record w { scripts = q.own; lives = q.lives }) played
+    ap (λ (q : ScriptedLives). record w { scripts = q.own; lives = q.lives }) played
     ∙ ap (λ (v : WorldData). scripts_more (change v.scripts) v) is
 
 -- a call more that is to fail: one of a link, and another one
@@ -692,6 +729,12 @@ pub built : {T E : Type 0} (P : WorldData → Type 0) (r : Result T E) (change :
 built P (Ok x) change now old new same holds before may gets kept =
     holds new gets.still (subst MayBeGiven (ap (λ (w : WorldData). change (given_of w)) (sym same) ∙ sym gets.given) may)
 built P (Err e) change now old new same holds before may gets kept = subst P (sym kept) before
+
+-- the same where the call cannot fail
+pub built_whole : (P : WorldData → Type 0) (change : Given Scripts → Given Scripts) (now old new : WorldData) → old ≡ now
+    → ((w : WorldData) → IsNew w → MayBeGiven (given_of w) → P w) → MayBeGiven (change (given_of now)) → Gets change old new → P new
+built_whole P change now old new same holds may gets =
+    holds new gets.still (subst MayBeGiven (ap (λ (w : WorldData). change (given_of w)) (sym same) ∙ sym gets.given) may)
 
 -- ---- What is seen
 

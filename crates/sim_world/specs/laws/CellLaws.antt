@@ -10,7 +10,7 @@ use Rattle.outside.specs.declared.step.WorldStep.{WorldStep}
 use Rattle.outside.specs.declared.step.WorldStep.TheVariants.{Acted, TookInto}
 use Rattle.outside.specs.State.{event_number}
 use Rattle.sim_world.specs.Scripts.{Scripts, Life, fresh, after_start, after_gave, after_gone, after_take, after_end, life_after, will_start}
-use Rattle.sim_world.specs.Lives.{life_of_cell, life_in, has_life, named_life, named_lives, has_cell, IsFirst, Moved, Playing, life_of, is_known}
+use Rattle.sim_world.specs.Lives.{life_of_cell, life_in, has_life, named_life, named_lives, has_cell, IsFirst, Moved, ScriptedLives, life_of, is_known}
 
 -- ---- Looking for a cell
 
@@ -205,28 +205,28 @@ Moved-unknown app lives unknown = record {
 
 -- ---- Lives as they are seen, and the cells behind them
 
-pub seen_life : (a : ℕ) (s : Playing) (lines : Scripts) (cells items : List LifeCell) → ◌≡◌ {A = Playing} (record { own = lines; lives = named_lives lines.replies cells }) s → items ≡ cells → life_in a (named_lives lines.replies items) ≡ life_of a s
+pub seen_life : (a : ℕ) (s : ScriptedLives) (lines : Scripts) (cells items : List LifeCell) → ◌≡◌ {A = ScriptedLives} (record { own = lines; lives = named_lives lines.replies cells }) s → items ≡ cells → life_in a (named_lives lines.replies items) ≡ life_of a s
 unfolding life_of
 seen_life a s lines cells items view same = ap (λ (xs : List LifeCell). life_in a (named_lives lines.replies xs)) same ∙ ap (life_of a) view
 
-pub seen_known : (a : ℕ) (s : Playing) (lines : Scripts) (cells items : List LifeCell) → ◌≡◌ {A = Playing} (record { own = lines; lives = named_lives lines.replies cells }) s → items ≡ cells → has_life a (named_lives lines.replies items) ≡ is_known a s
+pub seen_known : (a : ℕ) (s : ScriptedLives) (lines : Scripts) (cells items : List LifeCell) → ◌≡◌ {A = ScriptedLives} (record { own = lines; lives = named_lives lines.replies cells }) s → items ≡ cells → has_life a (named_lives lines.replies items) ≡ is_known a s
 unfolding is_known
 seen_known a s lines cells items view same = ap (λ (xs : List LifeCell). has_life a (named_lives lines.replies xs)) same ∙ ap (is_known a) view
 
-pub seen_cell : (a : ℕ) (s : Playing) (lines : Scripts) (cells items : List LifeCell) → ◌≡◌ {A = Playing} (record { own = lines; lives = named_lives lines.replies cells }) s → items ≡ cells → is_known a s ≡ true → has_cell a items ≡ true
+pub seen_cell : (a : ℕ) (s : ScriptedLives) (lines : Scripts) (cells items : List LifeCell) → ◌≡◌ {A = ScriptedLives} (record { own = lines; lives = named_lives lines.replies cells }) s → items ≡ cells → is_known a s ≡ true → has_cell a items ≡ true
 seen_cell a s lines cells items view same known = sym (has_life-cell lines.replies a items) ∙ seen_known a s lines cells items view same ∙ known
 
-pub seen_steps : (s : Playing) (lines : Scripts) (cells items : List LifeCell) (new : List (ℕ × Life)) (fails : List FailCall) (step : WorldStep) → ◌≡◌ {A = Playing} (record { own = lines; lives = named_lives lines.replies cells }) s → items ≡ cells
+pub seen_steps : (s : ScriptedLives) (lines : Scripts) (cells items : List LifeCell) (new : List (ℕ × Life)) (fails : List FailCall) (step : WorldStep) → ◌≡◌ {A = ScriptedLives} (record { own = lines; lives = named_lives lines.replies cells }) s → items ≡ cells
     → ((a : ℕ) → life_in a new ≡ life_after lines fails a step (life_in a (named_lives lines.replies items))) → (a : ℕ) → life_in a new ≡ life_after s.own fails a step (life_of a s)
 unfolding life_of
 seen_steps s lines cells items new fails step view same moved a =
     moved a
     ∙ ap (λ (xs : List LifeCell). life_after lines fails a step (life_in a (named_lives lines.replies xs))) same
-    ∙ ap (λ (p : Playing). life_after p.own fails a step (life_of a p)) view
+    ∙ ap (λ (p : ScriptedLives). life_after p.own fails a step (life_of a p)) view
 
-pub seen_start : (s : Playing) (lines : Scripts) (cells items : List LifeCell) (fails : List FailCall) (app : ℕ) → ◌≡◌ {A = Playing} (record { own = lines; lives = named_lives lines.replies cells }) s → items ≡ cells
+pub seen_start : (s : ScriptedLives) (lines : Scripts) (cells items : List LifeCell) (fails : List FailCall) (app : ℕ) → ◌≡◌ {A = ScriptedLives} (record { own = lines; lives = named_lives lines.replies cells }) s → items ≡ cells
     → will_start lines fails app (life_in app (named_lives lines.replies items)) ≡ will_start s.own fails app (life_of app s)
 unfolding life_of
 seen_start s lines cells items fails app view same =
     ap (λ (xs : List LifeCell). will_start lines fails app (life_in app (named_lives lines.replies xs))) same
-    ∙ ap (λ (p : Playing). will_start p.own fails app (life_of app p)) view
+    ∙ ap (λ (p : ScriptedLives). will_start p.own fails app (life_of app p)) view

@@ -35,7 +35,7 @@ use Rattle.outside.specs.Calls.{open_steps, next_steps, stim_steps, item_step, s
 use Rattle.outside.specs.Conforming.{IsWorldStim, MayStep, MayAct}
 use Rattle.outside.specs.InOrder.{MayCome, MayComeAll}
 use Rattle.sim_world.specs.Tally.{TallyState, CountsFor}
-use Rattle.sim_world.specs.Places.{AreInPlace, NoneStrays}
+use Rattle.sim_world.specs.Places.{AreExpected, NoneStrays}
 use Rattle.sim_world.specs.laws.PlaceLaws.{places_move, open_places, next_places, start_places, give_places, take_places, send_places, receive_places}
 use Rattle.sim_world.specs.Scripts.{Scripts, Life, IsScripted, AreScripted}
 use Rattle.sim_world.specs.Lives.{life_in}
@@ -134,7 +134,7 @@ length_more : (xs ys : List WorldStep) → length (xs ++ ys) ≡ length xs + len
 length_more xs ys = length-append xs ys
 
 pub keeps_quiet : (old new : WorldData) (steps : List WorldStep) (counted : TallyState) → Keeps old → Moves old new steps counted → AllByRecursion IsQuiet steps
-    → AreScripted old.scripts old.told steps (λ app. life_in app old.lives) → AreAsTold old.told old.nexts steps old.state → CountsFor (declared_in old.state) counted → (AreInPlace steps old.state → NoneStrays old.tally counted) → Keeps new
+    → AreScripted old.scripts old.told steps (λ app. life_in app old.lives) → AreAsTold old.told old.nexts steps old.state → CountsFor (declared_in old.state) counted → (AreExpected steps old.state → NoneStrays old.tally counted) → Keeps new
 keeps_quiet old new steps counted keeps moves quiet scripts told counts places =
     let around = quiet_steps steps old.state quiet in
     let links : new.state.links ≡ old.state.links = ap (λ (s : State). s.links) moves.state ∙ around.links in
@@ -252,7 +252,7 @@ record LinkedBy (most : ℕ) (s t : State) : Type 0 where
   to_come : t.to_come ≡ s.to_come
 
 keeps_linked : (old new : WorldData) (steps : List WorldStep) (counted : TallyState) → Keeps old → Moves old new steps counted → LinkedBy (length (old.history ++ steps)) old.state (after_steps steps old.state)
-    → MayComeAll (declared_in old.state) steps old.state → AreScripted old.scripts old.told steps (λ app. life_in app old.lives) → AreAsTold old.told old.nexts steps old.state → CountsFor (declared_in old.state) counted → (AreInPlace steps old.state → NoneStrays old.tally counted) → Keeps new
+    → MayComeAll (declared_in old.state) steps old.state → AreScripted old.scripts old.told steps (λ app. life_in app old.lives) → AreAsTold old.told old.nexts steps old.state → CountsFor (declared_in old.state) counted → (AreExpected steps old.state → NoneStrays old.tally counted) → Keeps new
 keeps_linked old new steps counted keeps moves linked word scripts told counts places =
     let links : new.state.links ≡ (after_steps steps old.state).links = ap (λ (s : State). s.links) moves.state in
     let due : new.state.due ≡ old.state.due = ap (λ (s : State). s.due) moves.state ∙ linked.due in

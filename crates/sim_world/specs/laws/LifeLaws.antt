@@ -1,11 +1,16 @@
 -- Laws of how lives are kept: places in steps, and places in lines.
-use Rattle.std.proofs.Common.{◌≡◌, ℕ, zero, suc, ◌+◌, ◌<◌, ◌≤◌, Bool, true, false, cond, List, [], ◌∷◌, map, length, drop, get_or, leb, refl, sym, ap, ◌∙◌, arith, Some, None, slice_get, ◌==◌, if◌then◌else◌, is_some, add-one, ◌≢◌, nat_lt, ◌&&◌, Ok}
+use Rattle.std.proofs.Common.{inl, inr, ◌≡◌, ℕ, zero, suc, ◌+◌, ◌<◌, ◌≤◌, Bool, true, false, cond, List, [], ◌∷◌, map, length, take, drop, min, ◌-◌, get_or, leb, refl, sym, ap, ◌∙◌, arith, Option, Some, None, slice_get, ◌==◌, if◌then◌else◌, is_some, add-one, ◌≢◌, nat_lt, ◌&&◌, Ok}
 use Rattle.std.proofs.Math.Seq.{drop-nil}
 use Rattle.std.proofs.Math.ListN.{drop_of_length-le}
 use Rattle.std.proofs.Math.Dec.{leb-zero, leb-suc-zero, leb-suc-suc}
 use Rattle.std.proofs.lemmas.Option.{slice_get-get_or, slice_get_within}
 use Rattle.std.specs.List.{filter}
-use Rattle.std.proofs.lemmas.Bool.{eq-eqb, ne_eqb}
+use Rattle.std.specs.Option.{option_map}
+use Rattle.std.proofs.lemmas.Bool.{eq-eqb, ne_eqb, leb-false, cases_lt}
+use Rattle.std.proofs.Math.Nat.{min-eq_left, min-eq_right}
+use Rattle.std.proofs.lemmas.List.{drop-drop, length-drop, length-take, length-take-le}
+use Rattle.of_types.specs.declared.journal.TookWhat.{TookWhat}
+use Rattle.of_types.specs.declared.journal.TookWhat.TheVariants as took
 use Rattle.of_types.specs.Fields.{number_at}
 use Rattle.app_frames.specs.declared.script.ScriptStep.{ScriptStep}
 use Rattle.app_frames.specs.declared.script.ScriptStep.TheVariants.{Bytes, Closed, Silent}
@@ -20,8 +25,8 @@ use Rattle.outside.specs.declared.call.FailCall.{FailCall}
 use Rattle.sim_world.specs.declared.life.Giving.{Giving}
 use Rattle.sim_world.specs.declared.life.Giving.TheVariants.{Start}
 use Rattle.sim_world.specs.declared.life.LifeCell.{LifeCell}
-use Rattle.sim_world.specs.Scripts.{Scripts, Life, passed, lines_of, start_or_ready, turn_or_plain, steps_of_start, next_start, next_turn, after_start, after_gave, start_reached, is_refused}
-use Rattle.sim_world.specs.Lives.{cut, from_place, begins_empty, steps_given, IsGivingIn, IsNextLine, Follows, life_of_cell, IsCellOf, took_of}
+use Rattle.sim_world.specs.Scripts.{Scripts, Life, passed, first_given, first_taken, taken_bytes, lines_of, start_or_ready, turn_or_plain, steps_of_start, next_start, next_turn, after_start, after_gave, start_reached, is_refused}
+use Rattle.sim_world.specs.Lives.{cut, from_place, begins_empty, steps_of_line, steps_given, IsGivingIn, IsNextLine, Follows, life_of_cell, IsCellOf, took_of}
 
 -- ---- Elements and rests
 
@@ -111,6 +116,49 @@ passed-next steps at empty =
     passed-first (from_place at steps) empty
     ∙ ap passed (cut-rest at.offset (drop at.step steps) ∙ sym (drop-next steps at.step) ∙ sym (cut-zero (drop (at.step + 1) steps)))
 
+-- ---- What is taken at a place
+
+-- a step that begins a place which has a byte left
+pub offset_within : (steps : List ScriptStep) (at : Place) (bytes : List ℕ) → slice_get steps at.step ≡ Some (Bytes bytes) → begins_empty (from_place at steps) ≡ false → at.offset < length bytes
+offset_within steps at bytes is begun =
+    leb-false (length bytes) at.offset (sym (begins_empty-bytes bytes at.offset (drop (at.step + 1) steps)) ∙ sym (ap begins_empty (from_place-bytes steps at bytes is)) ∙ begun)
+
+pub bytes_empty : (steps : List ScriptStep) (at : Place) (bytes : List ℕ) → slice_get steps at.step ≡ Some (Bytes bytes) → leb (length bytes) at.offset ≡ begins_empty (from_place at steps)
+bytes_empty steps at bytes is = sym (ap begins_empty (from_place-bytes steps at bytes is) ∙ begins_empty-bytes bytes at.offset (drop (at.step + 1) steps))
+
+pub bytes_given : (steps : List ScriptStep) (at : Place) (bytes : List ℕ) (room : ℕ) → slice_get steps at.step ≡ Some (Bytes bytes) → first_given room (from_place at steps) ≡ took.Bytes (take room (drop at.offset bytes))
+bytes_given steps at bytes room is = ap (first_given room) (from_place-bytes steps at bytes is)
+
+pub bytes_count : (steps : List ScriptStep) (at : Place) (bytes : List ℕ) (room : ℕ) → slice_get steps at.step ≡ Some (Bytes bytes) → min room (length bytes - at.offset) ≡ length (taken_bytes (first_given room (from_place at steps)))
+bytes_count steps at bytes room is =
+    ap (λ (n : ℕ). min room n) (sym (length-drop at.offset bytes))
+    ∙ sym (length-take room (drop at.offset bytes))
+    ∙ sym (ap (λ (what : TookWhat). length (taken_bytes what)) (bytes_given steps at bytes room is))
+
+-- what is left where so many bytes were taken, which stand in the front of a buffer
+pub bytes_left : (steps : List ScriptStep) (at : Place) (bytes buf : List ℕ) (count : ℕ) → slice_get steps at.step ≡ Some (Bytes bytes) → count ≤ length buf
+    → from_place (record { step = at.step; offset = at.offset + count }) steps ≡ first_taken (length (take count buf)) (from_place at steps)
+bytes_left steps at bytes buf count is few =
+    from_place-bytes steps (record { step = at.step; offset = at.offset + count }) bytes is
+    ∙ ap (λ (bs : List ℕ). Bytes bs ∷ drop (at.step + 1) steps) (sym (drop-drop count at.offset bytes))
+    ∙ ap (λ (n : ℕ). Bytes (drop n (drop at.offset bytes)) ∷ drop (at.step + 1) steps) (sym (length-take-le count buf few))
+    ∙ sym (ap (first_taken (length (take count buf))) (from_place-bytes steps at bytes is))
+
+-- some bytes are taken, and as many as there is room for
+pub some_taken : (count room left : ℕ) → count ≡ min room left → 0 < room → 0 < left → (1 ≤ count) × (count ≤ room)
+some_taken count room left is some more =
+    elim (cases_lt room left) [
+      | inl less ↦ let least : min room left ≡ room = min-eq_left (omega (arith, less)) in (omega (arith, is, least, some), omega (arith, is, least))
+      | inr not_less ↦ let least : min room left ≡ left = min-eq_right not_less in (omega (arith, is, least, more), omega (arith, is, least, not_less))
+    ]
+
+-- a step without bytes leaves what stands behind it
+pub closed_left : (steps : List ScriptStep) (at : Place) → slice_get steps at.step ≡ Some Closed → from_place (record { step = at.step + 1; offset = 0 }) steps ≡ first_taken 0 (from_place at steps)
+closed_left steps at is = from_place-front steps (at.step + 1) ∙ sym (ap (first_taken 0) (from_place-closed steps at is))
+
+pub silent_left : (steps : List ScriptStep) (at : Place) → slice_get steps at.step ≡ Some Silent → from_place (record { step = at.step + 1; offset = 0 }) steps ≡ first_taken 0 (from_place at steps)
+silent_left steps at is = from_place-front steps (at.step + 1) ∙ sym (ap (first_taken 0) (from_place-silent steps at is))
+
 -- ---- Events
 
 -- what is too short for a kind tells no event
@@ -148,6 +196,15 @@ lines_of-other app lines i line at other =
 pub lines_of-end : {A : Type 0} → (app : ℕ) (lines : List (ℕ × A)) (i : ℕ) → length lines ≤ i → lines_of app (drop i lines) ≡ []
 unfolding lines_of
 lines_of-end app lines i end = ap (lines_of app) (drop_of_length-le lines end)
+
+-- a line by its application, and by its steps
+pub line_of_app : {A : Type 0} (found : Option (ℕ × A)) (app : ℕ) → option_map (λ line. line.0) found ≡ Some app → (line : ℕ × A) × (found ≡ Some line) × (line.0 ≡ app)
+line_of_app None app is = absurd cc
+line_of_app (Some line) app is = (line, refl, cc)
+
+pub steps_of_reply : (found : Option (ℕ × List ScriptStep)) (steps : List ScriptStep) → option_map (λ line. line.1) found ≡ Some steps → steps ≡ steps_of_line found
+steps_of_reply None steps is = absurd cc
+steps_of_reply (Some line) steps is = cc
 
 pub Follows-line : {A : Type 0} → (app from i : ℕ) (lines : List (ℕ × A)) → IsNextLine app from lines (Some i) → Follows app from (i + 1) lines
 Follows-line app from i lines next =

@@ -1,10 +1,11 @@
 -- Laws of what comes next in a simulated world.
-use Rattle.std.specs.Prelude.{◌≡◌, ℕ, ◌+◌, ◌<◌, ◌↔◌, Bool, true, false, is_some, List, [], ◌∷◌, ◌++◌, length, drop, Option, None, Some, All, IfSome, slice_get, refl}
+use Rattle.std.specs.Prelude.{◌≡◌, ℕ, ◌+◌, ◌<◌, ◌↔◌, Bool, true, false, is_some, List, [], ◌∷◌, ◌++◌, length, drop, Option, None, Some, Result, Ok, Err, All, IfSome, IfNone, IfOk, slice_get, refl}
 use Rattle.std.specs.Option.{option_to_list}
-use Rattle.std.proofs.Common.{sym, ap, ◌∙◌, arith, drop-drop}
+use Rattle.std.proofs.Common.{zero, suc, sym, ap, ◌∙◌, arith, drop-drop}
 use Rattle.std.proofs.lemmas.Option.{slice_get_within}
 use Rattle.std.proofs.lemmas.Bool.{false≢true}
 use Rattle.std.proofs.lemmas.List.{length-drop}
+use Rattle.std.proofs.Math.Seq.{drop-nil}
 use Rattle.std.proofs.lemmas.List.Elements.{All-append, All-nil, All-cons}
 use Rattle.of_types.specs.declared.journal.WorldStim.{WorldStim}
 use Rattle.outside.specs.declared.step.WorldStep.{WorldStep}
@@ -21,6 +22,7 @@ use Rattle.sim_world.specs.Scripts.{Scripts, Life, life_after}
 use Rattle.sim_world.specs.World.{IsAsTold, counted_next, next_told}
 use Rattle.sim_world.specs.Links.{IsDue, due_in, waiting_in}
 use Rattle.sim_world.specs.laws.LinksLaws.{due_of-links}
+use Rattle.sim_world.specs.laws.LifeLaws.{slice_get-drop}
 
 -- what a stimulus makes due, as it is held
 pub due_is : (x : WorldStim) (s : State) (step : Option WorldStep) → due_in x s.moment s.links ≡ option_to_list step → due_of x s ≡ option_to_list step
@@ -37,6 +39,23 @@ all_due due (Some step) all is = All-append IsDue due (step ∷ []) all (All-con
 -- where one is to come, not all were begun
 pub next_within : (begun : ℕ) (all : List WorldStim) (x : WorldStim) → slice_get (drop begun all) 0 ≡ Some x → begun < length all
 next_within begun all x is = omega (arith, slice_get_within (drop begun all) 0 x is, length-drop begun all)
+
+-- the stimulus that was looked up is the next to come, and where none was found none is to come
+nothing_left : (begun : ℕ) (all : List WorldStim) → slice_get all begun ≡ None → drop begun all ≡ []
+nothing_left begun [] none = rw drop-nil refl
+nothing_left zero (x ∷ xs) none = absurd cc
+nothing_left (suc begun) (x ∷ xs) none = nothing_left begun xs none
+
+pub none_to_come : {E : Type 0} (begun : ℕ) (all : List WorldStim) (found : Result (Option WorldStim) E) → IfOk found (λ next. next ≡ slice_get all begun) → IfOk found (λ next. IfNone next (drop begun all ≡ []))
+none_to_come begun all (Ok None) is = nothing_left begun all (sym is)
+none_to_come begun all (Ok (Some x)) is = tt
+none_to_come begun all (Err e) is = tt
+
+pub next_to_come : {E : Type 0} (begun : ℕ) (all : List WorldStim) (found : Result (Option WorldStim) E) → IfOk found (λ next. next ≡ slice_get all begun)
+    → IfOk found (λ next. IfSome next (λ x. slice_get (drop begun all) 0 ≡ Some x))
+next_to_come begun all (Ok None) is = tt
+next_to_come begun all (Ok (Some x)) is = slice_get-drop all begun ∙ sym is
+next_to_come begun all (Err e) is = tt
 
 -- ---- What is due
 

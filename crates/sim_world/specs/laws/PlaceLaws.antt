@@ -29,7 +29,7 @@ use Rattle.outside.specs.Seen.{Given}
 use Rattle.outside.specs.State.{State, at_first, after_step, after_steps, state, but_marks, switch_of, waits_of, is_running, is_joined}
 use Rattle.sim_world.specs.Scripts.{Scripts}
 use Rattle.sim_world.specs.Tally.{TallyState, tally_stray, tally_short, tally_short_of, tally_fault_of}
-use Rattle.sim_world.specs.Places.{IsStartInPlace, IsTakeInPlace, IsActInPlace, IsInPlace, AreInPlace, NoneStrays}
+use Rattle.sim_world.specs.Places.{IsStartExpected, IsTakeExpected, IsActExpected, IsExpected, AreExpected, NoneStrays}
 use Rattle.sim_world.specs.World.{WorldData, given_of, seen_of, Stands, Moves}
 use Rattle.sim_world.specs.laws.WorldLaws.{after_same}
 use Rattle.sim_world.specs.Doing.{open_tally, next_tally, start_tally, give_tally, take_tally, link_tally}
@@ -37,16 +37,16 @@ use Rattle.sim_world.specs.laws.DoingLaws.{given-stays}
 
 -- ---- Marks do not matter
 
-start_same : (app : ℕ) (ok : Bool) (s : State) → IsStartInPlace app ok s ≡ IsStartInPlace app ok (but_marks s)
+start_same : (app : ℕ) (ok : Bool) (s : State) → IsStartExpected app ok s ≡ IsStartExpected app ok (but_marks s)
 start_same app true s = refl
 start_same app false s = refl
 
-take_same : (app : ℕ) (what : TookWhat) (s : State) → IsTakeInPlace app what s ≡ IsTakeInPlace app what (but_marks s)
+take_same : (app : ℕ) (what : TookWhat) (s : State) → IsTakeExpected app what s ≡ IsTakeExpected app what (but_marks s)
 take_same app (took.Bytes bytes) s = refl
 take_same app took.Closed s = refl
 take_same app took.Silent s = refl
 
-act_same : (act : Act) (s : State) → IsActInPlace act s ≡ IsActInPlace act (but_marks s)
+act_same : (act : Act) (s : State) → IsActExpected act s ≡ IsActExpected act (but_marks s)
 act_same (Stim x) s = refl
 act_same (Started app ok) s = start_same app ok s
 act_same (Gave app bytes) s = refl
@@ -56,7 +56,7 @@ act_same (Ended app) s = refl
 act_same (Sent d bytes) s = refl
 act_same (Got d bytes) s = refl
 
-place_same : (step : WorldStep) (s : State) → IsInPlace step s ≡ IsInPlace step (but_marks s)
+place_same : (step : WorldStep) (s : State) → IsExpected step s ≡ IsExpected step (but_marks s)
 unfolding switch_of waits_of
 place_same (Acted act) s = act_same act s
 place_same (TookInto app what room) s = take_same app what s
@@ -72,23 +72,23 @@ place_same NextFailed s = refl
 place_same (SendFailed d) s = refl
 place_same (RecvFailed d) s = refl
 
-pub AreInPlace-same : (steps : List WorldStep) (s t : State) → but_marks s ≡ but_marks t → AreInPlace steps s → AreInPlace steps t
-AreInPlace-same [] s t same are = tt
-AreInPlace-same (step ∷ steps) s t same are =
-    let here : IsInPlace step s ≡ IsInPlace step t = place_same step s ∙ ap (IsInPlace step) same ∙ sym (place_same step t) in (
+pub AreExpected-same : (steps : List WorldStep) (s t : State) → but_marks s ≡ but_marks t → AreExpected steps s → AreExpected steps t
+AreExpected-same [] s t same are = tt
+AreExpected-same (step ∷ steps) s t same are =
+    let here : IsExpected step s ≡ IsExpected step t = place_same step s ∙ ap (IsExpected step) same ∙ sym (place_same step t) in (
       subst (λ (x : Type 0). x) here are.0,
-      AreInPlace-same steps (after_step step s) (after_step step t) (after_same step s t same) are.1,
+      AreExpected-same steps (after_step step s) (after_step step t) (after_same step s t same) are.1,
     )
 
 -- ---- The ends of a history
 
-pub AreInPlace-front : (xs ys : List WorldStep) (s : State) → AreInPlace (xs ++ ys) s → AreInPlace xs s
-AreInPlace-front [] ys s are = tt
-AreInPlace-front (x ∷ xs) ys s are = (are.0, AreInPlace-front xs ys (after_step x s) are.1)
+pub AreExpected-front : (xs ys : List WorldStep) (s : State) → AreExpected (xs ++ ys) s → AreExpected xs s
+AreExpected-front [] ys s are = tt
+AreExpected-front (x ∷ xs) ys s are = (are.0, AreExpected-front xs ys (after_step x s) are.1)
 
-pub AreInPlace-rest : (xs ys : List WorldStep) (s : State) → AreInPlace (xs ++ ys) s → AreInPlace ys (after_steps xs s)
-AreInPlace-rest [] ys s are = are
-AreInPlace-rest (x ∷ xs) ys s are = AreInPlace-rest xs ys (after_step x s) are.1
+pub AreExpected-rest : (xs ys : List WorldStep) (s : State) → AreExpected (xs ++ ys) s → AreExpected ys (after_steps xs s)
+AreExpected-rest [] ys s are = are
+AreExpected-rest (x ∷ xs) ys s are = AreExpected-rest xs ys (after_step x s) are.1
 
 -- ---- Counts
 
@@ -116,7 +116,7 @@ stays_in b is = rw is refl
 
 -- ---- Each call
 
-pub open_places : {T : Type 0} (result : Result T OpenFault) (s : State) (t : TallyState) → (IsTrue s.opened → IsErr result) → AreInPlace (open_steps result) s
+pub open_places : {T : Type 0} (result : Result T OpenFault) (s : State) (t : TallyState) → (IsTrue s.opened → IsErr result) → AreExpected (open_steps result) s
     → NoneStrays t (tally_stray s.opened (open_tally result t))
 unfolding open_steps
 open_places (Ok x) s t out are = unstrayed s.opened t t (not_out s.opened (λ is. false≢true (out is))) refl refl
@@ -128,14 +128,14 @@ next_places (Ok item) t = unstrayed false t t refl refl refl
 next_places (Err coming.Failed) t = unstrayed false t (record t { next_faults = raised t.next_faults }) refl refl refl
 next_places (Err coming.Short) t = wanting false t (tally_short t) refl
 
-pub start_places : {T : Type 0} (app : ℕ) (result : Result T StartFault) (s : State) (t : TallyState) → (IsTrue (is_running app s) → IsErr result) → AreInPlace (start_steps app result) s
+pub start_places : {T : Type 0} (app : ℕ) (result : Result T StartFault) (s : State) (t : TallyState) → (IsTrue (is_running app s) → IsErr result) → AreExpected (start_steps app result) s
     → NoneStrays t (tally_stray (is_running app s) (start_tally result t))
 unfolding start_steps
 start_places app (Ok x) s t out are = unstrayed (is_running app s) t t (not_out (is_running app s) (λ is. false≢true (out is))) refl refl
 start_places app (Err starting.NotStarted) s t out are = unstrayed (is_running app s) t (record t { starts_failed = raised t.starts_failed }) are.0 refl refl
 start_places app (Err starting.Short) s t out are = wanting (is_running app s) t (tally_short t) refl
 
-pub give_places : {T : Type 0} (app : ℕ) (bytes : List ℕ) (result : Result T GiveFault) (s : State) (t : TallyState) → (is_running app s ≡ false → IsErr result) → AreInPlace (give_steps app bytes result) s
+pub give_places : {T : Type 0} (app : ℕ) (bytes : List ℕ) (result : Result T GiveFault) (s : State) (t : TallyState) → (is_running app s ≡ false → IsErr result) → AreExpected (give_steps app bytes result) s
     → NoneStrays t (tally_stray (not (is_running app s)) (give_tally result t))
 unfolding give_steps
 give_places app bytes (Ok x) s t out are = unstrayed (not (is_running app s)) t t (not_in (is_running app s) (λ is. false≢true (out is))) refl refl
@@ -146,7 +146,7 @@ is_shut : Taken → Bool
 is_shut gave.Closed = true
 is_shut other = false
 
-pub take_places : (app : ℕ) (result : Result Taken Short) (buf : List ℕ) (s : State) (t : TallyState) → (is_running app s ≡ false → IfOk result (λ what. what ≡ gave.Closed)) → AreInPlace (take_steps app result buf) s
+pub take_places : (app : ℕ) (result : Result Taken Short) (buf : List ℕ) (s : State) (t : TallyState) → (is_running app s ≡ false → IfOk result (λ what. what ≡ gave.Closed)) → AreExpected (take_steps app result buf) s
     → NoneStrays t (tally_stray (not (is_running app s)) (take_tally result t))
 unfolding take_steps is_shut
 take_places app (Ok (gave.Some n)) buf s t out are = unstrayed (not (is_running app s)) t t (not_in (is_running app s) (λ is. false≢true (ap is_shut (out is)))) refl refl
@@ -154,14 +154,14 @@ take_places app (Ok gave.Closed) buf s t out are = unstrayed (not (is_running ap
 take_places app (Ok gave.Silent) buf s t out are = unstrayed (not (is_running app s)) t (record t { silences = raised t.silences }) (not_in (is_running app s) (λ is. false≢true (ap is_shut (out is)))) refl refl
 take_places app (Err short) buf s t out are = wanting (not (is_running app s)) t (tally_short t) refl
 
-pub send_places : {T : Type 0} (d : ℕ) (frame : List ℕ) (result : Result T LinkFault) (s : State) (t : TallyState) → (is_joined d s ≡ false → IsErr result) → AreInPlace (send_steps d frame result) s
+pub send_places : {T : Type 0} (d : ℕ) (frame : List ℕ) (result : Result T LinkFault) (s : State) (t : TallyState) → (is_joined d s ≡ false → IsErr result) → AreExpected (send_steps d frame result) s
     → NoneStrays t (tally_stray (not (is_joined d s)) (link_tally d result t))
 unfolding send_steps
 send_places d frame (Ok x) s t out are = unstrayed (not (is_joined d s)) t t (not_in (is_joined d s) (λ is. false≢true (out is))) refl refl
 send_places d frame (Err linking.Failed) s t out are = unstrayed (not (is_joined d s)) t (tally_fault_of d t) (stays_in (is_joined d s) are.0) refl refl
 send_places d frame (Err linking.Short) s t out are = wanting (not (is_joined d s)) t (tally_short_of d t) refl
 
-pub receive_places : (d : ℕ) (result : Result ℕ LinkFault) (buf : List ℕ) (s : State) (t : TallyState) → (can_receive d s ≡ false → IsErr result) → AreInPlace (receive_steps d result buf) s
+pub receive_places : (d : ℕ) (result : Result ℕ LinkFault) (buf : List ℕ) (s : State) (t : TallyState) → (can_receive d s ≡ false → IsErr result) → AreExpected (receive_steps d result buf) s
     → NoneStrays t (tally_stray (not (can_receive d s)) (link_tally d result t))
 unfolding receive_steps
 receive_places d (Ok n) buf s t out are = unstrayed (not (can_receive d s)) t t (not_in (can_receive d s) (λ is. false≢true (out is))) refl refl
@@ -172,16 +172,16 @@ receive_places d (Err linking.Short) buf s t out are = wanting (not (can_receive
 
 -- Where all calls were in place and none wanted memory, none was counted as out of place before the steps nor with them.
 pub places_move : (old new : WorldData) (steps : List WorldStep) (counted : TallyState) → Stands old → Moves old new steps counted
-    → (AreInPlace old.history (at_first (given_of old)) → old.tally.shorts ≡ 0 → old.tally.strays ≡ 0)
-    → (AreInPlace steps old.state → NoneStrays old.tally counted)
-    → AreInPlace new.history (at_first (given_of new)) → new.tally.shorts ≡ 0 → new.tally.strays ≡ 0
+    → (AreExpected old.history (at_first (given_of old)) → old.tally.shorts ≡ 0 → old.tally.strays ≡ 0)
+    → (AreExpected steps old.state → NoneStrays old.tally counted)
+    → AreExpected new.history (at_first (given_of new)) → new.tally.shorts ≡ 0 → new.tally.strays ≡ 0
 unfolding seen_of state
 places_move old new steps counted stands moves before places are none =
     let first = at_first (given_of old) in
     let given : given_of new ≡ given_of old = given-stays old new steps counted moves in
-    let longer : AreInPlace (old.history ++ steps) first =
-    subst (λ (h : List WorldStep). AreInPlace h first) moves.history (subst (λ (g : Given Scripts). AreInPlace new.history (at_first g)) given are) in
+    let longer : AreExpected (old.history ++ steps) first =
+    subst (λ (h : List WorldStep). AreExpected h first) moves.history (subst (λ (g : Given Scripts). AreExpected new.history (at_first g)) given are) in
     let now : but_marks (after_steps old.history first) ≡ but_marks old.state = ap but_marks stands.state in
-    let here : AreInPlace steps old.state = AreInPlace-same steps (after_steps old.history first) old.state now (AreInPlace-rest old.history steps first longer) in
+    let here : AreExpected steps old.state = AreExpected-same steps (after_steps old.history first) old.state now (AreExpected-rest old.history steps first longer) in
     let kept = places here (ap (λ (t : TallyState). t.shorts) (sym moves.tally) ∙ none) in
-    ap (λ (t : TallyState). t.strays) moves.tally ∙ kept.1 ∙ before (AreInPlace-front old.history steps first longer) kept.0
+    ap (λ (t : TallyState). t.strays) moves.tally ∙ kept.1 ∙ before (AreExpected-front old.history steps first longer) kept.0

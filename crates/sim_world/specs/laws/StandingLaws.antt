@@ -12,7 +12,7 @@ use Rattle.sim_world.specs.Told.{without_links, TellSame-without_links}
 use Rattle.sim_world.specs.laws.ScriptLaws.{running-through, FewCalls-history}
 use Rattle.sim_world.specs.Lives.{life_in}
 use Rattle.sim_world.specs.Tally.{counts_of}
-use Rattle.sim_world.specs.Places.{AreInPlace}
+use Rattle.sim_world.specs.Places.{AreExpected}
 use Rattle.sim_world.specs.laws.LinkStepLaws.{AreStanding-stands, AreStanding-may_call}
 use Rattle.sim_world.specs.World.{WorldData, Stands, AreAsTold, declared_in, given_of, seen_of, nexts_through, counted_next, is_next_answer, short_told}
 use Rattle.sim_world.specs.Doing.{AppsStand, LinksStand, NextStands}
@@ -89,7 +89,7 @@ pub told_kept : (w : WorldData) → Keeps w → AreAsTold (without_links w.fails
 unfolding given_of
 told_kept w keeps = keeps.stands.history.told
 
-pub strays_kept : (w : WorldData) → Keeps w → AreInPlace w.history (at_first (given_of w)) → (seen_of w).counts.shorts ≡ 0 → (seen_of w).counts.strays ≡ 0
+pub strays_kept : (w : WorldData) → Keeps w → AreExpected w.history (at_first (given_of w)) → (seen_of w).counts.shorts ≡ 0 → (seen_of w).counts.strays ≡ 0
 unfolding seen_of counts_of
 strays_kept w keeps are none = keeps.places are none
 

@@ -5,4 +5,4 @@ use Rattle.session_text.proofs.text_steps.steps_of.Given as goal
 
 abbrev pub invariant-loop-step : goal.invariant-loop-step
 invariant-loop-step l =
-    with_front l.given.items (steps_of (map (λ w. w.now) (drop l.step-index l.steps))) ≡ steps_of (map (λ w. w.now) l.steps)
+    with_front l.given (steps_of (map (λ w. w.now) (drop l.step-index l.steps))) ≡ steps_of (map (λ w. w.now) l.steps)

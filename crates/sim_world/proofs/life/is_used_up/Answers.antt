@@ -1,11 +1,14 @@
-use Rattle.std.proofs.Common.{sym, ◌∙◌, ap, leb, ℕ}
-use Rattle.app_frames.specs.declared.script.ScriptStep.TheVariants.{Bytes}
+use Rattle.std.proofs.Common.{sym, ◌∙◌, ap, Some, false}
+use Rattle.session_lists.specs.Steps.{step_of}
 use Rattle.sim_world.specs.Lives.{begins_empty}
-use Rattle.sim_world.specs.laws.LifeLaws.{found-at, from_place-bytes, begins_empty-bytes}
+use Rattle.sim_world.specs.laws.LifeLaws.{bytes_empty, from_place-closed, from_place-silent}
 use Rattle.sim_world.proofs.life.is_used_up.Goals as goal
 
 pub returns-in-Bytes-clause-same : goal.returns-in-Bytes-clause-same
-returns-in-Bytes-clause-same c =
-    let at = found-at c.args.steps.now c.args.at.step (Bytes c.in-Bytes.bytes) c.index-steps-at.result c.if-at-steps.false c.index-steps-at.is c.in-Bytes.is in
-    ap (λ (n : ℕ). leb n c.args.at.offset) c.len.ensures
-    ∙ sym (ap begins_empty (from_place-bytes c.args.steps.now c.args.at c.in-Bytes.bytes at) ∙ begins_empty-bytes c.in-Bytes.bytes c.args.at.offset _)
+returns-in-Bytes-clause-same c = bytes_empty c.args.steps.now c.args.at c.in-Bytes.bytes.now (c.get.ensures ∙ ap (λ step. Some (step_of step)) c.in-Bytes.is)
+
+pub returns-in-Closed-clause-same : goal.returns-in-Closed-clause-same
+returns-in-Closed-clause-same c = sym (ap begins_empty (from_place-closed c.args.steps.now c.args.at (c.get.ensures ∙ ap (λ step. Some (step_of step)) c.in-Closed.is)))
+
+pub returns-in-Silent-clause-same : goal.returns-in-Silent-clause-same
+returns-in-Silent-clause-same c = sym (ap begins_empty (from_place-silent c.args.steps.now c.args.at (c.get.ensures ∙ ap (λ step. Some (step_of step)) c.in-Silent.is)))
