@@ -12,6 +12,3 @@ pub use frame_list::FrameList;
 pub use laws::{laws_of_places, laws_of_staging};
 pub use store::Store;
 pub use turned::Turned;
-
-#[cfg(test)]
-mod tests;

@@ -8,6 +8,3 @@ mod read;
 
 pub use command::{Command, usage_line};
 pub use read::read_words;
-
-#[cfg(test)]
-mod tests;

@@ -11,6 +11,3 @@ mod rows;
 mod sums;
 
 pub use cache::Cache;
-
-#[cfg(test)]
-mod tests;

@@ -18,6 +18,3 @@ pub use policy_fault::PolicyFault;
 pub use policy_file::{AppRule, Policy, PolicyFile};
 pub use reading::read_policy;
 pub use replacing::replacements;
-
-#[cfg(test)]
-mod tests;

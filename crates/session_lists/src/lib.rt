@@ -11,6 +11,3 @@ mod stimulus_list;
 pub use reply_list::ReplyList;
 pub use step_list::{StepList, StepRef, Steps};
 pub use stimulus_list::StimulusList;
-
-#[cfg(test)]
-mod tests;

@@ -12,6 +12,3 @@ mod shadows;
 
 pub use shadow::Shadow;
 pub use shadows::Shadows;
-
-#[cfg(test)]
-mod tests;

@@ -1,7 +1,7 @@
 //! Policy texts and replacements.
 
-use crate::{Policy, PolicyFault, PolicyFile, listens, read_policy, replacements, rule};
 use app_frames::{Event, EventKind};
+use crash_policy::{Policy, PolicyFault, PolicyFile, listens, read_policy, replacements, rule};
 use of_types::ByteList;
 use std::alloc::{AllocError, Global};
 use std::test::Fail;

@@ -1,6 +1,6 @@
 //! Allocating calls with ample memory.
 
-use crate::shadows::Shadows;
+use shadow_tables::Shadows;
 use std::test::Fail;
 
 #[test]

@@ -1,8 +1,6 @@
 //! Each allocating call once with ample memory, and the order of staged calls.
 
-use crate::frame_list::FrameList;
-use crate::store::Store;
-use crate::turned::Turned;
+use checkpoint_store::{FrameList, Store, Turned};
 use of_types::ByteList;
 use std::test::Fail;
 

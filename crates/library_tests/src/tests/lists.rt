@@ -1,6 +1,8 @@
-use super::*;
+//! Lists of stimuli and of scripts: what was pushed is found again.
+
 use app_frames::ScriptStep;
 use of_types::{ByteList, PortChange, Stimulus, WorldStim};
+use session_lists::{ReplyList, StepList, StepRef, StimulusList};
 use std::alloc::{AllocError, Global};
 use std::test::Fail;
 

@@ -1,6 +1,6 @@
 //! Each allocating call once with ample memory.
 
-use crate::cache::Cache;
+use counter_cache::Cache;
 use flow_table::{Lost, LostRows};
 use of_match::{Key, Match};
 use std::test::Fail;

@@ -1,7 +1,6 @@
 //! Words that are a command, and words that are none.
 
-use crate::command::{Command, usage_line};
-use crate::read::read_words;
+use command_words::{Command, read_words, usage_line};
 use std::test::Fail;
 
 /// What the words of a line are, which stand between single spaces.

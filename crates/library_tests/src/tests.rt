@@ -1,0 +1,6 @@
+mod cache;
+mod lists;
+mod policy;
+mod shadows;
+mod store;
+mod words;
