@@ -7,23 +7,19 @@ use Rattle.of_wire.specs.declared.message.Message.{Message}
 use Rattle.of_wire.specs.declared.message.Message.TheVariants.{FlowMod}
 use Rattle.of_wire.specs.Reading.{reading_of}
 use Rattle.of_wire.specs.Grammar.{enveloped}
-use Rattle.flow_table.specs.declared.view.TableView.{TableView}
 use Rattle.flow_table.specs.Step.{after_message}
 use Rattle.app_frames.specs.declared.frame.Answer.{Answer}
-use Rattle.lego_model.specs.Answers.{rows_of_table, as_sent, switch_answer}
+use Rattle.lego_model.specs.Answers.{as_sent, switch_answer}
 use Rattle.lego_model.specs.Journal.{ReachedAtOnce}
 use Rattle.outside.specs.declared.step.WorldStep.{WorldStep}
 use Rattle.outside.specs.Seen.{Seen, journal}
-use Rattle.outside.specs.State.{State, state, switch_of, waits_of}
+use Rattle.outside.specs.State.{state, switch_of, waits_of}
 use Rattle.outside.specs.Conforming.{Conforming}
 use Rattle.lego_model.specs.declared.fault.TxnFault.{TxnFault}
 use Rattle.net_txn.specs.Causes.{IsPlainFault}
 use Rattle.net_txn.specs.Net.{NetState}
-use Rattle.net_txn.specs.Changes.{known_rows, answer_of_host}
-
--- the view of a switch shows the keys and actions of its table, and there is one exactly while the switch is joined
-abbrev pub Agrees : ℕ → List TableView → State → Type 0
-Agrees d views s = known_rows d views ≡ option_map (λ x. rows_of_table x.table.entries) (switch_of d s)
+use Rattle.net_txn.specs.Changes.{answer_of_host}
+pub use Rattle.net_txn.specs.Agrees.{Agrees}
 
 -- since then the change reached its switch, behind it a barrier, and the barrier's reply came
 pub record ReachedSince (d : ℕ) (change : Message) (old new : List WorldStep) : Type 0 where

@@ -1,38 +1,41 @@
 -- What `change` does: the host's own answer with nothing sent, or the switch's answer behind a barrier (OpenFlow 1.0.0, 4.2 Message
 -- Handling and 5.3.7 Barrier Message). What is sent, and that it is logged before, is our own choice.
-use Rattle.std.specs.Prelude.{◌≡◌, ℕ, ◌^◌, ◌<◌, ◌≤◌, true, List, [], ◌∷◌, Option, Some, None, Result, Ok, IsOk, IfOk, IfErr, IsSome, MatchResult, ◌⊎◌}
+use Rattle.std.specs.Prelude.{◌≡◌, ◌≢◌, ℕ, ◌^◌, ◌<◌, ◌≤◌, true, List, [], ◌∷◌, ◌++◌, Option, Some, None, Result, Ok, IsOk, IfOk, IfErr, IsSome, MatchResult, ◌⊎◌, if◌then◌else◌}
 use Rattle.std.specs.Option.{is_some, option_map}
 use Rattle.of_types.specs.declared.errors.OfError.{OfError}
 use Rattle.of_types.specs.declared.journal.Act.TheVariants.{Sent}
 use Rattle.of_wire.specs.declared.bodies.FlowMod.{FlowMod as Change}
+use Rattle.of_wire.specs.declared.message.Message.{Message}
 use Rattle.of_wire.specs.declared.message.Message.TheVariants.{FlowMod}
 use Rattle.of_wire.specs.Reading.{reading_of}
 use Rattle.of_wire.specs.Spelling.{message_bytes}
 use Rattle.of_wire.specs.Grammar.{IsMessage, enveloped}
 use Rattle.flow_table.specs.declared.view.TableView.{TableView}
+use Rattle.flow_table.specs.Change.{key_in}
+use Rattle.flow_table.specs.Step.{after_message}
 use Rattle.app_frames.specs.declared.frame.Answer.{Answer}
-use Rattle.lego_model.specs.Answers.{Rows, rows_of_view, as_sent, host_answer, answer_by}
+use Rattle.lego_model.specs.Answers.{as_sent, host_answer, answer_by}
 use Rattle.outside.specs.declared.step.WorldStep.{WorldStep}
 use Rattle.outside.specs.declared.step.WorldStep.TheVariants.{Acted}
 use Rattle.outside.specs.Seen.{Seen, Continues}
-use Rattle.outside.specs.State.{state, is_joined}
+use Rattle.outside.specs.State.{State, state, switch_of, is_joined}
 use Rattle.outside.specs.InOrder.{InOrder, MessagesSince}
 use Rattle.lego_model.specs.declared.fault.TxnFault.{TxnFault}
 use Rattle.lego_model.specs.declared.fault.TxnFault.TheVariants.{SwitchFault, SwitchBroke, Diverged, Flooded, NoMemory}
+use Rattle.lego_model.specs.declared.wait.Awaited.{Awaited}
 use Rattle.lego_model.specs.declared.wait.Refusal.{Refusal}
 use Rattle.net_txn.specs.declared.logged.Logged.{Logged}
+use Rattle.net_txn.specs.declared.queue.Storage.TheVariants.{Growing}
 use Rattle.net_txn.specs.LinkSteps.{OnLinks, MakesNoStrayCall}
+use Rattle.net_txn.specs.Said.{barrier_of, Replied, BreaksBy}
 use Rattle.net_txn.specs.Causes.{IsCause}
 use Rattle.net_txn.specs.Waits.{Waits, Floods, KeptMore}
 use Rattle.lego_model.specs.BarrierWaits.{barrier_sent, next_xid}
-use Rattle.net_txn.specs.Views.{rows_at, with_rows, rows_after}
+use Rattle.net_txn.specs.Views.{rows_at, with_rows, rows_after, is_row_at}
+pub use Rattle.net_txn.specs.Agrees.{known_rows}
 use Rattle.net_txn.specs.Net.{NetState, awaited_from, logged_by, with_logged}
 
 -- ---- What the host knows of a switch
-
--- the keys and actions of its view, while it is joined
-abbrev pub known_rows : ℕ → List TableView → Option Rows
-known_rows d views = option_map rows_of_view (rows_at d views)
 
 -- the host's own answer to bytes for a switch, where it has one
 abbrev pub answer_of_host : ℕ → List ℕ → NetState → Option Answer
@@ -77,14 +80,40 @@ pub record Unsent {Own : Type 0} (old new : Seen Own) (net now_net : NetState) :
   pub log : now_net.log ≡ net.log
   pub kept : now_net.kept ≡ net.kept
 
+-- What undoes the change is logged, unless a row has its key already: then the switch refuses it, and its inverse would remove an entry
+-- that was there before.
+abbrev pub log_in_flight : ℕ → Change → List TableView → List Logged → List Logged
+log_in_flight d m views log = if is_row_at d (key_in m) views then log else with_logged (logged_by d m) log
+
 -- since the change may have been sent: it is logged, and the view moved so or not at all
 pub record CutOff (d : ℕ) (m : Change) (net now_net : NetState) : Type 0 where
   pub views : (now_net.views ≡ net.views) ⊎ (now_net.views ≡ with_rows d (rows_after m) net.views)
-  pub log : now_net.log ≡ with_logged (logged_by d m) net.log
+  pub log : now_net.log ≡ log_in_flight d m net.views net.log
   pub kept : KeptMore d net.kept now_net.kept
 
 abbrev pub Stopped : {Own : Type 0} → ℕ → Change → Seen Own → Seen Own → NetState → NetState → Type 0
 Stopped d m old new net now_net = Unsent old new net now_net ⊎ CutOff d m net now_net
+
+-- what was said where messages were to be sent, and then a barrier: they or the barrier could not be sent, its reply did not come, or it
+-- came and refused nothing
+abbrev pub BreaksOff : {Own : Type 0} → Type 0 → Awaited → List (List ℕ) → Seen Own → Seen Own → List (ℕ × List ℕ) → List (ℕ × List ℕ) → TxnFault → Type 0
+BreaksOff Tells a first old new kept now_kept fault =
+    BreaksBy Tells a (first ++ barrier_of a ∷ []) old new kept now_kept fault ⊎ Replied Tells a (first ++ barrier_of a ∷ []) Growing [] old new kept now_kept None
+
+-- The change is in flight: it or the barrier behind it could not be sent, or the barrier's reply is outstanding, or it came and no memory
+-- was left to put the row into the view. The log is this one.
+pub record InFlight {Own : Type 0} (Tells : Type 0) (d : ℕ) (m : Change) (log : List Logged) (old new : Seen Own) (net now_net : NetState) (fault : TxnFault) : Type 0 where
+  pub message : IsMessage (FlowMod m)
+  pub is_xid : net.xid < 2 ^ 32
+  pub said : BreaksOff Tells (awaited_from d net.xid) (message_bytes net.xid (as_sent (FlowMod m)) ∷ []) old new net.kept now_net.kept fault
+  pub views : (now_net.views ≡ net.views) ⊎ (now_net.views ≡ with_rows d (rows_after m) net.views)
+  pub log_so : now_net.log ≡ log
+  pub kept : KeptMore d net.kept now_net.kept
+
+-- How the switches stand then, in a world that tells: the one moved as by the change, or not at all.
+pub record MayMove (d : ℕ) (m : Message) (old new : State) : Type 0 where
+  pub switch : (switch_of d new ≡ switch_of d old) ⊎ (switch_of d new ≡ option_map (after_message m) (switch_of d old))
+  pub others : (e : ℕ) → e ≢ d → switch_of e new ≡ switch_of e old
 
 -- of a fault that may be Flooded: what was sent is a message with a transaction id, and the wait for its answer was given up
 abbrev pub IfGivenUp : {Own : Type 0} → Type 0 → ℕ → Change → Seen Own → Seen Own → NetState → TxnFault → Type 0
@@ -106,7 +135,8 @@ pub record ByHost {Own : Type 0} (answer : Answer) (old new : Seen Own) (net now
 
 -- Ports, moment and room stay, the same switches have views, and each fault has its cause. The host's own answer is exactly that; else the
 -- switch answers. Flooded comes only where 65,536 messages were got behind the barrier, none of them its reply. The calls are those of links
--- alone, and in place where the world tells in order and the switch is joined; after Ok all bytes that came were messages.
+-- alone, and in place where the world tells in order and the switch is joined; after Ok all bytes that came were messages. After a fault
+-- it is known whether anything was sent, and what was said; what undoes the change is logged before it is sent.
 pub record Changes {Own : Type 0} (Tells : Type 0) (d : ℕ) (bytes : List ℕ) (old new : Seen Own) (net now_net : NetState) (result : Result Answer TxnFault) : Type 0 where
   pub continues : Continues Tells old new
   pub links : OnLinks Tells old new
@@ -122,3 +152,5 @@ pub record Changes {Own : Type 0} (Tells : Type 0) (d : ℕ) (bytes : List ℕ) 
       → MatchResult result (Asked Tells d m old new net now_net) (λ f. Stopped d m old new net now_net)
   pub flooded : (xid : ℕ) (m : Change) → answer_of_host d bytes net ≡ None → reading_of bytes ≡ Ok (enveloped xid (FlowMod m))
       → IfErr result (IfGivenUp Tells d m old new net)
+  pub in_flight : (xid : ℕ) (m : Change) → answer_of_host d bytes net ≡ None → reading_of bytes ≡ Ok (enveloped xid (FlowMod m))
+      → IfErr result (λ fault. Unsent old new net now_net ⊎ InFlight Tells d m (log_in_flight d m net.views net.log) old new net now_net fault)

@@ -7,6 +7,7 @@ pub mod Net
 pub mod Joining
 pub mod Leaving
 pub mod Arriving
+pub mod Agrees
 pub mod Changes
 pub mod Agreement
 pub mod Undos

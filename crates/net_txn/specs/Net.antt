@@ -1,7 +1,7 @@
 -- What the host keeps of its network: the views of the joined switches and their known ports, by switch ascending; what undoes the
 -- changes of the open transaction, newest last; the transaction id that is used next; the moment; and the messages that came while
 -- something else was awaited; and how many faults of undos there is room for. All of this is our own.
-use Rattle.std.specs.Prelude.{false, ℕ, ◌+◌, List, [], ◌∷◌, ◌++◌, Option, Some, None, if◌then◌else◌}
+use Rattle.std.specs.Prelude.{false, ℕ, List, [], ◌∷◌, ◌++◌, Option, Some, None, if◌then◌else◌}
 use Rattle.of_match.specs.declared.key.Key.{Key}
 use Rattle.of_wire.specs.declared.bodies.FlowMod.{FlowMod as Change}
 use Rattle.of_wire.specs.declared.message.Message.TheVariants.{FlowMod}

@@ -38,7 +38,7 @@ use Rattle.net_txn.specs.Arriving.{without_key}
 use Rattle.net_txn.specs.Net.{NetState, inverse_bytes, no_progress}
 use Rattle.net_txn.specs.Waits.{KeptMore}
 use Rattle.net_txn.specs.MessageStore.{KeptWhereFit}
-use Rattle.net_txn.specs.Agreement.{Agrees}
+use Rattle.net_txn.specs.Agrees.{Agrees}
 
 -- ---- Steps of one switch
 
@@ -381,6 +381,32 @@ pub record IsRevertedOn (known : Bool) (d : ℕ) (old new : Counts) (keys : List
   pub keys_so : known ≡ true → is_stuck parts ≡ false → map (λ p. p.1) (inverses_of parts) ≡ keys
   pub barred : known ≡ true → is_stuck parts ≡ false → since_of parts ≡ 0
 
+-- ---- A switch that failed
+
+-- the step is one of these
+abbrev pub StandsIn : WorldStep → List WorldStep → Type 0
+StandsIn step [] = ⊥
+StandsIn step (x ∷ xs) = (x ≡ step) ⊎ StandsIn step xs
+
+-- these steps were made since then, one behind the other
+pub record StandWithin (steps old new : List WorldStep) : Type 0 where
+  pub before : List WorldStep
+  pub behind : List WorldStep
+  pub is : new ≡ old ++ (before ++ (steps ++ behind))
+
+-- The switch failed in an undo: its fault, with the calls that were made for it last, of which it has its cause, and the inverses for it
+-- before them, which were sent.
+pub record FailsInUndo {Own : Type 0} (Tells : Type 0) (d : ℕ) (old new : Seen Own) : Type 0 where
+  pub fault : TxnFault
+  pub sent : List (ℕ × Key)
+  pub front : List WorldStep
+  pub steps : List WorldStep
+  pub by : IsStuckBy d sent old.counts new.counts fault steps
+  pub were_sent : AllByRecursion (λ p. StandsIn (Acted (Sent d (inverse_bytes p.0 p.1))) front) sent
+  pub told : Tells → StandWithin (front ++ steps) old.history new.history
+
+-- ---- What it leaves of each switch
+
 -- each switch that has a view is joined
 abbrev pub AreJoined : List TableView → State → Type 0
 AreJoined views s = (d : ℕ) → is_viewed d views ≡ true → is_joined d s ≡ true
@@ -393,6 +419,10 @@ SameSwitch d old new = (switch_of d new ≡ switch_of d old) × (waits_of d new 
 pub record Restored (d : ℕ) (before : TableState) (s : SwitchState) (new : State) : Type 0 where
   pub switch : switch_of d new ≡ Some (record s { table = undone before s.table s.moment })
   pub waits : waits_of d new ≡ []
+
+-- the same of its table alone, whatever waits of it
+abbrev pub IsTableBack : ℕ → TableState → SwitchState → State → Type 0
+IsTableBack d before s new = switch_of d new ≡ Some (record s { table = undone before s.table s.moment })
 
 -- the switch is joined, and nothing of it waits
 pub record StandsReady (d : ℕ) (s : State) : Type 0 where
@@ -409,8 +439,9 @@ pub record AgreesAgain (d : ℕ) (views : List TableView) (new : State) : Type 0
 -- inverses, the newest part first, stand as in the log, of each joined switch that did not fail all of them. It goes on past a fault with the other
 -- switches, and the first fault is answered; after Ok none failed, and all bytes that came were messages. In a world that tells, no switch
 -- moves that is not joined; and where it keeps its word, each joined switch that did not fail, of which nothing waited, and whose table had
--- but the logged keys added since an earlier one, has that table again; and where its view agreed with its table, it does so again. There
--- no inverse is refused; and where nothing waited of any joined switch, no message was kept after Ok, and a fault is one of a link, or of
+-- but the logged keys added since an earlier one, has that table again; and where its view agreed with its table, it does so again. The
+-- same is so of its table and its view whether or not the world keeps its word, and whatever waits; a switch that failed has its cause in
+-- these calls. Where the world keeps its word no inverse is refused; and where nothing waited of any joined switch, no message was kept after Ok, and a fault is one of a link, or of
 -- memory. Where the world tells in order and each switch that has a view is joined, each call is in place, also one that fails.
 pub record Undoes {Own : Type 0} (Tells : Type 0) (start : ℕ) (old new : Seen Own) (net now_net : NetState) (result : Result (Unit {0}) TxnFault) : Type 0 where
   pub parts : List (ℕ × Part)
@@ -438,6 +469,11 @@ pub record Undoes {Own : Type 0} (Tells : Type 0) (start : ℕ) (old new : Seen 
   pub restored : (d : ℕ) (s : SwitchState) (before : TableState) → Tells → Conforming new → is_viewed d net.views ≡ true → is_stuck (parts_of d parts) ≡ false
       → switch_of d (state old) ≡ Some s → waits_of d (state old) ≡ [] → IsTable before.entries → IsSerialed s.table
       → OnlyAdded (keys_of d (map key_logged (drop start net.log))) before.entries s.table.entries → Restored d before s (state new)
+  pub tables_restored : (d : ℕ) (s : SwitchState) (before : TableState) → Tells → is_viewed d net.views ≡ true → is_stuck (parts_of d parts) ≡ false
+      → switch_of d (state old) ≡ Some s → IsTable before.entries → IsSerialed s.table
+      → OnlyAdded (keys_of d (map key_logged (drop start net.log))) before.entries s.table.entries → IsTableBack d before s (state new)
   pub none_kept : Tells → Conforming new → IsOk result → ((d : ℕ) → is_viewed d net.views ≡ true → StandsReady d (state old)) → now_net.kept ≡ net.kept
   pub plain : Tells → Conforming new → ((d : ℕ) → is_viewed d net.views ≡ true → StandsReady d (state old)) → IfErr result IsPlain
   pub agrees : (d : ℕ) → Tells → Conforming new → is_stuck (parts_of d parts) ≡ false → waits_of d (state old) ≡ [] → Agrees d net.views (state old) → AgreesAgain d now_net.views (state new)
+  pub tables_agree : (d : ℕ) → Tells → is_stuck (parts_of d parts) ≡ false → Agrees d net.views (state old) → Agrees d now_net.views (state new)
+  pub failed_by : (d : ℕ) → is_stuck (parts_of d parts) ≡ true → FailsInUndo Tells d old new

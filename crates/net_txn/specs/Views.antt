@@ -2,6 +2,7 @@
 use Rattle.std.specs.Prelude.{◌≡◌, ◌==◌, ℕ, ◌+◌, ◌%◌, ◌<◌, ◌≤◌, Bool, false, List, [], ◌∷◌, Option, Some, None, nat_lt, if◌then◌else◌}
 use Rattle.std.specs.List.{list_any}
 use Rattle.std.proofs.Common.{zero, suc}
+use Rattle.of_match.specs.declared.key.Key.{Key}
 use Rattle.of_match.specs.Key.{key_number}
 use Rattle.of_wire.specs.declared.bodies.FlowMod.{FlowMod}
 use Rattle.flow_table.specs.declared.view.ViewRow.{ViewRow}
@@ -16,6 +17,14 @@ rows_at d (v ∷ vs) = if v.dpid == d then Some v.rows else rows_at d vs
 -- whether a switch has a view, so that it is joined
 abbrev pub is_viewed : ℕ → List TableView → Bool
 is_viewed d views = list_any (λ v. v.dpid == d) views
+
+-- a row of the switch has the key
+abbrev pub has_key_in : Key → Option (List ViewRow) → Bool
+has_key_in k None = false
+has_key_in k (Some rows) = list_any (λ r. key_number r.key == key_number k) rows
+
+abbrev pub is_row_at : ℕ → Key → List TableView → Bool
+is_row_at d k views = has_key_in k (rows_at d views)
 
 -- strictly ascending by switch, from a number on
 abbrev pub ViewsAscend : ℕ → List TableView → Type 0

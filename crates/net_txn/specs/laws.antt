@@ -50,3 +50,6 @@ pub mod JoinedLaws
 pub mod AbreastLaws
 pub mod UndoWithoutStraysLaws
 pub mod UndoStrayLaws
+pub mod TableBackLaws
+pub mod UndoFailureLaws
+pub mod ChangeFlightLaws

@@ -1,20 +1,21 @@
 //! One change of a flow table.
 
-ghost use Rattle.std.specs.Prelude.{◌≡◌, IfErr, OnOk, OnErr, MatchResult};
+ghost use Rattle.std.specs.Prelude.{◌≡◌, ◌⊎◌, IfErr, OnOk, OnErr, MatchResult};
 ghost use Rattle.of_wire.specs.declared.message.Message.TheVariants as messages;
 ghost use Rattle.of_wire.specs.Grammar.{IsMessage};
 ghost use Rattle.net_txn.specs.Said.{Speaks};
 ghost use Rattle.net_txn.specs.Causes.{IsCause};
-ghost use Rattle.net_txn.specs.Changes.{Asked, Stopped, IfGivenUp, Changes};
+ghost use Rattle.net_txn.specs.Changes.{Asked, Unsent, InFlight, log_in_flight, IfGivenUp, Changes};
 ghost use Rattle.net_txn.specs.Agreement.{Reaches, Steps};
-ghost use Rattle.net_txn.specs.Net.{with_logged};
+ghost use Rattle.net_txn.specs.Net.{logged_by, with_logged};
 
 use crate::exchange::ask;
 use crate::host::{HostAnswer, answer_bytes};
 use crate::logged::Logged;
 use crate::net::{Net, await_from, following};
 use crate::prepared::{Prepared, prepare};
-use crate::views::{find, make_room, put_added};
+use crate::rows::key_of;
+use crate::views::{find, is_row, make_room, put_added};
 use app_frames::Answer;
 use lego_model::TxnFault;
 use of_types::Dpid;
@@ -34,7 +35,8 @@ fn push_logged(log: &mut Vec<Logged>, entry: Option<Logged>) -> Result<(), Alloc
 }
 
 impl Net {
-    /// Sends a change that the switch must answer, and takes its answer.
+    /// Sends a change that the switch must answer, and takes its answer. Where a fault comes since it may have been sent,
+    /// what undoes it stays logged.
     fn make<W: World>(
         &mut self,
         world: &mut W,
@@ -43,7 +45,8 @@ impl Net {
     ) -> Result<Answer, TxnFault>
         requires { IsMessage (messages.FlowMod flow) }
         ensures result { MatchResult result (Asked W.Tells dpid flow (W.seen world.old) (W.seen world.new) self.old self.new)
-            (λ f. Stopped dpid flow (W.seen world.old) (W.seen world.new) self.old self.new) }
+            (λ f. Unsent (W.seen world.old) (W.seen world.new) self.old self.new
+            ⊎ InFlight W.Tells dpid flow (with_logged (logged_by dpid flow) self.old.log) (W.seen world.old) (W.seen world.new) self.old self.new f) }
         ensures speaks { Speaks W.Tells dpid (W.seen world.old) (W.seen world.new) }
         ensures cause { IfErr result (IsCause W.Tells dpid (W.seen world.old) (W.seen world.new)) }
         ensures flooded { IfErr result (IfGivenUp W.Tells dpid flow (W.seen world.old) (W.seen world.new) self.old) }
@@ -77,6 +80,34 @@ impl Net {
         }
     }
 
+    /// Makes a change that the switch must answer. Where a fault comes, what undoes it stays logged, unless a row has its
+    /// key already: such a change the switch refuses, and its inverse would remove what was there before.
+    fn make_or_forget<W: World>(
+        &mut self,
+        world: &mut W,
+        dpid: Dpid,
+        flow: FlowMod,
+    ) -> Result<Answer, TxnFault>
+        requires { IsMessage (messages.FlowMod flow) }
+        ensures result { MatchResult result (Asked W.Tells dpid flow (W.seen world.old) (W.seen world.new) self.old self.new)
+            (λ f. Unsent (W.seen world.old) (W.seen world.new) self.old self.new
+            ⊎ InFlight W.Tells dpid flow (log_in_flight dpid flow self.old.views self.old.log) (W.seen world.old) (W.seen world.new) self.old self.new f) }
+        ensures speaks { Speaks W.Tells dpid (W.seen world.old) (W.seen world.new) }
+        ensures cause { IfErr result (IsCause W.Tells dpid (W.seen world.old) (W.seen world.new)) }
+        ensures flooded { IfErr result (IfGivenUp W.Tells dpid flow (W.seen world.old) (W.seen world.new) self.old) }
+        ensures ports { self.new.ports ≡ self.old.ports }
+        ensures moment { self.new.moment ≡ self.old.moment }
+        ensures room { self.new.room ≡ self.old.room }
+    {
+        let known = is_row(&self.views, dpid, &key_of(&flow));
+        let before = self.log.len();
+        let made = self.make(world, dpid, flow);
+        if known && made.is_err() {
+            self.log.truncate(before);
+        }
+        made
+    }
+
     /// Answers one message of an application for a switch: by the host's own tests, else by the switch behind a
     /// barrier.
     pub(crate) fn change<W: World>(
@@ -99,7 +130,7 @@ impl Net {
         };
         match answer_bytes(self.alloc, bytes, view.rows.as_slice())? {
             HostAnswer::Answered(answer) => Ok(answer),
-            HostAnswer::Asks(flow) => self.make(world, dpid, flow),
+            HostAnswer::Asks(flow) => self.make_or_forget(world, dpid, flow),
         }
     }
 }

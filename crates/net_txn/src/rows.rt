@@ -100,7 +100,8 @@ fn has_overlap(key: &Key, rows: &[ViewRow]) -> bool
     rows.iter().any(|row| is_overlap(key, row))
 }
 
-fn has_key(key: &Key, rows: &[ViewRow]) -> bool
+/// Tells whether a row has a key.
+pub(crate) fn has_key(key: &Key, rows: &[ViewRow]) -> bool
     ensures { result ≡ list_any (λ r. key_number r.key == key_number key.now) rows.now }
 {
     rows.iter().any(|row| is_same(&row.key, key))

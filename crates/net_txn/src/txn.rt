@@ -1,6 +1,6 @@
 //! A transaction over the network: changes that are kept together or not at all.
 
-ghost use Rattle.std.specs.Prelude.{◌≡◌, ◌≤◌, [], length, take, IfOk, IfErr};
+ghost use Rattle.std.specs.Prelude.{◌≡◌, ◌≤◌, [], length, take, IsOk, IfOk, IfErr};
 ghost use Rattle.lego_model.specs.declared.fault.TxnFault.TheVariants.{NoMemory};
 ghost use Rattle.net_txn.specs.Changes.{Changes};
 ghost use Rattle.net_txn.specs.Undos.{Undoes};
@@ -75,6 +75,9 @@ impl<'a> Txn<'a> {
     ) -> Result<Vec<(Dpid, u32)>, TxnFault>
         ensures released { IfOk result (λ sent. sent.items ≡ []) }
         ensures fault { IfErr result (λ fault. fault ≡ NoMemory) }
+
+        // While nothing is held back, nothing can fail.
+        ensures answers { IsOk result }
         ensures net { self.exit.0.now ≡ record self.entry.net.now { log = take self.entry.start self.entry.net.now.log } }
         ensures world { W.seen _world.new ≡ W.seen _world.old }
         ensures queue { _queue.new ≡ _queue.old }

@@ -1,10 +1,10 @@
 //! The views of the joined switches.
 
 ghost use Rattle.std.specs.Prelude.{◌≡◌, None, Some, MatchOption, OnOk, OnErr};
-ghost use Rattle.net_txn.specs.Views.{rows_at, with_rows, with_row, with_added, IsViewAt};
+ghost use Rattle.net_txn.specs.Views.{rows_at, is_row_at, with_rows, with_row, with_added, IsViewAt};
 ghost use Rattle.net_txn.specs.Arriving.{without_key};
 
-use crate::rows::{is_same, put_row};
+use crate::rows::{has_key, is_same, put_row};
 use flow_table::{TableView, ViewList, ViewRow};
 use of_match::Key;
 use of_types::Dpid;
@@ -21,6 +21,16 @@ pub(crate) fn find(views: &[TableView], dpid: Dpid) -> Option<&TableView>
         }
     }
     None
+}
+
+/// Tells whether a row of a switch has a key.
+pub(crate) fn is_row(views: &[TableView], dpid: Dpid, key: &Key) -> bool
+    ensures { result ≡ is_row_at dpid key.now views.now }
+{
+    match find(views, dpid) {
+        None => false,
+        Some(view) => has_key(key, view.rows.as_slice()),
+    }
 }
 
 /// Tells where the view of a switch stands.

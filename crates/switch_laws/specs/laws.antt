@@ -12,3 +12,4 @@ pub mod SoundLaws
 pub mod SoundStepLaws
 pub mod ClockLaws
 pub mod OrderlyLaws
+pub mod FaultLaws

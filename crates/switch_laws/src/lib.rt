@@ -3,7 +3,7 @@
 //!
 //! There is no call here but laws, each the contract of a function that does nothing. In a world that keeps its word:
 //! `changes_are_shown` and `exchanges_are_shown` (answers and tables), `undos_are_shown`, `transactions_stand`,
-//! `histories_stand`, `flags_are_kept`. In any world: `steps_are_in_order`.
+//! `histories_stand`, `flags_are_kept`. In any world: `steps_are_in_order`, `faults_are_undone`.
 #![tactic(auto)]
 
 mod exchange;
@@ -14,4 +14,4 @@ mod transaction;
 pub use exchange::{changes_are_shown, exchanges_are_shown};
 pub use flags::flags_are_kept;
 pub use order::steps_are_in_order;
-pub use transaction::{histories_stand, transactions_stand, undos_are_shown};
+pub use transaction::{faults_are_undone, histories_stand, transactions_stand, undos_are_shown};

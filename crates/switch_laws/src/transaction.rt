@@ -1,11 +1,12 @@
 //! Laws of transactions, each the contract of a function that does nothing.
 
-ghost use Rattle.std.specs.Prelude.{◌≡◌, ℕ, List, length, Ok, Some};
+ghost use Rattle.std.specs.Prelude.{◌≡◌, ℕ, List, length, Result, Ok, Err, Some};
 ghost use Rattle.flow_table.specs.Switch.{Declared, SwitchState};
 ghost use Rattle.undo_laws.specs.Serials.{IsSerialed};
 ghost use Rattle.app_frames.specs.declared.frame.Answer.{Answer};
 ghost use Rattle.lego_model.specs.Places.{undone_places};
-ghost use Rattle.outside.specs.Seen.{Seen};
+ghost use Rattle.lego_model.specs.declared.fault.TxnFault.{TxnFault};
+ghost use Rattle.outside.specs.Seen.{Seen, Continues};
 ghost use Rattle.outside.specs.State.{state, switch_of};
 ghost use Rattle.outside.specs.Conforming.{Conforming};
 ghost use Rattle.net_txn.specs.Net.{NetState};
@@ -13,7 +14,7 @@ ghost use Rattle.net_txn.specs.Changes.{Changes};
 ghost use Rattle.net_txn.specs.Agreement.{Steps};
 ghost use Rattle.net_txn.specs.Undos.{Undoes};
 ghost use Rattle.switch_laws.specs.Shown.{Stand, shown_places};
-ghost use Rattle.switch_laws.specs.Since.{Ready, Since, Goes};
+ghost use Rattle.switch_laws.specs.Since.{Ready, Since, Goes, TablesSince, UndoneButFailed};
 
 use outside::World;
 
@@ -40,4 +41,15 @@ pub fn undos_are_shown<W: World>()
         → shown_places declared now_net.views (state new) ≡ undone_places (shown_places declared net0.views (state first)) (shown_places declared net.views (state old)) }
     ensures ready { (start : ℕ) (old new : Seen W.Own) (net now_net : NetState) → W.Tells → Conforming new → Ready old net
         → Undoes W.Tells start old new net now_net (Ok tt) → Ready new now_net }
+{}
+
+/// After a fault in any world that tells, however the undo of the transaction ended: a message that ended in a fault leaves its
+/// transaction such that only logged keys were added to each table since it began, with the change in flight; and then the undo
+/// gives each switch its entries back, unless it failed in the undo.
+pub fn faults_are_undone<W: World>()
+    ensures ready { (start : ℕ) (first now : Seen W.Own) (net0 net : NetState) → Goes start first now net0 net → TablesSince start first now net }
+    ensures fault { (d : ℕ) (bytes : List ℕ) (start : ℕ) (first old new : Seen W.Own) (net0 net now_net : NetState) (fault : TxnFault) → W.Tells
+        → Changes W.Tells d bytes old new net now_net (Err fault) → Goes start first old net0 net → TablesSince start first new now_net }
+    ensures undone { (start : ℕ) (first old new : Seen W.Own) (net now_net : NetState) (result : Result (Unit {0}) TxnFault) → W.Tells → Continues W.Tells first old
+        → TablesSince start first old net → Undoes W.Tells start old new net now_net result → UndoneButFailed W.Tells first new }
 {}

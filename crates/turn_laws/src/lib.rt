@@ -1,9 +1,10 @@
 //! Laws of turns: in a world that keeps its word, a turn goes as the reference controller plays it.
 //!
-//! There is no call here but laws, each the contract of a function that does nothing: `turns_are_shown`, and
-//! `stops_are_plain` (a turn that stops does so by a link or for want of memory).
+//! There is no call here but laws, each the contract of a function that does nothing: `turns_are_shown`,
+//! `stops_are_plain` (a turn that stops does so by a link or for want of memory), and `faults_are_undone` (after a fault
+//! each switch has its entries again, or failed in the undo).
 #![tactic(auto)]
 
 mod turns;
 
-pub use turns::{stops_are_plain, turns_are_shown};
+pub use turns::{faults_are_undone, stops_are_plain, turns_are_shown};

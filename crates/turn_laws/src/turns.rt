@@ -1,18 +1,20 @@
 //! Laws of turns, each the contract of a function that does nothing.
 
-ghost use Rattle.std.specs.Prelude.{◌≡◌, ℕ, Bool, List, Some};
+ghost use Rattle.std.specs.Prelude.{◌≡◌, ℕ, Bool, List, length, Result, Some};
 ghost use Rattle.flow_table.specs.declared.view.TableView.{TableView};
 ghost use Rattle.lego_model.specs.Places.{Place};
 ghost use Rattle.outside.specs.Seen.{Seen};
 ghost use Rattle.outside.specs.State.{state};
 ghost use Rattle.outside.specs.Conforming.{Conforming};
+ghost use Rattle.outside.specs.InOrder.{InOrder};
 ghost use Rattle.lego_model.specs.declared.fault.TxnFault.{TxnFault};
 ghost use Rattle.net_txn.specs.Net.{NetState};
+ghost use Rattle.net_txn.specs.Undos.{Undoes};
 ghost use Rattle.app_visor.specs.declared.state.TurnEnd.{TurnEnd};
 ghost use Rattle.app_visor.specs.Beats.{Stops};
 ghost use Rattle.app_visor.specs.Turns.{reply_by, Turns};
 ghost use Rattle.switch_laws.specs.Shown.{shown_places};
-ghost use Rattle.switch_laws.specs.Since.{Ready};
+ghost use Rattle.switch_laws.specs.Since.{Ready, UndoneButFailed};
 ghost use Rattle.turn_laws.specs.Chain.{PlayedAlike};
 ghost use Rattle.turn_laws.specs.Stop.{IsPlainStop};
 
@@ -31,4 +33,16 @@ pub fn turns_are_shown<W: World>()
 pub fn stops_are_plain<W: World>()
     ensures { (app : ℕ) (old new : Seen W.Own) (net now_net : NetState) (fault : TxnFault) → W.Tells → Conforming new → Ready old net
         → Stops W.Tells app old new net now_net fault → IsPlainStop fault }
+{}
+
+/// In a world that tells in order, where all was ready at a point up to which it kept its word: after a turn that stopped by a fault,
+/// or that ended, and the undo of what it changed, however the undo ended, each switch has exactly the entries that it had
+/// before the turn, or failed in the undo, with its cause there. A change in flight is undone too.
+pub fn faults_are_undone<W: World>()
+    ensures stopped { (app : ℕ) (old mid new : Seen W.Own) (net mid_net now_net : NetState) (fault : TxnFault) (result : Result (Unit {0}) TxnFault) → W.Tells → Conforming old
+        → InOrder new → Ready old net → Stops W.Tells app old mid net mid_net fault → Undoes W.Tells (length net.log) mid new mid_net now_net result
+        → UndoneButFailed W.Tells old new }
+    ensures ended { (accepts : List TableView → Bool) (app budget : ℕ) (rest frame : List ℕ) (old mid new : Seen W.Own) (net mid_net now_net : NetState) (end : TurnEnd) (unread : List ℕ)
+        (result : Result (Unit {0}) TxnFault) → W.Tells → Conforming old → InOrder new → Ready old net → Turns W.Tells accepts app budget rest frame old mid net mid_net end unread
+        → Undoes W.Tells (length net.log) mid new mid_net now_net result → UndoneButFailed W.Tells old new }
 {}

@@ -24,6 +24,7 @@ use Rattle.net_txn.specs.Agreement.{Agrees}
 use Rattle.net_txn.specs.laws.NoticeLaws.{with_entries}
 use Rattle.net_txn.specs.Undos.{Part, Inverse, BarrierPassed, Stuck, steps_of, parts_of, is_stuck, without_keys, keys_of, fault_in, first_fault_of, first_fault, ended_by, IsRevertedOn, AgreesAgain}
 use Rattle.net_txn.specs.laws.RestoreLaws.{entries_left, keys_reverted, left_all, state_after, others_stay}
+use Rattle.net_txn.specs.laws.TableBackLaws.{table_left}
 use Rattle.net_txn.specs.laws.InStepLaws.{shown_by, some_rows}
 
 -- ---- Keys and actions without a key
@@ -115,11 +116,11 @@ viewed d (v ∷ vs) = viewed_if (v.dpid == d) v (is_viewed d vs) (rows_at d vs) 
 
 -- ---- The table
 
-table_left : (parts : List Part) (es : List Entry) → rows_of_table (entries_left parts es) ≡ last_to_first (keys_reverted parts) (rows_of_table es)
-table_left [] es = refl
-table_left (Inverse xid k ∷ older) es = table_without k (entries_left older es) ∙ ap (pairs_without k) (table_left older es)
-table_left (BarrierPassed xid got ∷ older) es = table_left older es
-table_left (Stuck xid fault steps ∷ older) es = table_left older es
+table_left_rows : (parts : List Part) (es : List Entry) → rows_of_table (entries_left parts es) ≡ last_to_first (keys_reverted parts) (rows_of_table es)
+table_left_rows [] es = refl
+table_left_rows (Inverse xid k ∷ older) es = table_without k (entries_left older es) ∙ ap (pairs_without k) (table_left_rows older es)
+table_left_rows (BarrierPassed xid got ∷ older) es = table_left_rows older es
+table_left_rows (Stuck xid fault steps ∷ older) es = table_left_rows older es
 
 -- ---- The whole
 
@@ -134,33 +135,55 @@ some_from : {X : Type 0} (f : X → Rows) (o : Option X) (y : Rows) → option_m
 some_from f None y is = absurd cc
 some_from f (Some x) y is = (x, refl, same_value (f x) y is)
 
-agrees_by : {Own : Type 0} (old new : Seen Own) (d : ℕ) (views now_views : List TableView) (all : List (ℕ × Key)) (parts : List (ℕ × Part)) (o : Option SwitchState) → new.given ≡ old.given → new.history ≡ old.history ++ steps_of parts
-    → ((c : ℕ) → IsRevertedOn (is_viewed c views) c old.counts new.counts (keys_of c all) (parts_of c parts)) → now_views ≡ without_keys all views → Conforming new → is_stuck (parts_of d parts) ≡ false → waits_of d (state old) ≡ []
-    → Agrees d views (state old) → switch_of d (state old) ≡ o → AgreesAgain d now_views (state new)
-agrees_by old new d views now_views all parts None given told each lost keeps free none before is =
+-- of view and table alone
+table_agrees_by : {Own : Type 0} (old new : Seen Own) (d : ℕ) (views now_views : List TableView) (all : List (ℕ × Key)) (parts : List (ℕ × Part)) (o : Option SwitchState) → new.given ≡ old.given → new.history ≡ old.history ++ steps_of parts
+    → ((c : ℕ) → IsRevertedOn (is_viewed c views) c old.counts new.counts (keys_of c all) (parts_of c parts)) → now_views ≡ without_keys all views → is_stuck (parts_of d parts) ≡ false
+    → Agrees d views (state old) → switch_of d (state old) ≡ o → Agrees d now_views (state new)
+table_agrees_by old new d views now_views all parts None given told each lost free before is =
     let no_rows : rows_at d views ≡ None = none_from rows_of_view (rows_at d views) (before ∙ ap (option_map shown_by) is) in
     let unknown : is_viewed d views ≡ false = viewed d views ∙ ap is_some no_rows in
     let same = others_stay old new d parts given told (λ c. (each c).run) ((each d).unknown unknown) in
     let gone : rows_at d now_views ≡ None = ap (rows_at d) lost ∙ none_without d all views no_rows in
-    record { agrees = rw (gone, same.0, is) refl; waits = same.1 ∙ none }
-agrees_by old new d views now_views all parts (Some s) given told each lost keeps free none before is =
+    rw (gone, same.0, is) refl
+table_agrees_by old new d views now_views all parts (Some s) given told each lost free before is =
     let there = some_from rows_of_view (rows_at d views) (shown_by s) (before ∙ ap (option_map shown_by) is) in
     let rows = there.0 in
     let known : is_viewed d views ≡ true = viewed d views ∙ ap is_some there.1 in
     let keys = keys_of d all in
-    let may = Conforming-rest old new (steps_of parts) given told keeps in
-    let l = left_all old.given.declared old.counts new.counts d s parts (state old) (λ c. (each c).run) free may is none in
     let after = state_after old new (steps_of parts) given told in
-    let now : switch_of d (state new) ≡ Some (with_entries (entries_left (parts_of d parts) s.table.entries) s) = ap (switch_of d) after ∙ l.switch in
+    let now : switch_of d (state new) ≡ Some (with_entries (entries_left (parts_of d parts) s.table.entries) s) = ap (switch_of d) after ∙ table_left old.counts new.counts d s parts (state old) (λ c. (each c).run) free is in
     let shown : rows_at d now_views ≡ Some (rows_without keys rows) = ap (rows_at d) lost ∙ some_without d all views rows there.1 in
     let same : rows_of_view (rows_without keys rows) ≡ rows_of_table (entries_left (parts_of d parts) s.table.entries) =
-    shown_without keys rows ∙ ap (first_to_last keys) there.2 ∙ either_way keys (shown_by s) ∙ ap (λ (ks : List Key). last_to_first ks (shown_by s)) (sym ((each d).keys_so known free)) ∙ sym (table_left (parts_of d parts) s.table.entries) in
-    record { agrees = rw (shown, now) (ap some_rows same); waits = ap (waits_of d) after ∙ l.barred ((each d).barred known free) }
+    shown_without keys rows ∙ ap (first_to_last keys) there.2 ∙ either_way keys (shown_by s) ∙ ap (λ (ks : List Key). last_to_first ks (shown_by s)) (sym ((each d).keys_so known free)) ∙ sym (table_left_rows (parts_of d parts) s.table.entries) in
+    rw (shown, now) (ap some_rows same)
+
+pub table_agrees : {Own : Type 0} (old new : Seen Own) (d : ℕ) (views now_views : List TableView) (all : List (ℕ × Key)) (parts : List (ℕ × Part)) → new.given ≡ old.given → new.history ≡ old.history ++ steps_of parts
+    → ((c : ℕ) → IsRevertedOn (is_viewed c views) c old.counts new.counts (keys_of c all) (parts_of c parts)) → now_views ≡ without_keys all views → is_stuck (parts_of d parts) ≡ false
+    → Agrees d views (state old) → Agrees d now_views (state new)
+table_agrees old new d views now_views all parts given told each lost free before = table_agrees_by old new d views now_views all parts (switch_of d (state old)) given told each lost free before refl
+
+-- and nothing waits, where nothing waited
+none_waits_by : {Own : Type 0} (old new : Seen Own) (d : ℕ) (views : List TableView) (all : List (ℕ × Key)) (parts : List (ℕ × Part)) (o : Option SwitchState) → new.given ≡ old.given → new.history ≡ old.history ++ steps_of parts
+    → ((c : ℕ) → IsRevertedOn (is_viewed c views) c old.counts new.counts (keys_of c all) (parts_of c parts)) → Conforming new → is_stuck (parts_of d parts) ≡ false → waits_of d (state old) ≡ []
+    → Agrees d views (state old) → switch_of d (state old) ≡ o → waits_of d (state new) ≡ []
+none_waits_by old new d views all parts None given told each keeps free none before is =
+    let no_rows : rows_at d views ≡ None = none_from rows_of_view (rows_at d views) (before ∙ ap (option_map shown_by) is) in
+    let unknown : is_viewed d views ≡ false = viewed d views ∙ ap is_some no_rows in
+    (others_stay old new d parts given told (λ c. (each c).run) ((each d).unknown unknown)).1 ∙ none
+none_waits_by old new d views all parts (Some s) given told each keeps free none before is =
+    let there = some_from rows_of_view (rows_at d views) (shown_by s) (before ∙ ap (option_map shown_by) is) in
+    let known : is_viewed d views ≡ true = viewed d views ∙ ap is_some there.1 in
+    let may = Conforming-rest old new (steps_of parts) given told keeps in
+    let l = left_all old.given.declared old.counts new.counts d s parts (state old) (λ c. (each c).run) free may is none in
+    ap (waits_of d) (state_after old new (steps_of parts) given told) ∙ l.barred ((each d).barred known free)
 
 pub agrees : {Own : Type 0} (old new : Seen Own) (d : ℕ) (views now_views : List TableView) (all : List (ℕ × Key)) (parts : List (ℕ × Part)) → new.given ≡ old.given → new.history ≡ old.history ++ steps_of parts
     → ((c : ℕ) → IsRevertedOn (is_viewed c views) c old.counts new.counts (keys_of c all) (parts_of c parts)) → now_views ≡ without_keys all views → Conforming new → is_stuck (parts_of d parts) ≡ false → waits_of d (state old) ≡ []
     → Agrees d views (state old) → AgreesAgain d now_views (state new)
-agrees old new d views now_views all parts given told each lost keeps free none before = agrees_by old new d views now_views all parts (switch_of d (state old)) given told each lost keeps free none before refl
+agrees old new d views now_views all parts given told each lost keeps free none before = record {
+  agrees = table_agrees old new d views now_views all parts given told each lost free before;
+  waits = none_waits_by old new d views all parts (switch_of d (state old)) given told each keeps free none before refl;
+}
 
 -- ---- After Ok no switch failed.
 

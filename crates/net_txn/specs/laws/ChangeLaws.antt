@@ -1,5 +1,5 @@
 -- Laws of changes: how the pieces of one make the whole.
-use Rattle.std.specs.Prelude.{◌≡◌, ℕ, ◌^◌, ◌<◌, Bool, List, [], ◌∷◌, Option, Some, None, Result, Ok, Err, MatchResult, IfErr, IsSome, length, take, refl}
+use Rattle.std.specs.Prelude.{◌≡◌, ◌⊎◌, ℕ, ◌^◌, ◌<◌, Bool, List, [], ◌∷◌, Option, Some, None, Result, Ok, Err, MatchResult, IfErr, IsSome, length, take, refl}
 use Rattle.std.specs.Option.{is_some}
 use Rattle.std.proofs.Common.{sym, ap, ◌∙◌, subst, inl, inr, arith}
 use Rattle.std.proofs.lemmas.List.{take_all, take_at}
@@ -36,7 +36,7 @@ use Rattle.lego_model.specs.BarrierWaits.{barrier_sent}
 use Rattle.net_txn.specs.Views.{rows_at, with_rows, with_added, rows_after}
 use Rattle.net_txn.specs.laws.ViewLaws.{rows_at-stays}
 use Rattle.net_txn.specs.Net.{NetState, awaited_from, with_logged}
-use Rattle.net_txn.specs.Changes.{answer_of_host, views_by, change_sent, Asked, Stopped, IfGivenUp, Changes}
+use Rattle.net_txn.specs.Changes.{answer_of_host, views_by, change_sent, Asked, Unsent, Stopped, log_in_flight, InFlight, IfGivenUp, Changes}
 
 pub sent_waits : {Own : Type 0} {Tells : Type 0} (d : ℕ) (m : Change) (net : NetState) (a : Awaited) (frame : List ℕ) (kept now_kept : List (ℕ × List ℕ)) (old new : Seen Own) (refusal : Option Refusal)
     → a ≡ awaited_from d net.xid → frame ≡ message_bytes a.first (as_sent (FlowMod m)) → kept ≡ net.kept
@@ -99,6 +99,7 @@ Changes-by_host {Tells = Tells} d bytes seen net answer is = record {
   by_host = λ other h. record { answers = some_is answer other (sym is ∙ h); fault = tt; world = refl; stays = refl };
   by_switch = λ xid m none read. absurd (no_answer answer (sym is ∙ none));
   flooded = λ xid m none read. tt;
+  in_flight = λ xid m none read. tt;
 }
 
 -- memory was wanting before anything was sent
@@ -116,6 +117,7 @@ Changes-short {Tells = Tells} d bytes seen net = record {
   by_host = λ other h. record { answers = tt; fault = refl; world = refl; stays = refl };
   by_switch = λ xid m none read. inl (record { world = refl; views = refl; log = refl; kept = refl });
   flooded = λ xid m none read. tt;
+  in_flight = λ xid m none read. inl (record { world = refl; views = refl; log = refl; kept = refl });
 }
 
 pub kept_for : (d e : ℕ) (before kept now_kept : List (ℕ × List ℕ)) → e ≡ d → before ≡ kept → KeptMore e before now_kept → KeptMore d kept now_kept
@@ -171,21 +173,38 @@ made_switches : {Own : Type 0} (Tells : Type 0) (d e : ℕ) (m : Change) (old ne
 made_switches Tells d e m old new net now_net (Ok answer) asked = ap (has_rows e) asked.views ∙ judged_switches asked.refusal d e m net.views
 made_switches Tells d e m old new net now_net (Err fault) stopped = stopped_switches d e m old new net now_net stopped
 
+-- what is known of a fault, in short
+abbrev pub Judged : {Own : Type 0} → Type 0 → ℕ → Change → Seen Own → Seen Own → NetState → NetState → Result Answer TxnFault → Type 0
+Judged Tells d m old new net now_net result =
+    MatchResult result (Asked Tells d m old new net now_net) (λ f. Unsent old new net now_net ⊎ InFlight Tells d m (log_in_flight d m net.views net.log) old new net now_net f)
+
+stopped_so : {Own : Type 0} (Tells : Type 0) (d : ℕ) (m : Change) (old new : Seen Own) (net now_net : NetState) (result : Result Answer TxnFault) → Judged Tells d m old new net now_net result
+    → MatchResult result (Asked Tells d m old new net now_net) (λ f. Stopped d m old new net now_net)
+stopped_so Tells d m old new net now_net (Ok answer) does = does
+stopped_so Tells d m old new net now_net (Err f) (inl unsent) = inl unsent
+stopped_so Tells d m old new net now_net (Err f) (inr flight) = inr (record { views = flight.views; log = flight.log_so; kept = flight.kept })
+
+in_flight_so : {Own : Type 0} (Tells : Type 0) (d : ℕ) (m : Change) (old new : Seen Own) (net now_net : NetState) (result : Result Answer TxnFault) → Judged Tells d m old new net now_net result
+    → IfErr result (λ f. Unsent old new net now_net ⊎ InFlight Tells d m (log_in_flight d m net.views net.log) old new net now_net f)
+in_flight_so Tells d m old new net now_net (Ok answer) does = tt
+in_flight_so Tells d m old new net now_net (Err f) does = does
+
 pub Changes-by_switch : {Own : Type 0} {Tells : Type 0} (d : ℕ) (bytes : List ℕ) (old new : Seen Own) (net now_net : NetState) (result : Result Answer TxnFault) (xid : ℕ) (m : Change)
-    → answer_of_host d bytes net ≡ None → reading_of bytes ≡ Ok (enveloped xid (FlowMod m)) → MatchResult result (Asked Tells d m old new net now_net) (λ f. Stopped d m old new net now_net)
+    → answer_of_host d bytes net ≡ None → reading_of bytes ≡ Ok (enveloped xid (FlowMod m)) → Judged Tells d m old new net now_net result
     → Continues Tells old new → OnLinks Tells old new → AsksWithoutStrays Tells d old new → IfErr result (IsCause Tells d old new) → now_net.ports ≡ net.ports → now_net.moment ≡ net.moment → now_net.room ≡ net.room
     → IfErr result (IfGivenUp Tells d m old new net) → Changes Tells d bytes old new net now_net result
-Changes-by_switch {Tells = Tells} d bytes old new net now_net result xid m none read does continues links no_strays cause ports moment room f = record {
+Changes-by_switch {Tells = Tells} d bytes old new net now_net result xid m none read judged continues links no_strays cause ports moment room f = record {
   continues = continues;
   links = links;
   no_strays = λ told keeps joined. no_strays told keeps (joined (host_known d bytes net none));
-  read = asked_read Tells d m old new net now_net result does;
+  read = asked_read Tells d m old new net now_net result (stopped_so Tells d m old new net now_net result judged);
   cause = cause;
-  switches = λ e. made_switches Tells d e m old new net now_net result does;
+  switches = λ e. made_switches Tells d e m old new net now_net result (stopped_so Tells d m old new net now_net result judged);
   ports = ports;
   moment = moment;
   room = room;
   by_host = λ answer h. absurd (no_answer answer (sym h ∙ none));
-  by_switch = λ other n _ again. subst (λ (x : Change). MatchResult result (Asked Tells d x old new net now_net) (λ f. Stopped d x old new net now_net)) (same_change xid other m n (sym read ∙ again)) does;
+  by_switch = λ other n _ again. subst (λ (x : Change). MatchResult result (Asked Tells d x old new net now_net) (λ f. Stopped d x old new net now_net)) (same_change xid other m n (sym read ∙ again)) (stopped_so Tells d m old new net now_net result judged);
   flooded = λ other n _ again. subst (λ (x : Change). IfErr result (IfGivenUp Tells d x old new net)) (same_change xid other m n (sym read ∙ again)) f;
+  in_flight = λ other n _ again. in_flight_so Tells d n old new net now_net result (subst (λ (x : Change). Judged Tells d x old new net now_net result) (same_change xid other m n (sym read ∙ again)) judged);
 }

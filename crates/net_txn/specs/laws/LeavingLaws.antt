@@ -1,5 +1,5 @@
 -- The bytes of a port are the last ones of a PORT_STATUS.
-use Rattle.std.specs.Prelude.{◌≡◌, ℕ, ◌-◌, List, [], ◌++◌, length, drop, replicate}
+use Rattle.std.specs.Prelude.{◌≡◌, ℕ, List, [], ◌++◌, length, drop, replicate}
 use Rattle.std.proofs.Common.{ap, ◌∙◌, append_assoc, length-append, arith}
 use Rattle.std.proofs.lemmas.List.{append-nil, drop_at, length-replicate}
 use Rattle.of_types.specs.Fields.{number_bytes}

@@ -114,7 +114,7 @@ left_part declared old new d (Inverse xid k) s older t run free may l = left_inv
 left_part declared old new d (BarrierPassed xid got) s older t run free may l = left_settled declared d xid got s older t run.0 may l
 left_part declared old new d (Stuck xid fault steps) s older t run free may l = absurd cc
 
-older_free : (old new : Counts) (d : ℕ) (p : Part) (older : List Part) → IsRun old new d (p ∷ older) → is_stuck older ≡ false
+pub older_free : (old new : Counts) (d : ℕ) (p : Part) (older : List Part) → IsRun old new d (p ∷ older) → is_stuck older ≡ false
 older_free old new d (Inverse xid k) older run = run.2
 older_free old new d (BarrierPassed xid got) older run = run.1
 older_free old new d (Stuck xid fault steps) older run = run.1

@@ -164,7 +164,7 @@ by_steps d heards.Notice bytes = refl
 by_steps d heards.Echo bytes = refl
 by_steps d heards.Other bytes = refl
 
-wait_said_steps : (a : Awaited) (got : List (List ℕ)) → said_steps (wait_said a got) ≡ wait_steps a got
+pub wait_said_steps : (a : Awaited) (got : List (List ℕ)) → said_steps (wait_said a got) ≡ wait_steps a got
 wait_said_steps a [] = refl
 wait_said_steps a (b ∷ bs) =
     steps_append (heard_said a b) (wait_said a bs) ∙ ap (λ (s : List WorldStep). (Acted (Got a.dpid b) ∷ s) ++ said_steps (wait_said a bs)) (by_steps a.dpid (heard a b) b)

@@ -9,7 +9,9 @@ use Rattle.lego_model.specs.declared.fault.TxnFault.{TxnFault}
 use Rattle.net_txn.specs.Net.{NetState}
 use Rattle.net_txn.specs.declared.logged.Logged.{Logged}
 use Rattle.net_txn.specs.laws.RestoreLaws.{others_stay, restored, accepted}
-use Rattle.net_txn.specs.laws.AgreeLaws.{agrees, no_fault, none_failed}
+use Rattle.net_txn.specs.laws.AgreeLaws.{agrees, table_agrees, no_fault, none_failed}
+use Rattle.net_txn.specs.laws.TableBackLaws.{table_back}
+use Rattle.net_txn.specs.laws.UndoFailureLaws.{fails_in_undo}
 use Rattle.net_txn.specs.laws.KeepLaws.{none_kept}
 use Rattle.net_txn.specs.laws.UndoFaultLaws.{plain}
 use Rattle.net_txn.specs.laws.SentOrderLaws.{served_all}
@@ -69,6 +71,8 @@ undoes {Tells = Tells} start from old new net now_net result fault reverted fron
       restored = λ d s before told conforming known free here waits was serialed only.
           restored old new d s before (keys_of d (map key_logged (drop start net.log))) f.parts f.undoing.continues.given (f.undoing.told told) (λ c. (each c).run) conforming free
           ((each d).keys_so known free) ((each d).barred known free) here waits was serialed only;
+      tables_restored = λ d s before told known free here was serialed only.
+          table_back old new d s before (keys_of d (map key_logged (drop start net.log))) f.parts f.undoing.continues.given (f.undoing.told told) (λ c. (each c).run) free ((each d).keys_so known free) here was serialed only;
       read = λ ok told.
           messages-by old new (steps_of f.parts) (f.undoing.told told)
           (parts_bring old.counts new.counts f.parts (λ c. (each c).run) (no_fault (first_fault f.parts) (subst (λ (r : Result (Unit {0}) TxnFault). IsOk r) (is ∙ ap ended_by f.fault_so) ok)));
@@ -80,4 +84,8 @@ undoes {Tells = Tells} start from old new net now_net result fault reverted fron
       agrees = λ d told conforming free waits before.
           agrees old new d net.views now_net.views (map key_logged (drop start net.log)) f.parts f.undoing.continues.given (f.undoing.told told) each
           (views ∙ ap (λ (es : List Logged). without_keys (map key_logged es) net.views) rest) conforming free waits before;
+      tables_agree = λ d told free before.
+          table_agrees old new d net.views now_net.views (map key_logged (drop start net.log)) f.parts f.undoing.continues.given (f.undoing.told told) each
+          (views ∙ ap (λ (es : List Logged). without_keys (map key_logged es) net.views) rest) free before;
+      failed_by = λ d failed. fails_in_undo Tells d old new f.parts f.undoing.told (λ c. (each c).run) failed;
     }

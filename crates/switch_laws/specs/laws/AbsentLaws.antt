@@ -59,7 +59,7 @@ any-implied p q implies (x ∷ xs) h =
       | inr fails ↦ rw fails (any-implied p q implies xs n.1)
     ]
 
-none_at : (k : Key) (es : List Entry) → list_any (has_key k) es ≡ false → entry_at k es ≡ None
+pub none_at : (k : Key) (es : List Entry) → list_any (has_key k) es ≡ false → entry_at k es ≡ None
 none_at k [] h = refl
 none_at k (e ∷ es) h =
     let n = neither (has_key k e) (list_any (has_key k) es) h in
@@ -67,7 +67,7 @@ none_at k (e ∷ es) h =
 
 -- ---- An ADD
 
-abbrev at_key : Key → Key × List Action → Bool
+abbrev pub at_key : Key → Key × List Action → Bool
 at_key k r = key_number r.0 == key_number k
 
 clash-same : (m : Change) (es : List Entry) → would_clash m (rows_of_table es) ≡ clashes m es

@@ -1,6 +1,6 @@
 -- What follows where a change that the host let pass reaches a switch: with the flags of the owners, the switch refuses, and goes through,
 -- what the application asked for.
-use Rattle.std.proofs.Common.{◌≡◌, ◌≢◌, ◌==◌, ℕ, ◌+◌, ◌/◌, ◌*◌, ◌%◌, Bool, true, false, not, List, Option, Some, None, Ok, nat_lt, if◌then◌else◌, refl, sym, ap, ap₂, ◌∙◌, arith, inl, inr, true≢false}
+use Rattle.std.proofs.Common.{◌≡◌, ◌==◌, ℕ, ◌+◌, ◌/◌, ◌*◌, ◌%◌, Bool, true, false, not, List, Option, Some, None, Ok, nat_lt, if◌then◌else◌, refl, sym, ap, ap₂, ◌∙◌, arith, inl, inr, true≢false}
 use Rattle.std.proofs.lemmas.Bool.{cases_Bool, eqb-true}
 use Rattle.of_types.specs.declared.errors.OfError.{OfError}
 use Rattle.of_match.specs.declared.key.Key.{Key}

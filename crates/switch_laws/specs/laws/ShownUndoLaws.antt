@@ -1,6 +1,6 @@
 -- What follows where an open transaction was undone in a world that keeps its word: the switches stand, with the flags of the owners, as
 -- the reference controller's do that gets the earlier tables back.
-use Rattle.std.proofs.Common.{◌≡◌, ◌≢◌, ◌==◌, ℕ, true, false, List, [], ◌∷◌, map, Option, Some, None, Ok, if◌then◌else◌, refl, sym, ap, ap₂, ◌∙◌, inl, inr, true≢false}
+use Rattle.std.proofs.Common.{◌≡◌, ◌==◌, ℕ, true, false, List, [], ◌∷◌, map, Option, Some, None, Ok, if◌then◌else◌, refl, sym, ap, ap₂, ◌∙◌, inl, inr, true≢false}
 use Rattle.std.proofs.lemmas.Bool.{cases_Bool}
 use Rattle.std.specs.Option.{option_map}
 use Rattle.of_match.specs.declared.key.Key.{Key}
@@ -72,7 +72,7 @@ unviewed-rows d (v ∷ vs) h =
     no_rows : (rows : List ViewRow) → Some rows ≡ None → ⊥
     no_rows rows h = cc
 
-viewed : (d : ℕ) (views : List TableView) (s : State) (x : SwitchState) → Agrees d views s → switch_of d s ≡ Some x → is_viewed d views ≡ true
+pub viewed : (d : ℕ) (views : List TableView) (s : State) (x : SwitchState) → Agrees d views s → switch_of d s ≡ Some x → is_viewed d views ≡ true
 viewed d views s x agrees is =
     elim (cases_Bool (is_viewed d views)) [
       | inl there ↦ there
@@ -84,7 +84,7 @@ viewed d views s x agrees is =
     no_value : (rows : Rows) → None ≡ Some rows → ⊥
     no_value rows h = cc
 
-unviewed : (d : ℕ) (views : List TableView) (s : State) → Agrees d views s → switch_of d s ≡ None → is_viewed d views ≡ false
+pub unviewed : (d : ℕ) (views : List TableView) (s : State) → Agrees d views s → switch_of d s ≡ None → is_viewed d views ≡ false
 unviewed d views s agrees out = unviewed-rows d views (no_map (rows_at d views) (agrees ∙ ap (option_map (λ y. rows_of_table y.table.entries)) out))
   where
     no_map : (o : Option (List ViewRow)) → option_map rows_of_view o ≡ None → o ≡ None

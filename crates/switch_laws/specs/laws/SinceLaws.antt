@@ -12,7 +12,7 @@ use Rattle.of_wire.specs.declared.message.Message.TheVariants.{FlowMod}
 use Rattle.flow_table.specs.declared.entry.Entry.{Entry}
 use Rattle.flow_table.specs.declared.view.ViewRow.{ViewRow}
 use Rattle.flow_table.specs.declared.view.TableView.{TableView}
-use Rattle.flow_table.specs.Change.{key_in, is_modify, is_delete, describes, sends_to, deletes, adds, entries_after, changed, refusal}
+use Rattle.flow_table.specs.Change.{key_in, is_modify, is_delete, describes, sends_to, deletes, adds, entries_after, changed}
 use Rattle.flow_table.specs.Switch.{SwitchState}
 use Rattle.flow_table.specs.Refusals.{or_else, message_refusal}
 use Rattle.flow_table.specs.Step.{after_taken, after_message}
@@ -114,7 +114,7 @@ delete_leaves now serial m es is none =
 
 -- ---- The table of a switch that took a change
 
-table_refusal : (a b : Option OfError) → or_else a b ≡ None → b ≡ None
+pub table_refusal : (a b : Option OfError) → or_else a b ≡ None → b ≡ None
 table_refusal None b h = h
 table_refusal (Some e) b h = absurd cc
 
@@ -122,7 +122,7 @@ taken-entries : (m : Change) (s : SwitchState) → (changed s.moment (sent m) s.
 unfolding changed
 taken-entries m s = refl
 
-taken-added : (m : Change) (keys : List Key) (before : List Entry) (s : SwitchState) → Passes m (rows_of_table s.table.entries) → message_refusal s (as_sent (FlowMod m)) ≡ None
+pub taken-added : (m : Change) (keys : List Key) (before : List Entry) (s : SwitchState) → Passes m (rows_of_table s.table.entries) → message_refusal s (as_sent (FlowMod m)) ≡ None
     → OnlyAdded keys before s.table.entries → OnlyAdded (keys ++ keys_by m) before (changed s.moment (sent m) s.table).entries
 unfolding message_refusal
 taken-added m keys before s p none only =
@@ -137,20 +137,20 @@ taken-added m keys before s p none only =
 
 -- ---- A message that the switch judged
 
-stays : (m : Change) (s : SwitchState) (e : OfError) → message_refusal s (as_sent (FlowMod m)) ≡ Some e → after_message (as_sent (FlowMod m)) s ≡ s
+pub stays : (m : Change) (s : SwitchState) (e : OfError) → message_refusal s (as_sent (FlowMod m)) ≡ Some e → after_message (as_sent (FlowMod m)) s ≡ s
 unfolding after_message
 stays m s e refused = rw refused refl
 
-takes : (m : Change) (s : SwitchState) → message_refusal s (as_sent (FlowMod m)) ≡ None → after_message (as_sent (FlowMod m)) s ≡ record s { table = changed s.moment (sent m) s.table }
+pub takes : (m : Change) (s : SwitchState) → message_refusal s (as_sent (FlowMod m)) ≡ None → after_message (as_sent (FlowMod m)) s ≡ record s { table = changed s.moment (sent m) s.table }
 unfolding after_message after_taken
 takes m s none = rw none refl
 
 -- the log then, and what it says of each switch
-keys_then : (refusal_of : Option Refusal) (m : Change) → List Key
+unfoldable pub keys_then : (refusal_of : Option Refusal) (m : Change) → List Key
 keys_then None m = keys_by m
 keys_then (Some r) m = []
 
-logged_here : (start d : ℕ) (m : Change) (log : List Logged) (refusal_of : Option Refusal) → start ≤ length log → keys_of d (map key_logged (drop start (log_by refusal_of d m log))) ≡ keys_of d (map key_logged (drop start log)) ++ keys_then refusal_of m
+pub logged_here : (start d : ℕ) (m : Change) (log : List Logged) (refusal_of : Option Refusal) → start ≤ length log → keys_of d (map key_logged (drop start (log_by refusal_of d m log))) ≡ keys_of d (map key_logged (drop start log)) ++ keys_then refusal_of m
 unfolding keys_then
 logged_here start d m log None le =
     elim (cases_Bool (is_delete m)) [
@@ -159,7 +159,7 @@ logged_here start d m log None le =
     ]
 logged_here start d m log (Some r) le = sym (append-nil (keys_of d (map key_logged (drop start log))))
 
-logged_elsewhere : (start d e : ℕ) (m : Change) (log : List Logged) (refusal_of : Option Refusal) → e ≢ d → start ≤ length log → keys_of e (map key_logged (drop start (log_by refusal_of d m log))) ≡ keys_of e (map key_logged (drop start log))
+pub logged_elsewhere : (start d e : ℕ) (m : Change) (log : List Logged) (refusal_of : Option Refusal) → e ≢ d → start ≤ length log → keys_of e (map key_logged (drop start (log_by refusal_of d m log))) ≡ keys_of e (map key_logged (drop start log))
 logged_elsewhere start d e m log None other le =
     elim (cases_Bool (is_delete m)) [
       | inl deletes_it ↦ rw deletes_it refl

@@ -24,8 +24,8 @@ returns-in-Asks g c =
     let v : c.deref.result.now ≡ c.args.self.now.views = c.deref.ensures.value ∙ ap (λ (n : NetState). n.views) c.self.view_is in
     let knows = host_knows c.args.dpid c.args.bytes.now c.args.self.now c.deref.result.now c.in-Some.view.now.rows c.as_slice.result.now v c.in-Some.ensures c.as_slice.ensures in
     let asked = rw c.in-Asks.is at c.in_ok-answer.ensures in
-    let h = Changes-by_switch c.args.dpid c.args.bytes.now (g.W.World.seen c.args.world.now) (g.W.World.seen c.make.new.world) c.args.self.now c.make.new.self c.make.result asked.1.0 c.in-Asks.flow
-    (knows ∙ asked.0) asked.1.1 c.make.ensures.result (speaks_on c.make.ensures.speaks) (speaks_links c.make.ensures.speaks) (speaks_place c.make.ensures.speaks) c.make.ensures.cause c.make.ensures.ports c.make.ensures.moment c.make.ensures.room c.make.ensures.flooded in
+    let h = Changes-by_switch c.args.dpid c.args.bytes.now (g.W.World.seen c.args.world.now) (g.W.World.seen c.make_or_forget.new.world) c.args.self.now c.make_or_forget.new.self c.make_or_forget.result asked.1.0 c.in-Asks.flow
+    (knows ∙ asked.0) asked.1.1 c.make_or_forget.ensures.result (speaks_on c.make_or_forget.ensures.speaks) (speaks_links c.make_or_forget.ensures.speaks) (speaks_place c.make_or_forget.ensures.speaks) c.make_or_forget.ensures.cause c.make_or_forget.ensures.ports c.make_or_forget.ensures.moment c.make_or_forget.ensures.room c.make_or_forget.ensures.flooded in
     record { changes = h; reached = Changes-reaches h; in_step = Changes-steps h }
 
 pub returns-in_err-answer-clause-changes : goal.returns-in_err-answer-clause-changes

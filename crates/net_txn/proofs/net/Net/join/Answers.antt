@@ -5,7 +5,7 @@ use Rattle.of_wire.specs.Spelling.{message_bytes}
 use Rattle.flow_table.specs.Switch.{first_config}
 use Rattle.lego_model.specs.declared.wait.Awaited.{Awaited}
 use Rattle.lego_model.specs.BarrierWaits.{next_xid}
-use Rattle.net_txn.specs.Joining.{delete_all, greeted_from, with_view}
+use Rattle.net_txn.specs.Joining.{delete_all, greeted_from}
 use Rattle.net_txn.specs.Net.{NetState}
 use Rattle.net_txn.specs.laws.WaitLaws.{waits_kept}
 use Rattle.net_txn.specs.laws.ChangeLaws.{kept_for}

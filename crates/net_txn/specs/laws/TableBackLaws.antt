@@ -1,0 +1,196 @@
+-- What an undo leaves of the table of a switch, whatever its world tells besides, and whatever waits of it: the table without the keys
+-- whose inverses were sent. What comes of a switch moves no table.
+use Rattle.std.specs.Prelude.{◌≡◌, ◌≢◌, ◌==◌, ℕ, Bool, true, false, nat_lt, List, [], ◌∷◌, ◌++◌, length, drop, Option, Some, None, Result, Ok, Err, if◌then◌else◌, refl}
+use Rattle.std.specs.List.{AllByRecursion}
+use Rattle.std.proofs.Common.{sym, ap, ◌∙◌, subst, eq-eqb, inl, inr, arith}
+use Rattle.std.proofs.lemmas.Bool.{cases_eq, ne_eqb}
+use Rattle.of_types.specs.Fields.{number_at}
+use Rattle.of_types.specs.declared.journal.Act.TheVariants.{Sent, Got}
+use Rattle.of_match.specs.declared.key.Key.{Key}
+use Rattle.of_wire.specs.declared.kind.MessageKind.{MessageKind}
+use Rattle.of_wire.specs.declared.kind.MessageKind.TheVariants as kinds
+use Rattle.of_wire.specs.declared.fault.WireFault.{WireFault}
+use Rattle.of_wire.specs.declared.fault.WireFault.TheVariants.{BadVersion, BadLength}
+use Rattle.of_wire.specs.declared.message.Message.TheVariants.{EchoReply, FlowMod, BarrierRequest, BarrierReply}
+use Rattle.of_action.specs.Reading.{◌>>=◌}
+use Rattle.of_wire.specs.Kinds.{kind_of_number}
+use Rattle.of_wire.specs.Reading.{has_length, if_sized, front_of, body_of, reading_of}
+use Rattle.of_wire.specs.Spelling.{body_bytes, message_bytes}
+use Rattle.of_wire.specs.laws.ReadingLaws.{reading_of-message_bytes}
+use Rattle.flow_table.specs.Table.{TableState, IsTable}
+use Rattle.flow_table.specs.Switch.{SwitchState}
+use Rattle.flow_table.specs.Refusals.{message_refusal}
+use Rattle.flow_table.specs.Step.{after_taken, after_message}
+use Rattle.outside.specs.declared.step.WorldStep.TheVariants.{Acted}
+use Rattle.outside.specs.Seen.{Counts, Seen}
+use Rattle.outside.specs.State.{State, after_step, after_steps, state, switch_of, switch_told}
+use Rattle.outside.specs.laws.LinkLaws.{switch_of-sent, switch_of-got}
+use Rattle.outside.specs.laws.StateLaws.{after_steps-append}
+use Rattle.undo_laws.specs.Removal.{OnlyAdded}
+use Rattle.undo_laws.specs.Serials.{IsSerialed}
+use Rattle.lego_model.specs.declared.wait.Awaited.{Awaited}
+use Rattle.lego_model.specs.declared.wait.Heard.{Heard}
+use Rattle.lego_model.specs.declared.wait.Heard.TheVariants as hearing
+use Rattle.lego_model.specs.BarrierWaits.{heard, echo_reply, steps_by, heard_steps, wait_steps, barrier_sent, reply_got}
+use Rattle.net_txn.specs.Net.{delete_strict, inverse_bytes}
+use Rattle.net_txn.specs.laws.HeardLaws.{IsMessage-barrier}
+use Rattle.net_txn.specs.laws.StepLaws.{told_switch, barrier_stays}
+use Rattle.net_txn.specs.laws.NoticeLaws.{kind_of_header, with_entries, inverse_moves}
+use Rattle.net_txn.specs.laws.PartLaws.{steps_other, reading_of-inverse}
+use Rattle.net_txn.specs.Undos.{IsTableBack, IsStepOf, CanBeSent, IsBarrierPassed, alone, Part, Inverse, BarrierPassed, Stuck, part_steps, steps_of, parts_of, is_stuck, inverses_of, IsRun}
+use Rattle.net_txn.specs.laws.RestoreLaws.{part_of, AllRun, runs_here, runs_older, entries_left, keys_reverted, restored_table, state_after, older_free}
+
+-- ---- An ECHO_REPLY (3) moves no switch, and bytes that are no message move none.
+
+abbrev some_switch : SwitchState → Option SwitchState
+some_switch x = Some x
+
+-- the front of bytes of that type is an ECHO_REPLY's, or there is a fault
+record IsReplyFront (read : Result MessageKind WireFault) : Type 0 where
+  is : (kind : MessageKind) → read ≡ Ok kind → kind ≡ kinds.EchoReply
+
+abbrev front_read : Result MessageKind WireFault → MessageKind
+front_read (Ok kind) = kind
+front_read (Err fault) = kinds.EchoReply
+
+front_fault : (fault : WireFault) → IsReplyFront (Err fault)
+front_fault fault = record { is = λ kind e. absurd cc }
+
+front_reply : IsReplyFront (Ok kinds.EchoReply)
+front_reply = record { is = λ kind e. sym (ap front_read e) }
+
+front_if : (b : Bool) (x y : Result MessageKind WireFault) → IsReplyFront x → IsReplyFront y → IsReplyFront (if b then x else y)
+front_if true x y first second = first
+front_if false x y first second = second
+
+front_sized : (bytes : List ℕ) → IsReplyFront (if_sized bytes (Some kinds.EchoReply))
+front_sized bytes = front_if (number_at 2 2 bytes == length bytes) _ _ (front_if (has_length kinds.EchoReply (length bytes)) _ _ front_reply (front_fault BadLength)) (front_fault BadLength)
+
+front_kind : (bytes : List ℕ) (kind : Option MessageKind) → kind ≡ Some kinds.EchoReply → IsReplyFront (if_sized bytes kind)
+front_kind bytes kind is = subst (λ (o : Option MessageKind). IsReplyFront (if_sized bytes o)) (sym is) (front_sized bytes)
+
+third : kind_of_number 3 ≡ Some kinds.EchoReply
+unfolding kind_of_number
+third = refl
+
+front_is : (bytes : List ℕ) → number_at 1 1 bytes ≡ 3 → IsReplyFront (front_of bytes)
+unfolding front_of
+front_is bytes is =
+    front_if (nat_lt (length bytes) 8) _ _ (front_fault BadLength)
+    (front_if (number_at 1 0 bytes == 1) _ _ (front_kind bytes (kind_of_number (number_at 1 1 bytes)) (ap kind_of_number is ∙ third)) (front_fault BadVersion))
+
+echo_stays : (payload : List ℕ) (s : SwitchState) → after_message (EchoReply payload) s ≡ s
+unfolding after_message message_refusal after_taken
+echo_stays payload s = refl
+
+told_echo : (bytes : List ℕ) (o : Option SwitchState) → switch_told (body_of kinds.EchoReply bytes >>= λ message. Ok (record { xid = number_at 4 4 bytes; message = message })) o ≡ o
+unfolding body_of
+told_echo bytes None = refl
+told_echo bytes (Some s) = ap (λ (x : SwitchState). some_switch x) (echo_stays (drop 8 bytes) s)
+
+told_front : (bytes : List ℕ) (o : Option SwitchState) (front : Result MessageKind WireFault) → IsReplyFront front
+    → switch_told (front >>= λ kind. body_of kind bytes >>= λ message. Ok (record { xid = number_at 4 4 bytes; message = message })) o ≡ o
+told_front bytes o (Err fault) is = refl
+told_front bytes o (Ok kind) is =
+    subst (λ (k : MessageKind). switch_told (body_of k bytes >>= λ message. Ok (record { xid = number_at 4 4 bytes; message = message })) o ≡ o) (sym (is.is kind refl)) (told_echo bytes o)
+
+told_stays : (bytes : List ℕ) (o : Option SwitchState) → number_at 1 1 bytes ≡ 3 → switch_told (reading_of bytes) o ≡ o
+unfolding reading_of
+told_stays bytes o is = told_front bytes o (front_of bytes) (front_is bytes is)
+
+reply_type : (bytes : List ℕ) → number_at 1 1 (echo_reply bytes) ≡ 3
+unfolding message_bytes body_bytes
+reply_type bytes = kind_of_header 3 _ (number_at 4 4 bytes) (body_bytes (EchoReply (drop 8 bytes))) (omega arith)
+
+-- ---- Nor does what is got in a wait.
+
+echoed : (d : ℕ) (h : Heard) (bytes : List ℕ) (t : State) → switch_of d (after_steps (steps_by d h bytes) t) ≡ switch_of d t
+echoed d hearing.Reply bytes t = refl
+echoed d (hearing.Refused r) bytes t = refl
+echoed d hearing.Notice bytes t = refl
+echoed d hearing.Echo bytes t = switch_of-sent d (echo_reply bytes) t ∙ told_stays (echo_reply bytes) (switch_of d t) (reply_type bytes)
+echoed d hearing.Other bytes t = refl
+
+pub heard_switch : (a : Awaited) (bytes : List ℕ) (t : State) → switch_of a.dpid (after_steps (heard_steps a bytes) t) ≡ switch_of a.dpid t
+heard_switch a bytes t = echoed a.dpid (heard a bytes) bytes (after_step (Acted (Got a.dpid bytes)) t) ∙ switch_of-got a.dpid bytes t
+
+pub wait_switch : (a : Awaited) (got : List (List ℕ)) (t : State) → switch_of a.dpid (after_steps (wait_steps a got) t) ≡ switch_of a.dpid t
+wait_switch a [] t = refl
+wait_switch a (b ∷ bs) t =
+    ap (switch_of a.dpid) (after_steps-append (heard_steps a b) (wait_steps a bs) t)
+    ∙ wait_switch a bs (after_steps (heard_steps a b) t)
+    ∙ heard_switch a b t
+
+-- ---- One part of an undo
+
+-- the table of the switch without the keys so far
+abbrev pub IsTableLeft : ℕ → SwitchState → List Part → State → Type 0
+IsTableLeft d s parts t = switch_of d t ≡ Some (with_entries (entries_left parts s.table.entries) s)
+
+table_inverse : (d xid : ℕ) (k : Key) (s : SwitchState) (older : List Part) (t : State) → CanBeSent xid k → IsTableLeft d s older t → IsTableLeft d s (Inverse xid k ∷ older) (after_step (Acted (Sent d (inverse_bytes xid k))) t)
+table_inverse d xid k s older t can l =
+    let now = with_entries (entries_left older s.table.entries) s in
+    told_switch d xid (FlowMod (delete_strict k)) (inverse_bytes xid k) t now (reading_of-inverse xid k can) l ∙ ap (λ (x : SwitchState). some_switch x) (inverse_moves k now)
+
+table_barred : (d xid : ℕ) (got : List (List ℕ)) (s : SwitchState) (older : List Part) (t : State) → IsBarrierPassed d xid (inverses_of older) got → IsTableLeft d s older t
+    → IsTableLeft d s (BarrierPassed xid got ∷ older) (after_steps (part_steps d (BarrierPassed xid got)) t)
+table_barred d xid got s older t is l =
+    let a = alone d xid in
+    let now = with_entries (entries_left older s.table.entries) s in
+    let u = after_step (barrier_sent a) t in
+    let moved : switch_of d u ≡ Some now =
+    told_switch d xid BarrierRequest (message_bytes xid BarrierRequest) t now (reading_of-message_bytes xid BarrierRequest is.is_xid IsMessage-barrier) l ∙ ap (λ (x : SwitchState). some_switch x) (barrier_stays now) in
+    ap (switch_of d) (after_steps-append (wait_steps a got) (reply_got a ∷ []) u)
+    ∙ switch_of-got d (message_bytes xid BarrierReply) (after_steps (wait_steps a got) u)
+    ∙ wait_switch a got u
+    ∙ moved
+
+table_part : (old new : Counts) (d : ℕ) (p : Part) (s : SwitchState) (older : List Part) (t : State) → IsRun old new d (p ∷ older) → is_stuck (p ∷ older) ≡ false → IsTableLeft d s older t → IsTableLeft d s (p ∷ older) (after_steps (part_steps d p) t)
+table_part old new d (Inverse xid k) s older t run free l = table_inverse d xid k s older t run.0 l
+table_part old new d (BarrierPassed xid got) s older t run free l = table_barred d xid got s older t run.0 l
+table_part old new d (Stuck xid fault steps) s older t run free l = absurd cc
+
+-- ---- All parts
+
+pub table_left : (old new : Counts) (d : ℕ) (s : SwitchState) (parts : List (ℕ × Part)) (t : State) → AllRun old new parts → is_stuck (parts_of d parts) ≡ false → switch_of d t ≡ Some s
+    → IsTableLeft d s (parts_of d parts) (after_steps (steps_of parts) t)
+table_left old new d s [] t all free is = is
+table_left old new d s (p ∷ older) t all free is =
+    let here = runs_here old new p older all in
+    let each = part_of old new p.0 p.1 (parts_of p.0 older) here in
+    let end : after_steps (steps_of (p ∷ older)) t ≡ after_steps (part_steps p.0 p.1) (after_steps (steps_of older) t) = after_steps-append (steps_of older) (part_steps p.0 p.1) t in
+    let rest : is_stuck (parts_of d older) ≡ false → IsTableLeft d s (parts_of d older) (after_steps (steps_of older) t) = λ f. table_left old new d s older t (runs_older old new p older all) f is in
+    elim (cases_eq p.0 d) [
+      | inl same ↦ mine same here end rest
+      | inr other ↦ theirs other each end rest
+    ]
+  where
+    mine : p.0 ≡ d → IsRun old new p.0 (p.1 ∷ parts_of p.0 older) → after_steps (steps_of (p ∷ older)) t ≡ after_steps (part_steps p.0 p.1) (after_steps (steps_of older) t)
+        → (is_stuck (parts_of d older) ≡ false → IsTableLeft d s (parts_of d older) (after_steps (steps_of older) t)) → IsTableLeft d s (parts_of d (p ∷ older)) (after_steps (steps_of (p ∷ older)) t)
+    mine same here end rest =
+        let before = after_steps (steps_of older) t in
+        let run = subst (λ (n : ℕ). IsRun old new n (p.1 ∷ parts_of n older)) same here in
+        let taken : (p.0 == d) ≡ true = eq-eqb p.0 d same in
+        let free_here = subst (λ (b : Bool). is_stuck (if b then p.1 ∷ parts_of d older else parts_of d older) ≡ false) taken free in
+        let l = table_part old new d p.1 s (parts_of d older) before run free_here (rest (older_free old new d p.1 (parts_of d older) run)) in
+        let there = end ∙ ap (λ (n : ℕ). after_steps (part_steps n p.1) before) same in
+        subst (λ (u : State). IsTableLeft d s (parts_of d (p ∷ older)) u) (sym there) (subst (λ (b : Bool). IsTableLeft d s (if b then p.1 ∷ parts_of d older else parts_of d older) (after_steps (part_steps d p.1) before)) (sym taken) l)
+
+    theirs : p.0 ≢ d → AllByRecursion (IsStepOf p.0) (part_steps p.0 p.1) → after_steps (steps_of (p ∷ older)) t ≡ after_steps (part_steps p.0 p.1) (after_steps (steps_of older) t)
+        → (is_stuck (parts_of d older) ≡ false → IsTableLeft d s (parts_of d older) (after_steps (steps_of older) t)) → IsTableLeft d s (parts_of d (p ∷ older)) (after_steps (steps_of (p ∷ older)) t)
+    theirs other each end rest =
+        let before = after_steps (steps_of older) t in
+        let taken : (p.0 == d) ≡ false = ne_eqb p.0 d other in
+        let free_here = subst (λ (b : Bool). is_stuck (if b then p.1 ∷ parts_of d older else parts_of d older) ≡ false) taken free in
+        let stays = (steps_other p.0 d (part_steps p.0 p.1) before (λ same. other (sym same)) each).0 in
+        let l : IsTableLeft d s (parts_of d older) (after_steps (part_steps p.0 p.1) before) = stays ∙ rest free_here in
+        subst (λ (u : State). IsTableLeft d s (parts_of d (p ∷ older)) u) (sym end) (subst (λ (b : Bool). IsTableLeft d s (if b then p.1 ∷ parts_of d older else parts_of d older) (after_steps (part_steps p.0 p.1) before)) (sym taken) l)
+
+-- ---- The earlier table
+
+pub table_back : {Own : Type 0} (old new : Seen Own) (d : ℕ) (s : SwitchState) (before : TableState) (keys : List Key) (parts : List (ℕ × Part)) → new.given ≡ old.given → new.history ≡ old.history ++ steps_of parts → AllRun old.counts new.counts parts
+    → is_stuck (parts_of d parts) ≡ false → keys_reverted (parts_of d parts) ≡ keys → switch_of d (state old) ≡ Some s → IsTable before.entries → IsSerialed s.table → OnlyAdded keys before.entries s.table.entries → IsTableBack d before s (state new)
+table_back old new d s before keys parts given is all free same here was serialed only =
+    ap (switch_of d) (state_after old new (steps_of parts) given is)
+    ∙ table_left old.counts new.counts d s parts (state old) all free here
+    ∙ ap (λ (x : SwitchState). some_switch x) (restored_table (parts_of d parts) keys s before same was serialed only)
