@@ -1,5 +1,5 @@
 -- What entries have lost together, modulo 2^64. All of this is our own.
-use Rattle.std.specs.Prelude.{◌≡◌, ℕ, ◌+◌, ◌%◌, ◌^◌, List, Option, Some, None}
+use Rattle.std.specs.Prelude.{◌≡◌, ◌+◌, ◌%◌, ◌^◌, List, Option, Some, None}
 use Rattle.of_match.specs.declared.key.Key.{Key}
 use Rattle.flow_table.specs.declared.lost.Lost.{Lost}
 use Rattle.flow_table.specs.declared.view.ViewRow.{ViewRow}

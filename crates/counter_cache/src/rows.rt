@@ -2,7 +2,6 @@
 
 ghost use Rattle.std.specs.Prelude.{◌≡◌, ◌<◌, ◌≤◌, None, vec_capacity, length};
 ghost use Rattle.std.specs.List.{insert};
-ghost use Rattle.std.specs.Ordering.{nat_cmp};
 ghost use Rattle.of_match.specs.Key.{key_number};
 ghost use Rattle.flow_table.specs.Sorted.{AreLostRows, IsFoundAt, lost_place};
 ghost use Rattle.flow_table.specs.Corrected.{lost_at};
@@ -10,40 +9,13 @@ ghost use Rattle.counter_cache.specs.Cache.{with_lost_row, without_lost};
 
 use flow_table::Lost;
 use of_match::Key;
-use std::cmp::Ordering;
 
-/// Tells how a key stands to another one in key order.
-fn compare_keys(a: &Key, b: &Key) -> Ordering
-    ensures { result ≡ nat_cmp (key_number a.now) (key_number b.now) }
-{
-    let _first = a.priority;
-    let _second = b.priority;
-    a.cmp(b)
-}
-
-/// Tells how a row stands to a key in key order.
-fn compare(row: &(Key, Lost), key: &Key) -> Ordering
-    ensures { result ≡ nat_cmp (lost_place row.now) (key_number key.now) }
-{
-    compare_keys(&row.0, key)
-}
-
-/// Tells where the row of a key stands, or where it would stand, by halves.
+/// Tells where the row of a key stands, or where it would stand.
 fn position(rows: &[(Key, Lost)], key: &Key) -> Result<usize, usize>
     requires { AreLostRows rows.now }
     ensures { IsFoundAt lost_place (key_number key.now) rows.now result }
 {
-    let mut low = 0;
-    let mut high = rows.len();
-    while low < high {
-        let middle = low + (high - low) / 2;
-        match compare(&rows[middle], key) {
-            Ordering::Less => low = middle + 1,
-            Ordering::Equal => return Ok(middle),
-            Ordering::Greater => high = middle,
-        }
-    }
-    Err(low)
+    keyed_rows::position(rows, key)
 }
 
 /// Finds what the entry of a key has lost.
@@ -51,9 +23,9 @@ pub(crate) fn find(rows: &[(Key, Lost)], key: &Key) -> Option<Lost>
     requires { AreLostRows rows.now }
     ensures { result ≡ lost_at key.now rows.now }
 {
-    match position(rows, key) {
-        Ok(at) => Some(rows[at].1),
-        Err(_) => None,
+    match keyed_rows::find(rows, key) {
+        Some(row) => Some(row.1),
+        None => None,
     }
 }
 

@@ -3,5 +3,6 @@ pub mod Plans
 pub mod Log
 pub mod Meaning
 pub mod Restoring
+pub mod Marks
 pub mod Sending
 pub mod laws

@@ -11,6 +11,7 @@ use Rattle.of_wire.specs.declared.bodies.FlowMod.{FlowMod}
 use Rattle.flow_table.specs.declared.lost.Lost.{Lost}
 use Rattle.flow_table.specs.declared.view.ViewRow.{ViewRow}
 use Rattle.flow_table.specs.Change.{key_in, is_modify, describes, sends_to}
+use Rattle.flow_table.specs.Sorted.{at_place}
 use Rattle.flow_table.specs.Corrected.{row_at, lost_at}
 use Rattle.netlog_inverse.specs.declared.fault.PlanFault.{PlanFault}
 use Rattle.netlog_inverse.specs.declared.fault.PlanFault.TheVariants.{NoRow, NoShadow, NoMemory}
@@ -32,13 +33,9 @@ deletes_row m r = describes m r.key && sends_to m.out_port r.actions
 unfoldable pub adds_row : FlowMod → List ViewRow → Bool
 adds_row m rs = m.command == 0 || (is_modify m && not (list_any (means_row m) rs))
 
-abbrev pub is_row_of : Key → ViewRow → Bool
-is_row_of k r = key_number r.key == key_number k
-
 -- what a switch reports of a key
 abbrev pub counts_at : Key → List FlowRow → Option FlowRow
-counts_at k [] = None
-counts_at k (f ∷ fs) = if key_number f.key == key_number k then Some f else counts_at k fs
+counts_at k fs = at_place (λ f. key_number f.key) (key_number k) fs
 
 -- a flow row can show that many bytes of actions
 abbrev pub IsShowable : ViewRow → Type 0
@@ -140,7 +137,7 @@ missing (r ∷ rs) fs = if is_some (counts_at r.key fs) then missing rs fs else 
 -- the first that the switch reports and the view does not have
 abbrev pub stray : List ViewRow → List FlowRow → Option FlowRow
 stray rs [] = None
-stray rs (f ∷ fs) = if list_any (is_row_of f.key) rs then stray rs fs else Some f
+stray rs (f ∷ fs) = if is_some (row_at f.key rs) then stray rs fs else Some f
 
 -- why no images were made
 abbrev pub IsMissing : Option Key → PlanFault → Type 0

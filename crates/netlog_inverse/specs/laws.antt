@@ -6,3 +6,4 @@ pub mod SendingLaws
 pub mod ChangedLaws
 pub mod InnerLaws
 pub mod MendLaws
+pub mod MarkLaws

@@ -1,6 +1,6 @@
 //! Laws of images, each the contract of a function that does nothing.
 
-ghost use Rattle.std.specs.Prelude.{◌≡◌, ◌≢◌, ℕ, ◌+◌, ◌-◌, ◌^◌, ◌<◌, ◌≤◌, Bool, List, ◌++◌, length, map, drop, Some, None, false, Option};
+ghost use Rattle.std.specs.Prelude.{◌≡◌, ◌≢◌, ℕ, ◌+◌, ◌-◌, ◌^◌, ◌<◌, ◌≤◌, Bool, List, [], ◌++◌, length, map, drop, Some, None, false, Option};
 ghost use Rattle.of_match.specs.declared.key.Key.{Key};
 ghost use Rattle.of_action.specs.declared.action.Action.{Action};
 ghost use Rattle.of_stats.specs.declared.flow_row.FlowRow.{FlowRow};
@@ -9,11 +9,13 @@ ghost use Rattle.flow_timeouts.specs.Timeouts.{end_of};
 ghost use Rattle.flow_table.specs.declared.entry.Entry.{Entry};
 ghost use Rattle.flow_table.specs.declared.lost.Lost.{Lost};
 ghost use Rattle.flow_table.specs.declared.view.ViewRow.{ViewRow};
-ghost use Rattle.flow_table.specs.Table.{TableState};
+ghost use Rattle.flow_table.specs.Table.{TableState, entry_at};
 ghost use Rattle.flow_table.specs.Change.{changed, new_entry};
 ghost use Rattle.flow_table.specs.Undone.{undone};
 ghost use Rattle.flow_table.specs.Corrected.{row_at, lost_at, shown_entry, shown_entries, shown_table};
 ghost use Rattle.undo_laws.specs.Log.{Image as Said, Inverse, Remove, PutBack, GiveActions, Gone, logged, undo, back, merge, image_of};
+ghost use Rattle.undo_laws.specs.Corrected.{IsCorrection};
+ghost use Rattle.undo_laws.specs.Removal.{without};
 ghost use Rattle.undo_laws.specs.Reverting.{CanRevert, Reverts};
 ghost use Rattle.undo_laws.specs.Same.{SameButSerials};
 ghost use Rattle.undo_laws.specs.Serials.{IsSerialed};
@@ -24,7 +26,8 @@ ghost use Rattle.netlog_inverse.specs.declared.image.Logged.{Logged};
 ghost use Rattle.netlog_inverse.specs.declared.image.PutBack.TheVariants.{Row};
 ghost use Rattle.netlog_inverse.specs.Messages.{removal, addition, modification, spelled_mod, hard_left};
 ghost use Rattle.netlog_inverse.specs.Plans.{planned, going, missing};
-ghost use Rattle.netlog_inverse.specs.Log.{logged_at, pushed, with_hard, mended};
+ghost use Rattle.netlog_inverse.specs.Log.{logged_at, pushed, with_hard, mended, changed_at};
+ghost use Rattle.netlog_inverse.specs.Marks.{ImagesStand, SayMore, AreSetRight, IsLast};
 ghost use Rattle.netlog_inverse.specs.Meaning.{entry_of, said, settled, first_at, first_or, IsView, Reports};
 ghost use Rattle.netlog_inverse.specs.Restoring.{Says, IsSentFor, AreLeft};
 ghost use Rattle.netlog_inverse.specs.Sending.{AreWanted, messages_of, wanted};
@@ -76,6 +79,8 @@ pub fn first_images_stay()
         → first_at e k (drop outer (pushed mark d images log))
         ≡ first_or (first_at e k (drop outer log)) (first_at e k (map (logged_at d) images)) }
     ensures longer { (mark d : ℕ) (images : List Image) (log : List Logged) → length log ≤ length (pushed mark d images log) }
+    ensures room { (mark d : ℕ) (images : List Image) (log : List Logged)
+        → length (pushed mark d images log) ≤ length log + length images }
     ensures says { (now d : ℕ) (since more after : List Logged) (log newer : List Inverse) → Says now d since log
         → Says now d more newer
         → ((k : Key) → settled now (said now (first_at d k after))
@@ -122,4 +127,32 @@ pub fn inner_undo_leaves_marks()
         (older newer sent : List Inverse) (t : TableState) → IsTest same → Says now d since (older ++ newer)
         → AreLeft d since left older → IsSentFor now d same left sent (undo now newer t) → Stands now earlier (older ++ newer) t
         → SameButSerials (undo now sent (undo now newer t)).entries (undone earlier (undo now newer t) now).entries }
+{}
+
+/// What was logged since a mark stands for the table of the mark, said of the images alone: at the mark; where they say what
+/// a list of all inverses says; after a change; after an undo of what was logged since an inner mark; and after a time-out of
+/// an entry whose image is set right. What is sent for them gives the table of the mark back. So marks may be nested to any
+/// depth, and changes may follow an inner undo.
+pub fn marks_stand()
+    ensures nothing { (now d : ℕ) (t : TableState) → IsSerialed t → ImagesStand now d t [] t }
+    ensures says { (now d : ℕ) (since : List Logged) (earlier : TableState) (log : List Inverse) (t : TableState)
+        → Says now d since log → Stands now earlier log t → ImagesStand now d earlier since t }
+    ensures changed { (now d : ℕ) (since after : List Logged) (earlier : TableState) (m : FlowMod) (t : TableState)
+        → SayMore now d since (logged m t.entries) after → ImagesStand now d earlier since t
+        → ImagesStand now d earlier after (changed now m t) }
+    ensures undone { (now d : ℕ) (same : List Action → List Action → Bool) (front inner : List Logged) (earlier : TableState)
+        (sent : List Inverse) (t : TableState) → IsTest same → AreSetRight now d front inner → IsSentFor now d same inner sent t
+        → ImagesStand now d earlier (front ++ inner) t → ImagesStand now d earlier front (undo now sent t) }
+    ensures timed_out { (now d hard at : ℕ) (k : Key) (r : ViewRow) (lost : Lost) (e : Entry) (since : List Logged)
+        (earlier t : TableState) → entry_at k t.entries ≡ Some e → IsLast now d at k r lost e since
+        → ImagesStand now d earlier since t
+        → ImagesStand now d earlier (changed_at at (mended (Some lost) hard false) since) (record t { entries = without k t.entries }) }
+    ensures restores { (now d : ℕ) (same : List Action → List Action → Bool) (since : List Logged) (earlier : TableState)
+        (sent : List Inverse) (t : TableState) → IsTest same → IsSentFor now d same since sent t
+        → ImagesStand now d earlier since t → SameButSerials (undo now sent t).entries (undone earlier t now).entries }
+{}
+
+/// What owners are shown of a table is a correction of it: keys, actions and serials are its own.
+pub fn shown_is_a_correction()
+    ensures { (rows : List ViewRow) (lost : List (Key × Lost)) → IsCorrection (shown_entry rows lost) }
 {}

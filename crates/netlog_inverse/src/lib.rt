@@ -3,7 +3,7 @@
 //! `plan` says what a FLOW_MOD would change of its owner's view, or the first key whose entry goes without a row, or the
 //! first row without an entry (`Plans`). `Log` keeps the first image of each key since a mark; it is a list, of which
 //! `since`, `pop`, `cut` and `mend` say the parts. Laws: `plans_undo`, `first_images_undo`, `first_images_stay`,
-//! `mended_images_say`, `inner_undo_leaves_marks`, `messages_put_back`, `messages_in_order`. See docs/GUARANTEES.md.
+//! `marks_stand`, `mended_images_say`, `inner_undo_leaves_marks`, `messages_put_back`, `messages_in_order`. See docs/GUARANTEES.md.
 #![tactic(auto)]
 
 mod copying;
@@ -18,8 +18,8 @@ mod rows;
 pub use fault::PlanFault;
 pub use image::{Image, Inverse, Logged, PutBack};
 pub use laws::{
-    first_images_stay, first_images_undo, inner_undo_leaves_marks, mended_images_say,
-    messages_in_order, messages_put_back, plans_undo,
+    first_images_stay, first_images_undo, inner_undo_leaves_marks, marks_stand, mended_images_say,
+    messages_in_order, messages_put_back, plans_undo, shown_is_a_correction,
 };
 pub use log::{Log, Mark};
 pub use planning::plan;

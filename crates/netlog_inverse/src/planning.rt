@@ -14,6 +14,7 @@ use crate::rows::{
 };
 use flow_table::{Lost, LostRows, TableView, ViewRow};
 use flow_timeouts::remaining;
+use keyed_rows::Lookup;
 use of_match::Key;
 use of_stats::{FlowRow, RowList};
 use of_types::ByteList;
@@ -119,9 +120,9 @@ fn acted(alloc: Global, row: &ViewRow, lost: Option<Lost>) -> Result<Image, Allo
 fn replaced<L: LostRows>(
     alloc: Global,
     key: &Key,
-    view: &[ViewRow],
+    view: &Lookup<'_, ViewRow>,
     cache: &L,
-    rows: &[FlowRow],
+    rows: &Lookup<'_, FlowRow>,
 ) -> Result<Image, PlanFault>
     requires { AreShowable view.now }
     ensures { MatchResult result
@@ -162,7 +163,7 @@ fn all_went<L: LostRows>(
     m: &FlowMod,
     view: &[ViewRow],
     cache: &L,
-    rows: &[FlowRow],
+    rows: &Lookup<'_, FlowRow>,
 ) -> Result<Vec<Image>, PlanFault>
     requires { AreShowable view.now }
     ensures { MatchResult result
@@ -188,16 +189,18 @@ fn images_of<L: LostRows>(
     alloc: Global,
     m: &FlowMod,
     view: &[ViewRow],
+    keyed: &Lookup<'_, ViewRow>,
     cache: &L,
-    rows: &[FlowRow],
+    rows: &Lookup<'_, FlowRow>,
 ) -> Result<Vec<Image>, PlanFault>
-    requires { AreShowable view.now }
+    requires showable { AreShowable view.now }
+    requires same { keyed.now ≡ view.now }
     ensures { MatchResult result
         (λ images. AreMade (going m.now view.now) rows.now (planned m.now view.now (L.rows cache.now) rows.now) images.items)
         (IsMissing (missing (going m.now view.now) rows.now)) }
 {
     if is_adding(m, view) {
-        let image = replaced(alloc, &key_of(m), view, cache, rows)?;
+        let image = replaced(alloc, &key_of(m), keyed, cache, rows)?;
         Ok(vec![in alloc; image]?)
     } else if is_modifying(m) {
         Ok(all_acted(alloc, m, view, cache)?)
@@ -211,7 +214,9 @@ fn images_of<L: LostRows>(
 ///
 /// `rows` is what the switch reports of the entries that the description means, `cache` what was lost of entries that were
 /// put back before. Each row of the view has at most 65,432 bytes of actions. `NoRow` is the first key whose entry goes and
-/// of which the switch reports nothing; `NoShadow` the first row of which the view has no entry.
+/// of which the switch reports nothing; `NoShadow` the first row of which the view has no entry. It takes a time in n log n
+/// where view and `rows`, of together n rows, are in key order, as those of a conforming switch are, and `cache` finds a key
+/// by halves; where one of them is not, its keys are looked for row by row.
 pub fn plan<L: LostRows>(
     alloc: Global,
     m: &FlowMod,
@@ -223,8 +228,10 @@ pub fn plan<L: LostRows>(
     ensures { Plans m.now view.now.rows (L.rows cache.now) rows.now result }
 {
     let view = view.rows.as_slice();
-    let images = images_of(alloc, m, view, cache, rows.as_slice())?;
-    match find_stray(rows.as_slice(), view) {
+    let rows = rows.as_slice();
+    let keyed = Lookup::new(view);
+    let images = images_of(alloc, m, view, &keyed, cache, &Lookup::new(rows))?;
+    match find_stray(rows, &keyed) {
         None => Ok(Inverse { images }),
         Some(row) => Err(PlanFault::NoShadow(copy_counts(alloc, row)?)),
     }

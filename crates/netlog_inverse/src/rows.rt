@@ -2,13 +2,13 @@
 
 ghost use Rattle.std.specs.Prelude.{◌≡◌, ◌==◌, MatchOption, IfSome, None, Some};
 ghost use Rattle.std.specs.List.{list_any};
-ghost use Rattle.std.specs.Ordering.{nat_cmp};
 ghost use Rattle.of_match.specs.Key.{key_number};
 ghost use Rattle.flow_table.specs.Change.{is_modify, key_in, is_output_to, describes, sends_to};
 ghost use Rattle.flow_table.specs.Corrected.{row_at};
-ghost use Rattle.netlog_inverse.specs.Plans.{AreShowable, IsShowable, means_row, adds_row, deletes_row, is_row_of, counts_at, stray};
+ghost use Rattle.netlog_inverse.specs.Plans.{AreShowable, IsShowable, means_row, adds_row, deletes_row, counts_at, stray};
 
 use flow_table::ViewRow;
+use keyed_rows::{Lookup, compare_keys};
 use match_overlap::subsumes;
 use of_action::{Action, ActionList};
 use of_match::Key;
@@ -17,20 +17,11 @@ use of_types::{PortNo, flows, ports};
 use of_wire::FlowMod;
 use std::cmp::Ordering;
 
-/// Tells how a key stands to another one in key order.
-fn compare(a: &Key, b: &Key) -> Ordering
-    ensures { result ≡ nat_cmp (key_number a.now) (key_number b.now) }
-{
-    let _first = a.priority;
-    let _second = b.priority;
-    a.cmp(b)
-}
-
 /// Tells whether two keys are one.
 pub(crate) fn is_same(a: &Key, b: &Key) -> bool
     ensures { result ≡ (key_number a.now == key_number b.now) }
 {
-    compare(a, b) == Ordering::Equal
+    compare_keys(a, b) == Ordering::Equal
 }
 
 /// Returns the key that a FLOW_MOD names.
@@ -106,44 +97,27 @@ pub(crate) fn is_adding(m: &FlowMod, view: &[ViewRow]) -> bool
 }
 
 /// Returns the row of a key; each row of the view can be shown.
-pub(crate) fn row_of<'a>(view: &'a [ViewRow], key: &Key) -> Option<&'a ViewRow>
+pub(crate) fn row_of<'a>(view: &Lookup<'a, ViewRow>, key: &Key) -> Option<&'a ViewRow>
     requires { AreShowable view.now }
     ensures row { MatchOption result (row_at key.now view.now ≡ None) (λ r. row_at key.now view.now ≡ Some r.now) }
     ensures showable { IfSome result (λ r. IsShowable r.now) }
 {
-    for row in view {
-        if is_same(&row.key, key) {
-            return Some(row);
-        }
-    }
-    None
-}
-
-/// Tells whether a view has a row of a key.
-fn has_row(view: &[ViewRow], key: &Key) -> bool
-    ensures { result ≡ list_any (is_row_of key.now) view.now }
-{
-    view.iter().any(|row| is_same(&row.key, key))
+    view.find(key)
 }
 
 /// Returns what a switch reports of a key.
-pub(crate) fn counts_of<'a>(rows: &'a [FlowRow], key: &Key) -> Option<&'a FlowRow>
+pub(crate) fn counts_of<'a>(rows: &Lookup<'a, FlowRow>, key: &Key) -> Option<&'a FlowRow>
     ensures { MatchOption result (counts_at key.now rows.now ≡ None) (λ f. counts_at key.now rows.now ≡ Some f.now) }
 {
-    for row in rows {
-        if is_same(&row.key, key) {
-            return Some(row);
-        }
-    }
-    None
+    rows.find(key)
 }
 
 /// Returns the first of a switch's rows that has no row in the view.
-pub(crate) fn find_stray<'a>(rows: &'a [FlowRow], view: &[ViewRow]) -> Option<&'a FlowRow>
+pub(crate) fn find_stray<'a>(rows: &'a [FlowRow], view: &Lookup<'_, ViewRow>) -> Option<&'a FlowRow>
     ensures { MatchOption result (stray view.now rows.now ≡ None) (λ f. stray view.now rows.now ≡ Some f.now) }
 {
     for row in rows {
-        if !has_row(view, &row.key) {
+        if view.find(&row.key).is_none() {
             return Some(row);
         }
     }

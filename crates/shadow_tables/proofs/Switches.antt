@@ -1,5 +1,5 @@
 -- A switch that was found in what is kept, and what its change leaves.
-use Rattle.std.proofs.Common.{◌≡◌, ℕ, ◌≤◌, List, get_or, set, Some, None, Result, Ok, Err, refl, sym, ap, subst, ◌∙◌}
+use Rattle.std.proofs.Common.{◌≡◌, ℕ, ◌≤◌, List, get_or, set, Some, None, Result, Ok, Err, sym, ap, subst, ◌∙◌}
 use Rattle.of_match.specs.declared.key.Key.{Key}
 use Rattle.std.specs.List.{insert, remove}
 use Rattle.std.specs.Prelude.{OnOk, OnErr}

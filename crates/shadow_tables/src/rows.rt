@@ -2,7 +2,6 @@
 
 ghost use Rattle.std.specs.Prelude.{◌≡◌, ◌<◌, ◌≤◌, None, Some, MatchOption, vec_capacity, length};
 ghost use Rattle.std.specs.List.{insert};
-ghost use Rattle.std.specs.Ordering.{nat_cmp};
 ghost use Rattle.of_match.specs.Key.{key_number};
 ghost use Rattle.flow_table.specs.Sorted.{AreRows, IsFoundAt, row_place};
 ghost use Rattle.flow_table.specs.Corrected.{row_at};
@@ -10,40 +9,21 @@ ghost use Rattle.shadow_tables.specs.Known.{with_row, without_row};
 
 use flow_table::ViewRow;
 use of_match::Key;
-use std::cmp::Ordering;
 
-/// Tells how a key stands to another one in key order.
-fn compare_keys(a: &Key, b: &Key) -> Ordering
-    ensures { result ≡ nat_cmp (key_number a.now) (key_number b.now) }
-{
-    let _first = a.priority;
-    let _second = b.priority;
-    a.cmp(b)
-}
-
-/// Tells how a row stands to a key in key order.
-fn compare(row: &ViewRow, key: &Key) -> Ordering
-    ensures { result ≡ nat_cmp (row_place row.now) (key_number key.now) }
-{
-    compare_keys(&row.key, key)
-}
-
-/// Tells where the row of a key stands, or where it would stand, by halves.
-pub(crate) fn position(rows: &[ViewRow], key: &Key) -> Result<usize, usize>
+/// Tells where the row of a key stands, or where it would stand.
+fn position(rows: &[ViewRow], key: &Key) -> Result<usize, usize>
     requires { AreRows rows.now }
     ensures { IsFoundAt row_place (key_number key.now) rows.now result }
 {
-    let mut low = 0;
-    let mut high = rows.len();
-    while low < high {
-        let middle = low + (high - low) / 2;
-        match compare(&rows[middle], key) {
-            Ordering::Less => low = middle + 1,
-            Ordering::Equal => return Ok(middle),
-            Ordering::Greater => high = middle,
-        }
-    }
-    Err(low)
+    keyed_rows::position(rows, key)
+}
+
+/// Finds the row of a key.
+pub(crate) fn find<'a>(rows: &'a [ViewRow], key: &Key) -> Option<&'a ViewRow>
+    requires { AreRows rows.now }
+    ensures { MatchOption result (row_at key.now rows.now ≡ None) (λ r. row_at key.now rows.now ≡ Some r.now) }
+{
+    keyed_rows::find(rows, key)
 }
 
 /// Puts a row before another one, where there is room for it.
@@ -85,16 +65,5 @@ pub(crate) fn drop_row(rows: &mut Vec<ViewRow>, key: &Key)
             rows.remove(at);
         }
         Err(_) => {}
-    }
-}
-
-/// Finds the row of a key.
-pub(crate) fn find<'a>(rows: &'a [ViewRow], key: &Key) -> Option<&'a ViewRow>
-    requires { AreRows rows.now }
-    ensures { MatchOption result (row_at key.now rows.now ≡ None) (λ r. row_at key.now rows.now ≡ Some r.now) }
-{
-    match position(rows, key) {
-        Ok(at) => Some(&rows[at]),
-        Err(_) => None,
     }
 }

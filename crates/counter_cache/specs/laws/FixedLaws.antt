@@ -1,6 +1,5 @@
 -- What the corrections make of a switch's statistics are the statistics of the table as it is shown.
-use Rattle.std.specs.Prelude.{if◌then◌else◌}
-use Rattle.std.proofs.Common.{◌≡◌, ℕ, ◌+◌, ◌-◌, ◌%◌, ◌^◌, ◌<◌, ◌≤◌, Bool, true, false, ◌&&◌, List, [], ◌∷◌, length, map, filter, get_or, drop, Option, Some, None, refl, sym, ap, subst, ◌∙◌, arith, inl, inr}
+use Rattle.std.proofs.Common.{◌≡◌, ℕ, ◌+◌, ◌-◌, ◌%◌, ◌^◌, ◌<◌, ◌≤◌, true, false, ◌&&◌, List, [], ◌∷◌, length, map, filter, get_or, drop, Option, Some, None, refl, sym, ap, ◌∙◌, arith, inl, inr}
 use Rattle.std.specs.List.{sum_by, AllByRecursion}
 use Rattle.std.proofs.lemmas.List.Sums.{sum_by-cons}
 use Rattle.std.proofs.lemmas.Bool.{cases_Bool, cond-true, cond-false}
@@ -20,7 +19,7 @@ use Rattle.flow_table.specs.Statistics.{flow_row, sum_of}
 use Rattle.flow_table.specs.Step.{flow_removed}
 use Rattle.flow_table.specs.Corrected.{row_at, lost_at, asked_flags, with_lost, shown_entry, shown_entries}
 use Rattle.flow_table.specs.laws.CorrectedLaws.{key-shown_entry, actions-shown_entry}
-use Rattle.counter_cache.specs.Fixed.{row_with, fixed_row, is_met, packets_of, bytes_of, packets_lost, bytes_lost, fixed_sum, removed_with, fixed_removed, key_removed, AgeFits, Fits, shown_row, held_entry, AreOf, RowsAreShown, SumIsShown, NoticeIsShown}
+use Rattle.counter_cache.specs.Fixed.{row_with, fixed_row, is_met, packets_of, bytes_of, packets_lost, bytes_lost, fixed_sum, removed_with, fixed_removed, AgeFits, Fits, shown_row, held_entry, AreOf, RowsAreShown, SumIsShown, NoticeIsShown}
 
 -- ---- Durations
 

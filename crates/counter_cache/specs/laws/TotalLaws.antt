@@ -1,6 +1,6 @@
 -- What the entries of some rows lost, row by row.
 use Rattle.std.specs.Prelude.{if◌then◌else◌}
-use Rattle.std.proofs.Common.{◌≡◌, ℕ, suc, ◌+◌, ◌%◌, ◌^◌, ◌<◌, Bool, true, false, List, [], ◌∷◌, ◌++◌, length, take, filter, get_or, Option, Some, None, refl, sym, ap, subst, ◌∙◌, arith, inl, inr, append-nil}
+use Rattle.std.proofs.Common.{◌≡◌, ℕ, suc, ◌+◌, ◌<◌, Bool, List, [], ◌∷◌, ◌++◌, length, take, filter, get_or, Option, Some, None, refl, sym, ap, ◌∙◌, arith, inl, inr, append-nil}
 use Rattle.std.proofs.lemmas.Bool.{cases_Bool, cond-true, cond-false}
 use Rattle.std.proofs.lemmas.List.Elements.{filter-append}
 use Rattle.std.proofs.lemmas.List.Sums.{sum_by-append}
@@ -10,7 +10,7 @@ use Rattle.flow_table.specs.declared.lost.Lost.{Lost}
 use Rattle.flow_table.specs.declared.view.ViewRow.{ViewRow}
 use Rattle.flow_table.specs.Corrected.{lost_at}
 use Rattle.counter_cache.specs.declared.sums.Total.{Total}
-use Rattle.counter_cache.specs.Fixed.{packets_of, bytes_of, packets_lost, bytes_lost}
+use Rattle.counter_cache.specs.Fixed.{packets_of, bytes_of}
 use Rattle.counter_cache.specs.Totals.{added, IsTotal}
 
 -- one row more

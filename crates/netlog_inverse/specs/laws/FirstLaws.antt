@@ -1,5 +1,5 @@
 -- What follows about the first image of a key since a mark: what is pushed never takes its place.
-use Rattle.std.proofs.Common.{◌≡◌, ◌==◌, ℕ, zero, suc, ◌≤◌, Bool, true, false, ◌&&◌, if◌then◌else◌, List, [], ◌∷◌, ◌++◌, length, map, drop, Option, Some, None, refl, sym, ap, ◌∙◌, arith, inl, inr}
+use Rattle.std.proofs.Common.{◌≡◌, ◌==◌, ℕ, zero, suc, ◌+◌, ◌≤◌, Bool, true, false, ◌&&◌, if◌then◌else◌, List, [], ◌∷◌, ◌++◌, length, map, drop, Option, Some, None, refl, sym, ap, ◌∙◌, arith, inl, inr}
 use Rattle.std.proofs.lemmas.Bool.{cases_Bool, eqb-true, and_parts, or_cases, or_right}
 use Rattle.std.proofs.lemmas.List.{drop-append-le, length-append}
 use Rattle.std.specs.List.{list_any}
@@ -120,3 +120,16 @@ first-pushed mark outer d e k (i ∷ images) log le within =
     ∙ ap (λ (a : Option Image). first_or a (first_at e k (map (logged_at d) images))) (first-pushed_one mark outer d e k log i le within)
     ∙ first_or-assoc (first_at e k (drop outer log)) (first_at e k (logged_at d i ∷ [])) (first_at e k (map (logged_at d) images))
     ∙ ap (first_or (first_at e k (drop outer log))) (sym (first_at-append e k (logged_at d i ∷ []) (map (logged_at d) images)))
+
+length-with_image-most : (mark d : ℕ) (log : List Logged) (i : Image) → length (with_image mark d log i) ≤ length log + 1
+unfolding with_image
+length-with_image-most mark d log i =
+    elim (cases_Bool (list_any (is_of d i.put) (drop mark log))) [
+      | inl some ↦ rw some (omega arith)
+      | inr none ↦ rw none (omega (arith, length-append log (logged_at d i ∷ [])))
+    ]
+
+-- what is pushed takes one place for each image at most
+pub length-pushed-most : (mark d : ℕ) (images : List Image) (log : List Logged) → length (pushed mark d images log) ≤ length log + length images
+length-pushed-most mark d [] log = omega arith
+length-pushed-most mark d (i ∷ images) log = omega (arith, length-with_image-most mark d log i, length-pushed-most mark d images (with_image mark d log i))

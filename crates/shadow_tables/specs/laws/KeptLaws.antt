@@ -1,5 +1,5 @@
 -- What is kept of one switch is found and changed by itself.
-use Rattle.std.proofs.Common.{◌≡◌, ◌≢◌, ◌==◌, ℕ, zero, suc, ◌+◌, ◌<◌, ◌≤◌, List, [], ◌∷◌, length, map, get_or, set, Option, Some, None, Ok, Err, if◌then◌else◌, refl, sym, ap, subst, ◌∙◌, arith, inl, inr}
+use Rattle.std.proofs.Common.{◌≡◌, ◌==◌, ℕ, zero, suc, ◌+◌, ◌<◌, ◌≤◌, List, [], ◌∷◌, length, get_or, set, Some, None, Ok, Err, if◌then◌else◌, refl, sym, ap, subst, ◌∙◌, arith, inl, inr}
 use Rattle.std.proofs.lemmas.Bool.{cases_eq, cond-true, cond-false, eq-eqb, ne_eqb}
 use Rattle.of_match.specs.declared.key.Key.{Key}
 use Rattle.flow_table.specs.declared.view.ViewRow.{ViewRow}
@@ -7,7 +7,7 @@ use Rattle.flow_table.specs.Sorted.{Ascends, at_place, with_item, IsFoundAt, Are
 use Rattle.flow_table.specs.Corrected.{row_at}
 use Rattle.flow_table.specs.laws.SortedLaws.{places-rise, with_item-found, Ascends-with_item, at_place-with_item-same, at_place-with_item-other, at_place-found, at_place-absent, length-with_item-new, length-with_item-there, length-without_place}
 use Rattle.shadow_tables.specs.Known.{Known, changed_at, put_row, drop_row}
-use Rattle.shadow_tables.specs.Kept.{Kept, AreKept, kept_place, kept_at, ports_at, known, room_of, room_in, spare_at, KeepsRoom, Changes, Keeps}
+use Rattle.shadow_tables.specs.Kept.{Kept, AreKept, kept_place, kept_at, ports_at, known, room_in, spare_at, KeepsRoom, Changes, Keeps}
 
 -- ---- One switch among others
 

@@ -1,4 +1,3 @@
-use Rattle.std.proofs.Common.{sym, arith}
 use Rattle.counter_cache.specs.Fixed.{is_met}
 use Rattle.counter_cache.specs.laws.TotalLaws.{total_more}
 use Rattle.counter_cache.proofs.sums.total_of.Goals as goal

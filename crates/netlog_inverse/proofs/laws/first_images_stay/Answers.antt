@@ -1,4 +1,4 @@
-use Rattle.netlog_inverse.specs.laws.FirstLaws.{first-pushed, length-pushed}
+use Rattle.netlog_inverse.specs.laws.FirstLaws.{first-pushed, length-pushed, length-pushed-most}
 use Rattle.netlog_inverse.specs.laws.RestoringLaws.{Says-more}
 use Rattle.netlog_inverse.proofs.laws.first_images_stay.Goals as goal
 
@@ -7,6 +7,9 @@ returns-clause-first c = first-pushed
 
 pub returns-clause-longer : goal.returns-clause-longer
 returns-clause-longer c = length-pushed
+
+pub returns-clause-room : goal.returns-clause-room
+returns-clause-room c = length-pushed-most
 
 pub returns-clause-says : goal.returns-clause-says
 returns-clause-says c = Says-more

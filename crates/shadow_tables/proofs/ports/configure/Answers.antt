@@ -1,4 +1,4 @@
-use Rattle.std.proofs.Common.{ℕ, List, ◌+◌, ◌<◌, ◌≤◌, ◌∙◌, sym, ap, ◌≡◌, ◌++◌, length, map, take, drop, get_or, set, append-nil, length-append, length-drop, arith}
+use Rattle.std.proofs.Common.{ℕ, List, ◌+◌, ◌<◌, ◌≤◌, ◌∙◌, ap, ◌≡◌, ◌++◌, length, map, take, drop, get_or, set, append-nil, length-append, length-drop, arith}
 use Rattle.std.proofs.Math.ListN.{drop_of_length-le}
 use Rattle.std.proofs.lemmas.List.{take_all, get_or_default, length-map, length-take-le}
 use Rattle.std.proofs.lemmas.List.Edits.{map_over_more}

@@ -1,6 +1,5 @@
 use Rattle.std.proofs.Common.{Some, ap, ◌∙◌, List}
 use Rattle.of_types.specs.declared.port_desc.PortDesc.{PortDesc}
-use Rattle.shadow_tables.specs.Kept.{AreKept}
 use Rattle.shadow_tables.proofs.Switches.{left_ports, left_rest, left_order, none_ports, none_rest}
 use Rattle.shadow_tables.proofs.shadows.Shadows.leave.Goals as goal
 

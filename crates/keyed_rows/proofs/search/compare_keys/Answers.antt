@@ -1,6 +1,6 @@
 use Rattle.std.proofs.Common.{sym, ◌∙◌, arith}
 use Rattle.of_match.specs.laws.KeyLaws.{key_number-cmp}
-use Rattle.netlog_inverse.proofs.rows.compare.Goals as goal
+use Rattle.keyed_rows.proofs.search.compare_keys.Goals as goal
 
 pub returns : goal.returns
 returns c =
