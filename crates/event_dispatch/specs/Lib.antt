@@ -10,4 +10,5 @@ pub mod Talking
 pub mod Steady
 pub mod Told
 pub mod NothingWaits
+pub mod Undone
 pub mod laws

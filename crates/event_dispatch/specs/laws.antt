@@ -22,3 +22,4 @@ pub mod DispatchStrayLaws
 pub mod FrontLaws
 pub mod ReadLaws
 pub mod EndedLaws
+pub mod UndoneLaws

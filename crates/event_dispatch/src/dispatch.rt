@@ -16,6 +16,7 @@ ghost use Rattle.run_laws.specs.Facts.{starts_text};
 ghost use Rattle.event_dispatch.specs.Shows.{engine_of, Adds};
 ghost use Rattle.event_dispatch.specs.Serves.{Starts, PlaysTurn, Closes, HasTurn, IsDispatched, DispatchesOldest, DispatchesWaiting};
 ghost use Rattle.event_dispatch.specs.Talking.{KeepsTalking, TurnTalks, GoesOnTalking};
+ghost use Rattle.event_dispatch.specs.Undone.{TurnUndone};
 ghost use Rattle.event_dispatch.specs.Cut.{CutOne, CutSome};
 
 use crate::fault::Fault;
@@ -58,6 +59,7 @@ fn hold_turn<W: World, J: Judge>(
     ensures talks { OnErr result (TurnTalks W.Tells app.old.index app.old.rest (W.seen world.old) (W.seen world.new)) }
     ensures why { IfErr result (IsReason W.Tells (W.seen world.old) (W.seen world.new) 0 0) }
     ensures plain { IfErr result (PlainTurn W.Tells (W.seen world.old) (W.seen world.new) net.old) }
+    ensures undone { OnErr result (TurnUndone W.Tells (W.seen world.old) (W.seen world.new) net.old) }
 {
     let mut txn = Txn::begin(net);
     match turn(alloc, world, &mut txn, judge, app, number, event, BUDGET) {

@@ -1,5 +1,6 @@
 use Rattle.event_dispatch.specs.declared.fault.Fault.TheVariants as faults
-use Rattle.std.proofs.Common.{◌≡◌, rules, sym, subst, IsErrAnd}
+use Rattle.std.proofs.Common.{◌≡◌, rules, sym, subst, IsErrAnd, true≢false}
+use Rattle.std.specs.Prelude.{IsOk}
 use Rattle.event_dispatch.specs.laws.TurnLaws.{play_done, play_failed}
 use Rattle.event_dispatch.specs.laws.PlainLaws.{turn_memory, turn_noted, turn_stopped, turn_not_undone}
 use Rattle.event_dispatch.specs.laws.CutLaws.{if_err}
@@ -9,6 +10,7 @@ use Rattle.event_dispatch.specs.laws.KeptLaws.{turn_read}
 use Rattle.event_dispatch.specs.laws.TalkingLaws.{turn_stops, turn_ends, turn_ended, holds_on_err}
 use Rattle.journal_laws.specs.laws.FrameLaws.{event_is}
 use Rattle.event_dispatch.specs.laws.DispatchStrayLaws.{later_same, later_undone, later_own, turn_kept, turn_undone, stop_undone, played_places, played_reads}
+use Rattle.event_dispatch.specs.laws.UndoneLaws.{undone_stop, undone_turn}
 use Rattle.event_dispatch.proofs.dispatch.hold_turn.Goals as goal
 
 pub returns-in_ok-commit-in-Ok-Done-clause-plays : goal.returns-in_ok-commit-in-Ok-Done-clause-plays
@@ -89,3 +91,13 @@ returns-in_ok-commit-in-Ok-Done-clause-reads g c = played_reads _ _ _ (returns-i
 
 pub returns-in_ok-abort-in-Ok-Failed-clause-reads : goal.returns-in_ok-abort-in-Ok-Failed-clause-reads
 returns-in_ok-abort-in-Ok-Failed-clause-reads g c = played_reads _ _ _ (returns-in_ok-abort-in-Ok-Failed-clause-plays g c)
+
+pub returns-in_err-commit-in-Ok-Done-clause-undone : goal.returns-in_err-commit-in-Ok-Done-clause-undone
+returns-in_err-commit-in-Ok-Done-clause-undone g c = absurd (true≢false (sym (subst (λ r. IsOk r) c.in_err-commit-in-Ok-Done.was c.commit.ensures.answers)))
+
+pub returns-in_err-abort-in-Ok-Failed-clause-undone : goal.returns-in_err-abort-in-Ok-Failed-clause-undone
+returns-in_err-abort-in-Ok-Failed-clause-undone g c =
+    holds_on_err c.from_residual-in_err-abort-in-Ok-Failed.result (undone_turn c.args.net.now c.begin-txn.ensures.net c.begin-txn.ensures.start c.turn.ensures.start c.in-Ok-Failed.ensures.ok c.abort.ensures)
+
+pub returns-in-Err-clause-undone : goal.returns-in-Err-clause-undone
+returns-in-Err-clause-undone g c = undone_stop c.args.net.now c.begin-txn.ensures.net c.begin-txn.ensures.start c.turn.ensures.start c.in-Err.ensures.err c.abort-in-Err.ensures
