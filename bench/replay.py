@@ -1,9 +1,11 @@
 #!/usr/bin/env python3
 """Time and peak memory of `legosdn replay` over large inputs: bench/replay.py [PROGRAM [SHARE]]
 
-Prints a line for each input: its name, its size in bytes, the least seconds of a processor in three runs, and the peak of memory in MiB. A session stands twice, once
-half as long: the line behind it says how much longer the whole takes than the half, which is to be at most 2.2 times. Ends with
-status 1 where a report or a status is wrong or a session takes longer. SHARE, as 0.01, makes all sessions shorter, for a trial.
+Prints a line for each input: its name, its size in bytes, the least seconds of a processor in three runs, and the peak of memory in MiB.
+A peak below 16 MiB is that of the process that measures. A session takes at most four times its input beyond those. A long one stands
+twice, once half as long: the line behind it says how much longer the whole takes than the half, which is to be at most 2.2 times, and
+how many stimuli it had a second, at least 200,000 where they are small. Ends with status 1 where a report or a status is wrong or a
+session takes longer or more. SHARE, as 0.01, makes all sessions shorter, for a trial.
 """
 
 import os
@@ -16,6 +18,9 @@ HERE = os.path.dirname(os.path.abspath(__file__))
 PROGRAM = os.path.join(HERE, "..", "crates", "legosdn", "out", "legosdn")
 MOST = 67_108_864
 GROWTH = 2.2
+RATE = 200_000
+TIMES = 4
+FIXED = 16
 FRAME = "ffffffffffff02000000000188b5"
 
 
@@ -72,15 +77,16 @@ def refused():
 
 
 def sessions(share):
-    """Names, and sessions with the last line and one more line of their reports; the half first, where there is one."""
+    """Names, how many small stimuli they have, and sessions with the last line and one more line of their reports; the half first,
+    where there is one."""
     for count, end in ((1, "done"), (250, "done"), (500, "done"), (999, "done"), (999, "closed")):
-        yield "%d messages, %s" % (count, end), [big_turn(count, end)]
+        yield "%d messages, %s" % (count, end), 0, [big_turn(count, end)]
     n = int(100_000 * share)
-    yield "%d stimuli: turns, frames, expiries" % n, [busy(n // 2), busy(n)]
+    yield "%d stimuli: turns, frames, expiries" % n, n, [busy(n // 2), busy(n)]
     n = int(MOST * share)
-    yield "%.3g MiB: long frames" % (n / 2**20), [long_frames(n // 2), long_frames(n)]
+    yield "%.3g MiB: long frames" % (n / 2**20), 0, [long_frames(n // 2), long_frames(n)]
     n = int(1_000_000 * share)
-    yield "%d moments" % n, [(b"---\nsession 1\nswitch 1 8 1\njoin 1\n" + b"at 1\n" * k, b"end 1 events 1\n", b"") for k in (n // 2, n - 1)]
+    yield "%d moments" % n, n, [(b"---\nsession 1\nswitch 1 8 1\njoin 1\n" + b"at 1\n" * k, b"end 1 events 1\n", b"") for k in (n // 2, n - 1)]
 
 
 def processor_seconds():
@@ -102,7 +108,7 @@ def one(program, path, report):
 
 def run(program, name, data, status, last, within):
     """Runs the program in a small process of its own, so that the peak is the program's; prints a line. Gives the seconds, and
-    whether the status and the report are as they are to be."""
+    whether the status and the report are as they are to be and the peak is no higher."""
     with tempfile.TemporaryDirectory() as room:
         path, report = os.path.join(room, "input"), os.path.join(room, "report")
         with open(path, "wb") as file:
@@ -112,8 +118,10 @@ def run(program, name, data, status, last, within):
             text = file.read()
     seconds, mebibytes, got = done.stdout.split()
     right = int(got) == status and text.endswith(last) and within in text
-    print("%-44s %10d bytes %8.3f s %8.1f MiB%s" % (name, len(data), float(seconds), float(mebibytes), "" if right else "  WRONG"))
-    return float(seconds), right
+    large = float(mebibytes) > FIXED + TIMES * len(data) / 2**20
+    fault = "" if right else "  WRONG"
+    print("%-44s %10d bytes %8.3f s %8.1f MiB%s%s" % (name, len(data), float(seconds), float(mebibytes), fault, "  TOO LARGE" * large))
+    return float(seconds), right and not large
 
 
 def main():
@@ -125,7 +133,7 @@ def main():
     wrong = 0
     for name, data, line in refused() if share == 1.0 else ():
         wrong += not run(program, name, data, 3, line, line)[1]
-    for name, cases in sessions(share):
+    for name, stimuli, cases in sessions(share):
         times = []
         for case, (data, last, within) in enumerate(cases):
             half = len(cases) == 2 and case == 0
@@ -133,9 +141,10 @@ def main():
             wrong += not right
             times.append(seconds)
         if len(times) == 2:
-            slow = times[1] > GROWTH * times[0] and times[1] > 0.5
+            slow = times[1] > GROWTH * times[0] and times[1] > 0.5 or RATE * times[1] > stimuli > 0
             wrong += slow
-            print("%-44s %.2f times the half's time%s" % ("", times[1] / times[0], "  TOO SLOW" if slow else ""))
+            rate = ", %d stimuli a second" % (stimuli / times[1]) if stimuli else ""
+            print("%-44s %.2f times the half's time%s%s" % ("", times[1] / times[0], rate, "  TOO SLOW" if slow else ""))
     return 1 if wrong else 0
 
 
