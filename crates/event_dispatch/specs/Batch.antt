@@ -1,13 +1,16 @@
 -- What a batch does in a world that tells and keeps its word. All of this is our own.
-use Rattle.std.specs.Prelude.{◌≡◌, ℕ, Bool, true, false, [], Option, Some, None}
+use Rattle.std.specs.Prelude.{◌≡◌, ◌⊎◌, ℕ, ◌≤◌, Bool, true, false, List, [], ◌++◌, length, map, Option, Some, None}
 use Rattle.of_types.specs.declared.journal.WorldStim.{WorldStim}
 use Rattle.of_wire.specs.declared.fault.WireFault.{WireFault}
 use Rattle.of_wire.specs.declared.fault.WireFault.TheVariants.{NoMemory}
 use Rattle.outside.specs.declared.item.Item.{Item}
 use Rattle.outside.specs.declared.item.Item.TheVariants as items
+use Rattle.outside.specs.declared.step.WorldStep.{WorldStep}
+use Rattle.outside.specs.declared.step.WorldStep.TheVariants.{From}
 use Rattle.outside.specs.Seen.{Seen}
 use Rattle.outside.specs.Conforming.{Conforming}
 use Rattle.batch_laws.specs.Calm.{Calm}
+use Rattle.batch_laws.specs.Knowledge.{knowledge_of, handled_all}
 use Rattle.batch_laws.specs.Batches.{Standing}
 use Rattle.batch_laws.specs.Items.{TakesNext}
 use Rattle.batch_laws.specs.InBatch.{BatchDone, BatchOver, SoFar}
@@ -36,18 +39,45 @@ pub record NextTaken {Own : Type 0} (Tells : Type 0) (rest : Option Rest) (old n
   pub takes : TakesNext Tells item old new run.net now_run.net run.queue now_run.queue
   pub rest_so : rest ≡ rest_by item
 
--- ---- The messages that were kept: where there is none, nothing is done
+-- ---- The messages that were kept
+
+-- messages, as if they were told now
+abbrev pub as_told : List (ℕ × List ℕ) → List WorldStep
+as_told messages = map (λ m. From m.0 m.1) messages
+
+-- In every world: these were taken, oldest first, and the others are kept still.
+pub record TakesFirst (taken : List (ℕ × List ℕ)) (run now_run : Run) : Type 0 where
+  pub kept_so : run.net.kept ≡ taken ++ now_run.net.kept
+  pub knowledge : knowledge_of now_run.net now_run.queue ≡ handled_all (as_told taken) (knowledge_of run.net run.queue)
+
+-- where there is none, nothing is done
 
 abbrev pub IsAsBefore : {Own : Type 0} → Seen Own → Seen Own → Run → Run → Type 0
 IsAsBefore old new run now_run = (new ≡ old) × (now_run.net ≡ run.net) × (now_run.queue ≡ run.queue)
 
 -- after so many of them
 pub record KeptSoFar {Own : Type 0} (n : ℕ) (old new : Seen Own) (run now_run : Run) : Type 0 where
+  pub taken : List (ℕ × List ℕ)
+  pub number_so : length taken ≡ n
+  pub first : TakesFirst taken run now_run
   pub none : run.net.kept ≡ [] → (n ≡ 0) × IsAsBefore old new run now_run
 
--- and then, with how many items the batch can still have
+-- and then, with how many items the batch can still have: all of them, or as many as a batch can have
 pub record TakesKept {Own : Type 0} (left : ℕ) (old new : Seen Own) (run now_run : Run) : Type 0 where
+  pub taken : List (ℕ × List ℕ)
+  pub first : TakesFirst taken run now_run
+  pub all : (now_run.net.kept ≡ []) ⊎ ((1000000 ≤ length taken) × (left ≡ 0))
   pub none : run.net.kept ≡ [] → (left ≡ 1000000) × IsAsBefore old new run now_run
+
+-- In every world: a batch begins with the messages that were kept, oldest first, and then come the items that are told. Only where more
+-- were kept than a batch can have items are some of them not taken.
+pub record KeptComesFirst (run now_run : Run) : Type 0 where
+  pub taken : List (ℕ × List ℕ)
+  pub others : List (ℕ × List ℕ)
+  pub told : List WorldStep
+  pub kept_so : run.net.kept ≡ taken ++ others
+  pub all : (others ≡ []) ⊎ (1000000 ≤ length taken)
+  pub knowledge : knowledge_of now_run.net now_run.queue ≡ handled_all (as_told taken ++ told) (knowledge_of run.net run.queue)
 
 -- ---- A batch, after so many items
 

@@ -1,6 +1,6 @@
 -- A run that a fault ends, in the words of what is seen and kept: the parts that were done, and what was written of the one that was not,
 -- which goes on with the dialogue with the application and leaves no quiescent point behind it. All of this is our own.
-use Rattle.std.specs.Prelude.{◌≡◌, ℕ, ◌≤◌, ◌⊎◌, Bool, List, [], Option, Result, Ok, Err}
+use Rattle.std.specs.Prelude.{◌≡◌, ℕ, ◌≤◌, ◌⊎◌, Bool, true, List, [], Option, Result, Ok, Err}
 use Rattle.lego_io.specs.Sink.{TookPart}
 use Rattle.flow_table.specs.declared.view.TableView.{TableView}
 use Rattle.outside.specs.Seen.{Seen, Continues}
@@ -43,10 +43,21 @@ pub record EventPart {Own : Type 0} (Tells : Type 0) (accepts : List TableView �
   pub reads : Reads Tells old new e.net now_engine.net
   pub part : TookPart contents now_contents more
 
+-- what is wrong with the outside ends the dispatch of an event only while the application is alive, which has its turn then
+abbrev pub IsOfTurn : Fault → Engine → Type 0
+IsOfTurn faults.Next e = e.alive ≡ true
+IsOfTurn (faults.Txn fault) e = e.alive ≡ true
+IsOfTurn other e = Unit {0}
+
+-- a fault ended the dispatch of an event, which goes on with the dialogue up to there
+pub record FailsIn {Own : Type 0} (Tells : Type 0) (fault : Fault) (old new : Seen Own) (e : Engine) : Type 0 where
+  pub talks : GoesOnTalking Tells old new e
+  pub of_turn : IsOfTurn fault e
+
 -- a fault ended its dispatch, or it was that
 abbrev pub CutOne : {Own : Type 0} → Type 0 → (List TableView → Bool) → Fault → Option (List ℕ) → Option (List ℕ) → Seen Own → Seen Own → Engine → Type 0
 CutOne Tells accepts faults.Write contents now_contents old new e = EventPart Tells accepts contents now_contents old new e
-CutOne Tells accepts other contents now_contents old new e = (now_contents ≡ contents) × GoesOnTalking Tells old new e × AtMostThisPoint Tells old new
+CutOne Tells accepts other contents now_contents old new e = (now_contents ≡ contents) × FailsIn Tells other old new e × AtMostThisPoint Tells old new
 
 -- so many were settled before it
 pub record CutSome {Own : Type 0} (Tells : Type 0) (accepts : List TableView → Bool) (fault : Fault) (contents now_contents : Option (List ℕ)) (old new : Seen Own) (r : Run) : Type 0 where
@@ -107,7 +118,8 @@ pub record StartPart {Own : Type 0} (Tells : Type 0) (contents now_contents : Op
 
 abbrev pub CutStart : {Own : Type 0} → Type 0 → Fault → Option (List ℕ) → Option (List ℕ) → Seen Own → Seen Own → Engine → Type 0
 CutStart Tells faults.Write contents now_contents old new e = StartPart Tells contents now_contents old new e
-CutStart Tells other contents now_contents old new e = (now_contents ≡ contents) × KeepsTalking Tells old new × NoPoint Tells old new
+CutStart Tells faults.NoMemory contents now_contents old new e = (now_contents ≡ contents) × KeepsTalking Tells old new × NoPoint Tells old new
+CutStart Tells other contents now_contents old new e = ⊥
 
 -- the sink took a part of the lines of the end, for which switches were asked
 pub record EndPart {Own : Type 0} (Tells : Type 0) (contents now_contents : Option (List ℕ)) (last new : Seen Own) (e : Engine) : Type 0 where

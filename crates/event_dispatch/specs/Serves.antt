@@ -29,7 +29,7 @@ use Rattle.run_laws.specs.First.{engine_at_first}
 use Rattle.run_laws.specs.Endings.{ShownStart, ShownFinish, RanOut, RanFull}
 use Rattle.run_laws.specs.Promise.{most_rounds}
 use Rattle.lego_model.specs.WholeRun.{EndsAlike, LeavesAlike}
-use Rattle.run_laws.specs.Cut.{CutAlike, CutWriting}
+use Rattle.run_laws.specs.Cut.{CutAlike, CutWithLines, CutWriting}
 use Rattle.event_dispatch.specs.declared.batch.Rest.{Rest}
 use Rattle.event_dispatch.specs.declared.batch.Rest.TheVariants as rests
 use Rattle.event_dispatch.specs.declared.run.Run.{Run}
@@ -216,14 +216,16 @@ pub record IsPart {Own : Type 0} (allows : List Place → Bool) (seen : Seen Own
   pub none_to_come : (state seen).to_come ≡ []
 
 -- Of a world that tells, on which no call was made before: where a fault ends the run, it is the reference controller's up to a point, if
--- the world kept its word as far as there, and so is what was written.
+-- the world kept its word as far as there, and so is what was written. No line is missing of the start and of all events before where what
+-- comes next failed, or a switch. Where the sink failed it took a part of the lines of what was done last, behind all those before. Where
+-- memory was wanting the lines of the start are there, if a stimulus happened, and those of what was done.
 abbrev pub IsCut : {Own : Type 0} → (List Place → Bool) → Seen Own → Option (List ℕ) → Option (List ℕ) → Served → Type 0
 IsCut allows seen contents now_contents (served.Ended events) = Unit {0}
 IsCut allows seen contents now_contents (served.EventsLeft left) = Unit {0}
 IsCut allows seen contents now_contents served.WriteFault = CutWriting allows seen contents now_contents
 IsCut allows seen contents now_contents served.Shut = NothingDone (NotOpened ∷ []) seen contents now_contents
-IsCut allows seen contents now_contents served.NextFault = CutAlike allows seen contents now_contents
-IsCut allows seen contents now_contents (served.Txn fault) = CutAlike allows seen contents now_contents
+IsCut allows seen contents now_contents served.NextFault = CutWithLines allows seen contents now_contents
+IsCut allows seen contents now_contents (served.Txn fault) = CutWithLines allows seen contents now_contents
 IsCut allows seen contents now_contents served.NoMemory = CutAlike allows seen contents now_contents ⊎ NothingDone [] seen contents now_contents
 
 -- Of one that keeps its word, too: the run is the reference controller's, whole, and so is what was written.

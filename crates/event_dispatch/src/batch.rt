@@ -11,7 +11,7 @@ ghost use Rattle.net_txn.specs.Views.{rows_at, is_viewed};
 ghost use Rattle.batch_laws.specs.Knowledge.{with_event};
 ghost use Rattle.batch_laws.specs.Items.{Departs, Enters, Handles};
 ghost use Rattle.event_dispatch.specs.Runs.{AreRead, Waits};
-ghost use Rattle.event_dispatch.specs.Batch.{of_memory, TakesKept, NextTaken, BatchShown};
+ghost use Rattle.event_dispatch.specs.Batch.{of_memory, TakesKept, KeptComesFirst, NextTaken, BatchShown};
 ghost use Rattle.event_dispatch.specs.Why.{IsReason, WhyItem, WhyMessage, served_by};
 ghost use Rattle.event_dispatch.specs.Talking.{KeepsTalking};
 ghost use Rattle.net_txn.specs.LinkSteps.{OnLinks, MakesNoStrayCall, AsksWithoutStrays};
@@ -331,6 +331,9 @@ impl Run {
         ensures read { OnOk result (AreRead self.new.net.kept) }
         ensures why { IfErr result (IsReason W.Tells (W.seen world.old) (W.seen world.new) 0 0) }
         ensures buffer { length buf.new ≡ length buf.old }
+
+        // In every world the messages that were kept come first, oldest first, and then what is told.
+        ensures first { OnOk result (KeptComesFirst self.old self.new) }
 
         // Where the world keeps its word and all was calm, one stimulus was begun, and its items were told and taken.
         ensures batch { IfOk result (λ rest. BatchShown W.Tells rest (W.seen world.old) (W.seen world.new) self.old self.new) }

@@ -15,9 +15,9 @@ ghost use Rattle.lego_model.specs.Application.{index, name};
 ghost use Rattle.run_laws.specs.Facts.{starts_text};
 ghost use Rattle.event_dispatch.specs.Shows.{engine_of, Adds};
 ghost use Rattle.event_dispatch.specs.Serves.{Starts, PlaysTurn, Closes, HasTurn, IsDispatched, DispatchesOldest, DispatchesWaiting};
-ghost use Rattle.event_dispatch.specs.Talking.{KeepsTalking, TurnTalks, GoesOnTalking};
+ghost use Rattle.event_dispatch.specs.Talking.{KeepsTalking, TurnTalks};
 ghost use Rattle.event_dispatch.specs.Undone.{TurnUndone};
-ghost use Rattle.event_dispatch.specs.Cut.{CutOne, CutSome};
+ghost use Rattle.event_dispatch.specs.Cut.{FailsIn, CutOne, CutSome};
 
 use crate::fault::Fault;
 use crate::limits::{BUDGET, MOST_BODY, MOST_EVENTS};
@@ -207,7 +207,7 @@ impl Run {
         ensures reads { OnOk result (Reads W.Tells (W.seen world.old) (W.seen world.new) self.old.net self.new.net) }
         ensures here { AtMostThisPoint W.Tells (W.seen world.old) (W.seen world.new) }
         ensures later { W.Tells → CalmLater index (W.seen world.old) (W.seen world.new) }
-        ensures talks { OnErr result (GoesOnTalking W.Tells (W.seen world.old) (W.seen world.new) (engine_of self.old)) }
+        ensures fails { IfErr result (λ fault. FailsIn W.Tells fault (W.seen world.old) (W.seen world.new) (engine_of self.old)) }
         ensures why { IfErr result (IsReason W.Tells (W.seen world.old) (W.seen world.new) 0 0) }
         ensures plain { IfErr result (PlainTurn W.Tells (W.seen world.old) (W.seen world.new) self.old.net) }
     {

@@ -11,37 +11,39 @@ use Rattle.app_visor.specs.CallsFor.{CallsFor}
 use Rattle.run_laws.specs.Engine.{Engine}
 use Rattle.lego_model.specs.Application.{index}
 use Rattle.run_laws.specs.Moves.{Moved}
-use Rattle.lego_model.specs.CutRun.{reference_so_far, CutBetweenLines, CutWhileWriting, start_said}
+use Rattle.lego_model.specs.CutRun.{reference_so_far, start_said}
 use Rattle.lego_model.specs.Journal.{Reply, Start}
 use Rattle.lego_model.specs.Controller.{Run}
 use Rattle.lego_model.specs.ReferenceRun.{AreSaid}
 use Rattle.run_laws.specs.Whole.{RanAs}
+use Rattle.run_laws.specs.AllLines.{CutBehindLines, CutInLines, CutForMemory}
 
 -- ---- What is promised of a run that a fault ends
 
 -- There is a point of it up to which it is so, where the world kept its word as far as there, whatever came behind it; and the whole journal
 -- is a dialogue with the application then. In a world that tells in order all bytes that came of switches up to there are messages, so that
 -- it kept its word as far as there, and no quiescent point lies behind. Behind it no other application was called.
-pub record CutAlike {Own : Type 0} (allows : List Place → Bool) (seen : Seen Own) (contents now_contents : Option (List ℕ)) : Type 0 where
+pub record CutAt {Own : Type 0} (Alike : Seen Own → Type 0) (seen : Seen Own) : Type 0 where
   pub last : Seen Own
   pub given : seen.given ≡ last.given
   pub later : Longer last.history seen.history
-  pub alike : Conforming last → CutBetweenLines allows last contents now_contents
+  pub alike : Conforming last → Alike last
   pub at_once : Conforming last → AtOnce index (journal seen.history)
   pub messages : InOrder seen → BringMessages last.history
   pub last_point : InOrder seen → IsLastQuiescent last seen
   pub no_other_called : CallsFor index last seen
 
--- the same where the sink failed
-pub record CutWriting {Own : Type 0} (allows : List Place → Bool) (seen : Seen Own) (contents now_contents : Option (List ℕ)) : Type 0 where
-  pub last : Seen Own
-  pub given : seen.given ≡ last.given
-  pub later : Longer last.history seen.history
-  pub alike : Conforming last → CutWhileWriting allows last contents now_contents
-  pub at_once : Conforming last → AtOnce index (journal seen.history)
-  pub messages : InOrder seen → BringMessages last.history
-  pub last_point : InOrder seen → IsLastQuiescent last seen
-  pub no_other_called : CallsFor index last seen
+-- where what comes next failed, or a switch, no line is missing
+abbrev pub CutWithLines : {Own : Type 0} → (List Place → Bool) → Seen Own → Option (List ℕ) → Option (List ℕ) → Type 0
+CutWithLines allows seen contents now_contents = CutAt (λ last. CutBehindLines allows last contents now_contents) seen
+
+-- where the sink failed, it took a part of the last lines
+abbrev pub CutWriting : {Own : Type 0} → (List Place → Bool) → Seen Own → Option (List ℕ) → Option (List ℕ) → Type 0
+CutWriting allows seen contents now_contents = CutAt (λ last. CutInLines allows last contents now_contents) seen
+
+-- where memory was wanting
+abbrev pub CutAlike : {Own : Type 0} → (List Place → Bool) → Seen Own → Option (List ℕ) → Option (List ℕ) → Type 0
+CutAlike allows seen contents now_contents = CutAt (λ last. CutForMemory allows seen last contents now_contents) seen
 
 -- ---- What parts of a run come to
 

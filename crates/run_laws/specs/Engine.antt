@@ -1,7 +1,7 @@
 -- How a run of the engine stands to one of the reference controller, where the world keeps its word. All of this is our own.
 use Rattle.std.specs.Prelude.{◌≡◌, ℕ, Bool, true, List, [], ◌∷◌, ◌+◌}
 use Rattle.app_frames.specs.declared.frame.Event.{Event}
-use Rattle.lego_model.specs.Journal.{Reply, Start, inputs}
+use Rattle.lego_model.specs.Journal.{Reply, Start}
 use Rattle.lego_model.specs.Controller.{App, Run}
 use Rattle.lego_model.specs.Agreement.{AgreeMarks}
 use Rattle.outside.specs.Seen.{Seen}

@@ -1,6 +1,6 @@
 //! Laws of whole runs, each the contract of a function that does nothing.
 
-ghost use Rattle.std.specs.Prelude.{◌≡◌, ℕ, ◌+◌, ◌^◌, ◌<◌, ◌≤◌, Bool, true, List, [], ◌∷◌, length, Option};
+ghost use Rattle.std.specs.Prelude.{◌≡◌, ◌⊎◌, ℕ, ◌+◌, ◌^◌, ◌<◌, ◌≤◌, Bool, true, List, [], ◌∷◌, length, Option};
 ghost use Rattle.std.specs.Io.KnownBytes.{append_known};
 ghost use Rattle.lego_io.specs.Sink.{TookPart};
 ghost use Rattle.of_types.specs.declared.journal.WorldStim.{WorldStim};
@@ -25,7 +25,8 @@ ghost use Rattle.lego_model.specs.WholeRun.{EndsAlike, LeavesAlike};
 ghost use Rattle.run_laws.specs.Endings.{Leaves, RanOut, RanFull};
 ghost use Rattle.run_laws.specs.LastReport.{last_text};
 ghost use Rattle.run_laws.specs.Cut.{GoneSoFar};
-ghost use Rattle.lego_model.specs.CutRun.{CutBetweenLines, CutWhileWriting};
+ghost use Rattle.run_laws.specs.AllLines.{CutBehindLines, CutInLines, CutForMemory};
+ghost use Rattle.lego_model.specs.CutRun.{CutBetweenLines};
 
 use outside::World;
 
@@ -72,18 +73,27 @@ pub fn runs_are_the_references<W: World>()
 
 /// Of a world that was just opened and that keeps its word up to a point: where a fault ends a run whose parts are those of the
 /// reference controller so far, the run is the reference controller's up to there, and what was written is what this says so
-/// far; or the sink failed at the lines of the start, of an event or of the end, behind all lines before them.
+/// far. No line is missing where all events before the fault were dispatched, since none waits behind the last stimulus that was
+/// settled, or none at all, or the application is alive, which is given the next one. Or the sink failed at the lines of the
+/// start, of an event or of the end, behind all lines before them. Or memory was wanting: in the start, or behind its lines.
 pub fn cut_runs_are_the_references<W: World>()
     ensures cut { (allows : List Place → Bool) (started : Bool) (number : ℕ) (text : List ℕ) (contents now_contents : Option (List ℕ)) (first last : Seen W.Own) (e : Engine)
         → IsOpened first → GoneSoFar allows started number text first last engine_at_first e → number ≤ 1000 → Conforming last
         → now_contents ≡ append_known contents text → CutBetweenLines allows last contents now_contents }
+    ensures lines { (allows : List Place → Bool) (number : ℕ) (text : List ℕ) (contents now_contents : Option (List ℕ)) (first last : Seen W.Own) (e : Engine)
+        → IsOpened first → (gone : GoneSoFar allows true number text first last engine_at_first e) → number ≤ 1000
+        → ((gone.begun ≡ []) × (number ≡ 0)) ⊎ (e.queue ≡ []) ⊎ (e.alive ≡ true) → Conforming last
+        → now_contents ≡ append_known contents text → CutBehindLines allows last contents now_contents }
+    ensures short { (allows : List Place → Bool) (number : ℕ) (text : List ℕ) (contents now_contents : Option (List ℕ)) (first last seen : Seen W.Own) (e : Engine)
+        → IsOpened first → GoneSoFar allows true number text first last engine_at_first e → number ≤ 1000 → Conforming last
+        → now_contents ≡ append_known contents text → CutForMemory allows seen last contents now_contents }
     ensures start { (allows : List Place → Bool) (more : List ℕ) (contents now_contents : Option (List ℕ)) (first last : Seen W.Own) (e : Engine)
         → IsOpened first → Moved [] all_started more first last engine_at_first e → Conforming last → TookPart contents now_contents more
-        → CutWhileWriting allows last contents now_contents }
+        → CutInLines allows last contents now_contents }
     ensures event { (allows : List Place → Bool) (number : ℕ) (text more : List ℕ) (contents now_contents : Option (List ℕ)) (first mid last : Seen W.Own) (e now_e : Engine)
         → IsOpened first → GoneSoFar allows true number text first mid engine_at_first e → Moved [] (dispatch_next allows) more mid last e now_e → number ≤ 999
-        → Conforming last → TookPart (append_known contents text) now_contents more → CutWhileWriting allows last contents now_contents }
+        → Conforming last → TookPart (append_known contents text) now_contents more → CutInLines allows last contents now_contents }
     ensures end { (allows : List Place → Bool) (text more : List ℕ) (contents now_contents : Option (List ℕ)) (first last stop : Seen W.Own) (e : Engine)
         → IsOpened first → GoneSoFar allows true 1000 text first last engine_at_first e → e.queue ≡ [] → more ≡ last_text last e → Leaves last stop
-        → Conforming stop → TookPart (append_known contents text) now_contents more → CutWhileWriting allows stop contents now_contents }
+        → Conforming stop → TookPart (append_known contents text) now_contents more → CutInLines allows stop contents now_contents }
 {}

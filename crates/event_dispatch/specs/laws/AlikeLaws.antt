@@ -1,9 +1,9 @@
 -- Laws of whole runs that a fault ended: they are the reference controller's as far as they go, if the world kept its word as far as there,
 -- and no quiescent point lies behind.
-use Rattle.std.proofs.Common.{◌≡◌, ℕ, ◌<◌, Bool, true, false, List, [], ◌++◌, length, Option, sym, ap, ◌∙◌, subst, arith, inl, inr}
+use Rattle.std.proofs.Common.{◌≡◌, ℕ, ◌<◌, Bool, true, List, [], ◌++◌, length, Option, sym, ap, ◌∙◌, subst, arith, inl, inr}
 use Rattle.std.specs.Io.KnownBytes.{append_known}
 use Rattle.lego_io.specs.Sink.{TookPart}
-use Rattle.lego_io.specs.laws.ToldLaws.{append_known-nil, append_known-append}
+use Rattle.lego_io.specs.laws.ToldLaws.{append_known-append}
 use Rattle.flow_table.specs.declared.view.TableView.{TableView}
 use Rattle.lego_model.specs.Places.{Place}
 use Rattle.outside.specs.Seen.{Seen, Longer, Continues, journal}
@@ -14,7 +14,7 @@ use Rattle.outside.specs.Conforming.{Conforming}
 use Rattle.outside.specs.InOrder.{InOrder}
 use Rattle.outside.specs.laws.InOrderLaws.{InOrder-before, messages-of}
 use Rattle.outside.specs.Quiescence.{IsLastQuiescent}
-use Rattle.outside.specs.laws.QuiescenceLaws.{last_quiescent-of, last_quiescent-then}
+use Rattle.outside.specs.laws.QuiescenceLaws.{none_since-then, last_quiescent-of, last_quiescent-then}
 use Rattle.app_visor.specs.CallsFor.{CallsFor}
 use Rattle.app_visor.specs.laws.CalmLaws.{calls_then}
 use Rattle.run_laws.specs.Engine.{Engine}
@@ -27,9 +27,9 @@ use Rattle.run_laws.specs.First.{IsOpened, net_at_first, engine_at_first}
 use Rattle.run_laws.specs.laws.EndingLaws.{whole-of}
 use Rattle.lego_model.specs.ReferenceRun.{all_started}
 use Rattle.run_laws.specs.Promise.{most_rounds, PremiseSoFar}
-use Rattle.run_laws.specs.Cut.{CutAlike, CutWriting, GoneSoFar}
-use Rattle.lego_model.specs.CutRun.{CutBetweenLines, CutWhileWriting}
-use Rattle.run_laws.specs.laws.CutLaws.{gone-none, gone-rounds, gone-happens, gone-still, gone-more, gone-whole, cut-so, start-so, event-so, end-so}
+use Rattle.run_laws.specs.AllLines.{CutBehindLines, CutInLines, CutForMemory}
+use Rattle.run_laws.specs.Cut.{CutAt, CutAlike, CutWithLines, CutWriting, GoneSoFar}
+use Rattle.run_laws.specs.laws.CutLaws.{gone-rounds, gone-happens, gone-still, gone-more, gone-whole, lines-so, rounds-so, some-so, none-so, start-so, event-so, end-so}
 use Rattle.event_dispatch.specs.declared.batch.Rest.{Rest}
 use Rattle.event_dispatch.specs.declared.batch.Rest.TheVariants as rests
 use Rattle.event_dispatch.specs.declared.fault.Fault.{Fault}
@@ -65,8 +65,8 @@ one_held Tells accepts faults.NoMemory a b old new e other cut = cut.0
 
 start_held : {Own : Type 0} (Tells : Type 0) (fault : Fault) (a b : Option (List ℕ)) (old new : Seen Own) (e : Engine) → NotWrite fault → CutStart Tells fault a b old new e → b ≡ a
 start_held Tells faults.Write a b old new e other cut = absurd other
-start_held Tells faults.Next a b old new e other cut = cut.0
-start_held Tells (faults.Txn fault) a b old new e other cut = cut.0
+start_held Tells faults.Next a b old new e other cut = absurd cut
+start_held Tells (faults.Txn fault) a b old new e other cut = absurd cut
 start_held Tells faults.NoMemory a b old new e other cut = cut.0
 
 end_held : {Own : Type 0} (Tells : Type 0) (fault : Fault) (a b : Option (List ℕ)) (old new : Seen Own) (e : Engine) → NotWrite fault → CutEnd Tells fault a b old new e → b ≡ a
@@ -79,14 +79,14 @@ end_held Tells faults.NoMemory a b old new e other cut = cut.0
 
 one_talks : {Own : Type 0} (Tells : Type 0) (accepts : List TableView → Bool) (fault : Fault) (a b : Option (List ℕ)) (old new : Seen Own) (e : Engine) → NotWrite fault → CutOne Tells accepts fault a b old new e → GoesOnTalking Tells old new e
 one_talks Tells accepts faults.Write a b old new e other cut = absurd other
-one_talks Tells accepts faults.Next a b old new e other cut = cut.1
-one_talks Tells accepts (faults.Txn fault) a b old new e other cut = cut.1
-one_talks Tells accepts faults.NoMemory a b old new e other cut = cut.1
+one_talks Tells accepts faults.Next a b old new e other cut = cut.1.talks
+one_talks Tells accepts (faults.Txn fault) a b old new e other cut = cut.1.talks
+one_talks Tells accepts faults.NoMemory a b old new e other cut = cut.1.talks
 
 start_talks : {Own : Type 0} (Tells : Type 0) (fault : Fault) (a b : Option (List ℕ)) (old new : Seen Own) (e : Engine) → NotWrite fault → CutStart Tells fault a b old new e → KeepsTalking Tells old new
 start_talks Tells faults.Write a b old new e other cut = absurd other
-start_talks Tells faults.Next a b old new e other cut = cut.1
-start_talks Tells (faults.Txn fault) a b old new e other cut = cut.1
+start_talks Tells faults.Next a b old new e other cut = absurd cut
+start_talks Tells (faults.Txn fault) a b old new e other cut = absurd cut
 start_talks Tells faults.NoMemory a b old new e other cut = cut.1
 
 end_talks : {Own : Type 0} (Tells : Type 0) (fault : Fault) (a b : Option (List ℕ)) (old new : Seen Own) (e : Engine) → NotWrite fault → CutEnd Tells fault a b old new e → KeepsTalking Tells old new
@@ -105,8 +105,8 @@ one_here Tells accepts faults.NoMemory a b old new e other cut = cut.2
 
 start_quietly : {Own : Type 0} (Tells : Type 0) (fault : Fault) (a b : Option (List ℕ)) (old new : Seen Own) (e : Engine) → NotWrite fault → CutStart Tells fault a b old new e → NoPoint Tells old new
 start_quietly Tells faults.Write a b old new e other cut = absurd other
-start_quietly Tells faults.Next a b old new e other cut = cut.2
-start_quietly Tells (faults.Txn fault) a b old new e other cut = cut.2
+start_quietly Tells faults.Next a b old new e other cut = absurd cut
+start_quietly Tells (faults.Txn fault) a b old new e other cut = absurd cut
 start_quietly Tells faults.NoMemory a b old new e other cut = cut.2
 
 end_quietly : {Own : Type 0} (Tells : Type 0) (fault : Fault) (a b : Option (List ℕ)) (old new : Seen Own) (e : Engine) → NotWrite fault → CutEnd Tells fault a b old new e → NoPoint Tells old new
@@ -114,6 +114,33 @@ end_quietly Tells faults.Write a b old new e other cut = absurd other
 end_quietly Tells faults.Next a b old new e other cut = cut.2
 end_quietly Tells (faults.Txn fault) a b old new e other cut = cut.2
 end_quietly Tells faults.NoMemory a b old new e other cut = cut.2
+
+-- ---- A fault of what comes next, or of a switch
+
+abbrev IsOutside : Fault → Type 0
+IsOutside faults.Next = Unit {0}
+IsOutside (faults.Txn fault) = Unit {0}
+IsOutside other = ⊥
+
+not_write : (fault : Fault) → IsOutside fault → NotWrite fault
+not_write faults.Write out = absurd out
+not_write faults.Next out = tt
+not_write (faults.Txn fault) out = tt
+not_write faults.NoMemory out = tt
+
+-- it comes at no start,
+start_none : {Own : Type 0} (Tells : Type 0) (fault : Fault) (a b : Option (List ℕ)) (old new : Seen Own) (e : Engine) → IsOutside fault → CutStart Tells fault a b old new e → ⊥
+start_none Tells faults.Write a b old new e out cut = absurd out
+start_none Tells faults.Next a b old new e out cut = cut
+start_none Tells (faults.Txn fault) a b old new e out cut = cut
+start_none Tells faults.NoMemory a b old new e out cut = absurd out
+
+-- and at an event only while the application is alive
+one_alive : {Own : Type 0} (Tells : Type 0) (accepts : List TableView → Bool) (fault : Fault) (a b : Option (List ℕ)) (old new : Seen Own) (e : Engine) → IsOutside fault → CutOne Tells accepts fault a b old new e → e.alive ≡ true
+one_alive Tells accepts faults.Write a b old new e out cut = absurd out
+one_alive Tells accepts faults.Next a b old new e out cut = cut.1.of_turn
+one_alive Tells accepts (faults.Txn fault) a b old new e out cut = cut.1.of_turn
+one_alive Tells accepts faults.NoMemory a b old new e out cut = absurd out
 
 -- ---- What is supposed of a world that was opened, whose run stopped somewhere
 
@@ -137,8 +164,9 @@ record IsStop {Own : Type 0} (Tells : Type 0) (last stop : Seen Own) : Type 0 wh
   own : CallsFor index last stop
 
 -- up to such a point
-cut_at : {Own : Type 0} {Tells : Type 0} {accepts : List TableView → Bool} {allows : List Place → Bool} (a b : Option (List ℕ)) (first stop seen : Seen Own) (p : Supposed Tells accepts allows first stop seen) (last : Seen Own) → IsStop Tells last stop → (Conforming last → AtOnce index (journal stop.history)) → (Conforming last → CutBetweenLines allows last a b) → CutAlike allows seen a b
-cut_at {Tells = Tells} a b first stop seen p last is said so =
+cut_at : {Own : Type 0} {Tells : Type 0} {accepts : List TableView → Bool} {allows : List Place → Bool} (Alike : Seen Own → Type 0) (first stop seen : Seen Own) (p : Supposed Tells accepts allows first stop seen) (last : Seen Own) → IsStop Tells last stop → (Conforming last → AtOnce index (journal stop.history)) → (Conforming last → Alike last)
+    → CutAt Alike seen
+cut_at {Tells = Tells} Alike first stop seen p last is said so =
     let later = Continues-trans Tells last stop seen is.on p.later in
     record {
       last = last;
@@ -152,13 +180,13 @@ cut_at {Tells = Tells} a b first stop seen p last is said so =
     }
 
 -- up to where it stopped
-writing_at : {Own : Type 0} {Tells : Type 0} {accepts : List TableView → Bool} {allows : List Place → Bool} (a b : Option (List ℕ)) (first stop seen : Seen Own) (p : Supposed Tells accepts allows first stop seen) → (InOrder stop → Conforming stop) → (Conforming stop → CutWhileWriting allows stop a b) → CutWriting allows seen a b
+writing_at : {Own : Type 0} {Tells : Type 0} {accepts : List TableView → Bool} {allows : List Place → Bool} (a b : Option (List ℕ)) (first stop seen : Seen Own) (p : Supposed Tells accepts allows first stop seen) → (InOrder stop → Conforming stop) → (Conforming stop → CutInLines allows stop a b) → CutWriting allows seen a b
 writing_at a b first stop seen p keeps so = record {
   last = stop;
   given = p.later.given;
   later = p.later.told p.told;
   alike = so;
-  at_once = λ keeps. p.talks.talks p.told (so keeps).up_to.at_once;
+  at_once = λ keeps. p.talks.talks p.told (so keeps).run.up_to.at_once;
   messages = λ order. messages-of stop (keeps (InOrder-before p.told p.later order));
   last_point = λ order. last_quiescent-of (p.no_point.none_quiescent p.told);
   no_other_called = p.no_point.own p.told;
@@ -169,8 +197,8 @@ writing_at a b first stop seen p keeps so = record {
 start_alike : {Own : Type 0} {Tells : Type 0} {accepts : List TableView → Bool} {allows : List Place → Bool} {a b : Option (List ℕ)} {first stop seen : Seen Own} (p : Supposed Tells accepts allows first stop seen) → b ≡ a → KeepsTalking Tells first stop → NoPoint Tells first stop → CutAlike allows seen a b
 start_alike {allows = allows} {a = a} {b = b} {first = first} {stop = stop} {seen = seen} p same talks no_point =
     let is : IsStop _ first stop = record { on = p.before; keeps = keeps_first first p.opened; quiet = λ keeps order. last_quiescent-of (no_point.none_quiescent p.told); own = no_point.own p.told } in
-    cut_at a b first stop seen p first is (λ keeps. talks.talks p.told (settled-first first p.opened).speaks.at_once) (λ keeps.
-    cut-so allows false 0 [] a b first first engine_at_first p.opened (gone-none allows first engine_at_first (settled-first first p.opened)) (omega arith) keeps (same ∙ sym (append_known-nil a)))
+    cut_at (λ (last : Seen _). CutForMemory allows seen last a b) first stop seen p first is (λ keeps. talks.talks p.told (settled-first first p.opened).speaks.at_once) (λ keeps.
+    none-so allows a b first seen p.opened (settled-first first p.opened) (none_since-then (no_point.none_quiescent p.told) (p.no_point.none_quiescent p.told)) keeps same)
 
 start_writing : {Own : Type 0} {Tells : Type 0} {accepts : List TableView → Bool} {allows : List Place → Bool} {a b : Option (List ℕ)} {first stop seen : Seen Own} (p : Supposed Tells accepts allows first stop seen) → StartPart Tells a b first stop engine_at_first → CutWriting allows seen a b
 start_writing {allows = allows} {a = a} {b = b} {first = first} {stop = stop} {seen = seen} p cut =
@@ -250,13 +278,26 @@ some_stop {first = first} {stop = stop} {seen = seen} p g h here = record {
 
 round_alike : {Own : Type 0} {Tells : Type 0} {accepts : List TableView → Bool} {allows : List Place → Bool} {fault : Fault} {a b : Option (List ℕ)} {first stop seen : Seen Own} (p : Supposed Tells accepts allows first stop seen) (g : CutGoing Tells accepts fault a b first stop engine_at_first) → NotWrite fault → CutRound Tells accepts fault g.rounds.held b g.rounds.mid stop g.rounds.mid_run → CutAlike allows seen a b
 round_alike {allows = allows} {fault = fault} {a = a} {b = b} {first = first} {stop = stop} {seen = seen} p g other (inl still) =
-    cut_at a b first stop seen p g.rounds.mid (round_stop p g still.2) (λ keeps. still.1.talks p.told (rounds_gone p g keeps).moved.settled.speaks.at_once) (λ keeps.
-    cut-so allows true 0 (g.text ++ g.rounds.rounds.text) a b first g.rounds.mid (engine_of g.rounds.mid_run) p.opened (rounds_gone p g keeps) (omega arith) keeps
+    cut_at (λ (last : Seen _). CutForMemory allows seen last a b) first stop seen p g.rounds.mid (round_stop p g still.2) (λ keeps. still.1.talks p.told (rounds_gone p g keeps).moved.settled.speaks.at_once) (λ keeps.
+    some-so allows 0 (g.text ++ g.rounds.rounds.text) a b first g.rounds.mid seen (engine_of g.rounds.mid_run) p.opened (rounds_gone p g keeps) (omega arith) keeps
     (still_held fault g.rounds.held b still.0 ∙ rounds_held p g))
 round_alike {Tells = Tells} {accepts = accepts} {allows = allows} {fault = fault} {a = a} {b = b} {first = first} {stop = stop} {seen = seen} p g other (inr h) =
-    cut_at a b first stop seen p h.some.mid (some_stop p g h (one_here Tells accepts fault h.some.held b h.some.mid stop (engine_of h.some.mid_run) other h.some.one))
+    cut_at (λ (last : Seen _). CutForMemory allows seen last a b) first stop seen p h.some.mid (some_stop p g h (one_here Tells accepts fault h.some.held b h.some.mid stop (engine_of h.some.mid_run) other h.some.one))
     (λ keeps. (one_talks Tells accepts fault h.some.held b h.some.mid stop (engine_of h.some.mid_run) other h.some.one).talks p.told (some_gone p g h keeps).moved.settled.speaks) (λ keeps.
-    cut-so allows true h.some.number ((g.text ++ g.rounds.rounds.text) ++ h.some.some.text) a b first h.some.mid (engine_of h.some.mid_run) p.opened (some_gone p g h keeps) (omega (arith, h.some.few)) keeps
+    some-so allows h.some.number ((g.text ++ g.rounds.rounds.text) ++ h.some.some.text) a b first h.some.mid seen (engine_of h.some.mid_run) p.opened (some_gone p g h keeps) (omega (arith, h.some.few)) keeps
+    (one_held Tells accepts fault h.some.held b h.some.mid stop (engine_of h.some.mid_run) other h.some.one ∙ some_held p g h))
+
+round_lines : {Own : Type 0} {Tells : Type 0} {accepts : List TableView → Bool} {allows : List Place → Bool} {fault : Fault} {a b : Option (List ℕ)} {first stop seen : Seen Own} (p : Supposed Tells accepts allows first stop seen) (g : CutGoing Tells accepts fault a b first stop engine_at_first) → IsOutside fault → CutRound Tells accepts fault g.rounds.held b g.rounds.mid stop g.rounds.mid_run → CutWithLines allows seen a b
+round_lines {allows = allows} {fault = fault} {a = a} {b = b} {first = first} {stop = stop} {seen = seen} p g out (inl still) =
+    cut_at (λ (last : Seen _). CutBehindLines allows last a b) first stop seen p g.rounds.mid (round_stop p g still.2) (λ keeps. still.1.talks p.told (rounds_gone p g keeps).moved.settled.speaks.at_once) (λ keeps.
+    rounds-so allows g.rounds.number g.text g.rounds.rounds.text a b first g.begun g.rounds.mid (engine_of g.begun_run) (engine_of g.rounds.mid_run) p.opened (begun_moved p g keeps) (rounds_moved p g keeps) keeps
+    (still_held fault g.rounds.held b still.0 ∙ rounds_held p g))
+round_lines {Tells = Tells} {accepts = accepts} {allows = allows} {fault = fault} {a = a} {b = b} {first = first} {stop = stop} {seen = seen} p g out (inr h) =
+    let other = not_write fault out in
+    cut_at (λ (last : Seen _). CutBehindLines allows last a b) first stop seen p h.some.mid (some_stop p g h (one_here Tells accepts fault h.some.held b h.some.mid stop (engine_of h.some.mid_run) other h.some.one))
+    (λ keeps. (one_talks Tells accepts fault h.some.held b h.some.mid stop (engine_of h.some.mid_run) other h.some.one).talks p.told (some_gone p g h keeps).moved.settled.speaks) (λ keeps.
+    lines-so allows h.some.number ((g.text ++ g.rounds.rounds.text) ++ h.some.some.text) a b first h.some.mid (engine_of h.some.mid_run) p.opened (some_gone p g h keeps) (omega (arith, h.some.few))
+    (inr (inr (one_alive Tells accepts fault h.some.held b h.some.mid stop (engine_of h.some.mid_run) out h.some.one))) keeps
     (one_held Tells accepts fault h.some.held b h.some.mid stop (engine_of h.some.mid_run) other h.some.one ∙ some_held p g h))
 
 round_writing : {Own : Type 0} {Tells : Type 0} {accepts : List TableView → Bool} {allows : List Place → Bool} {a b : Option (List ℕ)} {first stop seen : Seen Own} (p : Supposed Tells accepts allows first stop seen) (g : CutGoing Tells accepts faults.Write a b first stop engine_at_first) → CutRound Tells accepts faults.Write g.rounds.held b g.rounds.mid stop g.rounds.mid_run → CutWriting allows seen a b
@@ -298,9 +339,17 @@ last_stop {first = first} {stop = stop} {seen = seen} p n no_point = record {
 
 end_alike : {Own : Type 0} {Tells : Type 0} {accepts : List TableView → Bool} {allows : List Place → Bool} {fault : Fault} {a b : Option (List ℕ)} {first stop seen : Seen Own} (p : Supposed Tells accepts allows first stop seen) (n : CutEnding Tells accepts fault a b first stop engine_at_first) → NotWrite fault → CutAlike allows seen a b
 end_alike {Tells = Tells} {allows = allows} {fault = fault} {a = a} {b = b} {first = first} {stop = stop} {seen = seen} p n other =
-    cut_at a b first stop seen p n.last (last_stop p n (end_quietly Tells fault n.last_held b n.last stop (engine_of n.last_run) other n.ends))
+    cut_at (λ (last : Seen _). CutForMemory allows seen last a b) first stop seen p n.last (last_stop p n (end_quietly Tells fault n.last_held b n.last stop (engine_of n.last_run) other n.ends))
     (λ keeps. (end_talks Tells fault n.last_held b n.last stop (engine_of n.last_run) other n.ends).talks p.told (last_gone p n keeps).moved.settled.speaks.at_once) (λ keeps.
-    cut-so allows true 1000 (n.text ++ n.rounds.text) a b first n.last (engine_of n.last_run) p.opened (last_gone p n keeps) (omega arith) keeps
+    some-so allows 1000 (n.text ++ n.rounds.text) a b first n.last seen (engine_of n.last_run) p.opened (last_gone p n keeps) (omega arith) keeps
+    (end_held Tells fault n.last_held b n.last stop (engine_of n.last_run) other n.ends ∙ last_held p n))
+
+end_lines : {Own : Type 0} {Tells : Type 0} {accepts : List TableView → Bool} {allows : List Place → Bool} {fault : Fault} {a b : Option (List ℕ)} {first stop seen : Seen Own} (p : Supposed Tells accepts allows first stop seen) (n : CutEnding Tells accepts fault a b first stop engine_at_first) → IsOutside fault → CutWithLines allows seen a b
+end_lines {Tells = Tells} {allows = allows} {fault = fault} {a = a} {b = b} {first = first} {stop = stop} {seen = seen} p n out =
+    let other = not_write fault out in
+    cut_at (λ (last : Seen _). CutBehindLines allows last a b) first stop seen p n.last (last_stop p n (end_quietly Tells fault n.last_held b n.last stop (engine_of n.last_run) other n.ends))
+    (λ keeps. (end_talks Tells fault n.last_held b n.last stop (engine_of n.last_run) other n.ends).talks p.told (last_gone p n keeps).moved.settled.speaks.at_once) (λ keeps.
+    lines-so allows 1000 (n.text ++ n.rounds.text) a b first n.last (engine_of n.last_run) p.opened (last_gone p n keeps) (omega arith) (inr (inl n.none_left)) keeps
     (end_held Tells fault n.last_held b n.last stop (engine_of n.last_run) other n.ends ∙ last_held p n))
 
 end_writing : {Own : Type 0} {Tells : Type 0} {accepts : List TableView → Bool} {allows : List Place → Bool} {a b : Option (List ℕ)} {first stop seen : Seen Own} (p : Supposed Tells accepts allows first stop seen) (n : CutEnding Tells accepts faults.Write a b first stop engine_at_first) → CutWriting allows seen a b
@@ -320,6 +369,11 @@ goes_alike {Tells = Tells} {fault = fault} {a = a} {b = b} {first = first} {stop
 goes_alike p other (inr (inl g)) = round_alike p g other g.rounds.round
 goes_alike p other (inr (inr n)) = end_alike p n other
 
+goes_lines : {Own : Type 0} {Tells : Type 0} {accepts : List TableView → Bool} {allows : List Place → Bool} {fault : Fault} {a b : Option (List ℕ)} {first stop seen : Seen Own} (p : Supposed Tells accepts allows first stop seen) → IsOutside fault → CutGoes Tells accepts fault a b first stop engine_at_first → CutWithLines allows seen a b
+goes_lines {Tells = Tells} {fault = fault} {a = a} {b = b} {first = first} {stop = stop} p out (inl cut) = absurd (start_none Tells fault a b first stop engine_at_first out cut)
+goes_lines p out (inr (inl g)) = round_lines p g out g.rounds.round
+goes_lines p out (inr (inr n)) = end_lines p n out
+
 goes_writing : {Own : Type 0} {Tells : Type 0} {accepts : List TableView → Bool} {allows : List Place → Bool} {a b : Option (List ℕ)} {first stop seen : Seen Own} (p : Supposed Tells accepts allows first stop seen) → CutGoes Tells accepts faults.Write a b first stop engine_at_first → CutWriting allows seen a b
 goes_writing p (inl cut) = start_writing p cut
 goes_writing p (inr (inl g)) = round_writing p g g.rounds.round
@@ -328,8 +382,8 @@ goes_writing p (inr (inr n)) = end_writing p n
 by_fault : {Own : Type 0} {Tells : Type 0} {accepts : List TableView → Bool} {allows : List Place → Bool} {a b : Option (List ℕ)} {first stop seen : Seen Own} (fault : Fault) (p : Supposed Tells accepts allows first stop seen) → CutGoes Tells accepts fault a b first stop engine_at_first
     → IsCut allows seen a b (served_by fault)
 by_fault faults.Write p goes = goes_writing p goes
-by_fault faults.Next p goes = goes_alike p tt goes
-by_fault (faults.Txn fault) p goes = goes_alike p tt goes
+by_fault faults.Next p goes = goes_lines p tt goes
+by_fault (faults.Txn fault) p goes = goes_lines p tt goes
 by_fault faults.NoMemory p goes = inl (goes_alike p tt goes)
 
 -- Of a world that was opened, however far it keeps its word.

@@ -1,6 +1,7 @@
 -- Laws of a batch: one item more takes it on or ends it, and it ends before so many items were told.
-use Rattle.std.specs.Prelude.{◌≡◌, ℕ, ◌+◌, ◌-◌, ◌≤◌, ◌⊎◌, List, [], drop, slice_get, take, Some, None, Result, Ok, Err, OnOk, false, refl}
-use Rattle.std.proofs.Common.{sym, ap, ◌∙◌, subst, arith, inl, inr, true≢false}
+use Rattle.std.specs.Prelude.{◌≡◌, ℕ, ◌+◌, ◌-◌, ◌≤◌, ◌⊎◌, Bool, true, List, [], ◌∷◌, ◌++◌, length, drop, slice_get, take, Option, Some, None, is_some, Result, Ok, Err, OnOk, false, refl}
+use Rattle.std.proofs.Common.{sym, ap, ap₂, ◌∙◌, subst, arith, inl, inr, true≢false, append_assoc}
+use Rattle.std.proofs.lemmas.List.{append-nil, length-append}
 use Rattle.of_wire.specs.declared.message.Envelope.{Envelope}
 use Rattle.of_wire.specs.declared.fault.WireFault.{WireFault}
 use Rattle.of_wire.specs.declared.fault.WireFault.TheVariants.{BadVersion, BadType, BadLength, BadAction, NoMemory}
@@ -17,39 +18,120 @@ use Rattle.outside.specs.Calls.{item_step}
 use Rattle.outside.specs.Conforming.{Conforming}
 use Rattle.net_txn.specs.Net.{NetState}
 use Rattle.batch_laws.specs.Calm.{Calm}
-use Rattle.batch_laws.specs.Items.{Handles, TakesNext}
+use Rattle.batch_laws.specs.Knowledge.{knowledge_of, handled, handled_all}
+use Rattle.batch_laws.specs.laws.LinkTellLaws.{handled_all-append}
+use Rattle.batch_laws.specs.Items.{DoesFrom, Handles, TakesNext}
+use Rattle.net_txn.specs.Views.{rows_at}
 use Rattle.batch_laws.specs.laws.HandleLaws.{idle_handles, end_handles}
 use Rattle.batch_laws.specs.InBatch.{SoFar, GoesOn}
 use Rattle.batch_laws.specs.laws.InBatchLaws.{next_goes_on, never_so_many}
 use Rattle.event_dispatch.specs.declared.batch.Rest.{Rest}
 use Rattle.event_dispatch.specs.declared.batch.Rest.TheVariants as rests
 use Rattle.event_dispatch.specs.declared.run.Run.{Run}
-use Rattle.event_dispatch.specs.Batch.{of_memory, standing_of, rest_by, KeptSoFar, TakesKept, NextTaken, BatchGoes, BatchShown}
+use Rattle.event_dispatch.specs.Batch.{of_memory, standing_of, rest_by, as_told, TakesFirst, KeptSoFar, TakesKept, KeptComesFirst, NextTaken, BatchGoes, BatchShown}
 
 -- ---- What was kept
 
 pub kept_at_first : {Own : Type 0} (seen : Seen Own) (run : Run) → KeptSoFar 0 seen seen run run
-kept_at_first seen run = record { none = λ is. (refl, (refl, refl, refl)) }
+kept_at_first seen run = record { taken = []; number_so = refl; first = record { kept_so = refl; knowledge = refl }; none = λ is. (refl, (refl, refl, refl)) }
 
 pub some_kept : (m : ℕ × List ℕ) (kept : List (ℕ × List ℕ)) → Some m ≡ slice_get kept 0 → kept ≡ [] → ⊥
 some_kept m kept is none = let h : Some m ≡ None = is ∙ ap (λ (xs : List (ℕ × List ℕ)). slice_get xs 0) none in absurd cc
 
-pub kept_one_more : {Own : Type 0} (n : ℕ) (m : ℕ × List ℕ) (old now new : Seen Own) (run mid later : Run) → KeptSoFar n old now run mid → Some m ≡ slice_get mid.net.kept 0 → KeptSoFar (n + 1) old new run later
-kept_one_more n m old now new run mid later so_far is = record { none = λ none. absurd (some_kept m mid.net.kept is (ap (λ (s : NetState). s.kept) (so_far.none none).1.1 ∙ none)) }
+none_first : (kept : List (ℕ × List ℕ)) → None ≡ slice_get kept 0 → kept ≡ []
+none_first [] is = refl
+none_first (m ∷ kept) is = absurd cc
+
+one_first : (m : ℕ × List ℕ) (kept : List (ℕ × List ℕ)) → Some m ≡ slice_get kept 0 → kept ≡ m ∷ drop 1 kept
+one_first m [] is = absurd cc
+one_first m (x ∷ kept) is = cc
+
+told_append : (xs ys : List (ℕ × List ℕ)) → as_told (xs ++ ys) ≡ as_told xs ++ as_told ys
+told_append [] ys = refl
+told_append (x ∷ xs) ys = ap (λ (items : List WorldStep). From x.0 x.1 ∷ items) (told_append xs ys)
+
+-- a message that is told leaves those that are kept
+from_kept : {Own : Type 0} (Tells : Type 0) (d : ℕ) (bytes : List ℕ) (now new : Seen Own) (net now_net : NetState) (known : Bool) → DoesFrom Tells d bytes known now new net now_net → now_net.kept ≡ net.kept
+from_kept Tells d bytes now new net now_net true does = does.kept
+from_kept Tells d bytes now new net now_net false does = does.kept
+
+-- the oldest of those that are kept is taken, as if it were told now
+takes_next : {Own : Type 0} (Tells : Type 0) (taken : List (ℕ × List ℕ)) (m : ℕ × List ℕ) (now new : Seen Own) (run mid later : Run) (taken_net : NetState) → TakesFirst taken run mid → Some m ≡ slice_get mid.net.kept 0 → taken_net ≡ record mid.net { kept = drop 1 mid.net.kept }
+    → Handles Tells (From m.0 m.1) now new taken_net later.net mid.queue later.queue → TakesFirst (taken ++ m ∷ []) run later
+takes_next Tells taken m now new run mid later taken_net first is without handles = record {
+  kept_so = first.kept_so ∙ ap (λ (xs : List (ℕ × List ℕ)). taken ++ xs) (one_first m mid.net.kept is) ∙ sym (append_assoc taken (m ∷ []) (drop 1 mid.net.kept))
+      ∙ ap (λ (xs : List (ℕ × List ℕ)). (taken ++ m ∷ []) ++ xs) (sym (from_kept Tells m.0 m.1 now new taken_net later.net (is_some (rows_at m.0 taken_net.views)) handles.does ∙ ap (λ (s : NetState). s.kept) without));
+  knowledge = handles.knowledge ∙ ap (λ (s : NetState). handled (From m.0 m.1) (knowledge_of s mid.queue)) without ∙ ap (handled (From m.0 m.1)) first.knowledge
+      ∙ sym (handled_all-append (as_told taken) (From m.0 m.1 ∷ []) (knowledge_of run.net run.queue)) ∙ ap (λ (items : List WorldStep). handled_all items (knowledge_of run.net run.queue)) (sym (told_append taken (m ∷ [])));
+}
+
+pub kept_one_more : {Own : Type 0} {Tells : Type 0} (n d : ℕ) (bytes frame : List ℕ) (old now new : Seen Own) (run mid later : Run) (taken_net : NetState) → KeptSoFar n old now run mid → Some (d, bytes) ≡ slice_get mid.net.kept 0 → frame ≡ bytes → taken_net ≡ record mid.net { kept = drop 1 mid.net.kept }
+    → Handles Tells (From d frame) now new taken_net later.net mid.queue later.queue → KeptSoFar (n + 1) old new run later
+kept_one_more {Tells = Tells} n d bytes frame old now new run mid later taken_net so_far is same without handles = record {
+  taken = so_far.taken ++ (d, bytes) ∷ [];
+  number_so = length-append so_far.taken ((d, bytes) ∷ []) ∙ ap (λ (k : ℕ). k + 1) so_far.number_so;
+  first = takes_next Tells so_far.taken (d, bytes) now new run mid later taken_net so_far.first is without (subst (λ (b : List ℕ). Handles Tells (From d b) now new taken_net later.net mid.queue later.queue) same handles);
+  none = λ none. absurd (some_kept (d, bytes) mid.net.kept is (ap (λ (s : NetState). s.kept) (so_far.none none).1.1 ∙ none));
+}
 
 without_first : (net : NetState) → net.kept ≡ [] → record net { kept = drop 1 net.kept } ≡ net
 without_first net none = ap (λ (xs : List (ℕ × List ℕ)). record net { kept = xs }) (ap (drop 1) none ∙ sym none)
 
-pub kept_ends : {Own : Type 0} (n : ℕ) (old now : Seen Own) (run mid later : Run) → KeptSoFar n old now run mid → later.net ≡ record mid.net { kept = drop 1 mid.net.kept } → later.queue ≡ mid.queue → TakesKept (1000000 - n) old now run later
-kept_ends n old now run mid later so_far net queue = record {
+none_left : (mid later : NetState) → later ≡ record mid { kept = drop 1 mid.kept } → None ≡ slice_get mid.kept 0 → later.kept ≡ []
+none_left mid later without none = ap (λ (s : NetState). s.kept) without ∙ ap (drop 1) (none_first mid.kept none)
+
+pub kept_ends : {Own : Type 0} (n : ℕ) (old now : Seen Own) (run mid later : Run) → KeptSoFar n old now run mid → later.net ≡ record mid.net { kept = drop 1 mid.net.kept } → None ≡ slice_get mid.net.kept 0 → later.queue ≡ mid.queue → TakesKept (1000000 - n) old now run later
+kept_ends n old now run mid later so_far net no_more queue = record {
+  taken = so_far.taken;
+  first = record {
+    kept_so = so_far.first.kept_so ∙ ap (λ (xs : List (ℕ × List ℕ)). so_far.taken ++ xs) (none_first mid.net.kept no_more ∙ sym (none_left mid.net later.net net no_more));
+    knowledge = ap₂ (λ (s : NetState) (q : List Event). knowledge_of s q) net queue ∙ so_far.first.knowledge;
+  };
+  all = inl (none_left mid.net later.net net no_more);
   none = λ none.
       let is = so_far.none none in
       let kept : mid.net.kept ≡ [] = ap (λ (s : NetState). s.kept) is.1.1 ∙ none in
       (ap (λ (k : ℕ). 1000000 - k) is.0, (is.1.0, net ∙ without_first mid.net kept ∙ is.1.1, queue ∙ is.1.2));
 }
 
-pub kept_all : {Own : Type 0} (n left : ℕ) (old now : Seen Own) (run mid : Run) → 1000000 ≤ n → KeptSoFar n old now run mid → TakesKept left old now run mid
-kept_all n left old now run mid many so_far = record { none = λ none. absurd (omega (arith, many, (so_far.none none).0)) }
+pub kept_all : {Own : Type 0} (n : ℕ) (old now : Seen Own) (run mid : Run) → 1000000 ≤ n → KeptSoFar n old now run mid → TakesKept 0 old now run mid
+kept_all n old now run mid many so_far = record {
+  taken = so_far.taken;
+  first = so_far.first;
+  all = inr (omega (arith, many, so_far.number_so), refl);
+  none = λ none. absurd (omega (arith, many, (so_far.none none).0));
+}
+
+-- ---- Which come first in a batch
+
+-- before any item is told
+pub kept_first : {Own : Type 0} (left : ℕ) (old new : Seen Own) (run now_run : Run) → TakesKept left old new run now_run → KeptComesFirst run now_run
+kept_first left old new run now_run kept = record {
+  taken = kept.taken;
+  others = now_run.net.kept;
+  told = [];
+  kept_so = kept.first.kept_so;
+  all = all_by kept.all;
+  knowledge = kept.first.knowledge ∙ ap (λ (items : List WorldStep). handled_all items (knowledge_of run.net run.queue)) (sym (append-nil (as_told kept.taken)));
+}
+  where
+    all_by : (now_run.net.kept ≡ []) ⊎ ((1000000 ≤ length kept.taken) × (left ≡ 0)) → (now_run.net.kept ≡ []) ⊎ (1000000 ≤ length kept.taken)
+    all_by (inl none) = inl none
+    all_by (inr many) = inr many.0
+
+-- an item more is told
+pub then_told : {Own Tells : Type 0} (rest : Option Rest) (now new : Seen Own) (run mid later : Run) → KeptComesFirst run mid → NextTaken Tells rest now new mid later → KeptComesFirst run later
+then_told rest now new run mid later first next =
+    let item = item_step next.item next.takes.buf in
+    record {
+      taken = first.taken;
+      others = first.others;
+      told = first.told ++ item ∷ [];
+      kept_so = first.kept_so;
+      all = first.all;
+      knowledge = next.takes.handles.knowledge ∙ ap (handled item) first.knowledge ∙ sym (handled_all-append (as_told first.taken ++ first.told) (item ∷ []) (knowledge_of run.net run.queue))
+          ∙ ap (λ (items : List WorldStep). handled_all items (knowledge_of run.net run.queue)) (append_assoc (as_told first.taken) first.told (item ∷ []));
+    }
 
 -- ---- What was told
 

@@ -1,5 +1,5 @@
 -- Laws of parts of a run that a fault ended.
-use Rattle.std.proofs.Common.{◌≡◌, ℕ, ◌^◌, ◌<◌, Bool, List, [], ◌∷◌, ◌++◌, drop, Option, Some, Result, Ok, Err, IfErr, IsErrAnd, refl, sym, ap, ◌∙◌, subst, arith, inl, inr}
+use Rattle.std.proofs.Common.{◌≡◌, ℕ, ◌^◌, ◌<◌, Bool, true, List, [], ◌∷◌, ◌++◌, drop, Option, Some, Result, Ok, Err, IfErr, OnErr, IsErrAnd, refl, sym, ap, ◌∙◌, subst, arith, inl, inr}
 use Rattle.std.specs.Prelude.{slice_get}
 use Rattle.lego_io.specs.Sink.{TookPart}
 use Rattle.flow_table.specs.declared.view.TableView.{TableView}
@@ -22,13 +22,14 @@ use Rattle.event_dispatch.specs.Batch.{BatchShown}
 use Rattle.event_dispatch.specs.Shows.{engine_of, queued_run}
 use Rattle.event_dispatch.specs.ReportEnd.{LastShown}
 use Rattle.event_dispatch.specs.laws.LastLaws.{says_leaves}
-use Rattle.event_dispatch.specs.Talking.{KeepsTalking, GoesOnTalking}
+use Rattle.lego_model.specs.Application.{index}
+use Rattle.event_dispatch.specs.Talking.{KeepsTalking, TurnTalks}
 use Rattle.event_dispatch.specs.Steady.{Reads, NoPoint, AtMostThisPoint}
 use Rattle.event_dispatch.specs.laws.SteadyLaws.{quietly_none, quietly_then}
-use Rattle.event_dispatch.specs.laws.TalkingLaws.{keeps_none, keeps_then}
+use Rattle.event_dispatch.specs.laws.TalkingLaws.{keeps_none, keeps_then, goes_none, goes_turn, goes_as}
 use Rattle.event_dispatch.specs.Serves.{Starts, IsDispatched, Begins}
 use Rattle.event_dispatch.specs.laws.RoundLaws.{first_event, batch_is}
-use Rattle.event_dispatch.specs.Cut.{IsStill, CutOne, CutSome, CutRound, CutRounds, CutStart, CutEnd, CutFinish, CutFinishAs, WentToEnd, CutGoes, CutRun, CutAs}
+use Rattle.event_dispatch.specs.Cut.{IsStill, IsOfTurn, FailsIn, CutOne, CutSome, CutRound, CutRounds, CutStart, CutEnd, CutFinish, CutFinishAs, WentToEnd, CutGoes, CutRun, CutAs}
 
 -- what a `?` answers is the fault
 pub if_err : {T E : Type 0} (P : E → Type 0) (fault : E) (result : Result T E) → IsErrAnd result (λ e. e ≡ fault) → P fault → IfErr result P
@@ -45,11 +46,36 @@ still_so Tells a b faults.NoMemory contents now_contents why same = same
 
 -- ---- Events
 
-pub one_still : {Own : Type 0} (Tells : Type 0) (accepts : List TableView → Bool) (fault : Fault) (contents now_contents : Option (List ℕ)) (old new : Seen Own) (e : Engine) → IsStill fault contents now_contents → GoesOnTalking Tells old new e → AtMostThisPoint Tells old new → CutOne Tells accepts fault contents now_contents old new e
+pub one_still : {Own : Type 0} (Tells : Type 0) (accepts : List TableView → Bool) (fault : Fault) (contents now_contents : Option (List ℕ)) (old new : Seen Own) (e : Engine) → IsStill fault contents now_contents → FailsIn Tells fault old new e → AtMostThisPoint Tells old new → CutOne Tells accepts fault contents now_contents old new e
 one_still Tells accepts faults.Write contents now_contents old new e still talks here = absurd still
 one_still Tells accepts faults.Next contents now_contents old new e still talks here = (still, talks, here)
 one_still Tells accepts (faults.Txn fault) contents now_contents old new e still talks here = (still, talks, here)
 one_still Tells accepts faults.NoMemory contents now_contents old new e still talks here = (still, talks, here)
+
+-- memory ran out before the event was given to the application
+pub fails_short : {Own : Type 0} (Tells : Type 0) (seen : Seen Own) (e : Engine) → FailsIn Tells faults.NoMemory seen seen e
+fails_short Tells seen e = record { talks = goes_none Tells seen e; of_turn = tt }
+
+of_alive : (fault : Fault) (e : Engine) → e.alive ≡ true → IsOfTurn fault e
+of_alive faults.Write e alive = tt
+of_alive faults.Next e alive = alive
+of_alive (faults.Txn fault) e alive = alive
+of_alive faults.NoMemory e alive = tt
+
+-- or its turn stopped
+pub fails_turn : {Own T : Type 0} (Tells : Type 0) (rest : List ℕ) (old new : Seen Own) (e : Engine) (result : Result T Fault) → e.alive ≡ true → rest ≡ e.rest → OnErr result (TurnTalks Tells index rest old new) → IfErr result (λ fault. FailsIn Tells fault old new e)
+fails_turn Tells rest old new e (Ok x) alive same talks = tt
+fails_turn Tells rest old new e (Err fault) alive same talks = record { talks = goes_turn Tells rest old new e alive same talks; of_turn = of_alive fault e alive }
+
+of_turn_as : (fault : Fault) (e now_e : Engine) → now_e.alive ≡ e.alive → IsOfTurn fault e → IsOfTurn fault now_e
+of_turn_as faults.Write e now_e same of_turn = tt
+of_turn_as faults.Next e now_e same of_turn = same ∙ of_turn
+of_turn_as (faults.Txn fault) e now_e same of_turn = same ∙ of_turn
+of_turn_as faults.NoMemory e now_e same of_turn = tt
+
+-- the engine had other events that wait
+pub fails_as : {Own : Type 0} (Tells : Type 0) (fault : Fault) (old new : Seen Own) (e now_e : Engine) → now_e.alive ≡ e.alive → now_e.rest ≡ e.rest → FailsIn Tells fault old new e → FailsIn Tells fault old new now_e
+fails_as Tells fault old new e now_e alive rest fails = record { talks = goes_as Tells old new e now_e (sym alive) (sym rest) fails.talks; of_turn = of_turn_as fault e now_e alive fails.of_turn }
 
 -- it was dispatched, and the sink failed
 pub one_unwritten : {Own : Type 0} (Tells : Type 0) (accepts : List TableView → Bool) (event : Event) (contents now_contents : Option (List ℕ)) (old new : Seen Own) (r : Run) (queue : List Event) (mid : Run) → Continues Tells old new → r.events < 2 ^ 63 → Some event ≡ slice_get r.queue 0

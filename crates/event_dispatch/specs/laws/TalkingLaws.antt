@@ -173,7 +173,3 @@ goes_as Tells old new e other alive rest goes = record {
 pub holds_on_err : {T E P : Type 0} (result : Result T E) → P → OnErr result P
 holds_on_err (Ok x) p = tt
 holds_on_err (Err e) p = p
-
-pub then_on_err : {T E P Q : Type 0} (result : Result T E) → (P → Q) → OnErr result P → OnErr result Q
-then_on_err (Ok x) f p = tt
-then_on_err (Err e) f p = f p

@@ -1,5 +1,6 @@
 -- Laws of runs that a fault ends: their parts are the run of the reference controller so far.
-use Rattle.std.proofs.Common.{◌≡◌, ℕ, ◌+◌, ◌≤◌, Bool, true, false, List, [], ◌∷◌, ◌++◌, length, drop, Option, refl, sym, ap, ap₂, ◌∙◌, subst, arith, inl, inr}
+use Rattle.std.specs.List.{AllByRecursion, list_any}
+use Rattle.std.proofs.Common.{◌≡◌, ◌⊎◌, ℕ, ◌+◌, ◌≤◌, ◌||◌, Bool, true, false, List, [], ◌∷◌, ◌++◌, length, drop, Option, refl, sym, ap, ap₂, ◌∙◌, subst, arith, inl, inr}
 use Rattle.std.specs.Io.KnownBytes.{append_known}
 use Rattle.std.proofs.lemmas.List.{append-nil, append_assoc}
 use Rattle.of_types.specs.declared.journal.WorldStim.{WorldStim}
@@ -8,9 +9,10 @@ use Rattle.lego_io.specs.laws.ToldLaws.{append_known-nil}
 use Rattle.lego_model.specs.Journal.{Reply, Start}
 use Rattle.lego_model.specs.Places.{Place}
 use Rattle.lego_model.specs.laws.ScriptedLaws.{fronts-parts, start_fronts-parts}
-use Rattle.lego_model.specs.Controller.{Run, happen}
+use Rattle.lego_model.specs.Controller.{App, Run, happen}
 use Rattle.outside.specs.Seen.{Given, Seen}
 use Rattle.outside.specs.Conforming.{Conforming}
+use Rattle.outside.specs.Quiescence.{NoneQuiescentSince}
 use Rattle.lego_model.specs.History.{starts_in, replies_in, own_acts, stimuli_in}
 use Rattle.switch_laws.specs.laws.OrderlyLaws.{orderly-none}
 use Rattle.run_laws.specs.Engine.{Engine, Stands}
@@ -21,14 +23,16 @@ use Rattle.run_laws.specs.laws.MoveLaws.{moved-none, moved-then, moved-as}
 use Rattle.run_laws.specs.laws.DispatchWaitingLaws.{settle-times, times-more}
 use Rattle.run_laws.specs.LastReport.{last_text}
 use Rattle.run_laws.specs.laws.LastReportLaws.{report-ends, last-shown}
-use Rattle.run_laws.specs.laws.WholeLaws.{no-stimuli, said-of, told-said}
+use Rattle.run_laws.specs.laws.StimuliLaws.{none-happened}
+use Rattle.run_laws.specs.laws.WholeLaws.{no-own, no-stimuli, said-of, told-said}
 use Rattle.run_laws.specs.Whole.{whole, RanAs}
 use Rattle.run_laws.specs.laws.FirstLaws.{stands-first}
 use Rattle.run_laws.specs.First.{IsOpened, engine_at_first}
 use Rattle.run_laws.specs.Endings.{WholeMoves, Leaves}
 use Rattle.run_laws.specs.laws.FinishLaws.{said-before, runs-alike, all-in-order}
 use Rattle.run_laws.specs.Cut.{GoneSoFar, RanTo}
-use Rattle.lego_model.specs.CutRun.{start_said, reference_so_far, Progress, WroteSoFar, WasWriting, AlikeUpTo, CutBetweenLines, CutWhileWriting}
+use Rattle.run_laws.specs.AllLines.{NoneAhead, AllDone, NoneBetween, CutBehindLines, CutInLines, CutForMemory}
+use Rattle.lego_model.specs.CutRun.{start_said, start_of, reference_so_far, reference_to, Progress, WroteSoFar, WasWriting, AlikeUpTo, CutBetweenLines}
 
 -- ---- Parts of a run, one behind the other
 
@@ -37,7 +41,7 @@ pub gone-none : {Own : Type 0} (allows : List Place → Bool) (seen : Seen Own) 
 gone-none allows seen e settled = record { stimuli = []; begun = []; begun_one = omega arith; moved = moved-none seen e settled }
 
 -- rounds follow
-pub gone-rounds : {Own : Type 0} (allows : List Place → Bool) (number : ℕ) (first second : List ℕ) (a b c : Seen Own) (e1 e2 e3 : Engine) → Moved [] all_started first a b e1 e2 → Rounds allows number second b c e2 e3 → GoneSoFar allows true 0 (first ++ second) a c e1 e3
+abbrev pub gone-rounds : {Own : Type 0} (allows : List Place → Bool) (number : ℕ) (first second : List ℕ) (a b c : Seen Own) (e1 e2 e3 : Engine) → Moved [] all_started first a b e1 e2 → Rounds allows number second b c e2 e3 → GoneSoFar allows true 0 (first ++ second) a c e1 e3
 gone-rounds allows number first second a b c e1 e2 e3 m rs = record {
   stimuli = rs.stimuli;
   begun = [];
@@ -162,7 +166,7 @@ far-of {started = started} {n = n} {first = first} {last = last} is g few = reco
 }
 
 -- what holds over all that is said holds over what is told
-up-to : {Own : Type 0} {xs : List WorldStim} {f : Run → Run} {text : List ℕ} {first last : Seen Own} {e0 e : Engine} (IsSo : Progress last → Run → Type 0) (far : Progress last) → Moved xs f text first last e0 e
+abbrev up-to : {Own : Type 0} {xs : List WorldStim} {f : Run → Run} {text : List ℕ} {first last : Seen Own} {e0 e : Engine} (IsSo : Progress last → Run → Type 0) (far : Progress last) → Moved xs f text first last e0 e
     → ((starts : List Start) (replies : List Reply) → AreSaid last starts replies → IsSo far (start_said last starts replies)) → AlikeUpTo last IsSo
 up-to {last = last} IsSo far m so = record {
   far = far;
@@ -174,9 +178,9 @@ up-to {last = last} IsSo far m so = record {
 
 -- ---- What a run that a fault ends comes to
 
-pub cut-so : {Own : Type 0} (allows : List Place → Bool) (started : Bool) (n : ℕ) (text : List ℕ) (contents now_contents : Option (List ℕ)) (first last : Seen Own) (e : Engine) → IsOpened first → GoneSoFar allows started n text first last engine_at_first e → n ≤ 1000
+abbrev run-up-to : {Own : Type 0} (allows : List Place → Bool) (started : Bool) (n : ℕ) (text : List ℕ) (contents now_contents : Option (List ℕ)) (first last : Seen Own) (e : Engine) → IsOpened first → GoneSoFar allows started n text first last engine_at_first e → n ≤ 1000
     → Conforming last → now_contents ≡ append_known contents text → CutBetweenLines allows last contents now_contents
-cut-so allows started n text contents now_contents first last e is g few keeps written =
+run-up-to allows started n text contents now_contents first last e is g few keeps written =
     let f = reference_so_far allows started g.stimuli g.begun n in
     let ran = ran-to f (g.stimuli ++ g.begun) text first last e is g.moved.moves in
     up-to (WroteSoFar allows last contents now_contents) (far-of is g few) g.moved (λ starts replies said.
@@ -186,28 +190,105 @@ cut-so allows started n text contents now_contents first last e is g few keeps w
       written = written ∙ ap (append_known contents) (sym so.text_so);
     })
 
+pub cut-so : {Own : Type 0} (allows : List Place → Bool) (started : Bool) (n : ℕ) (text : List ℕ) (contents now_contents : Option (List ℕ)) (first last : Seen Own) (e : Engine) → IsOpened first → GoneSoFar allows started n text first last engine_at_first e → n ≤ 1000
+    → Conforming last → now_contents ≡ append_known contents text → CutBetweenLines allows last contents now_contents
+cut-so allows started n text contents now_contents first last e is g few keeps written = run-up-to allows started n text contents now_contents first last e is g few keeps written
+
+-- ---- No line is missing
+
+nothing-behind : {X : Type 0} (xs : List X) → drop (length xs) xs ≡ []
+nothing-behind [] = refl
+nothing-behind (x ∷ xs) = nothing-behind xs
+
+used-up : {X : Type 0} (told before more : List X) → told ≡ before ++ more → before ≡ [] → drop (length more) told ≡ []
+used-up told before more is none = ap (drop (length more)) (is ∙ ap (λ (xs : List _). xs ++ more) none) ∙ nothing-behind more
+
+-- how the reference controller stands over what is told
+stands-told : {Own : Type 0} (f : Run → Run) (xs : List WorldStim) (text : List ℕ) (first last : Seen Own) (e : Engine) → IsOpened first → Moves xs f text first last engine_at_first e → Stands last e [] [] (f (start_of last))
+stands-told f xs text first last e is m =
+    let starts = starts_in (own_acts last) in
+    let replies = replies_in (own_acts last) in
+    let fronts = said-of first last starts m.starts replies m.replies is m.read_starts m.read_replies (told-said last) in
+    let r0 : Run = before_start first.given.declared (fresh starts replies) in
+    subst (λ (r : Run). Stands last e [] [] (f r)) (begun-same first last starts replies m.given)
+    (subst (λ (said : List Start). Stands last e said [] (f r0)) (used-up starts (starts_in (own_acts first)) m.starts m.read_starts (ap starts_in (no-own first is)))
+    (subst (λ (said : List Reply). Stands last e (drop (length m.starts) starts) said (f r0)) (used-up replies (replies_in (own_acts first)) m.replies m.read_replies (ap replies_in (no-own first is)))
+    (m.stands starts replies r0 fronts.0 fronts.1 (stands-first first starts replies is))))
+
+-- all that is told was done
+none-ahead : {Own : Type 0} (last : Seen Own) (e : Engine) (r : Run) → Stands last e [] [] r → NoneAhead r
+none-ahead last e r stands = subst (λ (apps : List App). AllByRecursion (λ a. (a.starts ≡ []) × (a.replies ≡ [])) apps) (sym stands.apps) ((refl, refl), tt)
+
+module _ {Own : Type 0} (allows : List Place → Bool) where
+  all-done : {n : ℕ} {text : List ℕ} {first last : Seen Own} {e : Engine} (is : IsOpened first) (g : GoneSoFar allows true n text first last engine_at_first e) (few : n ≤ 1000) → AllDone allows (far-of is g few)
+  all-done {n = n} {text = text} {first = first} {last = last} {e = e} is g few =
+      let f = reference_so_far allows true g.stimuli g.begun n in
+      record { started = refl; none_ahead = none-ahead last e (f (start_of last)) (stands-told f (g.stimuli ++ g.begun) text first last e is g.moved.moves) }
+
+  -- nothing was done since the last stimulus was settled; or no event is left; or the application is alive
+  none-between : {last : Seen Own} (far : Progress last) (e : Engine) → Stands last e [] [] (reference_to allows far (start_of last)) → ((far.begun ≡ []) × (far.number ≡ 0)) ⊎ (e.queue ≡ []) ⊎ (e.alive ≡ true) → NoneBetween allows far
+  none-between far e stands (inl settled) = inl (record { none_begun = settled.0; none_dispatched = settled.1 })
+  none-between far e stands (inr (inl none)) = inr (inl (stands.queue ∙ none))
+  none-between far e stands (inr (inr alive)) = inr (inr (ap (λ (apps : List App). list_any (λ a. a.alive) apps) stands.apps ∙ ap (λ (b : Bool). b || false) alive))
+
+  pub lines-so : (n : ℕ) (text : List ℕ) (contents now_contents : Option (List ℕ)) (first last : Seen Own) (e : Engine) (is : IsOpened first) (g : GoneSoFar allows true n text first last engine_at_first e) → n ≤ 1000 → ((g.begun ≡ []) × (n ≡ 0)) ⊎ (e.queue ≡ []) ⊎ (e.alive ≡ true)
+      → Conforming last → now_contents ≡ append_known contents text → CutBehindLines allows last contents now_contents
+  lines-so n text contents now_contents first last e is g few next keeps written =
+      let f = reference_so_far allows true g.stimuli g.begun n in
+      record {
+        run = run-up-to allows true n text contents now_contents first last e is g few keeps written;
+        done = all-done is g few;
+        none_between = none-between (far-of is g few) e (stands-told f (g.stimuli ++ g.begun) text first last e is g.moved.moves) next;
+      }
+
+  -- behind whole rounds
+  pub rounds-so : (number : ℕ) (first_text second_text : List ℕ) (contents now_contents : Option (List ℕ)) (first begun last : Seen Own) (e1 e2 : Engine) → IsOpened first → Moved [] all_started first_text first begun engine_at_first e1 → Rounds allows number second_text begun last e1 e2
+      → Conforming last → now_contents ≡ append_known contents (first_text ++ second_text) → CutBehindLines allows last contents now_contents
+  rounds-so number first_text second_text contents now_contents first begun last e1 e2 is m rs keeps written =
+      lines-so 0 (first_text ++ second_text) contents now_contents first last e2 is (gone-rounds allows number first_text second_text first begun last engine_at_first e1 e2 m rs) (omega arith) (inl (refl, refl)) keeps written
+
+  -- ---- Where memory was wanting
+
+  -- behind the start
+  pub some-so : (n : ℕ) (text : List ℕ) (contents now_contents : Option (List ℕ)) (first last seen : Seen Own) (e : Engine) → IsOpened first → GoneSoFar allows true n text first last engine_at_first e → n ≤ 1000
+      → Conforming last → now_contents ≡ append_known contents text → CutForMemory allows seen last contents now_contents
+  some-so n text contents now_contents first last seen e is g few keeps written =
+      record { run = run-up-to allows true n text contents now_contents first last e is g few keeps written; done = inr (all-done is g few) }
+
+  -- before any stimulus
+  pub none-so : (contents now_contents : Option (List ℕ)) (first seen : Seen Own) → IsOpened first → AtRest first engine_at_first → NoneQuiescentSince first seen → Conforming first → now_contents ≡ contents → CutForMemory allows seen first contents now_contents
+  none-so contents now_contents first seen is rest none keeps same = record {
+    run = run-up-to allows false 0 [] contents now_contents first first engine_at_first is (gone-none allows first engine_at_first rest) (omega arith) keeps (same ∙ sym (append_known-nil contents));
+    done = inl (none-happened first seen none ∙ no-stimuli first is);
+  }
+
+-- ---- Where the sink failed
+
 -- the sink failed at the lines of the start
 pub start-so : {Own : Type 0} (allows : List Place → Bool) (more : List ℕ) (contents now_contents : Option (List ℕ)) (first last : Seen Own) (e : Engine) → IsOpened first → Moved [] all_started more first last engine_at_first e → Conforming last → TookPart contents now_contents more
-    → CutWhileWriting allows last contents now_contents
+    → CutInLines allows last contents now_contents
 start-so allows more contents now_contents first last e is m keeps part =
     let none = stimuli-so first last [] is m.moves.read_stimuli in
     let far : Progress last = record { started = true; stimuli = []; begun = []; number = 0; begun_one = omega arith; at_most = omega arith; stimuli_so = none } in
     let ran = ran-to all_started [] more first last e is m.moves in
     record {
-      text = [];
-      more = more;
-      up_to = up-to (WasWriting allows last [] more) far m (λ starts replies said.
-          let so = ran.as_said starts replies said in
-          record {
-            alike = runs-so last e (all_started (start_said last starts replies)) keeps so;
-            lines = inl (record { is_started = refl; none_happened = none; none_dispatched = refl; text_so = refl; more_so = so.text_so });
-          });
-      part = subst (λ (held : Option (List ℕ)). TookPart held now_contents more) (sym (append_known-nil contents)) part;
+      run = record {
+        text = [];
+        more = more;
+        up_to = up-to (WasWriting allows last [] more) far m (λ starts replies said.
+            let so = ran.as_said starts replies said in
+            record {
+              alike = runs-so last e (all_started (start_said last starts replies)) keeps so;
+              lines = inl (record { is_started = refl; none_happened = none; none_dispatched = refl; text_so = refl; more_so = so.text_so });
+            });
+        part = subst (λ (held : Option (List ℕ)). TookPart held now_contents more) (sym (append_known-nil contents)) part;
+      };
+      done = record { started = refl; none_ahead = none-ahead last e (all_started (start_of last)) (stands-told all_started [] more first last e is m.moves) };
     }
 
 -- at those of an event
 pub event-so : {Own : Type 0} (allows : List Place → Bool) (n : ℕ) (text more : List ℕ) (contents now_contents : Option (List ℕ)) (first mid last : Seen Own) (e1 e2 : Engine) → IsOpened first → GoneSoFar allows true n text first mid engine_at_first e1
-    → Moved [] (dispatch_next allows) more mid last e1 e2 → n ≤ 999 → Conforming last → TookPart (append_known contents text) now_contents more → CutWhileWriting allows last contents now_contents
+    → Moved [] (dispatch_next allows) more mid last e1 e2 → n ≤ 999 → Conforming last → TookPart (append_known contents text) now_contents more → CutInLines allows last contents now_contents
 event-so allows n text more contents now_contents first mid last e1 e2 is g m few keeps part =
     let next = gone-next allows n text more first mid last engine_at_first e1 e2 g m in
     let f = reference_so_far allows true g.stimuli g.begun (n + 1) in
@@ -222,25 +303,34 @@ event-so allows n text more contents now_contents first mid last e1 e2 is g m fe
     } in
     let ran = ran-to f (g.stimuli ++ g.begun) (text ++ more) first last e2 is next.moves in
     record {
-      text = text;
-      more = more;
-      up_to = up-to (WasWriting allows last text more) far next (λ starts replies said.
-          let so = ran.as_said starts replies said in
-          record {
-            alike = runs-so last e2 (f (start_said last starts replies)) keeps so;
-            lines = inr (inl (record {
-              before = n;
-              one_more = refl;
-              text_so = ran-before (reference_so_far allows true g.stimuli g.begun n) (dispatch_next allows) (g.stimuli ++ g.begun) [] text more first mid last e1 e2 starts replies is g.moved.moves m.moves said;
-              more_so = so.text_so;
-            }));
-          });
-      part = part;
+      run = record {
+        text = text;
+        more = more;
+        up_to = up-to (WasWriting allows last text more) far next (λ starts replies said.
+            let so = ran.as_said starts replies said in
+            record {
+              alike = runs-so last e2 (f (start_said last starts replies)) keeps so;
+              lines = inr (inl (record {
+                before = n;
+                one_more = refl;
+                text_so = ran-before (reference_so_far allows true g.stimuli g.begun n) (dispatch_next allows) (g.stimuli ++ g.begun) [] text more first mid last e1 e2 starts replies is g.moved.moves m.moves said;
+                more_so = so.text_so;
+              }));
+            });
+        part = part;
+      };
+      done = record { started = refl; none_ahead = none-ahead last e2 (f (start_of last)) (stands-told f (g.stimuli ++ g.begun) (text ++ more) first last e2 is next.moves) };
     }
+
+-- the end leaves what is told
+start-left : {Own : Type 0} (last stop : Seen Own) → Leaves last stop → start_of last ≡ start_of stop
+start-left {Own} last stop leaves =
+    ap (λ (g : Given Own). before_start g.declared (fresh (starts_in (own_acts last)) (replies_in (own_acts last)))) (sym leaves.given)
+    ∙ ap₂ (λ (starts : List Start) (replies : List Reply). start_said stop starts replies) (sym leaves.starts) (sym leaves.replies)
 
 -- at those of the end, before which switches were asked
 pub end-so : {Own : Type 0} (allows : List Place → Bool) (text more : List ℕ) (contents now_contents : Option (List ℕ)) (first last stop : Seen Own) (e : Engine) → IsOpened first → GoneSoFar allows true 1000 text first last engine_at_first e → e.queue ≡ []
-    → more ≡ last_text last e → Leaves last stop → Conforming stop → TookPart (append_known contents text) now_contents more → CutWhileWriting allows stop contents now_contents
+    → more ≡ last_text last e → Leaves last stop → Conforming stop → TookPart (append_known contents text) now_contents more → CutInLines allows stop contents now_contents
 end-so {Own} allows text more contents now_contents first last stop e is g none ends leaves keeps part =
     let f = reference_so_far allows true g.stimuli g.begun 1000 in
     let ran = ran-to f (g.stimuli ++ g.begun) text first last e is g.moved.moves in
@@ -265,14 +355,20 @@ end-so {Own} allows text more contents now_contents first last stop e is g none 
       }));
     }) in
     record {
-      text = text;
-      more = more;
-      up_to = record {
-        far = far;
-        as_told = so (starts_in (own_acts stop)) (replies_in (own_acts stop)) (told-said stop);
-        as_said = so;
-        at_once = leaves.at_once g.moved.settled.speaks.at_once;
-        in_order = all-in-order last stop g.moved.settled leaves;
+      run = record {
+        text = text;
+        more = more;
+        up_to = record {
+          far = far;
+          as_told = so (starts_in (own_acts stop)) (replies_in (own_acts stop)) (told-said stop);
+          as_said = so;
+          at_once = leaves.at_once g.moved.settled.speaks.at_once;
+          in_order = all-in-order last stop g.moved.settled leaves;
+        };
+        part = part;
       };
-      part = part;
+      done = record {
+        started = refl;
+        none_ahead = subst (λ (r : Run). NoneAhead (f r)) (start-left last stop leaves) (none-ahead last e (f (start_of last)) (stands-told f (g.stimuli ++ g.begun) text first last e is g.moved.moves));
+      };
     }

@@ -1,5 +1,5 @@
 -- The stimuli that a world told are the first of those that it was given, and the others are still to come.
-use Rattle.std.proofs.Common.{◌≡◌, ℕ, ◌<◌, ◌≤◌, List, [], ◌∷◌, ◌++◌, length, drop, Some, refl, append_assoc, sym, ap, ◌∙◌, arith}
+use Rattle.std.proofs.Common.{◌≡◌, ℕ, ◌<◌, ◌≤◌, false, List, [], ◌∷◌, ◌++◌, length, drop, Some, refl, append_assoc, sym, ap, ◌∙◌, arith}
 use Rattle.std.proofs.lemmas.List.{append-nil, length-append}
 use Rattle.std.specs.Prelude.{slice_get}
 use Rattle.of_types.specs.declared.journal.Act.TheVariants.{Stim, Started, Gave, Gone, Took, Ended, Sent, Got}
@@ -13,6 +13,7 @@ use Rattle.outside.specs.Seen.{Seen, Longer, Continues, journal}
 use Rattle.outside.specs.State.{State, at_first, after_stim, after_act, after_step, after_steps, state}
 use Rattle.outside.specs.laws.SeenLaws.{journal-append}
 use Rattle.outside.specs.laws.StateLaws.{Conforming-before}
+use Rattle.outside.specs.Quiescence.{is_quiescent, NoneQuiescent, NoneQuiescentSince}
 use Rattle.outside.specs.Conforming.{MayAct, MayStep, MaySteps, Conforming}
 use Rattle.lego_model.specs.History.{stimuli_in}
 
@@ -62,6 +63,39 @@ told_more step steps = ap stimuli (journal-append (step ∷ []) steps) ∙ stimu
 told_none : told_in [] ≡ []
 unfolding stimuli journal
 told_none = refl
+
+-- steps with no quiescent point among them tell none
+step_tells_none : (step : WorldStep) → is_quiescent step ≡ false → told_in (step ∷ []) ≡ []
+unfolding stimuli journal
+step_tells_none (Acted (Stim x)) none = absurd cc
+step_tells_none (Acted (Started app ok)) none = refl
+step_tells_none (Acted (Gave app bytes)) none = refl
+step_tells_none (Acted (Gone app bytes)) none = refl
+step_tells_none (Acted (Took app what)) none = refl
+step_tells_none (Acted (Ended app)) none = refl
+step_tells_none (Acted (Sent d bytes)) none = refl
+step_tells_none (Acted (Got d bytes)) none = refl
+step_tells_none (TookInto app what room) none = refl
+step_tells_none (From d bytes) none = refl
+step_tells_none (Joined d bytes) none = refl
+step_tells_none (Left d) none = refl
+step_tells_none (Moment t) none = refl
+step_tells_none Idle none = refl
+step_tells_none End none = refl
+step_tells_none Opened none = refl
+step_tells_none NotOpened none = refl
+step_tells_none NextFailed none = refl
+step_tells_none (SendFailed d) none = refl
+step_tells_none (RecvFailed d) none = refl
+
+steps_tell_none : (steps : List WorldStep) → NoneQuiescent steps → told_in steps ≡ []
+steps_tell_none [] none = told_none
+steps_tell_none (step ∷ steps) none = told_more step steps ∙ ap (λ (xs : List WorldStim). xs ++ told_in steps) (step_tells_none step none.0) ∙ steps_tell_none steps none.1
+
+pub none-happened : {Own : Type 0} (old new : Seen Own) → NoneQuiescentSince old new → stimuli_in new ≡ stimuli_in old
+none-happened old new since =
+    ap told_in since.history ∙ ap stimuli (journal-append old.history since.steps) ∙ stimuli-append (journal old.history) (journal since.steps)
+    ∙ ap (λ (xs : List WorldStim). stimuli_in old ++ xs) (steps_tell_none since.steps since.none) ∙ append-nil (stimuli_in old)
 
 steps_next : (declared : List Declared) (steps : List WorldStep) (s : State) → MaySteps declared steps s → told_in steps ++ (after_steps steps s).to_come ≡ s.to_come
 steps_next declared [] s may = ap (λ (xs : List WorldStim). xs ++ s.to_come) told_none

@@ -1,8 +1,14 @@
-use Rattle.run_laws.specs.laws.CutLaws.{cut-so, start-so, event-so, end-so}
+use Rattle.run_laws.specs.laws.CutLaws.{cut-so, lines-so, some-so, start-so, event-so, end-so}
 use Rattle.run_laws.proofs.whole.cut_runs_are_the_references.Goals as goal
 
 pub returns-clause-cut : goal.returns-clause-cut
 returns-clause-cut g c = cut-so
+
+pub returns-clause-lines : goal.returns-clause-lines
+returns-clause-lines g c = lines-so
+
+pub returns-clause-short : goal.returns-clause-short
+returns-clause-short g c = some-so
 
 pub returns-clause-start : goal.returns-clause-start
 returns-clause-start g c = start-so

@@ -1,10 +1,11 @@
 use Rattle.event_dispatch.specs.declared.fault.Fault.TheVariants as faults
 use Rattle.event_dispatch.specs.laws.PlainLaws.{on_err, turn_memory, turn_noted}
-use Rattle.event_dispatch.specs.laws.CutLaws.{if_err}
+use Rattle.event_dispatch.specs.laws.CutLaws.{if_err, fails_short, fails_turn}
 use Rattle.event_dispatch.specs.Plain.{PlainTurn}
 use Rattle.std.proofs.Common.{refl, ap, sym, ◌∙◌, rules}
 use Rattle.run_laws.specs.Engine.{Engine}
-use Rattle.event_dispatch.specs.laws.TalkingLaws.{goes_none, goes_turn, holds_on_err, then_on_err}
+use Rattle.event_dispatch.specs.declared.fault.Fault.{Fault}
+use Rattle.event_dispatch.specs.Cut.{FailsIn}
 use Rattle.event_dispatch.specs.Shows.{engine_of}
 use Rattle.std.proofs.lemmas.Result.{on_ok_weaker}
 use Rattle.app_visor.specs.laws.CalmLaws.{calm_none, calm_later}
@@ -29,19 +30,18 @@ pub returns-clause-plain : goal.returns-clause-plain
 returns-clause-plain g c =
     on_err c.take_turn.result (λ fault turn. turn_noted (g.W.World.seen c.args.world.now) (g.W.World.seen c.take_turn.new.world) c.args.self.now.net c.note.new.self.net fault (ap (λ (e : Engine). e.net) c.in_ok-note.ensures.adds.engine) turn) c.take_turn.ensures.plain
 
-pub returns-in_err-line-clause-talks : goal.returns-in_err-line-clause-talks
-returns-in_err-line-clause-talks g c = holds_on_err c.from_residual.result (goes_none g.W.World.Tells (g.W.World.seen c.args.world.now) (engine_of c.args.self.now))
+pub returns-in_err-line-clause-fails : goal.returns-in_err-line-clause-fails
+returns-in_err-line-clause-fails g c = if_err (λ (fault : Fault). FailsIn g.W.World.Tells fault (g.W.World.seen c.args.world.now) (g.W.World.seen c.args.world.now) (engine_of c.args.self.now)) faults.NoMemory c.from_residual.result c.from_residual.ensures.1 (fails_short g.W.World.Tells (g.W.World.seen c.args.world.now) (engine_of c.args.self.now))
 
-pub returns-in_err-note-clause-talks : goal.returns-in_err-note-clause-talks
-returns-in_err-note-clause-talks g c = holds_on_err c.from_residual-in_err-note.result (goes_none g.W.World.Tells (g.W.World.seen c.args.world.now) (engine_of c.args.self.now))
+pub returns-in_err-note-clause-fails : goal.returns-in_err-note-clause-fails
+returns-in_err-note-clause-fails g c = if_err (λ (fault : Fault). FailsIn g.W.World.Tells fault (g.W.World.seen c.args.world.now) (g.W.World.seen c.args.world.now) (engine_of c.args.self.now)) faults.NoMemory c.from_residual-in_err-note.result c.from_residual-in_err-note.ensures.1 (fails_short g.W.World.Tells (g.W.World.seen c.args.world.now) (engine_of c.args.self.now))
 
-pub returns-then-len-gt-MOST_BODY-clause-talks : goal.returns-then-len-gt-MOST_BODY-clause-talks
-returns-then-len-gt-MOST_BODY-clause-talks g c = goes_none g.W.World.Tells (g.W.World.seen c.args.world.now) (engine_of c.args.self.now)
+pub returns-then-len-gt-MOST_BODY-clause-fails : goal.returns-then-len-gt-MOST_BODY-clause-fails
+returns-then-len-gt-MOST_BODY-clause-fails g c = fails_short g.W.World.Tells (g.W.World.seen c.args.world.now) (engine_of c.args.self.now)
 
-pub returns-clause-talks : goal.returns-clause-talks
-returns-clause-talks g c =
-    then_on_err c.take_turn.result
-    (goes_turn g.W.World.Tells c.note.new.self.app.state.rest (g.W.World.seen c.args.world.now) (g.W.World.seen c.take_turn.new.world) (engine_of c.args.self.now) (sym (ap (λ (e : Engine). e.alive) c.in_ok-note.ensures.adds.engine) ∙ (search rules)) (ap (λ (e : Engine). e.rest) c.in_ok-note.ensures.adds.engine))
+pub returns-clause-fails : goal.returns-clause-fails
+returns-clause-fails g c =
+    fails_turn g.W.World.Tells c.note.new.self.app.state.rest (g.W.World.seen c.args.world.now) (g.W.World.seen c.take_turn.new.world) (engine_of c.args.self.now) c.take_turn.result (sym (ap (λ (e : Engine). e.alive) c.in_ok-note.ensures.adds.engine) ∙ (search rules)) (ap (λ (e : Engine). e.rest) c.in_ok-note.ensures.adds.engine)
     c.take_turn.ensures.talks
 
 pub returns-in_err-line-clause-places : goal.returns-in_err-line-clause-places

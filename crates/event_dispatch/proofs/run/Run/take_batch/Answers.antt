@@ -2,7 +2,7 @@ use Rattle.std.proofs.Common.{subst, ◌∙◌, Option}
 use Rattle.event_dispatch.specs.declared.batch.Rest.{Rest}
 use Rattle.event_dispatch.specs.Batch.{NextTaken}
 use Rattle.event_dispatch.specs.laws.WhyLaws.{continues_then, waits_then}
-use Rattle.event_dispatch.specs.laws.BatchLaws.{batch_goes, batch_ends, batch_too_long}
+use Rattle.event_dispatch.specs.laws.BatchLaws.{then_told, batch_goes, batch_ends, batch_too_long}
 use Rattle.event_dispatch.specs.laws.PlainLaws.{batch_kept, batch_next}
 use Rattle.event_dispatch.specs.laws.CutLaws.{if_err}
 use Rattle.event_dispatch.specs.Plain.{PlainCalm}
@@ -19,6 +19,9 @@ returns-in-Some-clause-batch g c =
     batch_ends c.loop-item._item c.in-Some.rest (g.W.World.seen c.args.world.now) (g.W.World.seen c.loop-item.world) (g.W.World.seen c.take_next.new.world) c.args.self.now c.loop-item.self c.take_next.new.self c.loop-item.invariant.goes
     (subst (λ (rest : Option Rest). NextTaken g.W.World.Tells rest (g.W.World.seen c.loop-item.world) (g.W.World.seen c.take_next.new.world) c.loop-item.self c.take_next.new.self) c.in-Some.is c.in_ok-rest.ensures.taken)
 
+pub returns-in-Some-clause-first : goal.returns-in-Some-clause-first
+returns-in-Some-clause-first g c = then_told _ (g.W.World.seen c.loop-item.world) (g.W.World.seen c.take_next.new.world) c.args.self.now c.loop-item.self c.take_next.new.self c.loop-item.invariant.first c.in_ok-rest.ensures.taken
+
 pub returns-clause-batch : goal.returns-clause-batch
 returns-clause-batch g c =
     batch_too_long c.loop-item._item c.in_ok-left.left (g.W.World.seen c.args.world.now) (g.W.World.seen c.take_kept.new.world) (g.W.World.seen c.loop-item.world) c.args.self.now c.take_kept.new.self c.loop-item.self
@@ -32,6 +35,7 @@ loop-item-preserved g c = record {
   read = c.in_ok-rest.ensures.read c.loop-item.invariant.read;
   goes = batch_goes c.loop-item._item (g.W.World.seen c.args.world.now) (g.W.World.seen c.loop-item.world) (g.W.World.seen c.take_next.new.world) c.args.self.now c.loop-item.self c.take_next.new.self c.loop-item.invariant.goes
       (subst (λ (rest : Option Rest). NextTaken g.W.World.Tells rest (g.W.World.seen c.loop-item.world) (g.W.World.seen c.take_next.new.world) c.loop-item.self c.take_next.new.self) c.in_default.is c.in_ok-rest.ensures.taken);
+  first = then_told _ (g.W.World.seen c.loop-item.world) (g.W.World.seen c.take_next.new.world) c.args.self.now c.loop-item.self c.take_next.new.self c.loop-item.invariant.first c.in_ok-rest.ensures.taken;
   buffer = c.in_ok-rest.ensures.buffer ∙ c.loop-item.invariant.buffer;
   continues = continues_then g.W.World.Tells (g.W.World.seen c.args.world.now) (g.W.World.seen c.loop-item.world) (g.W.World.seen c.take_next.new.world) c.loop-item.invariant.continues c.in_ok-rest.ensures.continues;
   talks = keeps_then g.W.World.Tells (g.W.World.seen c.args.world.now) (g.W.World.seen c.loop-item.world) (g.W.World.seen c.take_next.new.world) c.loop-item.invariant.talks c.in_ok-rest.ensures.talks;

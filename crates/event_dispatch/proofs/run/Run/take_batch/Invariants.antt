@@ -4,7 +4,7 @@ use Rattle.outside.specs.Seen.{Continues}
 use Rattle.event_dispatch.specs.Steady.{NoStray, Reads}
 use Rattle.event_dispatch.specs.Told.{BatchPoint}
 use Rattle.event_dispatch.specs.Runs.{AreRead, Waits}
-use Rattle.event_dispatch.specs.Batch.{BatchGoes}
+use Rattle.event_dispatch.specs.Batch.{BatchGoes, KeptComesFirst}
 use Rattle.event_dispatch.proofs.run.Run.take_batch.Given as goal
 
 abbrev pub invariant-loop-item : goal.invariant-loop-item
@@ -14,6 +14,7 @@ invariant-loop-item g l = record {
   lines : l.self.lines ≡ l.fn.self.lines;
   read : AreRead l.self.net.kept;
   goes : BatchGoes g.W.World.Tells l._item (g.W.World.seen l.fn.world) (g.W.World.seen l.world) l.fn.self l.self;
+  first : KeptComesFirst l.fn.self l.self;
   buffer : length l.buf ≡ length l.fn.buf;
   continues : Continues g.W.World.Tells (g.W.World.seen l.fn.world) (g.W.World.seen l.world);
   talks : KeepsTalking g.W.World.Tells (g.W.World.seen l.fn.world) (g.W.World.seen l.world);

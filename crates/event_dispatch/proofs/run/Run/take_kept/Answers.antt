@@ -15,11 +15,11 @@ use Rattle.event_dispatch.proofs.run.Run.take_kept.Goals as goal
 
 pub returns-in_default-clause-kept : goal.returns-in_default-clause-kept
 returns-in_default-clause-kept g c =
-    kept_ends c.loop-taken.taken (g.W.World.seen c.args.world.now) (g.W.World.seen c.loop-taken.world) c.args.self.now c.loop-taken.self _ c.loop-taken.invariant.kept c.in_ok-dpid.ensures.rest refl
+    kept_ends c.loop-taken.taken (g.W.World.seen c.args.world.now) (g.W.World.seen c.loop-taken.world) c.args.self.now c.loop-taken.self _ c.loop-taken.invariant.kept c.in_ok-dpid.ensures.rest (sym c.in_default.is ∙ c.in_ok-dpid.ensures.first) refl
 
 pub returns-clause-kept : goal.returns-clause-kept
 returns-clause-kept g c =
-    kept_all c.loop-taken.taken 0 (g.W.World.seen c.args.world.now) (g.W.World.seen c.loop-taken.world) c.args.self.now c.loop-taken.self c.loop-taken-test.false c.loop-taken.invariant.kept
+    kept_all c.loop-taken.taken (g.W.World.seen c.args.world.now) (g.W.World.seen c.loop-taken.world) c.args.self.now c.loop-taken.self c.loop-taken-test.false c.loop-taken.invariant.kept
 
 pub returns-in_err-dpid-clause-plain : goal.returns-in_err-dpid-clause-plain
 returns-in_err-dpid-clause-plain g c =
@@ -58,7 +58,7 @@ loop-taken-preserved g c =
       app = since.app ∙ before.app;
       lines = since.lines ∙ before.lines;
       read = since.read (taken_read c.loop-taken.self.net c.waiting.new.self c.in_ok-dpid.ensures.rest before.read);
-      kept = kept_one_more c.loop-taken.taken _ (g.W.World.seen c.args.world.now) (g.W.World.seen c.loop-taken.world) (g.W.World.seen c.take_message.new.world) c.args.self.now c.loop-taken.self c.take_message.new.self before.kept (sym c.in-Some.is ∙ c.in_ok-dpid.ensures.first);
+      kept = kept_one_more c.loop-taken.taken _ _ _ (g.W.World.seen c.args.world.now) (g.W.World.seen c.loop-taken.world) (g.W.World.seen c.take_message.new.world) c.args.self.now c.loop-taken.self c.take_message.new.self c.waiting.new.self before.kept (sym c.in-Some.is ∙ c.in_ok-dpid.ensures.first) c.as_slice.ensures c.in_ok-dpid.ensures.rest since.handles;
       continues = continues_then g.W.World.Tells (g.W.World.seen c.args.world.now) (g.W.World.seen c.loop-taken.world) (g.W.World.seen c.take_message.new.world) before.continues since.continues;
       talks = keeps_then g.W.World.Tells (g.W.World.seen c.args.world.now) (g.W.World.seen c.loop-taken.world) (g.W.World.seen c.take_message.new.world) before.talks since.talks;
       links = links_then g.W.World.Tells (g.W.World.seen c.args.world.now) (g.W.World.seen c.loop-taken.world) (g.W.World.seen c.take_message.new.world) before.links since.links;
