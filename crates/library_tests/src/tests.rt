@@ -1,5 +1,6 @@
 mod cache;
 mod lists;
+mod netlog;
 mod policy;
 mod shadows;
 mod store;

@@ -1,6 +1,8 @@
 pub mod Messages
 pub mod Plans
 pub mod Log
+pub mod Index
+pub mod Inside
 pub mod Meaning
 pub mod Restoring
 pub mod Marks

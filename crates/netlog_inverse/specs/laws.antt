@@ -7,3 +7,4 @@ pub mod ChangedLaws
 pub mod InnerLaws
 pub mod MendLaws
 pub mod MarkLaws
+pub mod IndexLaws

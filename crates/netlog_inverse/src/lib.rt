@@ -9,6 +9,7 @@
 mod copying;
 mod fault;
 mod image;
+mod index;
 mod laws;
 mod log;
 mod messages;

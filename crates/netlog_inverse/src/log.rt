@@ -1,12 +1,15 @@
 //! The log of images.
 
-ghost use Rattle.std.specs.Prelude.{◌≡◌, ◌↔◌, ◌+◌, ◌≤◌, ◌<◌, [], ◌++◌, length, take, drop, vec_capacity, vec_len, option_to_list, IfOk, OnOk, IsNone};
+ghost use Rattle.std.specs.Prelude.{◌≡◌, ◌↔◌, ◌+◌, ◌≤◌, ◌<◌, [], ◌∷◌, ◌++◌, None, Some, length, take, drop, vec_capacity, vec_len, option_to_list, IfOk, OnOk, IsNone};
 ghost use Rattle.std.specs.List.{list_any};
+ghost use Rattle.netlog_inverse.specs.Index.{IsIndex, key_in_put};
 ghost use Rattle.netlog_inverse.specs.Log.{is_one_place, is_of, with_image, pushed, mended, changed_at, with_hard, with_lost_row, HasEntryAt};
 
 use crate::image::{Image, Inverse, Logged, PutBack};
+use crate::index::{Spot, bound, insert_spot, is_here, remove_spot};
 use crate::rows::is_same;
 use flow_table::Lost;
+use of_match::Key;
 use of_types::{ByteList, Dpid, put_u16};
 use std::alloc::{AllocError, Global};
 use std::marker::Model;
@@ -27,17 +30,18 @@ pub struct Mark {
 pub struct Log {
     alloc: Global,
     logged: Vec<Logged>,
+    index: Vec<Spot>,
 }
 
 impl Model for Log {
-    ghost use Rattle.std.specs.Prelude.{◌-◌, ◌≤◌, vec_capacity, vec_len};
     ghost use Rattle.netlog_inverse.specs.Log.{LogState};
+    ghost use Rattle.netlog_inverse.specs.Inside.{log_view, IsLog};
 
     ghost Value = { LogState };
 
-    ghost view = { λ s. record { logged = s.logged.items; spare = vec_capacity s.logged - vec_len s.logged } };
+    ghost view = { log_view };
 
-    ghost invariant = { λ s. vec_len s.logged ≤ vec_capacity s.logged };
+    ghost invariant = { IsLog };
 }
 
 /// Tells whether two images are of one key, of one port, or both of the configuration.
@@ -76,29 +80,159 @@ fn behind(logged: &[Logged], mark: usize) -> &[Logged]
     &logged[mark..]
 }
 
-/// Logs an image, where its place has none since the mark.
+/// Returns the key of an image, if it is of one.
+fn key_of_put(put: &PutBack) -> Option<Key>
+    ensures { result ≡ key_in_put put.now }
+{
+    match put {
+        PutBack::Row { key, .. } => Some(*key),
+        PutBack::Config { .. } => None,
+        PutBack::Settings { .. } => None,
+    }
+}
+
+/// Logs the image of a key, where the key has none since the mark.
 #[tactic(auto, unfolding(crate::specs::Log::with_image))]
-fn push_first(logged: &mut Vec<Logged>, mark: usize, dpid: Dpid, image: Image)
+fn push_key(
+    logged: &mut Vec<Logged>,
+    index: &mut Vec<Spot>,
+    mark: usize,
+    dpid: Dpid,
+    key: Key,
+    image: Image,
+)
+    requires key { key_in_put image.put ≡ Some key }
     requires mark { mark ≤ vec_len logged.old }
     requires room { length (with_image mark dpid logged.old.items image) ≤ vec_capacity logged.old }
+    requires index_room { length (with_image mark dpid logged.old.items image) ≤ vec_capacity index.old }
+    requires index { IsIndex logged.old.items index.old.items }
     ensures items { logged.new.items ≡ with_image mark dpid logged.old.items image }
     ensures room { vec_capacity logged.new ≡ vec_capacity logged.old }
+    ensures index_room { vec_capacity index.new ≡ vec_capacity index.old }
     ensures longer { vec_len logged.old ≤ vec_len logged.new }
+    ensures index { IsIndex logged.new.items index.new.items }
+{
+    let at = logged.len();
+    let place = bound(index, dpid, &key, mark);
+    if !is_here(index, place, dpid, &key) {
+        insert_spot(index, place, Spot { dpid, key, at });
+        logged.push_reserved(Logged { dpid, image });
+    }
+}
+
+/// Logs the image of a port or of the configuration, where it has none since the mark.
+#[tactic(auto, unfolding(crate::specs::Log::with_image))]
+fn push_other(
+    logged: &mut Vec<Logged>,
+    index: &mut Vec<Spot>,
+    mark: usize,
+    dpid: Dpid,
+    image: Image,
+)
+    requires key { key_in_put image.put ≡ None }
+    requires mark { mark ≤ vec_len logged.old }
+    requires room { length (with_image mark dpid logged.old.items image) ≤ vec_capacity logged.old }
+    requires index { IsIndex logged.old.items index.old.items }
+    ensures items { logged.new.items ≡ with_image mark dpid logged.old.items image }
+    ensures room { vec_capacity logged.new ≡ vec_capacity logged.old }
+    ensures index_room { vec_capacity index.new ≡ vec_capacity index.old }
+    ensures longer { vec_len logged.old ≤ vec_len logged.new }
+    ensures index { IsIndex logged.new.items index.new.items }
 {
     if !has_image(behind(logged, mark), dpid, &image.put) {
         logged.push_reserved(Logged { dpid, image });
     }
 }
 
+/// Logs an image, where its place has none since the mark.
+fn push_first(
+    logged: &mut Vec<Logged>,
+    index: &mut Vec<Spot>,
+    mark: usize,
+    dpid: Dpid,
+    image: Image,
+)
+    requires mark { mark ≤ vec_len logged.old }
+    requires room { length (with_image mark dpid logged.old.items image) ≤ vec_capacity logged.old }
+    requires index_room { length (with_image mark dpid logged.old.items image) ≤ vec_capacity index.old }
+    requires index { IsIndex logged.old.items index.old.items }
+    ensures items { logged.new.items ≡ with_image mark dpid logged.old.items image }
+    ensures room { vec_capacity logged.new ≡ vec_capacity logged.old }
+    ensures index_room { vec_capacity index.new ≡ vec_capacity index.old }
+    ensures longer { vec_len logged.old ≤ vec_len logged.new }
+    ensures index { IsIndex logged.new.items index.new.items }
+{
+    match key_of_put(&image.put) {
+        Some(key) => push_key(logged, index, mark, dpid, key, image),
+        None => push_other(logged, index, mark, dpid, image),
+    }
+}
+
 /// Logs images, one after the other.
-fn push_all(logged: &mut Vec<Logged>, mark: usize, dpid: Dpid, images: Vec<Image>)
+fn push_all(
+    logged: &mut Vec<Logged>,
+    index: &mut Vec<Spot>,
+    mark: usize,
+    dpid: Dpid,
+    images: Vec<Image>,
+)
     requires mark { mark ≤ vec_len logged.old }
     requires room { length (pushed mark dpid images.items logged.old.items) ≤ vec_capacity logged.old }
+    requires index_room { length (pushed mark dpid images.items logged.old.items) ≤ vec_capacity index.old }
+    requires index { IsIndex logged.old.items index.old.items }
     ensures items { logged.new.items ≡ pushed mark dpid images.items logged.old.items }
     ensures room { vec_capacity logged.new ≡ vec_capacity logged.old }
+    ensures index_room { vec_capacity index.new ≡ vec_capacity index.old }
+    ensures index { IsIndex logged.new.items index.new.items }
 {
     for image in images {
-        push_first(logged, mark, dpid, image);
+        push_first(logged, index, mark, dpid, image);
+    }
+}
+
+/// Takes the spot of an image out that was the last one behind these.
+fn forget(logged: &[Logged], index: &mut Vec<Spot>, last: &Logged, at: usize)
+    requires at { at ≡ length logged.now }
+    requires index { IsIndex (logged.now ++ last.now ∷ []) index.old.items }
+    ensures index { IsIndex logged.now index.new.items }
+    ensures room { vec_capacity index.new ≡ vec_capacity index.old }
+{
+    match key_of_put(&last.image.put) {
+        Some(key) => remove_spot(index, last.dpid, &key, at),
+        None => {}
+    }
+}
+
+/// Takes the last image out, if there is one.
+fn pop_last(logged: &mut Vec<Logged>, index: &mut Vec<Spot>) -> Option<Logged>
+    requires { IsIndex logged.old.items index.old.items }
+    ensures items { logged.old.items ≡ logged.new.items ++ option_to_list result }
+    ensures some { IsNone result ↔ (vec_len logged.old ≡ 0) }
+    ensures room { vec_capacity logged.new ≡ vec_capacity logged.old }
+    ensures index_room { vec_capacity index.new ≡ vec_capacity index.old }
+    ensures index { IsIndex logged.new.items index.new.items }
+{
+    match logged.pop() {
+        Some(last) => {
+            let at = logged.len();
+            forget(logged, index, &last, at);
+            Some(last)
+        }
+        None => None,
+    }
+}
+
+/// Drops the images behind a mark.
+fn cut_all(logged: &mut Vec<Logged>, index: &mut Vec<Spot>, mark: usize)
+    requires mark { mark ≤ vec_len logged.old }
+    requires index { IsIndex logged.old.items index.old.items }
+    ensures items { logged.new.items ≡ take mark logged.old.items }
+    ensures room { vec_capacity logged.new ≡ vec_capacity logged.old }
+    ensures index_room { vec_capacity index.new ≡ vec_capacity index.old }
+    ensures index { IsIndex logged.new.items index.new.items }
+{
+    while mark < logged.len() {
+        pop_last(logged, index);
     }
 }
 
@@ -151,6 +285,22 @@ fn mend_at(
     mend_one(alloc, &mut logged[at], lost, hard, stands);
 }
 
+/// Sets the image of an entry right.
+fn mend_in(
+    alloc: Global,
+    logged: &mut Vec<Logged>,
+    at: usize,
+    lost: Option<Lost>,
+    hard: u16,
+    stands: bool,
+)
+    requires { HasEntryAt at logged.old.items }
+    ensures items { logged.new.items ≡ changed_at at (mended lost hard stands) logged.old.items }
+    ensures room { vec_capacity logged.new ≡ vec_capacity logged.old }
+{
+    mend_at(alloc, logged, at, lost, hard, stands);
+}
+
 impl Log {
     /// Makes an empty log; takes no memory.
     pub fn new(alloc: Global) -> Result<Log, AllocError>
@@ -159,6 +309,7 @@ impl Log {
         Ok(Log {
             alloc,
             logged: Vec::new(alloc),
+            index: Vec::new(alloc),
         })
     }
 
@@ -168,19 +319,29 @@ impl Log {
         ensures room { self.old.spare ≤ self.new.spare }
         ensures ok { OnOk result (keys ≤ self.new.spare) }
     {
+        let Some(more) = keys.checked_add(self.logged.len() - self.index.len()) else {
+            return Err(AllocError);
+        };
+        self.index.reserve(more)?;
         self.logged.reserve(keys)
     }
 
     /// Logs those images of an inverse whose key, port or configuration has none since the mark, which is the innermost
-    /// one. Takes no memory: there is room for those images. For each image all that was logged since the mark is looked
-    /// through.
+    /// one. Takes no memory: there is room for those images. An image of a key is looked for by halves, one of a port or of
+    /// the configuration among all that was logged since the mark.
     pub fn push(&mut self, mark: Mark, dpid: Dpid, inverse: Inverse)
         requires mark { mark.at ≤ length self.old.logged }
         requires room { length (pushed mark.at dpid inverse.images.items self.old.logged) ≤ length self.old.logged + self.old.spare }
         ensures logged { self.new.logged ≡ pushed mark.at dpid inverse.images.items self.old.logged }
         ensures room { length self.new.logged + self.new.spare ≡ length self.old.logged + self.old.spare }
     {
-        push_all(&mut self.logged, mark.at, dpid, inverse.images);
+        push_all(
+            &mut self.logged,
+            &mut self.index,
+            mark.at,
+            dpid,
+            inverse.images,
+        );
     }
 
     /// Marks the end of the log; takes no memory.
@@ -208,7 +369,7 @@ impl Log {
         ensures room { length self.new.logged + self.new.spare ≡ length self.old.logged + self.old.spare }
     {
         if mark.at < self.logged.len() {
-            self.logged.pop()
+            pop_last(&mut self.logged, &mut self.index)
         } else {
             None
         }
@@ -220,7 +381,7 @@ impl Log {
         ensures logged { self.new.logged ≡ take mark.at self.old.logged }
         ensures room { length self.new.logged + self.new.spare ≡ length self.old.logged + self.old.spare }
     {
-        self.logged.truncate(mark.at);
+        cut_all(&mut self.logged, &mut self.index, mark.at);
     }
 
     /// Sets an image of an entry right, at a position in the whole log: its cache row, the hard timeout of its ADD, and
@@ -230,6 +391,6 @@ impl Log {
         ensures logged { self.new.logged ≡ changed_at at (mended lost hard stands) self.old.logged }
         ensures room { self.new.spare ≡ self.old.spare }
     {
-        mend_at(self.alloc, &mut self.logged, at, lost, hard, stands);
+        mend_in(self.alloc, &mut self.logged, at, lost, hard, stands);
     }
 }
