@@ -1,5 +1,4 @@
 -- What a fault leaves of a turn: its changes are undone. All of this is our own.
-use Rattle.std.specs.Prelude.{ℕ}
 use Rattle.outside.specs.Seen.{Seen}
 use Rattle.outside.specs.Conforming.{Conforming}
 use Rattle.outside.specs.InOrder.{InOrder}
