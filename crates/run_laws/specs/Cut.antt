@@ -16,7 +16,7 @@ use Rattle.lego_model.specs.Journal.{Reply, Start}
 use Rattle.lego_model.specs.Controller.{Run}
 use Rattle.lego_model.specs.ReferenceRun.{AreSaid}
 use Rattle.run_laws.specs.Whole.{RanAs}
-use Rattle.run_laws.specs.AllLines.{CutBehindLines, CutInLines, CutForMemory}
+use Rattle.lego_model.specs.AllLines.{CutBehindLines, CutInLines, CutForMemory}
 
 -- ---- What is promised of a run that a fault ends
 

@@ -5,7 +5,6 @@ pub mod Promise
 pub mod Endings
 pub mod LastReport
 pub mod Readings
-pub mod AllLines
 pub mod Cut
 pub mod LinkSteps
 pub mod First

@@ -25,7 +25,7 @@ ghost use Rattle.lego_model.specs.WholeRun.{EndsAlike, LeavesAlike};
 ghost use Rattle.run_laws.specs.Endings.{Leaves, RanOut, RanFull};
 ghost use Rattle.run_laws.specs.LastReport.{last_text};
 ghost use Rattle.run_laws.specs.Cut.{GoneSoFar};
-ghost use Rattle.run_laws.specs.AllLines.{CutBehindLines, CutInLines, CutForMemory};
+ghost use Rattle.lego_model.specs.AllLines.{CutBehindLines, CutInLines, CutForMemory};
 ghost use Rattle.lego_model.specs.CutRun.{CutBetweenLines};
 
 use outside::World;

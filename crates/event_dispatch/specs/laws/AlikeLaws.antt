@@ -27,7 +27,7 @@ use Rattle.run_laws.specs.First.{IsOpened, net_at_first, engine_at_first}
 use Rattle.run_laws.specs.laws.EndingLaws.{whole-of}
 use Rattle.lego_model.specs.ReferenceRun.{all_started}
 use Rattle.run_laws.specs.Promise.{most_rounds, PremiseSoFar}
-use Rattle.run_laws.specs.AllLines.{CutBehindLines, CutInLines, CutForMemory}
+use Rattle.lego_model.specs.AllLines.{CutBehindLines, CutInLines, CutForMemory}
 use Rattle.run_laws.specs.Cut.{CutAt, CutAlike, CutWithLines, CutWriting, GoneSoFar}
 use Rattle.run_laws.specs.laws.CutLaws.{gone-rounds, gone-happens, gone-still, gone-more, gone-whole, lines-so, rounds-so, some-so, none-so, start-so, event-so, end-so}
 use Rattle.event_dispatch.specs.declared.batch.Rest.{Rest}

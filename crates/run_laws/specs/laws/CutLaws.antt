@@ -31,7 +31,7 @@ use Rattle.run_laws.specs.First.{IsOpened, engine_at_first}
 use Rattle.run_laws.specs.Endings.{WholeMoves, Leaves}
 use Rattle.run_laws.specs.laws.FinishLaws.{said-before, runs-alike, all-in-order}
 use Rattle.run_laws.specs.Cut.{GoneSoFar, RanTo}
-use Rattle.run_laws.specs.AllLines.{NoneAhead, AllDone, NoneBetween, CutBehindLines, CutInLines, CutForMemory}
+use Rattle.lego_model.specs.AllLines.{NoneAhead, AllDone, NoneBetween, CutBehindLines, CutInLines, CutForMemory}
 use Rattle.lego_model.specs.CutRun.{start_said, start_of, reference_so_far, reference_to, Progress, WroteSoFar, WasWriting, AlikeUpTo, CutBetweenLines}
 
 -- ---- Parts of a run, one behind the other
