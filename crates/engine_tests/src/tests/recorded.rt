@@ -66,7 +66,7 @@ enum Ended {
 }
 
 /// The end of a run.
-fn ended(served: &Served) -> Ended {
+fn end_of(served: &Served) -> Ended {
     match served {
         Served::Ended { events } => Ended::Whole(*events),
         Served::Txn(TxnFault::SwitchFault(dpid)) => Ended::SwitchFault(*dpid),
@@ -209,7 +209,7 @@ fn rows_behind(
         return Ok(None);
     };
     let rows = rows_of(alloc, &mut run.world, dpid)?;
-    Ok(rows.map(|(len, is_none)| (ended(&run.served), len, is_none)))
+    Ok(rows.map(|(len, is_none)| (end_of(&run.served), len, is_none)))
 }
 
 /// Where the link of switch 1 fails inside the turn (before its entry is sent, or before the barrier's reply), or inside the undo, the run
