@@ -1,6 +1,7 @@
 -- The run of a session that a fault ends.
 use Rattle.std.proofs.Common.{◌≡◌, ◌⊎◌, ℕ, ◌≤◌, Bool, true, List, [], length, Option, refl, sym, ap, ◌∙◌, subst, arith, inl, inr}
 use Rattle.flow_table.specs.declared.view.TableView.{TableView}
+use Rattle.std.specs.List.{AllByRecursion}
 use Rattle.outside.specs.declared.call.FailCall.{FailCall}
 use Rattle.outside.specs.declared.step.WorldStep.{WorldStep}
 use Rattle.outside.specs.Seen.{Given, Seen, Longer, Continues}
@@ -16,15 +17,18 @@ use Rattle.sim_world.specs.Told.{without_links}
 use Rattle.sim_world.specs.Scripts.{Scripts, AreScripted, KeepsScripts, all_fresh}
 use Rattle.sim_world.specs.World.{WorldData, given_of, seen_of}
 use Rattle.lego_model.specs.History.{stimuli_in}
+use Rattle.lego_model.specs.Application.{index}
+use Rattle.lego_model.specs.OrderlySteps.{IsOrderly}
 use Rattle.run_laws.specs.laws.StimuliLaws.{told-few}
 use Rattle.run_laws.specs.Promise.{PremiseSoFar}
-use Rattle.run_laws.specs.Cut.{CutAlike, CutWriting}
-use Rattle.lego_model.specs.CutRun.{Progress, WroteSoFar, WasWriting, AlikeUpTo, NothingDone}
+use Rattle.lego_model.specs.AllLines.{CutBehindLines, CutInLines, CutForMemory}
+use Rattle.run_laws.specs.Cut.{CutAt, CutAlike, CutWithLines, CutWriting}
+use Rattle.lego_model.specs.CutRun.{Progress, WroteSoFar, WasWriting, AlikeUpTo, CutBetweenLines, NothingDone}
 use Rattle.run_laws.specs.laws.DialogueLaws.{applications_in_place}
 use Rattle.event_dispatch.specs.declared.served.Served.{Served}
 use Rattle.event_dispatch.specs.declared.served.Served.TheVariants as served
 use Rattle.event_dispatch.specs.Serves.{IsCut}
-use Rattle.legosdn.specs.Said.{all_allowed, HoldsAsSaid, CutRun, WritingRun}
+use Rattle.legosdn.specs.Said.{all_allowed, HoldsAsSaid, CutRun, LinesRun, MemoryRun, WritingRun}
 use Rattle.legosdn.specs.Headline.{KeepsLines, UpToPoint}
 use Rattle.legosdn.proofs.Said.{told_in, are_said, kept_to_lines}
 use Rattle.legosdn.proofs.Places.{CountsNone, behind_for, none_strays, shut_strays, idle_strays}
@@ -54,36 +58,55 @@ said_so {last} IsSo up_to keeps = λ none. record {
   holds = λ more few. up_to.as_said _ _ (are_said last more (kept_to_lines last (without_links last.given.fails) keeps none up_to.in_order up_to.at_once) few);
 }
 
-pub cut_at_place : (sim : WorldData) (a b : Option (List ℕ)) → InOrder (seen_of sim) → KeepsLines sim → CutAlike all_allowed (seen_of sim) a b → UpToPoint sim (λ last. CutRun last a b)
-cut_at_place sim a b order lines cut =
+-- with what was written, over what was told and over the lines
+cut_run : (sim : WorldData) (last : Seen Scripts) (a b : Option (List ℕ)) → KeepsLines sim → (seen_of sim).given ≡ last.given → Longer last.history (seen_of sim).history → CutBetweenLines all_allowed last a b → CutRun last a b
+cut_run sim last a b lines given later run = record { run = run; as_said = said_so (WroteSoFar all_allowed last a b) run (lines_at sim last lines given later) }
+
+-- what is so where the run is cut is so of a place of it
+place_of : (sim : WorldData) (Alike Holds : Seen Scripts → Type 0) → InOrder (seen_of sim) → (cut : CutAt Alike (seen_of sim)) → (Alike cut.last → Holds cut.last) → UpToPoint sim Holds
+place_of sim Alike Holds order cut so =
     let quiet = cut.last_point order in
     let keeps = conforms_at sim cut.last order cut.given quiet (cut.messages order) in
-    let run = cut.alike keeps in
     record {
       last = cut.last;
       given = sym cut.given;
       last_point = quiet;
       messages = cut.messages order;
-      holds = record { run = run; as_said = said_so (WroteSoFar all_allowed cut.last a b) run (lines_at sim cut.last lines cut.given cut.later) };
+      holds = so (cut.alike keeps);
       at_once = cut.at_once keeps;
     }
+
+-- no line is missing up to there
+pub lines_at_place : (sim : WorldData) (a b : Option (List ℕ)) → InOrder (seen_of sim) → KeepsLines sim → CutWithLines all_allowed (seen_of sim) a b → UpToPoint sim (λ last. LinesRun last a b)
+unfolding cut_run
+lines_at_place sim a b order lines cut =
+    place_of sim (λ last. CutBehindLines all_allowed last a b) (λ last. LinesRun last a b) order cut (λ behind.
+    record { cut = cut_run sim cut.last a b lines cut.given cut.later behind.run; done = behind.done; none_between = behind.none_between })
 
 pub writing_at_place : (sim : WorldData) (a b : Option (List ℕ)) → InOrder (seen_of sim) → KeepsLines sim → CutWriting all_allowed (seen_of sim) a b → UpToPoint sim (λ last. WritingRun last a b)
 writing_at_place sim a b order lines cut =
-    let quiet = cut.last_point order in
-    let keeps = conforms_at sim cut.last order cut.given quiet (cut.messages order) in
-    let run = cut.alike keeps in
-    record {
-      last = cut.last;
-      given = sym cut.given;
-      last_point = quiet;
-      messages = cut.messages order;
-      holds = record { run = run; as_said = said_so (WasWriting all_allowed cut.last run.text run.more) run.up_to (lines_at sim cut.last lines cut.given cut.later) };
-      at_once = cut.at_once keeps;
-    }
+    place_of sim (λ last. CutInLines all_allowed last a b) (λ last. WritingRun last a b) order cut (λ writing.
+    record { run = writing.run; done = writing.done; as_said = said_so (WasWriting all_allowed cut.last writing.run.text writing.run.more) writing.run.up_to (lines_at sim cut.last lines cut.given cut.later) })
 
-pub cut_or_nothing : (sim : WorldData) (a b : Option (List ℕ)) → InOrder (seen_of sim) → KeepsLines sim → CutAlike all_allowed (seen_of sim) a b ⊎ NothingDone [] (seen_of sim) a b → UpToPoint sim (λ last. CutRun last a b) ⊎ NothingDone [] (seen_of sim) a b
-cut_or_nothing sim a b order lines (inl cut) = inl (cut_at_place sim a b order lines cut)
+memory_at_place : (sim : WorldData) (a b : Option (List ℕ)) → InOrder (seen_of sim) → KeepsLines sim → CutAlike all_allowed (seen_of sim) a b → UpToPoint sim (λ last. MemoryRun (seen_of sim) last a b)
+unfolding cut_run
+memory_at_place sim a b order lines cut =
+    place_of sim (λ last. CutForMemory all_allowed (seen_of sim) last a b) (λ last. MemoryRun (seen_of sim) last a b) order cut (λ short.
+    record { cut = cut_run sim cut.last a b lines cut.given cut.later short.run; done = short.done })
+
+-- no line is missing, so that the lines of the start are there
+pub lines_for_memory : (sim : WorldData) (a b : Option (List ℕ)) → UpToPoint sim (λ last. LinesRun last a b) → UpToPoint sim (λ last. MemoryRun (seen_of sim) last a b)
+lines_for_memory sim a b up_to = record {
+  last = up_to.last;
+  given = up_to.given;
+  last_point = up_to.last_point;
+  messages = up_to.messages;
+  holds = record { cut = up_to.holds.cut; done = inr up_to.holds.done };
+  at_once = up_to.at_once;
+}
+
+pub cut_or_nothing : (sim : WorldData) (a b : Option (List ℕ)) → InOrder (seen_of sim) → KeepsLines sim → CutAlike all_allowed (seen_of sim) a b ⊎ NothingDone [] (seen_of sim) a b → UpToPoint sim (λ last. MemoryRun (seen_of sim) last a b) ⊎ NothingDone [] (seen_of sim) a b
+cut_or_nothing sim a b order lines (inl cut) = inl (memory_at_place sim a b order lines cut)
 cut_or_nothing sim a b order lines (inr none) = inr none
 
 -- ---- No call of it was a stray one
@@ -94,17 +117,23 @@ IsFaultEnd (served.Ended events) = ⊥
 IsFaultEnd (served.EventsLeft left) = ⊥
 IsFaultEnd other = Unit {0}
 
+strays_at : (sim : WorldData) (Alike : Seen Scripts → Type 0) → InOrder (seen_of sim) → CountsNone sim → AreExpectedOnLinks (seen_of sim).history (at_first (seen_of sim).given) → (cut : CutAt Alike (seen_of sim)) → (Alike cut.last → AllByRecursion (IsOrderly index) cut.last.history)
+    → (seen_of sim).counts.shorts ≡ 0 → (seen_of sim).counts.strays ≡ 0
+strays_at sim Alike order none links cut in_order =
+    let keeps = conforms_at sim cut.last order cut.given (cut.last_point order) (cut.messages order) in
+    none_strays sim none (behind_for (in_order (cut.alike keeps)) cut.no_other_called) (applications_in_place (seen_of sim) (cut.at_once keeps)) links
+
 cut_strays : (sim : WorldData) (a b : Option (List ℕ)) → InOrder (seen_of sim) → CountsNone sim → AreExpectedOnLinks (seen_of sim).history (at_first (seen_of sim).given) → CutAlike all_allowed (seen_of sim) a b
     → (seen_of sim).counts.shorts ≡ 0 → (seen_of sim).counts.strays ≡ 0
-cut_strays sim a b order none links cut =
-    let keeps = conforms_at sim cut.last order cut.given (cut.last_point order) (cut.messages order) in
-    none_strays sim none (behind_for (cut.alike keeps).in_order cut.no_other_called) (applications_in_place (seen_of sim) (cut.at_once keeps)) links
+cut_strays sim a b order none links cut = strays_at sim (λ last. CutForMemory all_allowed (seen_of sim) last a b) order none links cut (λ short. short.run.in_order)
+
+lines_strays : (sim : WorldData) (a b : Option (List ℕ)) → InOrder (seen_of sim) → CountsNone sim → AreExpectedOnLinks (seen_of sim).history (at_first (seen_of sim).given) → CutWithLines all_allowed (seen_of sim) a b
+    → (seen_of sim).counts.shorts ≡ 0 → (seen_of sim).counts.strays ≡ 0
+lines_strays sim a b order none links cut = strays_at sim (λ last. CutBehindLines all_allowed last a b) order none links cut (λ behind. behind.run.in_order)
 
 writing_strays : (sim : WorldData) (a b : Option (List ℕ)) → InOrder (seen_of sim) → CountsNone sim → AreExpectedOnLinks (seen_of sim).history (at_first (seen_of sim).given) → CutWriting all_allowed (seen_of sim) a b
     → (seen_of sim).counts.shorts ≡ 0 → (seen_of sim).counts.strays ≡ 0
-writing_strays sim a b order none links cut =
-    let keeps = conforms_at sim cut.last order cut.given (cut.last_point order) (cut.messages order) in
-    none_strays sim none (behind_for (cut.alike keeps).up_to.in_order cut.no_other_called) (applications_in_place (seen_of sim) (cut.at_once keeps)) links
+writing_strays sim a b order none links cut = strays_at sim (λ last. CutInLines all_allowed last a b) order none links cut (λ writing. writing.run.up_to.in_order)
 
 strays_or_nothing : (sim : WorldData) (a b : Option (List ℕ)) → InOrder (seen_of sim) → CountsNone sim → AreExpectedOnLinks (seen_of sim).history (at_first (seen_of sim).given) → CutAlike all_allowed (seen_of sim) a b ⊎ NothingDone [] (seen_of sim) a b
     → (seen_of sim).counts.shorts ≡ 0 → (seen_of sim).counts.strays ≡ 0
@@ -118,8 +147,8 @@ strays_of sim a b (served.Ended events) order none links fault cut = absurd faul
 strays_of sim a b (served.EventsLeft left) order none links fault cut = absurd fault
 strays_of sim a b served.WriteFault order none links fault cut = writing_strays sim a b order none links cut
 strays_of sim a b served.Shut order none links fault cut = shut_strays sim none cut.history
-strays_of sim a b served.NextFault order none links fault cut = cut_strays sim a b order none links cut
-strays_of sim a b (served.Txn fault_of) order none links fault cut = cut_strays sim a b order none links cut
+strays_of sim a b served.NextFault order none links fault cut = lines_strays sim a b order none links cut
+strays_of sim a b (served.Txn fault_of) order none links fault cut = lines_strays sim a b order none links cut
 strays_of sim a b served.NoMemory order none links fault cut = strays_or_nothing sim a b order none links cut
 
 -- ---- What the engine promises of a run that a fault ends

@@ -22,7 +22,7 @@ use Rattle.lego_model.specs.CutRun.{NothingDone}
 use Rattle.lego_model.specs.SessionLines.{SessionValue}
 use Rattle.session_text.specs.Loading.{given_by}
 use Rattle.legosdn.specs.Input.{session_of}
-use Rattle.legosdn.specs.Said.{all_allowed, reference_over, WithEnough, CutRun, WritingRun}
+use Rattle.legosdn.specs.Said.{all_allowed, reference_over, WithEnough, LinesRun, MemoryRun, WritingRun}
 use Rattle.legosdn.specs.declared.stop.Stop.{Stop}
 use Rattle.legosdn.specs.declared.stop.Stop.TheVariants.{Usage, Refused, ReadFault, WriteFault, Shut, NextFault, SwitchFault, SwitchBroke, Diverged, EventsLeft, NoMemory}
 use Rattle.legosdn.specs.Stops.{stop_status, stop_line, stop_of_switch}
@@ -163,17 +163,18 @@ abbrev pub SomeRefused : WorldData → Type 0
 SomeRefused sim = BringMessages sim.history → ⊥
 
 -- How a run goes that ends so. Where events are left it is as above. Where a fault ends it, it is that of the reference controller up to the
--- last quiescent point, with the lines of all that was done up to there, and where the sink failed with a part of the lines of the last; or
--- nothing was done. Only where bytes come that are no message, a switch breaks or diverges.
+-- last quiescent point, with the lines of all that was done up to there. None is missing, of the start and of all events before, where what
+-- comes next failed, or a switch; where the sink failed it took a part of the lines of the last; where memory was wanting those of the start
+-- are there, if a stimulus happened. Or nothing was done. Only where bytes come that are no message, a switch breaks or diverges.
 abbrev pub StopsAs : Stop → WorldData → Option (List ℕ) → Option (List ℕ) → Type 0
 StopsAs (EventsLeft left) sim contents now_contents = RunsPart (seen_of sim) contents now_contents left
 StopsAs WriteFault sim contents now_contents = UpToPoint sim (λ last. WritingRun last contents now_contents)
 StopsAs Shut sim contents now_contents = NothingDone (NotOpened ∷ []) (seen_of sim) contents now_contents
-StopsAs NextFault sim contents now_contents = UpToPoint sim (λ last. CutRun last contents now_contents)
-StopsAs (SwitchFault d) sim contents now_contents = UpToPoint sim (λ last. CutRun last contents now_contents)
-StopsAs (SwitchBroke d) sim contents now_contents = SomeRefused sim × UpToPoint sim (λ last. CutRun last contents now_contents)
-StopsAs (Diverged d) sim contents now_contents = SomeRefused sim × UpToPoint sim (λ last. CutRun last contents now_contents)
-StopsAs NoMemory sim contents now_contents = UpToPoint sim (λ last. CutRun last contents now_contents) ⊎ NothingDone [] (seen_of sim) contents now_contents
+StopsAs NextFault sim contents now_contents = UpToPoint sim (λ last. LinesRun last contents now_contents)
+StopsAs (SwitchFault d) sim contents now_contents = UpToPoint sim (λ last. LinesRun last contents now_contents)
+StopsAs (SwitchBroke d) sim contents now_contents = SomeRefused sim × UpToPoint sim (λ last. LinesRun last contents now_contents)
+StopsAs (Diverged d) sim contents now_contents = SomeRefused sim × UpToPoint sim (λ last. LinesRun last contents now_contents)
+StopsAs NoMemory sim contents now_contents = UpToPoint sim (λ last. MemoryRun (seen_of sim) last contents now_contents) ⊎ NothingDone [] (seen_of sim) contents now_contents
 StopsAs other sim contents now_contents = Unit {0}
 
 abbrev pub RunsAs : {T : Type 0} → Result T Stop → WorldData → Option (List ℕ) → Option (List ℕ) → Type 0

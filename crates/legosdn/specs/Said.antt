@@ -1,5 +1,5 @@
 -- The reference controller of a session: its switches, what its lines say of the application, and its stimuli. All of this is our own.
-use Rattle.std.specs.Prelude.{◌≡◌, ℕ, ◌≤◌, Bool, true, List, [], ◌∷◌, Option}
+use Rattle.std.specs.Prelude.{◌≡◌, ℕ, ◌≤◌, ◌⊎◌, Bool, true, List, [], ◌∷◌, Option}
 use Rattle.outside.specs.Seen.{Given, Seen}
 use Rattle.sim_world.specs.Told.{without_links}
 use Rattle.sim_world.specs.Scripts.{Scripts, starts_of, replies_of}
@@ -10,6 +10,8 @@ use Rattle.lego_model.specs.SessionLines.{SessionValue}
 use Rattle.session_text.specs.Loading.{given_by}
 use Rattle.lego_model.specs.Application.{index}
 use Rattle.lego_model.specs.ReferenceRun.{fresh}
+use Rattle.lego_model.specs.History.{stimuli_in}
+use Rattle.lego_model.specs.AllLines.{AllDone, NoneBetween}
 use Rattle.lego_model.specs.CutRun.{start_said, Progress, WroteSoFar, WasWriting, AlikeUpTo, CutBetweenLines, CutWhileWriting}
 
 -- the judge lets every table be
@@ -45,7 +47,19 @@ pub record CutRun (last : Seen Scripts) (contents now_contents : Option (List �
   pub run : CutBetweenLines all_allowed last contents now_contents
   pub as_said : HoldsAsSaid (WroteSoFar all_allowed last contents now_contents) run
 
--- the sink took a part of those of what was done last
+-- and none is missing, of the start and of all events before the fault,
+pub record LinesRun (last : Seen Scripts) (contents now_contents : Option (List ℕ)) : Type 0 where
+  pub cut : CutRun last contents now_contents
+  pub done : AllDone all_allowed cut.run.far
+  pub none_between : NoneBetween all_allowed cut.run.far
+
+-- or memory was wanting, behind the lines of the start if a stimulus happened
+pub record MemoryRun (seen last : Seen Scripts) (contents now_contents : Option (List ℕ)) : Type 0 where
+  pub cut : CutRun last contents now_contents
+  pub done : (stimuli_in seen ≡ []) ⊎ AllDone all_allowed cut.run.far
+
+-- the sink took a part of the lines of what was done last, behind all those before
 pub record WritingRun (last : Seen Scripts) (contents now_contents : Option (List ℕ)) : Type 0 where
   pub run : CutWhileWriting all_allowed last contents now_contents
+  pub done : AllDone all_allowed run.up_to.far
   pub as_said : HoldsAsSaid (WasWriting all_allowed last run.text run.more) run.up_to

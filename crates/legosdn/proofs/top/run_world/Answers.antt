@@ -1,7 +1,7 @@
 use Rattle.event_dispatch.specs.declared.served.Served.TheVariants as served
 use Rattle.sim_world.specs.World.{seen_of}
 use Rattle.legosdn.proofs.Places.{links_from_first}
-use Rattle.legosdn.proofs.CutRuns.{cut_at_place, writing_at_place, cut_or_nothing, so_cut, strays_of}
+use Rattle.legosdn.proofs.CutRuns.{lines_at_place, writing_at_place, cut_or_nothing, so_cut, strays_of}
 use Rattle.legosdn.proofs.Runs.{runs_whole, runs_part, runs_by_switch, keeps_with, ended_keeps, left_keeps, whole_strays, part_strays}
 use Rattle.legosdn.proofs.top.run_world.Goals as goal
 
@@ -28,7 +28,7 @@ returns-in-Shut-clause-runs g c = λ none few.
 
 pub returns-in-NextFault-clause-runs : goal.returns-in-NextFault-clause-runs
 returns-in-NextFault-clause-runs g c = λ none few.
-    cut_at_place c.serve-served.new.world (g.K.Sink.contents c.args.sink.now) (g.K.Sink.contents c.serve-served.new.sink) c.keeps_word.ensures.word c.keeps_word.ensures.scripts
+    lines_at_place c.serve-served.new.world (g.K.Sink.contents c.args.sink.now) (g.K.Sink.contents c.serve-served.new.sink) c.keeps_word.ensures.word c.keeps_word.ensures.scripts
     (so_cut c.args.sim.now c.serve-served.new.world (g.K.Sink.contents c.args.sink.now) (g.K.Sink.contents c.serve-served.new.sink) none few c.serve-served.ensures.continues c.serve-served.result served.NextFault c.in-NextFault.is c.serve-served.ensures.reference_run_until_fault)
 
 pub returns-in-NoMemory-clause-runs : goal.returns-in-NoMemory-clause-runs
@@ -40,7 +40,7 @@ pub returns-in-Txn-clause-runs : goal.returns-in-Txn-clause-runs
 returns-in-Txn-clause-runs g c = λ none few.
     runs_by_switch c.args.sim.now c.serve-served.new.world (g.K.Sink.contents c.args.sink.now) (g.K.Sink.contents c.serve-served.new.sink) c.from.result c.in-Txn.fault none few c.serve-served.ensures.continues (keeps_with c.serve-served.new.world c.keeps_word.ensures.word) c.serve-served.result c.in-Txn.is
     c.serve-served.ensures.no_switch_at_fault c.from.ensures
-    (cut_at_place c.serve-served.new.world (g.K.Sink.contents c.args.sink.now) (g.K.Sink.contents c.serve-served.new.sink) c.keeps_word.ensures.word c.keeps_word.ensures.scripts
+    (lines_at_place c.serve-served.new.world (g.K.Sink.contents c.args.sink.now) (g.K.Sink.contents c.serve-served.new.sink) c.keeps_word.ensures.word c.keeps_word.ensures.scripts
     (so_cut c.args.sim.now c.serve-served.new.world (g.K.Sink.contents c.args.sink.now) (g.K.Sink.contents c.serve-served.new.sink) none few c.serve-served.ensures.continues c.serve-served.result (served.Txn c.in-Txn.fault) c.in-Txn.is c.serve-served.ensures.reference_run_until_fault))
 
 pub returns-in-Ended-clause-strays : goal.returns-in-Ended-clause-strays
