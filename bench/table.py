@@ -87,7 +87,11 @@ def main():
             line += "%12.3f %7s" % (took, "" if before is None else "x%.1f" % (took / before))
             before = took
         print(line)
-    netlog(sys.argv[2] if len(sys.argv) > 2 else NETLOG)
+    logs = sys.argv[2] if len(sys.argv) > 2 else NETLOG
+    if not os.path.exists(logs):
+        print("there is no %s: bench/build builds it last" % logs)
+        return 1
+    netlog(logs)
     return 0
 
 
