@@ -1,11 +1,11 @@
 //! Plans, and the log of images: each allocating call once with ample memory.
 
-ghost use Rattle.std.specs.Prelude.{IfOk};
+ghost use Rattle.std.specs.Prelude.{◌≤◌, length, IfOk};
 ghost use Rattle.netlog_inverse.specs.Plans.{AreShowable};
 
 use counter_cache::Cache;
 use flow_table::{TableView, ViewList, ViewRow};
-use netlog_inverse::{Log, PlanFault, plan};
+use netlog_inverse::{Inverse, Log, Mark, PlanFault, plan};
 use of_action::ActionList;
 use of_match::{Key, Match};
 use of_stats::{FlowRow, RowList};
@@ -94,6 +94,16 @@ fn plans_an_add(rt: HostRuntime) -> Result<(), Fail> {
     Ok(())
 }
 
+/// Logs an inverse since a mark, with room made first.
+fn log_more(log: &mut Log, mark: Mark, inverse: Inverse) -> Result<(), AllocError>
+    requires { mark.at ≤ length log.old.logged }
+    ensures { length log.old.logged ≤ length log.new.logged }
+{
+    log.reserve(inverse.images.len())?;
+    log.push(mark, 1, inverse);
+    Ok(())
+}
+
 /// An entry that goes after 20 of 60 seconds comes back by an ADD with 40. Its image is logged once, and is taken out again.
 #[test]
 fn logs_a_delete(rt: HostRuntime) -> Result<(), Fail> {
@@ -104,10 +114,8 @@ fn logs_a_delete(rt: HostRuntime) -> Result<(), Fail> {
     let again = plan(alloc, &all, &view(alloc)?, &cache, &reported(alloc)?)?;
     let mut log = Log::new(alloc)?;
     let mark = log.mark();
-    log.reserve(inverse.images.len())?;
-    log.push(mark, 1, inverse);
-    log.reserve(again.images.len())?;
-    log.push(mark, 1, again);
+    log_more(&mut log, mark, inverse)?;
+    log_more(&mut log, mark, again)?;
     assert_eq!(rt; log.since(mark).len(), 1);
     let logged = log.pop(mark);
     assert!(rt; logged.is_some_and(|one| one.image.add.as_slice().get(61).copied() == Some(40)));
