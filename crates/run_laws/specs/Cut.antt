@@ -9,6 +9,7 @@ use Rattle.outside.specs.InOrder.{InOrder, BringMessages}
 use Rattle.outside.specs.Quiescence.{IsLastQuiescent}
 use Rattle.app_visor.specs.CallsFor.{CallsFor}
 use Rattle.run_laws.specs.Engine.{Engine}
+use Rattle.run_laws.specs.Left.{TablesLeft}
 use Rattle.lego_model.specs.Application.{index}
 use Rattle.run_laws.specs.Moves.{Moved}
 use Rattle.lego_model.specs.CutRun.{reference_so_far, start_said}
@@ -32,6 +33,7 @@ pub record CutAt {Own : Type 0} (Alike : Seen Own → Type 0) (seen : Seen Own) 
   pub messages : InOrder seen → BringMessages last.history
   pub last_point : InOrder seen → IsLastQuiescent last seen
   pub no_other_called : CallsFor index last seen
+  pub tables : InOrder seen → TablesLeft last seen
 
 -- where what comes next failed, or a switch, no line is missing
 abbrev pub CutWithLines : {Own : Type 0} → (List Place → Bool) → Seen Own → Option (List ℕ) → Option (List ℕ) → Type 0
