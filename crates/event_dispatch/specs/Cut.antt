@@ -26,7 +26,7 @@ use Rattle.event_dispatch.specs.Why.{served_by}
 use Rattle.event_dispatch.specs.Shows.{engine_of}
 use Rattle.event_dispatch.specs.Talking.{KeepsTalking, GoesOnTalking}
 use Rattle.event_dispatch.specs.Steady.{Reads, NoPoint, AtMostThisPoint, NoneMoves}
-use Rattle.event_dispatch.specs.Undone.{TurnLeft}
+use Rattle.event_dispatch.specs.Undone.{IsShort, DispatchLeft}
 use Rattle.event_dispatch.specs.Serves.{Writes, DispatchesSome, IsBatch, GoesRounds, GoesToEnd, Begins}
 
 -- Nothing was written, and it was not the sink that failed.
@@ -54,7 +54,7 @@ IsOfTurn other e = Unit {0}
 pub record FailsIn {Own : Type 0} (Tells : Type 0) (fault : Fault) (old new : Seen Own) (e : Engine) : Type 0 where
   pub talks : GoesOnTalking Tells old new e
   pub of_turn : IsOfTurn fault e
-  pub left : TurnLeft Tells old new e.net
+  pub left : DispatchLeft Tells (IsShort fault) old new e
 
 -- a fault ended its dispatch, or it was that
 abbrev pub CutOne : {Own : Type 0} → Type 0 → (List TableView → Bool) → Fault → Option (List ℕ) → Option (List ℕ) → Seen Own → Seen Own → Engine → Type 0

@@ -16,7 +16,7 @@ ghost use Rattle.run_laws.specs.Facts.{starts_text};
 ghost use Rattle.event_dispatch.specs.Shows.{engine_of, Adds};
 ghost use Rattle.event_dispatch.specs.Serves.{Starts, PlaysTurn, Closes, HasTurn, IsDispatched, DispatchesOldest, DispatchesWaiting};
 ghost use Rattle.event_dispatch.specs.Talking.{KeepsTalking, TurnTalks};
-ghost use Rattle.event_dispatch.specs.Undone.{TurnUndone, TurnLeft};
+ghost use Rattle.event_dispatch.specs.Undone.{TurnUndone, IsShort, TurnLeft};
 ghost use Rattle.event_dispatch.specs.Cut.{FailsIn, CutOne, CutSome};
 
 use crate::fault::Fault;
@@ -178,7 +178,7 @@ impl Run {
         ensures talks { OnErr result (TurnTalks W.Tells index self.old.app.state.rest (W.seen world.old) (W.seen world.new)) }
         ensures why { IfErr result (IsReason W.Tells (W.seen world.old) (W.seen world.new) 0 0) }
         ensures plain { IfErr result (PlainTurn W.Tells (W.seen world.old) (W.seen world.new) self.old.net) }
-        ensures left { OnErr result (TurnLeft W.Tells (W.seen world.old) (W.seen world.new) self.old.net) }
+        ensures left { IfErr result (λ fault. TurnLeft W.Tells (IsShort fault) self.old.app.state.rest (W.seen world.old) (W.seen world.new) self.old.net) }
     {
         let end = hold_turn(
             self.alloc,

@@ -4,11 +4,12 @@ use Rattle.std.specs.List.{AllByRecursion}
 use Rattle.of_types.specs.declared.journal.Act.{Act}
 use Rattle.of_types.specs.declared.journal.Act.TheVariants.{Gave}
 use Rattle.lego_model.specs.Application.{index, budget}
+use Rattle.lego_model.specs.AtOnce.{Passes, AtOnce}
 use Rattle.lego_model.specs.Journal.{is_event, reply_of}
 use Rattle.lego_model.specs.Turns.{Outcome, Completed, Failed, turn_of}
 use Rattle.outside.specs.declared.step.WorldStep.{WorldStep}
 use Rattle.outside.specs.declared.step.WorldStep.TheVariants.{Acted}
-use Rattle.outside.specs.Seen.{Seen, Longer}
+use Rattle.outside.specs.Seen.{Seen, Longer, journal}
 use Rattle.outside.specs.State.{state, switch_of}
 use Rattle.switch_laws.specs.Since.{UndoneButFailed}
 use Rattle.app_visor.specs.Talks.{give_act}
@@ -37,13 +38,16 @@ abbrev pub IsCompleted : Outcome → Type 0
 IsCompleted (Completed stop checkpoint unread) = Unit {0}
 IsCompleted (Failed cause) = ⊥
 
--- The application had a whole turn: an event, and then acts by which it completed, with its messages answered somehow.
+-- The application had a whole turn: an event, and then acts by which it completed, with its messages answered somehow, behind what it had
+-- given before and that was unread.
 pub record TurnDone {Own : Type 0} (old new : Seen Own) : Type 0 where
   pub event : List ℕ
   pub is_so : is_event event ≡ true
   pub acts : List Act
   pub history : acts_of index new.history ≡ acts_of index old.history ++ give_act true index event ∷ acts
+  pub before : AtOnce index (journal old.history)
   pub rest : List ℕ
+  pub passes : Passes before.last.unread rest
   pub judged : Bool
   pub answers : List (Exchange Own)
   pub completed : IsCompleted (turn_of (oracle judged) budget rest (reply_of (record { given = true; acts = acts })) (Some answers)).outcome
@@ -62,6 +66,7 @@ pub record TurnKept {Own : Type 0} (old new : Seen Own) : Type 0 where
 
 -- ---- What is left
 
--- No event was given since then; or the turn was whole, and its changes stay; or it was undone on each switch that did not fail in the undo.
-abbrev pub TablesLeft : {Own : Type 0} → Seen Own → Seen Own → Type 0
-TablesLeft old new = NoEventSince old new ⊎ TurnKept old new ⊎ UndoneButFailed (Unit {0}) old new
+-- No event was given since then; or its turn was undone on each switch that did not fail in the undo; or, where memory may have been wanting
+-- behind it, the turn was whole, and its changes stay.
+abbrev pub TablesLeft : {Own : Type 0} → Type 0 → Seen Own → Seen Own → Type 0
+TablesLeft Short old new = NoEventSince old new ⊎ UndoneButFailed (Unit {0}) old new ⊎ (Short × TurnKept old new)

@@ -9,13 +9,14 @@ use Rattle.app_frames.specs.declared.frame.Answer.{Answer}
 use Rattle.app_frames.specs.declared.frame.Event.{Event}
 use Rattle.lego_io.specs.laws.CountLaws.{Rose-before}
 use Rattle.lego_model.specs.Application.{index, budget}
+use Rattle.lego_model.specs.AtOnce.{Passes, AtOnce}
 use Rattle.lego_model.specs.Controller.{event_frame}
 use Rattle.lego_model.specs.Journal.{is_event, reply_of}
 use Rattle.lego_model.specs.Turns.{Outcome, Completed, Failed, Played, turn_of}
 use Rattle.lego_model.specs.declared.fault.TxnFault.{TxnFault}
 use Rattle.lego_model.specs.declared.fault.TxnFault.TheVariants.{SwitchFault, SwitchBroke, Diverged, Flooded, NoMemory}
 use Rattle.outside.specs.declared.step.WorldStep.{WorldStep}
-use Rattle.outside.specs.Seen.{Counts, NoneFell, Seen, Continues}
+use Rattle.outside.specs.Seen.{Counts, NoneFell, Seen, Continues, journal}
 use Rattle.outside.specs.Conforming.{Conforming}
 use Rattle.outside.specs.InOrder.{InOrder}
 use Rattle.outside.specs.laws.InOrderLaws.{InOrder-before}
@@ -31,9 +32,11 @@ use Rattle.app_visor.specs.Turns.{Asking, oracle, played_so, IsEnd, Turns}
 use Rattle.app_visor.specs.CallsFor.{OwnSteps}
 use Rattle.app_visor.specs.laws.ReadTurnLaws.{turn_acts}
 use Rattle.turn_laws.specs.laws.FaultLaws.{turn-undone}
+use Rattle.run_laws.specs.Engine.{Engine}
+use Rattle.run_laws.specs.Moves.{Conversing}
 use Rattle.run_laws.specs.Left.{NoEventSince, IsCompleted, TurnDone, SwitchesStay, TurnKept, TablesLeft}
 use Rattle.event_dispatch.specs.Serves.{PlaysTurn}
-use Rattle.event_dispatch.specs.Undone.{TurnUndone, TurnLeft}
+use Rattle.event_dispatch.specs.Undone.{TurnUndone, TurnLeft, DispatchLeft}
 use Rattle.event_dispatch.specs.laws.NoEventLaws.{no_event_none, no_event_then, own_stay}
 
 -- ---- A switch that failed in an undo has failed in it whatever comes behind
@@ -94,65 +97,88 @@ kept_then old mid new told later stay k =
     }
 
 -- what is left stays so behind parts in which no event is given and no switch moves
-pub tables_then : {Own : Type 0} {Tells : Type 0} (old mid new : Seen Own) → Tells → Continues Tells old mid → Continues Tells mid new → NoEventSince mid new → SwitchesStay mid new → TablesLeft old mid → TablesLeft old new
+pub tables_then : {Own : Type 0} {Tells Short : Type 0} (old mid new : Seen Own) → Tells → Continues Tells old mid → Continues Tells mid new → NoEventSince mid new → SwitchesStay mid new → TablesLeft Short old mid → TablesLeft Short old new
 tables_then old mid new told first later none stay (inl before) = inl (no_event_then before none)
-tables_then old mid new told first later none stay (inr (inl kept)) = inr (inl (kept_then old mid new told later stay kept))
-tables_then old mid new told first later none stay (inr (inr undone)) = inr (inr (undone_then old mid new told first later stay undone))
+tables_then old mid new told first later none stay (inr (inl undone)) = inr (inl (undone_then old mid new told first later stay undone))
+tables_then old mid new told first later none stay (inr (inr kept)) = inr (inr (kept.0, kept_then old mid new told later stay kept.1))
+
+-- where memory may have been wanting in more cases
+pub tables_for : {Own : Type 0} {Short Other : Type 0} {old new : Seen Own} → (Short → Other) → TablesLeft Short old new → TablesLeft Other old new
+tables_for short (inl before) = inl before
+tables_for short (inr (inl undone)) = inr (inl undone)
+tables_for short (inr (inr kept)) = inr (inr (short kept.0, kept.1))
 
 -- ---- A whole turn
 
-completes : {stop : Bool} {unread : List ℕ} (outcome : Outcome) → IsEnd (ends.Done stop) unread outcome → IsCompleted outcome
-completes (Completed stops checkpoint rest) is = tt
-completes (Failed cause) is = absurd is
+completes : (stop : Bool) (unread : List ℕ) (outcome : Outcome) → IsEnd (ends.Done stop) unread outcome → IsCompleted outcome
+completes stop unread (Completed stops checkpoint rest) is = tt
+completes stop unread (Failed cause) is = absurd is
 
-done_by : {Own : Type 0} {stop : Bool} {unread : List ℕ} (given : Bool) (rest event : List ℕ) (acts : List Act) (judged : Bool) (exchanges : List (Exchange Own)) (answers : List Answer) (outcome : Outcome) (old new : Seen Own) → is_event event ≡ true
-    → acts_of index new.history ≡ acts_of index old.history ++ give_act given index event ∷ acts → turn_of (oracle judged) budget rest (reply_of (record { given = given; acts = acts })) (Some exchanges) ≡ played_so answers outcome → IsEnd (ends.Done stop) unread outcome → TurnDone old new
-done_by {Own} true rest event acts judged exchanges answers outcome old new is more played ends = record {
+never_given : (Own : Type 0) (rest : List ℕ) (acts : List Act) (judged : Bool) (exchanges : List (Exchange Own)) → IsCompleted (turn_of (oracle judged) budget rest (reply_of (record { given = false; acts = acts })) (Some exchanges)).outcome → ⊥
+unfolding turn_of reply_of
+never_given Own rest acts judged exchanges is = is
+
+done_by : (Own : Type 0) (stop : Bool) (unread : List ℕ) (given : Bool) (rest event : List ℕ) (acts : List Act) (judged : Bool) (exchanges : List (Exchange Own)) (answers : List Answer) (outcome : Outcome) (old new : Seen Own) → is_event event ≡ true
+    → acts_of index new.history ≡ acts_of index old.history ++ give_act given index event ∷ acts → turn_of (oracle judged) budget rest (reply_of (record { given = given; acts = acts })) (Some exchanges) ≡ played_so answers outcome → IsEnd (ends.Done stop) unread outcome
+    → (a : AtOnce index (journal old.history)) → Passes a.last.unread rest → TurnDone old new
+done_by Own stop unread true rest event acts judged exchanges answers outcome old new is more played ended a passes = record {
   event = event;
   is_so = is;
   acts = acts;
   history = more;
+  before = a;
   rest = rest;
+  passes = passes;
   judged = judged;
   answers = exchanges;
-  completed = subst IsCompleted (sym (ap (λ (p : Played (Asking Own)). p.outcome) played)) (completes outcome ends);
+  completed = subst IsCompleted (sym (ap (λ (p : Played (Asking Own)). p.outcome) played)) (completes stop unread outcome ended);
 }
-done_by {Own} false rest event acts judged exchanges answers outcome old new is more played ends =
-    absurd (never_given {Own} rest acts judged exchanges (subst IsCompleted (sym (ap (λ (p : Played (Asking Own)). p.outcome) played)) (completes outcome ends)))
-  where
-    never_given : {Own : Type 0} (rest : List ℕ) (acts : List Act) (judged : Bool) (exchanges : List (Exchange Own)) → IsCompleted (turn_of (oracle judged) budget rest (reply_of (record { given = false; acts = acts })) (Some exchanges)).outcome → ⊥
-    unfolding turn_of reply_of
-    never_given rest acts judged exchanges is = is
+done_by Own stop unread false rest event acts judged exchanges answers outcome old new is more played ended a passes =
+    absurd (never_given Own rest acts judged exchanges (subst IsCompleted (sym (ap (λ (p : Played (Asking Own)). p.outcome) played)) (completes stop unread outcome ended)))
 
 turn_done : {Own : Type 0} {Tells : Type 0} {accepts : List TableView → Bool} {app : ℕ} {rest event unread : List ℕ} {old new : Seen Own} {net now_net : NetState} {stop : Bool} → Tells → app ≡ index → is_event event ≡ true → Turns Tells accepts app budget rest event old new net now_net (ends.Done stop) unread
-    → TurnDone old new
-turn_done {accepts = accepts} {rest = rest} {event = event} {old = old} {new = new} {now_net = now_net} told at is t =
-    done_by t.given rest event (acts_in t.trace) (accepts now_net.views) (exchanges_in t.trace) t.answers t.outcome old new is
-    (subst (λ (i : ℕ). acts_of i new.history ≡ acts_of i old.history ++ give_act t.given i event ∷ acts_in t.trace) at (turn_acts t told)) t.played t.ends
+    → (a : AtOnce index (journal old.history)) → Passes a.last.unread rest → TurnDone old new
+turn_done {Own = Own} {accepts = accepts} {rest = rest} {event = event} {unread = unread} {old = old} {new = new} {now_net = now_net} {stop = stop} told at is t a passes =
+    done_by Own stop unread t.given rest event (acts_in t.trace) (accepts now_net.views) (exchanges_in t.trace) t.answers t.outcome old new is
+    (subst (λ (i : ℕ). acts_of i new.history ≡ acts_of i old.history ++ give_act t.given i event ∷ acts_in t.trace) at (turn_acts t told)) t.played t.ends a passes
 
 -- ---- The dispatch of an event
 
-pub left_none : {Own : Type 0} (Tells : Type 0) (seen : Seen Own) (net : NetState) → TurnLeft Tells seen seen net
-left_none Tells seen net = record { left = λ told keeps order ready. inl (no_event_none seen) }
+pub left_none : {Own : Type 0} (Tells Short : Type 0) (seen : Seen Own) (e : Engine) → DispatchLeft Tells Short seen seen e
+left_none Tells Short seen e = record { left = λ told keeps order ready talking. inl (no_event_none seen) }
 
 -- its turn stopped, or failed and could not be undone on each switch
-pub left_undone : {Own : Type 0} (Tells : Type 0) (old new : Seen Own) (net : NetState) → TurnUndone Tells old new net → TurnLeft Tells old new net
-left_undone Tells old new net turn = record { left = λ told keeps order ready. inr (inr (undone_so old new told (turn.undone told keeps order ready))) }
+pub left_undone : {Own : Type 0} (Tells Short : Type 0) (rest : List ℕ) (old new : Seen Own) (net : NetState) → TurnUndone Tells old new net → TurnLeft Tells Short rest old new net
+left_undone Tells Short rest old new net turn = record { left = λ told keeps order ready a passes. inr (inl (undone_so old new told (turn.undone told keeps order ready))) }
 
 -- its turn ended, and memory was wanting behind it
 pub left_closed : {Own : Type 0} {Tells : Type 0} {accepts : List TableView → Bool} {number : ℕ} {event : Event} {rest unread : List ℕ} (app : ℕ) (end : TurnEnd) (old mid new : Seen Own) (net mid_net : NetState) → app ≡ index → Continues Tells old mid → Continues Tells mid new
-    → (Tells → OwnSteps index mid new) → PlaysTurn Tells accepts app number event end old mid net mid_net rest unread → TurnLeft Tells old new net
+    → (Tells → OwnSteps index mid new) → PlaysTurn Tells accepts app number event end old mid net mid_net rest unread → TurnLeft Tells (Unit {0}) rest old new net
 left_closed {number = number} {event = event} app (ends.Done stop) old mid new net mid_net at first later own plays = record {
-  left = λ told keeps order ready.
-      let kept : TurnKept old plays.mid = record { mid = plays.mid; given = refl; done = turn_done told at (event_is number net.moment event) plays.turns; later = ([], sym (append-nil plays.mid.history)); stay = λ d. refl } in
-      inr (inl (kept_then old mid new told later (own_stay later (own told)) (subst (λ (s : Seen _). TurnKept old s) (sym plays.played.0) kept)));
+  left = λ told keeps order ready a passes.
+      let kept : TurnKept old plays.mid = record { mid = plays.mid; given = refl; done = turn_done told at (event_is number net.moment event) plays.turns a passes; later = ([], sym (append-nil plays.mid.history)); stay = λ d. refl } in
+      inr (inr (tt, kept_then old mid new told later (own_stay later (own told)) (subst (λ (s : Seen _). TurnKept old s) (sym plays.played.0) kept)));
 }
 left_closed {Tells = Tells} {accepts = accepts} {number = number} {event = event} {rest = rest} {unread = unread} app (ends.Failed cause) old mid new net mid_net at first later own plays = record {
-  left = λ told keeps order ready.
+  left = λ told keeps order ready a passes.
       let undone = turn-undone Tells accepts app budget rest (event_frame number net.moment event) old plays.mid mid net plays.mid_net mid_net (ends.Failed cause) unread (Ok tt) told keeps (InOrder-before told later order) ready plays.turns plays.played in
-      inr (inr (undone_then old mid new told first later (own_stay later (own told)) (undone_so old mid told undone)));
+      inr (inl (undone_then old mid new told first later (own_stay later (own told)) (undone_so old mid told undone)));
 }
 
--- the same of another network that stands as here
-pub left_as : {Own : Type 0} (Tells : Type 0) (old new : Seen Own) (net now_net : NetState) → now_net ≡ net → TurnLeft Tells old new now_net → TurnLeft Tells old new net
-left_as Tells old new net now_net same left = subst (λ (n : NetState). TurnLeft Tells old new n) same left
+-- the application has its turn while it is alive
+pub left_turn : {Own : Type 0} (Tells Short : Type 0) (rest : List ℕ) (old new : Seen Own) (net : NetState) (e : Engine) → e.alive ≡ true → rest ≡ e.rest → net ≡ e.net → TurnLeft Tells Short rest old new net → DispatchLeft Tells Short old new e
+left_turn Tells Short rest old new net e alive same stands turn = record {
+  left = λ told keeps order ready talking.
+      turn.left told keeps order (subst (λ (n : NetState). Ready old n) (sym stands) ready) talking.at_once (subst (λ (xs : List ℕ). Passes talking.at_once.last.unread xs) (sym same) (talking.rest_so alive).1);
+}
+
+-- of an engine that stands as here, but for the events that wait
+pub left_as : {Own : Type 0} (Tells Short : Type 0) (old new : Seen Own) (e now_e : Engine) → now_e.alive ≡ e.alive → now_e.rest ≡ e.rest → now_e.net ≡ e.net → DispatchLeft Tells Short old new e → DispatchLeft Tells Short old new now_e
+left_as Tells Short old new e now_e alive rest net dispatch = record {
+  left = λ told keeps order ready talking.
+      dispatch.left told keeps order (subst (λ (n : NetState). Ready old n) net ready)
+      (record {
+        at_once = talking.at_once;
+        rest_so = λ is. let so = talking.rest_so (alive ∙ is) in (so.0, subst (λ (xs : List ℕ). Passes talking.at_once.last.unread xs) rest so.1);
+      });
+}
