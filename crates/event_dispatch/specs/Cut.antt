@@ -25,7 +25,8 @@ use Rattle.event_dispatch.specs.declared.served.Served.TheVariants as served
 use Rattle.event_dispatch.specs.Why.{served_by}
 use Rattle.event_dispatch.specs.Shows.{engine_of}
 use Rattle.event_dispatch.specs.Talking.{KeepsTalking, GoesOnTalking}
-use Rattle.event_dispatch.specs.Steady.{Reads, NoPoint, AtMostThisPoint}
+use Rattle.event_dispatch.specs.Steady.{Reads, NoPoint, AtMostThisPoint, NoneMoves}
+use Rattle.event_dispatch.specs.Undone.{IsShort, DispatchLeft}
 use Rattle.event_dispatch.specs.Serves.{Writes, DispatchesSome, IsBatch, GoesRounds, GoesToEnd, Begins}
 
 -- Nothing was written, and it was not the sink that failed.
@@ -49,10 +50,11 @@ IsOfTurn faults.Next e = e.alive ≡ true
 IsOfTurn (faults.Txn fault) e = e.alive ≡ true
 IsOfTurn other e = Unit {0}
 
--- a fault ended the dispatch of an event, which goes on with the dialogue up to there
+-- a fault ended the dispatch of an event, which goes on with the dialogue up to there, and what it leaves of the tables
 pub record FailsIn {Own : Type 0} (Tells : Type 0) (fault : Fault) (old new : Seen Own) (e : Engine) : Type 0 where
   pub talks : GoesOnTalking Tells old new e
   pub of_turn : IsOfTurn fault e
+  pub left : DispatchLeft Tells (IsShort fault) old new e
 
 -- a fault ended its dispatch, or it was that
 abbrev pub CutOne : {Own : Type 0} → Type 0 → (List TableView → Bool) → Fault → Option (List ℕ) → Option (List ℕ) → Seen Own → Seen Own → Engine → Type 0
@@ -200,6 +202,7 @@ pub record CutRun {Own : Type 0} (Tells : Type 0) (accepts : List TableView → 
   pub later : Continues Tells stop new
   pub talks : KeepsTalking Tells stop new
   pub no_point : NoPoint Tells stop new
+  pub none_moves : NoneMoves Tells stop new
   pub goes : CutGoes Tells accepts fault contents now_contents old stop e
 
 abbrev pub CutAs : {Own : Type 0} → Type 0 → (List TableView → Bool) → Served → Option (List ℕ) → Option (List ℕ) → Seen Own → Seen Own → Engine → Type 0

@@ -11,6 +11,7 @@ use Rattle.net_txn.specs.LinkSteps.{MakesNoStrayCall}
 use Rattle.net_txn.specs.Abreast.{Abreast}
 use Rattle.app_visor.specs.CallsFor.{CallsFor}
 use Rattle.lego_model.specs.Application.{index}
+use Rattle.run_laws.specs.Left.{SwitchesStay}
 
 -- however it ended: no call of a link was a stray one, and none was for another application
 pub record NoStray {Own : Type 0} (Tells : Type 0) (old new : Seen Own) (net : NetState) : Type 0 where
@@ -37,14 +38,19 @@ pub record AtMostThisPoint {Own : Type 0} (Tells : Type 0) (old new : Seen Own) 
   pub last : Tells → InOrder new → NothingUnderWay (state old) → IsLastQuiescent old new
   pub own : Tells → CallsFor index old new
 
+-- no switch moved
+pub record NoneMoves {Own : Type 0} (Tells : Type 0) (old new : Seen Own) : Type 0 where
+  pub stay : Tells → SwitchesStay old new
+
 -- ---- The application is ended at last
 
--- it does not run then: no call of a link was a stray one, no bytes came of a switch, and no quiescent point lies behind
+-- it does not run then: no call of a link was a stray one, no bytes came of a switch, no quiescent point lies behind, and no switch moved
 pub record IsEnded {Own : Type 0} (Tells : Type 0) (old new : Seen Own) : Type 0 where
   pub no_point : NoPoint Tells old new
   pub places : Tells → MakesNoStrayCall old new
   pub messages : Tells → MessagesSince old new
   pub ended : Tells → is_running index (state new) ≡ false
+  pub none_moves : NoneMoves Tells old new
 
 -- however a run ended, which ended its application: no call was a stray one, and no application runs where none ran before
 pub record NoneRuns {Own : Type 0} (Tells : Type 0) (old new : Seen Own) (net : NetState) : Type 0 where

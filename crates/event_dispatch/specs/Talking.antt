@@ -1,15 +1,17 @@
--- What goes on with the dialogue with the application, in a world that tells: its journal was one, and it is one still. All of this is our
--- own.
+-- What goes on with the dialogue with the application, in a world that tells: its journal was one, and it is one still; and whether an event
+-- is given in it. All of this is our own.
 use Rattle.std.specs.Prelude.{◌≡◌, ℕ, true, List}
 use Rattle.outside.specs.Seen.{Seen, journal}
 use Rattle.lego_model.specs.AtOnce.{Passes, AtOnce}
 use Rattle.run_laws.specs.Engine.{Engine}
 use Rattle.lego_model.specs.Application.{index}
 use Rattle.run_laws.specs.Moves.{Conversing}
+use Rattle.run_laws.specs.Left.{NoEventSince}
 
--- whatever it was
+-- whatever it was, but no turn: no event was given
 pub record KeepsTalking {Own : Type 0} (Tells : Type 0) (old new : Seen Own) : Type 0 where
   pub talks : Tells → AtOnce index (journal old.history) → AtOnce index (journal new.history)
+  pub no_event : Tells → NoEventSince old new
 
 -- where the application runs then, and these bytes are unread, behind frames that are no messages
 pub record TurnTalks {Own : Type 0} (Tells : Type 0) (app : ℕ) (rest : List ℕ) (old new : Seen Own) : Type 0 where

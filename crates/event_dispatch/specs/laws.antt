@@ -23,3 +23,5 @@ pub mod FrontLaws
 pub mod ReadLaws
 pub mod EndedLaws
 pub mod UndoneLaws
+pub mod NoEventLaws
+pub mod LeftLaws

@@ -5,8 +5,8 @@ ghost use Rattle.lego_io.specs.Count.{NeverFell};
 ghost use Rattle.app_frames.specs.declared.frame.HostFrame.TheVariants as host;
 ghost use Rattle.app_frames.specs.Frames.{HostFits};
 ghost use Rattle.outside.specs.Seen.{Continues};
-ghost use Rattle.app_visor.specs.CallsFor.{CalmLater};
 ghost use Rattle.event_dispatch.specs.Steady.{NoStray, Reads, NoPoint, AtMostThisPoint};
+ghost use Rattle.app_visor.specs.CallsFor.{CalmLater, OwnSteps};
 ghost use Rattle.event_dispatch.specs.Runs.{AreRead, Going, Waits};
 ghost use Rattle.event_dispatch.specs.Why.{IsReason, served_by};
 ghost use Rattle.event_dispatch.specs.Plain.{PlainTurn, PlainRun};
@@ -16,7 +16,7 @@ ghost use Rattle.run_laws.specs.Facts.{starts_text};
 ghost use Rattle.event_dispatch.specs.Shows.{engine_of, Adds};
 ghost use Rattle.event_dispatch.specs.Serves.{Starts, PlaysTurn, Closes, HasTurn, IsDispatched, DispatchesOldest, DispatchesWaiting};
 ghost use Rattle.event_dispatch.specs.Talking.{KeepsTalking, TurnTalks};
-ghost use Rattle.event_dispatch.specs.Undone.{TurnUndone};
+ghost use Rattle.event_dispatch.specs.Undone.{TurnUndone, IsShort, TurnLeft};
 ghost use Rattle.event_dispatch.specs.Cut.{FailsIn, CutOne, CutSome};
 
 use crate::fault::Fault;
@@ -101,6 +101,7 @@ impl Run {
         ensures reads { OnOk result (Reads W.Tells (W.seen world.old) (W.seen world.new) self.old.net self.new.net) }
         ensures no_point { NoPoint W.Tells (W.seen world.old) (W.seen world.new) }
         ensures talks { KeepsTalking W.Tells (W.seen world.old) (W.seen world.new) }
+        ensures own { W.Tells → OwnSteps index (W.seen world.old) (W.seen world.new) }
     {
         let back = restart(self.alloc, world, &mut self.app.state, &[])?;
         self.note_start(back)
@@ -139,6 +140,7 @@ impl Run {
         ensures reads { OnOk result (Reads W.Tells (W.seen world.old) (W.seen world.new) self.old.net self.new.net) }
         ensures no_point { NoPoint W.Tells (W.seen world.old) (W.seen world.new) }
         ensures talks { KeepsTalking W.Tells (W.seen world.old) (W.seen world.new) }
+        ensures own { W.Tells → OwnSteps index (W.seen world.old) (W.seen world.new) }
     {
         match end {
             TurnEnd::Done { stop } => {
@@ -176,6 +178,7 @@ impl Run {
         ensures talks { OnErr result (TurnTalks W.Tells index self.old.app.state.rest (W.seen world.old) (W.seen world.new)) }
         ensures why { IfErr result (IsReason W.Tells (W.seen world.old) (W.seen world.new) 0 0) }
         ensures plain { IfErr result (PlainTurn W.Tells (W.seen world.old) (W.seen world.new) self.old.net) }
+        ensures left { IfErr result (λ fault. TurnLeft W.Tells (IsShort fault) self.old.app.state.rest (W.seen world.old) (W.seen world.new) self.old.net) }
     {
         let end = hold_turn(
             self.alloc,

@@ -29,6 +29,7 @@ use Rattle.event_dispatch.specs.declared.served.Served.{Served}
 use Rattle.event_dispatch.specs.declared.served.Served.TheVariants as served
 use Rattle.event_dispatch.specs.Serves.{IsCut}
 use Rattle.legosdn.specs.Said.{all_allowed, HoldsAsSaid, CutRun, LinesRun, MemoryRun, WritingRun}
+use Rattle.event_dispatch.specs.laws.LeftLaws.{tables_for}
 use Rattle.legosdn.specs.Headline.{KeepsLines, UpToPoint}
 use Rattle.legosdn.proofs.Said.{told_in, are_said, kept_to_lines}
 use Rattle.legosdn.proofs.Places.{CountsNone, behind_for, none_strays, shut_strays, idle_strays}
@@ -63,8 +64,8 @@ cut_run : (sim : WorldData) (last : Seen Scripts) (a b : Option (List ℕ)) → 
 cut_run sim last a b lines given later run = record { run = run; as_said = said_so (WroteSoFar all_allowed last a b) run (lines_at sim last lines given later) }
 
 -- what is so where the run is cut is so of a place of it
-place_of : (sim : WorldData) (Alike Holds : Seen Scripts → Type 0) → InOrder (seen_of sim) → (cut : CutAt Alike (seen_of sim)) → (Alike cut.last → Holds cut.last) → UpToPoint sim Holds
-place_of sim Alike Holds order cut so =
+place_of : (sim : WorldData) (Short : Type 0) (Alike Holds : Seen Scripts → Type 0) → InOrder (seen_of sim) → (cut : CutAt Short Alike (seen_of sim)) → (Alike cut.last → Holds cut.last) → UpToPoint sim Short Holds
+place_of sim Short Alike Holds order cut so =
     let quiet = cut.last_point order in
     let keeps = conforms_at sim cut.last order cut.given quiet (cut.messages order) in
     record {
@@ -73,39 +74,44 @@ place_of sim Alike Holds order cut so =
       last_point = quiet;
       messages = cut.messages order;
       holds = so (cut.alike keeps);
+      tables = cut.tables order;
       at_once = cut.at_once keeps;
     }
 
 -- no line is missing up to there
-pub lines_at_place : (sim : WorldData) (a b : Option (List ℕ)) → InOrder (seen_of sim) → KeepsLines sim → CutWithLines all_allowed (seen_of sim) a b → UpToPoint sim (λ last. LinesRun last a b)
+pub lines_at_place : (sim : WorldData) (a b : Option (List ℕ)) → InOrder (seen_of sim) → KeepsLines sim → CutWithLines all_allowed (seen_of sim) a b → UpToPoint sim ⊥ (λ last. LinesRun last a b)
 unfolding cut_run
 lines_at_place sim a b order lines cut =
-    place_of sim (λ last. CutBehindLines all_allowed last a b) (λ last. LinesRun last a b) order cut (λ behind.
+    place_of sim ⊥ (λ last. CutBehindLines all_allowed last a b) (λ last. LinesRun last a b) order cut (λ behind.
     record { cut = cut_run sim cut.last a b lines cut.given cut.later behind.run; done = behind.done; none_between = behind.none_between })
 
-pub writing_at_place : (sim : WorldData) (a b : Option (List ℕ)) → InOrder (seen_of sim) → KeepsLines sim → CutWriting all_allowed (seen_of sim) a b → UpToPoint sim (λ last. WritingRun last a b)
+pub writing_at_place : (sim : WorldData) (a b : Option (List ℕ)) → InOrder (seen_of sim) → KeepsLines sim → CutWriting all_allowed (seen_of sim) a b → UpToPoint sim ⊥ (λ last. WritingRun last a b)
 writing_at_place sim a b order lines cut =
-    place_of sim (λ last. CutInLines all_allowed last a b) (λ last. WritingRun last a b) order cut (λ writing.
+    place_of sim ⊥ (λ last. CutInLines all_allowed last a b) (λ last. WritingRun last a b) order cut (λ writing.
     record { run = writing.run; done = writing.done; as_said = said_so (WasWriting all_allowed cut.last writing.run.text writing.run.more) writing.run.up_to (lines_at sim cut.last lines cut.given cut.later) })
 
-memory_at_place : (sim : WorldData) (a b : Option (List ℕ)) → InOrder (seen_of sim) → KeepsLines sim → CutAlike all_allowed (seen_of sim) a b → UpToPoint sim (λ last. MemoryRun (seen_of sim) last a b)
+memory_at_place : (sim : WorldData) (a b : Option (List ℕ)) → InOrder (seen_of sim) → KeepsLines sim → CutAlike all_allowed (seen_of sim) a b → UpToPoint sim (Unit {0}) (λ last. MemoryRun (seen_of sim) last a b)
 unfolding cut_run
 memory_at_place sim a b order lines cut =
-    place_of sim (λ last. CutForMemory all_allowed (seen_of sim) last a b) (λ last. MemoryRun (seen_of sim) last a b) order cut (λ short.
+    place_of sim (Unit {0}) (λ last. CutForMemory all_allowed (seen_of sim) last a b) (λ last. MemoryRun (seen_of sim) last a b) order cut (λ short.
     record { cut = cut_run sim cut.last a b lines cut.given cut.later short.run; done = short.done })
 
+never_short : ⊥ → Unit {0}
+never_short none = tt
+
 -- no line is missing, so that the lines of the start are there
-pub lines_for_memory : (sim : WorldData) (a b : Option (List ℕ)) → UpToPoint sim (λ last. LinesRun last a b) → UpToPoint sim (λ last. MemoryRun (seen_of sim) last a b)
+pub lines_for_memory : (sim : WorldData) (a b : Option (List ℕ)) → UpToPoint sim ⊥ (λ last. LinesRun last a b) → UpToPoint sim (Unit {0}) (λ last. MemoryRun (seen_of sim) last a b)
 lines_for_memory sim a b up_to = record {
   last = up_to.last;
   given = up_to.given;
   last_point = up_to.last_point;
   messages = up_to.messages;
   holds = record { cut = up_to.holds.cut; done = inr up_to.holds.done };
+  tables = tables_for never_short up_to.tables;
   at_once = up_to.at_once;
 }
 
-pub cut_or_nothing : (sim : WorldData) (a b : Option (List ℕ)) → InOrder (seen_of sim) → KeepsLines sim → CutAlike all_allowed (seen_of sim) a b ⊎ NothingDone [] (seen_of sim) a b → UpToPoint sim (λ last. MemoryRun (seen_of sim) last a b) ⊎ NothingDone [] (seen_of sim) a b
+pub cut_or_nothing : (sim : WorldData) (a b : Option (List ℕ)) → InOrder (seen_of sim) → KeepsLines sim → CutAlike all_allowed (seen_of sim) a b ⊎ NothingDone [] (seen_of sim) a b → UpToPoint sim (Unit {0}) (λ last. MemoryRun (seen_of sim) last a b) ⊎ NothingDone [] (seen_of sim) a b
 cut_or_nothing sim a b order lines (inl cut) = inl (memory_at_place sim a b order lines cut)
 cut_or_nothing sim a b order lines (inr none) = inr none
 
@@ -117,23 +123,23 @@ IsFaultEnd (served.Ended events) = ⊥
 IsFaultEnd (served.EventsLeft left) = ⊥
 IsFaultEnd other = Unit {0}
 
-strays_at : (sim : WorldData) (Alike : Seen Scripts → Type 0) → InOrder (seen_of sim) → CountsNone sim → AreExpectedOnLinks (seen_of sim).history (at_first (seen_of sim).given) → (cut : CutAt Alike (seen_of sim)) → (Alike cut.last → AllByRecursion (IsOrderly index) cut.last.history)
+strays_at : (sim : WorldData) (Short : Type 0) (Alike : Seen Scripts → Type 0) → InOrder (seen_of sim) → CountsNone sim → AreExpectedOnLinks (seen_of sim).history (at_first (seen_of sim).given) → (cut : CutAt Short Alike (seen_of sim)) → (Alike cut.last → AllByRecursion (IsOrderly index) cut.last.history)
     → (seen_of sim).counts.shorts ≡ 0 → (seen_of sim).counts.strays ≡ 0
-strays_at sim Alike order none links cut in_order =
+strays_at sim Short Alike order none links cut in_order =
     let keeps = conforms_at sim cut.last order cut.given (cut.last_point order) (cut.messages order) in
     none_strays sim none (behind_for (in_order (cut.alike keeps)) cut.no_other_called) (applications_in_place (seen_of sim) (cut.at_once keeps)) links
 
 cut_strays : (sim : WorldData) (a b : Option (List ℕ)) → InOrder (seen_of sim) → CountsNone sim → AreExpectedOnLinks (seen_of sim).history (at_first (seen_of sim).given) → CutAlike all_allowed (seen_of sim) a b
     → (seen_of sim).counts.shorts ≡ 0 → (seen_of sim).counts.strays ≡ 0
-cut_strays sim a b order none links cut = strays_at sim (λ last. CutForMemory all_allowed (seen_of sim) last a b) order none links cut (λ short. short.run.in_order)
+cut_strays sim a b order none links cut = strays_at sim (Unit {0}) (λ last. CutForMemory all_allowed (seen_of sim) last a b) order none links cut (λ short. short.run.in_order)
 
 lines_strays : (sim : WorldData) (a b : Option (List ℕ)) → InOrder (seen_of sim) → CountsNone sim → AreExpectedOnLinks (seen_of sim).history (at_first (seen_of sim).given) → CutWithLines all_allowed (seen_of sim) a b
     → (seen_of sim).counts.shorts ≡ 0 → (seen_of sim).counts.strays ≡ 0
-lines_strays sim a b order none links cut = strays_at sim (λ last. CutBehindLines all_allowed last a b) order none links cut (λ behind. behind.run.in_order)
+lines_strays sim a b order none links cut = strays_at sim ⊥ (λ last. CutBehindLines all_allowed last a b) order none links cut (λ behind. behind.run.in_order)
 
 writing_strays : (sim : WorldData) (a b : Option (List ℕ)) → InOrder (seen_of sim) → CountsNone sim → AreExpectedOnLinks (seen_of sim).history (at_first (seen_of sim).given) → CutWriting all_allowed (seen_of sim) a b
     → (seen_of sim).counts.shorts ≡ 0 → (seen_of sim).counts.strays ≡ 0
-writing_strays sim a b order none links cut = strays_at sim (λ last. CutInLines all_allowed last a b) order none links cut (λ writing. writing.run.up_to.in_order)
+writing_strays sim a b order none links cut = strays_at sim ⊥ (λ last. CutInLines all_allowed last a b) order none links cut (λ writing. writing.run.up_to.in_order)
 
 strays_or_nothing : (sim : WorldData) (a b : Option (List ℕ)) → InOrder (seen_of sim) → CountsNone sim → AreExpectedOnLinks (seen_of sim).history (at_first (seen_of sim).given) → CutAlike all_allowed (seen_of sim) a b ⊎ NothingDone [] (seen_of sim) a b
     → (seen_of sim).counts.shorts ≡ 0 → (seen_of sim).counts.strays ≡ 0

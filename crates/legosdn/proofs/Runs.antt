@@ -168,7 +168,7 @@ lines_by_read P told k l stop (Ok x) is cause = tt
 lines_by_read P told k l stop (Err s) is cause = λ late. read_not_late P told k l stop cause (subst IsLate is late)
 
 -- a switch breaks or diverges only where the world did not keep its word
-switch_runs : (sim : WorldData) (a b : Option (List ℕ)) (fault : TxnFault) → (BringMessages sim.history → IsPlainServed (served.Txn fault)) → UpToPoint sim (λ last. LinesRun last a b) → StopsAs (stop_of_switch fault) sim a b
+switch_runs : (sim : WorldData) (a b : Option (List ℕ)) (fault : TxnFault) → (BringMessages sim.history → IsPlainServed (served.Txn fault)) → UpToPoint sim ⊥ (λ last. LinesRun last a b) → StopsAs (stop_of_switch fault) sim a b
 switch_runs sim a b (faults.SwitchFault d) plain place = place
 switch_runs sim a b (faults.SwitchBroke d bytes) plain place = (plain, place)
 switch_runs sim a b (faults.Flooded d n) plain place = (plain, place)
@@ -181,7 +181,7 @@ PromisesPlain old new end = (allows : List Place → Bool) → Premise (Unit {0}
 
 pub runs_by_switch : (old sim : WorldData) (a b : Option (List ℕ)) (stop : Stop) (fault : TxnFault) → (seen_of old).history ≡ [] → length (seen_of old).given.stimuli ≤ 1000000 → Continues (Unit {0}) (seen_of old) (seen_of sim)
     → (BringMessages sim.history → Conforming (seen_of sim)) → (end : Served) → end ≡ served.Txn fault → PromisesPlain (seen_of old) (seen_of sim) end → stop ≡ stop_of_switch fault
-    → UpToPoint sim (λ last. LinesRun last a b) → StopsAs stop sim a b
+    → UpToPoint sim ⊥ (λ last. LinesRun last a b) → StopsAs stop sim a b
 runs_by_switch old sim a b stop fault none few continues word end ended promises is place =
     subst (λ (s : Stop). StopsAs s sim a b) (sym is)
     (switch_runs sim a b fault (λ readable. subst IsPlainServed ended (promises all_allowed (premise (seen_of old) (seen_of sim) none few continues (word readable)))) place)

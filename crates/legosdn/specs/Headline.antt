@@ -14,6 +14,7 @@ use Rattle.sim_world.specs.Told.{without_links}
 use Rattle.sim_world.specs.Scripts.{Scripts, KeepsScripts}
 use Rattle.sim_world.specs.World.{WorldData, seen_of}
 use Rattle.lego_model.specs.Application.{index}
+use Rattle.run_laws.specs.Left.{TablesLeft}
 use Rattle.lego_model.specs.History.{stimuli_in}
 use Rattle.lego_model.specs.WholeRun.{EndsAs, EndsAlike, LeavesAs, LeavesAlike}
 use Rattle.lego_model.specs.declared.fault.TxnFault.{TxnFault}
@@ -149,13 +150,15 @@ pub record RunsPart (seen : Seen Scripts) (contents now_contents : Option (List 
 
 -- Of the run as far as a point this is so: no point behind it is quiescent, so that what lies behind it is of one stimulus, of one event, or of
 -- the end of the report; and all bytes that came of switches up to there are messages. The whole journal is a dialogue with the application,
--- in which each change had reached its switch at once when it was answered.
-pub record UpToPoint (sim : WorldData) (Holds : Seen Scripts → Type 0) : Type 0 where
+-- in which each change had reached its switch at once when it was answered. Where an event was given behind that point, its turn was undone:
+-- each switch has its entries again, or failed in the undo. Only where memory was wanting may the turn have been whole.
+pub record UpToPoint (sim : WorldData) (Short : Type 0) (Holds : Seen Scripts → Type 0) : Type 0 where
   pub last : Seen Scripts
   pub given : last.given ≡ (seen_of sim).given
   pub last_point : IsLastQuiescent last (seen_of sim)
   pub messages : BringMessages last.history
   pub holds : Holds last
+  pub tables : TablesLeft Short last (seen_of sim)
   pub at_once : AtOnce index (journal (seen_of sim).history)
 
 -- some bytes that came of a switch are no message
@@ -168,13 +171,13 @@ SomeRefused sim = BringMessages sim.history → ⊥
 -- are there, if a stimulus happened. Or nothing was done. Only where bytes come that are no message, a switch breaks or diverges.
 abbrev pub StopsAs : Stop → WorldData → Option (List ℕ) → Option (List ℕ) → Type 0
 StopsAs (EventsLeft left) sim contents now_contents = RunsPart (seen_of sim) contents now_contents left
-StopsAs WriteFault sim contents now_contents = UpToPoint sim (λ last. WritingRun last contents now_contents)
+StopsAs WriteFault sim contents now_contents = UpToPoint sim ⊥ (λ last. WritingRun last contents now_contents)
 StopsAs Shut sim contents now_contents = NothingDone (NotOpened ∷ []) (seen_of sim) contents now_contents
-StopsAs NextFault sim contents now_contents = UpToPoint sim (λ last. LinesRun last contents now_contents)
-StopsAs (SwitchFault d) sim contents now_contents = UpToPoint sim (λ last. LinesRun last contents now_contents)
-StopsAs (SwitchBroke d) sim contents now_contents = SomeRefused sim × UpToPoint sim (λ last. LinesRun last contents now_contents)
-StopsAs (Diverged d) sim contents now_contents = SomeRefused sim × UpToPoint sim (λ last. LinesRun last contents now_contents)
-StopsAs NoMemory sim contents now_contents = UpToPoint sim (λ last. MemoryRun (seen_of sim) last contents now_contents) ⊎ NothingDone [] (seen_of sim) contents now_contents
+StopsAs NextFault sim contents now_contents = UpToPoint sim ⊥ (λ last. LinesRun last contents now_contents)
+StopsAs (SwitchFault d) sim contents now_contents = UpToPoint sim ⊥ (λ last. LinesRun last contents now_contents)
+StopsAs (SwitchBroke d) sim contents now_contents = SomeRefused sim × UpToPoint sim ⊥ (λ last. LinesRun last contents now_contents)
+StopsAs (Diverged d) sim contents now_contents = SomeRefused sim × UpToPoint sim ⊥ (λ last. LinesRun last contents now_contents)
+StopsAs NoMemory sim contents now_contents = UpToPoint sim (Unit {0}) (λ last. MemoryRun (seen_of sim) last contents now_contents) ⊎ NothingDone [] (seen_of sim) contents now_contents
 StopsAs other sim contents now_contents = Unit {0}
 
 abbrev pub RunsAs : {T : Type 0} → Result T Stop → WorldData → Option (List ℕ) → Option (List ℕ) → Type 0

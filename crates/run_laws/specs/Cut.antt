@@ -9,6 +9,7 @@ use Rattle.outside.specs.InOrder.{InOrder, BringMessages}
 use Rattle.outside.specs.Quiescence.{IsLastQuiescent}
 use Rattle.app_visor.specs.CallsFor.{CallsFor}
 use Rattle.run_laws.specs.Engine.{Engine}
+use Rattle.run_laws.specs.Left.{TablesLeft}
 use Rattle.lego_model.specs.Application.{index}
 use Rattle.run_laws.specs.Moves.{Moved}
 use Rattle.lego_model.specs.CutRun.{reference_so_far, start_said}
@@ -22,8 +23,9 @@ use Rattle.lego_model.specs.AllLines.{CutBehindLines, CutInLines, CutForMemory}
 
 -- There is a point of it up to which it is so, where the world kept its word as far as there, whatever came behind it; and the whole journal
 -- is a dialogue with the application then. In a world that tells in order all bytes that came of switches up to there are messages, so that
--- it kept its word as far as there, and no quiescent point lies behind. Behind it no other application was called.
-pub record CutAt {Own : Type 0} (Alike : Seen Own → Type 0) (seen : Seen Own) : Type 0 where
+-- it kept its word as far as there, and no quiescent point lies behind; and where an event was given there, its turn was undone on each switch
+-- that did not fail in the undo. Only where memory was wanting may it have been whole. Behind the point no other application was called.
+pub record CutAt {Own : Type 0} (Short : Type 0) (Alike : Seen Own → Type 0) (seen : Seen Own) : Type 0 where
   pub last : Seen Own
   pub given : seen.given ≡ last.given
   pub later : Longer last.history seen.history
@@ -32,18 +34,19 @@ pub record CutAt {Own : Type 0} (Alike : Seen Own → Type 0) (seen : Seen Own) 
   pub messages : InOrder seen → BringMessages last.history
   pub last_point : InOrder seen → IsLastQuiescent last seen
   pub no_other_called : CallsFor index last seen
+  pub tables : InOrder seen → TablesLeft Short last seen
 
 -- where what comes next failed, or a switch, no line is missing
 abbrev pub CutWithLines : {Own : Type 0} → (List Place → Bool) → Seen Own → Option (List ℕ) → Option (List ℕ) → Type 0
-CutWithLines allows seen contents now_contents = CutAt (λ last. CutBehindLines allows last contents now_contents) seen
+CutWithLines allows seen contents now_contents = CutAt ⊥ (λ last. CutBehindLines allows last contents now_contents) seen
 
 -- where the sink failed, it took a part of the last lines
 abbrev pub CutWriting : {Own : Type 0} → (List Place → Bool) → Seen Own → Option (List ℕ) → Option (List ℕ) → Type 0
-CutWriting allows seen contents now_contents = CutAt (λ last. CutInLines allows last contents now_contents) seen
+CutWriting allows seen contents now_contents = CutAt ⊥ (λ last. CutInLines allows last contents now_contents) seen
 
 -- where memory was wanting
 abbrev pub CutAlike : {Own : Type 0} → (List Place → Bool) → Seen Own → Option (List ℕ) → Option (List ℕ) → Type 0
-CutAlike allows seen contents now_contents = CutAt (λ last. CutForMemory allows seen last contents now_contents) seen
+CutAlike allows seen contents now_contents = CutAt (Unit {0}) (λ last. CutForMemory allows seen last contents now_contents) seen
 
 -- ---- What parts of a run come to
 

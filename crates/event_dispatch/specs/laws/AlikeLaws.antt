@@ -39,7 +39,10 @@ use Rattle.event_dispatch.specs.Why.{served_by}
 use Rattle.event_dispatch.specs.Shows.{engine_of}
 use Rattle.event_dispatch.specs.laws.RoundLaws.{writes_then}
 use Rattle.event_dispatch.specs.Talking.{KeepsTalking, GoesOnTalking}
-use Rattle.event_dispatch.specs.Steady.{Reads, NoPoint, AtMostThisPoint}
+use Rattle.event_dispatch.specs.Steady.{Reads, NoPoint, AtMostThisPoint, NoneMoves}
+use Rattle.event_dispatch.specs.Undone.{IsShort, DispatchLeft}
+use Rattle.event_dispatch.specs.laws.LeftLaws.{tables_then, tables_for}
+use Rattle.run_laws.specs.Left.{TablesLeft}
 use Rattle.event_dispatch.specs.laws.SteadyLaws.{reads_then}
 use Rattle.event_dispatch.specs.laws.FrontLaws.{keeps_first, keeps_to, calm_rest}
 use Rattle.event_dispatch.specs.Serves.{IsBatch, IsCut}
@@ -103,6 +106,13 @@ one_here Tells accepts faults.Next a b old new e other cut = cut.2
 one_here Tells accepts (faults.Txn fault) a b old new e other cut = cut.2
 one_here Tells accepts faults.NoMemory a b old new e other cut = cut.2
 
+-- and what it leaves of the tables
+one_left : {Own : Type 0} (Tells : Type 0) (accepts : List TableView → Bool) (fault : Fault) (a b : Option (List ℕ)) (old new : Seen Own) (e : Engine) → NotWrite fault → CutOne Tells accepts fault a b old new e → DispatchLeft Tells (IsShort fault) old new e
+one_left Tells accepts faults.Write a b old new e other cut = absurd other
+one_left Tells accepts faults.Next a b old new e other cut = cut.1.left
+one_left Tells accepts (faults.Txn fault) a b old new e other cut = cut.1.left
+one_left Tells accepts faults.NoMemory a b old new e other cut = cut.1.left
+
 start_quietly : {Own : Type 0} (Tells : Type 0) (fault : Fault) (a b : Option (List ℕ)) (old new : Seen Own) (e : Engine) → NotWrite fault → CutStart Tells fault a b old new e → NoPoint Tells old new
 start_quietly Tells faults.Write a b old new e other cut = absurd other
 start_quietly Tells faults.Next a b old new e other cut = absurd cut
@@ -127,6 +137,16 @@ not_write faults.Write out = absurd out
 not_write faults.Next out = tt
 not_write (faults.Txn fault) out = tt
 not_write faults.NoMemory out = tt
+
+may_be_short : (fault : Fault) → IsShort fault → Unit {0}
+may_be_short fault short = tt
+
+-- it is no want of memory
+not_short : (fault : Fault) → IsOutside fault → IsShort fault → ⊥
+not_short faults.Write out short = short
+not_short faults.Next out short = short
+not_short (faults.Txn fault) out short = short
+not_short faults.NoMemory out short = absurd out
 
 -- it comes at no start,
 start_none : {Own : Type 0} (Tells : Type 0) (fault : Fault) (a b : Option (List ℕ)) (old new : Seen Own) (e : Engine) → IsOutside fault → CutStart Tells fault a b old new e → ⊥
@@ -154,18 +174,20 @@ record Supposed {Own : Type 0} (Tells : Type 0) (accepts : List TableView → Bo
   later : Continues Tells stop seen
   talks : KeepsTalking Tells stop seen
   no_point : NoPoint Tells stop seen
+  none_moves : NoneMoves Tells stop seen
 
 -- A point from which the run went on to where it stopped: in a world that tells in order this kept its word as far as there, and no
--- quiescent point lies behind.
-record IsStop {Own : Type 0} (Tells : Type 0) (last stop : Seen Own) : Type 0 where
+-- quiescent point lies behind; and what was left of the tables.
+record IsStop {Own : Type 0} (Tells Short : Type 0) (last stop : Seen Own) : Type 0 where
   on : Continues Tells last stop
   keeps : InOrder last → Conforming last
   quiet : Conforming last → InOrder stop → IsLastQuiescent last stop
   own : CallsFor index last stop
+  left : Conforming last → InOrder stop → TablesLeft Short last stop
 
 -- up to such a point
-cut_at : {Own : Type 0} {Tells : Type 0} {accepts : List TableView → Bool} {allows : List Place → Bool} (Alike : Seen Own → Type 0) (first stop seen : Seen Own) (p : Supposed Tells accepts allows first stop seen) (last : Seen Own) → IsStop Tells last stop → (Conforming last → AtOnce index (journal stop.history)) → (Conforming last → Alike last)
-    → CutAt Alike seen
+cut_at : {Own : Type 0} {Tells Short : Type 0} {accepts : List TableView → Bool} {allows : List Place → Bool} (Alike : Seen Own → Type 0) (first stop seen : Seen Own) (p : Supposed Tells accepts allows first stop seen) (last : Seen Own) → IsStop Tells Short last stop → (Conforming last → AtOnce index (journal stop.history)) → (Conforming last → Alike last)
+    → CutAt Short Alike seen
 cut_at {Tells = Tells} Alike first stop seen p last is said so =
     let later = Continues-trans Tells last stop seen is.on p.later in
     record {
@@ -177,6 +199,8 @@ cut_at {Tells = Tells} Alike first stop seen p last is said so =
       messages = λ order. messages-of last (is.keeps (InOrder-before p.told later order));
       last_point = λ order. last_quiescent-then (is.quiet (is.keeps (InOrder-before p.told later order)) (InOrder-before p.told p.later order)) (p.no_point.none_quiescent p.told);
       no_other_called = calls_then is.own (p.no_point.own p.told);
+      tables = λ order.
+          tables_then last stop seen p.told is.on p.later (p.talks.no_event p.told) (p.none_moves.stay p.told) (is.left (is.keeps (InOrder-before p.told later order)) (InOrder-before p.told p.later order));
     }
 
 -- up to where it stopped
@@ -190,13 +214,14 @@ writing_at a b first stop seen p keeps so = record {
   messages = λ order. messages-of stop (keeps (InOrder-before p.told p.later order));
   last_point = λ order. last_quiescent-of (p.no_point.none_quiescent p.told);
   no_other_called = p.no_point.own p.told;
+  tables = λ order. inl (p.talks.no_event p.told);
 }
 
 -- ---- The start
 
 start_alike : {Own : Type 0} {Tells : Type 0} {accepts : List TableView → Bool} {allows : List Place → Bool} {a b : Option (List ℕ)} {first stop seen : Seen Own} (p : Supposed Tells accepts allows first stop seen) → b ≡ a → KeepsTalking Tells first stop → NoPoint Tells first stop → CutAlike allows seen a b
 start_alike {allows = allows} {a = a} {b = b} {first = first} {stop = stop} {seen = seen} p same talks no_point =
-    let is : IsStop _ first stop = record { on = p.before; keeps = keeps_first first p.opened; quiet = λ keeps order. last_quiescent-of (no_point.none_quiescent p.told); own = no_point.own p.told } in
+    let is : IsStop _ (Unit {0}) first stop = record { on = p.before; keeps = keeps_first first p.opened; quiet = λ keeps order. last_quiescent-of (no_point.none_quiescent p.told); own = no_point.own p.told; left = λ keeps order. inl (talks.no_event p.told) } in
     cut_at (λ (last : Seen _). CutForMemory allows seen last a b) first stop seen p first is (λ keeps. talks.talks p.told (settled-first first p.opened).speaks.at_once) (λ keeps.
     none-so allows a b first seen p.opened (settled-first first p.opened) (none_since-then (no_point.none_quiescent p.told) (p.no_point.none_quiescent p.told)) keeps same)
 
@@ -258,43 +283,49 @@ some_read {Tells = Tells} {first = first} p g h =
     reads_then first h.mid h.some.mid net_at_first h.mid_run.net h.some.mid_run.net (Continues-trans Tells first g.rounds.mid h.mid (rounds_on p g) h.first) h.some.on behind h.some.reads
 
 -- a fault ended what comes next, which leaves no quiescent point behind
-round_stop : {Own : Type 0} {Tells : Type 0} {accepts : List TableView → Bool} {allows : List Place → Bool} {fault : Fault} {a b : Option (List ℕ)} {first stop seen : Seen Own} (p : Supposed Tells accepts allows first stop seen) (g : CutGoing Tells accepts fault a b first stop engine_at_first) → StopsBatch Tells g.rounds.mid stop g.rounds.mid_run.net → IsStop Tells g.rounds.mid stop
-round_stop {first = first} {stop = stop} {seen = seen} p g stops = record {
+round_stop : {Own : Type 0} {Tells Short : Type 0} {accepts : List TableView → Bool} {allows : List Place → Bool} {fault : Fault} {a b : Option (List ℕ)} {first stop seen : Seen Own} (p : Supposed Tells accepts allows first stop seen) (g : CutGoing Tells accepts fault a b first stop engine_at_first) → KeepsTalking Tells g.rounds.mid stop → StopsBatch Tells g.rounds.mid stop g.rounds.mid_run.net → IsStop Tells Short g.rounds.mid stop
+round_stop {first = first} {stop = stop} {seen = seen} p g talks stops = record {
   on = g.rounds.later;
   keeps = keeps_to first g.rounds.mid p.told p.opened (rounds_on p g) (rounds_read p g);
   quiet = λ keeps order.
       let calm = (rounds_gone p g keeps).moved.settled.calm in
       (stops.here calm.kept).last p.told order (calm_rest g.rounds.mid g.rounds.mid_run.net keeps calm);
   own = stops.own p.told;
+  left = λ keeps order. inl (talks.no_event p.told);
 }
 
-some_stop : {Own : Type 0} {Tells : Type 0} {accepts : List TableView → Bool} {allows : List Place → Bool} {fault : Fault} {a b : Option (List ℕ)} {first stop seen : Seen Own} (p : Supposed Tells accepts allows first stop seen) (g : CutGoing Tells accepts fault a b first stop engine_at_first) (h : CutBehind Tells accepts fault g.rounds.held b g.rounds.mid stop g.rounds.mid_run) → AtMostThisPoint Tells h.some.mid stop → IsStop Tells h.some.mid stop
-some_stop {first = first} {stop = stop} {seen = seen} p g h here = record {
+some_stop : {Own : Type 0} {Tells Short Other : Type 0} {accepts : List TableView → Bool} {allows : List Place → Bool} {fault : Fault} {a b : Option (List ℕ)} {first stop seen : Seen Own} (p : Supposed Tells accepts allows first stop seen) (g : CutGoing Tells accepts fault a b first stop engine_at_first) (h : CutBehind Tells accepts fault g.rounds.held b g.rounds.mid stop g.rounds.mid_run) → AtMostThisPoint Tells h.some.mid stop → (Short → Other) → DispatchLeft Tells Short h.some.mid stop (engine_of h.some.mid_run) → IsStop Tells Other h.some.mid stop
+some_stop {first = first} {stop = stop} {seen = seen} p g h here short dispatch = record {
   on = h.some.later;
   keeps = keeps_to first h.some.mid p.told p.opened (some_on p g h) (some_read p g h);
   quiet = λ keeps order. here.last p.told order (calm_rest h.some.mid h.some.mid_run.net keeps (some_gone p g h keeps).moved.settled.calm);
   own = here.own p.told;
+  left = λ keeps order.
+      let settled = (some_gone p g h keeps).moved.settled in
+      tables_for short (dispatch.left p.told keeps order settled.calm.ready settled.speaks);
 }
 
 round_alike : {Own : Type 0} {Tells : Type 0} {accepts : List TableView → Bool} {allows : List Place → Bool} {fault : Fault} {a b : Option (List ℕ)} {first stop seen : Seen Own} (p : Supposed Tells accepts allows first stop seen) (g : CutGoing Tells accepts fault a b first stop engine_at_first) → NotWrite fault → CutRound Tells accepts fault g.rounds.held b g.rounds.mid stop g.rounds.mid_run → CutAlike allows seen a b
 round_alike {allows = allows} {fault = fault} {a = a} {b = b} {first = first} {stop = stop} {seen = seen} p g other (inl still) =
-    cut_at (λ (last : Seen _). CutForMemory allows seen last a b) first stop seen p g.rounds.mid (round_stop p g still.2) (λ keeps. still.1.talks p.told (rounds_gone p g keeps).moved.settled.speaks.at_once) (λ keeps.
+    cut_at (λ (last : Seen _). CutForMemory allows seen last a b) first stop seen p g.rounds.mid (round_stop p g still.1 still.2) (λ keeps. still.1.talks p.told (rounds_gone p g keeps).moved.settled.speaks.at_once) (λ keeps.
     some-so allows 0 (g.text ++ g.rounds.rounds.text) a b first g.rounds.mid seen (engine_of g.rounds.mid_run) p.opened (rounds_gone p g keeps) (omega arith) keeps
     (still_held fault g.rounds.held b still.0 ∙ rounds_held p g))
 round_alike {Tells = Tells} {accepts = accepts} {allows = allows} {fault = fault} {a = a} {b = b} {first = first} {stop = stop} {seen = seen} p g other (inr h) =
-    cut_at (λ (last : Seen _). CutForMemory allows seen last a b) first stop seen p h.some.mid (some_stop p g h (one_here Tells accepts fault h.some.held b h.some.mid stop (engine_of h.some.mid_run) other h.some.one))
+    cut_at (λ (last : Seen _). CutForMemory allows seen last a b) first stop seen p h.some.mid (some_stop p g h (one_here Tells accepts fault h.some.held b h.some.mid stop (engine_of h.some.mid_run) other h.some.one) (may_be_short fault)
+    (one_left Tells accepts fault h.some.held b h.some.mid stop (engine_of h.some.mid_run) other h.some.one))
     (λ keeps. (one_talks Tells accepts fault h.some.held b h.some.mid stop (engine_of h.some.mid_run) other h.some.one).talks p.told (some_gone p g h keeps).moved.settled.speaks) (λ keeps.
     some-so allows h.some.number ((g.text ++ g.rounds.rounds.text) ++ h.some.some.text) a b first h.some.mid seen (engine_of h.some.mid_run) p.opened (some_gone p g h keeps) (omega (arith, h.some.few)) keeps
     (one_held Tells accepts fault h.some.held b h.some.mid stop (engine_of h.some.mid_run) other h.some.one ∙ some_held p g h))
 
 round_lines : {Own : Type 0} {Tells : Type 0} {accepts : List TableView → Bool} {allows : List Place → Bool} {fault : Fault} {a b : Option (List ℕ)} {first stop seen : Seen Own} (p : Supposed Tells accepts allows first stop seen) (g : CutGoing Tells accepts fault a b first stop engine_at_first) → IsOutside fault → CutRound Tells accepts fault g.rounds.held b g.rounds.mid stop g.rounds.mid_run → CutWithLines allows seen a b
 round_lines {allows = allows} {fault = fault} {a = a} {b = b} {first = first} {stop = stop} {seen = seen} p g out (inl still) =
-    cut_at (λ (last : Seen _). CutBehindLines allows last a b) first stop seen p g.rounds.mid (round_stop p g still.2) (λ keeps. still.1.talks p.told (rounds_gone p g keeps).moved.settled.speaks.at_once) (λ keeps.
+    cut_at (λ (last : Seen _). CutBehindLines allows last a b) first stop seen p g.rounds.mid (round_stop p g still.1 still.2) (λ keeps. still.1.talks p.told (rounds_gone p g keeps).moved.settled.speaks.at_once) (λ keeps.
     rounds-so allows g.rounds.number g.text g.rounds.rounds.text a b first g.begun g.rounds.mid (engine_of g.begun_run) (engine_of g.rounds.mid_run) p.opened (begun_moved p g keeps) (rounds_moved p g keeps) keeps
     (still_held fault g.rounds.held b still.0 ∙ rounds_held p g))
 round_lines {Tells = Tells} {accepts = accepts} {allows = allows} {fault = fault} {a = a} {b = b} {first = first} {stop = stop} {seen = seen} p g out (inr h) =
     let other = not_write fault out in
-    cut_at (λ (last : Seen _). CutBehindLines allows last a b) first stop seen p h.some.mid (some_stop p g h (one_here Tells accepts fault h.some.held b h.some.mid stop (engine_of h.some.mid_run) other h.some.one))
+    cut_at (λ (last : Seen _). CutBehindLines allows last a b) first stop seen p h.some.mid (some_stop p g h (one_here Tells accepts fault h.some.held b h.some.mid stop (engine_of h.some.mid_run) other h.some.one) (not_short fault out)
+    (one_left Tells accepts fault h.some.held b h.some.mid stop (engine_of h.some.mid_run) other h.some.one))
     (λ keeps. (one_talks Tells accepts fault h.some.held b h.some.mid stop (engine_of h.some.mid_run) other h.some.one).talks p.told (some_gone p g h keeps).moved.settled.speaks) (λ keeps.
     lines-so allows h.some.number ((g.text ++ g.rounds.rounds.text) ++ h.some.some.text) a b first h.some.mid (engine_of h.some.mid_run) p.opened (some_gone p g h keeps) (omega (arith, h.some.few))
     (inr (inr (one_alive Tells accepts fault h.some.held b h.some.mid stop (engine_of h.some.mid_run) out h.some.one))) keeps
@@ -329,17 +360,18 @@ last_on {Tells = Tells} {first = first} p n = Continues-trans Tells first n.begu
 last_read : {Own : Type 0} {Tells : Type 0} {accepts : List TableView → Bool} {allows : List Place → Bool} {fault : Fault} {a b : Option (List ℕ)} {first stop seen : Seen Own} (p : Supposed Tells accepts allows first stop seen) (n : CutEnding Tells accepts fault a b first stop engine_at_first) → Reads Tells first n.last net_at_first n.last_run.net
 last_read {first = first} p n = reads_then first n.begun n.last net_at_first n.begun_run.net n.last_run.net n.first n.on n.starts_read n.rounds_read
 
-last_stop : {Own : Type 0} {Tells : Type 0} {accepts : List TableView → Bool} {allows : List Place → Bool} {fault : Fault} {a b : Option (List ℕ)} {first stop seen : Seen Own} (p : Supposed Tells accepts allows first stop seen) (n : CutEnding Tells accepts fault a b first stop engine_at_first) → NoPoint Tells n.last stop → IsStop Tells n.last stop
-last_stop {first = first} {stop = stop} {seen = seen} p n no_point = record {
+last_stop : {Own : Type 0} {Tells Short : Type 0} {accepts : List TableView → Bool} {allows : List Place → Bool} {fault : Fault} {a b : Option (List ℕ)} {first stop seen : Seen Own} (p : Supposed Tells accepts allows first stop seen) (n : CutEnding Tells accepts fault a b first stop engine_at_first) → KeepsTalking Tells n.last stop → NoPoint Tells n.last stop → IsStop Tells Short n.last stop
+last_stop {first = first} {stop = stop} {seen = seen} p n talks no_point = record {
   on = n.later;
   keeps = keeps_to first n.last p.told p.opened (last_on p n) (last_read p n);
   quiet = λ keeps order. last_quiescent-of (no_point.none_quiescent p.told);
   own = no_point.own p.told;
+  left = λ keeps order. inl (talks.no_event p.told);
 }
 
 end_alike : {Own : Type 0} {Tells : Type 0} {accepts : List TableView → Bool} {allows : List Place → Bool} {fault : Fault} {a b : Option (List ℕ)} {first stop seen : Seen Own} (p : Supposed Tells accepts allows first stop seen) (n : CutEnding Tells accepts fault a b first stop engine_at_first) → NotWrite fault → CutAlike allows seen a b
 end_alike {Tells = Tells} {allows = allows} {fault = fault} {a = a} {b = b} {first = first} {stop = stop} {seen = seen} p n other =
-    cut_at (λ (last : Seen _). CutForMemory allows seen last a b) first stop seen p n.last (last_stop p n (end_quietly Tells fault n.last_held b n.last stop (engine_of n.last_run) other n.ends))
+    cut_at (λ (last : Seen _). CutForMemory allows seen last a b) first stop seen p n.last (last_stop p n (end_talks Tells fault n.last_held b n.last stop (engine_of n.last_run) other n.ends) (end_quietly Tells fault n.last_held b n.last stop (engine_of n.last_run) other n.ends))
     (λ keeps. (end_talks Tells fault n.last_held b n.last stop (engine_of n.last_run) other n.ends).talks p.told (last_gone p n keeps).moved.settled.speaks.at_once) (λ keeps.
     some-so allows 1000 (n.text ++ n.rounds.text) a b first n.last seen (engine_of n.last_run) p.opened (last_gone p n keeps) (omega arith) keeps
     (end_held Tells fault n.last_held b n.last stop (engine_of n.last_run) other n.ends ∙ last_held p n))
@@ -347,7 +379,7 @@ end_alike {Tells = Tells} {allows = allows} {fault = fault} {a = a} {b = b} {fir
 end_lines : {Own : Type 0} {Tells : Type 0} {accepts : List TableView → Bool} {allows : List Place → Bool} {fault : Fault} {a b : Option (List ℕ)} {first stop seen : Seen Own} (p : Supposed Tells accepts allows first stop seen) (n : CutEnding Tells accepts fault a b first stop engine_at_first) → IsOutside fault → CutWithLines allows seen a b
 end_lines {Tells = Tells} {allows = allows} {fault = fault} {a = a} {b = b} {first = first} {stop = stop} {seen = seen} p n out =
     let other = not_write fault out in
-    cut_at (λ (last : Seen _). CutBehindLines allows last a b) first stop seen p n.last (last_stop p n (end_quietly Tells fault n.last_held b n.last stop (engine_of n.last_run) other n.ends))
+    cut_at (λ (last : Seen _). CutBehindLines allows last a b) first stop seen p n.last (last_stop p n (end_talks Tells fault n.last_held b n.last stop (engine_of n.last_run) other n.ends) (end_quietly Tells fault n.last_held b n.last stop (engine_of n.last_run) other n.ends))
     (λ keeps. (end_talks Tells fault n.last_held b n.last stop (engine_of n.last_run) other n.ends).talks p.told (last_gone p n keeps).moved.settled.speaks.at_once) (λ keeps.
     lines-so allows 1000 (n.text ++ n.rounds.text) a b first n.last (engine_of n.last_run) p.opened (last_gone p n keeps) (omega arith) (inr (inl n.none_left)) keeps
     (end_held Tells fault n.last_held b n.last stop (engine_of n.last_run) other n.ends ∙ last_held p n))
@@ -390,5 +422,5 @@ by_fault faults.NoMemory p goes = inl (goes_alike p tt goes)
 pub so_cut : {Own : Type 0} (Tells : Type 0) (accepts : List TableView → Bool) (allows : List Place → Bool) (end : Served) (a b : Option (List ℕ)) (old first seen : Seen Own) → PremiseSoFar Tells accepts allows old seen → IsOpened first
     → Continues Tells first seen → CutRun Tells accepts end a b first seen engine_at_first → IsCut allows seen a b end
 so_cut Tells accepts allows end a b old first seen premise opened whole cut =
-    let p : Supposed Tells accepts allows first cut.stop seen = record { told = premise.told; judges = premise.judges; opened = opened; few = premise.few; whole = whole; before = cut.before; later = cut.later; talks = cut.talks; no_point = cut.no_point } in
+    let p : Supposed Tells accepts allows first cut.stop seen = record { told = premise.told; judges = premise.judges; opened = opened; few = premise.few; whole = whole; before = cut.before; later = cut.later; talks = cut.talks; no_point = cut.no_point; none_moves = cut.none_moves } in
     subst (IsCut allows seen a b) (sym cut.is) (by_fault cut.fault p cut.goes)

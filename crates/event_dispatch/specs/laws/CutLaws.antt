@@ -24,8 +24,11 @@ use Rattle.event_dispatch.specs.ReportEnd.{LastShown}
 use Rattle.event_dispatch.specs.laws.LastLaws.{says_leaves}
 use Rattle.lego_model.specs.Application.{index}
 use Rattle.event_dispatch.specs.Talking.{KeepsTalking, TurnTalks}
-use Rattle.event_dispatch.specs.Steady.{Reads, NoPoint, AtMostThisPoint}
-use Rattle.event_dispatch.specs.laws.SteadyLaws.{quietly_none, quietly_then}
+use Rattle.event_dispatch.specs.Steady.{Reads, NoPoint, AtMostThisPoint, NoneMoves}
+use Rattle.event_dispatch.specs.Undone.{IsShort, TurnLeft}
+use Rattle.event_dispatch.specs.laws.LeftLaws.{left_none, left_turn, left_as}
+use Rattle.net_txn.specs.Net.{NetState}
+use Rattle.event_dispatch.specs.laws.SteadyLaws.{quietly_none, quietly_then, none_move, none_move_then}
 use Rattle.event_dispatch.specs.laws.TalkingLaws.{keeps_none, keeps_then, goes_none, goes_turn, goes_as}
 use Rattle.event_dispatch.specs.Serves.{Starts, IsDispatched, Begins}
 use Rattle.event_dispatch.specs.laws.RoundLaws.{first_event, batch_is}
@@ -54,7 +57,7 @@ one_still Tells accepts faults.NoMemory contents now_contents old new e still ta
 
 -- memory ran out before the event was given to the application
 pub fails_short : {Own : Type 0} (Tells : Type 0) (seen : Seen Own) (e : Engine) → FailsIn Tells faults.NoMemory seen seen e
-fails_short Tells seen e = record { talks = goes_none Tells seen e; of_turn = tt }
+fails_short Tells seen e = record { talks = goes_none Tells seen e; of_turn = tt; left = left_none Tells (IsShort faults.NoMemory) seen e }
 
 of_alive : (fault : Fault) (e : Engine) → e.alive ≡ true → IsOfTurn fault e
 of_alive faults.Write e alive = tt
@@ -63,9 +66,10 @@ of_alive (faults.Txn fault) e alive = alive
 of_alive faults.NoMemory e alive = tt
 
 -- or its turn stopped
-pub fails_turn : {Own T : Type 0} (Tells : Type 0) (rest : List ℕ) (old new : Seen Own) (e : Engine) (result : Result T Fault) → e.alive ≡ true → rest ≡ e.rest → OnErr result (TurnTalks Tells index rest old new) → IfErr result (λ fault. FailsIn Tells fault old new e)
-fails_turn Tells rest old new e (Ok x) alive same talks = tt
-fails_turn Tells rest old new e (Err fault) alive same talks = record { talks = goes_turn Tells rest old new e alive same talks; of_turn = of_alive fault e alive }
+pub fails_turn : {Own T : Type 0} (Tells : Type 0) (rest : List ℕ) (old new : Seen Own) (e : Engine) (net : NetState) (result : Result T Fault) → e.alive ≡ true → rest ≡ e.rest → net ≡ e.net → OnErr result (TurnTalks Tells index rest old new) → IfErr result (λ fault. TurnLeft Tells (IsShort fault) rest old new net)
+    → IfErr result (λ fault. FailsIn Tells fault old new e)
+fails_turn Tells rest old new e net (Ok x) alive same stands talks left = tt
+fails_turn Tells rest old new e net (Err fault) alive same stands talks left = record { talks = goes_turn Tells rest old new e alive same talks; of_turn = of_alive fault e alive; left = left_turn Tells (IsShort fault) rest old new net e alive same stands left }
 
 of_turn_as : (fault : Fault) (e now_e : Engine) → now_e.alive ≡ e.alive → IsOfTurn fault e → IsOfTurn fault now_e
 of_turn_as faults.Write e now_e same of_turn = tt
@@ -74,8 +78,12 @@ of_turn_as (faults.Txn fault) e now_e same of_turn = same ∙ of_turn
 of_turn_as faults.NoMemory e now_e same of_turn = tt
 
 -- the engine had other events that wait
-pub fails_as : {Own : Type 0} (Tells : Type 0) (fault : Fault) (old new : Seen Own) (e now_e : Engine) → now_e.alive ≡ e.alive → now_e.rest ≡ e.rest → FailsIn Tells fault old new e → FailsIn Tells fault old new now_e
-fails_as Tells fault old new e now_e alive rest fails = record { talks = goes_as Tells old new e now_e (sym alive) (sym rest) fails.talks; of_turn = of_turn_as fault e now_e alive fails.of_turn }
+pub fails_as : {Own : Type 0} (Tells : Type 0) (fault : Fault) (old new : Seen Own) (e now_e : Engine) → now_e.alive ≡ e.alive → now_e.rest ≡ e.rest → now_e.net ≡ e.net → FailsIn Tells fault old new e → FailsIn Tells fault old new now_e
+fails_as Tells fault old new e now_e alive rest net fails = record {
+  talks = goes_as Tells old new e now_e (sym alive) (sym rest) fails.talks;
+  of_turn = of_turn_as fault e now_e alive fails.of_turn;
+  left = left_as Tells (IsShort fault) old new e now_e alive rest net fails.left;
+}
 
 -- it was dispatched, and the sink failed
 pub one_unwritten : {Own : Type 0} (Tells : Type 0) (accepts : List TableView → Bool) (event : Event) (contents now_contents : Option (List ℕ)) (old new : Seen Own) (r : Run) (queue : List Event) (mid : Run) → Continues Tells old new → r.events < 2 ^ 63 → Some event ≡ slice_get r.queue 0
@@ -142,10 +150,10 @@ finish_cut Tells faults.NoMemory contents now_contents last new e none ends = re
 
 pub goes_cut : {Own : Type 0} (Tells : Type 0) (accepts : List TableView → Bool) (fault : Fault) (contents now_contents : Option (List ℕ)) (old new : Seen Own) (e : Engine) → Continues Tells old new → CutGoes Tells accepts fault contents now_contents old new e
     → CutAs Tells accepts (served_by fault) contents now_contents old new e
-goes_cut Tells accepts faults.Write contents now_contents old new e on goes = record { fault = faults.Write; is = refl; stop = new; before = on; later = Continues-refl Tells new; talks = keeps_none Tells new; no_point = quietly_none Tells new; goes = goes }
-goes_cut Tells accepts faults.Next contents now_contents old new e on goes = record { fault = faults.Next; is = refl; stop = new; before = on; later = Continues-refl Tells new; talks = keeps_none Tells new; no_point = quietly_none Tells new; goes = goes }
-goes_cut Tells accepts (faults.Txn fault) contents now_contents old new e on goes = record { fault = faults.Txn fault; is = refl; stop = new; before = on; later = Continues-refl Tells new; talks = keeps_none Tells new; no_point = quietly_none Tells new; goes = goes }
-goes_cut Tells accepts faults.NoMemory contents now_contents old new e on goes = record { fault = faults.NoMemory; is = refl; stop = new; before = on; later = Continues-refl Tells new; talks = keeps_none Tells new; no_point = quietly_none Tells new; goes = goes }
+goes_cut Tells accepts faults.Write contents now_contents old new e on goes = record { fault = faults.Write; is = refl; stop = new; before = on; later = Continues-refl Tells new; talks = keeps_none Tells new; no_point = quietly_none Tells new; none_moves = none_move Tells new; goes = goes }
+goes_cut Tells accepts faults.Next contents now_contents old new e on goes = record { fault = faults.Next; is = refl; stop = new; before = on; later = Continues-refl Tells new; talks = keeps_none Tells new; no_point = quietly_none Tells new; none_moves = none_move Tells new; goes = goes }
+goes_cut Tells accepts (faults.Txn fault) contents now_contents old new e on goes = record { fault = faults.Txn fault; is = refl; stop = new; before = on; later = Continues-refl Tells new; talks = keeps_none Tells new; no_point = quietly_none Tells new; none_moves = none_move Tells new; goes = goes }
+goes_cut Tells accepts faults.NoMemory contents now_contents old new e on goes = record { fault = faults.NoMemory; is = refl; stop = new; before = on; later = Continues-refl Tells new; talks = keeps_none Tells new; no_point = quietly_none Tells new; none_moves = none_move Tells new; goes = goes }
 
 -- a fault ended the rounds
 pub rounds_cut : {Own : Type 0} (Tells : Type 0) (accepts : List TableView → Bool) (fault : Fault) (a b c : Option (List ℕ)) (old begun new : Seen Own) (r begun_r : Run) → Continues Tells old begun → Begins Tells a b old begun r begun_r → Reads Tells old begun r.net begun_r.net → Continues Tells begun new
@@ -199,8 +207,8 @@ went_cut Tells accepts (Err (served.Txn fault)) a b c d old begun last new r r1 
 went_cut Tells accepts (Err served.NoMemory) a b c d old begun last new r r1 r2 w later cut = end_cut Tells accepts served.NoMemory a b c d old begun last new r r1 r2 w later cut
 
 -- the run goes on, as with the end of the application
-on_cut : {Own : Type 0} (Tells : Type 0) (accepts : List TableView → Bool) (end : Served) (a b : Option (List ℕ)) (old mid new : Seen Own) (e : Engine) → Continues Tells mid new → KeepsTalking Tells mid new → NoPoint Tells mid new → CutRun Tells accepts end a b old mid e → CutRun Tells accepts end a b old new e
-on_cut Tells accepts end a b old mid new e later talks no_point cut = record {
+on_cut : {Own : Type 0} (Tells : Type 0) (accepts : List TableView → Bool) (end : Served) (a b : Option (List ℕ)) (old mid new : Seen Own) (e : Engine) → Continues Tells mid new → KeepsTalking Tells mid new → NoPoint Tells mid new → NoneMoves Tells mid new → CutRun Tells accepts end a b old mid e → CutRun Tells accepts end a b old new e
+on_cut Tells accepts end a b old mid new e later talks no_point none_moves cut = record {
   fault = cut.fault;
   is = cut.is;
   stop = cut.stop;
@@ -208,19 +216,20 @@ on_cut Tells accepts end a b old mid new e later talks no_point cut = record {
   later = Continues-trans Tells cut.stop mid new cut.later later;
   talks = keeps_then Tells cut.stop mid new cut.talks talks;
   no_point = quietly_then Tells cut.stop mid new cut.no_point no_point;
+  none_moves = none_move_then cut.none_moves none_moves;
   goes = cut.goes;
 }
 
-pub goes_on_cut : {Own : Type 0} (Tells : Type 0) (accepts : List TableView → Bool) (result : Result (Unit {0}) Served) (a b : Option (List ℕ)) (old mid new : Seen Own) (e : Engine) → Continues Tells mid new → KeepsTalking Tells mid new → NoPoint Tells mid new → IfErr result (λ end. CutAs Tells accepts end a b old mid e)
+pub goes_on_cut : {Own : Type 0} (Tells : Type 0) (accepts : List TableView → Bool) (result : Result (Unit {0}) Served) (a b : Option (List ℕ)) (old mid new : Seen Own) (e : Engine) → Continues Tells mid new → KeepsTalking Tells mid new → NoPoint Tells mid new → NoneMoves Tells mid new → IfErr result (λ end. CutAs Tells accepts end a b old mid e)
     → IfErr result (λ end. CutAs Tells accepts end a b old new e)
-goes_on_cut Tells accepts (Ok x) a b old mid new e later talks no_point cut = tt
-goes_on_cut Tells accepts (Err (served.EventsLeft left)) a b old mid new e later talks no_point cut = tt
-goes_on_cut Tells accepts (Err (served.Ended events)) a b old mid new e later talks no_point cut = on_cut Tells accepts (served.Ended events) a b old mid new e later talks no_point cut
-goes_on_cut Tells accepts (Err served.WriteFault) a b old mid new e later talks no_point cut = on_cut Tells accepts served.WriteFault a b old mid new e later talks no_point cut
-goes_on_cut Tells accepts (Err served.Shut) a b old mid new e later talks no_point cut = on_cut Tells accepts served.Shut a b old mid new e later talks no_point cut
-goes_on_cut Tells accepts (Err served.NextFault) a b old mid new e later talks no_point cut = on_cut Tells accepts served.NextFault a b old mid new e later talks no_point cut
-goes_on_cut Tells accepts (Err (served.Txn fault)) a b old mid new e later talks no_point cut = on_cut Tells accepts (served.Txn fault) a b old mid new e later talks no_point cut
-goes_on_cut Tells accepts (Err served.NoMemory) a b old mid new e later talks no_point cut = on_cut Tells accepts served.NoMemory a b old mid new e later talks no_point cut
+goes_on_cut Tells accepts (Ok x) a b old mid new e later talks no_point none_moves cut = tt
+goes_on_cut Tells accepts (Err (served.EventsLeft left)) a b old mid new e later talks no_point none_moves cut = tt
+goes_on_cut Tells accepts (Err (served.Ended events)) a b old mid new e later talks no_point none_moves cut = on_cut Tells accepts (served.Ended events) a b old mid new e later talks no_point none_moves cut
+goes_on_cut Tells accepts (Err served.WriteFault) a b old mid new e later talks no_point none_moves cut = on_cut Tells accepts served.WriteFault a b old mid new e later talks no_point none_moves cut
+goes_on_cut Tells accepts (Err served.Shut) a b old mid new e later talks no_point none_moves cut = on_cut Tells accepts served.Shut a b old mid new e later talks no_point none_moves cut
+goes_on_cut Tells accepts (Err served.NextFault) a b old mid new e later talks no_point none_moves cut = on_cut Tells accepts served.NextFault a b old mid new e later talks no_point none_moves cut
+goes_on_cut Tells accepts (Err (served.Txn fault)) a b old mid new e later talks no_point none_moves cut = on_cut Tells accepts (served.Txn fault) a b old mid new e later talks no_point none_moves cut
+goes_on_cut Tells accepts (Err served.NoMemory) a b old mid new e later talks no_point none_moves cut = on_cut Tells accepts served.NoMemory a b old mid new e later talks no_point none_moves cut
 
 -- memory ran out before anything was done
 pub short_cut : {Own : Type 0} (Tells : Type 0) (accepts : List TableView → Bool) (contents : Option (List ℕ)) (seen : Seen Own) (e : Engine) → CutAs Tells accepts served.NoMemory contents contents seen seen e

@@ -59,6 +59,9 @@ asked_reads net now_net views asks = record {
 
 -- ---- Attempts to start
 
+pub started_own : {Own : Type 0} {Tells : Type 0} {old new : Seen Own} (app : ℕ) → app ≡ index → (Tells → OwnSteps app old new) → Tells → OwnSteps index old new
+started_own {old = old} {new = new} app is own told = subst (λ (i : ℕ). OwnSteps i old new) is (own told)
+
 pub started_quietly : {Own : Type 0} {Tells : Type 0} {old new : Seen Own} (app : ℕ) → app ≡ index → (Tells → OwnSteps app old new) → NoPoint Tells old new
 started_quietly {old = old} {new = new} app is own = record {
   none_quiescent = λ told. own_none_quiescent (own told);

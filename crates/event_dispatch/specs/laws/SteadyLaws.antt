@@ -1,6 +1,6 @@
 -- Laws of what the engine keeps of a world that tells in order, over parts of a run that follow one another.
 use Rattle.std.specs.Prelude.{◌≡◌, List}
-use Rattle.std.proofs.Common.{sym, ap, ◌∙◌}
+use Rattle.std.proofs.Common.{refl, sym, ap, ◌∙◌}
 use Rattle.flow_table.specs.declared.view.TableView.{TableView}
 use Rattle.outside.specs.Seen.{Seen, Continues}
 use Rattle.outside.specs.laws.InOrderLaws.{InOrder-before, messages-none, messages-then}
@@ -11,7 +11,7 @@ use Rattle.net_txn.specs.Views.{is_viewed}
 use Rattle.net_txn.specs.Abreast.{Abreast}
 pub use Rattle.app_visor.specs.laws.CalmLaws.{calls_none, calls_then}
 use Rattle.lego_model.specs.Application.{index}
-use Rattle.event_dispatch.specs.Steady.{NoStray, Reads, NoPoint, AtMostThisPoint}
+use Rattle.event_dispatch.specs.Steady.{NoStray, Reads, NoPoint, AtMostThisPoint, NoneMoves}
 
 -- ---- Nothing was done
 
@@ -31,6 +31,9 @@ reads_as Tells old new net mid_net now_net same reads = record { abreast = λ to
 
 pub quietly_none : {Own : Type 0} (Tells : Type 0) (seen : Seen Own) → NoPoint Tells seen seen
 quietly_none Tells seen = record { none_quiescent = λ told. none_since-none seen; own = λ told. calls_none index seen }
+
+pub none_move : {Own : Type 0} (Tells : Type 0) (seen : Seen Own) → NoneMoves Tells seen seen
+none_move Tells seen = record { stay = λ told d. refl }
 
 -- ---- One after the other
 
@@ -55,6 +58,9 @@ quietly_then Tells old mid new first second = record {
   none_quiescent = λ told. none_since-then (first.none_quiescent told) (second.none_quiescent told);
   own = λ told. calls_then (first.own told) (second.own told);
 }
+
+pub none_move_then : {Own : Type 0} {Tells : Type 0} {old mid new : Seen Own} → NoneMoves Tells old mid → NoneMoves Tells mid new → NoneMoves Tells old new
+none_move_then first second = record { stay = λ told d. second.stay told d ∙ first.stay told d }
 
 -- no quiescent point behind one from which on there was none
 pub quietly_here : {Own : Type 0} {Tells : Type 0} {old new : Seen Own} → NoPoint Tells old new → AtMostThisPoint Tells old new

@@ -32,6 +32,8 @@ use Rattle.run_laws.specs.Engine.{Engine}
 use Rattle.lego_model.specs.Application.{index}
 use Rattle.event_dispatch.specs.Serves.{PlaysTurn}
 use Rattle.event_dispatch.specs.Talking.{KeepsTalking, TurnTalks, GoesOnTalking}
+use Rattle.event_dispatch.specs.laws.NoEventLaws.{no_event_none, no_event_then, no_event_links, no_event_next, no_event_own, no_event_ended}
+use Rattle.app_visor.specs.CallsFor.{OwnSteps}
 
 -- ---- Of any application
 
@@ -54,14 +56,14 @@ talks_leads says = (says.after, says.converses)
 -- ---- Whatever it was
 
 pub keeps_none : {Own : Type 0} (Tells : Type 0) (seen : Seen Own) → KeepsTalking Tells seen seen
-keeps_none Tells seen = record { talks = λ told a. a }
+keeps_none Tells seen = record { talks = λ told a. a; no_event = λ told. no_event_none seen }
 
 pub keeps_then : {Own : Type 0} (Tells : Type 0) (a b c : Seen Own) → KeepsTalking Tells a b → KeepsTalking Tells b c → KeepsTalking Tells a c
-keeps_then Tells a b c first second = record { talks = λ told said. second.talks told (first.talks told said) }
+keeps_then Tells a b c first second = record { talks = λ told said. second.talks told (first.talks told said); no_event = λ told. no_event_then (first.no_event told) (second.no_event told) }
 
 -- links were used
 pub keeps_links : {Own : Type 0} (Tells : Type 0) (old new : Seen Own) → OnLinks Tells old new → KeepsTalking Tells old new
-keeps_links Tells old new links = record { talks = λ told a. leads_at_once index old new a (leads_on_links index a.last links told) }
+keeps_links Tells old new links = record { talks = λ told a. leads_at_once index old new a (leads_on_links index a.last links told); no_event = λ told. no_event_links (links told) }
 
 -- no act of the application was told
 item_none : (item : Item) (buf : List ℕ) → filter (is_of index) (journal (item_step item buf ∷ [])) ≡ []
@@ -90,23 +92,27 @@ keeps_next {old = old} {new = new} {result = result} {buf = buf} nexts = record 
   talks = λ told a.
       let call = nexts.told told in
       others_at_once old new (next_steps call.begun result buf) call.history (next_none call.begun result buf) a;
+  no_event = λ told. no_event_next nexts told;
 }
 
 -- the application was ended, if it ran
 pub keeps_ended : {Own : Type 0} (Tells : Type 0) (old new : Seen Own) → Ends Tells index old new → KeepsTalking Tells old new
-keeps_ended Tells old new ends = record { talks = λ told said. let ended = converses_ended Tells index said.last old new ends told (runs_now old said) in at_once_then ended.0 old new said ended.1.0 }
+keeps_ended Tells old new ends = record { talks = λ told said. let ended = converses_ended Tells index said.last old new ends told (runs_now old said) in at_once_then ended.0 old new said ended.1.0; no_event = λ told. no_event_ended ends told }
 
 -- attempts to start it went on with the dialogue
-keeps_led : {Own : Type 0} (Tells : Type 0) (app : ℕ) (old new : Seen Own) → app ≡ index → TalksOn Tells app old new → KeepsTalking Tells old new
-keeps_led Tells app old new is leads = record { talks = λ told a. leads_at_once index old new a (subst (λ (i : ℕ). TalksOn Tells i old new) is leads told a.last (runs_now old a)) }
+keeps_led : {Own : Type 0} (Tells : Type 0) (app : ℕ) (old new : Seen Own) → app ≡ index → (Tells → OwnSteps app old new) → TalksOn Tells app old new → KeepsTalking Tells old new
+keeps_led Tells app old new is own leads = record {
+  talks = λ told a. leads_at_once index old new a (subst (λ (i : ℕ). TalksOn Tells i old new) is leads told a.last (runs_now old a));
+  no_event = λ told. no_event_own (own told);
+}
 
 -- they stopped early
-pub keeps_tried : {Own : Type 0} (Tells : Type 0) (app : ℕ) (old new : Seen Own) → app ≡ index → (Tells → (s : Before) → s.running ≡ is_running app (state old) → Talks app s old new) → KeepsTalking Tells old new
-keeps_tried Tells app old new is says = keeps_led Tells app old new is (λ told s runs. talks_leads (says told s runs))
+pub keeps_tried : {Own : Type 0} (Tells : Type 0) (app : ℕ) (old new : Seen Own) → app ≡ index → (Tells → OwnSteps app old new) → (Tells → (s : Before) → s.running ≡ is_running app (state old) → Talks app s old new) → KeepsTalking Tells old new
+keeps_tried Tells app old new is own says = keeps_led Tells app old new is own (λ told s runs. talks_leads (says told s runs))
 
 -- they were made to their end
-pub keeps_restarted : {Own : Type 0} {found : Option (List ℕ)} {tries : List Tried} (Tells : Type 0) (app : ℕ) (old new : Seen Own) → app ≡ index → Restarts Tells app old new found tries → KeepsTalking Tells old new
-keeps_restarted Tells app old new is restarts = keeps_led Tells app old new is
+pub keeps_restarted : {Own : Type 0} {found : Option (List ℕ)} {tries : List Tried} (Tells : Type 0) (app : ℕ) (old new : Seen Own) → app ≡ index → (Tells → OwnSteps app old new) → Restarts Tells app old new found tries → KeepsTalking Tells old new
+keeps_restarted Tells app old new is own restarts = keeps_led Tells app old new is own
     (λ told s runs. let says = tries_speak Tells app attempts restarts.all old new s restarts.are told runs in (says.after, says.converses))
 
 -- ---- A turn

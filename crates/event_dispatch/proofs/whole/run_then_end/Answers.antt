@@ -16,7 +16,7 @@ returns-clause-plain g c =
 
 pub returns-clause-cut : goal.returns-clause-cut
 returns-clause-cut g c =
-    goes_on_cut g.W.World.Tells (g.J.Judge.accepts c.args.judge.now) c.run_opened-ended.result (g.K.Sink.contents c.args.sink.now) (g.K.Sink.contents c.run_opened-ended.new.sink) (g.W.World.seen c.args.world.now) (g.W.World.seen c.run_opened-ended.new.world) (g.W.World.seen c.end.new.world) (engine_of c.args.run.now) c.end.ensures.continues c.end.ensures.talks c.end.ensures.ended.no_point c.run_opened-ended.ensures.cut
+    goes_on_cut g.W.World.Tells (g.J.Judge.accepts c.args.judge.now) c.run_opened-ended.result (g.K.Sink.contents c.args.sink.now) (g.K.Sink.contents c.run_opened-ended.new.sink) (g.W.World.seen c.args.world.now) (g.W.World.seen c.run_opened-ended.new.world) (g.W.World.seen c.end.new.world) (engine_of c.args.run.now) c.end.ensures.continues c.end.ensures.talks c.end.ensures.ended.no_point c.end.ensures.ended.none_moves c.run_opened-ended.ensures.cut
 
 pub returns-clause-none_runs : goal.returns-clause-none_runs
 returns-clause-none_runs g c =

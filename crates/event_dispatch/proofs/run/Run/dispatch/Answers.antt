@@ -41,8 +41,8 @@ returns-then-len-gt-MOST_BODY-clause-fails g c = fails_short g.W.World.Tells (g.
 
 pub returns-clause-fails : goal.returns-clause-fails
 returns-clause-fails g c =
-    fails_turn g.W.World.Tells c.note.new.self.app.state.rest (g.W.World.seen c.args.world.now) (g.W.World.seen c.take_turn.new.world) (engine_of c.args.self.now) c.take_turn.result (sym (ap (λ (e : Engine). e.alive) c.in_ok-note.ensures.adds.engine) ∙ (search rules)) (ap (λ (e : Engine). e.rest) c.in_ok-note.ensures.adds.engine)
-    c.take_turn.ensures.talks
+    fails_turn g.W.World.Tells c.note.new.self.app.state.rest (g.W.World.seen c.args.world.now) (g.W.World.seen c.take_turn.new.world) (engine_of c.args.self.now) c.note.new.self.net c.take_turn.result (sym (ap (λ (e : Engine). e.alive) c.in_ok-note.ensures.adds.engine) ∙ (search rules)) (ap (λ (e : Engine). e.rest) c.in_ok-note.ensures.adds.engine)
+    (ap (λ (e : Engine). e.net) c.in_ok-note.ensures.adds.engine) c.take_turn.ensures.talks c.take_turn.ensures.left
 
 pub returns-in_err-line-clause-places : goal.returns-in_err-line-clause-places
 returns-in_err-line-clause-places g c = places_none g.W.World.Tells (g.W.World.seen c.args.world.now) c.args.self.now.net

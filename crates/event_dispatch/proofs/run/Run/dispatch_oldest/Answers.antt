@@ -35,7 +35,7 @@ returns-in_err-dispatch-clause-cut g c =
     if_err (λ (fault : Fault). CutOne g.W.World.Tells (g.J.Judge.accepts c.args.judge.now) fault (g.K.Sink.contents c.args.sink.now) (g.K.Sink.contents c.args.sink.now) (g.W.World.seen c.args.world.now) (g.W.World.seen c.dispatch.new.world) (engine_of c.args.self.now)) c.in_err-dispatch.field-0.0 c.from_residual.result c.from_residual.ensures.1
     (one_still g.W.World.Tells (g.J.Judge.accepts c.args.judge.now) c.in_err-dispatch.field-0.0 (g.K.Sink.contents c.args.sink.now) (g.K.Sink.contents c.args.sink.now) (g.W.World.seen c.args.world.now) (g.W.World.seen c.dispatch.new.world) (engine_of c.args.self.now)
     (still_so g.W.World.Tells (g.W.World.seen c.args.world.now) (g.W.World.seen c.dispatch.new.world) c.in_err-dispatch.field-0.0 (g.K.Sink.contents c.args.sink.now) (g.K.Sink.contents c.args.sink.now) c.in_err-dispatch.ensures.why refl)
-    (fails_as g.W.World.Tells c.in_err-dispatch.field-0.0 (g.W.World.seen c.args.world.now) (g.W.World.seen c.dispatch.new.world) (engine_of (record c.args.self.now { queue = c.take_first.new.self })) (engine_of c.args.self.now) refl refl c.in_err-dispatch.ensures.fails) c.dispatch.ensures.here)
+    (fails_as g.W.World.Tells c.in_err-dispatch.field-0.0 (g.W.World.seen c.args.world.now) (g.W.World.seen c.dispatch.new.world) (engine_of (record c.args.self.now { queue = c.take_first.new.self })) (engine_of c.args.self.now) refl refl refl c.in_err-dispatch.ensures.fails) c.dispatch.ensures.here)
 
 pub returns-in_err-write-clause-cut : goal.returns-in_err-write-clause-cut
 returns-in_err-write-clause-cut g c =

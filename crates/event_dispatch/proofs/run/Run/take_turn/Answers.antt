@@ -6,6 +6,9 @@ use Rattle.event_dispatch.specs.Plain.{PlainTurn}
 use Rattle.event_dispatch.specs.laws.TalkingLaws.{turn_of, turn_closed, holds_on_err}
 use Rattle.event_dispatch.specs.laws.SteadyLaws.{places_then, reads_then}
 use Rattle.event_dispatch.specs.laws.DispatchStrayLaws.{later_of, later_quietly}
+use Rattle.event_dispatch.specs.declared.fault.Fault.{Fault}
+use Rattle.event_dispatch.specs.Undone.{IsShort, TurnLeft}
+use Rattle.event_dispatch.specs.laws.LeftLaws.{left_undone, left_closed}
 use Rattle.event_dispatch.proofs.run.Run.take_turn.Goals as goal
 
 pub returns-clause-turn : goal.returns-clause-turn
@@ -47,3 +50,14 @@ returns-clause-places g c = places_then (g.W.World.seen c.args.world.now) (g.W.W
 
 pub returns-clause-reads : goal.returns-clause-reads
 returns-clause-reads g c = reads_then (g.W.World.seen c.args.world.now) (g.W.World.seen c.hold_turn.new.world) (g.W.World.seen c.close.new.world) c.args.self.now.net c.hold_turn.new.net c.close.new.self.net c.hold_turn.ensures.continues c.close.ensures.continues c.in_ok-end.ensures.reads c.in_ok-close.ensures.reads
+
+pub returns-in_err-end-clause-left : goal.returns-in_err-end-clause-left
+returns-in_err-end-clause-left g c =
+    if_err (λ (fault : Fault). TurnLeft g.W.World.Tells (IsShort fault) c.args.self.now.app.state.rest (g.W.World.seen c.args.world.now) (g.W.World.seen c.hold_turn.new.world) c.args.self.now.net) c.in_err-end.field-0.0 c.from_residual.result c.from_residual.ensures.1
+    (left_undone g.W.World.Tells (IsShort c.in_err-end.field-0.0) c.args.self.now.app.state.rest (g.W.World.seen c.args.world.now) (g.W.World.seen c.hold_turn.new.world) c.args.self.now.net c.in_err-end.ensures.undone)
+
+pub returns-in_err-close-clause-left : goal.returns-in_err-close-clause-left
+returns-in_err-close-clause-left g c =
+    if_err (λ (fault : Fault). TurnLeft g.W.World.Tells (IsShort fault) c.args.self.now.app.state.rest (g.W.World.seen c.args.world.now) (g.W.World.seen c.close.new.world) c.args.self.now.net) faults.NoMemory c.from_residual-in_err-close.result c.from_residual-in_err-close.ensures.1
+    (left_closed c.args.self.now.app.state.index c.in_ok-end.end (g.W.World.seen c.args.world.now) (g.W.World.seen c.hold_turn.new.world) (g.W.World.seen c.close.new.world) c.args.self.now.net c.hold_turn.new.net c.requires.index c.hold_turn.ensures.continues
+    c.close.ensures.continues c.close.ensures.own c.in_ok-end.ensures.plays)

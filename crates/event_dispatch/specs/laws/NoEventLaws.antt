@@ -1,0 +1,150 @@
+-- Laws of parts of a run in which no application is given an event, and no switch moves.
+use Rattle.std.specs.Prelude.{◌≡◌, ◌==◌, ℕ, Bool, true, false, List, [], ◌∷◌, ◌++◌, map, Option, Some, None, Result, Ok, Err, refl}
+use Rattle.std.proofs.Common.{sym, ap, ◌∙◌, append_assoc, true≢false}
+use Rattle.std.proofs.lemmas.List.{append-nil}
+use Rattle.of_types.specs.declared.journal.Act.{Act}
+use Rattle.of_types.specs.declared.journal.Act.TheVariants.{Stim, Started, Gave, Gone, Took, Ended, Sent, Got}
+use Rattle.of_types.specs.declared.journal.WorldStim.{WorldStim}
+use Rattle.lego_model.specs.Journal.{is_event}
+use Rattle.lego_model.specs.Application.{index}
+use Rattle.outside.specs.declared.step.WorldStep.{WorldStep}
+use Rattle.outside.specs.declared.step.WorldStep.TheVariants.{Acted, TookInto, From, Joined, Left, Moment, Idle, End, Opened, NotOpened, NextFailed, SendFailed, RecvFailed}
+use Rattle.outside.specs.declared.item.Item.{Item}
+use Rattle.outside.specs.declared.item.Item.TheVariants as items
+use Rattle.outside.specs.declared.faults.NextFault.{NextFault}
+use Rattle.outside.specs.declared.faults.NextFault.TheVariants as coming
+use Rattle.outside.specs.Seen.{Seen, Continues}
+use Rattle.outside.specs.State.{State, Link, state, is_running, link_of, switch_in, switch_of, after_act, after_step, after_steps}
+use Rattle.outside.specs.Calls.{Nexts, Ends, stim_steps, item_step, next_steps, end_steps}
+use Rattle.outside.specs.laws.StateLaws.{state-append}
+use Rattle.outside.specs.laws.CallLaws.{Ends-state}
+use Rattle.net_txn.specs.LinkSteps.{is_link_step, AreLinkSteps, LinkSteps}
+use Rattle.journal_laws.specs.Readings.{is_call, Calls}
+use Rattle.journal_laws.specs.laws.CallLaws.{both_second}
+use Rattle.app_visor.specs.Talks.{step_of}
+use Rattle.app_visor.specs.CallsFor.{OwnSteps}
+use Rattle.app_visor.specs.laws.TellingLaws.{apart_called}
+use Rattle.run_laws.specs.Left.{gives_event, GiveNoEvent, NoEventSince, SwitchesStay}
+
+-- ---- One part behind another
+
+none_append : (xs ys : List WorldStep) → GiveNoEvent xs → GiveNoEvent ys → GiveNoEvent (xs ++ ys)
+none_append [] ys all rest = rest
+none_append (x ∷ xs) ys all rest = (all.0, none_append xs ys all.1 rest)
+
+pub no_event_by : {Own : Type 0} (old new : Seen Own) (steps : List WorldStep) → new.history ≡ old.history ++ steps → GiveNoEvent steps → NoEventSince old new
+no_event_by old new steps longer none = record { steps = steps; history = longer; none = none }
+
+pub no_event_none : {Own : Type 0} (seen : Seen Own) → NoEventSince seen seen
+no_event_none seen = no_event_by seen seen [] (sym (append-nil seen.history)) tt
+
+pub no_event_then : {Own : Type 0} {old mid new : Seen Own} → NoEventSince old mid → NoEventSince mid new → NoEventSince old new
+no_event_then {old = old} {new = new} first second =
+    no_event_by old new (first.steps ++ second.steps)
+    (second.history ∙ ap (λ (xs : List WorldStep). xs ++ second.steps) first.history ∙ append_assoc old.history first.steps second.steps) (none_append first.steps second.steps first.none second.none)
+
+-- ---- Links of switches were asked
+
+link_gives : (step : WorldStep) → is_link_step step ≡ true → gives_event step ≡ false
+link_gives (Acted (Sent d bytes)) is = refl
+link_gives (Acted (Got d bytes)) is = refl
+link_gives (SendFailed d) is = refl
+link_gives (RecvFailed d) is = refl
+link_gives (Acted (Stim x)) is = refl
+link_gives (Acted (Started of stands)) is = refl
+link_gives (Acted (Gave of frame)) is = absurd (true≢false (sym is))
+link_gives (Acted (Gone of frame)) is = refl
+link_gives (Acted (Took of what)) is = refl
+link_gives (Acted (Ended of)) is = refl
+link_gives (TookInto of what room) is = refl
+link_gives (From d bytes) is = refl
+link_gives (Joined d bytes) is = refl
+link_gives (Left d) is = refl
+link_gives (Moment at) is = refl
+link_gives Idle is = refl
+link_gives End is = refl
+link_gives Opened is = refl
+link_gives NotOpened is = refl
+link_gives NextFailed is = refl
+
+links_give : (steps : List WorldStep) → AreLinkSteps steps → GiveNoEvent steps
+links_give [] all = tt
+links_give (step ∷ steps) all = (link_gives step all.0, links_give steps all.1)
+
+pub no_event_links : {Own : Type 0} {old new : Seen Own} → LinkSteps old new → NoEventSince old new
+no_event_links {old = old} {new = new} links = no_event_by old new links.steps links.history (links_give links.steps links.all)
+
+-- ---- What comes next was told, or nothing
+
+item_gives : (item : Item) (buf : List ℕ) → gives_event (item_step item buf) ≡ false
+unfolding item_step
+item_gives (items.From d n) buf = refl
+item_gives (items.Joined d n) buf = refl
+item_gives (items.Left d) buf = refl
+item_gives (items.Moment t) buf = refl
+item_gives items.Idle buf = refl
+item_gives items.End buf = refl
+
+stim_gives : (begun : Option WorldStim) (steps : List WorldStep) → GiveNoEvent steps → GiveNoEvent (stim_steps begun ++ steps)
+stim_gives None steps none = none
+stim_gives (Some x) steps none = (refl, none)
+
+next_gives : (begun : Option WorldStim) (result : Result Item NextFault) (buf : List ℕ) → GiveNoEvent (next_steps begun result buf)
+unfolding next_steps
+next_gives begun (Ok item) buf = stim_gives begun (item_step item buf ∷ []) (item_gives item buf, tt)
+next_gives begun (Err coming.Failed) buf = (refl, tt)
+next_gives begun (Err coming.Short) buf = tt
+
+pub no_event_next : {Own : Type 0} {Tells : Type 0} {old new : Seen Own} {result : Result Item NextFault} {buf : List ℕ} → Nexts Tells old new result buf → Tells → NoEventSince old new
+no_event_next {old = old} {new = new} {result = result} {buf = buf} nexts told =
+    let call = nexts.told told in
+    no_event_by old new (next_steps call.begun result buf) call.history (next_gives call.begun result buf)
+
+-- ---- Calls for the application, none of which gave it an event
+
+call_gives : (app : ℕ) (act : Act) → is_call app act ≡ true → gives_event (step_of act) ≡ false
+call_gives app (Started of stands) is = refl
+call_gives app (Gave of bytes) is = both_second (of == app) (is_event bytes) is
+call_gives app (Gone of bytes) is = refl
+call_gives app (Took of what) is = refl
+call_gives app (Ended of) is = refl
+call_gives app (Stim x) is = refl
+call_gives app (Sent d bytes) is = refl
+call_gives app (Got d bytes) is = refl
+
+calls_give : (app : ℕ) (acts : List Act) → Calls app acts → GiveNoEvent (map step_of acts)
+calls_give app [] all = tt
+calls_give app (act ∷ acts) all = (call_gives app act all.0, calls_give app acts all.1)
+
+pub no_event_own : {Own : Type 0} {app : ℕ} {old new : Seen Own} → OwnSteps app old new → NoEventSince old new
+no_event_own {app = app} {old = old} {new = new} own = no_event_by old new (map step_of own.acts) own.history (calls_give app own.acts own.all)
+
+links_stay : (d : ℕ) (s t : State) → t.links ≡ s.links → switch_of d t ≡ switch_of d s
+unfolding switch_of
+links_stay d s t same = ap (λ (links : List Link). switch_in (link_of d links)) same
+
+pub own_stay : {Own : Type 0} {Tells : Type 0} {app : ℕ} {old new : Seen Own} → Continues Tells old new → OwnSteps app old new → SwitchesStay old new
+own_stay {app = app} {old = old} {new = new} on own d =
+    links_stay d (state old) (state new) (ap (λ (s : State). s.links) (state-append old new (map step_of own.acts) on.given own.history) ∙ (apart_called app own.acts (state old) own.all).links)
+
+-- ---- The application was ended, if it ran
+
+end_gives : (app : ℕ) (running : Bool) → GiveNoEvent (end_steps app running)
+unfolding end_steps
+end_gives app true = (refl, tt)
+end_gives app false = tt
+
+pub no_event_ended : {Own : Type 0} {Tells : Type 0} {old new : Seen Own} → Ends Tells index old new → Tells → NoEventSince old new
+no_event_ended {old = old} {new = new} ends told =
+    let running = is_running index (state old) in
+    no_event_by old new (end_steps index running) (ends.told told).history (end_gives index running)
+
+end_stays : (running : Bool) (d : ℕ) (s : State) → switch_of d (after_steps (end_steps index running) s) ≡ switch_of d s
+unfolding end_steps switch_of after_act after_step
+end_stays true d s = refl
+end_stays false d s = refl
+
+pub end_stay : {Own : Type 0} {Tells : Type 0} {old new : Seen Own} → Ends Tells index old new → Tells → SwitchesStay old new
+end_stay {old = old} ends told d =
+    let running = is_running index (state old) in
+    ap (λ (s : State). switch_of d s) (Ends-state told ends) ∙ end_stays running d (state old)
