@@ -54,7 +54,7 @@ pub record IsTry {Own : Type 0} (Tells : Type 0) (app : ℕ) (attempt : Attempt)
 
 pub record Tries {Own : Type 0} (Tells : Type 0) (app : ℕ) (tried : Tried) (rest : List ℕ) (old new : Seen Own) : Type 0 where
   pub attempt : Attempt
-  pub is : IsTry Tells app attempt tried rest old new
+  pub went : IsTry Tells app attempt tried rest old new
 
 -- ---- All attempts
 

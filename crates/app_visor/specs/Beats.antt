@@ -72,7 +72,7 @@ exchange_of dpid bytes answer before after net now_net =
 pub record Exchanges {Own : Type 0} (Tells : Type 0) (app dpid : ℕ) (bytes : List ℕ) (given : Bool) (old new : Seen Own) (net now_net : NetState) : Type 0 where
   pub answer : Answer
   pub after : Seen Own
-  pub is : IsExchange Tells (exchange_of dpid bytes answer old after net now_net)
+  pub exchange : IsExchange Tells (exchange_of dpid bytes answer old after net now_net)
   pub told : Told Tells (give_act given app (answer_frame answer)) after new
 
 -- ---- A turn that stops

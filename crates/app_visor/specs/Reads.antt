@@ -70,7 +70,7 @@ pub record Comes {Own : Type 0} (Tells : Type 0) (app : ℕ) (rest left : List �
   pub unread : List ℕ
   pub then_seen : Seen Own
   pub taken : Taken Tells app rest unread old then_seen
-  pub so : CameSo Tells app came unread left then_seen new
+  pub came_so : CameSo Tells app came unread left then_seen new
 
 -- Memory was wanting, after some pieces were taken.
 pub record Breaks {Own : Type 0} (Tells : Type 0) (app : ℕ) (rest : List ℕ) (old new : Seen Own) : Type 0 where

@@ -133,7 +133,7 @@ pub record Goes {Own : Type 0} (Tells : Type 0) (accepts : List TableView → Bo
 
 -- A frame was played, and the turn ended with it.
 pub record EndsSo {Own : Type 0} (Tells : Type 0) (accepts : List TableView → Bool) (app : ℕ) (rest unread : List ℕ) (old new : Seen Own) (net now_net : NetState) (end : TurnEnd) : Type 0 where
-  pub is : (left : ℕ) → TurnsFrom Tells accepts app (suc left) rest old new net now_net end unread
+  pub turn : (left : ℕ) → TurnsFrom Tells accepts app (suc left) rest old new net now_net end unread
 
 abbrev pub FramePlayed : {Own : Type 0} → Type 0 → (List TableView → Bool) → ℕ → Option TurnEnd → List ℕ → List ℕ → Seen Own → Seen Own → NetState → NetState → Type 0
 FramePlayed Tells accepts app None rest here old new net now_net = Goes Tells accepts app rest here old new net now_net
@@ -141,7 +141,7 @@ FramePlayed Tells accepts app (Some end) rest here old new net now_net = EndsSo 
 
 -- the same of a frame, wherever it stood
 pub record Plays {Own : Type 0} (Tells : Type 0) (accepts : List TableView → Bool) (app : ℕ) (frame : AppFrame) (old new : Seen Own) (net now_net : NetState) (result : Option TurnEnd) : Type 0 where
-  pub so : (rest here : List ℕ) → IsNext frame rest here → FramePlayed Tells accepts app result rest here old new net now_net
+  pub frame_played : (rest here : List ℕ) → IsNext frame rest here → FramePlayed Tells accepts app result rest here old new net now_net
 
 -- ---- The loop over frames
 

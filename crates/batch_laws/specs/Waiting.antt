@@ -18,7 +18,7 @@ events_of_one d f p = if p.declared.dpid == d then f p else []
 -- a declared switch has a link
 pub record HasLink (d : ℕ) (ls : List Link) : Type 0 where
   pub link : Link
-  pub is : link_of d ls ≡ Some link
+  pub link_so : link_of d ls ≡ Some link
   pub number : link.declared.dpid ≡ d
 
 abbrev pub waiting : Link → List WorldStep

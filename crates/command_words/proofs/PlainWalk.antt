@@ -51,9 +51,6 @@ stands so_far is_behind = record {
   stopped = None;
 }
 
-at_start : walk_from nothing_held ≡ stands [] false
-at_start = refl
-
 -- a word goes to the argument
 to_rule : (so_far : List Text) (word : Text) (is_behind : Bool) → to_positional (rule ∷ []) (arg_by_index (rule ∷ []) 1) word (stands so_far is_behind) (held_with so_far) ≡ stands (so_far ++ word ∷ []) is_behind
 to_rule [] word true = refl

@@ -138,7 +138,7 @@ CutEnd Tells other contents now_contents last new e = (now_contents ≡ contents
 -- of a report to which no event is left
 pub record CutFinish {Own : Type 0} (Tells : Type 0) (end : Served) (contents now_contents : Option (List ℕ)) (last new : Seen Own) (e : Engine) : Type 0 where
   pub fault : Fault
-  pub is : end ≡ served_by fault
+  pub end_so : end ≡ served_by fault
   pub none_left : e.queue ≡ []
   pub ends : CutEnd Tells fault contents now_contents last new e
 
@@ -196,7 +196,7 @@ CutGoes Tells accepts fault contents now_contents old new e = CutStart Tells fau
 -- what ended the run, and all that came behind it, as the end of the application
 pub record CutRun {Own : Type 0} (Tells : Type 0) (accepts : List TableView → Bool) (end : Served) (contents now_contents : Option (List ℕ)) (old new : Seen Own) (e : Engine) : Type 0 where
   pub fault : Fault
-  pub is : end ≡ served_by fault
+  pub end_so : end ≡ served_by fault
   pub stop : Seen Own
   pub before : Continues Tells old stop
   pub later : Continues Tells stop new

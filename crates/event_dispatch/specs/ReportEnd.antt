@@ -70,6 +70,6 @@ pub record LastShown {Own : Type 0} (Tells : Type 0) (old new : Seen Own) (r now
 pub record NextRow (row : FlowRow) (ws : List ViewRow) (rest : List FlowRow) : Type 0 where
   pub first : ViewRow
   pub later : List ViewRow
-  pub is : ws ≡ first ∷ later
+  pub split : ws ≡ first ∷ later
   pub key : first.key ≡ row.key
   pub same : SameKeys rest later

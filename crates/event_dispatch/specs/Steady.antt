@@ -11,7 +11,7 @@ use Rattle.net_txn.specs.LinkSteps.{MakesNoStrayCall}
 use Rattle.net_txn.specs.Abreast.{Abreast}
 use Rattle.app_visor.specs.CallsFor.{CallsFor}
 use Rattle.lego_model.specs.Application.{index}
-use Rattle.run_laws.specs.Left.{SwitchesStay}
+use Rattle.lego_model.specs.AfterFault.{SwitchesStay}
 
 -- however it ended: no call of a link was a stray one, and none was for another application
 pub record NoStray {Own : Type 0} (Tells : Type 0) (old new : Seen Own) (net : NetState) : Type 0 where

@@ -6,7 +6,7 @@ use Rattle.lego_model.specs.AtOnce.{Passes, AtOnce}
 use Rattle.run_laws.specs.Engine.{Engine}
 use Rattle.lego_model.specs.Application.{index}
 use Rattle.run_laws.specs.Moves.{Conversing}
-use Rattle.run_laws.specs.Left.{NoEventSince}
+use Rattle.lego_model.specs.AfterFault.{NoEventSince}
 
 -- whatever it was, but no turn: no event was given
 pub record KeepsTalking {Own : Type 0} (Tells : Type 0) (old new : Seen Own) : Type 0 where

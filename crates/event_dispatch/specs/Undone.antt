@@ -6,10 +6,10 @@ use Rattle.outside.specs.Seen.{Seen, journal}
 use Rattle.outside.specs.Conforming.{Conforming}
 use Rattle.outside.specs.InOrder.{InOrder}
 use Rattle.net_txn.specs.Net.{NetState}
-use Rattle.switch_laws.specs.Since.{Ready, UndoneButFailed}
+use Rattle.switch_laws.specs.Since.{Ready}
+use Rattle.lego_model.specs.AfterFault.{UndoneButFailed, TablesLeft}
 use Rattle.run_laws.specs.Engine.{Engine}
 use Rattle.run_laws.specs.Moves.{Conversing}
-use Rattle.run_laws.specs.Left.{TablesLeft}
 use Rattle.event_dispatch.specs.declared.fault.Fault.{Fault}
 use Rattle.event_dispatch.specs.declared.fault.Fault.TheVariants as faults
 

@@ -30,6 +30,12 @@ use outside::{Judge, World};
 use report_text::{TurnWord, event_line, gone_line, start_line, turn_line};
 use std::alloc::{AllocError, Global};
 
+/// An event, and which one of the run it is.
+struct Numbered<'a> {
+    number: u64,
+    event: &'a Event,
+}
+
 /// Holds a turn of the application, whose changes are kept where it was done and undone where it failed.
 #[tactic(auto, using(crate::specs::laws::WhyLaws::continues_then, crate::specs::laws::WhyLaws::why_then, crate::specs::laws::WhyLaws::why_before, crate::specs::laws::FaultLaws::undo_why, crate::specs::laws::FaultLaws::stops_why))]
 fn hold_turn<W: World, J: Judge>(
@@ -39,17 +45,16 @@ fn hold_turn<W: World, J: Judge>(
     queue: &mut EventQueue,
     judge: &J,
     app: &mut AppState,
-    number: u64,
-    event: &Event,
+    numbered: Numbered<'_>,
 ) -> Result<TurnEnd, Fault>
     requires room { 1 ≤ net.old.room }
     requires index { app.old.index ≡ index }
-    requires fits { HostFits (host.Event number net.old.moment event.now) }
+    requires fits { HostFits (host.Event numbered.number net.old.moment numbered.event.now) }
     ensures room { OnOk result (net.new.room ≡ net.old.room) }
     ensures index { app.new.index ≡ app.old.index }
     ensures alive { app.new.alive ≡ app.old.alive }
     ensures queue { queue.new ≡ queue.old }
-    ensures plays { IfOk result (λ end. PlaysTurn W.Tells (J.accepts judge.now) app.old.index number event.now end (W.seen world.old) (W.seen world.new)
+    ensures plays { IfOk result (λ end. PlaysTurn W.Tells (J.accepts judge.now) app.old.index numbered.entry.number numbered.entry.event.now end (W.seen world.old) (W.seen world.new)
         net.old net.new app.old.rest app.new.rest) }
     ensures read { OnOk result (AreRead net.old.kept → AreRead net.new.kept) }
     ensures continues { Continues W.Tells (W.seen world.old) (W.seen world.new) }
@@ -61,6 +66,7 @@ fn hold_turn<W: World, J: Judge>(
     ensures plain { IfErr result (PlainTurn W.Tells (W.seen world.old) (W.seen world.new) net.old) }
     ensures undone { OnErr result (TurnUndone W.Tells (W.seen world.old) (W.seen world.new) net.old) }
 {
+    let Numbered { number, event } = numbered;
     let mut txn = Txn::begin(net);
     match turn(alloc, world, &mut txn, judge, app, number, event, BUDGET) {
         Ok(TurnEnd::Done { stop }) => {
@@ -187,8 +193,10 @@ impl Run {
             &mut self.queue,
             judge,
             &mut self.app.state,
-            self.events,
-            event,
+            Numbered {
+                number: self.events,
+                event,
+            },
         )?;
         Ok(self.close(world, end)?)
     }

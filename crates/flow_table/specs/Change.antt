@@ -1,9 +1,8 @@
 -- What a FLOW_MOD makes of a flow table (OpenFlow 1.0.0, 4.6 Flow Table Modification Messages and 5.3.3 Modify State Messages).
 -- Our own choice: MODIFY keeps cookie, timeouts and flags, out_port looks at OUTPUT actions alone, the check for overlaps passes
 -- over the identical key, an entry that is replaced gives no notice, and notices stand in key order.
-use Rattle.std.specs.Prelude.{◌≡◌, ◌==◌, ℕ, ◌+◌, ◌-◌, ◌/◌, ◌%◌, Bool, true, false, not, ◌&&◌, ◌||◌, nat_lt, nat_le, List, [], length, map, filter, Option, Some, None, Result, Ok, Err, if◌then◌else◌}
+use Rattle.std.specs.Prelude.{◌≡◌, ◌==◌, ℕ, ◌+◌, ◌-◌, ◌/◌, ◌%◌, Bool, false, not, ◌&&◌, ◌||◌, nat_lt, nat_le, List, [], length, map, filter, Option, Some, None, Result, Ok, Err, if◌then◌else◌}
 use Rattle.std.specs.List.{list_any}
-use Rattle.std.specs.Option.{is_some}
 use Rattle.of_types.specs.declared.errors.OfError.{OfError}
 use Rattle.of_match.specs.declared.key.Key.{Key}
 use Rattle.of_match.specs.Key.{key_number}

@@ -4,9 +4,7 @@
 -- is sent the whole frame whatever its max_len is; both are our own choice.
 use Rattle.std.specs.Prelude.{◌==◌, ℕ, ◌+◌, ◌%◌, ◌^◌, Bool, true, false, not, ◌&&◌, List, [], ◌∷◌, ◌++◌, length, map, Option, Some, None, if◌then◌else◌}
 use Rattle.std.specs.List.{flat_map}
-use Rattle.of_action.specs.declared.action.Action.{Action}
 use Rattle.of_wire.specs.declared.bodies.PacketOut.{PacketOut as PacketOutBody}
-use Rattle.of_wire.specs.declared.message.Message.{Message}
 use Rattle.of_wire.specs.declared.message.Message.TheVariants.{PacketIn}
 use Rattle.of_wire.specs.Spelling.{message_bytes}
 use Rattle.eth_key.specs.PacketFields.{key_of}

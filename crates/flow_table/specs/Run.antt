@@ -1,7 +1,6 @@
 -- What a list of calls makes of a flow table: each call as its definition says, one after another.
 use Rattle.std.specs.Prelude.{◌≡◌, ℕ, ◌-◌, ◌^◌, ◌<◌, ◌≤◌, List, [], ◌∷◌, Option, Some, None}
 use Rattle.of_types.specs.declared.errors.OfError.{OfError}
-use Rattle.of_wire.specs.declared.bodies.FlowMod.{FlowMod}
 use Rattle.flow_table.specs.declared.notice.Notice.{Notice}
 use Rattle.flow_table.specs.declared.calls.TableCall.{TableCall}
 use Rattle.flow_table.specs.declared.calls.TableCall.TheVariants.{Change, Hit, Expire, AddCounts}

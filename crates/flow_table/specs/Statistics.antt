@@ -6,7 +6,6 @@ use Rattle.of_types.specs.Fields.{number_at, piece}
 use Rattle.of_types.specs.Layout.{spelled}
 use Rattle.of_match.specs.Match.{match_of}
 use Rattle.of_wire.specs.declared.bodies.Stats.{Stats as StatsBody}
-use Rattle.of_wire.specs.declared.message.Message.{Message}
 use Rattle.of_wire.specs.declared.message.Message.TheVariants.{StatsReply}
 use Rattle.of_wire.specs.Spelling.{message_bytes}
 use Rattle.of_wire.specs.Stats.{DescStats, desc_stats_fields}

@@ -1,9 +1,8 @@
 -- What a message and a stimulus make of a simulated switch, and what it sends then (OpenFlow 1.0.0, 4.6 Flow Table Modification
 -- Messages and 5.3 to 5.5). Messages that the switch sends of its own have xid 0. Stimuli, and that a PORT_MOD sends no PORT_STATUS,
 -- are our own choice.
-use Rattle.std.specs.Prelude.{◌==◌, ℕ, ◌-◌, Bool, true, false, not, ◌||◌, ◌&&◌, nat_lt, List, [], ◌∷◌, length, take, map, filter, bit_and, bit_or, Option, Some, None, is_none, if◌then◌else◌}
+use Rattle.std.specs.Prelude.{◌==◌, ℕ, ◌-◌, Bool, true, false, not, ◌&&◌, nat_lt, List, [], ◌∷◌, length, take, map, filter, bit_and, bit_or, Option, Some, None, is_none, if◌then◌else◌}
 use Rattle.of_types.specs.declared.errors.OfError.{OfError}
-use Rattle.of_types.specs.declared.port_desc.PortDesc.{PortDesc}
 use Rattle.of_types.specs.declared.journal.PortChange.{PortChange}
 use Rattle.of_types.specs.declared.journal.PortChange.TheVariants as changes
 use Rattle.of_types.specs.declared.journal.Stimulus.{Stimulus}

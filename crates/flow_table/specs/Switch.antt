@@ -1,14 +1,13 @@
 -- The state of a simulated switch, and how it describes itself (OpenFlow 1.0.0, 2 Switch Components, 5.2.1 Port Structures and
 -- 5.3.1 Handshake). The texts and numbers of the descriptions, and that a switch joins with an empty table and zero counts, are
 -- our own choice. Whether a switch is joined is said one level above: where it is not, there is no state.
-use Rattle.std.specs.Prelude.{◌==◌, ℕ, ◌-◌, ◌%◌, ◌^◌, Bool, true, false, not, ◌&&◌, List, [], ◌∷◌, ◌++◌, length, map, replicate, codes, bit_and, Option, Some, None, nat_lt, if◌then◌else◌}
+use Rattle.std.specs.Prelude.{◌==◌, ℕ, ◌-◌, ◌%◌, ◌^◌, Bool, true, not, List, [], ◌∷◌, ◌++◌, length, map, replicate, codes, bit_and, Option, Some, None, nat_lt, if◌then◌else◌}
 use Rattle.std.specs.List.{list_any}
 use Rattle.std.specs.Fmt.{decimal}
 use Rattle.of_types.specs.Fields.{number_bytes}
 use Rattle.of_types.specs.declared.port_desc.PortDesc.{PortDesc}
 use Rattle.of_wire.specs.declared.bodies.FeaturesReply.{FeaturesReply as Features}
 use Rattle.of_wire.specs.declared.bodies.SwitchConfig.{SwitchConfig}
-use Rattle.of_wire.specs.declared.message.Message.{Message}
 use Rattle.of_wire.specs.declared.message.Message.TheVariants.{FeaturesReply}
 use Rattle.of_wire.specs.Spelling.{message_bytes}
 use Rattle.flow_table.specs.Table.{TableState, empty_table}

@@ -4,10 +4,10 @@
 -- looked at no further than needed: what it gives is taken only where no whole frame stands at the front of what is unread, nor bytes that
 -- are refused, and where no end of its bytes was taken since it was started or given another frame than an Answer last. All else is our
 -- own.
-use Rattle.std.specs.Prelude.{◌≡◌, ◌==◌, ℕ, Bool, true, false, List, [], ◌∷◌, ◌++◌, filter, drop, Option, Some, None, Ok, ◌⊎◌, slice_index}
+use Rattle.std.specs.Prelude.{◌≡◌, ◌==◌, ℕ, Bool, true, false, List, [], ◌∷◌, ◌++◌, filter, filter_map, drop, Option, Some, None, Ok, ◌⊎◌, slice_index, slice_get, if◌then◌else◌}
 use Rattle.of_types.specs.declared.errors.OfError.{OfError}
 use Rattle.of_types.specs.declared.journal.Act.{Act}
-use Rattle.of_types.specs.declared.journal.Act.TheVariants.{Started, Gave, Gone, Took, Ended}
+use Rattle.of_types.specs.declared.journal.Act.TheVariants.{Started, Gave, Gone, Took, Ended, Got}
 use Rattle.of_types.specs.declared.journal.TookWhat.TheVariants.{Bytes}
 use Rattle.of_wire.specs.declared.message.Message.{Message}
 use Rattle.of_wire.specs.Reading.{reading_of}
@@ -16,6 +16,10 @@ use Rattle.app_frames.specs.declared.frame.AppFrame.{AppFrame}
 use Rattle.app_frames.specs.declared.frame.AppFrame.TheVariants as frames
 use Rattle.app_frames.specs.declared.frame.Answer.{Answer}
 use Rattle.app_frames.specs.Frames.{app_reading}
+use Rattle.lego_model.specs.declared.wait.Awaited.{Awaited}
+use Rattle.lego_model.specs.declared.wait.Heard.{Heard}
+use Rattle.lego_model.specs.declared.wait.Heard.TheVariants.{Refused}
+use Rattle.lego_model.specs.BarrierWaits.{heard}
 use Rattle.lego_model.specs.Answers.{Rows, as_sent, host_answer, answer_by}
 use Rattle.lego_model.specs.Journal.{is_of, is_event, is_change, sends_change, ReachedAtOnce}
 use Rattle.lego_model.specs.Controller.{answer_frame}
@@ -86,13 +90,27 @@ pub record Passes (bytes rest : List ℕ) : Type 0 where
 abbrev pub SendsNone : List Act → Type 0
 SendsNone acts = filter sends_change acts ≡ []
 
+-- the ERROR that refuses one of the messages before a barrier, where this act got it
+abbrev pub error_said : Heard → Option OfError
+error_said (Refused refusal) = Some refusal.error
+error_said other = None
+
+abbrev pub error_got : Awaited → Act → Option OfError
+error_got a (Got dpid bytes) = if dpid == a.dpid then error_said (heard a bytes) else None
+error_got a act = None
+
+-- the first such ERROR for a change, by the transaction ids of the change and of the barrier behind it
+unfoldable pub first_error : ℕ → ℕ → ℕ → List Act → Option OfError
+first_error dpid xid barrier acts = slice_get (filter_map (error_got (record { dpid = dpid; first = xid; barrier = barrier })) acts) 0
+
 -- It is the host's own answer, and no change was sent.
 pub record AnsweredByHost (bytes : List ℕ) (answer : Answer) (since : List Act) : Type 0 where
   pub rows : Option Rows
   pub answer_so : host_answer rows bytes ≡ Some answer
   pub none_sent : SendsNone since
 
--- The message is a change: it was sent to its switch, and behind it a barrier, the barrier's reply came, and no other change was sent.
+-- The message is a change: it was sent to its switch, and behind it a barrier, the barrier's reply came, and no other change was sent. The
+-- answer is the first ERROR for it that was got behind it, or Fine.
 pub record AnsweredBySwitch (dpid : ℕ) (bytes : List ℕ) (answer : Answer) (since : List Act) : Type 0 where
   pub xid : ℕ
   pub message : Message
@@ -100,6 +118,7 @@ pub record AnsweredBySwitch (dpid : ℕ) (bytes : List ℕ) (answer : Answer) (s
   pub change : is_change message ≡ true
   pub reached : ReachedAtOnce dpid (as_sent message) since
   pub error : Option OfError
+  pub error_so : error ≡ first_error dpid reached.xid reached.barrier (drop reached.sent since)
   pub answer_so : answer ≡ answer_by error
 
 -- the host answered, or the switch did

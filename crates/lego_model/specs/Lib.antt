@@ -18,6 +18,7 @@ pub mod FlowQueries
 pub mod History
 pub mod Application
 pub mod CutRun
+pub mod AfterFault
 pub mod AllLines
 pub mod OrderlySteps
 pub mod ReferenceRun

@@ -2,3 +2,4 @@ pub mod JournalLaws
 pub mod ScriptedLaws
 pub mod SessionWordLaws
 pub mod SessionTextLaws
+pub mod SwitchFaultLaws

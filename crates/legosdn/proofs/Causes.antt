@@ -1,5 +1,5 @@
 -- Why a run stops.
-use Rattle.std.proofs.Common.{◌≡◌, ◌⊎◌, ℕ, List, [], ◌∷◌, Contains, Option, Some, None, Result, Ok, Err, OnOk, OnErr, IfErr, IfSome, refl, sym, ap, subst, ◌∙◌, arith, inl, inr}
+use Rattle.std.proofs.Common.{◌≡◌, ◌⊎◌, ℕ, List, [], Option, Some, None, Result, Ok, Err, OnOk, OnErr, IfErr, IfSome, refl, sym, ap, subst, ◌∙◌, arith, inl, inr}
 use Rattle.lego_io.specs.Count.{NeverFell}
 use Rattle.lego_io.specs.laws.CountLaws.{Rose-after, Rose-before}
 use Rattle.outside.specs.Seen.{Counts, NoneFell, Seen, Longer}
@@ -16,7 +16,7 @@ use Rattle.legosdn.specs.declared.stop.Stop.{Stop}
 use Rattle.legosdn.specs.declared.stop.Stop.TheVariants.{Usage, Refused, ReadFault, WriteFault, Shut, NextFault, SwitchFault, SwitchBroke, Diverged, EventsLeft, NoMemory}
 use Rattle.legosdn.specs.Input.{session_of}
 use Rattle.legosdn.specs.Stops.{stop_status, stop_line, refusal_line, stop_of_switch}
-use Rattle.legosdn.specs.Headline.{Faults, faults_of, IsRunCause, IsCause, IsEarly, IsLate, Loaded, LoadedAt, RunsNoOther, NeverRuns, Wrote}
+use Rattle.legosdn.specs.Headline.{Faults, faults_of, IsRunCause, IsCause, IsEarly, Loaded, LoadedAt, RunsNoOther, NeverRuns, Wrote}
 use Rattle.legosdn.proofs.Statuses.{is_refused, not_late}
 use Rattle.legosdn.proofs.Loads.{late_loaded, no_other}
 

@@ -53,8 +53,8 @@ conforms_at sim last order given quiet messages = in_order-Conforming last (InOr
 
 -- ---- A place of the run
 
-said_so : {last : Seen Scripts} (IsSo : Progress last → Run → Type 0) (up_to : AlikeUpTo last IsSo) → KeepsScripts last.given.own (without_links last.given.fails) last.history → HoldsAsSaid IsSo up_to
-said_so {last} IsSo up_to keeps = λ none. record {
+said_so : {last : Seen Scripts} (Claim : Progress last → Run → Type 0) (up_to : AlikeUpTo last Claim) → KeepsScripts last.given.own (without_links last.given.fails) last.history → HoldsAsSaid Claim up_to
+said_so {last} Claim up_to keeps = λ none. record {
   enough = told_in last;
   holds = λ more few. up_to.as_said _ _ (are_said last more (kept_to_lines last (without_links last.given.fails) keeps none up_to.in_order up_to.at_once) few);
 }

@@ -14,7 +14,7 @@ use Rattle.sim_world.specs.Told.{without_links}
 use Rattle.sim_world.specs.Scripts.{Scripts, KeepsScripts}
 use Rattle.sim_world.specs.World.{WorldData, seen_of}
 use Rattle.lego_model.specs.Application.{index}
-use Rattle.run_laws.specs.Left.{TablesLeft}
+use Rattle.lego_model.specs.AfterFault.{TablesLeft}
 use Rattle.lego_model.specs.History.{stimuli_in}
 use Rattle.lego_model.specs.WholeRun.{EndsAs, EndsAlike, LeavesAs, LeavesAlike}
 use Rattle.lego_model.specs.declared.fault.TxnFault.{TxnFault}

@@ -4,11 +4,8 @@
 use Rattle.std.specs.Prelude.{false, ℕ, List, [], ◌∷◌, ◌++◌, Option, Some, None, if◌then◌else◌}
 use Rattle.of_match.specs.declared.key.Key.{Key}
 use Rattle.of_wire.specs.declared.bodies.FlowMod.{FlowMod as Change}
-use Rattle.of_wire.specs.declared.message.Message.TheVariants.{FlowMod}
-use Rattle.of_wire.specs.Spelling.{message_bytes}
 use Rattle.flow_table.specs.declared.view.TableView.{TableView}
 use Rattle.flow_table.specs.Change.{key_in, is_delete}
-use Rattle.flow_table.specs.Refusals.{no_buffer}
 use Rattle.lego_model.specs.declared.wait.Awaited.{Awaited}
 use Rattle.net_txn.specs.declared.logged.UndoProgress.{UndoProgress}
 use Rattle.net_txn.specs.declared.logged.Logged.{Logged}
@@ -30,25 +27,7 @@ pub record NetState : Type 0 where
 abbrev pub awaited_from : ℕ → ℕ → Awaited
 awaited_from d xid = record { dpid = d; first = xid; barrier = next_xid xid }
 
--- ---- What undoes an addition: DELETE_STRICT of its key, whatever its outputs (OpenFlow 1.0.0, 5.3.3 Modify State Messages)
-
-abbrev pub delete_strict : Key → Change
-delete_strict k = record {
-  matching = k.matching;
-  cookie = 0;
-  command = 4;
-  idle = 0;
-  hard = 0;
-  priority = k.priority;
-  buffer_id = no_buffer;
-  out_port = 0xffff;
-  flags = 0;
-  actions = [];
-}
-
--- the inverse as it is sent
-unfoldable pub inverse_bytes : ℕ → Key → List ℕ
-inverse_bytes xid k = message_bytes xid (FlowMod (delete_strict k))
+-- ---- The log
 
 -- how an inverse that was not sent fares
 abbrev pub no_progress : UndoProgress

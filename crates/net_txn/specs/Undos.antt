@@ -35,7 +35,8 @@ use Rattle.lego_model.specs.BarrierWaits.{flood, next_xid, heard, is_reply, kept
 use Rattle.net_txn.specs.LinkSteps.{OnLinks, MakesNoStrayCall, GoesWithoutStrays}
 use Rattle.net_txn.specs.Views.{with_rows, is_viewed}
 use Rattle.net_txn.specs.Arriving.{without_key}
-use Rattle.net_txn.specs.Net.{NetState, inverse_bytes, no_progress}
+use Rattle.net_txn.specs.Net.{NetState, no_progress}
+use Rattle.lego_model.specs.AfterFault.{inverse_bytes, FailsInUndo}
 use Rattle.net_txn.specs.Waits.{KeptMore}
 use Rattle.net_txn.specs.MessageStore.{KeptWhereFit}
 use Rattle.net_txn.specs.Agrees.{Agrees}
@@ -381,30 +382,6 @@ pub record IsRevertedOn (known : Bool) (d : ℕ) (old new : Counts) (keys : List
   pub keys_so : known ≡ true → is_stuck parts ≡ false → map (λ p. p.1) (inverses_of parts) ≡ keys
   pub barred : known ≡ true → is_stuck parts ≡ false → since_of parts ≡ 0
 
--- ---- A switch that failed
-
--- the step is one of these
-abbrev pub StandsIn : WorldStep → List WorldStep → Type 0
-StandsIn step [] = ⊥
-StandsIn step (x ∷ xs) = (x ≡ step) ⊎ StandsIn step xs
-
--- these steps were made since then, one behind the other
-pub record StandWithin (steps old new : List WorldStep) : Type 0 where
-  pub before : List WorldStep
-  pub behind : List WorldStep
-  pub is : new ≡ old ++ (before ++ (steps ++ behind))
-
--- The switch failed in an undo: its fault, with the calls that were made for it last, of which it has its cause, and the inverses for it
--- before them, which were sent.
-pub record FailsInUndo {Own : Type 0} (Tells : Type 0) (d : ℕ) (old new : Seen Own) : Type 0 where
-  pub fault : TxnFault
-  pub sent : List (ℕ × Key)
-  pub front : List WorldStep
-  pub steps : List WorldStep
-  pub by : IsStuckBy d sent old.counts new.counts fault steps
-  pub were_sent : AllByRecursion (λ p. StandsIn (Acted (Sent d (inverse_bytes p.0 p.1))) front) sent
-  pub told : Tells → StandWithin (front ++ steps) old.history new.history
-
 -- ---- What it leaves of each switch
 
 -- each switch that has a view is joined
@@ -427,7 +404,7 @@ IsTableBack d before s new = switch_of d new ≡ Some (record s { table = undone
 -- the switch is joined, and nothing of it waits
 pub record StandsReady (d : ℕ) (s : State) : Type 0 where
   pub switch : SwitchState
-  pub is : switch_of d s ≡ Some switch
+  pub stands : switch_of d s ≡ Some switch
   pub waits : waits_of d s ≡ []
 
 -- its view shows its table, and nothing of it waits

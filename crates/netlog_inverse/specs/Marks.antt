@@ -19,7 +19,7 @@ use Rattle.netlog_inverse.specs.Meaning.{entry_of, said, settled, is_image_of, f
 -- The first image of each key since a mark gives back the entry that stood there at the mark, as `Standing` of `undo_laws` has it.
 pub record ImagesStand (now d : ℕ) (earlier : TableState) (since : List Logged) (present : TableState) : Type 0 where
   pub was : IsSerialed earlier
-  pub is : IsSerialed present
+  pub serialed : IsSerialed present
   pub later : earlier.next ≤ present.next
   pub keys : (k : Key) → Standing now earlier.next (entry_at k earlier.entries) (said now (first_at d k since)) (entry_at k present.entries)
 

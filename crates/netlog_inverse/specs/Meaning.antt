@@ -90,8 +90,8 @@ pub record IsView (now : ℕ) (rs : List ViewRow) (cache : List (Key × Lost)) (
   pub moment : now < 2 ^ 32
 
 -- what a switch reports of its entries is so
-abbrev pub IsSo : ℕ → List FlowRow → Entry → Type 0
-IsSo now fs e = (f : FlowRow) → counts_at e.key fs ≡ Some f → f ≡ flow_row now e
+abbrev pub ReportsOne : ℕ → List FlowRow → Entry → Type 0
+ReportsOne now fs e = (f : FlowRow) → counts_at e.key fs ≡ Some f → f ≡ flow_row now e
 
 abbrev pub Reports : ℕ → List Entry → List FlowRow → Type 0
-Reports now es fs = All (IsSo now fs) es
+Reports now es fs = All (ReportsOne now fs) es

@@ -9,7 +9,7 @@ use Rattle.outside.specs.InOrder.{InOrder, BringMessages}
 use Rattle.outside.specs.Quiescence.{IsLastQuiescent}
 use Rattle.app_visor.specs.CallsFor.{CallsFor}
 use Rattle.run_laws.specs.Engine.{Engine}
-use Rattle.run_laws.specs.Left.{TablesLeft}
+use Rattle.lego_model.specs.AfterFault.{TablesLeft}
 use Rattle.lego_model.specs.Application.{index}
 use Rattle.run_laws.specs.Moves.{Moved}
 use Rattle.lego_model.specs.CutRun.{reference_so_far, start_said}

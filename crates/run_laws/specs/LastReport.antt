@@ -69,7 +69,7 @@ pub record OnlyAsked {Own : Type 0} (old new : Seen Own) : Type 0 where
 -- a switch that has a view is joined, and its table has these rows
 pub record JoinedWith (vs : List ViewRow) (o : Option SwitchState) : Type 0 where
   pub switch : SwitchState
-  pub is : o ≡ Some switch
+  pub stands : o ≡ Some switch
   pub rows : rows_of_view vs ≡ rows_of_table switch.table.entries
 
 abbrev pub lines_text : List Line → List ℕ

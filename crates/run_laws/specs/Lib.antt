@@ -6,7 +6,6 @@ pub mod Endings
 pub mod LastReport
 pub mod Readings
 pub mod Cut
-pub mod Left
 pub mod LinkSteps
 pub mod First
 pub mod ReferenceTurn

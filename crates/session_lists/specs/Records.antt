@@ -1,5 +1,5 @@
 -- Records that lie one behind the other in one block of bytes. All of this is our own choice.
-use Rattle.std.specs.Prelude.{◌≡◌, ℕ, ◌+◌, ◌-◌, ◌≤◌, List, [], ◌∷◌, take, drop}
+use Rattle.std.specs.Prelude.{◌≡◌, ℕ, ◌-◌, ◌≤◌, List, [], ◌∷◌, take, drop}
 
 -- the records with these kinds, the first of which begins at a place, and each of which ends where the next begins
 abbrev pub records_in : {K : Type 0} → ℕ → List K → List ℕ → List ℕ → List (K × List ℕ)

@@ -1,5 +1,5 @@
 -- The steps of turns as records. All of this is our own choice.
-use Rattle.std.specs.Prelude.{ℕ, ◌-◌, ◌≤◌, List, length, take, drop, map, All}
+use Rattle.std.specs.Prelude.{ℕ, ◌-◌, ◌≤◌, List, take, drop, map, All}
 use Rattle.app_frames.specs.declared.script.ScriptStep.{ScriptStep}
 use Rattle.app_frames.specs.declared.script.ScriptStep.TheVariants as step
 use Rattle.session_lists.specs.declared.kinds.StepKind.{StepKind}

@@ -1,6 +1,5 @@
 -- Lines with a fixed number of words, by that number.
-use Rattle.std.proofs.Common.{◌≡◌, ℕ, ◌≤◌, ◌<◌, List, [], ◌∷◌, map, length, Result, Err, get_or, Bor, refl, arith}
-use Rattle.lego_model.specs.declared.session.SessionKind.{SessionKind}
+use Rattle.std.proofs.Common.{◌≡◌, ℕ, ◌≤◌, ◌<◌, List, [], ◌∷◌, map, length, Err, get_or, Bor, refl, arith}
 use Rattle.lego_model.specs.declared.session.SessionKind.TheVariants.{Word}
 use Rattle.lego_model.specs.SessionLines.{SoFar, fixed_line, line_of_three, line_of_four, line_of_five}
 

@@ -1,11 +1,9 @@
 -- The switches of a simulated world as they are held, and what holds of each. All of this is our own choice.
-use Rattle.std.specs.Prelude.{◌≡◌, ◌≢◌, ℕ, ◌-◌, ◌^◌, ◌<◌, ◌≤◌, nat_lt, List, [], ◌∷◌, ◌++◌, length, map, Option, Some, None, IfSome, All, IsOk, is_some, slice_index_or, if◌then◌else◌}
+use Rattle.std.specs.Prelude.{◌≡◌, ◌≢◌, ℕ, ◌-◌, ◌^◌, ◌<◌, ◌≤◌, nat_lt, List, [], ◌∷◌, ◌++◌, length, map, Option, Some, None, IfSome, is_some, slice_index_or, if◌then◌else◌}
 use Rattle.std.specs.List.{flat_map}
-use Rattle.of_types.specs.declared.journal.Stimulus.{Stimulus}
-use Rattle.of_types.specs.declared.journal.Stimulus.TheVariants.{Advance, Raw}
+use Rattle.of_types.specs.declared.journal.Stimulus.TheVariants.{Advance}
 use Rattle.of_types.specs.declared.journal.WorldStim.{WorldStim}
 use Rattle.of_types.specs.declared.journal.WorldStim.TheVariants.{Of, Join, Leave, At}
-use Rattle.of_wire.specs.Reading.{reading_of}
 use Rattle.flow_table.specs.Switch.{Declared, SwitchState, joined_at, features_reply}
 use Rattle.outside.specs.declared.step.WorldStep.{WorldStep}
 use Rattle.outside.specs.declared.step.WorldStep.TheVariants.{From, Joined, Left, Moment}

@@ -1,6 +1,6 @@
 -- How a world and what the host keeps of it stand to where a transaction began: the logged keys were added since, and nothing else
 -- changed. All of this is our own.
-use Rattle.std.specs.Prelude.{◌≡◌, ◌⊎◌, ℕ, ◌≤◌, true, false, List, [], length, drop, map, Option, Some, None, ◌∷◌, if◌then◌else◌}
+use Rattle.std.specs.Prelude.{◌≡◌, ℕ, ◌≤◌, true, false, List, [], length, drop, map, Option, Some, None, ◌∷◌, if◌then◌else◌}
 use Rattle.of_match.specs.declared.key.Key.{Key}
 use Rattle.flow_table.specs.Switch.{SwitchState}
 use Rattle.undo_laws.specs.Removal.{OnlyAdded}
@@ -8,7 +8,7 @@ use Rattle.outside.specs.Seen.{Seen}
 use Rattle.outside.specs.State.{state, switch_of, waits_of}
 use Rattle.net_txn.specs.Net.{NetState}
 use Rattle.net_txn.specs.Agreement.{Agrees}
-use Rattle.net_txn.specs.Undos.{key_logged, without_keys, keys_of, FailsInUndo}
+use Rattle.net_txn.specs.Undos.{key_logged, without_keys, keys_of}
 use Rattle.net_txn.specs.Views.{is_viewed}
 use Rattle.of_wire.specs.declared.bodies.FlowMod.{FlowMod as Change}
 use Rattle.flow_table.specs.Change.{key_in, is_delete}
@@ -30,7 +30,7 @@ pub record SwitchSince (keys : List Key) (before now : SwitchState) : Type 0 whe
 -- a switch that stood so, and stands so now
 pub record JoinedSince (keys : List Key) (before : SwitchState) (now : Option SwitchState) : Type 0 where
   pub switch : SwitchState
-  pub is : now ≡ Some switch
+  pub stands : now ≡ Some switch
   pub since : SwitchSince keys before switch
 
 pub record Since {Own : Type 0} (start : ℕ) (first now : Seen Own) (net0 net : NetState) : Type 0 where
@@ -59,13 +59,3 @@ pub record TablesSince {Own : Type 0} (start : ℕ) (first now : Seen Own) (net 
   pub unviewed : (d : ℕ) → switch_of d (state first) ≡ None → is_viewed d net.views ≡ false
   pub joined : (d : ℕ) (s : SwitchState) → switch_of d (state first) ≡ Some s → JoinedSince (keys_of d (logged_since start net)) s (switch_of d (state now))
   pub out : (d : ℕ) → switch_of d (state first) ≡ None → switch_of d (state now) ≡ None
-
--- the switch has exactly the entries that it had, and all else of it stands as it stood, but for the serial of its next entry
-pub record HasEntriesAgain (s : SwitchState) (now : Option SwitchState) : Type 0 where
-  pub next : ℕ
-  pub is : now ≡ Some (record s { table = record { entries = s.table.entries; next = next } })
-
--- Each switch that was joined then has its entries again, or it failed in the undo, with its cause in these calls; no other is joined.
-pub record UndoneButFailed {Own : Type 0} (Tells : Type 0) (old new : Seen Own) : Type 0 where
-  pub joined : (d : ℕ) (s : SwitchState) → switch_of d (state old) ≡ Some s → FailsInUndo Tells d old new ⊎ HasEntriesAgain s (switch_of d (state new))
-  pub out : (d : ℕ) → switch_of d (state old) ≡ None → switch_of d (state new) ≡ None

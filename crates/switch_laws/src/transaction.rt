@@ -14,7 +14,8 @@ ghost use Rattle.net_txn.specs.Changes.{Changes};
 ghost use Rattle.net_txn.specs.Agreement.{Steps};
 ghost use Rattle.net_txn.specs.Undos.{Undoes};
 ghost use Rattle.switch_laws.specs.Shown.{Stand, shown_places};
-ghost use Rattle.switch_laws.specs.Since.{Ready, Since, Goes, TablesSince, UndoneButFailed};
+ghost use Rattle.switch_laws.specs.Since.{Ready, Since, Goes, TablesSince};
+ghost use Rattle.lego_model.specs.AfterFault.{UndoneButFailed};
 
 use outside::World;
 

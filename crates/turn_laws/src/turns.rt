@@ -14,7 +14,8 @@ ghost use Rattle.app_visor.specs.declared.state.TurnEnd.{TurnEnd};
 ghost use Rattle.app_visor.specs.Beats.{Stops};
 ghost use Rattle.app_visor.specs.Turns.{reply_by, Turns};
 ghost use Rattle.switch_laws.specs.Shown.{shown_places};
-ghost use Rattle.switch_laws.specs.Since.{Ready, UndoneButFailed};
+ghost use Rattle.switch_laws.specs.Since.{Ready};
+ghost use Rattle.lego_model.specs.AfterFault.{UndoneButFailed};
 ghost use Rattle.turn_laws.specs.Chain.{PlayedAlike};
 ghost use Rattle.turn_laws.specs.Stop.{IsPlainStop};
 

@@ -36,6 +36,6 @@ pub record Standing (now next : ℕ) (earlier : Option Entry) (image : Image) (p
 -- the log holds what was changed since the earlier table
 pub record Stands (now : ℕ) (earlier : TableState) (log : List Inverse) (present : TableState) : Type 0 where
   pub was : IsSerialed earlier
-  pub is : IsSerialed present
+  pub serialed : IsSerialed present
   pub later : earlier.next ≤ present.next
   pub keys : (k : Key) → Standing now earlier.next (entry_at k earlier.entries) (image_of k log) (entry_at k present.entries)

@@ -122,7 +122,7 @@ length_app_body frame is = length_body (app_fields frame) (app_tail frame) (app_
 -- what a body that was read says
 pub record WasApp (kind : AppKind) (frame : AppFrame) (body : List ℕ) : Type 0 where
   pub kind_is : app_kind frame ≡ kind
-  pub is : IsAppFrame frame
+  pub well_formed : IsAppFrame frame
   pub spelled_so : app_body_bytes frame ≡ body
 
 was_message : (body : List ℕ) (frame : AppFrame) → IsBytes body → message_of body ≡ Some frame → WasApp app.Message frame body
@@ -135,7 +135,7 @@ was_message body frame fit e =
     let len = length-drop 8 body in
     subst (λ (f : AppFrame). WasApp app.Message f body) a.1 (record {
       kind_is = refl;
-      is = (number_at-lt 8 0 body fit, (omega (arith, low, len), omega (arith, high, len)));
+      well_formed = (number_at-lt 8 0 body fit, (omega (arith, low, len), omega (arith, high, len)));
       spelled_so = body_spelled (number 8 (number_at 8 0 body) ∷ []) body fit (omega (arith, low)) tt (refl, refl);
     })
 
@@ -143,7 +143,7 @@ was_bare : (kind : AppKind) (bare_frame frame : AppFrame) (body : List ℕ) → 
 was_bare kind bare_frame frame body kind_is is none e =
     let a = passed (eqb (length body) 0) bare_frame frame e in
     let empty : body ≡ [] = nil_from_length body (eqb-true _ _ a.0) in
-    subst (λ (f : AppFrame). WasApp kind f body) a.1 (record { kind_is = kind_is; is = is; spelled_so = none ∙ sym empty })
+    subst (λ (f : AppFrame). WasApp kind f body) a.1 (record { kind_is = kind_is; well_formed = is; spelled_so = none ∙ sym empty })
 
 checkpoint_was : (has : Bool) (rest : List ℕ) (checkpoint : Option (List ℕ)) → checkpoint_of has rest ≡ Some checkpoint → (has ≡ is_some checkpoint) × ((stop : Bool) → rest ≡ app_tail (Done stop checkpoint))
 unfolding checkpoint_of
@@ -175,7 +175,7 @@ was_done_with body frame stop has checkpoint fit short two stop_is has_is checkp
     let tail : length (app_tail (Done stop checkpoint)) ≤ 1048576 = rw (← rest) (omega (arith, short, length-drop 2 body)) in
     subst (λ (f : AppFrame). WasApp app.Done f body) (same_some (Done stop checkpoint) frame same) (record {
       kind_is = refl;
-      is = done_fits stop checkpoint tail;
+      well_formed = done_fits stop checkpoint tail;
       spelled_so = done_bytes stop checkpoint body fit two (bit-flag_of (number_at 1 0 body) stop stop_is) (bit-flag_of (number_at 1 1 body) has has_is ∙ ap bit was.0) rest;
     })
 

@@ -43,7 +43,7 @@ host_at_front bytes frame size fit e =
     let fits : HostFits frame = omega (arith, length_host_body frame was.numbers, ap (λ (xs : List ℕ). length xs) was.spelled_so, len, front.said, said) in
     let same : framed (number_of_host (host_kind frame)) (host_body_bytes frame) ≡ take size bytes =
     rw (number, was.spelled_so) (framed_from None host_kind_of read.kind size bytes fit front) in
-    record { is = (was.numbers, fits); spelled_so = same; size_is = ap (λ (xs : List ℕ). length xs) same ∙ length-take-le size bytes front.whole }
+    record { well_formed = (was.numbers, fits); spelled_so = same; size_is = ap (λ (xs : List ℕ). length xs) same ∙ length-take-le size bytes front.whole }
 
 -- a frame has 5 bytes at least
 pub host_size : (bytes : List ℕ) (frame : HostFrame) (size : ℕ) → host_reading bytes ≡ Ok (Some (frame, size)) → (5 ≤ size) × (size ≤ length bytes)

@@ -343,22 +343,22 @@ greets_came {Tells = Tells} {app = app} {rest = rest} {left = left} {old = old} 
     let continues = Continues-trans Tells old mid new told.continues (Comes-continues comes) in
     let adds : Adds Tells (all_acts app ps (last_acts came app)) old new = Adds-append Tells (Gave app restore_frame ∷ []) (takes app ps ++ last_acts came app) old mid new told.history
     (Adds-append Tells (takes app ps) (last_acts came app) mid then_seen new (Adds-takes Tells app ps rest comes.unread mid then_seen comes.taken.all)
-    (Adds-last Tells app came comes.unread left then_seen new comes.so)) in
+    (Adds-last Tells app came comes.unread left then_seen new comes.came_so)) in
     record {
       acts = all_acts app ps (last_acts came app);
       continues = continues;
       history = adds;
       outcome = λ running. ap (λ (s : Start). outcome_of s) (start_came app ps came running) ∙ outcome_by ps (end_of came) ∙ ap (λ (n : Next). first_frame (end_of came) n) next
-          ∙ first_so Tells app came comes.unread left then_seen new comes.so;
+          ∙ first_so Tells app came comes.unread left then_seen new comes.came_so;
       given = λ running. ap (λ (acts : List Act). inputs app acts) (then_ended app ps came running) ∙ inputs_greeted app ps (lasts came running app) (plain_lasts came running app)
           ∙ ap (λ (s : Start). restored s) (sym (start_came app ps came running));
       heard = λ running. ap (λ (s : Start). is_start_heard s) (start_came app ps came running) ∙ heard_start ps (end_of came) ∙ ap (λ (n : Next). is_told (end_of came) || is_whole n) next
-          ∙ came_heard Tells app came comes.unread left then_seen new comes.so;
-      rises = came_rises Tells app came comes.unread left old then_seen new (Continues-trans Tells old mid then_seen told.continues taken) comes.so;
+          ∙ came_heard Tells app came comes.unread left then_seen new comes.came_so;
+      rises = came_rises Tells app came comes.unread left old then_seen new (Continues-trans Tells old mid then_seen told.continues taken) comes.came_so;
       within = within_all app ps came;
       running = runs_by Tells app (all_acts app ps (last_acts came app)) old new continues adds (runs_given app ps came);
       speaks = λ tells.
-          let last = speaks_came Tells app came comes.unread left (takes app ps) then_seen new comes.so tells in
+          let last = speaks_came Tells app came comes.unread left (takes app ps) then_seen new comes.came_so tells in
           let front : Converses app nothing_said (before comes.unread (takes app ps)) mid then_seen =
           subst (λ (r : List ℕ). Converses app (before r []) (before comes.unread (takes app ps)) mid then_seen) none (converses_takes Tells app ps rest comes.unread [] mid then_seen comes.taken.all tells) in
           record {

@@ -22,7 +22,7 @@ use Rattle.outside.specs.State.{state, is_running}
 use Rattle.outside.specs.Calls.{Ends, end_steps}
 use Rattle.net_txn.specs.Net.{NetState, awaited_from}
 use Rattle.lego_model.specs.BarrierWaits.{wait_steps, reply_got, barrier_sent}
-use Rattle.net_txn.specs.Changes.{known_rows, answer_of_host, change_sent, error_in, ByHost}
+use Rattle.net_txn.specs.Changes.{known_rows, answer_of_host, change_sent, ByHost}
 use Rattle.lego_model.specs.AtOnce.{Before, before, nothing_said, besides, is_message, Passes, SendsNone, AnsweredAtOnce, GivesFrame, Says, Dialogue}
 use Rattle.journal_laws.specs.laws.AtOnceLaws.{answer_is_one, restore_is_no_answer, event_is_no_answer, passes_none, Dialogue-append, others_say, host_since, switch_since}
 use Rattle.app_visor.specs.Talks.{step_of, Told}
@@ -145,8 +145,9 @@ switch_answered Tells app since x xid m unanswered read is tells none =
         read = read;
         change = refl;
         reached = r.reached;
-        error = error_in asked.refusal;
-        answer_so = asked.answer_so;
+        error = r.error;
+        error_so = r.error_so;
+        answer_so = r.answer_so;
       }));
     }
 
@@ -164,7 +165,7 @@ pub converses_answered : {Own : Type 0} (Tells : Type 0) (app dpid : ℕ) (bytes
     → Exchanges Tells app dpid bytes true old new net now_net → Tells → SendsNone since → Converses app (before rest since) (before here []) old new
 converses_answered Tells app dpid bytes rest here since old new net now_net next e tells none =
     let x = exchange_of dpid bytes e.answer old e.after net now_net in
-    let said = exchange_answered Tells app since x e.is tells none in
+    let said = exchange_answered Tells app since x e.exchange tells none in
     let frame = answer_frame e.answer in
     let then_so = before rest (since ++ journal said.steps) in
     Converses-then app (before rest since) then_so (before here []) old e.after new
@@ -188,7 +189,7 @@ pub converses_unanswered : {Own : Type 0} (Tells : Type 0) (app dpid : ℕ) (byt
     → (t : Before) × Converses app s t old new
 converses_unanswered Tells app dpid bytes s old new net now_net e tells runs =
     let x = exchange_of dpid bytes e.answer old e.after net now_net in
-    let said = exchange_answered Tells app [] x e.is tells refl in
+    let said = exchange_answered Tells app [] x e.exchange tells refl in
     let act = Gone app (answer_frame e.answer) in
     let then_so : Before = record s { since = s.since ++ journal said.steps } in (
       besides then_so act,

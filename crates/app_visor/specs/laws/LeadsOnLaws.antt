@@ -88,7 +88,7 @@ pub leads_on_came : {Own : Type 0} (Tells : Type 0) (app : ℕ) (frame : AppFram
 leads_on_came Tells app frame rest left since old mid new came tells later =
     let t = before came.unread (since ++ takes app came.taken.pieces) in
     let front = converses_takes Tells app came.taken.pieces rest came.unread since old came.then_seen came.taken.all tells in
-    leads_on_then app (before rest since) t old mid new (subst (λ (x : Seen _). Converses app (before rest since) t old x) (sym came.so.1) front) (later t)
+    leads_on_then app (before rest since) t old mid new (subst (λ (x : Seen _). Converses app (before rest since) t old x) (sym came.came_so.1) front) (later t)
 
 -- ---- A turn
 
@@ -147,4 +147,4 @@ talks_then app old mid new continues first second tells s runs =
     leads_on_then app s one.0 old mid new one.1 (second tells one.0 (converses_runs app s one.0 old mid one.1 continues.given runs))
 
 pub talks_tried : {Own : Type 0} {Tells : Type 0} {app : ℕ} {tried : Tried} {rest : List ℕ} {old new : Seen Own} → Tries Tells app tried rest old new → TalksOn Tells app old new
-talks_tried t tells s runs = let says = t.is.speaks tells s runs in (says.after, says.converses)
+talks_tried t tells s runs = let says = t.went.speaks tells s runs in (says.after, says.converses)

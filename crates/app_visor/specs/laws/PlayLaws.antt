@@ -46,23 +46,23 @@ leads_asked app dpid bytes answer old after net now_net is =
 pub exchanges_so : {Own : Type 0} (Tells : Type 0) (app dpid : ℕ) (bytes : List ℕ) (given : Bool) (answer : Answer) (frame : List ℕ) (old after new : Seen Own) (net now_net : NetState)
     → IsExchange Tells (exchange_of dpid bytes answer old after net now_net) → frame ≡ answer_frame answer → Told Tells (give_act given app frame) after new → Exchanges Tells app dpid bytes given old new net now_net
 exchanges_so Tells app dpid bytes given answer frame old after new net now_net is spelled told =
-    record { answer = answer; after = after; is = is; told = subst (λ (f : List ℕ). Told Tells (give_act given app f) after new) spelled told }
+    record { answer = answer; after = after; exchange = is; told = subst (λ (f : List ℕ). Told Tells (give_act given app f) after new) spelled told }
 
 pub plays_answered : {Own : Type 0} (Tells : Type 0) (accepts : List TableView → Bool) (app dpid : ℕ) (bytes : List ℕ) (old new : Seen Own) (net now_net : NetState) → Exchanges Tells app dpid bytes true old new net now_net
     → Plays Tells accepts app (frames.Message dpid bytes) old new net now_net None
-plays_answered Tells accepts app dpid bytes old new net now_net e = record { so = λ rest here next. goes_answered Tells accepts app dpid bytes rest here old new net now_net next e }
+plays_answered Tells accepts app dpid bytes old new net now_net e = record { frame_played = λ rest here next. goes_answered Tells accepts app dpid bytes rest here old new net now_net next e }
 
 pub plays_unanswered : {Own : Type 0} (Tells : Type 0) (accepts : List TableView → Bool) (app dpid : ℕ) (bytes : List ℕ) (old new : Seen Own) (net now_net : NetState) → Exchanges Tells app dpid bytes false old new net now_net
     → Plays Tells accepts app (frames.Message dpid bytes) old new net now_net (Some (ends.Failed causes.Closed))
-plays_unanswered Tells accepts app dpid bytes old new net now_net e = record { so = λ rest here next. ends_unanswered Tells accepts app dpid bytes rest here old new net now_net next e }
+plays_unanswered Tells accepts app dpid bytes old new net now_net e = record { frame_played = λ rest here next. ends_unanswered Tells accepts app dpid bytes rest here old new net now_net next e }
 
 -- ---- One frame
 
 pub plays_came : {Own : Type 0} (Tells : Type 0) (accepts : List TableView → Bool) (app : ℕ) (result : Option TurnEnd) (frame : AppFrame) (rest left : List ℕ) (old mid new : Seen Own) (net now_net : NetState)
     → Comes Tells app rest left old mid (comes.Frame frame) → Plays Tells accepts app frame mid new net now_net result → FramePlayed Tells accepts app result rest left old new net now_net
 plays_came Tells accepts app None frame rest left old mid new net now_net came plays =
-    let taken : Taken Tells app rest came.unread old mid = subst (λ (s : Seen _). Taken Tells app rest came.unread old s) (sym came.so.1) came.taken in
-    let one = plays.so came.unread left came.so.0 in
+    let taken : Taken Tells app rest came.unread old mid = subst (λ (s : Seen _). Taken Tells app rest came.unread old s) (sym came.came_so.1) came.taken in
+    let one = plays.frame_played came.unread left came.came_so.0 in
     record {
       on = λ n later later_net end unread t. turn_taken taken (one.on n later later_net end unread t);
       speaks = λ tells since none.
@@ -71,12 +71,12 @@ plays_came Tells accepts app None frame rest left old mid new net now_net came p
           (one.speaks tells (since ++ ps) (sends_none_both since ps none (takes_send_none app taken.pieces)));
     }
 plays_came Tells accepts app (Some end) frame rest left old mid new net now_net came plays =
-    let taken : Taken Tells app rest came.unread old mid = subst (λ (s : Seen _). Taken Tells app rest came.unread old s) (sym came.so.1) came.taken in
-    record { is = λ n. turn_taken taken ((plays.so came.unread left came.so.0).is n) }
+    let taken : Taken Tells app rest came.unread old mid = subst (λ (s : Seen _). Taken Tells app rest came.unread old s) (sym came.came_so.1) came.taken in
+    record { turn = λ n. turn_taken taken ((plays.frame_played came.unread left came.came_so.0).turn n) }
 
 pub ends_over : {Own : Type 0} (Tells : Type 0) (accepts : List TableView → Bool) (app : ℕ) (came : Came) (rest here : List ℕ) (old new : Seen Own) (net : NetState) → ((left : ℕ) → IsOver came left) → Comes Tells app rest here old new came
     → EndsSo Tells accepts app rest here old new net net (ends.Failed (cause_of came))
-ends_over Tells accepts app came rest here old new net over comes = record { is = λ n. turn_over Tells accepts app (suc n) came rest here here old new net (over (suc n)) comes }
+ends_over Tells accepts app came rest here old new net over comes = record { turn = λ n. turn_over Tells accepts app (suc n) came rest here here old new net (over (suc n)) comes }
 
 -- ---- The loop
 
@@ -99,7 +99,7 @@ goes_more {Tells = Tells} {accepts = accepts} {app = app} {rest = rest} {here = 
 pub ends_then : {Own : Type 0} {Tells : Type 0} {accepts : List TableView → Bool} {app budget left : ℕ} {rest here unread : List ℕ} {old seen new : Seen Own} {net at_net now_net : NetState} {end : TurnEnd} (less : ℕ) → left ≡ suc less
     → GoesOn Tells accepts app budget rest old net left here seen at_net → EndsSo Tells accepts app here unread seen new at_net now_net end → TurnsFrom Tells accepts app budget rest old new net now_net end unread
 ends_then {Tells = Tells} {accepts = accepts} {app = app} {here = here} {unread = unread} {seen = seen} {new = new} {at_net = at_net} {now_net = now_net} {end = end} less is all one =
-    all.on new now_net end unread (subst (λ (n : ℕ). TurnsFrom Tells accepts app n here seen new at_net now_net end unread) (sym is) (one.is less))
+    all.on new now_net end unread (subst (λ (n : ℕ). TurnsFrom Tells accepts app n here seen new at_net now_net end unread) (sym is) (one.turn less))
 
 over_at_zero : (came : Came) (left : ℕ) → left ≡ zero → IsOver came left
 over_at_zero (comes.Frame frame) left is = is

@@ -51,7 +51,7 @@ came_then {app = app} {here = here} {then_seen = then_seen} came on so = record 
   unread = here;
   then_seen = then_seen;
   taken = on.on here then_seen (Taken-refl app here then_seen);
-  so = so;
+  came_so = so;
 }
 
 pub broke_then : {Own : Type 0} {Tells : Type 0} {app : ℕ} {rest here : List ℕ} {old then_seen new : Seen Own} → TakesOn Tells app rest here old then_seen → Breaks Tells app here then_seen new → Breaks Tells app rest old new
@@ -70,7 +70,7 @@ CameSo-continues Tells app Silent rest left old new so = so.1.continues
 
 pub Comes-continues : {Own : Type 0} {Tells : Type 0} {app : ℕ} {rest left : List ℕ} {old new : Seen Own} {came : Came} → Comes Tells app rest left old new came → Continues Tells old new
 Comes-continues {Tells = Tells} {app = app} {left = left} {old = old} {new = new} {came = came} comes =
-    Continues-trans Tells old comes.then_seen new (Taken-continues comes.taken) (CameSo-continues Tells app came comes.unread left comes.then_seen new comes.so)
+    Continues-trans Tells old comes.then_seen new (Taken-continues comes.taken) (CameSo-continues Tells app came comes.unread left comes.then_seen new comes.came_so)
 
 pub Breaks-continues : {Own : Type 0} {Tells : Type 0} {app : ℕ} {rest : List ℕ} {old new : Seen Own} → Breaks Tells app rest old new → Continues Tells old new
 Breaks-continues {Tells = Tells} {old = old} {new = new} breaks =

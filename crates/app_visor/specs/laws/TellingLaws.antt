@@ -134,23 +134,23 @@ apart_called app (act ∷ acts) s all =
 pub record IsWire (step : WorldStep) : Type 0 where
   pub dpid : ℕ
   pub bytes : List ℕ
-  pub is : (step ≡ Acted (Sent dpid bytes)) ⊎ (step ≡ Acted (Got dpid bytes))
+  pub sent_or_got : (step ≡ Acted (Sent dpid bytes)) ⊎ (step ≡ Acted (Got dpid bytes))
 
 abbrev pub AreWires : List WorldStep → Type 0
 AreWires steps = AllByRecursion IsWire steps
 
 pub wire_sent : (d : ℕ) (bytes : List ℕ) → IsWire (Acted (Sent d bytes))
-wire_sent d bytes = record { dpid = d; bytes = bytes; is = inl refl }
+wire_sent d bytes = record { dpid = d; bytes = bytes; sent_or_got = inl refl }
 
 pub wire_got : (d : ℕ) (bytes : List ℕ) → IsWire (Acted (Got d bytes))
-wire_got d bytes = record { dpid = d; bytes = bytes; is = inr refl }
+wire_got d bytes = record { dpid = d; bytes = bytes; sent_or_got = inr refl }
 
 pub wires_both : (xs ys : List WorldStep) → AreWires xs → AreWires ys → AreWires (xs ++ ys)
 wires_both [] ys all rest = rest
 wires_both (x ∷ xs) ys all rest = (all.0, wires_both xs ys all.1 rest)
 
 by_wire : (P : WorldStep → Type 0) (step : WorldStep) → IsWire step → ((d : ℕ) (bytes : List ℕ) → P (Acted (Sent d bytes))) → ((d : ℕ) (bytes : List ℕ) → P (Acted (Got d bytes))) → P step
-by_wire P step w sent got = elim w.is [
+by_wire P step w sent got = elim w.sent_or_got [
   | inl h ↦ subst P (sym h) (sent w.dpid w.bytes)
   | inr h ↦ subst P (sym h) (got w.dpid w.bytes)
 ]

@@ -48,7 +48,7 @@ refused_heard = refl
 pub try_refused : {Own : Type 0} {Tells : Type 0} {app : ℕ} {old mid new : Seen Own} (rest : List ℕ) → rest ≡ [] → Ends Tells app old mid → Told Tells (Started app false) mid new → Tries Tells app Refused rest old new
 try_refused {Tells = Tells} {app = app} {old = old} {mid = mid} {new = new} rest none ends told = record {
   attempt = record { stands = false; acts = [] };
-  is = record {
+  went = record {
     continues = Continues-trans Tells old mid new (Ends-continues ends) told.continues;
     history = Adds-append Tells (end_acts (is_running app (state old)) app) (Started app false ∷ []) old mid new (Adds-ended Tells app old mid ends) told.history;
     outcome = rw none refused_outcome;
@@ -124,7 +124,7 @@ try_stood_at : {Own : Type 0} (Tells : Type 0) (app : ℕ) (tried : Tried) (left
     → Ends Tells app old mid → Told Tells (Started app true) mid up → Greets Tells app tried left up then_seen → EndsUnless Tells app ready then_seen new → Tries Tells app tried (rest_of tried left) old new
 try_stood_at Tells app tried left true old mid up then_seen new is ends told greets unless = record {
   attempt = stood (stood_acts app greets.acts false);
-  is = stood_so Tells app tried left false old mid up then_seen new ends told greets (Adds-none Tells then_seen new unless) (rw unless (Continues-refl Tells then_seen))
+  went = stood_so Tells app tried left false old mid up then_seen new ends told greets (Adds-none Tells then_seen new unless) (rw unless (Continues-refl Tells then_seen))
       (λ tells e. absurd (no_ready (sym is ∙ e))) (λ tells e. ap (λ (s : Seen _). is_running app (state s)) unless ∙ greets.running tells ∙ runs_started Tells app mid up told tells)
       (λ tells s runs passes. record {
         after = s;
@@ -135,7 +135,7 @@ try_stood_at Tells app tried left true old mid up then_seen new is ends told gre
 }
 try_stood_at Tells app tried left false old mid up then_seen new is ends told greets unless = record {
   attempt = stood (stood_acts app greets.acts (is_running app (state then_seen)));
-  is = stood_so Tells app tried left (is_running app (state then_seen)) old mid up then_seen new ends told greets (Adds-ended Tells app then_seen new unless) (Ends-continues unless)
+  went = stood_so Tells app tried left (is_running app (state then_seen)) old mid up then_seen new ends told greets (Adds-ended Tells app then_seen new unless) (Ends-continues unless)
       (λ tells e. ends_so Tells app then_seen new unless tells) (λ tells e. absurd (no_ready (sym e ∙ is)))
       (λ tells s runs passes.
       let closed = converses_ended Tells app s then_seen new unless tells runs in
@@ -167,7 +167,7 @@ not_yet {Own = Own} {Tells = Tells} {app = app} {tried = tried} {rest = rest} {t
     let here : TriesOn Tells app (suc less) first tries old = subst (λ (n : ℕ). TriesOn Tells app n first tries old) is on in
     record {
       whole = λ later end are.
-          let all = here.whole (one_try t ∷ later) end (t.is, inr (not_ready, are)) in
+          let all = here.whole (one_try t ∷ later) end (t.went, inr (not_ready, are)) in
           record {
             all = all.all;
             are = all.are;
@@ -215,7 +215,7 @@ pub back_then : {Own : Type 0} {Tells : Type 0} {app left : ℕ} {tried : Tried}
     → TriesOn Tells app left first tries old → Tries Tells app tried rest old new → is_ready tried ≡ true → now_tries ≡ tries ++ tried ∷ [] → Restarts Tells app first new (Some rest) now_tries
 back_then {Tells = Tells} {app = app} {tried = tried} {rest = rest} {tries = tries} {first = first} {old = old} {new = new} less is on t ready pushed =
     let here : TriesOn Tells app (suc less) first tries old = subst (λ (n : ℕ). TriesOn Tells app n first tries old) is on in
-    let all = here.whole (one_try t ∷ []) new (t.is, inl (ready, refl, refl)) in
+    let all = here.whole (one_try t ∷ []) new (t.went, inl (ready, refl, refl)) in
     record {
       all = all.all;
       are = all.are;

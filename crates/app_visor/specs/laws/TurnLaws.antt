@@ -147,7 +147,7 @@ goes_answered Tells accepts app dpid bytes rest here old mid net mid_net next e 
       let x = exchange_of dpid bytes e.answer old e.after net mid_net in
       record {
         trace = Asks x ∷ (Talk (Gave app (answer_frame e.answer)) ∷ t.trace);
-        chain = ((refl, refl), (e.is, (same app, (mid, (e.told, t.chain)))));
+        chain = ((refl, refl), (e.exchange, (same app, (mid, (e.told, t.chain)))));
         answers = e.answer ∷ t.answers;
         outcome = t.outcome;
         played = exchanged_played (accepts now_net.views) app left rest here (answer_frame e.answer) x (acts_in t.trace) (exchanges_in t.trace) t.answers t.outcome next t.played;
@@ -184,11 +184,11 @@ unanswered_heard app left dpid bytes rest here frame next = ap (λ (n : Next). s
 pub ends_unanswered : {Own : Type 0} (Tells : Type 0) (accepts : List TableView → Bool) (app dpid : ℕ) (bytes rest here : List ℕ) (old new : Seen Own) (net now_net : NetState) → IsNext (frames.Message dpid bytes) rest here
     → Exchanges Tells app dpid bytes false old new net now_net → EndsSo Tells accepts app rest here old new net now_net (ends.Failed causes.Closed)
 ends_unanswered Tells accepts app dpid bytes rest here old new net now_net next e = record {
-  is = λ left.
+  turn = λ left.
       let x = exchange_of dpid bytes e.answer old e.after net now_net in
       record {
         trace = Asks x ∷ (Talk (Gone app (answer_frame e.answer)) ∷ []);
-        chain = ((refl, refl), (e.is, (same app, (new, (e.told, (refl, refl))))));
+        chain = ((refl, refl), (e.exchange, (same app, (new, (e.told, (refl, refl))))));
         answers = [];
         outcome = Failed causes.Closed;
         played = unanswered_played (accepts now_net.views) app left rest here (answer_frame e.answer) x next;
@@ -205,11 +205,11 @@ ends_unanswered Tells accepts app dpid bytes rest here old new net now_net next 
 pub leads_exchanged : {Own : Type 0} {Tells : Type 0} {app dpid : ℕ} {bytes : List ℕ} {old new : Seen Own} {net now_net : NetState} (given : Bool) → Exchanges Tells app dpid bytes given old new net now_net → Leads Tells app old new net now_net
 leads_exchanged {app = app} {dpid = dpid} {bytes = bytes} {old = old} {new = new} {net = net} {now_net = now_net} true e = record {
   trace = Asks (exchange_of dpid bytes e.answer old e.after net now_net) ∷ (Talk (Gave app (answer_frame e.answer)) ∷ []);
-  chain = ((refl, refl), (e.is, (same app, (new, (e.told, (refl, refl))))));
+  chain = ((refl, refl), (e.exchange, (same app, (new, (e.told, (refl, refl))))));
 }
 leads_exchanged {app = app} {dpid = dpid} {bytes = bytes} {old = old} {new = new} {net = net} {now_net = now_net} false e = record {
   trace = Asks (exchange_of dpid bytes e.answer old e.after net now_net) ∷ (Talk (Gone app (answer_frame e.answer)) ∷ []);
-  chain = ((refl, refl), (e.is, (same app, (new, (e.told, (refl, refl))))));
+  chain = ((refl, refl), (e.exchange, (same app, (new, (e.told, (refl, refl))))));
 }
 
 -- ---- A frame that ends the turn
@@ -227,7 +227,7 @@ ends_at : {Own : Type 0} (Tells : Type 0) (accepts : List TableView → Bool) (a
     → ((left : ℕ) → turn_from {State = Asking Own} (oracle (accepts net.views)) (suc left) None Untold (Some []) (Framed frame here []) ≡ played_so [] outcome) → is_message frame ≡ false → IsEnd end here outcome → (is_done end ≡ true → Passes rest here) → EndsSo Tells accepts app rest here seen seen net net end
 unfolding inputs
 ends_at {Own = Own} Tells accepts app frame rest here seen net end outcome next plays no_message is passes = record {
-  is = λ left. record {
+  turn = λ left. record {
     trace = [];
     chain = (refl, refl);
     answers = [];
@@ -263,7 +263,7 @@ ends_done_at {Own = Own} Tells accepts app stop checkpoint rest here seen net fa
 pub plays_done : {Own : Type 0} (Tells : Type 0) (accepts : List TableView → Bool) (app : ℕ) (stop : Bool) (checkpoint : Option (List ℕ)) (seen : Seen Own) (net : NetState) (end : TurnEnd) → end ≡ done_as (accepts net.views) stop
     → Plays Tells accepts app (frames.Done stop checkpoint) seen seen net net (Some end)
 plays_done Tells accepts app stop checkpoint seen net end is = record {
-  so = λ rest here next. subst (λ (e : TurnEnd). EndsSo Tells accepts app rest here seen seen net net e) (sym is) (ends_done_at Tells accepts app stop checkpoint rest here seen net (accepts net.views) refl next);
+  frame_played = λ rest here next. subst (λ (e : TurnEnd). EndsSo Tells accepts app rest here seen seen net net e) (sym is) (ends_done_at Tells accepts app stop checkpoint rest here seen net (accepts net.views) refl next);
 }
 
 -- a frame that no turn has, or not yet
@@ -296,7 +296,7 @@ no_message_unbalanced frames.Ready is = refl
 pub plays_unbalanced : {Own : Type 0} (Tells : Type 0) (accepts : List TableView → Bool) (app : ℕ) (frame : AppFrame) (seen : Seen Own) (net : NetState) → IsUnbalanced frame
     → Plays Tells accepts app frame seen seen net net (Some (ends.Failed causes.Unbalanced))
 plays_unbalanced {Own = Own} Tells accepts app frame seen net is = record {
-  so = λ rest here next.
+  frame_played = λ rest here next.
       ends_at Tells accepts app frame rest here seen net (ends.Failed causes.Unbalanced) (Failed causes.Unbalanced) next (λ left. unbalanced_plays Own (accepts net.views) left frame here is) (no_message_unbalanced frame is) refl
       (λ done. absurd (true≢false (sym done)));
 }
@@ -407,4 +407,4 @@ came_over {Own = Own} Tells accepts app left comes.Silent rest here unread old n
 pub turn_over : {Own : Type 0} (Tells : Type 0) (accepts : List TableView → Bool) (app left : ℕ) (came : Came) (rest here unread : List ℕ) (old new : Seen Own) (net : NetState) → IsOver came left → Comes Tells app rest here old new came
     → TurnsFrom Tells accepts app left rest old new net net (ends.Failed (cause_of came)) unread
 turn_over Tells accepts app left came rest here unread old new net over comes =
-    turn_taken comes.taken (came_over Tells accepts app left came comes.unread here unread comes.then_seen new net over comes.so)
+    turn_taken comes.taken (came_over Tells accepts app left came comes.unread here unread comes.then_seen new net over comes.came_so)

@@ -241,6 +241,6 @@ pub after-join : (d : ℕ) (s : State) (k : Knowledge) → Facts s k → IsTrue 
 after-join d s k facts declared =
     let h = has-link d s.links declared in
     let l : Link = h.link in
-    let last = all-at LinkLasts d s.links l facts.last h.is in
-    subst (λ (list : List WorldStep). After (Join d) s k (handled_all list k)) (sym (join-items d s l h.is k facts))
-    (join-by d s k l facts declared h.is h.number last.0.may l.switch refl)
+    let last = all-at LinkLasts d s.links l facts.last h.link_so in
+    subst (λ (list : List WorldStep). After (Join d) s k (handled_all list k)) (sym (join-items d s l h.link_so k facts))
+    (join-by d s k l facts declared h.link_so h.number last.0.may l.switch refl)

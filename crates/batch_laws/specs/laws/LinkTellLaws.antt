@@ -44,12 +44,12 @@ stimulus-switch d (Raw bytes) s rows k known stands may = raw-switch d bytes s r
 
 record RowsIn (s : SwitchState) (rows : Option (List ViewRow)) : Type 0 where
   list : List ViewRow
-  is : rows ≡ Some list
+  rows_so : rows ≡ Some list
   agrees : rows_of_view list ≡ table_rows s
 
 rows-in : (s : SwitchState) (rows : Option (List ViewRow)) → option_map rows_of_view rows ≡ Some (table_rows s) → RowsIn s rows
 rows-in s None h = absurd cc
-rows-in s (Some list) h = record { list = list; is = refl; agrees = one_value _ _ h }
+rows-in s (Some list) h = record { list = list; rows_so = refl; agrees = one_value _ _ h }
   where
     one_value : {X : Type 0} (a b : X) → Some a ≡ Some b → a ≡ b
     one_value a b e = cc
@@ -69,19 +69,19 @@ switch-step d x None k known stands may = record {
 }
 switch-step d x (Some s) k known stands may =
     let r = rows-in s (rows_at d k.views) known.agrees in
-    let h = stimulus-switch d x s r.list k (record { rows_are = r.is; agrees = r.agrees; ports = known.ports }) stands may in
+    let h = stimulus-switch d x s r.list k (record { rows_are = r.rows_so; agrees = r.agrees; ports = known.ports }) stands may in
     record {
       here = record {
         known = record { agrees = ap (option_map rows_of_view) h.views.here ∙ ap some h.agrees; ports = h.ports };
         shown =
             ap (λ (o : Option (List ViewRow)). some (owned_switch (flags_in (rows_or_none o)) (after_stimulus x s))) h.views.here
             ∙ ap some h.shown
-            ∙ ap (λ (o : Option (List ViewRow)). some (after_stimulus x (owned_switch (flags_in (rows_or_none o)) s))) (sym r.is);
+            ∙ ap (λ (o : Option (List ViewRow)). some (after_stimulus x (owned_switch (flags_in (rows_or_none o)) s))) (sym r.rows_so);
       };
       others = h.views.others;
       others_ports = h.others;
       order = h.views.order;
-      queue = h.queue ∙ ap (λ (o : Option (List ViewRow)). k.queue ++ events_of d (sent_by_stimulus x (owned_switch (flags_in (rows_or_none o)) s))) (sym r.is);
+      queue = h.queue ∙ ap (λ (o : Option (List ViewRow)). k.queue ++ events_of d (sent_by_stimulus x (owned_switch (flags_in (rows_or_none o)) s))) (sym r.rows_so);
       moment = h.moment;
     }
 

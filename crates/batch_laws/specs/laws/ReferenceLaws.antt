@@ -120,10 +120,10 @@ pub has-link : (d : ℕ) (ls : List Link) → is_declared d (declared_in ls) ≡
 has-link d [] is = absurd cc
 has-link d (l ∷ ls) is =
     elim (cases_Bool (l.declared.dpid == d)) [
-      | inl here ↦ record { link = l; is = rw here refl; number = eqb-true l.declared.dpid d here }
+      | inl here ↦ record { link = l; link_so = rw here refl; number = eqb-true l.declared.dpid d here }
       | inr other ↦
           let h = has-link d ls (rw other at is) in
-          record { link = h.link; is = rw other h.is; number = h.number }
+          record { link = h.link; link_so = rw other h.link_so; number = h.number }
     ]
 
 -- what all links have in common has the one of a number

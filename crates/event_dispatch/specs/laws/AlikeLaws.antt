@@ -42,7 +42,7 @@ use Rattle.event_dispatch.specs.Talking.{KeepsTalking, GoesOnTalking}
 use Rattle.event_dispatch.specs.Steady.{Reads, NoPoint, AtMostThisPoint, NoneMoves}
 use Rattle.event_dispatch.specs.Undone.{IsShort, DispatchLeft}
 use Rattle.event_dispatch.specs.laws.LeftLaws.{tables_then, tables_for}
-use Rattle.run_laws.specs.Left.{TablesLeft}
+use Rattle.lego_model.specs.AfterFault.{TablesLeft}
 use Rattle.event_dispatch.specs.laws.SteadyLaws.{reads_then}
 use Rattle.event_dispatch.specs.laws.FrontLaws.{keeps_first, keeps_to, calm_rest}
 use Rattle.event_dispatch.specs.Serves.{IsBatch, IsCut}
@@ -423,4 +423,4 @@ pub so_cut : {Own : Type 0} (Tells : Type 0) (accepts : List TableView → Bool)
     → Continues Tells first seen → CutRun Tells accepts end a b first seen engine_at_first → IsCut allows seen a b end
 so_cut Tells accepts allows end a b old first seen premise opened whole cut =
     let p : Supposed Tells accepts allows first cut.stop seen = record { told = premise.told; judges = premise.judges; opened = opened; few = premise.few; whole = whole; before = cut.before; later = cut.later; talks = cut.talks; no_point = cut.no_point; none_moves = cut.none_moves } in
-    subst (IsCut allows seen a b) (sym cut.is) (by_fault cut.fault p cut.goes)
+    subst (IsCut allows seen a b) (sym cut.end_so) (by_fault cut.fault p cut.goes)

@@ -141,19 +141,19 @@ end_unwritten Tells contents now_contents last new r mid none shown reads part =
 }
 
 pub finish_cut : {Own : Type 0} (Tells : Type 0) (fault : Fault) (contents now_contents : Option (List ℕ)) (last new : Seen Own) (e : Engine) → e.queue ≡ [] → CutEnd Tells fault contents now_contents last new e → CutFinishAs Tells (served_by fault) contents now_contents last new e
-finish_cut Tells faults.Write contents now_contents last new e none ends = record { fault = faults.Write; is = refl; none_left = none; ends = ends }
-finish_cut Tells faults.Next contents now_contents last new e none ends = record { fault = faults.Next; is = refl; none_left = none; ends = ends }
-finish_cut Tells (faults.Txn fault) contents now_contents last new e none ends = record { fault = faults.Txn fault; is = refl; none_left = none; ends = ends }
-finish_cut Tells faults.NoMemory contents now_contents last new e none ends = record { fault = faults.NoMemory; is = refl; none_left = none; ends = ends }
+finish_cut Tells faults.Write contents now_contents last new e none ends = record { fault = faults.Write; end_so = refl; none_left = none; ends = ends }
+finish_cut Tells faults.Next contents now_contents last new e none ends = record { fault = faults.Next; end_so = refl; none_left = none; ends = ends }
+finish_cut Tells (faults.Txn fault) contents now_contents last new e none ends = record { fault = faults.Txn fault; end_so = refl; none_left = none; ends = ends }
+finish_cut Tells faults.NoMemory contents now_contents last new e none ends = record { fault = faults.NoMemory; end_so = refl; none_left = none; ends = ends }
 
 -- ---- A whole run
 
 pub goes_cut : {Own : Type 0} (Tells : Type 0) (accepts : List TableView → Bool) (fault : Fault) (contents now_contents : Option (List ℕ)) (old new : Seen Own) (e : Engine) → Continues Tells old new → CutGoes Tells accepts fault contents now_contents old new e
     → CutAs Tells accepts (served_by fault) contents now_contents old new e
-goes_cut Tells accepts faults.Write contents now_contents old new e on goes = record { fault = faults.Write; is = refl; stop = new; before = on; later = Continues-refl Tells new; talks = keeps_none Tells new; no_point = quietly_none Tells new; none_moves = none_move Tells new; goes = goes }
-goes_cut Tells accepts faults.Next contents now_contents old new e on goes = record { fault = faults.Next; is = refl; stop = new; before = on; later = Continues-refl Tells new; talks = keeps_none Tells new; no_point = quietly_none Tells new; none_moves = none_move Tells new; goes = goes }
-goes_cut Tells accepts (faults.Txn fault) contents now_contents old new e on goes = record { fault = faults.Txn fault; is = refl; stop = new; before = on; later = Continues-refl Tells new; talks = keeps_none Tells new; no_point = quietly_none Tells new; none_moves = none_move Tells new; goes = goes }
-goes_cut Tells accepts faults.NoMemory contents now_contents old new e on goes = record { fault = faults.NoMemory; is = refl; stop = new; before = on; later = Continues-refl Tells new; talks = keeps_none Tells new; no_point = quietly_none Tells new; none_moves = none_move Tells new; goes = goes }
+goes_cut Tells accepts faults.Write contents now_contents old new e on goes = record { fault = faults.Write; end_so = refl; stop = new; before = on; later = Continues-refl Tells new; talks = keeps_none Tells new; no_point = quietly_none Tells new; none_moves = none_move Tells new; goes = goes }
+goes_cut Tells accepts faults.Next contents now_contents old new e on goes = record { fault = faults.Next; end_so = refl; stop = new; before = on; later = Continues-refl Tells new; talks = keeps_none Tells new; no_point = quietly_none Tells new; none_moves = none_move Tells new; goes = goes }
+goes_cut Tells accepts (faults.Txn fault) contents now_contents old new e on goes = record { fault = faults.Txn fault; end_so = refl; stop = new; before = on; later = Continues-refl Tells new; talks = keeps_none Tells new; no_point = quietly_none Tells new; none_moves = none_move Tells new; goes = goes }
+goes_cut Tells accepts faults.NoMemory contents now_contents old new e on goes = record { fault = faults.NoMemory; end_so = refl; stop = new; before = on; later = Continues-refl Tells new; talks = keeps_none Tells new; no_point = quietly_none Tells new; none_moves = none_move Tells new; goes = goes }
 
 -- a fault ended the rounds
 pub rounds_cut : {Own : Type 0} (Tells : Type 0) (accepts : List TableView → Bool) (fault : Fault) (a b c : Option (List ℕ)) (old begun new : Seen Own) (r begun_r : Run) → Continues Tells old begun → Begins Tells a b old begun r begun_r → Reads Tells old begun r.net begun_r.net → Continues Tells begun new
@@ -175,7 +175,7 @@ rounds_cut Tells accepts fault a b c old begun new r begun_r first begins reads 
 end_cut : {Own : Type 0} (Tells : Type 0) (accepts : List TableView → Bool) (end : Served) (a b c d : Option (List ℕ)) (old begun last new : Seen Own) (r r1 r2 : Run) → WentToEnd Tells accepts a b c old begun last r r1 r2 → Continues Tells last new → CutFinish Tells end c d last new (engine_of r2) → CutAs Tells accepts end a d old new (engine_of r)
 end_cut Tells accepts end a b c d old begun last new r r1 r2 w later cut =
     let whole = Continues-trans Tells old last new (Continues-trans Tells old begun last w.first w.on) later in
-    subst (λ (s : Served). CutAs Tells accepts s a d old new (engine_of r)) (sym cut.is) (goes_cut Tells accepts cut.fault a d old new (engine_of r) whole (inr (inr (record {
+    subst (λ (s : Served). CutAs Tells accepts s a d old new (engine_of r)) (sym cut.end_so) (goes_cut Tells accepts cut.fault a d old new (engine_of r) whole (inr (inr (record {
       text = w.begins.text;
       begun = begun;
       begun_run = r1;
@@ -210,7 +210,7 @@ went_cut Tells accepts (Err served.NoMemory) a b c d old begun last new r r1 r2 
 on_cut : {Own : Type 0} (Tells : Type 0) (accepts : List TableView → Bool) (end : Served) (a b : Option (List ℕ)) (old mid new : Seen Own) (e : Engine) → Continues Tells mid new → KeepsTalking Tells mid new → NoPoint Tells mid new → NoneMoves Tells mid new → CutRun Tells accepts end a b old mid e → CutRun Tells accepts end a b old new e
 on_cut Tells accepts end a b old mid new e later talks no_point none_moves cut = record {
   fault = cut.fault;
-  is = cut.is;
+  end_so = cut.end_so;
   stop = cut.stop;
   before = cut.before;
   later = Continues-trans Tells cut.stop mid new cut.later later;

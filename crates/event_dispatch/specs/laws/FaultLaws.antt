@@ -3,11 +3,11 @@ use Rattle.std.proofs.Common.{◌≡◌, ◌⊎◌, ◌==◌, ℕ, zero, suc, Bo
 use Rattle.std.specs.Prelude.{take}
 use Rattle.std.specs.List.{flat_map}
 use Rattle.std.proofs.lemmas.List.{append-nil}
-use Rattle.std.proofs.lemmas.Bool.{cases_Bool, eq-eqb, eqb-true}
+use Rattle.std.proofs.lemmas.Bool.{eqb-true}
 use Rattle.lego_io.specs.Count.{Rose}
 use Rattle.lego_io.specs.laws.CountLaws.{Rose-after}
 use Rattle.of_types.specs.Fields.{number_at}
-use Rattle.of_types.specs.declared.journal.Act.TheVariants.{Sent, Got}
+use Rattle.of_types.specs.declared.journal.Act.TheVariants.{Got}
 use Rattle.of_match.specs.declared.key.Key.{Key}
 use Rattle.of_wire.specs.declared.bodies.FlowMod.{FlowMod as Change}
 use Rattle.of_wire.specs.Reading.{reading_of}
@@ -16,13 +16,16 @@ use Rattle.of_wire.specs.declared.message.Message.TheVariants.{FlowMod, StatsReq
 use Rattle.app_frames.specs.declared.frame.Answer.{Answer}
 use Rattle.outside.specs.declared.step.WorldStep.{WorldStep}
 use Rattle.outside.specs.declared.step.WorldStep.TheVariants.{Acted, From}
-use Rattle.outside.specs.Seen.{Counts, Seen, Continues}
+use Rattle.outside.specs.Seen.{Seen, Continues}
 use Rattle.lego_model.specs.declared.fault.TxnFault.{TxnFault}
 use Rattle.lego_model.specs.declared.fault.TxnFault.TheVariants.{SwitchFault, SwitchBroke, Diverged, Flooded, NoMemory}
 use Rattle.lego_model.specs.declared.wait.Awaited.{Awaited}
 use Rattle.lego_model.specs.declared.wait.Heard.{Heard}
 use Rattle.lego_model.specs.declared.wait.Heard.TheVariants.{Reply, Refused, Notice, Echo, Other}
-use Rattle.net_txn.specs.Net.{NetState, delete_strict, inverse_bytes}
+use Rattle.net_txn.specs.Net.{NetState}
+use Rattle.lego_model.specs.AfterFault.{delete_strict, inverse_bytes, IsWhyUndo}
+use Rattle.net_txn.specs.laws.RestoreLaws.{runs_here, runs_older}
+use Rattle.net_txn.specs.laws.UndoFailureLaws.{stuck_in_undo}
 use Rattle.lego_model.specs.BarrierWaits.{next_xid, flood, heard, kept_by, kept_of, steps_by, heard_steps, wait_steps, barrier_sent, reply_got}
 use Rattle.net_txn.specs.Arriving.{IsArrivalCause}
 use Rattle.net_txn.specs.Causes.{EndsByGot, IsCause}
@@ -31,13 +34,14 @@ use Rattle.net_txn.specs.Waits.{Floods, IfFlooded}
 use Rattle.net_txn.specs.Changes.{known_rows, answer_of_host, change_sent, IfGivenUp, Changes}
 use Rattle.net_txn.specs.Asks.{IsRefusal, IsRepliesFault, IsAskCause, Asks}
 use Rattle.lego_model.specs.FlowQueries.{is_about, all_flows, flows_request, request_sent, asked_from, parts_in, refusals_in}
-use Rattle.net_txn.specs.Undos.{key_sent, key_refused, Part, Inverse, BarrierPassed, Stuck, part_steps, steps_of, parts_of, fault_in, first_fault_of, first_fault, inverses_of, IsFaultOf, IsRun, ended_by as undo_ended, Undoes}
+use Rattle.net_txn.specs.Undos.{Part, Inverse, BarrierPassed, Stuck, part_steps, steps_of, parts_of, fault_in, first_fault_of, first_fault, IsRun, ended_by as undo_ended, Undoes}
 use Rattle.app_visor.specs.Beats.{Halts, Stops}
 use Rattle.app_visor.specs.laws.BeatLaws.{Leads-continues}
 use Rattle.switch_laws.specs.laws.AskedLaws.{asked}
 use Rattle.event_dispatch.specs.Why.{IsWhy, fault_of, ended_by, IsReason, WhyMessage}
 use Rattle.lego_model.specs.SwitchFaults.{Happened, CameFrom, SentThenGot, rows_steps, came_for, IsBadPart, IsUnanswered, IsErrorFor, IsFlood, IsWhyTxn}
-use Rattle.event_dispatch.specs.laws.WhyLaws.{happened_before, IsWhy-behind}
+use Rattle.event_dispatch.specs.laws.WhyLaws.{IsWhy-behind}
+use Rattle.lego_model.specs.laws.SwitchFaultLaws.{happened_before}
 
 -- ---- A flood
 
@@ -275,141 +279,34 @@ asks_why {d = d} {xid = xid} {old = old} {new = new} {kept = kept} {now_kept = n
 
 -- ---- An undo
 
--- steps of a part of it happened
-in_part : {old new : List WorldStep} (older steps rest front mid back : List WorldStep) → steps ≡ front ++ (mid ++ back) → new ≡ old ++ ((older ++ steps) ++ rest) → Happened mid old new
-in_part {old = old} older steps rest front mid back steps_so told = record {
-  before = older ++ front;
-  behind = back ++ rest;
-  told = told ∙ ap (λ (s : List WorldStep). old ++ ((older ++ s) ++ rest)) steps_so ∙ ap (λ (w : List WorldStep). old ++ w) (regroup older front mid back rest);
-}
-  where
-    regroup : (o f m b r : List WorldStep) → (o ++ (f ++ (m ++ b))) ++ r ≡ (o ++ f) ++ (m ++ (b ++ r))
-    regroup o f m b r = simp append_assoc
-
--- a message was sent to a switch, with the steps around it
-record IsSent (d : ℕ) (bytes : List ℕ) (steps : List WorldStep) : Type 0 where
-  before : List WorldStep
-  behind : List WorldStep
-  steps_so : steps ≡ before ++ (Acted (Sent d bytes) ∷ behind)
-
-sent_earlier : (d : ℕ) (bytes : List ℕ) (steps more : List WorldStep) → IsSent d bytes steps → IsSent d bytes (steps ++ more)
-sent_earlier d bytes steps more is = record { before = is.before; behind = is.behind ++ more; steps_so = ap (λ (xs : List WorldStep). xs ++ more) is.steps_so ∙ append_assoc is.before (Acted (Sent d bytes) ∷ is.behind) more }
-
-same_key : (a b : Key) → Some a ≡ Some b → a ≡ b
-same_key a b h = cc
-
-sent_last : (c d x xid : ℕ) (k key : Key) (steps : List WorldStep) → c ≡ d → x ≡ xid → k ≡ key → IsSent d (inverse_bytes xid key) (steps ++ Acted (Sent c (inverse_bytes x k)) ∷ [])
-sent_last c d x xid k key steps of_switch of_xid of_key = record { before = steps; behind = []; steps_so = rw (of_switch, of_xid, of_key) refl }
-
-parts_here : (d : ℕ) (p : ℕ × Part) (older : List (ℕ × Part)) → (p.0 == d) ≡ true → parts_of d (p ∷ older) ≡ p.1 ∷ parts_of d older
-parts_here d p older here = rw here refl
-
-parts_there : (d : ℕ) (p : ℕ × Part) (older : List (ℕ × Part)) → (p.0 == d) ≡ false → parts_of d (p ∷ older) ≡ parts_of d older
-parts_there d p older other = rw other refl
-
-inverse_here : (c d xid x : ℕ) (key k : Key) (sent : List (ℕ × Key)) (steps : List WorldStep) (same : Bool) → c ≡ d → (x == xid) ≡ same → (if same then Some k else key_sent xid sent) ≡ Some key → (key_sent xid sent ≡ Some key → IsSent d (inverse_bytes xid key) steps)
-    → IsSent d (inverse_bytes xid key) (steps ++ Acted (Sent c (inverse_bytes x k)) ∷ [])
-inverse_here c d xid x key k sent steps true of_switch same is older = sent_last c d x xid k key steps of_switch (eqb-true x xid same) (same_key k key is)
-inverse_here c d xid x key k sent steps false of_switch same is older = sent_earlier d (inverse_bytes xid key) steps (Acted (Sent c (inverse_bytes x k)) ∷ []) (older is)
-
-part_sent : (c d xid : ℕ) (key : Key) (p : Part) (parts : List Part) (steps : List WorldStep) → c ≡ d → key_sent xid (inverses_of (p ∷ parts)) ≡ Some key → (key_sent xid (inverses_of parts) ≡ Some key → IsSent d (inverse_bytes xid key) steps)
-    → IsSent d (inverse_bytes xid key) (steps ++ part_steps c p)
-part_sent c d xid key (Inverse x k) parts steps of_switch is older = inverse_here c d xid x key k (inverses_of parts) steps (x == xid) of_switch refl is older
-part_sent c d xid key (BarrierPassed x got) parts steps of_switch is older = sent_earlier d (inverse_bytes xid key) steps (part_steps c (BarrierPassed x got)) (older is)
-part_sent c d xid key (Stuck x fault stuck) parts steps of_switch is older = sent_earlier d (inverse_bytes xid key) steps (part_steps c (Stuck x fault stuck)) (older is)
-
--- an inverse that is refused was sent
-inverse_sent : (d xid : ℕ) (key : Key) (parts : List (ℕ × Part)) → key_sent xid (inverses_of (parts_of d parts)) ≡ Some key → IsSent d (inverse_bytes xid key) (steps_of parts)
-inverse_sent d xid key [] is = absurd cc
-inverse_sent d xid key (p ∷ older) is =
-    elim (cases_Bool (p.0 == d)) [
-      | inl here ↦ part_sent p.0 d xid key p.1 (parts_of d older) (steps_of older) (eqb-true p.0 d here) (subst (λ (ps : List Part). key_sent xid (inverses_of ps) ≡ Some key) (parts_here d p older here) is) (λ earlier. inverse_sent d xid key older earlier)
-      | inr other ↦ sent_earlier d (inverse_bytes xid key) (steps_of older) (part_steps p.0 p.1) (inverse_sent d xid key older (subst (λ (ps : List Part). key_sent xid (inverses_of ps) ≡ Some key) (parts_there d p older other) is))
-    ]
-
-refused_kind : (kind : Bool) (k : Option Key) (key : Key) → (if kind then k else None) ≡ Some key → (kind ≡ true) × (k ≡ Some key)
-refused_kind true k key is = (refl, is)
-refused_kind false k key is = absurd cc
-
-refused_error : (sent : List (ℕ × Key)) (bytes : List ℕ) (key : Key) → key_refused sent bytes ≡ Some key → (number_at 1 1 bytes ≡ 1) × (key_sent (number_at 4 4 bytes) sent ≡ Some key)
-unfolding key_refused
-refused_error sent bytes key is = let both = refused_kind (number_at 1 1 bytes == 1) (key_sent (number_at 4 4 bytes) sent) key is in (eqb-true (number_at 1 1 bytes) 1 both.0, both.1)
-
 inverse_message : (bytes inverse : List ℕ) (key : Key) → number_at 1 1 bytes ≡ 1 → inverse ≡ inverse_bytes (number_at 4 4 bytes) key → IsErrorFor inverse bytes
 unfolding inverse_bytes
 inverse_message bytes inverse key kind is = record { kind = kind; message = FlowMod (delete_strict key); sent_so = is }
 
--- the inverse, and behind it the message that refuses it
-refused_after : {old new : List WorldStep} (d : ℕ) (inverse bytes : List ℕ) (older steps front rest : List WorldStep) → IsSent d inverse older → steps ≡ front ++ Acted (Got d bytes) ∷ [] → new ≡ old ++ ((older ++ steps) ++ rest) → SentThenGot d inverse bytes old new
-refused_after {old = old} d inverse bytes older steps front rest sent steps_so told = (
-  sent.behind ++ front,
-  record {
-    before = sent.before;
-    behind = rest;
-    told = told ∙ ap (λ (o : List WorldStep). old ++ ((o ++ steps) ++ rest)) sent.steps_so ∙ ap (λ (s : List WorldStep). old ++ (((sent.before ++ (Acted (Sent d inverse) ∷ sent.behind)) ++ s) ++ rest)) steps_so
-        ∙ ap (λ (w : List WorldStep). old ++ w) (regroup sent.before (Acted (Sent d inverse)) sent.behind front (Acted (Got d bytes)) rest);
-  },
-)
-  where
-    regroup : (b : List WorldStep) (s : WorldStep) (k f : List WorldStep) (g : WorldStep) (r : List WorldStep) → ((b ++ (s ∷ k)) ++ (f ++ (g ∷ []))) ++ r ≡ b ++ ((s ∷ ((k ++ f) ++ (g ∷ []))) ++ r)
-    regroup b s k f g r = simp append_assoc
+undone_why : {Own : Type 0} (Tells : Type 0) (old new : Seen Own) (d : ℕ) (fault : TxnFault) → IsWhyUndo Tells d old new fault → IsWhy Tells old new 0 0 (ended_by fault)
+undone_why Tells old new d (SwitchFault e) why = subst (λ (n : ℕ). Rose (old.counts.link_faults n) (new.counts.link_faults n)) (sym why.0) why.1
+undone_why Tells old new d (SwitchBroke e bytes) why =
+    subst (λ (n : ℕ). (Tells → CameFrom n bytes old.history new.history) × (IsErr (reading_of bytes) ⊎ IsBadPart Tells n bytes old new)) (sym why.0) ((λ tells. inr (why.2 tells)), inl why.1)
+undone_why Tells old new d (Diverged e inverse bytes) why =
+    subst (λ (n : ℕ). (Tells → SentThenGot n inverse bytes old.history new.history) × (IsErrorFor inverse bytes ⊎ IsUnanswered Tells n inverse bytes old new)) (sym why.0)
+    (why.2, inl (inverse_message bytes inverse why.1.key why.1.kind why.1.inverse_so))
+undone_why Tells old new d (Flooded e n) why = subst (λ (x : ℕ). (n ≡ flood) × IsFlood Tells x n old new) (sym why.0) (why.1, why.2)
+undone_why Tells old new d NoMemory why = tt
 
 module _ {Own Tells : Type 0} (old new : Seen Own) where
-  fault_why : (d : ℕ) (older : List (ℕ × Part)) (steps rest : List WorldStep) (fault : TxnFault) → (Tells → new.history ≡ old.history ++ ((steps_of older ++ steps) ++ rest)) → IsFaultOf d (inverses_of (parts_of d older)) old.counts new.counts steps fault
-      → IsWhy Tells old new 0 0 (ended_by fault)
-  fault_why d older steps rest (SwitchFault e) told cause = subst (λ (n : ℕ). Rose (old.counts.link_faults n) (new.counts.link_faults n)) (sym cause.0) cause.1
-  fault_why d older steps rest (SwitchBroke e bytes) told cause =
-      subst (λ (n : ℕ). (Tells → CameFrom n bytes old.history new.history) × (IsErr (reading_of bytes) ⊎ IsBadPart Tells n bytes old new)) (sym cause.0)
-      ((λ tells. inr (in_part (steps_of older) steps rest cause.2.0 (Acted (Got d bytes) ∷ []) [] cause.2.1 (told tells))), inl cause.1)
-  fault_why d older steps rest (Diverged e inverse bytes) told cause =
-      let r = cause.1 in
-      let error = refused_error (inverses_of (parts_of d older)) bytes r.key r.of_key in
-      let sent = subst (λ (b : List ℕ). IsSent d b (steps_of older)) (sym r.inverse_so) (inverse_sent d (number_at 4 4 bytes) r.key older error.1) in
-      let last = subst (λ (n : ℕ). steps ≡ (barrier_sent r.awaited ∷ wait_steps r.awaited r.got) ++ Acted (Got n bytes) ∷ []) r.of_switch r.steps_so in
-      subst (λ (n : ℕ). (Tells → SentThenGot n inverse bytes old.history new.history) × (IsErrorFor inverse bytes ⊎ IsUnanswered Tells n inverse bytes old new)) (sym cause.0)
-      ((λ tells. refused_after d inverse bytes (steps_of older) steps (barrier_sent r.awaited ∷ wait_steps r.awaited r.got) rest sent last (told tells)), inl (inverse_message bytes inverse r.key error.0 r.inverse_so))
-  fault_why d older steps rest (Flooded e n) told cause =
-      let o = cause.2 in
-      let mid = barrier_sent o.awaited ∷ wait_steps o.awaited o.got in
-      let here : IsFlood Tells d n old new = record {
-        awaited = o.awaited;
-        of_switch = o.of_switch;
-        got = o.got;
-        many = o.many ∙ sym cause.1;
-        before_reply = o.before_reply;
-        told = λ tells. in_part (steps_of older) steps rest [] mid [] (o.steps_so ∙ sym (append-nil mid)) (told tells);
-      } in
-      subst (λ (x : ℕ). (n ≡ flood) × IsFlood Tells x n old new) (sym cause.0) (cause.1, here)
-  fault_why d older steps rest NoMemory told cause = tt
-
   stuck_why : (d : ℕ) (p : Part) (older : List (ℕ × Part)) (rest : List WorldStep) (fault : TxnFault) → (Tells → new.history ≡ old.history ++ ((steps_of older ++ part_steps d p) ++ rest)) → IsRun old.counts new.counts d (p ∷ parts_of d older) → fault_in p ≡ Some fault
       → IsWhy Tells old new 0 0 (ended_by fault)
   stuck_why d (Inverse xid k) older rest fault told run is = absurd cc
   stuck_why d (BarrierPassed xid got) older rest fault told run is = absurd cc
-  stuck_why d (Stuck xid why steps) older rest fault told run is = subst (λ (f : TxnFault). IsWhy Tells old new 0 0 (ended_by f)) (one_fault why fault is) (fault_why d older steps rest why told run.0.cause)
+  stuck_why d (Stuck xid why steps) older rest fault told run is = subst (λ (f : TxnFault). IsWhy Tells old new 0 0 (ended_by f)) (one_fault why fault is) (undone_why Tells old new d why (stuck_in_undo old new d older steps rest why told run.0.cause))
     where
       one_fault : (a b : TxnFault) → Some a ≡ Some b → a ≡ b
       one_fault a b h = cc
 
-run_rest : (d : ℕ) (old new : Counts) (p : Part) (older : List Part) → IsRun old new d (p ∷ older) → IsRun old new d older
-run_rest d old new (Inverse xid k) older run = run.3
-run_rest d old new (BarrierPassed xid got) older run = run.2
-run_rest d old new (Stuck xid why steps) older run = run.2
-
-pub runs_rest : (old new : Counts) (p : ℕ × Part) (older : List (ℕ × Part)) → ((d : ℕ) → IsRun old new d (parts_of d (p ∷ older))) → (d : ℕ) → IsRun old new d (parts_of d older)
-runs_rest old new p older runs d =
-    elim (cases_Bool (p.0 == d)) [
-      | inl here ↦ run_rest d old new p.1 (parts_of d older) (subst (IsRun old new d) (parts_here d p older here) (runs d))
-      | inr other ↦ subst (IsRun old new d) (parts_there d p older other) (runs d)
-    ]
-
-pub run_here : (old new : Counts) (p : ℕ × Part) (older : List (ℕ × Part)) → ((d : ℕ) → IsRun old new d (parts_of d (p ∷ older))) → IsRun old new p.0 (p.1 ∷ parts_of p.0 older)
-run_here old new p older runs = subst (IsRun old new p.0) (parts_here p.0 p older (eq-eqb p.0 p.0 refl)) (runs p.0)
-
 module _ {Own Tells : Type 0} (old new : Seen Own) where
   by_older : (p : ℕ × Part) (older : List (ℕ × Part)) (rest : List WorldStep) (fault : TxnFault) → (Tells → new.history ≡ old.history ++ ((steps_of older ++ part_steps p.0 p.1) ++ rest)) → ((d : ℕ) → IsRun old.counts new.counts d (parts_of d (p ∷ older)))
       → (first_fault older ≡ Some fault → IsWhy Tells old new 0 0 (ended_by fault)) → (o : Option TxnFault) → first_fault older ≡ o → first_fault_of o (fault_in p.1) ≡ Some fault → IsWhy Tells old new 0 0 (ended_by fault)
-  by_older p older rest fault told runs earlier None none h = stuck_why old new p.0 p.1 older rest fault told (run_here old.counts new.counts p older runs) h
+  by_older p older rest fault told runs earlier None none h = stuck_why old new p.0 p.1 older rest fault told (runs_here old.counts new.counts p older runs) h
   by_older p older rest fault told runs earlier (Some first) some h = earlier (some ∙ h)
 
   parts_why : (parts : List (ℕ × Part)) (rest : List WorldStep) (fault : TxnFault) → (Tells → new.history ≡ old.history ++ (steps_of parts ++ rest)) → ((d : ℕ) → IsRun old.counts new.counts d (parts_of d parts)) → first_fault parts ≡ Some fault
@@ -418,7 +315,7 @@ module _ {Own Tells : Type 0} (old new : Seen Own) where
   parts_why (p ∷ older) rest fault told runs is =
       let steps = part_steps p.0 p.1 in
       by_older p older rest fault told runs
-      (λ first. parts_why older (steps ++ rest) fault (λ tells. told tells ∙ ap (λ (w : List WorldStep). old.history ++ w) (append_assoc (steps_of older) steps rest)) (runs_rest old.counts new.counts p older runs) first)
+      (λ first. parts_why older (steps ++ rest) fault (λ tells. told tells ∙ ap (λ (w : List WorldStep). old.history ++ w) (append_assoc (steps_of older) steps rest)) (runs_older old.counts new.counts p older runs) first)
       (first_fault older) refl is
 
 faulted : (o : Option TxnFault) (fault : TxnFault) → Err fault ≡ undo_ended o → o ≡ Some fault

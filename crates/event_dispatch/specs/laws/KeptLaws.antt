@@ -33,7 +33,7 @@ use Rattle.app_visor.specs.Talks.{give_act}
 use Rattle.switch_laws.specs.laws.AskedLaws.{asked}
 use Rattle.event_dispatch.specs.Runs.{AreRead}
 use Rattle.event_dispatch.specs.Serves.{IsPlayed, PlaysTurn}
-use Rattle.event_dispatch.specs.laws.FaultLaws.{runs_rest, run_here}
+use Rattle.net_txn.specs.laws.RestoreLaws.{runs_here, runs_older}
 
 -- ---- Lists of them
 
@@ -138,7 +138,7 @@ keeps_read : (old new : Counts) (kept : List (ℕ × List ℕ)) (parts : List (�
 keeps_read old new kept [] now_kept runs none keeps read = subst AreRead (sym keeps) read
 keeps_read old new kept (p ∷ older) now_kept runs none keeps read =
     let both = none_first (first_fault older) (fault_in p.1) none in
-    part_read old new p.0 p.1 (parts_of p.0 older) keeps.0 now_kept (run_here old new p older runs) both.1 keeps.2 (keeps_read old new kept older keeps.0 (runs_rest old new p older runs) both.0 keeps.1 read)
+    part_read old new p.0 p.1 (parts_of p.0 older) keeps.0 now_kept (runs_here old new p older runs) both.1 keeps.2 (keeps_read old new kept older keeps.0 (runs_older old new p older runs) both.0 keeps.1 read)
 
 undoes_read : {Own Tells : Type 0} {start : ℕ} {old new : Seen Own} (net now_net : NetState) → Undoes Tells start old new net now_net (Ok tt) → AreRead net.kept → AreRead now_net.kept
 undoes_read {old = old} {new = new} net now_net u read = keeps_read old.counts new.counts net.kept u.parts now_net.kept (λ d. (u.each d).run) (no_fault (first_fault u.parts) u.result_so) u.kept read

@@ -74,7 +74,7 @@ key_same k l same =
 
 next_row : (row : FlowRow) (ws : List ViewRow) (rest : List FlowRow) → SameKeys (row ∷ rest) ws → NextRow row ws rest
 next_row row [] rest h = absurd h
-next_row row (v ∷ vs) rest h = record { first = v; later = vs; is = refl; key = h.0; same = h.1 }
+next_row row (v ∷ vs) rest h = record { first = v; later = vs; split = refl; key = h.0; same = h.1 }
 
 same_drop : (n : ℕ) (rows : List FlowRow) (vs : List ViewRow) → SameKeys rows vs → SameKeys (drop n rows) (drop n vs)
 same_drop zero rows vs h = h
@@ -107,12 +107,12 @@ pub flows_next : (rows : List FlowRow) (vs : List ViewRow) (place from : ℕ) (r
     → FindsFlags from row.key vs found → Adds (flow_line row found.0) b c → FlowsSoFar rows vs (place + 1) found.1 a c
 flows_next rows vs place from row more found a b c same is so finds adds =
     let there = next_row row (drop place vs) more (subst (λ (rs : List FlowRow). SameKeys rs (drop place vs)) is (same_drop place rows vs same)) in
-    let here = finds.here there.first there.later (ap (λ (n : ℕ). drop n vs) so.from_so ∙ there.is) there.key in
+    let here = finds.here there.first there.later (ap (λ (n : ℕ). drop n vs) so.from_so ∙ there.split) there.key in
     let line : found.0 ≡ there.first.flags = first_of found (there.first.flags, from + 1) here in
     record {
       from_so = second_of found (there.first.flags, from + 1) here ∙ ap (λ (n : ℕ). n + 1) so.from_so;
       adds = subst (λ (text : List ℕ). Adds text a c)
-          (ap (λ (n : ℕ). flow_lines (take place rows) vs ++ flow_line row n) line ∙ sym (flow_lines-more place rows vs row there.first more there.later is there.is) ∙ ap (λ (n : ℕ). flow_lines (take n rows) vs) (sym (add-one place)))
+          (ap (λ (n : ℕ). flow_lines (take place rows) vs ++ flow_line row n) line ∙ sym (flow_lines-more place rows vs row there.first more there.later is there.split) ∙ ap (λ (n : ℕ). flow_lines (take n rows) vs) (sym (add-one place)))
           (adds_then so.adds adds);
     }
 
@@ -161,16 +161,16 @@ told_table : {Own : Type 0} (Tells : Type 0) (d : ℕ) (vs : List ViewRow) (old 
 told_table Tells d vs old new r mid now_r rows is continues asks said told keeps ready sound =
     let j = joined-with d r.net.views (state old) vs (ready.agrees d) is in
     let before : Conforming old = Conforming-before told continues keeps in
-    let time = switch-in_time old before d j.switch j.is in
+    let time = switch-in_time old before d j.switch j.stands in
     let small = subst (λ (n : ℕ). n < 2 ^ 32) (sym time.moment_so) (moment-within old before) in
-    let step = asks.in_step j.switch told keeps j.is (ready.waits d) in
-    let own : rows ≡ own_rows j.switch = step.same_rows (rows-are j.switch (sound.entries d j.switch j.is) small) in
+    let step = asks.in_step j.switch told keeps j.stands (ready.waits d) in
+    let own : rows ≡ own_rows j.switch = step.same_rows (rows-are j.switch (sound.entries d j.switch j.stands) small) in
     let same : SameKeys rows vs = subst (λ (rs : List FlowRow). SameKeys rs vs) (sym own) (keys-same j.switch.moment j.switch.table.entries vs j.rows) in
     let there : rows_at d mid.net.views ≡ Some vs = ap (rows_at d) (views_of (engine_of mid) _ asks.engine) ∙ is in
     let text : table_lines d rows vs ≡ shown_text r.net.views (state old) d =
-    ap (λ (rs : List FlowRow). table_lines d rs vs) own ∙ table-shown d r.net.views vs j.switch is j.rows ((all-stand old).table d j.switch j.is) time.number ∙ sym (shown_here r.net.views (state old) d j.switch j.is)
+    ap (λ (rs : List FlowRow). table_lines d rs vs) own ∙ table-shown d r.net.views vs j.switch is j.rows ((all-stand old).table d j.switch j.stands) time.number ∙ sym (shown_here r.net.views (state old) d j.switch j.stands)
     in
-    in_step_says d j.switch old new r mid now_r rows (shown_text r.net.views (state old) d) ready.waits j.is asks.engine asks.index asks.lines step (asks.asked told) (subst (λ (t : List ℕ). Adds t mid now_r) text (said.adds vs there same))
+    in_step_says d j.switch old new r mid now_r rows (shown_text r.net.views (state old) d) ready.waits j.stands asks.engine asks.index asks.lines step (asks.asked told) (subst (λ (t : List ℕ). Adds t mid now_r) text (said.adds vs there same))
 
 -- a switch that has a view
 pub table_told : {Own : Type 0} {Tells : Type 0} {d : ℕ} {old new : Seen Own} {r mid now_r : Run} {rows : List FlowRow} → IsSome (rows_at d r.net.views) → Continues Tells old new → AsksShown Tells d old new r mid rows → TableSaid d rows mid now_r

@@ -1,87 +1,49 @@
 -- Laws of what a fault leaves of the tables of switches.
-use Rattle.std.proofs.Common.{◌≡◌, ℕ, Bool, true, false, List, [], ◌∷◌, ◌++◌, Some, Result, Ok, refl, sym, ap, ◌∙◌, subst, append_assoc, inl, inr}
+use Rattle.std.proofs.Common.{◌≡◌, ℕ, Bool, true, false, List, [], ◌∷◌, ◌++◌, map, Ok, refl, sym, ap, ◌∙◌, subst, append_assoc, inl, inr}
 use Rattle.std.proofs.lemmas.List.{append-nil}
 use Rattle.flow_table.specs.declared.view.TableView.{TableView}
 use Rattle.of_types.specs.declared.journal.Act.{Act}
-use Rattle.of_match.specs.declared.key.Key.{Key}
-use Rattle.app_frames.specs.declared.cause.Cause.{Cause}
 use Rattle.app_frames.specs.declared.frame.Answer.{Answer}
 use Rattle.app_frames.specs.declared.frame.Event.{Event}
-use Rattle.lego_io.specs.laws.CountLaws.{Rose-before}
 use Rattle.lego_model.specs.Application.{index, budget}
 use Rattle.lego_model.specs.AtOnce.{Passes, AtOnce}
 use Rattle.lego_model.specs.Controller.{event_frame}
+use Rattle.lego_model.specs.History.{own_acts}
 use Rattle.lego_model.specs.Journal.{is_event, reply_of}
 use Rattle.lego_model.specs.Turns.{Outcome, Completed, Failed, Played, turn_of}
-use Rattle.lego_model.specs.declared.fault.TxnFault.{TxnFault}
-use Rattle.lego_model.specs.declared.fault.TxnFault.TheVariants.{SwitchFault, SwitchBroke, Diverged, Flooded, NoMemory}
 use Rattle.outside.specs.declared.step.WorldStep.{WorldStep}
-use Rattle.outside.specs.Seen.{Counts, NoneFell, Seen, Continues, journal}
-use Rattle.outside.specs.Conforming.{Conforming}
-use Rattle.outside.specs.InOrder.{InOrder}
+use Rattle.outside.specs.Seen.{Seen, Continues, journal}
 use Rattle.outside.specs.laws.InOrderLaws.{InOrder-before}
 use Rattle.net_txn.specs.Net.{NetState}
-use Rattle.net_txn.specs.Undos.{StandWithin, FailsInUndo, IsFaultOf}
-use Rattle.switch_laws.specs.Since.{Ready, UndoneButFailed}
+use Rattle.lego_model.specs.AfterFault.{NoEventSince, answering, IsCompleted, UndoneButFailed, TurnDone, SwitchesStay, TurnKept, TablesLeft}
+use Rattle.lego_model.specs.laws.SwitchFaultLaws.{failed_before, failed_told}
+use Rattle.switch_laws.specs.Since.{Ready}
 use Rattle.journal_laws.specs.laws.FrameLaws.{event_is}
 use Rattle.app_visor.specs.declared.state.TurnEnd.{TurnEnd}
 use Rattle.app_visor.specs.declared.state.TurnEnd.TheVariants as ends
 use Rattle.app_visor.specs.Talks.{give_act}
 use Rattle.app_visor.specs.Beats.{Exchange, acts_in, exchanges_in, acts_of}
-use Rattle.app_visor.specs.Turns.{Asking, oracle, played_so, IsEnd, Turns}
+use Rattle.app_visor.specs.Turns.{IsEnd, Agrees, Turns}
+use Rattle.app_visor.specs.laws.TableLaws.{turn_alike}
 use Rattle.app_visor.specs.CallsFor.{OwnSteps}
 use Rattle.app_visor.specs.laws.ReadTurnLaws.{turn_acts}
 use Rattle.turn_laws.specs.laws.FaultLaws.{turn-undone}
 use Rattle.run_laws.specs.Engine.{Engine}
-use Rattle.run_laws.specs.Moves.{Conversing}
-use Rattle.run_laws.specs.Left.{NoEventSince, IsCompleted, TurnDone, SwitchesStay, TurnKept, TablesLeft}
 use Rattle.event_dispatch.specs.Serves.{PlaysTurn}
 use Rattle.event_dispatch.specs.Undone.{TurnUndone, TurnLeft, DispatchLeft}
 use Rattle.event_dispatch.specs.laws.NoEventLaws.{no_event_none, no_event_then, own_stay}
-
--- ---- A switch that failed in an undo has failed in it whatever comes behind
-
-cause_later : (d : ℕ) (sent : List (ℕ × Key)) (old mid new : Counts) (steps : List WorldStep) (fault : TxnFault) → NoneFell old mid → NoneFell mid new → IsFaultOf d sent old mid steps fault → IsFaultOf d sent old new steps fault
-cause_later d sent old mid new steps (SwitchFault e) first later cause = (cause.0, Rose-before (old.link_faults d) (mid.link_faults d) (new.link_faults d) (first.link_faults d) cause.1 (later.link_faults d))
-cause_later d sent old mid new steps (SwitchBroke e bytes) first later cause = cause
-cause_later d sent old mid new steps (Diverged e inverse bytes) first later cause = cause
-cause_later d sent old mid new steps (Flooded e n) first later cause = cause
-cause_later d sent old mid new steps NoMemory first later cause =
-    (Rose-before old.shorts mid.shorts new.shorts first.shorts cause.0 later.shorts, Rose-before (old.shorts_of d) (mid.shorts_of d) (new.shorts_of d) (first.shorts_of d) cause.1 (later.shorts_of d))
-
-within_later : (steps old mid new more : List WorldStep) → new ≡ mid ++ more → StandWithin steps old mid → StandWithin steps old new
-within_later steps old mid new more is w = record {
-  before = w.before;
-  behind = w.behind ++ more;
-  is = is ∙ ap (λ (xs : List WorldStep). xs ++ more) w.is ∙ append_assoc old (w.before ++ (steps ++ w.behind)) more
-      ∙ ap (λ (xs : List WorldStep). old ++ xs) (append_assoc w.before (steps ++ w.behind) more ∙ ap (λ (xs : List WorldStep). w.before ++ xs) (append_assoc steps w.behind more));
-}
-
-failed_later : {Own : Type 0} {Tells : Type 0} (d : ℕ) (old mid new : Seen Own) → Tells → Continues Tells old mid → Continues Tells mid new → FailsInUndo (Unit {0}) d old mid → FailsInUndo (Unit {0}) d old new
-failed_later d old mid new told first later f = record {
-  fault = f.fault;
-  sent = f.sent;
-  front = f.front;
-  steps = f.steps;
-  by = record { each = f.by.each; cause = cause_later d f.sent old.counts mid.counts new.counts f.steps f.fault first.none_fell later.none_fell f.by.cause; places = f.by.places };
-  were_sent = f.were_sent;
-  told = λ u. let longer = later.told told in within_later (f.front ++ f.steps) old.history mid.history new.history longer.0 longer.1 (f.told u);
-}
-
-failed_so : {Own : Type 0} {Tells : Type 0} (d : ℕ) (old new : Seen Own) → Tells → FailsInUndo Tells d old new → FailsInUndo (Unit {0}) d old new
-failed_so d old new told f = record { fault = f.fault; sent = f.sent; front = f.front; steps = f.steps; by = f.by; were_sent = f.were_sent; told = λ u. f.told told }
 
 -- ---- What was undone is so whatever comes behind that moves no switch
 
 undone_so : {Own : Type 0} {Tells : Type 0} (old new : Seen Own) → Tells → UndoneButFailed Tells old new → UndoneButFailed (Unit {0}) old new
 undone_so old new told u = record {
-  joined = λ d s is. elim (u.joined d s is) [ inl f ↦ inl (failed_so d old new told f) | inr e ↦ inr e ];
+  joined = λ d s is. elim (u.joined d s is) [ inl f ↦ inl (failed_told d old new told f) | inr e ↦ inr e ];
   out = u.out;
 }
 
 undone_then : {Own : Type 0} {Tells : Type 0} (old mid new : Seen Own) → Tells → Continues Tells old mid → Continues Tells mid new → SwitchesStay mid new → UndoneButFailed (Unit {0}) old mid → UndoneButFailed (Unit {0}) old new
 undone_then old mid new told first later stay u = record {
-  joined = λ d s is. elim (u.joined d s is) [ inl f ↦ inl (failed_later d old mid new told first later f) | inr e ↦ inr (record { next = e.next; is = stay d ∙ e.is }) ];
+  joined = λ d s is. elim (u.joined d s is) [ inl f ↦ inl (failed_before d old mid new first.none_fell later.none_fell (λ u. later.told told) f) | inr e ↦ inr (record { next = e.next; stands = stay d ∙ e.stands }) ];
   out = λ d is. stay d ∙ u.out d is;
 }
 
@@ -114,33 +76,49 @@ completes : (stop : Bool) (unread : List ℕ) (outcome : Outcome) → IsEnd (end
 completes stop unread (Completed stops checkpoint rest) is = tt
 completes stop unread (Failed cause) is = absurd is
 
-never_given : (Own : Type 0) (rest : List ℕ) (acts : List Act) (judged : Bool) (exchanges : List (Exchange Own)) → IsCompleted (turn_of (oracle judged) budget rest (reply_of (record { given = false; acts = acts })) (Some exchanges)).outcome → ⊥
-unfolding turn_of reply_of
-never_given Own rest acts judged exchanges is = is
+-- the answers that were given, one after the other
+answers_of : {Own : Type 0} → List (Exchange Own) → List Answer
+answers_of xs = map (λ x. x.answer) xs
 
-done_by : (Own : Type 0) (stop : Bool) (unread : List ℕ) (given : Bool) (rest event : List ℕ) (acts : List Act) (judged : Bool) (exchanges : List (Exchange Own)) (answers : List Answer) (outcome : Outcome) (old new : Seen Own) → is_event event ≡ true
-    → acts_of index new.history ≡ acts_of index old.history ++ give_act given index event ∷ acts → turn_of (oracle judged) budget rest (reply_of (record { given = given; acts = acts })) (Some exchanges) ≡ played_so answers outcome → IsEnd (ends.Done stop) unread outcome
+answers_agree : {Own : Type 0} (judged : Bool) (xs : List (Exchange Own)) → Agrees (answering judged) xs (answers_of xs) []
+unfolding answering answers_of
+answers_agree judged [] = refl
+answers_agree judged (x ∷ xs) = (refl, answers_agree judged xs)
+
+judged_so : (judged : Bool) → (answering judged).allows [] ≡ judged
+unfolding answering
+judged_so judged = refl
+
+never_given : (rest : List ℕ) (acts : List Act) (judged : Bool) (answers : List Answer) → IsCompleted (turn_of (answering judged) budget rest (reply_of (record { given = false; acts = acts })) answers).outcome → ⊥
+unfolding turn_of reply_of
+never_given rest acts judged answers is = is
+
+done_by : {Own : Type 0} (given : Bool) (rest event : List ℕ) (acts : List Act) (judged : Bool) (answers : List Answer) (old new : Seen Own) → is_event event ≡ true
+    → own_acts new ≡ own_acts old ++ give_act given index event ∷ acts → IsCompleted (turn_of (answering judged) budget rest (reply_of (record { given = given; acts = acts })) answers).outcome
     → (a : AtOnce index (journal old.history)) → Passes a.last.unread rest → TurnDone old new
-done_by Own stop unread true rest event acts judged exchanges answers outcome old new is more played ended a passes = record {
+done_by true rest event acts judged answers old new is more completed a passes = record {
   event = event;
-  is_so = is;
+  event_so = is;
   acts = acts;
   history = more;
   before = a;
   rest = rest;
   passes = passes;
   judged = judged;
-  answers = exchanges;
-  completed = subst IsCompleted (sym (ap (λ (p : Played (Asking Own)). p.outcome) played)) (completes stop unread outcome ended);
+  answers = answers;
+  completed = completed;
 }
-done_by Own stop unread false rest event acts judged exchanges answers outcome old new is more played ended a passes =
-    absurd (never_given Own rest acts judged exchanges (subst IsCompleted (sym (ap (λ (p : Played (Asking Own)). p.outcome) played)) (completes stop unread outcome ended)))
+done_by false rest event acts judged answers old new is more completed a passes = absurd (never_given rest acts judged answers completed)
 
 turn_done : {Own : Type 0} {Tells : Type 0} {accepts : List TableView → Bool} {app : ℕ} {rest event unread : List ℕ} {old new : Seen Own} {net now_net : NetState} {stop : Bool} → Tells → app ≡ index → is_event event ≡ true → Turns Tells accepts app budget rest event old new net now_net (ends.Done stop) unread
     → (a : AtOnce index (journal old.history)) → Passes a.last.unread rest → TurnDone old new
-turn_done {Own = Own} {accepts = accepts} {rest = rest} {event = event} {unread = unread} {old = old} {new = new} {now_net = now_net} {stop = stop} told at is t a passes =
-    done_by Own stop unread t.given rest event (acts_in t.trace) (accepts now_net.views) (exchanges_in t.trace) t.answers t.outcome old new is
-    (subst (λ (i : ℕ). acts_of i new.history ≡ acts_of i old.history ++ give_act t.given i event ∷ acts_in t.trace) at (turn_acts t told)) t.played t.ends a passes
+turn_done {accepts = accepts} {rest = rest} {event = event} {unread = unread} {old = old} {new = new} {now_net = now_net} {stop = stop} told at is t a passes =
+    let judged = accepts now_net.views in
+    let exchanges = exchanges_in t.trace in
+    let alike = turn_alike (answering judged) (answers_of exchanges) [] t (answers_agree judged exchanges) (judged_so judged) in
+    done_by t.given rest event (acts_in t.trace) judged (answers_of exchanges) old new is
+    (subst (λ (i : ℕ). acts_of i new.history ≡ acts_of i old.history ++ give_act t.given i event ∷ acts_in t.trace) at (turn_acts t told))
+    (subst IsCompleted (sym (ap (λ (p : Played (List Answer)). p.outcome) alike)) (completes stop unread t.outcome t.ends)) a passes
 
 -- ---- The dispatch of an event
 

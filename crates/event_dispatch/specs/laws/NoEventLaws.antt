@@ -24,7 +24,7 @@ use Rattle.journal_laws.specs.laws.CallLaws.{both_second}
 use Rattle.app_visor.specs.Talks.{step_of}
 use Rattle.app_visor.specs.CallsFor.{OwnSteps}
 use Rattle.app_visor.specs.laws.TellingLaws.{apart_called}
-use Rattle.run_laws.specs.Left.{gives_event, GiveNoEvent, NoEventSince, SwitchesStay}
+use Rattle.lego_model.specs.AfterFault.{gives_event, GiveNoEvent, NoEventSince, SwitchesStay}
 
 -- ---- One part behind another
 

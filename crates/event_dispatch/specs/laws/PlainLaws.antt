@@ -181,9 +181,9 @@ table_asked {Tells = Tells} {old = old} {new = new} {net = net} d kept now_kept 
       let vs = some_is (rows_at d net.views) known in
       let j = joined-with d net.views (state old) vs.0 (ready.agrees d) vs.1 in
       let before : Conforming old = Conforming-before told continues keeps in
-      let time = switch-in_time old before d j.switch j.is in
+      let time = switch-in_time old before d j.switch j.stands in
       let small = subst (λ (n : ℕ). n < 2 ^ 32) (sym time.moment_so) (moment-within old before) in
-      ask_plain d j.switch fault (rows-are j.switch (sound.entries d j.switch j.is) small) (steps j.switch told keeps j.is (ready.waits d));
+      ask_plain d j.switch fault (rows-are j.switch (sound.entries d j.switch j.stands) small) (steps j.switch told keeps j.stands (ready.waits d));
 }
 
 pub table_memory : {Own : Type 0} {Tells : Type 0} (old new : Seen Own) (net : NetState) → PlainTable Tells old new net faults.NoMemory

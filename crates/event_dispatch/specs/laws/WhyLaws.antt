@@ -1,5 +1,5 @@
 -- A cause in a part of a run is one in the whole.
-use Rattle.std.proofs.Common.{◌≡◌, ◌⊎◌, ℕ, List, ◌++◌, IsErr, sym, ap, ◌∙◌, append_assoc, arith, inl, inr}
+use Rattle.std.proofs.Common.{◌⊎◌, ℕ, List, IsErr, ◌∙◌, arith, inl, inr}
 use Rattle.lego_io.specs.Count.{NeverFell}
 use Rattle.lego_io.specs.laws.CountLaws.{Rose-after, Rose-before}
 use Rattle.of_wire.specs.Reading.{reading_of}
@@ -14,28 +14,10 @@ use Rattle.event_dispatch.specs.declared.served.Served.TheVariants as ends
 use Rattle.event_dispatch.specs.declared.run.Run.{Run}
 use Rattle.event_dispatch.specs.Runs.{Waits}
 use Rattle.event_dispatch.specs.Why.{IsWhy}
-use Rattle.lego_model.specs.SwitchFaults.{Happened, CameFrom, IsBadPart, IsUnanswered, IsErrorFor, IsFlood, IsWhyTxn}
+use Rattle.lego_model.specs.SwitchFaults.{CameFrom, IsBadPart, IsUnanswered, IsErrorFor, IsWhyTxn}
+use Rattle.lego_model.specs.laws.SwitchFaultLaws.{happened_behind, happened_before, IsFlood-behind, IsFlood-before}
 
--- ---- What happened in a part of a history happened in the whole
-
-pub happened_behind : (steps a b c : List WorldStep) → Longer a b → Happened steps b c → Happened steps a c
-happened_behind steps a b c first h =
-    let rest = h.before ++ (steps ++ h.behind) in
-    record {
-      before = first.0 ++ h.before;
-      behind = h.behind;
-      told = h.told ∙ ap (λ (xs : List WorldStep). xs ++ rest) first.1 ∙ append_assoc a first.0 rest ∙ ap (λ (xs : List WorldStep). a ++ xs) (sym (append_assoc first.0 h.before (steps ++ h.behind)));
-    }
-
-pub happened_before : (steps a b c : List WorldStep) → Longer b c → Happened steps a b → Happened steps a c
-happened_before steps a b c rest h = record {
-  before = h.before;
-  behind = h.behind ++ rest.0;
-  told = rest.1 ∙ ap (λ (xs : List WorldStep). xs ++ rest.0) h.told ∙ regroup a h.before steps h.behind rest.0;
-}
-  where
-    regroup : (a b s e l : List WorldStep) → (a ++ (b ++ (s ++ e))) ++ l ≡ a ++ (b ++ (s ++ (e ++ l)))
-    regroup a b s e l = simp append_assoc
+-- ---- What came in a part of a history came in the whole
 
 came_behind : (d : ℕ) (bytes : List ℕ) (a b c : List WorldStep) → Longer a b → CameFrom d bytes b c → CameFrom d bytes a c
 came_behind d bytes a b c first (inl told) = inl (happened_behind _ a b c first told)
@@ -62,16 +44,6 @@ module _ {Own Tells : Type 0} (a b c : Seen Own) (first : Tells → Longer a.his
     told = λ told. happened_behind _ a.history b.history c.history (first told) (is.told told);
   }
 
-  flood_behind : (d n : ℕ) → IsFlood Tells d n b c → IsFlood Tells d n a c
-  flood_behind d n is = record {
-    awaited = is.awaited;
-    of_switch = is.of_switch;
-    got = is.got;
-    many = is.many;
-    before_reply = is.before_reply;
-    told = λ told. happened_behind _ a.history b.history c.history (first told) (is.told told);
-  }
-
   broken_behind : (d : ℕ) (bytes : List ℕ) → IsErr (reading_of bytes) ⊎ IsBadPart Tells d bytes b c → IsErr (reading_of bytes) ⊎ IsBadPart Tells d bytes a c
   broken_behind d bytes (inl broken) = inl broken
   broken_behind d bytes (inr part) = inr (bad_part_behind d bytes part)
@@ -82,7 +54,7 @@ module _ {Own Tells : Type 0} (a b c : Seen Own) (first : Tells → Longer a.his
 
   pub IsWhyTxn-behind : (fault : TxnFault) → NoneFell a.counts b.counts → IsWhyTxn Tells b c fault → IsWhyTxn Tells a c fault
   IsWhyTxn-behind (SwitchFault d) fell why = Rose-after (a.counts.link_faults d) (b.counts.link_faults d) (c.counts.link_faults d) (fell.link_faults d) why
-  IsWhyTxn-behind (Flooded d n) fell why = (why.0, flood_behind d n why.1)
+  IsWhyTxn-behind (Flooded d n) fell why = (why.0, IsFlood-behind a b c first d n why.1)
   IsWhyTxn-behind NoMemory fell why = why
   IsWhyTxn-behind (SwitchBroke d bytes) fell why = ((λ told. came_behind d bytes a.history b.history c.history (first told) (why.0 told)), broken_behind d bytes why.1)
   IsWhyTxn-behind (Diverged d sent got) fell why = ((λ told. ((why.0 told).0, happened_behind _ a.history b.history c.history (first told) (why.0 told).1)), refused_behind d sent got why.1)
@@ -102,16 +74,6 @@ module _ {Own Tells : Type 0} (a b c : Seen Own) (rest : Tells → Longer b.hist
     told = λ told. happened_before _ a.history b.history c.history (rest told) (is.told told);
   }
 
-  flood_before : (d n : ℕ) → IsFlood Tells d n a b → IsFlood Tells d n a c
-  flood_before d n is = record {
-    awaited = is.awaited;
-    of_switch = is.of_switch;
-    got = is.got;
-    many = is.many;
-    before_reply = is.before_reply;
-    told = λ told. happened_before _ a.history b.history c.history (rest told) (is.told told);
-  }
-
   broken_before : (d : ℕ) (bytes : List ℕ) → IsErr (reading_of bytes) ⊎ IsBadPart Tells d bytes a b → IsErr (reading_of bytes) ⊎ IsBadPart Tells d bytes a c
   broken_before d bytes (inl broken) = inl broken
   broken_before d bytes (inr part) = inr (bad_part_before d bytes part)
@@ -122,7 +84,7 @@ module _ {Own Tells : Type 0} (a b c : Seen Own) (rest : Tells → Longer b.hist
 
   IsWhyTxn-before : (fault : TxnFault) → NoneFell a.counts b.counts → NoneFell b.counts c.counts → IsWhyTxn Tells a b fault → IsWhyTxn Tells a c fault
   IsWhyTxn-before (SwitchFault d) fell on why = Rose-before (a.counts.link_faults d) (b.counts.link_faults d) (c.counts.link_faults d) (fell.link_faults d) why (on.link_faults d)
-  IsWhyTxn-before (Flooded d n) fell on why = (why.0, flood_before d n why.1)
+  IsWhyTxn-before (Flooded d n) fell on why = (why.0, IsFlood-before a b c rest d n why.1)
   IsWhyTxn-before NoMemory fell on why = why
   IsWhyTxn-before (SwitchBroke d bytes) fell on why = ((λ told. came_before d bytes a.history b.history c.history (rest told) (why.0 told)), broken_before d bytes why.1)
   IsWhyTxn-before (Diverged d sent got) fell on why = ((λ told. ((why.0 told).0, happened_before _ a.history b.history c.history (rest told) (why.0 told).1)), refused_before d sent got why.1)

@@ -4,12 +4,12 @@ use Rattle.std.proofs.lemmas.Bool.{cond-true, cond-false, cond_both, ne_eqb, and
 use Rattle.std.specs.List.{list_any}
 use Rattle.of_match.specs.declared.key.Key.{Key}
 use Rattle.of_match.specs.Key.{key_number}
-use Rattle.match_overlap.specs.Relations.{is_subsuming, is_overlapping}
+use Rattle.match_overlap.specs.Relations.{is_subsuming}
 use Rattle.of_wire.specs.declared.bodies.FlowMod.{FlowMod}
 use Rattle.flow_table.specs.declared.entry.Entry.{Entry}
 use Rattle.flow_table.specs.Table.{place_of, has_key, IsTable, with_entry}
 use Rattle.flow_table.specs.laws.TableLaws.{IsOnlyAt, IsTable-with_entry, IsTable-filter, IsTable-map}
-use Rattle.flow_table.specs.Change.{key_in, is_strict, is_modify, is_delete, describes, sends_to, deletes, adds, asks_notice, modified, new_entry, refusal, notice, notices_of, entries_after, means, tells, clashes_with}
+use Rattle.flow_table.specs.Change.{key_in, is_strict, is_modify, is_delete, describes, sends_to, deletes, adds, asks_notice, modified, new_entry, refusal, notice, notices_of, entries_after, means, tells}
 
 -- ---- A strict description
 

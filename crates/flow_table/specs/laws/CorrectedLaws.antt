@@ -1,5 +1,5 @@
 -- What is shown of a table has its keys, actions and serials; so it is in key order too, and is looked up key by key.
-use Rattle.std.specs.Prelude.{◌≡◌, ℕ, List, map, Option, Some, None, refl}
+use Rattle.std.specs.Prelude.{◌≡◌, List, Option, Some, None, refl}
 use Rattle.std.specs.Option.{option_map}
 use Rattle.of_match.specs.declared.key.Key.{Key}
 use Rattle.of_action.specs.declared.action.Action.{Action}

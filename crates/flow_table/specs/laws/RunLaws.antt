@@ -1,13 +1,12 @@
 -- What follows about lists of calls: each of a plan may be made, and one more call after others.
-use Rattle.std.proofs.Common.{◌≡◌, ℕ, ◌+◌, ◌-◌, ◌^◌, ◌<◌, ◌≤◌, Bool, true, false, List, [], ◌∷◌, ◌++◌, All, Option, Some, None, refl, sym, ap, ◌∙◌, arith, inl, inr}
+use Rattle.std.proofs.Common.{◌≡◌, ℕ, ◌+◌, ◌-◌, ◌^◌, ◌<◌, ◌≤◌, List, [], ◌∷◌, ◌++◌, All, Some, None, refl, arith, inl, inr}
 use Rattle.std.proofs.lemmas.Bool.{cases_Bool}
-use Rattle.of_types.specs.declared.errors.OfError.{OfError}
 use Rattle.of_wire.specs.declared.bodies.FlowMod.{FlowMod}
 use Rattle.flow_table.specs.declared.calls.TableAnswer.{TableAnswer}
 use Rattle.flow_table.specs.declared.calls.TableCall.{TableCall}
 use Rattle.flow_table.specs.declared.calls.TableCall.TheVariants.{Change, Hit, Expire, AddCounts}
 use Rattle.flow_table.specs.Table.{TableState, IsMoment, last_moment}
-use Rattle.flow_table.specs.Change.{adds, refusal, serial_after, changed, change, unless_refused}
+use Rattle.flow_table.specs.Change.{adds, refusal, changed, change, unless_refused}
 use Rattle.flow_table.specs.Expiry.{expire}
 use Rattle.flow_table.specs.Run.{after_call, after_calls, IsAnswer, AreAnswers, moment_after, MomentsFrom, IsPlan, IsAllowed}
 use Rattle.flow_table.specs.laws.MomentLaws.{IsMoment-later, IsMoment-hit, IsMoment-with_counts, IsMoment-expire, IsMoment-change}

@@ -1,5 +1,5 @@
 -- Laws of dialogues: one behind another, acts of others, and what a change before others leaves.
-use Rattle.std.specs.Prelude.{◌≡◌, ℕ, suc, ◌<◌, Bool, true, false, List, [], ◌∷◌, ◌++◌, filter, length, slice_get, refl, Option, None, Result, Err, Ok, Some}
+use Rattle.std.specs.Prelude.{◌≡◌, ℕ, suc, ◌<◌, Bool, true, false, List, [], ◌∷◌, ◌++◌, filter, drop, length, slice_get, refl, Option, None, Result, Err, Ok, Some}
 use Rattle.std.proofs.Common.{sym, ap, ◌∙◌, subst, append_assoc, arith, inl, inr}
 use Rattle.std.proofs.lemmas.List.{append-nil}
 use Rattle.std.proofs.lemmas.List.Elements.{filter-append}
@@ -19,7 +19,7 @@ use Rattle.app_frames.specs.declared.frame.Answer.{Answer}
 use Rattle.app_frames.specs.Spelling.{framed, host_bytes}
 use Rattle.lego_model.specs.Journal.{is_of, is_event, sends_change, ReachedAtOnce}
 use Rattle.lego_model.specs.Controller.{restore_frame, answer_frame}
-use Rattle.lego_model.specs.AtOnce.{Before, besides, Passes, SendsNone, AnsweredByHost, AnsweredBySwitch, is_answer, Says, Dialogue, AnsweredAtOnce}
+use Rattle.lego_model.specs.AtOnce.{Before, besides, Passes, SendsNone, AnsweredByHost, first_error, AnsweredBySwitch, is_answer, Says, Dialogue, AnsweredAtOnce}
 
 -- ---- Frames
 
@@ -115,7 +115,13 @@ reached_since dpid change xs ys none r = record {
   alone = ap (λ (acts : List Act). length acts) (filter-append sends_change xs ys ∙ ap (λ (acts : List Act). acts ++ filter sends_change ys) none) ∙ r.alone;
 }
 
+drop_behind : (xs ys : List Act) (i : ℕ) → drop (place_behind xs i) (xs ++ ys) ≡ drop i ys
+unfolding place_behind
+drop_behind [] ys i = refl
+drop_behind (x ∷ xs) ys i = drop_behind xs ys i
+
 pub switch_since : (dpid : ℕ) (bytes : List ℕ) (answer : Answer) (xs ys : List Act) → SendsNone xs → AnsweredBySwitch dpid bytes answer ys → AnsweredBySwitch dpid bytes answer (xs ++ ys)
+unfolding reached_since
 switch_since dpid bytes answer xs ys none by = record {
   xid = by.xid;
   message = by.message;
@@ -123,6 +129,7 @@ switch_since dpid bytes answer xs ys none by = record {
   change = by.change;
   reached = reached_since dpid _ xs ys none by.reached;
   error = by.error;
+  error_so = by.error_so ∙ ap (λ (acts : List Act). first_error dpid by.reached.xid by.reached.barrier acts) (sym (drop_behind xs ys by.reached.sent));
   answer_so = by.answer_so;
 }
 

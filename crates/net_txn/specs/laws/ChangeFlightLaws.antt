@@ -148,12 +148,12 @@ EitherWay d m said = Stays d said ⊎ Moves d m said
 
 -- so many of the two messages were sent
 record IsFront (change barrier : List ℕ) (first : List (List ℕ)) : Type 0 where
-  is : (first ≡ []) ⊎ ((first ≡ change ∷ []) ⊎ (first ≡ change ∷ barrier ∷ []))
+  front : (first ≡ []) ⊎ ((first ≡ change ∷ []) ⊎ (first ≡ change ∷ barrier ∷ []))
 
 front_of_two : (change barrier : List ℕ) (first rest : List (List ℕ)) → change ∷ barrier ∷ [] ≡ first ++ rest → IsFront change barrier first
-front_of_two change barrier [] rest same = record { is = inl refl }
-front_of_two change barrier (c ∷ []) rest same = record { is = inr (inl cc) }
-front_of_two change barrier (c ∷ b ∷ []) rest same = record { is = inr (inr cc) }
+front_of_two change barrier [] rest same = record { front = inl refl }
+front_of_two change barrier (c ∷ []) rest same = record { front = inr (inl cc) }
+front_of_two change barrier (c ∷ b ∷ []) rest same = record { front = inr (inr cc) }
 front_of_two change barrier (c ∷ b ∷ x ∷ xs) rest same = absurd cc
 
 module _ (d xid : ℕ) (m : Change) (small : xid < 2 ^ 32) (is : IsMessage (FlowMod m)) where
@@ -165,7 +165,7 @@ module _ (d xid : ℕ) (m : Change) (small : xid < 2 ^ 32) (is : IsMessage (Flow
 
   front_moves : (first : List (List ℕ)) (last : List Said) → IsFront (change_bytes xid m) (barrier_of (awaited_from d xid)) first → Stays d last → EitherWay d (as_sent (FlowMod m)) (frames_said d first ++ last)
   front_moves first last front stays =
-      elim front.is [
+      elim front.front [
         | inl none ↦ inl (subst (λ (fs : List (List ℕ)). Stays d (frames_said d fs ++ last)) (sym none) stays)
         | inr some ↦ elim some [
           | inl one ↦ inr (subst (λ (fs : List (List ℕ)). Moves d (as_sent (FlowMod m)) (frames_said d fs ++ last)) (sym one) (moves_then d (as_sent (FlowMod m)) (Says d (change_bytes xid m) ∷ []) last change_moves stays))
@@ -175,7 +175,7 @@ module _ (d xid : ℕ) (m : Change) (small : xid < 2 ^ 32) (is : IsMessage (Flow
       ]
 
   both_front : IsFront (change_bytes xid m) (barrier_of (awaited_from d xid)) (change_bytes xid m ∷ barrier_of (awaited_from d xid) ∷ [])
-  both_front = record { is = inr (inr refl) }
+  both_front = record { front = inr (inr refl) }
 
 moves_by : {Own : Type 0} {Tells : Type 0} (d : ℕ) (m : Message) (said : List Said) (old new : Seen Own) → Tells → Calls Tells d said old new → EitherWay d m said → MayMove d m (state old) (state new)
 moves_by d m said old new told calls either =

@@ -9,7 +9,7 @@ use Rattle.outside.specs.declared.step.WorldStep.TheVariants.{Acted}
 use Rattle.outside.specs.Seen.{Seen}
 use Rattle.lego_model.specs.declared.fault.TxnFault.{TxnFault}
 use Rattle.net_txn.specs.declared.logged.Logged.{Logged}
-use Rattle.net_txn.specs.Net.{inverse_bytes}
+use Rattle.lego_model.specs.AfterFault.{inverse_bytes}
 use Rattle.lego_model.specs.BarrierWaits.{next_xid, barrier_sent}
 use Rattle.net_txn.specs.Waits.{KeptMore}
 use Rattle.net_txn.specs.laws.ProgressLaws.{progress_of-other, inverses_in-other}

@@ -85,7 +85,7 @@ all_keep declared old new (p ∷ older) t kept now_kept all none may ready keeps
     let may_part = MaySteps-rest declared (steps_of older) (part_steps p.0 p.1) t may in
     let rest = all_keep declared old new older t kept keeps.0 (runs_older old new p older all) n.0 may_older (ready_older p older t ready) keeps.1 in
     let s = ready_here p older t ready in
-    let l = left_all declared old new p.0 s.switch older t (runs_older old new p older all) (free_all older p.0 n.0) may_older s.is s.waits in
+    let l = left_all declared old new p.0 s.switch older t (runs_older old new p older all) (free_all older p.0 n.0) may_older s.stands s.waits in
     part_keeps declared old new p.0 p.1 s.switch (parts_of p.0 older) (after_steps (steps_of older) t) keeps.0 now_kept (runs_here old new p older all) n.1 may_part l keeps.2 ∙ rest
 
 pub none_kept : {Own : Type 0} (old new : Seen Own) (views : List TableView) (parts : List (ℕ × Part)) (result : Result (Unit {0}) TxnFault) (kept now_kept : List (ℕ × List ℕ)) → new.given ≡ old.given → new.history ≡ old.history ++ steps_of parts → AllRun old.counts new.counts parts

@@ -1,8 +1,10 @@
--- A change that was asked reached its switch at once.
-use Rattle.std.specs.Prelude.{◌≡◌, ℕ, true, false, List, [], ◌∷◌, ◌++◌, length, filter, Some, Ok, slice_get, refl}
+-- A change that was asked reached its switch at once, and its answer is the first ERROR for it.
+use Rattle.std.specs.Prelude.{◌≡◌, ℕ, true, false, List, [], ◌∷◌, ◌++◌, length, filter, filter_map, Option, Some, None, Ok, slice_get, refl}
 use Rattle.std.specs.List.{AllByRecursion}
-use Rattle.std.proofs.Common.{suc, ap, ◌∙◌, arith}
-use Rattle.std.proofs.lemmas.List.Elements.{filter-append}
+use Rattle.std.proofs.Common.{suc, sym, ap, ◌∙◌, append_assoc, arith}
+use Rattle.std.proofs.lemmas.Bool.{eq-eqb}
+use Rattle.std.proofs.lemmas.List.Elements.{filter-append, filter_map-append}
+use Rattle.of_types.specs.declared.errors.OfError.{OfError}
 use Rattle.of_types.specs.declared.journal.Act.{Act}
 use Rattle.of_types.specs.declared.journal.Act.TheVariants.{Sent, Got}
 use Rattle.of_wire.specs.declared.bodies.FlowMod.{FlowMod as Change}
@@ -14,19 +16,21 @@ use Rattle.of_wire.specs.Grammar.{enveloped}
 use Rattle.of_wire.specs.laws.ReadingLaws.{reading_of-message_bytes}
 use Rattle.app_frames.specs.declared.frame.Answer.{Answer}
 use Rattle.lego_model.specs.Answers.{as_sent}
+use Rattle.lego_model.specs.AtOnce.{error_said, error_got, first_error}
 use Rattle.lego_model.specs.Journal.{is_change, sends_change}
+use Rattle.lego_model.specs.declared.wait.Refusal.{Refusal}
 use Rattle.outside.specs.Seen.{Seen, journal}
 use Rattle.outside.specs.laws.SeenLaws.{journal-append}
 use Rattle.lego_model.specs.declared.wait.Awaited.{Awaited}
 use Rattle.lego_model.specs.declared.wait.Heard.{Heard}
 use Rattle.lego_model.specs.declared.wait.Heard.TheVariants.{Reply, Refused, Notice, Echo, Other}
-use Rattle.net_txn.specs.Waits.{IsRead}
+use Rattle.net_txn.specs.Waits.{IsRead, refusal_in, first_of, answer_of}
 use Rattle.lego_model.specs.BarrierWaits.{heard, steps_by, heard_steps, wait_steps, barrier_sent, reply_got, echo_reply, next_xid}
 use Rattle.net_txn.specs.laws.EchoLaws.{echo_reply-reading}
 use Rattle.net_txn.specs.Net.{NetState, awaited_from}
 use Rattle.net_txn.specs.laws.SentLaws.{reading_of-as_sent}
-use Rattle.net_txn.specs.laws.HeardLaws.{IsMessage-barrier, next_xid-lt}
-use Rattle.net_txn.specs.Changes.{change_sent, Asked}
+use Rattle.net_txn.specs.laws.HeardLaws.{IsMessage-barrier, next_xid-lt, heard-reply}
+use Rattle.net_txn.specs.Changes.{change_sent, error_in, Asked}
 use Rattle.net_txn.specs.Agreement.{ReachedSince}
 
 -- ---- Which acts send a change
@@ -55,14 +59,64 @@ wait_sends_none a (b ∷ bs) all =
     ap (filter sends_change) (journal-append (heard_steps a b) (wait_steps a bs)) ∙ filter-append sends_change (journal (heard_steps a b)) (journal (wait_steps a bs))
     ∙ ap (λ (acts : List Act). acts ++ filter sends_change (journal (wait_steps a bs))) (heard_sends_none a b all.0) ∙ wait_sends_none a bs all.1
 
+-- ---- The first error
+
+errors_of : Option OfError → List OfError
+errors_of None = []
+errors_of (Some e) = e ∷ []
+
+errors_at : (a : Awaited) (bytes : List ℕ) (h : Heard) → error_got a (Got a.dpid bytes) ≡ error_said h → filter_map (error_got a) (Got a.dpid bytes ∷ journal (steps_by a.dpid h bytes)) ≡ errors_of (error_said h)
+unfolding journal errors_of
+errors_at a bytes Reply is = rw is refl
+errors_at a bytes (Refused r) is = rw is refl
+errors_at a bytes Notice is = rw is refl
+errors_at a bytes Echo is = rw is refl
+errors_at a bytes Other is = rw is refl
+
+got_said : (a : Awaited) (bytes : List ℕ) → error_got a (Got a.dpid bytes) ≡ error_said (heard a bytes)
+got_said a bytes = rw (eq-eqb a.dpid a.dpid refl) refl
+
+errors_heard : (a : Awaited) (bytes : List ℕ) → filter_map (error_got a) (journal (heard_steps a bytes)) ≡ errors_of (error_said (heard a bytes))
+unfolding journal
+errors_heard a bytes = errors_at a bytes (heard a bytes) (got_said a bytes)
+
+first_then : (h : Heard) (later : List OfError) (refusal : Option Refusal) → slice_get later 0 ≡ error_in refusal → slice_get (errors_of (error_said h) ++ later) 0 ≡ error_in (first_of (refusal_in h) refusal)
+unfolding errors_of
+first_then Reply later refusal is = is
+first_then (Refused r) later refusal is = refl
+first_then Notice later refusal is = is
+first_then Echo later refusal is = is
+first_then Other later refusal is = is
+
+-- of messages in a wait, and acts behind it that have none
+first_waited : (a : Awaited) (got : List (List ℕ)) (last : List Act) → filter_map (error_got a) last ≡ [] → slice_get (filter_map (error_got a) (journal (wait_steps a got) ++ last)) 0 ≡ error_in (answer_of a got)
+unfolding journal
+first_waited a [] last none = ap (λ (es : List OfError). slice_get es 0) none
+first_waited a (b ∷ bs) last none =
+    let here = journal (heard_steps a b) in
+    let rest = journal (wait_steps a bs) ++ last in
+    ap (λ (acts : List Act). slice_get (filter_map (error_got a) acts) 0) (ap (λ (acts : List Act). acts ++ last) (journal-append (heard_steps a b) (wait_steps a bs)) ∙ append_assoc here (journal (wait_steps a bs)) last)
+    ∙ ap (λ (es : List OfError). slice_get es 0) (filter_map-append (error_got a) here rest ∙ ap (λ (es : List OfError). es ++ filter_map (error_got a) rest) (errors_heard a b))
+    ∙ first_then (heard a b) (filter_map (error_got a) rest) (answer_of a bs) (first_waited a bs last none)
+
+reply_no_error : (a : Awaited) → filter_map (error_got a) (Got a.dpid (message_bytes a.barrier BarrierReply) ∷ []) ≡ []
+unfolding journal errors_of
+reply_no_error a = errors_at a (message_bytes a.barrier BarrierReply) Reply (got_said a (message_bytes a.barrier BarrierReply) ∙ ap error_said (heard-reply a))
+
+first_behind : (a : Awaited) (got : List (List ℕ)) → slice_get (filter_map (error_got a) (journal (wait_steps a got ++ reply_got a ∷ []))) 0 ≡ error_in (answer_of a got)
+unfolding journal
+first_behind a got =
+    ap (λ (acts : List Act). slice_get (filter_map (error_got a) acts) 0) (journal-append (wait_steps a got) (reply_got a ∷ []))
+    ∙ first_waited a got (Got a.dpid (message_bytes a.barrier BarrierReply) ∷ []) (reply_no_error a)
+
 -- ---- Where the acts stand
 
 last_at : (acts : List Act) (act : Act) → slice_get (acts ++ act ∷ []) (length acts) ≡ Some act
 last_at [] act = refl
 last_at (x ∷ xs) act = last_at xs act
 
-pub reached : {Own : Type 0} {Tells : Type 0} (d : ℕ) (old new : Seen Own) (net now_net : NetState) (answer : Answer) (m : Change) → Tells → Asked Tells d m old new net now_net answer → ReachedSince d (as_sent (FlowMod m)) old.history new.history
-unfolding journal
+pub reached : {Own : Type 0} {Tells : Type 0} (d : ℕ) (old new : Seen Own) (net now_net : NetState) (answer : Answer) (m : Change) → Tells → Asked Tells d m old new net now_net answer → ReachedSince d (as_sent (FlowMod m)) answer old.history new.history
+unfolding journal first_error
 reached d old new net now_net answer m told asked =
     let a = awaited_from d net.xid in
     let got = asked.waits.got in
@@ -88,4 +142,7 @@ reached d old new net now_net answer m told asked =
         in_order = (omega arith, omega arith);
         alone = rw (change, barrier, none) refl;
       };
+      error = error_in asked.refusal;
+      error_so = ap error_in hears.answer_so ∙ sym (first_behind a got);
+      answer_so = asked.answer_so;
     }

@@ -32,7 +32,7 @@ use Rattle.lego_model.specs.declared.wait.Awaited.{Awaited}
 use Rattle.lego_model.specs.declared.wait.Heard.{Heard}
 use Rattle.lego_model.specs.declared.wait.Heard.TheVariants as hearing
 use Rattle.lego_model.specs.BarrierWaits.{heard, echo_reply, steps_by, heard_steps, wait_steps, barrier_sent, reply_got}
-use Rattle.net_txn.specs.Net.{delete_strict, inverse_bytes}
+use Rattle.lego_model.specs.AfterFault.{delete_strict, inverse_bytes}
 use Rattle.net_txn.specs.laws.HeardLaws.{IsMessage-barrier}
 use Rattle.net_txn.specs.laws.StepLaws.{told_switch, barrier_stays}
 use Rattle.net_txn.specs.laws.NoticeLaws.{kind_of_header, with_entries, inverse_moves}
@@ -47,17 +47,17 @@ some_switch x = Some x
 
 -- the front of bytes of that type is an ECHO_REPLY's, or there is a fault
 record IsReplyFront (read : Result MessageKind WireFault) : Type 0 where
-  is : (kind : MessageKind) → read ≡ Ok kind → kind ≡ kinds.EchoReply
+  reply : (kind : MessageKind) → read ≡ Ok kind → kind ≡ kinds.EchoReply
 
 abbrev front_read : Result MessageKind WireFault → MessageKind
 front_read (Ok kind) = kind
 front_read (Err fault) = kinds.EchoReply
 
 front_fault : (fault : WireFault) → IsReplyFront (Err fault)
-front_fault fault = record { is = λ kind e. absurd cc }
+front_fault fault = record { reply = λ kind e. absurd cc }
 
 front_reply : IsReplyFront (Ok kinds.EchoReply)
-front_reply = record { is = λ kind e. sym (ap front_read e) }
+front_reply = record { reply = λ kind e. sym (ap front_read e) }
 
 front_if : (b : Bool) (x y : Result MessageKind WireFault) → IsReplyFront x → IsReplyFront y → IsReplyFront (if b then x else y)
 front_if true x y first second = first
@@ -92,7 +92,7 @@ told_front : (bytes : List ℕ) (o : Option SwitchState) (front : Result Message
     → switch_told (front >>= λ kind. body_of kind bytes >>= λ message. Ok (record { xid = number_at 4 4 bytes; message = message })) o ≡ o
 told_front bytes o (Err fault) is = refl
 told_front bytes o (Ok kind) is =
-    subst (λ (k : MessageKind). switch_told (body_of k bytes >>= λ message. Ok (record { xid = number_at 4 4 bytes; message = message })) o ≡ o) (sym (is.is kind refl)) (told_echo bytes o)
+    subst (λ (k : MessageKind). switch_told (body_of k bytes >>= λ message. Ok (record { xid = number_at 4 4 bytes; message = message })) o ≡ o) (sym (is.reply kind refl)) (told_echo bytes o)
 
 told_stays : (bytes : List ℕ) (o : Option SwitchState) → number_at 1 1 bytes ≡ 3 → switch_told (reading_of bytes) o ≡ o
 unfolding reading_of

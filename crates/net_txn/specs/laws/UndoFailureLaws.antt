@@ -1,96 +1,160 @@
 -- A switch that failed in an undo has its cause in the calls of that undo.
-use Rattle.std.specs.Prelude.{◌≡◌, ℕ, Bool, true, List, [], ◌∷◌, ◌++◌, if◌then◌else◌, refl}
-use Rattle.std.specs.List.{AllByRecursion}
-use Rattle.std.proofs.Common.{sym, ap, ◌∙◌, subst, append_assoc, inl, inr}
-use Rattle.std.proofs.lemmas.Bool.{cases_eq, eq-eqb, ne_eqb}
+use Rattle.std.proofs.Common.{◌≡◌, ◌==◌, ℕ, Bool, true, false, List, [], ◌∷◌, ◌++◌, Option, Some, None, if◌then◌else◌, refl, sym, ap, ◌∙◌, subst, append_assoc, inl, inr}
+use Rattle.std.proofs.lemmas.Bool.{cases_Bool, cases_eq, eq-eqb, ne_eqb, eqb-true}
 use Rattle.std.proofs.lemmas.List.{append-nil}
-use Rattle.of_types.specs.declared.journal.Act.TheVariants.{Sent}
+use Rattle.of_types.specs.Fields.{number_at}
+use Rattle.of_types.specs.declared.journal.Act.TheVariants.{Sent, Got}
 use Rattle.of_match.specs.declared.key.Key.{Key}
 use Rattle.outside.specs.declared.step.WorldStep.{WorldStep}
 use Rattle.outside.specs.declared.step.WorldStep.TheVariants.{Acted}
-use Rattle.lego_io.specs.laws.CountLaws.{Rose-after}
-use Rattle.outside.specs.Seen.{Counts, NoneFell, Seen, Continues}
+use Rattle.outside.specs.Seen.{Counts, Seen}
 use Rattle.lego_model.specs.declared.fault.TxnFault.{TxnFault}
 use Rattle.lego_model.specs.declared.fault.TxnFault.TheVariants.{SwitchFault, SwitchBroke, Diverged, Flooded, NoMemory}
-use Rattle.net_txn.specs.Net.{inverse_bytes}
-use Rattle.net_txn.specs.Undos.{StandsIn, StandWithin, FailsInUndo, IsFaultOf, IsStuckBy, Part, Inverse, BarrierPassed, Stuck, part_steps, steps_of, parts_of, is_stuck, inverses_of, IsRun}
+use Rattle.lego_model.specs.AfterFault.{inverse_bytes, IsWhyUndo, FailsInUndo}
+use Rattle.lego_model.specs.BarrierWaits.{wait_steps, barrier_sent}
+use Rattle.lego_model.specs.SwitchFaults.{Happened, SentThenGot, IsFlood}
+use Rattle.net_txn.specs.Undos.{key_sent, key_refused, IsFaultOf, Part, Inverse, BarrierPassed, Stuck, part_steps, steps_of, parts_of, is_stuck, inverses_of, IsRun}
 use Rattle.net_txn.specs.laws.RestoreLaws.{AllRun, runs_here, runs_older}
 
--- ---- One of some steps
+-- ---- Steps of an undo
 
-stands_before : (step : WorldStep) (xs ys : List WorldStep) → StandsIn step xs → StandsIn step (xs ++ ys)
-stands_before step [] ys is = absurd is
-stands_before step (x ∷ xs) ys (inl same) = inl same
-stands_before step (x ∷ xs) ys (inr is) = inr (stands_before step xs ys is)
+-- steps of a part of it happened
+in_part : {old new : List WorldStep} (older steps rest front mid back : List WorldStep) → steps ≡ front ++ (mid ++ back) → new ≡ old ++ ((older ++ steps) ++ rest) → Happened mid old new
+in_part {old = old} older steps rest front mid back steps_so told = record {
+  before = older ++ front;
+  behind = back ++ rest;
+  told = told ∙ ap (λ (s : List WorldStep). old ++ ((older ++ s) ++ rest)) steps_so ∙ ap (λ (w : List WorldStep). old ++ w) (regroup older front mid back rest);
+}
+  where
+    regroup : (o f m b r : List WorldStep) → (o ++ (f ++ (m ++ b))) ++ r ≡ (o ++ f) ++ (m ++ (b ++ r))
+    regroup o f m b r = simp append_assoc
 
-stands_behind : (step : WorldStep) (xs ys : List WorldStep) → StandsIn step ys → StandsIn step (xs ++ ys)
-stands_behind step [] ys is = is
-stands_behind step (x ∷ xs) ys is = inr (stands_behind step xs ys is)
+-- a message was sent to a switch, with the steps around it
+record IsSent (d : ℕ) (bytes : List ℕ) (steps : List WorldStep) : Type 0 where
+  before : List WorldStep
+  behind : List WorldStep
+  steps_so : steps ≡ before ++ (Acted (Sent d bytes) ∷ behind)
 
--- ---- The inverses that were sent
+sent_earlier : (d : ℕ) (bytes : List ℕ) (steps more : List WorldStep) → IsSent d bytes steps → IsSent d bytes (steps ++ more)
+sent_earlier d bytes steps more is = record { before = is.before; behind = is.behind ++ more; steps_so = ap (λ (xs : List WorldStep). xs ++ more) is.steps_so ∙ append_assoc is.before (Acted (Sent d bytes) ∷ is.behind) more }
 
-abbrev WereSent : ℕ → List WorldStep → List (ℕ × Key) → Type 0
-WereSent d steps sent = AllByRecursion (λ p. StandsIn (Acted (Sent d (inverse_bytes p.0 p.1))) steps) sent
+same_key : (a b : Key) → Some a ≡ Some b → a ≡ b
+same_key a b h = cc
 
-sent_before : (d : ℕ) (xs ys : List WorldStep) (sent : List (ℕ × Key)) → WereSent d xs sent → WereSent d (xs ++ ys) sent
-sent_before d xs ys [] all = tt
-sent_before d xs ys (p ∷ ps) all = (stands_before (Acted (Sent d (inverse_bytes p.0 p.1))) xs ys all.0, sent_before d xs ys ps all.1)
+sent_last : (c d x xid : ℕ) (k key : Key) (steps : List WorldStep) → c ≡ d → x ≡ xid → k ≡ key → IsSent d (inverse_bytes xid key) (steps ++ Acted (Sent c (inverse_bytes x k)) ∷ [])
+sent_last c d x xid k key steps of_switch of_xid of_key = record { before = steps; behind = []; steps_so = rw (of_switch, of_xid, of_key) refl }
 
-sent_here : (d : ℕ) (p : Part) (parts : List Part) (steps : List WorldStep) → WereSent d steps (inverses_of parts) → WereSent d (steps ++ part_steps d p) (inverses_of (p ∷ parts))
-sent_here d (Inverse xid k) parts steps all =
-    (stands_behind (Acted (Sent d (inverse_bytes xid k))) steps (Acted (Sent d (inverse_bytes xid k)) ∷ []) (inl refl), sent_before d steps (Acted (Sent d (inverse_bytes xid k)) ∷ []) (inverses_of parts) all)
-sent_here d (BarrierPassed xid got) parts steps all = sent_before d steps (part_steps d (BarrierPassed xid got)) (inverses_of parts) all
-sent_here d (Stuck xid fault more) parts steps all = sent_before d steps more (inverses_of parts) all
+parts_here : (d : ℕ) (p : ℕ × Part) (older : List (ℕ × Part)) → (p.0 == d) ≡ true → parts_of d (p ∷ older) ≡ p.1 ∷ parts_of d older
+parts_here d p older here = rw here refl
 
-were_sent : (d : ℕ) (parts : List (ℕ × Part)) → WereSent d (steps_of parts) (inverses_of (parts_of d parts))
-were_sent d [] = tt
-were_sent d (p ∷ older) =
-    elim (cases_eq p.0 d) [
-      | inl same ↦
-          (let here : WereSent p.0 (steps_of older ++ part_steps p.0 p.1) (inverses_of (p.1 ∷ parts_of p.0 older)) = sent_here p.0 p.1 (parts_of p.0 older) (steps_of older) (were_sent p.0 older) in
-          let there : WereSent d (steps_of older ++ part_steps p.0 p.1) (inverses_of (p.1 ∷ parts_of d older)) = subst (λ (n : ℕ). WereSent n (steps_of older ++ part_steps p.0 p.1) (inverses_of (p.1 ∷ parts_of n older))) same here in
-          subst (λ (b : Bool). WereSent d (steps_of older ++ part_steps p.0 p.1) (inverses_of (if b then p.1 ∷ parts_of d older else parts_of d older))) (sym (eq-eqb p.0 d same)) there)
-      | inr other ↦
-          (let there : WereSent d (steps_of older ++ part_steps p.0 p.1) (inverses_of (parts_of d older)) = sent_before d (steps_of older) (part_steps p.0 p.1) (inverses_of (parts_of d older)) (were_sent d older) in
-          subst (λ (b : Bool). WereSent d (steps_of older ++ part_steps p.0 p.1) (inverses_of (if b then p.1 ∷ parts_of d older else parts_of d older))) (sym (ne_eqb p.0 d other)) there)
+parts_there : (d : ℕ) (p : ℕ × Part) (older : List (ℕ × Part)) → (p.0 == d) ≡ false → parts_of d (p ∷ older) ≡ parts_of d older
+parts_there d p older other = rw other refl
+
+inverse_here : (c d xid x : ℕ) (key k : Key) (sent : List (ℕ × Key)) (steps : List WorldStep) (same : Bool) → c ≡ d → (x == xid) ≡ same → (if same then Some k else key_sent xid sent) ≡ Some key → (key_sent xid sent ≡ Some key → IsSent d (inverse_bytes xid key) steps)
+    → IsSent d (inverse_bytes xid key) (steps ++ Acted (Sent c (inverse_bytes x k)) ∷ [])
+inverse_here c d xid x key k sent steps true of_switch same is older = sent_last c d x xid k key steps of_switch (eqb-true x xid same) (same_key k key is)
+inverse_here c d xid x key k sent steps false of_switch same is older = sent_earlier d (inverse_bytes xid key) steps (Acted (Sent c (inverse_bytes x k)) ∷ []) (older is)
+
+part_sent : (c d xid : ℕ) (key : Key) (p : Part) (parts : List Part) (steps : List WorldStep) → c ≡ d → key_sent xid (inverses_of (p ∷ parts)) ≡ Some key → (key_sent xid (inverses_of parts) ≡ Some key → IsSent d (inverse_bytes xid key) steps)
+    → IsSent d (inverse_bytes xid key) (steps ++ part_steps c p)
+part_sent c d xid key (Inverse x k) parts steps of_switch is older = inverse_here c d xid x key k (inverses_of parts) steps (x == xid) of_switch refl is older
+part_sent c d xid key (BarrierPassed x got) parts steps of_switch is older = sent_earlier d (inverse_bytes xid key) steps (part_steps c (BarrierPassed x got)) (older is)
+part_sent c d xid key (Stuck x fault stuck) parts steps of_switch is older = sent_earlier d (inverse_bytes xid key) steps (part_steps c (Stuck x fault stuck)) (older is)
+
+-- an inverse that is refused was sent
+inverse_sent : (d xid : ℕ) (key : Key) (parts : List (ℕ × Part)) → key_sent xid (inverses_of (parts_of d parts)) ≡ Some key → IsSent d (inverse_bytes xid key) (steps_of parts)
+inverse_sent d xid key [] is = absurd cc
+inverse_sent d xid key (p ∷ older) is =
+    elim (cases_Bool (p.0 == d)) [
+      | inl here ↦ part_sent p.0 d xid key p.1 (parts_of d older) (steps_of older) (eqb-true p.0 d here) (subst (λ (ps : List Part). key_sent xid (inverses_of ps) ≡ Some key) (parts_here d p older here) is) (λ earlier. inverse_sent d xid key older earlier)
+      | inr other ↦ sent_earlier d (inverse_bytes xid key) (steps_of older) (part_steps p.0 p.1) (inverse_sent d xid key older (subst (λ (ps : List Part). key_sent xid (inverses_of ps) ≡ Some key) (parts_there d p older other) is))
     ]
+
+refused_kind : (kind : Bool) (k : Option Key) (key : Key) → (if kind then k else None) ≡ Some key → (kind ≡ true) × (k ≡ Some key)
+refused_kind true k key is = (refl, is)
+refused_kind false k key is = absurd cc
+
+refused_error : (sent : List (ℕ × Key)) (bytes : List ℕ) (key : Key) → key_refused sent bytes ≡ Some key → (number_at 1 1 bytes ≡ 1) × (key_sent (number_at 4 4 bytes) sent ≡ Some key)
+unfolding key_refused
+refused_error sent bytes key is = let both = refused_kind (number_at 1 1 bytes == 1) (key_sent (number_at 4 4 bytes) sent) key is in (eqb-true (number_at 1 1 bytes) 1 both.0, both.1)
+
+-- the inverse, and behind it the message that refuses it
+refused_after : {old new : List WorldStep} (d : ℕ) (inverse bytes : List ℕ) (older steps front rest : List WorldStep) → IsSent d inverse older → steps ≡ front ++ Acted (Got d bytes) ∷ [] → new ≡ old ++ ((older ++ steps) ++ rest) → SentThenGot d inverse bytes old new
+refused_after {old = old} d inverse bytes older steps front rest sent steps_so told = (
+  sent.behind ++ front,
+  record {
+    before = sent.before;
+    behind = rest;
+    told = told ∙ ap (λ (o : List WorldStep). old ++ ((o ++ steps) ++ rest)) sent.steps_so ∙ ap (λ (s : List WorldStep). old ++ (((sent.before ++ (Acted (Sent d inverse) ∷ sent.behind)) ++ s) ++ rest)) steps_so
+        ∙ ap (λ (w : List WorldStep). old ++ w) (regroup sent.before (Acted (Sent d inverse)) sent.behind front (Acted (Got d bytes)) rest);
+  },
+)
+  where
+    regroup : (b : List WorldStep) (s : WorldStep) (k f : List WorldStep) (g : WorldStep) (r : List WorldStep) → ((b ++ (s ∷ k)) ++ (f ++ (g ∷ []))) ++ r ≡ b ++ ((s ∷ ((k ++ f) ++ (g ∷ []))) ++ r)
+    regroup b s k f g r = simp append_assoc
+
+-- ---- The cause
+
+module _ {Own Tells : Type 0} (old new : Seen Own) where
+  -- the calls that failed, behind those of older parts
+  pub stuck_in_undo : (d : ℕ) (older : List (ℕ × Part)) (steps rest : List WorldStep) (fault : TxnFault) → (Tells → new.history ≡ old.history ++ ((steps_of older ++ steps) ++ rest)) → IsFaultOf d (inverses_of (parts_of d older)) old.counts new.counts steps fault
+      → IsWhyUndo Tells d old new fault
+  stuck_in_undo d older steps rest (SwitchFault e) told cause = cause
+  stuck_in_undo d older steps rest (SwitchBroke e bytes) told cause =
+      (cause.0, cause.1, λ tells. in_part (steps_of older) steps rest cause.2.0 (Acted (Got d bytes) ∷ []) [] cause.2.1 (told tells))
+  stuck_in_undo d older steps rest (Diverged e inverse bytes) told cause =
+      let r = cause.1 in
+      let error = refused_error (inverses_of (parts_of d older)) bytes r.key r.of_key in
+      let sent = subst (λ (b : List ℕ). IsSent d b (steps_of older)) (sym r.inverse_so) (inverse_sent d (number_at 4 4 bytes) r.key older error.1) in
+      let last = subst (λ (n : ℕ). steps ≡ (barrier_sent r.awaited ∷ wait_steps r.awaited r.got) ++ Acted (Got n bytes) ∷ []) r.of_switch r.steps_so in (
+        cause.0,
+        record { kind = error.0; key = r.key; inverse_so = r.inverse_so },
+        λ tells. refused_after d inverse bytes (steps_of older) steps (barrier_sent r.awaited ∷ wait_steps r.awaited r.got) rest sent last (told tells),
+      )
+  stuck_in_undo d older steps rest (Flooded e n) told cause =
+      let o = cause.2 in
+      let mid = barrier_sent o.awaited ∷ wait_steps o.awaited o.got in
+      let here : IsFlood Tells d n old new = record {
+        awaited = o.awaited;
+        of_switch = o.of_switch;
+        got = o.got;
+        many = o.many ∙ sym cause.1;
+        before_reply = o.before_reply;
+        told = λ tells. in_part (steps_of older) steps rest [] mid [] (o.steps_so ∙ sym (append-nil mid)) (told tells);
+      } in
+      (cause.0, cause.1, here)
+  stuck_in_undo d older steps rest NoMemory told cause = cause
 
 -- ---- The part that failed
 
 record Failing (d : ℕ) (old new : Counts) (all : List WorldStep) : Type 0 where
   fault : TxnFault
-  sent : List (ℕ × Key)
-  front : List WorldStep
+  older : List (ℕ × Part)
   steps : List WorldStep
   behind : List WorldStep
-  by : IsStuckBy d sent old new fault steps
-  were_sent : WereSent d front sent
-  steps_so : all ≡ front ++ (steps ++ behind)
+  cause : IsFaultOf d (inverses_of (parts_of d older)) old new steps fault
+  steps_so : all ≡ (steps_of older ++ steps) ++ behind
 
 failing_here : (d : ℕ) (old new : Counts) (p : Part) (older : List (ℕ × Part)) → IsRun old new d (p ∷ parts_of d older) → is_stuck (p ∷ parts_of d older) ≡ true → Failing d old new (steps_of older ++ part_steps d p)
 failing_here d old new (Inverse xid k) older run is = absurd cc
 failing_here d old new (BarrierPassed xid got) older run is = absurd cc
 failing_here d old new (Stuck xid fault steps) older run is = record {
   fault = fault;
-  sent = inverses_of (parts_of d older);
-  front = steps_of older;
+  older = older;
   steps = steps;
   behind = [];
-  by = run.0;
-  were_sent = were_sent d older;
-  steps_so = ap (λ (xs : List WorldStep). steps_of older ++ xs) (sym (append-nil steps));
+  cause = run.0.cause;
+  steps_so = sym (append-nil (steps_of older ++ steps));
 }
 
 failing_longer : (d : ℕ) (old new : Counts) (all more : List WorldStep) → Failing d old new all → Failing d old new (all ++ more)
 failing_longer d old new all more f = record {
   fault = f.fault;
-  sent = f.sent;
-  front = f.front;
+  older = f.older;
   steps = f.steps;
   behind = f.behind ++ more;
-  by = f.by;
-  were_sent = f.were_sent;
-  steps_so = ap (λ (xs : List WorldStep). xs ++ more) f.steps_so ∙ append_assoc f.front (f.steps ++ f.behind) more ∙ ap (λ (xs : List WorldStep). f.front ++ xs) (append_assoc f.steps f.behind more);
+  cause = f.cause;
+  steps_so = ap (λ (xs : List WorldStep). xs ++ more) f.steps_so ∙ append_assoc (steps_of f.older ++ f.steps) f.behind more;
 }
 
 failing : (d : ℕ) (old new : Counts) (parts : List (ℕ × Part)) → AllRun old new parts → is_stuck (parts_of d parts) ≡ true → Failing d old new (steps_of parts)
@@ -109,41 +173,4 @@ failing d old new (p ∷ older) all is =
 pub fails_in_undo : {Own : Type 0} (Tells : Type 0) (d : ℕ) (old new : Seen Own) (parts : List (ℕ × Part)) → (Tells → new.history ≡ old.history ++ steps_of parts) → AllRun old.counts new.counts parts → is_stuck (parts_of d parts) ≡ true → FailsInUndo Tells d old new
 fails_in_undo Tells d old new parts told all is =
     let f = failing d old.counts new.counts parts all is in
-    record {
-      fault = f.fault;
-      sent = f.sent;
-      front = f.front;
-      steps = f.steps;
-      by = f.by;
-      were_sent = f.were_sent;
-      told = λ t. record { before = []; behind = f.behind; is = told t ∙ ap (λ (xs : List WorldStep). old.history ++ xs) (f.steps_so ∙ sym (append_assoc f.front f.steps f.behind)) };
-    }
-
--- ---- It failed since an earlier moment, too.
-
-cause_earlier : (d : ℕ) (sent : List (ℕ × Key)) (old mid new : Counts) (steps : List WorldStep) (fault : TxnFault) → NoneFell old mid → IsFaultOf d sent mid new steps fault → IsFaultOf d sent old new steps fault
-cause_earlier d sent old mid new steps (SwitchFault e) before cause = (cause.0, Rose-after (old.link_faults d) (mid.link_faults d) (new.link_faults d) (before.link_faults d) cause.1)
-cause_earlier d sent old mid new steps (SwitchBroke e bytes) before cause = cause
-cause_earlier d sent old mid new steps (Diverged e inverse bytes) before cause = cause
-cause_earlier d sent old mid new steps (Flooded e n) before cause = cause
-cause_earlier d sent old mid new steps NoMemory before cause =
-    (Rose-after old.shorts mid.shorts new.shorts before.shorts cause.0, Rose-after (old.shorts_of d) (mid.shorts_of d) (new.shorts_of d) (before.shorts_of d) cause.1)
-
-within_longer : (steps first old new more : List WorldStep) → old ≡ first ++ more → StandWithin steps old new → StandWithin steps first new
-within_longer steps first old new more is w = record {
-  before = more ++ w.before;
-  behind = w.behind;
-  is = w.is ∙ ap (λ (xs : List WorldStep). xs ++ (w.before ++ (steps ++ w.behind))) is ∙ append_assoc first more (w.before ++ (steps ++ w.behind))
-      ∙ ap (λ (xs : List WorldStep). first ++ xs) (sym (append_assoc more w.before (steps ++ w.behind)));
-}
-
-pub failed_since : {Own : Type 0} (Tells : Type 0) (d : ℕ) (first old new : Seen Own) → Continues Tells first old → FailsInUndo Tells d old new → FailsInUndo Tells d first new
-failed_since Tells d first old new before f = record {
-  fault = f.fault;
-  sent = f.sent;
-  front = f.front;
-  steps = f.steps;
-  by = record { each = f.by.each; cause = cause_earlier d f.sent first.counts old.counts new.counts f.steps f.fault before.none_fell f.by.cause; places = f.by.places };
-  were_sent = f.were_sent;
-  told = λ t. let longer = before.told t in within_longer (f.front ++ f.steps) first.history old.history new.history longer.0 longer.1 (f.told t);
-}
+    record { fault = f.fault; why = stuck_in_undo old new d f.older f.steps f.behind f.fault (λ t. told t ∙ ap (λ (xs : List WorldStep). old.history ++ xs) f.steps_so) f.cause }

@@ -83,7 +83,7 @@ all_plain declared old new (p ∷ older) t fault all may ready small first =
     elim (earlier_or (first_fault older) (fault_in p.1) fault first) [
       | inl earlier ↦ all_plain declared old new older t fault runs may_older (ready_older p older t ready) small earlier
       | inr now ↦ plain_part declared old new p.0 p.1 fault s.switch (parts_of p.0 older) (after_steps (steps_of older) t) (runs_here old new p older all) now.1 may_part
-          (λ free. left_all declared old new p.0 s.switch older t runs free may_older s.is s.waits) (small p.0 s.switch s.is)
+          (λ free. left_all declared old new p.0 s.switch older t runs free may_older s.stands s.waits) (small p.0 s.switch s.stands)
     ]
 
 plain_end : (o : Option TxnFault) → ((fault : TxnFault) → o ≡ Some fault → IsPlain fault) → IfErr (ended_by o) IsPlain

@@ -18,7 +18,7 @@ use Rattle.lego_model.specs.BarrierWaits.{kept_of, wait_steps, reply_got, barrie
 use Rattle.net_txn.specs.declared.queue.Storage.TheVariants.{Reserved}
 use Rattle.net_txn.specs.declared.trouble.Trouble.{Trouble}
 use Rattle.net_txn.specs.declared.trouble.Trouble.TheVariants as troubles
-use Rattle.net_txn.specs.Net.{inverse_bytes}
+use Rattle.lego_model.specs.AfterFault.{inverse_bytes}
 use Rattle.net_txn.specs.LinkSteps.{GoesWithoutStrays}
 use Rattle.net_txn.specs.MessageStore.{KeptWhereFit}
 use Rattle.net_txn.specs.Waits.{IsRead, KeptMore}

@@ -1,5 +1,5 @@
 -- What follows about the first image of a key since a mark: what is pushed never takes its place.
-use Rattle.std.proofs.Common.{◌≡◌, ◌==◌, ℕ, zero, suc, ◌+◌, ◌≤◌, Bool, true, false, ◌&&◌, if◌then◌else◌, List, [], ◌∷◌, ◌++◌, length, map, drop, Option, Some, None, refl, sym, ap, ◌∙◌, arith, inl, inr}
+use Rattle.std.proofs.Common.{◌≡◌, ◌==◌, ℕ, zero, suc, ◌+◌, ◌≤◌, Bool, true, false, ◌&&◌, List, [], ◌∷◌, ◌++◌, length, map, drop, Option, Some, None, refl, sym, ap, ◌∙◌, arith, inl, inr}
 use Rattle.std.proofs.lemmas.Bool.{cases_Bool, eqb-true, and_parts, or_cases, or_right}
 use Rattle.std.proofs.lemmas.List.{drop-append-le, length-append}
 use Rattle.std.specs.List.{list_any}
@@ -64,9 +64,6 @@ found d k put (l ∷ log) is some =
         | inr behind ↦ let (i, at) = found d k put log is behind in (i, first_at-skips d k l log other ∙ at)
       ]
     ]
-
-first-alone : (e d : ℕ) (k : Key) (i : Image) → first_at e k (logged_at d i ∷ []) ≡ (if d == e && is_at k i.put then Some i else None)
-first-alone e d k i = refl
 
 -- more images behind are no other first one
 first_or-kept : (a b : Option Image) (i : Image) → a ≡ Some i → a ≡ first_or a b

@@ -92,7 +92,7 @@ Stands-left now d same since left earlier older newer sent t test says stay is h
             | inr some ↦
                 let merged : settled now s ≡ settled now (merge a b) = ap (λ x. settled now (said now x)) ((stay k).1 some) ∙ says k ∙ ap (settled now) (image_of-append k older newer) in
                 ap (option_map seen) (given_back-same now s (merge a b) p merged)
-                ∙ (elim (merged-given now a b o p (undo-image now k newer t h.is)) [ inl same_given ↦ same_given | inr none ↦ absurd (some none) ])
+                ∙ (elim (merged-given now a b o p (undo-image now k newer t h.serialed)) [ inl same_given ↦ same_given | inr none ↦ absurd (some none) ])
           ]);
       gone = λ k gone alone e found.
           let p : Option Entry = entry_at k (undo now newer t).entries in
@@ -105,7 +105,7 @@ Stands-left now d same since left earlier older newer sent t test says stay is h
             | inr some ↦
                 let merged : settled now s ≡ settled now (merge a b) = ap (λ x. settled now (said now x)) ((stay k).1 some) ∙ says k ∙ ap (settled now) (image_of-append k older newer) in
                 let both : is_gone (merge a b) ≡ true = sym (is_gone-same now s (merge a b) merged) ∙ went in
-                let new = fresh-undo now k newer t h.is (merged-gone a b alone some both) e found in
+                let new = fresh-undo now k newer t h.serialed (merged-gone a b alone some both) e found in
                 let later = h.later in
                 omega arith
           ];

@@ -62,12 +62,12 @@ Standing-sent now next same earlier i present test h = record {
 
 pub stand-nothing : (now d : ℕ) (t : TableState) → IsSerialed t → ImagesStand now d t [] t
 unfolding image_of
-stand-nothing now d t h = let all = Stands-nothing now t h in record { was = h; is = h; later = omega arith; keys = all.keys }
+stand-nothing now d t h = let all = Stands-nothing now t h in record { was = h; serialed = h; later = omega arith; keys = all.keys }
 
 pub stand-says : (now d : ℕ) (since : List Logged) (earlier : TableState) (log : List Inverse) (t : TableState) → Says now d since log → Stands now earlier log t → ImagesStand now d earlier since t
 stand-says now d since earlier log t says h = record {
   was = h.was;
-  is = h.is;
+  serialed = h.serialed;
   later = h.later;
   keys = λ k. Standing-same now earlier.next (entry_at k earlier.entries) (image_of k log) (said now (first_at d k since)) (entry_at k t.entries) (says k) (h.keys k);
 }
@@ -75,7 +75,7 @@ stand-says now d since earlier log t says h = record {
 sent-stand : (now d : ℕ) (same : List Action → List Action → Bool) (since : List Logged) (earlier : TableState) (sent : List Inverse) (t : TableState) → IsTest same → IsSentFor now d same since sent t → ImagesStand now d earlier since t → Stands now earlier sent t
 sent-stand now d same since earlier sent t test is h = record {
   was = h.was;
-  is = h.is;
+  serialed = h.serialed;
   later = h.later;
   keys = λ k. Standing-is now earlier.next (entry_at k earlier.entries) (sent_for same (said now (first_at d k since)) (entry_at k t.entries)) (image_of k sent) (entry_at k t.entries) (is k)
       (Standing-sent now earlier.next same (entry_at k earlier.entries) (said now (first_at d k since)) (entry_at k t.entries) test (h.keys k));
@@ -97,14 +97,14 @@ next-changed now m t =
 pub stand-changed : (now d : ℕ) (since after : List Logged) (earlier : TableState) (m : FlowMod) (t : TableState) → SayMore now d since (logged m t.entries) after → ImagesStand now d earlier since t → ImagesStand now d earlier after (changed now m t)
 stand-changed now d since after earlier m t more h = record {
   was = h.was;
-  is = IsSerialed-changed now m t h.is;
+  serialed = IsSerialed-changed now m t h.serialed;
   later = let rise = next-changed now m t in let le = h.later in omega arith;
   keys = λ k.
       let i : Said = said now (first_at d k since) in
       let j : Said = image_of k (logged m t.entries) in
       let there : Option Entry = entry_at k (changed now m t).entries in
       Standing-same now earlier.next (entry_at k earlier.entries) (merge i j) (said now (first_at d k after)) there (more k)
-      (Standing-changes now earlier.next t.next (entry_at k earlier.entries) i h.later (h.was.below k) j (entry_at k t.entries) there (Changes-changed now k m t h.is.table) (h.keys k));
+      (Standing-changes now earlier.next t.next (entry_at k earlier.entries) i h.later (h.was.below k) j (entry_at k t.entries) there (Changes-changed now k m t h.serialed.table) (h.keys k));
 }
 
 -- ---- An undo of what was logged since an inner mark
@@ -153,14 +153,14 @@ first-inner d k front inner none = first_at-append d k front inner ∙ ap (λ (a
 pub stand-undone : (now d : ℕ) (same : List Action → List Action → Bool) (front inner : List Logged) (earlier : TableState) (sent : List Inverse) (t : TableState) → IsTest same → AreSetRight now d front inner → IsSentFor now d same inner sent t → ImagesStand now d earlier (front ++ inner) t → ImagesStand now d earlier front (undo now sent t)
 stand-undone now d same front inner earlier sent t test right is h = record {
   was = h.was;
-  is = IsSerialed-undo now sent t h.is;
+  serialed = IsSerialed-undo now sent t h.serialed;
   later = let rise = next-undo now sent t in let le = h.later in omega arith;
   keys = λ k.
       let o : Option Entry = entry_at k t.entries in
       let was : Option Entry = entry_at k earlier.entries in
       let i : Said = said now (first_at d k front) in
       let j : Said = said now (first_at d k inner) in
-      Standing-undo now k earlier i sent t h.was h.is h.later (elim (option_cases (first_at d k front)) [
+      Standing-undo now k earlier i sent t h.was h.serialed h.later (elim (option_cases (first_at d k front)) [
         | inl (image, found) ↦
             let some : i ≢ Untouched = λ none. right.say k image found (ap (said now) (sym found) ∙ none) in
             let kept : merge i (image_of k sent) ≡ i = stays_first i (image_of k sent) some (λ actions stands. ap is_gone (is k) ∙ not_gone same j o (right.stand k actions stands)) in
@@ -250,7 +250,7 @@ pub stand-timed_out : (now d hard at : ℕ) (k : Key) (r : ViewRow) (lost : Lost
     → ImagesStand now d earlier (changed_at at (mended (Some lost) hard false) since) (record t { entries = without k t.entries })
 stand-timed_out now d hard at k r lost e since earlier t there last h = record {
   was = h.was;
-  is = IsSerialed-from t (without k t.entries) (IsTable-without k t.entries h.is.table) (ComeFrom-filter (λ x. not (has_key k x)) t.entries h.is.table) h.is;
+  serialed = IsSerialed-from t (without k t.entries) (IsTable-without k t.entries h.serialed.table) (ComeFrom-filter (λ x. not (has_key k x)) t.entries h.serialed.table) h.serialed;
   later = h.later;
   keys = λ l. elim (cases_eq (key_number k) (key_number l)) [
     | inl same ↦ at_key l same
@@ -276,7 +276,7 @@ stand-timed_out now d hard at k r lost e since earlier t there last h = record {
         Standing-same now earlier.next (entry_at k earlier.entries) (merge (said now (first_at d k since)) (Gone (seen e))) (said now (first_at d k after)) None (ap (settled now) gone ∙ merged) goes in
         let first : first_at d l after ≡ first_at d k after = first-number d k l after same in
         let entry : entry_at l earlier.entries ≡ entry_at k earlier.entries = sym (entry_at-same_place earlier.entries k l same) in
-        rw (entry_at-without-same k l t.entries h.is.table same, first, entry) whole
+        rw (entry_at-without-same k l t.entries h.serialed.table same, first, entry) whole
 
     beside : (l : Key) → key_number k ≢ key_number l → Standing now earlier.next (entry_at l earlier.entries) (said now (first_at d l after)) (entry_at l (without k t.entries))
-    beside l other = rw (first-others d k l (Some lost) hard at since last.first other, entry_at-without-other k l t.entries h.is.table other) (h.keys l)
+    beside l other = rw (first-others d k l (Some lost) hard at since last.first other, entry_at-without-other k l t.entries h.serialed.table other) (h.keys l)

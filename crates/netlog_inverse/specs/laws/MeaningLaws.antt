@@ -22,7 +22,7 @@ use Rattle.netlog_inverse.specs.declared.image.Image.{Image}
 use Rattle.netlog_inverse.specs.declared.image.Logged.{Logged}
 use Rattle.netlog_inverse.specs.Plans.{means_row, deletes_row, adds_row, counts_at, lost_of, no_counts, nothing_stood, went, acted, went_by, acted_by, replaced, planned, going, missing}
 use Rattle.netlog_inverse.specs.Log.{logged_at}
-use Rattle.netlog_inverse.specs.Meaning.{entry_of, said, settled, is_at, first_at, row_of, IsSound, IsSo, IsView, Reports}
+use Rattle.netlog_inverse.specs.Meaning.{entry_of, said, settled, is_at, first_at, row_of, IsSound, ReportsOne, IsView, Reports}
 
 -- ---- Rows of a view over a table
 
@@ -256,8 +256,8 @@ all-reported : (now : ℕ) (rs : List ViewRow) (cache : List (Key × Lost)) (fs 
 all-reported now rs cache fs [] moment sound reports = All-nil (IsReported now cache fs (shown_entry rs cache))
 all-reported now rs cache fs (e ∷ es) moment sound reports =
     All-cons (IsReported now cache fs (shown_entry rs cache)) e es
-    (reported now rs cache fs e moment (All-head (IsSound now cache) e es sound) (All-head (IsSo now fs) e es reports))
-    (all-reported now rs cache fs es moment (All-tail (IsSound now cache) e es sound) (All-tail (IsSo now fs) e es reports))
+    (reported now rs cache fs e moment (All-head (IsSound now cache) e es sound) (All-head (ReportsOne now fs) e es reports))
+    (all-reported now rs cache fs es moment (All-tail (IsSound now cache) e es sound) (All-tail (ReportsOne now fs) e es reports))
 
 -- What the images of a change say of each key is what the change logs of the table as it is shown.
 pub said-planned : (now d : ℕ) (k : Key) (m : FlowMod) (rs : List ViewRow) (cache : List (Key × Lost)) (fs : List FlowRow) (es : List Entry) → IsView now rs cache es → Reports now es fs → missing (going m rs) fs ≡ None → settled now (said now (first_at d k (map (logged_at d) (planned m rs cache fs)))) ≡ settled now (image_of k (logged m (shown_entries rs cache es)))

@@ -104,7 +104,7 @@ ports_since : {Own : Type 0} (start : ℕ) (first now : Seen Own) (net0 net : Ne
 ports_since start first now net0 net since d None is = ap ports_in (since.out d is)
 ports_since start first now net0 net since d (Some s) is =
     let j = since.joined d s is in
-    ap ports_in j.is ∙ ap (λ (x : SwitchState). Some (ports_of x)) j.since.rest
+    ap ports_in j.stands ∙ ap (λ (x : SwitchState). Some (ports_of x)) j.since.rest
 
 -- ---- Behind the messages of a turn
 
@@ -134,7 +134,7 @@ some_rows d (v ∷ vs) viewed none =
     no_rows rows h = cc
 
 pub stands_ready : {Own : Type 0} (d : ℕ) (seen : Seen Own) (net : NetState) → Ready seen net → is_viewed d net.views ≡ true → (o : Option SwitchState) → switch_of d (state seen) ≡ o → StandsReady d (state seen)
-stands_ready d seen net ready viewed (Some s) is = record { switch = s; is = is; waits = ready.waits d }
+stands_ready d seen net ready viewed (Some s) is = record { switch = s; stands = is; waits = ready.waits d }
 stands_ready d seen net ready viewed None is =
     absurd (some_rows d net.views viewed (no-rows (rows_at d net.views) (ready.agrees d ∙ ap (option_map (λ x. rows_of_table x.table.entries)) is)))
 

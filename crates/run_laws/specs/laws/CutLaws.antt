@@ -166,9 +166,9 @@ far-of {started = started} {n = n} {first = first} {last = last} is g few = reco
 }
 
 -- what holds over all that is said holds over what is told
-abbrev up-to : {Own : Type 0} {xs : List WorldStim} {f : Run → Run} {text : List ℕ} {first last : Seen Own} {e0 e : Engine} (IsSo : Progress last → Run → Type 0) (far : Progress last) → Moved xs f text first last e0 e
-    → ((starts : List Start) (replies : List Reply) → AreSaid last starts replies → IsSo far (start_said last starts replies)) → AlikeUpTo last IsSo
-up-to {last = last} IsSo far m so = record {
+abbrev up-to : {Own : Type 0} {xs : List WorldStim} {f : Run → Run} {text : List ℕ} {first last : Seen Own} {e0 e : Engine} (Claim : Progress last → Run → Type 0) (far : Progress last) → Moved xs f text first last e0 e
+    → ((starts : List Start) (replies : List Reply) → AreSaid last starts replies → Claim far (start_said last starts replies)) → AlikeUpTo last Claim
+up-to {last = last} Claim far m so = record {
   far = far;
   as_told = so (starts_in (own_acts last)) (replies_in (own_acts last)) (told-said last);
   as_said = so;

@@ -102,7 +102,7 @@ joined-with d views s vs agrees is = joined_with (switch_of d s) (sym (ap (λ (o
   where
     joined_with : {vs : List ViewRow} (o : Option SwitchState) → Some (rows_of_view vs) ≡ option_map (λ x. rows_of_table x.table.entries) o → JoinedWith vs o
     joined_with None h = absurd cc
-    joined_with {vs = vs} (Some x) h = record { switch = x; is = refl; rows = one_rows (rows_of_view vs) (rows_of_table x.table.entries) h }
+    joined_with {vs = vs} (Some x) h = record { switch = x; stands = refl; rows = one_rows (rows_of_view vs) (rows_of_table x.table.entries) h }
 
 -- one that has none is out
 pub out-with : (d : ℕ) (views : List TableView) (s : State) → Agrees d views s → rows_at d views ≡ None → switch_of d s ≡ None

@@ -1,5 +1,5 @@
 -- Laws of records in one block: how many there are, one more, and each by its number.
-use Rattle.std.specs.Prelude.{◌≡◌, ℕ, ◌+◌, ◌-◌, ◌<◌, ◌≤◌, List, [], ◌∷◌, ◌++◌, length, take, drop, Option, Some, refl, slice_get}
+use Rattle.std.specs.Prelude.{◌≡◌, ℕ, ◌+◌, ◌-◌, ◌<◌, ◌≤◌, List, [], ◌∷◌, ◌++◌, length, take, drop, Some, refl, slice_get}
 use Rattle.std.proofs.Common.{zero, suc, sym, ap, ◌∙◌, arith, length-append, get_or}
 use Rattle.std.proofs.lemmas.List.{drop-append-le, take-append-le, drop_at, take_at, length-drop}
 use Rattle.session_lists.specs.Records.{records_in, IsCut}

@@ -1,6 +1,6 @@
 -- Laws of stimuli as records: what is spelled is read again.
-use Rattle.std.specs.Prelude.{◌≡◌, ℕ, Result, Ok, Err, OnOk, ◌+◌, ◌<◌, ◌≤◌, ◌^◌, List, [], ◌∷◌, ◌++◌, length, take, drop, map, All, Some, refl, slice_get}
-use Rattle.std.proofs.Common.{sym, ap, ◌∙◌, subst, arith, length-append, append_assoc}
+use Rattle.std.specs.Prelude.{◌≡◌, ℕ, Result, Ok, Err, OnOk, ◌+◌, ◌<◌, ◌≤◌, ◌^◌, List, [], ◌∷◌, ◌++◌, length, drop, refl}
+use Rattle.std.proofs.Common.{ap, ◌∙◌, subst, arith, length-append, append_assoc}
 use Rattle.std.proofs.lemmas.List.{map-append, drop_at}
 use Rattle.std.proofs.lemmas.List.Elements.{All-append, All-nil, All-cons}
 use Rattle.of_types.specs.declared.journal.PortChange.{PortChange}

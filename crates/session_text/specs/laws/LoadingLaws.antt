@@ -1,5 +1,5 @@
 -- Laws of a session that is given to a simulated world: that it may be given.
-use Rattle.std.specs.Prelude.{◌≡◌, ◌≢◌, ◌==◌, ℕ, ◌+◌, ◌<◌, ◌≤◌, Bool, true, false, ◌||◌, List, [], ◌∷◌, ◌++◌, length, slice_index_or, All, Result, Ok, Err, IsTrue, refl}
+use Rattle.std.specs.Prelude.{◌≡◌, ◌≢◌, ◌==◌, ℕ, ◌+◌, ◌<◌, ◌≤◌, Bool, true, false, ◌||◌, List, [], ◌∷◌, length, slice_index_or, All, Result, Ok, Err, IsTrue, refl}
 use Rattle.std.specs.List.{AllPairs, list_any}
 use Rattle.std.proofs.Common.{zero, suc, sym, ap, ◌∙◌, subst, arith}
 use Rattle.std.proofs.lemmas.Bool.{ne_eqb}
@@ -17,7 +17,6 @@ use Rattle.of_wire.specs.Reading.{reading_of}
 use Rattle.of_wire.specs.Spelling.{kind_of}
 use Rattle.flow_table.specs.Switch.{Declared}
 use Rattle.outside.specs.Seen.{Given, is_declared}
-use Rattle.outside.specs.State.{moment_after}
 use Rattle.outside.specs.Conforming.{ArePortsFrom, IsWorldStim, IsStimulus as IsStimulusOf, may_be_raw as may_send, is_unasked as sends_unasked}
 use Rattle.sim_world.specs.Scripts.{Scripts}
 use Rattle.sim_world.specs.World.{CanCome}

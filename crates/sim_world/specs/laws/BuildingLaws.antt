@@ -1,6 +1,6 @@
 -- Laws of what a simulated world is given: what one thing more makes of a world in which nothing happened yet, and that such a world
 -- stands.
-use Rattle.std.specs.Prelude.{◌≡◌, ◌==◌, ℕ, ◌+◌, ◌-◌, ◌<◌, ◌≤◌, Bool, true, false, ◌&&◌, ◌||◌, nat_lt, List, [], ◌∷◌, ◌++◌, map, take, All, Option, Some, None, length, IsTrue, IsOk, OnOk, OnErr, Result, Ok, Err, refl, if◌then◌else◌, cond}
+use Rattle.std.specs.Prelude.{◌≡◌, ◌==◌, ℕ, ◌+◌, ◌-◌, ◌<◌, ◌≤◌, Bool, true, false, ◌&&◌, ◌||◌, nat_lt, List, [], ◌∷◌, ◌++◌, map, take, All, Option, Some, None, length, IsTrue, OnOk, OnErr, Result, Ok, Err, refl, if◌then◌else◌, cond}
 use Rattle.std.specs.List.{AllByRecursion, list_any, filter}
 use Rattle.std.specs.Option.{is_some}
 use Rattle.std.proofs.Common.{suc, sym, ap, ◌∙◌, subst, arith, length-append}
@@ -19,7 +19,6 @@ use Rattle.outside.specs.declared.call.FailCall.{FailCall}
 use Rattle.outside.specs.Seen.{Given, is_declared}
 use Rattle.outside.specs.State.{Link, State, at_first, state, but_marks, after_steps, is_link_call, fails_of, link_at_first, link_of, with_link, moment_after}
 use Rattle.outside.specs.Conforming.{AreDeclaredFrom, MayDeclare, IsWorldStim}
-use Rattle.of_wire.specs.Reading.{reading_of}
 use Rattle.outside.specs.declared.step.WorldStep.{WorldStep}
 use Rattle.sim_world.specs.Links.{IsDue, fails_at, insert_link}
 use Rattle.sim_world.specs.laws.LinksLaws.{declared_in-with_link, is_declared-link_of}

@@ -1,15 +1,14 @@
 -- Laws of the switches of a simulated world: what each change of a link keeps of what holds of it.
-use Rattle.std.specs.Prelude.{◌≡◌, ℕ, ◌+◌, ◌^◌, ◌<◌, ◌≤◌, ◌-◌, List, ◌++◌, Option, Some, None, Result, Ok, Err, IsOk, refl, IfOk, []}
+use Rattle.std.specs.Prelude.{◌≡◌, ℕ, ◌+◌, ◌^◌, ◌<◌, ◌≤◌, ◌-◌, List, Option, Some, None, Result, Ok, Err, refl}
 use Rattle.std.specs.Option.{option_map}
-use Rattle.std.proofs.Common.{sym, ap, ◌∙◌, subst, arith}
-use Rattle.std.proofs.lemmas.List.Elements.{All-append, All-cons, All-nil}
+use Rattle.std.proofs.Common.{◌∙◌, arith}
 use Rattle.of_types.specs.declared.journal.Stimulus.{Stimulus}
 use Rattle.of_types.specs.declared.journal.Stimulus.TheVariants.{Frame, Advance, Port, Counts, Raw}
 use Rattle.of_wire.specs.declared.message.Envelope.{Envelope}
 use Rattle.of_wire.specs.declared.fault.WireFault.{WireFault}
 use Rattle.of_wire.specs.Reading.{reading_of}
 use Rattle.flow_table.specs.Switch.{Declared, SwitchState}
-use Rattle.flow_table.specs.Step.{after_stimulus, sent_by_stimulus}
+use Rattle.flow_table.specs.Step.{after_stimulus}
 use Rattle.switch_sim.specs.Possible.{IsPossible}
 use Rattle.switch_sim.specs.Readable.{IsShortIfRaw}
 use Rattle.switch_sim.specs.laws.SerialLaws.{next_after_message, next_after_stimulus}

@@ -1,17 +1,15 @@
 -- Laws of the switches of a simulated world, all together: what one change, or the same of all, keeps of what holds of each.
-use Rattle.std.specs.Prelude.{◌≡◌, ◌≢◌, ◌==◌, ℕ, ◌+◌, ◌*◌, ◌<◌, ◌≤◌, Bool, true, false, nat_lt, List, [], ◌∷◌, ◌++◌, length, map, Option, Some, None, IfSome, slice_get, slice_index_or, slice_set, if◌then◌else◌, refl, Result, Ok, Err, IsOk, OnOk, OnErr, ◌||◌}
+use Rattle.std.specs.Prelude.{◌≡◌, ◌≢◌, ◌==◌, ℕ, ◌+◌, ◌*◌, ◌<◌, ◌≤◌, Bool, true, false, nat_lt, List, [], ◌∷◌, ◌++◌, length, map, Option, Some, None, IfSome, slice_get, slice_index_or, slice_set, if◌then◌else◌, refl, Result, Ok, Err, OnOk, OnErr, ◌||◌}
 use Rattle.std.specs.List.{AllByRecursion}
 use Rattle.std.specs.Option.{is_some, option_map, option_to_list}
 use Rattle.std.proofs.Common.{zero, suc, sym, ap, ◌∙◌, subst, arith, length-append}
 use Rattle.std.proofs.lemmas.Bool.{eq-eqb, eqb-false, ne_eqb, ltb-true, ltb-false, cond_both, cond-false}
 use Rattle.std.proofs.Math.Seq.{map-set_same}
 use Rattle.std.proofs.lemmas.List.{length-map}
-use Rattle.std.proofs.lemmas.List.Elements.{All-append, All-nil}
 use Rattle.of_types.specs.declared.journal.Stimulus.{Stimulus}
 use Rattle.of_types.specs.declared.journal.Stimulus.TheVariants.{Advance}
 use Rattle.of_types.specs.declared.journal.WorldStim.{WorldStim}
 use Rattle.of_types.specs.declared.journal.WorldStim.TheVariants.{Join, Leave, At, Of}
-use Rattle.of_wire.specs.Reading.{reading_of}
 use Rattle.flow_table.specs.Switch.{Declared, joined_at, features_reply}
 use Rattle.outside.specs.declared.step.WorldStep.{WorldStep}
 use Rattle.outside.specs.declared.step.WorldStep.TheVariants.{From, Joined}

@@ -104,9 +104,6 @@ idle_but : (s : State) → IsIdle (but_marks s) ≡ IsIdle s
 unfolding upcoming
 idle_but s = refl
 
-over_but : (s : State) → IsOver (but_marks s) ≡ IsOver s
-over_but s = refl
-
 stim_links : (x : WorldStim) (s : State) → (after_step (Acted (Stim x)) s).links ≡ links_after x s.moment s.links
 unfolding after_step after_act after_stim
 stim_links x s = refl

@@ -1,5 +1,5 @@
 -- What the calls of a simulated world need follows from what it keeps.
-use Rattle.std.specs.Prelude.{◌≡◌, ℕ, ◌+◌, ◌^◌, ◌<◌, ◌≤◌, Bool, true, false, List, [], ◌∷◌, ◌++◌, length, refl, if◌then◌else◌}
+use Rattle.std.specs.Prelude.{◌≡◌, ℕ, ◌+◌, ◌^◌, ◌<◌, ◌≤◌, Bool, true, false, List, [], ◌∷◌, length, refl, if◌then◌else◌}
 use Rattle.std.proofs.Common.{sym, ap, ◌∙◌, subst, arith}
 use Rattle.outside.specs.declared.step.WorldStep.{WorldStep}
 use Rattle.outside.specs.State.{state, but_marks, is_running, at_first}
@@ -14,7 +14,7 @@ use Rattle.sim_world.specs.Lives.{life_in}
 use Rattle.sim_world.specs.Tally.{counts_of}
 use Rattle.sim_world.specs.Places.{AreExpected}
 use Rattle.sim_world.specs.laws.LinkStepLaws.{AreStanding-stands, AreStanding-may_call}
-use Rattle.sim_world.specs.World.{WorldData, Stands, AreAsTold, declared_in, given_of, seen_of, nexts_through, counted_next, is_next_answer, short_told}
+use Rattle.sim_world.specs.World.{WorldData, Stands, AreAsTold, given_of, seen_of, nexts_through, counted_next, is_next_answer, short_told}
 use Rattle.sim_world.specs.Doing.{AppsStand, LinksStand, NextStands}
 use Rattle.sim_world.specs.Keeping.{Keeps}
 

@@ -16,10 +16,6 @@ use Rattle.sim_world.specs.Tally.{last_count, LinkCounts, TallyState, count_at, 
 abbrev KeepsNumber : (LinkCounts → LinkCounts) → Type 0
 KeepsNumber change = (l : LinkCounts) → (change l).dpid ≡ l.dpid
 
-number_kept : (d : ℕ) (change : LinkCounts → LinkCounts) → KeepsNumber change → (l : LinkCounts) (b : Bool) → (if b then change l else l).dpid ≡ l.dpid
-number_kept d change keeps l true = keeps l
-number_kept d change keeps l false = refl
-
 -- the count of a switch that is there rises by one where it is the one that changes
 one_raised : (count : LinkCounts → ℕ) (change : LinkCounts → LinkCounts) → KeepsNumber change → ((l : LinkCounts) → count (change l) ≡ raised (count l)) → (d e other before : ℕ) (l : LinkCounts) (ls : List LinkCounts)
     → (here : Bool) → (l.dpid == e) ≡ here

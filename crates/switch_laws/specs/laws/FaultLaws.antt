@@ -33,11 +33,12 @@ use Rattle.net_txn.specs.Views.{rows_at, is_viewed, is_row_at, has_key_in}
 use Rattle.net_txn.specs.Net.{NetState}
 use Rattle.net_txn.specs.Changes.{known_rows, answer_of_host, log_in_flight, MayMove, Changes}
 use Rattle.net_txn.specs.Agreement.{Agrees}
-use Rattle.net_txn.specs.Undos.{key_logged, keys_of, is_stuck, parts_of, Undoes, FailsInUndo}
+use Rattle.net_txn.specs.Undos.{key_logged, keys_of, is_stuck, parts_of, Undoes}
+use Rattle.lego_model.specs.AfterFault.{FailsInUndo, HasEntriesAgain, UndoneButFailed}
 use Rattle.net_txn.specs.laws.RowLaws.{sent}
 use Rattle.net_txn.specs.laws.AgreeLaws.{viewed as viewed_rows}
 use Rattle.net_txn.specs.laws.ChangeFlightLaws.{flight_moves}
-use Rattle.net_txn.specs.laws.UndoFailureLaws.{failed_since}
+use Rattle.lego_model.specs.laws.SwitchFaultLaws.{failed_behind}
 use Rattle.switch_laws.specs.Shown.{Passes, has_row, Known}
 use Rattle.switch_laws.specs.laws.ShownChangeLaws.{asks_the_same}
 use Rattle.switch_laws.specs.laws.AskedLaws.{asked}
@@ -47,13 +48,13 @@ use Rattle.switch_laws.specs.laws.ShownExchangeLaws.{known}
 use Rattle.switch_laws.specs.laws.ShownUndoLaws.{viewed, unviewed}
 use Rattle.undo_laws.specs.laws.CorrectedLaws.{refusal-asked}
 use Rattle.switch_laws.specs.laws.SinceLaws.{keys_then, logged_here, logged_elsewhere, taken-added, table_refusal, stays, takes}
-use Rattle.switch_laws.specs.Since.{logged_since, SwitchSince, JoinedSince, Since, Goes, TablesSince, HasEntriesAgain, UndoneButFailed, keys_by}
+use Rattle.switch_laws.specs.Since.{logged_since, SwitchSince, JoinedSince, Since, Goes, TablesSince, keys_by}
 
 -- ---- Where all is ready
 
 pub tables-since : {Own : Type 0} (start : ℕ) (first now : Seen Own) (net0 net : NetState) → Goes start first now net0 net → TablesSince start first now net
 tables-since start first now net0 net goes = record {
-  viewed = λ d s is. let j = goes.since.joined d s is in viewed d net.views (state now) j.switch (goes.ready.agrees d) j.is;
+  viewed = λ d s is. let j = goes.since.joined d s is in viewed d net.views (state now) j.switch (goes.ready.agrees d) j.stands;
   unviewed = λ d is. unviewed d net.views (state now) (goes.ready.agrees d) (goes.since.out d is);
   joined = goes.since.joined;
   out = goes.since.out;
@@ -173,10 +174,10 @@ module _ {Own : Type 0} (Tells : Type 0) (d start : ℕ) (first old new : Seen O
       → JoinedSince (keys ++ keys_in_flight (has_row (key_in m) k.rows) m) s (switch_of d (state new))
   flown k agrees moves keys s since =
       elim moves.switch [
-        | inl same ↦ record { switch = k.switch; is = same ∙ k.switch_is; since = still-since m keys s k.switch k.rows (rows-shown k agrees) since }
+        | inl same ↦ record { switch = k.switch; stands = same ∙ k.switch_is; since = still-since m keys s k.switch k.rows (rows-shown k agrees) since }
         | inr moved ↦ record {
           switch = after_message (as_sent (FlowMod m)) k.switch;
-          is = moved ∙ ap (option_map (after_message (as_sent (FlowMod m)))) k.switch_is;
+          stands = moved ∙ ap (option_map (after_message (as_sent (FlowMod m)))) k.switch_is;
           since = moved-by (message_refusal k.switch (as_sent (FlowMod m))) m keys s k.switch k.rows refl (rows-shown k agrees) k.passes since;
         }
       ]
@@ -187,7 +188,7 @@ module _ {Own : Type 0} (Tells : Type 0) (d start : ℕ) (first old new : Seen O
       elim (cases_eq e d) [
         | inl same ↦
             let j = since.joined d s (ap (λ (n : ℕ). switch_of n (state first)) (sym same) ∙ is) in
-            let this : j.switch ≡ k.switch = one_switch j.switch k.switch (sym j.is ∙ k.switch_is) in
+            let this : j.switch ≡ k.switch = one_switch j.switch k.switch (sym j.stands ∙ k.switch_is) in
             let keys : keys_of d (logged_since start now_net) ≡ keys_of d (logged_since start net) ++ keys_in_flight (has_row (key_in m) k.rows) m =
             ap (λ (log : List Logged). keys_of d (map key_logged (drop start log))) log_so ∙ flight_here start d m net.views net.log since.started
             ∙ ap (λ (b : Bool). keys_of d (logged_since start net) ++ keys_in_flight b m) (row_is d (key_in m) net.views k.rows k.rows_are) in
@@ -200,7 +201,7 @@ module _ {Own : Type 0} (Tells : Type 0) (d start : ℕ) (first old new : Seen O
             ap (λ (log : List Logged). keys_of e (map key_logged (drop start log))) log_so ∙ flight_elsewhere start d e m net.views net.log other since.started in
             record {
               switch = j.switch;
-              is = moves.others e other ∙ j.is;
+              stands = moves.others e other ∙ j.stands;
               since = subst (λ (ks : List Key). SwitchSince ks s j.switch) (sym keys) j.since;
             }
       ]
@@ -263,17 +264,17 @@ fault-since Tells d bytes start first old new net0 net now_net fault told change
 again-by : {Own : Type 0} (Tells : Type 0) (start : ℕ) (first old new : Seen Own) (net now_net : NetState) (result : Result (Unit {0}) TxnFault) → Tells → Continues Tells first old → TablesSince start first old net
     → (u : Undoes Tells start old new net now_net result) → (d : ℕ) (s : SwitchState) → switch_of d (state first) ≡ Some s → (failed : Bool) → is_stuck (parts_of d u.parts) ≡ failed
     → FailsInUndo Tells d first new ⊎ HasEntriesAgain s (switch_of d (state new))
-again-by Tells start first old new net now_net result told before since u d s is true stuck = inl (failed_since Tells d first old new before (u.failed_by d stuck))
+again-by Tells start first old new net now_net result told before since u d s is true stuck = inl (failed_behind d first old new before (u.failed_by d stuck))
 again-by Tells start first old new net now_net result told before since u d s is false free =
     let j = since.joined d s is in
     let was = (table-serialed first d s is).table in
-    let now = table-serialed old d j.switch j.is in
-    let back = u.tables_restored d j.switch s.table told (since.viewed d s is) free j.is was now j.since.added in
+    let now = table-serialed old d j.switch j.stands in
+    let back = u.tables_restored d j.switch s.table told (since.viewed d s is) free j.stands was now j.since.added in
     let same : undone s.table j.switch.table j.switch.moment ≡ record { entries = s.table.entries; next = j.switch.table.next } =
     undone-added j.switch.moment (keys_of d (logged_since start net)) s.table j.switch.table was now j.since.added in
     inr (record {
       next = j.switch.table.next;
-      is = back ∙ ap (λ (t : TableState). Some (record j.switch { table = t })) same ∙ ap (λ (x : SwitchState). Some (record x { table = record { entries = s.table.entries; next = j.switch.table.next } })) j.since.rest;
+      stands = back ∙ ap (λ (t : TableState). Some (record j.switch { table = t })) same ∙ ap (λ (x : SwitchState). Some (record x { table = record { entries = s.table.entries; next = j.switch.table.next } })) j.since.rest;
     })
 
 -- An undo after a fault, however it ended.

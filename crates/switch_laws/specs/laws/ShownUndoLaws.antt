@@ -98,8 +98,8 @@ module _ {Own : Type 0} (Tells : Type 0) (start : ℕ) (first old new : Seen Own
   pub again : Tells → Conforming new → Since start first old net0 net → Ready old net → Undoes Tells start old new net now_net (Ok tt) → (d : ℕ) (s0 : SwitchState) → switch_of d (state first) ≡ Some s0 → (j : JoinedSince (keys_of d (logged_since start net)) s0 (switch_of d (state old)))
       → switch_of d (state new) ≡ Some (record s0 { table = undone s0.table j.switch.table j.switch.moment })
   again told keeps since ready undoes d s0 is j =
-      let stands = undoes.restored d j.switch s0.table told keeps (viewed d net.views (state old) j.switch (ready.agrees d) j.is) (undoes.none_failed refl d) j.is (ready.waits d)
-      (table-serialed first d s0 is).table (table-serialed old d j.switch j.is) j.since.added in
+      let stands = undoes.restored d j.switch s0.table told keeps (viewed d net.views (state old) j.switch (ready.agrees d) j.stands) (undoes.none_failed refl d) j.stands (ready.waits d)
+      (table-serialed first d s0 is).table (table-serialed old d j.switch j.stands) j.since.added in
       stands.switch ∙ ap (λ (x : SwitchState). Some (record x { table = undone s0.table j.switch.table j.switch.moment })) j.since.rest
 
   -- a switch that was out stays out
@@ -124,7 +124,7 @@ module _ {Own : Type 0} (Tells : Type 0) (start : ℕ) (first old new : Seen Own
       let stands = again told keeps since ready undoes d s0 is j in
       let f : Key → ℕ = flags_at d net0.views in
       let g : Key → ℕ = flags_at d net.views in
-      ap₂ (λ (a b : Option SwitchState). switch_undone (option_map (owned_switch f) a) (option_map (owned_switch g) b)) is j.is
+      ap₂ (λ (a b : Option SwitchState). switch_undone (option_map (owned_switch f) a) (option_map (owned_switch g) b)) is j.stands
       ∙ ap (λ (t : TableState). Some (record s0 { table = t })) (undone-owned f g s0.table j.switch.table j.switch.moment)
       ∙ sym (ap₂ (λ (h : Key → ℕ) (o : Option SwitchState). option_map (owned_switch h) o) (ap (flags_at d) (views-again since undoes)) stands)
 

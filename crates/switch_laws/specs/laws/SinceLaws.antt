@@ -59,7 +59,7 @@ begun seen net =
       moment = refl;
       kept = refl;
       views = ap (λ (ps : List (ℕ × Key)). without_keys ps net.views) none;
-      joined = λ d s is. record { switch = s; is = is; since = subst (λ (ps : List (ℕ × Key)). SwitchSince (keys_of d ps) s s) (sym none) (begun-switch s) };
+      joined = λ d s is. record { switch = s; stands = is; since = subst (λ (ps : List (ℕ × Key)). SwitchSince (keys_of d ps) s s) (sym none) (begun-switch s) };
       out = λ d is. is;
     }
 
@@ -227,14 +227,14 @@ module _ {Own : Type 0} (Tells : Type 0) (d start : ℕ) (first old new : Seen O
       elim (cases_eq e d) [
         | inl same ↦
             let j = since.joined d s (ap (λ (n : ℕ). switch_of n (state first)) (sym same) ∙ is) in
-            let this : j.switch ≡ k.switch = one_value j.switch k.switch (sym j.is ∙ k.switch_is) in
+            let this : j.switch ≡ k.switch = one_value j.switch k.switch (sym j.stands ∙ k.switch_is) in
             let keys : keys_of d (logged_since start now_net) ≡ keys_of d (logged_since start net) ++ keys_then refusal_of m =
             ap (λ (log : List Logged). keys_of d (map key_logged (drop start log))) log_so ∙ logged_here start d m net.log refusal_of since.started in
             let after = switch_then m (keys_of d (logged_since start net)) s k.switch refusal_of k.passes refused (subst (SwitchSince (keys_of d (logged_since start net)) s) this j.since) in
             subst (λ (n : ℕ). JoinedSince (keys_of n (logged_since start now_net)) s (switch_of n (state new))) (sym same)
             (record {
               switch = after_message (as_sent (FlowMod m)) k.switch;
-              is = step.moved ∙ ap (option_map (after_message (as_sent (FlowMod m)))) k.switch_is;
+              stands = step.moved ∙ ap (option_map (after_message (as_sent (FlowMod m)))) k.switch_is;
               since = subst (λ (ks : List Key). SwitchSince ks s (after_message (as_sent (FlowMod m)) k.switch)) (sym keys) after;
             })
         | inr other ↦
@@ -243,7 +243,7 @@ module _ {Own : Type 0} (Tells : Type 0) (d start : ℕ) (first old new : Seen O
             ap (λ (log : List Logged). keys_of e (map key_logged (drop start log))) log_so ∙ logged_elsewhere start d e m net.log refusal_of other since.started in
             record {
               switch = j.switch;
-              is = step.others e other ∙ j.is;
+              stands = step.others e other ∙ j.stands;
               since = subst (λ (ks : List Key). SwitchSince ks s j.switch) (sym keys) j.since;
             }
       ]

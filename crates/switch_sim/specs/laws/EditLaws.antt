@@ -1,15 +1,15 @@
 -- How long edits make a frame: a tag is put only into a frame without one, so that all edits together add at most its four bytes.
-use Rattle.std.proofs.Common.{◌≡◌, ◌==◌, ℕ, ◌+◌, ◌≤◌, ◌<◌, true, false, eqb, leb, List, [], ◌∷◌, ◌++◌, length, take, drop, Option, Some, None, refl, sym, ap, ◌∙◌, inl, inr, ◌⊎◌, arith}
+use Rattle.std.proofs.Common.{◌≡◌, ◌==◌, ℕ, ◌+◌, ◌≤◌, ◌<◌, true, false, leb, List, [], ◌∷◌, ◌++◌, length, take, drop, Option, Some, None, refl, sym, ap, ◌∙◌, inl, inr, ◌⊎◌, arith}
 use Rattle.std.specs.Prelude.{All, IfSome, if◌then◌else◌}
 use Rattle.std.specs.List.{AllByRecursion}
-use Rattle.std.proofs.lemmas.Bool.{and_parts, and_from, leb-true, le-leb, eq-eqb, cond_both, cases_Bool}
+use Rattle.std.proofs.lemmas.Bool.{leb-true, cond_both, cases_Bool}
 use Rattle.std.proofs.lemmas.List.{length-append, length-take, length-drop, get_or-take}
 use Rattle.std.proofs.lemmas.List.Elements.{All-nil, All-cons, All-head, All-tail, All-append, All-weaker}
 use Rattle.std.proofs.lemmas.List.Sums.{sum_by-cons}
 use Rattle.of_action.specs.Spelling.{action_size, list_size}
 use Rattle.std.proofs.lemmas.Grind.{same_number_lists}
 use Rattle.of_types.specs.Fields.{number_at, number_bytes, with_field}
-use Rattle.of_types.specs.laws.FieldLaws.{length-number_bytes, number_at-number_bytes, number_at-take}
+use Rattle.of_types.specs.laws.FieldLaws.{length-number_bytes, number_at-take}
 use Rattle.of_action.specs.declared.action.Action.{Action}
 use Rattle.of_action.specs.declared.action.Action.TheVariants.{Output, SetVlanVid, SetVlanPcp, StripVlan, SetDlSrc, SetDlDst, SetNwSrc, SetNwDst, SetNwTos, SetTpSrc, SetTpDst, Enqueue, Vendor}
 use Rattle.eth_key.specs.declared.ethernet.Payload.{Payload}

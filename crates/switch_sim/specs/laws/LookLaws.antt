@@ -1,19 +1,17 @@
 -- What follows about looks at the table: what a frame meets there, and what is sent then, stays as frames go by. Hits change counts and
 -- moments of entries alone, and outputs change counts of ports.
-use Rattle.std.proofs.Common.{◌≡◌, ◌==◌, ℕ, not, ◌&&◌, nat_lt, List, [], ◌∷◌, ◌++◌, length, map, Option, Some, None, if◌then◌else◌, refl, sym, ap, subst, ◌∙◌, inl, inr, ◌⊎◌}
-use Rattle.std.specs.Prelude.{slice_get}
+use Rattle.std.proofs.Common.{◌≡◌, ◌==◌, ℕ, not, ◌&&◌, nat_lt, List, [], ◌∷◌, ◌++◌, length, map, Option, Some, None, if◌then◌else◌, refl, sym, ap, subst, ◌∙◌, inl, inr}
 use Rattle.std.specs.List.{flat_map}
 use Rattle.std.specs.Option.{option_map}
 use Rattle.std.proofs.lemmas.Bool.{cond_both, cases_Bool}
 use Rattle.std.proofs.Math.Seq.{map-set_same}
-use Rattle.std.proofs.lemmas.List.{length-map}
 use Rattle.of_match.specs.declared.packet_key.PacketKey.{PacketKey}
 use Rattle.of_match.specs.Covers.{is_covering}
 use Rattle.of_action.specs.declared.action.Action.{Action}
 use Rattle.frame_edit.specs.Edits.{outputs}
 use Rattle.eth_key.specs.PacketFields.{key_of}
 use Rattle.flow_table.specs.declared.entry.Entry.{Entry}
-use Rattle.flow_table.specs.Table.{IsTable, IsPositionOf}
+use Rattle.flow_table.specs.Table.{IsTable}
 use Rattle.flow_table.specs.Hit.{rank, best, better, counted, hit}
 use Rattle.flow_table.specs.laws.HitLaws.{Contains-best, hit-set, IsTable-hit, hit-none, cases_Option}
 use Rattle.flow_table.specs.Switch.{PortState, SwitchState, has_bit, is_down, has_no_fwd, port_at}

@@ -1,12 +1,10 @@
 -- What follows about plans: they hold for each state that a frame cannot tell from theirs.
-use Rattle.std.proofs.Common.{◌≡◌, ◌==◌, ℕ, suc, ◌+◌, ◌^◌, ◌<◌, ◌≤◌, Bool, true, false, not, Option, Some, None, List, [], ◌∷◌, map, length, drop, get_or, if◌then◌else◌, refl, sym, ap, subst, ◌∙◌, add-one, inl, inr, arith}
+use Rattle.std.proofs.Common.{◌≡◌, ◌==◌, ℕ, suc, ◌+◌, ◌^◌, ◌<◌, ◌≤◌, Bool, true, false, not, Option, Some, None, List, [], ◌∷◌, map, length, drop, get_or, if◌then◌else◌, sym, ap, subst, ◌∙◌, add-one, arith}
 use Rattle.std.proofs.Math.Seq.{drop-cons}
-use Rattle.std.proofs.lemmas.Bool.{cases_Bool}
 use Rattle.flow_table.specs.Switch.{SwitchState}
 use Rattle.flow_table.specs.Frames.{after_packet_output, after_packet_outputs}
 use Rattle.switch_sim.specs.declared.packet_out.Planned.{Planned}
-use Rattle.switch_sim.specs.Plan.{planned_output, IsPlanned}
-use Rattle.switch_sim.specs.laws.LookLaws.{LooksLike}
+use Rattle.switch_sim.specs.Plan.{planned_output}
 use Rattle.std.specs.Prelude.{All}
 use Rattle.std.proofs.lemmas.List.Elements.{All-nil, All-cons, All-head, All-tail, All-weaker}
 use Rattle.of_types.specs.declared.errors.OfError.{OfError}

@@ -1,12 +1,11 @@
 -- What follows about the lengths of rows.
-use Rattle.std.proofs.Common.{◌≡◌, ℕ, ◌≤◌, List, ◌++◌, length, Result, Ok, Err, IfOk, refl, arith}
+use Rattle.std.proofs.Common.{◌≡◌, ℕ, ◌≤◌, List, ◌++◌, length, Result, Ok, Err, IfOk, arith}
 use Rattle.std.proofs.lemmas.List.{length-append}
 use Rattle.of_types.specs.Layout.{spelled}
 use Rattle.of_types.specs.laws.FieldLaws.{length-number_bytes}
 use Rattle.of_match.specs.Fields.{bytes_of}
 use Rattle.of_match.specs.Match.{fields_in}
 use Rattle.of_action.specs.Spelling.{list_bytes, list_size}
-use Rattle.of_match.specs.declared.fields.Fields.{Fields}
 use Rattle.of_stats.specs.declared.flow_row.FlowRow.{FlowRow}
 use Rattle.of_stats.specs.Flows.{row_size, row_bytes, front_fields, count_fields}
 use Rattle.of_stats.specs.Parts.{room}

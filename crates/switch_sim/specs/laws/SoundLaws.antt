@@ -14,7 +14,7 @@ use Rattle.of_match.specs.declared.packet_key.PacketKey.{PacketKey}
 use Rattle.of_wire.specs.declared.bodies.FlowMod.{FlowMod}
 use Rattle.frame_edit.specs.Edits.{AreEdits, IsEdit}
 use Rattle.flow_table.specs.declared.entry.Entry.{Entry}
-use Rattle.flow_table.specs.Table.{TableState, IsTable, IsMoment, place_of, has_key, with_entry, keys}
+use Rattle.flow_table.specs.Table.{TableState, IsTable, place_of, has_key, with_entry, keys}
 use Rattle.flow_table.specs.laws.TableLaws.{with_entry-found, length-with_entry-le, length-filter-le}
 use Rattle.flow_table.specs.Change.{is_delete, is_modify, key_in, describes, adds, clashes, is_full, deletes, modified, new_entry, refusal, entries_after, changed}
 use Rattle.flow_table.specs.laws.ChangeLaws.{is_delete-adds, is_delete-modify}

@@ -80,7 +80,7 @@ goes-same start first old new net0 net given same goes = record {
     moment = goes.since.moment;
     kept = goes.since.kept;
     views = goes.since.views;
-    joined = λ d s is. let j = goes.since.joined d s is in record { switch = j.switch; is = switch-same d (state old) (state new) same ∙ j.is; since = j.since };
+    joined = λ d s is. let j = goes.since.joined d s is in record { switch = j.switch; stands = switch-same d (state old) (state new) same ∙ j.stands; since = j.since };
     out = λ d is. switch-same d (state old) (state new) same ∙ goes.since.out d is;
   };
   ready = record {

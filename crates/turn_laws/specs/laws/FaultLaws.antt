@@ -18,7 +18,8 @@ use Rattle.app_visor.specs.Beats.{Beat, Talk, Chain, Halts, Stops}
 use Rattle.app_visor.specs.laws.BeatLaws.{Chain-continues, halts_continue, Stops-continues}
 use Rattle.app_visor.specs.laws.CallOrderLaws.{chain_messages}
 use Rattle.app_visor.specs.Turns.{Turns}
-use Rattle.switch_laws.specs.Since.{Ready, Goes, logged_since, JoinedSince, TablesSince, UndoneButFailed}
+use Rattle.switch_laws.specs.Since.{Ready, Goes, logged_since, JoinedSince, TablesSince}
+use Rattle.lego_model.specs.AfterFault.{UndoneButFailed}
 use Rattle.switch_laws.specs.laws.SinceLaws.{begun}
 use Rattle.switch_laws.specs.laws.FaultLaws.{tables-since, fault-since, undone-but-failed}
 use Rattle.turn_laws.specs.laws.ChainLaws.{chain-shown}

@@ -148,11 +148,11 @@ redone-logged now k m t h =
 pub Stands-in_flight : (now : ℕ) (earlier : TableState) (log : List Inverse) (m : FlowMod) (t : TableState) → Stands now earlier log t → Stands now earlier log (undo now (logged m t.entries) t)
 Stands-in_flight now earlier log m t h = record {
   was = h.was;
-  is = IsSerialed-undo now (logged m t.entries) t h.is;
+  serialed = IsSerialed-undo now (logged m t.entries) t h.serialed;
   later = omega (arith, h.later, next-undo now (logged m t.entries) t);
   keys = λ k.
       standing-redone now earlier.next t.next (entry_at k earlier.entries) (image_of k log) (image_of k (logged m t.entries))
-      (entry_at k t.entries) (entry_at k (undo now (logged m t.entries) t).entries) h.later (h.was.below k) (redone-logged now k m t h.is) (h.keys k);
+      (entry_at k t.entries) (entry_at k (undo now (logged m t.entries) t).entries) h.later (h.was.below k) (redone-logged now k m t h.serialed) (h.keys k);
 }
 
 used-redone : (now least serial : ℕ) (j : Image) (o p : Option Entry) → serial < least → Redone now least j o p → (used_at now serial p ≡ used_at now serial o) ⊎ ((is_gone j ≡ true) × (used_at now serial p ≡ now))
@@ -167,7 +167,7 @@ used-in_flight now earlier log m t k e h was =
     let lt : e.serial < t.next = omega (arith, h.was.below k e was, h.later) in
     let before = used_by_key now earlier log t k e h was in
     let after = used_by_key now earlier log u k e (Stands-in_flight now earlier log m t h) was in
-    elim (used-redone now t.next e.serial (image_of k (logged m t.entries)) (entry_at k t.entries) (entry_at k u.entries) lt (redone-logged now k m t h.is)) [
+    elim (used-redone now t.next e.serial (image_of k (logged m t.entries)) (entry_at k t.entries) (entry_at k u.entries) lt (redone-logged now k m t h.serialed)) [
       | inl same ↦ inl (after ∙ same ∙ sym before)
       | inr (gone, anew) ↦ inr (gone, after ∙ anew)
     ]

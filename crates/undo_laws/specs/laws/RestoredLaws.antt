@@ -139,7 +139,7 @@ next-undone now earlier t = refl
 pub Stands-restored : (now : ℕ) (earlier : TableState) (log : List Inverse) (inner : TableState) (newer : List Inverse) (t : TableState) → Stands now earlier log inner → Stands now inner newer t → Stands now earlier (log ++ newer) t → Stands now earlier log (undone inner t now)
 Stands-restored now earlier log inner newer t outer of_inner whole = record {
   was = outer.was;
-  is = IsSerialed-undone now inner t of_inner.later of_inner.was;
+  serialed = IsSerialed-undone now inner t of_inner.later of_inner.was;
   later = let a = whole.later in let b = next-undone now inner t in omega arith;
   keys = λ k. rw (entry_at-undone now inner newer t k of_inner)
       (Standing-restored now earlier.next inner.next (entry_at k earlier.entries) (entry_at k inner.entries) (entry_at k t.entries)

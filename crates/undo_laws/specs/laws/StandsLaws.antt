@@ -31,7 +31,7 @@ pub Stands-nothing : (now : ℕ) (t : TableState) → IsSerialed t → Stands no
 unfolding image_of
 Stands-nothing now t h = record {
   was = h;
-  is = h;
+  serialed = h;
   later = omega arith;
   keys = λ k. record {
     effect = used_at-itself now (entry_at k t.entries);
@@ -168,12 +168,12 @@ next-changed now m t =
 pub Stands-changed : (now : ℕ) (earlier : TableState) (log : List Inverse) (m : FlowMod) (t : TableState) → Stands now earlier log t → Stands now earlier (log ++ logged m t.entries) (changed now m t)
 Stands-changed now earlier log m t h = record {
   was = h.was;
-  is = IsSerialed-changed now m t h.is;
+  serialed = IsSerialed-changed now m t h.serialed;
   later = let more = next-changed now m t in let le = h.later in omega arith;
   keys = λ k. rw (image_of-append k log (logged m t.entries))
       (Standing-changes now earlier.next t.next (entry_at k earlier.entries) (image_of k log) h.later (h.was.below k)
       (image_of k (logged m t.entries)) (entry_at k t.entries) (entry_at k (changed now m t).entries)
-      (Changes-changed now k m t h.is.table) (h.keys k));
+      (Changes-changed now k m t h.serialed.table) (h.keys k));
 }
 
 pub Stands-change : (cap now : ℕ) (earlier : TableState) (log : List Inverse) (m : FlowMod) (t : TableState) → Stands now earlier log t → Stands now earlier (log ++ logged_by cap m t.entries) (change cap now m t)
@@ -190,20 +190,20 @@ refused-stays cap now m t e refused = (rw refused refl, rw refused refl)
 
 -- what a log says of each key is all that counts, as where one inverse for each key is kept
 pub Stands-images : (now : ℕ) (earlier : TableState) (log other : List Inverse) (t : TableState) → ((k : Key) → image_of k other ≡ image_of k log) → Stands now earlier log t → Stands now earlier other t
-Stands-images now earlier log other t same h = record { was = h.was; is = h.is; later = h.later; keys = λ k. rw (same k) (h.keys k) }
+Stands-images now earlier log other t same h = record { was = h.was; serialed = h.serialed; later = h.later; keys = λ k. rw (same k) (h.keys k) }
 
 -- ---- Undo of a newer part
 
 pub Stands-undone_one : (now : ℕ) (earlier : TableState) (log : List Inverse) (x : Inverse) (t : TableState) → Stands now earlier (log ++ x ∷ []) t → Stands now earlier log (undo_one now x t)
 Stands-undone_one now earlier log x t h = record {
   was = h.was;
-  is = IsSerialed-undo_one now x t h.is;
+  serialed = IsSerialed-undo_one now x t h.serialed;
   later = let more = next-undo_one now x t in let le = h.later in omega arith;
   keys = λ k.
       let one : image_of k (log ++ x ∷ []) ≡ merge (image_of k log) (image_at k x) = image_of-append k log (x ∷ []) ∙ ap (merge (image_of k log)) (image_of-one k x) in
       Standing-undoes now earlier.next t.next (entry_at k earlier.entries) (image_of k log) h.later (h.was.below k)
       (image_at k x) (entry_at k t.entries) (entry_at k (undo_one now x t).entries)
-      (Undoes-one now k x t h.is.table) (rw one at (h.keys k));
+      (Undoes-one now k x t h.serialed.table) (rw one at (h.keys k));
 }
 
 -- an undo of what was logged later leaves what was logged before
@@ -227,11 +227,11 @@ stands_there now earlier log t k l e g h was found same =
 pub used_by_key : (now : ℕ) (earlier : TableState) (log : List Inverse) (t : TableState) (k : Key) (e : Entry) → Stands now earlier log t → entry_at k earlier.entries ≡ Some e → used_or now e.serial t.entries ≡ used_at now e.serial (entry_at k t.entries)
 used_by_key now earlier log t k e h was =
     elim (cases_Option (entry_at k t.entries)) [
-      | inl none ↦ rw none (used_or-gone now e.serial t.entries h.is.table
+      | inl none ↦ rw none (used_or-gone now e.serial t.entries h.serialed.table
           (λ l g found same. let here = stands_there now earlier log t k l e g h was found same in absurd cc))
       | inr (f, some) ↦ rw some (elim (cases_eq f.serial e.serial) [
-        | inl same ↦ rw (eq-eqb f.serial e.serial same) (ap (λ n. used_or now n t.entries) (sym same) ∙ used_or-stands now t k f h.is some)
-        | inr other ↦ rw (ne_eqb f.serial e.serial other) (used_or-gone now e.serial t.entries h.is.table
+        | inl same ↦ rw (eq-eqb f.serial e.serial same) (ap (λ n. used_or now n t.entries) (sym same) ∙ used_or-stands now t k f h.serialed some)
+        | inr other ↦ rw (ne_eqb f.serial e.serial other) (used_or-gone now e.serial t.entries h.serialed.table
             (λ l g found same.
             let here = stands_there now earlier log t k l e g h was found same in
             let is : f ≡ g = cc in
@@ -251,11 +251,11 @@ undo-restores now earlier log t h =
     let g : Entry → Entry = restored now t.entries in
     let r : List Entry = map g earlier.entries in
     table_from_lookups (map seen u) (map seen r)
-    (IsTable-map seen (λ e. refl) u (IsSerialed-undo now log t h.is).table)
+    (IsTable-map seen (λ e. refl) u (IsSerialed-undo now log t h.serialed).table)
     (IsTable-map seen (λ e. refl) r (IsTable-map g (λ e. refl) earlier.entries h.was.table))
     (λ k.
     entry_at-map seen (λ e. refl) u k
-    ∙ undo-image now k log t h.is
+    ∙ undo-image now k log t h.serialed
     ∙ (h.keys k).effect
     ∙ restored_by_key now t.entries (entry_at k t.entries) (entry_at k earlier.entries) (λ e was. used_by_key now earlier log t k e h was)
     ∙ sym (entry_at-map seen (λ e. refl) r k ∙ ap (option_map seen) (entry_at-map g (λ e. refl) earlier.entries k)))

@@ -28,7 +28,7 @@ use Rattle.undo_laws.specs.Table.{IsTest, sent_for, GiveAlike, IsMet, AllMeet, S
 pub Stands-alike : (now : ℕ) (earlier : TableState) (log other : List Inverse) (t : TableState) → GiveAlike now earlier log other t → Stands now earlier log t → Stands now earlier other t
 Stands-alike now earlier log other t alike h = record {
   was = h.was;
-  is = h.is;
+  serialed = h.serialed;
   later = h.later;
   keys = λ k. let at = h.keys k in record {
     effect = alike.given k ∙ at.effect;
@@ -175,5 +175,5 @@ CanRevert-sent cap now earlier removed acted added t fits fitted meet h =
     let after : length (undo now sent t).entries ≤ cap = omega arith in
     CanRevert-in_order cap now removed acted added t fits
     (All-weaker (Stays removed t.entries) (IsMet (undo now (remove_all removed) t).entries)
-    (λ a ok. ap is_some (met-all now removed a.0 t h.is ok.1) ∙ ok.0) acted meet)
+    (λ a ok. ap is_some (met-all now removed a.0 t h.serialed ok.1) ∙ ok.0) acted meet)
     after

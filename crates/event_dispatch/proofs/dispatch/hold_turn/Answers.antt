@@ -45,12 +45,12 @@ returns-in_ok-abort-in-Ok-Failed-clause-read g c = turn_read _ _ _ (returns-in_o
 pub returns-in_err-commit-in-Ok-Done-clause-talks : goal.returns-in_err-commit-in-Ok-Done-clause-talks
 returns-in_err-commit-in-Ok-Done-clause-talks g c =
     holds_on_err c.from_residual.result
-    (turn_ended c.args.app.now.index c.args.app.now.rest (g.W.World.seen c.args.world.now) (g.W.World.seen c.turn.new.world) (g.W.World.seen c.commit.new._world) (event_is c.args.number c.begin-txn.result.net.now.moment c.args.event.now) c.in-Ok-Done.ensures.ok c.commit.ensures.world)
+    (turn_ended c.args.app.now.index c.args.app.now.rest (g.W.World.seen c.args.world.now) (g.W.World.seen c.turn.new.world) (g.W.World.seen c.commit.new._world) (event_is c.args.numbered.number c.begin-txn.result.net.now.moment c.args.numbered.event.now) c.in-Ok-Done.ensures.ok c.commit.ensures.world)
 
 pub returns-in_err-abort-in-Ok-Failed-clause-talks : goal.returns-in_err-abort-in-Ok-Failed-clause-talks
 returns-in_err-abort-in-Ok-Failed-clause-talks g c =
     holds_on_err c.from_residual-in_err-abort-in-Ok-Failed.result
-    (turn_ends c.args.app.now.index c.args.app.now.rest (g.W.World.seen c.args.world.now) (g.W.World.seen c.turn.new.world) (g.W.World.seen c.abort.new.world) (event_is c.args.number c.begin-txn.result.net.now.moment c.args.event.now) c.in-Ok-Failed.ensures.ok c.abort.ensures.links)
+    (turn_ends c.args.app.now.index c.args.app.now.rest (g.W.World.seen c.args.world.now) (g.W.World.seen c.turn.new.world) (g.W.World.seen c.abort.new.world) (event_is c.args.numbered.number c.begin-txn.result.net.now.moment c.args.numbered.event.now) c.in-Ok-Failed.ensures.ok c.abort.ensures.links)
 
 pub returns-in-Err-clause-talks : goal.returns-in-Err-clause-talks
 returns-in-Err-clause-talks g c =

@@ -1,4 +1,3 @@
-use Rattle.std.proofs.Common.{◌≡◌}
 use Rattle.flow_table.specs.laws.RunLaws.{IsPlan-at}
 use Rattle.flow_table.proofs.calls.is_plan.Goals as goal
 

@@ -1,9 +1,8 @@
-use Rattle.std.proofs.Common.{◌≡◌, ◌≢◌, ◌==◌, ℕ, Bool, true, false, ◌||◌, List, [], ◌∷◌, Result, Ok, Err, IfOk, OnOk, OnErr, IsTrue, map, filter, not, refl, sym, ap, ◌∙◌}
-use Rattle.std.proofs.lemmas.Bool.{false_from_ne_true, or_parts}
+use Rattle.std.proofs.Common.{◌≡◌, ◌≢◌, ℕ, true, false, List, [], ◌∷◌, Result, Ok, Err, OnErr, IsTrue, map, filter, refl, sym, ◌∙◌}
 use Rattle.of_wire.specs.declared.bodies.FlowMod.{FlowMod}
 use Rattle.flow_table.specs.declared.entry.Entry.{Entry}
 use Rattle.flow_table.specs.declared.notice.Notice.{Notice}
-use Rattle.flow_table.specs.Change.{is_modify, is_delete, adds, deletes, notice, notices_of, entries_after, tells}
+use Rattle.flow_table.specs.Change.{is_modify, is_delete, adds, notice, notices_of, tells}
 use Rattle.flow_table.specs.laws.ChangeLaws.{is_delete-adds, is_delete-modify, is_delete-rest, notices_of-kept, notices_of-delete, entries_after-adds, entries_after-modify, entries_after-delete}
 use Rattle.flow_table.proofs.changing.apply.Goals as goal
 

@@ -1,7 +1,6 @@
-use Rattle.std.proofs.Common.{◌≡◌, ◌+◌, ◌-◌, true, Ok, Err, List, filter, take, drop, refl, sym, ◌∙◌, ap, arith, subst}
+use Rattle.std.proofs.Common.{◌≡◌, ◌+◌, ◌-◌, true, Ok, Err, refl, sym, arith, subst}
 use Rattle.of_match.specs.declared.key.Key.{Key}
 use Rattle.of_match.specs.Key.{key_number}
-use Rattle.flow_table.specs.declared.entry.Entry.{Entry}
 use Rattle.flow_table.specs.Table.{IsPlaceOf}
 use Rattle.flow_table.specs.laws.TableLaws.{NonePass-absent, filter-found, filter-none}
 use Rattle.flow_table.specs.Change.{key_in, is_strict, tells}

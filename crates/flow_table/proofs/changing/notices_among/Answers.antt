@@ -1,6 +1,4 @@
-use Rattle.std.proofs.Common.{◌≡◌, ◌≢◌, ◌<◌, ℕ, true, List, [], Result, Ok, Err, OnErr, filter, length, get_or, zero, suc, ◌∷◌, sym, ap, ◌∙◌, arith}
-use Rattle.std.proofs.lemmas.Bool.{cases_Bool}
-use Rattle.flow_table.specs.declared.entry.Entry.{Entry}
+use Rattle.std.proofs.Common.{true, Result, Ok, Err, OnErr, sym, ◌∙◌, arith}
 use Rattle.flow_table.specs.Change.{tells}
 use Rattle.flow_table.specs.laws.TableLaws.{filter-some}
 use Rattle.flow_table.proofs.changing.notices_among.Goals as goal

@@ -5,7 +5,7 @@ use Rattle.std.specs.Result.{is_ok}
 use Rattle.of_match.specs.declared.key.Key.{Key}
 use Rattle.of_match.specs.Key.{key_number}
 use Rattle.flow_table.specs.declared.entry.Entry.{Entry}
-use Rattle.flow_table.specs.Table.{place_of, has_key, IsPlaceOf}
+use Rattle.flow_table.specs.Table.{has_key, IsPlaceOf}
 use Rattle.flow_table.specs.laws.TableLaws.{list_any-found, list_any-none, IsOnlyAt-has_key, NonePass-absent}
 use Rattle.flow_table.proofs.describing.has_entry.Goals as goal
 

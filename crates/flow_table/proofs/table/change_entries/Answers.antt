@@ -1,4 +1,3 @@
-use Rattle.std.proofs.Common.{◌≡◌, None, sym, ◌∙◌}
 use Rattle.flow_table.specs.laws.ChangeLaws.{refusal-delete}
 use Rattle.flow_table.proofs.table.change_entries.Goals as goal
 

@@ -1,4 +1,4 @@
-use Rattle.std.proofs.Common.{◌≤◌, ◌-◌, ◌<◌, length, take, drop, Some, sym, ap, ◌∙◌, arith, subst, get_or}
+use Rattle.std.proofs.Common.{◌≤◌, ◌-◌, length, take, drop, Some, sym, ap, ◌∙◌, arith, subst, get_or}
 use Rattle.std.proofs.lemmas.Option.{slice_get_read}
 use Rattle.std.proofs.Common.{refl}
 use Rattle.session_lists.specs.laws.RecordLaws.{ends_count, record_at, record_within}

@@ -1,4 +1,4 @@
-use Rattle.std.proofs.Common.{◌++◌, [], ap, ◌∙◌, take}
+use Rattle.std.proofs.Common.{ap, ◌∙◌, take}
 use Rattle.std.proofs.lemmas.List.{append-nil}
 use Rattle.session_lists.specs.laws.StepLaws.{put_more, err_holds}
 use Rattle.session_lists.proofs.reply_list.append.Goals as goal

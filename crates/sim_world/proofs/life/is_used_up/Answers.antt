@@ -1,4 +1,4 @@
-use Rattle.std.proofs.Common.{sym, ◌∙◌, ap, Some, false}
+use Rattle.std.proofs.Common.{sym, ◌∙◌, ap, Some}
 use Rattle.session_lists.specs.Steps.{step_of}
 use Rattle.sim_world.specs.Lives.{begins_empty}
 use Rattle.sim_world.specs.laws.LifeLaws.{bytes_empty, from_place-closed, from_place-silent}

@@ -1,4 +1,4 @@
-use Rattle.std.proofs.Common.{sym, ◌∙◌, ap, arith, Some, length, min, ◌-◌, subst, ◌≤◌}
+use Rattle.std.proofs.Common.{sym, ◌∙◌, ap, arith, Some, length, ◌-◌}
 use Rattle.std.proofs.Math.Nat.{min-le_left}
 use Rattle.of_types.specs.declared.journal.TookWhat.TheVariants as took
 use Rattle.session_lists.specs.Steps.{step_of}

@@ -1,4 +1,4 @@
-use Rattle.std.proofs.Common.{length, sym, ap, ◌∙◌, ◌++◌, ◌∷◌, [], ◌+◌}
+use Rattle.std.proofs.Common.{length, ap, ◌∙◌, ◌++◌, ◌∷◌, [], ◌+◌}
 use Rattle.session_lists.specs.laws.RecordLaws.{records_pushed, cut_pushed}
 use Rattle.session_lists.proofs.records.Records.push.Goals as goal
 

@@ -1,4 +1,4 @@
-use Rattle.std.proofs.Common.{◌++◌, ◌∷◌, [], ap, sym, ◌∙◌, length}
+use Rattle.std.proofs.Common.{◌++◌, ◌∷◌, [], ap, ◌∙◌}
 use Rattle.session_lists.specs.declared.reply_list.ReplyLine.{ReplyLine}
 use Rattle.session_lists.specs.Steps.{steps_in}
 use Rattle.session_lists.specs.laws.StepLaws.{kept_lines, added_line, err_holds}

@@ -1,4 +1,4 @@
-use Rattle.std.proofs.Common.{length, sym, ap, ◌∙◌, arith}
+use Rattle.std.proofs.Common.{length, ap, arith}
 use Rattle.session_lists.specs.laws.StepLaws.{between_count}
 use Rattle.session_lists.proofs.step_list.Steps.get.Goals as goal
 

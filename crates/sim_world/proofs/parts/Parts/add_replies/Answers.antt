@@ -1,4 +1,3 @@
-use Rattle.std.proofs.Common.{[], ◌∷◌, ◌++◌}
 use Rattle.sim_world.specs.laws.BuildingLaws.{Gets-same, Gets-replies, put_lines}
 use Rattle.sim_world.proofs.parts.Parts.add_replies.Goals as goal
 

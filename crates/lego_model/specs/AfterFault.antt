@@ -1,0 +1,147 @@
+-- What a fault leaves of the tables of switches, behind the last quiescent point: the turn in flight is undone, switch by switch (OpenFlow
+-- 1.0.0, 5.3.3 Modify State Messages: DELETE_STRICT). All else is our own.
+use Rattle.std.specs.Prelude.{◌≡◌, ◌⊎◌, ℕ, Bool, true, false, List, [], ◌∷◌, ◌++◌, Option, Some, None, IsErr}
+use Rattle.std.specs.List.{AllByRecursion}
+use Rattle.lego_io.specs.Count.{Rose}
+use Rattle.of_types.specs.Fields.{number_at}
+use Rattle.of_types.specs.declared.journal.Act.{Act}
+use Rattle.of_types.specs.declared.journal.Act.TheVariants.{Got, Gave}
+use Rattle.of_match.specs.declared.key.Key.{Key}
+use Rattle.of_wire.specs.declared.bodies.FlowMod.{FlowMod as Change}
+use Rattle.of_wire.specs.declared.message.Message.TheVariants.{FlowMod}
+use Rattle.of_wire.specs.Reading.{reading_of}
+use Rattle.of_wire.specs.Spelling.{message_bytes}
+use Rattle.flow_table.specs.Refusals.{no_buffer}
+use Rattle.flow_table.specs.Switch.{SwitchState}
+use Rattle.app_frames.specs.declared.frame.Answer.{Answer}
+use Rattle.app_frames.specs.declared.frame.Answer.TheVariants.{Unknown}
+use Rattle.outside.specs.declared.step.WorldStep.{WorldStep}
+use Rattle.outside.specs.declared.step.WorldStep.TheVariants.{Acted}
+use Rattle.outside.specs.Seen.{Seen, Longer, journal}
+use Rattle.outside.specs.State.{state, switch_of}
+use Rattle.lego_model.specs.declared.fault.TxnFault.{TxnFault}
+use Rattle.lego_model.specs.declared.fault.TxnFault.TheVariants.{SwitchFault, SwitchBroke, Diverged, Flooded, NoMemory}
+use Rattle.lego_model.specs.Application.{index, budget}
+use Rattle.lego_model.specs.AtOnce.{Passes, AtOnce}
+use Rattle.lego_model.specs.BarrierWaits.{flood}
+use Rattle.lego_model.specs.History.{own_acts}
+use Rattle.lego_model.specs.Journal.{is_event, reply_of}
+use Rattle.lego_model.specs.SwitchFaults.{Happened, SentThenGot, IsFlood}
+use Rattle.lego_model.specs.Turns.{Outcome, Completed, Failed, Table, turn_of}
+
+-- ---- What undoes an addition: DELETE_STRICT of its key, whatever its outputs (5.3.3)
+
+abbrev pub delete_strict : Key → Change
+delete_strict k = record {
+  matching = k.matching;
+  cookie = 0;
+  command = 4;
+  idle = 0;
+  hard = 0;
+  priority = k.priority;
+  buffer_id = no_buffer;
+  out_port = 0xffff;
+  flags = 0;
+  actions = [];
+}
+
+-- the inverse as it is sent
+unfoldable pub inverse_bytes : ℕ → Key → List ℕ
+inverse_bytes xid k = message_bytes xid (FlowMod (delete_strict k))
+
+-- ---- Why a switch failed in an undo
+
+-- the inverse for a key is answered by an ERROR (1, in 5.4.4): it has the inverse's transaction id
+pub record RefusesInverse (inverse got : List ℕ) : Type 0 where
+  pub kind : number_at 1 1 got ≡ 1
+  pub key : Key
+  pub inverse_so : inverse ≡ inverse_bytes (number_at 4 4 got) key
+
+-- Its link's count rose; bytes were got from it that are no message; an inverse that was sent to it was refused; too many messages came
+-- from it behind a barrier; or the world had no memory for a call of it.
+abbrev pub IsWhyUndo : {Own : Type 0} → Type 0 → ℕ → Seen Own → Seen Own → TxnFault → Type 0
+IsWhyUndo Tells d old new (SwitchFault e) = (e ≡ d) × Rose (old.counts.link_faults d) (new.counts.link_faults d)
+IsWhyUndo Tells d old new (SwitchBroke e bytes) = (e ≡ d) × IsErr (reading_of bytes) × (Tells → Happened (Acted (Got d bytes) ∷ []) old.history new.history)
+IsWhyUndo Tells d old new (Diverged e inverse got) = (e ≡ d) × RefusesInverse inverse got × (Tells → SentThenGot d inverse got old.history new.history)
+IsWhyUndo Tells d old new (Flooded e n) = (e ≡ d) × (n ≡ flood) × IsFlood Tells d n old new
+IsWhyUndo Tells d old new NoMemory = Rose old.counts.shorts new.counts.shorts × Rose (old.counts.shorts_of d) (new.counts.shorts_of d)
+
+-- the switch failed in an undo, with its cause in these calls
+pub record FailsInUndo {Own : Type 0} (Tells : Type 0) (d : ℕ) (old new : Seen Own) : Type 0 where
+  pub fault : TxnFault
+  pub why : IsWhyUndo Tells d old new fault
+
+-- ---- The turn was undone
+
+-- the switch has exactly the entries that it had, and all else of it stands as it stood, but for the serial of its next entry
+pub record HasEntriesAgain (s : SwitchState) (now : Option SwitchState) : Type 0 where
+  pub next : ℕ
+  pub stands : now ≡ Some (record s { table = record { entries = s.table.entries; next = next } })
+
+-- Each switch that was joined then has its entries again, or it failed in the undo, with its cause in these calls; no other is joined.
+pub record UndoneButFailed {Own : Type 0} (Tells : Type 0) (old new : Seen Own) : Type 0 where
+  pub joined : (d : ℕ) (s : SwitchState) → switch_of d (state old) ≡ Some s → FailsInUndo Tells d old new ⊎ HasEntriesAgain s (switch_of d (state new))
+  pub out : (d : ℕ) → switch_of d (state old) ≡ None → switch_of d (state new) ≡ None
+
+-- ---- There was no turn
+
+-- an application is given an event
+abbrev pub gives_event : WorldStep → Bool
+gives_event (Acted (Gave app bytes)) = is_event bytes
+gives_event other = false
+
+abbrev pub GiveNoEvent : List WorldStep → Type 0
+GiveNoEvent steps = AllByRecursion (λ step. gives_event step ≡ false) steps
+
+-- The history went on, and no application was given an event since then.
+pub record NoEventSince {Own : Type 0} (old new : Seen Own) : Type 0 where
+  pub steps : List WorldStep
+  pub history : new.history ≡ old.history ++ steps
+  pub none : GiveNoEvent steps
+
+-- ---- The turn was whole
+
+-- messages that are answered by these answers, one after the other
+abbrev pub next_answer : List Answer → Answer × List Answer
+next_answer [] = (Unknown, [])
+next_answer (answer ∷ answers) = (answer, answers)
+
+unfoldable pub answering : Bool → Table (List Answer)
+answering judged = record { answer = λ answers dpid bytes. next_answer answers; allows = λ answers. judged }
+
+abbrev pub IsCompleted : Outcome → Type 0
+IsCompleted (Completed stop checkpoint unread) = Unit {0}
+IsCompleted (Failed cause) = ⊥
+
+-- The application had a whole turn: an event, and then acts by which it completed, with its messages answered somehow, behind what it had
+-- given before and that was unread.
+pub record TurnDone {Own : Type 0} (old new : Seen Own) : Type 0 where
+  pub event : List ℕ
+  pub event_so : is_event event ≡ true
+  pub acts : List Act
+  pub history : own_acts new ≡ own_acts old ++ Gave index event ∷ acts
+  pub before : AtOnce index (journal old.history)
+  pub rest : List ℕ
+  pub passes : Passes before.last.unread rest
+  pub judged : Bool
+  pub answers : List Answer
+  pub completed : IsCompleted (turn_of (answering judged) budget rest (reply_of (record { given = true; acts = acts })) answers).outcome
+
+-- no switch moved: each is joined as it was, with the table that it had, and the same of all else
+abbrev pub SwitchesStay : {Own : Type 0} → Seen Own → Seen Own → Type 0
+SwitchesStay old new = (d : ℕ) → switch_of d (state new) ≡ switch_of d (state old)
+
+-- It had a whole turn since then, behind which no switch moved, so that its changes stay.
+pub record TurnKept {Own : Type 0} (old new : Seen Own) : Type 0 where
+  pub mid : Seen Own
+  pub given : new.given ≡ mid.given
+  pub done : TurnDone old mid
+  pub later : Longer mid.history new.history
+  pub stay : SwitchesStay mid new
+
+-- ---- What is left
+
+-- No event was given since then; or its turn was undone on each switch that did not fail in the undo; or, where memory may have been wanting
+-- behind it, the turn was whole, and its changes stay.
+abbrev pub TablesLeft : {Own : Type 0} → Type 0 → Seen Own → Seen Own → Type 0
+TablesLeft Short old new = NoEventSince old new ⊎ UndoneButFailed (Unit {0}) old new ⊎ (Short × TurnKept old new)
