@@ -1,1 +1,3 @@
-pub mod Clean
+pub mod Down
+pub mod Learn
+pub mod Checkpoint

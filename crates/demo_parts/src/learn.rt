@@ -1,22 +1,19 @@
 //! A learning switch: it learns by which port each address is reached.
 
-ghost use Rattle.std.specs.Prelude.{◌≤◌, length};
+ghost use Rattle.std.specs.Prelude.{◌≡◌, ◌≤◌, ◌++◌, length, [], IfOk, OnOk, OnErr};
+ghost use Rattle.of_types.specs.Fields.{piece};
+ghost use Rattle.demo_parts.specs.Learn.{station, port_at, with_row, is_taken, packet_of, rows_after, rows_after_packet, frames_for_packet, sent_on};
+ghost use Rattle.demo_parts.specs.Checkpoint.{checkpoint_of, restored, answers_to};
 
-use crate::saying::tell;
-use of_action::{Action, ActionList};
-use of_match::{Fields, Match};
-use of_types::{
-    ByteList, Dpid, PortNo, flows, get_array, get_u16, get_u64, ports, put_array, put_u16, put_u64,
-};
-use of_wire::{FlowMod, Message, PacketIn, PacketOut};
+use crate::checkpoint::{MOST_ROWS, Rows, Station, checkpoint, restore};
+use crate::messages::{flow_to, packet_to};
+use crate::saying::told;
+use app_frames::{AppFrame, Event, EventKind};
+use of_types::{ByteList, Dpid, PortNo, get_array, ports, put_array, put_u64};
+use of_wire::{Message, PacketIn, WireFault, decode};
 use std::alloc::{AllocError, Global};
 use std::collections::BTreeMap;
-
-/// The most rows; a further address is not learned.
-const MOST_ROWS: usize = 65_536;
-
-/// The bytes of a row in a checkpoint: switch, address and port.
-const ROW_BYTES: usize = 16;
+use std::marker::Model;
 
 /// The bytes of an Ethernet header.
 const HEADER_BYTES: usize = 14;
@@ -24,184 +21,170 @@ const HEADER_BYTES: usize = 14;
 /// The most data that fits a PACKET_OUT with one output.
 const MOST_DATA: usize = 65_511;
 
-/// The priority of the flows.
-const PRIORITY: u16 = 1_000;
-
-/// After how many seconds without a packet a flow goes.
-const IDLE_SECONDS: u16 = 60;
-
-/// An address at a switch.
-#[derive(Clone, Copy, Debug, PartialEq, Eq, PartialOrd, Ord)]
-pub struct Station {
-    pub dpid: Dpid,
-    pub address: [u8; 6],
-}
-
-/// The ports of the addresses that were learned.
+/// A learning switch. Contracts see what it has learned: the port of each station, in the order of the stations.
 #[derive(Drop)]
 pub struct Learn {
-    rows: BTreeMap<Station, PortNo>,
+    alloc: Global,
+    rows: Rows,
 }
 
-/// A row of a checkpoint.
-fn row_of(bytes: &[u8]) -> (Station, PortNo)
-    requires { 16 ≤ length bytes.now }
+impl Model for Learn {
+    ghost use Rattle.demo_parts.specs.Learn.{Rows};
+
+    ghost Value = { Rows };
+
+    ghost view = { λ s. s.rows.entries };
+}
+
+/// The station of the address at the switch.
+fn station(dpid: Dpid, address: [u8; 6]) -> Station
+    ensures { result ≡ station dpid address }
 {
-    let station = Station {
-        dpid: get_u64(bytes, 0),
-        address: get_array(bytes, 8),
-    };
-    (station, get_u16(bytes, 14))
-}
-
-/// A row as it stands in a checkpoint.
-fn row_bytes(station: Station, port: PortNo) -> [u8; 16] {
-    let mut bytes = [0; ROW_BYTES];
-    put_u64(&mut bytes, 0, station.dpid);
-    put_array(&mut bytes, 8, &station.address);
-    put_u16(&mut bytes, 14, port);
+    let mut bytes = [0; 14];
+    put_u64(&mut bytes, 0, dpid);
+    put_array(&mut bytes, 8, &address);
     bytes
 }
 
-/// The rows of a checkpoint, if it has that form: at most 65,536 whole rows that ascend.
-fn rows_of(
-    alloc: Global,
-    checkpoint: &[u8],
-) -> Result<Option<BTreeMap<Station, PortNo>>, AllocError> {
-    let mut rows = BTreeMap::new(alloc);
-    if checkpoint.len() % ROW_BYTES != 0 || checkpoint.len() / ROW_BYTES > MOST_ROWS {
+/// Whether the packet is looked at: it is there as a whole, with an Ethernet header, and fits a PACKET_OUT.
+#[tactic(auto, unfolding(crate::specs::Learn::is_taken))]
+fn is_taken(packet: &PacketIn) -> bool
+    ensures { result ≡ is_taken packet.now }
+{
+    let size = packet.payload.len();
+    packet.total_len as usize <= size && HEADER_BYTES <= size && size <= MOST_DATA
+}
+
+/// The packet of an event, where it has one.
+fn packet_of(alloc: Global, event: &Event) -> Result<Option<PacketIn>, AllocError>
+    ensures { IfOk result (λ packet. packet ≡ packet_of event.now) }
+{
+    if event.kind != EventKind::PacketIn {
         return Ok(None);
     }
-    let mut last = None;
-    for row in 0..checkpoint.len() / ROW_BYTES {
-        let at = row * ROW_BYTES;
-        let (station, port) = row_of(&checkpoint[at..at + ROW_BYTES]);
-        if last.is_some_and(|last| station <= last) {
-            return Ok(None);
-        }
-        last = Some(station);
-        rows.insert(station, port).map_err(AllocError::from)?;
+    match decode(alloc, event.body.as_slice()) {
+        Ok(envelope) => match envelope.message {
+            Message::PacketIn(packet) => Ok(Some(packet)),
+            _ => Ok(None),
+        },
+        Err(WireFault::NoMemory) => Err(AllocError),
+        Err(_) => Ok(None),
     }
-    Ok(Some(rows))
 }
 
 impl Learn {
-    /// The first state: nothing was learned.
-    pub fn new(alloc: Global) -> Learn {
+    /// The first state: nothing was learned. Takes no memory.
+    pub fn new(alloc: Global) -> Learn
+        ensures { result ≡ [] }
+    {
         Learn {
+            alloc,
             rows: BTreeMap::new(alloc),
         }
     }
 
     /// The state of a checkpoint; the first one, if it has not its form.
-    pub fn restored(alloc: Global, checkpoint: &[u8]) -> Result<Learn, AllocError> {
-        match rows_of(alloc, checkpoint)? {
-            Some(rows) => Ok(Learn { rows }),
-            None => Ok(Learn::new(alloc)),
-        }
+    pub fn restored(alloc: Global, checkpoint: &[u8]) -> Result<Learn, AllocError>
+        ensures { IfOk result (λ learn. learn ≡ restored checkpoint.now) }
+    {
+        Ok(Learn {
+            alloc,
+            rows: restore(alloc, checkpoint)?,
+        })
     }
 
-    /// All rows, ascending.
-    pub fn checkpoint(&self, alloc: Global) -> Result<ByteList, AllocError> {
-        let mut bytes = Vec::new(alloc);
-        for (station, port) in &self.rows {
-            bytes.extend_from_slice(&row_bytes(*station, *port))?;
-        }
-        Ok(ByteList::from_vec(bytes))
+    /// All that was learned, in 16 bytes a station: the switch, the address and the port.
+    pub fn checkpoint(&self) -> Result<ByteList, AllocError>
+        ensures { IfOk result (λ bytes. bytes ≡ checkpoint_of self.now) }
+    {
+        checkpoint(self.alloc, &self.rows)
     }
 
-    /// Learns by which port the address is reached.
-    fn learn(&mut self, station: Station, port: PortNo) -> Result<(), AllocError> {
+    /// Learns by which port the station is reached.
+    #[tactic(auto, unfolding(crate::specs::Learn::with_row))]
+    fn learn(&mut self, station: Station, port: PortNo) -> Result<(), AllocError>
+        ensures ok { OnOk result (self.new ≡ with_row station port self.old) }
+        ensures err { OnErr result (self.new ≡ self.old) }
+    {
         if self.rows.len() < MOST_ROWS || self.rows.get(&station).is_some() {
             self.rows.insert(station, port).map_err(AllocError::from)?;
         }
         Ok(())
     }
 
-    /// Handles a packet: learns its source, and sends it on.
-    pub fn packet(
-        &mut self,
-        alloc: Global,
+    /// The port by which the station is reached, if that was learned.
+    fn port_of(&self, station: Station) -> Option<PortNo>
+        ensures { result ≡ port_at station self.now }
+    {
+        self.rows.get(&station).copied()
+    }
+
+    /// The frames that send a packet on, by this port where it is known.
+    fn send_on(
+        &self,
         dpid: Dpid,
         packet: &PacketIn,
-        out: &mut Vec<u8>,
-    ) -> Result<(), AllocError> {
-        let data = packet.payload.as_slice();
-        if data.len() < packet.total_len as usize || data.len() > MOST_DATA {
-            return Ok(());
-        }
-        if data.len() < HEADER_BYTES {
-            return Ok(());
-        }
-        let source = Station {
-            dpid,
-            address: get_array(data, 6),
-        };
-        let destination = Station {
-            dpid,
-            address: get_array(data, 0),
-        };
-        self.learn(source, packet.in_port)?;
-        let port = match self.rows.get(&destination) {
-            Some(port) if *port != packet.in_port => {
-                let port = *port;
-                tell(
-                    alloc,
-                    dpid,
-                    &flow_to(alloc, destination.address, port)?,
-                    out,
-                )?;
-                port
+        port: Option<PortNo>,
+    ) -> Result<Vec<AppFrame>, AllocError>
+        requires least { 14 ≤ length packet.now.payload }
+        requires most { length packet.now.payload ≤ 65511 }
+        ensures { IfOk result (λ frames. frames.items ≡ sent_on dpid packet.now port) }
+    {
+        let mut frames = Vec::new(self.alloc);
+        match port {
+            Some(port) if port != packet.in_port => {
+                let address = get_array(packet.payload.as_slice(), 0);
+                let flow = flow_to(self.alloc, address, port)?;
+                frames
+                    .push(told(self.alloc, dpid, &flow)?)
+                    .map_err(AllocError::from)?;
+                let out = packet_to(self.alloc, packet, port)?;
+                frames
+                    .push(told(self.alloc, dpid, &out)?)
+                    .map_err(AllocError::from)?;
             }
-            _ => ports::FLOOD,
-        };
-        tell(
-            alloc,
-            dpid,
-            &packet_to(alloc, packet.in_port, port, data)?,
-            out,
-        )
+            _ => {
+                let out = packet_to(self.alloc, packet, ports::FLOOD)?;
+                frames
+                    .push(told(self.alloc, dpid, &out)?)
+                    .map_err(AllocError::from)?;
+            }
+        }
+        Ok(frames)
     }
-}
 
-fn output(alloc: Global, port: PortNo) -> Result<ActionList, AllocError> {
-    let mut actions = Vec::new(alloc);
-    actions
-        .push(Action::Output { port, max_len: 0 })
-        .map_err(AllocError::from)?;
-    Ok(ActionList::from_vec(actions))
-}
+    /// Handles a packet: learns its source, and sends it on.
+    fn handle(&mut self, dpid: Dpid, packet: &PacketIn) -> Result<Vec<AppFrame>, AllocError>
+        ensures frames { IfOk result (λ frames. frames.items ≡ frames_for_packet dpid packet.now self.old) }
+        ensures rows { OnOk result (self.new ≡ rows_after_packet dpid packet.now self.old) }
+    {
+        if !is_taken(packet) {
+            return Ok(Vec::new(self.alloc));
+        }
+        let data = packet.payload.as_slice();
+        let source = station(dpid, get_array(data, 6));
+        let destination = station(dpid, get_array(data, 0));
+        self.learn(source, packet.in_port)?;
+        let port = self.port_of(destination);
+        self.send_on(dpid, packet, port)
+    }
 
-/// The flow to the address by the port.
-fn flow_to(alloc: Global, address: [u8; 6], port: PortNo) -> Result<Message, AllocError> {
-    Ok(Message::FlowMod(FlowMod {
-        matching: Match::new(&Fields {
-            dl_dst: Some(address),
-            ..Fields::ANY
-        }),
-        cookie: 0,
-        command: flows::ADD,
-        idle: IDLE_SECONDS,
-        hard: 0,
-        priority: PRIORITY,
-        buffer_id: flows::NO_BUFFER,
-        out_port: ports::NONE,
-        flags: 0,
-        actions: output(alloc, port)?,
-    }))
-}
-
-/// The packet out by the port.
-fn packet_to(
-    alloc: Global,
-    in_port: PortNo,
-    port: PortNo,
-    data: &[u8],
-) -> Result<Message, AllocError> {
-    Ok(Message::PacketOut(PacketOut {
-        buffer_id: flows::NO_BUFFER,
-        in_port,
-        actions: output(alloc, port)?,
-        payload: ByteList::from_slice(alloc, data)?,
-    }))
+    /// Handles an event: gives all frames for it, of which Done with a checkpoint is the last.
+    ///
+    /// Where memory runs out, what was learned may have changed.
+    pub fn react(&mut self, event: &Event) -> Result<Vec<AppFrame>, AllocError>
+        ensures frames { IfOk result (λ frames. frames.items ≡ answers_to event.now self.old) }
+        ensures learned { OnOk result (self.new ≡ rows_after event.now self.old) }
+    {
+        let mut frames = match packet_of(self.alloc, event)? {
+            Some(packet) => self.handle(event.dpid, &packet)?,
+            None => Vec::new(self.alloc),
+        };
+        let done = AppFrame::Done {
+            stop: false,
+            checkpoint: Some(self.checkpoint()?),
+        };
+        frames.push(done).map_err(AllocError::from)?;
+        Ok(frames)
+    }
 }

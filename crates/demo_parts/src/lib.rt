@@ -1,23 +1,25 @@
 //! Parts that a child program plays for trials: applications, which speak frames over their standard streams, and a
 //! switch, which connects to a controller.
 //!
-//! `perform` plays the part that words name. `Learn` is a learning switch: which frames it gives for an event is a
-//! function of what it has learned (`Learn::react`), and from its checkpoint it learns the same again
-//! (`Learn::checkpoint`, `Learn::restored`). All else is proved safe, and to end where its streams do.
+//! `perform` plays the part that words name. `Learn` is a learning switch: the frames that it gives for an event, and what
+//! it has learned then, are functions of the event and of what it had learned (`Learn::react`); from its checkpoint it
+//! learns the same again (`Learn::checkpoint`, `Learn::restored`). All else is proved safe, and to end where its streams
+//! do.
 #![tactic(auto)]
 
+mod checkpoint;
 mod cleaning;
 mod learn;
+mod messages;
 mod part;
-
 mod playing;
 mod saying;
 mod switch;
 mod words;
 
-pub use learn::{Learn, Station};
+pub use checkpoint::Station;
+pub use learn::Learn;
 pub use part::{Part, Step};
-
 pub use playing::play;
-pub use switch::{Arrival, play_switch};
-pub use words::perform;
+pub use switch::Arrival;
+pub use words::{perform, play_part, play_switch};

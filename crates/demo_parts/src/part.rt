@@ -1,15 +1,18 @@
 //! The parts of applications.
 
-use crate::cleaning::clean;
+use crate::cleaning::deletion;
 use crate::learn::Learn;
-use crate::saying::say;
+use crate::messages::flow_to;
+use crate::saying::{say, told};
 use app_frames::{AppFrame, Event, EventKind, HostFrame};
-use of_types::ByteList;
-use of_wire::{Envelope, Message, WireFault, decode};
+use of_types::{ByteList, Dpid};
 use std::alloc::{AllocError, Global};
 
 /// The frame of a length of 1 and the kind 9, which does not exist.
 const GARBAGE: [u8; 5] = [0, 0, 0, 1, 9];
+
+/// The address to which the torn turn makes a flow.
+const ADDRESS: [u8; 6] = [2, 0, 0, 0, 0, 9];
 
 /// An application.
 #[derive(Drop)]
@@ -22,6 +25,8 @@ pub enum Part {
     Close { has_begun: bool },
     /// It does nothing, and gives bytes that are no frame at its second event.
     Garble { has_begun: bool },
+    /// It does nothing at its first event. At its second one it adds a flow, and ends once that is answered.
+    Tear { has_begun: bool },
 }
 
 /// What an application does next.
@@ -33,17 +38,12 @@ pub enum Step {
     Ends,
 }
 
-/// The message of an event, if it is one.
-fn message_of(alloc: Global, event: &Event) -> Result<Option<Message>, AllocError> {
-    match decode(alloc, event.body.as_slice()) {
-        Ok(Envelope { message, .. }) => Ok(Some(message)),
-        Err(WireFault::NoMemory) => Err(AllocError),
-        Err(_) => Ok(None),
-    }
-}
-
 /// Says Done, with this checkpoint or none.
-fn done(alloc: Global, checkpoint: Option<ByteList>, out: &mut Vec<u8>) -> Result<(), AllocError> {
+fn say_done(
+    alloc: Global,
+    checkpoint: Option<ByteList>,
+    out: &mut Vec<u8>,
+) -> Result<(), AllocError> {
     let frame = AppFrame::Done {
         stop: false,
         checkpoint,
@@ -51,8 +51,24 @@ fn done(alloc: Global, checkpoint: Option<ByteList>, out: &mut Vec<u8>) -> Resul
     say(alloc, &frame, out)
 }
 
+/// Adds a flow to the switch.
+fn say_flow(alloc: Global, dpid: Dpid, out: &mut Vec<u8>) -> Result<(), AllocError> {
+    let flow = flow_to(alloc, ADDRESS, 1)?;
+    say(alloc, &told(alloc, dpid, &flow)?, out)
+}
+
+/// Does nothing at the first event. Tells whether it was the first.
+fn pass_first(alloc: Global, has_begun: &mut bool, out: &mut Vec<u8>) -> Result<bool, AllocError> {
+    if *has_begun {
+        return Ok(false);
+    }
+    *has_begun = true;
+    say_done(alloc, None, out)?;
+    Ok(true)
+}
+
 impl Part {
-    /// The part of this word, in its first state.
+    /// The part of this word, in its first state: `learn`, `clean`, `close` or `garble`.
     pub fn named(alloc: Global, word: &str) -> Option<Part> {
         match word {
             "learn" => Some(Part::Learn(Learn::new(alloc))),
@@ -79,7 +95,10 @@ impl Part {
                 Ok(Step::GoesOn)
             }
             HostFrame::Event { event, .. } => self.handle(alloc, event, out),
-            HostFrame::Answer(_) => Ok(Step::GoesOn),
+            HostFrame::Answer(_) => match self {
+                Part::Tear { .. } => Ok(Step::Ends),
+                _ => Ok(Step::GoesOn),
+            },
         }
     }
 
@@ -92,34 +111,31 @@ impl Part {
     ) -> Result<Step, AllocError> {
         match self {
             Part::Learn(learn) => {
-                if event.kind == EventKind::PacketIn
-                    && let Some(Message::PacketIn(packet)) = message_of(alloc, event)?
-                {
-                    learn.packet(alloc, event.dpid, &packet, out)?;
+                for frame in learn.react(event)?.iter() {
+                    say(alloc, frame, out)?;
                 }
-                done(alloc, Some(learn.checkpoint(alloc)?), out)?;
             }
             Part::Clean => {
                 if event.kind == EventKind::PortStatus
-                    && let Some(Message::PortStatus(status)) = message_of(alloc, event)?
+                    && let Some(frame) = deletion(alloc, event)?
                 {
-                    clean(alloc, event.dpid, &status, out)?;
+                    say(alloc, &frame, out)?;
                 }
-                done(alloc, Some(ByteList::new(alloc)), out)?;
+                say_done(alloc, Some(ByteList::new(alloc)), out)?;
             }
             Part::Close { has_begun } => {
-                if *has_begun {
+                if !pass_first(alloc, has_begun, out)? {
                     return Ok(Step::Ends);
                 }
-                *has_begun = true;
-                done(alloc, None, out)?;
             }
             Part::Garble { has_begun } => {
-                if *has_begun {
+                if !pass_first(alloc, has_begun, out)? {
                     out.extend_from_slice(&GARBAGE)?;
-                } else {
-                    *has_begun = true;
-                    done(alloc, None, out)?;
+                }
+            }
+            Part::Tear { has_begun } => {
+                if !pass_first(alloc, has_begun, out)? {
+                    say_flow(alloc, event.dpid, out)?;
                 }
             }
         }

@@ -1,6 +1,6 @@
 //! Plays a switch over a connection.
 
-ghost use Rattle.std.specs.Prelude.{◌≡◌, ◌<◌, ◌≤◌, ◌+◌, ◌^◌, length, OnOk};
+ghost use Rattle.std.specs.Prelude.{◌≤◌, length};
 
 use of_stream::{CutFault, Cutter};
 use of_types::limits::MOST_MESSAGE_BYTES;
@@ -106,7 +106,7 @@ impl Playing {
 }
 
 /// Connects to the controller. A refused connect is repeated.
-fn connect<R: Net>(rt: &R, port: u16) -> io::Result<R::Stream> {
+pub(crate) fn connect<R: Net>(rt: &R, port: u16) -> io::Result<R::Stream> {
     let address = SocketAddr::from((Ipv4Addr::LOCALHOST, port));
     for _ in 0..MOST_TRIES {
         match rt.connect(address) {
@@ -180,12 +180,12 @@ fn answer_all<W: Write>(
     Ok(false)
 }
 
-/// Plays switch 1, with room for 64 entries and with the ports 1 and 2, at the controller of this port of the loopback
-/// address, until the connection ends. Answers the status: 0, or 1 where there is no connection, or where something comes
-/// that is no message. Time does not pass for the switch.
-pub fn play_switch<R: Net + AllocGlobal>(rt: &R, port: u16, arrival: Arrival) -> io::Result<u8> {
-    let alloc = rt.alloc();
-    let mut stream = connect(rt, port)?;
+/// Plays switch 1 over a connection, until that ends, and answers the status.
+pub(crate) fn play_over<S: Read + Write>(
+    alloc: Global,
+    stream: &mut S,
+    arrival: Arrival,
+) -> io::Result<u8> {
     let mut playing = Playing::new(alloc, arrival)?;
     let mut cutter = Cutter::new(alloc)?;
     let mut piece = [0u8; PIECE_BYTES];
@@ -196,7 +196,7 @@ pub fn play_switch<R: Net + AllocGlobal>(rt: &R, port: u16, arrival: Arrival) ->
             Err(error) if error.kind() == ErrorKind::Interrupted => {}
             Err(_) => return Ok(WELL),
         }
-        if !answer_all(alloc, &mut playing, &mut cutter, &mut stream)? {
+        if !answer_all(alloc, &mut playing, &mut cutter, stream)? {
             return Ok(FAILED);
         }
     }

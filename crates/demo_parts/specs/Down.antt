@@ -1,5 +1,4 @@
--- When an application deletes the flows to a port. Our own choice, by the reasons and states of OpenFlow 1.0.0 (5.4.3 Port Status
--- Message, 5.2.1 Port Structures).
+-- When a port is of no use any more (OpenFlow 1.0.0, 5.4.3 Port Status Message, 5.2.1 Port Structures).
 use Rattle.std.specs.Prelude.{◌==◌, Bool, not, ◌||◌, ◌&&◌, bit_and}
 use Rattle.of_wire.specs.declared.bodies.PortStatus.{PortStatus}
 

@@ -1,0 +1,78 @@
+//! The messages of a learning switch.
+
+ghost use Rattle.std.specs.Prelude.{◌≡◌, ◌≤◌, ◌+◌, length, IfOk};
+ghost use Rattle.of_wire.specs.Spelling.{message_size};
+ghost use Rattle.of_match.specs.Fields.{bytes_of, any_fields};
+ghost use Rattle.of_match.specs.Match.{match_of};
+ghost use Rattle.demo_parts.specs.Learn.{output, flow_to, packet_to};
+
+use of_action::{Action, ActionList};
+use of_match::{Fields, Match};
+use of_types::{ByteList, PortNo, flows, ports};
+use of_wire::{FlowMod, Message, PacketIn, PacketOut};
+use std::alloc::{AllocError, Global};
+
+/// The priority of the flows.
+const PRIORITY: u16 = 1_000;
+
+/// After how many seconds without a packet a flow goes.
+const IDLE_SECONDS: u16 = 60;
+
+/// The one action: out by the port.
+fn output(alloc: Global, port: PortNo) -> Result<ActionList, AllocError>
+    ensures { IfOk result (λ actions. actions ≡ output port) }
+{
+    let mut actions = Vec::new(alloc);
+    actions
+        .push(Action::Output { port, max_len: 0 })
+        .map_err(AllocError::from)?;
+    Ok(ActionList::from_vec(actions))
+}
+
+/// The match of the packets to the address.
+fn match_to(address: [u8; 6]) -> Match
+    ensures { result ≡ match_of (bytes_of (record any_fields { dl_dst = Some address })) }
+{
+    Match::new(&Fields {
+        dl_dst: Some(address),
+        ..Fields::ANY
+    })
+}
+
+/// The flow to the address by the port.
+#[tactic(auto, unfolding(crate::specs::Learn::flow_to, of_wire::specs::Spelling::message_size))]
+pub(crate) fn flow_to(alloc: Global, address: [u8; 6], port: PortNo) -> Result<Message, AllocError>
+    ensures value { IfOk result (λ message. message ≡ flow_to address port) }
+    ensures size { IfOk result (λ message. message_size message ≡ 80) }
+{
+    Ok(Message::FlowMod(FlowMod {
+        matching: match_to(address),
+        cookie: 0,
+        command: flows::ADD,
+        idle: IDLE_SECONDS,
+        hard: 0,
+        priority: PRIORITY,
+        buffer_id: flows::NO_BUFFER,
+        out_port: ports::NONE,
+        flags: 0,
+        actions: output(alloc, port)?,
+    }))
+}
+
+/// The packet, out by the port.
+#[tactic(auto, unfolding(crate::specs::Learn::packet_to, of_wire::specs::Spelling::message_size))]
+pub(crate) fn packet_to(
+    alloc: Global,
+    packet: &PacketIn,
+    port: PortNo,
+) -> Result<Message, AllocError>
+    ensures value { IfOk result (λ message. message ≡ packet_to packet.now port) }
+    ensures size { IfOk result (λ message. message_size message ≡ 24 + length packet.now.payload) }
+{
+    Ok(Message::PacketOut(PacketOut {
+        buffer_id: flows::NO_BUFFER,
+        in_port: packet.in_port,
+        actions: output(alloc, port)?,
+        payload: ByteList::from_slice(alloc, packet.payload.as_slice())?,
+    }))
+}
