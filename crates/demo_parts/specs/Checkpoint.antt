@@ -1,7 +1,7 @@
 -- The checkpoint of a learning switch: its rows, 16 bytes each. Our own choice.
 --
 --     switch u64 | address 6 | port u16
-use Rattle.std.specs.Prelude.{ℕ, suc, ◌==◌, ◌+◌, ◌/◌, ◌%◌, Bool, true, false, ◌&&◌, List, [], ◌∷◌, ◌++◌, length, take, drop, Option, Some, None, nat_le, if◌then◌else◌}
+use Rattle.std.specs.Prelude.{ℕ, zero, suc, ◌==◌, ◌+◌, ◌/◌, ◌%◌, Bool, true, false, ◌&&◌, List, [], ◌∷◌, ◌++◌, length, take, drop, Option, Some, None, nat_le, if◌then◌else◌}
 use Rattle.std.specs.List.{flat_map}
 use Rattle.std.specs.Ordering.{nat_cmp, is_lt}
 use Rattle.std.specs.Cmp.Lexicographic.{slice_cmp}
@@ -20,7 +20,7 @@ checkpoint_of rows = flat_map row_bytes rows
 
 -- the first rows of some bytes
 abbrev pub rows_in : ℕ → List ℕ → Rows
-rows_in 0 bytes = []
+rows_in zero bytes = []
 rows_in (suc n) bytes = (take 14 bytes, number_at 2 14 bytes) ∷ rows_in n (drop 16 bytes)
 
 abbrev pub is_below : Option (List ℕ) → List ℕ → Bool

@@ -1,8 +1,8 @@
 //! What was learned, as bytes.
 
-ghost use Rattle.std.specs.Prelude.{◌≡◌, ◌≤◌, ◌*◌, ◌++◌, length, take, IfOk, OnOk, Some, None};
+ghost use Rattle.std.specs.Prelude.{◌≡◌, ◌≤◌, ◌*◌, [], length, take, None, IfOk};
 ghost use Rattle.of_types.specs.Fields.{number_at, number_bytes};
-ghost use Rattle.demo_parts.specs.Checkpoint.{row_bytes, checkpoint_of, is_below, restored};
+ghost use Rattle.demo_parts.specs.Checkpoint.{row_bytes, checkpoint_of, is_below, is_ascending, rows_in, with_rows, restored};
 
 use of_types::{ByteList, PortNo, get_array, get_u16, put_array, put_u16};
 use std::alloc::{AllocError, Global};
@@ -43,38 +43,66 @@ fn is_below(last: Option<Station>, station: Station) -> bool
     ensures { result ≡ is_below last station }
 {
     match last {
-        Some(last) => last < station,
+        Some(last) => last.cmp(&station).is_lt(),
         None => true,
     }
 }
 
-/// The rows of a checkpoint, if it has that form: at most 65,536 whole rows that ascend.
-fn rows_of(alloc: Global, checkpoint: &[u8]) -> Result<Option<Rows>, AllocError> {
-    let count = checkpoint.len() / ROW_BYTES;
-    if checkpoint.len() % ROW_BYTES != 0 || count > MOST_ROWS {
-        return Ok(None);
-    }
-    let mut rows = BTreeMap::new(alloc);
+/// Whether each station comes behind the one before it.
+fn is_ascending(rows: &[(Station, PortNo)]) -> bool
+    ensures { result ≡ is_ascending None rows.now }
+{
     let mut last = None;
-    for row in 0..count {
-        let at = row * ROW_BYTES;
-        let (station, port) = row_of(&checkpoint[at..at + ROW_BYTES]);
-        if !is_below(last, station) {
-            return Ok(None);
+    for row in rows {
+        if !is_below(last, row.0) {
+            return false;
         }
-        last = Some(station);
-        rows.insert(station, port).map_err(AllocError::from)?;
+        last = Some(row.0);
     }
-    Ok(Some(rows))
+    true
 }
 
-/// The rows of a checkpoint; none, if it has not its form.
+/// So many rows, one after the other.
+fn rows_from(
+    alloc: Global,
+    bytes: &[u8],
+    count: usize,
+) -> Result<Vec<(Station, PortNo)>, AllocError>
+    requires { 16 * count ≤ length bytes.now }
+    ensures { IfOk result (λ rows. rows.items ≡ rows_in count bytes.now) }
+{
+    let mut rows = Vec::with_capacity(alloc, count)?;
+    for i in 0..count {
+        rows.push(row_of(&bytes[ROW_BYTES * i..]))?;
+    }
+    Ok(rows)
+}
+
+/// A map of the rows.
+fn collected(alloc: Global, rows: &[(Station, PortNo)]) -> Result<Rows, AllocError>
+    ensures { IfOk result (λ map. map.entries ≡ with_rows [] rows.now) }
+{
+    let mut map = BTreeMap::new(alloc);
+    for row in rows {
+        map.insert(row.0, row.1)?;
+    }
+    Ok(map)
+}
+
+/// The rows of a checkpoint; none, if it has not its form: at most 65,536 whole rows that ascend.
+#[tactic(auto, unfolding(crate::specs::Checkpoint::restored))]
 pub(crate) fn restore(alloc: Global, checkpoint: &[u8]) -> Result<Rows, AllocError>
     ensures { IfOk result (λ rows. rows.entries ≡ restored checkpoint.now) }
 {
-    match rows_of(alloc, checkpoint)? {
-        Some(rows) => Ok(rows),
-        None => Ok(BTreeMap::new(alloc)),
+    let count = checkpoint.len() / ROW_BYTES;
+    if checkpoint.len() % ROW_BYTES != 0 || count > MOST_ROWS {
+        return Ok(BTreeMap::new(alloc));
+    }
+    let rows = rows_from(alloc, checkpoint, count)?;
+    if is_ascending(&rows) {
+        collected(alloc, &rows)
+    } else {
+        Ok(BTreeMap::new(alloc))
     }
 }
 

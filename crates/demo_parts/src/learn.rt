@@ -1,15 +1,14 @@
 //! A learning switch: it learns by which port each address is reached.
 
-ghost use Rattle.std.specs.Prelude.{◌≡◌, ◌≤◌, ◌++◌, length, [], IfOk, OnOk, OnErr};
+ghost use Rattle.std.specs.Prelude.{◌≡◌, ◌≤◌, ◌++◌, length, [], IsTrue, IfOk, OnOk, OnErr};
 ghost use Rattle.of_types.specs.Fields.{piece};
-ghost use Rattle.demo_parts.specs.Learn.{station, port_at, with_row, is_taken, packet_of, rows_after, rows_after_packet, frames_for_packet, sent_on};
+ghost use Rattle.demo_parts.specs.Learn.{station, port_at, with_row, is_taken, source, destination, packet_of, rows_after, rows_after_packet, frames_for_packet, sent_on};
 ghost use Rattle.demo_parts.specs.Checkpoint.{checkpoint_of, restored, answers_to};
 
 use crate::checkpoint::{MOST_ROWS, Rows, Station, checkpoint, restore};
-use crate::messages::{flow_to, packet_to};
-use crate::saying::told;
+use crate::messages::send_on;
 use app_frames::{AppFrame, Event, EventKind};
-use of_types::{ByteList, Dpid, PortNo, get_array, ports, put_array, put_u64};
+use of_types::{ByteList, Dpid, PortNo, get_array, put_array, put_u64};
 use of_wire::{Message, PacketIn, WireFault, decode};
 use std::alloc::{AllocError, Global};
 use std::collections::BTreeMap;
@@ -49,7 +48,9 @@ fn station(dpid: Dpid, address: [u8; 6]) -> Station
 /// Whether the packet is looked at: it is there as a whole, with an Ethernet header, and fits a PACKET_OUT.
 #[tactic(auto, unfolding(crate::specs::Learn::is_taken))]
 fn is_taken(packet: &PacketIn) -> bool
-    ensures { result ≡ is_taken packet.now }
+    ensures value { result ≡ is_taken packet.now }
+    ensures least { IsTrue result → 14 ≤ length packet.now.payload }
+    ensures most { IsTrue result → length packet.now.payload ≤ 65511 }
 {
     let size = packet.payload.len();
     packet.total_len as usize <= size && HEADER_BYTES <= size && size <= MOST_DATA
@@ -119,54 +120,33 @@ impl Learn {
         self.rows.get(&station).copied()
     }
 
-    /// The frames that send a packet on, by this port where it is known.
-    fn send_on(
-        &self,
-        dpid: Dpid,
-        packet: &PacketIn,
-        port: Option<PortNo>,
-    ) -> Result<Vec<AppFrame>, AllocError>
+    /// Learns the source of a packet that is looked at, and sends the packet on.
+    fn take(&mut self, dpid: Dpid, packet: &PacketIn) -> Result<Vec<AppFrame>, AllocError>
         requires least { 14 ≤ length packet.now.payload }
         requires most { length packet.now.payload ≤ 65511 }
-        ensures { IfOk result (λ frames. frames.items ≡ sent_on dpid packet.now port) }
+        ensures frames { IfOk result (λ frames. frames.items
+            ≡ sent_on dpid packet.now (port_at (destination dpid packet.now) (with_row (source dpid packet.now) packet.now.in_port self.old))) }
+        ensures rows { OnOk result (self.new ≡ with_row (source dpid packet.now) packet.now.in_port self.old) }
     {
-        let mut frames = Vec::new(self.alloc);
-        match port {
-            Some(port) if port != packet.in_port => {
-                let address = get_array(packet.payload.as_slice(), 0);
-                let flow = flow_to(self.alloc, address, port)?;
-                frames
-                    .push(told(self.alloc, dpid, &flow)?)
-                    .map_err(AllocError::from)?;
-                let out = packet_to(self.alloc, packet, port)?;
-                frames
-                    .push(told(self.alloc, dpid, &out)?)
-                    .map_err(AllocError::from)?;
-            }
-            _ => {
-                let out = packet_to(self.alloc, packet, ports::FLOOD)?;
-                frames
-                    .push(told(self.alloc, dpid, &out)?)
-                    .map_err(AllocError::from)?;
-            }
-        }
-        Ok(frames)
-    }
-
-    /// Handles a packet: learns its source, and sends it on.
-    fn handle(&mut self, dpid: Dpid, packet: &PacketIn) -> Result<Vec<AppFrame>, AllocError>
-        ensures frames { IfOk result (λ frames. frames.items ≡ frames_for_packet dpid packet.now self.old) }
-        ensures rows { OnOk result (self.new ≡ rows_after_packet dpid packet.now self.old) }
-    {
-        if !is_taken(packet) {
-            return Ok(Vec::new(self.alloc));
-        }
         let data = packet.payload.as_slice();
         let source = station(dpid, get_array(data, 6));
         let destination = station(dpid, get_array(data, 0));
         self.learn(source, packet.in_port)?;
-        let port = self.port_of(destination);
-        self.send_on(dpid, packet, port)
+        let known = self.port_of(destination);
+        send_on(self.alloc, dpid, packet, known)
+    }
+
+    /// Handles a packet: learns its source, and sends it on, if it is looked at.
+    #[tactic(auto, unfolding(crate::specs::Learn::rows_after_packet, crate::specs::Learn::frames_for_packet))]
+    fn handle(&mut self, dpid: Dpid, packet: &PacketIn) -> Result<Vec<AppFrame>, AllocError>
+        ensures frames { IfOk result (λ frames. frames.items ≡ frames_for_packet dpid packet.now self.old) }
+        ensures rows { OnOk result (self.new ≡ rows_after_packet dpid packet.now self.old) }
+    {
+        if is_taken(packet) {
+            self.take(dpid, packet)
+        } else {
+            Ok(Vec::new(self.alloc))
+        }
     }
 
     /// Handles an event: gives all frames for it, of which Done with a checkpoint is the last.

@@ -1,14 +1,17 @@
-//! The messages of a learning switch.
+//! The messages of a learning switch, and the frames that they stand in.
 
-ghost use Rattle.std.specs.Prelude.{◌≡◌, ◌≤◌, ◌+◌, length, IfOk};
+ghost use Rattle.std.specs.Prelude.{◌≡◌, ◌==◌, ◌≤◌, ◌+◌, [], ◌∷◌, length, not, IfOk};
 ghost use Rattle.of_wire.specs.Spelling.{message_size};
 ghost use Rattle.of_match.specs.Fields.{bytes_of, any_fields};
 ghost use Rattle.of_match.specs.Match.{match_of};
-ghost use Rattle.demo_parts.specs.Learn.{output, flow_to, packet_to};
+ghost use Rattle.demo_parts.specs.Learn.{output, flow_to, packet_to, told, sent_on};
+ghost use Rattle.of_types.specs.Fields.{piece};
 
+use crate::saying::told;
+use app_frames::AppFrame;
 use of_action::{Action, ActionList};
 use of_match::{Fields, Match};
-use of_types::{ByteList, PortNo, flows, ports};
+use of_types::{ByteList, Dpid, PortNo, flows, get_array, ports};
 use of_wire::{FlowMod, Message, PacketIn, PacketOut};
 use std::alloc::{AllocError, Global};
 
@@ -75,4 +78,58 @@ pub(crate) fn packet_to(
         actions: output(alloc, port)?,
         payload: ByteList::from_slice(alloc, packet.payload.as_slice())?,
     }))
+}
+
+/// The frames that send a packet out by all ports.
+fn flood(alloc: Global, dpid: Dpid, packet: &PacketIn) -> Result<Vec<AppFrame>, AllocError>
+    requires { length packet.now.payload ≤ 65511 }
+    ensures { IfOk result (λ frames. frames.items ≡ told dpid (packet_to packet.now 0xfffb) ∷ []) }
+{
+    let out = packet_to(alloc, packet, ports::FLOOD)?;
+    let mut frames = Vec::new(alloc);
+    frames.push(told(alloc, dpid, &out)?)?;
+    Ok(frames)
+}
+
+/// The frames that add a flow to the destination of a packet by the port, and send the packet out there.
+fn direct(
+    alloc: Global,
+    dpid: Dpid,
+    packet: &PacketIn,
+    port: PortNo,
+) -> Result<Vec<AppFrame>, AllocError>
+    requires least { 14 ≤ length packet.now.payload }
+    requires most { length packet.now.payload ≤ 65511 }
+    ensures { IfOk result (λ frames. frames.items
+        ≡ told dpid (flow_to (piece 6 0 packet.now.payload) port) ∷ told dpid (packet_to packet.now port) ∷ []) }
+{
+    let flow = flow_to(alloc, get_array(packet.payload.as_slice(), 0), port)?;
+    let out = packet_to(alloc, packet, port)?;
+    let mut frames = Vec::new(alloc);
+    frames.push(told(alloc, dpid, &flow)?)?;
+    frames.push(told(alloc, dpid, &out)?)?;
+    Ok(frames)
+}
+
+/// The frames that send a packet on: by the port that is known, where that is another one than it came by; else by all.
+pub(crate) fn send_on(
+    alloc: Global,
+    dpid: Dpid,
+    packet: &PacketIn,
+    known: Option<PortNo>,
+) -> Result<Vec<AppFrame>, AllocError>
+    requires least { 14 ≤ length packet.now.payload }
+    requires most { length packet.now.payload ≤ 65511 }
+    ensures { IfOk result (λ frames. frames.items ≡ sent_on dpid packet.now known) }
+{
+    match known {
+        Some(port) => {
+            if port == packet.in_port {
+                flood(alloc, dpid, packet)
+            } else {
+                direct(alloc, dpid, packet, port)
+            }
+        }
+        None => flood(alloc, dpid, packet),
+    }
 }

@@ -27,8 +27,7 @@ pub(crate) fn say(alloc: Global, frame: &AppFrame, out: &mut Vec<u8>) -> Result<
 /// The frame of a message for the switch.
 pub(crate) fn told(alloc: Global, dpid: Dpid, message: &Message) -> Result<AppFrame, AllocError>
     requires { message_size message.now ≤ 65535 }
-    ensures value { IfOk result (λ frame. frame ≡ told dpid message.now) }
-    ensures fits { IfOk result AppFits }
+    ensures { IfOk result (λ frame. frame ≡ told dpid message.now) }
 {
     Ok(AppFrame::Message(dpid, encode(alloc, XID, message)?))
 }
