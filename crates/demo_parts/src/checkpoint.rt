@@ -107,6 +107,7 @@ pub(crate) fn restore(alloc: Global, checkpoint: &[u8]) -> Result<Rows, AllocErr
 }
 
 /// All rows, ascending.
+#[tactic(auto, unfolding(crate::specs::Checkpoint::checkpoint_of))]
 pub(crate) fn checkpoint(alloc: Global, rows: &Rows) -> Result<ByteList, AllocError>
     ensures { IfOk result (λ bytes. bytes ≡ checkpoint_of rows.now.entries) }
 {

@@ -80,15 +80,55 @@ pub(crate) fn packet_to(
     }))
 }
 
+/// The frame that sends the packet out by the port.
+fn packet_frame(
+    alloc: Global,
+    dpid: Dpid,
+    packet: &PacketIn,
+    port: PortNo,
+) -> Result<AppFrame, AllocError>
+    requires { length packet.now.payload ≤ 65511 }
+    ensures { IfOk result (λ frame. frame ≡ told dpid (packet_to packet.now port)) }
+{
+    let message = packet_to(alloc, packet, port)?;
+    told(alloc, dpid, &message)
+}
+
+/// The frame that adds a flow to the address by the port.
+pub(crate) fn flow_frame(
+    alloc: Global,
+    dpid: Dpid,
+    address: [u8; 6],
+    port: PortNo,
+) -> Result<AppFrame, AllocError>
+    ensures { IfOk result (λ frame. frame ≡ told dpid (flow_to address port)) }
+{
+    let message = flow_to(alloc, address, port)?;
+    told(alloc, dpid, &message)
+}
+
+fn one(alloc: Global, frame: AppFrame) -> Result<Vec<AppFrame>, AllocError>
+    ensures { IfOk result (λ frames. frames.items ≡ frame ∷ []) }
+{
+    let mut frames = Vec::new(alloc);
+    frames.push(frame)?;
+    Ok(frames)
+}
+
+fn two(alloc: Global, first: AppFrame, second: AppFrame) -> Result<Vec<AppFrame>, AllocError>
+    ensures { IfOk result (λ frames. frames.items ≡ first ∷ second ∷ []) }
+{
+    let mut frames = one(alloc, first)?;
+    frames.push(second)?;
+    Ok(frames)
+}
+
 /// The frames that send a packet out by all ports.
 fn flood(alloc: Global, dpid: Dpid, packet: &PacketIn) -> Result<Vec<AppFrame>, AllocError>
     requires { length packet.now.payload ≤ 65511 }
     ensures { IfOk result (λ frames. frames.items ≡ told dpid (packet_to packet.now 0xfffb) ∷ []) }
 {
-    let out = packet_to(alloc, packet, ports::FLOOD)?;
-    let mut frames = Vec::new(alloc);
-    frames.push(told(alloc, dpid, &out)?)?;
-    Ok(frames)
+    one(alloc, packet_frame(alloc, dpid, packet, ports::FLOOD)?)
 }
 
 /// The frames that add a flow to the destination of a packet by the port, and send the packet out there.
@@ -103,12 +143,10 @@ fn direct(
     ensures { IfOk result (λ frames. frames.items
         ≡ told dpid (flow_to (piece 6 0 packet.now.payload) port) ∷ told dpid (packet_to packet.now port) ∷ []) }
 {
-    let flow = flow_to(alloc, get_array(packet.payload.as_slice(), 0), port)?;
-    let out = packet_to(alloc, packet, port)?;
-    let mut frames = Vec::new(alloc);
-    frames.push(told(alloc, dpid, &flow)?)?;
-    frames.push(told(alloc, dpid, &out)?)?;
-    Ok(frames)
+    let address = get_array(packet.payload.as_slice(), 0);
+    let flow = flow_frame(alloc, dpid, address, port)?;
+    let out = packet_frame(alloc, dpid, packet, port)?;
+    two(alloc, flow, out)
 }
 
 /// The frames that send a packet on: by the port that is known, where that is another one than it came by; else by all.

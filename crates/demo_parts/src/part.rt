@@ -2,8 +2,8 @@
 
 use crate::cleaning::deletion;
 use crate::learn::Learn;
-use crate::messages::flow_to;
-use crate::saying::{say, told};
+use crate::messages::flow_frame;
+use crate::saying::say;
 use app_frames::{AppFrame, Event, EventKind, HostFrame};
 use of_types::{ByteList, Dpid};
 use std::alloc::{AllocError, Global};
@@ -53,8 +53,7 @@ fn say_done(
 
 /// Adds a flow to the switch.
 fn say_flow(alloc: Global, dpid: Dpid, out: &mut Vec<u8>) -> Result<(), AllocError> {
-    let flow = flow_to(alloc, ADDRESS, 1)?;
-    say(alloc, &told(alloc, dpid, &flow)?, out)
+    say(alloc, &flow_frame(alloc, dpid, ADDRESS, 1)?, out)
 }
 
 /// Does nothing at the first event. Tells whether it was the first.

@@ -2,9 +2,9 @@
 
 use crate::steady::steady;
 use crate::trouble::Trouble;
-use event_dispatch::{Served, serve};
+use event_dispatch::{MOST_ROUNDS, Served, serve};
 use lego_io::MemSink;
-use live_stage::{Bounded, Bounds, Player, SteadyClock, open_somewhere, own_words};
+use live_stage::{Bounded, Bounds, Player, SteadyClock, free_port, own_words};
 use live_world::LiveWorld;
 use outside::AllowAll;
 use std::net::Net;
@@ -16,6 +16,9 @@ const ROOM: usize = 65_536;
 
 /// How many seconds a trial has.
 const MOST_SECONDS: u64 = 20;
+
+/// How many ports are tried.
+const MOST_PORTS: u32 = 16;
 
 /// A trial.
 #[derive(Clone, Copy, Debug)]
@@ -52,29 +55,66 @@ pub(crate) const SCENES: [Scene; 4] = [
     },
 ];
 
+/// What a run left behind.
+#[derive(Drop)]
+struct Outcome {
+    served: Served,
+    packets: u32,
+    sink: MemSink,
+}
+
+/// Runs the engine at a port, with a new switch child and the application.
+fn run_at<R: Net + Processes<Started = SystemProcess> + Env + Clock + AllocGlobal>(
+    rt: &R,
+    scene: &Scene,
+    port: u16,
+) -> Result<Outcome, Trouble> {
+    let alloc = rt.alloc();
+    let live = LiveWorld::new(rt, alloc, SteadyClock::new(rt)?)?;
+    let bounds = Bounds {
+        packets: scene.packets,
+        seconds: MOST_SECONDS,
+    };
+    let mut world = Bounded::new(live, SteadyClock::new(rt)?, bounds);
+    let mut sink = MemSink::new(alloc, ROOM, &[])?;
+    let words = own_words(alloc, scene.app)?;
+    let word = format!(in alloc; "{port}")?;
+    let _switch = Player::start(rt, alloc, &[scene.switch, word.as_str()])?;
+    let served = serve(
+        alloc, words, &mut world, &AllowAll, &mut sink, port, MOST_ROUNDS,
+    );
+    Ok(Outcome {
+        served,
+        packets: world.packets(),
+        sink,
+    })
+}
+
+/// Runs the trial at a free port, and at another one where that was taken meanwhile.
+fn run_somewhere<R: Net + Processes<Started = SystemProcess> + Env + Clock + AllocGlobal>(
+    rt: &R,
+    scene: &Scene,
+) -> Result<Outcome, Trouble> {
+    for _ in 0..MOST_PORTS {
+        let outcome = run_at(rt, scene, free_port(rt)?)?;
+        if !matches!(outcome.served, Served::Shut) {
+            return Ok(outcome);
+        }
+    }
+    Err(Trouble::NoPort)
+}
+
 /// Runs the trial, and answers its report without what may differ from run to run.
 pub(crate) fn show<R: Net + Processes<Started = SystemProcess> + Env + Clock + AllocGlobal>(
     rt: &R,
     scene: &Scene,
 ) -> Result<String, Trouble> {
-    let alloc = rt.alloc();
-    let mut live = LiveWorld::new(rt, alloc, SteadyClock::new(rt)?)?;
-    let port = open_somewhere(rt, &mut live)?;
-    let port = format!(in alloc; "{port}")?;
-    let _switch = Player::start(rt, alloc, &[scene.switch, port.as_str()])?;
-    let bounds = Bounds {
-        packets: scene.packets,
-        seconds: MOST_SECONDS,
-    };
-    let words = own_words(alloc, scene.app)?;
-    let mut world = Bounded::new(live, SteadyClock::new(rt)?, words, bounds);
-    let mut sink = MemSink::new(alloc, ROOM, &[])?;
-    let served = serve(alloc, &mut world, &AllowAll, &mut sink);
-    if !matches!(served, Served::Ended { .. }) {
-        return Err(Trouble::Ended(served));
+    let outcome = run_somewhere(rt, scene)?;
+    if !matches!(outcome.served, Served::Ended { .. }) {
+        return Err(Trouble::Ended(outcome.served));
     }
-    if world.packets() < scene.packets {
-        return Err(Trouble::Late(world.packets()));
+    if outcome.packets < scene.packets {
+        return Err(Trouble::Late(outcome.packets));
     }
-    Ok(steady(alloc, sink.bytes())?)
+    Ok(steady(rt.alloc(), outcome.sink.bytes())?)
 }

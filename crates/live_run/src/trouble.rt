@@ -17,6 +17,9 @@ pub enum Trouble {
     /// The run ended otherwise than by its end.
     #[error("the run ended so: {0:?}")]
     Ended(Served),
+    /// Each port that was free was taken meanwhile.
+    #[error("no port could be opened")]
+    NoPort,
     /// Too few packets came in time.
     #[error("only {0} packets came in time")]
     Late(u32),

@@ -20,13 +20,11 @@ pub struct Bounds {
     pub seconds: u64,
 }
 
-/// A live world, open already, that is over where nothing waits and so many packets came from its switches, or so many
-/// seconds passed. It starts each application by its own words.
+/// A live world that is over where nothing waits and so many packets came from its switches, or so many seconds passed.
 #[derive(Drop)]
 pub struct Bounded<R, C> {
     world: LiveWorld<R, C>,
     clock: C,
-    words: Vec<String>,
     bounds: Bounds,
     packets: u32,
     rests: bool,
@@ -36,17 +34,11 @@ impl<
     R: Net + Processes<Started = SystemProcess> + Env + AllocGlobal + Drop,
     C: Clock + Drop,
 > Bounded<R, C> {
-    /// Bounds an open world, whose applications are started by these words.
-    pub fn new(
-        world: LiveWorld<R, C>,
-        clock: C,
-        words: Vec<String>,
-        bounds: Bounds,
-    ) -> Bounded<R, C> {
+    /// Bounds the world; the clock tells the seconds.
+    pub fn new(world: LiveWorld<R, C>, clock: C, bounds: Bounds) -> Bounded<R, C> {
         Bounded {
             world,
             clock,
-            words,
             bounds,
             packets: 0,
             rests: false,
@@ -86,8 +78,8 @@ impl<
 
     ghost seen = { λ s. ⟦<LiveWorld<R, C> as World>⟧.seen s.world };
 
-    fn open(&mut self, _port: u16) -> Result<(), OpenFault> {
-        Ok(())
+    fn open(&mut self, port: u16) -> Result<(), OpenFault> {
+        self.world.open(port)
     }
 
     fn next(&mut self, buf: &mut [u8]) -> Result<Item, NextFault> {
@@ -102,8 +94,8 @@ impl<
         came
     }
 
-    fn start(&mut self, app: u32, _words: &[String]) -> Result<(), StartFault> {
-        self.world.start(app, &self.words)
+    fn start(&mut self, app: u32, words: &[String]) -> Result<(), StartFault> {
+        self.world.start(app, words)
     }
 
     fn give(&mut self, app: u32, bytes: &[u8]) -> Result<(), GiveFault> {

@@ -6,11 +6,11 @@
 #![tactic(auto)]
 
 mod bounded;
-mod opening;
 mod player;
+mod ports;
 mod steady_clock;
 
 pub use bounded::{Bounded, Bounds};
-pub use opening::open_somewhere;
 pub use player::{OWN_PROGRAM, Player, own_words};
+pub use ports::free_port;
 pub use steady_clock::SteadyClock;
