@@ -1,7 +1,7 @@
 -- A learning switch: what it learns, and what it gives for an event. Which packets it looks at, how much it learns, and the numbers in
 -- its messages are our own choice; the messages are those of OpenFlow 1.0.0 (5.3.3 Modify State Messages, 5.3.6 Send Packet Message,
 -- 5.4.1 Packet-In Message).
-use Rattle.std.specs.Prelude.{ℕ, ◌==◌, Bool, not, ◌&&◌, ◌||◌, List, [], ◌∷◌, ◌++◌, length, take, drop, Option, Some, None, is_some, Result, Ok, Err, nat_lt, nat_le, if◌then◌else◌}
+use Rattle.std.specs.Prelude.{ℕ, ◌==◌, Bool, ◌&&◌, ◌||◌, List, [], ◌∷◌, ◌++◌, length, Option, Some, None, is_some, Result, Ok, Err, nat_lt, nat_le, if◌then◌else◌}
 use Rattle.std.specs.Ordering.{nat_cmp}
 use Rattle.std.specs.Cmp.Lexicographic.{slice_cmp}
 use Rattle.std.specs.BTreeMap.{insert_entry, is_at}
