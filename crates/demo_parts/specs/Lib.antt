@@ -1,3 +1,4 @@
 pub mod Down
 pub mod Learn
 pub mod Checkpoint
+pub mod laws

@@ -9,6 +9,7 @@
 
 mod checkpoint;
 mod cleaning;
+mod laws;
 mod learn;
 mod messages;
 mod part;
@@ -18,6 +19,7 @@ mod switch;
 mod words;
 
 pub use checkpoint::Station;
+pub use laws::checkpoints_are_read_again;
 pub use learn::Learn;
 pub use part::{Part, Step};
 pub use playing::play;

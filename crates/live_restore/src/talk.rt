@@ -7,6 +7,8 @@ use app_frames::{AppFrame, AppFrameError, HostFrame, decode_app, encode_host};
 use live_world::Clock;
 use outside::{Taken, World};
 use std::alloc::Global;
+use std::fmt;
+use std::fmt::{Display, Formatter};
 
 /// The index of the application.
 pub(crate) const APP: u32 = 0;
@@ -22,7 +24,7 @@ const MOST_SECONDS: u64 = 20;
 
 /// A frame that is awaited.
 #[derive(Clone, Copy, Debug, PartialEq, Eq)]
-pub(crate) enum Awaited {
+pub enum Awaited {
     Ready,
     Done,
 }
@@ -34,11 +36,13 @@ impl Awaited {
             Awaited::Done => matches!(frame, AppFrame::Done { .. }),
         }
     }
+}
 
-    fn name(self) -> &'static str {
+impl Display for Awaited {
+    fn fmt<W: fmt::Write>(&self, f: &mut Formatter<W>) -> fmt::Result {
         match self {
-            Awaited::Ready => "Ready",
-            Awaited::Done => "Done",
+            Awaited::Ready => f.write_str("Ready"),
+            Awaited::Done => f.write_str("Done"),
         }
     }
 }
@@ -58,7 +62,7 @@ fn end_of(alloc: Global, bytes: &[u8], awaited: Awaited) -> Result<Option<usize>
                 }
             }
             Ok(None) => return Ok(None),
-            Err(AppFrameError::Refused(_)) => return Err(Trouble::Garbled(awaited.name())),
+            Err(AppFrameError::Refused(_)) => return Err(Trouble::Garbled(awaited)),
             Err(AppFrameError::NoMemory) => return Err(Trouble::NoMemory),
         }
     }
@@ -75,9 +79,7 @@ pub(crate) fn give<W: World>(
         return Err(Trouble::Gone);
     }
     let bytes = encode_host(alloc, frame)?;
-    world
-        .give(APP, bytes.as_slice())
-        .map_err(|_| Trouble::Gone)
+    world.give(APP, bytes.as_slice()).map_err(|_| Trouble::Gone)
 }
 
 /// Takes what the application gives, up to the awaited frame and with it. What it gave behind that is dropped.
@@ -100,10 +102,10 @@ pub(crate) fn take_until<W: World, C: Clock>(
         }
         match world.take(APP, &mut piece) {
             Ok(Taken::Some(count)) => taken.extend_from_slice(&piece[..count])?,
-            Ok(Taken::Closed) => return Err(Trouble::Closed(awaited.name())),
-            Ok(Taken::Silent) => return Err(Trouble::Silent(awaited.name())),
+            Ok(Taken::Closed) => return Err(Trouble::Closed(awaited)),
+            Ok(Taken::Silent) => return Err(Trouble::Silent(awaited)),
             Err(_) => return Err(Trouble::NoMemory),
         }
     }
-    Err(Trouble::Silent(awaited.name()))
+    Err(Trouble::Silent(awaited))
 }

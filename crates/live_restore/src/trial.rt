@@ -47,16 +47,14 @@ fn arrival(alloc: Global) -> Result<HostFrame, AllocError> {
 
 /// Starts the child `learn`, restores it, gives it the event, ends it, and answers in hex what it gave.
 pub(crate) fn try_restored<
-    R: Net + Processes<Started = SystemProcess> + Env + Clock + AllocGlobal,
->(
-    rt: &R,
-) -> Result<String, Trouble> {
+    R: Net + Processes<Started = SystemProcess> + Env + Clock + AllocGlobal + Clone + Drop,
+>(rt: &R) -> Result<String, Trouble> {
     let alloc = rt.alloc();
-    let mut clock = SteadyClock::new(rt).map_err(|_| Trouble::NoClock)?;
+    let mut clock = SteadyClock::new(rt.clone()?).map_err(|_| Trouble::NoClock)?;
     let mut world = LiveWorld::new(
-        rt,
+        rt.clone()?,
         alloc,
-        SteadyClock::new(rt).map_err(|_| Trouble::NoClock)?,
+        SteadyClock::new(rt.clone()?).map_err(|_| Trouble::NoClock)?,
     )?;
     world
         .start(APP, &own_words(alloc, "learn")?)

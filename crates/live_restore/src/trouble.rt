@@ -1,8 +1,7 @@
 //! What went wrong.
 
-
+use crate::talk::Awaited;
 use std::alloc::AllocError;
-
 use thiserror::Error;
 
 /// What went wrong in the trial.
@@ -22,13 +21,13 @@ pub enum Trouble {
     Gone,
     /// It closed its output before the frame that is awaited.
     #[error("the child closed its output before {0}")]
-    Closed(&'static str),
+    Closed(Awaited),
     /// It gave nothing for a while.
     #[error("the child was silent before {0}")]
-    Silent(&'static str),
+    Silent(Awaited),
     /// It gave bytes that are no frame.
     #[error("the child gave bytes that are no frame before {0}")]
-    Garbled(&'static str),
+    Garbled(Awaited),
 }
 
 impl From<AllocError> for Trouble {

@@ -64,24 +64,30 @@ struct Outcome {
 }
 
 /// Runs the engine at a port, with a new switch child and the application.
-fn run_at<R: Net + Processes<Started = SystemProcess> + Env + Clock + AllocGlobal>(
+fn run_at<R: Net + Processes<Started = SystemProcess> + Env + Clock + AllocGlobal + Clone + Drop>(
     rt: &R,
     scene: &Scene,
     port: u16,
 ) -> Result<Outcome, Trouble> {
     let alloc = rt.alloc();
-    let live = LiveWorld::new(rt, alloc, SteadyClock::new(rt)?)?;
+    let live = LiveWorld::new(rt.clone()?, alloc, SteadyClock::new(rt.clone()?)?)?;
     let bounds = Bounds {
         packets: scene.packets,
         seconds: MOST_SECONDS,
     };
-    let mut world = Bounded::new(live, SteadyClock::new(rt)?, bounds);
+    let mut world = Bounded::new(live, SteadyClock::new(rt.clone()?)?, bounds);
     let mut sink = MemSink::new(alloc, ROOM, &[])?;
     let words = own_words(alloc, scene.app)?;
     let word = format!(in alloc; "{port}")?;
     let _switch = Player::start(rt, alloc, &[scene.switch, word.as_str()])?;
     let served = serve(
-        alloc, words, &mut world, &AllowAll, &mut sink, port, MOST_ROUNDS,
+        alloc,
+        words,
+        &mut world,
+        &AllowAll,
+        &mut sink,
+        port,
+        MOST_ROUNDS,
     );
     Ok(Outcome {
         served,
@@ -91,10 +97,9 @@ fn run_at<R: Net + Processes<Started = SystemProcess> + Env + Clock + AllocGloba
 }
 
 /// Runs the trial at a free port, and at another one where that was taken meanwhile.
-fn run_somewhere<R: Net + Processes<Started = SystemProcess> + Env + Clock + AllocGlobal>(
-    rt: &R,
-    scene: &Scene,
-) -> Result<Outcome, Trouble> {
+fn run_somewhere<
+    R: Net + Processes<Started = SystemProcess> + Env + Clock + AllocGlobal + Clone + Drop,
+>(rt: &R, scene: &Scene) -> Result<Outcome, Trouble> {
     for _ in 0..MOST_PORTS {
         let outcome = run_at(rt, scene, free_port(rt)?)?;
         if !matches!(outcome.served, Served::Shut) {
@@ -105,10 +110,9 @@ fn run_somewhere<R: Net + Processes<Started = SystemProcess> + Env + Clock + All
 }
 
 /// Runs the trial, and answers its report without what may differ from run to run.
-pub(crate) fn show<R: Net + Processes<Started = SystemProcess> + Env + Clock + AllocGlobal>(
-    rt: &R,
-    scene: &Scene,
-) -> Result<String, Trouble> {
+pub(crate) fn show<
+    R: Net + Processes<Started = SystemProcess> + Env + Clock + AllocGlobal + Clone + Drop,
+>(rt: &R, scene: &Scene) -> Result<String, Trouble> {
     let outcome = run_somewhere(rt, scene)?;
     if !matches!(outcome.served, Served::Ended { .. }) {
         return Err(Trouble::Ended(outcome.served));

@@ -54,8 +54,7 @@ impl<
         ensures { self.new.world ≡ self.old.world }
     {
         self.rests
-            && (self.packets >= self.bounds.packets
-                || self.clock.seconds() >= self.bounds.seconds)
+            && (self.packets >= self.bounds.packets || self.clock.seconds() >= self.bounds.seconds)
     }
 
     /// Counts the message, if it is a PACKET_IN.
@@ -68,10 +67,8 @@ impl<
     }
 }
 
-impl<
-    R: Net + Processes<Started = SystemProcess> + Env + AllocGlobal + Drop,
-    C: Clock + Drop,
-> World for Bounded<R, C> {
+impl<R: Net + Processes<Started = SystemProcess> + Env + AllocGlobal + Drop, C: Clock + Drop> World
+    for Bounded<R, C> {
     ghost Tells = { ⊥ };
 
     ghost Own = { Unit {0} };

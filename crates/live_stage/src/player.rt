@@ -45,7 +45,11 @@ impl Drop for Player {
 /// The words that start the program that runs, with one more, as an application.
 pub fn own_words(alloc: Global, part: &str) -> Result<Vec<String>, AllocError> {
     let mut words = Vec::new(alloc);
-    words.push(String::from_str(alloc, OWN_PROGRAM)?).map_err(AllocError::from)?;
-    words.push(String::from_str(alloc, part)?).map_err(AllocError::from)?;
+    words
+        .push(String::from_str(alloc, OWN_PROGRAM)?)
+        .map_err(AllocError::from)?;
+    words
+        .push(String::from_str(alloc, part)?)
+        .map_err(AllocError::from)?;
     Ok(words)
 }
