@@ -26,6 +26,7 @@ fn restore(alloc: Global) -> Result<HostFrame, AllocError> {
 }
 
 /// The frame came to switch 1 by port 2.
+#[tactic(auto, unfolding(of_wire::specs::Spelling::message_size))]
 fn arrival(alloc: Global) -> Result<HostFrame, AllocError> {
     let packet = Message::PacketIn(PacketIn {
         buffer_id: flows::NO_BUFFER,
