@@ -8,8 +8,11 @@
 #![tactic(auto)]
 
 mod input;
+mod live;
+mod policy;
 mod stop;
 mod top;
+mod world;
 
 use crate::top::legosdn;
 use lego_io::{StdSink, StdSource};
