@@ -93,7 +93,7 @@ SendsNone acts = filter sends_change acts ≡ []
 -- the ERROR that refuses one of the messages before a barrier, where this act got it
 abbrev pub error_said : Heard → Option OfError
 error_said (Refused refusal) = Some refusal.error
-error_said other = None
+error_said _ = None
 
 abbrev pub error_got : Awaited → Act → Option OfError
 error_got a (Got dpid bytes) = if dpid == a.dpid then error_said (heard a bytes) else None
