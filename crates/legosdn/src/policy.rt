@@ -1,6 +1,7 @@
 //! The policy of `run`, and the program that it starts.
 
 ghost use Rattle.std.specs.Prelude.{◌≡◌, Ok, Err, map, IfOk, OnOk, IfErr, string_bytes};
+ghost use Rattle.std.specs.List.{list_all};
 ghost use Rattle.lego_io.specs.Count.{NeverFell};
 ghost use Rattle.crash_policy.specs.Policies.{app_value, policy_value};
 ghost use Rattle.legosdn.specs.Input.{is_absolute as is_absolute_in, is_plain as is_plain_in, program_of as program_of_words, program_in};
@@ -24,14 +25,28 @@ fn is_absolute(policy: Policy) -> bool
     }
 }
 
+/// Tells whether it does so for all kinds of events.
+fn are_absolute(rules: &[Policy]) -> bool
+    ensures { result ≡ list_all is_absolute_in rules.now }
+{
+    rules.iter().all(|rule| is_absolute(*rule))
+}
+
+/// Tells whether it is given all kinds of events.
+fn are_given(events: &[bool]) -> bool
+    ensures { result ≡ list_all (λ given. given) events.now }
+{
+    events.iter().all(|given| *given)
+}
+
 /// Tells whether the engine can run such an application so far.
 #[tactic(auto, unfolding(crate::specs::Input::is_plain))]
 fn is_plain(app: &AppRule) -> bool
     ensures { result ≡ is_plain_in (app_value app.now) }
 {
     app.name.as_str() == "app"
-        && app.rules.iter().all(|rule| is_absolute(*rule))
-        && app.events.iter().all(|given| *given)
+        && are_absolute(&app.rules)
+        && are_given(&app.events)
         && app.budget == 1000
 }
 

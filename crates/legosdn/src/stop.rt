@@ -159,7 +159,7 @@ fn write_usage<K: Sink>(sink: &mut K) -> Result<(), WriteFault>
 }
 
 /// Writes the line of a fault of a policy.
-#[tactic(auto, unfolding(crate::specs::Stops::policy_words, lego_model::specs::RunReport::line_of))]
+#[tactic(auto, unfolding(crate::specs::Stops::policy_words, crate::specs::Stops::fault_words, lego_model::specs::RunReport::line_of))]
 fn write_policy<K: Sink>(sink: &mut K, fault: &PolicyFault) -> Result<(), WriteFault>
     ensures all { OnOk result (K.contents sink.new ≡ append_known (K.contents sink.old) (policy_line (policy_words fault.now))) }
     ensures part { OnErr result (TookPart (K.contents sink.old) (K.contents sink.new) (policy_line (policy_words fault.now))) }

@@ -254,7 +254,7 @@ pub fn legosdn<S: Source, K: Sink, W: World>(
     ensures policy_taken { (port rounds : ℕ) → IsRun (map string_bytes words.now) port rounds → Contains (0 ∷ 5 ∷ 6 ∷ 7 ∷ 8 ∷ 9 ∷ 10 ∷ []) result
         → Taken (S.remaining source.old) (S.remaining source.new) }
     ensures refused_policy_never_runs { (port rounds : ℕ) → IsRun (map string_bytes words.now) port rounds → (line : List ℕ)
-        → IfSome (S.remaining source.old) (λ input. run_policy input ≡ Err line → Contains (3 ∷ 4 ∷ 12 ∷ []) result × (live.new ≡ live.old)) }
+        → IfSome (S.remaining source.old) (λ input. run_policy input ≡ Err line → Contains (2 ∷ 3 ∷ 4 ∷ 12 ∷ []) result × (live.new ≡ live.old)) }
     // At every status, where it tells: each application that was started is ended.
     ensures live_every_application_ended { W.Tells → (W.seen live.old).history ≡ [] → (state (W.seen live.new)).running ≡ [] }
     // The simulated world stays as it is.
