@@ -95,12 +95,12 @@ returns-in-Ok-clause-status_has_cause g c = λ is. inl refl
 
 pub returns-in-Err-clause-status_has_cause : goal.returns-in-Err-clause-status_has_cause
 returns-in-Err-clause-status_has_cause g c = λ is. inr (record {
-      stop = c.in-Err.stop;
-      status_is = c.halt.ensures.status;
-      cause = cause_then (Unit {0}) IsNoSession (g.S.Source.remaining c.args.source.now) (g.S.Source.faults c.args.source.now) (g.S.Source.faults c.run.new.source) (g.K.Sink.faults c.args.sink.now) (g.K.Sink.faults c.run.new.sink) (g.K.Sink.faults c.halt.new.sink)
+  stop = c.in-Err.stop;
+  status_is = c.halt.ensures.status;
+  cause = cause_then (Unit {0}) IsNoSession (g.S.Source.remaining c.args.source.now) (g.S.Source.faults c.args.source.now) (g.S.Source.faults c.run.new.source) (g.K.Sink.faults c.args.sink.now) (g.K.Sink.faults c.run.new.sink) (g.K.Sink.faults c.halt.new.sink)
       (seen_of c.args.sim.now) (seen_of c.run.new.sim) c.in-Err.stop c.run.ensures.never_fell c.halt.ensures.never_fell (c.in-Err.ensures.replays is).why;
-      holds = record { before = (g.K.Sink.contents c.run.new.sink); faults = (g.K.Sink.faults c.run.new.sink); never_fell = c.run.ensures.never_fell; written = c.halt.ensures.line };
-    })
+  holds = record { before = (g.K.Sink.contents c.run.new.sink); faults = (g.K.Sink.faults c.run.new.sink); never_fell = c.run.ensures.never_fell; written = c.halt.ensures.line };
+})
 
 pub returns-in-Ok-clause-live_whole_run : goal.returns-in-Ok-clause-live_whole_run
 returns-in-Ok-clause-live_whole_run g c = λ port rounds is tells zero. (c.in-Ok.ensures.serves port rounds is).runs tells
@@ -113,14 +113,14 @@ returns-in-Ok-clause-live_run_until_stop g c = λ port rounds is tells within. a
 
 pub returns-in-Err-clause-live_run_until_stop : goal.returns-in-Err-clause-live_run_until_stop
 returns-in-Err-clause-live_run_until_stop g c = λ port rounds is tells within. record {
-      stop = c.in-Err.stop;
-      status_is = c.halt.ensures.status;
-      before = (g.K.Sink.contents c.run.new.sink);
-      faults = (g.K.Sink.faults c.run.new.sink);
-      never_fell = c.run.ensures.never_fell;
-      run = (c.in-Err.ensures.serves port rounds is).runs tells;
-      written = c.halt.ensures.line;
-    }
+  stop = c.in-Err.stop;
+  status_is = c.halt.ensures.status;
+  before = (g.K.Sink.contents c.run.new.sink);
+  faults = (g.K.Sink.faults c.run.new.sink);
+  never_fell = c.run.ensures.never_fell;
+  run = (c.in-Err.ensures.serves port rounds is).runs tells;
+  written = c.halt.ensures.line;
+}
 
 pub returns-in-Ok-clause-live_no_stray_call : goal.returns-in-Ok-clause-live_no_stray_call
 returns-in-Ok-clause-live_no_stray_call g c = λ port rounds is tells. (c.in-Ok.ensures.serves port rounds is).strays tells
@@ -146,12 +146,12 @@ returns-in-Ok-clause-live_status_has_cause g c = λ port rounds is. inl refl
 
 pub returns-in-Err-clause-live_status_has_cause : goal.returns-in-Err-clause-live_status_has_cause
 returns-in-Err-clause-live_status_has_cause g c = λ port rounds is. inr (record {
-      stop = c.in-Err.stop;
-      status_is = c.halt.ensures.status;
-      cause = cause_then g.W.World.Tells IsNoPolicy (g.S.Source.remaining c.args.source.now) (g.S.Source.faults c.args.source.now) (g.S.Source.faults c.run.new.source) (g.K.Sink.faults c.args.sink.now) (g.K.Sink.faults c.run.new.sink) (g.K.Sink.faults c.halt.new.sink)
+  stop = c.in-Err.stop;
+  status_is = c.halt.ensures.status;
+  cause = cause_then g.W.World.Tells IsNoPolicy (g.S.Source.remaining c.args.source.now) (g.S.Source.faults c.args.source.now) (g.S.Source.faults c.run.new.source) (g.K.Sink.faults c.args.sink.now) (g.K.Sink.faults c.run.new.sink) (g.K.Sink.faults c.halt.new.sink)
       (g.W.World.seen c.args.live.now) (g.W.World.seen c.run.new.live) c.in-Err.stop c.run.ensures.never_fell c.halt.ensures.never_fell (c.in-Err.ensures.serves port rounds is).why;
-      holds = record { before = (g.K.Sink.contents c.run.new.sink); faults = (g.K.Sink.faults c.run.new.sink); never_fell = c.run.ensures.never_fell; written = c.halt.ensures.line };
-    })
+  holds = record { before = (g.K.Sink.contents c.run.new.sink); faults = (g.K.Sink.faults c.run.new.sink); never_fell = c.run.ensures.never_fell; written = c.halt.ensures.line };
+})
 
 pub returns-in-Err-clause-policy_refused : goal.returns-in-Err-clause-policy_refused
 returns-in-Err-clause-policy_refused g c = λ port rounds is three.
@@ -180,9 +180,16 @@ returns-in-Ok-clause-no_command g c = λ none. absurd (c.in-Ok.ensures.no_comman
 
 pub returns-in-Err-clause-no_command : goal.returns-in-Err-clause-no_command
 returns-in-Err-clause-no_command g c = λ none.
-    let still = c.in-Err.ensures.no_command none in
-    (subst (λ (status : ℕ). Contains (2 ∷ 12 ∷ []) status) (sym c.halt.ensures.status) still.0, still.1, still.2, (c.in-Err.stop, c.halt.ensures.status,
-    subst (λ x. Wrote (g.K.Sink.contents x) (g.K.Sink.contents c.halt.new.sink) (g.K.Sink.faults x) (g.K.Sink.faults c.halt.new.sink) (stop_line c.in-Err.stop)) still.3 c.halt.ensures.line))
+    let still = c.in-Err.ensures.no_command none in (
+      subst (λ (status : ℕ). Contains (2 ∷ 12 ∷ []) status) (sym c.halt.ensures.status) still.0,
+      still.1,
+      still.2,
+      (
+        c.in-Err.stop,
+        c.halt.ensures.status,
+        subst (λ x. Wrote (g.K.Sink.contents x) (g.K.Sink.contents c.halt.new.sink) (g.K.Sink.faults x) (g.K.Sink.faults c.halt.new.sink) (stop_line c.in-Err.stop)) still.3 c.halt.ensures.line,
+      ),
+    )
 
 pub returns-in-Err-clause-source_failed : goal.returns-in-Err-clause-source_failed
 returns-in-Err-clause-source_failed g c = λ four.
@@ -204,6 +211,12 @@ returns-in-Err-clause-sink_failed g c = λ five.
 
 pub returns-in-Err-clause-world_untouched : goal.returns-in-Err-clause-world_untouched
 returns-in-Err-clause-world_untouched g c = λ within.
-    let still = c.in-Err.ensures.early (is_early c.in-Err.stop (subst (λ (status : ℕ). Contains (2 ∷ 3 ∷ 4 ∷ []) status) c.halt.ensures.status within)) in
-    (still.0, still.1, (c.in-Err.stop, c.halt.ensures.status,
-    subst (λ x. Wrote (g.K.Sink.contents x) (g.K.Sink.contents c.halt.new.sink) (g.K.Sink.faults x) (g.K.Sink.faults c.halt.new.sink) (stop_line c.in-Err.stop)) still.2 c.halt.ensures.line))
+    let still = c.in-Err.ensures.early (is_early c.in-Err.stop (subst (λ (status : ℕ). Contains (2 ∷ 3 ∷ 4 ∷ []) status) c.halt.ensures.status within)) in (
+      still.0,
+      still.1,
+      (
+        c.in-Err.stop,
+        c.halt.ensures.status,
+        subst (λ x. Wrote (g.K.Sink.contents x) (g.K.Sink.contents c.halt.new.sink) (g.K.Sink.faults x) (g.K.Sink.faults c.halt.new.sink) (stop_line c.in-Err.stop)) still.2 c.halt.ensures.line,
+      ),
+    )
