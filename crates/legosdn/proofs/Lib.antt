@@ -11,4 +11,4 @@ mod Stimuli
 mod Said
 mod CutRuns
 mod Runs
-mod Live
+mod Serving

@@ -1,5 +1,5 @@
 use Rattle.std.proofs.Common.{refl}
-use Rattle.legosdn.proofs.Live.{serves_unread, serves_taken}
+use Rattle.legosdn.proofs.Serving.{serves_unread, serves_taken}
 use Rattle.legosdn.proofs.Runs.{none_runs_yet}
 use Rattle.legosdn.proofs.live.run_live.Goals as goal
 

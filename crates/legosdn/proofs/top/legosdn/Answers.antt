@@ -5,7 +5,7 @@ use Rattle.sim_world.specs.World.{seen_of}
 use Rattle.legosdn.specs.Headline.{IsNoSession, IsNoPolicy, IsCause, faults_of, Wrote}
 use Rattle.legosdn.specs.Stops.{stop_line}
 use Rattle.legosdn.proofs.Causes.{cause_then, refused_at_three, none_refused, refuses}
-use Rattle.legosdn.proofs.Live.{by_command, broke_live, diverged_live, good_policy, none_refused_policy, refuses_policy}
+use Rattle.legosdn.proofs.Serving.{by_command, broke_live, diverged_live, good_policy, none_refused_policy, refuses_policy}
 use Rattle.legosdn.proofs.Loads.{late_loaded}
 use Rattle.legosdn.proofs.Statuses.{is_left, is_late, is_early, is_usage, is_read_fault, is_write_fault, not_zero, not_read, not_written}
 use Rattle.legosdn.proofs.Said.{reports}
