@@ -1,16 +1,15 @@
-use Rattle.std.proofs.Common.{map, string_bytes}
 use Rattle.sim_world.specs.World.{seen_of}
 use Rattle.legosdn.proofs.Causes.{are_new, run_causes}
 use Rattle.legosdn.specs.Headline.{KeepsLines}
 use Rattle.legosdn.proofs.Loads.{loaded_on, loaded_as, unread_as}
 use Rattle.legosdn.proofs.Runs.{untouched, none_runs, runs_by_read, lines_by_read, new_strays}
-use Rattle.legosdn.proofs.top.run.Goals as goal
+use Rattle.legosdn.proofs.top.replay.Goals as goal
 
 pub returns-clause-why : goal.returns-clause-why
 returns-clause-why g c =
-    run_causes (map (λ s. string_bytes s) c.args.words.now) (g.S.Source.remaining c.args.source.now) (g.S.Source.faults c.args.source.now) (g.S.Source.faults c.load.new.source)
-    (g.K.Sink.faults c.args.sink.now) (g.K.Sink.faults c.run_world.new.sink) (seen_of c.args.sim.now) (seen_of c.load.new.sim) (seen_of c.run_world.new.sim) c.run_world.result
-    (are_new c.args.sim.now c.requires.new) (are_new c.load.new.sim c.in_ok-load.ensures.new) c.run_world.ensures.why
+    run_causes (g.S.Source.remaining c.args.source.now) (g.S.Source.faults c.args.source.now) (g.S.Source.faults c.load.new.source)
+    (g.K.Sink.faults c.args.sink.now) (g.K.Sink.faults c.simulate.new.sink) (seen_of c.args.sim.now) (seen_of c.load.new.sim) (seen_of c.simulate.new.sim) c.simulate.result
+    (are_new c.args.sim.now c.requires.new) (are_new c.load.new.sim c.in_ok-load.ensures.new) c.simulate.ensures.why
 
 pub returns-in_err-load-clause-runs : goal.returns-in_err-load-clause-runs
 returns-in_err-load-clause-runs g c =
@@ -22,19 +21,13 @@ returns-in_err-load-clause-late_lines g c =
     lines_by_read (KeepsLines c.load.new.sim) (g.S.Source.remaining c.args.source.now) (g.S.Source.faults c.args.source.now) (g.S.Source.faults c.load.new.source) c.in_err-load.field-0.0 c.from_residual.result c.from_residual.ensures.1 c.in_err-load.ensures.why
 
 pub returns-clause-runs : goal.returns-clause-runs
-returns-clause-runs g c = c.run_world.ensures.runs (untouched c.load.new.sim c.in_ok-load.ensures.new) c.in_ok-load.ensures.few
-
-pub returns-then-not-is_command-clause-strays : goal.returns-then-not-is_command-clause-strays
-returns-then-not-is_command-clause-strays g c = λ shorts. new_strays c.args.sim.now c.requires.new
+returns-clause-runs g c = c.simulate.ensures.runs (untouched c.load.new.sim c.in_ok-load.ensures.new) c.in_ok-load.ensures.few
 
 pub returns-in_err-load-clause-strays : goal.returns-in_err-load-clause-strays
 returns-in_err-load-clause-strays g c = λ shorts. new_strays c.load.new.sim c.load.ensures.new
 
 pub returns-clause-strays : goal.returns-clause-strays
-returns-clause-strays g c = c.run_world.ensures.strays (untouched c.load.new.sim c.in_ok-load.ensures.new) c.in_ok-load.ensures.few
-
-pub returns-then-not-is_command-clause-loaded : goal.returns-then-not-is_command-clause-loaded
-returns-then-not-is_command-clause-loaded g c = untouched c.args.sim.now c.requires.new
+returns-clause-strays g c = c.simulate.ensures.strays (untouched c.load.new.sim c.in_ok-load.ensures.new) c.in_ok-load.ensures.few
 
 pub returns-in_err-load-clause-loaded : goal.returns-in_err-load-clause-loaded
 returns-in_err-load-clause-loaded g c =
@@ -43,14 +36,11 @@ returns-in_err-load-clause-loaded g c =
 
 pub returns-clause-loaded : goal.returns-clause-loaded
 returns-clause-loaded g c =
-    loaded_as (g.S.Source.remaining c.args.source.now) (g.S.Source.remaining c.load.new.source) (seen_of c.run_world.new.sim) (seen_of c.load.new.sim) (g.K.Sink.faults c.args.sink.now) (g.K.Sink.faults c.run_world.new.sink) c.run_world.result
-    c.run_world.ensures.why (loaded_on (seen_of c.load.new.sim) (seen_of c.run_world.new.sim) c.run_world.ensures.continues c.in_ok-load.ensures.loaded)
-
-pub returns-then-not-is_command-clause-ended : goal.returns-then-not-is_command-clause-ended
-returns-then-not-is_command-clause-ended g c = none_runs c.args.sim.now c.requires.new
+    loaded_as (g.S.Source.remaining c.args.source.now) (g.S.Source.remaining c.load.new.source) (seen_of c.simulate.new.sim) (seen_of c.load.new.sim) (g.K.Sink.faults c.args.sink.now) (g.K.Sink.faults c.simulate.new.sink) c.simulate.result
+    c.simulate.ensures.why (loaded_on (seen_of c.load.new.sim) (seen_of c.simulate.new.sim) c.simulate.ensures.continues c.in_ok-load.ensures.loaded)
 
 pub returns-in_err-load-clause-ended : goal.returns-in_err-load-clause-ended
 returns-in_err-load-clause-ended g c = none_runs c.load.new.sim c.load.ensures.new
 
 pub returns-clause-ended : goal.returns-clause-ended
-returns-clause-ended g c = c.run_world.ensures.ended (untouched c.load.new.sim c.in_ok-load.ensures.new)
+returns-clause-ended g c = c.simulate.ensures.ended (untouched c.load.new.sim c.in_ok-load.ensures.new)
