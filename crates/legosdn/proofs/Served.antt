@@ -9,7 +9,8 @@ use Rattle.outside.specs.Conforming.{Conforming}
 use Rattle.outside.specs.InOrder.{BringMessages, InOrder}
 use Rattle.outside.specs.laws.InOrderLaws.{in_order-Conforming, InOrder-front}
 use Rattle.outside.specs.Quiescence.{IsLastQuiescent}
-use Rattle.net_txn.specs.LinkSteps.{AreExpectedOnLinks, MakesNoStrayCall}
+use Rattle.lego_model.specs.UndoFaults.{AreExpectedOnLinks}
+use Rattle.net_txn.specs.LinkSteps.{MakesNoStrayCall}
 use Rattle.app_visor.specs.CallsFor.{CallsFor}
 use Rattle.lego_model.specs.Places.{Place}
 use Rattle.lego_model.specs.Application.{index}
