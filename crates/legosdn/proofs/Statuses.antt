@@ -151,13 +151,13 @@ not_zero NoMemory e = omega arith
 
 -- it is not that of a source or a sink that failed
 pub not_read : (stop : Stop) → stop ≡ ReadFault → Contains (2 ∷ 12 ∷ []) (stop_status stop) → ⊥
-not_read stop is within = four (subst (λ (s : Stop). Contains (2 ∷ 12 ∷ []) (stop_status s)) is within)
+not_read stop is within = four (subst (λ (s : Stop). Contains {X = ℕ} (2 ∷ 12 ∷ []) (stop_status s)) is within)
   where
-    four : Contains (2 ∷ 12 ∷ []) 4 → ⊥
+    four : Contains {X = ℕ} (2 ∷ 12 ∷ []) 4 → ⊥
     four e = grind arith
 
 pub not_written : (stop : Stop) → stop ≡ WriteFault → Contains (2 ∷ 12 ∷ []) (stop_status stop) → ⊥
-not_written stop is within = five (subst (λ (s : Stop). Contains (2 ∷ 12 ∷ []) (stop_status s)) is within)
+not_written stop is within = five (subst (λ (s : Stop). Contains {X = ℕ} (2 ∷ 12 ∷ []) (stop_status s)) is within)
   where
-    five : Contains (2 ∷ 12 ∷ []) 5 → ⊥
+    five : Contains {X = ℕ} (2 ∷ 12 ∷ []) 5 → ⊥
     five e = grind arith
