@@ -10,7 +10,7 @@ use Rattle.outside.specs.Conforming.{Conforming}
 use Rattle.outside.specs.InOrder.{BringMessages, InOrder}
 use Rattle.outside.specs.laws.InOrderLaws.{in_order-Conforming, InOrder-front}
 use Rattle.outside.specs.Quiescence.{IsLastQuiescent}
-use Rattle.net_txn.specs.LinkSteps.{AreExpectedOnLinks}
+use Rattle.lego_model.specs.UndoFaults.{AreExpectedOnLinks}
 use Rattle.lego_model.specs.Places.{Place}
 use Rattle.lego_model.specs.Controller.{Run}
 use Rattle.sim_world.specs.Told.{without_links}

@@ -9,7 +9,8 @@ use Rattle.outside.specs.declared.step.WorldStep.{WorldStep}
 use Rattle.outside.specs.declared.step.WorldStep.TheVariants.{Acted, TookInto, From, Joined, Left, Moment, Idle, End, Opened, NotOpened, NextFailed, SendFailed, RecvFailed}
 use Rattle.outside.specs.Seen.{Given, Seen, act_of}
 use Rattle.outside.specs.State.{State, at_first, after_step, after_steps, state, is_running}
-use Rattle.net_txn.specs.LinkSteps.{IsExpectedOnLink, AreExpectedOnLinks, MakesNoStrayCall}
+use Rattle.net_txn.specs.LinkSteps.{MakesNoStrayCall}
+use Rattle.lego_model.specs.UndoFaults.{IsExpectedOnLink, AreExpectedOnLinks}
 use Rattle.app_visor.specs.Dialogues.{KeepsOrder as IsInPlaceOf, CallsKeepOrder as AreInPlaceOf}
 use Rattle.app_visor.specs.CallsFor.{IsActFor, IsCallFor, CallsFor}
 use Rattle.lego_model.specs.OrderlySteps.{IsOrderlyAct, IsOrderly}

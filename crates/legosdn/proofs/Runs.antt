@@ -13,7 +13,7 @@ use Rattle.outside.specs.declared.step.WorldStep.{WorldStep}
 use Rattle.outside.specs.State.{at_first, after_steps, state}
 use Rattle.outside.specs.InOrder.{BringMessages, InOrder}
 use Rattle.outside.specs.laws.InOrderLaws.{in_order-Conforming}
-use Rattle.net_txn.specs.LinkSteps.{AreExpectedOnLinks}
+use Rattle.lego_model.specs.UndoFaults.{AreExpectedOnLinks}
 use Rattle.sim_world.specs.Told.{without_links}
 use Rattle.sim_world.specs.Scripts.{Scripts, KeepsScripts}
 use Rattle.sim_world.specs.World.{WorldData, given_of, seen_of}

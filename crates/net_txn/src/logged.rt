@@ -3,7 +3,7 @@
 ghost use Rattle.std.specs.Prelude.{◌≡◌, IsOk};
 ghost use Rattle.of_wire.specs.Reading.{reading_of};
 ghost use Rattle.net_txn.specs.Net.{logged_at};
-ghost use Rattle.lego_model.specs.AfterFault.{delete_strict, inverse_bytes};
+ghost use Rattle.lego_model.specs.UndoFaults.{delete_strict, inverse_bytes};
 
 use of_action::ActionList;
 use of_match::Key;
