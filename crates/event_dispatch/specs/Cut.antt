@@ -162,16 +162,16 @@ pub record CutGoing {Own : Type 0} (Tells : Type 0) (accepts : List TableView �
   pub rounds : CutRounds Tells accepts fault held now_contents begun new begun_run
 
 -- or all of them,
-pub record WentToEnd {Own : Type 0} (Tells : Type 0) (accepts : List TableView → Bool) (contents held last_held : Option (List ℕ)) (old begun last : Seen Own) (r begun_run last_run : Run) : Type 0 where
+pub record WentToEnd {Own : Type 0} (Tells : Type 0) (accepts : List TableView → Bool) (most : ℕ) (contents held last_held : Option (List ℕ)) (old begun last : Seen Own) (r begun_run last_run : Run) : Type 0 where
   pub first : Continues Tells old begun
   pub begins : Begins Tells contents held old begun r begun_run
   pub starts_read : Reads Tells old begun r.net begun_run.net
   pub on : Continues Tells begun last
-  pub rounds : GoesToEnd Tells accepts held last_held begun last begun_run last_run
+  pub rounds : GoesToEnd Tells accepts most held last_held begun last begun_run last_run
   pub rounds_read : Reads Tells begun last begun_run.net last_run.net
 
 -- and then came the end
-pub record CutEnding {Own : Type 0} (Tells : Type 0) (accepts : List TableView → Bool) (fault : Fault) (contents now_contents : Option (List ℕ)) (old new : Seen Own) (e : Engine) : Type 0 where
+pub record CutEnding {Own : Type 0} (Tells : Type 0) (accepts : List TableView → Bool) (most : ℕ) (fault : Fault) (contents now_contents : Option (List ℕ)) (old new : Seen Own) (e : Engine) : Type 0 where
   pub text : List ℕ
   pub begun : Seen Own
   pub begun_run : Run
@@ -184,17 +184,17 @@ pub record CutEnding {Own : Type 0} (Tells : Type 0) (accepts : List TableView �
   pub starts_read : Reads Tells old begun e.net begun_run.net
   pub writes : Writes text contents held begun_run
   pub on : Continues Tells begun last
-  pub rounds : GoesToEnd Tells accepts held last_held begun last begun_run last_run
+  pub rounds : GoesToEnd Tells accepts most held last_held begun last begun_run last_run
   pub rounds_read : Reads Tells begun last begun_run.net last_run.net
   pub later : Continues Tells last new
   pub none_left : last_run.queue ≡ []
   pub ends : CutEnd Tells fault last_held now_contents last new (engine_of last_run)
 
-abbrev pub CutGoes : {Own : Type 0} → Type 0 → (List TableView → Bool) → Fault → Option (List ℕ) → Option (List ℕ) → Seen Own → Seen Own → Engine → Type 0
-CutGoes Tells accepts fault contents now_contents old new e = CutStart Tells fault contents now_contents old new e ⊎ CutGoing Tells accepts fault contents now_contents old new e ⊎ CutEnding Tells accepts fault contents now_contents old new e
+abbrev pub CutGoes : {Own : Type 0} → Type 0 → (List TableView → Bool) → ℕ → Fault → Option (List ℕ) → Option (List ℕ) → Seen Own → Seen Own → Engine → Type 0
+CutGoes Tells accepts most fault contents now_contents old new e = CutStart Tells fault contents now_contents old new e ⊎ CutGoing Tells accepts fault contents now_contents old new e ⊎ CutEnding Tells accepts most fault contents now_contents old new e
 
 -- what ended the run, and all that came behind it, as the end of the application
-pub record CutRun {Own : Type 0} (Tells : Type 0) (accepts : List TableView → Bool) (end : Served) (contents now_contents : Option (List ℕ)) (old new : Seen Own) (e : Engine) : Type 0 where
+pub record CutRun {Own : Type 0} (Tells : Type 0) (accepts : List TableView → Bool) (most : ℕ) (end : Served) (contents now_contents : Option (List ℕ)) (old new : Seen Own) (e : Engine) : Type 0 where
   pub fault : Fault
   pub end_so : end ≡ served_by fault
   pub stop : Seen Own
@@ -203,11 +203,11 @@ pub record CutRun {Own : Type 0} (Tells : Type 0) (accepts : List TableView → 
   pub talks : KeepsTalking Tells stop new
   pub no_point : NoPoint Tells stop new
   pub none_moves : NoneMoves Tells stop new
-  pub goes : CutGoes Tells accepts fault contents now_contents old stop e
+  pub goes : CutGoes Tells accepts most fault contents now_contents old stop e
 
-abbrev pub CutAs : {Own : Type 0} → Type 0 → (List TableView → Bool) → Served → Option (List ℕ) → Option (List ℕ) → Seen Own → Seen Own → Engine → Type 0
-CutAs Tells accepts (served.EventsLeft left) contents now_contents old new e = Unit {0}
-CutAs Tells accepts end contents now_contents old new e = CutRun Tells accepts end contents now_contents old new e
+abbrev pub CutAs : {Own : Type 0} → Type 0 → (List TableView → Bool) → ℕ → Served → Option (List ℕ) → Option (List ℕ) → Seen Own → Seen Own → Engine → Type 0
+CutAs Tells accepts most (served.EventsLeft left) contents now_contents old new e = Unit {0}
+CutAs Tells accepts most end contents now_contents old new e = CutRun Tells accepts most end contents now_contents old new e
 
 -- ---- What came of switches
 

@@ -19,7 +19,6 @@ use Rattle.run_laws.specs.Engine.{Engine}
 use Rattle.lego_model.specs.History.{stimuli_in}
 use Rattle.run_laws.specs.Readings.{JudgesAlike}
 use Rattle.run_laws.specs.Moves.{AtRest}
-use Rattle.run_laws.specs.Promise.{most_rounds}
 use Rattle.event_dispatch.specs.declared.fault.Fault.{Fault}
 use Rattle.event_dispatch.specs.declared.served.Served.{Served}
 use Rattle.event_dispatch.specs.declared.served.Served.TheVariants as ends
@@ -86,6 +85,6 @@ pub record PlainTable {Own : Type 0} (Tells : Type 0) (old new : Seen Own) (net 
 pub record PlainRun {Own : Type 0} (Tells : Type 0) (accepts : List TableView → Bool) (old new : Seen Own) (e : Engine) (end : Served) : Type 0 where
   pub plain : (allows : List Place → Bool) → Tells → Conforming new → JudgesAlike Own allows accepts → AtRest old e → IsPlainServed end
 
--- and the stimuli are fewer than the most rounds
-pub record PlainWhole {Own : Type 0} (Tells : Type 0) (accepts : List TableView → Bool) (old new : Seen Own) (e : Engine) (end : Served) : Type 0 where
-  pub plain : (allows : List Place → Bool) → Tells → Conforming new → JudgesAlike Own allows accepts → AtRest old e → length (stimuli_in new) < most_rounds → IsPlainServed end
+-- and the stimuli are fewer than this number of rounds
+pub record PlainWhole {Own : Type 0} (Tells : Type 0) (accepts : List TableView → Bool) (most : ℕ) (old new : Seen Own) (e : Engine) (end : Served) : Type 0 where
+  pub plain : (allows : List Place → Bool) → Tells → Conforming new → JudgesAlike Own allows accepts → AtRest old e → length (stimuli_in new) < most → IsPlainServed end

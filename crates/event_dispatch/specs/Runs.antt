@@ -1,10 +1,14 @@
--- A run so far: there is room for an undo, no more turns ended than there were events, the one application has its index, and the messages
--- that are kept were read. All of this is our own.
+-- How many rounds a run has at most. A run so far: there is room for an undo, no more turns ended than there were events, the one
+-- application has its index, and the messages that are kept were read. All of this is our own.
 use Rattle.std.specs.Prelude.{◌≡◌, ◌≤◌, ℕ, List, IsOk}
 use Rattle.std.specs.List.{AllByRecursion}
 use Rattle.of_wire.specs.Reading.{reading_of}
 use Rattle.lego_model.specs.Application.{index}
 use Rattle.event_dispatch.specs.declared.run.Run.{Run}
+
+-- a run has at most so many rounds
+abbrev pub most_rounds : ℕ
+most_rounds = 1000000000
 
 -- messages that were read
 abbrev pub AreRead : List (ℕ × List ℕ) → Type 0

@@ -27,7 +27,6 @@ use Rattle.run_laws.specs.Moves.{AtRest, Shown, ShownIdle, ShownOver, ShownRound
 use Rattle.lego_model.specs.ReferenceRun.{dispatch_next, times}
 use Rattle.run_laws.specs.First.{engine_at_first}
 use Rattle.run_laws.specs.Endings.{ShownStart, ShownFinish, RanOut, RanFull}
-use Rattle.run_laws.specs.Promise.{most_rounds}
 use Rattle.lego_model.specs.WholeRun.{EndsAlike, LeavesAlike}
 use Rattle.run_laws.specs.Cut.{CutAlike, CutWithLines, CutWriting}
 use Rattle.event_dispatch.specs.declared.batch.Rest.{Rest}
@@ -142,15 +141,15 @@ pub record GoesRounds {Own : Type 0} (Tells : Type 0) (accepts : List TableView 
   pub shown : ShownRounds Tells accepts number text old new (engine_of r) (engine_of now_r)
   pub writes : Writes text contents now_contents now_r
 
--- in a world that keeps its word no stimulus is to come, where they are fewer than this
-pub record NoneToCome {Own : Type 0} (Tells : Type 0) (accepts : List TableView → Bool) (old new : Seen Own) (e : Engine) : Type 0 where
-  pub none : (allows : List Place → Bool) → Tells → Conforming new → JudgesAlike Own allows accepts → AtRest old e → length (stimuli_in new) < most_rounds → (state new).to_come ≡ []
+-- in a world that keeps its word no stimulus is to come, where they are fewer than this number of rounds
+pub record NoneToCome {Own : Type 0} (Tells : Type 0) (accepts : List TableView → Bool) (most : ℕ) (old new : Seen Own) (e : Engine) : Type 0 where
+  pub none : (allows : List Place → Bool) → Tells → Conforming new → JudgesAlike Own allows accepts → AtRest old e → length (stimuli_in new) < most → (state new).to_come ≡ []
 
--- all of them
-pub record GoesToEnd {Own : Type 0} (Tells : Type 0) (accepts : List TableView → Bool) (contents now_contents : Option (List ℕ)) (old new : Seen Own) (r now_r : Run) : Type 0 where
+-- all of them, up to this number
+pub record GoesToEnd {Own : Type 0} (Tells : Type 0) (accepts : List TableView → Bool) (most : ℕ) (contents now_contents : Option (List ℕ)) (old new : Seen Own) (r now_r : Run) : Type 0 where
   pub text : List ℕ
-  pub shown : ShownToEnd Tells accepts most_rounds text old new (engine_of r) (engine_of now_r)
-  pub none_to_come : NoneToCome Tells accepts old new (engine_of r)
+  pub shown : ShownToEnd Tells accepts most text old new (engine_of r) (engine_of now_r)
+  pub none_to_come : NoneToCome Tells accepts most old new (engine_of r)
   pub writes : Writes text contents now_contents now_r
 
 -- ---- The start, and the end
@@ -174,28 +173,28 @@ Finishes Tells (Err other) contents now_contents last new r now_r = Unit {0}
 -- ---- A whole run of a world that was opened
 
 -- all events were dispatched, so many
-pub record RunsOut {Own : Type 0} (Tells : Type 0) (accepts : List TableView → Bool) (events : ℕ) (contents now_contents : Option (List ℕ)) (old new : Seen Own) (e : Engine) : Type 0 where
+pub record RunsOut {Own : Type 0} (Tells : Type 0) (accepts : List TableView → Bool) (most events : ℕ) (contents now_contents : Option (List ℕ)) (old new : Seen Own) (e : Engine) : Type 0 where
   pub last : Engine
-  pub out : RanOut Tells accepts most_rounds contents now_contents old new e last
+  pub out : RanOut Tells accepts most contents now_contents old new e last
   pub events_so : events ≡ last.events
-  pub none_to_come : NoneToCome Tells accepts old new e
+  pub none_to_come : NoneToCome Tells accepts most old new e
 
 -- so many were left
-pub record RunsFull {Own : Type 0} (Tells : Type 0) (accepts : List TableView → Bool) (left : ℕ) (contents now_contents : Option (List ℕ)) (old new : Seen Own) (e : Engine) : Type 0 where
-  pub full : RanFull Tells accepts most_rounds left contents now_contents old new e
-  pub none_to_come : NoneToCome Tells accepts old new e
+pub record RunsFull {Own : Type 0} (Tells : Type 0) (accepts : List TableView → Bool) (most left : ℕ) (contents now_contents : Option (List ℕ)) (old new : Seen Own) (e : Engine) : Type 0 where
+  pub full : RanFull Tells accepts most left contents now_contents old new e
+  pub none_to_come : NoneToCome Tells accepts most old new e
 
-abbrev pub GoesAs : {Own : Type 0} → Type 0 → (List TableView → Bool) → Result (Unit {0}) Served → Option (List ℕ) → Option (List ℕ) → Seen Own → Seen Own → Run → Run → Type 0
-GoesAs Tells accepts (Ok x) contents now_contents old new r now_r = RunsOut Tells accepts now_r.events contents now_contents old new (engine_of r)
-GoesAs Tells accepts (Err (served.Ended events)) contents now_contents old new r now_r = ⊥
-GoesAs Tells accepts (Err (served.EventsLeft left)) contents now_contents old new r now_r = RunsFull Tells accepts left contents now_contents old new (engine_of r)
-GoesAs Tells accepts (Err other) contents now_contents old new r now_r = Unit {0}
+abbrev pub GoesAs : {Own : Type 0} → Type 0 → (List TableView → Bool) → ℕ → Result (Unit {0}) Served → Option (List ℕ) → Option (List ℕ) → Seen Own → Seen Own → Run → Run → Type 0
+GoesAs Tells accepts most (Ok x) contents now_contents old new r now_r = RunsOut Tells accepts most now_r.events contents now_contents old new (engine_of r)
+GoesAs Tells accepts most (Err (served.Ended events)) contents now_contents old new r now_r = ⊥
+GoesAs Tells accepts most (Err (served.EventsLeft left)) contents now_contents old new r now_r = RunsFull Tells accepts most left contents now_contents old new (engine_of r)
+GoesAs Tells accepts most (Err other) contents now_contents old new r now_r = Unit {0}
 
-abbrev pub RunsAs : {Own : Type 0} → Type 0 → (List TableView → Bool) → Result ℕ Served → Option (List ℕ) → Option (List ℕ) → Seen Own → Seen Own → Type 0
-RunsAs Tells accepts (Ok events) contents now_contents old new = RunsOut Tells accepts events contents now_contents old new engine_at_first
-RunsAs Tells accepts (Err (served.Ended events)) contents now_contents old new = ⊥
-RunsAs Tells accepts (Err (served.EventsLeft left)) contents now_contents old new = RunsFull Tells accepts left contents now_contents old new engine_at_first
-RunsAs Tells accepts (Err other) contents now_contents old new = Unit {0}
+abbrev pub RunsAs : {Own : Type 0} → Type 0 → (List TableView → Bool) → ℕ → Result ℕ Served → Option (List ℕ) → Option (List ℕ) → Seen Own → Seen Own → Type 0
+RunsAs Tells accepts most (Ok events) contents now_contents old new = RunsOut Tells accepts most events contents now_contents old new engine_at_first
+RunsAs Tells accepts most (Err (served.Ended events)) contents now_contents old new = ⊥
+RunsAs Tells accepts most (Err (served.EventsLeft left)) contents now_contents old new = RunsFull Tells accepts most left contents now_contents old new engine_at_first
+RunsAs Tells accepts most (Err other) contents now_contents old new = Unit {0}
 
 -- why a world is not opened, and what its history tells then
 abbrev pub IsUnopened : {Own : Type 0} → Type 0 → Seen Own → Seen Own → Served → Type 0

@@ -109,7 +109,7 @@ impl Run {
         ensures talks { KeepsTalking W.Tells (W.seen world.old) (W.seen world.new) }
         ensures own { W.Tells → OwnSteps index (W.seen world.old) (W.seen world.new) }
     {
-        let back = restart(self.alloc, world, &mut self.app.state, &[])?;
+        let back = restart(self.alloc, world, &mut self.app.state, &self.command)?;
         self.note_start(back)
     }
 

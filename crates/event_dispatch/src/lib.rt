@@ -1,10 +1,11 @@
 //! The engine: it takes what a world tells, makes events of it, gives them to the application, and writes the report.
 //!
-//! `serve` runs a world to its end. In a world that tells and keeps its word the run is the reference controller's
-//! (`reference_run`), also up to the point where a fault ended it (`reference_run_until_fault`). Each end has its cause
-//! (`end_has_cause`); of a switch only its link ends such a run (`no_switch_at_fault`); no call of a link is stray
-//! (`no_stray_call`); what came was messages (`all_bytes_are_messages`); each application that was started is ended
-//! (`every_application_ended`); the world is only called as its calls allow (`continues`, `never_fell`).
+//! `serve` runs a world to its end, in at most so many rounds. In a world that tells and keeps its word, with fewer stimuli
+//! than rounds, the run is the reference controller's (`reference_run`), also up to the point where a fault ended it
+//! (`reference_run_until_fault`). Each end has its cause (`end_has_cause`); of a switch only its link ends such a run
+//! (`no_switch_at_fault`); no call of a link is stray (`no_stray_call`); what came was messages (`all_bytes_are_messages`);
+//! each application that was started is ended (`every_application_ended`); the world is only called as its calls allow
+//! (`continues`, `never_fell`).
 #![tactic(auto)]
 
 mod batch;

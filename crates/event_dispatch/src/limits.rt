@@ -7,7 +7,7 @@ pub const MOST_ITEMS: u32 = 1_000_000;
 pub const MOST_EVENTS: u32 = 1_000;
 
 /// How many batches a run has at most.
-pub const MOST_ROUNDS: u32 = 1_000_000_000;
+pub const MOST_ROUNDS: u64 = 1_000_000_000;
 
 /// How many frames an application may take for a turn.
 pub const BUDGET: u32 = 1_000;

@@ -39,13 +39,15 @@ pub(crate) struct Run {
     /// How many events were dispatched.
     pub(crate) events: u64,
     pub(crate) app: Managed,
+    /// The words by which the application is started.
+    pub(crate) command: Vec<String>,
     /// Lines of the report that were not written yet.
     pub(crate) lines: Vec<u8>,
 }
 
 impl Run {
     /// Makes a run of which nothing has happened.
-    pub(crate) fn new(alloc: Global) -> Result<Run, AllocError>
+    pub(crate) fn new(alloc: Global, command: Vec<String>) -> Result<Run, AllocError>
         ensures going { IfOk result Going }
         ensures first { IfOk result (λ r. engine_of r ≡ engine_at_first) }
         ensures none_waits { IfOk result (λ r. r.lines.items ≡ []) }
@@ -61,6 +63,7 @@ impl Run {
                 done: 0,
                 failed: 0,
             },
+            command,
             lines: Vec::new(alloc),
         })
     }

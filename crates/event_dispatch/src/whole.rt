@@ -7,7 +7,7 @@ ghost use Rattle.outside.specs.Calls.{most_message};
 ghost use Rattle.outside.specs.State.{state};
 ghost use Rattle.outside.specs.InOrder.{InOrder};
 ghost use Rattle.net_txn.specs.LinkSteps.{MakesNoStrayCall};
-ghost use Rattle.event_dispatch.specs.Runs.{Going};
+ghost use Rattle.event_dispatch.specs.Runs.{Going, most_rounds};
 ghost use Rattle.event_dispatch.specs.Why.{IsWhy, IsReason, served_by};
 ghost use Rattle.event_dispatch.specs.Shows.{engine_of};
 ghost use Rattle.event_dispatch.specs.Plain.{IsPlainServed, IsPlainEnd, PlainCalm, PlainRun, PlainWhole};
@@ -23,7 +23,7 @@ ghost use Rattle.event_dispatch.specs.Serves.{GoesRound, GoesToEnd, Begins, Ends
 
 use crate::batch::Rest;
 use crate::fault::Fault;
-use crate::limits::{MOST_MESSAGE, MOST_ROUNDS};
+use crate::limits::MOST_MESSAGE;
 use crate::run::{INDEX, Run};
 use crate::served::Served;
 use lego_io::Sink;
@@ -63,7 +63,7 @@ impl Run {
         Ok(rest)
     }
 
-    /// Runs batch after batch, until nothing comes any more.
+    /// Runs batch after batch, at most so many, until nothing comes any more.
     #[tactic(auto, using(crate::specs::laws::WhyLaws::continues_then, crate::specs::laws::WhyLaws::why_behind, crate::specs::laws::WhyLaws::fell_then))]
     fn run_rounds<W: World, J: Judge, K: Sink>(
         &mut self,
@@ -71,12 +71,14 @@ impl Run {
         judge: &J,
         sink: &mut K,
         buf: &mut [u8],
+        rounds: u64,
     ) -> Result<(), Fault>
         requires buffer { most_message ≤ length buf.old }
+        requires few { rounds ≤ most_rounds }
         requires going { Going self.old }
         requires none { self.old.events ≡ 0 }
         requires none_waits { self.old.lines.items ≡ [] }
-        ensures to_end { OnOk result (GoesToEnd W.Tells (J.accepts judge.now) (K.contents sink.old) (K.contents sink.new)
+        ensures to_end { OnOk result (GoesToEnd W.Tells (J.accepts judge.now) rounds (K.contents sink.old) (K.contents sink.new)
             (W.seen world.old) (W.seen world.new) self.old self.new) }
         ensures cut { IfErr result (λ fault. CutRounds W.Tells (J.accepts judge.now) fault (K.contents sink.old) (K.contents sink.new)
             (W.seen world.old) (W.seen world.new) self.old) }
@@ -87,7 +89,7 @@ impl Run {
         ensures why { IfErr result (IsReason W.Tells (W.seen world.old) (W.seen world.new) (K.faults sink.old) (K.faults sink.new)) }
         ensures plain { IfErr result (λ fault. PlainRun W.Tells (J.accepts judge.now) (W.seen world.old) (W.seen world.new) (engine_of self.old) (served_by fault)) }
     {
-        for _round in 0..MOST_ROUNDS {
+        for _round in 0..rounds {
             match self.run_round(world, judge, sink, buf)? {
                 Rest::Idle => {}
                 Rest::End => return Ok(()),
@@ -163,34 +165,36 @@ impl Run {
         judge: &J,
         sink: &mut K,
         buf: &mut [u8],
+        rounds: u64,
     ) -> Result<(), Served>
         requires buffer { most_message ≤ length buf.old }
+        requires few { rounds ≤ most_rounds }
         requires going { Going self.old }
         requires none { self.old.events ≡ 0 }
         requires none_waits { self.old.lines.items ≡ [] }
-        ensures goes { GoesAs W.Tells (J.accepts judge.now) result (K.contents sink.old) (K.contents sink.new) (W.seen world.old) (W.seen world.new) self.old self.new }
-        ensures cut { IfErr result (λ end. CutAs W.Tells (J.accepts judge.now) end (K.contents sink.old) (K.contents sink.new) (W.seen world.old) (W.seen world.new) (engine_of self.old)) }
+        ensures goes { GoesAs W.Tells (J.accepts judge.now) rounds result (K.contents sink.old) (K.contents sink.new) (W.seen world.old) (W.seen world.new) self.old self.new }
+        ensures cut { IfErr result (λ end. CutAs W.Tells (J.accepts judge.now) rounds end (K.contents sink.old) (K.contents sink.new) (W.seen world.old) (W.seen world.new) (engine_of self.old)) }
         ensures continues { Continues W.Tells (W.seen world.old) (W.seen world.new) }
         ensures places { NoStray W.Tells (W.seen world.old) (W.seen world.new) self.old.net }
         ensures reads { ReadsAs W.Tells result (W.seen world.old) (W.seen world.new) self.old.net }
         ensures never_fell { NeverFell (K.faults sink.old) (K.faults sink.new) }
         ensures why { IfErr result (IsWhy W.Tells (W.seen world.old) (W.seen world.new) (K.faults sink.old) (K.faults sink.new)) }
-        ensures plain { IfErr result (PlainWhole W.Tells (J.accepts judge.now) (W.seen world.old) (W.seen world.new) (engine_of self.old)) }
+        ensures plain { IfErr result (PlainWhole W.Tells (J.accepts judge.now) rounds (W.seen world.old) (W.seen world.new) (engine_of self.old)) }
     {
         self.begin(world, sink)?;
-        self.run_rounds(world, judge, sink, buf)?;
+        self.run_rounds(world, judge, sink, buf, rounds)?;
         self.finish(world, sink)
     }
 }
 
-/// Opens the world.
-fn open<W: World>(world: &mut W) -> Result<(), Served>
+/// Opens the world at a port.
+fn open<W: World>(world: &mut W, port: u16) -> Result<(), Served>
     ensures opened { OnOk result (W.Tells → (W.seen world.new).history ≡ (W.seen world.old).history ++ Opened ∷ []) }
     ensures unopened { IfErr result (IsUnopened W.Tells (W.seen world.old) (W.seen world.new)) }
     ensures continues { Continues W.Tells (W.seen world.old) (W.seen world.new) }
     ensures why { IfErr result (IsWhy W.Tells (W.seen world.old) (W.seen world.new) 0 0) }
 {
-    match world.open(0) {
+    match world.open(port) {
         Ok(()) => Ok(()),
         Err(OpenFault::Shut) => Err(Served::Shut),
         Err(OpenFault::Short) => Err(Served::NoMemory),
@@ -216,21 +220,23 @@ fn run_then_end<W: World, J: Judge, K: Sink>(
     judge: &J,
     sink: &mut K,
     buf: &mut [u8],
+    rounds: u64,
 ) -> Result<(), Served>
     requires buffer { most_message ≤ length buf.old }
+    requires few { rounds ≤ most_rounds }
     requires going { Going run.old }
     requires none { run.old.events ≡ 0 }
     requires none_waits { run.old.lines.items ≡ [] }
-    ensures goes { GoesAs W.Tells (J.accepts judge.now) result (K.contents sink.old) (K.contents sink.new) (W.seen world.old) (W.seen world.new) run.old run.new }
-    ensures cut { IfErr result (λ end. CutAs W.Tells (J.accepts judge.now) end (K.contents sink.old) (K.contents sink.new) (W.seen world.old) (W.seen world.new) (engine_of run.old)) }
+    ensures goes { GoesAs W.Tells (J.accepts judge.now) rounds result (K.contents sink.old) (K.contents sink.new) (W.seen world.old) (W.seen world.new) run.old run.new }
+    ensures cut { IfErr result (λ end. CutAs W.Tells (J.accepts judge.now) rounds end (K.contents sink.old) (K.contents sink.new) (W.seen world.old) (W.seen world.new) (engine_of run.old)) }
     ensures continues { Continues W.Tells (W.seen world.old) (W.seen world.new) }
     ensures none_runs { NoneRuns W.Tells (W.seen world.old) (W.seen world.new) run.old.net }
     ensures reads { ReadsAs W.Tells result (W.seen world.old) (W.seen world.new) run.old.net }
     ensures never_fell { NeverFell (K.faults sink.old) (K.faults sink.new) }
     ensures why { IfErr result (IsWhy W.Tells (W.seen world.old) (W.seen world.new) (K.faults sink.old) (K.faults sink.new)) }
-    ensures plain { IfErr result (PlainWhole W.Tells (J.accepts judge.now) (W.seen world.old) (W.seen world.new) (engine_of run.old)) }
+    ensures plain { IfErr result (PlainWhole W.Tells (J.accepts judge.now) rounds (W.seen world.old) (W.seen world.new) (engine_of run.old)) }
 {
-    let ended = run.run_opened(world, judge, sink, buf);
+    let ended = run.run_opened(world, judge, sink, buf, rounds);
     end(world);
     ended
 }
@@ -238,54 +244,67 @@ fn run_then_end<W: World, J: Judge, K: Sink>(
 /// Runs an opened world to its end, and answers how many events were dispatched.
 fn run<W: World, J: Judge, K: Sink>(
     alloc: Global,
+    command: Vec<String>,
     world: &mut W,
     judge: &J,
     sink: &mut K,
+    rounds: u64,
 ) -> Result<u64, Served>
-    ensures runs { RunsAs W.Tells (J.accepts judge.now) result (K.contents sink.old) (K.contents sink.new) (W.seen world.old) (W.seen world.new) }
-    ensures cut { IfErr result (λ end. CutAs W.Tells (J.accepts judge.now) end (K.contents sink.old) (K.contents sink.new) (W.seen world.old) (W.seen world.new) engine_at_first) }
+    requires few { rounds ≤ most_rounds }
+    ensures runs { RunsAs W.Tells (J.accepts judge.now) rounds result (K.contents sink.old) (K.contents sink.new) (W.seen world.old) (W.seen world.new) }
+    ensures cut { IfErr result (λ end. CutAs W.Tells (J.accepts judge.now) rounds end (K.contents sink.old) (K.contents sink.new) (W.seen world.old) (W.seen world.new) engine_at_first) }
     ensures continues { Continues W.Tells (W.seen world.old) (W.seen world.new) }
     ensures none_runs { NoneRuns W.Tells (W.seen world.old) (W.seen world.new) net_at_first }
     ensures reads { ReadsAs W.Tells result (W.seen world.old) (W.seen world.new) net_at_first }
     ensures never_fell { NeverFell (K.faults sink.old) (K.faults sink.new) }
     ensures why { IfErr result (IsWhy W.Tells (W.seen world.old) (W.seen world.new) (K.faults sink.old) (K.faults sink.new)) }
-    ensures plain { IfErr result (PlainWhole W.Tells (J.accepts judge.now) (W.seen world.old) (W.seen world.new) engine_at_first) }
+    ensures plain { IfErr result (PlainWhole W.Tells (J.accepts judge.now) rounds (W.seen world.old) (W.seen world.new) engine_at_first) }
 {
-    let mut run = Run::new(alloc)?;
+    let mut run = Run::new(alloc, command)?;
     let mut buf = vec![in alloc; 0; MOST_MESSAGE]?;
-    run_then_end(&mut run, world, judge, sink, &mut buf)?;
+    run_then_end(&mut run, world, judge, sink, &mut buf, rounds)?;
     Ok(run.events)
 }
 
 /// Runs the world to its end with one application, and writes the report.
 ///
-/// The lines of an event are written when its dispatch has ended. However the run ends, the application is ended. What is
-/// wrong with the outside, the sink or a switch ends the run, and so do events that are left after the last batch.
+/// The world is opened at the port. The words of the command start the application, at first and after each failed turn. At
+/// most so many rounds are run; one is a batch and the events that wait then. The lines of an event are written when its
+/// dispatch has ended. However the run ends, the application is ended. What is wrong with the outside, the sink or a switch
+/// ends the run, and so do events that are left after the last batch.
+///
+/// What is said of the reference run holds where fewer stimuli come than there are rounds. Of a run with as many stimuli as
+/// rounds, or more, nothing is promised of it yet. No clause speaks of the port or of the words of the command.
 #[tactic(auto, using(crate::specs::laws::WhyLaws::continues_then, crate::specs::laws::WhyLaws::why_behind, crate::specs::laws::WhyLaws::why_sink, crate::specs::laws::WhyLaws::same_fell))]
 pub fn serve<W: World, J: Judge, K: Sink>(
     alloc: Global,
+    command: Vec<String>,
     world: &mut W,
     judge: &J,
     sink: &mut K,
+    port: u16,
+    rounds: u64,
 ) -> Served
+    requires rounds { rounds ≤ most_rounds }
     ensures continues { Continues W.Tells (W.seen world.old) (W.seen world.new) }
     ensures never_fell { NeverFell (K.faults sink.old) (K.faults sink.new) }
     // Each end but the whole one and want of memory has its cause in this call.
     ensures end_has_cause { IsWhy W.Tells (W.seen world.old) (W.seen world.new) (K.faults sink.old) (K.faults sink.new) result }
-    // In a world that tells and keeps its word, on which no call was made before, the run is the reference controller's over what the
-    // world told: the tables agree at every quiescent point, the application was given what it is given there, and what was written is the
-    // report, whole where all events were dispatched, and as far as these go where some were left. It is so, too, over all that was said
-    // of the application, of which the world told the front.
-    ensures reference_run { (allows : List Place → Bool) → Premise W.Tells (J.accepts judge.now) allows (W.seen world.old) (W.seen world.new)
+    // In a world that tells and keeps its word, on which no call was made before, where fewer stimuli come than there are rounds, the run
+    // is the reference controller's over what the world told: the tables agree at every quiescent point, the application was given what it
+    // is given there, and what was written is the report, whole where all events were dispatched, and as far as these go where some were
+    // left. It is so, too, over all that was said of the application, of which the world told the front.
+    ensures reference_run { (allows : List Place → Bool) → Premise W.Tells (J.accepts judge.now) allows rounds (W.seen world.old) (W.seen world.new)
         → IsAlike allows (W.seen world.new) (K.contents sink.old) (K.contents sink.new) result }
     // Where a fault ends the run, it is so up to a point, with the lines of all that was done up to there, and where the sink failed,
-    // with a part of the lines of the last; if the world kept its word as far as there, whatever came behind it. The whole journal is a
-    // dialogue with the application then. A world that tells in order kept its word as far as there, since all bytes that came are
-    // messages up to there. Behind it no quiescent point lies in such a world, and no other application was called.
-    ensures reference_run_until_fault { (allows : List Place → Bool) → PremiseSoFar W.Tells (J.accepts judge.now) allows (W.seen world.old) (W.seen world.new)
+    // with a part of the lines of the last; if the world kept its word as far as there, with fewer stimuli than rounds, whatever came
+    // behind it. The whole journal is a dialogue with the application then. A world that tells in order kept its word as far as there,
+    // since all bytes that came are messages up to there. Behind it no quiescent point lies in such a world, and no other application was
+    // called.
+    ensures reference_run_until_fault { (allows : List Place → Bool) → PremiseSoFar W.Tells (J.accepts judge.now) allows rounds (W.seen world.old) (W.seen world.new)
         → IsCut allows (W.seen world.new) (K.contents sink.old) (K.contents sink.new) result }
     // In a world that keeps its word to the end no switch is at fault for what it sent: of a switch only its link ends a run.
-    ensures no_switch_at_fault { (allows : List Place → Bool) → Premise W.Tells (J.accepts judge.now) allows (W.seen world.old) (W.seen world.new) → IsPlainServed result }
+    ensures no_switch_at_fault { (allows : List Place → Bool) → Premise W.Tells (J.accepts judge.now) allows rounds (W.seen world.old) (W.seen world.new) → IsPlainServed result }
     // In a world that tells in order, though bytes that come of switches may be no messages: no call of a link is a stray one, and at the end
     // of a run that no fault ends all that came of switches is messages, so that the world kept its word.
     ensures no_stray_call { W.Tells → (W.seen world.old).history ≡ [] → InOrder (W.seen world.new) → MakesNoStrayCall (W.seen world.old) (W.seen world.new) }
@@ -293,10 +312,10 @@ pub fn serve<W: World, J: Judge, K: Sink>(
     // However the run ends, each application that was started is ended: where no call was made before, none runs.
     ensures every_application_ended { W.Tells → (W.seen world.old).history ≡ [] → (state (W.seen world.new)).running ≡ [] }
 {
-    if let Err(served) = open(world) {
+    if let Err(served) = open(world, port) {
         return served;
     }
-    match run(alloc, world, judge, sink) {
+    match run(alloc, command, world, judge, sink, rounds) {
         Ok(events) => Served::Ended { events },
         Err(served) => served,
     }

@@ -21,6 +21,7 @@ use Rattle.lego_model.specs.Application.{index}
 use Rattle.lego_model.specs.OrderlySteps.{IsOrderly}
 use Rattle.run_laws.specs.laws.StimuliLaws.{told-few}
 use Rattle.run_laws.specs.Promise.{PremiseSoFar}
+use Rattle.event_dispatch.specs.Runs.{most_rounds}
 use Rattle.lego_model.specs.AllLines.{CutBehindLines, CutInLines, CutForMemory}
 use Rattle.run_laws.specs.Cut.{CutAt, CutAlike, CutWithLines, CutWriting}
 use Rattle.lego_model.specs.CutRun.{Progress, WroteSoFar, WasWriting, AlikeUpTo, CutBetweenLines, NothingDone}
@@ -160,9 +161,9 @@ strays_of sim a b served.NoMemory order none links fault cut = strays_or_nothing
 -- ---- What the engine promises of a run that a fault ends
 
 abbrev pub PromisesCut : Seen Scripts → Seen Scripts → Option (List ℕ) → Option (List ℕ) → Served → Type 0
-PromisesCut old new contents now_contents end = (allows : List Place → Bool) → PremiseSoFar (Unit {0}) (λ (views : List TableView). true) allows old new → IsCut allows new contents now_contents end
+PromisesCut old new contents now_contents end = (allows : List Place → Bool) → PremiseSoFar (Unit {0}) (λ (views : List TableView). true) allows most_rounds old new → IsCut allows new contents now_contents end
 
-premise_so_far : (old new : Seen Scripts) → old.history ≡ [] → length old.given.stimuli ≤ 1000000 → Continues (Unit {0}) old new → PremiseSoFar (Unit {0}) (λ (views : List TableView). true) all_allowed old new
+premise_so_far : (old new : Seen Scripts) → old.history ≡ [] → length old.given.stimuli ≤ 1000000 → Continues (Unit {0}) old new → PremiseSoFar (Unit {0}) (λ (views : List TableView). true) all_allowed most_rounds old new
 premise_so_far old new none few continues = record {
   told = tt;
   judges = record { alike = λ seen net. refl };

@@ -23,6 +23,7 @@ use Rattle.session_text.specs.Loading.{given_by}
 use Rattle.lego_model.specs.History.{stimuli_in}
 use Rattle.run_laws.specs.laws.StimuliLaws.{told-few, told-all}
 use Rattle.run_laws.specs.Promise.{Premise}
+use Rattle.event_dispatch.specs.Runs.{most_rounds}
 use Rattle.event_dispatch.specs.declared.served.Served.{Served}
 use Rattle.event_dispatch.specs.declared.served.Served.TheVariants as served
 use Rattle.run_laws.specs.laws.DialogueLaws.{applications_in_place}
@@ -63,9 +64,9 @@ none_runs w is = ap (λ (steps : List WorldStep). (after_steps steps (at_first (
 
 -- what the engine promises of a world
 abbrev pub Promises : Seen Scripts → Seen Scripts → Option (List ℕ) → Option (List ℕ) → Served → Type 0
-Promises old new contents now_contents end = (allows : List Place → Bool) → Premise (Unit {0}) (λ (views : List TableView). true) allows old new → IsAlike allows new contents now_contents end
+Promises old new contents now_contents end = (allows : List Place → Bool) → Premise (Unit {0}) (λ (views : List TableView). true) allows most_rounds old new → IsAlike allows new contents now_contents end
 
-premise : (old new : Seen Scripts) → old.history ≡ [] → length old.given.stimuli ≤ 1000000 → Continues (Unit {0}) old new → Conforming new → Premise (Unit {0}) (λ (views : List TableView). true) all_allowed old new
+premise : (old new : Seen Scripts) → old.history ≡ [] → length old.given.stimuli ≤ 1000000 → Continues (Unit {0}) old new → Conforming new → Premise (Unit {0}) (λ (views : List TableView). true) all_allowed most_rounds old new
 premise old new none few continues keeps =
     let told : length (stimuli_in new) ≤ length new.given.stimuli = told-few new keeps in
     let same : length new.given.stimuli ≡ length old.given.stimuli = ap (λ g. length g.stimuli) continues.given in
@@ -177,7 +178,7 @@ switch_runs sim a b faults.NoMemory plain place = inl (lines_for_memory sim a b 
 
 -- what the engine promises of how the run ends
 abbrev pub PromisesPlain : Seen Scripts → Seen Scripts → Served → Type 0
-PromisesPlain old new end = (allows : List Place → Bool) → Premise (Unit {0}) (λ (views : List TableView). true) allows old new → IsPlainServed end
+PromisesPlain old new end = (allows : List Place → Bool) → Premise (Unit {0}) (λ (views : List TableView). true) allows most_rounds old new → IsPlainServed end
 
 pub runs_by_switch : (old sim : WorldData) (a b : Option (List ℕ)) (stop : Stop) (fault : TxnFault) → (seen_of old).history ≡ [] → length (seen_of old).given.stimuli ≤ 1000000 → Continues (Unit {0}) (seen_of old) (seen_of sim)
     → (BringMessages sim.history → Conforming (seen_of sim)) → (end : Served) → end ≡ served.Txn fault → PromisesPlain (seen_of old) (seen_of sim) end → stop ≡ stop_of_switch fault

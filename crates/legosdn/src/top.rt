@@ -19,7 +19,7 @@ ghost use Rattle.legosdn.specs.Headline.{is_command as is_command_in, faults_of,
 
 use crate::input::{parts_of, read_input};
 use crate::stop::Stop;
-use event_dispatch::{Served, serve};
+use event_dispatch::{MOST_ROUNDS, Served, serve};
 use lego_io::{Sink, Source};
 use outside::AllowAll;
 use session_text::read_session;
@@ -75,7 +75,7 @@ pub fn run_world<K: Sink>(alloc: Global, sink: &mut K, sim: &mut SimWorld) -> Re
     ensures ended { (seen_of sim.old).history ≡ [] → (state (seen_of sim.new)).running ≡ [] }
     ensures never_fell { NeverFell (K.faults sink.old) (K.faults sink.new) }
 {
-    let served = serve(alloc, sim, &AllowAll, sink);
+    let served = serve(alloc, Vec::new(alloc), sim, &AllowAll, sink, 0, MOST_ROUNDS);
     sim.keeps_word();
     match served {
         Served::Ended { .. } => Ok(()),

@@ -9,21 +9,17 @@ use Rattle.outside.specs.Conforming.{Conforming}
 use Rattle.lego_model.specs.History.{stimuli_in}
 use Rattle.run_laws.specs.Readings.{JudgesAlike}
 
--- a run takes fewer stimuli than this
-abbrev pub most_rounds : ℕ
-most_rounds = 1000000000
-
--- of a world on which no call was made, however far it keeps its word: it tells few stimuli up to there
-pub record PremiseSoFar {Own : Type 0} (Tells : Type 0) (accepts : List TableView → Bool) (allows : List Place → Bool) (old new : Seen Own) : Type 0 where
+-- of a world on which no call was made, however far it keeps its word: up to there it tells fewer stimuli than this number of rounds
+pub record PremiseSoFar {Own : Type 0} (Tells : Type 0) (accepts : List TableView → Bool) (allows : List Place → Bool) (most : ℕ) (old new : Seen Own) : Type 0 where
   pub told : Tells
   pub judges : JudgesAlike Own allows accepts
   pub untouched : old.history ≡ []
-  pub few : (front : Seen Own) → Conforming front → new.given ≡ front.given → Longer front.history new.history → length (stimuli_in front) < most_rounds
+  pub few : (front : Seen Own) → Conforming front → new.given ≡ front.given → Longer front.history new.history → length (stimuli_in front) < most
 
--- of a world on which no call was made, and that keeps its word
-pub record Premise {Own : Type 0} (Tells : Type 0) (accepts : List TableView → Bool) (allows : List Place → Bool) (old new : Seen Own) : Type 0 where
+-- of a world on which no call was made, and that keeps its word: it tells fewer stimuli than this number of rounds
+pub record Premise {Own : Type 0} (Tells : Type 0) (accepts : List TableView → Bool) (allows : List Place → Bool) (most : ℕ) (old new : Seen Own) : Type 0 where
   pub told : Tells
   pub keeps : Conforming new
   pub judges : JudgesAlike Own allows accepts
   pub untouched : old.history ≡ []
-  pub few : length (stimuli_in new) < most_rounds
+  pub few : length (stimuli_in new) < most

@@ -20,7 +20,6 @@ ghost use Rattle.run_laws.specs.Readings.{JudgesAlike};
 ghost use Rattle.run_laws.specs.Moves.{AtRest, Moved, Shown, OneHappens};
 ghost use Rattle.lego_model.specs.ReferenceRun.{dispatch_next, all_started};
 ghost use Rattle.run_laws.specs.First.{IsOpened, engine_at_first};
-ghost use Rattle.run_laws.specs.Promise.{most_rounds};
 ghost use Rattle.lego_model.specs.WholeRun.{EndsAlike, LeavesAlike};
 ghost use Rattle.run_laws.specs.Endings.{Leaves, RanOut, RanFull};
 ghost use Rattle.run_laws.specs.LastReport.{last_text};
@@ -63,12 +62,12 @@ pub fn ends_leave<W: World>()
 /// with the application: each answer is to its next message, a change has reached its switch at once where it is answered, and
 /// no call for the application is a stray one.
 pub fn runs_are_the_references<W: World>()
-    ensures out { (accepts : List TableView → Bool) (allows : List Place → Bool) (contents now_contents : Option (List ℕ)) (old new : Seen W.Own) (e : Engine)
-        → W.Tells → Conforming new → JudgesAlike W.Own allows accepts → IsOpened old → length (stimuli_in new) < most_rounds
-        → RanOut W.Tells accepts most_rounds contents now_contents old new engine_at_first e → EndsAlike allows new contents now_contents e.events }
-    ensures full { (accepts : List TableView → Bool) (allows : List Place → Bool) (left : ℕ) (contents now_contents : Option (List ℕ)) (old new : Seen W.Own)
-        → W.Tells → Conforming new → JudgesAlike W.Own allows accepts → IsOpened old → length (stimuli_in new) < most_rounds
-        → RanFull W.Tells accepts most_rounds left contents now_contents old new engine_at_first → LeavesAlike allows new contents now_contents left }
+    ensures out { (accepts : List TableView → Bool) (allows : List Place → Bool) (most : ℕ) (contents now_contents : Option (List ℕ)) (old new : Seen W.Own) (e : Engine)
+        → W.Tells → Conforming new → JudgesAlike W.Own allows accepts → IsOpened old → length (stimuli_in new) < most
+        → RanOut W.Tells accepts most contents now_contents old new engine_at_first e → EndsAlike allows new contents now_contents e.events }
+    ensures full { (accepts : List TableView → Bool) (allows : List Place → Bool) (most left : ℕ) (contents now_contents : Option (List ℕ)) (old new : Seen W.Own)
+        → W.Tells → Conforming new → JudgesAlike W.Own allows accepts → IsOpened old → length (stimuli_in new) < most
+        → RanFull W.Tells accepts most left contents now_contents old new engine_at_first → LeavesAlike allows new contents now_contents left }
 {}
 
 /// Of a world that was just opened and that keeps its word up to a point: where a fault ends a run whose parts are those of the

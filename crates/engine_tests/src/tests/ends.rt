@@ -1,6 +1,6 @@
 //! How a run ends, and what it wrote: worked out by hand.
 
-use event_dispatch::{Served, serve};
+use event_dispatch::{MOST_ROUNDS, Served, serve};
 use lego_io::MemSink;
 use outside::{AllowAll, CallKind};
 use sim_world::SimWorld;
@@ -41,7 +41,8 @@ fn run(
         sim.fail_call(kind, 0, number)?;
     }
     let mut sink = MemSink::new(alloc, 4096, failing_writes)?;
-    let served = serve(alloc, &mut sim, &AllowAll, &mut sink);
+    let none = Vec::new(alloc);
+    let served = serve(alloc, none, &mut sim, &AllowAll, &mut sink, 0, MOST_ROUNDS);
     Ok((ending_of(&served), sink))
 }
 

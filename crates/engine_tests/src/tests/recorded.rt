@@ -3,7 +3,7 @@
 
 ghost use Rattle.std.specs.Prelude.{◌≡◌, length, IfOk};
 
-use event_dispatch::{Served, serve};
+use event_dispatch::{MOST_ROUNDS, Served, serve};
 use lego_io::MemSink;
 use net_txn::TxnFault;
 use of_types::Dpid;
@@ -39,7 +39,16 @@ fn run_traced<W: World + Drop>(
 ) -> Result<(Served, W, MemSink), AllocError> {
     let mut traced = Traced::new(alloc, world, MemSink::new(alloc, 65_536, &[])?);
     let mut report = MemSink::new(alloc, 65_536, &[])?;
-    let served = serve(alloc, &mut traced, &AllowAll, &mut report);
+    let none = Vec::new(alloc);
+    let served = serve(
+        alloc,
+        none,
+        &mut traced,
+        &AllowAll,
+        &mut report,
+        0,
+        MOST_ROUNDS,
+    );
     let (world, acts) = traced.into_parts();
     Ok((served, world, acts))
 }

@@ -148,17 +148,17 @@ finish_cut Tells faults.NoMemory contents now_contents last new e none ends = re
 
 -- ---- A whole run
 
-pub goes_cut : {Own : Type 0} (Tells : Type 0) (accepts : List TableView → Bool) (fault : Fault) (contents now_contents : Option (List ℕ)) (old new : Seen Own) (e : Engine) → Continues Tells old new → CutGoes Tells accepts fault contents now_contents old new e
-    → CutAs Tells accepts (served_by fault) contents now_contents old new e
-goes_cut Tells accepts faults.Write contents now_contents old new e on goes = record { fault = faults.Write; end_so = refl; stop = new; before = on; later = Continues-refl Tells new; talks = keeps_none Tells new; no_point = quietly_none Tells new; none_moves = none_move Tells new; goes = goes }
-goes_cut Tells accepts faults.Next contents now_contents old new e on goes = record { fault = faults.Next; end_so = refl; stop = new; before = on; later = Continues-refl Tells new; talks = keeps_none Tells new; no_point = quietly_none Tells new; none_moves = none_move Tells new; goes = goes }
-goes_cut Tells accepts (faults.Txn fault) contents now_contents old new e on goes = record { fault = faults.Txn fault; end_so = refl; stop = new; before = on; later = Continues-refl Tells new; talks = keeps_none Tells new; no_point = quietly_none Tells new; none_moves = none_move Tells new; goes = goes }
-goes_cut Tells accepts faults.NoMemory contents now_contents old new e on goes = record { fault = faults.NoMemory; end_so = refl; stop = new; before = on; later = Continues-refl Tells new; talks = keeps_none Tells new; no_point = quietly_none Tells new; none_moves = none_move Tells new; goes = goes }
+pub goes_cut : {Own : Type 0} (Tells : Type 0) (accepts : List TableView → Bool) (most : ℕ) (fault : Fault) (contents now_contents : Option (List ℕ)) (old new : Seen Own) (e : Engine) → Continues Tells old new → CutGoes Tells accepts most fault contents now_contents old new e
+    → CutAs Tells accepts most (served_by fault) contents now_contents old new e
+goes_cut Tells accepts most faults.Write contents now_contents old new e on goes = record { fault = faults.Write; end_so = refl; stop = new; before = on; later = Continues-refl Tells new; talks = keeps_none Tells new; no_point = quietly_none Tells new; none_moves = none_move Tells new; goes = goes }
+goes_cut Tells accepts most faults.Next contents now_contents old new e on goes = record { fault = faults.Next; end_so = refl; stop = new; before = on; later = Continues-refl Tells new; talks = keeps_none Tells new; no_point = quietly_none Tells new; none_moves = none_move Tells new; goes = goes }
+goes_cut Tells accepts most (faults.Txn fault) contents now_contents old new e on goes = record { fault = faults.Txn fault; end_so = refl; stop = new; before = on; later = Continues-refl Tells new; talks = keeps_none Tells new; no_point = quietly_none Tells new; none_moves = none_move Tells new; goes = goes }
+goes_cut Tells accepts most faults.NoMemory contents now_contents old new e on goes = record { fault = faults.NoMemory; end_so = refl; stop = new; before = on; later = Continues-refl Tells new; talks = keeps_none Tells new; no_point = quietly_none Tells new; none_moves = none_move Tells new; goes = goes }
 
 -- a fault ended the rounds
-pub rounds_cut : {Own : Type 0} (Tells : Type 0) (accepts : List TableView → Bool) (fault : Fault) (a b c : Option (List ℕ)) (old begun new : Seen Own) (r begun_r : Run) → Continues Tells old begun → Begins Tells a b old begun r begun_r → Reads Tells old begun r.net begun_r.net → Continues Tells begun new
-    → CutRounds Tells accepts fault b c begun new begun_r → CutAs Tells accepts (served_by fault) a c old new (engine_of r)
-rounds_cut Tells accepts fault a b c old begun new r begun_r first begins reads later rounds = goes_cut Tells accepts fault a c old new (engine_of r) (Continues-trans Tells old begun new first later) (inr (inl (record {
+pub rounds_cut : {Own : Type 0} (Tells : Type 0) (accepts : List TableView → Bool) (most : ℕ) (fault : Fault) (a b c : Option (List ℕ)) (old begun new : Seen Own) (r begun_r : Run) → Continues Tells old begun → Begins Tells a b old begun r begun_r → Reads Tells old begun r.net begun_r.net → Continues Tells begun new
+    → CutRounds Tells accepts fault b c begun new begun_r → CutAs Tells accepts most (served_by fault) a c old new (engine_of r)
+rounds_cut Tells accepts most fault a b c old begun new r begun_r first begins reads later rounds = goes_cut Tells accepts most fault a c old new (engine_of r) (Continues-trans Tells old begun new first later) (inr (inl (record {
   text = begins.text;
   begun = begun;
   begun_run = begun_r;
@@ -172,10 +172,10 @@ rounds_cut Tells accepts fault a b c old begun new r begun_r first begins reads 
 })))
 
 -- or the end of the report
-end_cut : {Own : Type 0} (Tells : Type 0) (accepts : List TableView → Bool) (end : Served) (a b c d : Option (List ℕ)) (old begun last new : Seen Own) (r r1 r2 : Run) → WentToEnd Tells accepts a b c old begun last r r1 r2 → Continues Tells last new → CutFinish Tells end c d last new (engine_of r2) → CutAs Tells accepts end a d old new (engine_of r)
-end_cut Tells accepts end a b c d old begun last new r r1 r2 w later cut =
+end_cut : {Own : Type 0} (Tells : Type 0) (accepts : List TableView → Bool) (most : ℕ) (end : Served) (a b c d : Option (List ℕ)) (old begun last new : Seen Own) (r r1 r2 : Run) → WentToEnd Tells accepts most a b c old begun last r r1 r2 → Continues Tells last new → CutFinish Tells end c d last new (engine_of r2) → CutAs Tells accepts most end a d old new (engine_of r)
+end_cut Tells accepts most end a b c d old begun last new r r1 r2 w later cut =
     let whole = Continues-trans Tells old last new (Continues-trans Tells old begun last w.first w.on) later in
-    subst (λ (s : Served). CutAs Tells accepts s a d old new (engine_of r)) (sym cut.end_so) (goes_cut Tells accepts cut.fault a d old new (engine_of r) whole (inr (inr (record {
+    subst (λ (s : Served). CutAs Tells accepts most s a d old new (engine_of r)) (sym cut.end_so) (goes_cut Tells accepts most cut.fault a d old new (engine_of r) whole (inr (inr (record {
       text = w.begins.text;
       begun = begun;
       begun_run = r1;
@@ -195,20 +195,20 @@ end_cut Tells accepts end a b c d old begun last new r r1 r2 w later cut =
       ends = cut.ends;
     }))))
 
-pub went_cut : {Own : Type 0} (Tells : Type 0) (accepts : List TableView → Bool) (result : Result (Unit {0}) Served) (a b c d : Option (List ℕ)) (old begun last new : Seen Own) (r r1 r2 : Run) → WentToEnd Tells accepts a b c old begun last r r1 r2
-    → Continues Tells last new → IfErr result (λ end. CutFinishAs Tells end c d last new (engine_of r2)) → IfErr result (λ end. CutAs Tells accepts end a d old new (engine_of r))
-went_cut Tells accepts (Ok x) a b c d old begun last new r r1 r2 w later cut = tt
-went_cut Tells accepts (Err (served.EventsLeft left)) a b c d old begun last new r r1 r2 w later cut = tt
-went_cut Tells accepts (Err (served.Ended events)) a b c d old begun last new r r1 r2 w later cut = end_cut Tells accepts (served.Ended events) a b c d old begun last new r r1 r2 w later cut
-went_cut Tells accepts (Err served.WriteFault) a b c d old begun last new r r1 r2 w later cut = end_cut Tells accepts served.WriteFault a b c d old begun last new r r1 r2 w later cut
-went_cut Tells accepts (Err served.Shut) a b c d old begun last new r r1 r2 w later cut = end_cut Tells accepts served.Shut a b c d old begun last new r r1 r2 w later cut
-went_cut Tells accepts (Err served.NextFault) a b c d old begun last new r r1 r2 w later cut = end_cut Tells accepts served.NextFault a b c d old begun last new r r1 r2 w later cut
-went_cut Tells accepts (Err (served.Txn fault)) a b c d old begun last new r r1 r2 w later cut = end_cut Tells accepts (served.Txn fault) a b c d old begun last new r r1 r2 w later cut
-went_cut Tells accepts (Err served.NoMemory) a b c d old begun last new r r1 r2 w later cut = end_cut Tells accepts served.NoMemory a b c d old begun last new r r1 r2 w later cut
+pub went_cut : {Own : Type 0} (Tells : Type 0) (accepts : List TableView → Bool) (most : ℕ) (result : Result (Unit {0}) Served) (a b c d : Option (List ℕ)) (old begun last new : Seen Own) (r r1 r2 : Run) → WentToEnd Tells accepts most a b c old begun last r r1 r2
+    → Continues Tells last new → IfErr result (λ end. CutFinishAs Tells end c d last new (engine_of r2)) → IfErr result (λ end. CutAs Tells accepts most end a d old new (engine_of r))
+went_cut Tells accepts most (Ok x) a b c d old begun last new r r1 r2 w later cut = tt
+went_cut Tells accepts most (Err (served.EventsLeft left)) a b c d old begun last new r r1 r2 w later cut = tt
+went_cut Tells accepts most (Err (served.Ended events)) a b c d old begun last new r r1 r2 w later cut = end_cut Tells accepts most (served.Ended events) a b c d old begun last new r r1 r2 w later cut
+went_cut Tells accepts most (Err served.WriteFault) a b c d old begun last new r r1 r2 w later cut = end_cut Tells accepts most served.WriteFault a b c d old begun last new r r1 r2 w later cut
+went_cut Tells accepts most (Err served.Shut) a b c d old begun last new r r1 r2 w later cut = end_cut Tells accepts most served.Shut a b c d old begun last new r r1 r2 w later cut
+went_cut Tells accepts most (Err served.NextFault) a b c d old begun last new r r1 r2 w later cut = end_cut Tells accepts most served.NextFault a b c d old begun last new r r1 r2 w later cut
+went_cut Tells accepts most (Err (served.Txn fault)) a b c d old begun last new r r1 r2 w later cut = end_cut Tells accepts most (served.Txn fault) a b c d old begun last new r r1 r2 w later cut
+went_cut Tells accepts most (Err served.NoMemory) a b c d old begun last new r r1 r2 w later cut = end_cut Tells accepts most served.NoMemory a b c d old begun last new r r1 r2 w later cut
 
 -- the run goes on, as with the end of the application
-on_cut : {Own : Type 0} (Tells : Type 0) (accepts : List TableView → Bool) (end : Served) (a b : Option (List ℕ)) (old mid new : Seen Own) (e : Engine) → Continues Tells mid new → KeepsTalking Tells mid new → NoPoint Tells mid new → NoneMoves Tells mid new → CutRun Tells accepts end a b old mid e → CutRun Tells accepts end a b old new e
-on_cut Tells accepts end a b old mid new e later talks no_point none_moves cut = record {
+on_cut : {Own : Type 0} (Tells : Type 0) (accepts : List TableView → Bool) (most : ℕ) (end : Served) (a b : Option (List ℕ)) (old mid new : Seen Own) (e : Engine) → Continues Tells mid new → KeepsTalking Tells mid new → NoPoint Tells mid new → NoneMoves Tells mid new → CutRun Tells accepts most end a b old mid e → CutRun Tells accepts most end a b old new e
+on_cut Tells accepts most end a b old mid new e later talks no_point none_moves cut = record {
   fault = cut.fault;
   end_so = cut.end_so;
   stop = cut.stop;
@@ -220,17 +220,17 @@ on_cut Tells accepts end a b old mid new e later talks no_point none_moves cut =
   goes = cut.goes;
 }
 
-pub goes_on_cut : {Own : Type 0} (Tells : Type 0) (accepts : List TableView → Bool) (result : Result (Unit {0}) Served) (a b : Option (List ℕ)) (old mid new : Seen Own) (e : Engine) → Continues Tells mid new → KeepsTalking Tells mid new → NoPoint Tells mid new → NoneMoves Tells mid new → IfErr result (λ end. CutAs Tells accepts end a b old mid e)
-    → IfErr result (λ end. CutAs Tells accepts end a b old new e)
-goes_on_cut Tells accepts (Ok x) a b old mid new e later talks no_point none_moves cut = tt
-goes_on_cut Tells accepts (Err (served.EventsLeft left)) a b old mid new e later talks no_point none_moves cut = tt
-goes_on_cut Tells accepts (Err (served.Ended events)) a b old mid new e later talks no_point none_moves cut = on_cut Tells accepts (served.Ended events) a b old mid new e later talks no_point none_moves cut
-goes_on_cut Tells accepts (Err served.WriteFault) a b old mid new e later talks no_point none_moves cut = on_cut Tells accepts served.WriteFault a b old mid new e later talks no_point none_moves cut
-goes_on_cut Tells accepts (Err served.Shut) a b old mid new e later talks no_point none_moves cut = on_cut Tells accepts served.Shut a b old mid new e later talks no_point none_moves cut
-goes_on_cut Tells accepts (Err served.NextFault) a b old mid new e later talks no_point none_moves cut = on_cut Tells accepts served.NextFault a b old mid new e later talks no_point none_moves cut
-goes_on_cut Tells accepts (Err (served.Txn fault)) a b old mid new e later talks no_point none_moves cut = on_cut Tells accepts (served.Txn fault) a b old mid new e later talks no_point none_moves cut
-goes_on_cut Tells accepts (Err served.NoMemory) a b old mid new e later talks no_point none_moves cut = on_cut Tells accepts served.NoMemory a b old mid new e later talks no_point none_moves cut
+pub goes_on_cut : {Own : Type 0} (Tells : Type 0) (accepts : List TableView → Bool) (most : ℕ) (result : Result (Unit {0}) Served) (a b : Option (List ℕ)) (old mid new : Seen Own) (e : Engine) → Continues Tells mid new → KeepsTalking Tells mid new → NoPoint Tells mid new → NoneMoves Tells mid new → IfErr result (λ end. CutAs Tells accepts most end a b old mid e)
+    → IfErr result (λ end. CutAs Tells accepts most end a b old new e)
+goes_on_cut Tells accepts most (Ok x) a b old mid new e later talks no_point none_moves cut = tt
+goes_on_cut Tells accepts most (Err (served.EventsLeft left)) a b old mid new e later talks no_point none_moves cut = tt
+goes_on_cut Tells accepts most (Err (served.Ended events)) a b old mid new e later talks no_point none_moves cut = on_cut Tells accepts most (served.Ended events) a b old mid new e later talks no_point none_moves cut
+goes_on_cut Tells accepts most (Err served.WriteFault) a b old mid new e later talks no_point none_moves cut = on_cut Tells accepts most served.WriteFault a b old mid new e later talks no_point none_moves cut
+goes_on_cut Tells accepts most (Err served.Shut) a b old mid new e later talks no_point none_moves cut = on_cut Tells accepts most served.Shut a b old mid new e later talks no_point none_moves cut
+goes_on_cut Tells accepts most (Err served.NextFault) a b old mid new e later talks no_point none_moves cut = on_cut Tells accepts most served.NextFault a b old mid new e later talks no_point none_moves cut
+goes_on_cut Tells accepts most (Err (served.Txn fault)) a b old mid new e later talks no_point none_moves cut = on_cut Tells accepts most (served.Txn fault) a b old mid new e later talks no_point none_moves cut
+goes_on_cut Tells accepts most (Err served.NoMemory) a b old mid new e later talks no_point none_moves cut = on_cut Tells accepts most served.NoMemory a b old mid new e later talks no_point none_moves cut
 
 -- memory ran out before anything was done
-pub short_cut : {Own : Type 0} (Tells : Type 0) (accepts : List TableView → Bool) (contents : Option (List ℕ)) (seen : Seen Own) (e : Engine) → CutAs Tells accepts served.NoMemory contents contents seen seen e
-short_cut Tells accepts contents seen e = goes_cut Tells accepts faults.NoMemory contents contents seen seen e (Continues-refl Tells seen) (inl (refl, keeps_none Tells seen, quietly_none Tells seen))
+pub short_cut : {Own : Type 0} (Tells : Type 0) (accepts : List TableView → Bool) (most : ℕ) (contents : Option (List ℕ)) (seen : Seen Own) (e : Engine) → CutAs Tells accepts most served.NoMemory contents contents seen seen e
+short_cut Tells accepts most contents seen e = goes_cut Tells accepts most faults.NoMemory contents contents seen seen e (Continues-refl Tells seen) (inl (refl, keeps_none Tells seen, quietly_none Tells seen))

@@ -238,20 +238,20 @@ run_rounds old mid new r then_r end rounds later rest = record {
 
 -- ---- A whole run
 
-pub whole_anyway : {Own : Type 0} {Tells : Type 0} {accepts : List TableView → Bool} (old new : Seen Own) (e : Engine) (end : Served) → IsPlainServed end → PlainWhole Tells accepts old new e end
+pub whole_anyway : {Own : Type 0} {Tells : Type 0} {accepts : List TableView → Bool} {most : ℕ} (old new : Seen Own) (e : Engine) (end : Served) → IsPlainServed end → PlainWhole Tells accepts most old new e end
 whole_anyway old new e end plain = record { plain = λ allows told keeps judges settled few. plain }
 
 begun_settled : {Own : Type 0} {Tells : Type 0} {a b : Option (List ℕ)} {old mid : Seen Own} {r then_r : Run} → Begins Tells a b old mid r then_r → Tells → Conforming mid → AtRest old (engine_of r) → AtRest mid (engine_of then_r)
 begun_settled begins told keeps settled = (begins.shown.moved told keeps settled).settled
 
-pub whole_rounds : {Own : Type 0} {Tells : Type 0} {accepts : List TableView → Bool} {a b : Option (List ℕ)} (old mid new : Seen Own) (r then_r : Run) (end : Served) → Begins Tells a b old mid r then_r → Continues Tells mid new
-    → PlainRun Tells accepts mid new (engine_of then_r) end → PlainWhole Tells accepts old new (engine_of r) end
+pub whole_rounds : {Own : Type 0} {Tells : Type 0} {accepts : List TableView → Bool} {most : ℕ} {a b : Option (List ℕ)} (old mid new : Seen Own) (r then_r : Run) (end : Served) → Begins Tells a b old mid r then_r → Continues Tells mid new
+    → PlainRun Tells accepts mid new (engine_of then_r) end → PlainWhole Tells accepts most old new (engine_of r) end
 whole_rounds old mid new r then_r end begins later rest = record {
   plain = λ allows told keeps judges settled few. rest.plain allows told keeps judges (begun_settled begins told (Conforming-before told later keeps) settled);
 }
 
-pub whole_finish : {Own : Type 0} {Tells : Type 0} {accepts : List TableView → Bool} {a b c : Option (List ℕ)} (old mid last new : Seen Own) (r then_r last_r : Run) (result : Result (Unit {0}) Served) → Begins Tells a b old mid r then_r → Continues Tells mid last
-    → GoesToEnd Tells accepts b c mid last then_r last_r → Continues Tells last new → IfErr result (PlainCalm Tells last new last_r.net) → IfErr result (PlainWhole Tells accepts old new (engine_of r))
+pub whole_finish : {Own : Type 0} {Tells : Type 0} {accepts : List TableView → Bool} {most : ℕ} {a b c : Option (List ℕ)} (old mid last new : Seen Own) (r then_r last_r : Run) (result : Result (Unit {0}) Served) → Begins Tells a b old mid r then_r → Continues Tells mid last
+    → GoesToEnd Tells accepts most b c mid last then_r last_r → Continues Tells last new → IfErr result (PlainCalm Tells last new last_r.net) → IfErr result (PlainWhole Tells accepts most old new (engine_of r))
 whole_finish old mid last new r then_r last_r (Ok x) begins on rounds later ends = tt
 whole_finish {Tells = Tells} old mid last new r then_r last_r (Err end) begins on rounds later ends = record {
   plain = λ allows told keeps judges settled few.
@@ -261,9 +261,9 @@ whole_finish {Tells = Tells} old mid last new r then_r last_r (Err end) begins o
       ends.plain told keeps all.moved.settled.calm;
 }
 
-pub whole_then : {Own : Type 0} {Tells : Type 0} (accepts : List TableView → Bool) (old mid new : Seen Own) (e : Engine) (result : Result (Unit {0}) Served) → Continues Tells mid new → IfErr result (PlainWhole Tells accepts old mid e) → IfErr result (PlainWhole Tells accepts old new e)
-whole_then accepts old mid new e (Ok x) later whole = tt
-whole_then {Tells = Tells} accepts old mid new e (Err end) later whole = record {
+pub whole_then : {Own : Type 0} {Tells : Type 0} (accepts : List TableView → Bool) (most : ℕ) (old mid new : Seen Own) (e : Engine) (result : Result (Unit {0}) Served) → Continues Tells mid new → IfErr result (PlainWhole Tells accepts most old mid e) → IfErr result (PlainWhole Tells accepts most old new e)
+whole_then accepts most old mid new e (Ok x) later whole = tt
+whole_then {Tells = Tells} accepts most old mid new e (Err end) later whole = record {
   plain = λ allows told keeps judges settled few. whole.plain allows told (Conforming-before told later keeps) judges settled (fewer-before Tells mid new told later few);
 }
 
@@ -277,9 +277,9 @@ unopened_plain Tells old new (ends.Txn fault) is = absurd is
 unopened_plain Tells old new (ends.EventsLeft left) is = tt
 unopened_plain Tells old new ends.NoMemory is = tt
 
-pub served_plain : {Own : Type 0} (Tells : Type 0) (accepts : List TableView → Bool) (end : Served) (old mid new : Seen Own) → (Tells → mid.history ≡ old.history ++ Opened ∷ []) → PlainWhole Tells accepts mid new engine_at_first end
-    → (allows : List Place → Bool) → Premise Tells accepts allows old new → IsPlainServed end
-served_plain Tells accepts end old mid new opened whole allows p = whole.plain allows p.told p.keeps p.judges (settled-first mid (opened_so old mid p.untouched (opened p.told))) p.few
+pub served_plain : {Own : Type 0} (Tells : Type 0) (accepts : List TableView → Bool) (most : ℕ) (end : Served) (old mid new : Seen Own) → (Tells → mid.history ≡ old.history ++ Opened ∷ []) → PlainWhole Tells accepts most mid new engine_at_first end
+    → (allows : List Place → Bool) → Premise Tells accepts allows most old new → IsPlainServed end
+served_plain Tells accepts most end old mid new opened whole allows p = whole.plain allows p.told p.keeps p.judges (settled-first mid (opened_so old mid p.untouched (opened p.told))) p.few
 
 pub on_err : {T E : Type 0} {P Q : E → Type 0} (r : Result T E) → ((e : E) → P e → Q e) → IfErr r P → IfErr r Q
 on_err (Ok x) f p = tt

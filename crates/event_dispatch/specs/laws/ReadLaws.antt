@@ -154,12 +154,12 @@ all_read Tells old mid new later opened has told none order =
     let is : IsOpened mid = opened told ∙ ap (λ (steps : List WorldStep). steps ++ Opened ∷ []) none in
     messages-of new (Conforming-on mid new told later (keeps_first mid is (InOrder-before told later order)) order (has.read told order (abreast_first mid is)))
 
-pub failed_read : {Own : Type 0} (Tells : Type 0) (accepts : List TableView → Bool) (end : Served) (a b : Option (List ℕ)) (old mid new : Seen Own) → Continues Tells mid new → (Tells → mid.history ≡ old.history ++ Opened ∷ []) → RunsAs Tells accepts (Err end) a b mid new
+pub failed_read : {Own : Type 0} (Tells : Type 0) (accepts : List TableView → Bool) (most : ℕ) (end : Served) (a b : Option (List ℕ)) (old mid new : Seen Own) → Continues Tells mid new → (Tells → mid.history ≡ old.history ++ Opened ∷ []) → RunsAs Tells accepts most (Err end) a b mid new
     → ReadsEnd Tells end mid new net_at_first → Tells → old.history ≡ [] → InOrder new → IsReadServed new end
-failed_read Tells accepts (served.EventsLeft left) a b old mid new later opened runs reads told none order = all_read Tells old mid new later opened reads told none order
-failed_read Tells accepts (served.Ended events) a b old mid new later opened runs reads told none order = absurd runs
-failed_read Tells accepts served.WriteFault a b old mid new later opened runs reads told none order = tt
-failed_read Tells accepts served.Shut a b old mid new later opened runs reads told none order = tt
-failed_read Tells accepts served.NextFault a b old mid new later opened runs reads told none order = tt
-failed_read Tells accepts (served.Txn fault) a b old mid new later opened runs reads told none order = tt
-failed_read Tells accepts served.NoMemory a b old mid new later opened runs reads told none order = tt
+failed_read Tells accepts most (served.EventsLeft left) a b old mid new later opened runs reads told none order = all_read Tells old mid new later opened reads told none order
+failed_read Tells accepts most (served.Ended events) a b old mid new later opened runs reads told none order = absurd runs
+failed_read Tells accepts most served.WriteFault a b old mid new later opened runs reads told none order = tt
+failed_read Tells accepts most served.Shut a b old mid new later opened runs reads told none order = tt
+failed_read Tells accepts most served.NextFault a b old mid new later opened runs reads told none order = tt
+failed_read Tells accepts most (served.Txn fault) a b old mid new later opened runs reads told none order = tt
+failed_read Tells accepts most served.NoMemory a b old mid new later opened runs reads told none order = tt

@@ -26,7 +26,6 @@ use Rattle.run_laws.specs.laws.DispatchWaitingLaws.{settle-times, times-more, ti
 use Rattle.run_laws.specs.laws.RoundLaws.{rounds-none, rounds-more, rounds-end}
 use Rattle.run_laws.specs.laws.StartShownLaws.{start-shown}
 use Rattle.run_laws.specs.laws.EventLaws.{next-shown, rest-shown}
-use Rattle.run_laws.specs.Promise.{most_rounds}
 use Rattle.event_dispatch.specs.declared.batch.Rest.{Rest}
 use Rattle.event_dispatch.specs.declared.batch.Rest.TheVariants as rests
 use Rattle.event_dispatch.specs.declared.run.Managed.{Managed}
@@ -187,11 +186,11 @@ rounds_next Tells accepts n a b c old mid new r then_r now_r rounds one = record
   writes = writes_then rounds.text one.dispatches.text a b c then_r now_r rounds.writes one.dispatches.writes;
 }
 
-pub rounds_last : {Own : Type 0} (Tells : Type 0) (accepts : List TableView → Bool) (n : ℕ) (a b c : Option (List ℕ)) (old mid new : Seen Own) (r then_r now_r : Run) → GoesRounds Tells accepts n a b old mid r then_r → GoesRound Tells accepts rests.End b c mid new then_r now_r
-    → GoesToEnd Tells accepts a c old new r now_r
-rounds_last Tells accepts n a b c old mid new r then_r now_r rounds one = record {
+pub rounds_last : {Own : Type 0} (Tells : Type 0) (accepts : List TableView → Bool) (most n : ℕ) (a b c : Option (List ℕ)) (old mid new : Seen Own) (r then_r now_r : Run) → GoesRounds Tells accepts n a b old mid r then_r → GoesRound Tells accepts rests.End b c mid new then_r now_r
+    → GoesToEnd Tells accepts most a c old new r now_r
+rounds_last Tells accepts most n a b c old mid new r then_r now_r rounds one = record {
   text = rounds.text ++ one.dispatches.text;
-  shown = rounds-end Tells accepts n most_rounds rounds.text one.dispatches.text old mid one.mid new (engine_of r) (engine_of then_r) (engine_of one.mid_run) (engine_of now_r) one.first one.later rounds.shown one.batch.over one.dispatches.shown;
+  shown = rounds-end Tells accepts n most rounds.text one.dispatches.text old mid one.mid new (engine_of r) (engine_of then_r) (engine_of one.mid_run) (engine_of now_r) one.first one.later rounds.shown one.batch.over one.dispatches.shown;
   none_to_come = record {
     none = λ allows told keeps judges settled few.
         let keeps_mid = Conforming-before told one.later keeps in
@@ -202,7 +201,7 @@ rounds_last Tells accepts n a b c old mid new r then_r now_r rounds one = record
 }
 
 -- so many rounds that there are not so many stimuli
-pub rounds_out : {Own : Type 0} (Tells : Type 0) (accepts : List TableView → Bool) (n : ℕ) (a b : Option (List ℕ)) (old new : Seen Own) (r now_r : Run) → 1000000000 ≤ n → GoesRounds Tells accepts n a b old new r now_r → GoesToEnd Tells accepts a b old new r now_r
+pub rounds_out : {Own : Type 0} (Tells : Type 0) (accepts : List TableView → Bool) (most n : ℕ) (a b : Option (List ℕ)) (old new : Seen Own) (r now_r : Run) → most ≤ n → GoesRounds Tells accepts n a b old new r now_r → GoesToEnd Tells accepts most a b old new r now_r
 rounds_out {Own} Tells accepts n a b old new r now_r many rounds = record {
   text = rounds.text;
   shown = record { to_end = λ allows told keeps judges settled few. absurd (never allows told keeps judges settled few) };
@@ -210,7 +209,7 @@ rounds_out {Own} Tells accepts n a b old new r now_r many rounds = record {
   writes = rounds.writes;
 }
   where
-    never : (allows : List Place → Bool) → Tells → Conforming new → JudgesAlike Own allows accepts → AtRest old (engine_of r) → length (stimuli_in new) < most_rounds → ⊥
+    never : (allows : List Place → Bool) → Tells → Conforming new → JudgesAlike Own allows accepts → AtRest old (engine_of r) → length (stimuli_in new) < most → ⊥
     never allows told keeps judges settled few =
         let one = rounds.shown.rounds_so allows told keeps judges settled in
         let long : length (stimuli_in new) ≡ length (stimuli_in old) + n =

@@ -21,7 +21,7 @@ use Rattle.run_laws.specs.laws.StimuliLaws.{none-later, fewer-front, fewer-befor
 use Rattle.run_laws.specs.LastReport.{last_text}
 use Rattle.run_laws.specs.Endings.{Leaves, ShownStart, ShownFinish, ShownLeaves}
 use Rattle.run_laws.specs.laws.EndingLaws.{whole-of, leaves-then, ran-out, ran-full}
-use Rattle.run_laws.specs.Promise.{most_rounds, PremiseSoFar, Premise}
+use Rattle.run_laws.specs.Promise.{PremiseSoFar, Premise}
 use Rattle.event_dispatch.specs.declared.fault.Fault.{Fault}
 use Rattle.event_dispatch.specs.declared.fault.Fault.TheVariants as faults
 use Rattle.event_dispatch.specs.declared.run.Run.{Run}
@@ -54,70 +54,70 @@ ends_so Tells contents now_contents last new r mid now_r none shown counted writ
 
 -- ---- From the start to the end
 
-none_then : {Own : Type 0} {text : List ℕ} (Tells : Type 0) (accepts : List TableView → Bool) (old begun last new : Seen Own) (e : Engine) (b c : Option (List ℕ)) (r1 r2 : Run) → Continues Tells begun last → Continues Tells last new → ShownStart Tells text old begun e (engine_of r1)
-    → GoesToEnd Tells accepts b c begun last r1 r2 → NoneToCome Tells accepts old new e
-none_then Tells accepts old begun last new e b c r1 r2 on later begins rounds = record {
+none_then : {Own : Type 0} {text : List ℕ} (Tells : Type 0) (accepts : List TableView → Bool) (most : ℕ) (old begun last new : Seen Own) (e : Engine) (b c : Option (List ℕ)) (r1 r2 : Run) → Continues Tells begun last → Continues Tells last new → ShownStart Tells text old begun e (engine_of r1)
+    → GoesToEnd Tells accepts most b c begun last r1 r2 → NoneToCome Tells accepts most old new e
+none_then Tells accepts most old begun last new e b c r1 r2 on later begins rounds = record {
   none = λ allows told keeps judges settled few.
       let keeps_last = Conforming-before told later keeps in
       let one = begins.moved told (Conforming-before told on keeps_last) settled in
       none-later Tells last new told later keeps (rounds.none_to_come.none allows told keeps_last judges one.settled (fewer-before Tells last new told later few));
 }
 
-pub went_out : {Own : Type 0} (Tells : Type 0) (accepts : List TableView → Bool) (a b c d : Option (List ℕ)) (old begun last new : Seen Own) (r r1 r2 now_r : Run) → Continues Tells begun last → Continues Tells last new → Begins Tells a b old begun r r1
-    → GoesToEnd Tells accepts b c begun last r1 r2 → Finishes Tells (Ok tt) c d last new r2 now_r → RunsOut Tells accepts now_r.events a d old new (engine_of r)
-went_out Tells accepts a b c d old begun last new r r1 r2 now_r on later begins rounds ends = record {
+pub went_out : {Own : Type 0} (Tells : Type 0) (accepts : List TableView → Bool) (most : ℕ) (a b c d : Option (List ℕ)) (old begun last new : Seen Own) (r r1 r2 now_r : Run) → Continues Tells begun last → Continues Tells last new → Begins Tells a b old begun r r1
+    → GoesToEnd Tells accepts most b c begun last r1 r2 → Finishes Tells (Ok tt) c d last new r2 now_r → RunsOut Tells accepts most now_r.events a d old new (engine_of r)
+went_out Tells accepts most a b c d old begun last new r r1 r2 now_r on later begins rounds ends = record {
   last = engine_of r2;
   out = record {
     last = last;
     text = begins.text ++ rounds.text;
     later = later;
-    whole_so = whole-of Tells accepts most_rounds begins.text rounds.text old begun last (engine_of r) (engine_of r1) (engine_of r2) on begins.shown rounds.shown;
+    whole_so = whole-of Tells accepts most begins.text rounds.text old begun last (engine_of r) (engine_of r1) (engine_of r2) on begins.shown rounds.shown;
     none_left = ends.0;
     finish = subst (λ (held : Option (List ℕ)). ShownFinish Tells held d last new (engine_of r2)) (writes_then begins.text rounds.text a b c r1 r2 begins.writes rounds.writes).written ends.1.finish;
   };
   events_so = ends.1.events;
-  none_to_come = none_then Tells accepts old begun last new (engine_of r) b c r1 r2 on later begins.shown rounds;
+  none_to_come = none_then Tells accepts most old begun last new (engine_of r) b c r1 r2 on later begins.shown rounds;
 }
 
-pub went_full : {Own : Type 0} (Tells : Type 0) (accepts : List TableView → Bool) (left : ℕ) (a b c d : Option (List ℕ)) (old begun last new : Seen Own) (r r1 r2 now_r : Run) → Continues Tells begun last → Continues Tells last new → Begins Tells a b old begun r r1
-    → GoesToEnd Tells accepts b c begun last r1 r2 → Finishes Tells (Err (served.EventsLeft left)) c d last new r2 now_r → RunsFull Tells accepts left a d old new (engine_of r)
+pub went_full : {Own : Type 0} (Tells : Type 0) (accepts : List TableView → Bool) (most left : ℕ) (a b c d : Option (List ℕ)) (old begun last new : Seen Own) (r r1 r2 now_r : Run) → Continues Tells begun last → Continues Tells last new → Begins Tells a b old begun r r1
+    → GoesToEnd Tells accepts most b c begun last r1 r2 → Finishes Tells (Err (served.EventsLeft left)) c d last new r2 now_r → RunsFull Tells accepts most left a d old new (engine_of r)
 went_full {Own} Tells accepts left a b c d old begun last new r r1 r2 now_r on later begins rounds ends = record {
   full = record {
     last = last;
     now_engine = engine_of r2;
     text = begins.text ++ rounds.text;
     later = later;
-    whole_so = whole-of Tells accepts most_rounds begins.text rounds.text old begun last (engine_of r) (engine_of r1) (engine_of r2) on begins.shown rounds.shown;
+    whole_so = whole-of Tells accepts most begins.text rounds.text old begun last (engine_of r) (engine_of r1) (engine_of r2) on begins.shown rounds.shown;
     left_so = ends.0;
     contents_so = ends.1 ∙ (writes_then begins.text rounds.text a b c r1 r2 begins.writes rounds.writes).written;
     leaves = record { shown = λ told keeps. subst (Leaves last) (sym ends.2) (leaves-nothing last) };
   };
-  none_to_come = none_then Tells accepts old begun last new (engine_of r) b c r1 r2 on later begins.shown rounds;
+  none_to_come = none_then Tells accepts most old begun last new (engine_of r) b c r1 r2 on later begins.shown rounds;
 }
   where
     leaves-nothing : (seen : Seen Own) → Leaves seen seen
     leaves-nothing seen = record { given = refl; starts = refl; replies = refl; inputs = refl; stimuli = refl; marks = refl; switches = λ d. refl; at_once = λ said. said; orderly = orderly-none index seen }
 
-pub went_as : {Own : Type 0} (Tells : Type 0) (accepts : List TableView → Bool) (result : Result (Unit {0}) Served) (a b c d : Option (List ℕ)) (old begun last new : Seen Own) (r r1 r2 now_r : Run) → Continues Tells begun last → Continues Tells last new → Begins Tells a b old begun r r1
-    → GoesToEnd Tells accepts b c begun last r1 r2 → Finishes Tells result c d last new r2 now_r → GoesAs Tells accepts result a d old new r now_r
-went_as Tells accepts (Ok x) a b c d old begun last new r r1 r2 now_r on later begins rounds ends = went_out Tells accepts a b c d old begun last new r r1 r2 now_r on later begins rounds ends
-went_as Tells accepts (Err (served.EventsLeft left)) a b c d old begun last new r r1 r2 now_r on later begins rounds ends = went_full Tells accepts left a b c d old begun last new r r1 r2 now_r on later begins rounds ends
-went_as Tells accepts (Err (served.Ended events)) a b c d old begun last new r r1 r2 now_r on later begins rounds ends = absurd ends
-went_as Tells accepts (Err served.WriteFault) a b c d old begun last new r r1 r2 now_r on later begins rounds ends = tt
-went_as Tells accepts (Err served.Shut) a b c d old begun last new r r1 r2 now_r on later begins rounds ends = tt
-went_as Tells accepts (Err served.NextFault) a b c d old begun last new r r1 r2 now_r on later begins rounds ends = tt
-went_as Tells accepts (Err (served.Txn fault)) a b c d old begun last new r r1 r2 now_r on later begins rounds ends = tt
-went_as Tells accepts (Err served.NoMemory) a b c d old begun last new r r1 r2 now_r on later begins rounds ends = tt
+pub went_as : {Own : Type 0} (Tells : Type 0) (accepts : List TableView → Bool) (most : ℕ) (result : Result (Unit {0}) Served) (a b c d : Option (List ℕ)) (old begun last new : Seen Own) (r r1 r2 now_r : Run) → Continues Tells begun last → Continues Tells last new → Begins Tells a b old begun r r1
+    → GoesToEnd Tells accepts most b c begun last r1 r2 → Finishes Tells result c d last new r2 now_r → GoesAs Tells accepts most result a d old new r now_r
+went_as Tells accepts most (Ok x) a b c d old begun last new r r1 r2 now_r on later begins rounds ends = went_out Tells accepts most a b c d old begun last new r r1 r2 now_r on later begins rounds ends
+went_as Tells accepts most (Err (served.EventsLeft left)) a b c d old begun last new r r1 r2 now_r on later begins rounds ends = went_full Tells accepts most left a b c d old begun last new r r1 r2 now_r on later begins rounds ends
+went_as Tells accepts most (Err (served.Ended events)) a b c d old begun last new r r1 r2 now_r on later begins rounds ends = absurd ends
+went_as Tells accepts most (Err served.WriteFault) a b c d old begun last new r r1 r2 now_r on later begins rounds ends = tt
+went_as Tells accepts most (Err served.Shut) a b c d old begun last new r r1 r2 now_r on later begins rounds ends = tt
+went_as Tells accepts most (Err served.NextFault) a b c d old begun last new r r1 r2 now_r on later begins rounds ends = tt
+went_as Tells accepts most (Err (served.Txn fault)) a b c d old begun last new r r1 r2 now_r on later begins rounds ends = tt
+went_as Tells accepts most (Err served.NoMemory) a b c d old begun last new r r1 r2 now_r on later begins rounds ends = tt
 
 -- ---- The application is ended at last
 
-none_later_then : {Own : Type 0} (Tells : Type 0) (accepts : List TableView → Bool) (old mid new : Seen Own) (e : Engine) → Continues Tells mid new → NoneToCome Tells accepts old mid e → NoneToCome Tells accepts old new e
-none_later_then Tells accepts old mid new e later none = record {
+none_later_then : {Own : Type 0} (Tells : Type 0) (accepts : List TableView → Bool) (most : ℕ) (old mid new : Seen Own) (e : Engine) → Continues Tells mid new → NoneToCome Tells accepts most old mid e → NoneToCome Tells accepts most old new e
+none_later_then Tells accepts most old mid new e later none = record {
   none = λ allows told keeps judges settled few. none-later Tells mid new told later keeps (none.none allows told (Conforming-before told later keeps) judges settled (fewer-before Tells mid new told later few));
 }
 
-out_then : {Own : Type 0} (Tells : Type 0) (accepts : List TableView → Bool) (events : ℕ) (a b : Option (List ℕ)) (old mid new : Seen Own) (e : Engine) → Continues Tells mid new → ShownLeaves Tells mid new → RunsOut Tells accepts events a b old mid e → RunsOut Tells accepts events a b old new e
-out_then Tells accepts events a b old mid new e later leaves runs = record {
+out_then : {Own : Type 0} (Tells : Type 0) (accepts : List TableView → Bool) (most events : ℕ) (a b : Option (List ℕ)) (old mid new : Seen Own) (e : Engine) → Continues Tells mid new → ShownLeaves Tells mid new → RunsOut Tells accepts most events a b old mid e → RunsOut Tells accepts most events a b old new e
+out_then Tells accepts most events a b old mid new e later leaves runs = record {
   last = runs.last;
   out = record {
     last = runs.out.last;
@@ -132,12 +132,12 @@ out_then Tells accepts events a b old mid new e later leaves runs = record {
     };
   };
   events_so = runs.events_so;
-  none_to_come = none_later_then Tells accepts old mid new e later runs.none_to_come;
+  none_to_come = none_later_then Tells accepts most old mid new e later runs.none_to_come;
 }
 
-full_then : {Own : Type 0} (Tells : Type 0) (accepts : List TableView → Bool) (left : ℕ) (a b : Option (List ℕ)) (old mid new : Seen Own) (e : Engine) → Continues Tells mid new → ShownLeaves Tells mid new → RunsFull Tells accepts left a b old mid e
-    → RunsFull Tells accepts left a b old new e
-full_then Tells accepts left a b old mid new e later leaves runs = record {
+full_then : {Own : Type 0} (Tells : Type 0) (accepts : List TableView → Bool) (most left : ℕ) (a b : Option (List ℕ)) (old mid new : Seen Own) (e : Engine) → Continues Tells mid new → ShownLeaves Tells mid new → RunsFull Tells accepts most left a b old mid e
+    → RunsFull Tells accepts most left a b old new e
+full_then Tells accepts most left a b old mid new e later leaves runs = record {
   full = record {
     last = runs.full.last;
     now_engine = runs.full.now_engine;
@@ -148,44 +148,44 @@ full_then Tells accepts left a b old mid new e later leaves runs = record {
     contents_so = runs.full.contents_so;
     leaves = record { shown = λ told keeps. leaves-then runs.full.last mid new (runs.full.leaves.shown told (Conforming-before told later keeps)) (leaves.shown told keeps) };
   };
-  none_to_come = none_later_then Tells accepts old mid new e later runs.none_to_come;
+  none_to_come = none_later_then Tells accepts most old mid new e later runs.none_to_come;
 }
 
-pub goes_then : {Own : Type 0} (Tells : Type 0) (accepts : List TableView → Bool) (result : Result (Unit {0}) Served) (a b : Option (List ℕ)) (old mid new : Seen Own) (r now_r : Run) → Continues Tells mid new → ShownLeaves Tells mid new → GoesAs Tells accepts result a b old mid r now_r
-    → GoesAs Tells accepts result a b old new r now_r
-goes_then Tells accepts (Ok x) a b old mid new r now_r later leaves goes = out_then Tells accepts now_r.events a b old mid new (engine_of r) later leaves goes
-goes_then Tells accepts (Err (served.EventsLeft left)) a b old mid new r now_r later leaves goes = full_then Tells accepts left a b old mid new (engine_of r) later leaves goes
-goes_then Tells accepts (Err (served.Ended events)) a b old mid new r now_r later leaves goes = absurd goes
-goes_then Tells accepts (Err served.WriteFault) a b old mid new r now_r later leaves goes = tt
-goes_then Tells accepts (Err served.Shut) a b old mid new r now_r later leaves goes = tt
-goes_then Tells accepts (Err served.NextFault) a b old mid new r now_r later leaves goes = tt
-goes_then Tells accepts (Err (served.Txn fault)) a b old mid new r now_r later leaves goes = tt
-goes_then Tells accepts (Err served.NoMemory) a b old mid new r now_r later leaves goes = tt
+pub goes_then : {Own : Type 0} (Tells : Type 0) (accepts : List TableView → Bool) (most : ℕ) (result : Result (Unit {0}) Served) (a b : Option (List ℕ)) (old mid new : Seen Own) (r now_r : Run) → Continues Tells mid new → ShownLeaves Tells mid new → GoesAs Tells accepts most result a b old mid r now_r
+    → GoesAs Tells accepts most result a b old new r now_r
+goes_then Tells accepts most (Ok x) a b old mid new r now_r later leaves goes = out_then Tells accepts most now_r.events a b old mid new (engine_of r) later leaves goes
+goes_then Tells accepts most (Err (served.EventsLeft left)) a b old mid new r now_r later leaves goes = full_then Tells accepts most left a b old mid new (engine_of r) later leaves goes
+goes_then Tells accepts most (Err (served.Ended events)) a b old mid new r now_r later leaves goes = absurd goes
+goes_then Tells accepts most (Err served.WriteFault) a b old mid new r now_r later leaves goes = tt
+goes_then Tells accepts most (Err served.Shut) a b old mid new r now_r later leaves goes = tt
+goes_then Tells accepts most (Err served.NextFault) a b old mid new r now_r later leaves goes = tt
+goes_then Tells accepts most (Err (served.Txn fault)) a b old mid new r now_r later leaves goes = tt
+goes_then Tells accepts most (Err served.NoMemory) a b old mid new r now_r later leaves goes = tt
 
 -- ---- From an engine before anything happened
 
-pub runs_done : {Own : Type 0} (Tells : Type 0) (accepts : List TableView → Bool) (a b : Option (List ℕ)) (old new : Seen Own) (r now_r : Run) → engine_of r ≡ engine_at_first → GoesAs Tells accepts (Ok tt) a b old new r now_r → RunsAs Tells accepts (Ok now_r.events) a b old new
-runs_done Tells accepts a b old new r now_r first goes = subst (RunsOut Tells accepts now_r.events a b old new) first goes
+pub runs_done : {Own : Type 0} (Tells : Type 0) (accepts : List TableView → Bool) (most : ℕ) (a b : Option (List ℕ)) (old new : Seen Own) (r now_r : Run) → engine_of r ≡ engine_at_first → GoesAs Tells accepts most (Ok tt) a b old new r now_r → RunsAs Tells accepts most (Ok now_r.events) a b old new
+runs_done Tells accepts most a b old new r now_r first goes = subst (RunsOut Tells accepts most now_r.events a b old new) first goes
 
-runs_failed : {Own : Type 0} (Tells : Type 0) (accepts : List TableView → Bool) (end : Served) (a b : Option (List ℕ)) (old new : Seen Own) (r now_r : Run) → engine_of r ≡ engine_at_first → GoesAs Tells accepts (Err end) a b old new r now_r → RunsAs Tells accepts (Err end) a b old new
-runs_failed Tells accepts (served.EventsLeft left) a b old new r now_r first goes = subst (RunsFull Tells accepts left a b old new) first goes
-runs_failed Tells accepts (served.Ended events) a b old new r now_r first goes = absurd goes
-runs_failed Tells accepts served.WriteFault a b old new r now_r first goes = tt
-runs_failed Tells accepts served.Shut a b old new r now_r first goes = tt
-runs_failed Tells accepts served.NextFault a b old new r now_r first goes = tt
-runs_failed Tells accepts (served.Txn fault) a b old new r now_r first goes = tt
-runs_failed Tells accepts served.NoMemory a b old new r now_r first goes = tt
+runs_failed : {Own : Type 0} (Tells : Type 0) (accepts : List TableView → Bool) (most : ℕ) (end : Served) (a b : Option (List ℕ)) (old new : Seen Own) (r now_r : Run) → engine_of r ≡ engine_at_first → GoesAs Tells accepts most (Err end) a b old new r now_r → RunsAs Tells accepts most (Err end) a b old new
+runs_failed Tells accepts most (served.EventsLeft left) a b old new r now_r first goes = subst (RunsFull Tells accepts most left a b old new) first goes
+runs_failed Tells accepts most (served.Ended events) a b old new r now_r first goes = absurd goes
+runs_failed Tells accepts most served.WriteFault a b old new r now_r first goes = tt
+runs_failed Tells accepts most served.Shut a b old new r now_r first goes = tt
+runs_failed Tells accepts most served.NextFault a b old new r now_r first goes = tt
+runs_failed Tells accepts most (served.Txn fault) a b old new r now_r first goes = tt
+runs_failed Tells accepts most served.NoMemory a b old new r now_r first goes = tt
 
 -- what a `?` answers
-pub runs_by : {Own : Type 0} (Tells : Type 0) (accepts : List TableView → Bool) (a b : Option (List ℕ)) (old new : Seen Own) (r now_r : Run) (end : Served) (result : Result ℕ Served) → IsErrAnd result (λ s. s ≡ end) → engine_of r ≡ engine_at_first
-    → GoesAs Tells accepts (Err end) a b old new r now_r → RunsAs Tells accepts result a b old new
-runs_by Tells accepts a b old new r now_r end (Ok x) is first goes = absurd is
-runs_by Tells accepts a b old new r now_r end (Err s) is first goes = subst (λ (e : Served). RunsAs Tells accepts (Err e) a b old new) (sym is) (runs_failed Tells accepts end a b old new r now_r first goes)
+pub runs_by : {Own : Type 0} (Tells : Type 0) (accepts : List TableView → Bool) (most : ℕ) (a b : Option (List ℕ)) (old new : Seen Own) (r now_r : Run) (end : Served) (result : Result ℕ Served) → IsErrAnd result (λ s. s ≡ end) → engine_of r ≡ engine_at_first
+    → GoesAs Tells accepts most (Err end) a b old new r now_r → RunsAs Tells accepts most result a b old new
+runs_by Tells accepts most a b old new r now_r end (Ok x) is first goes = absurd is
+runs_by Tells accepts most a b old new r now_r end (Err s) is first goes = subst (λ (e : Served). RunsAs Tells accepts most (Err e) a b old new) (sym is) (runs_failed Tells accepts most end a b old new r now_r first goes)
 
 -- memory ran out before anything was done
-pub runs_short : {Own : Type 0} (Tells : Type 0) (accepts : List TableView → Bool) (a b : Option (List ℕ)) (old new : Seen Own) (result : Result ℕ Served) → IsErrAnd result (λ s. s ≡ served.NoMemory) → RunsAs Tells accepts result a b old new
-runs_short Tells accepts a b old new (Ok x) is = absurd is
-runs_short Tells accepts a b old new (Err s) is = subst (λ (e : Served). RunsAs Tells accepts (Err e) a b old new) (sym is) tt
+pub runs_short : {Own : Type 0} (Tells : Type 0) (accepts : List TableView → Bool) (most : ℕ) (a b : Option (List ℕ)) (old new : Seen Own) (result : Result ℕ Served) → IsErrAnd result (λ s. s ≡ served.NoMemory) → RunsAs Tells accepts most result a b old new
+runs_short Tells accepts most a b old new (Ok x) is = absurd is
+runs_short Tells accepts most a b old new (Err s) is = subst (λ (e : Served). RunsAs Tells accepts most (Err e) a b old new) (sym is) tt
 
 -- ---- Of a world on which no call was made
 
@@ -220,53 +220,53 @@ cut_unopened Tells contents old new served.WriteFault left allows told none = ab
 cut_unopened Tells contents old new served.NextFault left allows told none = absurd left
 cut_unopened Tells contents old new (served.Txn fault) left allows told none = absurd left
 
-pub alike_unopened : {Own : Type 0} (Tells : Type 0) (accepts : List TableView → Bool) (contents : Option (List ℕ)) (old new : Seen Own) (end : Served) → IsUnopened Tells old new end → (allows : List Place → Bool) → Premise Tells accepts allows old new → IsAlike allows new contents contents end
-alike_unopened Tells accepts contents old new served.Shut left allows p = cut_unopened Tells contents old new served.Shut left allows p.told p.untouched
-alike_unopened Tells accepts contents old new served.NoMemory left allows p = cut_unopened Tells contents old new served.NoMemory left allows p.told p.untouched
-alike_unopened Tells accepts contents old new (served.EventsLeft n) left allows p = absurd left
-alike_unopened Tells accepts contents old new (served.Ended events) left allows p = absurd left
-alike_unopened Tells accepts contents old new served.WriteFault left allows p = absurd left
-alike_unopened Tells accepts contents old new served.NextFault left allows p = absurd left
-alike_unopened Tells accepts contents old new (served.Txn fault) left allows p = absurd left
+pub alike_unopened : {Own : Type 0} (Tells : Type 0) (accepts : List TableView → Bool) (most : ℕ) (contents : Option (List ℕ)) (old new : Seen Own) (end : Served) → IsUnopened Tells old new end → (allows : List Place → Bool) → Premise Tells accepts allows most old new → IsAlike allows new contents contents end
+alike_unopened Tells accepts most contents old new served.Shut left allows p = cut_unopened Tells contents old new served.Shut left allows p.told p.untouched
+alike_unopened Tells accepts most contents old new served.NoMemory left allows p = cut_unopened Tells contents old new served.NoMemory left allows p.told p.untouched
+alike_unopened Tells accepts most contents old new (served.EventsLeft n) left allows p = absurd left
+alike_unopened Tells accepts most contents old new (served.Ended events) left allows p = absurd left
+alike_unopened Tells accepts most contents old new served.WriteFault left allows p = absurd left
+alike_unopened Tells accepts most contents old new served.NextFault left allows p = absurd left
+alike_unopened Tells accepts most contents old new (served.Txn fault) left allows p = absurd left
 
-pub alike_done : {Own : Type 0} (Tells : Type 0) (accepts : List TableView → Bool) (events : ℕ) (a b : Option (List ℕ)) (old mid new : Seen Own) → (Tells → mid.history ≡ old.history ++ Opened ∷ []) → RunsAs Tells accepts (Ok events) a b mid new
-    → (allows : List Place → Bool) → Premise Tells accepts allows old new → IsAlike allows new a b (served.Ended events)
-alike_done Tells accepts events a b old mid new opened runs allows p =
+pub alike_done : {Own : Type 0} (Tells : Type 0) (accepts : List TableView → Bool) (most events : ℕ) (a b : Option (List ℕ)) (old mid new : Seen Own) → (Tells → mid.history ≡ old.history ++ Opened ∷ []) → RunsAs Tells accepts most (Ok events) a b mid new
+    → (allows : List Place → Bool) → Premise Tells accepts allows most old new → IsAlike allows new a b (served.Ended events)
+alike_done Tells accepts most events a b old mid new opened runs allows p =
     let is = opened_so old mid p.untouched (opened p.told) in
     subst (λ (n : ℕ). IsAlike allows new a b (served.Ended n)) (sym runs.events_so) (record {
-      alike = ran-out Tells accepts allows a b mid new runs.last p.told p.keeps p.judges is p.few runs.out;
+      alike = ran-out Tells accepts allows most a b mid new runs.last p.told p.keeps p.judges is p.few runs.out;
       none_to_come = runs.none_to_come.none allows p.told p.keeps p.judges (settled-first mid is) p.few;
     })
 
 -- a fault ended it
-pub cut_failed : {Own : Type 0} (Tells : Type 0) (accepts : List TableView → Bool) (end : Served) (a b : Option (List ℕ)) (old mid new : Seen Own) → (Tells → mid.history ≡ old.history ++ Opened ∷ []) → Continues Tells mid new → RunsAs Tells accepts (Err end) a b mid new
-    → CutAs Tells accepts end a b mid new engine_at_first → (allows : List Place → Bool) → PremiseSoFar Tells accepts allows old new → IsCut allows new a b end
-cut_failed Tells accepts (served.EventsLeft left) a b old mid new opened on runs cut allows p = tt
-cut_failed Tells accepts (served.Ended events) a b old mid new opened on runs cut allows p = absurd runs
-cut_failed Tells accepts served.WriteFault a b old mid new opened on runs cut allows p = so_cut Tells accepts allows served.WriteFault a b old mid new p (opened_so old mid p.untouched (opened p.told)) on cut
-cut_failed Tells accepts served.Shut a b old mid new opened on runs cut allows p = so_cut Tells accepts allows served.Shut a b old mid new p (opened_so old mid p.untouched (opened p.told)) on cut
-cut_failed Tells accepts served.NextFault a b old mid new opened on runs cut allows p = so_cut Tells accepts allows served.NextFault a b old mid new p (opened_so old mid p.untouched (opened p.told)) on cut
-cut_failed Tells accepts (served.Txn fault) a b old mid new opened on runs cut allows p = so_cut Tells accepts allows (served.Txn fault) a b old mid new p (opened_so old mid p.untouched (opened p.told)) on cut
-cut_failed Tells accepts served.NoMemory a b old mid new opened on runs cut allows p = so_cut Tells accepts allows served.NoMemory a b old mid new p (opened_so old mid p.untouched (opened p.told)) on cut
+pub cut_failed : {Own : Type 0} (Tells : Type 0) (accepts : List TableView → Bool) (most : ℕ) (end : Served) (a b : Option (List ℕ)) (old mid new : Seen Own) → (Tells → mid.history ≡ old.history ++ Opened ∷ []) → Continues Tells mid new → RunsAs Tells accepts most (Err end) a b mid new
+    → CutAs Tells accepts most end a b mid new engine_at_first → (allows : List Place → Bool) → PremiseSoFar Tells accepts allows most old new → IsCut allows new a b end
+cut_failed Tells accepts most (served.EventsLeft left) a b old mid new opened on runs cut allows p = tt
+cut_failed Tells accepts most (served.Ended events) a b old mid new opened on runs cut allows p = absurd runs
+cut_failed Tells accepts most served.WriteFault a b old mid new opened on runs cut allows p = so_cut Tells accepts allows most served.WriteFault a b old mid new p (opened_so old mid p.untouched (opened p.told)) on cut
+cut_failed Tells accepts most served.Shut a b old mid new opened on runs cut allows p = so_cut Tells accepts allows most served.Shut a b old mid new p (opened_so old mid p.untouched (opened p.told)) on cut
+cut_failed Tells accepts most served.NextFault a b old mid new opened on runs cut allows p = so_cut Tells accepts allows most served.NextFault a b old mid new p (opened_so old mid p.untouched (opened p.told)) on cut
+cut_failed Tells accepts most (served.Txn fault) a b old mid new opened on runs cut allows p = so_cut Tells accepts allows most (served.Txn fault) a b old mid new p (opened_so old mid p.untouched (opened p.told)) on cut
+cut_failed Tells accepts most served.NoMemory a b old mid new opened on runs cut allows p = so_cut Tells accepts allows most served.NoMemory a b old mid new p (opened_so old mid p.untouched (opened p.told)) on cut
 
 -- one that keeps its word to the end does so up to every point
-premise_so_far : {Own : Type 0} (Tells : Type 0) (accepts : List TableView → Bool) (allows : List Place → Bool) (old new : Seen Own) → Premise Tells accepts allows old new → PremiseSoFar Tells accepts allows old new
-premise_so_far Tells accepts allows old new p = record { told = p.told; judges = p.judges; untouched = p.untouched; few = λ front keeps given later. fewer-front front new later p.few }
+premise_so_far : {Own : Type 0} (Tells : Type 0) (accepts : List TableView → Bool) (allows : List Place → Bool) (most : ℕ) (old new : Seen Own) → Premise Tells accepts allows most old new → PremiseSoFar Tells accepts allows most old new
+premise_so_far Tells accepts allows most old new p = record { told = p.told; judges = p.judges; untouched = p.untouched; few = λ front keeps given later. fewer-front front new later p.few }
 
-pub alike_failed : {Own : Type 0} (Tells : Type 0) (accepts : List TableView → Bool) (end : Served) (a b : Option (List ℕ)) (old mid new : Seen Own) → (Tells → mid.history ≡ old.history ++ Opened ∷ []) → Continues Tells mid new → RunsAs Tells accepts (Err end) a b mid new
-    → CutAs Tells accepts end a b mid new engine_at_first → (allows : List Place → Bool) → Premise Tells accepts allows old new → IsAlike allows new a b end
-alike_failed Tells accepts (served.EventsLeft left) a b old mid new opened on runs cut allows p =
+pub alike_failed : {Own : Type 0} (Tells : Type 0) (accepts : List TableView → Bool) (most : ℕ) (end : Served) (a b : Option (List ℕ)) (old mid new : Seen Own) → (Tells → mid.history ≡ old.history ++ Opened ∷ []) → Continues Tells mid new → RunsAs Tells accepts most (Err end) a b mid new
+    → CutAs Tells accepts most end a b mid new engine_at_first → (allows : List Place → Bool) → Premise Tells accepts allows most old new → IsAlike allows new a b end
+alike_failed Tells accepts most (served.EventsLeft left) a b old mid new opened on runs cut allows p =
     let is = opened_so old mid p.untouched (opened p.told) in
     record {
-      alike = ran-full Tells accepts allows left a b mid new p.told p.keeps p.judges is p.few runs.full;
+      alike = ran-full Tells accepts allows most left a b mid new p.told p.keeps p.judges is p.few runs.full;
       none_to_come = runs.none_to_come.none allows p.told p.keeps p.judges (settled-first mid is) p.few;
     }
-alike_failed Tells accepts (served.Ended events) a b old mid new opened on runs cut allows p = absurd runs
-alike_failed Tells accepts served.WriteFault a b old mid new opened on runs cut allows p = cut_failed Tells accepts served.WriteFault a b old mid new opened on runs cut allows (premise_so_far Tells accepts allows old new p)
-alike_failed Tells accepts served.Shut a b old mid new opened on runs cut allows p = cut_failed Tells accepts served.Shut a b old mid new opened on runs cut allows (premise_so_far Tells accepts allows old new p)
-alike_failed Tells accepts served.NextFault a b old mid new opened on runs cut allows p = cut_failed Tells accepts served.NextFault a b old mid new opened on runs cut allows (premise_so_far Tells accepts allows old new p)
-alike_failed Tells accepts (served.Txn fault) a b old mid new opened on runs cut allows p = cut_failed Tells accepts (served.Txn fault) a b old mid new opened on runs cut allows (premise_so_far Tells accepts allows old new p)
-alike_failed Tells accepts served.NoMemory a b old mid new opened on runs cut allows p = cut_failed Tells accepts served.NoMemory a b old mid new opened on runs cut allows (premise_so_far Tells accepts allows old new p)
+alike_failed Tells accepts most (served.Ended events) a b old mid new opened on runs cut allows p = absurd runs
+alike_failed Tells accepts most served.WriteFault a b old mid new opened on runs cut allows p = cut_failed Tells accepts most served.WriteFault a b old mid new opened on runs cut allows (premise_so_far Tells accepts allows most old new p)
+alike_failed Tells accepts most served.Shut a b old mid new opened on runs cut allows p = cut_failed Tells accepts most served.Shut a b old mid new opened on runs cut allows (premise_so_far Tells accepts allows most old new p)
+alike_failed Tells accepts most served.NextFault a b old mid new opened on runs cut allows p = cut_failed Tells accepts most served.NextFault a b old mid new opened on runs cut allows (premise_so_far Tells accepts allows most old new p)
+alike_failed Tells accepts most (served.Txn fault) a b old mid new opened on runs cut allows p = cut_failed Tells accepts most (served.Txn fault) a b old mid new opened on runs cut allows (premise_so_far Tells accepts allows most old new p)
+alike_failed Tells accepts most served.NoMemory a b old mid new opened on runs cut allows p = cut_failed Tells accepts most served.NoMemory a b old mid new opened on runs cut allows (premise_so_far Tells accepts allows most old new p)
 
 -- what ends a run before its end promises nothing of it
 fault_finishes : {Own : Type 0} (Tells : Type 0) (fault : Fault) (a b : Option (List ℕ)) (old new : Seen Own) (r now_r : Run) → Finishes Tells (Err (served_by fault)) a b old new r now_r
@@ -275,18 +275,18 @@ fault_finishes Tells faults.Next a b old new r now_r = tt
 fault_finishes Tells (faults.Txn fault) a b old new r now_r = tt
 fault_finishes Tells faults.NoMemory a b old new r now_r = tt
 
-fault_goes : {Own : Type 0} (Tells : Type 0) (accepts : List TableView → Bool) (fault : Fault) (a b : Option (List ℕ)) (old new : Seen Own) (r now_r : Run) → GoesAs Tells accepts (Err (served_by fault)) a b old new r now_r
-fault_goes Tells accepts faults.Write a b old new r now_r = tt
-fault_goes Tells accepts faults.Next a b old new r now_r = tt
-fault_goes Tells accepts (faults.Txn fault) a b old new r now_r = tt
-fault_goes Tells accepts faults.NoMemory a b old new r now_r = tt
+fault_goes : {Own : Type 0} (Tells : Type 0) (accepts : List TableView → Bool) (most : ℕ) (fault : Fault) (a b : Option (List ℕ)) (old new : Seen Own) (r now_r : Run) → GoesAs Tells accepts most (Err (served_by fault)) a b old new r now_r
+fault_goes Tells accepts most faults.Write a b old new r now_r = tt
+fault_goes Tells accepts most faults.Next a b old new r now_r = tt
+fault_goes Tells accepts most (faults.Txn fault) a b old new r now_r = tt
+fault_goes Tells accepts most faults.NoMemory a b old new r now_r = tt
 
 -- what a `?` answers is the end of the run by that fault
 pub finishes_by : {Own : Type 0} (Tells : Type 0) (a b : Option (List ℕ)) (old new : Seen Own) (r now_r : Run) (fault : Fault) (result : Result (Unit {0}) Served) → IsErrAnd result (λ end. end ≡ served_by fault) → Finishes Tells result a b old new r now_r
 finishes_by Tells a b old new r now_r fault (Ok x) is = absurd is
 finishes_by Tells a b old new r now_r fault (Err end) is = subst (λ (e : Served). Finishes Tells (Err e) a b old new r now_r) (sym is) (fault_finishes Tells fault a b old new r now_r)
 
-pub goes_by : {Own : Type 0} (Tells : Type 0) (accepts : List TableView → Bool) (a b : Option (List ℕ)) (old new : Seen Own) (r now_r : Run) (fault : Fault) (result : Result (Unit {0}) Served) → IsErrAnd result (λ end. end ≡ served_by fault)
-    → GoesAs Tells accepts result a b old new r now_r
-goes_by Tells accepts a b old new r now_r fault (Ok x) is = absurd is
-goes_by Tells accepts a b old new r now_r fault (Err end) is = subst (λ (e : Served). GoesAs Tells accepts (Err e) a b old new r now_r) (sym is) (fault_goes Tells accepts fault a b old new r now_r)
+pub goes_by : {Own : Type 0} (Tells : Type 0) (accepts : List TableView → Bool) (most : ℕ) (a b : Option (List ℕ)) (old new : Seen Own) (r now_r : Run) (fault : Fault) (result : Result (Unit {0}) Served) → IsErrAnd result (λ end. end ≡ served_by fault)
+    → GoesAs Tells accepts most result a b old new r now_r
+goes_by Tells accepts most a b old new r now_r fault (Ok x) is = absurd is
+goes_by Tells accepts most a b old new r now_r fault (Err end) is = subst (λ (e : Served). GoesAs Tells accepts most (Err e) a b old new r now_r) (sym is) (fault_goes Tells accepts most fault a b old new r now_r)

@@ -21,7 +21,6 @@ use Rattle.run_laws.specs.LastReport.{last_text}
 use Rattle.run_laws.specs.laws.WholeLaws.{ran}
 use Rattle.run_laws.specs.laws.FirstLaws.{settled-first}
 use Rattle.run_laws.specs.First.{IsOpened, engine_at_first}
-use Rattle.run_laws.specs.Promise.{most_rounds}
 use Rattle.lego_model.specs.WholeRun.{EndsAlike, LeavesAlike}
 use Rattle.run_laws.specs.laws.FinishLaws.{ends-alike, leaves-alike}
 use Rattle.run_laws.specs.Endings.{ShownStart, ShownWhole, Leaves, RanOut, RanFull}
@@ -58,18 +57,18 @@ leaves-then a b c m n = record {
 
 -- ---- Of a world that was opened
 
-pub ran-out : {Own : Type 0} (Tells : Type 0) (accepts : List TableView → Bool) (allows : List Place → Bool) (contents now_contents : Option (List ℕ)) (old new : Seen Own) (e : Engine) → Tells → Conforming new → JudgesAlike Own allows accepts → IsOpened old
-    → length (stimuli_in new) < most_rounds → RanOut Tells accepts most_rounds contents now_contents old new engine_at_first e → EndsAlike allows new contents now_contents e.events
-ran-out Tells accepts allows contents now_contents old new e told keeps judges opened few out =
+pub ran-out : {Own : Type 0} (Tells : Type 0) (accepts : List TableView → Bool) (allows : List Place → Bool) (most : ℕ) (contents now_contents : Option (List ℕ)) (old new : Seen Own) (e : Engine) → Tells → Conforming new → JudgesAlike Own allows accepts → IsOpened old
+    → length (stimuli_in new) < most → RanOut Tells accepts most contents now_contents old new engine_at_first e → EndsAlike allows new contents now_contents e.events
+ran-out Tells accepts allows most contents now_contents old new e told keeps judges opened few out =
     let few_last = fewer-before Tells out.last new told out.later few in
     let moved = out.whole_so.whole_so allows told (Conforming-before told out.later keeps) judges (settled-first old opened) few_last in
     let done = out.finish.shown told keeps moved.moved.settled.calm in
     ends-alike allows out.text out.last new e contents now_contents keeps done.leaves moved.moved.settled (ran allows moved.stimuli out.text old out.last e opened moved.moved.moves) (done.leaves.at_once moved.moved.settled.speaks.at_once) out.none_left
     (done.written ∙ known-append contents out.text (last_text out.last e))
 
-pub ran-full : {Own : Type 0} (Tells : Type 0) (accepts : List TableView → Bool) (allows : List Place → Bool) (left : ℕ) (contents now_contents : Option (List ℕ)) (old new : Seen Own) → Tells → Conforming new → JudgesAlike Own allows accepts → IsOpened old
-    → length (stimuli_in new) < most_rounds → RanFull Tells accepts most_rounds left contents now_contents old new engine_at_first → LeavesAlike allows new contents now_contents left
-ran-full Tells accepts allows left contents now_contents old new told keeps judges opened few full =
+pub ran-full : {Own : Type 0} (Tells : Type 0) (accepts : List TableView → Bool) (allows : List Place → Bool) (most left : ℕ) (contents now_contents : Option (List ℕ)) (old new : Seen Own) → Tells → Conforming new → JudgesAlike Own allows accepts → IsOpened old
+    → length (stimuli_in new) < most → RanFull Tells accepts most left contents now_contents old new engine_at_first → LeavesAlike allows new contents now_contents left
+ran-full Tells accepts allows most left contents now_contents old new told keeps judges opened few full =
     let few_last = fewer-before Tells full.last new told full.later few in
     let moved = full.whole_so.whole_so allows told (Conforming-before told full.later keeps) judges (settled-first old opened) few_last in
     subst (λ (n : ℕ). LeavesAlike allows new contents now_contents n) (sym full.left_so)

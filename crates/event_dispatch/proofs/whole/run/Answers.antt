@@ -14,47 +14,47 @@ use Rattle.event_dispatch.specs.laws.ReadLaws.{reads_as}
 use Rattle.event_dispatch.proofs.whole.run.Goals as goal
 
 pub returns-in_err-run-clause-runs : goal.returns-in_err-run-clause-runs
-returns-in_err-run-clause-runs g c = runs_short g.W.World.Tells (g.J.Judge.accepts c.args.judge.now) (g.K.Sink.contents c.args.sink.now) (g.K.Sink.contents c.args.sink.now) (g.W.World.seen c.args.world.now) (g.W.World.seen c.args.world.now) c.from_residual.result c.from_residual.ensures.1
+returns-in_err-run-clause-runs g c = runs_short g.W.World.Tells (g.J.Judge.accepts c.args.judge.now) c.args.rounds (g.K.Sink.contents c.args.sink.now) (g.K.Sink.contents c.args.sink.now) (g.W.World.seen c.args.world.now) (g.W.World.seen c.args.world.now) c.from_residual.result c.from_residual.ensures.1
 
 pub returns-in_err-buf-clause-runs : goal.returns-in_err-buf-clause-runs
-returns-in_err-buf-clause-runs g c = runs_short g.W.World.Tells (g.J.Judge.accepts c.args.judge.now) (g.K.Sink.contents c.args.sink.now) (g.K.Sink.contents c.args.sink.now) (g.W.World.seen c.args.world.now) (g.W.World.seen c.args.world.now) c.from_residual-in_err-buf.result c.from_residual-in_err-buf.ensures.1
+returns-in_err-buf-clause-runs g c = runs_short g.W.World.Tells (g.J.Judge.accepts c.args.judge.now) c.args.rounds (g.K.Sink.contents c.args.sink.now) (g.K.Sink.contents c.args.sink.now) (g.W.World.seen c.args.world.now) (g.W.World.seen c.args.world.now) c.from_residual-in_err-buf.result c.from_residual-in_err-buf.ensures.1
 
 pub returns-in_err-run_then_end-clause-runs : goal.returns-in_err-run_then_end-clause-runs
 returns-in_err-run_then_end-clause-runs g c =
-    runs_by g.W.World.Tells (g.J.Judge.accepts c.args.judge.now) (g.K.Sink.contents c.args.sink.now) (g.K.Sink.contents c.run_then_end.new.sink) (g.W.World.seen c.args.world.now) (g.W.World.seen c.run_then_end.new.world) c.in_ok-run.run' c.run_then_end.new.run c.in_err-run_then_end.field-0.0 c.from_residual-in_err-run_then_end.result c.from_residual-in_err-run_then_end.ensures.1 c.in_ok-run.ensures.first
+    runs_by g.W.World.Tells (g.J.Judge.accepts c.args.judge.now) c.args.rounds (g.K.Sink.contents c.args.sink.now) (g.K.Sink.contents c.run_then_end.new.sink) (g.W.World.seen c.args.world.now) (g.W.World.seen c.run_then_end.new.world) c.in_ok-run.run' c.run_then_end.new.run c.in_err-run_then_end.field-0.0 c.from_residual-in_err-run_then_end.result c.from_residual-in_err-run_then_end.ensures.1 c.in_ok-run.ensures.first
     c.in_err-run_then_end.ensures.goes
 
 pub returns-clause-runs : goal.returns-clause-runs
 returns-clause-runs g c =
-    runs_done g.W.World.Tells (g.J.Judge.accepts c.args.judge.now) (g.K.Sink.contents c.args.sink.now) (g.K.Sink.contents c.run_then_end.new.sink) (g.W.World.seen c.args.world.now) (g.W.World.seen c.run_then_end.new.world) c.in_ok-run.run' c.run_then_end.new.run c.in_ok-run.ensures.first c.in_ok-run_then_end.ensures.goes
+    runs_done g.W.World.Tells (g.J.Judge.accepts c.args.judge.now) c.args.rounds (g.K.Sink.contents c.args.sink.now) (g.K.Sink.contents c.run_then_end.new.sink) (g.W.World.seen c.args.world.now) (g.W.World.seen c.run_then_end.new.world) c.in_ok-run.run' c.run_then_end.new.run c.in_ok-run.ensures.first c.in_ok-run_then_end.ensures.goes
 
 pub returns-in_err-run-clause-plain : goal.returns-in_err-run-clause-plain
 returns-in_err-run-clause-plain g c =
-    if_err (PlainWhole g.W.World.Tells (g.J.Judge.accepts c.args.judge.now) (g.W.World.seen c.args.world.now) (g.W.World.seen c.args.world.now) engine_at_first) ends.NoMemory c.from_residual.result c.from_residual.ensures.1 (whole_anyway (g.W.World.seen c.args.world.now) (g.W.World.seen c.args.world.now) engine_at_first ends.NoMemory tt)
+    if_err (PlainWhole g.W.World.Tells (g.J.Judge.accepts c.args.judge.now) c.args.rounds (g.W.World.seen c.args.world.now) (g.W.World.seen c.args.world.now) engine_at_first) ends.NoMemory c.from_residual.result c.from_residual.ensures.1 (whole_anyway (g.W.World.seen c.args.world.now) (g.W.World.seen c.args.world.now) engine_at_first ends.NoMemory tt)
 
 pub returns-in_err-buf-clause-plain : goal.returns-in_err-buf-clause-plain
 returns-in_err-buf-clause-plain g c =
-    if_err (PlainWhole g.W.World.Tells (g.J.Judge.accepts c.args.judge.now) (g.W.World.seen c.args.world.now) (g.W.World.seen c.args.world.now) engine_at_first) ends.NoMemory c.from_residual-in_err-buf.result c.from_residual-in_err-buf.ensures.1 (whole_anyway (g.W.World.seen c.args.world.now) (g.W.World.seen c.args.world.now) engine_at_first ends.NoMemory tt)
+    if_err (PlainWhole g.W.World.Tells (g.J.Judge.accepts c.args.judge.now) c.args.rounds (g.W.World.seen c.args.world.now) (g.W.World.seen c.args.world.now) engine_at_first) ends.NoMemory c.from_residual-in_err-buf.result c.from_residual-in_err-buf.ensures.1 (whole_anyway (g.W.World.seen c.args.world.now) (g.W.World.seen c.args.world.now) engine_at_first ends.NoMemory tt)
 
 pub returns-in_err-run_then_end-clause-plain : goal.returns-in_err-run_then_end-clause-plain
 returns-in_err-run_then_end-clause-plain g c =
-    if_err (PlainWhole g.W.World.Tells (g.J.Judge.accepts c.args.judge.now) (g.W.World.seen c.args.world.now) (g.W.World.seen c.run_then_end.new.world) engine_at_first) c.in_err-run_then_end.field-0.0 c.from_residual-in_err-run_then_end.result c.from_residual-in_err-run_then_end.ensures.1
-    (subst (λ (e : Engine). PlainWhole g.W.World.Tells (g.J.Judge.accepts c.args.judge.now) (g.W.World.seen c.args.world.now) (g.W.World.seen c.run_then_end.new.world) e c.in_err-run_then_end.field-0.0) c.in_ok-run.ensures.first c.in_err-run_then_end.ensures.plain)
+    if_err (PlainWhole g.W.World.Tells (g.J.Judge.accepts c.args.judge.now) c.args.rounds (g.W.World.seen c.args.world.now) (g.W.World.seen c.run_then_end.new.world) engine_at_first) c.in_err-run_then_end.field-0.0 c.from_residual-in_err-run_then_end.result c.from_residual-in_err-run_then_end.ensures.1
+    (subst (λ (e : Engine). PlainWhole g.W.World.Tells (g.J.Judge.accepts c.args.judge.now) c.args.rounds (g.W.World.seen c.args.world.now) (g.W.World.seen c.run_then_end.new.world) e c.in_err-run_then_end.field-0.0) c.in_ok-run.ensures.first c.in_err-run_then_end.ensures.plain)
 
 pub returns-in_err-run-clause-cut : goal.returns-in_err-run-clause-cut
 returns-in_err-run-clause-cut g c =
-    if_err (λ (end : Served). CutAs g.W.World.Tells (g.J.Judge.accepts c.args.judge.now) end (g.K.Sink.contents c.args.sink.now) (g.K.Sink.contents c.args.sink.now) (g.W.World.seen c.args.world.now) (g.W.World.seen c.args.world.now) engine_at_first) ends.NoMemory c.from_residual.result c.from_residual.ensures.1
-    (short_cut g.W.World.Tells (g.J.Judge.accepts c.args.judge.now) (g.K.Sink.contents c.args.sink.now) (g.W.World.seen c.args.world.now) engine_at_first)
+    if_err (λ (end : Served). CutAs g.W.World.Tells (g.J.Judge.accepts c.args.judge.now) c.args.rounds end (g.K.Sink.contents c.args.sink.now) (g.K.Sink.contents c.args.sink.now) (g.W.World.seen c.args.world.now) (g.W.World.seen c.args.world.now) engine_at_first) ends.NoMemory c.from_residual.result c.from_residual.ensures.1
+    (short_cut g.W.World.Tells (g.J.Judge.accepts c.args.judge.now) c.args.rounds (g.K.Sink.contents c.args.sink.now) (g.W.World.seen c.args.world.now) engine_at_first)
 
 pub returns-in_err-buf-clause-cut : goal.returns-in_err-buf-clause-cut
 returns-in_err-buf-clause-cut g c =
-    if_err (λ (end : Served). CutAs g.W.World.Tells (g.J.Judge.accepts c.args.judge.now) end (g.K.Sink.contents c.args.sink.now) (g.K.Sink.contents c.args.sink.now) (g.W.World.seen c.args.world.now) (g.W.World.seen c.args.world.now) engine_at_first) ends.NoMemory c.from_residual-in_err-buf.result c.from_residual-in_err-buf.ensures.1
-    (short_cut g.W.World.Tells (g.J.Judge.accepts c.args.judge.now) (g.K.Sink.contents c.args.sink.now) (g.W.World.seen c.args.world.now) engine_at_first)
+    if_err (λ (end : Served). CutAs g.W.World.Tells (g.J.Judge.accepts c.args.judge.now) c.args.rounds end (g.K.Sink.contents c.args.sink.now) (g.K.Sink.contents c.args.sink.now) (g.W.World.seen c.args.world.now) (g.W.World.seen c.args.world.now) engine_at_first) ends.NoMemory c.from_residual-in_err-buf.result c.from_residual-in_err-buf.ensures.1
+    (short_cut g.W.World.Tells (g.J.Judge.accepts c.args.judge.now) c.args.rounds (g.K.Sink.contents c.args.sink.now) (g.W.World.seen c.args.world.now) engine_at_first)
 
 pub returns-in_err-run_then_end-clause-cut : goal.returns-in_err-run_then_end-clause-cut
 returns-in_err-run_then_end-clause-cut g c =
-    if_err (λ (end : Served). CutAs g.W.World.Tells (g.J.Judge.accepts c.args.judge.now) end (g.K.Sink.contents c.args.sink.now) (g.K.Sink.contents c.run_then_end.new.sink) (g.W.World.seen c.args.world.now) (g.W.World.seen c.run_then_end.new.world) engine_at_first) c.in_err-run_then_end.field-0.0 c.from_residual-in_err-run_then_end.result c.from_residual-in_err-run_then_end.ensures.1
-    (subst (λ (e : Engine). CutAs g.W.World.Tells (g.J.Judge.accepts c.args.judge.now) c.in_err-run_then_end.field-0.0 (g.K.Sink.contents c.args.sink.now) (g.K.Sink.contents c.run_then_end.new.sink) (g.W.World.seen c.args.world.now) (g.W.World.seen c.run_then_end.new.world) e) c.in_ok-run.ensures.first c.in_err-run_then_end.ensures.cut)
+    if_err (λ (end : Served). CutAs g.W.World.Tells (g.J.Judge.accepts c.args.judge.now) c.args.rounds end (g.K.Sink.contents c.args.sink.now) (g.K.Sink.contents c.run_then_end.new.sink) (g.W.World.seen c.args.world.now) (g.W.World.seen c.run_then_end.new.world) engine_at_first) c.in_err-run_then_end.field-0.0 c.from_residual-in_err-run_then_end.result c.from_residual-in_err-run_then_end.ensures.1
+    (subst (λ (e : Engine). CutAs g.W.World.Tells (g.J.Judge.accepts c.args.judge.now) c.args.rounds c.in_err-run_then_end.field-0.0 (g.K.Sink.contents c.args.sink.now) (g.K.Sink.contents c.run_then_end.new.sink) (g.W.World.seen c.args.world.now) (g.W.World.seen c.run_then_end.new.world) e) c.in_ok-run.ensures.first c.in_err-run_then_end.ensures.cut)
 
 pub returns-in_err-run-clause-none_runs : goal.returns-in_err-run-clause-none_runs
 returns-in_err-run-clause-none_runs g c = none_runs_none g.W.World.Tells (g.W.World.seen c.args.world.now) engine_at_first.net

@@ -8,15 +8,15 @@ use Rattle.event_dispatch.proofs.whole.run_then_end.Goals as goal
 
 pub returns-clause-goes : goal.returns-clause-goes
 returns-clause-goes g c =
-    goes_then g.W.World.Tells (g.J.Judge.accepts c.args.judge.now) c.run_opened-ended.result (g.K.Sink.contents c.args.sink.now) (g.K.Sink.contents c.run_opened-ended.new.sink) (g.W.World.seen c.args.world.now) (g.W.World.seen c.run_opened-ended.new.world) (g.W.World.seen c.end.new.world) c.args.run.now c.run_opened-ended.new.self c.end.ensures.continues c.end.ensures.leaves c.run_opened-ended.ensures.goes
+    goes_then g.W.World.Tells (g.J.Judge.accepts c.args.judge.now) c.args.rounds c.run_opened-ended.result (g.K.Sink.contents c.args.sink.now) (g.K.Sink.contents c.run_opened-ended.new.sink) (g.W.World.seen c.args.world.now) (g.W.World.seen c.run_opened-ended.new.world) (g.W.World.seen c.end.new.world) c.args.run.now c.run_opened-ended.new.self c.end.ensures.continues c.end.ensures.leaves c.run_opened-ended.ensures.goes
 
 pub returns-clause-plain : goal.returns-clause-plain
 returns-clause-plain g c =
-    whole_then (g.J.Judge.accepts c.args.judge.now) (g.W.World.seen c.args.world.now) (g.W.World.seen c.run_opened-ended.new.world) (g.W.World.seen c.end.new.world) (engine_of c.args.run.now) c.run_opened-ended.result c.end.ensures.continues c.run_opened-ended.ensures.plain
+    whole_then (g.J.Judge.accepts c.args.judge.now) c.args.rounds (g.W.World.seen c.args.world.now) (g.W.World.seen c.run_opened-ended.new.world) (g.W.World.seen c.end.new.world) (engine_of c.args.run.now) c.run_opened-ended.result c.end.ensures.continues c.run_opened-ended.ensures.plain
 
 pub returns-clause-cut : goal.returns-clause-cut
 returns-clause-cut g c =
-    goes_on_cut g.W.World.Tells (g.J.Judge.accepts c.args.judge.now) c.run_opened-ended.result (g.K.Sink.contents c.args.sink.now) (g.K.Sink.contents c.run_opened-ended.new.sink) (g.W.World.seen c.args.world.now) (g.W.World.seen c.run_opened-ended.new.world) (g.W.World.seen c.end.new.world) (engine_of c.args.run.now) c.end.ensures.continues c.end.ensures.talks c.end.ensures.ended.no_point c.end.ensures.ended.none_moves c.run_opened-ended.ensures.cut
+    goes_on_cut g.W.World.Tells (g.J.Judge.accepts c.args.judge.now) c.args.rounds c.run_opened-ended.result (g.K.Sink.contents c.args.sink.now) (g.K.Sink.contents c.run_opened-ended.new.sink) (g.W.World.seen c.args.world.now) (g.W.World.seen c.run_opened-ended.new.world) (g.W.World.seen c.end.new.world) (engine_of c.args.run.now) c.end.ensures.continues c.end.ensures.talks c.end.ensures.ended.no_point c.end.ensures.ended.none_moves c.run_opened-ended.ensures.cut
 
 pub returns-clause-none_runs : goal.returns-clause-none_runs
 returns-clause-none_runs g c =

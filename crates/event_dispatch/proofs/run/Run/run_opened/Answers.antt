@@ -14,24 +14,24 @@ use Rattle.event_dispatch.proofs.run.Run.run_opened.Goals as goal
 
 pub returns-in_err-begin-clause-goes : goal.returns-in_err-begin-clause-goes
 returns-in_err-begin-clause-goes g c =
-    goes_by g.W.World.Tells (g.J.Judge.accepts c.args.judge.now) (g.K.Sink.contents c.args.sink.now) (g.K.Sink.contents c.begin.new.sink) (g.W.World.seen c.args.world.now) (g.W.World.seen c.begin.new.world) c.args.self.now c.begin.new.self c.in_err-begin.field-0.0 c.from_residual.result c.from_residual.ensures.1
+    goes_by g.W.World.Tells (g.J.Judge.accepts c.args.judge.now) c.args.rounds (g.K.Sink.contents c.args.sink.now) (g.K.Sink.contents c.begin.new.sink) (g.W.World.seen c.args.world.now) (g.W.World.seen c.begin.new.world) c.args.self.now c.begin.new.self c.in_err-begin.field-0.0 c.from_residual.result c.from_residual.ensures.1
 
 pub returns-in_err-run_rounds-clause-goes : goal.returns-in_err-run_rounds-clause-goes
 returns-in_err-run_rounds-clause-goes g c =
-    goes_by g.W.World.Tells (g.J.Judge.accepts c.args.judge.now) (g.K.Sink.contents c.args.sink.now) (g.K.Sink.contents c.run_rounds.new.sink) (g.W.World.seen c.args.world.now) (g.W.World.seen c.run_rounds.new.world) c.args.self.now c.run_rounds.new.self c.in_err-run_rounds.field-0.0 c.from_residual-in_err-run_rounds.result c.from_residual-in_err-run_rounds.ensures.1
+    goes_by g.W.World.Tells (g.J.Judge.accepts c.args.judge.now) c.args.rounds (g.K.Sink.contents c.args.sink.now) (g.K.Sink.contents c.run_rounds.new.sink) (g.W.World.seen c.args.world.now) (g.W.World.seen c.run_rounds.new.world) c.args.self.now c.run_rounds.new.self c.in_err-run_rounds.field-0.0 c.from_residual-in_err-run_rounds.result c.from_residual-in_err-run_rounds.ensures.1
 
 pub returns-clause-goes : goal.returns-clause-goes
 returns-clause-goes g c =
-    went_as g.W.World.Tells (g.J.Judge.accepts c.args.judge.now) c.finish.result (g.K.Sink.contents c.args.sink.now) (g.K.Sink.contents c.begin.new.sink) (g.K.Sink.contents c.run_rounds.new.sink) (g.K.Sink.contents c.finish.new.sink) (g.W.World.seen c.args.world.now) (g.W.World.seen c.begin.new.world) (g.W.World.seen c.run_rounds.new.world) (g.W.World.seen c.finish.new.world) c.args.self.now c.begin.new.self c.run_rounds.new.self c.finish.new.self
+    went_as g.W.World.Tells (g.J.Judge.accepts c.args.judge.now) c.args.rounds c.finish.result (g.K.Sink.contents c.args.sink.now) (g.K.Sink.contents c.begin.new.sink) (g.K.Sink.contents c.run_rounds.new.sink) (g.K.Sink.contents c.finish.new.sink) (g.W.World.seen c.args.world.now) (g.W.World.seen c.begin.new.world) (g.W.World.seen c.run_rounds.new.world) (g.W.World.seen c.finish.new.world) c.args.self.now c.begin.new.self c.run_rounds.new.self c.finish.new.self
     c.in_ok-run_rounds.ensures.continues c.finish.ensures.continues c.in_ok-begin.ensures.begins c.in_ok-run_rounds.ensures.to_end c.finish.ensures.finishes
 
 pub returns-in_err-begin-clause-plain : goal.returns-in_err-begin-clause-plain
 returns-in_err-begin-clause-plain g c =
-    if_err (PlainWhole g.W.World.Tells (g.J.Judge.accepts c.args.judge.now) (g.W.World.seen c.args.world.now) (g.W.World.seen c.begin.new.world) (engine_of c.args.self.now)) (served_by c.in_err-begin.field-0.0) c.from_residual.result c.from_residual.ensures.1 (whole_anyway (g.W.World.seen c.args.world.now) (g.W.World.seen c.begin.new.world) (engine_of c.args.self.now) (served_by c.in_err-begin.field-0.0) c.in_err-begin.ensures.plain)
+    if_err (PlainWhole g.W.World.Tells (g.J.Judge.accepts c.args.judge.now) c.args.rounds (g.W.World.seen c.args.world.now) (g.W.World.seen c.begin.new.world) (engine_of c.args.self.now)) (served_by c.in_err-begin.field-0.0) c.from_residual.result c.from_residual.ensures.1 (whole_anyway (g.W.World.seen c.args.world.now) (g.W.World.seen c.begin.new.world) (engine_of c.args.self.now) (served_by c.in_err-begin.field-0.0) c.in_err-begin.ensures.plain)
 
 pub returns-in_err-run_rounds-clause-plain : goal.returns-in_err-run_rounds-clause-plain
 returns-in_err-run_rounds-clause-plain g c =
-    if_err (PlainWhole g.W.World.Tells (g.J.Judge.accepts c.args.judge.now) (g.W.World.seen c.args.world.now) (g.W.World.seen c.run_rounds.new.world) (engine_of c.args.self.now)) (served_by c.in_err-run_rounds.field-0.0) c.from_residual-in_err-run_rounds.result c.from_residual-in_err-run_rounds.ensures.1
+    if_err (PlainWhole g.W.World.Tells (g.J.Judge.accepts c.args.judge.now) c.args.rounds (g.W.World.seen c.args.world.now) (g.W.World.seen c.run_rounds.new.world) (engine_of c.args.self.now)) (served_by c.in_err-run_rounds.field-0.0) c.from_residual-in_err-run_rounds.result c.from_residual-in_err-run_rounds.ensures.1
     (whole_rounds (g.W.World.seen c.args.world.now) (g.W.World.seen c.begin.new.world) (g.W.World.seen c.run_rounds.new.world) c.args.self.now c.begin.new.self (served_by c.in_err-run_rounds.field-0.0) c.in_ok-begin.ensures.begins c.in_err-run_rounds.ensures.continues c.in_err-run_rounds.ensures.plain)
 
 pub returns-clause-plain : goal.returns-clause-plain
@@ -40,18 +40,18 @@ returns-clause-plain g c =
 
 pub returns-in_err-begin-clause-cut : goal.returns-in_err-begin-clause-cut
 returns-in_err-begin-clause-cut g c =
-    if_err (λ (end : Served). CutAs g.W.World.Tells (g.J.Judge.accepts c.args.judge.now) end (g.K.Sink.contents c.args.sink.now) (g.K.Sink.contents c.begin.new.sink) (g.W.World.seen c.args.world.now) (g.W.World.seen c.begin.new.world) (engine_of c.args.self.now)) (served_by c.in_err-begin.field-0.0) c.from_residual.result c.from_residual.ensures.1
-    (goes_cut g.W.World.Tells (g.J.Judge.accepts c.args.judge.now) c.in_err-begin.field-0.0 (g.K.Sink.contents c.args.sink.now) (g.K.Sink.contents c.begin.new.sink) (g.W.World.seen c.args.world.now) (g.W.World.seen c.begin.new.world) (engine_of c.args.self.now) c.begin.ensures.continues (inl c.in_err-begin.ensures.cut))
+    if_err (λ (end : Served). CutAs g.W.World.Tells (g.J.Judge.accepts c.args.judge.now) c.args.rounds end (g.K.Sink.contents c.args.sink.now) (g.K.Sink.contents c.begin.new.sink) (g.W.World.seen c.args.world.now) (g.W.World.seen c.begin.new.world) (engine_of c.args.self.now)) (served_by c.in_err-begin.field-0.0) c.from_residual.result c.from_residual.ensures.1
+    (goes_cut g.W.World.Tells (g.J.Judge.accepts c.args.judge.now) c.args.rounds c.in_err-begin.field-0.0 (g.K.Sink.contents c.args.sink.now) (g.K.Sink.contents c.begin.new.sink) (g.W.World.seen c.args.world.now) (g.W.World.seen c.begin.new.world) (engine_of c.args.self.now) c.begin.ensures.continues (inl c.in_err-begin.ensures.cut))
 
 pub returns-in_err-run_rounds-clause-cut : goal.returns-in_err-run_rounds-clause-cut
 returns-in_err-run_rounds-clause-cut g c =
-    if_err (λ (end : Served). CutAs g.W.World.Tells (g.J.Judge.accepts c.args.judge.now) end (g.K.Sink.contents c.args.sink.now) (g.K.Sink.contents c.run_rounds.new.sink) (g.W.World.seen c.args.world.now) (g.W.World.seen c.run_rounds.new.world) (engine_of c.args.self.now)) (served_by c.in_err-run_rounds.field-0.0) c.from_residual-in_err-run_rounds.result c.from_residual-in_err-run_rounds.ensures.1
-    (rounds_cut g.W.World.Tells (g.J.Judge.accepts c.args.judge.now) c.in_err-run_rounds.field-0.0 (g.K.Sink.contents c.args.sink.now) (g.K.Sink.contents c.begin.new.sink) (g.K.Sink.contents c.run_rounds.new.sink) (g.W.World.seen c.args.world.now) (g.W.World.seen c.begin.new.world) (g.W.World.seen c.run_rounds.new.world) c.args.self.now c.begin.new.self
+    if_err (λ (end : Served). CutAs g.W.World.Tells (g.J.Judge.accepts c.args.judge.now) c.args.rounds end (g.K.Sink.contents c.args.sink.now) (g.K.Sink.contents c.run_rounds.new.sink) (g.W.World.seen c.args.world.now) (g.W.World.seen c.run_rounds.new.world) (engine_of c.args.self.now)) (served_by c.in_err-run_rounds.field-0.0) c.from_residual-in_err-run_rounds.result c.from_residual-in_err-run_rounds.ensures.1
+    (rounds_cut g.W.World.Tells (g.J.Judge.accepts c.args.judge.now) c.args.rounds c.in_err-run_rounds.field-0.0 (g.K.Sink.contents c.args.sink.now) (g.K.Sink.contents c.begin.new.sink) (g.K.Sink.contents c.run_rounds.new.sink) (g.W.World.seen c.args.world.now) (g.W.World.seen c.begin.new.world) (g.W.World.seen c.run_rounds.new.world) c.args.self.now c.begin.new.self
     c.in_ok-begin.ensures.continues c.in_ok-begin.ensures.begins c.in_ok-begin.ensures.reads c.run_rounds.ensures.continues c.in_err-run_rounds.ensures.cut)
 
 pub returns-clause-cut : goal.returns-clause-cut
 returns-clause-cut g c =
-    went_cut g.W.World.Tells (g.J.Judge.accepts c.args.judge.now) c.finish.result (g.K.Sink.contents c.args.sink.now) (g.K.Sink.contents c.begin.new.sink) (g.K.Sink.contents c.run_rounds.new.sink) (g.K.Sink.contents c.finish.new.sink) (g.W.World.seen c.args.world.now) (g.W.World.seen c.begin.new.world) (g.W.World.seen c.run_rounds.new.world) (g.W.World.seen c.finish.new.world) c.args.self.now c.begin.new.self c.run_rounds.new.self
+    went_cut g.W.World.Tells (g.J.Judge.accepts c.args.judge.now) c.args.rounds c.finish.result (g.K.Sink.contents c.args.sink.now) (g.K.Sink.contents c.begin.new.sink) (g.K.Sink.contents c.run_rounds.new.sink) (g.K.Sink.contents c.finish.new.sink) (g.W.World.seen c.args.world.now) (g.W.World.seen c.begin.new.world) (g.W.World.seen c.run_rounds.new.world) (g.W.World.seen c.finish.new.world) c.args.self.now c.begin.new.self c.run_rounds.new.self
     (record {
       first = c.in_ok-begin.ensures.continues;
       begins = c.in_ok-begin.ensures.begins;

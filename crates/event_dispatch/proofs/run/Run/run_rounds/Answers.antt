@@ -29,7 +29,7 @@ pub run_round-requires-clause-none_waits : goal.run_round-requires-clause-none_w
 run_round-requires-clause-none_waits g c = c.loop-round.invariant.rounds.writes.none_waits
 
 pub returns-in-End-clause-to_end : goal.returns-in-End-clause-to_end
-returns-in-End-clause-to_end g c = rounds_last g.W.World.Tells (g.J.Judge.accepts c.args.judge.now) c.loop-round._round (g.K.Sink.contents c.args.sink.now) (g.K.Sink.contents c.loop-round.sink) (g.K.Sink.contents c.run_round.new.sink) (g.W.World.seen c.args.world.now) (g.W.World.seen c.loop-round.world) (g.W.World.seen c.run_round.new.world) c.args.self.now c.loop-round.self c.run_round.new.self c.loop-round.invariant.rounds (subst (λ (rest : Rest). GoesRound g.W.World.Tells (g.J.Judge.accepts c.args.judge.now) rest (g.K.Sink.contents c.loop-round.sink) (g.K.Sink.contents c.run_round.new.sink) (g.W.World.seen c.loop-round.world) (g.W.World.seen c.run_round.new.world) c.loop-round.self c.run_round.new.self) c.in-End.is c.in_ok-run_round.ensures.round)
+returns-in-End-clause-to_end g c = rounds_last g.W.World.Tells (g.J.Judge.accepts c.args.judge.now) c.args.rounds c.loop-round._round (g.K.Sink.contents c.args.sink.now) (g.K.Sink.contents c.loop-round.sink) (g.K.Sink.contents c.run_round.new.sink) (g.W.World.seen c.args.world.now) (g.W.World.seen c.loop-round.world) (g.W.World.seen c.run_round.new.world) c.args.self.now c.loop-round.self c.run_round.new.self c.loop-round.invariant.rounds (subst (λ (rest : Rest). GoesRound g.W.World.Tells (g.J.Judge.accepts c.args.judge.now) rest (g.K.Sink.contents c.loop-round.sink) (g.K.Sink.contents c.run_round.new.sink) (g.W.World.seen c.loop-round.world) (g.W.World.seen c.run_round.new.world) c.loop-round.self c.run_round.new.self) c.in-End.is c.in_ok-run_round.ensures.round)
 
 pub loop-round-preserved : goal.loop-round-preserved
 loop-round-preserved g c = record {
@@ -44,7 +44,7 @@ loop-round-preserved g c = record {
 }
 
 pub returns-clause-to_end : goal.returns-clause-to_end
-returns-clause-to_end g c = rounds_out g.W.World.Tells (g.J.Judge.accepts c.args.judge.now) c.loop-round._round (g.K.Sink.contents c.args.sink.now) (g.K.Sink.contents c.loop-round.sink) (g.W.World.seen c.args.world.now) (g.W.World.seen c.loop-round.world) c.args.self.now c.loop-round.self c.loop-round-test.false c.loop-round.invariant.rounds
+returns-clause-to_end g c = rounds_out g.W.World.Tells (g.J.Judge.accepts c.args.judge.now) c.args.rounds c.loop-round._round (g.K.Sink.contents c.args.sink.now) (g.K.Sink.contents c.loop-round.sink) (g.W.World.seen c.args.world.now) (g.W.World.seen c.loop-round.world) c.args.self.now c.loop-round.self c.loop-round-test.false c.loop-round.invariant.rounds
 
 pub returns-in_err-run_round-clause-plain : goal.returns-in_err-run_round-clause-plain
 returns-in_err-run_round-clause-plain g c =
