@@ -16,10 +16,15 @@ use Rattle.outside.specs.State.{state, is_running}
 use Rattle.outside.specs.Calls.{Ends}
 use Rattle.journal_laws.specs.Readings.{Within, end_acts}
 use Rattle.lego_model.specs.AtOnce.{Before, nothing_said}
+use Rattle.checkpoint_store.specs.Slots.{Slot, slot_of}
 use Rattle.app_visor.specs.declared.came.Came.{Came}
 use Rattle.app_visor.specs.declared.came.Came.TheVariants as comes
 use Rattle.app_visor.specs.Talks.{step_of}
 use Rattle.app_visor.specs.Dialogues.{Speaks}
+
+-- the kept checkpoint of an application
+abbrev pub kept_of : ℕ → List Slot → List ℕ
+kept_of app slots = (slot_of app slots).kept.checkpoint
 
 -- ---- One attempt
 

@@ -1,5 +1,5 @@
 -- Laws of attempts to start an application.
-use Rattle.std.specs.Prelude.{◌≡◌, ℕ, ◌==◌, Bool, true, false, not, ◌||◌, List, [], ◌∷◌, ◌++◌, map, if◌then◌else◌, refl}
+use Rattle.std.specs.Prelude.{◌≡◌, ℕ, ◌==◌, Bool, true, false, not, ◌||◌, List, [], ◌∷◌, ◌++◌, drop, map, if◌then◌else◌, refl}
 use Rattle.std.proofs.Common.{sym, ap, ◌∙◌, subst, append_assoc, true≢false}
 use Rattle.std.proofs.lemmas.List.{append-nil, map-append}
 use Rattle.std.proofs.lemmas.Map.Views.{any-filter_same}
@@ -7,6 +7,8 @@ use Rattle.of_types.specs.declared.journal.Act.{Act}
 use Rattle.of_types.specs.declared.journal.Act.TheVariants.{Started, Gave, Gone, Took}
 use Rattle.of_types.specs.declared.journal.TookWhat.TheVariants as took
 use Rattle.app_frames.specs.declared.cause.Tried.TheVariants.{Closed}
+use Rattle.of_types.specs.Fields.{number_bytes}
+use Rattle.app_frames.specs.Spelling.{framed, host_body_bytes, host_bytes}
 use Rattle.app_frames.specs.declared.frame.AppFrame.TheVariants as frames
 use Rattle.lego_model.specs.Journal.{Start, End, Untold, Closes, Stalls, inputs, start_of, in_turns, pieces, end_from, any_gone}
 use Rattle.lego_model.specs.Turns.{Next, outcome_of, first_frame, next_of}
@@ -34,6 +36,23 @@ use Rattle.app_visor.specs.laws.DialogueLaws.{passes_next, Converses-refl, Conve
 use Rattle.app_visor.specs.laws.RunningLaws.{started_runs}
 use Rattle.app_visor.specs.Attempts.{TryRises, restored, tried_by, rest_of, stood, Greets}
 use Rattle.app_visor.specs.laws.BeatLaws.{same}
+
+-- ---- The checkpoint that Restore carries
+
+-- it stands behind the length and the kind
+abbrev pub carried : List ℕ → List ℕ
+carried frame = drop 5 frame
+
+carried_by : (body : List ℕ) → carried (framed 1 body) ≡ body
+unfolding framed number_bytes
+carried_by body = refl
+
+pub carried_in : (checkpoint : List ℕ) → carried (restore_frame checkpoint) ≡ checkpoint
+unfolding host_bytes host_body_bytes
+carried_in checkpoint = carried_by checkpoint
+
+pub carries : (frame checkpoint : List ℕ) → frame ≡ restore_frame checkpoint → frame ≡ restore_frame (carried frame)
+carries frame checkpoint is = is ∙ ap (λ (x : List ℕ). restore_frame x) (sym (ap carried is ∙ carried_in checkpoint))
 
 -- ---- What is read of a start
 

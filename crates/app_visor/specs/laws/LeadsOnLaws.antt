@@ -20,7 +20,7 @@ use Rattle.net_txn.specs.LinkSteps.{AreLinkSteps, OnLinks}
 use Rattle.net_txn.specs.Net.{NetState}
 use Rattle.journal_laws.specs.laws.AtOnceLaws.{others_say}
 use Rattle.app_visor.specs.declared.came.Came.TheVariants.{Frame}
-use Rattle.app_visor.specs.declared.state.TurnEnd.{TurnEnd}
+use Rattle.app_visor.specs.declared.play_end.PlayEnd.{PlayEnd}
 use Rattle.app_visor.specs.Talks.{Told, Wants}
 use Rattle.app_visor.specs.Reads.{takes, Comes, Breaks}
 use Rattle.app_visor.specs.Dialogues.{Converses, LeadsOn, TalksOn, Talks}
@@ -107,7 +107,7 @@ leads_on_event Tells app frame event rest taken s old mid new told tells spelled
     (converses_event Tells app frame taken s old mid told tells (subst (λ (f : List ℕ). is_event f ≡ true) (sym spelled) is) runs (subst (Passes s.unread) (sym begun) passes)) later
 
 -- the turn was played to its end
-pub leads_on_turned : {Own : Type 0} {Tells : Type 0} {accepts : List TableView → Bool} {app left : ℕ} {rest unread : List ℕ} {old new : Seen Own} {net now_net : NetState} {end : TurnEnd} → TurnsFrom Tells accepts app left rest old new net now_net end unread → Tells
+pub leads_on_turned : {Own : Type 0} {Tells : Type 0} {accepts : List TableView → Bool} {app left : ℕ} {rest unread : List ℕ} {old new : Seen Own} {net now_net : NetState} {end : PlayEnd} → TurnsFrom Tells accepts app left rest old new net now_net end unread → Tells
     → LeadsOn app (before rest []) old new
 leads_on_turned t tells = let says = t.speaks tells [] refl in (says.after, says.converses)
 
