@@ -202,7 +202,7 @@ rounds_last Tells accepts most n a b c old mid new r then_r now_r rounds one = r
 
 -- so many rounds that there are not so many stimuli
 pub rounds_out : {Own : Type 0} (Tells : Type 0) (accepts : List TableView → Bool) (most n : ℕ) (a b : Option (List ℕ)) (old new : Seen Own) (r now_r : Run) → most ≤ n → GoesRounds Tells accepts n a b old new r now_r → GoesToEnd Tells accepts most a b old new r now_r
-rounds_out {Own} Tells accepts n a b old new r now_r many rounds = record {
+rounds_out {Own} Tells accepts most n a b old new r now_r many rounds = record {
   text = rounds.text;
   shown = record { to_end = λ allows told keeps judges settled few. absurd (never allows told keeps judges settled few) };
   none_to_come = record { none = λ allows told keeps judges settled few. absurd (never allows told keeps judges settled few) };

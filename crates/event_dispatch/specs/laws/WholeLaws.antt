@@ -81,7 +81,7 @@ went_out Tells accepts most a b c d old begun last new r r1 r2 now_r on later be
 
 pub went_full : {Own : Type 0} (Tells : Type 0) (accepts : List TableView → Bool) (most left : ℕ) (a b c d : Option (List ℕ)) (old begun last new : Seen Own) (r r1 r2 now_r : Run) → Continues Tells begun last → Continues Tells last new → Begins Tells a b old begun r r1
     → GoesToEnd Tells accepts most b c begun last r1 r2 → Finishes Tells (Err (served.EventsLeft left)) c d last new r2 now_r → RunsFull Tells accepts most left a d old new (engine_of r)
-went_full {Own} Tells accepts left a b c d old begun last new r r1 r2 now_r on later begins rounds ends = record {
+went_full {Own} Tells accepts most left a b c d old begun last new r r1 r2 now_r on later begins rounds ends = record {
   full = record {
     last = last;
     now_engine = engine_of r2;
