@@ -147,10 +147,11 @@ pub none_refused_policy : (told left : Option (List ℕ)) (P : Type 0) (line : L
 none_refused_policy None left P line taken = tt
 none_refused_policy (Some bytes) left P line taken = λ e. absurd (refused_or_taken bytes left line taken e)
 
-stays_refused : (bytes : List ℕ) (left : Option (List ℕ)) (line : List ℕ) (Stays : Type 0) → run_policy bytes ≡ Err line → Taken (Some bytes) left ⊎ Stays → Stays
-stays_refused bytes left line Stays e (inl taken) = absurd (refused_or_taken bytes left line taken e)
-stays_refused bytes left line Stays e (inr stays) = stays
+stays_refused : (bytes : List ℕ) (left : Option (List ℕ)) (line : List ℕ) (World Sink : Type 0) → run_policy bytes ≡ Err line → Taken (Some bytes) left ⊎ (World × Sink) → World
+stays_refused bytes left line World Sink e (inl taken) = absurd (refused_or_taken bytes left line taken e)
+stays_refused bytes left line World Sink e (inr stays) = stays.0
 
-pub refuses_policy : (told left : Option (List ℕ)) (stop : Stop) (line : List ℕ) (Stays : Type 0) → (IsLate stop → Taken told left) → Taken told left ⊎ Stays → IfSome told (λ input. run_policy input ≡ Err line → Contains (2 ∷ 3 ∷ 4 ∷ 12 ∷ []) (stop_status stop) × Stays)
-refuses_policy None left stop line Stays late other = tt
-refuses_policy (Some bytes) left stop line Stays late other = λ e. (not_late stop (λ so. refused_or_taken bytes left line (late so) e), stays_refused bytes left line Stays e other)
+pub refuses_policy : (told left : Option (List ℕ)) (stop : Stop) (line : List ℕ) (World Sink : Type 0) → (IsLate stop → Taken told left) → Taken told left ⊎ (World × Sink)
+    → IfSome told (λ input. run_policy input ≡ Err line → Contains (2 ∷ 3 ∷ 4 ∷ 12 ∷ []) (stop_status stop) × World)
+refuses_policy None left stop line World Sink late other = tt
+refuses_policy (Some bytes) left stop line World Sink late other = λ e. (not_late stop (λ so. refused_or_taken bytes left line (late so) e), stays_refused bytes left line World Sink e other)

@@ -170,7 +170,7 @@ pub returns-in-Ok-clause-refused_policy_never_runs : goal.returns-in-Ok-clause-r
 returns-in-Ok-clause-refused_policy_never_runs g c = λ port rounds is line. none_refused_policy (g.S.Source.remaining c.args.source.now) (g.S.Source.remaining c.run.new.source) _ line (c.in-Ok.ensures.serves port rounds is).taken
 
 pub returns-in-Err-clause-refused_policy_never_runs : goal.returns-in-Err-clause-refused_policy_never_runs
-returns-in-Err-clause-refused_policy_never_runs g c = λ port rounds is line. rw c.halt.ensures.status (refuses_policy (g.S.Source.remaining c.args.source.now) (g.S.Source.remaining c.run.new.source) c.in-Err.stop line (c.run.new.live ≡ c.args.live.now) (c.in-Err.ensures.serves port rounds is).taken (c.in-Err.ensures.serves port rounds is).no_other)
+returns-in-Err-clause-refused_policy_never_runs g c = λ port rounds is line. rw c.halt.ensures.status (refuses_policy (g.S.Source.remaining c.args.source.now) (g.S.Source.remaining c.run.new.source) c.in-Err.stop line (c.run.new.live ≡ c.args.live.now) (c.run.new.sink ≡ c.args.sink.now) (c.in-Err.ensures.serves port rounds is).taken (c.in-Err.ensures.serves port rounds is).no_other)
 
 pub returns-in-Err-clause-usage : goal.returns-in-Err-clause-usage
 returns-in-Err-clause-usage g c = λ two. c.in-Err.ensures.usage (is_usage c.in-Err.stop (sym c.halt.ensures.status ∙ two))

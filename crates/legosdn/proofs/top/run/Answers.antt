@@ -1,0 +1,46 @@
+use Rattle.std.proofs.Common.{refl, inl}
+use Rattle.legosdn.specs.declared.stop.Stop.TheVariants.{NoMemory}
+use Rattle.legosdn.proofs.Serving.{replays_unread}
+use Rattle.legosdn.proofs.Runs.{untouched, none_runs, none_runs_yet, new_strays}
+use Rattle.legosdn.proofs.top.run.Goals as goal
+
+pub returns-in_err-read_words-clause-replays : goal.returns-in_err-read_words-clause-replays
+returns-in_err-read_words-clause-replays g c = λ is.
+    replays_unread (g.S.Source.remaining c.args.source.now) (g.S.Source.remaining c.args.source.now) (g.S.Source.faults c.args.source.now) (g.S.Source.faults c.args.source.now) (g.K.Sink.faults c.args.sink.now) c.args.sim.now (g.K.Sink.contents c.args.sink.now)
+    _ NoMemory c.from_residual.result c.from_residual.ensures.1 (untouched c.args.sim.now c.requires.new) tt (refl, refl)
+
+pub returns-in_err-read_words-clause-ended : goal.returns-in_err-read_words-clause-ended
+returns-in_err-read_words-clause-ended g c = none_runs c.args.sim.now c.requires.new
+
+pub returns-in_err-read_words-clause-strays : goal.returns-in_err-read_words-clause-strays
+returns-in_err-read_words-clause-strays g c = λ shorts. new_strays c.args.sim.now c.requires.new
+
+pub returns-in_err-read_words-clause-no_other_session : goal.returns-in_err-read_words-clause-no_other_session
+returns-in_err-read_words-clause-no_other_session g c = inl (untouched c.args.sim.now c.requires.new)
+
+pub returns-in_err-read_words-clause-live_ended : goal.returns-in_err-read_words-clause-live_ended
+returns-in_err-read_words-clause-live_ended g c = λ told none. none_runs_yet (g.W.World.seen c.args.live.now) none
+
+pub returns-in-Some-Replay-clause-live_ended : goal.returns-in-Some-Replay-clause-live_ended
+returns-in-Some-Replay-clause-live_ended g c = λ told none. none_runs_yet (g.W.World.seen c.args.live.now) none
+
+pub returns-in-Some-Run-clause-ended : goal.returns-in-Some-Run-clause-ended
+returns-in-Some-Run-clause-ended g c = none_runs c.args.sim.now c.requires.new
+
+pub returns-in-Some-Run-clause-strays : goal.returns-in-Some-Run-clause-strays
+returns-in-Some-Run-clause-strays g c = λ shorts. new_strays c.args.sim.now c.requires.new
+
+pub returns-in-Some-Run-clause-no_other_session : goal.returns-in-Some-Run-clause-no_other_session
+returns-in-Some-Run-clause-no_other_session g c = inl (untouched c.args.sim.now c.requires.new)
+
+pub returns-in-None-clause-ended : goal.returns-in-None-clause-ended
+returns-in-None-clause-ended g c = none_runs c.args.sim.now c.requires.new
+
+pub returns-in-None-clause-strays : goal.returns-in-None-clause-strays
+returns-in-None-clause-strays g c = λ shorts. new_strays c.args.sim.now c.requires.new
+
+pub returns-in-None-clause-no_other_session : goal.returns-in-None-clause-no_other_session
+returns-in-None-clause-no_other_session g c = inl (untouched c.args.sim.now c.requires.new)
+
+pub returns-in-None-clause-live_ended : goal.returns-in-None-clause-live_ended
+returns-in-None-clause-live_ended g c = λ told none. none_runs_yet (g.W.World.seen c.args.live.now) none
