@@ -2,8 +2,8 @@
 """An application that is killed: live/pairs.py [EVENT]
 
 Each frame from an address that it has not seen gives two entries that belong together, with the number of the event as
-their cookie. Whoever looks at a flow table sees so whether a change stands in half. In the turn of the event that is named it waits for
-a second behind its two entries, and then dies without a word.
+their cookie. So a flow table shows whether half of a change stands in it. In the turn of EVENT it waits for a second
+behind its two entries, and then dies without a word.
 """
 
 import os
