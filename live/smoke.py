@@ -7,6 +7,7 @@ is live/pairs.py. Prints what each switch met and the report of the run. Ends wi
 """
 
 import os
+import re
 import socket
 import struct
 import subprocess
@@ -150,10 +151,10 @@ class Run:
             self.process.kill()
             self.process.wait()
         self.reader.join()
-        print(f"the report has {len(self.lines)} lines; without the frames of the good one:")
+        print(f"the report has {len(self.lines)} lines; without the frames of the good one, and the switches 100 to 162:")
         calm = ("start app ready", "turn app done")
         for line in self.lines:
-            if line not in calm and " packet_in " not in line:
+            if line not in calm and not re.search(r" packet_in | (join|leave) 1\d\d$", line):
                 print(f"    {line}")
         return status
 
@@ -184,6 +185,21 @@ def crowd(run, good):
     run.connects().joins(20)
     tell("    another one joins once there is a place", run.has("join 20"), f", after {time.monotonic() - before:.0f} s")
     tell("    all of them are closed", all(it.is_closed()[0] for it in silent))
+    tell("    the good one is served", good.is_served() < 1000)
+
+
+def full(run, good):
+    """As many switches as there may be, and one more."""
+    others = [run.connects().joins(100 + it) for it in range(63)]
+    tell("63 more switches join", run.has("join 162"))
+    more = run.connects()
+    more.greeted()
+    more.send(features(200))
+    tell("    one more is closed", more.is_closed()[0])
+    tell("    the good one is served", good.is_served() < 1000)
+    for other in others:
+        other.link.close()
+    tell("    they leave", all(run.has(f"leave {100 + it}") for it in range(63)))
     tell("    the good one is served", good.is_served() < 1000)
 
 
@@ -238,7 +254,7 @@ def rules(run):
     good.confirms()
     tell("the good one joins", run.has("join 7"))
     tell("    it is served", good.is_served() < 1000)
-    for part in (strangers, crowd, members, silence):
+    for part in (strangers, crowd, full, members, silence):
         part(run, good)
     # A link that fails within a change ends the run, so far.
     mute = run.connects()
