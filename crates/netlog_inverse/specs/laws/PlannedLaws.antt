@@ -1,6 +1,6 @@
 -- What follows about plans that are logged: the images since each open mark stand for its table after the change, once those that had an
 -- entry stand which goes are set right; and a full table refuses an entry that is put back before another one is removed.
-use Rattle.std.proofs.Common.{◌≡◌, ◌≢◌, ◌==◌, ℕ, zero, suc, ◌+◌, ◌-◌, ◌<◌, ◌≤◌, Bool, true, false, not, ◌&&◌, List, [], ◌∷◌, ◌++◌, length, map, drop, Option, Some, None, refl, sym, ap, ap₂, ◌∙◌, arith, ◌⊎◌, inl, inr}
+use Rattle.std.proofs.Common.{◌≡◌, ◌≢◌, ◌==◌, ℕ, zero, suc, ◌+◌, ◌-◌, ◌<◌, ◌≤◌, Bool, false, not, ◌&&◌, List, [], ◌∷◌, ◌++◌, length, map, drop, Option, Some, None, refl, sym, ap, ap₂, ◌∙◌, arith, inl, inr}
 use Rattle.std.proofs.lemmas.Bool.{cases_Bool, cases_eq, cases_lt, eq-eqb, ne_eqb, le-leb}
 use Rattle.std.specs.List.{list_any}
 use Rattle.of_match.specs.declared.key.Key.{Key}
@@ -15,8 +15,8 @@ use Rattle.flow_table.specs.Errors.{all_tables_full}
 use Rattle.flow_table.specs.Table.{TableState, place_of, has_key, entry_at, with_entry}
 use Rattle.flow_table.specs.Change.{key_in, adds, clashes, is_full, refusal, changed}
 use Rattle.flow_table.specs.Corrected.{shown_entries, shown_table}
-use Rattle.flow_table.specs.laws.TableLaws.{with_entry-before, with_entry-same, with_entry-after, entry_at-same, entry_at-other}
-use Rattle.undo_laws.specs.Log.{Inverse, PutBack, Image as Said, Untouched, Absent, Gone, Acted, logged, old_entry, back, undo, undo_one, merge, image_at, image_of, seen}
+use Rattle.flow_table.specs.laws.TableLaws.{with_entry-before, with_entry-after, entry_at-same, entry_at-other}
+use Rattle.undo_laws.specs.Log.{Inverse, PutBack, Image as Said, Untouched, Gone, Acted, logged, old_entry, back, undo, undo_one, merge, image_at, image_of, seen}
 use Rattle.undo_laws.specs.Reverting.{IsAddition, Reverts, CanRevert}
 use Rattle.undo_laws.specs.Stands.{is_gone}
 use Rattle.undo_laws.specs.laws.LogLaws.{merge-untouched, merge-assoc, image_of-one, image_of-append}
