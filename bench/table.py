@@ -8,8 +8,8 @@ how many times that of the size before it.
 
 Then, at 1,024, 2,048 and 4,096 entries, milliseconds of: the plan of a DELETE of all; that plan logged; its undo, that is
 all images taken out and played; an ADD of each entry planned and logged by itself under one mark. Then the bytes that the
-log holds for each key, with 1,024 to 65,536 keys. Then what 4,096 rows of a cache take, each put in in a scattered order,
-found and taken out: in key order as the cache keeps them, and in maps of the kit.
+log holds for each key, with 1,024 to 65,536 keys. Then what a row of a cache of 4,096 takes that is put in, in key order
+and in a scattered one, and that is found and taken out in that: kept in key order as the cache has it, and in maps of the kit.
 
 All of it is processor time of the program, the least of five runs.
 """
@@ -61,15 +61,21 @@ def a_round(program, operation, size, rounds):
     return spent / rounds * 1e3
 
 
+def most(program, size, switches):
+    """KiB that the program has at its most. A child of Python begins with what Python has, so `time` starts it."""
+    words = ["/usr/bin/time", "-f", "%M", program, "hold", str(size), str(switches)]
+    done = subprocess.run(words, stdout=subprocess.DEVNULL, stderr=subprocess.PIPE, check=True)
+    return int(done.stderr.split()[-1])
+
+
 def held(program, size, switches):
-    """Bytes for each key of so many switches' logs: what the program has at its most, beyond what it has with one key."""
-    least = used(program, "hold", 1, 1).ru_maxrss
-    return (used(program, "hold", size, switches).ru_maxrss - least) * 1024 / (size * switches)
+    """Bytes for each key of so many switches' logs, at the most, beyond what the program has with one key."""
+    return (most(program, size, switches) - most(program, 1, 1)) * 1024 / (size * switches)
 
 
 def netlog(program):
     print("%-8s" % "ms" + "".join("%12d %7s" % (size, "") for size in PLANNED))
-    for operation, rounds in (("plan", 100), ("log", 100), ("undo", 100), ("singly", 20)):
+    for operation, rounds in (("plan", 100), ("log", 100), ("undo", 100), ("singly", 50)):
         line, before = "%-8s" % operation, None
         for size in PLANNED:
             took = a_round(program, operation, size, rounds)
@@ -78,11 +84,11 @@ def netlog(program):
         print(line)
     for size, switches in ((1_024, 1), (4_096, 1), (4_096, 4), (4_096, 16)):
         print("bytes a logged key, %d keys: %.0f" % (size * switches, held(program, size, switches)))
-    print("%-8s%12s%12s%12s" % ("us a row", "put", "get", "remove"))
+    print("%-8s%12s%12s%12s%12s" % ("us a row", "put in order", "put", "get", "remove"))
     for kind in ("rows", "tree", "hashed", "indexed"):
-        line, before = "%-8s" % kind, 0.0
+        line, before = "%-8s%12.3f" % (kind, a_round(program, kind + "-ascend", 4_096, 50) * 1e3 / 4_096), 0.0
         for until in ("put", "get", "remove"):
-            took = a_round(program, "%s-%s" % (kind, until), 4_096, 20) * 1e3 / 4_096
+            took = a_round(program, "%s-%s" % (kind, until), 4_096, 50) * 1e3 / 4_096
             line += "%12.3f" % (took - before)
             before = took
         print(line)
