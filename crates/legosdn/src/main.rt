@@ -22,6 +22,7 @@ use crate::settings::{SettingFault, Settings, SystemClock};
 use crate::top::legosdn;
 use lego_io::{StdSink, StdSource, write_all};
 use live_world::LiveWorld;
+use outside::World;
 use sim_world::SimWorld;
 use std::alloc::AllocError;
 use std::process::ExitCode;
@@ -43,21 +44,30 @@ fn words_of(rt: &HostRuntime) -> Result<Vec<String>, AllocError> {
     }
 }
 
-/// Runs the command of the words over the standard streams, and answers the status.
-fn run(rt: &HostRuntime, settings: &Settings) -> Result<u8, AllocError> {
-    let alloc = rt.alloc();
+/// Runs the command of the words over the standard streams and a world for `run`, and answers the status.
+fn command<W: World>(rt: &HostRuntime, live: &mut W) -> Result<u8, AllocError> {
     let words = words_of(rt)?;
-    let mut source = StdSource::new(rt, alloc)?;
-    let mut sink = StdSink::new(rt, alloc)?;
-    let mut sim = SimWorld::new(alloc)?;
-    let mut live = LiveWorld::new(rt, alloc, SystemClock::new(rt))?;
+    let mut source = StdSource::new(rt, rt.alloc())?;
+    let mut sink = StdSink::new(rt, rt.alloc())?;
+    let mut sim = SimWorld::new(rt.alloc())?;
+    Ok(legosdn(rt.alloc(), &words, &mut source, &mut sink, &mut sim, live))
+}
+
+/// Runs it with a world whose acts are told on standard error.
+fn traced<W: World + Drop>(rt: &HostRuntime, live: W) -> Result<u8, AllocError> {
+    let errors = StdSink::new(rt.stderr(), rt.alloc())?;
+    command(rt, &mut Traced::new(rt.alloc(), live, errors))
+}
+
+/// Runs it with the world of real switches.
+fn run(rt: &HostRuntime, settings: &Settings) -> Result<u8, AllocError> {
+    let mut live = LiveWorld::new(rt, rt.alloc(), SystemClock::new(rt))?;
     live.listen_at(settings.address);
     if settings.is_traced {
-        let errors = StdSink::new(rt.stderr(), alloc)?;
-        let mut traced = Traced::new(alloc, live, errors);
-        return Ok(legosdn(alloc, &words, &mut source, &mut sink, &mut sim, &mut traced));
+        traced(rt, live)
+    } else {
+        command(rt, &mut live)
     }
-    Ok(legosdn(alloc, &words, &mut source, &mut sink, &mut sim, &mut live))
 }
 
 /// Writes that the address of the environment is none, and answers the status.
