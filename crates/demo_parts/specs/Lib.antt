@@ -1,0 +1,4 @@
+pub mod Down
+pub mod Learn
+pub mod Checkpoint
+pub mod laws

@@ -1,0 +1,143 @@
+//! The parts of applications.
+
+use crate::cleaning::deletion;
+use crate::learn::Learn;
+use crate::messages::flow_frame;
+use crate::saying::say;
+use app_frames::{AppFrame, Event, EventKind, HostFrame};
+use of_types::{ByteList, Dpid};
+use std::alloc::{AllocError, Global};
+
+/// The frame of a length of 1 and the kind 9, which does not exist.
+const GARBAGE: [u8; 5] = [0, 0, 0, 1, 9];
+
+/// The address to which the torn turn makes a flow.
+const ADDRESS: [u8; 6] = [2, 0, 0, 0, 0, 9];
+
+/// An application.
+#[derive(Drop)]
+pub enum Part {
+    /// A learning switch.
+    Learn(Learn),
+    /// It deletes the flows to a port that went down.
+    Clean,
+    /// It does nothing, and ends at its second event.
+    Close { has_begun: bool },
+    /// It does nothing, and gives bytes that are no frame at its second event.
+    Garble { has_begun: bool },
+    /// It does nothing at its first event. At its second one it adds a flow, and ends once that is answered.
+    Tear { has_begun: bool },
+}
+
+/// What an application does next.
+#[derive(Clone, Copy, Debug, PartialEq, Eq)]
+pub enum Step {
+    /// It goes on.
+    GoesOn,
+    /// It ends.
+    Ends,
+}
+
+/// Says Done, with this checkpoint or none.
+fn say_done(
+    alloc: Global,
+    checkpoint: Option<ByteList>,
+    out: &mut Vec<u8>,
+) -> Result<(), AllocError> {
+    let frame = AppFrame::Done {
+        stop: false,
+        checkpoint,
+    };
+    say(alloc, &frame, out)
+}
+
+/// Adds a flow to the switch.
+fn say_flow(alloc: Global, dpid: Dpid, out: &mut Vec<u8>) -> Result<(), AllocError> {
+    say(alloc, &flow_frame(alloc, dpid, ADDRESS, 1)?, out)
+}
+
+/// Does nothing at the first event. Tells whether it was the first.
+fn pass_first(alloc: Global, has_begun: &mut bool, out: &mut Vec<u8>) -> Result<bool, AllocError> {
+    if *has_begun {
+        return Ok(false);
+    }
+    *has_begun = true;
+    say_done(alloc, None, out)?;
+    Ok(true)
+}
+
+impl Part {
+    /// The part of this word, in its first state: `learn`, `clean`, `close` or `garble`.
+    pub fn named(alloc: Global, word: &str) -> Option<Part> {
+        match word {
+            "learn" => Some(Part::Learn(Learn::new(alloc))),
+            "clean" => Some(Part::Clean),
+            "close" => Some(Part::Close { has_begun: false }),
+            "garble" => Some(Part::Garble { has_begun: false }),
+            _ => None,
+        }
+    }
+
+    /// Answers one frame of the host, at the end of `out`.
+    pub fn react(
+        &mut self,
+        alloc: Global,
+        frame: &HostFrame,
+        out: &mut Vec<u8>,
+    ) -> Result<Step, AllocError> {
+        match frame {
+            HostFrame::Restore(checkpoint) => {
+                if let Part::Learn(learn) = self {
+                    *learn = Learn::restored(alloc, checkpoint.as_slice())?;
+                }
+                say(alloc, &AppFrame::Ready, out)?;
+                Ok(Step::GoesOn)
+            }
+            HostFrame::Event { event, .. } => self.handle(alloc, event, out),
+            HostFrame::Answer(_) => match self {
+                Part::Tear { .. } => Ok(Step::Ends),
+                _ => Ok(Step::GoesOn),
+            },
+        }
+    }
+
+    /// Handles an event.
+    fn handle(
+        &mut self,
+        alloc: Global,
+        event: &Event,
+        out: &mut Vec<u8>,
+    ) -> Result<Step, AllocError> {
+        match self {
+            Part::Learn(learn) => {
+                for frame in learn.react(event)?.iter() {
+                    say(alloc, frame, out)?;
+                }
+            }
+            Part::Clean => {
+                if event.kind == EventKind::PortStatus
+                    && let Some(frame) = deletion(alloc, event)?
+                {
+                    say(alloc, &frame, out)?;
+                }
+                say_done(alloc, Some(ByteList::new(alloc)), out)?;
+            }
+            Part::Close { has_begun } => {
+                if !pass_first(alloc, has_begun, out)? {
+                    return Ok(Step::Ends);
+                }
+            }
+            Part::Garble { has_begun } => {
+                if !pass_first(alloc, has_begun, out)? {
+                    out.extend_from_slice(&GARBAGE)?;
+                }
+            }
+            Part::Tear { has_begun } => {
+                if !pass_first(alloc, has_begun, out)? {
+                    say_flow(alloc, event.dpid, out)?;
+                }
+            }
+        }
+        Ok(Step::GoesOn)
+    }
+}

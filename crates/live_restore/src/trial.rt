@@ -1,0 +1,68 @@
+//! The trial.
+
+use crate::talk::{APP, Awaited, give, take_until};
+use crate::trouble::Trouble;
+use app_frames::{Event, EventKind, HostFrame};
+use hex::ToHex;
+use live_stage::{SteadyClock, own_words};
+use live_world::LiveWorld;
+use of_types::{ByteList, flows};
+use of_wire::{Message, PacketIn, encode};
+use outside::World;
+use std::alloc::{AllocError, Global};
+use std::net::Net;
+use std::process::{Processes, SystemProcess};
+use std::rt::{Clock, Env};
+
+/// One row: at switch 1, 02:00:00:00:00:01 is reached by port 1.
+const CHECKPOINT: [u8; 16] = [0, 0, 0, 0, 0, 0, 0, 1, 2, 0, 0, 0, 0, 1, 0, 1];
+
+/// A frame from 02:00:00:00:00:02 to 02:00:00:00:00:01.
+const FRAME: [u8; 14] = [2, 0, 0, 0, 0, 1, 2, 0, 0, 0, 0, 2, 0x88, 0xb5];
+
+/// Restore with the checkpoint.
+fn restore(alloc: Global) -> Result<HostFrame, AllocError> {
+    Ok(HostFrame::Restore(ByteList::from_slice(alloc, &CHECKPOINT)?))
+}
+
+/// The frame came to switch 1 by port 2.
+fn arrival(alloc: Global) -> Result<HostFrame, AllocError> {
+    let packet = Message::PacketIn(PacketIn {
+        buffer_id: flows::NO_BUFFER,
+        total_len: FRAME.len() as u16,
+        in_port: 2,
+        reason: flows::NO_MATCH,
+        payload: ByteList::from_slice(alloc, &FRAME)?,
+    });
+    Ok(HostFrame::Event {
+        number: 1,
+        moment: 0,
+        event: Event {
+            kind: EventKind::PacketIn,
+            dpid: 1,
+            body: encode(alloc, 0, &packet)?,
+        },
+    })
+}
+
+/// Starts the child `learn`, restores it, gives it the event, ends it, and answers in hex what it gave.
+pub(crate) fn try_restored<
+    R: Net + Processes<Started = SystemProcess> + Env + Clock + AllocGlobal + Clone + Drop,
+>(rt: &R) -> Result<String, Trouble> {
+    let alloc = rt.alloc();
+    let mut clock = SteadyClock::new(rt.clone()?).map_err(|_| Trouble::NoClock)?;
+    let mut world = LiveWorld::new(
+        rt.clone()?,
+        alloc,
+        SteadyClock::new(rt.clone()?).map_err(|_| Trouble::NoClock)?,
+    )?;
+    world
+        .start(APP, &own_words(alloc, "learn")?)
+        .map_err(|_| Trouble::NotStarted)?;
+    give(alloc, &mut world, &restore(alloc)?)?;
+    take_until(alloc, &mut world, &mut clock, Awaited::Ready)?;
+    give(alloc, &mut world, &arrival(alloc)?)?;
+    let taken = take_until(alloc, &mut world, &mut clock, Awaited::Done)?;
+    world.end(APP);
+    Ok(hex::encode(alloc, &taken)?)
+}
