@@ -13,7 +13,7 @@ from legosdn.match import Match
 from legosdn.messages import PortDesc
 from legosdn.stats import FlowStats
 
-SECONDS = 10
+SECONDS = 30
 MISS = 0
 
 
@@ -23,7 +23,7 @@ def connection(port):
     while True:
         try:
             link = socket.create_connection(("127.0.0.1", port), 1)
-            link.settimeout(SECONDS)
+            link.settimeout(None)
             link.setsockopt(socket.IPPROTO_TCP, socket.TCP_NODELAY, 1)
             return link
         except OSError:
@@ -122,11 +122,11 @@ class Switch(threading.Thread):
             self.joined = True
             self.send(messages.BarrierReply(), xid)
         elif isinstance(message, messages.StatsRequest):
+            in_order = sorted(self.table.items(), key=lambda it: (-it[0][0], it[0][1].encode()))
             rows = b"".join(
-                FlowStats(match, actions, priority=priority, cookie=cookie).encode()
-                for (priority, match), (actions, cookie) in self.table.items()
+                FlowStats(match, actions, priority=priority, cookie=cookie).encode() for (priority, match), (actions, cookie) in in_order
             )
-            self.send(messages.StatsReply(message.kind, 0, rows), xid)
+            self.send(messages.StatsReply(message.kind, rows), xid)
         return True
 
     def change(self, change):
