@@ -1,5 +1,5 @@
 -- The run of a session that a fault ends.
-use Rattle.std.proofs.Common.{◌≡◌, ◌⊎◌, List, ℕ, Option, sym, subst, inl, inr}
+use Rattle.std.proofs.Common.{◌⊎◌, List, ℕ, Option, sym, subst, inl, inr}
 use Rattle.outside.specs.declared.call.FailCall.{FailCall}
 use Rattle.outside.specs.declared.step.WorldStep.{WorldStep}
 use Rattle.outside.specs.Seen.{Given, Seen, Longer}

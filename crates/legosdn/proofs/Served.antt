@@ -1,8 +1,7 @@
 -- The run of any world that tells in order is the reference controller's.
-use Rattle.std.proofs.Common.{◌≡◌, ◌⊎◌, ℕ, ◌<◌, Bool, true, List, [], ◌∷◌, length, Option, Result, Ok, Err, refl, sym, subst, inl, inr}
+use Rattle.std.proofs.Common.{◌≡◌, ◌⊎◌, ℕ, Bool, true, List, [], Option, refl, sym, subst, inl, inr}
 use Rattle.std.specs.List.{AllByRecursion}
 use Rattle.flow_table.specs.declared.view.TableView.{TableView}
-use Rattle.outside.specs.declared.step.WorldStep.TheVariants.{NotOpened}
 use Rattle.outside.specs.Seen.{Seen, Continues, journal}
 use Rattle.outside.specs.State.{at_first}
 use Rattle.outside.specs.Conforming.{Conforming}
@@ -11,14 +10,12 @@ use Rattle.outside.specs.laws.InOrderLaws.{in_order-Conforming, InOrder-front}
 use Rattle.outside.specs.Quiescence.{IsLastQuiescent}
 use Rattle.lego_model.specs.UndoFaults.{AreExpectedOnLinks}
 use Rattle.net_txn.specs.LinkSteps.{MakesNoStrayCall}
-use Rattle.app_visor.specs.CallsFor.{CallsFor}
 use Rattle.lego_model.specs.Places.{Place}
 use Rattle.lego_model.specs.Application.{index}
 use Rattle.lego_model.specs.AtOnce.{AtOnce}
 use Rattle.lego_model.specs.OrderlySteps.{IsOrderly}
 use Rattle.lego_model.specs.declared.fault.TxnFault.{TxnFault}
 use Rattle.lego_model.specs.declared.fault.TxnFault.TheVariants as faults
-use Rattle.lego_model.specs.History.{stimuli_in}
 use Rattle.lego_model.specs.AllLines.{CutBehindLines, CutInLines, CutForMemory}
 use Rattle.lego_model.specs.CutRun.{NothingDone}
 use Rattle.run_laws.specs.Promise.{Premise, PremiseSoFar}

@@ -1,11 +1,9 @@
 -- How `run` ends, and what stands where neither command runs anything.
-use Rattle.std.proofs.Common.{◌≡◌, ◌≢◌, ◌⊎◌, ℕ, List, [], ◌∷◌, Option, Some, None, Result, Ok, Err, IfErr, OnOk, IfSome, Contains, refl, sym, subst, ◌∙◌, ap, inl, inr}
+use Rattle.std.proofs.Common.{◌≡◌, ◌⊎◌, ℕ, List, [], ◌∷◌, Option, Some, None, Result, Ok, Err, IfErr, OnOk, IfSome, Contains, refl, sym, subst, ◌∙◌, ap, inl, inr}
 use Rattle.std.specs.Result.{IsErrAnd}
 use Rattle.command_words.specs.declared.command.Command.{Command}
 use Rattle.command_words.specs.declared.command.Command.TheVariants.{Replay, Run}
 use Rattle.command_words.specs.Commands.{command_in}
-use Rattle.lego_io.specs.Count.{Rose, NeverFell}
-use Rattle.lego_model.specs.CutRun.{NothingDone}
 use Rattle.outside.specs.Seen.{Seen}
 use Rattle.outside.specs.InOrder.{BringMessages}
 use Rattle.sim_world.specs.World.{WorldData, seen_of}
@@ -13,8 +11,8 @@ use Rattle.legosdn.specs.declared.stop.Refusal.{Refusal}
 use Rattle.legosdn.specs.declared.stop.Stop.{Stop}
 use Rattle.legosdn.specs.declared.stop.Stop.TheVariants.{Usage, Refused, ReadFault, WriteFault, Shut, NextFault, SwitchFault, SwitchBroke, Diverged, EventsLeft, NoMemory}
 use Rattle.legosdn.specs.Input.{run_policy}
-use Rattle.legosdn.specs.Stops.{stop_status, stop_line, refusal_line}
-use Rattle.legosdn.specs.Headline.{Faults, faults_of, IsReplay, IsRun, IsNoSession, IsNoPolicy, IsReadCause, IsRunCause, IsCause, IsEarly, IsLate, KeepsLines, Wrote, Replays}
+use Rattle.legosdn.specs.Stops.{stop_status, refusal_line}
+use Rattle.legosdn.specs.Headline.{faults_of, IsReplay, IsRun, IsNoSession, IsNoPolicy, IsReadCause, IsRunCause, IsEarly, IsLate, KeepsLines, Replays}
 use Rattle.legosdn.specs.Live.{Taken, TellsInOrder, NoneStray, ServesUntil, ServesAs, TakenAs, Serves}
 use Rattle.legosdn.proofs.Causes.{ran_causes, unread_causes}
 use Rattle.legosdn.proofs.Loads.{unread_as}

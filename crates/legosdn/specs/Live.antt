@@ -12,7 +12,7 @@ use Rattle.lego_model.specs.WholeRun.{EndsAlike, LeavesAlike}
 use Rattle.lego_model.specs.AllLines.{CutBehindLines, CutInLines, CutForMemory}
 use Rattle.lego_model.specs.CutRun.{NothingDone}
 use Rattle.legosdn.specs.declared.stop.Stop.{Stop}
-use Rattle.legosdn.specs.declared.stop.Stop.TheVariants.{Usage, Refused, ReadFault, WriteFault, Shut, NextFault, SwitchFault, SwitchBroke, Diverged, EventsLeft, NoMemory}
+use Rattle.legosdn.specs.declared.stop.Stop.TheVariants.{WriteFault, Shut, NextFault, SwitchFault, SwitchBroke, Diverged, EventsLeft, NoMemory}
 use Rattle.legosdn.specs.Input.{run_policy}
 use Rattle.legosdn.specs.Stops.{stop_status, stop_line}
 use Rattle.legosdn.specs.Said.{all_allowed}

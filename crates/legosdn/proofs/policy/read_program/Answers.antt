@@ -1,4 +1,3 @@
-use Rattle.std.proofs.Common.{map, string_bytes}
 use Rattle.crash_policy.specs.Policies.{policy_value}
 use Rattle.legosdn.proofs.Policies.{fault_causes, refused_causes, takes}
 use Rattle.legosdn.proofs.policy.read_program.Goals as goal
