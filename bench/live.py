@@ -3,14 +3,16 @@
 
 The switches are played over the loopback address by bench/live_client.c, which is built here. Each PACKET_IN has a source address that
 is new, and is answered by an addition of an entry. The application is sdk/python/examples/learning_by_additions.py; the rows with C have
-bench/live_app.c in its place, and so show what the controller itself takes. The others are os-ken (python3-os-ken) with bench/osken_learning.py, and
-ovs-testcontroller (openvswitch-testcontroller), where they are installed. Neither of them awaits a barrier: `legosdn run` tells its
-application that an entry stands only when the switch has answered one. ovs-testcontroller closes connections where many come at once, so
-it has 8 at most. Each measurement takes SECONDS, by default 3, and is made three times in turn with the others; the best one is printed.
+bench/live_app.c in its place, and so show what the controller itself takes. The others are os-ken (python3-os-ken) with
+bench/osken_learning.py, and ovs-testcontroller (openvswitch-testcontroller), where they are installed. Neither of them awaits a barrier:
+`legosdn run` tells its application that an entry stands only when the switch has answered one. ovs-testcontroller closes connections
+where many come at once, so it has 8 at most. Each measurement takes SECONDS, by default 3, and is made three times in turn with the
+others; the best one is printed.
 
-Prints: additions a second, with one switch and one PACKET_IN in flight, with one switch and 32, with 16 switches and 8 each; the time
-from a PACKET_IN to its FLOW_MOD at one in flight; then how 64 switches join, and how a flood of 50,000 PACKET_INs from one switch is
-taken while another one is served, with the peak of the controller's memory. Ends with status 1 where a measurement failed.
+Prints: additions a second and the time from a PACKET_IN to its FLOW_MOD, with one switch and one PACKET_IN in flight (paced: it waits
+for the barrier of the one before), with one switch and 32, with 16 switches and 8 each; then how 64 switches join, and how a flood of
+50,000 PACKET_INs from one switch is taken while another one is served, with the peak of the controller's memory. Ends with status 1
+where a measurement failed.
 """
 
 import contextlib
@@ -28,7 +30,8 @@ PROGRAM = sys.argv[1] if len(sys.argv) > 1 else os.path.join(TOP, "crates", "leg
 SECONDS = float(sys.argv[2]) if len(sys.argv) > 2 else 3
 APPLICATION = os.path.join(TOP, "sdk", "python", "examples", "learning_by_additions.py")
 RUN, RUN_C = "legosdn run", "legosdn run, C"
-SHAPES = ((1, 1), (1, 32), (16, 8))
+# Switches, PACKET_INs in flight, and whether each waits for the barrier of the one before.
+SHAPES = ((1, 1, True), (1, 1, False), (1, 32, False), (16, 8, False))
 TIMES = 3
 MOST_OF_OVS = 8
 FLOOD = 50_000
@@ -111,34 +114,36 @@ def measure(client, name, words):
                 return {it: float(value) for it, value in got.items()}, peak(process)
 
 
-def rate(client, name, switches, in_flight):
+def rate(client, name, switches, in_flight, paced):
     # ovs-testcontroller passes over all frames but those that met no entry.
     reason = 0 if name == "ovs-testcontroller" else 1
-    return measure(client, name, ("rate", switches, in_flight, reason, SECONDS))
+    return measure(client, name, ("rate", switches, in_flight, reason, int(paced), SECONDS))
 
 
-def row(name, count, in_flight, found):
+def row(name, count, in_flight, paced, found):
     got, mebibytes = max(found, key=lambda it: it[0]["rate"])
     figures = " ".join(f"{got[it]:8.0f}" for it in ("rate", "first", "last", "p50", "p99"))
-    print(f"{name:20} {count:8} {in_flight:9} {figures} {mebibytes:6.1f}", flush=True)
+    print(f"{name:20} {count:8} {in_flight:>3}{' paced' if paced else '':6} {figures} {mebibytes:6.1f}", flush=True)
 
 
 def rates(client, names):
     """Measures each shape; gives how many measurements failed."""
     failed = 0
     print(f"{'':20} {'switches':>8} {'in flight':>9} {'added/s':>8} {'first':>8} {'last':>8} {'p50 us':>8} {'p99 us':>8} {'MiB':>6}")
-    for switches, in_flight in SHAPES:
-        count = {it: min(switches, MOST_OF_OVS) if it == "ovs-testcontroller" else switches for it in names}
-        found = {it: [] for it in names}
-        for name in names * TIMES:
+    for switches, in_flight, paced in SHAPES:
+        # The others send no barriers.
+        players = [it for it in names if it in (RUN, RUN_C) or not paced]
+        count = {it: min(switches, MOST_OF_OVS) if it == "ovs-testcontroller" else switches for it in players}
+        found = {it: [] for it in players}
+        for name in players * TIMES:
             try:
-                found[name].append(rate(client, name, count[name], in_flight))
+                found[name].append(rate(client, name, count[name], in_flight, paced))
             except OSError as fault:
                 failed += 1
                 print(f"{name}: {fault}")
-        for name in names:
+        for name in players:
             if found[name]:
-                row(name, count[name], in_flight, found[name])
+                row(name, count[name], in_flight, paced, found[name])
     return failed
 
 

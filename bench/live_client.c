@@ -1,7 +1,8 @@
 /* Plays OpenFlow 1.0 switches to a controller at the loopback address, as fast as it answers. bench/live.py builds and runs it.
 
-   live_client rate PORT SWITCHES IN_FLIGHT REASON SECONDS
+   live_client rate PORT SWITCHES IN_FLIGHT REASON PACED SECONDS
        Each switch sends PACKET_INs with this reason and a new source address each, so many of them at a time without their FLOW_MOD.
+       Where PACED is 1 none is sent before the barrier behind the last FLOW_MOD is answered.
        Prints: additions a second over all, in the first and in the last quarter, and the 50th and 99th of 100 latencies in microseconds.
    live_client joins PORT SWITCHES ADDITIONS SECONDS
        The switches join; prints how many of them have had so many FLOW_MODs, and after how many milliseconds.
@@ -29,6 +30,7 @@ enum { MOST_SWITCHES = 256, FRAME = 60, MESSAGE = 18 + FRAME, ROOM = 1 << 18, MO
 struct link {
     int fd, number, joined;
     uint64_t sent, added;              /* PACKET_INs and FLOW_MODs that add, since the counting began */
+    int owes;                          /* whether no barrier came behind the last FLOW_MOD yet */
     double when[MOST_IN_FLIGHT];       /* when the PACKET_INs were sent whose FLOW_MODs are awaited, in their order */
     uint8_t in[ROOM];
     size_t filled;
@@ -146,9 +148,13 @@ static void heard(struct link *link, const uint8_t *message) {
         if (link->added < link->sent && latencies && latency_count < MOST_LATENCIES)
             latencies[latency_count++] = (now() - link->when[link->added % MOST_IN_FLIGHT]) * 1e6;
         link->added++;
+        link->owes = 1;
         break;
     case 16: statistics(link, message); break;
-    case 18: reply(link, 19, message, 0, 0); break;
+    case 18:
+        reply(link, 19, message, 0, 0);
+        link->owes = 0;
+        break;
     }
 }
 
@@ -232,7 +238,7 @@ static int order(const void *a, const void *b) {
 
 static float of_hundred(int place) { return latency_count ? latencies[latency_count * place / 100] : 0; }
 
-static int rate(int port, int switches, int in_flight, double seconds) {
+static int rate(int port, int switches, int in_flight, int is_paced, double seconds) {
     begin(port, switches);
     settle();
     latencies = malloc(MOST_LATENCIES * sizeof *latencies);
@@ -241,7 +247,7 @@ static int rate(int port, int switches, int in_flight, double seconds) {
     for (int q = 1; q <= 4; q++) {
         while (now() < start + seconds * q / 4) {
             for (int i = 0; i < count; i++)
-                while (links[i]->sent - links[i]->added < (unsigned)in_flight) event(links[i]);
+                while (links[i]->sent - links[i]->added < (unsigned)in_flight && !(is_paced && links[i]->owes)) event(links[i]);
             turn(5);
         }
         quarter[q] = added();
@@ -299,9 +305,9 @@ static int ends(int status) {
 }
 
 int main(int argc, char **argv) {
-    if (argc == 7 && !strcmp(argv[1], "rate")) {
+    if (argc == 8 && !strcmp(argv[1], "rate")) {
         reason = atoi(argv[5]);
-        return ends(rate(atoi(argv[2]), atoi(argv[3]), atoi(argv[4]), atof(argv[6])));
+        return ends(rate(atoi(argv[2]), atoi(argv[3]), atoi(argv[4]), atoi(argv[6]), atof(argv[7])));
     }
     if (argc == 6 && !strcmp(argv[1], "joins")) return ends(joins(atoi(argv[2]), atoi(argv[3]), atoi(argv[4]), atof(argv[5])));
     if (argc == 5 && !strcmp(argv[1], "flood")) return ends(flood(atoi(argv[2]), atoi(argv[3]), atof(argv[4])));
