@@ -1,19 +1,22 @@
 #!/usr/bin/env python3
 """What a call on a flow table of 100, 1,000 and 4,096 entries takes, and what plans and undos of as many cost.
 
-bench/table.py [PROGRAM [NETLOG]]: the programs are lego_bench and netlog_time as bench/build leaves them. Prints microseconds a call: of a change that puts
-an entry in over one with its key, of a lookup and a hit, each entry in turn, of an expiry at which no entry
-goes, and of one DELETE that removes all entries; behind each from 1,000 entries on, how many times that of
-the size before it. Then, at 1,024, 2,048 and 4,096 entries, milliseconds of: the plan of a DELETE of all; that plan
-logged; its undo, that is all images taken out and played; an ADD of each entry planned and logged by itself under one
-mark. Then the bytes that the log holds for each key, and microseconds of a look into the cache, whose rows stand in key
-order, and into a map by hashes.
+bench/table.py [PROGRAM [NETLOG]]: the programs are lego_bench and netlog_time as bench/build leaves them; `-` leaves one out.
+Prints microseconds a call: of a change that puts an entry in over one with its key, of a lookup and a hit, each entry in
+turn, of an expiry at which no entry goes, and of one DELETE that removes all entries; behind each from 1,000 entries on,
+how many times that of the size before it.
+
+Then, at 1,024, 2,048 and 4,096 entries, milliseconds of: the plan of a DELETE of all; that plan logged; its undo, that is
+all images taken out and played; an ADD of each entry planned and logged by itself under one mark. Then the bytes that the
+log holds for each key, with 1,024 to 65,536 keys. Then what a row of a cache of 4,096 takes that is put in, in key order
+and in a scattered one, and that is found and taken out in that: kept in key order as the cache has it, and in maps of the kit.
+
+All of it is processor time of the program, the least of five runs.
 """
 
 import os
 import subprocess
 import sys
-import time
 
 HERE = os.path.dirname(os.path.abspath(__file__))
 PROGRAM = os.path.join(HERE, "out", "lego_bench")
@@ -23,15 +26,20 @@ PLANNED = (1_024, 2_048, 4_096)
 CALLS = {"change": 400_000, "lookup": 40_000, "hit": 40_000, "expire": 20_000_000}
 
 
+def used(program, operation, size, rounds):
+    """What one run takes, by the system's account of it."""
+    child = subprocess.Popen([program, operation, str(size), str(rounds)], stdout=subprocess.DEVNULL)
+    _, status, account = os.wait4(child.pid, 0)
+    child.returncode = os.waitstatus_to_exitcode(status)
+    if child.returncode:
+        raise SystemExit("%s %s %d %d ended with %d" % (program, operation, size, rounds, child.returncode))
+    return account
+
+
 def seconds(program, operation, size, rounds):
-    """The least of three times."""
-    best = None
-    for _ in range(3):
-        start = time.monotonic()
-        subprocess.run([program, operation, str(size), str(rounds)], stdout=subprocess.DEVNULL, check=True)
-        took = time.monotonic() - start
-        best = took if best is None else min(best, took)
-    return best
+    """Seconds of a processor, the least of five runs."""
+    accounts = [used(program, operation, size, rounds) for _ in range(5)]
+    return min(account.ru_utime + account.ru_stime for account in accounts)
 
 
 def a_call(program, operation, size):
@@ -53,32 +61,40 @@ def a_round(program, operation, size, rounds):
     return spent / rounds * 1e3
 
 
+def most(program, size, switches):
+    """KiB that the program has at its most. A child of Python begins with what Python has, so `time` starts it."""
+    words = ["/usr/bin/time", "-f", "%M", program, "hold", str(size), str(switches)]
+    done = subprocess.run(words, stdout=subprocess.DEVNULL, stderr=subprocess.PIPE, check=True)
+    return int(done.stderr.split()[-1])
+
+
 def held(program, size, switches):
-    """Bytes that the log holds for each key: what the program has at its most, with so many switches more."""
-    most = []
-    for count in (switches, 3 * switches):
-        script = "import resource,subprocess,sys;subprocess.run(sys.argv[1:],stdout=subprocess.DEVNULL,check=True);" \
-            "print(resource.getrusage(resource.RUSAGE_CHILDREN).ru_maxrss)"
-        most.append(int(subprocess.check_output([sys.executable, "-c", script, program, "hold", str(size), str(count)])))
-    return (most[1] - most[0]) * 1024 / (2 * switches * size)
+    """Bytes for each key of so many switches' logs, at the most, beyond what the program has with one key."""
+    return (most(program, size, switches) - most(program, 1, 1)) * 1024 / (size * switches)
 
 
 def netlog(program):
     print("%-8s" % "ms" + "".join("%12d %7s" % (size, "") for size in PLANNED))
-    for operation, rounds in (("plan", 20), ("log", 20), ("undo", 20), ("singly", 2)):
+    for operation, rounds in (("plan", 100), ("log", 100), ("undo", 100), ("singly", 50)):
         line, before = "%-8s" % operation, None
         for size in PLANNED:
             took = a_round(program, operation, size, rounds)
-            line += "%12.3f %7s" % (took, "" if before is None else "x%.1f" % (took / before))
+            line += "%12.3f %7s" % (took, "" if before is None else "x%.2f" % (took / before))
             before = took
         print(line)
-    print("bytes a logged key: %.0f" % held(program, 4_096, 8))
-    for kind in ("ordered", "hashed"):
-        print("us a look, %s: %.3f" % (kind, a_round(program, kind, 4_096, 50) * 1e3 / 4_096))
+    for size, switches in ((1_024, 1), (4_096, 1), (4_096, 4), (4_096, 16)):
+        print("bytes a logged key, %d keys: %.0f" % (size * switches, held(program, size, switches)))
+    print("%-8s%12s%12s%12s%12s" % ("us a row", "put in order", "put", "get", "remove"))
+    for kind in ("rows", "tree", "hashed", "indexed"):
+        line, before = "%-8s%12.3f" % (kind, a_round(program, kind + "-ascend", 4_096, 50) * 1e3 / 4_096), 0.0
+        for until in ("put", "get", "remove"):
+            took = a_round(program, "%s-%s" % (kind, until), 4_096, 50) * 1e3 / 4_096
+            line += "%12.3f" % (took - before)
+            before = took
+        print(line)
 
 
-def main():
-    program = sys.argv[1] if len(sys.argv) > 1 else PROGRAM
+def calls(program):
     print("%-8s" % "us/call" + "".join("%12d %7s" % (size, "") for size in SIZES))
     for operation in ("change", "lookup", "hit", "expire", "delete"):
         line, before = "%-8s" % operation, None
@@ -87,11 +103,18 @@ def main():
             line += "%12.3f %7s" % (took, "" if before is None else "x%.1f" % (took / before))
             before = took
         print(line)
+
+
+def main():
+    program = sys.argv[1] if len(sys.argv) > 1 else PROGRAM
+    if program != "-":
+        calls(program)
     logs = sys.argv[2] if len(sys.argv) > 2 else NETLOG
-    if not os.path.exists(logs):
+    if logs != "-" and not os.path.exists(logs):
         print("there is no %s: bench/build builds it last" % logs)
         return 1
-    netlog(logs)
+    if logs != "-":
+        netlog(logs)
     return 0
 
 

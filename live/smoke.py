@@ -1,143 +1,292 @@
 #!/usr/bin/env python3
-"""Plays switches to a controller that listens at a port of the loopback address: one that keeps the rules, and some that break them.
+"""Plays switches to `legosdn run`: one that keeps the rules, and some that break them: live/smoke.py [PROGRAM]
 
-live/smoke.py PORT: prints what each of them met; the controller's own output shows what it was told. It takes about a minute, and
-waits up to five for the controller. The controller is one over `live_world` that sends a BARRIER_REQUEST to each switch that joins and
-awaits the reply."""
+Needs Python alone. After each of those that break the rules the good one sends a frame, and its change has to come: so nobody else
+was harmed. Takes about a minute and a half. PROGRAM is the built controller, by default crates/legosdn/out/legosdn; its application
+is live/pairs.py. Prints what each switch met and the report of the run. Ends with status 1 where something was not as it is to be.
+"""
+
+import os
+import re
 import socket
 import struct
+import subprocess
 import sys
+import threading
 import time
 
-PORT = int(sys.argv[1])
+TOP = os.path.dirname(os.path.dirname(os.path.abspath(__file__)))
+PROGRAM = sys.argv[1] if len(sys.argv) > 1 else os.path.join(TOP, "crates", "legosdn", "out", "legosdn")
+POLICY = f'[[app]]\nname = "app"\ncommand = ["/usr/bin/python3", "{TOP}/live/pairs.py"]\n'
+HELLO, ERROR, ECHO_REQUEST, ECHO_REPLY, FEATURES_REQUEST, FEATURES_REPLY = 0, 1, 2, 3, 5, 6
+PACKET_IN, FLOW_MOD, BARRIER_REQUEST, BARRIER_REPLY = 10, 14, 18, 19
+
+failed = 0
 
 
-def message(kind, body=b'', xid=0, version=1):
-    return struct.pack('>BBHI', version, kind, 8 + len(body), xid) + body
+def tell(what, holds, rest=""):
+    global failed
+    failed += not holds
+    print(f"{'ok' if holds else 'NOT OK'}: {what}{rest}", flush=True)
+
+
+def message(kind, body=b"", xid=0, version=1):
+    return struct.pack(">BBHI", version, kind, 8 + len(body), xid) + body
 
 
 def features(dpid):
-    port = struct.pack('>H6s16sIIIIII', 1, bytes(6), b'one', 0, 0, 0, 0, 0, 0)
-    return message(6, struct.pack('>QIB3xII', dpid, 0, 1, 0, 0xfff) + port)
+    port = struct.pack(">H6s16sIIIIII", 1, bytes(6), b"one", 0, 0, 0, 0, 0, 0)
+    return message(FEATURES_REPLY, struct.pack(">QIB3xII", dpid, 0, 1, 0, 0xFFF) + port)
 
 
-def connect():
-    end = time.time() + 300
-    while True:
+class Switch:
+    """A connection, and the sources of the frames that it has sent."""
+
+    def __init__(self, port):
+        self.link = socket.create_connection(("127.0.0.1", port), 10)
+        self.link.settimeout(20)
+        self.frames = 0
+
+    def send(self, *messages):
+        self.link.sendall(b"".join(messages))
+
+    def bytes(self, size):
+        data = b""
+        while len(data) < size:
+            piece = self.link.recv(size - len(data))
+            if not piece:
+                raise EOFError
+            data += piece
+        return data
+
+    def one(self):
+        header = self.bytes(8)
+        return header + self.bytes(struct.unpack(">H", header[2:4])[0] - 8)
+
+    def until(self, kind):
+        """The next message of this kind; the others are passed over."""
+        while True:
+            data = self.one()
+            if data[1] == kind:
+                return data
+
+    def greeted(self):
+        assert self.one() == message(HELLO), "a HELLO"
+        assert self.one() == message(FEATURES_REQUEST), "a FEATURES_REQUEST"
+
+    def confirms(self):
+        """Answers the next barrier."""
+        self.send(b"\x01\x13" + self.until(BARRIER_REQUEST)[2:])
+
+    def joins(self, dpid):
+        self.greeted()
+        self.send(message(HELLO), features(dpid))
+        self.confirms()
+        return self
+
+    def is_closed(self):
+        """Whether the controller closes the connection, and after how many seconds."""
+        before = time.monotonic()
         try:
-            link = socket.create_connection(('127.0.0.1', PORT), 1)
-            break
-        except OSError:
-            if time.time() > end:
-                raise
+            while True:
+                self.one()
+        except (EOFError, ConnectionError):
+            return True, time.monotonic() - before
+        except socket.timeout:
+            return False, time.monotonic() - before
+
+    def frame(self, size=60):
+        """A PACKET_IN with a frame from an address that is new."""
+        self.frames += 1
+        data = b"\xff" * 6 + bytes([2]) + struct.pack(">IB", self.frames, 0) + b"\x88\xb5" + bytes(size - 14)
+        return message(PACKET_IN, struct.pack(">IHHBx", 0xFFFFFFFF, size, 1, 0) + data)
+
+    def is_served(self):
+        """Whether a frame gives two changes; after how many milliseconds the first came."""
+        before = time.monotonic()
+        self.send(self.frame())
+        return self.changes(before)
+
+    def changes(self, before):
+        for place in range(2):
+            self.until(FLOW_MOD)
+            if place == 0:
+                after = (time.monotonic() - before) * 1000
+            self.confirms()
+        return after
+
+
+class Run:
+    """A run of the controller, and its report so far."""
+
+    def __init__(self):
+        with socket.create_server(("127.0.0.1", 0)) as link:
+            self.port = link.getsockname()[1]
+        self.lines = []
+        words = [PROGRAM, "run", str(self.port), "1000000000"]
+        self.process = subprocess.Popen(words, stdin=subprocess.PIPE, stdout=subprocess.PIPE, text=True)
+        self.process.stdin.write(POLICY)
+        self.process.stdin.close()
+        self.reader = threading.Thread(target=lambda: self.lines.extend(it.rstrip() for it in self.process.stdout))
+        self.reader.start()
+        self.has("start app ready")
+
+    def connects(self):
+        return Switch(self.port)
+
+    def has(self, line):
+        """Waits until the report has this line."""
+        for _ in range(200):
+            if any(line in it for it in self.lines):
+                return True
             time.sleep(0.05)
-    link.settimeout(10)
-    return link
+        return False
+
+    def ends(self):
+        """The status, where it ends of its own; then the report."""
+        try:
+            status = self.process.wait(20)
+        except subprocess.TimeoutExpired:
+            status = None
+            self.process.kill()
+            self.process.wait()
+        self.reader.join()
+        print(f"the report has {len(self.lines)} lines; without the frames of the good one, and the switches 100 to 162:")
+        calm = ("start app ready", "turn app done")
+        for line in self.lines:
+            if line not in calm and not re.search(r" packet_in | (join|leave) 1\d\d$", line):
+                print(f"    {line}")
+        return status
 
 
-def receive(link, size):
-    data = b''
-    while len(data) < size:
-        piece = link.recv(size - len(data))
-        if not piece:
-            return None
-        data += piece
-    return data
+def strangers(run, good):
+    """Peers that do not say who they are, or not well."""
+    for what, data in (
+        ("one that names a switch that is there", features(7)),
+        ("garbage", b"GET / HTTP/1.1\r\n\r\n"),
+        ("a length below that of a header", b"\x01\x00\x00\x07\x00\x00\x00\x00"),
+        ("half a message, and no more", features(8)[:20]),
+        ("nothing", b""),
+    ):
+        peer = run.connects()
+        peer.greeted()
+        peer.send(data)
+        closed, seconds = peer.is_closed()
+        tell(f"{what}: closed", closed, f" after {seconds:.0f} s")
+        tell("    the good one is served", good.is_served() < 1000)
 
 
-def one(link):
-    header = receive(link, 8)
-    if header is None:
-        return None
-    return header + (receive(link, struct.unpack('>H', header[2:4])[0] - 8) or b'')
+def crowd(run, good):
+    """64 that say nothing. The next one has to wait for a place."""
+    silent = [run.connects() for _ in range(64)]
+    time.sleep(0.5)
+    before = time.monotonic()
+    tell("64 that say nothing: the good one is served", good.is_served() < 1000)
+    run.connects().joins(20)
+    tell("    another one joins once there is a place", run.has("join 20"), f", after {time.monotonic() - before:.0f} s")
+    tell("    all of them are closed", all(it.is_closed()[0] for it in silent))
+    tell("    the good one is served", good.is_served() < 1000)
 
 
-def until(link, kind):
-    """The next message of this type; the others are passed over."""
-    while True:
-        data = one(link)
-        if data is None or data[1] == kind:
-            return data
+def full(run, good):
+    """As many switches as there may be, and one more."""
+    others = [run.connects().joins(100 + it) for it in range(63)]
+    tell("63 more switches join", run.has("join 162"))
+    more = run.connects()
+    more.greeted()
+    more.send(features(200))
+    tell("    one more is closed", more.is_closed()[0])
+    tell("    the good one is served", good.is_served() < 1000)
+    for other in others:
+        other.link.close()
+    tell("    they leave", all(run.has(f"leave {100 + it}") for it in range(63)))
+    tell("    the good one is served", good.is_served() < 1000)
 
 
-def joined(link):
-    """Answers the first barrier."""
-    data = until(link, 18)
-    assert data is not None, 'a BARRIER_REQUEST'
-    link.sendall(b'\x01\x13' + data[2:])
+def members(run, good):
+    """Switches that have joined, and then break the rules."""
+    before = time.monotonic()
+    good.send(good.frame(65535 - 18))
+    tell("a message of 65,535 bytes: its change came", good.changes(before) < 1000)
+    good.send(message(ECHO_REQUEST, b"abc", 5))
+    tell("an ECHO_REQUEST is answered", good.until(ECHO_REPLY) == message(ECHO_REPLY, b"abc", 5))
+    other = run.connects().joins(9)
+    other.send(message(200))
+    tell("a type that there is not: closed", other.is_closed()[0])
+    tell("    it has left", run.has("leave 9"))
+    tell("    the good one is served", good.is_served() < 1000)
 
 
-def greeted(link):
-    assert one(link) == message(0), 'a HELLO'
-    assert one(link) == message(5), 'a FEATURES_REQUEST'
+def silence(run, good):
+    """A switch that says nothing is asked, answers once, and is closed when it does not answer."""
+    other = run.connects().joins(11)
+    asked = []
+
+    def answers():
+        before = time.monotonic()
+        assert other.until(ECHO_REQUEST) == message(ECHO_REQUEST)
+        asked.append(time.monotonic() - before)
+        other.send(message(ECHO_REPLY))
+        assert other.until(ECHO_REQUEST) == message(ECHO_REQUEST)
+        asked.append(time.monotonic() - before)
+        asked.append(time.monotonic() - before + other.is_closed()[1])
+
+    thread = threading.Thread(target=answers)
+    thread.start()
+    longest = 0
+    while thread.is_alive():
+        longest = max(longest, good.is_served())
+        time.sleep(0.5)
+    words = ", ".join(f"{it:.0f}" for it in asked)
+    tell("a silent one is asked, asked again and closed", len(asked) == 3, f" after {words} s")
+    tell("    it has left", run.has("leave 11"))
+    tell("    the good one is served meanwhile", longest < 1000, f", within {longest:.0f} ms")
 
 
-def is_closed(link):
-    try:
-        return one(link) is None
-    except (ConnectionError, socket.timeout) as error:
-        return isinstance(error, ConnectionError)
-
-
-def main():
-    # One that keeps the rules, with a later HELLO and its FEATURES_REPLY in pieces.
-    good = connect()
-    greeted(good)
-    reply = message(0, version=4) + features(7)
-    for place in range(0, len(reply), 5):
-        good.sendall(reply[place:place + 5])
+def rules(run):
+    good = run.connects()
+    good.greeted()
+    # A HELLO of a later version, and everything in pieces.
+    said = message(HELLO, version=4) + features(7)
+    for place in range(0, len(said), 5):
+        good.send(said[place : place + 5])
         time.sleep(0.002)
-    joined(good)
-    print('joined')
-    # One that names the same switch.
-    twin = connect()
-    greeted(twin)
-    twin.sendall(features(7))
-    print('a twin is closed:', is_closed(twin))
-    # One that sends garbage.
-    bad = connect()
-    greeted(bad)
-    bad.sendall(b'GET / HTTP/1.1\r\n\r\n')
-    print('garbage is closed:', is_closed(bad))
-    # A length below that of a header.
-    short = connect()
-    greeted(short)
-    short.sendall(b'\x01\x00\x00\x07\x00\x00\x00\x00')
-    print('a short length is closed:', is_closed(short))
-    # One that says half a message and no more.
-    half = connect()
-    greeted(half)
-    half.sendall(features(8)[:20])
-    # The largest message, from the good one meanwhile.
-    data = bytes(65535 - 18)
-    good.sendall(message(10, struct.pack('>IHHBx', 0xffffffff, 65517, 1, 0) + data))
-    good.sendall(message(2, b'abc', 5))
-    # One that sends nothing is closed after 5 seconds.
-    before = time.time()
-    print('half a message is closed:', is_closed(half), 'after %d seconds' % (time.time() - before))
-    # One that joins, and then says what no switch says.
-    other = connect()
-    greeted(other)
-    other.sendall(features(9))
-    joined(other)
-    other.sendall(message(200))
-    print('a bad type is closed:', is_closed(other))
-    # One that does not answer the barrier.
-    mute = connect()
-    greeted(mute)
-    mute.sendall(features(10))
-    assert until(mute, 18) is not None, 'a BARRIER_REQUEST'
-    before = time.time()
-    print('a mute one is closed:', is_closed(mute), 'after %d seconds' % (time.time() - before))
-    # Silence: an ECHO_REQUEST comes, is answered once, and then not.
-    good.settimeout(40)
-    before = time.time()
-    assert until(good, 2) == message(2), 'an ECHO_REQUEST'
-    print('asked')
-    good.sendall(message(3))
-    assert until(good, 2) == message(2), 'an ECHO_REQUEST'
-    print('asked again')
-    print('a silent one is closed:', is_closed(good))
+    good.confirms()
+    tell("the good one joins", run.has("join 7"))
+    tell("    it is served", good.is_served() < 1000)
+    for part in (strangers, crowd, full, members, silence):
+        part(run, good)
+    # A link that fails within a change ends the run, so far.
+    mute = run.connects()
+    mute.greeted()
+    mute.send(features(10))
+    mute.until(BARRIER_REQUEST)
+    closed, seconds = mute.is_closed()
+    tell("one that does not answer a barrier: closed", closed, f" after {seconds:.0f} s")
+    status = run.ends()
+    tell("    the run ends with status 7", status == 7 and run.lines[-1] == "switch fault 10")
 
 
-main()
+def cut_off(run):
+    """A switch that is cut off in the middle of a change ends the run, so far."""
+    other, good = run.connects().joins(2), run.connects().joins(1)
+    tell("two switches join", run.has("join 1") and run.has("join 2"))
+    tell("    the other one is served", other.is_served() < 1000)
+    good.send(good.frame())
+    good.until(FLOW_MOD)
+    good.confirms()
+    good.until(FLOW_MOD)
+    good.link.close()
+    tell("a switch is cut off in the middle of a change: the run ends with status 7", run.ends() == 7 and run.lines[-1] == "switch fault 1")
+
+
+for part in (rules, cut_off):
+    run = Run()
+    try:
+        part(run)
+    except (EOFError, OSError, AssertionError) as fault:
+        tell(f"{part.__name__}: {fault!r}", False)
+    finally:
+        run.process.kill()
+print(f"{failed} not as they are to be")
+sys.exit(1 if failed else 0)

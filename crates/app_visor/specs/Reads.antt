@@ -5,7 +5,7 @@ use Rattle.of_types.specs.declared.journal.Act.{Act}
 use Rattle.of_types.specs.declared.journal.Act.TheVariants.{Took}
 use Rattle.of_types.specs.declared.journal.TookWhat.TheVariants as took
 use Rattle.app_frames.specs.declared.frame.AppFrame.{AppFrame}
-use Rattle.app_frames.specs.Frames.{app_reading}
+use Rattle.app_frames.specs.Frames.{app_reading, AppFits}
 use Rattle.outside.specs.Seen.{Seen}
 use Rattle.app_visor.specs.declared.came.Came.{Came}
 use Rattle.app_visor.specs.declared.came.Came.TheVariants.{Frame, Refused, Closed, Silent}
@@ -33,6 +33,8 @@ pub record Taken {Own : Type 0} (Tells : Type 0) (app : ℕ) (rest left : List �
 pub record IsNext (frame : AppFrame) (rest left : List ℕ) : Type 0 where
   pub size : ℕ
   pub read : app_reading rest ≡ Ok (Some (frame, size))
+  -- a message or a checkpoint in it is no longer than it may be
+  pub fits : AppFits frame
   pub left_so : left ≡ drop size rest
 
 -- what stands at the front of what is unread: nothing whole, a frame, or bytes that are none

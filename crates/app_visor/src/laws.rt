@@ -48,7 +48,7 @@ pub fn turns_are_told<W: World>()
 /// Once attempts to start an application were made, the journal of a telling world tells of their starts and of the frames
 /// that the application was given then, and of no reply and no stimulus; no switch moved.
 pub fn attempts_are_told<W: World>()
-    ensures { (app n : ℕ) (all : List (OneTry W.Own)) (old new : Seen W.Own) → AreTries W.Tells app n all old new → W.Tells → TriesTold app all old new }
+    ensures { (app : ℕ) (kept : List ℕ) (n : ℕ) (all : List (OneTry W.Own)) (old new : Seen W.Own) → AreTries W.Tells app kept n all old new → W.Tells → TriesTold app kept all old new }
 {}
 
 /// In a telling world a turn goes on with the dialogue with its application, where that runs: each answer is to the next message
@@ -64,6 +64,6 @@ pub fn turns_are_dialogues<W: World>()
 /// of theirs is out of place: it is started only where it does not run. Where one was ready, the application runs, and what is
 /// unread then stands behind the frame that said so.
 pub fn attempts_are_dialogues<W: World>()
-    ensures { (app n : ℕ) (all : List (OneTry W.Own)) (old new : Seen W.Own) (s : Before) → AreTries W.Tells app n all old new → W.Tells → s.running ≡ is_running app (state old)
+    ensures { (app : ℕ) (kept : List ℕ) (n : ℕ) (all : List (OneTry W.Own)) (old new : Seen W.Own) (s : Before) → AreTries W.Tells app kept n all old new → W.Tells → s.running ≡ is_running app (state old)
         → Speaks app s old new (is_some (ready_rest all)) (unwrap_or (ready_rest all) []) }
 {}

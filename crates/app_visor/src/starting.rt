@@ -1,6 +1,6 @@
 //! Starts of an application that failed or was not started yet.
 
-ghost use Rattle.std.specs.Prelude.{◌≡◌, false, [], Some, None, if◌then◌else◌, OnErr, IfOk};
+ghost use Rattle.std.specs.Prelude.{◌≡◌, ℕ, ◌<◌, ◌≤◌, false, List, [], length, Some, None, if◌then◌else◌, OnErr, IfOk};
 ghost use Rattle.lego_model.specs.Controller.{restore_frame, is_ready as ready};
 ghost use Rattle.outside.specs.Seen.{Continues};
 ghost use Rattle.of_types.specs.declared.journal.Act.TheVariants.{Started};
@@ -8,7 +8,7 @@ ghost use Rattle.lego_model.specs.AtOnce.{Before, nothing_said};
 ghost use Rattle.outside.specs.State.{state, is_running};
 ghost use Rattle.app_visor.specs.Talks.{Told, Wants};
 ghost use Rattle.app_visor.specs.Dialogues.{LeadsOn, TalksOn, Talks};
-ghost use Rattle.app_visor.specs.Attempts.{tried_by, rest_of, Greets, EndsUnless, Tries, Restarts};
+ghost use Rattle.app_visor.specs.Attempts.{kept_of, tried_by, rest_of, Greets, EndsUnless, Tries, Restarts};
 ghost use Rattle.app_visor.specs.CallsFor.{OwnSteps};
 
 use crate::came::Came;
@@ -16,6 +16,7 @@ use crate::intake::{Intake, TakeBuffer};
 use crate::state::{AppState, Back};
 use crate::talk::{give, next_frame};
 use app_frames::{AppFrame, HostFrame, Tried, encode_host};
+use checkpoint_store::Store;
 use of_types::ByteList;
 use outside::{StartFault, World};
 use std::alloc::{AllocError, Global};
@@ -67,7 +68,7 @@ fn end_unless_ready<W: World>(world: &mut W, app: u32, tried: Tried)
     }
 }
 
-/// Gives the application that was started no checkpoint, and awaits its first frame.
+/// Gives the application that was started its kept checkpoint, and awaits its first frame.
 fn greet<W: World>(
     alloc: Global,
     world: &mut W,
@@ -75,9 +76,10 @@ fn greet<W: World>(
     frame: &[u8],
     intake: &mut Intake,
 ) -> Result<Tried, AllocError>
-    requires frame { frame.now ≡ restore_frame }
+    ghost kept: { List ℕ }
+    requires frame { frame.now ≡ restore_frame kept }
     requires intake { intake.old ≡ [] }
-    ensures ok { IfOk result (λ tried. Greets W.Tells app tried intake.new (W.seen world.old) (W.seen world.new)) }
+    ensures ok { IfOk result (λ tried. Greets W.Tells app kept tried intake.new (W.seen world.old) (W.seen world.new)) }
     ensures talks { OnErr result (W.Tells → LeadsOn app nothing_said (W.seen world.old) (W.seen world.new)) }
     ensures own { W.Tells → OwnSteps app (W.seen world.old) (W.seen world.new) }
     ensures continues { Continues W.Tells (W.seen world.old) (W.seen world.new) }
@@ -109,8 +111,9 @@ fn attempt<W: World>(
     frame: &[u8],
     buffer: &mut TakeBuffer,
 ) -> Result<(Tried, ByteList), AllocError>
-    requires { frame.now ≡ restore_frame }
-    ensures ok { IfOk result (λ r. Tries W.Tells app r.0 r.1 (W.seen world.old) (W.seen world.new)) }
+    ghost kept: { List ℕ }
+    requires { frame.now ≡ restore_frame kept }
+    ensures ok { IfOk result (λ r. Tries W.Tells app kept r.0 r.1 (W.seen world.old) (W.seen world.new)) }
     ensures talks { OnErr result (TalksOn W.Tells app (W.seen world.old) (W.seen world.new)) }
     ensures own { W.Tells → OwnSteps app (W.seen world.old) (W.seen world.new) }
     ensures continues { Continues W.Tells (W.seen world.old) (W.seen world.new) }
@@ -139,9 +142,10 @@ fn try_all<W: World>(
     buffer: &mut TakeBuffer,
     tries: &mut Vec<Tried>,
 ) -> Result<Option<ByteList>, AllocError>
-    requires frame { frame.now ≡ restore_frame }
+    ghost kept: { List ℕ }
+    requires frame { frame.now ≡ restore_frame kept }
     requires none { tries.old.items ≡ [] }
-    ensures ok { IfOk result (λ found. Restarts W.Tells app (W.seen world.old) (W.seen world.new) found tries.new.items) }
+    ensures ok { IfOk result (λ found. Restarts W.Tells app kept (W.seen world.old) (W.seen world.new) found tries.new.items) }
     ensures talks { OnErr result (TalksOn W.Tells app (W.seen world.old) (W.seen world.new)) }
     ensures own { W.Tells → OwnSteps app (W.seen world.old) (W.seen world.new) }
     ensures continues { Continues W.Tells (W.seen world.old) (W.seen world.new) }
@@ -156,15 +160,48 @@ fn try_all<W: World>(
     Ok(None)
 }
 
-/// Starts the application, which has failed or was not started yet: at most three attempts, until one is ready.
+/// Returns the bytes of Restore with a checkpoint.
+fn encode_restore(alloc: Global, checkpoint: &[u8]) -> Result<ByteList, AllocError>
+    requires { length checkpoint.now ≤ 1048576 }
+    ensures { IfOk result (λ frame. frame ≡ restore_frame checkpoint.now) }
+{
+    let checkpoint = ByteList::from_slice(alloc, checkpoint)?;
+    encode_host(alloc, &HostFrame::Restore(checkpoint))
+}
+
+/// Attempts so to start the application with its kept checkpoint.
+fn try_kept<W: World>(
+    alloc: Global,
+    world: &mut W,
+    store: &Store,
+    app: u32,
+    words: &[String],
+    buffer: &mut TakeBuffer,
+    tries: &mut Vec<Tried>,
+) -> Result<Option<ByteList>, AllocError>
+    requires app { app < length store.now }
+    requires none { tries.old.items ≡ [] }
+    ensures ok { IfOk result (λ found. Restarts W.Tells app (kept_of app store.now) (W.seen world.old) (W.seen world.new) found tries.new.items) }
+    ensures talks { OnErr result (TalksOn W.Tells app (W.seen world.old) (W.seen world.new)) }
+    ensures own { W.Tells → OwnSteps app (W.seen world.old) (W.seen world.new) }
+    ensures continues { Continues W.Tells (W.seen world.old) (W.seen world.new) }
+{
+    let frame = encode_restore(alloc, store.kept(app))?;
+    try_all(alloc, world, app, words, frame.as_slice(), buffer, tries)
+}
+
+/// Starts the application, which has failed or was not started yet: at most three attempts, until one is ready. At each it is
+/// given its kept checkpoint.
 pub fn restart<W: World>(
     alloc: Global,
     world: &mut W,
+    store: &Store,
     app: &mut AppState,
     words: &[String],
 ) -> Result<Back, AllocError>
+    requires { app.old.index < length store.now }
     // How each attempt ended is what its acts say, and the application of the reference comes to the same.
-    ensures ok { IfOk result (λ r. Restarts W.Tells app.old.index (W.seen world.old) (W.seen world.new)
+    ensures ok { IfOk result (λ r. Restarts W.Tells app.old.index (kept_of app.old.index store.now) (W.seen world.old) (W.seen world.new)
         (if r.back then Some app.new.rest else None) r.tries.items) }
     ensures alive { IfOk result (λ r. app.new.alive ≡ r.back) }
     // Nothing is unread where it is not back.
@@ -177,14 +214,13 @@ pub fn restart<W: World>(
     ensures own { W.Tells → OwnSteps app.old.index (W.seen world.old) (W.seen world.new) }
     ensures continues { Continues W.Tells (W.seen world.old) (W.seen world.new) }
 {
-    let frame = encode_host(alloc, &HostFrame::Restore(ByteList::new(alloc)))?;
     let mut tries = Vec::new(alloc);
-    let found = try_all(
+    let found = try_kept(
         alloc,
         world,
+        store,
         app.index,
         words,
-        frame.as_slice(),
         &mut app.buffer,
         &mut tries,
     )?;

@@ -2,6 +2,7 @@ pub mod Why
 pub mod Runs
 pub mod Shows
 pub mod Serves
+pub mod Stored
 pub mod ReportEnd
 pub mod Batch
 pub mod Plain

@@ -1,8 +1,9 @@
 -- How many rounds a run has at most. A run so far: there is room for an undo, no more turns ended than there were events, the one
--- application has its index, and the messages that are kept were read. All of this is our own.
-use Rattle.std.specs.Prelude.{◌≡◌, ◌≤◌, ℕ, List, IsOk}
+-- application has its index, the messages that are kept were read, and nothing is staged. All of this is our own.
+use Rattle.std.specs.Prelude.{◌≡◌, ◌≤◌, ℕ, List, [], length, IsOk}
 use Rattle.std.specs.List.{AllByRecursion}
 use Rattle.of_wire.specs.Reading.{reading_of}
+use Rattle.checkpoint_store.specs.Slots.{Slot, slot_of, HasStaged}
 use Rattle.lego_model.specs.Application.{index}
 use Rattle.event_dispatch.specs.declared.run.Run.{Run}
 
@@ -14,12 +15,18 @@ most_rounds = 1000000000
 abbrev pub AreRead : List (ℕ × List ℕ) → Type 0
 AreRead kept = AllByRecursion (λ m. IsOk (reading_of m.1)) kept
 
+-- the store has a place for the one application, and nothing is staged for it
+pub record StoreRests (slots : List Slot) : Type 0 where
+  pub one : length slots ≡ 1
+  pub none_staged : HasStaged [] (slot_of index slots)
+
 pub record Going (r : Run) : Type 0 where
   pub room : 1 ≤ r.net.room
   pub done : r.app.done ≤ r.events
   pub failed : r.app.failed ≤ r.events
   pub index : r.app.state.index ≡ index
   pub read : AreRead r.net.kept
+  pub store : StoreRests r.store
 
 -- no event was dispatched, and the application is as it was
 pub record Waits (old new : Run) : Type 0 where
@@ -27,3 +34,4 @@ pub record Waits (old new : Run) : Type 0 where
   pub events : new.events ≡ old.events
   pub done : new.app.done ≡ old.app.done
   pub failed : new.app.failed ≡ old.app.failed
+  pub store : new.store ≡ old.store

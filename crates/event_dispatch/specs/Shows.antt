@@ -5,6 +5,9 @@ use Rattle.event_dispatch.specs.declared.run.Run.{Run}
 use Rattle.app_frames.specs.declared.frame.Event.{Event}
 use Rattle.net_txn.specs.Net.{NetState}
 use Rattle.app_visor.specs.declared.state.AppState.{AppState}
+use Rattle.app_visor.specs.Attempts.{kept_of}
+use Rattle.checkpoint_store.specs.Slots.{Slot}
+use Rattle.lego_model.specs.Application.{index}
 
 abbrev pub engine_of : Run → Engine
 engine_of r = record {
@@ -13,6 +16,7 @@ engine_of r = record {
   events = r.events;
   alive = r.app.state.alive;
   rest = r.app.state.rest;
+  kept = kept_of index r.store;
   done = r.app.done;
   failed = r.app.failed;
 }
@@ -30,5 +34,5 @@ abbrev pub queued_run : List Event → Run → Run
 queued_run queue r = record r { queue = queue }
 
 -- what the engine keeps behind a turn that was played
-abbrev pub played_run : NetState → List Event → AppState → Run → Run
-played_run net queue app r = record r { net = net; queue = queue; app = record r.app { state = app } }
+abbrev pub played_run : NetState → List Event → AppState → List Slot → Run → Run
+played_run net queue app slots r = record r { net = net; queue = queue; app = record r.app { state = app }; store = slots }

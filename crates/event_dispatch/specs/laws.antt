@@ -25,3 +25,4 @@ pub mod EndedLaws
 pub mod UndoneLaws
 pub mod NoEventLaws
 pub mod LeftLaws
+pub mod StoreLaws

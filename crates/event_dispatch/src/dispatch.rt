@@ -1,20 +1,23 @@
 //! Events, given to the application one after the other.
 
-ghost use Rattle.std.specs.Prelude.{◌≡◌, ℕ, ◌+◌, ◌^◌, ◌<◌, ◌≤◌, [], IfOk, IfErr, OnOk, OnErr};
+ghost use Rattle.std.specs.Prelude.{◌≡◌, ℕ, ◌+◌, ◌^◌, ◌<◌, ◌≤◌, [], length, IfOk, IfErr, OnOk, OnErr};
 ghost use Rattle.lego_io.specs.Count.{NeverFell};
 ghost use Rattle.app_frames.specs.declared.frame.HostFrame.TheVariants as host;
 ghost use Rattle.app_frames.specs.Frames.{HostFits};
 ghost use Rattle.outside.specs.Seen.{Continues};
 ghost use Rattle.event_dispatch.specs.Steady.{NoStray, Reads, NoPoint, AtMostThisPoint};
 ghost use Rattle.app_visor.specs.CallsFor.{CalmLater, OwnSteps};
-ghost use Rattle.event_dispatch.specs.Runs.{AreRead, Going, Waits};
+ghost use Rattle.event_dispatch.specs.Runs.{AreRead, StoreRests, Going, Waits};
+ghost use Rattle.event_dispatch.specs.Stored.{KeepsSlots, closes_slot, PlaysStaged, HoldsTurn};
+ghost use Rattle.app_visor.specs.Attempts.{kept_of};
+ghost use Rattle.checkpoint_store.specs.Slots.{with_slot};
 ghost use Rattle.event_dispatch.specs.Why.{IsReason, served_by};
 ghost use Rattle.event_dispatch.specs.Plain.{PlainTurn, PlainRun};
 ghost use Rattle.lego_model.specs.RunReport.{turn_line as turn_line_of};
 ghost use Rattle.lego_model.specs.Application.{index, name};
 ghost use Rattle.run_laws.specs.Facts.{starts_text};
 ghost use Rattle.event_dispatch.specs.Shows.{engine_of, Adds};
-ghost use Rattle.event_dispatch.specs.Serves.{Starts, PlaysTurn, Closes, HasTurn, IsDispatched, DispatchesOldest, DispatchesWaiting};
+ghost use Rattle.event_dispatch.specs.Serves.{Starts, Closes, HasTurn, IsDispatched, DispatchesOldest, DispatchesWaiting};
 ghost use Rattle.event_dispatch.specs.Talking.{KeepsTalking, TurnTalks};
 ghost use Rattle.event_dispatch.specs.Undone.{TurnUndone, IsShort, TurnLeft};
 ghost use Rattle.event_dispatch.specs.Cut.{FailsIn, CutOne, CutSome};
@@ -24,6 +27,7 @@ use crate::limits::{BUDGET, MOST_BODY, MOST_EVENTS};
 use crate::run::{NAME, Run};
 use app_frames::Event;
 use app_visor::{AppState, Back, TurnEnd, restart, turn};
+use checkpoint_store::Store;
 use lego_io::Sink;
 use net_txn::{EventQueue, Net, Txn};
 use outside::{Judge, World};
@@ -36,26 +40,30 @@ struct Numbered<'a> {
     event: &'a Event,
 }
 
-/// Holds a turn of the application, whose changes are kept where it was done and undone where it failed.
+/// Plays a turn of the application, whose changes are kept where it was done and undone where it failed. The checkpoint that
+/// it hands over is staged, and no more.
 #[tactic(auto, using(crate::specs::laws::WhyLaws::continues_then, crate::specs::laws::WhyLaws::why_then, crate::specs::laws::WhyLaws::why_before, crate::specs::laws::FaultLaws::undo_why, crate::specs::laws::FaultLaws::stops_why))]
-fn hold_turn<W: World, J: Judge>(
+fn play_turn<W: World, J: Judge>(
     alloc: Global,
     world: &mut W,
     net: &mut Net,
     queue: &mut EventQueue,
     judge: &J,
+    store: &mut Store,
     app: &mut AppState,
     numbered: Numbered<'_>,
 ) -> Result<TurnEnd, Fault>
     requires room { 1 ≤ net.old.room }
     requires index { app.old.index ≡ index }
+    requires place { app.old.index < length store.old }
     requires fits { HostFits (host.Event numbered.number net.old.moment numbered.event.now) }
     ensures room { OnOk result (net.new.room ≡ net.old.room) }
     ensures index { app.new.index ≡ app.old.index }
     ensures alive { app.new.alive ≡ app.old.alive }
     ensures queue { queue.new ≡ queue.old }
-    ensures plays { IfOk result (λ end. PlaysTurn W.Tells (J.accepts judge.now) app.old.index numbered.entry.number numbered.entry.event.now end (W.seen world.old) (W.seen world.new)
-        net.old net.new app.old.rest app.new.rest) }
+    ensures plays { IfOk result (λ end. PlaysStaged W.Tells (J.accepts judge.now) app.old.index numbered.entry.number numbered.entry.event.now end (W.seen world.old) (W.seen world.new)
+        net.old net.new app.old.rest app.new.rest store.old store.new) }
+    ensures slots { KeepsSlots app.old.index store.old store.new }
     ensures read { OnOk result (AreRead net.old.kept → AreRead net.new.kept) }
     ensures continues { Continues W.Tells (W.seen world.old) (W.seen world.new) }
     ensures places { NoStray W.Tells (W.seen world.old) (W.seen world.new) net.old }
@@ -68,7 +76,9 @@ fn hold_turn<W: World, J: Judge>(
 {
     let Numbered { number, event } = numbered;
     let mut txn = Txn::begin(net);
-    match turn(alloc, world, &mut txn, judge, app, number, event, BUDGET) {
+    match turn(
+        alloc, world, &mut txn, judge, store, app, number, event, BUDGET,
+    ) {
         Ok(TurnEnd::Done { stop }) => {
             txn.commit(world, queue)?;
             Ok(TurnEnd::Done { stop })
@@ -84,6 +94,58 @@ fn hold_turn<W: World, J: Judge>(
     }
 }
 
+/// Keeps what a turn staged where it was done, and drops it where it was not.
+fn close_store(store: &mut Store, app: u32, end: &Result<TurnEnd, Fault>)
+    requires { app < length store.old }
+    ensures { store.new ≡ with_slot app (closes_slot end.now) store.old }
+{
+    match end {
+        Ok(TurnEnd::Done { .. }) => store.keep(app),
+        _ => store.drop_staged(app),
+    }
+}
+
+/// Holds a turn of the application: what it did is kept where it was done, with the checkpoint that it handed over, and undone
+/// where it failed.
+fn hold_turn<W: World, J: Judge>(
+    alloc: Global,
+    world: &mut W,
+    net: &mut Net,
+    queue: &mut EventQueue,
+    judge: &J,
+    store: &mut Store,
+    app: &mut AppState,
+    numbered: Numbered<'_>,
+) -> Result<TurnEnd, Fault>
+    requires room { 1 ≤ net.old.room }
+    requires index { app.old.index ≡ index }
+    requires fits { HostFits (host.Event numbered.number net.old.moment numbered.event.now) }
+    requires rests { StoreRests store.old }
+    ensures room { OnOk result (net.new.room ≡ net.old.room) }
+    ensures index { app.new.index ≡ app.old.index }
+    ensures alive { app.new.alive ≡ app.old.alive }
+    ensures queue { queue.new ≡ queue.old }
+    ensures plays { IfOk result (λ end. HoldsTurn W.Tells (J.accepts judge.now) app.old.index numbered.entry.number numbered.entry.event.now end (W.seen world.old) (W.seen world.new)
+        net.old net.new app.old.rest app.new.rest (kept_of app.old.index store.old) (kept_of app.old.index store.new)) }
+    // However it went, nothing that it staged is left; where it did not go well, the kept checkpoint is the one before.
+    ensures rests { StoreRests store.new }
+    ensures unkept { OnErr result (kept_of app.old.index store.new ≡ kept_of app.old.index store.old) }
+    ensures read { OnOk result (AreRead net.old.kept → AreRead net.new.kept) }
+    ensures continues { Continues W.Tells (W.seen world.old) (W.seen world.new) }
+    ensures places { NoStray W.Tells (W.seen world.old) (W.seen world.new) net.old }
+    ensures reads { OnOk result (Reads W.Tells (W.seen world.old) (W.seen world.new) net.old net.new) }
+    ensures later { W.Tells → CalmLater app.old.index (W.seen world.old) (W.seen world.new) }
+    ensures talks { OnErr result (TurnTalks W.Tells app.old.index app.old.rest (W.seen world.old) (W.seen world.new)) }
+    ensures why { IfErr result (IsReason W.Tells (W.seen world.old) (W.seen world.new) 0 0) }
+    ensures plain { IfErr result (PlainTurn W.Tells (W.seen world.old) (W.seen world.new) net.old) }
+    ensures undone { OnErr result (TurnUndone W.Tells (W.seen world.old) (W.seen world.new) net.old) }
+{
+    let index = app.index;
+    let end = play_turn(alloc, world, net, queue, judge, store, app, numbered);
+    close_store(store, index, &end);
+    end
+}
+
 impl Run {
     /// Appends the line of how a turn ended.
     fn note_turn(&mut self, word: TurnWord) -> Result<(), AllocError>
@@ -94,10 +156,11 @@ impl Run {
         self.note(&line)
     }
 
-    /// Starts the application, in at most three attempts.
+    /// Starts the application at its kept checkpoint, in at most three attempts.
     #[tactic(auto, using(crate::specs::laws::WhyLaws::waits_then))]
     pub(crate) fn start<W: World>(&mut self, world: &mut W) -> Result<(), AllocError>
-        requires { self.old.app.state.index ≡ index }
+        requires index { self.old.app.state.index ≡ index }
+        requires store { StoreRests self.old.store }
         ensures waits { OnOk result (Waits self.old self.new) }
         ensures index { OnOk result (self.new.app.state.index ≡ index) }
         ensures net { OnOk result (self.new.net ≡ self.old.net) }
@@ -109,7 +172,13 @@ impl Run {
         ensures talks { KeepsTalking W.Tells (W.seen world.old) (W.seen world.new) }
         ensures own { W.Tells → OwnSteps index (W.seen world.old) (W.seen world.new) }
     {
-        let back = restart(self.alloc, world, &mut self.app.state, &self.command)?;
+        let back = restart(
+            self.alloc,
+            world,
+            &self.store,
+            &mut self.app.state,
+            &self.command,
+        )?;
         self.note_start(back)
     }
 
@@ -138,6 +207,7 @@ impl Run {
         requires room { 1 ≤ self.old.net.room }
         requires index { self.old.app.state.index ≡ index }
         requires read { AreRead self.old.net.kept }
+        requires store { StoreRests self.old.store }
         ensures going { OnOk result (Going self.new) }
         ensures events { OnOk result (self.new.events ≡ self.old.events) }
         ensures closes { OnOk result (Closes W.Tells end (W.seen world.old) (W.seen world.new) self.old self.new) }
@@ -173,6 +243,7 @@ impl Run {
         requires room { 1 ≤ self.old.net.room }
         requires index { self.old.app.state.index ≡ index }
         requires read { AreRead self.old.net.kept }
+        requires store { StoreRests self.old.store }
         requires fits { HostFits (host.Event self.old.events self.old.net.moment event.now) }
         ensures going { OnOk result (Going self.new) }
         ensures events { OnOk result (self.new.events ≡ self.old.events) }
@@ -192,6 +263,7 @@ impl Run {
             &mut self.net,
             &mut self.queue,
             judge,
+            &mut self.store,
             &mut self.app.state,
             Numbered {
                 number: self.events,

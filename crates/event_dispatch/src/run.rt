@@ -9,6 +9,7 @@ ghost use Rattle.event_dispatch.specs.Shows.{engine_of, Adds};
 ghost use Rattle.event_dispatch.specs.Serves.{Writes};
 
 use app_visor::AppState;
+use checkpoint_store::Store;
 use lego_io::{Sink, WriteFault, write_all};
 use net_txn::{EventQueue, Net};
 use of_types::ByteList;
@@ -19,6 +20,9 @@ pub(crate) const NAME: &str = "app";
 
 /// The index of the one application.
 pub(crate) const INDEX: u32 = 0;
+
+/// How many applications there are.
+const APPS: u32 = 1;
 
 /// An application with what it has done.
 #[derive(Drop, Debug)]
@@ -39,6 +43,8 @@ pub(crate) struct Run {
     /// How many events were dispatched.
     pub(crate) events: u64,
     pub(crate) app: Managed,
+    /// The kept checkpoint of the application, and the one that its turn staged.
+    pub(crate) store: Store,
     /// The words by which the application is started.
     pub(crate) command: Vec<String>,
     /// Lines of the report that were not written yet.
@@ -63,6 +69,7 @@ impl Run {
                 done: 0,
                 failed: 0,
             },
+            store: Store::new(alloc, APPS)?,
             command,
             lines: Vec::new(alloc),
         })

@@ -16,11 +16,11 @@ ghost use Rattle.lego_model.specs.Controller.{restore_frame, answer_frame, event
 ghost use Rattle.lego_model.specs.AtOnce.{AnsweredAtOnce};
 ghost use Rattle.journal_laws.specs.Readings.{Within, LastStands, end_acts, ReadsSame, ReadsTurn, ReadsAttempt};
 
-/// The frame of an event is an Event, and those of answers and of a checkpoint are none.
+/// The frame of an event is an Event, and those of answers and of checkpoints are none.
 pub fn events_are_frames()
     ensures event { (number moment : ℕ) (event : Event) → is_event (event_frame number moment event) ≡ true }
     ensures answer { (answer : Answer) → is_event (answer_frame answer) ≡ false }
-    ensures restore { is_event restore_frame ≡ false }
+    ensures restore { (checkpoint : List ℕ) → is_event (restore_frame checkpoint) ≡ false }
 {}
 
 /// An Event that is given, or cannot be, and what follows it up to the next one, tell of one reply more, where the last

@@ -1,5 +1,5 @@
--- What a fault leaves of the tables of switches, behind the last quiescent point: the turn in flight is undone, switch by switch (OpenFlow
--- 1.0.0, 5.3.3 Modify State Messages: DELETE_STRICT). All else is our own.
+-- What a fault leaves of the tables of switches, behind the last quiescent point: the turn in flight is undone, switch by switch. All of
+-- this is our own but for the messages of OpenFlow 1.0.0.
 use Rattle.std.specs.Prelude.{◌≡◌, ◌⊎◌, ℕ, Bool, true, false, List, [], ◌∷◌, ◌++◌, Option, Some, None, IsErr}
 use Rattle.std.specs.List.{AllByRecursion}
 use Rattle.lego_io.specs.Count.{Rose}
@@ -7,11 +7,7 @@ use Rattle.of_types.specs.Fields.{number_at}
 use Rattle.of_types.specs.declared.journal.Act.{Act}
 use Rattle.of_types.specs.declared.journal.Act.TheVariants.{Got, Gave}
 use Rattle.of_match.specs.declared.key.Key.{Key}
-use Rattle.of_wire.specs.declared.bodies.FlowMod.{FlowMod as Change}
-use Rattle.of_wire.specs.declared.message.Message.TheVariants.{FlowMod}
 use Rattle.of_wire.specs.Reading.{reading_of}
-use Rattle.of_wire.specs.Spelling.{message_bytes}
-use Rattle.flow_table.specs.Refusals.{no_buffer}
 use Rattle.flow_table.specs.Switch.{SwitchState}
 use Rattle.app_frames.specs.declared.frame.Answer.{Answer}
 use Rattle.app_frames.specs.declared.frame.Answer.TheVariants.{Unknown}
@@ -27,27 +23,8 @@ use Rattle.lego_model.specs.BarrierWaits.{flood}
 use Rattle.lego_model.specs.History.{own_acts}
 use Rattle.lego_model.specs.Journal.{is_event, reply_of}
 use Rattle.lego_model.specs.SwitchFaults.{Happened, SentThenGot, IsFlood}
+use Rattle.lego_model.specs.UndoFaults.{inverse_bytes, WasSent, HasCause, IsStepOf, GoesWithoutStrays}
 use Rattle.lego_model.specs.Turns.{Outcome, Completed, Failed, Table, turn_of}
-
--- ---- What undoes an addition: DELETE_STRICT of its key, whatever its outputs (5.3.3)
-
-abbrev pub delete_strict : Key → Change
-delete_strict k = record {
-  matching = k.matching;
-  cookie = 0;
-  command = 4;
-  idle = 0;
-  hard = 0;
-  priority = k.priority;
-  buffer_id = no_buffer;
-  out_port = 0xffff;
-  flags = 0;
-  actions = [];
-}
-
--- the inverse as it is sent
-unfoldable pub inverse_bytes : ℕ → Key → List ℕ
-inverse_bytes xid k = message_bytes xid (FlowMod (delete_strict k))
 
 -- ---- Why a switch failed in an undo
 
@@ -66,10 +43,20 @@ IsWhyUndo Tells d old new (Diverged e inverse got) = (e ≡ d) × RefusesInverse
 IsWhyUndo Tells d old new (Flooded e n) = (e ≡ d) × (n ≡ flood) × IsFlood Tells d n old new
 IsWhyUndo Tells d old new NoMemory = Rose old.counts.shorts new.counts.shorts × Rose (old.counts.shorts_of d) (new.counts.shorts_of d)
 
--- the switch failed in an undo, with its cause in these calls
+-- The switch failed in the undo: its fault, with the cause in these calls. Before that these inverses were sent to it, each with its
+-- transaction id and its key. Right behind all that the undo did until then stand the calls that have the cause, one behind the other, all
+-- for this switch and in place.
 pub record FailsInUndo {Own : Type 0} (Tells : Type 0) (d : ℕ) (old new : Seen Own) : Type 0 where
   pub fault : TxnFault
   pub why : IsWhyUndo Tells d old new fault
+  pub sent : List (ℕ × Key)
+  pub front : List WorldStep
+  pub were_sent : AllByRecursion (λ p. WasSent d p.0 p.1 front) sent
+  pub steps : List WorldStep
+  pub each : AllByRecursion (IsStepOf d) steps
+  pub cause : HasCause d sent steps fault
+  pub places : GoesWithoutStrays d steps
+  pub told : Tells → Happened (front ++ steps) old.history new.history
 
 -- ---- The turn was undone
 

@@ -1,7 +1,7 @@
 -- The reference controller: it runs stimuli over whole switches, gives each event to the applications that are alive, and never sees a
 -- turn that failed. It has no inverse message, no cache, and sends nothing for the purpose of undoing. Events are made of what switches
 -- send (OpenFlow 1.0.0, 5.4 Asynchronous Messages); all else is our own choice.
-use Rattle.std.specs.Prelude.{◌==◌, ℕ, zero, suc, ◌+◌, ◌/◌, ◌%◌, ◌&&◌, Bool, true, false, not, List, [], ◌∷◌, ◌++◌, map, filter_map, fold, drop, Option, Some, None, Result, Ok, Err, is_some, if◌then◌else◌}
+use Rattle.std.specs.Prelude.{◌==◌, ℕ, zero, suc, ◌+◌, ◌/◌, ◌%◌, ◌&&◌, Bool, true, false, not, List, [], ◌∷◌, ◌++◌, map, filter_map, fold, drop, Option, Some, None, Result, Ok, Err, is_some, unwrap_or, if◌then◌else◌}
 use Rattle.std.specs.List.{flat_map, list_any}
 use Rattle.std.specs.Option.{option_map}
 use Rattle.of_types.specs.declared.port_desc.PortDesc.{PortDesc}
@@ -110,12 +110,14 @@ events_after (Of d x) moment ps = flat_map (λ p. if p.declared.dpid == d then e
 
 -- ---- Applications
 
--- An application: whether it is alive; its budget of frames in a turn; the bytes that were taken and not read; the frames that it was
--- given; how its next starts end, and what it gives in its next turns; how many turns completed and how many failed.
+-- An application: whether it is alive; its budget of frames in a turn; the bytes that were taken and not read; its kept checkpoint, at
+-- first of no bytes; the frames that it was given; how its next starts end, and what it gives in its next turns; how many turns completed
+-- and how many failed.
 pub record App : Type 0 where
   pub alive : Bool
   pub budget : ℕ
   pub rest : List ℕ
+  pub kept : List ℕ
   pub inputs : List (List ℕ)
   pub starts : List Start
   pub replies : List Reply
@@ -134,13 +136,13 @@ abbrev pub next_reply : List Reply → Reply
 next_reply [] = plain_reply
 next_reply (reply ∷ replies) = reply
 
--- an application that was started is given its checkpoint, where it could be
+-- an application that was started is given its kept checkpoint, where it could be
 abbrev pub was_restored : List Start → Bool
 was_restored [] = true
 was_restored (start ∷ starts) = start.stands && start.restored
 
-abbrev pub restore_frame : List ℕ
-restore_frame = host_bytes (host.Restore [])
+abbrev pub restore_frame : List ℕ → List ℕ
+restore_frame checkpoint = host_bytes (host.Restore checkpoint)
 
 abbrev pub is_ready : Tried → Bool
 is_ready tried.Ready = true
@@ -154,7 +156,7 @@ started (suc n) a =
     let tried = record a {
       alive = true;
       rest = outcome.1;
-      inputs = a.inputs ++ (if was_restored a.starts then restore_frame ∷ [] else []);
+      inputs = a.inputs ++ (if was_restored a.starts then restore_frame a.kept ∷ [] else []);
       starts = drop 1 a.starts;
     } in
     if is_ready outcome.0 then (tried, outcome.0 ∷ []) else (let later = started n tried in (later.0, outcome.0 ∷ later.1))
@@ -200,9 +202,10 @@ abbrev pub given_in : Bool → List ℕ → List Answer → List (List ℕ)
 given_in true frame answers = frame ∷ map answer_frame answers
 given_in false frame answers = []
 
--- An application after its turn: completed, or failed, with its restart.
+-- An application after its turn. One that completed keeps the checkpoint that it handed over, where it did; one that failed keeps the
+-- earlier one, and is started again.
 abbrev pub after_outcome : Outcome → App → App × List Tried
-after_outcome (Completed stop checkpoint rest) a = (record a { rest = rest; done = a.done + 1 }, [])
+after_outcome (Completed stop checkpoint rest) a = (record a { rest = rest; kept = unwrap_or checkpoint a.kept; done = a.done + 1 }, [])
 after_outcome (Failed cause) a = started attempts (record a { rest = []; failed = a.failed + 1 })
 
 -- A turn that completed leaves what it did, and one that failed what an undo gives back.

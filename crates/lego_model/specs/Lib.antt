@@ -19,6 +19,7 @@ pub mod History
 pub mod Application
 pub mod CutRun
 pub mod AfterFault
+pub mod UndoFaults
 pub mod AllLines
 pub mod OrderlySteps
 pub mod ReferenceRun

@@ -17,7 +17,7 @@ use Rattle.lego_model.specs.RunReport.{line_text}
 -- ---- The application of the reference controller at first, with what it will do
 
 abbrev pub fresh : List Start → List Reply → App
-fresh starts replies = record { alive = false; budget = budget; rest = []; inputs = []; starts = starts; replies = replies; done = 0; failed = 0 }
+fresh starts replies = record { alive = false; budget = budget; rest = []; kept = []; inputs = []; starts = starts; replies = replies; done = 0; failed = 0 }
 
 -- before anything is started
 abbrev pub before_start : List Declared → App → Run

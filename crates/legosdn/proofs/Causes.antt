@@ -1,5 +1,6 @@
 -- Why a run stops.
 use Rattle.std.proofs.Common.{◌≡◌, ◌⊎◌, ℕ, List, [], Option, Some, None, Result, Ok, Err, OnOk, OnErr, IfErr, IfSome, refl, sym, ap, subst, ◌∙◌, arith, inl, inr}
+use Rattle.std.specs.Result.{IsErrAnd}
 use Rattle.lego_io.specs.Count.{NeverFell}
 use Rattle.lego_io.specs.laws.CountLaws.{Rose-after, Rose-before}
 use Rattle.outside.specs.Seen.{Counts, NoneFell, Seen, Longer}
@@ -16,16 +17,16 @@ use Rattle.legosdn.specs.declared.stop.Stop.{Stop}
 use Rattle.legosdn.specs.declared.stop.Stop.TheVariants.{Usage, Refused, ReadFault, WriteFault, Shut, NextFault, SwitchFault, SwitchBroke, Diverged, EventsLeft, NoMemory}
 use Rattle.legosdn.specs.Input.{session_of}
 use Rattle.legosdn.specs.Stops.{stop_status, stop_line, refusal_line, stop_of_switch}
-use Rattle.legosdn.specs.Headline.{Faults, faults_of, IsRunCause, IsCause, IsEarly, Loaded, LoadedAt, RunsNoOther, NeverRuns, Wrote}
+use Rattle.legosdn.specs.Headline.{Faults, faults_of, IsNoSession, IsReadCause, IsRunCause, IsCause, IsEarly, Loaded, LoadedAt, RunsNoOther, NeverRuns, Wrote}
 use Rattle.legosdn.proofs.Statuses.{is_refused, not_late}
 use Rattle.legosdn.proofs.Loads.{late_loaded, no_other}
 
-pub switch_cause : (k l : ℕ) (old new : Seen Scripts) (fault : TxnFault) → IsWhyTxn (Unit {0}) old new fault → IsRunCause k l old new (stop_of_switch fault)
-switch_cause k l old new (faults.SwitchFault d) why = why
-switch_cause k l old new (faults.SwitchBroke d bytes) why = (faults.SwitchBroke d bytes, refl, why)
-switch_cause k l old new (faults.Flooded d count) why = (faults.Flooded d count, refl, why)
-switch_cause k l old new (faults.Diverged d sent got) why = (faults.Diverged d sent got, refl, why)
-switch_cause k l old new faults.NoMemory why = tt
+pub switch_cause : {Own : Type 0} (Tells : Type 0) (k l : ℕ) (old new : Seen Own) (fault : TxnFault) → IsWhyTxn Tells old new fault → IsRunCause Tells k l old new (stop_of_switch fault)
+switch_cause Tells k l old new (faults.SwitchFault d) why = why
+switch_cause Tells k l old new (faults.SwitchBroke d bytes) why = (faults.SwitchBroke d bytes, refl, why)
+switch_cause Tells k l old new (faults.Flooded d count) why = (faults.Flooded d count, refl, why)
+switch_cause Tells k l old new (faults.Diverged d sent got) why = (faults.Diverged d sent got, refl, why)
+switch_cause Tells k l old new faults.NoMemory why = tt
 
 -- ---- Counts that were 0
 
@@ -57,33 +58,71 @@ fell : (a b : Seen Scripts) → AreNew a → AreNew b → NoneFell a.counts b.co
 fell a b first second = none_fell a.counts b.counts first.zero second.zero
 
 -- why a run stopped, with what was counted before it
-run_cause : (words : List (List ℕ)) (told : Option (List ℕ)) (i j k l : ℕ) (a b c : Seen Scripts) (stop : Stop) → AreNew a → AreNew b → IsRunCause k l b c stop → IsCause words told (faults_of i k a) (faults_of j l c) stop
-run_cause words told i j k l a b c Usage first second why = absurd why
-run_cause words told i j k l a b c (Refused refusal) first second why = absurd why
-run_cause words told i j k l a b c ReadFault first second why = absurd why
-run_cause words told i j k l a b c WriteFault first second why = why
-run_cause words told i j k l a b c Shut first second why = Rose-after a.counts.shuts b.counts.shuts c.counts.shuts (fell a b first second).shuts why
-run_cause words told i j k l a b c NextFault first second why = Rose-after a.counts.next_faults b.counts.next_faults c.counts.next_faults (fell a b first second).next_faults why
-run_cause words told i j k l a b c (SwitchFault d) first second why = Rose-after (a.counts.link_faults d) (b.counts.link_faults d) (c.counts.link_faults d) ((fell a b first second).link_faults d) why
-run_cause words told i j k l a b c (SwitchBroke d) first second why = (why.0, why.1, why_behind a b c why.0 first second why.2)
-run_cause words told i j k l a b c (Diverged d) first second why = (why.0, why.1, why_behind a b c why.0 first second why.2)
-run_cause words told i j k l a b c (EventsLeft left) first second why = why
-run_cause words told i j k l a b c NoMemory first second why = tt
+run_cause : (told : Option (List ℕ)) (i j k l : ℕ) (a b c : Seen Scripts) (stop : Stop) → AreNew a → AreNew b → IsRunCause (Unit {0}) k l b c stop → IsCause (Unit {0}) IsNoSession told (faults_of i k a) (faults_of j l c) stop
+run_cause told i j k l a b c Usage first second why = absurd why
+run_cause told i j k l a b c (Refused refusal) first second why = absurd why
+run_cause told i j k l a b c ReadFault first second why = absurd why
+run_cause told i j k l a b c WriteFault first second why = why
+run_cause told i j k l a b c Shut first second why = Rose-after a.counts.shuts b.counts.shuts c.counts.shuts (fell a b first second).shuts why
+run_cause told i j k l a b c NextFault first second why = Rose-after a.counts.next_faults b.counts.next_faults c.counts.next_faults (fell a b first second).next_faults why
+run_cause told i j k l a b c (SwitchFault d) first second why = Rose-after (a.counts.link_faults d) (b.counts.link_faults d) (c.counts.link_faults d) ((fell a b first second).link_faults d) why
+run_cause told i j k l a b c (SwitchBroke d) first second why = (why.0, why.1, why_behind a b c why.0 first second why.2)
+run_cause told i j k l a b c (Diverged d) first second why = (why.0, why.1, why_behind a b c why.0 first second why.2)
+run_cause told i j k l a b c (EventsLeft left) first second why = why
+run_cause told i j k l a b c NoMemory first second why = tt
+
+-- with nothing before it
+ran_cause : {Own : Type 0} (Tells : Type 0) (IsRefused : Refusal → List ℕ → Type 0) (told : Option (List ℕ)) (i j k l : ℕ) (a c : Seen Own) (stop : Stop) → IsRunCause Tells k l a c stop → IsCause Tells IsRefused told (faults_of i k a) (faults_of j l c) stop
+ran_cause Tells IsRefused told i j k l a c Usage why = absurd why
+ran_cause Tells IsRefused told i j k l a c (Refused refusal) why = absurd why
+ran_cause Tells IsRefused told i j k l a c ReadFault why = absurd why
+ran_cause Tells IsRefused told i j k l a c WriteFault why = why
+ran_cause Tells IsRefused told i j k l a c Shut why = why
+ran_cause Tells IsRefused told i j k l a c NextFault why = why
+ran_cause Tells IsRefused told i j k l a c (SwitchFault d) why = why
+ran_cause Tells IsRefused told i j k l a c (SwitchBroke d) why = why
+ran_cause Tells IsRefused told i j k l a c (Diverged d) why = why
+ran_cause Tells IsRefused told i j k l a c (EventsLeft left) why = why
+ran_cause Tells IsRefused told i j k l a c NoMemory why = tt
+
+pub ran_causes : {Own T : Type 0} (Tells : Type 0) (IsRefused : Refusal → List ℕ → Type 0) (told : Option (List ℕ)) (i j k l : ℕ) (a c : Seen Own) (result : Result T Stop) → IfErr result (IsRunCause Tells k l a c)
+    → IfErr result (IsCause Tells IsRefused told (faults_of i k a) (faults_of j l c))
+ran_causes Tells IsRefused told i j k l a c (Ok x) why = tt
+ran_causes Tells IsRefused told i j k l a c (Err stop) why = ran_cause Tells IsRefused told i j k l a c stop why
+
+-- or with no run at all
+unread_cause : {Own : Type 0} (Tells : Type 0) (IsRefused : Refusal → List ℕ → Type 0) (told : Option (List ℕ)) (i j k l : ℕ) (a c : Seen Own) (stop : Stop) → IsReadCause IsRefused told i j stop → IsCause Tells IsRefused told (faults_of i k a) (faults_of j l c) stop
+unread_cause Tells IsRefused told i j k l a c Usage why = absurd why
+unread_cause Tells IsRefused told i j k l a c (Refused refusal) why = why
+unread_cause Tells IsRefused told i j k l a c ReadFault why = why
+unread_cause Tells IsRefused told i j k l a c WriteFault why = absurd why
+unread_cause Tells IsRefused told i j k l a c Shut why = absurd why
+unread_cause Tells IsRefused told i j k l a c NextFault why = absurd why
+unread_cause Tells IsRefused told i j k l a c (SwitchFault d) why = absurd why
+unread_cause Tells IsRefused told i j k l a c (SwitchBroke d) why = absurd why
+unread_cause Tells IsRefused told i j k l a c (Diverged d) why = absurd why
+unread_cause Tells IsRefused told i j k l a c (EventsLeft left) why = absurd why
+unread_cause Tells IsRefused told i j k l a c NoMemory why = tt
+
+pub unread_causes : {Own T : Type 0} (Tells : Type 0) (IsRefused : Refusal → List ℕ → Type 0) (told : Option (List ℕ)) (i j k l : ℕ) (a c : Seen Own) (stop : Stop) (result : Result T Stop) → IsErrAnd result (λ s. s ≡ stop) → IsReadCause IsRefused told i j stop
+    → IfErr result (IsCause Tells IsRefused told (faults_of i k a) (faults_of j l c))
+unread_causes Tells IsRefused told i j k l a c stop (Ok x) is why = tt
+unread_causes Tells IsRefused told i j k l a c stop (Err s) is why = rw is (unread_cause Tells IsRefused told i j k l a c stop why)
 
 -- a write of the last line, behind the run
-pub cause_then : (words : List (List ℕ)) (told : Option (List ℕ)) (i j k l m : ℕ) (a c : Seen Scripts) (stop : Stop) → NeverFell k l → NeverFell l m → IsCause words told (faults_of i k a) (faults_of j l c) stop
-    → IsCause words told (faults_of i k a) (faults_of j m c) stop
-cause_then words told i j k l m a c Usage up on why = why
-cause_then words told i j k l m a c (Refused refusal) up on why = why
-cause_then words told i j k l m a c ReadFault up on why = why
-cause_then words told i j k l m a c WriteFault up on why = Rose-before k l m up why on
-cause_then words told i j k l m a c Shut up on why = why
-cause_then words told i j k l m a c NextFault up on why = why
-cause_then words told i j k l m a c (SwitchFault d) up on why = why
-cause_then words told i j k l m a c (SwitchBroke d) up on why = why
-cause_then words told i j k l m a c (Diverged d) up on why = why
-cause_then words told i j k l m a c (EventsLeft left) up on why = why
-cause_then words told i j k l m a c NoMemory up on why = why
+pub cause_then : {Own : Type 0} (Tells : Type 0) (IsRefused : Refusal → List ℕ → Type 0) (told : Option (List ℕ)) (i j k l m : ℕ) (a c : Seen Own) (stop : Stop) → NeverFell k l → NeverFell l m → IsCause Tells IsRefused told (faults_of i k a) (faults_of j l c) stop
+    → IsCause Tells IsRefused told (faults_of i k a) (faults_of j m c) stop
+cause_then Tells IsRefused told i j k l m a c Usage up on why = why
+cause_then Tells IsRefused told i j k l m a c (Refused refusal) up on why = why
+cause_then Tells IsRefused told i j k l m a c ReadFault up on why = why
+cause_then Tells IsRefused told i j k l m a c WriteFault up on why = Rose-before k l m up why on
+cause_then Tells IsRefused told i j k l m a c Shut up on why = why
+cause_then Tells IsRefused told i j k l m a c NextFault up on why = why
+cause_then Tells IsRefused told i j k l m a c (SwitchFault d) up on why = why
+cause_then Tells IsRefused told i j k l m a c (SwitchBroke d) up on why = why
+cause_then Tells IsRefused told i j k l m a c (Diverged d) up on why = why
+cause_then Tells IsRefused told i j k l m a c (EventsLeft left) up on why = why
+cause_then Tells IsRefused told i j k l m a c NoMemory up on why = why
 
 -- ---- The last line
 
@@ -97,26 +136,26 @@ pub are_new : (w : WorldData) → IsNew w → AreNew (seen_of w)
 unfolding seen_of
 are_new w new = record { zero = new.counts; untouched = new.history }
 
-pub run_causes : {T : Type 0} (words : List (List ℕ)) (told : Option (List ℕ)) (i j k l : ℕ) (a b c : Seen Scripts) (result : Result T Stop) → AreNew a → AreNew b → IfErr result (IsRunCause k l b c)
-    → IfErr result (IsCause words told (faults_of i k a) (faults_of j l c))
-run_causes words told i j k l a b c (Ok x) first second why = tt
-run_causes words told i j k l a b c (Err stop) first second why = run_cause words told i j k l a b c stop first second why
+pub run_causes : {T : Type 0} (told : Option (List ℕ)) (i j k l : ℕ) (a b c : Seen Scripts) (result : Result T Stop) → AreNew a → AreNew b → IfErr result (IsRunCause (Unit {0}) k l b c)
+    → IfErr result (IsCause (Unit {0}) IsNoSession told (faults_of i k a) (faults_of j l c))
+run_causes told i j k l a b c (Ok x) first second why = tt
+run_causes told i j k l a b c (Err stop) first second why = run_cause told i j k l a b c stop first second why
 
-refused_line : {X : Type 0} (contents : X → Option (List ℕ)) (faults : X → ℕ) (old mid new : X) (words : List (List ℕ)) (told : Option (List ℕ)) (before after : Faults) (stop : Stop) (refusal : Refusal)
-    → stop ≡ Refused refusal → IsCause words told before after stop → (IsEarly stop → mid ≡ old) → Wrote (contents mid) (contents new) (faults mid) (faults new) (stop_line stop)
-    → IfSome told (λ input. session_of input ≡ Err refusal) × Wrote (contents old) (contents new) (faults old) (faults new) (refusal_line refusal)
+refused_line : {Own X : Type 0} (Tells : Type 0) (IsRefused : Refusal → List ℕ → Type 0) (contents : X → Option (List ℕ)) (faults : X → ℕ) (old mid new : X) (told : Option (List ℕ)) (before after : Faults Own) (stop : Stop) (refusal : Refusal)
+    → stop ≡ Refused refusal → IsCause Tells IsRefused told before after stop → (IsEarly stop → mid ≡ old) → Wrote (contents mid) (contents new) (faults mid) (faults new) (stop_line stop)
+    → IfSome told (IsRefused refusal) × Wrote (contents old) (contents new) (faults old) (faults new) (refusal_line refusal)
 unfolding stop_line
-refused_line contents faults old mid new words told before after stop refusal is =
-    subst (λ s. IsCause words told before after s → (IsEarly s → mid ≡ old) → Wrote (contents mid) (contents new) (faults mid) (faults new) (stop_line s)
-    → IfSome told (λ input. session_of input ≡ Err refusal) × Wrote (contents old) (contents new) (faults old) (faults new) (refusal_line refusal)) (sym is)
+refused_line Tells IsRefused contents faults old mid new told before after stop refusal is =
+    subst (λ s. IsCause Tells IsRefused told before after s → (IsEarly s → mid ≡ old) → Wrote (contents mid) (contents new) (faults mid) (faults new) (stop_line s)
+    → IfSome told (IsRefused refusal) × Wrote (contents old) (contents new) (faults old) (faults new) (refusal_line refusal)) (sym is)
     (λ why early line. (why, subst (λ x. Wrote (contents x) (contents new) (faults x) (faults new) (refusal_line refusal)) (early tt) line))
 
-pub refused_at_three : {X : Type 0} (contents : X → Option (List ℕ)) (faults : X → ℕ) (old mid new : X) (words : List (List ℕ)) (told : Option (List ℕ)) (before after : Faults) (stop : Stop)
-    → IsCause words told before after stop → (IsEarly stop → mid ≡ old) → Wrote (contents mid) (contents new) (faults mid) (faults new) (stop_line stop) → stop_status stop ≡ 3
-    → (refusal : Refusal) × IfSome told (λ input. session_of input ≡ Err refusal) × Wrote (contents old) (contents new) (faults old) (faults new) (refusal_line refusal)
-refused_at_three contents faults old mid new words told before after stop why early line e =
+pub refused_at_three : {Own X : Type 0} (Tells : Type 0) (IsRefused : Refusal → List ℕ → Type 0) (contents : X → Option (List ℕ)) (faults : X → ℕ) (old mid new : X) (told : Option (List ℕ)) (before after : Faults Own) (stop : Stop)
+    → IsCause Tells IsRefused told before after stop → (IsEarly stop → mid ≡ old) → Wrote (contents mid) (contents new) (faults mid) (faults new) (stop_line stop) → stop_status stop ≡ 3
+    → (refusal : Refusal) × IfSome told (IsRefused refusal) × Wrote (contents old) (contents new) (faults old) (faults new) (refusal_line refusal)
+refused_at_three Tells IsRefused contents faults old mid new told before after stop why early line e =
     let r = is_refused stop e in
-    let both = refused_line contents faults old mid new words told before after stop r.0 r.1 why early line in
+    let both = refused_line Tells IsRefused contents faults old mid new told before after stop r.0 r.1 why early line in
     (r.0, both.0, both.1)
 
 pub no_both : (session : SessionValue) (refusal : Refusal) → Ok session ≡ Err refusal → ⊥

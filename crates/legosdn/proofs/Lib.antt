@@ -1,10 +1,14 @@
 mod Cutting
 mod Pieces
 mod Reading
+mod Policies
 mod Statuses
 mod Loads
 mod Causes
 mod Places
+mod Served
+mod Stimuli
 mod Said
 mod CutRuns
 mod Runs
+mod Serving

@@ -19,7 +19,7 @@ use Rattle.legosdn.specs.declared.stop.Stop.TheVariants.{Usage, Refused, ReadFau
 use Rattle.lego_model.specs.Application.{names as app_names}
 use Rattle.legosdn.specs.Input.{or_refused, session_lines, session_of}
 use Rattle.legosdn.specs.Stops.{stop_of_session}
-use Rattle.legosdn.specs.Headline.{IsReadCause, IsRunCause, IsLate, Loaded, LoadedAt, LoadedAs, RunsNoOther}
+use Rattle.legosdn.specs.Headline.{IsNoSession, IsReadCause, IsRunCause, IsLate, Loaded, LoadedAt, LoadedAs, RunsNoOther}
 
 session_text-lines : (names : List (List ℕ)) (n : ℕ) (bytes : List ℕ) → names ≡ app_names → session_text names n bytes ≡ session_lines n (lines_of bytes)
 unfolding session_text session_lines
@@ -47,13 +47,13 @@ told_refused None input refusal whole e = tt
 told_refused (Some left) input refusal whole e = subst (λ (bytes : List ℕ). session_of bytes ≡ Err refusal) whole e
 
 session_cause : (told : Option (List ℕ)) (old new : ℕ) (input : List ℕ) (n : ℕ) (bytes : List ℕ) (names : List (List ℕ)) (w v : WorldData) (error : SessionError) → Behind told input n bytes names
-    → LoadFails error w v (session_text names n bytes) → IsReadCause told old new (stop_of_session error)
+    → LoadFails error w v (session_text names n bytes) → IsReadCause IsNoSession told old new (stop_of_session error)
 session_cause told old new input n bytes names w v text.NoMemory behind fails = tt
 session_cause told old new input n bytes names w v (text.Bad fault) behind fails =
     told_refused told input (Session fault) behind.whole (behind.spelled ∙ ap or_refused (sym (session_text-lines names n bytes behind.named) ∙ fails.0))
 
 pub session_causes : {T : Type 0} (told : Option (List ℕ)) (old new : ℕ) (input : List ℕ) (n : ℕ) (bytes : List ℕ) (names : List (List ℕ)) (w v : WorldData) (error : SessionError) (result : Result T Stop)
-    → IsErrAnd result (λ stop. stop ≡ stop_of_session error) → Behind told input n bytes names → LoadFails error w v (session_text names n bytes) → IfErr result (IsReadCause told old new)
+    → IsErrAnd result (λ stop. stop ≡ stop_of_session error) → Behind told input n bytes names → LoadFails error w v (session_text names n bytes) → IfErr result (IsReadCause IsNoSession told old new)
 session_causes told old new input n bytes names w v error (Ok x) is behind fails = tt
 session_causes told old new input n bytes names w v error (Err stop) is behind fails = rw is (session_cause told old new input n bytes names w v error behind fails)
 
@@ -64,7 +64,7 @@ pub loaded_on : {told left : Option (List ℕ)} (old new : Seen Scripts) → Con
 loaded_on old new on loaded = record { input = loaded.input; session = loaded.session; whole = loaded.whole; end = loaded.end; spelled = loaded.spelled; given = on.given ∙ loaded.given }
 
 -- the world was run
-loaded_at : (told left : Option (List ℕ)) (seen old : Seen Scripts) (k l : ℕ) (stop : Stop) → IsRunCause k l old seen stop → Loaded told left seen → LoadedAt stop told left seen
+loaded_at : (told left : Option (List ℕ)) (seen old : Seen Scripts) (k l : ℕ) (stop : Stop) → IsRunCause (Unit {0}) k l old seen stop → Loaded told left seen → LoadedAt stop told left seen
 loaded_at told left seen old k l Usage cause loaded = absurd cause
 loaded_at told left seen old k l (Refused refusal) cause loaded = absurd cause
 loaded_at told left seen old k l ReadFault cause loaded = absurd cause
@@ -77,12 +77,12 @@ loaded_at told left seen old k l (Diverged d) cause loaded = loaded
 loaded_at told left seen old k l (EventsLeft n) cause loaded = loaded
 loaded_at told left seen old k l NoMemory cause loaded = inr loaded
 
-pub loaded_as : {T : Type 0} (told left : Option (List ℕ)) (seen old : Seen Scripts) (k l : ℕ) (result : Result T Stop) → IfErr result (IsRunCause k l old seen) → Loaded told left seen → LoadedAs result told left seen
+pub loaded_as : {T : Type 0} (told left : Option (List ℕ)) (seen old : Seen Scripts) (k l : ℕ) (result : Result T Stop) → IfErr result (IsRunCause (Unit {0}) k l old seen) → Loaded told left seen → LoadedAs result told left seen
 loaded_as told left seen old k l (Ok x) cause loaded = loaded
 loaded_as told left seen old k l (Err stop) cause loaded = loaded_at told left seen old k l stop cause loaded
 
 -- the input was not read
-unread_at : (told left : Option (List ℕ)) (seen : Seen Scripts) (k l : ℕ) (stop : Stop) → seen.history ≡ [] → IsReadCause told k l stop → LoadedAt stop told left seen
+unread_at : (told left : Option (List ℕ)) (seen : Seen Scripts) (k l : ℕ) (stop : Stop) → seen.history ≡ [] → IsReadCause IsNoSession told k l stop → LoadedAt stop told left seen
 unread_at told left seen k l Usage none cause = absurd cause
 unread_at told left seen k l (Refused refusal) none cause = none
 unread_at told left seen k l ReadFault none cause = none
@@ -95,7 +95,7 @@ unread_at told left seen k l (Diverged d) none cause = absurd cause
 unread_at told left seen k l (EventsLeft n) none cause = absurd cause
 unread_at told left seen k l NoMemory none cause = inl none
 
-pub unread_as : {T : Type 0} (told left : Option (List ℕ)) (seen : Seen Scripts) (k l : ℕ) (stop : Stop) (result : Result T Stop) → IsErrAnd result (λ s. s ≡ stop) → seen.history ≡ [] → IsReadCause told k l stop → LoadedAs result told left seen
+pub unread_as : {T : Type 0} (told left : Option (List ℕ)) (seen : Seen Scripts) (k l : ℕ) (stop : Stop) (result : Result T Stop) → IsErrAnd result (λ s. s ≡ stop) → seen.history ≡ [] → IsReadCause IsNoSession told k l stop → LoadedAs result told left seen
 unread_as told left seen k l stop (Ok x) is none cause = absurd is
 unread_as told left seen k l stop (Err s) is none cause = subst (λ (t : Stop). LoadedAt t told left seen) (sym is) (unread_at told left seen k l stop none cause)
 

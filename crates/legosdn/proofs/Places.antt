@@ -9,14 +9,15 @@ use Rattle.outside.specs.declared.step.WorldStep.{WorldStep}
 use Rattle.outside.specs.declared.step.WorldStep.TheVariants.{Acted, TookInto, From, Joined, Left, Moment, Idle, End, Opened, NotOpened, NextFailed, SendFailed, RecvFailed}
 use Rattle.outside.specs.Seen.{Given, Seen, act_of}
 use Rattle.outside.specs.State.{State, at_first, after_step, after_steps, state, is_running}
-use Rattle.net_txn.specs.LinkSteps.{IsExpectedOnLink, AreExpectedOnLinks, MakesNoStrayCall}
+use Rattle.net_txn.specs.LinkSteps.{MakesNoStrayCall}
+use Rattle.lego_model.specs.UndoFaults.{IsExpectedOnLink, AreExpectedOnLinks}
 use Rattle.app_visor.specs.Dialogues.{KeepsOrder as IsInPlaceOf, CallsKeepOrder as AreInPlaceOf}
 use Rattle.app_visor.specs.CallsFor.{IsActFor, IsCallFor, CallsFor}
 use Rattle.lego_model.specs.OrderlySteps.{IsOrderlyAct, IsOrderly}
 use Rattle.lego_model.specs.Application.{index}
-use Rattle.sim_world.specs.Scripts.{Scripts}
 use Rattle.sim_world.specs.Places.{IsActExpected, IsExpected, AreExpected}
 use Rattle.sim_world.specs.World.{WorldData, given_of, seen_of}
+use Rattle.legosdn.specs.Live.{NoneStray}
 
 -- ---- Calls for the one application
 
@@ -54,7 +55,7 @@ both_for [] ys first rest = rest
 both_for (x ∷ xs) ys first rest = (first.0, both_for xs ys first.1 rest)
 
 -- as far as a place all steps were in order, and behind it all calls are for the application
-pub behind_for : {last seen : Seen Scripts} → AllByRecursion (IsOrderly index) last.history → CallsFor index last seen → AllByRecursion (IsCallFor index) seen.history
+pub behind_for : {Own : Type 0} {last seen : Seen Own} → AllByRecursion (IsOrderly index) last.history → CallsFor index last seen → AllByRecursion (IsCallFor index) seen.history
 behind_for {last} {seen} ordered own = subst (AllByRecursion (IsCallFor index)) (sym own.history) (both_for last.history own.steps (all_for last.history ordered) own.all)
 
 -- ---- Each step
@@ -98,27 +99,29 @@ steps_in_place (step ∷ steps) s own so links = (step_in_place step s own.0 so.
 -- ---- The whole
 
 -- calls of links since nothing had happened
-pub links_from_first : (old new : Seen Scripts) → old.history ≡ [] → new.given ≡ old.given → MakesNoStrayCall old new → AreExpectedOnLinks new.history (at_first new.given)
+pub links_from_first : {Own : Type 0} (old new : Seen Own) → old.history ≡ [] → new.given ≡ old.given → MakesNoStrayCall old new → AreExpectedOnLinks new.history (at_first new.given)
 unfolding state
-links_from_first old new none given stays =
-    subst (λ (g : Given Scripts). AreExpectedOnLinks new.history (at_first g)) (sym given)
+links_from_first {Own} old new none given stays =
+    subst (λ (g : Given Own). AreExpectedOnLinks new.history (at_first g)) (sym given)
     (subst (λ (h : List WorldStep). AreExpectedOnLinks new.history (after_steps h (at_first old.given))) none
     (stays new.history (ap (λ (h : List WorldStep). h ++ new.history) (sym none))))
 
--- what the world says of calls that are no stray ones
+pub in_place : {Own : Type 0} (seen : Seen Own) → AllByRecursion (IsCallFor index) seen.history → AreInPlaceOf index seen.history (at_first seen.given) → AreExpectedOnLinks seen.history (at_first seen.given) → NoneStray seen
+in_place seen own so links = steps_in_place seen.history (at_first seen.given) own so links
+
+-- where the world stayed shut, or nothing was done
+pub shut_in_place : {Own : Type 0} (seen : Seen Own) → seen.history ≡ NotOpened ∷ [] → NoneStray seen
+unfolding at_first
+shut_in_place seen is = subst (λ (h : List WorldStep). AreExpected h (at_first seen.given)) (sym is) (refl, tt)
+
+pub idle_in_place : {Own : Type 0} (seen : Seen Own) → seen.history ≡ [] → NoneStray seen
+idle_in_place seen is = subst (λ (h : List WorldStep). AreExpected h (at_first seen.given)) (sym is) tt
+
+-- ---- What the simulated world says of calls that are no stray ones
+
 abbrev pub CountsNone : WorldData → Type 0
 CountsNone sim = AreExpected sim.history (at_first (given_of sim)) → (seen_of sim).counts.shorts ≡ 0 → (seen_of sim).counts.strays ≡ 0
 
-pub none_strays : (sim : WorldData) → CountsNone sim → AllByRecursion (IsCallFor index) (seen_of sim).history → AreInPlaceOf index (seen_of sim).history (at_first (seen_of sim).given)
-    → AreExpectedOnLinks (seen_of sim).history (at_first (seen_of sim).given) → (seen_of sim).counts.shorts ≡ 0 → (seen_of sim).counts.strays ≡ 0
+pub counted_none : (sim : WorldData) → CountsNone sim → NoneStray (seen_of sim) → (seen_of sim).counts.shorts ≡ 0 → (seen_of sim).counts.strays ≡ 0
 unfolding seen_of
-none_strays sim none own so links shorts = none (steps_in_place sim.history (at_first (given_of sim)) own so links) shorts
-
--- where the world stayed shut, or nothing was done
-pub shut_strays : (sim : WorldData) → CountsNone sim → (seen_of sim).history ≡ NotOpened ∷ [] → (seen_of sim).counts.shorts ≡ 0 → (seen_of sim).counts.strays ≡ 0
-unfolding seen_of at_first
-shut_strays sim none is = none (subst (λ (h : List WorldStep). AreExpected h (at_first (given_of sim))) (sym is) (refl, tt))
-
-pub idle_strays : (sim : WorldData) → CountsNone sim → (seen_of sim).history ≡ [] → (seen_of sim).counts.shorts ≡ 0 → (seen_of sim).counts.strays ≡ 0
-unfolding seen_of
-idle_strays sim none is = none (subst (λ (h : List WorldStep). AreExpected h (at_first (given_of sim))) (sym is) tt)
+counted_none sim none so shorts = none so shorts

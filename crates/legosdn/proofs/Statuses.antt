@@ -1,10 +1,49 @@
 -- Which stop a status is that of.
-use Rattle.std.proofs.Common.{◌≡◌, ℕ, [], ◌∷◌, Contains, refl, arith}
+use Rattle.std.proofs.Common.{◌≡◌, ℕ, [], ◌∷◌, Contains, refl, subst, arith}
 use Rattle.legosdn.specs.declared.stop.Refusal.{Refusal}
 use Rattle.legosdn.specs.declared.stop.Stop.{Stop}
 use Rattle.legosdn.specs.declared.stop.Stop.TheVariants.{Usage, Refused, ReadFault, WriteFault, Shut, NextFault, SwitchFault, SwitchBroke, Diverged, EventsLeft, NoMemory}
 use Rattle.legosdn.specs.Stops.{stop_status}
-use Rattle.legosdn.specs.Headline.{IsLate}
+use Rattle.legosdn.specs.Headline.{IsEarly, IsLate}
+
+pub is_usage : (stop : Stop) → stop_status stop ≡ 2 → stop ≡ Usage
+is_usage Usage e = refl
+is_usage (Refused refusal) e = absurd (omega arith)
+is_usage ReadFault e = absurd (omega arith)
+is_usage WriteFault e = absurd (omega arith)
+is_usage Shut e = absurd (omega arith)
+is_usage NextFault e = absurd (omega arith)
+is_usage (SwitchFault d) e = absurd (omega arith)
+is_usage (SwitchBroke d) e = absurd (omega arith)
+is_usage (Diverged d) e = absurd (omega arith)
+is_usage (EventsLeft left) e = absurd (omega arith)
+is_usage NoMemory e = absurd (omega arith)
+
+pub is_read_fault : (stop : Stop) → stop_status stop ≡ 4 → stop ≡ ReadFault
+is_read_fault Usage e = absurd (omega arith)
+is_read_fault (Refused refusal) e = absurd (omega arith)
+is_read_fault ReadFault e = refl
+is_read_fault WriteFault e = absurd (omega arith)
+is_read_fault Shut e = absurd (omega arith)
+is_read_fault NextFault e = absurd (omega arith)
+is_read_fault (SwitchFault d) e = absurd (omega arith)
+is_read_fault (SwitchBroke d) e = absurd (omega arith)
+is_read_fault (Diverged d) e = absurd (omega arith)
+is_read_fault (EventsLeft left) e = absurd (omega arith)
+is_read_fault NoMemory e = absurd (omega arith)
+
+pub is_write_fault : (stop : Stop) → stop_status stop ≡ 5 → stop ≡ WriteFault
+is_write_fault Usage e = absurd (omega arith)
+is_write_fault (Refused refusal) e = absurd (omega arith)
+is_write_fault ReadFault e = absurd (omega arith)
+is_write_fault WriteFault e = refl
+is_write_fault Shut e = absurd (omega arith)
+is_write_fault NextFault e = absurd (omega arith)
+is_write_fault (SwitchFault d) e = absurd (omega arith)
+is_write_fault (SwitchBroke d) e = absurd (omega arith)
+is_write_fault (Diverged d) e = absurd (omega arith)
+is_write_fault (EventsLeft left) e = absurd (omega arith)
+is_write_fault NoMemory e = absurd (omega arith)
 
 pub is_refused : (stop : Stop) → stop_status stop ≡ 3 → (refusal : Refusal) × (stop ≡ Refused refusal)
 is_refused Usage e = absurd (omega arith)
@@ -31,6 +70,19 @@ is_late (SwitchBroke d) e = tt
 is_late (Diverged d) e = tt
 is_late (EventsLeft left) e = tt
 is_late NoMemory e = absurd (grind arith)
+
+pub is_early : (stop : Stop) → Contains (2 ∷ 3 ∷ 4 ∷ []) (stop_status stop) → IsEarly stop
+is_early Usage e = tt
+is_early (Refused refusal) e = tt
+is_early ReadFault e = tt
+is_early WriteFault e = absurd (grind arith)
+is_early Shut e = absurd (grind arith)
+is_early NextFault e = absurd (grind arith)
+is_early (SwitchFault d) e = absurd (grind arith)
+is_early (SwitchBroke d) e = absurd (grind arith)
+is_early (Diverged d) e = absurd (grind arith)
+is_early (EventsLeft left) e = absurd (grind arith)
+is_early NoMemory e = absurd (grind arith)
 
 pub not_late : (stop : Stop) → (IsLate stop → ⊥) → Contains (2 ∷ 3 ∷ 4 ∷ 12 ∷ []) (stop_status stop)
 not_late Usage e = (0, omega arith, refl)
@@ -96,3 +148,16 @@ not_zero (SwitchBroke d) e = omega arith
 not_zero (Diverged d) e = omega arith
 not_zero (EventsLeft left) e = omega arith
 not_zero NoMemory e = omega arith
+
+-- it is not that of a source or a sink that failed
+pub not_read : (stop : Stop) → stop ≡ ReadFault → Contains (2 ∷ 12 ∷ []) (stop_status stop) → ⊥
+not_read stop is within = four (subst (λ (s : Stop). Contains {X = ℕ} (2 ∷ 12 ∷ []) (stop_status s)) is within)
+  where
+    four : Contains {X = ℕ} (2 ∷ 12 ∷ []) 4 → ⊥
+    four e = grind arith
+
+pub not_written : (stop : Stop) → stop ≡ WriteFault → Contains (2 ∷ 12 ∷ []) (stop_status stop) → ⊥
+not_written stop is within = five (subst (λ (s : Stop). Contains {X = ℕ} (2 ∷ 12 ∷ []) (stop_status s)) is within)
+  where
+    five : Contains {X = ℕ} (2 ∷ 12 ∷ []) 5 → ⊥
+    five e = grind arith

@@ -1,6 +1,5 @@
 -- What a command promises: how it ends, why, and what it wrote last.
-use Rattle.std.specs.Prelude.{◌≡◌, ◌⊎◌, ◌≤◌, ℕ, Bool, false, List, [], ◌∷◌, Option, IfSome, Result, Ok, Err, Contains, codes}
-use Rattle.std.specs.Str.{bytes_eq}
+use Rattle.std.specs.Prelude.{◌≡◌, ◌⊎◌, ◌≤◌, ℕ, List, [], ◌∷◌, Option, Some, IfSome, Result, Ok, Err, IfErr, OnOk, Contains}
 use Rattle.std.specs.Io.KnownBytes.{append_known}
 use Rattle.lego_io.specs.Count.{Rose, NeverFell}
 use Rattle.lego_io.specs.Source.{ended}
@@ -22,60 +21,71 @@ use Rattle.lego_model.specs.SwitchFaults.{IsWhyTxn}
 use Rattle.lego_model.specs.CutRun.{NothingDone}
 use Rattle.lego_model.specs.SessionLines.{SessionValue}
 use Rattle.session_text.specs.Loading.{given_by}
-use Rattle.legosdn.specs.Input.{session_of}
+use Rattle.command_words.specs.Commands.{command_in}
+use Rattle.command_words.specs.declared.command.Command.TheVariants.{Replay, Run}
+use Rattle.legosdn.specs.declared.stop.Refusal.{Refusal}
+use Rattle.legosdn.specs.Input.{session_of, run_policy}
 use Rattle.legosdn.specs.Said.{all_allowed, reference_over, WithEnough, LinesRun, MemoryRun, WritingRun}
 use Rattle.legosdn.specs.declared.stop.Stop.{Stop}
 use Rattle.legosdn.specs.declared.stop.Stop.TheVariants.{Usage, Refused, ReadFault, WriteFault, Shut, NextFault, SwitchFault, SwitchBroke, Diverged, EventsLeft, NoMemory}
-use Rattle.legosdn.specs.Stops.{stop_status, stop_line, stop_of_switch}
+use Rattle.legosdn.specs.Stops.{stop_status, stop_line, refusal_line, stop_of_switch}
 
--- the one command
-abbrev pub is_command : List (List ℕ) → Bool
-is_command [] = false
-is_command (word ∷ []) = bytes_eq word (codes "replay")
-is_command (word ∷ next ∷ more) = false
+-- the words are `replay`
+abbrev pub IsReplay : List (List ℕ) → Type 0
+IsReplay words = command_in words ≡ Some Replay
+
+-- or `run`, with a port and so many rounds
+abbrev pub IsRun : List (List ℕ) → ℕ → ℕ → Type 0
+IsRun words port rounds = command_in words ≡ Some (Run port rounds)
+
+-- why an input is refused: to `replay` it spells no session,
+abbrev pub IsNoSession : Refusal → List ℕ → Type 0
+IsNoSession refusal input = session_of input ≡ Err refusal
+
+-- and to `run` no policy that it takes
+abbrev pub IsNoPolicy : Refusal → List ℕ → Type 0
+IsNoPolicy refusal input = run_policy input ≡ Err (refusal_line refusal)
 
 -- How often the source and the sink failed, and what is seen of the world, which counts how often it failed.
-pub record Faults : Type 0 where
+pub record Faults (Own : Type 0) : Type 0 where
   pub source : ℕ
   pub sink : ℕ
-  pub world : Seen Scripts
+  pub world : Seen Own
 
-abbrev pub faults_of : ℕ → ℕ → Seen Scripts → Faults
+abbrev pub faults_of : {Own : Type 0} → ℕ → ℕ → Seen Own → Faults Own
 faults_of source sink world = record { source = source; sink = sink; world = world }
 
--- a switch failed, which stops the run so; the history of the world, which tells it, has the cause
-abbrev pub IsSwitchCause : Seen Scripts → Seen Scripts → Stop → Type 0
-IsSwitchCause old new stop = (fault : TxnFault) × (stop ≡ stop_of_switch fault) × IsWhyTxn (Unit {0}) old new fault
+-- a switch failed, which stops the run so; the history of the world has the cause, where it tells
+abbrev pub IsSwitchCause : {Own : Type 0} → Type 0 → Seen Own → Seen Own → Stop → Type 0
+IsSwitchCause Tells old new stop = (fault : TxnFault) × (stop ≡ stop_of_switch fault) × IsWhyTxn Tells old new fault
 
--- why an input is not read, or refused for its size
-abbrev pub IsReadCause : Option (List ℕ) → ℕ → ℕ → Stop → Type 0
-IsReadCause told old new (Refused refusal) = IfSome told (λ input. session_of input ≡ Err refusal)
-IsReadCause told old new ReadFault = Rose old new
-IsReadCause told old new NoMemory = Unit {0}
-IsReadCause told old new other = ⊥
+-- why an input is not read, or refused
+abbrev pub IsReadCause : (Refusal → List ℕ → Type 0) → Option (List ℕ) → ℕ → ℕ → Stop → Type 0
+IsReadCause IsRefused told old new (Refused refusal) = IfSome told (IsRefused refusal)
+IsReadCause IsRefused told old new ReadFault = Rose old new
+IsReadCause IsRefused told old new NoMemory = Unit {0}
+IsReadCause IsRefused told old new other = ⊥
 
 -- why a run ends without its whole report
-abbrev pub IsRunCause : ℕ → ℕ → Seen Scripts → Seen Scripts → Stop → Type 0
-IsRunCause sink_old sink_new old new WriteFault = Rose sink_old sink_new
-IsRunCause sink_old sink_new old new Shut = Rose old.counts.shuts new.counts.shuts
-IsRunCause sink_old sink_new old new NextFault = Rose old.counts.next_faults new.counts.next_faults
-IsRunCause sink_old sink_new old new (SwitchFault d) = Rose (old.counts.link_faults d) (new.counts.link_faults d)
-IsRunCause sink_old sink_new old new (SwitchBroke d) = IsSwitchCause old new (SwitchBroke d)
-IsRunCause sink_old sink_new old new (Diverged d) = IsSwitchCause old new (Diverged d)
-IsRunCause sink_old sink_new old new (EventsLeft left) = 1 ≤ left
-IsRunCause sink_old sink_new old new NoMemory = Unit {0}
-IsRunCause sink_old sink_new old new other = ⊥
+abbrev pub IsRunCause : {Own : Type 0} → Type 0 → ℕ → ℕ → Seen Own → Seen Own → Stop → Type 0
+IsRunCause Tells sink_old sink_new old new WriteFault = Rose sink_old sink_new
+IsRunCause Tells sink_old sink_new old new Shut = Rose old.counts.shuts new.counts.shuts
+IsRunCause Tells sink_old sink_new old new NextFault = Rose old.counts.next_faults new.counts.next_faults
+IsRunCause Tells sink_old sink_new old new (SwitchFault d) = Rose (old.counts.link_faults d) (new.counts.link_faults d)
+IsRunCause Tells sink_old sink_new old new (SwitchBroke d) = IsSwitchCause Tells old new (SwitchBroke d)
+IsRunCause Tells sink_old sink_new old new (Diverged d) = IsSwitchCause Tells old new (Diverged d)
+IsRunCause Tells sink_old sink_new old new (EventsLeft left) = 1 ≤ left
+IsRunCause Tells sink_old sink_new old new NoMemory = Unit {0}
+IsRunCause Tells sink_old sink_new old new other = ⊥
 
--- Why a command stops: the words are no command; all that the source told is refused; what failed is counted; or events are left.
--- Want of memory may come at any time.
-abbrev pub IsCause : List (List ℕ) → Option (List ℕ) → Faults → Faults → Stop → Type 0
-IsCause words told old new Usage = is_command words ≡ false
-IsCause words told old new (Refused refusal) = IfSome told (λ input. session_of input ≡ Err refusal)
-IsCause words told old new ReadFault = Rose old.source new.source
-IsCause words told old new stop = IsRunCause old.sink new.sink old.world new.world stop
+-- Why a command stops: all that the source told is refused; what failed is counted; or events are left. Want of memory may come at any time.
+abbrev pub IsCause : {Own : Type 0} → Type 0 → (Refusal → List ℕ → Type 0) → Option (List ℕ) → Faults Own → Faults Own → Stop → Type 0
+IsCause Tells IsRefused told old new (Refused refusal) = IfSome told (IsRefused refusal)
+IsCause Tells IsRefused told old new ReadFault = Rose old.source new.source
+IsCause Tells IsRefused told old new stop = IsRunCause Tells old.sink new.sink old.world new.world stop
 
 -- nothing failed: no count of the source, the sink or the world rose
-pub record NoneFailed (old new : Faults) : Type 0 where
+pub record NoneFailed {Own : Type 0} (old new : Faults Own) : Type 0 where
   pub source : Rose old.source new.source → ⊥
   pub sink : Rose old.sink new.sink → ⊥
   pub shuts : Rose old.world.counts.shuts new.world.counts.shuts → ⊥
@@ -152,14 +162,14 @@ pub record RunsPart (seen : Seen Scripts) (contents now_contents : Option (List 
 -- the end of the report; and all bytes that came of switches up to there are messages. The whole journal is a dialogue with the application,
 -- in which each change had reached its switch at once when it was answered. Where an event was given behind that point, its turn was undone:
 -- each switch has its entries again, or failed in the undo. Only where memory was wanting may the turn have been whole.
-pub record UpToPoint (sim : WorldData) (Short : Type 0) (Holds : Seen Scripts → Type 0) : Type 0 where
-  pub last : Seen Scripts
-  pub given : last.given ≡ (seen_of sim).given
-  pub last_point : IsLastQuiescent last (seen_of sim)
+pub record UpToPoint {Own : Type 0} (seen : Seen Own) (Short : Type 0) (Holds : Seen Own → Type 0) : Type 0 where
+  pub last : Seen Own
+  pub given : last.given ≡ seen.given
+  pub last_point : IsLastQuiescent last seen
   pub messages : BringMessages last.history
   pub holds : Holds last
-  pub tables : TablesLeft Short last (seen_of sim)
-  pub at_once : AtOnce index (journal (seen_of sim).history)
+  pub tables : TablesLeft Short last seen
+  pub at_once : AtOnce index (journal seen.history)
 
 -- some bytes that came of a switch are no message
 abbrev pub SomeRefused : WorldData → Type 0
@@ -171,13 +181,13 @@ SomeRefused sim = BringMessages sim.history → ⊥
 -- are there, if a stimulus happened. Or nothing was done. Only where bytes come that are no message, a switch breaks or diverges.
 abbrev pub StopsAs : Stop → WorldData → Option (List ℕ) → Option (List ℕ) → Type 0
 StopsAs (EventsLeft left) sim contents now_contents = RunsPart (seen_of sim) contents now_contents left
-StopsAs WriteFault sim contents now_contents = UpToPoint sim ⊥ (λ last. WritingRun last contents now_contents)
+StopsAs WriteFault sim contents now_contents = UpToPoint (seen_of sim) ⊥ (λ last. WritingRun last contents now_contents)
 StopsAs Shut sim contents now_contents = NothingDone (NotOpened ∷ []) (seen_of sim) contents now_contents
-StopsAs NextFault sim contents now_contents = UpToPoint sim ⊥ (λ last. LinesRun last contents now_contents)
-StopsAs (SwitchFault d) sim contents now_contents = UpToPoint sim ⊥ (λ last. LinesRun last contents now_contents)
-StopsAs (SwitchBroke d) sim contents now_contents = SomeRefused sim × UpToPoint sim ⊥ (λ last. LinesRun last contents now_contents)
-StopsAs (Diverged d) sim contents now_contents = SomeRefused sim × UpToPoint sim ⊥ (λ last. LinesRun last contents now_contents)
-StopsAs NoMemory sim contents now_contents = UpToPoint sim (Unit {0}) (λ last. MemoryRun (seen_of sim) last contents now_contents) ⊎ NothingDone [] (seen_of sim) contents now_contents
+StopsAs NextFault sim contents now_contents = UpToPoint (seen_of sim) ⊥ (λ last. LinesRun last contents now_contents)
+StopsAs (SwitchFault d) sim contents now_contents = UpToPoint (seen_of sim) ⊥ (λ last. LinesRun last contents now_contents)
+StopsAs (SwitchBroke d) sim contents now_contents = SomeRefused sim × UpToPoint (seen_of sim) ⊥ (λ last. LinesRun last contents now_contents)
+StopsAs (Diverged d) sim contents now_contents = SomeRefused sim × UpToPoint (seen_of sim) ⊥ (λ last. LinesRun last contents now_contents)
+StopsAs NoMemory sim contents now_contents = UpToPoint (seen_of sim) (Unit {0}) (λ last. MemoryRun (seen_of sim) last contents now_contents) ⊎ NothingDone [] (seen_of sim) contents now_contents
 StopsAs other sim contents now_contents = Unit {0}
 
 abbrev pub RunsAs : {T : Type 0} → Result T Stop → WorldData → Option (List ℕ) → Option (List ℕ) → Type 0
@@ -222,8 +232,18 @@ pub record CutShort (status : ℕ) (sim : WorldData) (contents now_contents : Op
   pub written : Wrote before now_contents faults faults_new (stop_line stop)
 
 -- a stop of this status, with its cause
-pub record Stopped (words : List (List ℕ)) (told : Option (List ℕ)) (old new : Faults) (status : ℕ) (P : Stop → Type 0) : Type 0 where
+pub record Stopped (Why : Stop → Type 0) (status : ℕ) (P : Stop → Type 0) : Type 0 where
   pub stop : Stop
   pub status_is : status ≡ stop_status stop
-  pub cause : IsCause words told old new stop
+  pub cause : Why stop
   pub holds : P stop
+
+-- ---- Before `replay` has its status: how it ends, which reads an input to its end and then runs
+
+pub record Replays {T : Type 0} (result : Result T Stop) (told left : Option (List ℕ)) (old new : Faults Scripts) (sim : WorldData) (contents now_contents : Option (List ℕ)) (Stays : Type 0) : Type 0 where
+  pub loaded : LoadedAs result told left (seen_of sim)
+  pub runs : RunsAs result sim contents now_contents
+  pub lines : OnOk result (KeepsLines sim)
+  pub late_lines : IfErr result (λ stop. IsLate stop → KeepsLines sim)
+  pub why : IfErr result (IsCause (Unit {0}) IsNoSession told old new)
+  pub early : IfErr result (λ stop. IsEarly stop → Stays)

@@ -2,3 +2,4 @@ pub mod Stops
 pub mod Input
 pub mod Said
 pub mod Headline
+pub mod Live

@@ -1,6 +1,10 @@
 -- How a command ends without the whole report: its status, and the line that is written last. Our own choice.
-use Rattle.std.specs.Prelude.{ℕ, List, [], ◌++◌, codes}
+use Rattle.std.specs.Prelude.{ℕ, List, [], ◌++◌, codes, string_bytes}
 use Rattle.std.specs.Fmt.{decimal}
+use Rattle.command_words.specs.Commands.{usage_line}
+use Rattle.crash_policy.specs.declared.policy_fault.PolicyFault.{PolicyFault}
+use Rattle.crash_policy.specs.declared.policy_fault.PolicyFault.TheVariants as policy
+use Rattle.crash_policy.specs.Faults.{Fault, no_text, unknown, missing, out_of_range, double}
 use Rattle.lego_io.specs.declared.transfer.ReadAllFault.{ReadAllFault}
 use Rattle.lego_io.specs.declared.transfer.ReadAllFault.TheVariants as reading
 use Rattle.lego_model.specs.declared.session.SessionKind.{SessionKind}
@@ -42,14 +46,37 @@ kind_word kinds.Switch = codes "switch"
 kind_word kinds.App = codes "app"
 kind_word kinds.Raw = codes "raw"
 
+-- the words of a policy's fault
+unfoldable pub fault_words : Fault → List ℕ
+fault_words no_text = codes "text"
+fault_words (unknown key) = codes "unknown " ++ key
+fault_words (missing key) = codes "missing " ++ key
+fault_words (out_of_range key) = codes "range " ++ key
+fault_words (double name) = codes "double " ++ name
+
+-- and of one that a call tells; want of memory is none, and stops otherwise
+unfoldable pub policy_words : PolicyFault → List ℕ
+policy_words policy.Text = fault_words no_text
+policy_words (policy.UnknownKey key) = fault_words (unknown (string_bytes key))
+policy_words (policy.Missing key) = fault_words (missing (string_bytes key))
+policy_words (policy.Range key) = fault_words (out_of_range (string_bytes key))
+policy_words (policy.Double name) = fault_words (double (string_bytes name))
+policy_words policy.NoMemory = codes "no memory"
+
+-- the line of a policy that is refused for a fault
+abbrev pub policy_line : List ℕ → List ℕ
+policy_line words = line_of (codes "bad policy " ++ words)
+
 unfoldable pub refusal_line : Refusal → List ℕ
 refusal_line refusals.Size = line_of (codes "bad size")
 refusal_line refusals.Separator = line_of (codes "bad separator")
 refusal_line refusals.PolicyLater = line_of (codes "bad policy later")
+refusal_line refusals.NoCommand = line_of (codes "bad policy missing command")
+refusal_line (refusals.Policy fault) = policy_line (policy_words fault)
 refusal_line (refusals.Session fault) = codes "bad session " ++ decimal fault.line ++ line_of (codes " " ++ kind_word fault.kind)
 
 unfoldable pub stop_line : Stop → List ℕ
-stop_line stops.Usage = line_of (codes "usage: legosdn replay")
+stop_line stops.Usage = line_of usage_line
 stop_line (stops.Refused refusal) = refusal_line refusal
 stop_line stops.ReadFault = line_of (codes "read fault")
 stop_line stops.WriteFault = []
@@ -67,6 +94,10 @@ abbrev pub stop_of_reading : ReadAllFault → Stop
 stop_of_reading reading.Read = stops.ReadFault
 stop_of_reading reading.TooLong = stops.Refused refusals.Size
 stop_of_reading reading.NoMemory = stops.NoMemory
+
+abbrev pub stop_of_policy : PolicyFault → Stop
+stop_of_policy policy.NoMemory = stops.NoMemory
+stop_of_policy fault = stops.Refused (refusals.Policy fault)
 
 abbrev pub stop_of_session : SessionError → Stop
 stop_of_session (text.Bad fault) = stops.Refused (refusals.Session fault)

@@ -6,7 +6,7 @@ ghost use Rattle.lego_io.specs.Source.{ended};
 ghost use Rattle.lego_io.specs.Lines.{lines_of};
 ghost use Rattle.legosdn.specs.declared.stop.Refusal.TheVariants.{Separator};
 ghost use Rattle.legosdn.specs.Input.{most_input, is_separator as is_separator_in, behind_separator, or_refused, session_lines, session_of};
-ghost use Rattle.legosdn.specs.Headline.{IsReadCause};
+ghost use Rattle.legosdn.specs.Headline.{IsReadCause, IsNoSession, IsNoPolicy};
 
 use crate::stop::{Refusal, Stop};
 use lego_io::{Lines, Source, read_all};
@@ -31,7 +31,8 @@ pub fn read_input<S: Source>(alloc: Global, source: &mut S) -> Result<Vec<u8>, S
     ensures all { IfOk result (λ input. IfSome (S.remaining source.old) (λ left. input.items ≡ left)) }
     ensures end { OnOk result (S.remaining source.new ≡ ended (S.remaining source.old)) }
     ensures at_most { IfOk result (λ input. length input.items ≤ most_input) }
-    ensures why { IfErr result (IsReadCause (S.remaining source.old) (S.faults source.old) (S.faults source.new)) }
+    ensures why { IfErr result (IsReadCause IsNoSession (S.remaining source.old) (S.faults source.old) (S.faults source.new)) }
+    ensures why_no_policy { IfErr result (IsReadCause IsNoPolicy (S.remaining source.old) (S.faults source.old) (S.faults source.new)) }
     ensures never_fell { NeverFell (S.faults source.old) (S.faults source.new) }
 {
     Ok(read_all(alloc, source, MOST_INPUT)?)

@@ -1,13 +1,16 @@
 //! Why a command ends without the whole report.
 
 ghost use Rattle.std.specs.Prelude.{◌≡◌, ◌++◌, codes, OnOk, OnErr, decimal};
+ghost use Rattle.command_words.specs.Commands.{usage_line as usage_text};
 ghost use Rattle.std.specs.Io.KnownBytes.{append_known};
 ghost use Rattle.lego_io.specs.Count.{Rose, NeverFell};
 ghost use Rattle.lego_model.specs.RunReport.{line_of};
 ghost use Rattle.lego_io.specs.Sink.{TookPart};
-ghost use Rattle.legosdn.specs.Stops.{stop_status, stop_line, refusal_line, kind_word, stop_of_reading, stop_of_session, stop_of_switch};
+ghost use Rattle.legosdn.specs.Stops.{stop_status, stop_line, refusal_line, kind_word, policy_words, policy_line, stop_of_reading, stop_of_policy, stop_of_session, stop_of_switch};
 ghost use Rattle.legosdn.specs.declared.stop.Stop.TheVariants as stops;
 
+use command_words::usage_line;
+use crash_policy::PolicyFault;
 use itoa::Buffer;
 use lego_io::{ReadAllFault, Sink, WriteFault, write_all};
 use lego_model::{SessionFault, SessionKind};
@@ -18,7 +21,7 @@ use std::alloc::AllocError;
 use thiserror::Error;
 
 /// Why an input is refused.
-#[derive(Clone, Copy, Debug, PartialEq, Eq, Error)]
+#[derive(Drop, Debug, PartialEq, Eq, Error)]
 pub enum Refusal {
     /// It has more bytes than an input may have.
     #[error("the input has more bytes than an input may have")]
@@ -26,16 +29,22 @@ pub enum Refusal {
     /// It has no line `---`.
     #[error("the input has no line ---")]
     Separator,
-    /// It has a policy, which no command takes yet.
-    #[error("the input has a policy, which no command takes yet")]
+    /// It has a policy that the command does not take yet.
+    #[error("the input has a policy that the command does not take yet")]
     PolicyLater,
+    /// Its policy names no program to start.
+    #[error("the policy names no program")]
+    NoCommand,
+    /// It is no policy: the first fault.
+    #[error("bad policy {0}")]
+    Policy(PolicyFault),
     /// Behind the separator stands no session: the first fault.
     #[error("behind the separator stands no session")]
     Session(SessionFault),
 }
 
 /// Why a command ends without the whole report. It has a status of its own and, but for a failed write, a line.
-#[derive(Clone, Copy, Debug, PartialEq, Eq, Error)]
+#[derive(Drop, Debug, PartialEq, Eq, Error)]
 pub enum Stop {
     /// The words are no command.
     #[error("the words are no command")]
@@ -74,8 +83,8 @@ pub enum Stop {
 
 impl Stop {
     /// Gives the status of the program.
-    pub fn status(self) -> u8
-        ensures { result ≡ stop_status self }
+    pub fn status(&self) -> u8
+        ensures { result ≡ stop_status self.now }
     {
         match self {
             Stop::Usage => 2,
@@ -93,23 +102,23 @@ impl Stop {
 
     /// Writes the line, which takes no memory.
     #[tactic(auto, unfolding(crate::specs::Stops::stop_line, lego_model::specs::RunReport::line_of))]
-    pub fn write_line<K: Sink>(self, sink: &mut K) -> Result<(), WriteFault>
-        ensures all { OnOk result (K.contents sink.new ≡ append_known (K.contents sink.old) (stop_line self)) }
-        ensures part { OnErr result (TookPart (K.contents sink.old) (K.contents sink.new) (stop_line self)) }
+    pub fn write_line<K: Sink>(&self, sink: &mut K) -> Result<(), WriteFault>
+        ensures all { OnOk result (K.contents sink.new ≡ append_known (K.contents sink.old) (stop_line self.now)) }
+        ensures part { OnErr result (TookPart (K.contents sink.old) (K.contents sink.new) (stop_line self.now)) }
         ensures fault_rose { OnErr result (Rose (K.faults sink.old) (K.faults sink.new)) }
         ensures never_fell { NeverFell (K.faults sink.old) (K.faults sink.new) }
     {
         match self {
-            Stop::Usage => write_all(sink, b"usage: legosdn replay\n"),
+            Stop::Usage => write_usage(sink),
             Stop::Refused(refusal) => refusal.write_line(sink),
             Stop::ReadFault => write_all(sink, b"read fault\n"),
             Stop::WriteFault => Ok(()),
             Stop::Shut => write_all(sink, b"world shut\n"),
             Stop::NextFault => write_all(sink, b"world fault\n"),
-            Stop::SwitchFault(dpid) => write_numbered(sink, b"switch fault ", dpid, b"\n"),
-            Stop::SwitchBroke(dpid) => write_numbered(sink, b"switch broke ", dpid, b"\n"),
-            Stop::Diverged(dpid) => write_numbered(sink, b"diverged ", dpid, b"\n"),
-            Stop::EventsLeft(left) => write_numbered(sink, b"events left ", left as u64, b"\n"),
+            Stop::SwitchFault(dpid) => write_numbered(sink, b"switch fault ", *dpid, b"\n"),
+            Stop::SwitchBroke(dpid) => write_numbered(sink, b"switch broke ", *dpid, b"\n"),
+            Stop::Diverged(dpid) => write_numbered(sink, b"diverged ", *dpid, b"\n"),
+            Stop::EventsLeft(left) => write_numbered(sink, b"events left ", *left as u64, b"\n"),
             Stop::NoMemory => write_all(sink, b"no memory\n"),
         }
     }
@@ -118,9 +127,9 @@ impl Stop {
 impl Refusal {
     /// Writes the line, which takes no memory.
     #[tactic(auto, unfolding(crate::specs::Stops::refusal_line, lego_model::specs::RunReport::line_of))]
-    fn write_line<K: Sink>(self, sink: &mut K) -> Result<(), WriteFault>
-        ensures all { OnOk result (K.contents sink.new ≡ append_known (K.contents sink.old) (refusal_line self)) }
-        ensures part { OnErr result (TookPart (K.contents sink.old) (K.contents sink.new) (refusal_line self)) }
+    fn write_line<K: Sink>(&self, sink: &mut K) -> Result<(), WriteFault>
+        ensures all { OnOk result (K.contents sink.new ≡ append_known (K.contents sink.old) (refusal_line self.now)) }
+        ensures part { OnErr result (TookPart (K.contents sink.old) (K.contents sink.new) (refusal_line self.now)) }
         ensures fault_rose { OnErr result (Rose (K.faults sink.old) (K.faults sink.new)) }
         ensures never_fell { NeverFell (K.faults sink.old) (K.faults sink.new) }
     {
@@ -128,6 +137,8 @@ impl Refusal {
             Refusal::Size => write_all(sink, b"bad size\n"),
             Refusal::Separator => write_all(sink, b"bad separator\n"),
             Refusal::PolicyLater => write_all(sink, b"bad policy later\n"),
+            Refusal::NoCommand => write_all(sink, b"bad policy missing command\n"),
+            Refusal::Policy(fault) => write_policy(sink, fault),
             Refusal::Session(fault) => {
                 let kind = kind_end(fault.kind);
                 write_numbered(sink, b"bad session ", fault.line, kind.as_bytes())
@@ -136,14 +147,65 @@ impl Refusal {
     }
 }
 
-/// Writes a number in decimal digits.
-fn write_number<K: Sink>(sink: &mut K, number: u64) -> Result<(), WriteFault>
-    ensures all { OnOk result (K.contents sink.new ≡ append_known (K.contents sink.old) (decimal number)) }
-    ensures part { OnErr result (TookPart (K.contents sink.old) (K.contents sink.new) (decimal number)) }
+/// Writes the line that says which words are commands.
+#[tactic(auto, unfolding(lego_model::specs::RunReport::line_of))]
+fn write_usage<K: Sink>(sink: &mut K) -> Result<(), WriteFault>
+    ensures all { OnOk result (K.contents sink.new ≡ append_known (K.contents sink.old) (line_of usage_text)) }
+    ensures part { OnErr result (TookPart (K.contents sink.old) (K.contents sink.new) (line_of usage_text)) }
     ensures fault_rose { OnErr result (Rose (K.faults sink.old) (K.faults sink.new)) }
     ensures never_fell { NeverFell (K.faults sink.old) (K.faults sink.new) }
 {
-    write_all(sink, Buffer::new().format(number).as_bytes())
+    write_between(sink, b"", usage_line().as_bytes(), b"\n")
+}
+
+/// Writes the line of a fault of a policy.
+#[tactic(auto, unfolding(crate::specs::Stops::policy_words, crate::specs::Stops::fault_words, lego_model::specs::RunReport::line_of))]
+fn write_policy<K: Sink>(sink: &mut K, fault: &PolicyFault) -> Result<(), WriteFault>
+    ensures all { OnOk result (K.contents sink.new ≡ append_known (K.contents sink.old) (policy_line (policy_words fault.now))) }
+    ensures part { OnErr result (TookPart (K.contents sink.old) (K.contents sink.new) (policy_line (policy_words fault.now))) }
+    ensures fault_rose { OnErr result (Rose (K.faults sink.old) (K.faults sink.new)) }
+    ensures never_fell { NeverFell (K.faults sink.old) (K.faults sink.new) }
+{
+    match fault {
+        PolicyFault::Text => write_all(sink, b"bad policy text\n"),
+        PolicyFault::UnknownKey(key) => write_between(
+            sink,
+            b"bad policy unknown ",
+            key.as_bytes(),
+            b"\n",
+        ),
+        PolicyFault::Missing(key) => write_between(
+            sink,
+            b"bad policy missing ",
+            key.as_bytes(),
+            b"\n",
+        ),
+        PolicyFault::Range(key) => write_between(sink, b"bad policy range ", key.as_bytes(), b"\n"),
+        PolicyFault::Double(name) => write_between(
+            sink,
+            b"bad policy double ",
+            name.as_bytes(),
+            b"\n",
+        ),
+        PolicyFault::NoMemory => write_all(sink, b"bad policy no memory\n"),
+    }
+}
+
+/// Writes bytes between others.
+fn write_between<K: Sink>(
+    sink: &mut K,
+    front: &[u8],
+    middle: &[u8],
+    end: &[u8],
+) -> Result<(), WriteFault>
+    ensures all { OnOk result (K.contents sink.new ≡ append_known (K.contents sink.old) (front.now ++ middle.now ++ end.now)) }
+    ensures part { OnErr result (TookPart (K.contents sink.old) (K.contents sink.new) (front.now ++ middle.now ++ end.now)) }
+    ensures fault_rose { OnErr result (Rose (K.faults sink.old) (K.faults sink.new)) }
+    ensures never_fell { NeverFell (K.faults sink.old) (K.faults sink.new) }
+{
+    write_all(sink, front)?;
+    write_all(sink, middle)?;
+    write_all(sink, end)
 }
 
 /// Writes a line with a number in it.
@@ -158,9 +220,7 @@ fn write_numbered<K: Sink>(
     ensures fault_rose { OnErr result (Rose (K.faults sink.old) (K.faults sink.new)) }
     ensures never_fell { NeverFell (K.faults sink.old) (K.faults sink.new) }
 {
-    write_all(sink, front)?;
-    write_number(sink, number)?;
-    write_all(sink, end)
+    write_between(sink, front, Buffer::new().format(number).as_bytes(), end)
 }
 
 /// Spells what is wrong with a line of a session, as the end of a line.
@@ -206,6 +266,17 @@ impl From<ReadAllFault> for Stop {
             ReadAllFault::Read => Stop::ReadFault,
             ReadAllFault::TooLong => Stop::Refused(Refusal::Size),
             ReadAllFault::NoMemory => Stop::NoMemory,
+        }
+    }
+}
+
+impl From<PolicyFault> for Stop {
+    ghost from_gives = { λ fault stop. stop ≡ stop_of_policy fault };
+
+    fn from(fault: PolicyFault) -> Stop {
+        match fault {
+            PolicyFault::NoMemory => Stop::NoMemory,
+            fault => Stop::Refused(Refusal::Policy(fault)),
         }
     }
 }

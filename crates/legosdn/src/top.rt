@@ -1,40 +1,36 @@
-//! The program as a call over a source, a sink and a world.
+//! The program as a call over a source, a sink and two worlds.
 
-ghost use Rattle.std.specs.Prelude.{◌≡◌, ◌≤◌, ◌↔◌, ◌⊎◌, ◌∷◌, [], ℕ, List, Some, Ok, Err, true, false, length, map, Contains, IfSome, IfOk, OnOk, IfErr, string_bytes};
+ghost use Rattle.std.specs.Prelude.{◌≡◌, ◌≤◌, ◌⊎◌, ◌∷◌, [], ℕ, List, Some, None, Ok, Err, length, map, Contains, IfSome, IfOk, OnOk, IfErr, string_bytes};
+ghost use Rattle.std.specs.Result.{IsErrAnd};
 ghost use Rattle.lego_io.specs.Count.{Rose, NeverFell};
 ghost use Rattle.outside.specs.Seen.{Continues};
 ghost use Rattle.outside.specs.State.{state};
 ghost use Rattle.outside.specs.InOrder.{BringMessages};
 ghost use Rattle.sim_world.specs.World.{given_of, seen_of};
 ghost use Rattle.sim_world.specs.Building.{nothing_given, IsNew, Begins};
+ghost use Rattle.command_words.specs.Commands.{command_in};
 ghost use Rattle.lego_model.specs.SessionLines.{SessionValue};
 ghost use Rattle.legosdn.specs.declared.stop.Refusal.{Refusal};
-ghost use Rattle.legosdn.specs.Input.{session_of};
+ghost use Rattle.legosdn.specs.Input.{session_of, run_policy};
 ghost use Rattle.std.specs.Io.KnownBytes.{append_known};
 ghost use Rattle.lego_model.specs.RunReport.{run_report};
 ghost use Rattle.lego_model.specs.Application.{names};
 ghost use Rattle.legosdn.specs.Said.{reference_of_session, WithEnough};
 ghost use Rattle.legosdn.specs.Stops.{stop_status, stop_line, refusal_line};
-ghost use Rattle.legosdn.specs.Headline.{is_command as is_command_in, faults_of, IsReadCause, IsRunCause, IsCause, NoneFailed, IsEarly, IsLate, Loaded, RunsNoOther, LoadedAs, NeverRuns, RunsWhole, RunsAs, KeepsLines, LeftAs, CutShort, SomeRefused, Wrote, WroteLast, Stopped};
+ghost use Rattle.legosdn.specs.Headline.{IsReplay, IsRun, IsNoSession, IsNoPolicy, faults_of, IsReadCause, IsRunCause, IsCause, NoneFailed, IsEarly, IsLate, Loaded, RunsNoOther, LoadedAs, NeverRuns, RunsWhole, RunsAs, KeepsLines, LeftAs, CutShort, SomeRefused, Wrote, WroteLast, Stopped, Replays};
+ghost use Rattle.legosdn.specs.Live.{Taken, TellsInOrder, NoneStray, ServesWhole, ServesCut, Serves};
 
 use crate::input::{parts_of, read_input};
+use crate::live::run_live;
 use crate::stop::Stop;
-use event_dispatch::{MOST_ROUNDS, Served, serve};
+use crate::world::run_world;
+use command_words::{Command, read_words};
+use event_dispatch::MOST_ROUNDS;
 use lego_io::{Sink, Source};
-use outside::AllowAll;
+use outside::World;
 use session_text::read_session;
 use sim_world::SimWorld;
 use std::alloc::{AllocError, Global};
-
-/// Tells whether the words are the one command, `replay`.
-fn is_command(words: &[String]) -> bool
-    ensures { result ≡ is_command_in (map string_bytes words.now) }
-{
-    match words {
-        [word] => word.as_str() == "replay",
-        _ => false,
-    }
-}
 
 /// Gives the names of the applications: without a policy there is one, `app`.
 fn app_names(alloc: Global) -> Result<Vec<String>, AllocError>
@@ -52,7 +48,7 @@ fn load<S: Source>(alloc: Global, source: &mut S, sim: &mut SimWorld) -> Result<
     ensures loaded { OnOk result (Loaded (S.remaining source.old) (S.remaining source.new) (seen_of sim.new)) }
     ensures new { IsNew sim.new }
     ensures few { OnOk result (length (seen_of sim.new).given.stimuli ≤ 1000000) }
-    ensures why { IfErr result (IsReadCause (S.remaining source.old) (S.faults source.old) (S.faults source.new)) }
+    ensures why { IfErr result (IsReadCause IsNoSession (S.remaining source.old) (S.faults source.old) (S.faults source.new)) }
     ensures early { IfErr result (λ stop. IsEarly stop → sim.new ≡ sim.old) }
     ensures never_fell { NeverFell (S.faults source.old) (S.faults source.new) }
 {
@@ -62,36 +58,26 @@ fn load<S: Source>(alloc: Global, source: &mut S, sim: &mut SimWorld) -> Result<
     Ok(read_session(alloc, parts.session, parts.first_line, &names, sim)?)
 }
 
-/// Runs the world to its end, and writes the report.
-#[tactic(auto, using(crate::proofs::Causes::switch_cause))]
-pub fn run_world<K: Sink>(alloc: Global, sink: &mut K, sim: &mut SimWorld) -> Result<(), Stop>
+/// Runs the simulated world to its end, and writes the report.
+fn simulate<K: Sink>(alloc: Global, sink: &mut K, sim: &mut SimWorld) -> Result<(), Stop>
     ensures runs { (seen_of sim.old).history ≡ [] → length (seen_of sim.old).given.stimuli ≤ 1000000
         → RunsAs result sim.new (K.contents sink.old) (K.contents sink.new) }
     ensures lines { KeepsLines sim.new }
     ensures strays { (seen_of sim.old).history ≡ [] → length (seen_of sim.old).given.stimuli ≤ 1000000
         → (seen_of sim.new).counts.shorts ≡ 0 → (seen_of sim.new).counts.strays ≡ 0 }
-    ensures why { IfErr result (IsRunCause (K.faults sink.old) (K.faults sink.new) (seen_of sim.old) (seen_of sim.new)) }
+    ensures why { IfErr result (IsRunCause (Unit {0}) (K.faults sink.old) (K.faults sink.new) (seen_of sim.old) (seen_of sim.new)) }
     ensures continues { Continues (Unit {0}) (seen_of sim.old) (seen_of sim.new) }
     ensures ended { (seen_of sim.old).history ≡ [] → (state (seen_of sim.new)).running ≡ [] }
     ensures never_fell { NeverFell (K.faults sink.old) (K.faults sink.new) }
 {
-    let served = serve(alloc, Vec::new(alloc), sim, &AllowAll, sink, 0, MOST_ROUNDS);
+    let ended = run_world(alloc, Vec::new(alloc), sink, sim, 0, MOST_ROUNDS);
     sim.keeps_word();
-    match served {
-        Served::Ended { .. } => Ok(()),
-        Served::WriteFault => Err(Stop::WriteFault),
-        Served::Shut => Err(Stop::Shut),
-        Served::NextFault => Err(Stop::NextFault),
-        Served::Txn(fault) => Err(Stop::from(fault)),
-        Served::EventsLeft(left) => Err(Stop::EventsLeft(left)),
-        Served::NoMemory => Err(Stop::NoMemory),
-    }
+    ended
 }
 
-/// Runs one command.
-fn run<S: Source, K: Sink>(
+/// Reads a session to its end, and runs it in the simulated world.
+fn replay<S: Source, K: Sink>(
     alloc: Global,
-    words: &[String],
     source: &mut S,
     sink: &mut K,
     sim: &mut SimWorld,
@@ -104,19 +90,52 @@ fn run<S: Source, K: Sink>(
     ensures lines { OnOk result (KeepsLines sim.new) }
     ensures late_lines { IfErr result (λ stop. IsLate stop → KeepsLines sim.new) }
     ensures strays { (seen_of sim.new).counts.shorts ≡ 0 → (seen_of sim.new).counts.strays ≡ 0 }
-    ensures why { IfErr result (IsCause (map string_bytes words.now) (S.remaining source.old)
+    ensures why { IfErr result (IsCause (Unit {0}) IsNoSession (S.remaining source.old)
         (faults_of (S.faults source.old) (K.faults sink.old) (seen_of sim.old))
         (faults_of (S.faults source.new) (K.faults sink.new) (seen_of sim.new))) }
     ensures early { IfErr result (λ stop. IsEarly stop → (sim.new ≡ sim.old) × (sink.new ≡ sink.old)) }
-    ensures usage { IfErr result (λ stop. (stop ≡ Stop.Usage) ↔ (is_command_in (map string_bytes words.now) ≡ false)) }
-    ensures command { OnOk result (is_command_in (map string_bytes words.now) ≡ true) }
     ensures never_fell { NeverFell (K.faults sink.old) (K.faults sink.new) }
 {
-    if !is_command(words) {
-        return Err(Stop::Usage);
-    }
     load(alloc, source, sim)?;
-    run_world(alloc, sink, sim)
+    simulate(alloc, sink, sim)
+}
+
+/// Runs the command that the words are.
+fn run<S: Source, K: Sink, W: World>(
+    alloc: Global,
+    words: &[String],
+    source: &mut S,
+    sink: &mut K,
+    sim: &mut SimWorld,
+    live: &mut W,
+) -> Result<(), Stop>
+    requires new { IsNew sim.old }
+    requires nothing { given_of sim.old ≡ nothing_given }
+    ensures replays { IsReplay (map string_bytes words.now) → Replays result (S.remaining source.old) (S.remaining source.new)
+        (faults_of (S.faults source.old) (K.faults sink.old) (seen_of sim.old))
+        (faults_of (S.faults source.new) (K.faults sink.new) (seen_of sim.new))
+        sim.new (K.contents sink.old) (K.contents sink.new) ((sim.new ≡ sim.old) × (sink.new ≡ sink.old)) }
+    ensures replay_leaves_live { IsReplay (map string_bytes words.now) → live.new ≡ live.old }
+    ensures ended { (state (seen_of sim.new)).running ≡ [] }
+    ensures strays { (seen_of sim.new).counts.shorts ≡ 0 → (seen_of sim.new).counts.strays ≡ 0 }
+    ensures no_other_session { RunsNoOther (S.remaining source.old) (S.remaining source.new) (seen_of sim.new) }
+    ensures serves { (port rounds : ℕ) → IsRun (map string_bytes words.now) port rounds → Serves W.Tells rounds result (S.remaining source.old) (S.remaining source.new)
+        (faults_of (S.faults source.old) (K.faults sink.old) (W.seen live.old))
+        (faults_of (S.faults source.new) (K.faults sink.new) (W.seen live.new))
+        (K.contents sink.old) (K.contents sink.new) ((live.new ≡ live.old) × (sink.new ≡ sink.old)) }
+    ensures run_leaves_sim { (port rounds : ℕ) → IsRun (map string_bytes words.now) port rounds → sim.new ≡ sim.old }
+    ensures live_ended { W.Tells → (W.seen live.old).history ≡ [] → (state (W.seen live.new)).running ≡ [] }
+    ensures early { IfErr result (λ stop. IsEarly stop → (sim.new ≡ sim.old) × (live.new ≡ live.old) × (sink.new ≡ sink.old)) }
+    ensures usage { IfErr result (λ stop. stop ≡ Stop.Usage → command_in (map string_bytes words.now) ≡ None) }
+    ensures no_command { command_in (map string_bytes words.now) ≡ None
+        → IsErrAnd result (λ stop. Contains (2 ∷ 12 ∷ []) (stop_status stop) × (sim.new ≡ sim.old) × (live.new ≡ live.old) × (sink.new ≡ sink.old)) }
+    ensures never_fell { NeverFell (K.faults sink.old) (K.faults sink.new) }
+{
+    match read_words(alloc, words)? {
+        Some(Command::Replay) => replay(alloc, source, sink, sim),
+        Some(Command::Run { port, rounds }) => run_live(alloc, source, sink, live, port, rounds),
+        None => Err(Stop::Usage),
+    }
 }
 
 /// Writes the line of a stop, and answers its status. A failed write does not change the status.
@@ -130,83 +149,129 @@ pub fn halt<K: Sink>(sink: &mut K, stop: Stop) -> u8
     stop.status()
 }
 
-/// Runs one command: reads an input to its end, runs its session in a new world, and writes the report.
+/// Runs one command: reads an input to its end, runs a world, and writes the report.
 ///
-/// The one command is `replay`. The answer is the status of the program: 0 where the whole report was written, 2 where
+/// `replay` runs the session of the input in the simulated world, and `run` the application of a policy over the switches of
+/// the other world. The answer is the status of the program: 0 where the whole report was written, 2 where
 /// the words are no command, 3 where the input is refused, 4 where the source failed, 5 where the sink failed, 6 where
 /// the world stays shut or fails, 7 where the link of a switch failed, 8 where a switch broke, 9 where it diverged, 10
 /// where events were left, 12 where memory ran out. At any status but 0 and 5 the last line that is written says why.
-pub fn legosdn<S: Source, K: Sink>(
+pub fn legosdn<S: Source, K: Sink, W: World>(
     alloc: Global,
     words: &[String],
     source: &mut S,
     sink: &mut K,
     sim: &mut SimWorld,
+    live: &mut W,
 ) -> u8
     requires new_world { IsNew sim.old }
     requires empty_world { given_of sim.old ≡ nothing_given }
-    // At status 0 all stimuli of the session happened, and the run is that of the reference controller over them and over what the
+    // `replay`. At status 0 all stimuli of the session happened, and the run is that of the reference controller over them and over what the
     // application did: at every quiescent point the tables agree, the application was
     // given what it is given there, no event is left, and what was written is the whole report. Each answer that the application was
     // given is to its next message, and a change that passed the host's tests had then reached its switch: since the frame given before,
     // the change was sent there, a barrier behind it, the barrier's reply came, and no other change was sent.
-    ensures whole_run { result ≡ 0 → RunsWhole (seen_of sim.new) (K.contents sink.old) (K.contents sink.new) }
+    ensures whole_run { IsReplay (map string_bytes words.now) → result ≡ 0 → RunsWhole (seen_of sim.new) (K.contents sink.old) (K.contents sink.new) }
     // And that report is the one of the reference controller over the session that the input spells: over its switches and stimuli and what
     // its lines say of the application, with as many ready starts and plain turns behind the last line as one likes, if they are enough.
-    ensures whole_report { (input : List ℕ) (session : SessionValue) → S.remaining source.old ≡ Some input → session_of input ≡ Ok session
+    ensures whole_report { IsReplay (map string_bytes words.now) → (input : List ℕ) (session : SessionValue) → S.remaining source.old ≡ Some input → session_of input ≡ Ok session
         → result ≡ 0
         → WithEnough (λ more. K.contents sink.new ≡ append_known (K.contents sink.old) (run_report names (reference_of_session more session))) }
     // At status 10 the same with the lines of the events that were dispatched, and how many are left behind them.
-    ensures events_left { result ≡ 10 → LeftAs sim.new (K.contents sink.old) (K.contents sink.new) (K.faults sink.old) (K.faults sink.new) }
+    ensures events_left { IsReplay (map string_bytes words.now) → result ≡ 10
+        → LeftAs sim.new (K.contents sink.old) (K.contents sink.new) (K.faults sink.old) (K.faults sink.new) }
     // Where a fault ends the run, it is that of the reference controller up to the last quiescent point: what was written is what this says so
     // far, or a part of the lines of what was done last where the sink failed, and behind it stands the line that says why; and the whole
     // journal is such a dialogue. Or nothing was done.
-    ensures run_until_fault { Contains (5 ∷ 6 ∷ 7 ∷ 8 ∷ 9 ∷ 12 ∷ []) result
+    ensures run_until_fault { IsReplay (map string_bytes words.now) → Contains (5 ∷ 6 ∷ 7 ∷ 8 ∷ 9 ∷ 12 ∷ []) result
         → CutShort result sim.new (K.contents sink.old) (K.contents sink.new) (K.faults sink.old) (K.faults sink.new) }
     // What the application did is what the lines of the session say.
-    ensures application_keeps_script { Contains (0 ∷ 5 ∷ 6 ∷ 7 ∷ 8 ∷ 9 ∷ 10 ∷ []) result → KeepsLines sim.new }
+    ensures application_keeps_script { IsReplay (map string_bytes words.now) → Contains (0 ∷ 5 ∷ 6 ∷ 7 ∷ 8 ∷ 9 ∷ 10 ∷ []) result → KeepsLines sim.new }
 
     // Any other status than 0 is that of a stop, whose cause there is, and whose line is the last that was written. Of a switch that broke or
     // diverged the world's history tells what came from it, and what was sent to it before.
-    ensures status_has_cause { (result ≡ 0) ⊎ Stopped (map string_bytes words.now) (S.remaining source.old)
+    ensures status_has_cause { IsReplay (map string_bytes words.now) → (result ≡ 0) ⊎ Stopped (IsCause (Unit {0}) IsNoSession (S.remaining source.old)
         (faults_of (S.faults source.old) (K.faults sink.old) (seen_of sim.old))
-        (faults_of (S.faults source.new) (K.faults sink.new) (seen_of sim.new))
+        (faults_of (S.faults source.new) (K.faults sink.new) (seen_of sim.new)))
         result (λ stop. WroteLast (K.contents sink.new) (K.faults sink.old) (K.faults sink.new) (stop_line stop)) }
 
     // At every status: no call of the world was a stray one, where none wanted memory.
     ensures no_stray_call { (seen_of sim.new).counts.shorts ≡ 0 → (seen_of sim.new).counts.strays ≡ 0 }
 
     // A switch breaks or diverges only where bytes came that are no message.
-    ensures breaks_only_on_bad_bytes { result ≡ 8 → SomeRefused sim.new }
-    ensures diverges_only_on_bad_bytes { result ≡ 9 → SomeRefused sim.new }
+    ensures breaks_only_on_bad_bytes { IsReplay (map string_bytes words.now) → result ≡ 8 → SomeRefused sim.new }
+    ensures diverges_only_on_bad_bytes { IsReplay (map string_bytes words.now) → result ≡ 9 → SomeRefused sim.new }
     // Where the words are the command, the whole input spells a session, all bytes that came of switches are messages, and nothing failed,
     // the whole report is written, or events are left, or memory is wanting.
-    ensures complete_without_fault { (input : List ℕ) (session : SessionValue) → is_command_in (map string_bytes words.now) ≡ true → S.remaining source.old ≡ Some input
+    ensures complete_without_fault { IsReplay (map string_bytes words.now) → (input : List ℕ) (session : SessionValue) → S.remaining source.old ≡ Some input
         → session_of input ≡ Ok session → BringMessages sim.new.history
         → NoneFailed (faults_of (S.faults source.old) (K.faults sink.old) (seen_of sim.old)) (faults_of (S.faults source.new) (K.faults sink.new) (seen_of sim.new))
         → Contains (0 ∷ 10 ∷ 12 ∷ []) result }
 
-    // Each status with its cause.
-    ensures usage { (result ≡ 2) ↔ (is_command_in (map string_bytes words.now) ≡ false) }
-    ensures input_refused { result ≡ 3 → (refusal : Refusal) × IfSome (S.remaining source.old) (λ input. session_of input ≡ Err refusal)
+    // The input is refused where it spells no session, by the line that says why.
+    ensures input_refused { IsReplay (map string_bytes words.now) → result ≡ 3 → (refusal : Refusal) × IfSome (S.remaining source.old) (IsNoSession refusal)
         × Wrote (K.contents sink.old) (K.contents sink.new) (K.faults sink.old) (K.faults sink.new) (refusal_line refusal) }
+    // Where the world runs, the input was read to its end and is a session, which the world was given.
+    ensures input_loaded { IsReplay (map string_bytes words.now) → Contains (0 ∷ 5 ∷ 6 ∷ 7 ∷ 8 ∷ 9 ∷ 10 ∷ []) result
+        → Loaded (S.remaining source.old) (S.remaining source.new) (seen_of sim.new) }
+    // At every status: what was done in the world was done with the session that the input spells, if anything was. A refused input never runs.
+    ensures no_other_session { RunsNoOther (S.remaining source.old) (S.remaining source.new) (seen_of sim.new) }
+    ensures refused_input_never_runs { IsReplay (map string_bytes words.now) → (refusal : Refusal)
+        → IfSome (S.remaining source.old) (λ input. session_of input ≡ Err refusal → NeverRuns result (seen_of sim.new)) }
+    // At every status: each application that was started is ended.
+    ensures every_application_ended { (state (seen_of sim.new)).running ≡ [] }
+    // The other world stays as it is.
+    ensures replay_leaves_live { IsReplay (map string_bytes words.now) → live.new ≡ live.old }
+
+    // `run`, over a world that tells in order, on which no call was made before, and that tells fewer stimuli than rounds. At status 0 the run
+    // is that of the reference controller over all that the world told, as above.
+    ensures live_whole_run { (port rounds : ℕ) → IsRun (map string_bytes words.now) port rounds → TellsInOrder W.Tells rounds (W.seen live.old) (W.seen live.new)
+        → result ≡ 0 → ServesWhole (W.seen live.new) (K.contents sink.old) (K.contents sink.new) }
+    // Where events are left, or a fault ends the run, it is so as far as it goes, and behind what was written stands the line that says why. A
+    // switch breaks or diverges only where bytes came that are no message.
+    ensures live_run_until_stop { (port rounds : ℕ) → IsRun (map string_bytes words.now) port rounds → TellsInOrder W.Tells rounds (W.seen live.old) (W.seen live.new)
+        → Contains (5 ∷ 6 ∷ 7 ∷ 8 ∷ 9 ∷ 10 ∷ 12 ∷ []) result
+        → ServesCut result (W.seen live.new) (K.contents sink.old) (K.contents sink.new) (K.faults sink.old) (K.faults sink.new) }
+    // No call of it was a stray one.
+    ensures live_no_stray_call { (port rounds : ℕ) → IsRun (map string_bytes words.now) port rounds → TellsInOrder W.Tells rounds (W.seen live.old) (W.seen live.new)
+        → NoneStray (W.seen live.new) }
+    // Where the whole input is a policy that is taken, all bytes that came of switches are messages, and nothing failed, the whole report is
+    // written, or events are left, or memory is wanting.
+    ensures live_complete_without_fault { (port rounds : ℕ) → IsRun (map string_bytes words.now) port rounds → TellsInOrder W.Tells rounds (W.seen live.old) (W.seen live.new)
+        → (input : List ℕ) (program : List (List ℕ)) → S.remaining source.old ≡ Some input → run_policy input ≡ Ok program → BringMessages (W.seen live.new).history
+        → NoneFailed (faults_of (S.faults source.old) (K.faults sink.old) (W.seen live.old)) (faults_of (S.faults source.new) (K.faults sink.new) (W.seen live.new))
+        → Contains (0 ∷ 10 ∷ 12 ∷ []) result }
+    // Over any world: a status other than 0 is that of a stop, whose cause there is, and whose line is the last that was written.
+    ensures live_status_has_cause { (port rounds : ℕ) → IsRun (map string_bytes words.now) port rounds → (result ≡ 0) ⊎ Stopped (IsCause W.Tells IsNoPolicy (S.remaining source.old)
+        (faults_of (S.faults source.old) (K.faults sink.old) (W.seen live.old))
+        (faults_of (S.faults source.new) (K.faults sink.new) (W.seen live.new)))
+        result (λ stop. WroteLast (K.contents sink.new) (K.faults sink.old) (K.faults sink.new) (stop_line stop)) }
+    // The input is refused where it is no policy that `run` takes, by the line that says why.
+    ensures policy_refused { (port rounds : ℕ) → IsRun (map string_bytes words.now) port rounds → result ≡ 3
+        → (refusal : Refusal) × IfSome (S.remaining source.old) (IsNoPolicy refusal)
+        × Wrote (K.contents sink.old) (K.contents sink.new) (K.faults sink.old) (K.faults sink.new) (refusal_line refusal) }
+    // Where the world runs, the input was read to its end and is a policy that `run` takes. A refused policy never runs.
+    ensures policy_taken { (port rounds : ℕ) → IsRun (map string_bytes words.now) port rounds → Contains (0 ∷ 5 ∷ 6 ∷ 7 ∷ 8 ∷ 9 ∷ 10 ∷ []) result
+        → Taken (S.remaining source.old) (S.remaining source.new) }
+    ensures refused_policy_never_runs { (port rounds : ℕ) → IsRun (map string_bytes words.now) port rounds → (line : List ℕ)
+        → IfSome (S.remaining source.old) (λ input. run_policy input ≡ Err line → Contains (2 ∷ 3 ∷ 4 ∷ 12 ∷ []) result × (live.new ≡ live.old)) }
+    // At every status, where it tells: each application that was started is ended.
+    ensures live_every_application_ended { W.Tells → (W.seen live.old).history ≡ [] → (state (W.seen live.new)).running ≡ [] }
+    // The simulated world stays as it is.
+    ensures run_leaves_sim { (port rounds : ℕ) → IsRun (map string_bytes words.now) port rounds → sim.new ≡ sim.old }
+
+    // Status 2 comes only where the words are no command. Then it is 2, or memory is wanting for them; one line is written, and nothing runs.
+    ensures usage { result ≡ 2 → command_in (map string_bytes words.now) ≡ None }
+    ensures no_command { command_in (map string_bytes words.now) ≡ None → Contains (2 ∷ 12 ∷ []) result × (sim.new ≡ sim.old) × (live.new ≡ live.old)
+        × ((stop : Stop) × (result ≡ stop_status stop) × Wrote (K.contents sink.old) (K.contents sink.new) (K.faults sink.old) (K.faults sink.new) (stop_line stop)) }
     ensures source_failed { result ≡ 4 → Rose (S.faults source.old) (S.faults source.new) }
     ensures sink_failed { result ≡ 5 → Rose (K.faults sink.old) (K.faults sink.new) }
 
-    // Before anything runs one line is written and nothing else, and the world stays as it is.
-    ensures world_untouched { Contains (2 ∷ 3 ∷ 4 ∷ []) result → (sim.new ≡ sim.old) × ((stop : Stop) × (result ≡ stop_status stop)
+    // Before anything runs one line is written and nothing else, and the worlds stay as they are.
+    ensures world_untouched { Contains (2 ∷ 3 ∷ 4 ∷ []) result → (sim.new ≡ sim.old) × (live.new ≡ live.old) × ((stop : Stop) × (result ≡ stop_status stop)
         × Wrote (K.contents sink.old) (K.contents sink.new) (K.faults sink.old) (K.faults sink.new) (stop_line stop)) }
-
-    // Where the world runs, the input was read to its end and is a session, which the world was given.
-    ensures input_loaded { Contains (0 ∷ 5 ∷ 6 ∷ 7 ∷ 8 ∷ 9 ∷ 10 ∷ []) result → Loaded (S.remaining source.old) (S.remaining source.new) (seen_of sim.new) }
-    // At every status: what was done in the world was done with the session that the input spells, if anything was. A refused input never runs.
-    ensures no_other_session { RunsNoOther (S.remaining source.old) (S.remaining source.new) (seen_of sim.new) }
-    ensures refused_input_never_runs { (refusal : Refusal) → IfSome (S.remaining source.old) (λ input. session_of input ≡ Err refusal → NeverRuns result (seen_of sim.new)) }
-
-    // At every status: each application that was started is ended.
-    ensures every_application_ended { (state (seen_of sim.new)).running ≡ [] }
 {
-    match run(alloc, words, source, sink, sim) {
+    match run(alloc, words, source, sink, sim, live) {
         Ok(()) => 0,
         Err(stop) => halt(sink, stop),
     }

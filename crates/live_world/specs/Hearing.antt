@@ -1,5 +1,5 @@
 -- What a message on a connection is to a live world. Our own choice but for the messages of OpenFlow 1.0.0.
-use Rattle.std.specs.Prelude.{◌≡◌, ℕ, Bool, ◌&&◌, ◌==◌, List, length, Result, Ok, Err, if◌then◌else◌, nat_lt, nat_le}
+use Rattle.std.specs.Prelude.{ℕ, Bool, ◌&&◌, ◌==◌, List, length, Result, Ok, Err, if◌then◌else◌, nat_lt, nat_le}
 use Rattle.of_types.specs.Fields.{number_at}
 use Rattle.of_wire.specs.declared.message.Envelope.{Envelope}
 use Rattle.of_wire.specs.declared.message.Message.{Message}

@@ -1,7 +1,6 @@
 -- How long a connection may stay silent. Our own choice: 5 seconds to say who it is, an ECHO_REQUEST after 15 seconds of silence, and
 -- 15 seconds more to answer. A second that has begun counts in favour of the other side.
 use Rattle.std.specs.Prelude.{ℕ, ◌-◌, Option, Some, None, if◌then◌else◌, nat_lt}
-use Rattle.of_types.specs.Fields.{number_at}
 use Rattle.live_world.specs.declared.life.Life.{Life}
 use Rattle.live_world.specs.declared.life.Stage.{Stage}
 use Rattle.live_world.specs.declared.life.Stage.TheVariants.{Greeting, Joined}

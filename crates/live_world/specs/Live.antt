@@ -1,5 +1,5 @@
 -- What is seen of a live world: its counts alone. It tells nothing. Our own choice.
-use Rattle.std.specs.Prelude.{ℕ, []}
+use Rattle.std.specs.Prelude.{[]}
 use Rattle.outside.specs.Seen.{Counts, Seen}
 use Rattle.live_world.specs.declared.counts.FaultCounts.{FaultCounts}
 use Rattle.live_world.specs.Faults.{link_faults_of, shorts_of}

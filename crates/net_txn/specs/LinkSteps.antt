@@ -1,5 +1,5 @@
 -- Steps of the links of switches: histories that go on by such steps alone, and calls of links that are in place. All of this is our own.
-use Rattle.std.specs.Prelude.{◌≡◌, ℕ, Bool, true, false, List, [], ◌∷◌, ◌++◌}
+use Rattle.std.specs.Prelude.{◌≡◌, ℕ, Bool, true, false, List, ◌∷◌, ◌++◌}
 use Rattle.std.specs.List.{AllByRecursion}
 use Rattle.of_types.specs.declared.journal.Act.TheVariants.{Sent, Got}
 use Rattle.of_wire.specs.declared.message.Message.TheVariants.{BarrierReply}
@@ -8,9 +8,10 @@ use Rattle.flow_table.specs.Switch.{Declared}
 use Rattle.outside.specs.declared.step.WorldStep.{WorldStep}
 use Rattle.outside.specs.declared.step.WorldStep.TheVariants.{Acted, SendFailed, RecvFailed}
 use Rattle.outside.specs.Seen.{Seen}
-use Rattle.outside.specs.State.{State, after_step, after_steps, state, waits_of, is_joined, has_waiting}
+use Rattle.outside.specs.State.{State, after_steps, state, waits_of, is_joined, has_waiting}
 use Rattle.outside.specs.InOrder.{MayComeAll, InOrder}
 use Rattle.lego_model.specs.declared.wait.Awaited.{Awaited}
+use Rattle.lego_model.specs.UndoFaults.{AreExpectedOnLinks}
 
 -- a step of the link of a switch: a message sent or got, or a call that failed
 abbrev pub is_link_step : WorldStep → Bool
@@ -35,18 +36,6 @@ OnLinks Tells old new = Tells → LinkSteps old new
 
 -- ---- Calls in place
 
--- A call that failed is in place where its switch is joined, and to take a message, where one of it waits. A call out of place never
--- succeeds, so that only the steps of calls that failed have to be looked at.
-abbrev pub IsExpectedOnLink : WorldStep → State → Type 0
-IsExpectedOnLink (SendFailed d) s = is_joined d s ≡ true
-IsExpectedOnLink (RecvFailed d) s = has_waiting d s ≡ true
-IsExpectedOnLink other s = Unit {0}
-
--- each of them in the state that those before it leave
-abbrev pub AreExpectedOnLinks : List WorldStep → State → Type 0
-AreExpectedOnLinks [] s = Unit {0}
-AreExpectedOnLinks (step ∷ steps) s = IsExpectedOnLink step s × AreExpectedOnLinks steps (after_step step s)
-
 -- the calls of links since then are in place
 abbrev pub MakesNoStrayCall : {Own : Type 0} → Seen Own → Seen Own → Type 0
 MakesNoStrayCall old new = (steps : List WorldStep) → new.history ≡ old.history ++ steps → AreExpectedOnLinks steps (state old)
@@ -62,17 +51,6 @@ pub record Awaits (a : Awaited) (s : State) : Type 0 where
   pub behind : List (List ℕ)
   pub waits : waits_of a.dpid s ≡ before ++ message_bytes a.barrier BarrierReply ∷ behind
 
--- ---- Steps in place, of any world that tells in order
-
--- The calls of these steps are in place, and the switch stays joined.
-pub record Goes (d : ℕ) (steps : List WorldStep) (s : State) : Type 0 where
-  pub places : AreExpectedOnLinks steps s
-  pub joined : is_joined d (after_steps steps s) ≡ true
-
--- so where they come in order and the switch is joined
-abbrev pub GoesWithoutStrays : ℕ → List WorldStep → Type 0
-GoesWithoutStrays d steps = (declared : List Declared) (s : State) → MayComeAll declared steps s → is_joined d s ≡ true → Goes d steps s
-
--- there a message of it waits behind them
+-- behind these steps a message of the switch waits, where they come in order and it is joined
 abbrev pub ThenWaits : ℕ → List WorldStep → Type 0
 ThenWaits d steps = (declared : List Declared) (s : State) → MayComeAll declared steps s → is_joined d s ≡ true → has_waiting d (after_steps steps s) ≡ true

@@ -24,10 +24,10 @@ use Rattle.net_txn.specs.declared.queue.Storage.{Storage}
 use Rattle.net_txn.specs.declared.queue.Storage.TheVariants.{Growing, Reserved}
 use Rattle.net_txn.specs.declared.trouble.Trouble.{Trouble}
 use Rattle.net_txn.specs.declared.trouble.Trouble.TheVariants as troubles
-use Rattle.net_txn.specs.LinkSteps.{GoesWithoutStrays}
+use Rattle.lego_model.specs.UndoFaults.{GoesWithoutStrays, key_refused}
 use Rattle.net_txn.specs.MessageStore.{KeptWhereFit}
 use Rattle.net_txn.specs.Waits.{IsRead, refusal_in, first_of, answer_of}
-use Rattle.net_txn.specs.Undos.{key_refused, fault_by}
+use Rattle.net_txn.specs.Undos.{fault_by}
 
 -- ---- What is said
 

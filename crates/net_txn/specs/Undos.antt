@@ -5,8 +5,7 @@ use Rattle.std.specs.Prelude.{◌≡◌, ◌≢◌, ◌==◌, ℕ, ◌+◌, ◌^
 use Rattle.std.specs.List.{AllByRecursion, list_any}
 use Rattle.std.proofs.Common.{zero, suc}
 use Rattle.lego_io.specs.Count.{Rose}
-use Rattle.of_types.specs.Fields.{number_at}
-use Rattle.of_types.specs.declared.journal.Act.TheVariants.{Sent, Got}
+use Rattle.of_types.specs.declared.journal.Act.TheVariants.{Sent}
 use Rattle.of_match.specs.declared.key.Key.{Key}
 use Rattle.of_wire.specs.Reading.{reading_of}
 use Rattle.flow_table.specs.declared.view.TableView.{TableView}
@@ -16,7 +15,7 @@ use Rattle.flow_table.specs.Undone.{undone}
 use Rattle.outside.specs.declared.faults.LinkFault.{LinkFault}
 use Rattle.outside.specs.declared.faults.LinkFault.TheVariants as linking
 use Rattle.outside.specs.declared.step.WorldStep.{WorldStep}
-use Rattle.outside.specs.declared.step.WorldStep.TheVariants.{Acted, SendFailed, RecvFailed}
+use Rattle.outside.specs.declared.step.WorldStep.TheVariants.{Acted}
 use Rattle.outside.specs.Seen.{Counts, Seen, Continues}
 use Rattle.outside.specs.State.{State, state, switch_of, waits_of, is_joined}
 use Rattle.outside.specs.Conforming.{Conforming}
@@ -31,24 +30,18 @@ use Rattle.net_txn.specs.declared.logged.Logged.{Logged}
 use Rattle.net_txn.specs.declared.trouble.Trouble.{Trouble}
 use Rattle.net_txn.specs.declared.trouble.Trouble.TheVariants as troubles
 use Rattle.net_txn.specs.Causes.{IsPlain}
-use Rattle.lego_model.specs.BarrierWaits.{flood, next_xid, heard, is_reply, kept_of, wait_steps, barrier_sent, reply_got}
-use Rattle.net_txn.specs.LinkSteps.{OnLinks, MakesNoStrayCall, GoesWithoutStrays}
+use Rattle.lego_model.specs.BarrierWaits.{flood, next_xid, kept_of, wait_steps, barrier_sent, reply_got}
+use Rattle.net_txn.specs.LinkSteps.{OnLinks, MakesNoStrayCall}
+use Rattle.lego_model.specs.UndoFaults.{inverse_bytes, AreBefore, EndsBy, Refuses, Overruns, IsStepOf, GoesWithoutStrays}
 use Rattle.net_txn.specs.Views.{with_rows, is_viewed}
 use Rattle.net_txn.specs.Arriving.{without_key}
 use Rattle.net_txn.specs.Net.{NetState, no_progress}
-use Rattle.lego_model.specs.AfterFault.{inverse_bytes, FailsInUndo}
+use Rattle.lego_model.specs.AfterFault.{FailsInUndo}
 use Rattle.net_txn.specs.Waits.{KeptMore}
 use Rattle.net_txn.specs.MessageStore.{KeptWhereFit}
 use Rattle.net_txn.specs.Agrees.{Agrees}
 
 -- ---- Steps of one switch
-
-abbrev pub IsStepOf : ℕ → WorldStep → Type 0
-IsStepOf d (Acted (Sent e bytes)) = e ≡ d
-IsStepOf d (Acted (Got e bytes)) = e ≡ d
-IsStepOf d (SendFailed e) = e ≡ d
-IsStepOf d (RecvFailed e) = e ≡ d
-IsStepOf d other = ⊥
 
 -- Calls of one switch went so: in a world that tells, its history goes on by these steps.
 pub record Moves {Own : Type 0} (Tells : Type 0) (d : ℕ) (steps : List WorldStep) (old new : Seen Own) : Type 0 where
@@ -56,26 +49,9 @@ pub record Moves {Own : Type 0} (Tells : Type 0) (d : ℕ) (steps : List WorldSt
   pub each : AllByRecursion (IsStepOf d) steps
   pub told : Tells → new.history ≡ old.history ++ steps
 
--- ---- What a switch says to its inverses: each has its transaction id and its key, newest first.
-
--- the key whose inverse was sent with this id
-abbrev pub key_sent : ℕ → List (ℕ × Key) → Option Key
-key_sent xid [] = None
-key_sent xid (p ∷ ps) = if p.0 == xid then Some p.1 else key_sent xid ps
-
--- the key whose inverse this message refuses: it is an ERROR (1) with that id
-unfoldable pub key_refused : List (ℕ × Key) → List ℕ → Option Key
-key_refused sent bytes = if number_at 1 1 bytes == 1 then key_sent (number_at 4 4 bytes) sent else None
-
 -- what is awaited behind a barrier alone
 abbrev pub alone : ℕ → ℕ → Awaited
 alone d xid = record { dpid = d; first = xid; barrier = xid }
-
--- messages before the reply to a barrier, none of which refuses an inverse
-pub record AreBefore (a : Awaited) (sent : List (ℕ × Key)) (got : List (List ℕ)) : Type 0 where
-  pub read : AllByRecursion (λ b. IsOk (reading_of b)) got
-  pub before_reply : AllByRecursion (λ b. is_reply (heard a b) ≡ false) got
-  pub unrefused : AllByRecursion (λ b. key_refused sent b ≡ None) got
 
 -- ---- Why a switch failed in an undo
 
@@ -90,32 +66,6 @@ fault_by d (troubles.Refused k xid n) buf = Diverged d (inverse_bytes xid k) (ta
 fault_by d troubles.Flooded buf = Flooded d flood
 fault_by d troubles.Short buf = NoMemory
 fault_by d troubles.Full buf = NoMemory
-
--- the last of the steps is that these bytes were got
-abbrev pub EndsBy : ℕ → List ℕ → List WorldStep → Type 0
-EndsBy d bytes steps = (front : List WorldStep) × (steps ≡ front ++ Acted (Got d bytes) ∷ [])
-
--- these bytes refuse the inverse that was sent, and were got last in a wait
-pub record Refuses (d : ℕ) (sent : List (ℕ × Key)) (steps : List WorldStep) (inverse bytes : List ℕ) : Type 0 where
-  pub key : Key
-  pub of_key : key_refused sent bytes ≡ Some key
-  pub inverse_so : inverse ≡ inverse_bytes (number_at 4 4 bytes) key
-  pub awaited : Awaited
-  pub of_switch : awaited.dpid ≡ d
-  pub is_xid : awaited.barrier < 2 ^ 32
-  pub got : List (List ℕ)
-  pub before : AreBefore awaited sent got
-  pub steps_so : steps ≡ barrier_sent awaited ∷ (wait_steps awaited got ++ Acted (Got awaited.dpid bytes) ∷ [])
-
--- so many messages were got behind a barrier, and none of them is its reply
-pub record Overruns (d : ℕ) (steps : List WorldStep) : Type 0 where
-  pub awaited : Awaited
-  pub of_switch : awaited.dpid ≡ d
-  pub is_xid : awaited.barrier < 2 ^ 32
-  pub got : List (List ℕ)
-  pub many : length got ≡ flood
-  pub before_reply : AllByRecursion (λ b. is_reply (heard awaited b) ≡ false) got
-  pub steps_so : steps ≡ barrier_sent awaited ∷ wait_steps awaited got
 
 -- Each fault is of its switch: the link's count rose; the bytes that were got last are no message, or refuse an inverse; too many
 -- messages came before the reply to a barrier. Memory was wanting only where the world's own was.

@@ -3,7 +3,7 @@
 ghost use Rattle.std.specs.Prelude.{◌≡◌, IsOk};
 ghost use Rattle.of_wire.specs.Reading.{reading_of};
 ghost use Rattle.net_txn.specs.Net.{logged_at};
-ghost use Rattle.lego_model.specs.AfterFault.{delete_strict, inverse_bytes};
+ghost use Rattle.lego_model.specs.UndoFaults.{delete_strict, inverse_bytes};
 
 use of_action::ActionList;
 use of_match::Key;
@@ -54,7 +54,7 @@ fn deletion(alloc: Global, key: &Key) -> FlowMod
 }
 
 /// Returns the message that undoes the addition of the entry of a key; takes no memory.
-#[tactic(auto, unfolding(of_wire::specs::Spelling::message_size, lego_model::specs::AfterFault::inverse_bytes))]
+#[tactic(auto, unfolding(of_wire::specs::Spelling::message_size, lego_model::specs::UndoFaults::inverse_bytes))]
 pub(crate) fn inverse_of(alloc: Global, key: &Key, xid: Xid) -> [u8; 72]
     ensures bytes { result ≡ inverse_bytes xid key.now }
     ensures read { IsOk (reading_of result) }

@@ -6,7 +6,7 @@ ghost use Rattle.flow_table.specs.declared.view.TableView.{TableView};
 ghost use Rattle.lego_model.specs.declared.fault.TxnFault.{TxnFault};
 ghost use Rattle.outside.specs.Calls.{most_message};
 ghost use Rattle.net_txn.specs.declared.logged.Logged.{Logged};
-ghost use Rattle.lego_model.specs.AfterFault.{inverse_bytes};
+ghost use Rattle.lego_model.specs.UndoFaults.{inverse_bytes};
 ghost use Rattle.lego_model.specs.BarrierWaits.{next_xid};
 ghost use Rattle.net_txn.specs.Undos.{HasPassedBarrier, Further, first_fault_of, fault_of, progress_of, inverses_in, with_progress, key_logged, PassesBarrier};
 ghost use Rattle.net_txn.specs.Said.{SaysOne};

@@ -2,7 +2,8 @@
 
 ghost use Rattle.std.specs.Prelude.{◌≡◌, ◌<◌, [], length, None, Some, MatchOption, IfSome, IsOk};
 ghost use Rattle.of_wire.specs.Reading.{reading_of};
-ghost use Rattle.net_txn.specs.Undos.{progress_of, inverses_in, key_sent, key_refused, keys_in, IsProgressAt};
+ghost use Rattle.net_txn.specs.Undos.{progress_of, inverses_in, keys_in, IsProgressAt};
+ghost use Rattle.lego_model.specs.UndoFaults.{key_sent, key_refused};
 
 use crate::logged::{Logged, UndoProgress};
 use of_match::Key;
@@ -37,7 +38,7 @@ fn key_sent(reverted: &[Logged], dpid: Dpid, xid: Xid) -> Option<Key>
 }
 
 /// Returns the key whose inverse a message of the switch refuses.
-#[tactic(auto, unfolding(crate::specs::Undos::key_refused), using(crate::specs::laws::SizeLaws::sizes))]
+#[tactic(auto, unfolding(lego_model::specs::UndoFaults::key_refused), using(crate::specs::laws::SizeLaws::sizes))]
 pub(crate) fn key_refused(message: &[u8], reverted: &[Logged], dpid: Dpid) -> Option<Key>
     requires { IsOk (reading_of message.now) }
     ensures { result ≡ key_refused (inverses_in dpid reverted.now) message.now }

@@ -1,6 +1,6 @@
 -- When what was logged since a mark stands for the table of the mark, whatever became of entries meanwhile: said key by key of the first
 -- images themselves, without a list of all inverses. This is our own.
-use Rattle.std.specs.Prelude.{◌≡◌, ◌≢◌, ℕ, ◌≤◌, true, false, List, [], ◌∷◌, Option, Some}
+use Rattle.std.specs.Prelude.{◌≡◌, ◌≢◌, ℕ, ◌≤◌, true, false, List, [], ◌∷◌, Option, Some, None}
 use Rattle.of_match.specs.declared.key.Key.{Key}
 use Rattle.of_action.specs.declared.action.Action.{Action}
 use Rattle.flow_table.specs.declared.entry.Entry.{Entry}
@@ -8,7 +8,7 @@ use Rattle.flow_table.specs.declared.lost.Lost.{Lost}
 use Rattle.flow_table.specs.declared.view.ViewRow.{ViewRow}
 use Rattle.flow_table.specs.Table.{TableState, entry_at}
 use Rattle.std.proofs.Common.{zero, suc}
-use Rattle.undo_laws.specs.Log.{Inverse, Untouched, Acted, image_of, merge, seen, with_actions}
+use Rattle.undo_laws.specs.Log.{Inverse, Image as Said, Untouched, Acted, image_of, merge, seen, with_actions}
 use Rattle.undo_laws.specs.Serials.{IsSerialed}
 use Rattle.undo_laws.specs.Stands.{Standing, is_gone}
 use Rattle.netlog_inverse.specs.declared.image.Image.{Image}
@@ -46,3 +46,23 @@ pub record IsLast (now d at : ℕ) (k : Key) (r : ViewRow) (lost : Lost) (e : En
   pub image : (i : Image) → first_at d k since ≡ Some i → (before : Option Lost) × (l : Key) × (i.put ≡ Row l (Some r) before)
   pub stood : said now (first_at d k since) ≡ Acted r.actions
   pub entry : entry_of now r lost ≡ record (with_actions r.actions (seen e)) { used = now }
+
+-- ---- Images that are set right before those of a change are logged
+
+-- The first image of a key before that (`before`), what the change logs of the key, and its first image then (`set`). Where there was none
+-- there is none. One that was there says now what it and the change say together: what it said, unless it had the entry stand which the
+-- change takes away, for then it says that this entry went, with the actions that it had.
+abbrev pub IsSetRight : ℕ → Option Image → Said → Option Image → Type 0
+IsSetRight now None newer set = set ≡ None
+IsSetRight now (Some before) newer None = ⊥
+IsSetRight now (Some before) newer (Some set) = settled now (said now (Some set)) ≡ settled now (merge (said now (Some before)) newer)
+
+-- so it is of each key of a switch, in what was logged since a mark
+abbrev pub AreSetRightFor : ℕ → ℕ → List Logged → List Inverse → List Logged → Type 0
+AreSetRightFor now d since newer set = (k : Key) → IsSetRight now (first_at d k since) (image_of k newer) (first_at d k set)
+
+-- an image of a key stands at a position
+abbrev pub IsImageAt : ℕ → Key → ℕ → List Logged → Type 0
+IsImageAt d k i [] = ⊥
+IsImageAt d k zero (l ∷ log) = is_image_of d k l ≡ true
+IsImageAt d k (suc i) (l ∷ log) = IsImageAt d k i log

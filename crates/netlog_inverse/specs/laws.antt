@@ -8,3 +8,4 @@ pub mod InnerLaws
 pub mod MendLaws
 pub mod MarkLaws
 pub mod IndexLaws
+pub mod PlannedLaws

@@ -1,7 +1,8 @@
 //! Laws of images, each the contract of a function that does nothing.
 
-ghost use Rattle.std.specs.Prelude.{◌≡◌, ◌≢◌, ℕ, ◌+◌, ◌-◌, ◌^◌, ◌<◌, ◌≤◌, Bool, List, [], ◌++◌, length, map, drop, Some, None, false, Option};
+ghost use Rattle.std.specs.Prelude.{◌≡◌, ◌≢◌, ℕ, ◌+◌, ◌-◌, ◌^◌, ◌<◌, ◌≤◌, Bool, List, [], ◌∷◌, ◌++◌, length, map, drop, Some, None, false, Option};
 ghost use Rattle.of_match.specs.declared.key.Key.{Key};
+ghost use Rattle.of_match.specs.Key.{key_number};
 ghost use Rattle.of_action.specs.declared.action.Action.{Action};
 ghost use Rattle.of_stats.specs.declared.flow_row.FlowRow.{FlowRow};
 ghost use Rattle.of_wire.specs.declared.bodies.FlowMod.{FlowMod};
@@ -9,17 +10,18 @@ ghost use Rattle.flow_timeouts.specs.Timeouts.{end_of};
 ghost use Rattle.flow_table.specs.declared.entry.Entry.{Entry};
 ghost use Rattle.flow_table.specs.declared.lost.Lost.{Lost};
 ghost use Rattle.flow_table.specs.declared.view.ViewRow.{ViewRow};
-ghost use Rattle.flow_table.specs.Table.{TableState, entry_at};
-ghost use Rattle.flow_table.specs.Change.{changed, new_entry};
+ghost use Rattle.flow_table.specs.Errors.{all_tables_full};
+ghost use Rattle.flow_table.specs.Table.{TableState, place_of, entry_at};
+ghost use Rattle.flow_table.specs.Change.{changed, new_entry, refusal};
 ghost use Rattle.flow_table.specs.Undone.{undone};
 ghost use Rattle.flow_table.specs.Corrected.{row_at, lost_at, shown_entry, shown_entries, shown_table};
-ghost use Rattle.undo_laws.specs.Log.{Image as Said, Inverse, Remove, PutBack, GiveActions, Gone, logged, undo, back, merge, image_of};
+ghost use Rattle.undo_laws.specs.Log.{Image as Said, Inverse, Remove, PutBack, GiveActions, Gone, Untouched, Acted, logged, old_entry, undo, back, merge, image_of};
 ghost use Rattle.undo_laws.specs.Corrected.{IsCorrection};
 ghost use Rattle.undo_laws.specs.Removal.{without};
 ghost use Rattle.undo_laws.specs.Reverting.{CanRevert, Reverts};
 ghost use Rattle.undo_laws.specs.Same.{SameButSerials};
 ghost use Rattle.undo_laws.specs.Serials.{IsSerialed};
-ghost use Rattle.undo_laws.specs.Stands.{Stands};
+ghost use Rattle.undo_laws.specs.Stands.{Stands, is_gone};
 ghost use Rattle.undo_laws.specs.Table.{IsTest, in_order};
 ghost use Rattle.netlog_inverse.specs.declared.image.Image.{Image};
 ghost use Rattle.netlog_inverse.specs.declared.image.Logged.{Logged};
@@ -27,7 +29,7 @@ ghost use Rattle.netlog_inverse.specs.declared.image.PutBack.TheVariants.{Row};
 ghost use Rattle.netlog_inverse.specs.Messages.{removal, addition, modification, spelled_mod, hard_left};
 ghost use Rattle.netlog_inverse.specs.Plans.{planned, going, missing};
 ghost use Rattle.netlog_inverse.specs.Log.{logged_at, pushed, with_hard, mended, changed_at};
-ghost use Rattle.netlog_inverse.specs.Marks.{ImagesStand, SayMore, AreSetRight, IsLast};
+ghost use Rattle.netlog_inverse.specs.Marks.{ImagesStand, SayMore, AreSetRight, IsFirstAt, IsImageAt, IsLast, AreSetRightFor};
 ghost use Rattle.netlog_inverse.specs.Meaning.{entry_of, said, settled, first_at, first_or, IsView, Reports};
 ghost use Rattle.netlog_inverse.specs.Restoring.{Says, IsSentFor, AreLeft};
 ghost use Rattle.netlog_inverse.specs.Sending.{AreWanted, messages_of, wanted};
@@ -150,6 +152,49 @@ pub fn marks_stand()
     ensures restores { (now d : ℕ) (same : List Action → List Action → Bool) (since : List Logged) (earlier : TableState)
         (sent : List Inverse) (t : TableState) → IsTest same → IsSentFor now d same since sent t
         → ImagesStand now d earlier since t → SameButSerials (undo now sent t).entries (undone earlier t now).entries }
+{}
+
+/// A change that `plan` planned, of whose entries a switch reports what it has, and whose images `Log::push` logged: since each
+/// open mark, the images stand for the table of the mark after the change, once each image that had an entry stand which goes
+/// is set right by `Log::mend`. An image that has no such entry stand is right as it is.
+pub fn planned_changes_keep_marks()
+    ensures stay { (now d : ℕ) (since : List Logged) (newer : List Inverse)
+        → ((k : Key) (i : Image) → first_at d k since ≡ Some i → said now (Some i) ≢ Untouched)
+        → ((k : Key) (actions : List Action) → said now (first_at d k since) ≡ Acted actions → is_gone (image_of k newer) ≡ false)
+        → AreSetRightFor now d since newer since }
+    ensures mended { (now d hard at : ℕ) (k : Key) (r : ViewRow) (lost : Lost) (e : Entry) (since : List Logged)
+        → place_of e ≡ key_number k → IsLast now d at k r lost e since
+        → AreSetRightFor now d since (old_entry e ∷ []) (changed_at at (mended (Some lost) hard false) since) }
+    ensures more { (now d : ℕ) (since set after : List Logged) (older newer : List Inverse)
+        → AreSetRightFor now d since older set → AreSetRightFor now d set newer after
+        → AreSetRightFor now d since (older ++ newer) after }
+    ensures planned { (now d mark outer : ℕ) (m : FlowMod) (rs : List ViewRow) (cache : List (Key × Lost)) (fs : List FlowRow)
+        (earlier t : TableState) (log set : List Logged) → IsView now rs cache t.entries → Reports now t.entries fs
+        → missing (going m rs) fs ≡ None → outer ≤ mark → mark ≤ length set
+        → AreSetRightFor now d (drop outer log) (logged m (shown_entries rs cache t.entries)) (drop outer set)
+        → ImagesStand now d earlier (drop outer log) (shown_table rs cache t)
+        → ImagesStand now d earlier (drop outer (pushed mark d (planned m rs cache fs) set)) (changed now m (shown_table rs cache t)) }
+{}
+
+/// `Log::mend` names an image by its position in the whole log. Since a mark it changes nothing before the mark, and behind it
+/// the image that stands there; and where that is not the first one of its key since the mark, what is said stays.
+pub fn mends_reach_marks()
+    ensures before { (mark at hard : ℕ) (lost : Option Lost) (stands : Bool) (log : List Logged) → at < mark
+        → drop mark (changed_at at (mended lost hard stands) log) ≡ drop mark log }
+    ensures behind { (mark at hard : ℕ) (lost : Option Lost) (stands : Bool) (log : List Logged) → mark ≤ at
+        → drop mark (changed_at at (mended lost hard stands) log) ≡ changed_at (at - mark) (mended lost hard stands) (drop mark log) }
+    ensures later { (now d hard first at : ℕ) (k : Key) (lost : Lost) (since : List Logged) → IsFirstAt d k first since
+        → first < at → IsImageAt d k at since
+        → AreSetRightFor now d since [] (changed_at at (mended (Some lost) hard false) since) }
+{}
+
+/// Removals have to go first: a full table refuses the ADD of an entry whose key it does not have, so nothing that begins with
+/// one can be sent to it, whatever follows.
+pub fn full_tables_want_removals_first()
+    ensures refused { (cap : ℕ) (e : Entry) (m : FlowMod) (t : TableState) → Reverts (PutBack e) m → cap ≤ length t.entries
+        → entry_at e.key t.entries ≡ None → refusal cap m t.entries ≡ Some all_tables_full }
+    ensures first { (cap now : ℕ) (e : Entry) (rest : List Inverse) (t : TableState) → cap ≤ length t.entries
+        → entry_at e.key t.entries ≡ None → CanRevert cap now (rest ++ PutBack e ∷ []) t → ⊥ }
 {}
 
 /// What owners are shown of a table is a correction of it: keys, actions and serials are its own.

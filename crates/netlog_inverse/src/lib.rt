@@ -2,8 +2,9 @@
 //!
 //! `plan` says what a FLOW_MOD would change of its owner's view, or the first key whose entry goes without a row, or the
 //! first row without an entry (`Plans`). `Log` keeps the first image of each key since a mark; it is a list, of which
-//! `since`, `pop`, `cut` and `mend` say the parts. Laws: `plans_undo`, `first_images_undo`, `first_images_stay`,
-//! `marks_stand`, `mended_images_say`, `inner_undo_leaves_marks`, `messages_put_back`, `messages_in_order`. See docs/GUARANTEES.md.
+//! `since`, `pop`, `cut` and `mend` say the parts. Laws: `plans_undo`, `planned_changes_keep_marks`, `first_images_undo`,
+//! `first_images_stay`, `marks_stand`, `mended_images_say`, `mends_reach_marks`, `inner_undo_leaves_marks`, `messages_put_back`,
+//! `messages_in_order`, `full_tables_want_removals_first`. See docs/GUARANTEES.md.
 #![tactic(auto)]
 
 mod copying;
@@ -19,8 +20,9 @@ mod rows;
 pub use fault::PlanFault;
 pub use image::{Image, Inverse, Logged, PutBack};
 pub use laws::{
-    first_images_stay, first_images_undo, inner_undo_leaves_marks, marks_stand, mended_images_say,
-    messages_in_order, messages_put_back, plans_undo, shown_is_a_correction,
+    first_images_stay, first_images_undo, full_tables_want_removals_first, inner_undo_leaves_marks,
+    marks_stand, mended_images_say, mends_reach_marks, messages_in_order, messages_put_back,
+    planned_changes_keep_marks, plans_undo, shown_is_a_correction,
 };
 pub use log::{Log, Mark};
-pub use planning::plan;
+pub use planning::{plan, plan_rows};

@@ -20,9 +20,10 @@ pub record Engine : Type 0 where
   pub queue : List Event
   -- how many events were dispatched
   pub events : ℕ
-  -- of the application: whether it is alive, what was taken and not read, how many turns completed and failed
+  -- of the application: whether it is alive, what was taken and not read, its kept checkpoint, how many turns completed and failed
   pub alive : Bool
   pub rest : List ℕ
+  pub kept : List ℕ
   pub done : ℕ
   pub failed : ℕ
 
@@ -33,6 +34,7 @@ app_at e given starts replies = record {
   alive = e.alive;
   budget = budget;
   rest = e.rest;
+  kept = e.kept;
   inputs = given;
   starts = starts;
   replies = replies;

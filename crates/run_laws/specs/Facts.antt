@@ -1,5 +1,5 @@
--- What the engine does at one event: the application, if it is alive, has its turn, whose changes are kept where it was done, and undone
--- where it failed, after which it is started again. All of this is our own.
+-- What the engine does at one event: the application, if it is alive, has its turn, whose changes are kept where it was done, with the
+-- checkpoint that it handed over, and undone where it failed, after which it is started again at its kept checkpoint. All of this is our own.
 use Rattle.std.specs.Prelude.{◌≡◌, ℕ, ◌+◌, Bool, true, false, List, [], ◌++◌, length, take, Option, Ok, is_some, unwrap_or}
 use Rattle.std.specs.List.{flat_map}
 use Rattle.flow_table.specs.declared.view.TableView.{TableView}
@@ -15,7 +15,7 @@ use Rattle.net_txn.specs.Net.{NetState}
 use Rattle.net_txn.specs.Undos.{Undoes}
 use Rattle.app_visor.specs.declared.state.TurnEnd.{TurnEnd}
 use Rattle.app_visor.specs.declared.state.TurnEnd.TheVariants as ends
-use Rattle.app_visor.specs.Turns.{Turns}
+use Rattle.app_visor.specs.Turns.{handed, Turns}
 use Rattle.app_visor.specs.Attempts.{Restarts}
 use Rattle.run_laws.specs.Engine.{Engine}
 use Rattle.lego_model.specs.Application.{index, budget, name}
@@ -30,11 +30,11 @@ gone_text false = gone_line name
 abbrev pub starts_text : List Tried → Bool → List ℕ
 starts_text tries back = flat_map (start_line name) tries ++ gone_text back
 
--- it was started, in some attempts
+-- it was started, in some attempts, with its kept checkpoint
 pub record StartsAgain {Own : Type 0} (Tells : Type 0) (text : List ℕ) (old new : Seen Own) (e now_e : Engine) : Type 0 where
   pub found : Option (List ℕ)
   pub tries : List Tried
-  pub restarts : Restarts Tells index old new found tries
+  pub restarts : Restarts Tells index e.kept old new found tries
   pub engine : now_e ≡ record e { alive = is_some found; rest = unwrap_or found [] }
   pub text_so : text ≡ starts_text tries (is_some found)
 
@@ -45,10 +45,10 @@ turn_word (ends.Done true) = words.Stop
 turn_word (ends.Done false) = words.Done
 turn_word (ends.Failed cause) = words.Failed cause
 
--- what it did stays
-pub record StaysDone {Own : Type 0} (unread : List ℕ) (stop : Bool) (text : List ℕ) (start : ℕ) (mid new : Seen Own) (mid_net : NetState) (e now_e : Engine) : Type 0 where
+-- what it did stays, and the checkpoint that it handed over is the kept one
+pub record StaysDone {Own : Type 0} (checkpoint : Option (List ℕ)) (unread : List ℕ) (stop : Bool) (text : List ℕ) (start : ℕ) (mid new : Seen Own) (mid_net : NetState) (e now_e : Engine) : Type 0 where
   pub seen : new ≡ mid
-  pub engine : now_e ≡ record e { net = record mid_net { log = take start mid_net.log }; rest = unread; done = e.done + 1 }
+  pub engine : now_e ≡ record e { net = record mid_net { log = take start mid_net.log }; rest = unread; kept = unwrap_or checkpoint e.kept; done = e.done + 1 }
   pub text_so : text ≡ turn_line name (turn_word (ends.Done stop))
 
 -- it was undone, and the application started again
@@ -60,9 +60,9 @@ pub record IsUndone {Own : Type 0} (Tells : Type 0) (cause : Cause) (text : List
   pub starts : StartsAgain Tells later_text undone new (record e { net = undone_net; rest = []; failed = e.failed + 1 }) now_e
   pub text_so : text ≡ turn_line name (words.Failed cause) ++ later_text
 
-abbrev pub IsClosed : {Own : Type 0} → Type 0 → TurnEnd → List ℕ → List ℕ → ℕ → Seen Own → Seen Own → NetState → Engine → Engine → Type 0
-IsClosed Tells (ends.Done stop) unread text start mid new mid_net e now_e = StaysDone unread stop text start mid new mid_net e now_e
-IsClosed Tells (ends.Failed cause) unread text start mid new mid_net e now_e = IsUndone Tells cause text start mid new mid_net e now_e
+abbrev pub IsClosed : {Own : Type 0} → Type 0 → TurnEnd → Option (List ℕ) → List ℕ → List ℕ → ℕ → Seen Own → Seen Own → NetState → Engine → Engine → Type 0
+IsClosed Tells (ends.Done stop) checkpoint unread text start mid new mid_net e now_e = StaysDone checkpoint unread stop text start mid new mid_net e now_e
+IsClosed Tells (ends.Failed cause) checkpoint unread text start mid new mid_net e now_e = IsUndone Tells cause text start mid new mid_net e now_e
 
 -- ---- A turn, from its event on; it has the number of the event
 
@@ -72,7 +72,7 @@ pub record TakesTurn {Own : Type 0} (Tells : Type 0) (accepts : List TableView �
   pub end : TurnEnd
   pub unread : List ℕ
   pub turns : Turns Tells accepts index budget e.rest (event_frame e.events e.net.moment event) old mid e.net mid_net end unread
-  pub closed : IsClosed Tells end unread text (length e.net.log) mid new mid_net e now_e
+  pub closed : IsClosed Tells end (handed turns.outcome) unread text (length e.net.log) mid new mid_net e now_e
 
 abbrev pub IsTurn : {Own : Type 0} → Type 0 → (List TableView → Bool) → Event → Bool → List ℕ → Seen Own → Seen Own → Engine → Engine → Type 0
 IsTurn Tells accepts event true text old new e now_e = TakesTurn Tells accepts event text old new e now_e

@@ -13,4 +13,4 @@ abbrev pub net_at_first : NetState
 net_at_first = record { views = []; ports = []; log = []; xid = 1; moment = 0; kept = []; room = 2 }
 
 abbrev pub engine_at_first : Engine
-engine_at_first = record { net = net_at_first; queue = []; events = 0; alive = false; rest = []; done = 0; failed = 0 }
+engine_at_first = record { net = net_at_first; queue = []; events = 0; alive = false; rest = []; kept = []; done = 0; failed = 0 }

@@ -41,7 +41,7 @@ pub record AreRead (Own : Type 0) (Tells : Type 0) (accepts : List TableView →
   pub turn : (number moment : ℕ) (event : Event) (rest : List ℕ) (old mid : Seen Own) (net mid_net : NetState) (end : TurnEnd) (unread : List ℕ) → Tells
       → (t : Turns Tells accepts index budget rest (event_frame number moment event) old mid net mid_net end unread) → LastStands (own_acts old)
       → TurnRead rest old mid t.given t.trace
-  pub tries : (old new : Seen Own) (found : Option (List ℕ)) (tries : List Tried) → Tells → (s : Restarts Tells index old new found tries) → TriesRead old new s.all found
+  pub tries : (kept : List ℕ) (old new : Seen Own) (found : Option (List ℕ)) (tries : List Tried) → Tells → (s : Restarts Tells index kept old new found tries) → TriesRead old new s.all found
 
 -- the judge of the engine says what that of the reference controller says of the switches that it shows
 pub record JudgesAlike (Own : Type 0) (allows : List Place → Bool) (accepts : List TableView → Bool) : Type 0 where

@@ -57,6 +57,54 @@ class Examples(unittest.TestCase):
             self.all_done(program.host, packet_in(7, 2, answer), [pair], done(both))
             self.ends_well(program, "")
 
+    def test_learning_by_additions(self):
+        # dl_dst is bit 3 of the wildcards, dl_type bit 4. An entry of an address goes after 300 seconds.
+        first = [
+            flow_mod(ANY, FLOOD + TELL),
+            flow_mod("003820ef" + "00" * 18 + "0806" + "00" * 16, FLOOD + TELL, priority=20),
+        ]
+        to_1, to_2 = (
+            flow_mod("003820f7" + "00" * 8 + f"02000000000{it}" + "00" * 22, out, priority=10, hard=300)
+            for it, out in ((1, OUT_1), (2, OUT_2))
+        )
+        answer = "020000000001 020000000002 88b5"
+        refused = framed(3, "01 0001 0001")
+
+        def later(number, moment):
+            return packet_in(number, 1, G).replace(f"{number:016x} {0:016x}", f"{number:016x} {moment:016x}")
+
+        with self.example("learning_by_additions") as program:
+            host = program.host
+            host.start()
+            self.all_done(host, joined(1, 1, 2), first)
+            self.all_done(host, packet_in(2, 1, G), [to_1])
+            self.all_done(host, packet_in(3, 2, answer), [to_2])
+            # What stands is not added again, neither from another port nor up to its last second.
+            self.all_done(host, packet_in(4, 1, answer), [])
+            self.all_done(host, later(5, 300), [])
+            self.all_done(host, later(6, 301), [to_1])
+            # No frame, and one from a group of stations.
+            self.all_done(host, packet_in(7, 2, "0000"), [])
+            self.all_done(host, packet_in(8, 2, "020000000001 030000000002 88b5"), [])
+            # What a switch has is forgotten when it leaves, and when it joins.
+            self.all_done(host, event(9, 2, 1, port(1) + port(2)), [])
+            self.all_done(host, packet_in(10, 1, G), [to_1])
+            self.all_done(host, joined(11, 1, 2), first)
+            self.all_done(host, packet_in(12, 1, G), [to_1])
+            self.ends_well(program, "")
+        # Started again, it knows nothing: what stands is refused, and passed over once.
+        with self.example("learning_by_additions") as program:
+            host = program.host
+            host.start()
+            host.ask(packet_in(1, 1, G, reason=0), message(1, first[0]))
+            for sent in (first[1], to_1):
+                host.ask(refused, message(1, sent))
+            host.ask(refused, DONE)
+            self.all_done(host, packet_in(2, 1, G), [])
+            why = "OFPET_BAD_REQUEST/OFPBRC_BAD_TYPE (1,1)"
+            keys = ("any", "dl_type=0x0806", "dl_dst=02:00:00:00:00:01")
+            self.ends_well(program, "".join(f"event 1: no entry for {it}: {why}\n" for it in keys))
+
     def test_static_router(self):
         # dl_type is bit 4 of the wildcards; the count of ignored bits of nw_dst begins at bit 14: 8 and 24 of them.
         def route(wildcards, network, number, out):

@@ -1,5 +1,5 @@
 -- Laws of attempts to start an application.
-use Rattle.std.specs.Prelude.{◌≡◌, ℕ, ◌==◌, Bool, true, false, not, ◌||◌, List, [], ◌∷◌, ◌++◌, map, if◌then◌else◌, refl}
+use Rattle.std.specs.Prelude.{◌≡◌, ℕ, ◌==◌, Bool, true, false, not, ◌||◌, List, [], ◌∷◌, ◌++◌, drop, map, if◌then◌else◌, refl}
 use Rattle.std.proofs.Common.{sym, ap, ◌∙◌, subst, append_assoc, true≢false}
 use Rattle.std.proofs.lemmas.List.{append-nil, map-append}
 use Rattle.std.proofs.lemmas.Map.Views.{any-filter_same}
@@ -7,6 +7,8 @@ use Rattle.of_types.specs.declared.journal.Act.{Act}
 use Rattle.of_types.specs.declared.journal.Act.TheVariants.{Started, Gave, Gone, Took}
 use Rattle.of_types.specs.declared.journal.TookWhat.TheVariants as took
 use Rattle.app_frames.specs.declared.cause.Tried.TheVariants.{Closed}
+use Rattle.of_types.specs.Fields.{number_bytes}
+use Rattle.app_frames.specs.Spelling.{framed, host_body_bytes, host_bytes}
 use Rattle.app_frames.specs.declared.frame.AppFrame.TheVariants as frames
 use Rattle.lego_model.specs.Journal.{Start, End, Untold, Closes, Stalls, inputs, start_of, in_turns, pieces, end_from, any_gone}
 use Rattle.lego_model.specs.Turns.{Next, outcome_of, first_frame, next_of}
@@ -34,6 +36,23 @@ use Rattle.app_visor.specs.laws.DialogueLaws.{passes_next, Converses-refl, Conve
 use Rattle.app_visor.specs.laws.RunningLaws.{started_runs}
 use Rattle.app_visor.specs.Attempts.{TryRises, restored, tried_by, rest_of, stood, Greets}
 use Rattle.app_visor.specs.laws.BeatLaws.{same}
+
+-- ---- The checkpoint that Restore carries
+
+-- it stands behind the length and the kind
+abbrev pub carried : List ℕ → List ℕ
+carried frame = drop 5 frame
+
+carried_by : (body : List ℕ) → carried (framed 1 body) ≡ body
+unfolding framed number_bytes
+carried_by body = refl
+
+pub carried_in : (checkpoint : List ℕ) → carried (restore_frame checkpoint) ≡ checkpoint
+unfolding host_bytes host_body_bytes
+carried_in checkpoint = carried_by checkpoint
+
+pub carries : (frame checkpoint : List ℕ) → frame ≡ restore_frame checkpoint → frame ≡ restore_frame (carried frame)
+carries frame checkpoint is = is ∙ ap (λ (x : List ℕ). restore_frame x) (sym (ap carried is ∙ carried_in checkpoint))
 
 -- ---- What is read of a start
 
@@ -82,33 +101,33 @@ end_lasts (comes.Refused fault) true app = refl
 end_lasts (comes.Refused fault) false app = refl
 
 -- the acts of a start that was given Restore
-abbrev all_acts : ℕ → List (List ℕ) → List Act → List Act
-all_acts app ps last = Gave app restore_frame ∷ (takes app ps ++ last)
+abbrev all_acts : ℕ → List ℕ → List (List ℕ) → List Act → List Act
+all_acts app kept ps last = Gave app (restore_frame kept) ∷ (takes app ps ++ last)
 
 abbrev start_by : List (List ℕ) → End → Start
 start_by ps end = record { stands = true; restored = true; pieces = ps; end = end }
 
-turns_all : (app : ℕ) (ps : List (List ℕ)) (last : List Act) → IsPlainEnd app last → (in_turns (all_acts app ps last)).0 ≡ all_acts app ps last
-turns_all app ps last plain =
+turns_all : (app : ℕ) (kept : List ℕ) (ps : List (List ℕ)) (last : List Act) → IsPlainEnd app last → (in_turns (all_acts app kept ps last)).0 ≡ all_acts app kept ps last
+turns_all app kept ps last plain =
     let e : (in_turns (takes app ps ++ last)).0 ≡ takes app ps ++ last = turns_takes app ps last ∙ ap (λ (x : List Act). takes app ps ++ x) plain.turns in
-    rw restore_is_none (ap (λ (x : List Act). Gave app restore_frame ∷ x) e)
+    rw (restore_is_none kept) (ap (λ (x : List Act). Gave app (restore_frame kept) ∷ x) e)
 
 abbrev start_in : Bool → List Act → Start
 start_in stands acts = record { stands = stands; restored = if any_gone acts then false else true; pieces = pieces acts; end = end_from Untold acts }
 
-start_greeted : (app : ℕ) (ps : List (List ℕ)) (last : List Act) (end : End) → IsPlainEnd app last → end_from Untold last ≡ end → start_of (stood (all_acts app ps last)) ≡ start_by ps end
+start_greeted : (app : ℕ) (kept : List ℕ) (ps : List (List ℕ)) (last : List Act) (end : End) → IsPlainEnd app last → end_from Untold last ≡ end → start_of (stood (all_acts app kept ps last)) ≡ start_by ps end
 unfolding start_of
-start_greeted app ps last end plain ends =
+start_greeted app kept ps last end plain ends =
     let p : pieces (takes app ps ++ last) ≡ ps = pieces_takes app ps last ∙ ap (λ (x : List (List ℕ)). ps ++ x) plain.none ∙ append-nil ps in
     let g : any_gone (takes app ps ++ last) ≡ false = gone_takes app ps last ∙ plain.gone in
     let n : end_from Untold (takes app ps ++ last) ≡ end = end_takes app ps last ∙ ends in
-    ap (λ (acts : List Act). start_in true acts) (turns_all app ps last plain) ∙ rw (p, g, n) refl
+    ap (λ (acts : List Act). start_in true acts) (turns_all app kept ps last plain) ∙ rw (p, g, n) refl
 
-inputs_greeted : (app : ℕ) (ps : List (List ℕ)) (last : List Act) → IsPlainEnd app last → inputs app (all_acts app ps last) ≡ restore_frame ∷ []
+inputs_greeted : (app : ℕ) (kept : List ℕ) (ps : List (List ℕ)) (last : List Act) → IsPlainEnd app last → inputs app (all_acts app kept ps last) ≡ restore_frame kept ∷ []
 unfolding inputs
-inputs_greeted app ps last plain =
+inputs_greeted app kept ps last plain =
     let e : inputs app (takes app ps ++ last) ≡ [] = inputs_takes app ps last ∙ plain.given in
-    rw same (ap (λ (x : List (List ℕ)). restore_frame ∷ x) e)
+    rw same (ap (λ (x : List (List ℕ)). restore_frame kept ∷ x) e)
 
 -- ---- What a telling world's history has of it
 
@@ -160,29 +179,29 @@ not_started_so Tells app old new told tells is =
 
 -- ---- A start that stands
 
-abbrev gone_acts : ℕ → Bool → List Act
-gone_acts app running = Gone app restore_frame ∷ end_acts running app
+abbrev gone_acts : ℕ → List ℕ → Bool → List Act
+gone_acts app kept running = Gone app (restore_frame kept) ∷ end_acts running app
 
-gone_outcome : (app : ℕ) (running : Bool) → outcome_of (start_of (stood (gone_acts app running))) ≡ (Closed, [])
+gone_outcome : (app : ℕ) (kept : List ℕ) (running : Bool) → outcome_of (start_of (stood (gone_acts app kept running))) ≡ (Closed, [])
 unfolding start_of outcome_of
-gone_outcome app true = rw restore_is_none refl
-gone_outcome app false = rw restore_is_none refl
+gone_outcome app kept true = rw (restore_is_none kept) refl
+gone_outcome app kept false = rw (restore_is_none kept) refl
 
-gone_given : (app : ℕ) (running : Bool) → inputs app (gone_acts app running) ≡ restored (start_of (stood (gone_acts app running)))
+gone_given : (app : ℕ) (kept : List ℕ) (running : Bool) → inputs app (gone_acts app kept running) ≡ restored kept (start_of (stood (gone_acts app kept running)))
 unfolding start_of inputs
-gone_given app true = rw restore_is_none refl
-gone_given app false = rw restore_is_none refl
+gone_given app kept true = rw (restore_is_none kept) refl
+gone_given app kept false = rw (restore_is_none kept) refl
 
-gone_heard : (app : ℕ) (running : Bool) → is_start_heard (start_of (stood (gone_acts app running))) ≡ true
+gone_heard : (app : ℕ) (kept : List ℕ) (running : Bool) → is_start_heard (start_of (stood (gone_acts app kept running))) ≡ true
 unfolding start_of is_start_heard
-gone_heard app true = rw restore_is_none refl
-gone_heard app false = rw restore_is_none refl
+gone_heard app kept true = rw (restore_is_none kept) refl
+gone_heard app kept false = rw (restore_is_none kept) refl
 
-within_restored : (app : ℕ) → is_within app (Gave app restore_frame) ≡ true
-within_restored app = rw (same app, restore_is_none) refl
+within_restored : (app : ℕ) (kept : List ℕ) → is_within app (Gave app (restore_frame kept)) ≡ true
+within_restored app kept = rw (same app, restore_is_none kept) refl
 
-within_gone : (app : ℕ) → is_within app (Gone app restore_frame) ≡ true
-within_gone app = rw (same app, restore_is_none) refl
+within_gone : (app : ℕ) (kept : List ℕ) → is_within app (Gone app (restore_frame kept)) ≡ true
+within_gone app kept = rw (same app, restore_is_none kept) refl
 
 within_last : (app : ℕ) (came : Came) → Within app (last_acts came app)
 within_last app comes.Closed = (same app, tt)
@@ -190,8 +209,8 @@ within_last app comes.Silent = (same app, tt)
 within_last app (comes.Frame frame) = tt
 within_last app (comes.Refused fault) = tt
 
-within_all : (app : ℕ) (ps : List (List ℕ)) (came : Came) → Within app (all_acts app ps (last_acts came app))
-within_all app ps came = (within_restored app, Within-append app (takes app ps) (last_acts came app) (within_takes app ps) (within_last app came))
+within_all : (app : ℕ) (kept : List ℕ) (ps : List (List ℕ)) (came : Came) → Within app (all_acts app kept ps (last_acts came app))
+within_all app kept ps came = (within_restored app kept, Within-append app (takes app ps) (last_acts came app) (within_takes app ps) (within_last app came))
 
 -- what is given and taken starts and ends nothing
 abbrev runs_after : ℕ → List Act → State → Bool
@@ -209,13 +228,13 @@ unfolding after_step
 runs_taken app [] came s = runs_last app came s
 runs_taken app (p ∷ ps) came s = runs_taken app ps came s
 
-runs_given : (app : ℕ) (ps : List (List ℕ)) (came : Came) (s : State) → runs_after app (all_acts app ps (last_acts came app)) s ≡ is_running app s
+runs_given : (app : ℕ) (kept : List ℕ) (ps : List (List ℕ)) (came : Came) (s : State) → runs_after app (all_acts app kept ps (last_acts came app)) s ≡ is_running app s
 unfolding after_step after_act
-runs_given app ps came s = runs_taken app ps came (record s { marks = marks_after_gave restore_frame s })
+runs_given app kept ps came s = runs_taken app ps came (record s { marks = marks_after_gave (restore_frame kept) s })
 
-runs_gone : (app : ℕ) (s : State) → runs_after app (Gone app restore_frame ∷ []) s ≡ is_running app s
+runs_gone : (app : ℕ) (kept : List ℕ) (s : State) → runs_after app (Gone app (restore_frame kept) ∷ []) s ≡ is_running app s
 unfolding after_step after_act
-runs_gone app s = refl
+runs_gone app kept s = refl
 
 runs_by : {Own : Type 0} (Tells : Type 0) (app : ℕ) (acts : List Act) (old new : Seen Own) → Continues Tells old new → Adds Tells acts old new → ((s : State) → runs_after app acts s ≡ is_running app s)
     → Tells → is_running app (state new) ≡ is_running app (state old)
@@ -228,22 +247,22 @@ unfolding after_step after_act
 runs_started Tells app old new told tells =
     ap (λ (s : State). is_running app s) (state-append old new (Acted (Started app true) ∷ []) told.continues.given (told.history tells)) ∙ started_runs app app (state old).running (same app)
 
-pub greets_gone : {Own : Type 0} {Tells : Type 0} {app : ℕ} {old new : Seen Own} (frame unread : List ℕ) → frame ≡ restore_frame → Told Tells (Gone app frame) old new → Greets Tells app Closed unread old new
-greets_gone {Tells = Tells} {app = app} {old = old} {new = new} frame unread is told_so =
-    let told : Told Tells (Gone app restore_frame) old new = subst (λ (f : List ℕ). Told Tells (Gone app f) old new) is told_so in
+pub greets_gone : {Own : Type 0} {Tells : Type 0} {app : ℕ} {kept : List ℕ} {old new : Seen Own} (frame unread : List ℕ) → frame ≡ restore_frame kept → Told Tells (Gone app frame) old new → Greets Tells app kept Closed unread old new
+greets_gone {Tells = Tells} {app = app} {kept = kept} {old = old} {new = new} frame unread is told_so =
+    let told : Told Tells (Gone app (restore_frame kept)) old new = subst (λ (f : List ℕ). Told Tells (Gone app f) old new) is told_so in
     record {
-      acts = Gone app restore_frame ∷ [];
+      acts = Gone app (restore_frame kept) ∷ [];
       continues = told.continues;
       history = told.history;
-      outcome = λ running. gone_outcome app running;
-      given = λ running. gone_given app running;
-      heard = λ running. gone_heard app running;
+      outcome = λ running. gone_outcome app kept running;
+      given = λ running. gone_given app kept running;
+      heard = λ running. gone_heard app kept running;
       rises = told.rises;
-      within = (within_gone app, tt);
-      running = runs_by Tells app (Gone app restore_frame ∷ []) old new told.continues told.history (runs_gone app);
+      within = (within_gone app kept, tt);
+      running = runs_by Tells app (Gone app (restore_frame kept) ∷ []) old new told.continues told.history (runs_gone app kept);
       speaks = λ tells. record {
-        after = besides nothing_said (Gone app restore_frame);
-        converses = converses_told Tells app (Gone app restore_frame) nothing_said (besides nothing_said (Gone app restore_frame)) old new told tells (same app) (refl, refl);
+        after = besides nothing_said (Gone app (restore_frame kept));
+        converses = converses_told Tells app (Gone app (restore_frame kept)) nothing_said (besides nothing_said (Gone app (restore_frame kept))) old new told tells (same app) (refl, refl);
         runs = λ ready. refl;
         passes = λ ready. absurd (true≢false (sym ready));
       };
@@ -323,47 +342,47 @@ unfolding is_start_heard
 heard_start ps end = refl
 
 -- behind all acts of the start it may be ended
-then_ended : (app : ℕ) (ps : List (List ℕ)) (came : Came) (running : Bool) → all_acts app ps (last_acts came app) ++ end_acts running app ≡ all_acts app ps (lasts came running app)
-then_ended app ps came running = ap (λ (x : List Act). Gave app restore_frame ∷ x) (append_assoc (takes app ps) (last_acts came app) (end_acts running app))
+then_ended : (app : ℕ) (kept : List ℕ) (ps : List (List ℕ)) (came : Came) (running : Bool) → all_acts app kept ps (last_acts came app) ++ end_acts running app ≡ all_acts app kept ps (lasts came running app)
+then_ended app kept ps came running = ap (λ (x : List Act). Gave app (restore_frame kept) ∷ x) (append_assoc (takes app ps) (last_acts came app) (end_acts running app))
 
-start_came : (app : ℕ) (ps : List (List ℕ)) (came : Came) (running : Bool) → start_of (stood (all_acts app ps (last_acts came app) ++ end_acts running app)) ≡ start_by ps (end_of came)
-start_came app ps came running =
-    ap (λ (acts : List Act). start_of (stood acts)) (then_ended app ps came running)
-    ∙ start_greeted app ps (lasts came running app) (end_of came) (plain_lasts came running app) (end_lasts came running app)
+start_came : (app : ℕ) (kept : List ℕ) (ps : List (List ℕ)) (came : Came) (running : Bool) → start_of (stood (all_acts app kept ps (last_acts came app) ++ end_acts running app)) ≡ start_by ps (end_of came)
+start_came app kept ps came running =
+    ap (λ (acts : List Act). start_of (stood acts)) (then_ended app kept ps came running)
+    ∙ start_greeted app kept ps (lasts came running app) (end_of came) (plain_lasts came running app) (end_lasts came running app)
 
-pub greets_came : {Own : Type 0} {Tells : Type 0} {app : ℕ} {rest left : List ℕ} {old mid new : Seen Own} (frame : List ℕ) (came : Came) → frame ≡ restore_frame → rest ≡ [] → Told Tells (Gave app frame) old mid
-    → Comes Tells app rest left mid new came → Greets Tells app (tried_by came) left old new
-greets_came {Tells = Tells} {app = app} {rest = rest} {left = left} {old = old} {mid = mid} {new = new} frame came is none told_so comes =
-    let told : Told Tells (Gave app restore_frame) old mid = subst (λ (f : List ℕ). Told Tells (Gave app f) old mid) is told_so in
+pub greets_came : {Own : Type 0} {Tells : Type 0} {app : ℕ} {kept rest left : List ℕ} {old mid new : Seen Own} (frame : List ℕ) (came : Came) → frame ≡ restore_frame kept → rest ≡ [] → Told Tells (Gave app frame) old mid
+    → Comes Tells app rest left mid new came → Greets Tells app kept (tried_by came) left old new
+greets_came {Tells = Tells} {app = app} {kept = kept} {rest = rest} {left = left} {old = old} {mid = mid} {new = new} frame came is none told_so comes =
+    let told : Told Tells (Gave app (restore_frame kept)) old mid = subst (λ (f : List ℕ). Told Tells (Gave app f) old mid) is told_so in
     let ps = comes.taken.pieces in
     let then_seen = comes.then_seen in
     let taken = Taken-continues comes.taken in
     let next : next_of [] ps ≡ next_of comes.unread [] =
     ap (λ (r : List ℕ). next_of r ps) (sym none) ∙ ap (λ (x : List (List ℕ)). next_of rest x) (sym (append-nil ps)) ∙ next_taken [] comes.taken in
     let continues = Continues-trans Tells old mid new told.continues (Comes-continues comes) in
-    let adds : Adds Tells (all_acts app ps (last_acts came app)) old new = Adds-append Tells (Gave app restore_frame ∷ []) (takes app ps ++ last_acts came app) old mid new told.history
+    let adds : Adds Tells (all_acts app kept ps (last_acts came app)) old new = Adds-append Tells (Gave app (restore_frame kept) ∷ []) (takes app ps ++ last_acts came app) old mid new told.history
     (Adds-append Tells (takes app ps) (last_acts came app) mid then_seen new (Adds-takes Tells app ps rest comes.unread mid then_seen comes.taken.all)
     (Adds-last Tells app came comes.unread left then_seen new comes.came_so)) in
     record {
-      acts = all_acts app ps (last_acts came app);
+      acts = all_acts app kept ps (last_acts came app);
       continues = continues;
       history = adds;
-      outcome = λ running. ap (λ (s : Start). outcome_of s) (start_came app ps came running) ∙ outcome_by ps (end_of came) ∙ ap (λ (n : Next). first_frame (end_of came) n) next
+      outcome = λ running. ap (λ (s : Start). outcome_of s) (start_came app kept ps came running) ∙ outcome_by ps (end_of came) ∙ ap (λ (n : Next). first_frame (end_of came) n) next
           ∙ first_so Tells app came comes.unread left then_seen new comes.came_so;
-      given = λ running. ap (λ (acts : List Act). inputs app acts) (then_ended app ps came running) ∙ inputs_greeted app ps (lasts came running app) (plain_lasts came running app)
-          ∙ ap (λ (s : Start). restored s) (sym (start_came app ps came running));
-      heard = λ running. ap (λ (s : Start). is_start_heard s) (start_came app ps came running) ∙ heard_start ps (end_of came) ∙ ap (λ (n : Next). is_told (end_of came) || is_whole n) next
+      given = λ running. ap (λ (acts : List Act). inputs app acts) (then_ended app kept ps came running) ∙ inputs_greeted app kept ps (lasts came running app) (plain_lasts came running app)
+          ∙ ap (λ (s : Start). restored kept s) (sym (start_came app kept ps came running));
+      heard = λ running. ap (λ (s : Start). is_start_heard s) (start_came app kept ps came running) ∙ heard_start ps (end_of came) ∙ ap (λ (n : Next). is_told (end_of came) || is_whole n) next
           ∙ came_heard Tells app came comes.unread left then_seen new comes.came_so;
       rises = came_rises Tells app came comes.unread left old then_seen new (Continues-trans Tells old mid then_seen told.continues taken) comes.came_so;
-      within = within_all app ps came;
-      running = runs_by Tells app (all_acts app ps (last_acts came app)) old new continues adds (runs_given app ps came);
+      within = within_all app kept ps came;
+      running = runs_by Tells app (all_acts app kept ps (last_acts came app)) old new continues adds (runs_given app kept ps came);
       speaks = λ tells.
           let last = speaks_came Tells app came comes.unread left (takes app ps) then_seen new comes.came_so tells in
           let front : Converses app nothing_said (before comes.unread (takes app ps)) mid then_seen =
           subst (λ (r : List ℕ). Converses app (before r []) (before comes.unread (takes app ps)) mid then_seen) none (converses_takes Tells app ps rest comes.unread [] mid then_seen comes.taken.all tells) in
           record {
             after = last.after;
-            converses = Converses-then app nothing_said nothing_said last.after old mid new (converses_restored Tells app old mid told tells)
+            converses = Converses-then app nothing_said nothing_said last.after old mid new (converses_restored Tells app kept old mid told tells)
                 (Converses-then app nothing_said (before comes.unread (takes app ps)) last.after mid then_seen new front last.converses);
             runs = last.runs;
             passes = last.passes;

@@ -16,7 +16,8 @@ use Rattle.outside.specs.laws.InOrderLaws.{InOrder-before, messages-by, messages
 use Rattle.lego_model.specs.declared.fault.TxnFault.{TxnFault}
 use Rattle.net_txn.specs.Net.{NetState}
 use Rattle.net_txn.specs.Views.{rows_at}
-use Rattle.net_txn.specs.LinkSteps.{IsExpectedOnLink, AreExpectedOnLinks, MakesNoStrayCall}
+use Rattle.net_txn.specs.LinkSteps.{MakesNoStrayCall}
+use Rattle.lego_model.specs.UndoFaults.{IsExpectedOnLink, AreExpectedOnLinks}
 use Rattle.net_txn.specs.laws.LinkStrayLaws.{no_strays_by, no_strays_none, no_strays_then}
 use Rattle.net_txn.specs.laws.AgreeLaws.{viewed}
 use Rattle.net_txn.specs.Abreast.{Abreast}

@@ -84,10 +84,10 @@ converses_event Tells app frame rest s old new told tells event runs passes =
     (runs, subst (λ (b : Bool). GivesFrame b frame s (before rest [])) (sym (event_is_no_answer frame event)) (record { not_ended = λ other. absurd (true≢false (sym event ∙ other)); running_so = refl; passes = passes; since_so = refl; ended_so = refl }))
 
 -- it is given its checkpoint
-pub converses_restored : {Own : Type 0} (Tells : Type 0) (app : ℕ) (old new : Seen Own) → Told Tells (Gave app restore_frame) old new → Tells → Converses app nothing_said nothing_said old new
-converses_restored Tells app old new told tells =
-    converses_told Tells app (Gave app restore_frame) nothing_said nothing_said old new told tells (same app)
-    (refl, subst (λ (b : Bool). GivesFrame b restore_frame nothing_said nothing_said) (sym restore_is_no_answer) (record { not_ended = λ other. refl; running_so = refl; passes = passes_none []; since_so = refl; ended_so = refl }))
+pub converses_restored : {Own : Type 0} (Tells : Type 0) (app : ℕ) (kept : List ℕ) (old new : Seen Own) → Told Tells (Gave app (restore_frame kept)) old new → Tells → Converses app nothing_said nothing_said old new
+converses_restored Tells app kept old new told tells =
+    converses_told Tells app (Gave app (restore_frame kept)) nothing_said nothing_said old new told tells (same app)
+    (refl, subst (λ (b : Bool). GivesFrame b (restore_frame kept) nothing_said nothing_said) (sym (restore_is_no_answer kept)) (record { not_ended = λ other. refl; running_so = refl; passes = passes_none []; since_so = refl; ended_so = refl }))
 
 -- it is ended, where it runs
 converses_ended_by : {Own : Type 0} (app : ℕ) (running : Bool) (s : Before) (old new : Seen Own) → s.running ≡ running → new.history ≡ old.history ++ end_steps app running → (t : Before) × (Converses app s t old new × (t.running ≡ false))

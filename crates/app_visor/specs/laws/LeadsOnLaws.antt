@@ -20,7 +20,7 @@ use Rattle.net_txn.specs.LinkSteps.{AreLinkSteps, OnLinks}
 use Rattle.net_txn.specs.Net.{NetState}
 use Rattle.journal_laws.specs.laws.AtOnceLaws.{others_say}
 use Rattle.app_visor.specs.declared.came.Came.TheVariants.{Frame}
-use Rattle.app_visor.specs.declared.state.TurnEnd.{TurnEnd}
+use Rattle.app_visor.specs.declared.play_end.PlayEnd.{PlayEnd}
 use Rattle.app_visor.specs.Talks.{Told, Wants}
 use Rattle.app_visor.specs.Reads.{takes, Comes, Breaks}
 use Rattle.app_visor.specs.Dialogues.{Converses, LeadsOn, TalksOn, Talks}
@@ -107,7 +107,7 @@ leads_on_event Tells app frame event rest taken s old mid new told tells spelled
     (converses_event Tells app frame taken s old mid told tells (subst (λ (f : List ℕ). is_event f ≡ true) (sym spelled) is) runs (subst (Passes s.unread) (sym begun) passes)) later
 
 -- the turn was played to its end
-pub leads_on_turned : {Own : Type 0} {Tells : Type 0} {accepts : List TableView → Bool} {app left : ℕ} {rest unread : List ℕ} {old new : Seen Own} {net now_net : NetState} {end : TurnEnd} → TurnsFrom Tells accepts app left rest old new net now_net end unread → Tells
+pub leads_on_turned : {Own : Type 0} {Tells : Type 0} {accepts : List TableView → Bool} {app left : ℕ} {rest unread : List ℕ} {old new : Seen Own} {net now_net : NetState} {end : PlayEnd} → TurnsFrom Tells accepts app left rest old new net now_net end unread → Tells
     → LeadsOn app (before rest []) old new
 leads_on_turned t tells = let says = t.speaks tells [] refl in (says.after, says.converses)
 
@@ -119,9 +119,9 @@ talks_of {app = app} {s = s} {old = old} {new = new} continues leads =
 -- ---- Attempts to start
 
 -- it was given its checkpoint
-pub leads_on_restored : {Own : Type 0} (Tells : Type 0) (app : ℕ) (frame : List ℕ) (old mid new : Seen Own) → Told Tells (Gave app frame) old mid → Tells → frame ≡ restore_frame → LeadsOn app nothing_said mid new → LeadsOn app nothing_said old new
-leads_on_restored Tells app frame old mid new told tells is later =
-    leads_on_then app nothing_said nothing_said old mid new (converses_restored Tells app old mid (subst (λ (f : List ℕ). Told Tells (Gave app f) old mid) is told) tells) later
+pub leads_on_restored : {Own : Type 0} (Tells : Type 0) (app : ℕ) (kept frame : List ℕ) (old mid new : Seen Own) → Told Tells (Gave app frame) old mid → Tells → frame ≡ restore_frame kept → LeadsOn app nothing_said mid new → LeadsOn app nothing_said old new
+leads_on_restored Tells app kept frame old mid new told tells is later =
+    leads_on_then app nothing_said nothing_said old mid new (converses_restored Tells app kept old mid (subst (λ (f : List ℕ). Told Tells (Gave app f) old mid) is told) tells) later
 
 -- it was ended
 pub leads_on_ended : {Own : Type 0} (Tells : Type 0) (app : ℕ) (s : Before) (old mid new : Seen Own) → Ends Tells app old mid → Tells → s.running ≡ is_running app (state old) → ((t : Before) → t.running ≡ false → LeadsOn app t mid new)
@@ -135,7 +135,7 @@ pub leads_on_started : {Own : Type 0} (Tells : Type 0) (app : ℕ) (s : Before) 
 leads_on_started Tells app s old mid new told tells stopped later =
     leads_on_then app s nothing_said old mid new (converses_told Tells app (Started app true) s nothing_said old mid told tells (eq-eqb app app refl) (stopped, refl)) later
 
-pub leads_on_greeted : {Own : Type 0} {Tells : Type 0} {app : ℕ} {tried : Tried} {unread : List ℕ} {old new : Seen Own} → Greets Tells app tried unread old new → Tells → LeadsOn app nothing_said old new
+pub leads_on_greeted : {Own : Type 0} {Tells : Type 0} {app : ℕ} {kept : List ℕ} {tried : Tried} {unread : List ℕ} {old new : Seen Own} → Greets Tells app kept tried unread old new → Tells → LeadsOn app nothing_said old new
 leads_on_greeted greets tells = let says = greets.speaks tells in (says.after, says.converses)
 
 pub talks_none : {Own : Type 0} {Tells : Type 0} (app : ℕ) (seen : Seen Own) → TalksOn Tells app seen seen
@@ -146,5 +146,5 @@ talks_then app old mid new continues first second tells s runs =
     let one = first tells s runs in
     leads_on_then app s one.0 old mid new one.1 (second tells one.0 (converses_runs app s one.0 old mid one.1 continues.given runs))
 
-pub talks_tried : {Own : Type 0} {Tells : Type 0} {app : ℕ} {tried : Tried} {rest : List ℕ} {old new : Seen Own} → Tries Tells app tried rest old new → TalksOn Tells app old new
+pub talks_tried : {Own : Type 0} {Tells : Type 0} {app : ℕ} {kept : List ℕ} {tried : Tried} {rest : List ℕ} {old new : Seen Own} → Tries Tells app kept tried rest old new → TalksOn Tells app old new
 talks_tried t tells s runs = let says = t.went.speaks tells s runs in (says.after, says.converses)

@@ -64,8 +64,8 @@ given_is_call app false frame none = rw (eq-eqb app app refl, none) refl
 pub own_given : {Own : Type 0} {Tells : Type 0} {old new : Seen Own} (app : ℕ) (given : Bool) (frame : List ℕ) → is_event frame ≡ false → Told Tells (give_act given app frame) old new → Tells → OwnSteps app old new
 own_given app given frame none told tells = own_told app (give_act given app frame) (given_is_call app given frame none) told tells
 
-pub own_restored : {Own : Type 0} {Tells : Type 0} {old new : Seen Own} (app : ℕ) (given : Bool) (frame : List ℕ) → frame ≡ restore_frame → Told Tells (give_act given app frame) old new → Tells → OwnSteps app old new
-own_restored app given frame is told tells = own_given app given frame (ap is_event is ∙ restore_is_none) told tells
+pub own_restored : {Own : Type 0} {Tells : Type 0} {old new : Seen Own} (app : ℕ) (given : Bool) (kept frame : List ℕ) → frame ≡ restore_frame kept → Told Tells (give_act given app frame) old new → Tells → OwnSteps app old new
+own_restored app given kept frame is told tells = own_given app given frame (ap is_event is ∙ restore_is_none kept) told tells
 
 pub own_ended : {Own : Type 0} {Tells : Type 0} {app : ℕ} {old new : Seen Own} → Ends Tells app old new → Tells → OwnSteps app old new
 own_ended {Tells = Tells} {app = app} {old = old} {new = new} ends tells =

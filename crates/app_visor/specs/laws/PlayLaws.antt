@@ -1,6 +1,6 @@
 -- Laws of the loop over the frames of a turn, and of the whole turn.
 use Rattle.std.specs.Prelude.{◌≡◌, ℕ, zero, suc, Bool, true, false, List, [], ◌∷◌, ◌++◌, Option, Some, None, Err, ◌⊎◌, refl}
-use Rattle.std.proofs.Common.{sym, subst, inl, inr, true≢false}
+use Rattle.std.proofs.Common.{sym, ap, ◌∙◌, subst, inl, inr, true≢false}
 use Rattle.flow_table.specs.declared.view.TableView.{TableView}
 use Rattle.of_types.specs.declared.journal.Act.TheVariants.{Gave, Gone}
 use Rattle.app_frames.specs.declared.frame.AppFrame.{AppFrame}
@@ -20,6 +20,9 @@ use Rattle.lego_model.specs.AtOnce.{before, besides, Passes}
 use Rattle.app_visor.specs.declared.came.Came.{Came}
 use Rattle.app_visor.specs.declared.came.Came.TheVariants as comes
 use Rattle.app_visor.specs.declared.state.TurnEnd.{TurnEnd}
+use Rattle.app_visor.specs.declared.play_end.PlayEnd.{PlayEnd}
+use Rattle.app_visor.specs.declared.play_end.PlayEnd.TheVariants as plays
+use Rattle.checkpoint_store.specs.Slots.{Slot}
 use Rattle.app_visor.specs.declared.state.TurnEnd.TheVariants as ends
 use Rattle.app_visor.specs.Talks.{Told, give_act}
 use Rattle.app_visor.specs.Reads.{takes, Taken, Comes}
@@ -28,7 +31,7 @@ use Rattle.app_visor.specs.laws.BeatLaws.{same, Leads-refl}
 use Rattle.app_visor.specs.Dialogues.{is_done}
 use Rattle.journal_laws.specs.laws.AtOnceLaws.{sends_none_both}
 use Rattle.app_visor.specs.laws.DialogueLaws.{Converses-refl, Converses-then, converses_told, converses_takes, takes_send_none, converses_event}
-use Rattle.app_visor.specs.Turns.{IsEnd, LeavesNone, TurnsFrom, Turns, cause_of, Goes, EndsSo, FramePlayed, Plays, GoesOn, unread_after}
+use Rattle.app_visor.specs.Turns.{IsEnd, handed, IsShort, IsPlayEnd, turn_end, handed_at, LeavesNone, TurnsFrom, Turns, with_handed, StagesTurn, cause_of, Goes, EndsSo, FramePlayed, Plays, GoesOn, unread_after}
 use Rattle.app_visor.specs.laws.TurnLaws.{turn_taken, goes_answered, ends_unanswered, given_more, given_none, IsUnbalanced, IsOver, turn_over}
 
 -- ---- One message
@@ -53,12 +56,12 @@ pub plays_answered : {Own : Type 0} (Tells : Type 0) (accepts : List TableView �
 plays_answered Tells accepts app dpid bytes old new net now_net e = record { frame_played = λ rest here next. goes_answered Tells accepts app dpid bytes rest here old new net now_net next e }
 
 pub plays_unanswered : {Own : Type 0} (Tells : Type 0) (accepts : List TableView → Bool) (app dpid : ℕ) (bytes : List ℕ) (old new : Seen Own) (net now_net : NetState) → Exchanges Tells app dpid bytes false old new net now_net
-    → Plays Tells accepts app (frames.Message dpid bytes) old new net now_net (Some (ends.Failed causes.Closed))
+    → Plays Tells accepts app (frames.Message dpid bytes) old new net now_net (Some (plays.Failed causes.Closed))
 plays_unanswered Tells accepts app dpid bytes old new net now_net e = record { frame_played = λ rest here next. ends_unanswered Tells accepts app dpid bytes rest here old new net now_net next e }
 
 -- ---- One frame
 
-pub plays_came : {Own : Type 0} (Tells : Type 0) (accepts : List TableView → Bool) (app : ℕ) (result : Option TurnEnd) (frame : AppFrame) (rest left : List ℕ) (old mid new : Seen Own) (net now_net : NetState)
+pub plays_came : {Own : Type 0} (Tells : Type 0) (accepts : List TableView → Bool) (app : ℕ) (result : Option PlayEnd) (frame : AppFrame) (rest left : List ℕ) (old mid new : Seen Own) (net now_net : NetState)
     → Comes Tells app rest left old mid (comes.Frame frame) → Plays Tells accepts app frame mid new net now_net result → FramePlayed Tells accepts app result rest left old new net now_net
 plays_came Tells accepts app None frame rest left old mid new net now_net came plays =
     let taken : Taken Tells app rest came.unread old mid = subst (λ (s : Seen _). Taken Tells app rest came.unread old s) (sym came.came_so.1) came.taken in
@@ -75,7 +78,7 @@ plays_came Tells accepts app (Some end) frame rest left old mid new net now_net 
     record { turn = λ n. turn_taken taken ((plays.frame_played came.unread left came.came_so.0).turn n) }
 
 pub ends_over : {Own : Type 0} (Tells : Type 0) (accepts : List TableView → Bool) (app : ℕ) (came : Came) (rest here : List ℕ) (old new : Seen Own) (net : NetState) → ((left : ℕ) → IsOver came left) → Comes Tells app rest here old new came
-    → EndsSo Tells accepts app rest here old new net net (ends.Failed (cause_of came))
+    → EndsSo Tells accepts app rest here old new net net (plays.Failed (cause_of came))
 ends_over Tells accepts app came rest here old new net over comes = record { turn = λ n. turn_over Tells accepts app (suc n) came rest here here old new net (over (suc n)) comes }
 
 -- ---- The loop
@@ -96,7 +99,7 @@ goes_more {Tells = Tells} {accepts = accepts} {app = app} {rest = rest} {here = 
       ([], (refl, Converses-then app (before rest []) (before here s.0) (before there []) old seen mid s.1.1 (one.speaks tells s.0 s.1.0)));
 }
 
-pub ends_then : {Own : Type 0} {Tells : Type 0} {accepts : List TableView → Bool} {app budget left : ℕ} {rest here unread : List ℕ} {old seen new : Seen Own} {net at_net now_net : NetState} {end : TurnEnd} (less : ℕ) → left ≡ suc less
+pub ends_then : {Own : Type 0} {Tells : Type 0} {accepts : List TableView → Bool} {app budget left : ℕ} {rest here unread : List ℕ} {old seen new : Seen Own} {net at_net now_net : NetState} {end : PlayEnd} (less : ℕ) → left ≡ suc less
     → GoesOn Tells accepts app budget rest old net left here seen at_net → EndsSo Tells accepts app here unread seen new at_net now_net end → TurnsFrom Tells accepts app budget rest old new net now_net end unread
 ends_then {Tells = Tells} {accepts = accepts} {app = app} {here = here} {unread = unread} {seen = seen} {new = new} {at_net = at_net} {now_net = now_net} {end = end} less is all one =
     all.on new now_net end unread (subst (λ (n : ℕ). TurnsFrom Tells accepts app n here seen new at_net now_net end unread) (sym is) (one.turn less))
@@ -108,9 +111,9 @@ over_at_zero comes.Closed left is = tt
 over_at_zero comes.Silent left is = tt
 
 pub spent_then : {Own : Type 0} {Tells : Type 0} {accepts : List TableView → Bool} {app budget left : ℕ} {rest here there : List ℕ} {old seen new : Seen Own} {net at_net : NetState} (came : Came) → left ≡ zero
-    → GoesOn Tells accepts app budget rest old net left here seen at_net → Comes Tells app here there seen new came → TurnsFrom Tells accepts app budget rest old new net at_net (ends.Failed (cause_of came)) there
+    → GoesOn Tells accepts app budget rest old net left here seen at_net → Comes Tells app here there seen new came → TurnsFrom Tells accepts app budget rest old new net at_net (plays.Failed (cause_of came)) there
 spent_then {Tells = Tells} {accepts = accepts} {app = app} {left = left} {here = here} {there = there} {seen = seen} {new = new} {at_net = at_net} came is all comes =
-    all.on new at_net (ends.Failed (cause_of came)) there (turn_over Tells accepts app left came here there there seen new at_net (over_at_zero came left is) comes)
+    all.on new at_net (plays.Failed (cause_of came)) there (turn_over Tells accepts app left came here there there seen new at_net (over_at_zero came left is) comes)
 
 -- ---- The whole turn
 
@@ -137,26 +140,34 @@ gone_ends Tells accepts app budget rest frame old new net told = record {
   };
 }
 
-pub turns_gone : {Own : Type 0} {Tells : Type 0} {accepts : List TableView → Bool} {app : ℕ} {old new : Seen Own} (budget : ℕ) (rest left frame event : List ℕ) (net : NetState) → left ≡ [] → frame ≡ event → Told Tells (Gone app frame) old new
-    → Turns Tells accepts app budget rest event old new net net (ends.Failed causes.Closed) left
-turns_gone {Tells = Tells} {accepts = accepts} {app = app} {old = old} {new = new} budget rest left frame event net none is told =
-    rw none (gone_ends Tells accepts app budget rest event old new net (subst (λ (f : List ℕ). Told Tells (Gone app f) old new) is told))
+pub turns_gone : {Own : Type 0} {Tells : Type 0} {accepts : List TableView → Bool} {app : ℕ} {old new : Seen Own} (budget : ℕ) (rest left frame event : List ℕ) (net : NetState) (slots : List Slot) → left ≡ [] → frame ≡ event → Told Tells (Gone app frame) old new
+    → StagesTurn Tells accepts app budget rest event old new net net (ends.Failed causes.Closed) left slots slots
+unfolding gone_ends
+turns_gone {Tells = Tells} {accepts = accepts} {app = app} {old = old} {new = new} budget rest left frame event net slots none is told =
+    rw none (record { turns = gone_ends Tells accepts app budget rest event old new net (subst (λ (f : List ℕ). Told Tells (Gone app f) old new) is told); staged_so = refl })
 
-ends_after : (end : TurnEnd) (unread : List ℕ) (outcome : Outcome) → IsEnd end unread outcome → IsEnd end (unread_after end unread) outcome
-ends_after (ends.Done stop) unread outcome is = is
-ends_after (ends.Failed cause) unread (Completed stop checkpoint rest) is = absurd is
-ends_after (ends.Failed cause) unread (Failed why) is = is
+ends_after : (end : PlayEnd) (unread : List ℕ) (outcome : Outcome) → IsPlayEnd end unread outcome → IsEnd (turn_end end) (unread_after (turn_end end) unread) outcome
+ends_after (plays.Done stop checkpoint) unread (Completed stops handed rest) is = (is.0, is.1.0)
+ends_after (plays.Done stop checkpoint) unread (Failed why) is = absurd is
+ends_after (plays.Failed cause) unread (Completed stop checkpoint rest) is = absurd is
+ends_after (plays.Failed cause) unread (Failed why) is = is
 
-leaves_after : (end : TurnEnd) (unread : List ℕ) → LeavesNone end (unread_after end unread)
-leaves_after (ends.Done stop) unread = tt
-leaves_after (ends.Failed cause) unread = refl
+handed_so : (end : PlayEnd) (unread : List ℕ) (outcome : Outcome) → IsPlayEnd end unread outcome → handed_at end ≡ handed outcome
+handed_so (plays.Done stop checkpoint) unread (Completed stops handed rest) is = is.1.1.0
+handed_so (plays.Done stop checkpoint) unread (Failed why) is = absurd is
+handed_so (plays.Failed cause) unread (Completed stop checkpoint rest) is = absurd is
+handed_so (plays.Failed cause) unread (Failed why) is = refl
 
-passes_after : (end : TurnEnd) (bytes unread : List ℕ) → (is_done end ≡ true → Passes bytes unread) → is_done end ≡ true → Passes bytes (unread_after end unread)
-passes_after (ends.Done stop) bytes unread passes done = passes done
-passes_after (ends.Failed cause) bytes unread passes done = absurd (true≢false (sym done))
+leaves_after : (end : PlayEnd) (unread : List ℕ) → LeavesNone (turn_end end) (unread_after (turn_end end) unread)
+leaves_after (plays.Done stop checkpoint) unread = tt
+leaves_after (plays.Failed cause) unread = refl
 
-given_ends : {Own : Type 0} (Tells : Type 0) (accepts : List TableView → Bool) (app budget : ℕ) (rest frame unread : List ℕ) (old mid new : Seen Own) (net now_net : NetState) (end : TurnEnd) → Told Tells (Gave app frame) old mid
-    → TurnsFrom Tells accepts app budget rest mid new net now_net end unread → Turns Tells accepts app budget rest frame old new net now_net end (unread_after end unread)
+passes_after : (end : PlayEnd) (bytes unread : List ℕ) → (is_done (turn_end end) ≡ true → Passes bytes unread) → is_done (turn_end end) ≡ true → Passes bytes (unread_after (turn_end end) unread)
+passes_after (plays.Done stop checkpoint) bytes unread passes done = passes done
+passes_after (plays.Failed cause) bytes unread passes done = absurd (true≢false (sym done))
+
+given_ends : {Own : Type 0} (Tells : Type 0) (accepts : List TableView → Bool) (app budget : ℕ) (rest frame unread : List ℕ) (old mid new : Seen Own) (net now_net : NetState) (end : PlayEnd) → Told Tells (Gave app frame) old mid
+    → TurnsFrom Tells accepts app budget rest mid new net now_net end unread → Turns Tells accepts app budget rest frame old new net now_net (turn_end end) (unread_after (turn_end end) unread)
 unfolding turn_of reply_of is_heard
 given_ends Tells accepts app budget rest frame unread old mid new net now_net end told t = record {
   given = true;
@@ -180,13 +191,34 @@ given_ends Tells accepts app budget rest frame unread old mid new net now_net en
       };
 }
 
-pub turns_given : {Own : Type 0} {Tells : Type 0} {accepts : List TableView → Bool} {app budget : ℕ} {rest unread : List ℕ} {old mid new : Seen Own} {net now_net : NetState} {end : TurnEnd} (left frame event taken : List ℕ)
-    → left ≡ unread_after end unread → frame ≡ event → taken ≡ rest → Told Tells (Gave app frame) old mid → TurnsFrom Tells accepts app budget taken mid new net now_net end unread → Turns Tells accepts app budget rest event old new net now_net end left
-turns_given {Tells = Tells} {accepts = accepts} {app = app} {budget = budget} {rest = rest} {unread = unread} {old = old} {mid = mid} {new = new} {net = net} {now_net = now_net} {end = end} left frame event taken is spelled begun told t =
-    rw is (given_ends Tells accepts app budget rest event unread old mid new net now_net end (subst (λ (f : List ℕ). Told Tells (Gave app f) old mid) spelled told)
+stages_given : {Own : Type 0} (Tells : Type 0) (accepts : List TableView → Bool) (app budget : ℕ) (rest frame unread : List ℕ) (old mid new : Seen Own) (net now_net : NetState) (end : PlayEnd) (slots now_slots : List Slot) → now_slots ≡ with_handed app (handed_at end) slots
+    → Told Tells (Gave app frame) old mid → TurnsFrom Tells accepts app budget rest mid new net now_net end unread
+    → StagesTurn Tells accepts app budget rest frame old new net now_net (turn_end end) (unread_after (turn_end end) unread) slots now_slots
+unfolding given_ends
+stages_given Tells accepts app budget rest frame unread old mid new net now_net end slots now_slots staged told t = record {
+  turns = given_ends Tells accepts app budget rest frame unread old mid new net now_net end told t;
+  staged_so = staged ∙ ap (λ (checkpoint : Option (List ℕ)). with_handed app checkpoint slots) (handed_so end unread t.outcome t.ends);
+}
+
+pub turns_given : {Own : Type 0} {Tells : Type 0} {accepts : List TableView → Bool} {app budget : ℕ} {rest unread : List ℕ} {old mid new : Seen Own} {net now_net : NetState} {end : PlayEnd} {slots now_slots : List Slot} (answer : TurnEnd) (left frame event taken : List ℕ)
+    → answer ≡ turn_end end → left ≡ unread_after (turn_end end) unread → frame ≡ event → taken ≡ rest → now_slots ≡ with_handed app (handed_at end) slots → Told Tells (Gave app frame) old mid → TurnsFrom Tells accepts app budget taken mid new net now_net end unread
+    → StagesTurn Tells accepts app budget rest event old new net now_net answer left slots now_slots
+turns_given {Tells = Tells} {accepts = accepts} {app = app} {budget = budget} {rest = rest} {unread = unread} {old = old} {mid = mid} {new = new} {net = net} {now_net = now_net} {end = end} {slots = slots} {now_slots = now_slots} answer left frame event taken so is spelled begun staged told t =
+    rw (so, is) (stages_given Tells accepts app budget rest event unread old mid new net now_net end slots now_slots staged (subst (λ (f : List ℕ). Told Tells (Gave app f) old mid) spelled told)
     (subst (λ (r : List ℕ). TurnsFrom Tells accepts app budget r mid new net now_net end unread) begun t))
 
-pub leads_turn : {Own : Type 0} {Tells : Type 0} {accepts : List TableView → Bool} {app left : ℕ} {rest unread : List ℕ} {old new : Seen Own} {net now_net : NetState} {end : TurnEnd} → TurnsFrom Tells accepts app left rest old new net now_net end unread
+-- a checkpoint that it hands over is as short as it has to be
+short_at : (end : PlayEnd) (unread : List ℕ) (outcome : Outcome) → IsPlayEnd end unread outcome → IsShort (handed_at end)
+short_at (plays.Done stop checkpoint) unread (Completed stops handed rest) is = is.1.1.1
+short_at (plays.Done stop checkpoint) unread (Failed why) is = absurd is
+short_at (plays.Failed cause) unread (Completed stop checkpoint rest) is = absurd is
+short_at (plays.Failed cause) unread (Failed why) is = tt
+
+pub turn_short : {Own : Type 0} {Tells : Type 0} {accepts : List TableView → Bool} {app left : ℕ} {rest unread : List ℕ} {old new : Seen Own} {net now_net : NetState} {end : PlayEnd} → TurnsFrom Tells accepts app left rest old new net now_net end unread
+    → IsShort (handed_at end)
+turn_short {unread = unread} {end = end} t = short_at end unread t.outcome t.ends
+
+pub leads_turn : {Own : Type 0} {Tells : Type 0} {accepts : List TableView → Bool} {app left : ℕ} {rest unread : List ℕ} {old new : Seen Own} {net now_net : NetState} {end : PlayEnd} → TurnsFrom Tells accepts app left rest old new net now_net end unread
     → Leads Tells app old new net now_net
 leads_turn t = record { trace = t.trace; chain = t.chain }
 

@@ -55,17 +55,17 @@ ready_stands attempt tried rest is ready = elim attempt.stands as (λ b. attempt
 ] refl
 
 -- what is told of one attempt
-record TryTold {Own : Type 0} (app : ℕ) (attempt : Attempt) (tried : Tried) (old new : Seen Own) : Type 0 where
+record TryTold {Own : Type 0} (app : ℕ) (kept : List ℕ) (attempt : Attempt) (tried : Tried) (old new : Seen Own) : Type 0 where
   acts : acts_of app new.history ≡ acts_of app old.history ++ all_of_try app (is_running app (state old)) attempt
   starts : starts_in (acts_of app new.history) ≡ starts_in (acts_of app old.history) ++ start_of attempt ∷ []
   replies : replies_in (acts_of app new.history) ≡ replies_in (acts_of app old.history)
-  inputs_so : inputs app (journal new.history) ≡ inputs app (journal old.history) ++ restored (start_of attempt)
+  inputs_so : inputs app (journal new.history) ≡ inputs app (journal old.history) ++ restored kept (start_of attempt)
   stimuli_so : stimuli (journal new.history) ≡ stimuli (journal old.history)
   apart : Apart (state old) (state new)
   life : is_ready tried ≡ true → LastStands (acts_of app new.history)
 
-try_told : {Own : Type 0} (Tells : Type 0) (app : ℕ) (attempt : Attempt) (tried : Tried) (rest : List ℕ) (old new : Seen Own) → IsTry Tells app attempt tried rest old new → Tells → TryTold app attempt tried old new
-try_told Tells app attempt tried rest old new is tells =
+try_told : {Own : Type 0} (Tells : Type 0) (app : ℕ) (kept : List ℕ) (attempt : Attempt) (tried : Tried) (rest : List ℕ) (old new : Seen Own) → IsTry Tells app kept attempt tried rest old new → Tells → TryTold app kept attempt tried old new
+try_told Tells app kept attempt tried rest old new is tells =
     let runs = is_running app (state old) in
     let acts = all_of_try app runs attempt in
     let all = calls_try app runs attempt is.within in
@@ -87,8 +87,8 @@ try_told Tells app attempt tried rest old new is tells =
 
 -- ---- All attempts
 
-told_none : {Own : Type 0} (app : ℕ) (old new : Seen Own) → new ≡ old → TriesTold app [] old new
-told_none app old new is = rw is (record {
+told_none : {Own : Type 0} (app : ℕ) (kept : List ℕ) (old new : Seen Own) → new ≡ old → TriesTold app kept [] old new
+told_none app kept old new is = rw is (record {
   given_so = refl;
   acts = sym (append-nil (acts_of app old.history));
   starts = sym (append-nil (starts_in (acts_of app old.history)));
@@ -102,17 +102,17 @@ told_none app old new is = rw is (record {
 })
 
 -- where an attempt is made first, and what is told behind it is told
-told_then : {Own : Type 0} (Tells : Type 0) (app : ℕ) (t : OneTry Own) (ts : List (OneTry Own)) (old new : Seen Own) → IsTry Tells app t.attempt t.tried t.rest old t.after → Tells → TriesTold app ts t.after new
-    → (is_some (ready_rest (t ∷ ts)) ≡ true → LastStands (acts_of app new.history)) → (is_some (ready_rest (t ∷ ts)) ≡ true → is_running app (state new) ≡ true) → TriesTold app (t ∷ ts) old new
-told_then Tells app t ts old new is tells later life running =
-    let first = try_told Tells app t.attempt t.tried t.rest old t.after is tells in
+told_then : {Own : Type 0} (Tells : Type 0) (app : ℕ) (kept : List ℕ) (t : OneTry Own) (ts : List (OneTry Own)) (old new : Seen Own) → IsTry Tells app kept t.attempt t.tried t.rest old t.after → Tells → TriesTold app kept ts t.after new
+    → (is_some (ready_rest (t ∷ ts)) ≡ true → LastStands (acts_of app new.history)) → (is_some (ready_rest (t ∷ ts)) ≡ true → is_running app (state new) ≡ true) → TriesTold app kept (t ∷ ts) old new
+told_then Tells app kept t ts old new is tells later life running =
+    let first = try_told Tells app kept t.attempt t.tried t.rest old t.after is tells in
     let acts = all_of_try app (is_running app (state old)) t.attempt in
     record {
       given_so = later.given_so ∙ is.continues.given;
       acts = later.acts ∙ ap (λ (xs : List Act). xs ++ tried_acts app t.after ts) first.acts ∙ append_assoc (acts_of app old.history) acts (tried_acts app t.after ts);
       starts = later.starts ∙ ap (λ (xs : List Start). xs ++ starts_of ts) first.starts ∙ append_assoc (starts_in (acts_of app old.history)) (start_of t.attempt ∷ []) (starts_of ts);
       replies = later.replies ∙ first.replies;
-      inputs_so = later.inputs_so ∙ ap (λ (xs : List (List ℕ)). xs ++ given_by ts) first.inputs_so ∙ append_assoc (inputs app (journal old.history)) (restored (start_of t.attempt)) (given_by ts);
+      inputs_so = later.inputs_so ∙ ap (λ (xs : List (List ℕ)). xs ++ given_by kept ts) first.inputs_so ∙ append_assoc (inputs app (journal old.history)) (restored kept (start_of t.attempt)) (given_by kept ts);
       stimuli_so = later.stimuli_so ∙ first.stimuli_so;
       apart = Apart-trans (state old) (state t.after) (state new) first.apart later.apart;
       life = life;
@@ -123,15 +123,15 @@ told_then Tells app t ts old new is tells later life running =
 ready_first : {Own : Type 0} (t : OneTry Own) (ts : List (OneTry Own)) → is_ready t.tried ≡ false → is_some (ready_rest (t ∷ ts)) ≡ is_some (ready_rest ts)
 ready_first t ts not_ready = rw not_ready refl
 
-pub tries_told : {Own : Type 0} (Tells : Type 0) (app n : ℕ) (all : List (OneTry Own)) (old new : Seen Own) → AreTries Tells app n all old new → Tells → TriesTold app all old new
-tries_told Tells app zero [] old new are tells = told_none app old new are
-tries_told Tells app zero (t ∷ ts) old new are tells = absurd are
-tries_told Tells app (suc n) [] old new are tells = absurd are
-tries_told Tells app (suc n) (t ∷ ts) old new are tells = elim are.1 [
-  | inl h ↦ let first = try_told Tells app t.attempt t.tried t.rest old t.after are.0 tells in
-      let told : TriesTold app (t ∷ []) old t.after =
-      told_then Tells app t [] old t.after are.0 tells (told_none app t.after t.after refl) (λ some. first.life h.0) (λ some. are.0.running tells h.0) in
+pub tries_told : {Own : Type 0} (Tells : Type 0) (app : ℕ) (kept : List ℕ) (n : ℕ) (all : List (OneTry Own)) (old new : Seen Own) → AreTries Tells app kept n all old new → Tells → TriesTold app kept all old new
+tries_told Tells app kept zero [] old new are tells = told_none app kept old new are
+tries_told Tells app kept zero (t ∷ ts) old new are tells = absurd are
+tries_told Tells app kept (suc n) [] old new are tells = absurd are
+tries_told Tells app kept (suc n) (t ∷ ts) old new are tells = elim are.1 [
+  | inl h ↦ let first = try_told Tells app kept t.attempt t.tried t.rest old t.after are.0 tells in
+      let told : TriesTold app kept (t ∷ []) old t.after =
+      told_then Tells app kept t [] old t.after are.0 tells (told_none app kept t.after t.after refl) (λ some. first.life h.0) (λ some. are.0.running tells h.0) in
       rw (h.1, h.2) told
-  | inr h ↦ let later = tries_told Tells app n ts t.after new h.1 tells in
-      told_then Tells app t ts old new are.0 tells later (λ some. later.life (sym (ready_first t ts h.0) ∙ some)) (λ some. later.running (sym (ready_first t ts h.0) ∙ some))
+  | inr h ↦ let later = tries_told Tells app kept n ts t.after new h.1 tells in
+      told_then Tells app kept t ts old new are.0 tells later (λ some. later.life (sym (ready_first t ts h.0) ∙ some)) (λ some. later.running (sym (ready_first t ts h.0) ∙ some))
 ]

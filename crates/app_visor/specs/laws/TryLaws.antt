@@ -37,22 +37,22 @@ refused_outcome : outcome_of (start_of (record { stands = false; acts = [] })) �
 unfolding start_of outcome_of
 refused_outcome = refl
 
-refused_given : (app : ℕ) → inputs app [] ≡ restored (start_of (record { stands = false; acts = [] }))
+refused_given : (app : ℕ) (kept : List ℕ) → inputs app [] ≡ restored kept (start_of (record { stands = false; acts = [] }))
 unfolding start_of inputs
-refused_given app = refl
+refused_given app kept = refl
 
 refused_heard : is_start_heard (start_of (record { stands = false; acts = [] })) ≡ true
 unfolding start_of is_start_heard
 refused_heard = refl
 
-pub try_refused : {Own : Type 0} {Tells : Type 0} {app : ℕ} {old mid new : Seen Own} (rest : List ℕ) → rest ≡ [] → Ends Tells app old mid → Told Tells (Started app false) mid new → Tries Tells app Refused rest old new
-try_refused {Tells = Tells} {app = app} {old = old} {mid = mid} {new = new} rest none ends told = record {
+pub try_refused : {Own : Type 0} {Tells : Type 0} {app : ℕ} {kept : List ℕ} {old mid new : Seen Own} (rest : List ℕ) → rest ≡ [] → Ends Tells app old mid → Told Tells (Started app false) mid new → Tries Tells app kept Refused rest old new
+try_refused {Tells = Tells} {app = app} {kept = kept} {old = old} {mid = mid} {new = new} rest none ends told = record {
   attempt = record { stands = false; acts = [] };
   went = record {
     continues = Continues-trans Tells old mid new (Ends-continues ends) told.continues;
     history = Adds-append Tells (end_acts (is_running app (state old)) app) (Started app false ∷ []) old mid new (Adds-ended Tells app old mid ends) told.history;
     outcome = rw none refused_outcome;
-    given = refused_given app;
+    given = refused_given app kept;
     heard = refused_heard;
     rises = Rose-after old.counts.starts_failed mid.counts.starts_failed new.counts.starts_failed ends.none_fell.starts_failed told.rises;
     within = tt;
@@ -89,12 +89,12 @@ within_end : (app : ℕ) (running : Bool) → Within app (end_acts running app)
 within_end app true = (eq-eqb app app refl, tt)
 within_end app false = tt
 
-stood_so : {Own : Type 0} (Tells : Type 0) (app : ℕ) (tried : Tried) (left : List ℕ) (running : Bool) (old mid up then_seen new : Seen Own)
-    → Ends Tells app old mid → Told Tells (Started app true) mid up → (greets : Greets Tells app tried left up then_seen) → Adds Tells (end_acts running app) then_seen new → Continues Tells then_seen new
+stood_so : {Own : Type 0} (Tells : Type 0) (app : ℕ) (kept : List ℕ) (tried : Tried) (left : List ℕ) (running : Bool) (old mid up then_seen new : Seen Own)
+    → Ends Tells app old mid → Told Tells (Started app true) mid up → (greets : Greets Tells app kept tried left up then_seen) → Adds Tells (end_acts running app) then_seen new → Continues Tells then_seen new
     → (Tells → is_ready tried ≡ false → is_running app (state new) ≡ false) → (Tells → is_ready tried ≡ true → is_running app (state new) ≡ true)
     → (Tells → (s : Before) → s.running ≡ is_running app (state then_seen) → (is_ready tried ≡ true → Passes s.unread left) → Speaks app s then_seen new (is_ready tried) (rest_of tried left))
-    → IsTry Tells app (stood (stood_acts app greets.acts running)) tried (rest_of tried left) old new
-stood_so Tells app tried left running old mid up then_seen new ends told greets adds later ended running_so closes = record {
+    → IsTry Tells app kept (stood (stood_acts app greets.acts running)) tried (rest_of tried left) old new
+stood_so Tells app kept tried left running old mid up then_seen new ends told greets adds later ended running_so closes = record {
   continues = Continues-trans Tells old mid new (Ends-continues ends) (Continues-trans Tells mid up new told.continues (Continues-trans Tells up then_seen new greets.continues later));
   history = Adds-append Tells (end_acts (is_running app (state old)) app) (Started app true ∷ stood_acts app greets.acts running) old mid new (Adds-ended Tells app old mid ends)
       (Adds-append Tells (Started app true ∷ []) (stood_acts app greets.acts running) mid up new told.history (Adds-append Tells greets.acts (end_acts running app) up then_seen new greets.history adds));
@@ -120,11 +120,11 @@ stood_so Tells app tried left running old mid up then_seen new ends told greets 
       };
 }
 
-try_stood_at : {Own : Type 0} (Tells : Type 0) (app : ℕ) (tried : Tried) (left : List ℕ) (ready : Bool) (old mid up then_seen new : Seen Own) → is_ready tried ≡ ready
-    → Ends Tells app old mid → Told Tells (Started app true) mid up → Greets Tells app tried left up then_seen → EndsUnless Tells app ready then_seen new → Tries Tells app tried (rest_of tried left) old new
-try_stood_at Tells app tried left true old mid up then_seen new is ends told greets unless = record {
+try_stood_at : {Own : Type 0} (Tells : Type 0) (app : ℕ) (kept : List ℕ) (tried : Tried) (left : List ℕ) (ready : Bool) (old mid up then_seen new : Seen Own) → is_ready tried ≡ ready
+    → Ends Tells app old mid → Told Tells (Started app true) mid up → Greets Tells app kept tried left up then_seen → EndsUnless Tells app ready then_seen new → Tries Tells app kept tried (rest_of tried left) old new
+try_stood_at Tells app kept tried left true old mid up then_seen new is ends told greets unless = record {
   attempt = stood (stood_acts app greets.acts false);
-  went = stood_so Tells app tried left false old mid up then_seen new ends told greets (Adds-none Tells then_seen new unless) (rw unless (Continues-refl Tells then_seen))
+  went = stood_so Tells app kept tried left false old mid up then_seen new ends told greets (Adds-none Tells then_seen new unless) (rw unless (Continues-refl Tells then_seen))
       (λ tells e. absurd (no_ready (sym is ∙ e))) (λ tells e. ap (λ (s : Seen _). is_running app (state s)) unless ∙ greets.running tells ∙ runs_started Tells app mid up told tells)
       (λ tells s runs passes. record {
         after = s;
@@ -133,19 +133,19 @@ try_stood_at Tells app tried left true old mid up then_seen new is ends told gre
         passes = λ ready. subst (Passes s.unread) (sym (ap (λ (b : Bool). if b then left else []) ready)) (passes ready);
       });
 }
-try_stood_at Tells app tried left false old mid up then_seen new is ends told greets unless = record {
+try_stood_at Tells app kept tried left false old mid up then_seen new is ends told greets unless = record {
   attempt = stood (stood_acts app greets.acts (is_running app (state then_seen)));
-  went = stood_so Tells app tried left (is_running app (state then_seen)) old mid up then_seen new ends told greets (Adds-ended Tells app then_seen new unless) (Ends-continues unless)
+  went = stood_so Tells app kept tried left (is_running app (state then_seen)) old mid up then_seen new ends told greets (Adds-ended Tells app then_seen new unless) (Ends-continues unless)
       (λ tells e. ends_so Tells app then_seen new unless tells) (λ tells e. absurd (no_ready (sym e ∙ is)))
       (λ tells s runs passes.
       let closed = converses_ended Tells app s then_seen new unless tells runs in
       record { after = closed.0; converses = closed.1.0; runs = λ ready. absurd (no_ready (sym ready ∙ is)); passes = λ ready. absurd (no_ready (sym ready ∙ is)) });
 }
 
-pub try_stood : {Own : Type 0} (Tells : Type 0) (app : ℕ) (tried : Tried) (left rest : List ℕ) (old mid up then_seen new : Seen Own) → rest ≡ rest_of tried left
-    → Ends Tells app old mid → Told Tells (Started app true) mid up → Greets Tells app tried left up then_seen → EndsUnless Tells app (is_ready tried) then_seen new → Tries Tells app tried rest old new
-try_stood Tells app tried left rest old mid up then_seen new is ends told greets unless =
-    subst (λ (r : List ℕ). Tries Tells app tried r old new) (sym is) (try_stood_at Tells app tried left (is_ready tried) old mid up then_seen new refl ends told greets unless)
+pub try_stood : {Own : Type 0} (Tells : Type 0) (app : ℕ) (kept : List ℕ) (tried : Tried) (left rest : List ℕ) (old mid up then_seen new : Seen Own) → rest ≡ rest_of tried left
+    → Ends Tells app old mid → Told Tells (Started app true) mid up → Greets Tells app kept tried left up then_seen → EndsUnless Tells app (is_ready tried) then_seen new → Tries Tells app kept tried rest old new
+try_stood Tells app kept tried left rest old mid up then_seen new is ends told greets unless =
+    subst (λ (r : List ℕ). Tries Tells app kept tried r old new) (sym is) (try_stood_at Tells app kept tried left (is_ready tried) old mid up then_seen new refl ends told greets unless)
 
 pub unless_continues : {Own : Type 0} (Tells : Type 0) (app : ℕ) (ready : Bool) (old new : Seen Own) → EndsUnless Tells app ready old new → Continues Tells old new
 unless_continues Tells app true old new unless = rw unless (Continues-refl Tells old)
@@ -153,18 +153,18 @@ unless_continues Tells app false old new unless = Ends-continues unless
 
 -- ---- The loop over all attempts
 
-abbrev one_try : {Own : Type 0} {Tells : Type 0} {app : ℕ} {tried : Tried} {rest : List ℕ} {old new : Seen Own} → Tries Tells app tried rest old new → OneTry Own
+abbrev one_try : {Own : Type 0} {Tells : Type 0} {app : ℕ} {kept : List ℕ} {tried : Tried} {rest : List ℕ} {old new : Seen Own} → Tries Tells app kept tried rest old new → OneTry Own
 one_try {tried = tried} {rest = rest} {new = new} t = record { attempt = t.attempt; tried = tried; rest = rest; after = new }
 
-pub none_tried : {Own : Type 0} {Tells : Type 0} (app : ℕ) (seen : Seen Own) (tries : List Tried) → tries ≡ [] → TriesOn Tells app attempts seen tries seen
-none_tried app seen tries is = record {
+pub none_tried : {Own : Type 0} {Tells : Type 0} (app : ℕ) (kept : List ℕ) (seen : Seen Own) (tries : List Tried) → tries ≡ [] → TriesOn Tells app kept attempts seen tries seen
+none_tried app kept seen tries is = record {
   whole = λ later new are. record { all = later; are = are; tries_so = ap (λ (ts : List Tried). ts ++ tries_of later) (sym is); found_so = refl };
 }
 
-pub not_yet : {Own : Type 0} {Tells : Type 0} {app left : ℕ} {tried : Tried} {rest : List ℕ} {tries now_tries : List Tried} {first old new : Seen Own} (less : ℕ) → left ≡ suc less
-    → TriesOn Tells app left first tries old → Tries Tells app tried rest old new → is_ready tried ≡ false → now_tries ≡ tries ++ tried ∷ [] → TriesOn Tells app less first now_tries new
-not_yet {Own = Own} {Tells = Tells} {app = app} {tried = tried} {rest = rest} {tries = tries} {first = first} {old = old} {new = new} less is on t not_ready pushed =
-    let here : TriesOn Tells app (suc less) first tries old = subst (λ (n : ℕ). TriesOn Tells app n first tries old) is on in
+pub not_yet : {Own : Type 0} {Tells : Type 0} {app : ℕ} {kept : List ℕ} {left : ℕ} {tried : Tried} {rest : List ℕ} {tries now_tries : List Tried} {first old new : Seen Own} (less : ℕ) → left ≡ suc less
+    → TriesOn Tells app kept left first tries old → Tries Tells app kept tried rest old new → is_ready tried ≡ false → now_tries ≡ tries ++ tried ∷ [] → TriesOn Tells app kept less first now_tries new
+not_yet {Own = Own} {Tells = Tells} {app = app} {kept = kept} {tried = tried} {rest = rest} {tries = tries} {first = first} {old = old} {new = new} less is on t not_ready pushed =
+    let here : TriesOn Tells app kept (suc less) first tries old = subst (λ (n : ℕ). TriesOn Tells app kept n first tries old) is on in
     record {
       whole = λ later end are.
           let all = here.whole (one_try t ∷ later) end (t.went, inr (not_ready, are)) in
@@ -179,7 +179,7 @@ not_yet {Own = Own} {Tells = Tells} {app = app} {tried = tried} {rest = rest} {t
 -- ---- What the reference comes to
 
 abbrev first_tried : App → Start → List Start → List ℕ → App
-first_tried a s more rest = record a { alive = true; rest = rest; inputs = a.inputs ++ restored s; starts = more }
+first_tried a s more rest = record a { alive = true; rest = rest; inputs = a.inputs ++ restored a.kept s; starts = more }
 
 abbrev by_first : ℕ → App → Tried → App → App × List Tried
 by_first n a tried next = if is_ready tried then (next, tried ∷ []) else ((started n next).0, tried ∷ (started n next).1)
@@ -197,55 +197,55 @@ unready_first : {Own : Type 0} (n : ℕ) (t : OneTry Own) (ts : List (OneTry Own
     → by_first n a t.tried (first_tried a (start_of t.attempt) (starts_of ts ++ more) t.rest) ≡ restarted (t ∷ ts) more a
 unready_first n t ts more a unready then_so = rw (unready, then_so, append_assoc) refl
 
-started_so : {Own : Type 0} (Tells : Type 0) (app n : ℕ) (ts : List (OneTry Own)) (old new : Seen Own) → AreTries Tells app n ts old new → (a : App) (more : List Start) → a.starts ≡ starts_of ts ++ more
+started_so : {Own : Type 0} (Tells : Type 0) (app : ℕ) (kept : List ℕ) (n : ℕ) (ts : List (OneTry Own)) (old new : Seen Own) → AreTries Tells app kept n ts old new → (a : App) (more : List Start) → a.starts ≡ starts_of ts ++ more
     → started n a ≡ restarted ts more a
 unfolding started
-started_so Tells app zero [] old new are a more has = rw (append-nil, ← has) refl
-started_so Tells app zero (t ∷ ts) old new are a more has = absurd are
-started_so Tells app (suc n) [] old new are a more has = absurd are
-started_so Tells app (suc n) (t ∷ ts) old new are a more has =
+started_so Tells app kept zero [] old new are a more has = rw (append-nil, ← has) refl
+started_so Tells app kept zero (t ∷ ts) old new are a more has = absurd are
+started_so Tells app kept (suc n) [] old new are a more has = absurd are
+started_so Tells app kept (suc n) (t ∷ ts) old new are a more has =
     let next = first_tried a (start_of t.attempt) (starts_of ts ++ more) t.rest in
     started_first n a (start_of t.attempt) (starts_of ts ++ more) t.tried t.rest has are.0.outcome
     ∙ elim are.1 [
       | inl h ↦ ready_first n t ts more a h.0 h.1
-      | inr h ↦ unready_first n t ts more a h.0 (started_so Tells app n ts t.after new h.1 next more refl)
+      | inr h ↦ unready_first n t ts more a h.0 (started_so Tells app kept n ts t.after new h.1 next more refl)
     ]
 
-pub back_then : {Own : Type 0} {Tells : Type 0} {app left : ℕ} {tried : Tried} {rest : List ℕ} {tries now_tries : List Tried} {first old new : Seen Own} (less : ℕ) → left ≡ suc less
-    → TriesOn Tells app left first tries old → Tries Tells app tried rest old new → is_ready tried ≡ true → now_tries ≡ tries ++ tried ∷ [] → Restarts Tells app first new (Some rest) now_tries
-back_then {Tells = Tells} {app = app} {tried = tried} {rest = rest} {tries = tries} {first = first} {old = old} {new = new} less is on t ready pushed =
-    let here : TriesOn Tells app (suc less) first tries old = subst (λ (n : ℕ). TriesOn Tells app n first tries old) is on in
+pub back_then : {Own : Type 0} {Tells : Type 0} {app : ℕ} {kept : List ℕ} {left : ℕ} {tried : Tried} {rest : List ℕ} {tries now_tries : List Tried} {first old new : Seen Own} (less : ℕ) → left ≡ suc less
+    → TriesOn Tells app kept left first tries old → Tries Tells app kept tried rest old new → is_ready tried ≡ true → now_tries ≡ tries ++ tried ∷ [] → Restarts Tells app kept first new (Some rest) now_tries
+back_then {Tells = Tells} {app = app} {kept = kept} {tried = tried} {rest = rest} {tries = tries} {first = first} {old = old} {new = new} less is on t ready pushed =
+    let here : TriesOn Tells app kept (suc less) first tries old = subst (λ (n : ℕ). TriesOn Tells app kept n first tries old) is on in
     let all = here.whole (one_try t ∷ []) new (t.went, inl (ready, refl, refl)) in
     record {
       all = all.all;
       are = all.are;
       tries_so = pushed ∙ sym all.tries_so;
       found_so = sym (all.found_so ∙ rw ready refl);
-      as_started = started_so Tells app attempts all.all first new all.are;
+      as_started = started_so Tells app kept attempts all.all first new all.are;
     }
 
-pub none_back : {Own : Type 0} {Tells : Type 0} {app left : ℕ} {tries : List Tried} {first old : Seen Own} → left ≡ zero → TriesOn Tells app left first tries old → Restarts Tells app first old None tries
-none_back {Tells = Tells} {app = app} {tries = tries} {first = first} {old = old} is on =
-    let here : TriesOn Tells app zero first tries old = subst (λ (n : ℕ). TriesOn Tells app n first tries old) is on in
+pub none_back : {Own : Type 0} {Tells : Type 0} {app : ℕ} {kept : List ℕ} {left : ℕ} {tries : List Tried} {first old : Seen Own} → left ≡ zero → TriesOn Tells app kept left first tries old → Restarts Tells app kept first old None tries
+none_back {Tells = Tells} {app = app} {kept = kept} {tries = tries} {first = first} {old = old} is on =
+    let here : TriesOn Tells app kept zero first tries old = subst (λ (n : ℕ). TriesOn Tells app kept n first tries old) is on in
     let all = here.whole [] old refl in
     record {
       all = all.all;
       are = all.are;
       tries_so = sym (all.tries_so ∙ append-nil tries);
       found_so = sym all.found_so;
-      as_started = started_so Tells app attempts all.all first old all.are;
+      as_started = started_so Tells app kept attempts all.all first old all.are;
     }
 
 -- ---- The dialogue
 
 -- all attempts go on with it, where it tells whether the application runs; where one was ready, it runs then, and what is unread stands
 -- behind its frame Ready
-pub tries_speak : {Own : Type 0} (Tells : Type 0) (app n : ℕ) (all : List (OneTry Own)) (old new : Seen Own) (s : Before) → AreTries Tells app n all old new → Tells → s.running ≡ is_running app (state old)
+pub tries_speak : {Own : Type 0} (Tells : Type 0) (app : ℕ) (kept : List ℕ) (n : ℕ) (all : List (OneTry Own)) (old new : Seen Own) (s : Before) → AreTries Tells app kept n all old new → Tells → s.running ≡ is_running app (state old)
     → Speaks app s old new (is_some (ready_rest all)) (unwrap_or (ready_rest all) [])
-tries_speak Tells app zero [] old new s are tells runs = record { after = s; converses = Converses-refl app s old new are; runs = λ some. absurd (no_ready (sym some)); passes = λ some. absurd (no_ready (sym some)) }
-tries_speak Tells app zero (t ∷ ts) old new s are tells runs = absurd are
-tries_speak Tells app (suc n) [] old new s are tells runs = absurd are
-tries_speak Tells app (suc n) (t ∷ ts) old new s are tells runs =
+tries_speak Tells app kept zero [] old new s are tells runs = record { after = s; converses = Converses-refl app s old new are; runs = λ some. absurd (no_ready (sym some)); passes = λ some. absurd (no_ready (sym some)) }
+tries_speak Tells app kept zero (t ∷ ts) old new s are tells runs = absurd are
+tries_speak Tells app kept (suc n) [] old new s are tells runs = absurd are
+tries_speak Tells app kept (suc n) (t ∷ ts) old new s are tells runs =
     let first = are.0.speaks tells s runs in
     elim are.1 [
       | inl h ↦
@@ -258,7 +258,7 @@ tries_speak Tells app (suc n) (t ∷ ts) old new s are tells runs =
           }
       | inr h ↦
           let found : ready_rest (t ∷ ts) ≡ ready_rest ts = ap (λ (b : Bool). if b then Some t.rest else ready_rest ts) h.0 in
-          let later = tries_speak Tells app n ts t.after new first.after h.1 tells (converses_runs app s first.after old t.after first.converses are.0.continues.given runs) in
+          let later = tries_speak Tells app kept n ts t.after new first.after h.1 tells (converses_runs app s first.after old t.after first.converses are.0.continues.given runs) in
           record {
             after = later.after;
             converses = Converses-then app s first.after later.after old t.after new first.converses later.converses;

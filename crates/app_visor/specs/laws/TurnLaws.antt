@@ -9,6 +9,7 @@ use Rattle.flow_table.specs.declared.view.TableView.{TableView}
 use Rattle.app_frames.specs.declared.frame.AppFrame.{AppFrame}
 use Rattle.app_frames.specs.declared.frame.AppFrame.TheVariants as frames
 use Rattle.app_frames.specs.declared.frame.Answer.{Answer}
+use Rattle.app_frames.specs.Frames.{AppFits}
 use Rattle.app_frames.specs.declared.fault.FrameFault.{FrameFault}
 use Rattle.app_frames.specs.declared.cause.Cause.TheVariants as causes
 use Rattle.lego_model.specs.Journal.{End, Untold, Closes, Stalls, pieces, end_from, any_gone, gave, answers_given, inputs}
@@ -24,15 +25,15 @@ use Rattle.journal_laws.specs.laws.AtOnceLaws.{sends_none_both}
 use Rattle.net_txn.specs.Net.{NetState}
 use Rattle.app_visor.specs.declared.came.Came.{Came}
 use Rattle.app_visor.specs.declared.came.Came.TheVariants as comes
-use Rattle.app_visor.specs.declared.state.TurnEnd.{TurnEnd}
-use Rattle.app_visor.specs.declared.state.TurnEnd.TheVariants as ends
+use Rattle.app_visor.specs.declared.play_end.PlayEnd.{PlayEnd}
+use Rattle.app_visor.specs.declared.play_end.PlayEnd.TheVariants as plays
 use Rattle.app_visor.specs.Reads.{takes, Taken, IsNext, CameSo, Comes}
 use Rattle.app_visor.specs.laws.ReadLaws.{next_taken, next_framed, next_faulty, next_over, pieces_takes, end_takes, gone_takes, gave_takes, inputs_takes, within_takes}
 use Rattle.app_visor.specs.Beats.{Exchange, Talk, Asks, acts_in, exchanges_in, exchange_of, Exchanges, Leads}
 use Rattle.app_visor.specs.laws.BeatLaws.{same, Chain-append, talks, takes_chain, acts_talks, exchanges_talks}
 use Rattle.app_visor.specs.Dialogues.{is_done}
 use Rattle.app_visor.specs.laws.DialogueLaws.{passes_next, Converses-refl, Converses-then, converses_told, converses_takes, takes_send_none, converses_answered, converses_unanswered}
-use Rattle.app_visor.specs.Turns.{same_bytes, Asking, oracle, played_so, IsEnd, played_by, heard_by, TurnsFrom, cause_of, Goes, EndsSo, Plays, done_as}
+use Rattle.app_visor.specs.Turns.{same_bytes, Asking, oracle, played_so, IsShort, IsPlayEnd, turn_end, played_by, heard_by, TurnsFrom, cause_of, Goes, EndsSo, Plays, done_as}
 
 -- ---- Pieces taken
 
@@ -47,7 +48,7 @@ heard_taken app left rest here ps acts next =
     let n : next_of rest (pieces (takes app ps ++ acts)) ≡ next_of here (pieces acts) = ap (λ (x : List (List ℕ)). next_of rest x) (pieces_takes app ps acts) ∙ next in
     rw (gone_takes app ps acts, gave_takes app ps acts, end_takes app ps acts, n) refl
 
-pub turn_taken : {Own : Type 0} {Tells : Type 0} {accepts : List TableView → Bool} {app left : ℕ} {rest here unread : List ℕ} {old mid new : Seen Own} {net now_net : NetState} {end : TurnEnd} → Taken Tells app rest here old mid
+pub turn_taken : {Own : Type 0} {Tells : Type 0} {accepts : List TableView → Bool} {app left : ℕ} {rest here unread : List ℕ} {old mid new : Seen Own} {net now_net : NetState} {end : PlayEnd} → Taken Tells app rest here old mid
     → TurnsFrom Tells accepts app left here mid new net now_net end unread → TurnsFrom Tells accepts app left rest old new net now_net end unread
 turn_taken {Own = Own} {Tells = Tells} {accepts = accepts} {app = app} {left = left} {rest = rest} {here = here} {old = old} {mid = mid} {new = new} {net = net} {now_net = now_net} taken t =
     let ps = taken.pieces in
@@ -182,7 +183,7 @@ unfolding settles
 unanswered_heard app left dpid bytes rest here frame next = ap (λ (n : Next). settles (suc left) (Some 0) n) (next_framed (frames.Message dpid bytes) rest here [] next)
 
 pub ends_unanswered : {Own : Type 0} (Tells : Type 0) (accepts : List TableView → Bool) (app dpid : ℕ) (bytes rest here : List ℕ) (old new : Seen Own) (net now_net : NetState) → IsNext (frames.Message dpid bytes) rest here
-    → Exchanges Tells app dpid bytes false old new net now_net → EndsSo Tells accepts app rest here old new net now_net (ends.Failed causes.Closed)
+    → Exchanges Tells app dpid bytes false old new net now_net → EndsSo Tells accepts app rest here old new net now_net (plays.Failed causes.Closed)
 ends_unanswered Tells accepts app dpid bytes rest here old new net now_net next e = record {
   turn = λ left.
       let x = exchange_of dpid bytes e.answer old e.after net now_net in
@@ -223,8 +224,8 @@ others_settle left frames.Keep here no_message = refl
 others_settle left frames.Undo here no_message = refl
 others_settle left frames.Ready here no_message = refl
 
-ends_at : {Own : Type 0} (Tells : Type 0) (accepts : List TableView → Bool) (app : ℕ) (frame : AppFrame) (rest here : List ℕ) (seen : Seen Own) (net : NetState) (end : TurnEnd) (outcome : Outcome) → IsNext frame rest here
-    → ((left : ℕ) → turn_from {State = Asking Own} (oracle (accepts net.views)) (suc left) None Untold (Some []) (Framed frame here []) ≡ played_so [] outcome) → is_message frame ≡ false → IsEnd end here outcome → (is_done end ≡ true → Passes rest here) → EndsSo Tells accepts app rest here seen seen net net end
+ends_at : {Own : Type 0} (Tells : Type 0) (accepts : List TableView → Bool) (app : ℕ) (frame : AppFrame) (rest here : List ℕ) (seen : Seen Own) (net : NetState) (end : PlayEnd) (outcome : Outcome) → IsNext frame rest here
+    → ((left : ℕ) → turn_from {State = Asking Own} (oracle (accepts net.views)) (suc left) None Untold (Some []) (Framed frame here []) ≡ played_so [] outcome) → is_message frame ≡ false → IsPlayEnd end here outcome → (is_done (turn_end end) ≡ true → Passes rest here) → EndsSo Tells accepts app rest here seen seen net net end
 unfolding inputs
 ends_at {Own = Own} Tells accepts app frame rest here seen net end outcome next plays no_message is passes = record {
   turn = λ left. record {
@@ -251,19 +252,24 @@ judged_plays : (Own : Type 0) (judged : Bool) (left : ℕ) (stop : Bool) (checkp
 unfolding turn_from oracle
 judged_plays Own judged left stop checkpoint here is = rw is refl
 
+-- a checkpoint in a frame is as short as it has to be
+short_of : (stop : Bool) (checkpoint : Option (List ℕ)) → AppFits (frames.Done stop checkpoint) → IsShort checkpoint
+short_of stop None fits = tt
+short_of stop (Some checkpoint) fits = fits
+
 ends_done_at : {Own : Type 0} (Tells : Type 0) (accepts : List TableView → Bool) (app : ℕ) (stop : Bool) (checkpoint : Option (List ℕ)) (rest here : List ℕ) (seen : Seen Own) (net : NetState) (judged : Bool) → accepts net.views ≡ judged
-    → IsNext (frames.Done stop checkpoint) rest here → EndsSo Tells accepts app rest here seen seen net net (done_as judged stop)
+    → IsNext (frames.Done stop checkpoint) rest here → EndsSo Tells accepts app rest here seen seen net net (done_as judged stop checkpoint)
 ends_done_at {Own = Own} Tells accepts app stop checkpoint rest here seen net true is next =
-    ends_at Tells accepts app (frames.Done stop checkpoint) rest here seen net (ends.Done stop) (Completed stop checkpoint here) next (λ left. done_plays Own (accepts net.views) left stop checkpoint here is) refl (refl, refl)
+    ends_at Tells accepts app (frames.Done stop checkpoint) rest here seen net (plays.Done stop checkpoint) (Completed stop checkpoint here) next (λ left. done_plays Own (accepts net.views) left stop checkpoint here is) refl (refl, (refl, (refl, short_of stop checkpoint next.fits)))
     (λ done. passes_next (frames.Done stop checkpoint) rest here refl next)
 ends_done_at {Own = Own} Tells accepts app stop checkpoint rest here seen net false is next =
-    ends_at Tells accepts app (frames.Done stop checkpoint) rest here seen net (ends.Failed causes.Judged) (Failed causes.Judged) next (λ left. judged_plays Own (accepts net.views) left stop checkpoint here is) refl refl
+    ends_at Tells accepts app (frames.Done stop checkpoint) rest here seen net (plays.Failed causes.Judged) (Failed causes.Judged) next (λ left. judged_plays Own (accepts net.views) left stop checkpoint here is) refl refl
     (λ done. absurd (true≢false (sym done)))
 
-pub plays_done : {Own : Type 0} (Tells : Type 0) (accepts : List TableView → Bool) (app : ℕ) (stop : Bool) (checkpoint : Option (List ℕ)) (seen : Seen Own) (net : NetState) (end : TurnEnd) → end ≡ done_as (accepts net.views) stop
+pub plays_done : {Own : Type 0} (Tells : Type 0) (accepts : List TableView → Bool) (app : ℕ) (stop : Bool) (checkpoint : Option (List ℕ)) (seen : Seen Own) (net : NetState) (end : PlayEnd) → end ≡ done_as (accepts net.views) stop checkpoint
     → Plays Tells accepts app (frames.Done stop checkpoint) seen seen net net (Some end)
 plays_done Tells accepts app stop checkpoint seen net end is = record {
-  frame_played = λ rest here next. subst (λ (e : TurnEnd). EndsSo Tells accepts app rest here seen seen net net e) (sym is) (ends_done_at Tells accepts app stop checkpoint rest here seen net (accepts net.views) refl next);
+  frame_played = λ rest here next. subst (λ (e : PlayEnd). EndsSo Tells accepts app rest here seen seen net net e) (sym is) (ends_done_at Tells accepts app stop checkpoint rest here seen net (accepts net.views) refl next);
 }
 
 -- a frame that no turn has, or not yet
@@ -294,10 +300,10 @@ no_message_unbalanced frames.Undo is = refl
 no_message_unbalanced frames.Ready is = refl
 
 pub plays_unbalanced : {Own : Type 0} (Tells : Type 0) (accepts : List TableView → Bool) (app : ℕ) (frame : AppFrame) (seen : Seen Own) (net : NetState) → IsUnbalanced frame
-    → Plays Tells accepts app frame seen seen net net (Some (ends.Failed causes.Unbalanced))
+    → Plays Tells accepts app frame seen seen net net (Some (plays.Failed causes.Unbalanced))
 plays_unbalanced {Own = Own} Tells accepts app frame seen net is = record {
   frame_played = λ rest here next.
-      ends_at Tells accepts app frame rest here seen net (ends.Failed causes.Unbalanced) (Failed causes.Unbalanced) next (λ left. unbalanced_plays Own (accepts net.views) left frame here is) (no_message_unbalanced frame is) refl
+      ends_at Tells accepts app frame rest here seen net (plays.Failed causes.Unbalanced) (Failed causes.Unbalanced) next (λ left. unbalanced_plays Own (accepts net.views) left frame here is) (no_message_unbalanced frame is) refl
       (λ done. absurd (true≢false (sym done)));
 }
 
@@ -339,7 +345,7 @@ IsOver comes.Closed left = Unit {0}
 IsOver comes.Silent left = Unit {0}
 
 came_over : {Own : Type 0} (Tells : Type 0) (accepts : List TableView → Bool) (app left : ℕ) (came : Came) (rest here unread : List ℕ) (old new : Seen Own) (net : NetState) → IsOver came left → CameSo Tells app came rest here old new
-    → TurnsFrom Tells accepts app left rest old new net net (ends.Failed (cause_of came)) unread
+    → TurnsFrom Tells accepts app left rest old new net net (plays.Failed (cause_of came)) unread
 unfolding inputs
 came_over {Own = Own} Tells accepts app left (comes.Frame frame) rest here unread old new net over so = rw over (record {
   trace = [];
@@ -405,6 +411,6 @@ came_over {Own = Own} Tells accepts app left comes.Silent rest here unread old n
 }
 
 pub turn_over : {Own : Type 0} (Tells : Type 0) (accepts : List TableView → Bool) (app left : ℕ) (came : Came) (rest here unread : List ℕ) (old new : Seen Own) (net : NetState) → IsOver came left → Comes Tells app rest here old new came
-    → TurnsFrom Tells accepts app left rest old new net net (ends.Failed (cause_of came)) unread
+    → TurnsFrom Tells accepts app left rest old new net net (plays.Failed (cause_of came)) unread
 turn_over Tells accepts app left came rest here unread old new net over comes =
     turn_taken comes.taken (came_over Tells accepts app left came comes.unread here unread comes.then_seen new net over comes.came_so)

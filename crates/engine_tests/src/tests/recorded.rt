@@ -244,6 +244,65 @@ fn kept_entry_is_seen(rt: HostRuntime) -> Result<(), Fail> {
     Ok(())
 }
 
+/// The first turn hands over a checkpoint of one byte, and the second one fails. The third hands over three bytes, and the fourth none; the
+/// fifth fails, and so does the first attempt behind it.
+const CHECKPOINTS: &str = "session 1
+switch 1 4 1,2
+start app ready
+start app ready
+start app closed
+reply app done:01
+reply app closed
+reply app done:0a0b0c
+reply app done
+reply app x:0000000109
+join 1
+port 1 1 down
+port 1 1 up
+port 1 2 down
+port 1 2 up
+";
+
+/// What the application is given at its starts, in order: nothing at first, the one byte behind the second turn, and the three bytes at both
+/// attempts behind the fifth.
+const RESTORED: [&str; 4] = [
+    "app 0 <- RESTORE bytes=0",
+    "app 0 <- RESTORE bytes=1",
+    "app 0 <- RESTORE bytes=3",
+    "app 0 <- RESTORE bytes=3",
+];
+
+/// The lines of acts that begin so, in order.
+fn lines_with(alloc: Global, acts: &str, start: &str) -> Result<Vec<String>, AllocError> {
+    let mut lines = Vec::new(alloc);
+    for line in acts.lines() {
+        if line.starts_with(start) {
+            lines.push(line.to_string(alloc)?)?;
+        }
+    }
+    Ok(lines)
+}
+
+/// A start is given the checkpoint of the last turn that was done and handed one over.
+#[test]
+fn last_checkpoint_is_restored(rt: HostRuntime) -> Result<(), Fail> {
+    let run = record(rt.alloc(), CHECKPOINTS)?;
+    assert!(rt; run.is_some());
+    if let Some(run) = run {
+        assert!(rt; matches!(run.served, Served::Ended { events: 5 }));
+        let acts = std::str::from_utf8(run.acts.bytes());
+        assert!(rt; acts.is_ok());
+        if let Ok(acts) = acts {
+            let restored = lines_with(rt.alloc(), acts, "app 0 <- RESTORE")?;
+            assert_eq!(rt; restored.len(), RESTORED.len());
+            for (line, expected) in restored.iter().zip(RESTORED) {
+                assert!(rt; line.as_str() == expected);
+            }
+        }
+    }
+    Ok(())
+}
+
 /// The application adds an entry and is done.
 const KEPT_TURN: &str = "session 1
 switch 1 4 1,2

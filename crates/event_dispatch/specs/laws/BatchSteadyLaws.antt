@@ -89,6 +89,7 @@ taken_waits run mid later taken_net taken first second = record {
   events = second.events ∙ first.events;
   done = second.done ∙ first.done;
   failed = second.failed ∙ first.failed;
+  store = second.store ∙ first.store;
 }
 
 pub taken_places : {Own : Type 0} (Tells : Type 0) (old now new : Seen Own) (net mid_net taken_net : NetState) → WithoutFirst mid_net taken_net → Continues Tells old now → Continues Tells now new → NoStray Tells old now net → Reads Tells old now net mid_net → NoStray Tells now new taken_net

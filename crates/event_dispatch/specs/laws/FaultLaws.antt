@@ -23,7 +23,8 @@ use Rattle.lego_model.specs.declared.wait.Awaited.{Awaited}
 use Rattle.lego_model.specs.declared.wait.Heard.{Heard}
 use Rattle.lego_model.specs.declared.wait.Heard.TheVariants.{Reply, Refused, Notice, Echo, Other}
 use Rattle.net_txn.specs.Net.{NetState}
-use Rattle.lego_model.specs.AfterFault.{delete_strict, inverse_bytes, IsWhyUndo}
+use Rattle.lego_model.specs.AfterFault.{IsWhyUndo}
+use Rattle.lego_model.specs.UndoFaults.{delete_strict, inverse_bytes}
 use Rattle.net_txn.specs.laws.RestoreLaws.{runs_here, runs_older}
 use Rattle.net_txn.specs.laws.UndoFailureLaws.{stuck_in_undo}
 use Rattle.lego_model.specs.BarrierWaits.{next_xid, flood, heard, kept_by, kept_of, steps_by, heard_steps, wait_steps, barrier_sent, reply_got}

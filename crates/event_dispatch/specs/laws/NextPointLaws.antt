@@ -20,7 +20,8 @@ use Rattle.outside.specs.Conforming.{IsNext, MayAct, MayStep}
 use Rattle.outside.specs.InOrder.{brings_message, BringMessages, MessagesSince, MayCome, MayComeAll, InOrder}
 use Rattle.outside.specs.laws.InOrderLaws.{InOrder-rest, messages-by}
 use Rattle.outside.specs.Quiescence.{is_quiescent, NoneQuiescent, NoneQuiescentLater}
-use Rattle.net_txn.specs.LinkSteps.{AreExpectedOnLinks, MakesNoStrayCall}
+use Rattle.net_txn.specs.LinkSteps.{MakesNoStrayCall}
+use Rattle.lego_model.specs.UndoFaults.{AreExpectedOnLinks}
 use Rattle.net_txn.specs.laws.LinkStrayLaws.{no_strays_by}
 use Rattle.app_visor.specs.CallsFor.{IsCallFor}
 use Rattle.lego_model.specs.Application.{index}

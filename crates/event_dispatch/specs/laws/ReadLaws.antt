@@ -14,7 +14,8 @@ use Rattle.outside.specs.laws.InOrderLaws.{InOrder-before, Conforming-on, messag
 use Rattle.outside.specs.Quiescence.{NoneQuiescent}
 use Rattle.outside.specs.laws.QuiescenceLaws.{none_since-by}
 use Rattle.net_txn.specs.Net.{NetState}
-use Rattle.net_txn.specs.LinkSteps.{AreExpectedOnLinks, MakesNoStrayCall}
+use Rattle.net_txn.specs.LinkSteps.{MakesNoStrayCall}
+use Rattle.lego_model.specs.UndoFaults.{AreExpectedOnLinks}
 use Rattle.net_txn.specs.laws.LinkStrayLaws.{no_strays_by, no_strays_then}
 use Rattle.app_visor.specs.CallsFor.{IsCallFor}
 use Rattle.run_laws.specs.Engine.{Engine}

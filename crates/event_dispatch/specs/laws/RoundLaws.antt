@@ -33,6 +33,9 @@ use Rattle.event_dispatch.specs.declared.run.Run.{Run}
 use Rattle.event_dispatch.specs.Runs.{Waits}
 use Rattle.event_dispatch.specs.Batch.{BatchShown}
 use Rattle.event_dispatch.specs.Shows.{engine_of, queued_run}
+use Rattle.app_visor.specs.Attempts.{kept_of}
+use Rattle.checkpoint_store.specs.Slots.{Slot}
+use Rattle.lego_model.specs.Application.{index}
 use Rattle.event_dispatch.specs.Serves.{Writes, Starts, IsDispatched, DispatchesOldest, DispatchesSome, DispatchesWaiting, IsBatch, GoesRound, GoesRounds, GoesToEnd, Begins}
 use Rattle.run_laws.specs.laws.EndingLaws.{known-append}
 
@@ -146,7 +149,8 @@ settles_all Tells accepts n a b old new r now_r all some = record {
 -- the engine with the network and the queue that a batch leaves
 engine_behind : (r now_r : Run) → now_r.app ≡ r.app → Waits r now_r → engine_then (engine_of r) now_r.net now_r.queue ≡ engine_of now_r
 engine_behind r now_r app waits =
-    ap₂ (λ (n : ℕ) (a : Managed). record { net = now_r.net; queue = now_r.queue; events = n; alive = a.state.alive; rest = a.state.rest; done = a.done; failed = a.failed }) (sym waits.events) (sym app)
+    ap₂ (λ (n : ℕ) (a : Managed). record { net = now_r.net; queue = now_r.queue; events = n; alive = a.state.alive; rest = a.state.rest; kept = kept_of index r.store; done = a.done; failed = a.failed }) (sym waits.events) (sym app)
+    ∙ ap (λ (slots : List Slot). record (engine_of now_r) { kept = kept_of index slots }) (sym waits.store)
 
 pub batch_is : {Own : Type 0} (Tells : Type 0) (rest : Rest) (old new : Seen Own) (r now_r : Run) → Continues Tells old new → now_r.app ≡ r.app → Waits r now_r → BatchShown Tells rest old new r now_r → IsBatch Tells rest old new (engine_of r) (engine_of now_r)
 batch_is Tells rests.Idle old new r now_r continues app waits shown = record {

@@ -111,9 +111,9 @@ pub keeps_tried : {Own : Type 0} (Tells : Type 0) (app : ℕ) (old new : Seen Ow
 keeps_tried Tells app old new is own says = keeps_led Tells app old new is own (λ told s runs. talks_leads (says told s runs))
 
 -- they were made to their end
-pub keeps_restarted : {Own : Type 0} {found : Option (List ℕ)} {tries : List Tried} (Tells : Type 0) (app : ℕ) (old new : Seen Own) → app ≡ index → (Tells → OwnSteps app old new) → Restarts Tells app old new found tries → KeepsTalking Tells old new
-keeps_restarted Tells app old new is own restarts = keeps_led Tells app old new is own
-    (λ told s runs. let says = tries_speak Tells app attempts restarts.all old new s restarts.are told runs in (says.after, says.converses))
+pub keeps_restarted : {Own : Type 0} {kept : List ℕ} {found : Option (List ℕ)} {tries : List Tried} (Tells : Type 0) (app : ℕ) (old new : Seen Own) → app ≡ index → (Tells → OwnSteps app old new) → Restarts Tells app kept old new found tries → KeepsTalking Tells old new
+keeps_restarted {kept = kept} Tells app old new is own restarts = keeps_led Tells app old new is own
+    (λ told s runs. let says = tries_speak Tells app kept attempts restarts.all old new s restarts.are told runs in (says.after, says.converses))
 
 -- ---- A turn
 

@@ -131,7 +131,7 @@ pub why_then : {Own : Type 0} {Tells : Type 0} (a b c : Seen Own) (end : Served)
 why_then a b c end first why = IsWhy-behind a b c 0 0 0 end first (omega arith) why
 
 pub waits_then : (a b c : Run) → Waits a b → Waits b c → Waits a c
-waits_then a b c first rest = record { room = rest.room ∙ first.room; events = rest.events ∙ first.events; done = rest.done ∙ first.done; failed = rest.failed ∙ first.failed }
+waits_then a b c first rest = record { room = rest.room ∙ first.room; events = rest.events ∙ first.events; done = rest.done ∙ first.done; failed = rest.failed ∙ first.failed; store = rest.store ∙ first.store }
 
 -- what came before an undo
 pub why_before : {Own : Type 0} {Tells : Type 0} (a b c : Seen Own) (end : Served) → Continues Tells a b → Continues Tells b c → IsWhy Tells a b 0 0 end → IsWhy Tells a c 0 0 end

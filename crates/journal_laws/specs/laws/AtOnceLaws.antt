@@ -35,9 +35,9 @@ pub answer_is_one : (answer : Answer) → is_answer (answer_frame answer) ≡ tr
 unfolding host_bytes
 answer_is_one answer = framed_answer _
 
-pub restore_is_no_answer : is_answer restore_frame ≡ false
+pub restore_is_no_answer : (checkpoint : List ℕ) → is_answer (restore_frame checkpoint) ≡ false
 unfolding host_bytes
-restore_is_no_answer = framed_restore _
+restore_is_no_answer checkpoint = framed_restore _
 
 -- an Event is no Answer
 pub event_is_no_answer : (frame : List ℕ) → is_event frame ≡ true → is_answer frame ≡ false

@@ -27,6 +27,6 @@ pub answer_is_none : (answer : Answer) → is_event (answer_frame answer) ≡ fa
 unfolding host_bytes
 answer_is_none answer = framed_answer _
 
-pub restore_is_none : is_event restore_frame ≡ false
+pub restore_is_none : (checkpoint : List ℕ) → is_event (restore_frame checkpoint) ≡ false
 unfolding host_bytes
-restore_is_none = framed_restore _
+restore_is_none checkpoint = framed_restore _

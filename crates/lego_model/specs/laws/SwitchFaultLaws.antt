@@ -74,10 +74,32 @@ module _ {Own Tells : Type 0} (a b c : Seen Own) (rest : Tells → Longer b.hist
 -- ---- A switch that failed in an undo
 
 pub failed_behind : {Own Tells : Type 0} (d : ℕ) (a b c : Seen Own) → Continues Tells a b → FailsInUndo Tells d b c → FailsInUndo Tells d a c
-failed_behind d a b c first f = record { fault = f.fault; why = why_behind a b c first.told d f.fault first.none_fell f.why }
+failed_behind d a b c first f = record {
+  fault = f.fault;
+  why = why_behind a b c first.told d f.fault first.none_fell f.why;
+  sent = f.sent;
+  front = f.front;
+  were_sent = f.were_sent;
+  steps = f.steps;
+  each = f.each;
+  cause = f.cause;
+  places = f.places;
+  told = λ told. happened_behind (f.front ++ f.steps) a.history b.history c.history (first.told told) (f.told told);
+}
 
 pub failed_before : {Own Tells : Type 0} (d : ℕ) (a b c : Seen Own) → NoneFell a.counts b.counts → NoneFell b.counts c.counts → (Tells → Longer b.history c.history) → FailsInUndo Tells d a b → FailsInUndo Tells d a c
-failed_before d a b c fell on rest f = record { fault = f.fault; why = why_before a b c rest d f.fault fell on f.why }
+failed_before d a b c fell on rest f = record {
+  fault = f.fault;
+  why = why_before a b c rest d f.fault fell on f.why;
+  sent = f.sent;
+  front = f.front;
+  were_sent = f.were_sent;
+  steps = f.steps;
+  each = f.each;
+  cause = f.cause;
+  places = f.places;
+  told = λ told. happened_before (f.front ++ f.steps) a.history b.history c.history (rest told) (f.told told);
+}
 
 -- in a world that tells
 why_told : {Own Tells : Type 0} (d : ℕ) (a b : Seen Own) (fault : TxnFault) → Tells → IsWhyUndo Tells d a b fault → IsWhyUndo (Unit {0}) d a b fault
@@ -89,4 +111,15 @@ why_told d a b (Flooded e n) tells why =
 why_told d a b NoMemory tells why = why
 
 pub failed_told : {Own Tells : Type 0} (d : ℕ) (a b : Seen Own) → Tells → FailsInUndo Tells d a b → FailsInUndo (Unit {0}) d a b
-failed_told d a b tells f = record { fault = f.fault; why = why_told d a b f.fault tells f.why }
+failed_told d a b tells f = record {
+  fault = f.fault;
+  why = why_told d a b f.fault tells f.why;
+  sent = f.sent;
+  front = f.front;
+  were_sent = f.were_sent;
+  steps = f.steps;
+  each = f.each;
+  cause = f.cause;
+  places = f.places;
+  told = λ told. f.told tells;
+}

@@ -17,7 +17,7 @@ use Rattle.net_txn.specs.declared.trouble.Trouble.TheVariants as troubles
 use Rattle.net_txn.specs.laws.MessageStoreLaws.{where_fit_then}
 use Rattle.net_txn.specs.Waits.{IsRead, refusal_in, first_of}
 use Rattle.net_txn.specs.laws.WaitLaws.{is_Reply, reply_is, answer_more, first_of_none}
-use Rattle.net_txn.specs.Undos.{key_refused}
+use Rattle.lego_model.specs.UndoFaults.{key_refused}
 use Rattle.net_txn.specs.Said.{Says, Hears, Calls, unsaid, unheard, IsOfLink, IsOfHearing, HearsMessage, KeptAs, said_by, heard_said, wait_said, IsUntreated, Treats, TreatsNot, IsBreak, IsBreakBehind, HearsNext, HearsLast, WaitsOn, reply_heard, Replied, Breaks, Exchanges}
 use Rattle.net_txn.specs.laws.SaidLaws.{all_two, Calls-none, Calls-then, Calls-same}
 

@@ -9,12 +9,12 @@ use Rattle.outside.specs.declared.step.WorldStep.TheVariants.{Acted}
 use Rattle.outside.specs.Seen.{Seen}
 use Rattle.lego_model.specs.declared.fault.TxnFault.{TxnFault}
 use Rattle.net_txn.specs.declared.logged.Logged.{Logged}
-use Rattle.lego_model.specs.AfterFault.{inverse_bytes}
+use Rattle.lego_model.specs.UndoFaults.{inverse_bytes, AreBefore}
 use Rattle.lego_model.specs.BarrierWaits.{next_xid, barrier_sent}
 use Rattle.net_txn.specs.Waits.{KeptMore}
 use Rattle.net_txn.specs.laws.ProgressLaws.{progress_of-other, inverses_in-other}
 use Rattle.net_txn.specs.laws.UndoWaitLaws.{IsFaultOf-behind}
-use Rattle.net_txn.specs.Undos.{CanBeSent, alone, AreBefore, Moves, Fails, AwaitsReplies, Inverse, BarrierPassed, Stuck, parts_of, since_of, inverses_of, first_fault, first_fault_of, progress_of, inverses_in, key_logged, Further, Pending, IsRoomLeft, IsThinned, sent_in}
+use Rattle.net_txn.specs.Undos.{CanBeSent, alone, Moves, Fails, AwaitsReplies, Inverse, BarrierPassed, Stuck, parts_of, since_of, inverses_of, first_fault, first_fault_of, progress_of, inverses_in, key_logged, Further, Pending, IsRoomLeft, IsThinned, sent_in}
 use Rattle.net_txn.specs.Views.{is_viewed}
 use Rattle.net_txn.specs.laws.PartOrderLaws.{EndsStep, ends_none, ends_more}
 use Rattle.net_txn.specs.laws.UndoLaws.{SameFor, Undoing-part, Undoing-none, Undoing-skipped, Stands-inverse, Stands-stuck, Stands-barred}

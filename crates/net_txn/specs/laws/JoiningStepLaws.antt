@@ -42,7 +42,8 @@ use Rattle.net_txn.specs.laws.HeardLaws.{IsMessage-barrier, next_xid-lt}
 use Rattle.net_txn.specs.laws.StepLaws.{told_switch, told_waits, barrier_sends, barrier_stays, gots, gots_switch, gots_empty}
 use Rattle.net_txn.specs.laws.NoticeLaws.{AllNotices, notices_all, notices_steps, notices_kept, notices_alone}
 use Rattle.net_txn.specs.laws.AskStepLaws.{any_subsumes, IsFields-any}
-use Rattle.net_txn.specs.Undos.{IsStepOf, SameSwitch}
+use Rattle.net_txn.specs.Undos.{SameSwitch}
+use Rattle.lego_model.specs.UndoFaults.{IsStepOf}
 use Rattle.net_txn.specs.laws.PartLaws.{steps_other}
 use Rattle.net_txn.specs.laws.RestoreLaws.{wait_of}
 use Rattle.net_txn.specs.laws.SaidLaws.{all_two}

@@ -26,7 +26,8 @@ use Rattle.lego_model.specs.declared.wait.Heard.TheVariants.{Reply, Refused, Not
 use Rattle.lego_model.specs.BarrierWaits.{heard, is_reply, echo_reply, steps_by, heard_steps, wait_steps, barrier_sent, reply_got}
 use Rattle.net_txn.specs.laws.HeardLaws.{IsMessage-barrier}
 use Rattle.net_txn.specs.laws.StepLaws.{first_came, reply_is_none, told_waits, barrier_sends}
-use Rattle.net_txn.specs.LinkSteps.{IsExpectedOnLink, AreExpectedOnLinks, MakesNoStrayCall, Awaits}
+use Rattle.net_txn.specs.LinkSteps.{MakesNoStrayCall, Awaits}
+use Rattle.lego_model.specs.UndoFaults.{IsExpectedOnLink, AreExpectedOnLinks}
 
 -- ---- One after the other
 

@@ -29,7 +29,7 @@ use Rattle.undo_laws.specs.Removal.{without, IsRemoval}
 use Rattle.undo_laws.specs.laws.RemovalLaws.{removal-changed, removal-entries, removal-refusal}
 use Rattle.lego_model.specs.declared.wait.Awaited.{Awaited}
 use Rattle.lego_model.specs.declared.wait.Heard.TheVariants as hearing
-use Rattle.lego_model.specs.AfterFault.{delete_strict}
+use Rattle.lego_model.specs.UndoFaults.{delete_strict}
 use Rattle.lego_model.specs.BarrierWaits.{heard, is_reply, heard_steps, wait_steps, kept_of, reply_got}
 use Rattle.net_txn.specs.laws.StepLaws.{gots, first_got, reply_alone}
 

@@ -15,8 +15,8 @@ use Rattle.outside.specs.declared.step.WorldStep.{WorldStep}
 use Rattle.outside.specs.declared.step.WorldStep.TheVariants.{Acted, TookInto, From, Joined, Left, Moment, Idle, End, Opened, NotOpened, NextFailed, SendFailed, RecvFailed}
 use Rattle.outside.specs.State.{State, after_step, after_steps, switch_of, switch_in, waits_of, waits_in, link_failed}
 use Rattle.outside.specs.laws.LinkLaws.{KeepsDeclared, link_of-other, switch_of-sent_other, waits_of-sent_other, switch_of-got_other, waits_of-got_other}
-use Rattle.lego_model.specs.AfterFault.{delete_strict, inverse_bytes}
-use Rattle.net_txn.specs.Undos.{SameSwitch, IsStepOf, CanBeSent}
+use Rattle.lego_model.specs.UndoFaults.{delete_strict, inverse_bytes, IsStepOf}
+use Rattle.net_txn.specs.Undos.{SameSwitch, CanBeSent}
 
 -- ---- Steps of another switch
 

@@ -31,11 +31,11 @@ use Rattle.lego_model.specs.declared.wait.Heard.{Heard}
 use Rattle.lego_model.specs.declared.wait.Heard.TheVariants as hearing
 use Rattle.lego_model.specs.declared.fault.TxnFault.{TxnFault}
 use Rattle.lego_model.specs.declared.fault.TxnFault.TheVariants.{Diverged}
-use Rattle.lego_model.specs.AfterFault.{delete_strict, inverse_bytes}
+use Rattle.lego_model.specs.UndoFaults.{delete_strict, inverse_bytes, key_sent, key_refused, Refuses, IsStepOf}
 use Rattle.lego_model.specs.BarrierWaits.{heard, is_reply, steps_by, heard_steps, wait_steps, barrier_sent, reply_got}
 use Rattle.net_txn.specs.laws.HeardLaws.{IsMessage-barrier}
 use Rattle.net_txn.specs.laws.StepLaws.{first_got, reply_is_none, told_switch, told_waits, barrier_sends, barrier_stays, gots, gots_switch, gots_empty}
-use Rattle.net_txn.specs.Undos.{key_sent, key_refused, Refuses, IsFaultOf, fault_in, first_fault_of, first_fault, ended_by, SameSwitch, Restored, IsStepOf, CanBeSent, IsBarrierPassed, alone, Part, Inverse, BarrierPassed, Stuck, part_steps, steps_of, parts_of, is_stuck, since_of, inverses_of, IsRun}
+use Rattle.net_txn.specs.Undos.{IsFaultOf, fault_in, first_fault_of, first_fault, ended_by, SameSwitch, Restored, CanBeSent, IsBarrierPassed, alone, Part, Inverse, BarrierPassed, Stuck, part_steps, steps_of, parts_of, is_stuck, since_of, inverses_of, IsRun}
 use Rattle.net_txn.specs.laws.PartLaws.{steps_other, reading_of-inverse}
 use Rattle.net_txn.specs.laws.NoticeLaws.{reply_kind, notice_steps, with_entries, inverse_moves, inverse_sends, inverse_sends-few, AllNotices, notices_steps, notices_alone}
 use Rattle.net_txn.specs.laws.SaidLaws.{all_two}

@@ -12,7 +12,7 @@ use Rattle.lego_model.specs.declared.fault.TxnFault.{TxnFault}
 use Rattle.net_txn.specs.declared.logged.UndoProgress.{UndoProgress}
 use Rattle.net_txn.specs.declared.logged.Logged.{Logged}
 use Rattle.net_txn.specs.declared.trouble.Trouble.{Trouble}
-use Rattle.lego_model.specs.AfterFault.{inverse_bytes}
+use Rattle.lego_model.specs.UndoFaults.{inverse_bytes}
 use Rattle.lego_model.specs.BarrierWaits.{next_xid, barrier_sent}
 use Rattle.net_txn.specs.Waits.{KeptMore}
 use Rattle.net_txn.specs.laws.WaitLaws.{none_kept}

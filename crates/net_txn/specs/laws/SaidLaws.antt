@@ -23,10 +23,11 @@ use Rattle.lego_model.specs.declared.wait.Heard.TheVariants as heards
 use Rattle.lego_model.specs.BarrierWaits.{heard, is_reply, steps_by, wait_steps, barrier_sent}
 use Rattle.net_txn.specs.declared.trouble.Trouble.{Trouble}
 use Rattle.net_txn.specs.declared.trouble.Trouble.TheVariants as troubles
-use Rattle.net_txn.specs.LinkSteps.{AreLinkSteps, OnLinks, GoesWithoutStrays, ThenWaits}
+use Rattle.net_txn.specs.LinkSteps.{AreLinkSteps, OnLinks, ThenWaits}
+use Rattle.lego_model.specs.UndoFaults.{GoesWithoutStrays, IsStepOf}
 use Rattle.net_txn.specs.laws.LinkStepLaws.{links_append, OnLinks-by}
 use Rattle.net_txn.specs.laws.UndoWithoutStraysLaws.{goes_none, goes_append, goes_sure, goes_send_failed, goes_recv_failed, goes_same, goes_got, goes_barrier, barrier_waits}
-use Rattle.net_txn.specs.Undos.{link_trouble, IsStepOf, Moves}
+use Rattle.net_txn.specs.Undos.{link_trouble, Moves}
 use Rattle.net_txn.specs.Said.{Said, Says, Hears, HearsNoise, CannotSay, CannotHear, LacksMemory, steps_in, said_steps, IsSaid, Calls, unsaid, unheard, said_by, heard_said, wait_said, last_said, frames_said, barrier_of, IsOfLink, IsOfHearing}
 
 -- ---- Lists

@@ -32,12 +32,12 @@ use Rattle.lego_model.specs.declared.wait.Awaited.{Awaited}
 use Rattle.lego_model.specs.declared.wait.Heard.{Heard}
 use Rattle.lego_model.specs.declared.wait.Heard.TheVariants as hearing
 use Rattle.lego_model.specs.BarrierWaits.{heard, echo_reply, steps_by, heard_steps, wait_steps, barrier_sent, reply_got}
-use Rattle.lego_model.specs.AfterFault.{delete_strict, inverse_bytes}
+use Rattle.lego_model.specs.UndoFaults.{delete_strict, inverse_bytes, IsStepOf}
 use Rattle.net_txn.specs.laws.HeardLaws.{IsMessage-barrier}
 use Rattle.net_txn.specs.laws.StepLaws.{told_switch, barrier_stays}
 use Rattle.net_txn.specs.laws.NoticeLaws.{kind_of_header, with_entries, inverse_moves}
 use Rattle.net_txn.specs.laws.PartLaws.{steps_other, reading_of-inverse}
-use Rattle.net_txn.specs.Undos.{IsTableBack, IsStepOf, CanBeSent, IsBarrierPassed, alone, Part, Inverse, BarrierPassed, Stuck, part_steps, steps_of, parts_of, is_stuck, inverses_of, IsRun}
+use Rattle.net_txn.specs.Undos.{IsTableBack, CanBeSent, IsBarrierPassed, alone, Part, Inverse, BarrierPassed, Stuck, part_steps, steps_of, parts_of, is_stuck, inverses_of, IsRun}
 use Rattle.net_txn.specs.laws.RestoreLaws.{part_of, AllRun, runs_here, runs_older, entries_left, keys_reverted, restored_table, state_after, older_free}
 
 -- ---- An ECHO_REPLY (3) moves no switch, and bytes that are no message move none.

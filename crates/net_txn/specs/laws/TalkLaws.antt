@@ -19,10 +19,11 @@ use Rattle.lego_model.specs.BarrierWaits.{flood, wait_steps, barrier_sent, reply
 use Rattle.net_txn.specs.declared.queue.Storage.TheVariants.{Growing}
 use Rattle.net_txn.specs.declared.trouble.Trouble.{Trouble}
 use Rattle.net_txn.specs.declared.trouble.Trouble.TheVariants as troubles
-use Rattle.net_txn.specs.LinkSteps.{OnLinks, GoesWithoutStrays, AsksWithoutStrays}
+use Rattle.net_txn.specs.LinkSteps.{OnLinks, AsksWithoutStrays}
+use Rattle.lego_model.specs.UndoFaults.{GoesWithoutStrays, key_sent, key_refused}
 use Rattle.net_txn.specs.Causes.{EndsByGot, IsCause, IsLinkCause}
 use Rattle.net_txn.specs.Waits.{Waits, IfFlooded, KeptMore}
-use Rattle.net_txn.specs.Undos.{key_sent, key_refused, fault_by}
+use Rattle.net_txn.specs.Undos.{fault_by}
 use Rattle.net_txn.specs.Said.{Said, Says, HearsNoise, Speaks, said_steps, IsSaid, Calls, unsaid, wait_said, last_said, IsOfLink, IsBreak, frames_said, barrier_of, reply_heard, Replied, Breaks, BreaksBy, Talks, SaysNot, SaysTo}
 use Rattle.net_txn.specs.laws.WaitLaws.{kept_of_more}
 use Rattle.net_txn.specs.laws.LinkStepLaws.{links_append, wait_links}

@@ -25,7 +25,8 @@ use Rattle.net_txn.specs.laws.FloodLaws.{both_ways, got_reads, few_got}
 use Rattle.net_txn.specs.laws.NoticeLaws.{with_entries}
 use Rattle.net_txn.specs.laws.TableBoundLaws.{table_few}
 use Rattle.net_txn.specs.laws.JoiningFaultLaws.{notices_got}
-use Rattle.net_txn.specs.Undos.{EndsBy, Overruns, IsFaultOf, IsRun, Part, Inverse, BarrierPassed, Stuck, part_steps, steps_of, parts_of, is_stuck, inverses_of, fault_in, first_fault, ended_by, StandsReady}
+use Rattle.net_txn.specs.Undos.{IsFaultOf, IsRun, Part, Inverse, BarrierPassed, Stuck, part_steps, steps_of, parts_of, is_stuck, inverses_of, fault_in, first_fault, ended_by, StandsReady}
+use Rattle.lego_model.specs.UndoFaults.{EndsBy, Overruns}
 use Rattle.net_txn.specs.Views.{is_viewed}
 use Rattle.net_txn.specs.laws.RestoreLaws.{AllRun, runs_here, runs_older, entries_left, Left, left_all, left_refused, earlier_or, one_fault}
 use Rattle.net_txn.specs.laws.KeepLaws.{AreReady, ready_here, ready_older, ready_all}

@@ -8,7 +8,8 @@ use Rattle.outside.specs.declared.step.WorldStep.TheVariants.{Acted, TookInto, F
 use Rattle.outside.specs.Seen.{Counts}
 use Rattle.outside.specs.InOrder.{BringMessages}
 use Rattle.outside.specs.laws.InOrderLaws.{messages-append}
-use Rattle.net_txn.specs.Undos.{IsStepOf, IsRun, alone, Part, Inverse, BarrierPassed, Stuck, part_steps, steps_of, parts_of, fault_in, first_fault}
+use Rattle.net_txn.specs.Undos.{IsRun, alone, Part, Inverse, BarrierPassed, Stuck, part_steps, steps_of, parts_of, fault_in, first_fault}
+use Rattle.lego_model.specs.UndoFaults.{IsStepOf}
 use Rattle.net_txn.specs.laws.RestoreLaws.{AllRun, runs_here, runs_older, part_of}
 use Rattle.net_txn.specs.LinkSteps.{is_link_step, AreLinkSteps}
 use Rattle.net_txn.specs.laws.LinkStepLaws.{links_append}

@@ -9,7 +9,8 @@ use Rattle.outside.specs.State.{State, after_steps, state, is_joined}
 use Rattle.outside.specs.InOrder.{MayComeAll, InOrder}
 use Rattle.outside.specs.laws.InOrderLaws.{InOrder-rest, come_front, come_rest}
 use Rattle.lego_model.specs.BarrierWaits.{wait_steps, reply_got}
-use Rattle.net_txn.specs.LinkSteps.{AreExpectedOnLinks, MakesNoStrayCall, GoesWithoutStrays}
+use Rattle.net_txn.specs.LinkSteps.{MakesNoStrayCall}
+use Rattle.lego_model.specs.UndoFaults.{AreExpectedOnLinks, GoesWithoutStrays}
 use Rattle.net_txn.specs.laws.LinkStepLaws.{links_append, wait_links}
 use Rattle.net_txn.specs.laws.LinkStrayLaws.{places_append, no_strays_by, sure_settled}
 use Rattle.net_txn.specs.laws.JoinedLaws.{steps_leave}

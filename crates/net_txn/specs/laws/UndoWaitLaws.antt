@@ -18,11 +18,10 @@ use Rattle.lego_model.specs.BarrierWaits.{kept_of, wait_steps, reply_got, barrie
 use Rattle.net_txn.specs.declared.queue.Storage.TheVariants.{Reserved}
 use Rattle.net_txn.specs.declared.trouble.Trouble.{Trouble}
 use Rattle.net_txn.specs.declared.trouble.Trouble.TheVariants as troubles
-use Rattle.lego_model.specs.AfterFault.{inverse_bytes}
-use Rattle.net_txn.specs.LinkSteps.{GoesWithoutStrays}
+use Rattle.lego_model.specs.UndoFaults.{inverse_bytes, GoesWithoutStrays, key_refused, AreBefore}
 use Rattle.net_txn.specs.MessageStore.{KeptWhereFit}
 use Rattle.net_txn.specs.Waits.{IsRead, KeptMore}
-use Rattle.net_txn.specs.Undos.{fault_by, alone, Moves, key_refused, IsFaultOf, Fails, AreBefore, AwaitsReplies, PassesBarrier}
+use Rattle.net_txn.specs.Undos.{fault_by, alone, Moves, IsFaultOf, Fails, AwaitsReplies, PassesBarrier}
 use Rattle.net_txn.specs.Said.{IsSaid, Calls, said_steps, unsaid, wait_said, last_said, IsOfLink, IsBreak, AreHeard, frames_said, barrier_of, reply_heard, Replied, Breaks}
 use Rattle.net_txn.specs.laws.WaitLaws.{of_switch, kept_of_more}
 use Rattle.net_txn.specs.laws.SaidLaws.{all_behind, all_weaker, Calls-moves, whole_steps, whole_goes}

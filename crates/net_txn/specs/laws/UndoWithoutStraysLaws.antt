@@ -9,7 +9,8 @@ use Rattle.outside.specs.State.{State, after_step, after_steps, is_joined}
 use Rattle.outside.specs.laws.StateLaws.{after_steps-append}
 use Rattle.lego_model.specs.declared.wait.Awaited.{Awaited}
 use Rattle.lego_model.specs.BarrierWaits.{heard, is_reply, wait_steps, barrier_sent}
-use Rattle.net_txn.specs.LinkSteps.{AreLinkSteps, GoesWithoutStrays, ThenWaits}
+use Rattle.net_txn.specs.LinkSteps.{AreLinkSteps, ThenWaits}
+use Rattle.lego_model.specs.UndoFaults.{GoesWithoutStrays}
 use Rattle.net_txn.specs.laws.LinkStepLaws.{wait_links}
 use Rattle.net_txn.specs.laws.LinkStrayLaws.{places_append, IsSure, sure_places, sure_wait, awaits_waiting, awaits_barrier, awaits_wait}
 use Rattle.outside.specs.laws.InOrderLaws.{come_front, come_rest}

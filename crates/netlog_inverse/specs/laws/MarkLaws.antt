@@ -123,7 +123,7 @@ Standing-undo now k earlier i (x ∷ sent) t was is later h =
     (Standing-undo now k earlier (merge i (image_at k x)) sent t was is later grouped)
 
 -- an image that says something and stands rightly is not changed by what came later
-stays_first : (i j : Said) → i ≢ Untouched → ((actions : List Action) → i ≡ Acted actions → is_gone j ≡ false) → merge i j ≡ i
+pub stays_first : (i j : Said) → i ≢ Untouched → ((actions : List Action) → i ≡ Acted actions → is_gone j ≡ false) → merge i j ≡ i
 stays_first Untouched j some right = absurd (some refl)
 stays_first Absent j some right = refl
 stays_first (Gone e) j some right = refl
@@ -139,7 +139,7 @@ not_gone same i o alone =
       | inr other ↦ other
     ]
 
-option_cases : (a : Option Image) → ((i : Image) × (a ≡ Some i)) ⊎ (a ≡ None)
+pub option_cases : (a : Option Image) → ((i : Image) × (a ≡ Some i)) ⊎ (a ≡ None)
 option_cases None = inr refl
 option_cases (Some i) = inl (i, refl)
 
@@ -182,18 +182,18 @@ put-mended k lost (Row l row before) = refl
 put-mended k lost (Config port config) = refl
 put-mended k lost (Settings flags len) = refl
 
-is-mended : (d : ℕ) (k : Key) (lost : Option Lost) (hard : ℕ) (stands : Bool) (l : Logged) → is_image_of d k (mended lost hard stands l) ≡ is_image_of d k l
+pub is-mended : (d : ℕ) (k : Key) (lost : Option Lost) (hard : ℕ) (stands : Bool) (l : Logged) → is_image_of d k (mended lost hard stands l) ≡ is_image_of d k l
 unfolding mended
 is-mended d k lost hard stands l = rw (put-mended k lost l.image.put) refl
 
-takes : (d : ℕ) (k : Key) (l : Logged) (log : List Logged) → is_image_of d k l ≡ true → first_at d k (l ∷ log) ≡ Some l.image
+pub takes : (d : ℕ) (k : Key) (l : Logged) (log : List Logged) → is_image_of d k l ≡ true → first_at d k (l ∷ log) ≡ Some l.image
 takes d k l log is = rw is refl
 
-skips : (d : ℕ) (k : Key) (l : Logged) (log : List Logged) → is_image_of d k l ≡ false → first_at d k (l ∷ log) ≡ first_at d k log
+pub skips : (d : ℕ) (k : Key) (l : Logged) (log : List Logged) → is_image_of d k l ≡ false → first_at d k (l ∷ log) ≡ first_at d k log
 skips d k l log is = rw is refl
 
 -- the first image of the key is the one that was set right
-first-mended : (d : ℕ) (k : Key) (lost : Option Lost) (hard : ℕ) (at : ℕ) (since : List Logged) → IsFirstAt d k at since
+pub first-mended : (d : ℕ) (k : Key) (lost : Option Lost) (hard : ℕ) (at : ℕ) (since : List Logged) → IsFirstAt d k at since
     → (l : Logged) × (first_at d k since ≡ Some l.image) × (first_at d k (changed_at at (mended lost hard false) since) ≡ Some (mended lost hard false l).image)
 first-mended d k lost hard at [] h = absurd h
 first-mended d k lost hard zero (l ∷ log) h = (l, takes d k l log h, takes d k (mended lost hard false l) log (is-mended d k lost hard false l ∙ h))
@@ -202,7 +202,7 @@ first-mended d k lost hard (suc at) (l ∷ log) h =
     (m, skips d k l log h.0 ∙ was, skips d k l (changed_at at (mended lost hard false) log) h.0 ∙ is)
 
 -- two keys that one image is of have one number
-one-number : (d : ℕ) (k l : Key) (x : Logged) → is_image_of d k x ≡ true → is_image_of d l x ≡ true → key_number k ≡ key_number l
+pub one-number : (d : ℕ) (k l : Key) (x : Logged) → is_image_of d k x ≡ true → is_image_of d l x ≡ true → key_number k ≡ key_number l
 one-number d k l x a b = numbers x.image.put (second (x.dpid == d) (is_at k x.image.put) a) (second (x.dpid == d) (is_at l x.image.put) b)
   where
     second : (p q : Bool) → (p && q) ≡ true → q ≡ true
@@ -215,7 +215,7 @@ one-number d k l x a b = numbers x.image.put (second (x.dpid == d) (is_at k x.im
     numbers (Settings flags len) a b = absurd cc
 
 -- the other keys' first images stay
-first-others : (d : ℕ) (k l : Key) (lost : Option Lost) (hard : ℕ) (at : ℕ) (since : List Logged) → IsFirstAt d k at since → key_number k ≢ key_number l
+pub first-others : (d : ℕ) (k l : Key) (lost : Option Lost) (hard : ℕ) (at : ℕ) (since : List Logged) → IsFirstAt d k at since → key_number k ≢ key_number l
     → first_at d l (changed_at at (mended lost hard false) since) ≡ first_at d l since
 first-others d k l lost hard at [] h other = absurd h
 first-others d k l lost hard zero (x ∷ log) h other =
@@ -230,7 +230,7 @@ first-others d k l lost hard (suc at) (x ∷ log) h other =
     ]
 
 -- keys of one number have the same first image
-first-number : (d : ℕ) (k l : Key) (log : List Logged) → key_number k ≡ key_number l → first_at d l log ≡ first_at d k log
+pub first-number : (d : ℕ) (k l : Key) (log : List Logged) → key_number k ≡ key_number l → first_at d l log ≡ first_at d k log
 first-number d k l [] same = refl
 first-number d k l (x ∷ log) same =
     ap (λ (is : Bool). if x.dpid == d && is then Some x.image else first_at d l log) (at_one x.image.put)
@@ -241,7 +241,7 @@ first-number d k l (x ∷ log) same =
     at_one (Config port config) = refl
     at_one (Settings flags len) = refl
 
-said-gone : (now hard : ℕ) (lost : Lost) (l : Logged) (m : Key) (r : ViewRow) (before : Option Lost) → l.image.put ≡ Row m (Some r) before → said now (Some (mended (Some lost) hard false l).image) ≡ Gone (entry_of now r lost)
+pub said-gone : (now hard : ℕ) (lost : Lost) (l : Logged) (m : Key) (r : ViewRow) (before : Option Lost) → l.image.put ≡ Row m (Some r) before → said now (Some (mended (Some lost) hard false l).image) ≡ Gone (entry_of now r lost)
 unfolding mended
 said-gone now hard lost l m r before is = rw is refl
 

@@ -42,7 +42,7 @@ is_gone-settled now Absent = refl
 is_gone-settled now (Gone e) = refl
 is_gone-settled now (Acted actions) = refl
 
-settled-merge : (now : ℕ) (a b : Said) → settled now (merge a b) ≡ merge (settled now a) (settled now b)
+pub settled-merge : (now : ℕ) (a b : Said) → settled now (merge a b) ≡ merge (settled now a) (settled now b)
 settled-merge now Untouched b = refl
 settled-merge now Absent b = refl
 settled-merge now (Gone e) b = refl

@@ -134,9 +134,9 @@ keep_talk app acts s are none =
     let only = talk_steps app acts s are in
     record { links = only.links; rests = talk_rests s (after_steps (map step_of acts) s) only; marks = talks_mark app acts s are none }
 
-restored_none : (b : Bool) → NoEvents (if b then restore_frame ∷ [] else [])
-restored_none true = (restore_number, tt)
-restored_none false = tt
+restored_none : (kept : List ℕ) (b : Bool) → NoEvents (if b then restore_frame kept ∷ [] else [])
+restored_none kept true = (restore_number kept, tt)
+restored_none kept false = tt
 
 -- the acts of an attempt, from the end of the life before it on
 pub try_own : (app : ℕ) (running stands : Bool) (acts : List Act) → (app == app) ≡ true → AllByRecursion (λ act. is_of app act ≡ true) acts → AllByRecursion (λ act. is_of app act ≡ true) (end_acts running app ++ Started app stands ∷ acts)
@@ -148,31 +148,31 @@ unfolding inputs
 try_given app true stands acts = refl
 try_given app false stands acts = refl
 
-try_keeps : {Own : Type 0} (Tells : Type 0) (app : ℕ) (t : OneTry Own) (old : Seen Own) → Tells → IsTry Tells app t.attempt t.tried t.rest old t.after → AllByRecursion (λ act. is_of app act ≡ true) t.attempt.acts → TriesKeep (state old) (state t.after)
-try_keeps Tells app t old told is own =
+try_keeps : {Own : Type 0} (Tells : Type 0) (app : ℕ) (kept : List ℕ) (t : OneTry Own) (old : Seen Own) → Tells → IsTry Tells app kept t.attempt t.tried t.rest old t.after → AllByRecursion (λ act. is_of app act ≡ true) t.attempt.acts → TriesKeep (state old) (state t.after)
+try_keeps Tells app kept t old told is own =
     let running = is_running app (state old) in
     let acts = end_acts running app ++ Started app t.attempt.stands ∷ t.attempt.acts in
     subst (λ (s : State). TriesKeep (state old) s) (sym (state-append old t.after (map step_of acts) is.continues.given (is.history told)))
     (keep_talk app acts (state old) (try_own app running t.attempt.stands t.attempt.acts (eq-eqb app app refl) own)
-    (subst NoEvents (sym (try_given app running t.attempt.stands t.attempt.acts ∙ is.given)) (restored_none _)))
+    (subst NoEvents (sym (try_given app running t.attempt.stands t.attempt.acts ∙ is.given)) (restored_none kept _)))
 
-pub tries_keep : {Own : Type 0} (Tells : Type 0) (app n : ℕ) (ts : List (OneTry Own)) (old new : Seen Own) → Tells → AreTries Tells app n ts old new → AllByRecursion (λ t. AllByRecursion (λ act. is_of app act ≡ true) t.attempt.acts) ts → TriesKeep (state old) (state new)
-tries_keep Tells app zero [] old new told are own = subst (λ (s : Seen _). TriesKeep (state old) (state s)) (sym are) (TriesKeep-refl (state old))
-tries_keep Tells app zero (t ∷ ts) old new told are own = absurd are
-tries_keep Tells app (suc n) [] old new told are own = absurd are
-tries_keep Tells app (suc n) (t ∷ ts) old new told are own =
-    let one = try_keeps Tells app t old told are.0 own.0 in
+pub tries_keep : {Own : Type 0} (Tells : Type 0) (app : ℕ) (kept : List ℕ) (n : ℕ) (ts : List (OneTry Own)) (old new : Seen Own) → Tells → AreTries Tells app kept n ts old new → AllByRecursion (λ t. AllByRecursion (λ act. is_of app act ≡ true) t.attempt.acts) ts → TriesKeep (state old) (state new)
+tries_keep Tells app kept zero [] old new told are own = subst (λ (s : Seen _). TriesKeep (state old) (state s)) (sym are) (TriesKeep-refl (state old))
+tries_keep Tells app kept zero (t ∷ ts) old new told are own = absurd are
+tries_keep Tells app kept (suc n) [] old new told are own = absurd are
+tries_keep Tells app kept (suc n) (t ∷ ts) old new told are own =
+    let one = try_keeps Tells app kept t old told are.0 own.0 in
     elim are.1 [
       | inl last ↦ subst (λ (s : Seen _). TriesKeep (state old) (state s)) (sym last.2) one
-      | inr more ↦ TriesKeep-trans (state old) (state t.after) (state new) one (tries_keep Tells app n ts t.after new told more.1 own.1)
+      | inr more ↦ TriesKeep-trans (state old) (state t.after) (state new) one (tries_keep Tells app kept n ts t.after new told more.1 own.1)
     ]
 
-pub tries_continue : {Own : Type 0} (Tells : Type 0) (app n : ℕ) (ts : List (OneTry Own)) (old new : Seen Own) → AreTries Tells app n ts old new → Continues Tells old new
-tries_continue Tells app zero [] old new are = subst (λ (s : Seen _). Continues Tells old s) (sym are) (Continues-refl Tells old)
-tries_continue Tells app zero (t ∷ ts) old new are = absurd are
-tries_continue Tells app (suc n) [] old new are = absurd are
-tries_continue Tells app (suc n) (t ∷ ts) old new are =
+pub tries_continue : {Own : Type 0} (Tells : Type 0) (app : ℕ) (kept : List ℕ) (n : ℕ) (ts : List (OneTry Own)) (old new : Seen Own) → AreTries Tells app kept n ts old new → Continues Tells old new
+tries_continue Tells app kept zero [] old new are = subst (λ (s : Seen _). Continues Tells old s) (sym are) (Continues-refl Tells old)
+tries_continue Tells app kept zero (t ∷ ts) old new are = absurd are
+tries_continue Tells app kept (suc n) [] old new are = absurd are
+tries_continue Tells app kept (suc n) (t ∷ ts) old new are =
     elim are.1 [
       | inl last ↦ subst (λ (s : Seen _). Continues Tells old s) (sym last.2) are.0.continues
-      | inr more ↦ Continues-trans Tells old t.after new are.0.continues (tries_continue Tells app n ts t.after new more.1)
+      | inr more ↦ Continues-trans Tells old t.after new are.0.continues (tries_continue Tells app kept n ts t.after new more.1)
     ]

@@ -16,6 +16,7 @@ use Rattle.journal_laws.specs.laws.AtOnceLaws.{Dialogue-append, others_say}
 use Rattle.journal_laws.specs.laws.FrameLaws.{event_is}
 use Rattle.app_visor.specs.declared.state.TurnEnd.{TurnEnd}
 use Rattle.app_visor.specs.declared.state.TurnEnd.TheVariants as ends
+use Rattle.app_visor.specs.Turns.{handed}
 use Rattle.app_visor.specs.Dialogues.{Converses, Speaks, is_done, CallsKeepOrder}
 use Rattle.app_visor.specs.laws.RunningLaws.{dialogue_runs, dialogue_in_place}
 use Rattle.app_visor.specs.Attempts.{ready_rest}
@@ -74,16 +75,16 @@ pub starts_converse : {Own : Type 0} (Tells : Type 0) (text : List ℕ) (old new
 starts_converse Tells text old new e now_e told a s =
     let all = s.restarts.all in
     let found = s.restarts.found_so in
-    speaks_on old new now_e (is_some (ready_rest all)) (unwrap_or (ready_rest all) []) a (tries_speak Tells index attempts all old new a.last s.restarts.are told (runs_now old a))
+    speaks_on old new now_e (is_some (ready_rest all)) (unwrap_or (ready_rest all) []) a (tries_speak Tells index e.kept attempts all old new a.last s.restarts.are told (runs_now old a))
     (λ alive. (sym (ap (λ (x : Engine). x.alive) s.engine ∙ ap (λ (o : Option (List ℕ)). is_some o) found) ∙ alive, ap (λ (x : Engine). x.rest) s.engine ∙ ap (λ (o : Option (List ℕ)). unwrap_or o []) found))
 
 -- ---- A turn
 
-closed_converses : {Own : Type 0} (Tells : Type 0) (end : TurnEnd) (unread text : List ℕ) (start : ℕ) (old mid new : Seen Own) (mid_net : NetState) (e now_e : Engine) → Tells → (a : AtOnce index (journal old.history))
-    → Speaks index a.last old mid (is_done end) unread → IsClosed Tells end unread text start mid new mid_net e now_e → Conversing new now_e
-closed_converses Tells (ends.Done stop) unread text start old mid new mid_net e now_e told a says closed =
+closed_converses : {Own : Type 0} (Tells : Type 0) (end : TurnEnd) (checkpoint : Option (List ℕ)) (unread text : List ℕ) (start : ℕ) (old mid new : Seen Own) (mid_net : NetState) (e now_e : Engine) → Tells → (a : AtOnce index (journal old.history))
+    → Speaks index a.last old mid (is_done end) unread → IsClosed Tells end checkpoint unread text start mid new mid_net e now_e → Conversing new now_e
+closed_converses Tells (ends.Done stop) checkpoint unread text start old mid new mid_net e now_e told a says closed =
     subst (λ (s : Seen _). Conversing s now_e) (sym closed.seen) (speaks_on old mid now_e true unread a says (λ alive. (refl, ap (λ (x : Engine). x.rest) closed.engine)))
-closed_converses Tells (ends.Failed cause) unread text start old mid new mid_net e now_e told a says closed =
+closed_converses Tells (ends.Failed cause) checkpoint unread text start old mid new mid_net e now_e told a says closed =
     let undone = closed.undone in
     let only = closed.undoes.links told in
     let there = others_at_once mid undone only.steps only.history (link_steps-tell index only.steps only.all).acts (at_once_then says.after old mid a says.converses) in
@@ -92,7 +93,7 @@ closed_converses Tells (ends.Failed cause) unread text start old mid new mid_net
 turn_converses : {Own : Type 0} (Tells : Type 0) (accepts : List TableView → Bool) (event : Event) (text : List ℕ) (old new : Seen Own) (e now_e : Engine) → Tells → e.alive ≡ true → Conversing old e → TakesTurn Tells accepts event text old new e now_e
     → Conversing new now_e
 turn_converses Tells accepts event text old new e now_e told alive c turn =
-    closed_converses Tells turn.end turn.unread text (length e.net.log) old turn.mid new turn.mid_net e now_e told c.at_once
+    closed_converses Tells turn.end (handed turn.turns.outcome) turn.unread text (length e.net.log) old turn.mid new turn.mid_net e now_e told c.at_once
     (turn.turns.speaks told (event_is e.events e.net.moment event) c.at_once.last (c.rest_so alive).0 (c.rest_so alive).1) turn.closed
 
 -- whether it is alive or not

@@ -1,5 +1,5 @@
 -- The law of an event: what the engine does at it is what the reference controller does, whether the application is alive or gone.
-use Rattle.std.proofs.Common.{◌≡◌, ℕ, ◌+◌, ◌^◌, ◌<◌, Bool, true, false, List, [], ◌∷◌, ◌++◌, length, drop, if◌then◌else◌, Some, refl, sym, ap, ap₂, ◌∙◌, subst}
+use Rattle.std.proofs.Common.{◌≡◌, ℕ, ◌+◌, ◌^◌, ◌<◌, Bool, true, false, List, [], ◌∷◌, ◌++◌, length, drop, if◌then◌else◌, Option, Some, refl, sym, ap, ap₂, ◌∙◌, subst}
 use Rattle.std.proofs.lemmas.List.{append-nil}
 use Rattle.flow_table.specs.declared.view.TableView.{TableView}
 use Rattle.app_frames.specs.declared.frame.Event.{Event}
@@ -15,6 +15,7 @@ use Rattle.outside.specs.laws.StateLaws.{Conforming-before}
 use Rattle.outside.specs.Conforming.{Conforming}
 use Rattle.net_txn.specs.Net.{NetState}
 use Rattle.app_visor.specs.declared.state.TurnEnd.{TurnEnd}
+use Rattle.app_visor.specs.Turns.{handed}
 use Rattle.app_visor.specs.declared.state.TurnEnd.TheVariants as ends
 use Rattle.switch_laws.specs.Shown.{shown_places}
 use Rattle.switch_laws.specs.laws.StandLaws.{state-links}
@@ -171,15 +172,15 @@ pub dispatch-life : {Own : Type 0} (Tells : Type 0) (accepts : List TableView �
 dispatch-life Tells accepts allows event text old new e now_e told keeps judges reads few life d =
     life_by Tells accepts allows event d.turn_text old new e now_e e.alive refl told keeps judges reads few life d.turn
 
-closed_count : {Own : Type 0} (Tells : Type 0) (end : TurnEnd) (unread text : List ℕ) (start : ℕ) (mid new : Seen Own) (mid_net : NetState) (e now_e : Engine) → IsClosed Tells end unread text start mid new mid_net e now_e
+closed_count : {Own : Type 0} (Tells : Type 0) (end : TurnEnd) (checkpoint : Option (List ℕ)) (unread text : List ℕ) (start : ℕ) (mid new : Seen Own) (mid_net : NetState) (e now_e : Engine) → IsClosed Tells end checkpoint unread text start mid new mid_net e now_e
     → (now_e.events ≡ e.events) × (now_e.queue ≡ e.queue)
-closed_count Tells (ends.Done stop) unread text start mid new mid_net e now_e closed = (ap (λ (x : Engine). x.events) closed.engine, ap (λ (x : Engine). x.queue) closed.engine)
-closed_count Tells (ends.Failed cause) unread text start mid new mid_net e now_e closed =
+closed_count Tells (ends.Done stop) checkpoint unread text start mid new mid_net e now_e closed = (ap (λ (x : Engine). x.events) closed.engine, ap (λ (x : Engine). x.queue) closed.engine)
+closed_count Tells (ends.Failed cause) checkpoint unread text start mid new mid_net e now_e closed =
     (ap (λ (x : Engine). x.events) closed.starts.engine, ap (λ (x : Engine). x.queue) closed.starts.engine)
 
 count_by : {Own : Type 0} (Tells : Type 0) (accepts : List TableView → Bool) (event : Event) (text : List ℕ) (old new : Seen Own) (e now_e : Engine) (alive : Bool) → IsTurn Tells accepts event alive text old new e now_e
     → (now_e.events ≡ e.events) × (now_e.queue ≡ e.queue)
-count_by Tells accepts event text old new e now_e true turn = closed_count Tells turn.end turn.unread text (length e.net.log) turn.mid new turn.mid_net e now_e turn.closed
+count_by Tells accepts event text old new e now_e true turn = closed_count Tells turn.end (handed turn.turns.outcome) turn.unread text (length e.net.log) turn.mid new turn.mid_net e now_e turn.closed
 count_by Tells accepts event text old new e now_e false turn = (ap (λ (x : Engine). x.events) turn.1, ap (λ (x : Engine). x.queue) turn.1)
 
 -- one event more was dispatched, and those that wait stay

@@ -29,15 +29,15 @@ use Rattle.run_laws.specs.laws.OrderlyRunLaws.{turn-orderly}
 -- ---- Every turn and every restart is read
 
 -- of each attempt enough is told
-tries-heard : {Own : Type 0} (Tells : Type 0) (app n : ℕ) (ts : List (OneTry Own)) (old new : Seen Own) → AreTries Tells app n ts old new → AllByRecursion (λ t. is_start_heard (start_of t.attempt) ≡ true) ts
-tries-heard Tells app zero [] old new are = tt
-tries-heard Tells app zero (t ∷ ts) old new are = absurd are
-tries-heard Tells app (suc n) [] old new are = absurd are
-tries-heard {Own} Tells app (suc n) (t ∷ ts) old new are = (
+tries-heard : {Own : Type 0} (Tells : Type 0) (app : ℕ) (kept : List ℕ) (n : ℕ) (ts : List (OneTry Own)) (old new : Seen Own) → AreTries Tells app kept n ts old new → AllByRecursion (λ t. is_start_heard (start_of t.attempt) ≡ true) ts
+tries-heard Tells app kept zero [] old new are = tt
+tries-heard Tells app kept zero (t ∷ ts) old new are = absurd are
+tries-heard Tells app kept (suc n) [] old new are = absurd are
+tries-heard {Own} Tells app kept (suc n) (t ∷ ts) old new are = (
   are.0.heard,
   elim are.1 [
     | inl h ↦ subst (λ (l : List (OneTry Own)). AllByRecursion (λ x. is_start_heard (start_of x.attempt) ≡ true) l) (sym h.1) tt
-    | inr h ↦ tries-heard Tells app n ts t.after new h.1
+    | inr h ↦ tries-heard Tells app kept n ts t.after new h.1
   ],
 )
 
@@ -46,9 +46,9 @@ are-read Tells accepts = record {
   turn = λ number moment event rest old mid net mid_net end unread told t stood.
       let r = turn_told t told (event_is number moment event) stood in
       record { starts = r.starts; replies = r.replies; heard = t.heard; life = r.life };
-  tries = λ old new found tries told s.
-      let r = tries_told Tells index attempts s.all old new s.are told in
-      record { starts = r.starts; replies = r.replies; heard = tries-heard Tells index attempts s.all old new s.are; life = λ some. r.life (sym (ap (λ (o : Option (List ℕ)). is_some o) s.found_so) ∙ some); own = r.own };
+  tries = λ kept old new found tries told s.
+      let r = tries_told Tells index kept attempts s.all old new s.are told in
+      record { starts = r.starts; replies = r.replies; heard = tries-heard Tells index kept attempts s.all old new s.are; life = λ some. r.life (sym (ap (λ (o : Option (List ℕ)). is_some o) s.found_so) ∙ some); own = r.own };
 }
 
 -- ---- An event

@@ -31,9 +31,9 @@ event_so : (count : ℕ) (more : List ℕ) → count < 2 ^ 64 → event_number (
 unfolding event_number
 event_so count more few = rw (kind_read 2 (number_bytes 8 count ++ more) (omega arith)) (ap (λ (n : ℕ). Some n) (count_read 2 count more few))
 
-pub restore_number : event_number restore_frame ≡ None
+pub restore_number : (checkpoint : List ℕ) → event_number (restore_frame checkpoint) ≡ None
 unfolding host_bytes event_number
-restore_number = rw (kind_read 1 (host_body_bytes (host.Restore [])) (omega arith)) refl
+restore_number checkpoint = rw (kind_read 1 (host_body_bytes (host.Restore checkpoint)) (omega arith)) refl
 
 pub answer_number : (answer : Answer) → event_number (answer_frame answer) ≡ None
 unfolding host_bytes event_number

@@ -1,6 +1,6 @@
 -- Laws of steps in order in a run: calls for an application, turns, starts and the end of the report release no packet, and no call of a
 -- link failed where they succeed.
-use Rattle.std.proofs.Common.{◌≡◌, ℕ, suc, zero, ◌+◌, Bool, true, false, List, [], ◌∷◌, ◌++◌, length, map, refl, sym, subst, true≢false, inl, inr}
+use Rattle.std.proofs.Common.{◌≡◌, ℕ, suc, zero, ◌+◌, Bool, true, false, List, [], ◌∷◌, ◌++◌, length, map, Option, refl, sym, subst, true≢false, inl, inr}
 use Rattle.std.specs.List.{AllByRecursion}
 use Rattle.std.proofs.lemmas.Bool.{eq-eqb, eqb-true}
 use Rattle.of_types.specs.declared.journal.Act.{Act}
@@ -13,6 +13,7 @@ use Rattle.outside.specs.Seen.{Seen}
 use Rattle.outside.specs.State.{is_running, state}
 use Rattle.net_txn.specs.Net.{NetState}
 use Rattle.app_visor.specs.declared.state.TurnEnd.{TurnEnd}
+use Rattle.app_visor.specs.Turns.{handed}
 use Rattle.app_visor.specs.declared.state.TurnEnd.TheVariants as ends
 use Rattle.app_visor.specs.Talks.{step_of, give_act}
 use Rattle.app_visor.specs.Beats.{Beat, Talk, Asks, Chain}
@@ -57,33 +58,33 @@ chain-orderly Tells app (Asks x ∷ trace) old new net now_net told chain =
 
 -- ---- Attempts to start
 
-try-orderly : {Own : Type 0} (Tells : Type 0) (app : ℕ) (t : OneTry Own) (old : Seen Own) → Tells → IsTry Tells app t.attempt t.tried t.rest old t.after → AllByRecursion (λ act. is_of app act ≡ true) t.attempt.acts → OrderlySince app old t.after
-try-orderly Tells app t old told is own =
+try-orderly : {Own : Type 0} (Tells : Type 0) (app : ℕ) (kept : List ℕ) (t : OneTry Own) (old : Seen Own) → Tells → IsTry Tells app kept t.attempt t.tried t.rest old t.after → AllByRecursion (λ act. is_of app act ≡ true) t.attempt.acts → OrderlySince app old t.after
+try-orderly Tells app kept t old told is own =
     let running = is_running app (state old) in
     let acts = end_acts running app ++ Started app t.attempt.stands ∷ t.attempt.acts in
     record { steps = map step_of acts; history = is.history told; orderly = talks-orderly app acts (try_own app running t.attempt.stands t.attempt.acts (eq-eqb app app refl) own) }
 
-tries-orderly : {Own : Type 0} (Tells : Type 0) (app n : ℕ) (ts : List (OneTry Own)) (old new : Seen Own) → Tells → AreTries Tells app n ts old new → AllByRecursion (λ t. AllByRecursion (λ act. is_of app act ≡ true) t.attempt.acts) ts → OrderlySince app old new
-tries-orderly Tells app zero [] old new told are own = orderly-same app old new are
-tries-orderly Tells app zero (t ∷ ts) old new told are own = absurd are
-tries-orderly Tells app (suc n) [] old new told are own = absurd are
-tries-orderly Tells app (suc n) (t ∷ ts) old new told are own =
-    let one = try-orderly Tells app t old told are.0 own.0 in
+tries-orderly : {Own : Type 0} (Tells : Type 0) (app : ℕ) (kept : List ℕ) (n : ℕ) (ts : List (OneTry Own)) (old new : Seen Own) → Tells → AreTries Tells app kept n ts old new → AllByRecursion (λ t. AllByRecursion (λ act. is_of app act ≡ true) t.attempt.acts) ts → OrderlySince app old new
+tries-orderly Tells app kept zero [] old new told are own = orderly-same app old new are
+tries-orderly Tells app kept zero (t ∷ ts) old new told are own = absurd are
+tries-orderly Tells app kept (suc n) [] old new told are own = absurd are
+tries-orderly Tells app kept (suc n) (t ∷ ts) old new told are own =
+    let one = try-orderly Tells app kept t old told are.0 own.0 in
     elim are.1 [
       | inl last ↦ subst (OrderlySince app old) (sym last.2) one
-      | inr more ↦ orderly-then app old t.after new one (tries-orderly Tells app n ts t.after new told more.1 own.1)
+      | inr more ↦ orderly-then app old t.after new one (tries-orderly Tells app kept n ts t.after new told more.1 own.1)
     ]
 
 pub starts-orderly : {Own : Type 0} (Tells : Type 0) (accepts : List TableView → Bool) (text : List ℕ) (old new : Seen Own) (e now_e : Engine) → Tells → AreRead Own Tells accepts → StartsAgain Tells text old new e now_e → OrderlySince index old new
 starts-orderly Tells accepts text old new e now_e told reads s =
-    tries-orderly Tells index attempts s.restarts.all old new told s.restarts.are (reads.tries old new s.found s.tries told s.restarts).own
+    tries-orderly Tells index e.kept attempts s.restarts.all old new told s.restarts.are (reads.tries e.kept old new s.found s.tries told s.restarts).own
 
 -- ---- A turn
 
-closed-orderly : {Own : Type 0} (Tells : Type 0) (accepts : List TableView → Bool) (end : TurnEnd) (unread text : List ℕ) (start : ℕ) (mid new : Seen Own) (mid_net : NetState) (e now_e : Engine) → Tells → AreRead Own Tells accepts
-    → IsClosed Tells end unread text start mid new mid_net e now_e → OrderlySince index mid new
-closed-orderly Tells accepts (ends.Done stop) unread text start mid new mid_net e now_e told reads closed = orderly-same index mid new closed.seen
-closed-orderly Tells accepts (ends.Failed cause) unread text start mid new mid_net e now_e told reads closed =
+closed-orderly : {Own : Type 0} (Tells : Type 0) (accepts : List TableView → Bool) (end : TurnEnd) (checkpoint : Option (List ℕ)) (unread text : List ℕ) (start : ℕ) (mid new : Seen Own) (mid_net : NetState) (e now_e : Engine) → Tells → AreRead Own Tells accepts
+    → IsClosed Tells end checkpoint unread text start mid new mid_net e now_e → OrderlySince index mid new
+closed-orderly Tells accepts (ends.Done stop) checkpoint unread text start mid new mid_net e now_e told reads closed = orderly-same index mid new closed.seen
+closed-orderly Tells accepts (ends.Failed cause) checkpoint unread text start mid new mid_net e now_e told reads closed =
     orderly-then index mid closed.undone new (undo-orderly index Tells start mid closed.undone mid_net closed.undone_net told closed.undoes)
     (starts-orderly Tells accepts closed.later_text closed.undone new (record e { net = closed.undone_net; rest = []; failed = e.failed + 1 }) now_e told reads closed.starts)
 
@@ -91,7 +92,7 @@ taken-orderly : {Own : Type 0} (Tells : Type 0) (accepts : List TableView → Bo
 taken-orderly Tells accepts event text old new e now_e told reads turn =
     orderly-then index old turn.mid new
     (chain-orderly Tells index (Talk (give_act turn.turns.given index (event_frame e.events e.net.moment event)) ∷ turn.turns.trace) old turn.mid e.net turn.mid_net told turn.turns.chain)
-    (closed-orderly Tells accepts turn.end turn.unread text (length e.net.log) turn.mid new turn.mid_net e now_e told reads turn.closed)
+    (closed-orderly Tells accepts turn.end (handed turn.turns.outcome) turn.unread text (length e.net.log) turn.mid new turn.mid_net e now_e told reads turn.closed)
 
 pub turn-orderly : {Own : Type 0} (Tells : Type 0) (accepts : List TableView → Bool) (event : Event) (alive : Bool) (text : List ℕ) (old new : Seen Own) (e now_e : Engine) → Tells → AreRead Own Tells accepts → IsTurn Tells accepts event alive text old new e now_e
     → OrderlySince index old new

@@ -77,21 +77,21 @@ chain_tells Tells (Asks x ∷ trace) old new net now_net told chain =
 
 -- ---- Attempts to start
 
-try_tells : {Own : Type 0} (Tells : Type 0) (t : OneTry Own) (old : Seen Own) → Tells → IsTry Tells index t.attempt t.tried t.rest old t.after → AreOwn t.attempt.acts → TellsGiven old t.after (restored (start_of t.attempt))
-try_tells Tells t old told is own =
+try_tells : {Own : Type 0} (Tells : Type 0) (kept : List ℕ) (t : OneTry Own) (old : Seen Own) → Tells → IsTry Tells index kept t.attempt t.tried t.rest old t.after → AreOwn t.attempt.acts → TellsGiven old t.after (restored kept (start_of t.attempt))
+try_tells Tells kept t old told is own =
     let running = is_running index (state old) in
     let acts = end_acts running index ++ Started index t.attempt.stands ∷ t.attempt.acts in
     subst (TellsGiven old t.after) (try_given index running t.attempt.stands t.attempt.acts ∙ is.given)
     (tells_talk old t.after acts (is.history told) (try_own index running t.attempt.stands t.attempt.acts (eq-eqb index index refl) own))
 
-pub tries_tell : {Own : Type 0} (Tells : Type 0) (n : ℕ) (ts : List (OneTry Own)) (old new : Seen Own) → Tells → AreTries Tells index n ts old new → AllByRecursion (λ t. AreOwn t.attempt.acts) ts → TellsGiven old new (given_by ts)
-tries_tell Tells zero [] old new told are own = subst (λ (s : Seen _). TellsGiven old s []) (sym are) (tells_none old)
-tries_tell Tells zero (t ∷ ts) old new told are own = absurd are
-tries_tell Tells (suc n) [] old new told are own = absurd are
-tries_tell Tells (suc n) (t ∷ ts) old new told are own =
-    let one = try_tells Tells t old told are.0 own.0 in
+pub tries_tell : {Own : Type 0} (Tells : Type 0) (kept : List ℕ) (n : ℕ) (ts : List (OneTry Own)) (old new : Seen Own) → Tells → AreTries Tells index kept n ts old new → AllByRecursion (λ t. AreOwn t.attempt.acts) ts → TellsGiven old new (given_by kept ts)
+tries_tell Tells kept zero [] old new told are own = subst (λ (s : Seen _). TellsGiven old s []) (sym are) (tells_none old)
+tries_tell Tells kept zero (t ∷ ts) old new told are own = absurd are
+tries_tell Tells kept (suc n) [] old new told are own = absurd are
+tries_tell Tells kept (suc n) (t ∷ ts) old new told are own =
+    let one = try_tells Tells kept t old told are.0 own.0 in
     elim are.1 [
-      | inl last ↦ subst (λ (s : Seen _). TellsGiven old s (given_by (t ∷ ts))) (sym last.2)
-          (subst (λ (more : List (OneTry _)). TellsGiven old t.after (given_by (t ∷ more))) (sym last.1) (subst (TellsGiven old t.after) (sym (append-nil (restored (start_of t.attempt)))) one))
-      | inr more ↦ tells_then old t.after new (restored (start_of t.attempt)) (given_by ts) one (tries_tell Tells n ts t.after new told more.1 own.1)
+      | inl last ↦ subst (λ (s : Seen _). TellsGiven old s (given_by kept (t ∷ ts))) (sym last.2)
+          (subst (λ (more : List (OneTry _)). TellsGiven old t.after (given_by kept (t ∷ more))) (sym last.1) (subst (TellsGiven old t.after) (sym (append-nil (restored kept (start_of t.attempt)))) one))
+      | inr more ↦ tells_then old t.after new (restored kept (start_of t.attempt)) (given_by kept ts) one (tries_tell Tells kept n ts t.after new told more.1 own.1)
     ]

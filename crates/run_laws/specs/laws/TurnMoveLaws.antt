@@ -1,6 +1,7 @@
 -- The law of a turn: the engine's turn is the turn of the reference controller, whose switches and application come to the same, whether
 -- the turn was done, or failed and was undone, and the application started again.
-use Rattle.std.proofs.Common.{◌≡◌, ℕ, ◌+◌, ◌^◌, ◌<◌, Bool, true, false, List, [], ◌∷◌, ◌++◌, length, map, take, Some, Ok, if◌then◌else◌, refl, sym, ap, ap₂, ◌∙◌, subst}
+use Rattle.std.proofs.Common.{◌≡◌, ℕ, ◌+◌, ◌^◌, ◌<◌, Bool, true, false, List, [], ◌∷◌, ◌++◌, length, map, take, Option, Some, Ok, if◌then◌else◌, refl, sym, ap, ap₂, ◌∙◌, subst}
+use Rattle.std.specs.Prelude.{unwrap_or}
 use Rattle.std.proofs.lemmas.Bool.{eq-eqb}
 use Rattle.std.proofs.lemmas.List.{append-nil}
 use Rattle.of_types.specs.declared.journal.Act.{Act}
@@ -29,7 +30,7 @@ use Rattle.app_visor.specs.declared.state.TurnEnd.TheVariants as ends
 use Rattle.app_visor.specs.Talks.{give_act}
 use Rattle.app_visor.specs.Beats.{Beat, Talk, acts_in}
 use Rattle.app_visor.specs.laws.BeatLaws.{Chain-continues, Leads-stays}
-use Rattle.app_visor.specs.Turns.{IsEnd, reply_by, Turns, played_on}
+use Rattle.app_visor.specs.Turns.{IsEnd, handed, reply_by, Turns, played_on}
 use Rattle.switch_laws.specs.Shown.{shown_places}
 use Rattle.switch_laws.specs.Since.{Goes}
 use Rattle.switch_laws.specs.laws.SinceLaws.{begun}
@@ -114,11 +115,12 @@ given_so false trace = refl
 
 -- ---- A turn that was done
 
-abbrev done_app : Engine → List Start → List Reply → List (List ℕ) → List ℕ → App
-done_app e starts replies inputs rest = record {
+abbrev done_app : Engine → Option (List ℕ) → List Start → List Reply → List (List ℕ) → List ℕ → App
+done_app e checkpoint starts replies inputs rest = record {
   alive = e.alive;
   budget = budget;
   rest = rest;
+  kept = unwrap_or checkpoint e.kept;
   inputs = inputs;
   starts = starts;
   replies = replies;
@@ -129,12 +131,12 @@ done_app e starts replies inputs rest = record {
 abbrev done_turn : List Place → App → Outcome → Bool → Turned
 done_turn ps a outcome given = record { places = ps; app = (a, []); outcome = outcome; given = given }
 
-abbrev done_engine : List ℕ → NetState → List Logged → Engine → Engine
-done_engine unread mid_net log e = record e { net = record mid_net { log = log }; rest = unread; done = e.done + 1 }
+abbrev done_engine : Option (List ℕ) → List ℕ → NetState → List Logged → Engine → Engine
+done_engine checkpoint unread mid_net log e = record e { net = record mid_net { log = log }; rest = unread; kept = unwrap_or checkpoint e.kept; done = e.done + 1 }
 
 done_alike : {Own : Type 0} (allows : List Place → Bool) (event : Event) (stop : Bool) (unread text : List ℕ) (old mid : Seen Own) (e : Engine) (mid_net : NetState) (log : List Logged) (given : Bool) (trace : List (Beat Own)) (answers : List Answer) (outcome : Outcome)
     → IsEnd (ends.Done stop) unread outcome → text ≡ turn_line name (turn_word (ends.Done stop)) → given_in mid ≡ given_in old ++ given_by_turn given (event_frame e.events e.net.moment event) answers → Calm old e.net
-    → AtEnd allows event old mid e mid_net given (reply_by given trace) answers outcome → TurnAlike allows event text old mid e (done_engine unread mid_net log e) [] (reply_by given trace)
+    → AtEnd allows event old mid e mid_net given (reply_by given trace) answers outcome → TurnAlike allows event text old mid e (done_engine (handed outcome) unread mid_net log e) [] (reply_by given trace)
 done_alike allows event stop unread text old mid e mid_net log given trace answers (Failed cause) is text_is inputs_are calm at = absurd is
 done_alike allows event stop unread text old mid e mid_net log given trace answers (Completed stops checkpoint rest) is text_is inputs_are calm at =
     let frame = event_frame e.events e.net.moment event in
@@ -151,8 +153,8 @@ done_alike allows event stop unread text old mid e mid_net log given trace answe
       events = refl;
       marks = at.marks;
       turned = λ later_starts said later_replies starts_so front. at.turned later_starts said later_replies front
-          ∙ ap (λ (b : Bool). done_turn ps (done_app e later_starts later_replies (given_in old ++ given_by_turn b frame answers) rest) outcome b) (front.given ∙ given_so given trace)
-          ∙ ap₂ (λ (i : List (List ℕ)) (x : List ℕ). done_turn ps (done_app e later_starts later_replies i x) outcome given) (sym inputs_are) (sym is.1);
+          ∙ ap (λ (b : Bool). done_turn ps (done_app e checkpoint later_starts later_replies (given_in old ++ given_by_turn b frame answers) rest) outcome b) (front.given ∙ given_so given trace)
+          ∙ ap₂ (λ (i : List (List ℕ)) (x : List ℕ). done_turn ps (done_app e checkpoint later_starts later_replies i x) outcome given) (sym inputs_are) (sym is.1);
       text_so = λ later_starts later_replies. text_is ∙ ap (turn_line name) (word_so (ends.Done stop) unread outcome is) ∙ sym (append-nil (turn_line name (outcome_word outcome)));
     }
 
@@ -163,6 +165,7 @@ failed_app e starts replies inputs = record {
   alive = e.alive;
   budget = budget;
   rest = [];
+  kept = e.kept;
   inputs = inputs;
   starts = starts;
   replies = replies;
@@ -221,7 +224,7 @@ turn_tells Tells accepts event old mid e mid_net end unread told t =
 
 closed_moves : {Own : Type 0} (Tells : Type 0) (accepts : List TableView → Bool) (allows : List Place → Bool) (event : Event) (text : List ℕ) (old mid new : Seen Own) (e now_e : Engine) (mid_net : NetState) (end : TurnEnd) (unread : List ℕ)
     → Tells → Conforming new → JudgesAlike Own allows accepts → AreRead Own Tells accepts → e.events < 2 ^ 64 → LastStands (own_acts old)
-    → (t : Turns Tells accepts index budget e.rest (event_frame e.events e.net.moment event) old mid e.net mid_net end unread) → IsClosed Tells end unread text (length e.net.log) mid new mid_net e now_e
+    → (t : Turns Tells accepts index budget e.rest (event_frame e.events e.net.moment event) old mid e.net mid_net end unread) → IsClosed Tells end (handed t.outcome) unread text (length e.net.log) mid new mid_net e now_e
     → TurnMoves allows event text old new e now_e
 closed_moves Tells accepts allows event text old mid new e now_e mid_net (ends.Done stop) unread told keeps judges reads few stands t closed =
     let read = reads.turn e.events e.net.moment event e.rest old mid e.net mid_net (ends.Done stop) unread told t stands in

@@ -33,7 +33,7 @@ use Rattle.lego_model.specs.declared.wait.Awaited.{Awaited}
 use Rattle.lego_model.specs.declared.wait.Heard.{Heard}
 use Rattle.lego_model.specs.declared.wait.Heard.TheVariants.{Reply, Refused, Notice, Echo, Other}
 use Rattle.net_txn.specs.Net.{NetState, awaited_from}
-use Rattle.lego_model.specs.AfterFault.{inverse_bytes, delete_strict}
+use Rattle.lego_model.specs.UndoFaults.{inverse_bytes, delete_strict}
 use Rattle.lego_model.specs.BarrierWaits.{next_xid, heard, steps_by, wait_steps, barrier_sent, reply_got}
 use Rattle.lego_model.specs.FlowQueries.{asked_from, request_sent}
 use Rattle.net_txn.specs.Changes.{Changes, answer_of_host, known_rows, change_sent}

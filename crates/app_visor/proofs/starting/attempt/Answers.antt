@@ -25,7 +25,7 @@ returns-in_err-rest-clause-continues g c =
 
 pub returns-clause-ok : goal.returns-clause-ok
 returns-clause-ok g c =
-    try_stood g.W.World.Tells c.args.app c.in_ok-tried.tried c.greet.new.intake c.in_ok-rest.rest (g.W.World.seen c.args.world.now) (g.W.World.seen c.end.new.self) (g.W.World.seen c.start.new.world)
+    try_stood g.W.World.Tells c.args.app g.kept c.in_ok-tried.tried c.greet.new.intake c.in_ok-rest.rest (g.W.World.seen c.args.world.now) (g.W.World.seen c.end.new.self) (g.W.World.seen c.start.new.world)
     (g.W.World.seen c.greet.new.world) (g.W.World.seen c.end_unless_ready.new.world) c.in_ok-rest.ensures c.end.ensures (rw c.if-not-branch.false at c.in_ok-start.ensures.ok) c.in_ok-tried.ensures.ok c.end_unless_ready.ensures
 
 pub returns-clause-continues : goal.returns-clause-continues

@@ -11,7 +11,7 @@ use Rattle.app_visor.specs.laws.OwnLaws.{own_then, own_wanting, own_restored, ow
 use Rattle.app_visor.proofs.starting.greet.Goals as goal
 
 pub returns-then-not-branch-clause-ok : goal.returns-then-not-branch-clause-ok
-returns-then-not-branch-clause-ok g c = greets_gone c.args.frame.now c.args.intake.now c.requires.frame (rw c.if-not-branch.true at c.in_ok-give.ensures.ok)
+returns-then-not-branch-clause-ok g c = greets_gone c.args.frame.now c.args.intake.now c.requires.1.0 (rw c.if-not-branch.true at c.in_ok-give.ensures.ok)
 
 pub returns-in_err-next_frame-clause-continues : goal.returns-in_err-next_frame-clause-continues
 returns-in_err-next_frame-clause-continues g c =
@@ -20,8 +20,8 @@ returns-in_err-next_frame-clause-continues g c =
 
 pub returns-clause-ok : goal.returns-clause-ok
 returns-clause-ok g c =
-    subst (λ t. Greets g.W.World.Tells c.args.app t c.next_frame.new.intake (g.W.World.seen c.args.world.now) (g.W.World.seen c.next_frame.new.world)) (sym c.tried_by.ensures)
-    (greets_came c.args.frame.now c.in_ok-next_frame.field-0 c.requires.frame c.requires.intake (rw c.if-not-branch.false at c.in_ok-give.ensures.ok) c.in_ok-next_frame.ensures.ok)
+    subst (λ t. Greets g.W.World.Tells c.args.app g.kept t c.next_frame.new.intake (g.W.World.seen c.args.world.now) (g.W.World.seen c.next_frame.new.world)) (sym c.tried_by.ensures)
+    (greets_came c.args.frame.now c.in_ok-next_frame.field-0 c.requires.1.0 c.requires.1.1 (rw c.if-not-branch.false at c.in_ok-give.ensures.ok) c.in_ok-next_frame.ensures.ok)
 
 pub returns-clause-continues : goal.returns-clause-continues
 returns-clause-continues g c =
@@ -33,8 +33,8 @@ returns-in_err-next_frame-clause-talks g c =
     let p = err_from_is_err_and c.from_residual-in_err-next_frame.result c.from_residual-in_err-next_frame.ensures.1 in
     let given = g.W.World.seen c.give.new.world in
     let new = g.W.World.seen c.next_frame.new.world in
-    rw p.1 (λ tells. leads_on_restored g.W.World.Tells c.args.app c.args.frame.now (g.W.World.seen c.args.world.now) given new (rw c.if-not-branch.false at c.in_ok-give.ensures.ok) tells c.requires.frame
-    (subst (λ (r : List ℕ). LeadsOn c.args.app (before r []) given new) c.requires.intake (leads_on_breaking g.W.World.Tells c.args.app c.args.intake.now [] given new c.in_err-next_frame.ensures.err tells)))
+    rw p.1 (λ tells. leads_on_restored g.W.World.Tells c.args.app g.kept c.args.frame.now (g.W.World.seen c.args.world.now) given new (rw c.if-not-branch.false at c.in_ok-give.ensures.ok) tells c.requires.1.0
+    (subst (λ (r : List ℕ). LeadsOn c.args.app (before r []) given new) c.requires.1.1 (leads_on_breaking g.W.World.Tells c.args.app c.args.intake.now [] given new c.in_err-next_frame.ensures.err tells)))
 
 pub returns-in_err-give-clause-talks : goal.returns-in_err-give-clause-talks
 returns-in_err-give-clause-talks g c =
@@ -45,12 +45,12 @@ pub returns-in_err-give-clause-own : goal.returns-in_err-give-clause-own
 returns-in_err-give-clause-own g c = λ tells. own_wanting c.args.app c.in_err-give.ensures.err tells
 
 pub returns-then-not-branch-clause-own : goal.returns-then-not-branch-clause-own
-returns-then-not-branch-clause-own g c = λ tells. own_restored c.args.app c.in_ok-give.field-0 c.args.frame.now c.requires.frame c.in_ok-give.ensures.ok tells
+returns-then-not-branch-clause-own g c = λ tells. own_restored c.args.app c.in_ok-give.field-0 g.kept c.args.frame.now c.requires.1.0 c.in_ok-give.ensures.ok tells
 
 pub returns-in_err-next_frame-clause-own : goal.returns-in_err-next_frame-clause-own
 returns-in_err-next_frame-clause-own g c = λ tells.
-    own_then (own_restored c.args.app c.in_ok-give.field-0 c.args.frame.now c.requires.frame c.in_ok-give.ensures.ok tells) (own_breaking c.in_err-next_frame.ensures.err tells)
+    own_then (own_restored c.args.app c.in_ok-give.field-0 g.kept c.args.frame.now c.requires.1.0 c.in_ok-give.ensures.ok tells) (own_breaking c.in_err-next_frame.ensures.err tells)
 
 pub returns-clause-own : goal.returns-clause-own
 returns-clause-own g c = λ tells.
-    own_then (own_restored c.args.app c.in_ok-give.field-0 c.args.frame.now c.requires.frame c.in_ok-give.ensures.ok tells) (own_comes c.in_ok-next_frame.field-0 c.in_ok-next_frame.ensures.ok tells)
+    own_then (own_restored c.args.app c.in_ok-give.field-0 g.kept c.args.frame.now c.requires.1.0 c.in_ok-give.ensures.ok tells) (own_comes c.in_ok-next_frame.field-0 c.in_ok-next_frame.ensures.ok tells)

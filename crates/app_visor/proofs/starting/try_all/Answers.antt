@@ -27,7 +27,7 @@ returns-clause-ok g c = none_back (omega arith) c.loop-attempt.invariant.on
 pub loop-attempt-init : goal.loop-attempt-init
 loop-attempt-init g c =
     let seen = g.W.World.seen c.args.world.now in
-    record { on = none_tried c.args.app seen c.args.tries.now.items c.requires.none; continues = Continues-refl g.W.World.Tells seen; talks = talks_none c.args.app seen; own = λ tells. own_none c.args.app seen }
+    record { on = none_tried c.args.app g.kept seen c.args.tries.now.items c.requires.1.1; continues = Continues-refl g.W.World.Tells seen; talks = talks_none c.args.app seen; own = λ tells. own_none c.args.app seen }
 
 pub returns-in_err-tried-clause-talks : goal.returns-in_err-tried-clause-talks
 returns-in_err-tried-clause-talks g c =

@@ -9,8 +9,8 @@ pub returns-in-Done-clause-ok : goal.returns-in-Done-clause-ok
 returns-in-Done-clause-ok g c =
     rw c.in-Done.is (plays_done g.W.World.Tells (g.J.Judge.accepts c.args.judge.now) c.args.app c.in-Done.stop c.in-Done.checkpoint (g.W.World.seen c.args.world.now) c.args.txn.now.net.now c.finish.result c.finish.ensures)
 
-pub returns : goal.returns
-returns g c = record {
+pub returns-in-Save : goal.returns-in-Save
+returns-in-Save g c = record {
   same_reference = refl;
   start = refl;
   leads = Leads-refl c.args.app (g.W.World.seen c.args.world.now) c.args.txn.now.net.now;

@@ -33,7 +33,7 @@ returns-in_err-give-clause-err g c =
 pub returns-then-not-branch-clause-ok : goal.returns-then-not-branch-clause-ok
 returns-then-not-branch-clause-ok g c =
     let spelled = c.as_slice-2.ensures ∙ c.in_ok-frame.ensures ∙ ap (λ (m : ℕ). event_frame c.args.number m c.args.event.now) c.moment.ensures in
-    turns_gone c.args.budget c.args.app.now.rest c.replace-rest.new.dest c.as_slice-2.result.now (event_frame c.args.number c.args.txn.now.net.now.moment c.args.event.now) c.args.txn.now.net.now (c.replace-rest.ensures.after ∙ c.new.ensures) spelled
+    turns_gone c.args.budget c.args.app.now.rest c.replace-rest.new.dest c.as_slice-2.result.now (event_frame c.args.number c.args.txn.now.net.now.moment c.args.event.now) c.args.txn.now.net.now c.args.store.now (c.replace-rest.ensures.after ∙ c.new.ensures) spelled
     (rw c.if-not-branch.true at c.in_ok-give.ensures.ok)
 
 pub returns-in_err-end-clause-err : goal.returns-in_err-end-clause-err
@@ -45,21 +45,32 @@ pub returns-in_err-end-clause-continues : goal.returns-in_err-end-clause-continu
 returns-in_err-end-clause-continues g c =
     Continues-trans g.W.World.Tells (g.W.World.seen c.args.world.now) (g.W.World.seen c.give.new.world) (g.W.World.seen c.play_all.new.world) c.in_ok-give.ensures.ok.continues (Stops-continues c.in_err-end.ensures.err)
 
-pub returns-in_err-app-clause-err : goal.returns-in_err-app-clause-err
-returns-in_err-app-clause-err g c =
-    let p = err_from_is_err_and c.from_residual-in_err-app.result c.from_residual-in_err-app.ensures.1 in
-    err_so _ c.from_residual-in_err-app.result p.0 NoMemory p.1 p.2
+pub returns-in_err-rest-clause-err : goal.returns-in_err-rest-clause-err
+returns-in_err-rest-clause-err g c =
+    let p = err_from_is_err_and c.from_residual-in_err-rest.result c.from_residual-in_err-rest.ensures.1 in
+    err_so _ c.from_residual-in_err-rest.result p.0 NoMemory p.1 p.2
     (stops_wanting (Leads-trans (leads_told c.args.txn.now.net.now (rw c.if-not-branch.false at c.in_ok-give.ensures.ok)) (leads_turn c.in_ok-end.ensures.ok)) (Wants-refl (g.W.World.seen c.play_all.new.world)))
 
-pub returns-in_err-app-clause-continues : goal.returns-in_err-app-clause-continues
-returns-in_err-app-clause-continues g c =
+pub returns-in_err-end-2-clause-err : goal.returns-in_err-end-2-clause-err
+returns-in_err-end-2-clause-err g c =
+    let p = err_from_is_err_and c.from_residual-in_err-end-2.result c.from_residual-in_err-end-2.ensures.1 in
+    err_so _ c.from_residual-in_err-end-2.result p.0 NoMemory p.1 p.2
+    (stops_wanting (Leads-trans (leads_told c.args.txn.now.net.now (rw c.if-not-branch.false at c.in_ok-give.ensures.ok)) (leads_turn c.in_ok-end.ensures.ok)) (Wants-refl (g.W.World.seen c.play_all.new.world)))
+
+pub returns-in_err-rest-clause-continues : goal.returns-in_err-rest-clause-continues
+returns-in_err-rest-clause-continues g c =
+    Continues-trans g.W.World.Tells (g.W.World.seen c.args.world.now) (g.W.World.seen c.give.new.world) (g.W.World.seen c.play_all.new.world) c.in_ok-give.ensures.ok.continues
+    (Leads-continues (leads_turn c.in_ok-end.ensures.ok))
+
+pub returns-in_err-end-2-clause-continues : goal.returns-in_err-end-2-clause-continues
+returns-in_err-end-2-clause-continues g c =
     Continues-trans g.W.World.Tells (g.W.World.seen c.args.world.now) (g.W.World.seen c.give.new.world) (g.W.World.seen c.play_all.new.world) c.in_ok-give.ensures.ok.continues
     (Leads-continues (leads_turn c.in_ok-end.ensures.ok))
 
 pub returns-clause-ok : goal.returns-clause-ok
 returns-clause-ok g c =
     let spelled = c.as_slice-2.ensures ∙ c.in_ok-frame.ensures ∙ ap (λ (m : ℕ). event_frame c.args.number m c.args.event.now) c.moment.ensures in
-    turns_given _ c.as_slice-2.result.now (event_frame c.args.number c.args.txn.now.net.now.moment c.args.event.now) c.in_ok-intake.intake c.in_ok-app.ensures spelled (c.in_ok-intake.ensures ∙ c.as_slice.ensures ∙ c.replace-rest.ensures.value)
+    turns_given _ _ c.as_slice-2.result.now (event_frame c.args.number c.args.txn.now.net.now.moment c.args.event.now) c.in_ok-intake.intake c.in_ok-end-2.ensures.end c.in_ok-rest.ensures spelled (c.in_ok-intake.ensures ∙ c.as_slice.ensures ∙ c.replace-rest.ensures.value) c.in_ok-end-2.ensures.ok
     (rw c.if-not-branch.false at c.in_ok-give.ensures.ok) c.in_ok-end.ensures.ok
 
 pub returns-clause-continues : goal.returns-clause-continues
@@ -70,8 +81,11 @@ returns-clause-continues g c =
 pub returns-in_err-end-clause-stays : goal.returns-in_err-end-clause-stays
 returns-in_err-end-clause-stays g c = Stops-stays c.in_err-end.ensures.err
 
-pub returns-in_err-app-clause-stays : goal.returns-in_err-app-clause-stays
-returns-in_err-app-clause-stays g c = Leads-stays (leads_turn c.in_ok-end.ensures.ok)
+pub returns-in_err-rest-clause-stays : goal.returns-in_err-rest-clause-stays
+returns-in_err-rest-clause-stays g c = Leads-stays (leads_turn c.in_ok-end.ensures.ok)
+
+pub returns-in_err-end-2-clause-stays : goal.returns-in_err-end-2-clause-stays
+returns-in_err-end-2-clause-stays g c = Leads-stays (leads_turn c.in_ok-end.ensures.ok)
 
 pub returns-clause-stays : goal.returns-clause-stays
 returns-clause-stays g c = Leads-stays (leads_turn c.in_ok-end.ensures.ok)
@@ -105,9 +119,21 @@ returns-in_err-end-clause-talks g c =
     rw p.1 (λ tells s runs passes. talks_of continues (leads_on_event g.W.World.Tells c.args.app.now.index c.as_slice-2.result.now (event_frame c.args.number c.args.txn.now.net.now.moment c.args.event.now) c.args.app.now.rest c.in_ok-intake.intake s
     old mid new told tells spelled (event_is c.args.number c.args.txn.now.net.now.moment c.args.event.now) (c.in_ok-intake.ensures ∙ c.as_slice.ensures ∙ c.replace-rest.ensures.value) runs passes (c.in_err-end.ensures.talks tells)))
 
-pub returns-in_err-app-clause-talks : goal.returns-in_err-app-clause-talks
-returns-in_err-app-clause-talks g c =
-    let p = err_from_is_err_and c.from_residual-in_err-app.result c.from_residual-in_err-app.ensures.1 in
+pub returns-in_err-rest-clause-talks : goal.returns-in_err-rest-clause-talks
+returns-in_err-rest-clause-talks g c =
+    let p = err_from_is_err_and c.from_residual-in_err-rest.result c.from_residual-in_err-rest.ensures.1 in
+    let old = g.W.World.seen c.args.world.now in
+    let mid = g.W.World.seen c.give.new.world in
+    let new = g.W.World.seen c.play_all.new.world in
+    let spelled = c.as_slice-2.ensures ∙ c.in_ok-frame.ensures ∙ ap (λ (m : ℕ). event_frame c.args.number m c.args.event.now) c.moment.ensures in
+    let told = rw c.if-not-branch.false at c.in_ok-give.ensures.ok in
+    let continues = Continues-trans g.W.World.Tells old mid new told.continues (Leads-continues (leads_turn c.in_ok-end.ensures.ok)) in
+    rw p.1 (λ tells s runs passes. talks_of continues (leads_on_event g.W.World.Tells c.args.app.now.index c.as_slice-2.result.now (event_frame c.args.number c.args.txn.now.net.now.moment c.args.event.now) c.args.app.now.rest c.in_ok-intake.intake s
+    old mid new told tells spelled (event_is c.args.number c.args.txn.now.net.now.moment c.args.event.now) (c.in_ok-intake.ensures ∙ c.as_slice.ensures ∙ c.replace-rest.ensures.value) runs passes (leads_on_turned c.in_ok-end.ensures.ok tells)))
+
+pub returns-in_err-end-2-clause-talks : goal.returns-in_err-end-2-clause-talks
+returns-in_err-end-2-clause-talks g c =
+    let p = err_from_is_err_and c.from_residual-in_err-end-2.result c.from_residual-in_err-end-2.ensures.1 in
     let old = g.W.World.seen c.args.world.now in
     let mid = g.W.World.seen c.give.new.world in
     let new = g.W.World.seen c.play_all.new.world in
@@ -132,8 +158,11 @@ returns-then-not-branch-clause-later g c = λ tells. later_given c.args.app.now.
 pub returns-in_err-end-clause-later : goal.returns-in_err-end-clause-later
 returns-in_err-end-clause-later g c = λ tells. later_then (later_given c.args.app.now.index c.in_ok-give.field-0 c.as_slice-2.result.now c.in_ok-give.ensures.ok tells) (c.play_all.ensures.calm tells)
 
-pub returns-in_err-app-clause-later : goal.returns-in_err-app-clause-later
-returns-in_err-app-clause-later g c = λ tells. later_then (later_given c.args.app.now.index c.in_ok-give.field-0 c.as_slice-2.result.now c.in_ok-give.ensures.ok tells) (c.play_all.ensures.calm tells)
+pub returns-in_err-rest-clause-later : goal.returns-in_err-rest-clause-later
+returns-in_err-rest-clause-later g c = λ tells. later_then (later_given c.args.app.now.index c.in_ok-give.field-0 c.as_slice-2.result.now c.in_ok-give.ensures.ok tells) (c.play_all.ensures.calm tells)
+
+pub returns-in_err-end-2-clause-later : goal.returns-in_err-end-2-clause-later
+returns-in_err-end-2-clause-later g c = λ tells. later_then (later_given c.args.app.now.index c.in_ok-give.field-0 c.as_slice-2.result.now c.in_ok-give.ensures.ok tells) (c.play_all.ensures.calm tells)
 
 pub returns-clause-later : goal.returns-clause-later
 returns-clause-later g c = λ tells. later_then (later_given c.args.app.now.index c.in_ok-give.field-0 c.as_slice-2.result.now c.in_ok-give.ensures.ok tells) (c.play_all.ensures.calm tells)

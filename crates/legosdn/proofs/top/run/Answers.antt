@@ -1,56 +1,46 @@
-use Rattle.std.proofs.Common.{map, string_bytes}
-use Rattle.sim_world.specs.World.{seen_of}
-use Rattle.legosdn.proofs.Causes.{are_new, run_causes}
-use Rattle.legosdn.specs.Headline.{KeepsLines}
-use Rattle.legosdn.proofs.Loads.{loaded_on, loaded_as, unread_as}
-use Rattle.legosdn.proofs.Runs.{untouched, none_runs, runs_by_read, lines_by_read, new_strays}
+use Rattle.std.proofs.Common.{refl, inl}
+use Rattle.legosdn.specs.declared.stop.Stop.TheVariants.{NoMemory}
+use Rattle.legosdn.proofs.Serving.{replays_unread}
+use Rattle.legosdn.proofs.Runs.{untouched, none_runs, none_runs_yet, new_strays}
 use Rattle.legosdn.proofs.top.run.Goals as goal
 
-pub returns-clause-why : goal.returns-clause-why
-returns-clause-why g c =
-    run_causes (map (λ s. string_bytes s) c.args.words.now) (g.S.Source.remaining c.args.source.now) (g.S.Source.faults c.args.source.now) (g.S.Source.faults c.load.new.source)
-    (g.K.Sink.faults c.args.sink.now) (g.K.Sink.faults c.run_world.new.sink) (seen_of c.args.sim.now) (seen_of c.load.new.sim) (seen_of c.run_world.new.sim) c.run_world.result
-    (are_new c.args.sim.now c.requires.new) (are_new c.load.new.sim c.in_ok-load.ensures.new) c.run_world.ensures.why
+pub returns-in_err-read_words-clause-replays : goal.returns-in_err-read_words-clause-replays
+returns-in_err-read_words-clause-replays g c = λ is.
+    replays_unread (g.S.Source.remaining c.args.source.now) (g.S.Source.remaining c.args.source.now) (g.S.Source.faults c.args.source.now) (g.S.Source.faults c.args.source.now) (g.K.Sink.faults c.args.sink.now) c.args.sim.now (g.K.Sink.contents c.args.sink.now)
+    _ NoMemory c.from_residual.result c.from_residual.ensures.1 (untouched c.args.sim.now c.requires.new) tt (refl, refl)
 
-pub returns-in_err-load-clause-runs : goal.returns-in_err-load-clause-runs
-returns-in_err-load-clause-runs g c =
-    runs_by_read (g.S.Source.remaining c.args.source.now) (g.S.Source.faults c.args.source.now) (g.S.Source.faults c.load.new.source) c.load.new.sim (g.K.Sink.contents c.args.sink.now) c.in_err-load.field-0.0 c.from_residual.result
-    c.from_residual.ensures.1 (untouched c.load.new.sim c.load.ensures.new) c.in_err-load.ensures.why
+pub returns-in_err-read_words-clause-ended : goal.returns-in_err-read_words-clause-ended
+returns-in_err-read_words-clause-ended g c = none_runs c.args.sim.now c.requires.new
 
-pub returns-in_err-load-clause-late_lines : goal.returns-in_err-load-clause-late_lines
-returns-in_err-load-clause-late_lines g c =
-    lines_by_read (KeepsLines c.load.new.sim) (g.S.Source.remaining c.args.source.now) (g.S.Source.faults c.args.source.now) (g.S.Source.faults c.load.new.source) c.in_err-load.field-0.0 c.from_residual.result c.from_residual.ensures.1 c.in_err-load.ensures.why
+pub returns-in_err-read_words-clause-strays : goal.returns-in_err-read_words-clause-strays
+returns-in_err-read_words-clause-strays g c = λ shorts. new_strays c.args.sim.now c.requires.new
 
-pub returns-clause-runs : goal.returns-clause-runs
-returns-clause-runs g c = c.run_world.ensures.runs (untouched c.load.new.sim c.in_ok-load.ensures.new) c.in_ok-load.ensures.few
+pub returns-in_err-read_words-clause-no_other_session : goal.returns-in_err-read_words-clause-no_other_session
+returns-in_err-read_words-clause-no_other_session g c = inl (untouched c.args.sim.now c.requires.new)
 
-pub returns-then-not-is_command-clause-strays : goal.returns-then-not-is_command-clause-strays
-returns-then-not-is_command-clause-strays g c = λ shorts. new_strays c.args.sim.now c.requires.new
+pub returns-in_err-read_words-clause-live_ended : goal.returns-in_err-read_words-clause-live_ended
+returns-in_err-read_words-clause-live_ended g c = λ told none. none_runs_yet (g.W.World.seen c.args.live.now) none
 
-pub returns-in_err-load-clause-strays : goal.returns-in_err-load-clause-strays
-returns-in_err-load-clause-strays g c = λ shorts. new_strays c.load.new.sim c.load.ensures.new
+pub returns-in-Some-Replay-clause-live_ended : goal.returns-in-Some-Replay-clause-live_ended
+returns-in-Some-Replay-clause-live_ended g c = λ told none. none_runs_yet (g.W.World.seen c.args.live.now) none
 
-pub returns-clause-strays : goal.returns-clause-strays
-returns-clause-strays g c = c.run_world.ensures.strays (untouched c.load.new.sim c.in_ok-load.ensures.new) c.in_ok-load.ensures.few
+pub returns-in-Some-Run-clause-ended : goal.returns-in-Some-Run-clause-ended
+returns-in-Some-Run-clause-ended g c = none_runs c.args.sim.now c.requires.new
 
-pub returns-then-not-is_command-clause-loaded : goal.returns-then-not-is_command-clause-loaded
-returns-then-not-is_command-clause-loaded g c = untouched c.args.sim.now c.requires.new
+pub returns-in-Some-Run-clause-strays : goal.returns-in-Some-Run-clause-strays
+returns-in-Some-Run-clause-strays g c = λ shorts. new_strays c.args.sim.now c.requires.new
 
-pub returns-in_err-load-clause-loaded : goal.returns-in_err-load-clause-loaded
-returns-in_err-load-clause-loaded g c =
-    unread_as (g.S.Source.remaining c.args.source.now) (g.S.Source.remaining c.load.new.source) (seen_of c.load.new.sim) (g.S.Source.faults c.args.source.now) (g.S.Source.faults c.load.new.source) c.in_err-load.field-0.0 c.from_residual.result
-    c.from_residual.ensures.1 (untouched c.load.new.sim c.load.ensures.new) c.in_err-load.ensures.why
+pub returns-in-Some-Run-clause-no_other_session : goal.returns-in-Some-Run-clause-no_other_session
+returns-in-Some-Run-clause-no_other_session g c = inl (untouched c.args.sim.now c.requires.new)
 
-pub returns-clause-loaded : goal.returns-clause-loaded
-returns-clause-loaded g c =
-    loaded_as (g.S.Source.remaining c.args.source.now) (g.S.Source.remaining c.load.new.source) (seen_of c.run_world.new.sim) (seen_of c.load.new.sim) (g.K.Sink.faults c.args.sink.now) (g.K.Sink.faults c.run_world.new.sink) c.run_world.result
-    c.run_world.ensures.why (loaded_on (seen_of c.load.new.sim) (seen_of c.run_world.new.sim) c.run_world.ensures.continues c.in_ok-load.ensures.loaded)
+pub returns-in-None-clause-ended : goal.returns-in-None-clause-ended
+returns-in-None-clause-ended g c = none_runs c.args.sim.now c.requires.new
 
-pub returns-then-not-is_command-clause-ended : goal.returns-then-not-is_command-clause-ended
-returns-then-not-is_command-clause-ended g c = none_runs c.args.sim.now c.requires.new
+pub returns-in-None-clause-strays : goal.returns-in-None-clause-strays
+returns-in-None-clause-strays g c = λ shorts. new_strays c.args.sim.now c.requires.new
 
-pub returns-in_err-load-clause-ended : goal.returns-in_err-load-clause-ended
-returns-in_err-load-clause-ended g c = none_runs c.load.new.sim c.load.ensures.new
+pub returns-in-None-clause-no_other_session : goal.returns-in-None-clause-no_other_session
+returns-in-None-clause-no_other_session g c = inl (untouched c.args.sim.now c.requires.new)
 
-pub returns-clause-ended : goal.returns-clause-ended
-returns-clause-ended g c = c.run_world.ensures.ended (untouched c.load.new.sim c.in_ok-load.ensures.new)
+pub returns-in-None-clause-live_ended : goal.returns-in-None-clause-live_ended
+returns-in-None-clause-live_ended g c = λ told none. none_runs_yet (g.W.World.seen c.args.live.now) none

@@ -2,7 +2,7 @@ use Rattle.std.proofs.Common.{refl, arith}
 use Rattle.of_wire.specs.declared.message.Message.TheVariants.{FlowMod}
 use Rattle.of_wire.specs.Spelling.{message_size}
 use Rattle.of_wire.specs.laws.ReadingLaws.{reading_of-message_bytes}
-use Rattle.lego_model.specs.AfterFault.{delete_strict}
+use Rattle.lego_model.specs.UndoFaults.{delete_strict}
 use Rattle.net_txn.proofs.logged.inverse_of.Goals as goal
 
 pub returns-clause-read : goal.returns-clause-read

@@ -37,7 +37,7 @@ returns-in_err-take_message-clause-why g c =
 
 pub loop-taken-init : goal.loop-taken-init
 loop-taken-init g c = record {
-  waits = record { room = refl; events = refl; done = refl; failed = refl };
+  waits = record { room = refl; events = refl; done = refl; failed = refl; store = refl };
   app = refl;
   lines = refl;
   read = c.requires.read;

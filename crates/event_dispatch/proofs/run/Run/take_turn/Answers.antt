@@ -1,4 +1,5 @@
 use Rattle.event_dispatch.specs.declared.fault.Fault.TheVariants as faults
+use Rattle.event_dispatch.specs.laws.WhyLaws.{continues_then}
 use Rattle.event_dispatch.specs.laws.TurnLaws.{turn_so}
 use Rattle.event_dispatch.specs.laws.PlainLaws.{turn_memory}
 use Rattle.event_dispatch.specs.laws.CutLaws.{if_err}
@@ -13,7 +14,7 @@ use Rattle.event_dispatch.proofs.run.Run.take_turn.Goals as goal
 
 pub returns-clause-turn : goal.returns-clause-turn
 returns-clause-turn g c =
-    turn_so g.W.World.Tells (g.J.Judge.accepts c.args.judge.now) c.args.event.now c.in_ok-end.end (g.W.World.seen c.args.world.now) (g.W.World.seen c.hold_turn.new.world) (g.W.World.seen c.close.new.world) c.hold_turn.new.net c.hold_turn.new.queue c.hold_turn.new.app c.args.self.now c.close.new.self
+    turn_so g.W.World.Tells (g.J.Judge.accepts c.args.judge.now) c.args.event.now c.in_ok-end.end (g.W.World.seen c.args.world.now) (g.W.World.seen c.hold_turn.new.world) (g.W.World.seen c.close.new.world) c.hold_turn.new.net c.hold_turn.new.queue c.hold_turn.new.app c.hold_turn.new.store c.args.self.now c.close.new.self
     c.requires.index c.in_ok-end.ensures.plays c.hold_turn.ensures.alive c.hold_turn.ensures.queue c.in_ok-close.ensures.closes
 
 pub returns-in_err-end-clause-plain : goal.returns-in_err-end-clause-plain
@@ -31,7 +32,7 @@ returns-in_err-end-clause-talks g c =
 pub returns-in_err-close-clause-talks : goal.returns-in_err-close-clause-talks
 returns-in_err-close-clause-talks g c =
     holds_on_err c.from_residual-in_err-close.result
-    (turn_closed c.args.self.now.app.state.index c.args.self.now.app.state.rest (g.W.World.seen c.args.world.now) (g.W.World.seen c.hold_turn.new.world) (g.W.World.seen c.close.new.world) c.requires.index c.in_ok-end.ensures.plays c.close.ensures.talks)
+    (turn_closed c.args.self.now.app.state.index c.args.self.now.app.state.rest (g.W.World.seen c.args.world.now) (g.W.World.seen c.hold_turn.new.world) (g.W.World.seen c.close.new.world) c.requires.index c.in_ok-end.ensures.plays.plays c.close.ensures.talks)
 
 pub returns-in_err-end-clause-later : goal.returns-in_err-end-clause-later
 returns-in_err-end-clause-later g c = later_of c.args.self.now.app.state.index c.requires.index c.hold_turn.ensures.later
@@ -60,4 +61,10 @@ pub returns-in_err-close-clause-left : goal.returns-in_err-close-clause-left
 returns-in_err-close-clause-left g c =
     if_err (λ (fault : Fault). TurnLeft g.W.World.Tells (IsShort fault) c.args.self.now.app.state.rest (g.W.World.seen c.args.world.now) (g.W.World.seen c.close.new.world) c.args.self.now.net) faults.NoMemory c.from_residual-in_err-close.result c.from_residual-in_err-close.ensures.1
     (left_closed c.args.self.now.app.state.index c.in_ok-end.end (g.W.World.seen c.args.world.now) (g.W.World.seen c.hold_turn.new.world) (g.W.World.seen c.close.new.world) c.args.self.now.net c.hold_turn.new.net c.requires.index c.hold_turn.ensures.continues
-    c.close.ensures.continues c.close.ensures.own c.in_ok-end.ensures.plays)
+    c.close.ensures.continues c.close.ensures.own c.in_ok-end.ensures.plays.plays)
+
+pub returns-in_err-close-clause-continues : goal.returns-in_err-close-clause-continues
+returns-in_err-close-clause-continues g c = continues_then g.W.World.Tells (g.W.World.seen c.args.world.now) (g.W.World.seen c.hold_turn.new.world) (g.W.World.seen c.close.new.world) c.hold_turn.ensures.continues c.close.ensures.continues
+
+pub returns-clause-continues : goal.returns-clause-continues
+returns-clause-continues g c = continues_then g.W.World.Tells (g.W.World.seen c.args.world.now) (g.W.World.seen c.hold_turn.new.world) (g.W.World.seen c.close.new.world) c.hold_turn.ensures.continues c.close.ensures.continues

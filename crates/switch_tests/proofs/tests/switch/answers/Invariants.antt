@@ -1,4 +1,4 @@
-use Rattle.std.proofs.Common.{◌≤◌, ◌+◌}
+use Rattle.std.proofs.Common.{◌≤◌}
 use Rattle.switch_tests.proofs.tests.switch.answers.Given as goal
 
 abbrev pub invariant-loop-k : goal.invariant-loop-k

@@ -1,0 +1,174 @@
+#!/usr/bin/env python3
+"""How fast `legosdn run` answers real connections, beside two other controllers: bench/live.py [PROGRAM [SECONDS]]
+
+The switches are played over the loopback address by bench/live_client.c, which is built here. Each PACKET_IN has a source address that
+is new, and is answered by an addition of an entry. The application is sdk/python/examples/learning_by_additions.py; the rows with C have
+bench/live_app.c in its place, and so show what the controller itself takes. The others are os-ken (python3-os-ken) with
+bench/osken_learning.py, and ovs-testcontroller (openvswitch-testcontroller), where they are installed. Neither of them awaits a barrier:
+`legosdn run` tells its application that an entry stands only when the switch has answered one. ovs-testcontroller closes connections
+where many come at once, so it has 8 at most. Each measurement takes SECONDS, by default 3, and is made three times in turn with the
+others; the best one is printed.
+
+Prints: additions a second and the time from a PACKET_IN to its FLOW_MOD, with one switch and one PACKET_IN in flight (paced: it waits
+for the barrier of the one before), with one switch and 32, with 16 switches and 8 each; then how 64 switches join, and how a flood of
+50,000 PACKET_INs from one switch is taken while another one is served, with the peak of the controller's memory. Ends with status 1
+where a measurement failed.
+"""
+
+import contextlib
+import os
+import shutil
+import socket
+import subprocess
+import sys
+import tempfile
+import time
+
+HERE = os.path.dirname(os.path.abspath(__file__))
+TOP = os.path.dirname(HERE)
+PROGRAM = sys.argv[1] if len(sys.argv) > 1 else os.path.join(TOP, "crates", "legosdn", "out", "legosdn")
+SECONDS = float(sys.argv[2]) if len(sys.argv) > 2 else 3
+APPLICATION = os.path.join(TOP, "sdk", "python", "examples", "learning_by_additions.py")
+RUN, RUN_C = "legosdn run", "legosdn run, C"
+# Switches, PACKET_INs in flight, and whether each waits for the barrier of the one before.
+SHAPES = ((1, 1, True), (1, 1, False), (1, 32, False), (16, 8, False))
+TIMES = 3
+MOST_OF_OVS = 8
+FLOOD = 50_000
+FLOOD_SECONDS = 120
+
+
+def free_port():
+    with socket.create_server(("127.0.0.1", 0)) as link:
+        return link.getsockname()[1]
+
+
+def compiled(name, room):
+    """Builds a program of this folder."""
+    program = os.path.join(room, name)
+    subprocess.run(["cc", "-O2", "-o", program, os.path.join(HERE, f"{name}.c")], check=True)
+    return program
+
+
+def commands(port, room):
+    """The name, the command and the standard input of each controller that is here."""
+    if os.access(PROGRAM, os.X_OK):
+        for name, command in ((RUN, f'["/usr/bin/python3", "{APPLICATION}"]'), (RUN_C, f'["{C_APPLICATION}"]')):
+            yield name, [PROGRAM, "run", str(port), "1000000000"], f'[[app]]\nname = "app"\ncommand = {command}\n'
+    if shutil.which("osken-manager"):
+        words = ["--ofp-listen-host", "127.0.0.1", "--ofp-tcp-listen-port", str(port), os.path.join(HERE, "osken_learning.py")]
+        yield "os-ken", ["osken-manager", *words], ""
+    if shutil.which("ovs-testcontroller"):
+        yield "ovs-testcontroller", ["ovs-testcontroller", f"ptcp:{port}:127.0.0.1", f"--unixctl={room}/ctl"], ""
+
+
+@contextlib.contextmanager
+def running(command, given, room):
+    """Runs a controller, and ends it."""
+    with open(os.path.join(room, "said"), "wb") as said:
+        process = subprocess.Popen(command, stdin=subprocess.PIPE, stdout=said, stderr=said)
+    try:
+        process.stdin.write(given.encode())
+        process.stdin.close()
+        yield process
+    finally:
+        process.kill()
+        process.wait()
+
+
+def listens(process, port):
+    """Waits until something listens at the port, without connecting to it."""
+    wanted = f"0100007F:{port:04X}"
+    for _ in range(600):
+        with open("/proc/net/tcp", encoding="ascii") as file:
+            if any(it.split()[1] == wanted and it.split()[3] == "0A" for it in file.readlines()[1:]):
+                return True
+        if process.poll() is not None:
+            return False
+        time.sleep(0.05)
+    return False
+
+
+def peak(process):
+    """The peak of the memory of a running process, in MiB."""
+    with open(f"/proc/{process.pid}/status", encoding="ascii") as file:
+        return next(int(it.split()[1]) / 1024 for it in file if it.startswith("VmHWM"))
+
+
+def measure(client, name, words):
+    """Runs a controller and the client with these words; gives what it measured, and the peak of memory."""
+    port = free_port()
+    with tempfile.TemporaryDirectory(prefix="live_bench.") as room:
+        command, given = next((it[1:] for it in commands(port, room) if it[0] == name))
+        with running(command, given, room) as process:
+            if not listens(process, port):
+                with open(os.path.join(room, "said"), encoding="utf-8", errors="replace") as file:
+                    raise OSError(f"{name} does not listen: {file.read()[-300:]}")
+            words = [client, words[0], str(port), *map(str, words[1:])]
+            with subprocess.Popen(words, stdin=subprocess.PIPE, stdout=subprocess.PIPE, text=True) as player:
+                line = player.stdout.readline().strip()
+                if "=" not in line or process.poll() is not None:
+                    with open(os.path.join(room, "said"), encoding="utf-8", errors="replace") as file:
+                        raise OSError(f"{line}; {name} said: {file.read()[-300:]}")
+                got = dict(it.split("=") for it in line.split())
+                return {it: float(value) for it, value in got.items()}, peak(process)
+
+
+def rate(client, name, switches, in_flight, paced):
+    # ovs-testcontroller passes over all frames but those that met no entry.
+    reason = 0 if name == "ovs-testcontroller" else 1
+    return measure(client, name, ("rate", switches, in_flight, reason, int(paced), SECONDS))
+
+
+def row(name, count, in_flight, paced, found):
+    got, mebibytes = max(found, key=lambda it: it[0]["rate"])
+    figures = " ".join(f"{got[it]:8.0f}" for it in ("rate", "first", "last", "p50", "p99"))
+    print(f"{name:20} {count:8} {in_flight:>3}{' paced' if paced else '':6} {figures} {mebibytes:6.1f}", flush=True)
+
+
+def rates(client, names):
+    """Measures each shape; gives how many measurements failed."""
+    failed = 0
+    print(f"{'':20} {'switches':>8} {'in flight':>9} {'added/s':>8} {'first':>8} {'last':>8} {'p50 us':>8} {'p99 us':>8} {'MiB':>6}")
+    for switches, in_flight, paced in SHAPES:
+        # The others send no barriers.
+        players = [it for it in names if it in (RUN, RUN_C) or not paced]
+        count = {it: min(switches, MOST_OF_OVS) if it == "ovs-testcontroller" else switches for it in players}
+        found = {it: [] for it in players}
+        for name in players * TIMES:
+            try:
+                found[name].append(rate(client, name, count[name], in_flight, paced))
+            except OSError as fault:
+                failed += 1
+                print(f"{name}: {fault}")
+        for name in players:
+            if found[name]:
+                row(name, count[name], in_flight, paced, found[name])
+    return failed
+
+
+def main():
+    global C_APPLICATION
+    failed = 0
+    with tempfile.TemporaryDirectory(prefix="live_bench.") as room:
+        client, C_APPLICATION = compiled("live_client", room), compiled("live_app", room)
+        names = [it[0] for it in commands(0, room)]
+        print(f"{os.cpu_count()} processors, load {os.getloadavg()[0]:.1f}; {'; '.join(names)}")
+        failed += rates(client, names)
+        if RUN not in names:
+            print(f"there is no program {PROGRAM}")
+            return 1
+        for name in (RUN, RUN_C):
+            got, mebibytes = measure(client, name, ("joins", 64, 2, 30))
+            print(f"{name}: {got['joined']:.0f} of 64 switches joined and had their two entries within {got['milliseconds']:.0f} ms, {mebibytes:.1f} MiB")
+            failed += got["joined"] < 64
+            got, mebibytes = measure(client, name, ("flood", FLOOD, FLOOD_SECONDS))
+            print(f"{name}: a flood of {FLOOD:,} PACKET_INs was taken by the socket within {got['taken']:.1f} s, and {got['added']:.0f} were answered "
+                  f"within {got['done']:.1f} s; the other switch had {got['served']:.0f} answers meanwhile, with {got['longest']:.0f} ms as the longest "
+                  f"wait; peak {mebibytes:.1f} MiB")
+            failed += got["added"] < FLOOD
+    return 1 if failed else 0
+
+
+if __name__ == "__main__":
+    sys.exit(main())

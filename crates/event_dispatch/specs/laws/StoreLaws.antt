@@ -1,0 +1,95 @@
+-- Laws of the checkpoints of the application over a turn: what is kept then, and that nothing is staged.
+use Rattle.std.proofs.Common.{◌≡◌, ℕ, ◌<◌, Bool, List, [], ◌∷◌, length, Option, Some, None, Result, Ok, Err, refl, sym, ap, ◌∙◌, subst, arith}
+use Rattle.std.specs.Prelude.{IfOk, OnErr, unwrap_or}
+use Rattle.flow_table.specs.declared.view.TableView.{TableView}
+use Rattle.app_frames.specs.declared.frame.Event.{Event}
+use Rattle.app_frames.specs.declared.cause.Cause.{Cause}
+use Rattle.lego_model.specs.Turns.{Outcome, Completed, Failed}
+use Rattle.lego_model.specs.Application.{index}
+use Rattle.outside.specs.Seen.{Seen}
+use Rattle.net_txn.specs.Net.{NetState}
+use Rattle.checkpoint_store.specs.Past.{Past, checkpoints}
+use Rattle.checkpoint_store.specs.Slots.{Slot, slot_of, with_slot, staged, done, dropped, HasStaged}
+use Rattle.checkpoint_store.specs.laws.SlotLaws.{HasStaged-done, HasStaged-dropped, slot_of-with_slot, length-with_slot}
+use Rattle.app_visor.specs.declared.state.TurnEnd.{TurnEnd}
+use Rattle.app_visor.specs.declared.state.TurnEnd.TheVariants as ends
+use Rattle.app_visor.specs.Attempts.{kept_of}
+use Rattle.app_visor.specs.Turns.{IsEnd, handed, with_handed}
+use Rattle.event_dispatch.specs.declared.fault.Fault.{Fault}
+use Rattle.event_dispatch.specs.Runs.{StoreRests}
+use Rattle.event_dispatch.specs.Stored.{KeepsSlots, closes_slot, PlaysStaged, HoldsTurn}
+
+-- ---- What is staged
+
+pub keeps_same : (app : ℕ) (slots now_slots : List Slot) → now_slots ≡ slots → KeepsSlots app slots now_slots
+keeps_same app slots now_slots is = record { number = ap (λ (s : List Slot). length s) is; kept = ap (λ (s : List Slot). kept_of app s) is }
+
+-- what is staged changes no kept checkpoint
+pub keeps_handed : (app : ℕ) (checkpoint : Option (List ℕ)) (slots now_slots : List Slot) → app < length slots → now_slots ≡ with_handed app checkpoint slots → KeepsSlots app slots now_slots
+keeps_handed app None slots now_slots lt is = keeps_same app slots now_slots is
+keeps_handed app (Some checkpoint) slots now_slots lt is = record {
+  number = ap (λ (s : List Slot). length s) is ∙ length-with_slot app (staged (checkpoints checkpoint)) slots;
+  kept = ap (λ (s : List Slot). kept_of app s) is ∙ ap (λ (x : Slot). x.kept.checkpoint) (slot_of-with_slot app (staged (checkpoints checkpoint)) slots lt);
+}
+
+-- the checkpoint that would be kept
+pending_handed : (app : ℕ) (checkpoint : Option (List ℕ)) (slots : List Slot) → app < length slots → HasStaged [] (slot_of app slots)
+    → (slot_of app (with_handed app checkpoint slots)).pending.checkpoint ≡ unwrap_or checkpoint (kept_of app slots)
+pending_handed app None slots lt none = ap (λ (past : Past). past.checkpoint) none
+pending_handed app (Some checkpoint) slots lt none = ap (λ (x : Slot). x.pending.checkpoint) (slot_of-with_slot app (staged (checkpoints checkpoint)) slots lt)
+
+-- a turn that failed hands over none
+pub none_handed : (cause : Cause) (unread : List ℕ) (outcome : Outcome) → IsEnd (ends.Failed cause) unread outcome → handed outcome ≡ None
+none_handed cause unread (Completed stop checkpoint rest) is = absurd is
+none_handed cause unread (Failed why) is = refl
+
+-- ---- What is kept then
+
+kept_done : (app : ℕ) (slots now_slots : List Slot) → app < length slots → now_slots ≡ with_slot app done slots → kept_of app now_slots ≡ (slot_of app slots).pending.checkpoint
+kept_done app slots now_slots lt is = ap (λ (s : List Slot). kept_of app s) is ∙ ap (λ (x : Slot). x.kept.checkpoint) (slot_of-with_slot app done slots lt)
+
+kept_dropped : (app : ℕ) (slots now_slots : List Slot) → app < length slots → now_slots ≡ with_slot app dropped slots → kept_of app now_slots ≡ kept_of app slots
+kept_dropped app slots now_slots lt is = ap (λ (s : List Slot). kept_of app s) is ∙ ap (λ (x : Slot). x.kept.checkpoint) (slot_of-with_slot app dropped slots lt)
+
+none_staged : (end : Result TurnEnd Fault) (slot : Slot) → HasStaged [] (closes_slot end slot)
+none_staged (Ok (ends.Done stop)) slot = HasStaged-done slot
+none_staged (Ok (ends.Failed cause)) slot = HasStaged-dropped slot
+none_staged (Err fault) slot = HasStaged-dropped slot
+
+within : (app : ℕ) (slots mid_slots : List Slot) → app < length slots → KeepsSlots app slots mid_slots → app < length mid_slots
+within app slots mid_slots lt keeps = subst (λ (n : ℕ). app < n) (sym keeps.number) lt
+
+-- the application has its place
+pub place : (app : ℕ) (slots : List Slot) → app ≡ index → StoreRests slots → app < length slots
+place app slots at rests = omega (arith, at, rests.one)
+
+quiet : (app : ℕ) (slots : List Slot) → app ≡ index → StoreRests slots → HasStaged [] (slot_of app slots)
+quiet app slots at rests = subst (λ (i : ℕ). HasStaged [] (slot_of i slots)) (sym at) rests.none_staged
+
+pub rests_closed : (end : Result TurnEnd Fault) (app : ℕ) (slots mid_slots now_slots : List Slot) → app ≡ index → StoreRests slots → KeepsSlots app slots mid_slots → now_slots ≡ with_slot app (closes_slot end) mid_slots → StoreRests now_slots
+rests_closed end app slots mid_slots now_slots at rests keeps is = record {
+  one = ap (λ (s : List Slot). length s) is ∙ length-with_slot app (closes_slot end) mid_slots ∙ keeps.number ∙ rests.one;
+  none_staged = subst (λ (i : ℕ). HasStaged [] (slot_of i now_slots)) at
+      (subst (λ (s : List Slot). HasStaged [] (slot_of app s)) (sym is)
+      (subst (λ (x : Slot). HasStaged [] x) (sym (slot_of-with_slot app (closes_slot end) mid_slots (within app slots mid_slots (place app slots at rests) keeps))) (none_staged end (slot_of app mid_slots))));
+}
+
+pub held : (Own : Type 0) (Tells : Type 0) (accepts : List TableView → Bool) (number : ℕ) (event : Event) (old new : Seen Own) (net now_net : NetState) (rest unread : List ℕ) (end : Result TurnEnd Fault) (app : ℕ) (slots mid_slots now_slots : List Slot)
+    → app ≡ index → StoreRests slots → KeepsSlots app slots mid_slots → now_slots ≡ with_slot app (closes_slot end) mid_slots
+    → IfOk end (λ e. PlaysStaged Tells accepts app number event e old new net now_net rest unread slots mid_slots) → IfOk end (λ e. HoldsTurn Tells accepts app number event e old new net now_net rest unread (kept_of app slots) (kept_of app now_slots))
+held Own Tells accepts number event old new net now_net rest unread (Ok (ends.Done stop)) app slots mid_slots now_slots at rests keeps is staged = record {
+  plays = staged.plays;
+  kept_so = kept_done app mid_slots now_slots (within app slots mid_slots (place app slots at rests) keeps) is
+      ∙ ap (λ (s : List Slot). (slot_of app s).pending.checkpoint) staged.staged_so
+      ∙ pending_handed app (handed staged.plays.turns.outcome) slots (place app slots at rests) (quiet app slots at rests);
+}
+held Own Tells accepts number event old new net now_net rest unread (Ok (ends.Failed cause)) app slots mid_slots now_slots at rests keeps is staged = record {
+  plays = staged.plays;
+  kept_so = kept_dropped app mid_slots now_slots (within app slots mid_slots (place app slots at rests) keeps) is ∙ keeps.kept
+      ∙ ap (λ (checkpoint : Option (List ℕ)). unwrap_or checkpoint (kept_of app slots)) (sym (none_handed cause unread staged.plays.turns.outcome staged.plays.turns.ends));
+}
+held Own Tells accepts number event old new net now_net rest unread (Err fault) app slots mid_slots now_slots at rests keeps is staged = tt
+
+pub unkept : (end : Result TurnEnd Fault) (app : ℕ) (slots mid_slots now_slots : List Slot) → app ≡ index → StoreRests slots → KeepsSlots app slots mid_slots → now_slots ≡ with_slot app (closes_slot end) mid_slots → OnErr end (kept_of app now_slots ≡ kept_of app slots)
+unkept (Ok e) app slots mid_slots now_slots at rests keeps is = tt
+unkept (Err fault) app slots mid_slots now_slots at rests keeps is = kept_dropped app mid_slots now_slots (within app slots mid_slots (place app slots at rests) keeps) is ∙ keeps.kept

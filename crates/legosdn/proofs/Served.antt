@@ -1,0 +1,212 @@
+-- The run of any world that tells in order is the reference controller's.
+use Rattle.std.proofs.Common.{◌≡◌, ◌⊎◌, ℕ, Bool, true, List, [], Option, refl, sym, subst, inl, inr}
+use Rattle.std.specs.List.{AllByRecursion}
+use Rattle.flow_table.specs.declared.view.TableView.{TableView}
+use Rattle.outside.specs.Seen.{Seen, Continues, journal}
+use Rattle.outside.specs.State.{at_first}
+use Rattle.outside.specs.Conforming.{Conforming}
+use Rattle.outside.specs.InOrder.{BringMessages, InOrder}
+use Rattle.outside.specs.laws.InOrderLaws.{in_order-Conforming, InOrder-front}
+use Rattle.outside.specs.Quiescence.{IsLastQuiescent}
+use Rattle.lego_model.specs.UndoFaults.{AreExpectedOnLinks}
+use Rattle.net_txn.specs.LinkSteps.{MakesNoStrayCall}
+use Rattle.lego_model.specs.Places.{Place}
+use Rattle.lego_model.specs.Application.{index}
+use Rattle.lego_model.specs.AtOnce.{AtOnce}
+use Rattle.lego_model.specs.OrderlySteps.{IsOrderly}
+use Rattle.lego_model.specs.declared.fault.TxnFault.{TxnFault}
+use Rattle.lego_model.specs.declared.fault.TxnFault.TheVariants as faults
+use Rattle.lego_model.specs.AllLines.{CutBehindLines, CutInLines, CutForMemory}
+use Rattle.lego_model.specs.CutRun.{NothingDone}
+use Rattle.run_laws.specs.Promise.{Premise, PremiseSoFar}
+use Rattle.run_laws.specs.Cut.{CutAt, CutAlike, CutWithLines, CutWriting}
+use Rattle.run_laws.specs.laws.StimuliLaws.{told-all, fewer-front}
+use Rattle.run_laws.specs.laws.DialogueLaws.{applications_in_place}
+use Rattle.event_dispatch.specs.declared.served.Served.{Served}
+use Rattle.event_dispatch.specs.declared.served.Served.TheVariants as served
+use Rattle.event_dispatch.specs.Serves.{IsAlike, IsCut}
+use Rattle.event_dispatch.specs.Cut.{IsReadServed}
+use Rattle.event_dispatch.specs.Plain.{IsPlainServed}
+use Rattle.event_dispatch.specs.laws.LeftLaws.{tables_for}
+use Rattle.legosdn.specs.declared.stop.Stop.{Stop}
+use Rattle.legosdn.specs.Stops.{stop_of_switch}
+use Rattle.legosdn.specs.Said.{all_allowed}
+use Rattle.legosdn.specs.Headline.{UpToPoint}
+use Rattle.legosdn.specs.Live.{TellsInOrder, NoneStray, ServesWhole, ServesPart, ServesUntil}
+use Rattle.legosdn.proofs.Places.{all_for, behind_for, links_from_first, in_place, shut_in_place, idle_in_place}
+
+-- ---- What the engine promises of a world that it may call
+
+abbrev accepts_all : List TableView → Bool
+accepts_all views = true
+
+abbrev pub Reads : {Own : Type 0} → Type 0 → Seen Own → Seen Own → Served → Type 0
+Reads Tells old new end = Tells → old.history ≡ [] → InOrder new → IsReadServed new end
+
+abbrev pub Promises : {Own : Type 0} → Type 0 → ℕ → Seen Own → Seen Own → Option (List ℕ) → Option (List ℕ) → Served → Type 0
+Promises Tells rounds old new a b end = (allows : List Place → Bool) → Premise Tells accepts_all allows rounds old new → IsAlike allows new a b end
+
+abbrev pub PromisesCut : {Own : Type 0} → Type 0 → ℕ → Seen Own → Seen Own → Option (List ℕ) → Option (List ℕ) → Served → Type 0
+PromisesCut Tells rounds old new a b end = (allows : List Place → Bool) → PremiseSoFar Tells accepts_all allows rounds old new → IsCut allows new a b end
+
+abbrev pub PromisesPlain : {Own : Type 0} → Type 0 → ℕ → Seen Own → Seen Own → Served → Type 0
+PromisesPlain Tells rounds old new end = (allows : List Place → Bool) → Premise Tells accepts_all allows rounds old new → IsPlainServed end
+
+abbrev pub NoStrays : {Own : Type 0} → Type 0 → Seen Own → Seen Own → Type 0
+NoStrays Tells old new = Tells → old.history ≡ [] → InOrder new → MakesNoStrayCall old new
+
+premise : {Own : Type 0} (Tells : Type 0) (rounds : ℕ) (old new : Seen Own) → TellsInOrder Tells rounds old new → Conforming new → Premise Tells accepts_all all_allowed rounds old new
+premise Tells rounds old new tells keeps = record {
+  told = tells.told;
+  keeps = keeps;
+  judges = record { alike = λ seen net. refl };
+  untouched = tells.untouched;
+  few = tells.few;
+}
+
+premise_so_far : {Own : Type 0} (Tells : Type 0) (rounds : ℕ) (old new : Seen Own) → TellsInOrder Tells rounds old new → PremiseSoFar Tells accepts_all all_allowed rounds old new
+premise_so_far Tells rounds old new tells = record {
+  told = tells.told;
+  judges = record { alike = λ seen net. refl };
+  untouched = tells.untouched;
+  few = λ front keeps given later. fewer-front front new later tells.few;
+}
+
+-- ---- A run that no fault ends
+
+-- the world kept its word
+ended_keeps : {Own : Type 0} (Tells : Type 0) (rounds : ℕ) (old new : Seen Own) (end : Served) (events : ℕ) → TellsInOrder Tells rounds old new → end ≡ served.Ended events → Reads Tells old new end → Conforming new
+ended_keeps Tells rounds old new end events tells is reads = in_order-Conforming new tells.order (subst (IsReadServed new) is (reads tells.told tells.untouched tells.order))
+
+left_keeps : {Own : Type 0} (Tells : Type 0) (rounds : ℕ) (old new : Seen Own) (end : Served) (left : ℕ) → TellsInOrder Tells rounds old new → end ≡ served.EventsLeft left → Reads Tells old new end → Conforming new
+left_keeps Tells rounds old new end left tells is reads = in_order-Conforming new tells.order (subst (IsReadServed new) is (reads tells.told tells.untouched tells.order))
+
+pub serves_whole : {Own : Type 0} (Tells : Type 0) (rounds : ℕ) (old new : Seen Own) (a b : Option (List ℕ)) (end : Served) (events : ℕ) → end ≡ served.Ended events → Reads Tells old new end → Promises Tells rounds old new a b end
+    → TellsInOrder Tells rounds old new → ServesWhole new a b
+serves_whole Tells rounds old new a b end events is reads promises tells =
+    let keeps = ended_keeps Tells rounds old new end events tells is reads in
+    let whole = subst (IsAlike all_allowed new a b) is (promises all_allowed (premise Tells rounds old new tells keeps)) in
+    record { events = events; alike = whole.alike; stimuli = told-all new keeps whole.none_to_come }
+
+pub serves_part : {Own : Type 0} (Tells : Type 0) (rounds : ℕ) (old new : Seen Own) (a b : Option (List ℕ)) (end : Served) (left : ℕ) → end ≡ served.EventsLeft left → Reads Tells old new end → Promises Tells rounds old new a b end
+    → TellsInOrder Tells rounds old new → ServesPart new a b left
+serves_part Tells rounds old new a b end left is reads promises tells =
+    let keeps = left_keeps Tells rounds old new end left tells is reads in
+    let part = subst (IsAlike all_allowed new a b) is (promises all_allowed (premise Tells rounds old new tells keeps)) in
+    record { alike = part.alike; stimuli = told-all new keeps part.none_to_come }
+
+-- ---- A run that a fault ends
+
+-- the world kept its word as far as a place where all bytes that came are messages
+conforms_at : {Own : Type 0} (seen last : Seen Own) → InOrder seen → seen.given ≡ last.given → IsLastQuiescent last seen → BringMessages last.history → Conforming last
+conforms_at seen last order given quiet messages = in_order-Conforming last (InOrder-front last seen quiet.steps given quiet.history order) messages
+
+place_of : {Own : Type 0} (seen : Seen Own) (Short : Type 0) (Alike : Seen Own → Type 0) → InOrder seen → CutAt Short Alike seen → UpToPoint seen Short Alike
+place_of seen Short Alike order cut =
+    let quiet = cut.last_point order in
+    let keeps = conforms_at seen cut.last order cut.given quiet (cut.messages order) in
+    record {
+      last = cut.last;
+      given = sym cut.given;
+      last_point = quiet;
+      messages = cut.messages order;
+      holds = cut.alike keeps;
+      tables = cut.tables order;
+      at_once = cut.at_once keeps;
+    }
+
+-- what the engine promises where a fault ends the run
+pub cut_as : {Own : Type 0} (Tells : Type 0) (rounds : ℕ) (old new : Seen Own) (a b : Option (List ℕ)) (end fault : Served) → end ≡ fault → PromisesCut Tells rounds old new a b end → TellsInOrder Tells rounds old new → IsCut all_allowed new a b fault
+cut_as Tells rounds old new a b end fault is promises tells = subst (IsCut all_allowed new a b) is (promises all_allowed (premise_so_far Tells rounds old new tells))
+
+pub writing_place : {Own : Type 0} (seen : Seen Own) (a b : Option (List ℕ)) → InOrder seen → CutWriting all_allowed seen a b → UpToPoint seen ⊥ (λ last. CutInLines all_allowed last a b)
+writing_place seen a b order cut = place_of seen ⊥ (λ last. CutInLines all_allowed last a b) order cut
+
+pub lines_place : {Own : Type 0} (seen : Seen Own) (a b : Option (List ℕ)) → InOrder seen → CutWithLines all_allowed seen a b → UpToPoint seen ⊥ (λ last. CutBehindLines all_allowed last a b)
+lines_place seen a b order cut = place_of seen ⊥ (λ last. CutBehindLines all_allowed last a b) order cut
+
+pub memory_place : {Own : Type 0} (seen : Seen Own) (a b : Option (List ℕ)) → InOrder seen → CutAlike all_allowed seen a b ⊎ NothingDone [] seen a b
+    → UpToPoint seen (Unit {0}) (λ last. CutForMemory all_allowed seen last a b) ⊎ NothingDone [] seen a b
+memory_place seen a b order (inl cut) = inl (place_of seen (Unit {0}) (λ last. CutForMemory all_allowed seen last a b) order cut)
+memory_place seen a b order (inr none) = inr none
+
+never_short : ⊥ → Unit {0}
+never_short none = tt
+
+-- no line is missing, so that the lines of the start are there
+lines_for_memory : {Own : Type 0} (seen : Seen Own) (a b : Option (List ℕ)) → UpToPoint seen ⊥ (λ last. CutBehindLines all_allowed last a b) → UpToPoint seen (Unit {0}) (λ last. CutForMemory all_allowed seen last a b)
+lines_for_memory seen a b up_to = record {
+  last = up_to.last;
+  given = up_to.given;
+  last_point = up_to.last_point;
+  messages = up_to.messages;
+  holds = record { run = up_to.holds.run; done = inr up_to.holds.done };
+  tables = tables_for never_short up_to.tables;
+  at_once = up_to.at_once;
+}
+
+switch_until : {Own : Type 0} (seen : Seen Own) (a b : Option (List ℕ)) (fault : TxnFault) → (BringMessages seen.history → IsPlainServed (served.Txn fault)) → UpToPoint seen ⊥ (λ last. CutBehindLines all_allowed last a b)
+    → ServesUntil (stop_of_switch fault) seen a b
+switch_until seen a b (faults.SwitchFault d) plain place = place
+switch_until seen a b (faults.SwitchBroke d bytes) plain place = (plain, place)
+switch_until seen a b (faults.Flooded d n) plain place = (plain, place)
+switch_until seen a b (faults.Diverged d sent got) plain place = (plain, place)
+switch_until seen a b faults.NoMemory plain place = inl (lines_for_memory seen a b place)
+
+-- where it is by a switch
+pub switch_serves : {Own : Type 0} (Tells : Type 0) (rounds : ℕ) (old new : Seen Own) (a b : Option (List ℕ)) (stop : Stop) (fault : TxnFault) (end : Served) → end ≡ served.Txn fault → stop ≡ stop_of_switch fault
+    → PromisesPlain Tells rounds old new end → PromisesCut Tells rounds old new a b end → TellsInOrder Tells rounds old new → ServesUntil stop new a b
+switch_serves Tells rounds old new a b stop fault end is so plain promises tells =
+    subst (λ (s : Stop). ServesUntil s new a b) (sym so)
+    (switch_until new a b fault (λ messages. subst IsPlainServed is (plain all_allowed (premise Tells rounds old new tells (in_order-Conforming new tells.order messages))))
+    (lines_place new a b tells.order (cut_as Tells rounds old new a b end (served.Txn fault) is promises tells)))
+
+-- ---- No call of it was a stray one
+
+links : {Own : Type 0} (Tells : Type 0) (rounds : ℕ) (old new : Seen Own) → Continues Tells old new → NoStrays Tells old new → TellsInOrder Tells rounds old new → AreExpectedOnLinks new.history (at_first new.given)
+links Tells rounds old new continues stays tells = links_from_first old new tells.untouched continues.given (stays tells.told tells.untouched tells.order)
+
+whole_strays : {Own : Type 0} (seen : Seen Own) → AllByRecursion (IsOrderly index) seen.history → AtOnce index (journal seen.history) → AreExpectedOnLinks seen.history (at_first seen.given) → NoneStray seen
+whole_strays seen in_order at_once links = in_place seen (all_for seen.history in_order) (applications_in_place seen at_once) links
+
+cut_strays : {Own : Type 0} (seen : Seen Own) (Short : Type 0) (Alike : Seen Own → Type 0) → InOrder seen → AreExpectedOnLinks seen.history (at_first seen.given) → (cut : CutAt Short Alike seen) → (Alike cut.last → AllByRecursion (IsOrderly index) cut.last.history) → NoneStray seen
+cut_strays seen Short Alike order links cut in_order =
+    let keeps = conforms_at seen cut.last order cut.given (cut.last_point order) (cut.messages order) in
+    in_place seen (behind_for (in_order (cut.alike keeps)) cut.no_other_called) (applications_in_place seen (cut.at_once keeps)) links
+
+memory_strays : {Own : Type 0} (seen : Seen Own) (a b : Option (List ℕ)) → InOrder seen → AreExpectedOnLinks seen.history (at_first seen.given) → CutAlike all_allowed seen a b ⊎ NothingDone [] seen a b → NoneStray seen
+memory_strays seen a b order links (inl cut) = cut_strays seen (Unit {0}) (λ last. CutForMemory all_allowed seen last a b) order links cut (λ short. short.run.in_order)
+memory_strays seen a b order links (inr idle) = idle_in_place seen idle.history
+
+-- the run ended before all was done
+abbrev IsFaultEnd : Served → Type 0
+IsFaultEnd (served.Ended events) = ⊥
+IsFaultEnd (served.EventsLeft left) = ⊥
+IsFaultEnd other = Unit {0}
+
+fault_strays : {Own : Type 0} (seen : Seen Own) (a b : Option (List ℕ)) (end : Served) → InOrder seen → AreExpectedOnLinks seen.history (at_first seen.given) → IsFaultEnd end → IsCut all_allowed seen a b end → NoneStray seen
+fault_strays seen a b (served.Ended events) order links fault cut = absurd fault
+fault_strays seen a b (served.EventsLeft left) order links fault cut = absurd fault
+fault_strays seen a b served.WriteFault order links fault cut = cut_strays seen ⊥ (λ last. CutInLines all_allowed last a b) order links cut (λ writing. writing.run.up_to.in_order)
+fault_strays seen a b served.Shut order links fault cut = shut_in_place seen cut.history
+fault_strays seen a b served.NextFault order links fault cut = cut_strays seen ⊥ (λ last. CutBehindLines all_allowed last a b) order links cut (λ behind. behind.run.in_order)
+fault_strays seen a b (served.Txn fault_of) order links fault cut = cut_strays seen ⊥ (λ last. CutBehindLines all_allowed last a b) order links cut (λ behind. behind.run.in_order)
+fault_strays seen a b served.NoMemory order links fault cut = memory_strays seen a b order links cut
+
+strays_by : {Own : Type 0} (Tells : Type 0) (rounds : ℕ) (old new : Seen Own) (a b : Option (List ℕ)) (whole end : Served) → whole ≡ end → AreExpectedOnLinks new.history (at_first new.given) → Reads Tells old new whole → Promises Tells rounds old new a b whole
+    → PromisesCut Tells rounds old new a b whole → TellsInOrder Tells rounds old new → NoneStray new
+strays_by Tells rounds old new a b whole (served.Ended events) is links reads promises cut tells =
+    let alike = (serves_whole Tells rounds old new a b whole events is reads promises tells).alike in
+    whole_strays new alike.in_order alike.at_once links
+strays_by Tells rounds old new a b whole (served.EventsLeft left) is links reads promises cut tells =
+    let alike = (serves_part Tells rounds old new a b whole left is reads promises tells).alike in
+    whole_strays new alike.in_order alike.at_once links
+strays_by Tells rounds old new a b whole served.WriteFault is links reads promises cut tells = fault_strays new a b served.WriteFault tells.order links tt (cut_as Tells rounds old new a b whole served.WriteFault is cut tells)
+strays_by Tells rounds old new a b whole served.Shut is links reads promises cut tells = fault_strays new a b served.Shut tells.order links tt (cut_as Tells rounds old new a b whole served.Shut is cut tells)
+strays_by Tells rounds old new a b whole served.NextFault is links reads promises cut tells = fault_strays new a b served.NextFault tells.order links tt (cut_as Tells rounds old new a b whole served.NextFault is cut tells)
+strays_by Tells rounds old new a b whole (served.Txn fault) is links reads promises cut tells = fault_strays new a b (served.Txn fault) tells.order links tt (cut_as Tells rounds old new a b whole (served.Txn fault) is cut tells)
+strays_by Tells rounds old new a b whole served.NoMemory is links reads promises cut tells = fault_strays new a b served.NoMemory tells.order links tt (cut_as Tells rounds old new a b whole served.NoMemory is cut tells)
+
+pub none_stray : {Own : Type 0} (Tells : Type 0) (rounds : ℕ) (old new : Seen Own) (a b : Option (List ℕ)) (end : Served) → Continues Tells old new → NoStrays Tells old new → Reads Tells old new end → Promises Tells rounds old new a b end
+    → PromisesCut Tells rounds old new a b end → TellsInOrder Tells rounds old new → NoneStray new
+none_stray Tells rounds old new a b end continues stays reads promises cut tells = strays_by Tells rounds old new a b end end refl (links Tells rounds old new continues stays tells) reads promises cut tells

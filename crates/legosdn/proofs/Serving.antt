@@ -1,0 +1,155 @@
+-- How `run` ends, and what stands where neither command runs anything.
+use Rattle.std.proofs.Common.{◌≡◌, ◌⊎◌, ℕ, List, [], ◌∷◌, Option, Some, None, Result, Ok, Err, IfErr, OnOk, IfSome, Contains, refl, sym, subst, ◌∙◌, ap, inl, inr}
+use Rattle.std.specs.Result.{IsErrAnd}
+use Rattle.command_words.specs.declared.command.Command.{Command}
+use Rattle.command_words.specs.declared.command.Command.TheVariants.{Replay, Run}
+use Rattle.command_words.specs.Commands.{command_in}
+use Rattle.outside.specs.Seen.{Seen}
+use Rattle.outside.specs.InOrder.{BringMessages}
+use Rattle.sim_world.specs.World.{WorldData, seen_of}
+use Rattle.legosdn.specs.declared.stop.Refusal.{Refusal}
+use Rattle.legosdn.specs.declared.stop.Stop.{Stop}
+use Rattle.legosdn.specs.declared.stop.Stop.TheVariants.{Usage, Refused, ReadFault, WriteFault, Shut, NextFault, SwitchFault, SwitchBroke, Diverged, EventsLeft, NoMemory}
+use Rattle.legosdn.specs.Input.{run_policy}
+use Rattle.legosdn.specs.Stops.{stop_status, refusal_line}
+use Rattle.legosdn.specs.Headline.{faults_of, IsReplay, IsRun, IsNoSession, IsNoPolicy, IsReadCause, IsRunCause, IsEarly, IsLate, KeepsLines, Replays}
+use Rattle.legosdn.specs.Live.{Taken, TellsInOrder, NoneStray, ServesUntil, ServesAs, TakenAs, Serves}
+use Rattle.legosdn.proofs.Causes.{ran_causes, unread_causes}
+use Rattle.legosdn.proofs.Loads.{unread_as}
+use Rattle.legosdn.proofs.Places.{idle_in_place}
+use Rattle.legosdn.proofs.Runs.{by_read, runs_by_read, lines_by_read}
+use Rattle.legosdn.proofs.Statuses.{is_broken, is_diverged, not_late}
+
+-- ---- By the command
+
+command_is : (P : Type 0) (words : List (List ℕ)) (command : Option Command) → command_in words ≡ command → (IsReplay words → P) → ((port rounds : ℕ) → IsRun words port rounds → P) → (command_in words ≡ None → P) → P
+command_is P words None is replays runs none = none is
+command_is P words (Some Replay) is replays runs none = replays is
+command_is P words (Some (Run port rounds)) is replays runs none = runs port rounds is
+
+pub by_command : (P : Type 0) (words : List (List ℕ)) → (IsReplay words → P) → ((port rounds : ℕ) → IsRun words port rounds → P) → (command_in words ≡ None → P) → P
+by_command P words replays runs none = command_is P words (command_in words) refl replays runs none
+
+-- ---- Nothing ran
+
+err_is : {T : Type 0} (P : Result T Stop → Type 0) (stop : Stop) (result : Result T Stop) → IsErrAnd result (λ s. s ≡ stop) → P (Err stop) → P result
+err_is P stop (Ok x) is so = absurd is
+err_is P stop (Err s) is so = subst (λ (t : Stop). P (Err t)) (sym is) so
+
+taken_by_read : {T : Type 0} (told left : Option (List ℕ)) (result : Result T Stop) → IsErrAnd result (λ s. Unit {0}) → IfErr result (λ s. IsLate s → Taken told left) → TakenAs result told left
+taken_by_read told left (Ok x) is so = absurd is
+taken_by_read told left (Err s) is so = so
+
+some_err : {T : Type 0} (stop : Stop) (result : Result T Stop) → IsErrAnd result (λ s. s ≡ stop) → IsErrAnd result (λ s. Unit {0})
+some_err stop (Ok x) is = absurd is
+some_err stop (Err s) is = tt
+
+serves_none : {Own : Type 0} (told : Option (List ℕ)) (i j : ℕ) (seen : Seen Own) (contents : Option (List ℕ)) (stop : Stop) → IsReadCause IsNoPolicy told i j stop → seen.history ≡ [] → ServesUntil stop seen contents contents
+serves_none told i j seen contents Usage cause none = absurd cause
+serves_none told i j seen contents (Refused refusal) cause none = tt
+serves_none told i j seen contents ReadFault cause none = tt
+serves_none told i j seen contents WriteFault cause none = absurd cause
+serves_none told i j seen contents Shut cause none = absurd cause
+serves_none told i j seen contents NextFault cause none = absurd cause
+serves_none told i j seen contents (SwitchFault d) cause none = absurd cause
+serves_none told i j seen contents (SwitchBroke d) cause none = absurd cause
+serves_none told i j seen contents (Diverged d) cause none = absurd cause
+serves_none told i j seen contents (EventsLeft left) cause none = absurd cause
+serves_none told i j seen contents NoMemory cause none = inr (record { history = none; still = refl })
+
+stays_early : {T : Type 0} (Stays : Type 0) (result : Result T Stop) → Stays → IfErr result (λ stop. IsEarly stop → Stays)
+stays_early Stays (Ok x) stays = tt
+stays_early Stays (Err stop) stays = λ early. stays
+
+ok_none : {T : Type 0} (P : Type 0) (stop : Stop) (result : Result T Stop) → IsErrAnd result (λ s. s ≡ stop) → OnOk result P
+ok_none P stop (Ok x) is = absurd is
+ok_none P stop (Err s) is = tt
+
+pub serves_unread : {Own T : Type 0} (Tells : Type 0) (rounds : ℕ) (told left : Option (List ℕ)) (i j k : ℕ) (seen : Seen Own) (contents : Option (List ℕ)) (Stays : Type 0) (stop : Stop) (result : Result T Stop) → IsErrAnd result (λ s. s ≡ stop)
+    → IsReadCause IsNoPolicy told i j stop → Stays → Serves Tells rounds result told left (faults_of i k seen) (faults_of j k seen) contents contents Stays
+serves_unread Tells rounds told left i j k seen contents Stays stop result is cause stays = record {
+  taken = taken_by_read told left result (some_err stop result is) (by_read (Taken told left) IsNoPolicy told i j stop result is cause);
+  no_other = inr stays;
+  runs = λ tells. err_is (λ r. ServesAs r seen contents contents) stop result is (serves_none told i j seen contents stop cause tells.untouched);
+  strays = λ tells. idle_in_place seen tells.untouched;
+  why = unread_causes Tells IsNoPolicy told i j k k seen seen stop result is cause;
+  early = stays_early Stays result stays;
+}
+
+pub replays_unread : {T : Type 0} (told left : Option (List ℕ)) (i j k : ℕ) (sim : WorldData) (contents : Option (List ℕ)) (Stays : Type 0) (stop : Stop) (result : Result T Stop) → IsErrAnd result (λ s. s ≡ stop) → (seen_of sim).history ≡ []
+    → IsReadCause IsNoSession told i j stop → Stays → Replays result told left (faults_of i k (seen_of sim)) (faults_of j k (seen_of sim)) sim contents contents Stays
+replays_unread told left i j k sim contents Stays stop result is none cause stays = record {
+  loaded = unread_as told left (seen_of sim) i j stop result is none cause;
+  runs = runs_by_read told i j sim contents stop result is none cause;
+  lines = ok_none (KeepsLines sim) stop result is;
+  late_lines = lines_by_read (KeepsLines sim) told i j stop result is cause;
+  why = unread_causes (Unit {0}) IsNoSession told i j k k (seen_of sim) (seen_of sim) stop result is cause;
+  early = stays_early Stays result stays;
+}
+
+-- ---- The policy was taken, and the world ran
+
+taken_as : {T : Type 0} (told left : Option (List ℕ)) (result : Result T Stop) → Taken told left → TakenAs result told left
+taken_as told left (Ok x) taken = taken
+taken_as told left (Err stop) taken = λ late. taken
+
+not_early : {Own : Type 0} (P Tells : Type 0) (k l : ℕ) (old new : Seen Own) (stop : Stop) → IsRunCause Tells k l old new stop → IsEarly stop → P
+not_early P Tells k l old new Usage cause early = absurd cause
+not_early P Tells k l old new (Refused refusal) cause early = absurd cause
+not_early P Tells k l old new ReadFault cause early = absurd cause
+not_early P Tells k l old new WriteFault cause early = absurd early
+not_early P Tells k l old new Shut cause early = absurd early
+not_early P Tells k l old new NextFault cause early = absurd early
+not_early P Tells k l old new (SwitchFault d) cause early = absurd early
+not_early P Tells k l old new (SwitchBroke d) cause early = absurd early
+not_early P Tells k l old new (Diverged d) cause early = absurd early
+not_early P Tells k l old new (EventsLeft left) cause early = absurd early
+not_early P Tells k l old new NoMemory cause early = absurd early
+
+none_early : {Own T : Type 0} (Stays Tells : Type 0) (k l : ℕ) (old new : Seen Own) (result : Result T Stop) → IfErr result (IsRunCause Tells k l old new) → IfErr result (λ stop. IsEarly stop → Stays)
+none_early Stays Tells k l old new (Ok x) cause = tt
+none_early Stays Tells k l old new (Err stop) cause = not_early Stays Tells k l old new stop cause
+
+pub serves_taken : {Own T : Type 0} (Tells : Type 0) (rounds : ℕ) (told left : Option (List ℕ)) (i j k l : ℕ) (old new : Seen Own) (a b : Option (List ℕ)) (Stays : Type 0) (result : Result T Stop) → Taken told left
+    → (TellsInOrder Tells rounds old new → ServesAs result new a b) → (TellsInOrder Tells rounds old new → NoneStray new) → IfErr result (IsRunCause Tells k l old new)
+    → Serves Tells rounds result told left (faults_of i k old) (faults_of j l new) a b Stays
+serves_taken Tells rounds told left i j k l old new a b Stays result taken runs strays why = record {
+  taken = taken_as told left result taken;
+  no_other = inl taken;
+  runs = runs;
+  strays = strays;
+  why = ran_causes Tells IsNoPolicy told i j k l old new result why;
+  early = none_early Stays Tells k l old new result why;
+}
+
+-- ---- What follows
+
+pub broke_live : {Own : Type 0} (seen : Seen Own) (a b : Option (List ℕ)) (stop : Stop) → ServesUntil stop seen a b → BringMessages seen.history → stop_status stop ≡ 8 → ⊥
+broke_live seen a b stop runs messages eight = let is = is_broken stop eight in (subst (λ (s : Stop). ServesUntil s seen a b) is.1 runs).0 messages
+
+pub diverged_live : {Own : Type 0} (seen : Seen Own) (a b : Option (List ℕ)) (stop : Stop) → ServesUntil stop seen a b → BringMessages seen.history → stop_status stop ≡ 9 → ⊥
+diverged_live seen a b stop runs messages nine = let is = is_diverged stop nine in (subst (λ (s : Stop). ServesUntil s seen a b) is.1 runs).0 messages
+
+no_both : (program : List (List ℕ)) (line : List ℕ) → Ok program ≡ Err line → ⊥
+no_both program line e = absurd cc
+
+-- a policy that is taken is not refused
+pub good_policy : (told : Option (List ℕ)) (input : List ℕ) (program : List (List ℕ)) → told ≡ Some input → run_policy input ≡ Ok program → (refusal : Refusal) → IfSome told (IsNoPolicy refusal) → ⊥
+good_policy told input program whole spelled refusal cause = no_both program (refusal_line refusal) (sym spelled ∙ subst (λ (t : Option (List ℕ)). IfSome t (IsNoPolicy refusal)) whole cause)
+
+refused_or_taken : (bytes : List ℕ) (left : Option (List ℕ)) (line : List ℕ) → Taken (Some bytes) left → run_policy bytes ≡ Err line → ⊥
+refused_or_taken bytes left line taken e = no_both taken.program line (sym taken.spelled ∙ ap run_policy taken.whole ∙ e)
+
+-- one that is taken is none
+pub none_refused_policy : (told left : Option (List ℕ)) (P : Type 0) (line : List ℕ) → Taken told left → IfSome told (λ input. run_policy input ≡ Err line → P)
+none_refused_policy None left P line taken = tt
+none_refused_policy (Some bytes) left P line taken = λ e. absurd (refused_or_taken bytes left line taken e)
+
+stays_refused : (bytes : List ℕ) (left : Option (List ℕ)) (line : List ℕ) (World Sink : Type 0) → run_policy bytes ≡ Err line → Taken (Some bytes) left ⊎ (World × Sink) → World
+stays_refused bytes left line World Sink e (inl taken) = absurd (refused_or_taken bytes left line taken e)
+stays_refused bytes left line World Sink e (inr stays) = stays.0
+
+pub refuses_policy : (told left : Option (List ℕ)) (stop : Stop) (line : List ℕ) (World Sink : Type 0) → (IsLate stop → Taken told left) → Taken told left ⊎ (World × Sink)
+    → IfSome told (λ input. run_policy input ≡ Err line → Contains (2 ∷ 3 ∷ 4 ∷ 12 ∷ []) (stop_status stop) × World)
+refuses_policy None left stop line World Sink late other = tt
+refuses_policy (Some bytes) left stop line World Sink late other = λ e. (not_late stop (λ so. refused_or_taken bytes left line (late so) e), stays_refused bytes left line World Sink e other)

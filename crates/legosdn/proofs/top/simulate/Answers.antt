@@ -1,0 +1,17 @@
+use Rattle.sim_world.specs.World.{seen_of}
+use Rattle.legosdn.proofs.Places.{counted_none}
+use Rattle.legosdn.proofs.Runs.{tells, runs_said}
+use Rattle.legosdn.proofs.top.simulate.Goals as goal
+
+pub returns-clause-runs : goal.returns-clause-runs
+returns-clause-runs g c = λ none few.
+    runs_said c.run_world-ended.new.world (g.K.Sink.contents c.args.sink.now) (g.K.Sink.contents c.run_world-ended.new.sink) c.run_world-ended.result c.keeps_word.ensures.scripts
+    (c.run_world-ended.ensures.runs (tells (seen_of c.args.sim.now) (seen_of c.run_world-ended.new.world) none few c.run_world-ended.ensures.continues c.keeps_word.ensures.word))
+
+pub returns-clause-strays : goal.returns-clause-strays
+returns-clause-strays g c = λ none few.
+    counted_none c.run_world-ended.new.world c.keeps_word.ensures.strays
+    (c.run_world-ended.ensures.strays (tells (seen_of c.args.sim.now) (seen_of c.run_world-ended.new.world) none few c.run_world-ended.ensures.continues c.keeps_word.ensures.word))
+
+pub returns-clause-ended : goal.returns-clause-ended
+returns-clause-ended g c = λ none. c.run_world-ended.ensures.ended tt none

@@ -1,0 +1,102 @@
+-- What `run` promises: how it takes its policy, and how a run over any world goes, where that world tells. All of this is our own choice.
+use Rattle.std.specs.Prelude.{◌≡◌, ℕ, ◌⊎◌, ◌<◌, List, [], ◌∷◌, length, Option, IfSome, Result, Ok, Err, IfErr}
+use Rattle.lego_io.specs.Count.{NeverFell}
+use Rattle.lego_io.specs.Source.{ended}
+use Rattle.outside.specs.declared.step.WorldStep.TheVariants.{NotOpened}
+use Rattle.outside.specs.Seen.{Seen}
+use Rattle.outside.specs.State.{at_first}
+use Rattle.outside.specs.InOrder.{BringMessages, InOrder}
+use Rattle.sim_world.specs.Places.{AreExpected}
+use Rattle.lego_model.specs.History.{stimuli_in}
+use Rattle.lego_model.specs.WholeRun.{EndsAlike, LeavesAlike}
+use Rattle.lego_model.specs.AllLines.{CutBehindLines, CutInLines, CutForMemory}
+use Rattle.lego_model.specs.CutRun.{NothingDone}
+use Rattle.legosdn.specs.declared.stop.Stop.{Stop}
+use Rattle.legosdn.specs.declared.stop.Stop.TheVariants.{WriteFault, Shut, NextFault, SwitchFault, SwitchBroke, Diverged, EventsLeft, NoMemory}
+use Rattle.legosdn.specs.Input.{run_policy}
+use Rattle.legosdn.specs.Stops.{stop_status, stop_line}
+use Rattle.legosdn.specs.Said.{all_allowed}
+use Rattle.legosdn.specs.Headline.{Faults, IsNoPolicy, IsCause, IsEarly, IsLate, UpToPoint, Wrote}
+
+-- ---- The policy
+
+-- The source was read to its end, and what it told is a policy that is taken.
+pub record Taken (told left : Option (List ℕ)) : Type 0 where
+  pub input : List ℕ
+  pub program : List (List ℕ)
+  pub whole : IfSome told (λ bytes. input ≡ bytes)
+  pub end : left ≡ ended told
+  pub spelled : run_policy input ≡ Ok program
+
+-- ---- The world
+
+-- Of a world on which no call was made before: it tells, in order, what its switches send, though that may be no messages; and it tells
+-- fewer stimuli than there are rounds.
+pub record TellsInOrder {Own : Type 0} (Tells : Type 0) (rounds : ℕ) (old new : Seen Own) : Type 0 where
+  pub told : Tells
+  pub untouched : old.history ≡ []
+  pub order : InOrder new
+  pub few : length (stimuli_in new) < rounds
+
+-- each call that failed, and each that found an application gone, was in place
+abbrev pub NoneStray : {Own : Type 0} → Seen Own → Type 0
+NoneStray seen = AreExpected seen.history (at_first seen.given)
+
+-- ---- The run
+
+-- All stimuli that the world was given were told, and the run is that of the reference controller over them: at every quiescent point the
+-- tables agree, the application was given what it is given there, no event is left, and what was written is the whole report. The journal
+-- is a dialogue with the application, in which each change had reached its switch at once when it was answered.
+pub record ServesWhole {Own : Type 0} (seen : Seen Own) (contents now_contents : Option (List ℕ)) : Type 0 where
+  pub events : ℕ
+  pub alike : EndsAlike all_allowed seen contents now_contents events
+  pub stimuli : stimuli_in seen ≡ seen.given.stimuli
+
+-- The same with so many events left, and with the lines of those that were dispatched.
+pub record ServesPart {Own : Type 0} (seen : Seen Own) (contents now_contents : Option (List ℕ)) (left : ℕ) : Type 0 where
+  pub alike : LeavesAlike all_allowed seen contents now_contents left
+  pub stimuli : stimuli_in seen ≡ seen.given.stimuli
+
+-- How a run goes that ends so. Where events are left it is as above. Where a fault ends it, it is that of the reference controller up to the
+-- last quiescent point, with the lines of all that was done up to there. None is missing, of the start and of all events before, where what
+-- comes next failed, or a switch; where the sink failed it took a part of the lines of the last; where memory was wanting those of the start
+-- are there, if a stimulus happened. Or nothing was done. Only where bytes come that are no message, a switch breaks or diverges.
+abbrev pub ServesUntil : {Own : Type 0} → Stop → Seen Own → Option (List ℕ) → Option (List ℕ) → Type 0
+ServesUntil (EventsLeft left) seen contents now_contents = ServesPart seen contents now_contents left
+ServesUntil WriteFault seen contents now_contents = UpToPoint seen ⊥ (λ last. CutInLines all_allowed last contents now_contents)
+ServesUntil Shut seen contents now_contents = NothingDone (NotOpened ∷ []) seen contents now_contents
+ServesUntil NextFault seen contents now_contents = UpToPoint seen ⊥ (λ last. CutBehindLines all_allowed last contents now_contents)
+ServesUntil (SwitchFault d) seen contents now_contents = UpToPoint seen ⊥ (λ last. CutBehindLines all_allowed last contents now_contents)
+ServesUntil (SwitchBroke d) seen contents now_contents = (BringMessages seen.history → ⊥) × UpToPoint seen ⊥ (λ last. CutBehindLines all_allowed last contents now_contents)
+ServesUntil (Diverged d) seen contents now_contents = (BringMessages seen.history → ⊥) × UpToPoint seen ⊥ (λ last. CutBehindLines all_allowed last contents now_contents)
+ServesUntil NoMemory seen contents now_contents = UpToPoint seen (Unit {0}) (λ last. CutForMemory all_allowed seen last contents now_contents) ⊎ NothingDone [] seen contents now_contents
+ServesUntil other seen contents now_contents = Unit {0}
+
+abbrev pub ServesAs : {Own T : Type 0} → Result T Stop → Seen Own → Option (List ℕ) → Option (List ℕ) → Type 0
+ServesAs (Ok x) seen contents now_contents = ServesWhole seen contents now_contents
+ServesAs (Err stop) seen contents now_contents = ServesUntil stop seen contents now_contents
+
+-- How the run went up to a stop of this status, whose line stands behind what was written up to there.
+pub record ServesCut {Own : Type 0} (status : ℕ) (seen : Seen Own) (contents now_contents : Option (List ℕ)) (faults_old faults_new : ℕ) : Type 0 where
+  pub stop : Stop
+  pub status_is : status ≡ stop_status stop
+  pub before : Option (List ℕ)
+  pub faults : ℕ
+  pub never_fell : NeverFell faults_old faults
+  pub run : ServesUntil stop seen contents before
+  pub written : Wrote before now_contents faults faults_new (stop_line stop)
+
+-- ---- Before `run` has its status: how it ends, which reads a policy to its end and then runs
+
+-- the policy was taken, wherever the world runs
+abbrev pub TakenAs : {T : Type 0} → Result T Stop → Option (List ℕ) → Option (List ℕ) → Type 0
+TakenAs (Ok x) told left = Taken told left
+TakenAs (Err stop) told left = IsLate stop → Taken told left
+
+pub record Serves {Own T : Type 0} (Tells : Type 0) (rounds : ℕ) (result : Result T Stop) (told left : Option (List ℕ)) (old new : Faults Own) (contents now_contents : Option (List ℕ)) (Stays : Type 0) : Type 0 where
+  pub taken : TakenAs result told left
+  pub no_other : Taken told left ⊎ Stays
+  pub runs : TellsInOrder Tells rounds old.world new.world → ServesAs result new.world contents now_contents
+  pub strays : TellsInOrder Tells rounds old.world new.world → NoneStray new.world
+  pub why : IfErr result (IsCause Tells IsNoPolicy told old new)
+  pub early : IfErr result (λ stop. IsEarly stop → Stays)

@@ -1,0 +1,35 @@
+//! The command `run`.
+
+ghost use Rattle.std.specs.Prelude.{◌≡◌, ◌≤◌, [], IfErr};
+ghost use Rattle.lego_io.specs.Count.{NeverFell};
+ghost use Rattle.outside.specs.State.{state};
+ghost use Rattle.legosdn.specs.Headline.{faults_of};
+ghost use Rattle.legosdn.specs.Live.{Serves};
+
+use crate::policy::read_program;
+use crate::stop::Stop;
+use crate::world::run_world;
+use lego_io::{Sink, Source};
+use outside::World;
+use std::alloc::Global;
+
+/// Reads a policy to its end, and runs its application over the switches of a world, at most so many rounds.
+pub fn run_live<S: Source, K: Sink, W: World>(
+    alloc: Global,
+    source: &mut S,
+    sink: &mut K,
+    live: &mut W,
+    port: u16,
+    rounds: u64,
+) -> Result<(), Stop>
+    requires rounds { rounds ≤ 1000000000 }
+    ensures serves { Serves W.Tells rounds result (S.remaining source.old) (S.remaining source.new)
+        (faults_of (S.faults source.old) (K.faults sink.old) (W.seen live.old))
+        (faults_of (S.faults source.new) (K.faults sink.new) (W.seen live.new))
+        (K.contents sink.old) (K.contents sink.new) ((live.new ≡ live.old) × (sink.new ≡ sink.old)) }
+    ensures ended { W.Tells → (W.seen live.old).history ≡ [] → (state (W.seen live.new)).running ≡ [] }
+    ensures never_fell { NeverFell (K.faults sink.old) (K.faults sink.new) }
+{
+    let program = read_program(alloc, source)?;
+    run_world(alloc, program, sink, live, port, rounds)
+}

@@ -1,0 +1,84 @@
+//! What an operator sets in the environment, and the clock.
+
+use live_world::Clock;
+use std::env;
+use std::env::{Env, VarError};
+use std::net::Ipv4Addr;
+use std::time::Clock as MonotonicClock;
+
+/// The variable with the address to listen at.
+const LISTEN: &str = "LEGOSDN_LISTEN";
+
+/// The variable that asks for a trace.
+const TRACE: &str = "LEGOSDN_TRACE";
+
+/// Why a setting is none.
+#[derive(Clone, Copy, Debug, PartialEq, Eq)]
+pub enum SettingFault {
+    /// What is set as the address is no IPv4 address.
+    Address,
+    /// Memory ran out.
+    NoMemory,
+}
+
+/// What an operator sets in the environment.
+#[derive(Clone, Copy, Debug, PartialEq, Eq)]
+pub struct Settings {
+    /// The address to listen at: that of `LEGOSDN_LISTEN`, or 127.0.0.1.
+    pub address: Ipv4Addr,
+    /// Whether acts are told on standard error: where `LEGOSDN_TRACE` is `1`.
+    pub is_traced: bool,
+}
+
+impl Settings {
+    /// Reads the settings of this process.
+    pub fn read<R: Env + AllocGlobal>(rt: &R) -> Result<Settings, SettingFault> {
+        Ok(Settings {
+            address: address_of(rt)?,
+            is_traced: is_traced(rt)?,
+        })
+    }
+}
+
+fn address_of<R: Env + AllocGlobal>(rt: &R) -> Result<Ipv4Addr, SettingFault> {
+    match env::var(rt, LISTEN) {
+        Ok(text) => match text.as_str().parse::<Ipv4Addr>() {
+            Ok(address) => Ok(address),
+            Err(_) => Err(SettingFault::Address),
+        },
+        Err(VarError::NotPresent) => Ok(Ipv4Addr::LOCALHOST),
+        Err(VarError::OutOfMemory) => Err(SettingFault::NoMemory),
+        Err(_) => Err(SettingFault::Address),
+    }
+}
+
+fn is_traced<R: Env + AllocGlobal>(rt: &R) -> Result<bool, SettingFault> {
+    match env::var(rt, TRACE) {
+        Ok(text) => Ok(text.as_str() == "1"),
+        Err(VarError::OutOfMemory) => Err(SettingFault::NoMemory),
+        Err(_) => Ok(false),
+    }
+}
+
+/// The system's clock that never goes back. It stands still while it cannot be read.
+#[derive(Drop)]
+pub struct SystemClock<R> {
+    rt: R,
+    seconds: u64,
+}
+
+impl<R: MonotonicClock + Drop> SystemClock<R> {
+    /// Returns the clock of this runtime.
+    pub fn new(rt: R) -> SystemClock<R> {
+        SystemClock { rt, seconds: 0 }
+    }
+}
+
+impl<R: MonotonicClock + Drop> Clock for SystemClock<R> {
+    fn seconds(&mut self) -> u64 {
+        if let Ok(passed) = self.rt.monotonic() {
+            self.seconds = passed.as_secs();
+        }
+        self.seconds
+    }
+}

@@ -1,0 +1,45 @@
+#!/usr/bin/env python3
+"""An application that fails as it is told: live/misbehaving.py FILE
+
+It adds an entry to each switch that joins. At a PACKET_IN it adds an entry for the frame's source, and then does what the last byte
+of that address says (HOW below). It keeps its process number in FILE, so that it can be killed.
+"""
+
+import os
+import sys
+import time
+
+sys.path.insert(0, os.path.join(os.path.dirname(os.path.abspath(__file__)), "..", "sdk", "python"))
+from legosdn import App, Match, Output, Port
+
+HOW = {0x01: "end well", 0x02: "end", 0x03: "say garbage", 0x04: "say nothing", 0x05: "go on for ever", 0x06: "be killed", 0x07: "raise"}
+
+
+class Misbehaving(App):
+    def on_join(self, event):
+        self.add_flow(event.dpid, Match(dl_dst="ff:ff:ff:ff:ff:ff"), [Output(Port.FLOOD)], priority=10)
+
+    def on_packet_in(self, event):
+        source = event.data[6:12]
+        here = ":".join(f"{byte:02x}" for byte in source)
+        self.add_flow(event.dpid, Match(dl_dst=here), [Output(event.in_port)], priority=20)
+        self.fail(event.dpid, HOW[source[5]])
+
+    def fail(self, dpid, how):
+        if how == "end":
+            os._exit(1)
+        if how == "say garbage":
+            os.write(1, b"\x00\x00\x00\x01\xff")
+            time.sleep(60)
+        if how in ("say nothing", "be killed"):
+            time.sleep(60)
+        while how == "go on for ever":
+            self.barrier(dpid)
+        if how == "raise":
+            raise RuntimeError("on purpose")
+
+
+if __name__ == "__main__":
+    with open(sys.argv[1], "w", encoding="ascii") as file:
+        file.write(str(os.getpid()))
+    Misbehaving().run()

@@ -1,0 +1,142 @@
+"""Switches of OpenFlow 1.0 that a program plays to a controller over TCP, each with a flow table of its own."""
+
+import os
+import socket
+import sys
+import threading
+import time
+
+sys.path.insert(0, os.path.join(os.path.dirname(os.path.abspath(__file__)), "..", "sdk", "python"))
+from legosdn import messages
+from legosdn.codes import FlowCommand
+from legosdn.match import Match
+from legosdn.messages import PortDesc
+from legosdn.stats import FlowStats
+
+SECONDS = 30
+MISS = 0
+
+
+def connection(port):
+    """A connection to the controller, as soon as it listens."""
+    end = time.monotonic() + SECONDS
+    while True:
+        try:
+            link = socket.create_connection(("127.0.0.1", port), 1)
+            link.settimeout(None)
+            link.setsockopt(socket.IPPROTO_TCP, socket.TCP_NODELAY, 1)
+            return link
+        except OSError:
+            if time.monotonic() > end:
+                raise
+            time.sleep(0.02)
+
+
+def read(link, size):
+    """So many bytes, or None where the other end has closed."""
+    data = b""
+    while len(data) < size:
+        piece = link.recv(size - len(data))
+        if not piece:
+            return None
+        data += piece
+    return data
+
+
+class Switch(threading.Thread):
+    """A switch with ports 1, 2 and 3. It answers by itself; `said` has what it was sent: (kind, entry) for each FLOW_MOD, in order.
+
+    table     priority and match of each entry, with its actions and cookie
+    cut_at    the link is cut where this many FLOW_MODs have come behind the join, in the place of the next barrier's reply
+    """
+
+    def __init__(self, port, dpid, cut_at=None):
+        super().__init__(daemon=True)
+        self.dpid, self.table, self.said, self.cut_at = dpid, {}, [], cut_at
+        self.changed = threading.Condition()
+        self.joined = self.closed = False
+        self.link = connection(port)
+        self.start()
+
+    # What the check does
+
+    def wait(self, holds, what):
+        """Waits until this holds of the switch."""
+        with self.changed:
+            if not self.changed.wait_for(lambda: holds(self), SECONDS):
+                raise AssertionError(f"switch {self.dpid}: {what} did not come")
+
+    def miss(self, in_port, frame):
+        """A frame came that no entry is for: a PACKET_IN."""
+        self.send(messages.PacketIn(0xFFFF_FFFF, len(frame), in_port, MISS, frame))
+
+    def entries(self):
+        with self.changed:
+            return dict(self.table)
+
+    def leave(self):
+        self.link.shutdown(socket.SHUT_RDWR)
+        self.link.close()
+
+    # What the switch does
+
+    def send(self, message, xid=0):
+        self.link.sendall(messages.encode(message, xid))
+
+    def run(self):
+        try:
+            self.send(messages.Hello())
+            while self.answer():
+                pass
+        except OSError:
+            pass
+        with self.changed:
+            self.closed = True
+            self.changed.notify_all()
+
+    def answer(self):
+        head = read(self.link, 8)
+        if head is None:
+            return False
+        rest = read(self.link, int.from_bytes(head[2:4], "big") - 8)
+        if rest is None:
+            return False
+        xid, message = messages.decode(head + rest)
+        with self.changed:
+            went_on = self.act(xid, message)
+            self.changed.notify_all()
+        return went_on
+
+    def act(self, xid, message):
+        if isinstance(message, messages.FeaturesRequest):
+            ports = tuple(PortDesc(port_no=n, hw_addr=f"02:00:00:00:{self.dpid:02x}:{n:02x}", name=f"port{n}") for n in (1, 2, 3))
+            self.send(messages.FeaturesReply(self.dpid, 0, 1, 0, 0xFFF, ports), xid)
+        elif isinstance(message, messages.EchoRequest):
+            self.send(messages.EchoReply(message.data), xid)
+        elif isinstance(message, messages.FlowMod):
+            self.change(message)
+        elif isinstance(message, messages.BarrierRequest):
+            if self.cut_at is not None and len(self.said) > self.cut_at:
+                self.link.close()
+                return False
+            self.joined = True
+            self.send(messages.BarrierReply(), xid)
+        elif isinstance(message, messages.StatsRequest):
+            in_order = sorted(self.table.items(), key=lambda it: (-it[0][0], it[0][1].encode()))
+            rows = b"".join(
+                FlowStats(match, actions, priority=priority, cookie=cookie).encode() for (priority, match), (actions, cookie) in in_order
+            )
+            self.send(messages.StatsReply(message.kind, rows), xid)
+        return True
+
+    def change(self, change):
+        key = (change.priority, change.match)
+        self.said.append((FlowCommand(change.command).name, key))
+        if change.command == FlowCommand.ADD:
+            self.table[key] = (change.actions, change.cookie)
+        elif change.command == FlowCommand.DELETE_STRICT:
+            self.table.pop(key, None)
+        elif change.command == FlowCommand.DELETE and change.match == Match():
+            self.table.clear()
+        else:
+            raise AssertionError(f"switch {self.dpid}: a FLOW_MOD that no host sends yet: {change}")

@@ -1,0 +1,67 @@
+#!/usr/bin/env python3
+"""A learning switch that only ever adds entries, one for each address, and never the same entry twice.
+
+When a switch joins, two entries go in. One floods every frame that no other entry is for, and sends a copy to the
+controller. The other does the same for ARP, above the entries that are learnt: so the answer of a station is told, too,
+and not only its questions. From each frame that is told, the application learns where its sender is, and adds an entry
+that sends the frames for this address there. Nothing is sent by the application itself: switches do the flooding.
+
+An entry goes after five minutes and is learnt again, so that a station may move to another port. The application
+remembers until when its entries stand. It does not add one again before that, since today's controller refuses an
+addition that would replace an entry. After a crash it remembers nothing. Then such an addition is refused, and passed
+over.
+"""
+
+import os
+import sys
+
+sys.path.insert(0, os.path.join(os.path.dirname(os.path.abspath(__file__)), ".."))
+from legosdn import App, Match, OpenFlowError, Output, PacketInReason, Port
+
+ARP = 0x0806
+HARD_SECONDS = 300
+
+
+class LearningByAdditions(App):
+    def __init__(self):
+        super().__init__()
+        # By switch, the moment until which the entry of each address stands.
+        self.stands = {}
+
+    def on_join(self, event):
+        # The table of a switch that joins is empty.
+        self.stands[event.dpid] = {}
+        self.begin(event.dpid)
+
+    def begin(self, dpid):
+        for match, priority in ((Match(), 0), (Match(dl_type=ARP), 20)):
+            self.add_if_new(dpid, match, [Output(Port.FLOOD), Output(Port.CONTROLLER)], priority=priority)
+
+    def on_leave(self, event):
+        self.stands.pop(event.dpid, None)
+
+    def on_packet_in(self, event):
+        source = event.packet.dl_src
+        if source is None or int(source[:2], 16) & 1:
+            # It is no frame, or it says that it comes from a group of stations, which none does.
+            return
+        if event.reason == PacketInReason.NO_MATCH:
+            # Not even the first entries are there: this program failed when the switch joined, and was started again.
+            self.begin(event.dpid)
+        stands = self.stands.setdefault(event.dpid, {})
+        if event.moment <= stands.get(source, -1):
+            return
+        there = [Output(event.in_port)]
+        self.add_if_new(event.dpid, Match(dl_dst=source), there, priority=10, hard_timeout=HARD_SECONDS)
+        stands[source] = event.moment + HARD_SECONDS
+
+    def add_if_new(self, dpid, match, actions, **rest):
+        try:
+            self.add_flow(dpid, match, actions, **rest)
+        except OpenFlowError as refused:
+            # It stands from before a crash, or the table is full. Frames go as they went before.
+            self.log(f"no entry for {match}: {refused}")
+
+
+if __name__ == "__main__":
+    LearningByAdditions().run()
