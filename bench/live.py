@@ -9,10 +9,11 @@ bench/osken_learning.py, and ovs-testcontroller (openvswitch-testcontroller), wh
 where many come at once, so it has 8 at most. Each measurement takes SECONDS, by default 3, and is made three times in turn with the
 others; the best one is printed.
 
-Prints: additions a second and the time from a PACKET_IN to its FLOW_MOD, with one switch and one PACKET_IN in flight (paced: it waits
-for the barrier of the one before), with one switch and 32, with 16 switches and 8 each; then how 64 switches join, and how a flood of
-50,000 PACKET_INs from one switch is taken while another one is served, with the peak of the controller's memory. Ends with status 1
-where a measurement failed.
+Prints: additions a second, in the first and in the last quarter too, the time from a PACKET_IN to its FLOW_MOD, and what the controller
+and its application took of a processor for each addition, which depends least on what else the machine does; with one switch and one
+PACKET_IN in flight (paced: it waits for the barrier of the one before), with one switch and 32, with 16 switches and 8 each; then how 64
+switches join, and how a flood of 50,000 PACKET_INs from one switch is taken while another one is served, with the peak of the
+controller's memory. Ends with status 1 where a measurement failed.
 """
 
 import contextlib
@@ -95,6 +96,17 @@ def peak(process):
         return next(int(it.split()[1]) / 1024 for it in file if it.startswith("VmHWM"))
 
 
+def processor(process):
+    """What a controller and its child have taken of a processor, in seconds."""
+    with open(f"/proc/{process.pid}/task/{process.pid}/children", encoding="ascii") as file:
+        pids = [process.pid, *file.read().split()]
+    seconds = 0.0
+    for pid in pids:
+        with open(f"/proc/{pid}/stat", encoding="ascii") as file:
+            seconds += sum(map(int, file.read().rsplit(")", 1)[1].split()[11:13])) / os.sysconf("SC_CLK_TCK")
+    return seconds
+
+
 def measure(client, name, words):
     """Runs a controller and the client with these words; gives what it measured, and the peak of memory."""
     port = free_port()
@@ -104,6 +116,8 @@ def measure(client, name, words):
             if not listens(process, port):
                 with open(os.path.join(room, "said"), encoding="utf-8", errors="replace") as file:
                     raise OSError(f"{name} does not listen: {file.read()[-300:]}")
+            time.sleep(1)
+            before = processor(process)
             words = [client, words[0], str(port), *map(str, words[1:])]
             with subprocess.Popen(words, stdin=subprocess.PIPE, stdout=subprocess.PIPE, text=True) as player:
                 line = player.stdout.readline().strip()
@@ -111,7 +125,8 @@ def measure(client, name, words):
                     with open(os.path.join(room, "said"), encoding="utf-8", errors="replace") as file:
                         raise OSError(f"{line}; {name} said: {file.read()[-300:]}")
                 got = dict(it.split("=") for it in line.split())
-                return {it: float(value) for it, value in got.items()}, peak(process)
+                found = {it: float(value) for it, value in got.items()}
+                return {**found, "processor": processor(process) - before}, peak(process)
 
 
 def rate(client, name, switches, in_flight, paced):
@@ -122,14 +137,15 @@ def rate(client, name, switches, in_flight, paced):
 
 def row(name, count, in_flight, paced, found):
     got, mebibytes = max(found, key=lambda it: it[0]["rate"])
-    figures = " ".join(f"{got[it]:8.0f}" for it in ("rate", "first", "last", "p50", "p99"))
+    got["processor"] *= 1e6 / max(1, got["rate"] * SECONDS)
+    figures = " ".join(f"{got[it]:8.0f}" for it in ("rate", "first", "last", "p50", "p99", "processor"))
     print(f"{name:20} {count:8} {in_flight:>3}{' paced' if paced else '':6} {figures} {mebibytes:6.1f}", flush=True)
 
 
 def rates(client, names):
     """Measures each shape; gives how many measurements failed."""
     failed = 0
-    print(f"{'':20} {'switches':>8} {'in flight':>9} {'added/s':>8} {'first':>8} {'last':>8} {'p50 us':>8} {'p99 us':>8} {'MiB':>6}")
+    print(f"{'':20} {'switches':>8} {'in flight':>9} {'added/s':>8} {'first':>8} {'last':>8} {'p50 us':>8} {'p99 us':>8} {'cpu us':>8} {'MiB':>6}")
     for switches, in_flight, paced in SHAPES:
         # The others send no barriers.
         players = [it for it in names if it in (RUN, RUN_C) or not paced]

@@ -75,7 +75,7 @@ pub(crate) struct Links {
     moments: Moments,
     /// How many items and messages passed over came since the last `Idle`.
     batch: u32,
-    /// Whether an item was told since the last `Idle`.
+    /// Whether an item or a message was given since the last `Idle`. Then more may wait with the caller, so `next` does not rest.
     has_told: bool,
 }
 
@@ -372,8 +372,12 @@ impl Links {
             }
             _ => Err(LinkFault::Failed),
         };
-        if received == Err(LinkFault::Failed) {
-            self.close(place);
+        match received {
+            Ok(_) => self.has_told = true,
+            Err(LinkFault::Failed) => {
+                self.close(place);
+            }
+            Err(LinkFault::Short) => {}
         }
         received
     }
