@@ -47,6 +47,7 @@ class Switch(threading.Thread):
     """A switch with ports 1, 2 and 3. It answers by itself; `said` has what it was sent: (kind, entry) for each FLOW_MOD, in order.
 
     table     priority and match of each entry, with its actions and cookie
+    barriers  how many barriers it has answered: one when it joined, and one for each change
     cut_at    the link is cut where this many FLOW_MODs have come behind the join, in the place of the next barrier's reply
     """
 
@@ -54,7 +55,8 @@ class Switch(threading.Thread):
         super().__init__(daemon=True)
         self.dpid, self.table, self.said, self.cut_at = dpid, {}, [], cut_at
         self.changed = threading.Condition()
-        self.joined = self.closed = False
+        self.barriers = 0
+        self.closed = False
         self.link = connection(port)
         self.start()
 
@@ -119,8 +121,8 @@ class Switch(threading.Thread):
             if self.cut_at is not None and len(self.said) > self.cut_at:
                 self.link.close()
                 return False
-            self.joined = True
             self.send(messages.BarrierReply(), xid)
+            self.barriers += 1
         elif isinstance(message, messages.StatsRequest):
             in_order = sorted(self.table.items(), key=lambda it: (-it[0][0], it[0][1].encode()))
             rows = b"".join(
