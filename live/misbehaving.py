@@ -2,7 +2,8 @@
 """An application that fails as it is told: live/misbehaving.py FILE
 
 It adds an entry to each switch that joins. At a PACKET_IN it adds an entry for the frame's source, and then does what the last byte
-of that address says (HOW below). It keeps its process number in FILE, so that it can be killed.
+of that address says (HOW below; with any other byte it ends well). Its state is how many turns it has done; an entry has the number
+of its turn as cookie. It keeps its process number in FILE, so that it can be killed.
 """
 
 import os
@@ -12,18 +13,30 @@ import time
 sys.path.insert(0, os.path.join(os.path.dirname(os.path.abspath(__file__)), "..", "sdk", "python"))
 from legosdn import App, Match, Output, Port
 
-HOW = {0x01: "end well", 0x02: "end", 0x03: "say garbage", 0x04: "say nothing", 0x05: "go on for ever", 0x06: "be killed", 0x07: "raise"}
+HOW = {0x02: "end", 0x03: "say garbage", 0x04: "say nothing", 0x05: "go on for ever", 0x06: "be killed", 0x07: "raise"}
 
 
 class Misbehaving(App):
+    def __init__(self):
+        super().__init__()
+        self.turns = 0
+
+    def get_state(self):
+        return str(self.turns).encode()
+
+    def set_state(self, state):
+        self.turns = int(state)
+
     def on_join(self, event):
-        self.add_flow(event.dpid, Match(dl_dst="ff:ff:ff:ff:ff:ff"), [Output(Port.FLOOD)], priority=10)
+        self.turns += 1
+        self.add_flow(event.dpid, Match(dl_dst="ff:ff:ff:ff:ff:ff"), [Output(Port.FLOOD)], priority=10, cookie=self.turns)
 
     def on_packet_in(self, event):
+        self.turns += 1
         source = event.data[6:12]
         here = ":".join(f"{byte:02x}" for byte in source)
-        self.add_flow(event.dpid, Match(dl_dst=here), [Output(event.in_port)], priority=20)
-        self.fail(event.dpid, HOW[source[5]])
+        self.add_flow(event.dpid, Match(dl_dst=here), [Output(event.in_port)], priority=20, cookie=self.turns)
+        self.fail(event.dpid, HOW.get(source[5]))
 
     def fail(self, dpid, how):
         if how == "end":

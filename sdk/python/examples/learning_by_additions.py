@@ -8,15 +8,15 @@ that sends the frames for this address there. Nothing is sent by the application
 
 An entry goes after five minutes and is learnt again, so that a station may move to another port. The application
 remembers until when its entries stand. It does not add one again before that, since today's controller refuses an
-addition that would replace an entry. After a crash it remembers nothing. Then such an addition is refused, and passed
-over.
+addition that would replace an entry. What it remembers is its state: after a crash the controller gives it back, as it
+was at the end of the last turn that was done.
 """
 
 import os
 import sys
 
 sys.path.insert(0, os.path.join(os.path.dirname(os.path.abspath(__file__)), ".."))
-from legosdn import App, Match, OpenFlowError, Output, PacketInReason, Port
+from legosdn import App, Match, OpenFlowError, Output, PacketInReason, Port, from_json, to_json
 
 ARP = 0x0806
 HARD_SECONDS = 300
@@ -55,11 +55,17 @@ class LearningByAdditions(App):
         self.add_if_new(event.dpid, Match(dl_dst=source), there, priority=10, hard_timeout=HARD_SECONDS)
         stands[source] = event.moment + HARD_SECONDS
 
+    def get_state(self):
+        return to_json(self.stands)
+
+    def set_state(self, state):
+        self.stands = {int(dpid): stands for dpid, stands in from_json(state).items()}
+
     def add_if_new(self, dpid, match, actions, **rest):
         try:
             self.add_flow(dpid, match, actions, **rest)
         except OpenFlowError as refused:
-            # It stands from before a crash, or the table is full. Frames go as they went before.
+            # It stands already, or the table is full. Frames go as they went before.
             self.log(f"no entry for {match}: {refused}")
 
 

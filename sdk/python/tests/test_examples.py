@@ -16,6 +16,11 @@ FLOOD = "0000 0008 fffb 0000"
 UDP = "ffffffffffff 020000000001 0800 4500 001c 0000 0000 40 11 66cf 0a000001 0a000002 0035 0036 0008 eb70"
 
 
+def done(state):
+    """Done with this state."""
+    return framed(5, "00 01" + state.encode().hex())
+
+
 class Examples(unittest.TestCase):
     def example(self, name, **environment):
         return child(self, os.path.join(PYTHON, "examples", f"{name}.py"), **environment)
@@ -32,9 +37,6 @@ class Examples(unittest.TestCase):
         self.assertEqual((program.errors, program.status), (errors, 0))
 
     def test_learning_switch(self):
-        def done(state):
-            return framed(5, "00 01" + state.encode().hex())
-
         first, both = '{"1":{"02:00:00:00:00:01":1}}', '{"1":{"02:00:00:00:00:01":1,"02:00:00:00:00:02":2}}'
         # in_port, dl_src and dl_dst are the bits 0, 2 and 3 of the wildcards.
         pair = flow_mod("003820f2 0002 020000000002 020000000001" + "00" * 22, OUT_1, priority=100, idle=60, hard=300)
@@ -73,34 +75,43 @@ class Examples(unittest.TestCase):
         def later(number, moment):
             return packet_in(number, 1, G).replace(f"{number:016x} {0:016x}", f"{number:016x} {moment:016x}")
 
+        def standing(**until):
+            return done('{"1":{' + ",".join(f'"02:00:00:00:00:0{it[1:]}":{moment}' for it, moment in until.items()) + "}}")
+
         with self.example("learning_by_additions") as program:
             host = program.host
             host.start()
-            self.all_done(host, joined(1, 1, 2), first)
-            self.all_done(host, packet_in(2, 1, G), [to_1])
-            self.all_done(host, packet_in(3, 2, answer), [to_2])
+            self.all_done(host, joined(1, 1, 2), first, standing())
+            self.all_done(host, packet_in(2, 1, G), [to_1], standing(_1=300))
+            self.all_done(host, packet_in(3, 2, answer), [to_2], standing(_1=300, _2=300))
             # What stands is not added again, neither from another port nor up to its last second.
-            self.all_done(host, packet_in(4, 1, answer), [])
-            self.all_done(host, later(5, 300), [])
-            self.all_done(host, later(6, 301), [to_1])
+            self.all_done(host, packet_in(4, 1, answer), [], standing(_1=300, _2=300))
+            self.all_done(host, later(5, 300), [], standing(_1=300, _2=300))
+            self.all_done(host, later(6, 301), [to_1], standing(_1=601, _2=300))
             # No frame, and one from a group of stations.
-            self.all_done(host, packet_in(7, 2, "0000"), [])
-            self.all_done(host, packet_in(8, 2, "020000000001 030000000002 88b5"), [])
+            self.all_done(host, packet_in(7, 2, "0000"), [], standing(_1=601, _2=300))
+            self.all_done(host, packet_in(8, 2, "020000000001 030000000002 88b5"), [], standing(_1=601, _2=300))
             # What a switch has is forgotten when it leaves, and when it joins.
-            self.all_done(host, event(9, 2, 1, port(1) + port(2)), [])
-            self.all_done(host, packet_in(10, 1, G), [to_1])
-            self.all_done(host, joined(11, 1, 2), first)
-            self.all_done(host, packet_in(12, 1, G), [to_1])
+            self.all_done(host, event(9, 2, 1, port(1) + port(2)), [], done("{}"))
+            self.all_done(host, packet_in(10, 1, G), [to_1], standing(_1=300))
+            self.all_done(host, joined(11, 1, 2), first, standing())
+            self.all_done(host, packet_in(12, 1, G), [to_1], standing(_1=300))
             self.ends_well(program, "")
-        # Started again, it knows nothing: what stands is refused, and passed over once.
+        # Started again with its state, it knows what stands.
+        with self.example("learning_by_additions") as program:
+            program.host.start(framed(1, '{"1":{"02:00:00:00:00:01":300}}'.encode().hex()))
+            self.all_done(program.host, packet_in(1, 1, G), [], standing(_1=300))
+            self.all_done(program.host, packet_in(2, 2, answer), [to_2], standing(_1=300, _2=300))
+            self.ends_well(program, "")
+        # Without one, what stands is refused, and passed over once.
         with self.example("learning_by_additions") as program:
             host = program.host
             host.start()
             host.ask(packet_in(1, 1, G, reason=0), message(1, first[0]))
             for sent in (first[1], to_1):
                 host.ask(refused, message(1, sent))
-            host.ask(refused, DONE)
-            self.all_done(host, packet_in(2, 1, G), [])
+            host.ask(refused, standing(_1=300))
+            self.all_done(host, packet_in(2, 1, G), [], standing(_1=300))
             why = "OFPET_BAD_REQUEST/OFPBRC_BAD_TYPE (1,1)"
             keys = ("any", "dl_type=0x0806", "dl_dst=02:00:00:00:00:01")
             self.ends_well(program, "".join(f"event 1: no entry for {it}: {why}\n" for it in keys))
