@@ -8,8 +8,9 @@ that sends the frames for this address there. Nothing is sent by the application
 
 An entry goes after five minutes and is learnt again, so that a station may move to another port. The application
 remembers until when its entries stand. It does not add one again before that, since today's controller refuses an
-addition that would replace an entry. What it remembers is its state: after a crash the controller gives it back, as it
-was at the end of the last turn that was done.
+addition that would replace an entry. What it remembers is its state, which the controller gives back after a crash. It
+hands the state over once a second at most, since a state has all that is remembered. What was learnt after that is not
+in it: then an addition of an entry that stands is refused, and passed over.
 """
 
 import os
@@ -27,8 +28,11 @@ class LearningByAdditions(App):
         super().__init__()
         # By switch, the moment until which the entry of each address stands.
         self.stands = {}
+        # The moment now, and that at which the state was handed over.
+        self.now, self.handed = 0, -1
 
     def on_join(self, event):
+        self.now = event.moment
         # The table of a switch that joins is empty.
         self.stands[event.dpid] = {}
         self.begin(event.dpid)
@@ -38,9 +42,11 @@ class LearningByAdditions(App):
             self.add_if_new(dpid, match, [Output(Port.FLOOD), Output(Port.CONTROLLER)], priority=priority)
 
     def on_leave(self, event):
+        self.now = event.moment
         self.stands.pop(event.dpid, None)
 
     def on_packet_in(self, event):
+        self.now = event.moment
         source = event.packet.dl_src
         if source is None or int(source[:2], 16) & 1:
             # It is no frame, or it says that it comes from a group of stations, which none does.
@@ -56,6 +62,9 @@ class LearningByAdditions(App):
         stands[source] = event.moment + HARD_SECONDS
 
     def get_state(self):
+        if self.now <= self.handed:
+            return None
+        self.handed = self.now
         return to_json(self.stands)
 
     def set_state(self, state):

@@ -81,27 +81,29 @@ class Examples(unittest.TestCase):
         with self.example("learning_by_additions") as program:
             host = program.host
             host.start()
+            # It hands its state over when a second has passed.
             self.all_done(host, joined(1, 1, 2), first, standing())
-            self.all_done(host, packet_in(2, 1, G), [to_1], standing(_1=300))
-            self.all_done(host, packet_in(3, 2, answer), [to_2], standing(_1=300, _2=300))
+            self.all_done(host, packet_in(2, 1, G), [to_1])
+            self.all_done(host, packet_in(3, 2, answer), [to_2])
             # What stands is not added again, neither from another port nor up to its last second.
-            self.all_done(host, packet_in(4, 1, answer), [], standing(_1=300, _2=300))
+            self.all_done(host, packet_in(4, 1, answer), [])
             self.all_done(host, later(5, 300), [], standing(_1=300, _2=300))
             self.all_done(host, later(6, 301), [to_1], standing(_1=601, _2=300))
             # No frame, and one from a group of stations.
-            self.all_done(host, packet_in(7, 2, "0000"), [], standing(_1=601, _2=300))
-            self.all_done(host, packet_in(8, 2, "020000000001 030000000002 88b5"), [], standing(_1=601, _2=300))
+            self.all_done(host, packet_in(7, 2, "0000"), [])
+            self.all_done(host, packet_in(8, 2, "020000000001 030000000002 88b5"), [])
             # What a switch has is forgotten when it leaves, and when it joins.
-            self.all_done(host, event(9, 2, 1, port(1) + port(2)), [], done("{}"))
-            self.all_done(host, packet_in(10, 1, G), [to_1], standing(_1=300))
-            self.all_done(host, joined(11, 1, 2), first, standing())
-            self.all_done(host, packet_in(12, 1, G), [to_1], standing(_1=300))
+            self.all_done(host, event(9, 2, 1, port(1) + port(2)), [])
+            self.all_done(host, packet_in(10, 1, G), [to_1])
+            self.all_done(host, joined(11, 1, 2), first)
+            self.all_done(host, packet_in(12, 1, G), [to_1])
+            self.all_done(host, later(13, 302), [to_1], standing(_1=602))
             self.ends_well(program, "")
         # Started again with its state, it knows what stands.
         with self.example("learning_by_additions") as program:
             program.host.start(framed(1, '{"1":{"02:00:00:00:00:01":300}}'.encode().hex()))
             self.all_done(program.host, packet_in(1, 1, G), [], standing(_1=300))
-            self.all_done(program.host, packet_in(2, 2, answer), [to_2], standing(_1=300, _2=300))
+            self.all_done(program.host, packet_in(2, 2, answer), [to_2])
             self.ends_well(program, "")
         # Without one, what stands is refused, and passed over once.
         with self.example("learning_by_additions") as program:
@@ -111,7 +113,7 @@ class Examples(unittest.TestCase):
             for sent in (first[1], to_1):
                 host.ask(refused, message(1, sent))
             host.ask(refused, standing(_1=300))
-            self.all_done(host, packet_in(2, 1, G), [], standing(_1=300))
+            self.all_done(host, packet_in(2, 1, G), [])
             why = "OFPET_BAD_REQUEST/OFPBRC_BAD_TYPE (1,1)"
             keys = ("any", "dl_type=0x0806", "dl_dst=02:00:00:00:00:01")
             self.ends_well(program, "".join(f"event 1: no entry for {it}: {why}\n" for it in keys))
