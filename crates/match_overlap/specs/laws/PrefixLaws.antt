@@ -1,7 +1,7 @@
 -- The relations of one field that is any, or an address and the length of its prefix.
 use Rattle.std.proofs.Common.{◌≡◌, ◌==◌, ℕ, ◌+◌, ◌-◌, ◌*◌, ◌/◌, ◌^◌, ◌<◌, ◌≤◌, leb, min, Bool, true, false, cond, Option, Some, None, refl, sym, ap, ◌∙◌, arith, inl, inr}
 use Rattle.std.proofs.lemmas.Bool.{and_parts, and_from, leb-true, leb-false, le-leb, eqb-true, eq-eqb, cases_lt}
-use Rattle.std.proofs.lemmas.Nat.{shr-shr, shr_split, shr_high, shr_below, pow-add}
+use Rattle.std.proofs.lemmas.Nat.{shr-shr, shr_high, shr_below, pow-add}
 use Rattle.std.proofs.Math.Nat.{add-div_right, mul-le-mul_right}
 use Rattle.std.proofs.Math.Pow.{shr_mono, pow_mono, pow-lt}
 use Rattle.std.specs.Prelude.{IfSome}

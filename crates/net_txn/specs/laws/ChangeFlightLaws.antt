@@ -92,9 +92,6 @@ recv_failed : (d : ℕ) (t : State) → switch_of d (after_step (RecvFailed d) t
 unfolding switch_of after_step
 recv_failed d t = ap switch_in (link_of-same d link_failed keeps_failed t.links) ∙ failed_switch (link_of d t.links)
 
-stays_none : (d : ℕ) → Stays d []
-stays_none d t = refl
-
 stays_unsaid : (d : ℕ) (trouble : Trouble) → Stays d (unsaid d trouble)
 stays_unsaid d troubles.Link t = send_failed d t
 stays_unsaid d (troubles.Broke n) t = refl

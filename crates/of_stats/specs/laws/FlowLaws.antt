@@ -7,7 +7,6 @@ use Rattle.of_types.specs.Fields.{number_at, piece, IsBytes}
 use Rattle.of_types.specs.laws.FieldLaws.{IsBytes-take, IsBytes-drop, number_at-lt, number_at-take}
 use Rattle.of_types.specs.Layout.{spelled, AreFields, IsLaidOut}
 use Rattle.of_types.specs.laws.LayoutLaws.{IsLaidOut-spelled, length-spelled}
-use Rattle.of_match.specs.declared.fields.Fields.{Fields}
 use Rattle.of_match.specs.Fields.{bytes_of}
 use Rattle.of_match.specs.Match.{match_of, fields_in}
 use Rattle.of_match.specs.laws.MatchLaws.{match_of-bytes_of}

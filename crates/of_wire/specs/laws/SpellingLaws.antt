@@ -6,7 +6,6 @@ use Rattle.of_types.specs.Fields.{piece}
 use Rattle.of_types.specs.Layout.{spelled, width, AreFields, IsLaidOut}
 use Rattle.of_types.specs.laws.LayoutLaws.{IsLaidOut-spelled, length-spelled}
 use Rattle.of_types.specs.declared.port_desc.PortDesc.{PortDesc}
-use Rattle.of_match.specs.declared.fields.Fields.{Fields}
 use Rattle.of_match.specs.declared.flow_match.Match.{Match}
 use Rattle.of_match.specs.Fields.{bytes_of}
 use Rattle.of_match.specs.Match.{match_of, fields_in}

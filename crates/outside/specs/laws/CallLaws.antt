@@ -2,10 +2,8 @@
 use Rattle.std.specs.Prelude.{◌≡◌, ℕ, false, refl, List, [], ◌∷◌, ◌++◌, take, Some, Ok, IsOk, slice_get}
 use Rattle.std.proofs.Common.{◌∙◌}
 use Rattle.of_types.specs.declared.journal.Act.TheVariants.{Got}
-use Rattle.of_types.specs.declared.journal.TookWhat.TheVariants as took
 use Rattle.of_wire.specs.Reading.{reading_of}
 use Rattle.outside.specs.declared.item.Item.{Item}
-use Rattle.outside.specs.declared.item.Taken.TheVariants as gave
 use Rattle.flow_table.specs.Switch.{Declared}
 use Rattle.outside.specs.declared.item.Item.TheVariants as items
 use Rattle.outside.specs.declared.step.WorldStep.{WorldStep}

@@ -9,7 +9,6 @@ use Rattle.outside.specs.declared.faults.NextFault.{NextFault}
 use Rattle.outside.specs.declared.faults.StartFault.{StartFault}
 use Rattle.outside.specs.declared.faults.GiveFault.{GiveFault}
 use Rattle.outside.specs.declared.faults.LinkFault.{LinkFault}
-use Rattle.outside.specs.declared.faults.LinkFault.TheVariants as linking
 use Rattle.outside.specs.declared.faults.Short.{Short}
 use Rattle.outside.specs.declared.item.Item.{Item}
 use Rattle.outside.specs.declared.item.Taken.{Taken}

@@ -1,4 +1,4 @@
-use Rattle.event_dispatch.specs.laws.StoreLaws.{place, rests_closed, held, unkept}
+use Rattle.event_dispatch.specs.laws.StoreLaws.{rests_closed, held, unkept}
 use Rattle.event_dispatch.proofs.dispatch.hold_turn.Goals as goal
 
 pub returns-clause-plays : goal.returns-clause-plays
