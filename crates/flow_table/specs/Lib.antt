@@ -4,6 +4,8 @@ pub mod Change
 pub mod Hit
 pub mod Expiry
 pub mod Rows
+pub mod ViewRows
+pub mod View
 pub mod Run
 pub mod Undone
 pub mod Sorted

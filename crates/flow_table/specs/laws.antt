@@ -6,3 +6,4 @@ pub mod MomentLaws
 pub mod RunLaws
 pub mod CorrectedLaws
 pub mod SortedLaws
+pub mod PlainLaws

@@ -1,12 +1,14 @@
 //! What an application's owner sees of a table.
 
-ghost use Rattle.std.specs.Prelude.{◌≡◌, ◌↔◌, [], length, IsTrue};
+ghost use Rattle.std.specs.Prelude.{◌≡◌, ◌↔◌, ◌+◌, ◌-◌, ◌<◌, ◌≤◌, [], length, set, vec_capacity, IsTrue, OnOk};
+ghost use Rattle.std.specs.List.{insert, remove};
 ghost use Rattle.std.specs.Slice.Iter.{iter_rest};
+ghost use Rattle.flow_table.specs.ViewRows.{KeepsRoom};
 
 use of_action::ActionList;
 use of_match::Key;
 use of_types::Dpid;
-use std::alloc::Global;
+use std::alloc::{AllocError, Global};
 use std::cmp::{Eq, PartialEq};
 use std::marker::Model;
 use std::slice;
@@ -28,7 +30,7 @@ pub struct ViewRow {
     pub flags: u16,
 }
 
-/// Rows in key order, each key once. Contracts see the list of them.
+/// Rows in key order, each key once. Contracts see the list of them, and how many rows more there is room for.
 #[derive(Drop, Debug, Clone)]
 pub struct ViewList {
     rows: Vec<ViewRow>,
@@ -44,18 +46,18 @@ pub struct TableView {
 }
 
 impl Model for ViewList {
-    ghost use Rattle.std.specs.Prelude.{List};
-    ghost use Rattle.flow_table.specs.declared.view.ViewRow.{ViewRow};
+    ghost use Rattle.std.specs.Prelude.{◌-◌, length, vec_capacity};
+    ghost use Rattle.flow_table.specs.ViewRows.{ViewRows};
 
-    ghost Value = { List ViewRow };
+    ghost Value = { ViewRows };
 
-    ghost view = { λ s. s.rows.items };
+    ghost view = { λ s. record { rows = s.rows.items; spare = vec_capacity s.rows - length s.rows.items } };
 }
 
 impl ViewList {
     /// Makes an empty list; takes no memory.
     pub fn new(alloc: Global) -> ViewList
-        ensures { result ≡ [] }
+        ensures { result.rows ≡ [] }
     {
         ViewList {
             rows: Vec::new(alloc),
@@ -64,55 +66,98 @@ impl ViewList {
 
     /// Makes a vector into the list of its rows; takes no memory.
     pub fn from_vec(rows: Vec<ViewRow>) -> ViewList
-        ensures { result ≡ rows.items }
+        ensures rows { result.rows ≡ rows.items }
+        ensures room { length result.rows + result.spare ≡ vec_capacity rows }
     {
         ViewList { rows }
     }
 
     /// Gives the vector back; takes no memory.
     pub fn into_vec(self) -> Vec<ViewRow>
-        ensures { result.items ≡ self }
+        ensures rows { result.items ≡ self.rows }
+        ensures room { vec_capacity result ≡ length self.rows + self.spare }
     {
         self.rows
     }
 
     /// Lends the rows as a slice.
     pub fn as_slice(&self) -> &[ViewRow]
-        ensures { result.now ≡ self.now }
+        ensures { result.now ≡ self.now.rows }
     {
         self.rows.as_slice()
     }
 
     /// Goes over the rows, from the first to the last.
     pub fn iter(&self) -> slice::Iter<'_, ViewRow>
-        ensures { iter_rest result ≡ self.now }
+        ensures { iter_rest result ≡ self.now.rows }
     {
         self.rows.iter()
     }
 
     /// Counts the rows.
     pub fn len(&self) -> usize
-        ensures { result ≡ length self.now }
+        ensures { result ≡ length self.now.rows }
     {
         self.rows.len()
     }
 
     /// Tells whether there are no rows.
     pub fn is_empty(&self) -> bool
-        ensures { IsTrue result ↔ (self.now ≡ []) }
+        ensures { IsTrue result ↔ (self.now.rows ≡ []) }
     {
         self.rows.is_empty()
     }
+
+    /// Makes room for so many rows more.
+    pub fn reserve(&mut self, more: usize) -> Result<(), AllocError>
+        ensures rows { self.new.rows ≡ self.old.rows }
+        ensures reserved { OnOk result (more ≤ self.new.spare) }
+        ensures room { KeepsRoom self.old self.new }
+    {
+        self.rows.reserve(more)
+    }
+
+    /// Puts a row before the one at a place, or behind the last one; takes no memory. It needs room, which
+    /// [`ViewList::reserve`] makes.
+    pub fn insert(&mut self, at: usize, row: ViewRow)
+        requires at { at ≤ length self.old.rows }
+        requires room { 1 ≤ self.old.spare }
+        ensures rows { self.new.rows ≡ insert self.old.rows at row }
+        ensures room { KeepsRoom self.old self.new }
+    {
+        self.rows.insert(at, row).unwrap();
+    }
+
+    /// Puts a row in place of the one at a place; takes no memory.
+    pub fn replace(&mut self, at: usize, row: ViewRow)
+        requires { at < length self.old.rows }
+        ensures rows { self.new.rows ≡ set self.old.rows at row }
+        ensures room { KeepsRoom self.old self.new }
+    {
+        self.rows[at] = row;
+    }
+
+    /// Takes the row at a place out; takes no memory.
+    pub fn remove(&mut self, at: usize)
+        requires { at < length self.old.rows }
+        ensures rows { self.new.rows ≡ remove self.old.rows at }
+        ensures room { KeepsRoom self.old self.new }
+    {
+        self.rows.remove(at);
+    }
 }
 
+// By the rows alone.
 impl PartialEq for ViewList {
+    ghost use Rattle.std.specs.Ordering.{on};
+    ghost use Rattle.std.specs.Cmp.{on_per};
     ghost use Rattle.std.specs.Cmp.Lexicographic.{pointwise, lists_per};
 
-    ghost eq = { λ x y. pointwise ⟦<ViewRow as PartialEq>⟧.eq x y };
+    ghost eq = { on (λ v. v.rows) (pointwise ⟦<ViewRow as PartialEq>⟧.eq) };
 
     ghost use Rattle.flow_table.specs.contracts.view.ViewRowPartialEq.TheImpl.Laws.{laws-law};
 
-    ghost laws = { lists_per laws-law };
+    ghost laws = { on_per (λ v. v.rows) (lists_per laws-law) };
 
     fn eq(&self, other: &ViewList) -> bool {
         self.rows == other.rows
@@ -120,8 +165,9 @@ impl PartialEq for ViewList {
 }
 
 impl Eq for ViewList {
+    ghost use Rattle.std.specs.Cmp.{on_equiv};
     ghost use Rattle.std.specs.Cmp.Lexicographic.{lists_equiv};
     ghost use Rattle.flow_table.specs.contracts.view.ViewRowEq.TheImpl.Laws.{laws-law};
 
-    ghost laws = { lists_equiv laws-law };
+    ghost laws = { on_equiv (λ v. v.rows) (lists_equiv laws-law) };
 }

@@ -1,4 +1,4 @@
-use Rattle.std.proofs.Common.{true, Result, Ok, Err, OnErr, sym, ◌∙◌, arith}
+use Rattle.std.proofs.Common.{Result, Ok, Err, OnErr, sym, ◌∙◌, arith}
 use Rattle.flow_table.specs.Change.{tells}
 use Rattle.flow_table.specs.laws.TableLaws.{filter-some}
 use Rattle.flow_table.proofs.changing.notices_among.Goals as goal
