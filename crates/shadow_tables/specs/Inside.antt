@@ -1,17 +1,15 @@
--- How a shadow holds what contracts see of it.
-use Rattle.std.specs.Prelude.{◌≤◌, ◌-◌, length, vec_capacity}
-use Rattle.flow_table.specs.Sorted.{AreRows}
+-- How shadows hold what contracts see of them.
+use Rattle.std.specs.Prelude.{◌≡◌, List, length}
 use Rattle.shadow_tables.specs.Kept.{Kept}
-use Rattle.shadow_tables.specs.declared.shadow.Shadow.TheInside.{Inside}
+use Rattle.shadow_tables.specs.InStep.{AreLent, AreTables, all_kept}
+use Rattle.shadow_tables.specs.declared.shadows.Shadows.TheInside.{Inside}
 
 -- what contracts see
-abbrev pub kept_of : Inside → Kept
-kept_of s = record {
-  known = record { dpid = s.dpid; rows = s.rows.items; ports = s.ports.items };
-  spare = vec_capacity s.rows - length s.rows.items;
-}
+abbrev pub kept_in : Inside → List Kept
+kept_in s = all_kept s.views.items s.ports.items
 
--- the rows are in key order, and fit
-pub record IsShadow (s : Inside) : Type 0 where
-  pub in_order : AreRows s.rows.items
-  pub fits : length s.rows.items ≤ vec_capacity s.rows
+-- the switches and the rows of each are in order, and each switch has its ports
+pub record IsShadows (s : Inside) : Type 0 where
+  pub in_order : AreLent s.views.items
+  pub tables : AreTables s.views.items
+  pub in_step : length s.views.items ≡ length s.ports.items

@@ -3,8 +3,9 @@ use Rattle.std.specs.Prelude.{◌≡◌, ℕ, ◌+◌, ◌≤◌, List, [], Opti
 use Rattle.std.specs.Option.{option_map}
 use Rattle.of_types.specs.declared.port_desc.PortDesc.{PortDesc}
 use Rattle.flow_table.specs.declared.view.ViewRow.{ViewRow}
+use Rattle.flow_table.specs.View.{TableView}
 use Rattle.flow_table.specs.Sorted.{Ascends, at_place, with_item}
-use Rattle.shadow_tables.specs.Known.{Known, changed_at}
+use Rattle.shadow_tables.specs.Known.{Known, changed_at, view_of}
 
 pub record Kept : Type 0 where
   pub known : Known
@@ -26,6 +27,10 @@ known xs = map (λ x. x.known) xs
 
 abbrev pub ports_at : ℕ → List Kept → Option (List PortDesc)
 ports_at d xs = option_map (λ x. x.known.ports) (kept_at d xs)
+
+-- the table of a switch as applications see it
+abbrev pub view_at : ℕ → List Kept → Option TableView
+view_at d xs = option_map (λ x. view_of x.known) (kept_at d xs)
 
 -- ---- Room
 

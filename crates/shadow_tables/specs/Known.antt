@@ -5,7 +5,7 @@ use Rattle.of_types.specs.declared.port_desc.PortDesc.{PortDesc}
 use Rattle.of_match.specs.declared.key.Key.{Key}
 use Rattle.of_match.specs.Key.{key_number}
 use Rattle.flow_table.specs.declared.view.ViewRow.{ViewRow}
-use Rattle.flow_table.specs.declared.view.TableView.{TableView}
+use Rattle.flow_table.specs.View.{TableView}
 use Rattle.flow_table.specs.Sorted.{with_item, without_place, row_place}
 
 -- a joined switch: the rows of its table in key order, as their owners asked for them, and its ports
@@ -19,8 +19,11 @@ abbrev pub changed_at : ℕ → (Known → Known) → List Known → List Known
 changed_at d change ks = map (λ k. if k.dpid == d then change k else k) ks
 
 -- the tables as applications see them
+abbrev pub view_of : Known → TableView
+view_of k = record { dpid = k.dpid; rows = k.rows }
+
 abbrev pub views : List Known → List TableView
-views ks = map (λ k. record { dpid = k.dpid; rows = k.rows }) ks
+views ks = map view_of ks
 
 -- ---- Rows
 

@@ -1,4 +1,5 @@
 pub mod Known
 pub mod Kept
+pub mod InStep
 pub mod Inside
 pub mod laws

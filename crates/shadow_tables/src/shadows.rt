@@ -1,106 +1,65 @@
 //! The shadows of all joined switches.
 
-ghost use Rattle.std.specs.Prelude.{◌≡◌, ◌≤◌, [], None, Some, IsSome, MatchOption, Ok, Err, IfOk, OnOk, OnErr};
-ghost use Rattle.flow_table.specs.Sorted.{IsFoundAt, with_item, without_place};
+ghost use Rattle.std.specs.Prelude.{◌≡◌, ◌≤◌, [], length, None, Some, IsSome, IfSome, MatchOption, IfOk, OnOk, OnErr};
+ghost use Rattle.std.specs.List.{insert};
+ghost use Rattle.flow_table.specs.Sorted.{AreRows, without_place};
 ghost use Rattle.flow_table.specs.Corrected.{row_at};
-ghost use Rattle.shadow_tables.specs.Known.{put_row, drop_row, tell_port, configure};
-ghost use Rattle.shadow_tables.specs.Kept.{AreKept, kept_place, kept_at, known, ports_at, rows_at, spare_at, Changes, Keeps, Joins};
+ghost use Rattle.flow_table.specs.View.{plain, plains};
+ghost use Rattle.shadow_tables.specs.Known.{put_row, drop_row, tell_port, configure, views};
+ghost use Rattle.shadow_tables.specs.Kept.{AreKept, kept_place, kept_at, known, ports_at, rows_at, spare_at, view_at, Changes, Keeps, Joins};
+ghost use Rattle.shadow_tables.specs.InStep.{AreTables};
 
-use crate::shadow::Shadow;
-use flow_table::ViewRow;
+use crate::ports::{PortTable, configure_at, tell_at};
+use crate::tables::{find, gap, place, position, put_at, remove_at, reserve_at};
+use flow_table::{TableView, ViewList, ViewRow};
 use of_match::Key;
 use of_types::{Dpid, PortDesc, PortNo};
 use of_wire::PortList;
 use std::alloc::{AllocError, Global};
 use std::marker::Model;
 
-/// The shadows of the joined switches, by switch number ascending. Contracts see the list of them.
+/// The table of each joined switch as applications see it, with its known ports, by switch number ascending. Contracts see
+/// the list of both, and how many rows more each table has room for.
 ///
-/// Where memory is wanting nothing that is known changes, and no switch has less room for rows.
+/// Where memory is wanting nothing that is known changes, and no table has less room for rows.
 #[derive(Drop, Debug)]
 pub struct Shadows {
     alloc: Global,
-    switches: Vec<Shadow>,
+    views: Vec<TableView>,
+    ports: Vec<PortTable>,
 }
 
 impl Model for Shadows {
     ghost use Rattle.std.specs.Prelude.{List};
-    ghost use Rattle.shadow_tables.specs.Kept.{Kept, AreKept};
+    ghost use Rattle.shadow_tables.specs.Kept.{Kept};
+    ghost use Rattle.shadow_tables.specs.Inside.{kept_in, IsShadows};
 
     ghost Value = { List Kept };
 
-    ghost view = { λ s. s.switches.items };
+    ghost view = { kept_in };
 
-    ghost invariant = { λ s. AreKept s.switches.items };
+    ghost invariant = { IsShadows };
 }
 
-/// Tells where the shadow of a switch stands, or where it would stand, by halves.
-fn position(switches: &[Shadow], dpid: Dpid) -> Result<usize, usize>
-    requires { AreKept switches.now }
-    ensures { IsFoundAt kept_place dpid switches.now result }
+/// Puts the table and the ports of a switch in their places, or neither.
+fn insert(
+    views: &mut Vec<TableView>,
+    all: &mut Vec<PortTable>,
+    at: usize,
+    view: TableView,
+    ports: PortTable,
+) -> Result<(), AllocError>
+    requires within { at ≤ length views.old.items }
+    requires in_step { length views.old.items ≡ length all.old.items }
+    ensures views { OnOk result (views.new.items ≡ insert views.old.items at view) }
+    ensures ports { OnOk result (all.new.items ≡ insert all.old.items at ports) }
+    ensures views_err { OnErr result (views.new.items ≡ views.old.items) }
+    ensures ports_err { OnErr result (all.new.items ≡ all.old.items) }
 {
-    let mut low = 0;
-    let mut high = switches.len();
-    while low < high {
-        let middle = low + (high - low) / 2;
-        let here = switches[middle].dpid();
-        if here < dpid {
-            low = middle + 1;
-        } else if here == dpid {
-            return Ok(middle);
-        } else {
-            high = middle;
-        }
-    }
-    Err(low)
-}
-
-/// Tells where the shadow of a joined switch stands.
-fn place(switches: &[Shadow], dpid: Dpid) -> usize
-    requires in_order { AreKept switches.now }
-    requires joined { IsSome (kept_at dpid switches.now) }
-    ensures { IsFoundAt kept_place dpid switches.now (Ok result) }
-{
-    match position(switches, dpid) {
-        Ok(at) => at,
-        Err(at) => at,
-    }
-}
-
-/// Tells where the shadow of a switch goes that is not joined.
-fn gap(switches: &[Shadow], dpid: Dpid) -> usize
-    requires in_order { AreKept switches.now }
-    requires apart { kept_at dpid switches.now ≡ None }
-    ensures { IsFoundAt kept_place dpid switches.now (Err result) }
-{
-    match position(switches, dpid) {
-        Ok(at) => at,
-        Err(at) => at,
-    }
-}
-
-/// Puts the shadow of a switch that is not joined in its place.
-fn insert(switches: &mut Vec<Shadow>, shadow: Shadow) -> Result<(), AllocError>
-    requires in_order { AreKept switches.old.items }
-    requires apart { kept_at shadow.known.dpid switches.old.items ≡ None }
-    ensures ok { OnOk result (switches.new.items ≡ with_item kept_place shadow switches.old.items) }
-    ensures err { OnErr result (switches.new.items ≡ switches.old.items) }
-    ensures in_order { AreKept switches.new.items }
-{
-    let at = gap(switches, shadow.dpid());
-    switches.insert(at, shadow)?;
+    views.reserve(1)?;
+    all.insert(at, ports)?;
+    views.insert(at, view)?;
     Ok(())
-}
-
-/// Finds the shadow of a switch.
-fn find(switches: &[Shadow], dpid: Dpid) -> Option<&Shadow>
-    requires { AreKept switches.now }
-    ensures { MatchOption result (kept_at dpid switches.now ≡ None) (λ s. kept_at dpid switches.now ≡ Some s.now) }
-{
-    match position(switches, dpid) {
-        Ok(at) => Some(&switches[at]),
-        Err(_) => None,
-    }
 }
 
 impl Shadows {
@@ -110,7 +69,8 @@ impl Shadows {
     {
         Ok(Shadows {
             alloc,
-            switches: Vec::new(alloc),
+            views: Vec::new(alloc),
+            ports: Vec::new(alloc),
         })
     }
 
@@ -120,9 +80,13 @@ impl Shadows {
         ensures ok { OnOk result (Joins dpid ports.now self.old self.new) }
         ensures err { OnErr result (self.new ≡ self.old) }
     {
-        let ports = Vec::from_slice(self.alloc, ports)?;
-        let shadow = Shadow::new(self.alloc, dpid, ports);
-        insert(&mut self.switches, shadow)
+        let ports = PortTable::from_vec(Vec::from_slice(self.alloc, ports)?);
+        let at = gap(&self.views, dpid);
+        let view = TableView {
+            dpid,
+            rows: ViewList::new(self.alloc),
+        };
+        insert(&mut self.views, &mut self.ports, at, view, ports)
     }
 
     /// Forgets a switch and gives its known ports, `None` exactly where it is not joined; takes no memory.
@@ -130,34 +94,39 @@ impl Shadows {
         ensures ports { result ≡ ports_at dpid self.old }
         ensures rest { self.new ≡ without_place kept_place dpid self.old }
     {
-        match position(&self.switches, dpid) {
-            Ok(at) => Some(PortList::from_vec(self.switches.remove(at).into_ports())),
+        match position(&self.views, dpid) {
+            Ok(at) => {
+                self.views.remove(at);
+                Some(self.ports.remove(at).into_list())
+            }
             Err(_) => None,
         }
     }
 
-    /// Lends the shadows, by switch number ascending.
-    pub fn views(&self) -> &[Shadow]
-        ensures all { result.now ≡ self.now }
+    /// Lends the tables, by switch number ascending.
+    pub fn views(&self) -> &[TableView]
+        ensures all { plains result.now ≡ views (known self.now) }
         ensures in_order { AreKept self.now }
+        ensures rows { AreTables result.now }
     {
-        &self.switches
+        &self.views
     }
 
-    /// Lends the shadow of a switch, `None` exactly where it is not joined.
-    pub fn view(&self, dpid: Dpid) -> Option<&Shadow>
-        ensures { MatchOption result (kept_at dpid self.now ≡ None) (λ s. kept_at dpid self.now ≡ Some s.now) }
+    /// Lends the table of a switch, `None` exactly where it is not joined. Its rows are in key order.
+    pub fn view(&self, dpid: Dpid) -> Option<&TableView>
+        ensures found { MatchOption result (view_at dpid self.now ≡ None) (λ v. view_at dpid self.now ≡ Some (plain v.now)) }
+        ensures in_order { IfSome result (λ v. AreRows v.now.rows.rows) }
     {
-        find(&self.switches, dpid)
+        find(&self.views, dpid)
     }
 
     /// Lends the known ports of a switch, `None` exactly where it is not joined.
     pub fn ports(&self, dpid: Dpid) -> Option<&[PortDesc]>
         ensures { MatchOption result (ports_at dpid self.now ≡ None) (λ ports. ports_at dpid self.now ≡ Some ports.now) }
     {
-        match self.view(dpid) {
-            Some(shadow) => Some(shadow.ports()),
-            None => None,
+        match position(&self.views, dpid) {
+            Ok(at) => Some(self.ports[at].as_slice()),
+            Err(_) => None,
         }
     }
 
@@ -168,8 +137,8 @@ impl Shadows {
         ensures ok { OnOk result (Changes dpid (tell_port reason port.now) self.old self.new) }
         ensures err { OnErr result (Keeps self.old self.new) }
     {
-        let at = place(&self.switches, dpid);
-        self.switches[at].port_status(reason, port)
+        let at = place(&self.views, dpid);
+        tell_at(&mut self.ports, at, reason, port)
     }
 
     /// Sets the config of a known port of a joined switch; takes no memory.
@@ -177,8 +146,8 @@ impl Shadows {
         requires { IsSome (kept_at dpid self.old) }
         ensures { Changes dpid (configure port config) self.old self.new }
     {
-        let at = place(&self.switches, dpid);
-        self.switches[at].set_config(port, config);
+        let at = place(&self.views, dpid);
+        configure_at(&mut self.ports, at, port, config);
     }
 
     /// Makes room for so many rows more of a joined switch.
@@ -187,8 +156,8 @@ impl Shadows {
         ensures keeps { Keeps self.old self.new }
         ensures reserved { OnOk result (rows ≤ spare_at dpid self.new) }
     {
-        let at = place(&self.switches, dpid);
-        self.switches[at].reserve(rows)
+        let at = place(&self.views, dpid);
+        reserve_at(&mut self.views, at, rows)
     }
 
     /// Puts a row in the table of a joined switch, in place of one with its key; takes no memory. A row at a new key needs
@@ -198,8 +167,8 @@ impl Shadows {
         requires room { row_at row.key (rows_at dpid self.old) ≡ None → 1 ≤ spare_at dpid self.old }
         ensures { Changes dpid (put_row row) self.old self.new }
     {
-        let at = place(&self.switches, dpid);
-        self.switches[at].put(row);
+        let at = place(&self.views, dpid);
+        put_at(&mut self.views, at, row);
     }
 
     /// Takes the row of a key out of the table of a joined switch, if there is one; takes no memory.
@@ -207,7 +176,7 @@ impl Shadows {
         requires { IsSome (kept_at dpid self.old) }
         ensures { Changes dpid (drop_row key.now) self.old self.new }
     {
-        let at = place(&self.switches, dpid);
-        self.switches[at].remove(key);
+        let at = place(&self.views, dpid);
+        remove_at(&mut self.views, at, key);
     }
 }

@@ -5,7 +5,7 @@ use Rattle.of_match.specs.declared.key.Key.{Key}
 use Rattle.flow_table.specs.declared.view.ViewRow.{ViewRow}
 use Rattle.flow_table.specs.Sorted.{Ascends, at_place, with_item, IsFoundAt, AreRows, row_place}
 use Rattle.flow_table.specs.Corrected.{row_at}
-use Rattle.flow_table.specs.laws.SortedLaws.{places-rise, with_item-found, Ascends-with_item, at_place-with_item-same, at_place-with_item-other, at_place-found, at_place-absent, length-with_item-new, length-with_item-there, length-without_place}
+use Rattle.flow_table.specs.laws.SortedLaws.{places-rise, with_item-found, at_place-with_item-same, at_place-with_item-other, at_place-found, at_place-absent, length-with_item-new, length-with_item-there, length-without_place}
 use Rattle.shadow_tables.specs.Known.{Known, changed_at, put_row, drop_row}
 use Rattle.shadow_tables.specs.Kept.{Kept, AreKept, kept_place, kept_at, ports_at, known, room_in, spare_at, KeepsRoom, Changes, Keeps}
 
@@ -46,11 +46,6 @@ replaced d xs i y h found same = with_item-found kept_place xs y 0 i h (subst (�
 
 number_there : (d : ℕ) (xs : List Kept) (i : ℕ) (x : Kept) → IsFoundAt kept_place d xs (Ok i) → x ≡ get_or xs i x → kept_place x ≡ d
 number_there d xs i x found is = ap kept_place is ∙ found.1 x
-
--- the switches stand in order after one has changed
-pub AreKept-set : (d : ℕ) (xs : List Kept) (i : ℕ) (x y : Kept) → AreKept xs → IsFoundAt kept_place d xs (Ok i) → x ≡ get_or xs i x → kept_place y ≡ kept_place x → AreKept (set xs i y)
-AreKept-set d xs i x y h found is same =
-    subst AreKept (replaced d xs i y h found (same ∙ number_there d xs i x found is)) (Ascends-with_item kept_place xs y h)
 
 room_there : (d : ℕ) (xs : List Kept) (i : ℕ) (x y : Kept) → AreKept xs → IsFoundAt kept_place d xs (Ok i) → x ≡ get_or xs i x → kept_place y ≡ kept_place x → KeepsRoom x y
     → (e : ℕ) → room_in (kept_at e xs) ≤ room_in (kept_at e (set xs i y))

@@ -1,10 +1,9 @@
-use Rattle.std.proofs.Common.{refl, ap}
-use Rattle.shadow_tables.specs.Known.{Known}
-use Rattle.shadow_tables.proofs.Switches.{changes_at, kept_after}
+use Rattle.shadow_tables.specs.Known.{with_config}
+use Rattle.shadow_tables.proofs.Switches.{joined_in, ports_change}
 use Rattle.shadow_tables.proofs.shadows.Shadows.set_config.Goals as goal
 
-pub invariant_of-self : goal.invariant_of-self
-invariant_of-self c = kept_after _ _ c.deref.result.now _ c.index_mut.result.now _ c.deref.ensures.value c.self.invariant c.place-at.ensures c.index_mut.ensures.value (ap (λ (k : Known). k.dpid) c.set_config.ensures.known)
+pub place-at-requires-clause-joined : goal.place-at-requires-clause-joined
+place-at-requires-clause-joined c = joined_in c.args.dpid _ _ c.deref.result.now _ c.self.view_is c.deref.ensures.value c.requires
 
 pub returns : goal.returns
-returns c = changes_at _ _ _ _ c.deref.result.now _ c.index_mut.result.now _ c.self.view_is c.deref.ensures.value c.self.invariant c.place-at.ensures c.index_mut.ensures.value c.set_config.ensures.known refl c.set_config.ensures.room
+returns c = ports_change c.args.dpid _ (with_config c.args.port c.args.config) _ _ c.deref.result.now _ _ c.self.view_is c.deref.ensures.value c.self.invariant.in_order c.self.invariant.in_step c.place-at.ensures c.configure_at.ensures

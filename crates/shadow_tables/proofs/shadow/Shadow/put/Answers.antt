@@ -1,6 +1,0 @@
-use Rattle.flow_table.specs.Sorted.{row_place}
-use Rattle.flow_table.specs.laws.SortedLaws.{Ascends-with_item}
-use Rattle.shadow_tables.proofs.shadow.Shadow.put.Goals as goal
-
-pub invariant_of-self : goal.invariant_of-self
-invariant_of-self c = record { in_order = rw c.put_row.ensures.rows (Ascends-with_item row_place _ _ c.self.invariant.in_order); fits = c.put_row.ensures.fits }

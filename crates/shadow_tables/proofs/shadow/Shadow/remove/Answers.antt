@@ -1,6 +1,0 @@
-use Rattle.flow_table.specs.Sorted.{row_place}
-use Rattle.flow_table.specs.laws.SortedLaws.{Ascends-without_place}
-use Rattle.shadow_tables.proofs.shadow.Shadow.remove.Goals as goal
-
-pub invariant_of-self : goal.invariant_of-self
-invariant_of-self c = record { in_order = rw c.drop_row.ensures.rows (Ascends-without_place row_place _ _ c.self.invariant.in_order); fits = c.drop_row.ensures.fits }
