@@ -11,7 +11,7 @@ ghost use Rattle.counter_cache.specs.Fixed.{fixed_row, fixed_sum, fixed_removed,
 use crate::fixing::{fix_notice, fix_row_list};
 use crate::rows::{drop_row, find, put_row};
 use crate::sums::fix_sum_of;
-use flow_table::{Lost, LostRows, ViewRow};
+use flow_table::{Lost, LostRows, TableView};
 use of_match::{Key, Match};
 use of_stats::{RowList, Sum};
 use of_types::PortNo;
@@ -85,13 +85,13 @@ impl Cache {
         fix_row_list(self.alloc, &self.rows, rows);
     }
 
-    /// Adds to a sum over a switch's entries what those of these rows of owners lost that the request meets: `m` subsumes
+    /// Adds to a sum over a switch's entries what those of its table's rows lost that the request meets: `m` subsumes
     /// their matches, and they have an OUTPUT to `out_port` unless that is NONE; takes no memory.
-    pub fn fix_sum(&self, view: &[ViewRow], m: &Match, out_port: PortNo, sum: &mut Sum)
-        ensures exact { sum.new ≡ fixed_sum self.now.rows (filter (is_met m.now out_port) view.now) sum.old }
+    pub fn fix_sum(&self, view: &TableView, m: &Match, out_port: PortNo, sum: &mut Sum)
+        ensures exact { sum.new ≡ fixed_sum self.now.rows (filter (is_met m.now out_port) view.now.rows.rows) sum.old }
 
         // The sum over the switch's table becomes that over the table as it is shown.
-        ensures shown { SumIsShown self.now.rows view.now m.now out_port sum.old sum.new }
+        ensures shown { SumIsShown self.now.rows view.now.rows.rows m.now out_port sum.old sum.new }
     {
         fix_sum_of(&self.rows, view, m, out_port, sum);
     }

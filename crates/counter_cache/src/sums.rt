@@ -9,7 +9,7 @@ ghost use Rattle.counter_cache.specs.Fixed.{is_met, fixed_sum};
 ghost use Rattle.counter_cache.specs.Totals.{added, IsTotal};
 
 use crate::rows::find;
-use flow_table::{Lost, ViewRow};
+use flow_table::{Lost, TableView, ViewRow};
 use match_overlap::subsumes;
 use of_action::{Action, ActionList};
 use of_match::{Key, Match};
@@ -89,19 +89,19 @@ fn total_of(lost: &[(Key, Lost)], view: &[ViewRow], m: &Match, out_port: PortNo)
     total
 }
 
-/// Adds to a sum what the entries of those rows lost that a request meets.
+/// Adds to a sum what the entries of those rows of a table lost that a request meets.
 #[tactic(auto, unfolding(crate::specs::Fixed::fixed_sum))]
 pub(crate) fn fix_sum_of(
     lost: &[(Key, Lost)],
-    view: &[ViewRow],
+    view: &TableView,
     m: &Match,
     out_port: PortNo,
     sum: &mut Sum,
 )
     requires { AreLostRows lost.now }
-    ensures { sum.new ≡ fixed_sum lost.now (filter (is_met m.now out_port) view.now) sum.old }
+    ensures { sum.new ≡ fixed_sum lost.now (filter (is_met m.now out_port) view.now.rows.rows) sum.old }
 {
-    let total = total_of(lost, view, m, out_port);
+    let total = total_of(lost, view.rows.as_slice(), m, out_port);
     sum.packets = sum.packets.wrapping_add(total.packets);
     sum.bytes = sum.bytes.wrapping_add(total.bytes);
 }

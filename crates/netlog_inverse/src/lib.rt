@@ -25,4 +25,4 @@ pub use laws::{
     planned_changes_keep_marks, plans_undo, shown_is_a_correction,
 };
 pub use log::{Log, Mark};
-pub use planning::{plan, plan_rows};
+pub use planning::plan;

@@ -224,23 +224,10 @@ pub fn plan<L: LostRows>(
     cache: &L,
     rows: &RowList,
 ) -> Result<Inverse, PlanFault>
-    requires { AreShowable view.now.rows }
-    ensures { Plans m.now view.now.rows (L.rows cache.now) rows.now result }
+    requires { AreShowable view.now.rows.rows }
+    ensures { Plans m.now view.now.rows.rows (L.rows cache.now) rows.now result }
 {
-    plan_rows(alloc, m, view.rows.as_slice(), cache, rows)
-}
-
-/// As [`plan`], for the rows of a view in a slice, as a shadow lends them.
-pub fn plan_rows<L: LostRows>(
-    alloc: Global,
-    m: &FlowMod,
-    view: &[ViewRow],
-    cache: &L,
-    rows: &RowList,
-) -> Result<Inverse, PlanFault>
-    requires { AreShowable view.now }
-    ensures { Plans m.now view.now (L.rows cache.now) rows.now result }
-{
+    let view = view.rows.as_slice();
     let rows = rows.as_slice();
     let keyed = Lookup::new(view);
     let images = images_of(alloc, m, view, &keyed, cache, &Lookup::new(rows))?;
