@@ -1,7 +1,7 @@
 //! Laws of turns and of attempts to start, each the contract of a function that does nothing.
 
 ghost use Rattle.std.specs.Prelude.{◌≡◌, ℕ, Bool, true, List, [], is_some, unwrap_or};
-ghost use Rattle.flow_table.specs.declared.view.TableView.{TableView};
+ghost use Rattle.flow_table.specs.View.{TableView};
 ghost use Rattle.lego_model.specs.Journal.{is_event};
 ghost use Rattle.lego_model.specs.Places.{Place};
 ghost use Rattle.lego_model.specs.Turns.{turn_of};

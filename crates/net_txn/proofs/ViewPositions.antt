@@ -4,7 +4,7 @@ use Rattle.std.proofs.Math.Seq.{drop-cons}
 use Rattle.std.proofs.lemmas.List.{drop_all}
 use Rattle.of_match.specs.Key.{key_number}
 use Rattle.flow_table.specs.declared.view.ViewRow.{ViewRow}
-use Rattle.flow_table.specs.declared.view.TableView.{TableView}
+use Rattle.flow_table.specs.View.{TableView}
 use Rattle.net_txn.specs.Views.{IsViewAt, IsRowPlace}
 
 abbrev pub RowPlaces : ℕ → List ViewRow → ℕ → Type 0

@@ -1,7 +1,7 @@
 -- What the host knows of a switch, and that it agrees with the switch. All of this is our own.
 use Rattle.std.specs.Prelude.{◌≡◌, ℕ, List, Option}
 use Rattle.std.specs.Option.{option_map}
-use Rattle.flow_table.specs.declared.view.TableView.{TableView}
+use Rattle.flow_table.specs.View.{TableView}
 use Rattle.lego_model.specs.Answers.{Rows, rows_of_table, rows_of_view}
 use Rattle.outside.specs.State.{State, switch_of}
 use Rattle.net_txn.specs.Views.{rows_at}

@@ -10,7 +10,7 @@ use Rattle.of_match.specs.Match.{match_of}
 use Rattle.of_wire.specs.declared.bodies.FlowMod.{FlowMod as Change}
 use Rattle.of_wire.specs.declared.message.Message.TheVariants.{FlowMod, SetConfig}
 use Rattle.of_wire.specs.Spelling.{message_bytes}
-use Rattle.flow_table.specs.declared.view.TableView.{TableView}
+use Rattle.flow_table.specs.View.{TableView}
 use Rattle.flow_table.specs.Refusals.{no_buffer}
 use Rattle.flow_table.specs.Switch.{first_config}
 use Rattle.outside.specs.declared.step.WorldStep.{WorldStep}

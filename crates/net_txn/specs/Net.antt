@@ -4,7 +4,7 @@
 use Rattle.std.specs.Prelude.{false, ℕ, List, [], ◌∷◌, ◌++◌, Option, Some, None, if◌then◌else◌}
 use Rattle.of_match.specs.declared.key.Key.{Key}
 use Rattle.of_wire.specs.declared.bodies.FlowMod.{FlowMod as Change}
-use Rattle.flow_table.specs.declared.view.TableView.{TableView}
+use Rattle.flow_table.specs.View.{TableView}
 use Rattle.flow_table.specs.Change.{key_in, is_delete}
 use Rattle.lego_model.specs.declared.wait.Awaited.{Awaited}
 use Rattle.net_txn.specs.declared.logged.UndoProgress.{UndoProgress}

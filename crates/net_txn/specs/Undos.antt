@@ -8,7 +8,7 @@ use Rattle.lego_io.specs.Count.{Rose}
 use Rattle.of_types.specs.declared.journal.Act.TheVariants.{Sent}
 use Rattle.of_match.specs.declared.key.Key.{Key}
 use Rattle.of_wire.specs.Reading.{reading_of}
-use Rattle.flow_table.specs.declared.view.TableView.{TableView}
+use Rattle.flow_table.specs.View.{TableView}
 use Rattle.flow_table.specs.Table.{TableState, IsTable}
 use Rattle.flow_table.specs.Switch.{SwitchState}
 use Rattle.flow_table.specs.Undone.{undone}

@@ -2,7 +2,7 @@
 
 ghost use Rattle.std.specs.Prelude.{◌≡◌, ◌==◌, ℕ, ◌≤◌, List, None, not, filter};
 ghost use Rattle.flow_table.specs.declared.view.ViewRow.{ViewRow};
-ghost use Rattle.flow_table.specs.declared.view.TableView.{TableView};
+ghost use Rattle.flow_table.specs.View.{TableView};
 ghost use Rattle.net_txn.specs.Views.{rows_at, with_rows, ViewsAscend};
 ghost use Rattle.net_txn.specs.Joining.{with_view};
 

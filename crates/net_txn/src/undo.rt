@@ -3,7 +3,7 @@
 ghost use Rattle.std.specs.Prelude.{◌≡◌, ◌+◌, ◌<◌, ◌≤◌, ℕ, true, List, [], ◌∷◌, length, take, drop, map, Option, None, IsOk, vec_len};
 ghost use Rattle.lego_model.specs.declared.fault.TxnFault.{TxnFault};
 ghost use Rattle.outside.specs.Seen.{Seen};
-ghost use Rattle.flow_table.specs.declared.view.TableView.{TableView};
+ghost use Rattle.flow_table.specs.View.{TableView};
 ghost use Rattle.net_txn.specs.declared.logged.Logged.{Logged};
 ghost use Rattle.net_txn.specs.Undos.{ended_by, without_keys, switches_of, Further, HasPassedBarrier, IsRoomLeft, key_logged};
 ghost use Rattle.net_txn.specs.Views.{is_viewed};

@@ -2,7 +2,7 @@
 -- checkpoint that it handed over, and undone where it failed, after which it is started again at its kept checkpoint. All of this is our own.
 use Rattle.std.specs.Prelude.{◌≡◌, ℕ, ◌+◌, Bool, true, false, List, [], ◌++◌, length, take, Option, Ok, is_some, unwrap_or}
 use Rattle.std.specs.List.{flat_map}
-use Rattle.flow_table.specs.declared.view.TableView.{TableView}
+use Rattle.flow_table.specs.View.{TableView}
 use Rattle.app_frames.specs.declared.frame.Event.{Event}
 use Rattle.app_frames.specs.declared.cause.Cause.{Cause}
 use Rattle.app_frames.specs.declared.cause.Tried.{Tried}

@@ -8,7 +8,7 @@ use Rattle.lego_model.specs.RunReport.{switch_line, flow_line, app_line, end_lin
 use Rattle.outside.specs.Seen.{Seen, journal}
 use Rattle.outside.specs.State.{State, state}
 use Rattle.lego_model.specs.AtOnce.{AtOnce}
-use Rattle.flow_table.specs.declared.view.TableView.{TableView}
+use Rattle.flow_table.specs.View.{TableView}
 use Rattle.switch_laws.specs.Orderly.{OrderlySince}
 use Rattle.switch_laws.specs.Shown.{shown_switch, shown_places}
 use Rattle.run_laws.specs.Engine.{Engine}

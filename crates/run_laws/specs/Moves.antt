@@ -1,7 +1,7 @@
 -- What a part of a run does is what the reference controller does, with what the part tells of the application. All of this is our own.
 use Rattle.std.specs.Prelude.{◌≡◌, ℕ, Bool, true, List, [], ◌∷◌, ◌++◌, length, drop, ◌<◌}
 use Rattle.of_types.specs.declared.journal.WorldStim.{WorldStim}
-use Rattle.flow_table.specs.declared.view.TableView.{TableView}
+use Rattle.flow_table.specs.View.{TableView}
 use Rattle.lego_model.specs.Journal.{Reply, Start}
 use Rattle.lego_model.specs.Places.{Place}
 use Rattle.lego_model.specs.Scripted.{AreFronts, AreStartFronts}

@@ -2,7 +2,7 @@
 -- controller over what the world told, and over whatever was said of the application, of which what was told is the front; and its journal
 -- is a dialogue with the application, in which each change had reached its switch at once when it was answered. All of this is our own.
 use Rattle.std.specs.Prelude.{◌≡◌, ℕ, ◌<◌, Bool, List, [], length}
-use Rattle.flow_table.specs.declared.view.TableView.{TableView}
+use Rattle.flow_table.specs.View.{TableView}
 use Rattle.lego_model.specs.Places.{Place}
 use Rattle.outside.specs.Seen.{Seen, Longer}
 use Rattle.outside.specs.Conforming.{Conforming}

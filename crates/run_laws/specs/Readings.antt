@@ -1,7 +1,7 @@
 -- What the journal tells of the application by a turn and by attempts to start it. All of this is our own.
 use Rattle.std.specs.Prelude.{◌≡◌, ℕ, Bool, true, List, [], ◌∷◌, ◌++◌, Option, is_some}
 use Rattle.std.specs.List.{AllByRecursion}
-use Rattle.flow_table.specs.declared.view.TableView.{TableView}
+use Rattle.flow_table.specs.View.{TableView}
 use Rattle.app_frames.specs.declared.frame.Event.{Event}
 use Rattle.app_frames.specs.declared.cause.Tried.{Tried}
 use Rattle.lego_model.specs.Journal.{is_of, start_of}

@@ -1,7 +1,7 @@
 //! Laws of one event, each the contract of a function that does nothing.
 
 ghost use Rattle.std.specs.Prelude.{◌≡◌, ℕ, ◌+◌, ◌^◌, ◌<◌, Bool, true, List, [], ◌∷◌};
-ghost use Rattle.flow_table.specs.declared.view.TableView.{TableView};
+ghost use Rattle.flow_table.specs.View.{TableView};
 ghost use Rattle.app_frames.specs.declared.frame.Event.{Event};
 ghost use Rattle.lego_model.specs.Places.{Place};
 ghost use Rattle.lego_model.specs.Controller.{dispatch};

@@ -4,7 +4,7 @@ ghost use Rattle.std.specs.Prelude.{◌≡◌, ◌⊎◌, ℕ, ◌+◌, ◌^◌,
 ghost use Rattle.std.specs.Io.KnownBytes.{append_known};
 ghost use Rattle.lego_io.specs.Sink.{TookPart};
 ghost use Rattle.of_types.specs.declared.journal.WorldStim.{WorldStim};
-ghost use Rattle.flow_table.specs.declared.view.TableView.{TableView};
+ghost use Rattle.flow_table.specs.View.{TableView};
 ghost use Rattle.app_frames.specs.declared.frame.Event.{Event};
 ghost use Rattle.lego_model.specs.Places.{Place};
 ghost use Rattle.outside.specs.Seen.{Seen, Continues};

@@ -6,7 +6,7 @@ use Rattle.of_match.specs.declared.key.Key.{Key}
 use Rattle.of_match.specs.Key.{key_number}
 use Rattle.of_wire.specs.declared.bodies.FlowMod.{FlowMod as Change}
 use Rattle.flow_table.specs.declared.view.ViewRow.{ViewRow}
-use Rattle.flow_table.specs.declared.view.TableView.{TableView}
+use Rattle.flow_table.specs.View.{TableView}
 use Rattle.flow_table.specs.Table.{IsTable}
 use Rattle.flow_table.specs.Switch.{Declared, SwitchState}
 use Rattle.undo_laws.specs.Owned.{owned_switch}

@@ -1,7 +1,7 @@
 //! Laws of turns, each the contract of a function that does nothing.
 
 ghost use Rattle.std.specs.Prelude.{◌≡◌, ℕ, Bool, List, length, Result, Some};
-ghost use Rattle.flow_table.specs.declared.view.TableView.{TableView};
+ghost use Rattle.flow_table.specs.View.{TableView};
 ghost use Rattle.lego_model.specs.Places.{Place};
 ghost use Rattle.outside.specs.Seen.{Seen};
 ghost use Rattle.outside.specs.State.{state};

@@ -5,7 +5,7 @@ use Rattle.std.proofs.lemmas.List.{append-nil}
 use Rattle.std.proofs.lemmas.Bool.{eq-eqb}
 use Rattle.of_types.specs.declared.journal.Act.{Act}
 use Rattle.of_types.specs.declared.journal.Act.TheVariants.{Stim, Started, Gave, Gone, Took, Ended, Sent, Got}
-use Rattle.flow_table.specs.declared.view.TableView.{TableView}
+use Rattle.flow_table.specs.View.{TableView}
 use Rattle.app_frames.specs.declared.frame.AppFrame.{AppFrame}
 use Rattle.app_frames.specs.declared.cause.Tried.{Tried}
 use Rattle.lego_model.specs.Journal.{is_of, is_event}

@@ -7,7 +7,7 @@ use Rattle.app_frames.specs.declared.frame.AppFrame.TheVariants as frames
 use Rattle.app_frames.specs.declared.frame.Answer.{Answer}
 use Rattle.app_frames.specs.declared.frame.Answer.TheVariants.{Unknown}
 use Rattle.app_frames.specs.declared.cause.Cause.TheVariants as causes
-use Rattle.flow_table.specs.declared.view.TableView.{TableView}
+use Rattle.flow_table.specs.View.{TableView}
 use Rattle.lego_model.specs.Journal.{End, Untold, reply_of, pieces, end_from, answers_given}
 use Rattle.lego_model.specs.Turns.{Next, Framed, Faulty, Over, Outcome, Completed, Failed, Played, Table, over, answered, told_to, done_by, ended_by, is_none_left, one_fewer, next_of, turn_from, turn_of}
 use Rattle.outside.specs.Seen.{Seen}

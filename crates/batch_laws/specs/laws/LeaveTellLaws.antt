@@ -8,7 +8,7 @@ use Rattle.of_types.specs.declared.port_desc.PortDesc.{PortDesc}
 use Rattle.of_types.specs.declared.journal.WorldStim.TheVariants.{Leave}
 use Rattle.of_wire.specs.Spelling.{ports_bytes}
 use Rattle.flow_table.specs.declared.view.ViewRow.{ViewRow}
-use Rattle.flow_table.specs.declared.view.TableView.{TableView}
+use Rattle.flow_table.specs.View.{TableView}
 use Rattle.flow_table.specs.Switch.{Declared, SwitchState}
 use Rattle.undo_laws.specs.Owned.{owned_switch}
 use Rattle.app_frames.specs.declared.frame.Event.{Event}

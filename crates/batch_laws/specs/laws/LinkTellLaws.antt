@@ -8,7 +8,7 @@ use Rattle.of_types.specs.declared.port_desc.PortDesc.{PortDesc}
 use Rattle.of_types.specs.declared.journal.Stimulus.{Stimulus}
 use Rattle.of_types.specs.declared.journal.Stimulus.TheVariants.{Frame, Advance, Port, Counts, Raw}
 use Rattle.flow_table.specs.declared.view.ViewRow.{ViewRow}
-use Rattle.flow_table.specs.declared.view.TableView.{TableView}
+use Rattle.flow_table.specs.View.{TableView}
 use Rattle.flow_table.specs.Switch.{SwitchState}
 use Rattle.flow_table.specs.Step.{after_stimulus, sent_by_stimulus}
 use Rattle.undo_laws.specs.Owned.{owned_switch}

@@ -19,7 +19,7 @@ use Rattle.flow_timeouts.specs.declared.timeouts.Reason.TheVariants as reasons
 use Rattle.flow_table.specs.declared.entry.Entry.{Entry}
 use Rattle.flow_table.specs.declared.notice.Notice.{Notice}
 use Rattle.flow_table.specs.declared.view.ViewRow.{ViewRow}
-use Rattle.flow_table.specs.declared.view.TableView.{TableView}
+use Rattle.flow_table.specs.View.{TableView}
 use Rattle.flow_table.specs.Table.{IsTable}
 use Rattle.flow_table.specs.Change.{asks_notice}
 use Rattle.flow_table.specs.Expiry.{deadline, is_due, notice_at, by_deadline, expire, expiry_notices}

@@ -8,7 +8,7 @@ use Rattle.of_match.specs.Key.{key_number}
 use Rattle.of_action.specs.declared.action.Action.{Action}
 use Rattle.flow_table.specs.declared.entry.Entry.{Entry}
 use Rattle.flow_table.specs.declared.view.ViewRow.{ViewRow}
-use Rattle.flow_table.specs.declared.view.TableView.{TableView}
+use Rattle.flow_table.specs.View.{TableView}
 use Rattle.flow_table.specs.Switch.{SwitchState}
 use Rattle.lego_model.specs.Answers.{Rows, rows_of_table, rows_of_view}
 use Rattle.outside.specs.Seen.{Seen}

@@ -29,7 +29,7 @@ use Rattle.net_txn.specs.laws.LinkStrayLaws.{no_strays_none}
 use Rattle.net_txn.specs.laws.ReadLaws.{asked_read}
 use Rattle.net_txn.specs.Causes.{IsCause}
 use Rattle.flow_table.specs.declared.view.ViewRow.{ViewRow}
-use Rattle.flow_table.specs.declared.view.TableView.{TableView}
+use Rattle.flow_table.specs.View.{TableView}
 use Rattle.net_txn.specs.declared.logged.Logged.{Logged}
 use Rattle.net_txn.specs.Waits.{Waits, Floods, IfFlooded, KeptMore}
 use Rattle.lego_model.specs.BarrierWaits.{barrier_sent}

@@ -13,7 +13,7 @@ use Rattle.of_wire.specs.Spelling.{message_bytes}
 use Rattle.of_wire.specs.Grammar.{enveloped}
 use Rattle.of_wire.specs.laws.ReadingLaws.{reading_of-message_bytes}
 use Rattle.flow_table.specs.declared.view.ViewRow.{ViewRow}
-use Rattle.flow_table.specs.declared.view.TableView.{TableView}
+use Rattle.flow_table.specs.View.{TableView}
 use Rattle.flow_table.specs.Change.{changed, entries_after}
 use Rattle.flow_table.specs.Table.{TableState}
 use Rattle.flow_table.specs.Switch.{Declared, SwitchState}

@@ -10,7 +10,7 @@ use Rattle.outside.specs.Seen.{Counts, Seen}
 use Rattle.outside.specs.State.{State, after_step, after_steps, state, waits_of}
 use Rattle.outside.specs.laws.StateLaws.{Conforming-rest, MaySteps-front, MaySteps-rest}
 use Rattle.outside.specs.Conforming.{MaySteps, Conforming}
-use Rattle.flow_table.specs.declared.view.TableView.{TableView}
+use Rattle.flow_table.specs.View.{TableView}
 use Rattle.lego_model.specs.declared.fault.TxnFault.{TxnFault}
 use Rattle.net_txn.specs.MessageStore.{KeptWhereFit}
 use Rattle.lego_model.specs.BarrierWaits.{kept_of, barrier_sent}

@@ -5,7 +5,7 @@ use Rattle.std.proofs.lemmas.Bool.{cases_eq}
 use Rattle.std.proofs.Math.Seq.{drop-cons, map-set_same}
 use Rattle.std.proofs.lemmas.List.{drop-set}
 use Rattle.of_types.specs.declared.journal.Act.TheVariants.{Sent}
-use Rattle.flow_table.specs.declared.view.TableView.{TableView}
+use Rattle.flow_table.specs.View.{TableView}
 use Rattle.outside.specs.declared.step.WorldStep.TheVariants.{Acted}
 use Rattle.outside.specs.Seen.{Seen}
 use Rattle.lego_model.specs.declared.fault.TxnFault.{TxnFault}

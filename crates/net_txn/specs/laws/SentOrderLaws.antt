@@ -3,7 +3,7 @@ use Rattle.std.specs.Prelude.{◌≡◌, ◌==◌, ℕ, ◌+◌, ◌≤◌, Bool
 use Rattle.std.proofs.Common.{sym, ap, ◌∙◌, subst, eq-eqb, inl, inr, arith}
 use Rattle.std.proofs.lemmas.Bool.{cases_Bool, ne_eqb}
 use Rattle.of_match.specs.declared.key.Key.{Key}
-use Rattle.flow_table.specs.declared.view.TableView.{TableView}
+use Rattle.flow_table.specs.View.{TableView}
 use Rattle.net_txn.specs.Undos.{Part, Inverse, BarrierPassed, Stuck, parts_of, is_stuck, inverses_of, is_served, inverse_in, sent_in, IsThinned, keys_of}
 use Rattle.net_txn.specs.Views.{is_viewed}
 

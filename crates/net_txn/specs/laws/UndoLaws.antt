@@ -5,7 +5,7 @@ use Rattle.std.proofs.lemmas.Bool.{ne_eqb, cases_eq}
 use Rattle.std.proofs.lemmas.List.{append-nil}
 use Rattle.lego_io.specs.laws.CountLaws.{Rose-before}
 use Rattle.of_match.specs.declared.key.Key.{Key}
-use Rattle.flow_table.specs.declared.view.TableView.{TableView}
+use Rattle.flow_table.specs.View.{TableView}
 use Rattle.outside.specs.declared.step.WorldStep.{WorldStep}
 use Rattle.outside.specs.Seen.{Counts, NoneFell, Seen}
 use Rattle.outside.specs.laws.SeenLaws.{Continues-refl, Continues-trans}

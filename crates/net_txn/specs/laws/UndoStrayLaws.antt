@@ -3,7 +3,7 @@ use Rattle.std.specs.Prelude.{◌≡◌, ℕ, Bool, true, false, List, [], ◌�
 use Rattle.std.proofs.Common.{◌∙◌, subst, eq-eqb, inl, inr}
 use Rattle.std.proofs.lemmas.Bool.{cases_Bool}
 use Rattle.flow_table.specs.Switch.{Declared}
-use Rattle.flow_table.specs.declared.view.TableView.{TableView}
+use Rattle.flow_table.specs.View.{TableView}
 use Rattle.outside.specs.Seen.{Counts, Seen}
 use Rattle.outside.specs.State.{State, after_steps, state, is_joined}
 use Rattle.outside.specs.InOrder.{MayComeAll, InOrder}

@@ -6,7 +6,7 @@ use Rattle.std.proofs.Common.{zero, suc, get_or, set, sym, ap, ◌∙◌, eqb, l
 use Rattle.std.proofs.lemmas.Bool.{eqb-true, ne_eqb, lt-ltb, le-ltb}
 use Rattle.of_match.specs.Key.{key_number}
 use Rattle.flow_table.specs.declared.view.ViewRow.{ViewRow}
-use Rattle.flow_table.specs.declared.view.TableView.{TableView}
+use Rattle.flow_table.specs.View.{TableView}
 use Rattle.net_txn.specs.Views.{rows_at, with_rows, IsViewAt, with_row, IsRowPlace}
 
 -- ---- Views

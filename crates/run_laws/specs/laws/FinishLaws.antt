@@ -16,7 +16,7 @@ use Rattle.lego_model.specs.RunReport.{run_report}
 use Rattle.outside.specs.Seen.{Given, Seen, journal}
 use Rattle.outside.specs.State.{Mark, State, switch_of, state}
 use Rattle.outside.specs.Conforming.{Conforming}
-use Rattle.flow_table.specs.declared.view.TableView.{TableView}
+use Rattle.flow_table.specs.View.{TableView}
 use Rattle.switch_laws.specs.Shown.{flags_at, shown_switch, places, shown_places}
 use Rattle.batch_laws.specs.laws.HistoryLaws.{links-declared}
 use Rattle.lego_model.specs.History.{starts_in, replies_in, own_acts, stimuli_in, points_in, last_point}

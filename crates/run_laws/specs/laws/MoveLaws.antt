@@ -3,7 +3,7 @@ use Rattle.std.proofs.Common.{◌≡◌, ℕ, Bool, List, [], ◌++◌, length, 
 use Rattle.std.proofs.lemmas.List.{append-nil, append_assoc}
 use Rattle.of_types.specs.declared.journal.WorldStim.{WorldStim}
 use Rattle.lego_model.specs.Journal.{Reply, Start}
-use Rattle.flow_table.specs.declared.view.TableView.{TableView}
+use Rattle.flow_table.specs.View.{TableView}
 use Rattle.lego_model.specs.Places.{Place}
 use Rattle.lego_model.specs.Controller.{Run}
 use Rattle.lego_model.specs.laws.ScriptedLaws.{fronts-parts, start_fronts-parts, drop-parts}

@@ -3,7 +3,7 @@ use Rattle.std.proofs.Common.{ℕ, ◌+◌, Bool, List, [], ◌∷◌, ◌++◌,
 use Rattle.std.proofs.lemmas.List.{append-nil, length-append}
 use Rattle.std.proofs.lemmas.List.Sums.{fold-append}
 use Rattle.of_types.specs.declared.journal.WorldStim.{WorldStim}
-use Rattle.flow_table.specs.declared.view.TableView.{TableView}
+use Rattle.flow_table.specs.View.{TableView}
 use Rattle.lego_model.specs.Controller.{settle, happen}
 use Rattle.outside.specs.Seen.{Seen, Continues}
 use Rattle.outside.specs.laws.StateLaws.{Conforming-before}

@@ -12,7 +12,7 @@ use Rattle.of_wire.specs.declared.bodies.FlowMod.{FlowMod as Change}
 use Rattle.of_wire.specs.declared.message.Message.TheVariants.{FlowMod}
 use Rattle.flow_table.specs.declared.entry.Entry.{Entry}
 use Rattle.flow_table.specs.declared.view.ViewRow.{ViewRow}
-use Rattle.flow_table.specs.declared.view.TableView.{TableView}
+use Rattle.flow_table.specs.View.{TableView}
 use Rattle.flow_table.specs.Table.{TableState, has_key, entry_at}
 use Rattle.flow_table.specs.Change.{key_in, is_delete, changed, refusal}
 use Rattle.flow_table.specs.Undone.{undone}

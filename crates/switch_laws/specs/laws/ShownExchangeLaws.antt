@@ -11,7 +11,7 @@ use Rattle.of_wire.specs.Reading.{reading_of}
 use Rattle.of_wire.specs.Grammar.{enveloped}
 use Rattle.flow_table.specs.declared.entry.Entry.{Entry}
 use Rattle.flow_table.specs.declared.view.ViewRow.{ViewRow}
-use Rattle.flow_table.specs.declared.view.TableView.{TableView}
+use Rattle.flow_table.specs.View.{TableView}
 use Rattle.flow_table.specs.Table.{IsTable}
 use Rattle.flow_table.specs.Switch.{Declared, SwitchState}
 use Rattle.flow_table.specs.Refusals.{message_refusal}

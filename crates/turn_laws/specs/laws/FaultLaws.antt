@@ -2,7 +2,7 @@
 -- it failed in the undo.
 use Rattle.std.proofs.Common.{◌≡◌, ℕ, Bool, true, List, [], ◌∷◌, length, Result, sym, ap, ◌∙◌, subst, inl, inr}
 use Rattle.std.proofs.lemmas.List.{append-nil}
-use Rattle.flow_table.specs.declared.view.TableView.{TableView}
+use Rattle.flow_table.specs.View.{TableView}
 use Rattle.outside.specs.Seen.{Seen}
 use Rattle.outside.specs.State.{State, state, switch_of}
 use Rattle.outside.specs.laws.StateLaws.{state-append}

@@ -1,6 +1,6 @@
 -- What follows of a turn that stops in a world that keeps its word, where all was ready: a link failed, or memory was wanting.
 use Rattle.std.proofs.Common.{◌≡◌, ℕ, Bool, true, List, ◌∷◌, length, Option, Some, None, Err, refl, sym, subst, inl, inr}
-use Rattle.flow_table.specs.declared.view.TableView.{TableView}
+use Rattle.flow_table.specs.View.{TableView}
 use Rattle.app_frames.specs.declared.frame.Answer.{Answer}
 use Rattle.outside.specs.Seen.{Seen}
 use Rattle.outside.specs.laws.StateLaws.{Conforming-before}

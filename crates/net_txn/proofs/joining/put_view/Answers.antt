@@ -1,6 +1,6 @@
 use Rattle.std.proofs.Common.{◌≡◌, ℕ, List, [], ◌∙◌, subst, arith}
 use Rattle.std.specs.List.{insert}
-use Rattle.flow_table.specs.declared.view.TableView.{TableView}
+use Rattle.flow_table.specs.View.{TableView}
 use Rattle.net_txn.specs.Joining.{with_view, IsViewPlace}
 use Rattle.net_txn.specs.laws.JoiningLaws.{with_view-place, IsViewPlace-le}
 use Rattle.net_txn.proofs.joining.put_view.Goals as goal
