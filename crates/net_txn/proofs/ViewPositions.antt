@@ -1,17 +1,25 @@
--- Steps of loops that look for a view, and for the place of a row.
-use Rattle.std.proofs.Common.{◌≡◌, ◌==◌, ℕ, suc, ◌+◌, ◌<◌, ◌≤◌, false, List, [], ◌∷◌, length, get_or, drop, refl, sym, ap, ◌∙◌, subst, arith}
+-- Steps of loops that look for a view, and for the place of a row; and what a change of one view shows.
+use Rattle.std.proofs.Common.{◌≡◌, ◌==◌, ℕ, zero, suc, ◌+◌, ◌<◌, ◌≤◌, Bool, true, false, ◌||◌, ◌⊎◌, List, [], ◌∷◌, ◌++◌, length, map, reverse, get_or, set, take, drop, refl, sym, ap, ◌∙◌, subst, inl, inr, arith}
 use Rattle.std.proofs.Math.Seq.{drop-cons}
-use Rattle.std.proofs.lemmas.List.{drop_all}
+use Rattle.std.proofs.Math.Seq.{map-set_same}
+use Rattle.std.proofs.Math.Bool.{or-false}
+use Rattle.std.proofs.lemmas.Bool.{eqb-true, eq-eqb}
+use Rattle.std.proofs.lemmas.List.{drop_all, length-map, take_more, reverse-append}
 use Rattle.of_match.specs.Key.{key_number}
 use Rattle.flow_table.specs.declared.view.ViewRow.{ViewRow}
-use Rattle.flow_table.specs.View.{TableView}
-use Rattle.net_txn.specs.Views.{IsViewAt, IsRowPlace}
+use Rattle.flow_table.specs.ViewRows.{ViewRows}
+use Rattle.flow_table.specs.declared.view.TableView.{TableView as Lent}
+use Rattle.flow_table.specs.View.{plain, plains}
+use Rattle.flow_table.specs.laws.PlainLaws.{plains-read, plains-set}
+use Rattle.net_txn.specs.Views.{with_rows, is_viewed, IsViewAt, IsRowPlace}
+use Rattle.net_txn.specs.Undos.{switches_of}
+use Rattle.net_txn.specs.laws.ViewLaws.{with_rows-placed, IsViewAt-within}
 
 abbrev pub RowPlaces : ℕ → List ViewRow → ℕ → Type 0
 RowPlaces p rows i = (j : ℕ) → IsRowPlace p (drop i rows) j → IsRowPlace p rows (i + j)
 
-abbrev pub ViewPlaces : ℕ → List TableView → ℕ → Type 0
-ViewPlaces d views i = (j : ℕ) → IsViewAt d (drop i views) j → IsViewAt d views (i + j)
+abbrev pub ViewPlaces : ℕ → List Lent → ℕ → Type 0
+ViewPlaces d views i = (j : ℕ) → IsViewAt d (plains (drop i views)) j → IsViewAt d (plains views) (i + j)
 
 front : (X : Type 0) (xs : List X) (i : ℕ) (x : X) → i < length xs → x ≡ get_or xs i x → drop i xs ≡ x ∷ drop (i + 1) xs
 front X xs i x lt is =
@@ -37,14 +45,79 @@ rows_end p rows i is before =
     let same : i + 0 ≡ length rows = omega arith in
     subst (IsRowPlace p rows) same (before 0 here)
 
-pub views_more : (d : ℕ) (views : List TableView) (i : ℕ) (v : TableView) → i < length views → v ≡ get_or views i v → (v.dpid == d) ≡ false → ViewPlaces d views i → ViewPlaces d views (i + 1)
+pub views_more : (d : ℕ) (views : List Lent) (i : ℕ) (v : Lent) → i < length views → v ≡ get_or views i v → (v.dpid == d) ≡ false → ViewPlaces d views i → ViewPlaces d views (i + 1)
 views_more d views i v lt is other before j h =
-    let here : IsViewAt d (drop i views) (suc j) = subst (λ (xs : List TableView). IsViewAt d xs (suc j)) (sym (front TableView views i v lt is)) (other, h) in
+    let here : IsViewAt d (plains (drop i views)) (suc j) = subst (λ (xs : List Lent). IsViewAt d (plains xs) (suc j)) (sym (front Lent views i v lt is)) (other, h) in
     let same : i + suc j ≡ i + 1 + j = omega arith in
-    subst (IsViewAt d views) same (before (suc j) here)
+    subst (IsViewAt d (plains views)) same (before (suc j) here)
 
-pub views_stop : (d : ℕ) (views : List TableView) (i : ℕ) (v : TableView) → i < length views → v ≡ get_or views i v → v.dpid ≡ d → ViewPlaces d views i → IsViewAt d views i
+pub views_stop : (d : ℕ) (views : List Lent) (i : ℕ) (v : Lent) → i < length views → v ≡ get_or views i v → v.dpid ≡ d → ViewPlaces d views i → IsViewAt d (plains views) i
 views_stop d views i v lt is same_dpid before =
-    let here : IsViewAt d (drop i views) 0 = subst (λ (xs : List TableView). IsViewAt d xs 0) (sym (front TableView views i v lt is)) same_dpid in
+    let here : IsViewAt d (plains (drop i views)) 0 = subst (λ (xs : List Lent). IsViewAt d (plains xs) 0) (sym (front Lent views i v lt is)) same_dpid in
     let same : i + 0 ≡ i = omega arith in
-    subst (IsViewAt d views) same (before 0 here)
+    subst (IsViewAt d (plains views)) same (before 0 here)
+
+pub view_within : (d : ℕ) (views : List Lent) (i : ℕ) → IsViewAt d (plains views) i → i < length views
+view_within d views i is = subst (λ (n : ℕ). i < n) (length-map views plain) (IsViewAt-within d (plains views) i is)
+
+-- the rows of a view are changed
+pub rows_placed : (d : ℕ) (change : List ViewRow → List ViewRow) (views seen : List Lent) (i : ℕ) (v : Lent) (new : ViewRows) → seen ≡ views → IsViewAt d (plains seen) i → v ≡ get_or views i v → new.rows ≡ change v.rows.rows
+    → plains (set views i (record { dpid = v.dpid; rows = new })) ≡ with_rows d change (plains views)
+rows_placed d change views seen i v new e is at changed =
+    let same : plains seen ≡ plains views = ap (λ (vs : List Lent). plains vs) e in
+    let within : i < length views = subst (λ (vs : List Lent). i < length vs) e (view_within d seen i is) in
+    plains-set views i (record { dpid = v.dpid; rows = new }) ∙ with_rows-placed d change (plains views) (plains seen) i (plain v) new.rows same is (plains-read views i v within at) changed
+
+-- the list of a view has more room
+pub room_placed : (views : List Lent) (i : ℕ) (v : Lent) (new : ViewRows) → v ≡ get_or views i v → new.rows ≡ v.rows.rows → plains (set views i (record { dpid = v.dpid; rows = new })) ≡ plains views
+room_placed views i v new at same =
+    map-set_same plain views i (record { dpid = v.dpid; rows = new }) v (ap (λ (rows : List ViewRow). record { dpid = v.dpid; rows = rows }) same ∙ ap plain at)
+
+-- ---- One view more
+
+shown_more : (vs : List Lent) (v : Lent) → map (λ w. w.dpid) (plains (vs ++ v ∷ [])) ≡ map (λ w. w.dpid) (plains vs) ++ v.dpid ∷ []
+shown_more [] v = refl
+shown_more (w ∷ ws) v = ap (λ (ds : List ℕ). w.dpid ∷ ds) (shown_more ws v)
+
+taken : (vs : List Lent) (i : ℕ) (v : Lent) → i < length vs → v ≡ get_or vs i v → take (i + 1) vs ≡ take i vs ++ v ∷ []
+taken vs i v within is = take_more vs i v within ∙ ap (λ (w : Lent). take i vs ++ w ∷ []) (sym is)
+
+pub switches_more : (vs : List Lent) (i : ℕ) (v : Lent) → i < length vs → v ≡ get_or vs i v → switches_of (plains (take (i + 1) vs)) ≡ v.dpid ∷ switches_of (plains (take i vs))
+switches_more vs i v within is =
+    ap (λ (ws : List Lent). switches_of (plains ws)) (taken vs i v within is)
+    ∙ ap (λ (ds : List ℕ). reverse ds) (shown_more (take i vs) v)
+    ∙ reverse-append (map (λ w. w.dpid) (plains (take i vs))) (v.dpid ∷ [])
+
+or_one_more : (a b c : Bool) → (a || (b || c)) ≡ ((a || b) || c)
+or_one_more true b c = refl
+or_one_more false b c = refl
+
+viewed_last : (d : ℕ) (vs : List Lent) (v : Lent) → is_viewed d (plains (vs ++ v ∷ [])) ≡ (is_viewed d (plains vs) || (v.dpid == d))
+viewed_last d [] v = or-false (v.dpid == d)
+viewed_last d (w ∷ ws) v = ap (λ (later : Bool). w.dpid == d || later) (viewed_last d ws v) ∙ or_one_more (w.dpid == d) (is_viewed d (plains ws)) (v.dpid == d)
+
+one_of : (a b : Bool) → (a || b) ≡ true → (a ≡ true) ⊎ (b ≡ true)
+one_of true b is = inl refl
+one_of false b is = inr is
+
+-- a switch among the views up to one stands before it, or is its switch
+pub viewed_more : (d : ℕ) (vs : List Lent) (i : ℕ) (v : Lent) → i < length vs → v ≡ get_or vs i v → is_viewed d (plains (take (i + 1) vs)) ≡ true → (is_viewed d (plains (take i vs)) ≡ true) ⊎ (v.dpid ≡ d)
+viewed_more d vs i v within is viewed =
+    let either : (is_viewed d (plains (take i vs)) || (v.dpid == d)) ≡ true = sym (ap (λ (ws : List Lent). is_viewed d (plains ws)) (taken vs i v within is) ∙ viewed_last d (take i vs) v) ∙ viewed in
+    elim (one_of (is_viewed d (plains (take i vs))) (v.dpid == d) either) [
+      | inl before ↦ inl before
+      | inr here ↦ inr (eqb-true v.dpid d here)
+    ]
+
+-- a switch that has a view is known
+pub viewed_there : (vs : List Lent) (i : ℕ) (v : Lent) → i < length vs → v ≡ get_or vs i v → is_viewed v.dpid (plains vs) ≡ true
+viewed_there [] i v within is = absurd (omega arith)
+viewed_there (w ∷ ws) zero v within is = viewed_here w v (is_viewed v.dpid (plains ws)) is
+  where
+    viewed_here : (w v : Lent) (later : Bool) → v ≡ w → (w.dpid == v.dpid || later) ≡ true
+    viewed_here w v later same = let here : (w.dpid == v.dpid) ≡ true = eq-eqb w.dpid v.dpid (sym (ap (λ (x : Lent). x.dpid) same)) in rw here refl
+viewed_there (w ∷ ws) (suc i) v within is = viewed_later (w.dpid == v.dpid) (is_viewed v.dpid (plains ws)) (viewed_there ws i v (omega arith) is)
+  where
+    viewed_later : (here later : Bool) → later ≡ true → (here || later) ≡ true
+    viewed_later true later is = refl
+    viewed_later false later is = is

@@ -6,6 +6,7 @@ ghost use Rattle.of_wire.specs.declared.message.Message.TheVariants as messages;
 ghost use Rattle.of_wire.specs.Reading.{reading_of};
 ghost use Rattle.of_wire.specs.Spelling.{message_bytes};
 ghost use Rattle.of_wire.specs.Grammar.{IsMessage};
+ghost use Rattle.flow_table.specs.View.{plains};
 ghost use Rattle.outside.specs.declared.step.WorldStep.TheVariants.{Acted};
 ghost use Rattle.net_txn.specs.Causes.{IsLinkCause};
 ghost use Rattle.net_txn.specs.Views.{rows_at};
@@ -62,7 +63,7 @@ fn removed_event(
 ) -> Result<Option<Event>, AllocError>
     requires message { IsMessage message.now }
     requires same { message.now ≡ messages.FlowRemoved flow.now }
-    ensures { IfOk result (λ e. e ≡ event_of dpid views.now message.now) }
+    ensures { IfOk result (λ e. e ≡ event_of dpid (plains views.now) message.now) }
 {
     if tells(views, dpid, flow) {
         Ok(Some(event_with(alloc, EventKind::FlowRemoved, dpid, message)?))

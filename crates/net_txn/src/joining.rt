@@ -3,6 +3,7 @@
 ghost use Rattle.std.specs.Prelude.{◌≡◌, ◌<◌, ◌^◌, ◌++◌, [], ◌∷◌, None, IfOk, IfErr, OnOk, OnErr};
 ghost use Rattle.outside.specs.Seen.{Continues};
 ghost use Rattle.outside.specs.InOrder.{MessagesSince};
+ghost use Rattle.flow_table.specs.View.{plains};
 ghost use Rattle.net_txn.specs.declared.ports.KnownPorts.{KnownPorts};
 ghost use Rattle.net_txn.specs.LinkSteps.{OnLinks, AsksWithoutStrays};
 ghost use Rattle.net_txn.specs.Said.{Speaks};
@@ -36,7 +37,7 @@ fn greeted(dpid: Dpid, xid: Xid) -> Awaited
 
 /// Tells where the view of a switch goes.
 fn position_for(views: &[TableView], dpid: Dpid) -> usize
-    ensures { IsViewPlace dpid views.now result }
+    ensures { IsViewPlace dpid (plains views.now) result }
 {
     for (i, view) in views.iter().enumerate() {
         if dpid <= view.dpid {
@@ -48,8 +49,8 @@ fn position_for(views: &[TableView], dpid: Dpid) -> usize
 
 /// Puts an empty view among the others.
 fn put_view(alloc: Global, views: &mut Vec<TableView>, dpid: Dpid) -> Result<(), AllocError>
-    ensures ok { OnOk result (views.new.items ≡ with_view dpid views.old.items) }
-    ensures err { OnErr result (views.new.items ≡ views.old.items) }
+    ensures ok { OnOk result (plains views.new.items ≡ with_view dpid (plains views.old.items)) }
+    ensures err { OnErr result (plains views.new.items ≡ plains views.old.items) }
 {
     let at = position_for(views, dpid);
     let view = TableView {
@@ -79,9 +80,9 @@ fn admit(
     ports: &mut Vec<KnownPorts>,
     known: KnownPorts,
 ) -> Result<(), AllocError>
-    ensures views { OnOk result (views.new.items ≡ with_view known.dpid views.old.items) }
+    ensures views { OnOk result (plains views.new.items ≡ with_view known.dpid (plains views.old.items)) }
     ensures ports { OnOk result (ports.new.items ≡ ports.old.items ++ known ∷ []) }
-    ensures views_err { OnErr result (views.new.items ≡ views.old.items) }
+    ensures views_err { OnErr result (plains views.new.items ≡ plains views.old.items) }
     ensures ports_err { OnErr result (ports.new.items ≡ ports.old.items) }
 {
     let dpid = known.dpid;

@@ -2,6 +2,7 @@
 
 ghost use Rattle.std.specs.Prelude.{◌≡◌, ◌==◌, ◌++◌, not, filter, length, drop, IsSome, IfOk, OnOk, OnErr};
 ghost use Rattle.app_frames.specs.declared.frame.EventKind.TheVariants.{Leave};
+ghost use Rattle.flow_table.specs.View.{plains};
 ghost use Rattle.net_txn.specs.Views.{rows_at};
 ghost use Rattle.net_txn.specs.Leaving.{ports_at, port_text, ports_text, without};
 
@@ -62,7 +63,7 @@ fn known_text(alloc: Global, all: &[KnownPorts], dpid: Dpid) -> Result<ByteList,
 }
 
 fn forget_view(views: &mut Vec<TableView>, dpid: Dpid)
-    ensures { views.new.items ≡ filter (λ v. not (v.dpid == dpid)) views.old.items }
+    ensures { plains views.new.items ≡ filter (λ v. not (v.dpid == dpid)) (plains views.old.items) }
 {
     views.retain(|view| view.dpid != dpid);
 }

@@ -6,6 +6,7 @@ ghost use Rattle.of_types.specs.Fields.{number_bytes};
 ghost use Rattle.of_match.specs.Key.{key_number};
 ghost use Rattle.of_wire.specs.Grammar.{IsMessage};
 ghost use Rattle.flow_table.specs.Change.{asks_notice};
+ghost use Rattle.flow_table.specs.View.{plains};
 ghost use Rattle.app_frames.specs.declared.frame.EventKind.TheVariants as kinds;
 ghost use Rattle.net_txn.specs.Arriving.{key_removed, is_told, known_after, IsKnownAt, IsNoKnown, event_from};
 
@@ -57,7 +58,7 @@ fn has_asking(key: &Key, rows: &[ViewRow]) -> bool
 
 /// Tells whether the owner of a flow that was removed is told.
 pub(crate) fn tells(views: &[TableView], dpid: Dpid, flow: &FlowRemoved) -> bool
-    ensures { result ≡ is_told dpid views.now flow.now }
+    ensures { result ≡ is_told dpid (plains views.now) flow.now }
 {
     match find(views, dpid) {
         Some(view) if flow.reason != flows::DELETED => {

@@ -1,6 +1,7 @@
 //! The network of the host.
 
 ghost use Rattle.std.specs.Prelude.{◌≡◌, ◌≤◌, [], length, take, drop, slice_get, IfOk, OnOk, OnErr};
+ghost use Rattle.flow_table.specs.View.{plains};
 ghost use Rattle.net_txn.specs.Net.{awaited_from};
 ghost use Rattle.lego_model.specs.BarrierWaits.{next_xid};
 
@@ -35,12 +36,13 @@ pub struct Net {
 
 impl Model for Net {
     ghost use Rattle.std.specs.Prelude.{◌≡◌, ◌≤◌, vec_len};
+    ghost use Rattle.flow_table.specs.View.{plains};
     ghost use Rattle.net_txn.specs.Net.{NetState};
 
     ghost Value = { NetState };
 
     ghost view = { λ s. record {
-      views = s.views.items;
+      views = plains s.views.items;
       ports = s.ports.items;
       log = s.log.items;
       xid = s.xid;
@@ -91,7 +93,7 @@ impl Net {
 
     /// Returns the tables of the joined switches as the owner sees them, by switch ascending; takes no memory.
     pub fn views(&self) -> &[TableView]
-        ensures { result.now ≡ self.now.views }
+        ensures { plains result.now ≡ self.now.views }
     {
         &self.views
     }

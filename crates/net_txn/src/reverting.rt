@@ -1,8 +1,9 @@
 //! The inverses of a log, sent newest first.
 
-ghost use Rattle.std.specs.Prelude.{◌≡◌, ◌+◌, ◌^◌, ◌<◌, ◌≤◌, ℕ, true, false, List, [], ◌∷◌, length, drop, map, Option, is_err, slice_index_or, slice_set};
+ghost use Rattle.std.specs.Prelude.{◌≡◌, ◌==◌, ◌+◌, ◌^◌, ◌<◌, ◌≤◌, ℕ, true, false, List, [], ◌∷◌, length, drop, map, Option, is_err, slice_index_or, slice_set};
+ghost use Rattle.std.specs.List.{list_any};
 ghost use Rattle.outside.specs.Seen.{Seen};
-ghost use Rattle.flow_table.specs.View.{TableView};
+ghost use Rattle.flow_table.specs.View.{TableView as PlainView, plains};
 ghost use Rattle.lego_model.specs.declared.fault.TxnFault.{TxnFault};
 ghost use Rattle.outside.specs.Calls.{most_message};
 ghost use Rattle.net_txn.specs.declared.logged.Logged.{Logged};
@@ -27,11 +28,17 @@ use std::alloc::Global;
 /// How many inverses are sent to a switch before a barrier.
 const MOST_BEHIND_BARRIER: u32 = 4_096;
 
-/// Tells whether a switch has a view, so that it is joined.
-fn is_viewed(views: &[TableView], dpid: Dpid) -> bool
-    ensures { result ≡ is_viewed dpid views.now }
+fn has_view(views: &[TableView], dpid: Dpid) -> bool
+    ensures { result ≡ list_any (λ v. v.dpid == dpid) views.now }
 {
     views.iter().any(|view| view.dpid == dpid)
+}
+
+/// Tells whether a switch has a view, so that it is joined.
+fn is_viewed(views: &[TableView], dpid: Dpid) -> bool
+    ensures { result ≡ is_viewed dpid (plains views.now) }
+{
+    has_view(views, dpid)
 }
 
 /// Returns the log from a position on.
@@ -147,7 +154,7 @@ fn revert_to<W: World>(
 ) -> Result<(), Trouble>
     requires room { most_message ≤ length buf.old }
     requires place { at < length log.old }
-    ensures undoing { (base : Seen W.Own) (views : List TableView) (x : ℕ) (first : List (ℕ × List ℕ)) (fault : Option TxnFault) (e : Logged) →
+    ensures undoing { (base : Seen W.Own) (views : List PlainView) (x : ℕ) (first : List (ℕ × List ℕ)) (fault : Option TxnFault) (e : Logged) →
         let d = (slice_index_or log.old at e).dpid in
         let reverted = drop (at + 1) log.old in
         Further W.Tells views base (W.seen world.old) first kept.old x xid.old [] reverted fault → is_viewed d views ≡ true → (progress_of d reverted).failed ≡ false
@@ -168,8 +175,8 @@ fn revert_to<W: World>(
 
 /// Tells whether an inverse is sent to a switch: it is joined and has not failed.
 fn reverts(progress: UndoProgress, views: &[TableView], dpid: Dpid) -> bool
-    ensures yes { result ≡ true → (is_viewed dpid views.now ≡ true) × (progress.failed ≡ false) }
-    ensures no { result ≡ false → is_viewed dpid views.now ≡ true → progress.failed ≡ true }
+    ensures yes { result ≡ true → (is_viewed dpid (plains views.now) ≡ true) × (progress.failed ≡ false) }
+    ensures no { result ≡ false → is_viewed dpid (plains views.now) ≡ true → progress.failed ≡ true }
 {
     !progress.failed && is_viewed(views, dpid)
 }
@@ -189,8 +196,8 @@ pub(crate) fn revert<W: World>(
     requires place { at < length log.old }
     requires least { 1 ≤ xid.old }
     ensures undoing { (base : Seen W.Own) (x : ℕ) (first : List (ℕ × List ℕ)) (fault : Option TxnFault) (e : Logged) →
-        Further W.Tells views.now base (W.seen world.old) first kept.old x xid.old [] (drop (at + 1) log.old) fault
-        → Further W.Tells views.now base (W.seen world.new) first kept.new x xid.new [] (drop at log.new)
+        Further W.Tells (plains views.now) base (W.seen world.old) first kept.old x xid.old [] (drop (at + 1) log.old) fault
+        → Further W.Tells (plains views.now) base (W.seen world.new) first kept.new x xid.new [] (drop at log.new)
         (first_fault_of fault (fault_of (slice_index_or log.old at e).dpid result buf.new)) }
     ensures same { map key_logged log.new ≡ map key_logged log.old }
     ensures least { 1 ≤ xid.new }
@@ -231,7 +238,7 @@ pub(crate) fn await_switch<W: World>(
 ) -> Result<(), Trouble>
     requires room { most_message ≤ length buf.old }
     requires least { 1 ≤ xid.old }
-    ensures undoing { (base : Seen W.Own) (views : List TableView) (x : ℕ) (first : List (ℕ × List ℕ)) (switches : List ℕ) (fault : Option TxnFault) →
+    ensures undoing { (base : Seen W.Own) (views : List PlainView) (x : ℕ) (first : List (ℕ × List ℕ)) (switches : List ℕ) (fault : Option TxnFault) →
         Further W.Tells views base (W.seen world.old) first kept.old x xid.old switches log.old fault → is_viewed dpid views ≡ true
         → Further W.Tells views base (W.seen world.new) first kept.new x xid.new (dpid ∷ switches) log.new (first_fault_of fault (fault_of dpid result buf.new)) }
     ensures barred { HasPassedBarrier dpid log.new }

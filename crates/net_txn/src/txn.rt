@@ -1,6 +1,7 @@
 //! A transaction over the network: changes that are kept together or not at all.
 
 ghost use Rattle.std.specs.Prelude.{◌≡◌, ◌≤◌, [], length, take, IsOk, IfOk, IfErr};
+ghost use Rattle.flow_table.specs.View.{plains};
 ghost use Rattle.lego_model.specs.declared.fault.TxnFault.TheVariants.{NoMemory};
 ghost use Rattle.net_txn.specs.Changes.{Changes};
 ghost use Rattle.net_txn.specs.Undos.{Undoes};
@@ -33,7 +34,7 @@ impl<'a> Txn<'a> {
 
     /// Returns the tables of the joined switches as the owner sees them; takes no memory.
     pub fn views(&self) -> &[TableView]
-        ensures { result.now ≡ self.now.net.now.views }
+        ensures { plains result.now ≡ self.now.net.now.views }
     {
         self.net.views()
     }

@@ -3,7 +3,7 @@
 ghost use Rattle.std.specs.Prelude.{◌≡◌, ◌+◌, ◌<◌, ◌≤◌, ℕ, true, List, [], ◌∷◌, length, take, drop, map, Option, None, IsOk, vec_len};
 ghost use Rattle.lego_model.specs.declared.fault.TxnFault.{TxnFault};
 ghost use Rattle.outside.specs.Seen.{Seen};
-ghost use Rattle.flow_table.specs.View.{TableView};
+ghost use Rattle.flow_table.specs.View.{TableView as PlainView, plains};
 ghost use Rattle.net_txn.specs.declared.logged.Logged.{Logged};
 ghost use Rattle.net_txn.specs.Undos.{ended_by, without_keys, switches_of, Further, HasPassedBarrier, IsRoomLeft, key_logged};
 ghost use Rattle.net_txn.specs.Views.{is_viewed};
@@ -37,8 +37,8 @@ fn revert_noted<W: World>(
     requires least { 1 ≤ xid.old }
     requires room { fault.old ≡ None → 1 ≤ vec_len rooms.old }
     ensures undoing { (base : Seen W.Own) (first : List (ℕ × List ℕ)) (x : ℕ) →
-        Further W.Tells views.now base (W.seen world.old) first kept.old x xid.old [] (drop (at + 1) log.old) fault.old
-        → Further W.Tells views.now base (W.seen world.new) first kept.new x xid.new [] (drop at log.new) fault.new }
+        Further W.Tells (plains views.now) base (W.seen world.old) first kept.old x xid.old [] (drop (at + 1) log.old) fault.old
+        → Further W.Tells (plains views.now) base (W.seen world.new) first kept.new x xid.new [] (drop at log.new) fault.new }
     ensures same { map key_logged log.new ≡ map key_logged log.old }
     ensures least { 1 ≤ xid.new }
     ensures buf { length buf.new ≡ 65535 }
@@ -66,7 +66,7 @@ fn revert_all<W: World>(
     requires least { 1 ≤ xid.old }
     requires fault { fault.old ≡ None }
     requires room { 1 ≤ vec_len rooms.old }
-    ensures undoing { Further W.Tells views.now (W.seen world.old) (W.seen world.new) kept.old kept.new xid.old xid.new [] log.new fault.new }
+    ensures undoing { Further W.Tells (plains views.now) (W.seen world.old) (W.seen world.new) kept.old kept.new xid.old xid.new [] log.new fault.new }
     ensures same { map key_logged log.new ≡ map key_logged log.old }
     ensures least { 1 ≤ xid.new }
     ensures buf { length buf.new ≡ 65535 }
@@ -94,7 +94,7 @@ fn await_noted<W: World>(
     requires buf { length buf.old ≡ 65535 }
     requires least { 1 ≤ xid.old }
     requires room { fault.old ≡ None → 1 ≤ vec_len rooms.old }
-    ensures undoing { (base : Seen W.Own) (views : List TableView) (first : List (ℕ × List ℕ)) (switches : List ℕ) (x : ℕ) →
+    ensures undoing { (base : Seen W.Own) (views : List PlainView) (first : List (ℕ × List ℕ)) (switches : List ℕ) (x : ℕ) →
         Further W.Tells views base (W.seen world.old) first kept.old x xid.old switches log.old fault.old → is_viewed dpid views ≡ true
         → Further W.Tells views base (W.seen world.new) first kept.new x xid.new (dpid ∷ switches) log.new fault.new }
     ensures barred { HasPassedBarrier dpid log.new }
@@ -125,9 +125,9 @@ fn await_all<W: World>(
     requires buf { length buf.old ≡ 65535 }
     requires least { 1 ≤ xid.old }
     requires room { fault.old ≡ None → 1 ≤ vec_len rooms.old }
-    ensures undoing { (base : Seen W.Own) (first : List (ℕ × List ℕ)) (x : ℕ) → Further W.Tells views.now base (W.seen world.old) first kept.old x xid.old [] log.old fault.old
-        → Further W.Tells views.now base (W.seen world.new) first kept.new x xid.new (switches_of views.now) log.new fault.new }
-    ensures barred { (c : ℕ) → is_viewed c views.now ≡ true → HasPassedBarrier c log.new }
+    ensures undoing { (base : Seen W.Own) (first : List (ℕ × List ℕ)) (x : ℕ) → Further W.Tells (plains views.now) base (W.seen world.old) first kept.old x xid.old [] log.old fault.old
+        → Further W.Tells (plains views.now) base (W.seen world.new) first kept.new x xid.new (switches_of (plains views.now)) log.new fault.new }
+    ensures barred { (c : ℕ) → is_viewed c (plains views.now) ≡ true → HasPassedBarrier c log.new }
     ensures same { map key_logged log.new ≡ map key_logged log.old }
     ensures least { 1 ≤ xid.new }
     ensures buf { length buf.new ≡ 65535 }
@@ -140,7 +140,7 @@ fn await_all<W: World>(
 
 /// Takes the rows of logged keys out of the views; takes no memory.
 pub(crate) fn take_keys(alloc: Global, views: &mut Vec<TableView>, log: &[Logged])
-    ensures { views.new.items ≡ without_keys (map key_logged log.now) views.old.items }
+    ensures { plains views.new.items ≡ without_keys (map key_logged log.now) (plains views.old.items) }
 {
     for entry in log {
         remove_in(alloc, views, entry.dpid, &entry.key);
@@ -162,8 +162,8 @@ pub(crate) fn undo<W: World>(
     requires buf { length buf.old ≡ 65535 }
     requires least { 1 ≤ xid.old }
     requires room { 1 ≤ vec_len rooms.old }
-    ensures undoing { (fault : Option TxnFault) × (result ≡ ended_by fault) × Further W.Tells views.now (W.seen world.old) (W.seen world.new) kept.old kept.new xid.old xid.new (switches_of views.now) log.new fault }
-    ensures barred { (c : ℕ) → is_viewed c views.now ≡ true → HasPassedBarrier c log.new }
+    ensures undoing { (fault : Option TxnFault) × (result ≡ ended_by fault) × Further W.Tells (plains views.now) (W.seen world.old) (W.seen world.new) kept.old kept.new xid.old xid.new (switches_of (plains views.now)) log.new fault }
+    ensures barred { (c : ℕ) → is_viewed c (plains views.now) ≡ true → HasPassedBarrier c log.new }
     ensures same { map key_logged log.new ≡ map key_logged log.old }
     ensures least { 1 ≤ xid.new }
     ensures buf { length buf.new ≡ 65535 }
@@ -195,8 +195,8 @@ fn undo_part<W: World>(
     requires least { 1 ≤ xid.old }
     requires room { 1 ≤ vec_len rooms.old }
     ensures undoing { (fault : Option TxnFault) × (result ≡ ended_by fault)
-        × Further W.Tells views.now (W.seen world.old) (W.seen world.new) kept.old kept.new xid.old xid.new (switches_of views.now) (drop from log.new) fault }
-    ensures barred { (c : ℕ) → is_viewed c views.now ≡ true → HasPassedBarrier c (drop from log.new) }
+        × Further W.Tells (plains views.now) (W.seen world.old) (W.seen world.new) kept.old kept.new xid.old xid.new (switches_of (plains views.now)) (drop from log.new) fault }
+    ensures barred { (c : ℕ) → is_viewed c (plains views.now) ≡ true → HasPassedBarrier c (drop from log.new) }
     ensures same { map key_logged (drop from log.new) ≡ map key_logged (drop from log.old) }
     ensures front { take from log.new ≡ take from log.old }
     ensures least { 1 ≤ xid.new }
@@ -223,9 +223,9 @@ pub(crate) fn undo_log<W: World>(
     requires least { 1 ≤ xid.old }
     requires room { 1 ≤ vec_len rooms.old }
     ensures undoing { (fault : Option TxnFault) × (reverted : List Logged) × (result ≡ ended_by fault)
-        × Further W.Tells views.old.items (W.seen world.old) (W.seen world.new) kept.old kept.new xid.old xid.new (switches_of views.old.items) reverted fault
-        × ((c : ℕ) → is_viewed c views.old.items ≡ true → HasPassedBarrier c reverted) × (map key_logged reverted ≡ map key_logged (drop from log.old.items)) }
-    ensures views { views.new.items ≡ without_keys (map key_logged (drop from log.old.items)) views.old.items }
+        × Further W.Tells (plains views.old.items) (W.seen world.old) (W.seen world.new) kept.old kept.new xid.old xid.new (switches_of (plains views.old.items)) reverted fault
+        × ((c : ℕ) → is_viewed c (plains views.old.items) ≡ true → HasPassedBarrier c reverted) × (map key_logged reverted ≡ map key_logged (drop from log.old.items)) }
+    ensures views { plains views.new.items ≡ without_keys (map key_logged (drop from log.old.items)) (plains views.old.items) }
     ensures log { log.new.items ≡ take from log.old.items }
     ensures least { 1 ≤ xid.new }
     ensures buf { length buf.new ≡ 65535 }

@@ -1,6 +1,7 @@
 //! The views of the joined switches.
 
 ghost use Rattle.std.specs.Prelude.{◌≡◌, None, Some, MatchOption, OnOk, OnErr};
+ghost use Rattle.flow_table.specs.View.{plains};
 ghost use Rattle.net_txn.specs.Views.{rows_at, is_row_at, with_rows, with_row, with_added, IsViewAt};
 ghost use Rattle.net_txn.specs.Arriving.{without_key};
 
@@ -13,7 +14,7 @@ use std::mem::replace;
 
 /// Returns the view of a switch, while it is joined.
 pub(crate) fn find(views: &[TableView], dpid: Dpid) -> Option<&TableView>
-    ensures { MatchOption result (rows_at dpid views.now ≡ None) (λ v. rows_at dpid views.now ≡ Some v.now.rows) }
+    ensures { MatchOption result (rows_at dpid (plains views.now) ≡ None) (λ v. rows_at dpid (plains views.now) ≡ Some v.now.rows.rows) }
 {
     for view in views {
         if view.dpid == dpid {
@@ -25,7 +26,7 @@ pub(crate) fn find(views: &[TableView], dpid: Dpid) -> Option<&TableView>
 
 /// Tells whether a row of a switch has a key.
 pub(crate) fn is_row(views: &[TableView], dpid: Dpid, key: &Key) -> bool
-    ensures { result ≡ is_row_at dpid key.now views.now }
+    ensures { result ≡ is_row_at dpid key.now (plains views.now) }
 {
     match find(views, dpid) {
         None => false,
@@ -35,7 +36,7 @@ pub(crate) fn is_row(views: &[TableView], dpid: Dpid, key: &Key) -> bool
 
 /// Tells where the view of a switch stands.
 fn position(views: &[TableView], dpid: Dpid) -> Option<usize>
-    ensures { MatchOption result (rows_at dpid views.now ≡ None) (IsViewAt dpid views.now) }
+    ensures { MatchOption result (rows_at dpid (plains views.now) ≡ None) (IsViewAt dpid (plains views.now)) }
 {
     for (i, view) in views.iter().enumerate() {
         if view.dpid == dpid {
@@ -47,7 +48,7 @@ fn position(views: &[TableView], dpid: Dpid) -> Option<usize>
 
 /// Makes room for one row more.
 fn reserve(alloc: Global, rows: &mut ViewList) -> Result<(), AllocError>
-    ensures { rows.new ≡ rows.old }
+    ensures { rows.new.rows ≡ rows.old.rows }
 {
     let mut all = replace(rows, ViewList::new(alloc)).into_vec();
     let room = all.reserve(1);
@@ -57,8 +58,8 @@ fn reserve(alloc: Global, rows: &mut ViewList) -> Result<(), AllocError>
 
 /// Puts a row in its place.
 fn put(alloc: Global, rows: &mut ViewList, row: ViewRow) -> Result<(), AllocError>
-    ensures ok { OnOk result (rows.new ≡ with_row row rows.old) }
-    ensures err { OnErr result (rows.new ≡ rows.old) }
+    ensures ok { OnOk result (rows.new.rows ≡ with_row row rows.old.rows) }
+    ensures err { OnErr result (rows.new.rows ≡ rows.old.rows) }
 {
     let mut all = replace(rows, ViewList::new(alloc)).into_vec();
     let done = put_row(&mut all, row);
@@ -72,7 +73,7 @@ pub(crate) fn make_room(
     views: &mut Vec<TableView>,
     dpid: Dpid,
 ) -> Result<(), AllocError>
-    ensures { views.new.items ≡ views.old.items }
+    ensures { plains views.new.items ≡ plains views.old.items }
 {
     match position(views, dpid) {
         None => Ok(()),
@@ -87,8 +88,8 @@ fn put_in(
     dpid: Dpid,
     row: ViewRow,
 ) -> Result<(), AllocError>
-    ensures ok { OnOk result (views.new.items ≡ with_rows dpid (with_row row) views.old.items) }
-    ensures err { OnErr result (views.new.items ≡ views.old.items) }
+    ensures ok { OnOk result (plains views.new.items ≡ with_rows dpid (with_row row) (plains views.old.items)) }
+    ensures err { OnErr result (plains views.new.items ≡ plains views.old.items) }
 {
     match position(views, dpid) {
         None => Ok(()),
@@ -103,8 +104,8 @@ pub(crate) fn put_added(
     dpid: Dpid,
     row: Option<ViewRow>,
 ) -> Result<(), AllocError>
-    ensures ok { OnOk result (views.new.items ≡ with_rows dpid (with_added row) views.old.items) }
-    ensures err { OnErr result (views.new.items ≡ views.old.items) }
+    ensures ok { OnOk result (plains views.new.items ≡ with_rows dpid (with_added row) (plains views.old.items)) }
+    ensures err { OnErr result (plains views.new.items ≡ plains views.old.items) }
 {
     match row {
         None => Ok(()),
@@ -120,7 +121,7 @@ fn remove_key(rows: &mut Vec<ViewRow>, key: &Key)
 }
 
 fn remove(alloc: Global, rows: &mut ViewList, key: &Key)
-    ensures { rows.new ≡ without_key key.now rows.old }
+    ensures { rows.new.rows ≡ without_key key.now rows.old.rows }
 {
     let mut all = replace(rows, ViewList::new(alloc)).into_vec();
     remove_key(&mut all, key);
@@ -129,7 +130,7 @@ fn remove(alloc: Global, rows: &mut ViewList, key: &Key)
 
 /// Takes the row of a key out of the view of a switch.
 pub(crate) fn remove_in(alloc: Global, views: &mut Vec<TableView>, dpid: Dpid, key: &Key)
-    ensures { views.new.items ≡ with_rows dpid (without_key key.now) views.old.items }
+    ensures { plains views.new.items ≡ with_rows dpid (without_key key.now) (plains views.old.items) }
 {
     match position(views, dpid) {
         None => {}

@@ -1,15 +1,19 @@
 use Rattle.std.proofs.Common.{sym, arith}
-use Rattle.std.proofs.lemmas.Result.{on_ok_weaker}
+use Rattle.std.proofs.lemmas.Result.{on_ok_weaker, on_err_weaker}
 use Rattle.net_txn.specs.Views.{with_row}
-use Rattle.net_txn.specs.laws.ViewLaws.{with_rows-none, with_rows-placed, IsViewAt-within}
+use Rattle.net_txn.specs.laws.ViewLaws.{with_rows-none}
+use Rattle.net_txn.proofs.ViewPositions.{view_within, rows_placed, room_placed}
 use Rattle.net_txn.proofs.views.put_in.Goals as goal
 
 pub index_mut-requires : goal.index_mut-requires
-index_mut-requires c = omega (arith, IsViewAt-within c.args.dpid c.deref.result.now c.in-Some.at c.in-Some.ensures, c.deref.ensures.len)
+index_mut-requires c = omega (arith, view_within c.args.dpid c.deref.result.now c.in-Some.at c.in-Some.ensures, c.deref.ensures.len)
 
 pub returns-in-None-clause-ok : goal.returns-in-None-clause-ok
 returns-in-None-clause-ok c = sym (with_rows-none c.args.dpid (with_row c.args.row) _ (rw c.deref.ensures.value at c.in-None.ensures))
 
 pub returns-in-Some-clause-ok : goal.returns-in-Some-clause-ok
 returns-in-Some-clause-ok c =
-    on_ok_weaker c.put.result (λ put. with_rows-placed c.args.dpid (with_row c.args.row) _ c.deref.result.now c.in-Some.at c.index_mut.result.now c.put.new.rows c.deref.ensures.value c.in-Some.ensures c.index_mut.ensures.value put) c.put.ensures.ok
+    on_ok_weaker c.put.result (λ put. rows_placed c.args.dpid (with_row c.args.row) _ c.deref.result.now c.in-Some.at c.index_mut.result.now c.put.new.rows c.deref.ensures.value c.in-Some.ensures c.index_mut.ensures.value put) c.put.ensures.ok
+
+pub returns-in-Some-clause-err : goal.returns-in-Some-clause-err
+returns-in-Some-clause-err c = on_err_weaker c.put.result (λ kept. room_placed _ c.in-Some.at c.index_mut.result.now c.put.new.rows c.index_mut.ensures.value kept) c.put.ensures.err

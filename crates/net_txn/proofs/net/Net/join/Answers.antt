@@ -1,7 +1,9 @@
-use Rattle.std.proofs.Common.{rules, ◌≡◌, ℕ, [], ◌∷◌, ap, ◌∙◌}
+use Rattle.std.proofs.Common.{rules, ◌≡◌, ℕ, List, [], ◌∷◌, ap, ◌∙◌}
 use Rattle.std.proofs.lemmas.Result.{err_from_is_err_and}
 use Rattle.of_wire.specs.declared.message.Message.TheVariants.{FlowMod, SetConfig}
 use Rattle.of_wire.specs.Spelling.{message_bytes}
+use Rattle.flow_table.specs.declared.view.TableView.{TableView as Lent}
+use Rattle.flow_table.specs.View.{plains}
 use Rattle.flow_table.specs.Switch.{first_config}
 use Rattle.lego_model.specs.declared.wait.Awaited.{Awaited}
 use Rattle.lego_model.specs.BarrierWaits.{next_xid}
@@ -18,7 +20,7 @@ returns-in_err-admit-clause-err g c =
     let p = err_from_is_err_and c.from_residual-in_err-admit.result c.from_residual-in_err-admit.ensures.1 in
     let v = c.self.view_is in
     rw p.1 (record {
-      views = c.in_err-admit.ensures.views_err ∙ c.reserve.ensures.items ∙ ap (λ (n : NetState). n.views) v;
+      views = c.in_err-admit.ensures.views_err ∙ ap (λ (vs : List Lent). plains vs) c.reserve.ensures.items ∙ ap (λ (n : NetState). n.views) v;
       known = c.in_err-admit.ensures.ports_err ∙ c.reserve-2.ensures.items ∙ ap (λ (n : NetState). n.ports) v;
       kept = kept_for c.args.dpid c.greeted-awaited.result.dpid _ c.args.self.now.kept c.greet.new.kept (ap (λ (a : Awaited). a.dpid) c.greeted-awaited.ensures) (ap (λ (n : NetState). n.kept) v) (waits_kept (talks_waits (c.as_slice.result.now ∷ c.as_slice-2.result.now ∷ []) c.in_ok-greet.ensures));
     })
@@ -40,7 +42,7 @@ returns-in_err-greet-clause-err g c =
     let p = err_from_is_err_and c.from_residual-in_err-greet.result c.from_residual-in_err-greet.ensures.1 in
     let v = c.self.view_is in
     rw p.1 (record {
-      views = c.reserve.ensures.items ∙ ap (λ (n : NetState). n.views) v;
+      views = ap (λ (vs : List Lent). plains vs) c.reserve.ensures.items ∙ ap (λ (n : NetState). n.views) v;
       known = c.reserve-2.ensures.items ∙ ap (λ (n : NetState). n.ports) v;
       kept = kept_for c.args.dpid c.greeted-awaited.result.dpid _ c.args.self.now.kept c.greet.new.kept (ap (λ (a : Awaited). a.dpid) c.greeted-awaited.ensures) (ap (λ (n : NetState). n.kept) v) (talks_kept c.in_err-greet.ensures);
     })

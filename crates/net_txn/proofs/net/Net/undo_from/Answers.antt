@@ -1,6 +1,7 @@
 use Rattle.std.proofs.Common.{◌≡◌, List, take, drop, refl, subst}
 use Rattle.std.specs.Prelude.{vec_len}
 use Rattle.net_txn.specs.declared.logged.Logged.{Logged}
+use Rattle.flow_table.specs.View.{plains}
 use Rattle.net_txn.specs.Net.{NetState}
 use Rattle.net_txn.specs.Undos.{Undoes}
 use Rattle.net_txn.specs.laws.WholeLaws.{undoes}
@@ -11,8 +12,8 @@ returns g c =
     let s = c.self.inside in
     let u = c.undo_log.ensures in
     let n = c.undo_log.new in
-    let net : NetState = record { views = s.views.items; ports = s.ports.items; log = s.log.items; xid = s.xid; moment = s.moment; kept = s.kept; room = vec_len s.rooms } in
-    let later : NetState = record { views = n.views.items; ports = s.ports.items; log = n.log.items; xid = n.xid; moment = s.moment; kept = n.kept; room = vec_len n.rooms } in
+    let net : NetState = record { views = plains s.views.items; ports = s.ports.items; log = s.log.items; xid = s.xid; moment = s.moment; kept = s.kept; room = vec_len s.rooms } in
+    let later : NetState = record { views = plains n.views.items; ports = s.ports.items; log = n.log.items; xid = n.xid; moment = s.moment; kept = n.kept; room = vec_len n.rooms } in
     let front = subst (λ (xs : List Logged). take c.place_in-from.result xs ≡ take c.args.start xs) c.deref.ensures.value c.place_in-from.ensures.front in
     let rest = subst (λ (xs : List Logged). drop c.place_in-from.result xs ≡ drop c.args.start xs) c.deref.ensures.value c.place_in-from.ensures.rest in
     let p = u.undoing in
