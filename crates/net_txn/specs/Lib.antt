@@ -9,6 +9,7 @@ pub mod Leaving
 pub mod Arriving
 pub mod Agrees
 pub mod Changes
+pub mod Releases
 pub mod Agreement
 pub mod Undos
 pub mod Said
