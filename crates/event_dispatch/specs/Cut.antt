@@ -2,7 +2,7 @@
 -- which goes on with the dialogue with the application and leaves no quiescent point behind it. All of this is our own.
 use Rattle.std.specs.Prelude.{◌≡◌, ℕ, ◌≤◌, ◌⊎◌, Bool, true, List, [], Option, Result, Ok, Err}
 use Rattle.lego_io.specs.Sink.{TookPart}
-use Rattle.flow_table.specs.declared.view.TableView.{TableView}
+use Rattle.flow_table.specs.View.{TableView}
 use Rattle.outside.specs.Seen.{Seen, Continues}
 use Rattle.outside.specs.Conforming.{Conforming}
 use Rattle.outside.specs.InOrder.{InOrder, BringMessages, MessagesSince}

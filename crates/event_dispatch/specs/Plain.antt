@@ -2,7 +2,7 @@
 -- that failed, by the sink, by what comes next, by events that are left, or for want of memory. All of this is our own.
 use Rattle.std.specs.Prelude.{◌≡◌, ℕ, ◌<◌, Bool, List, [], length, IsOk}
 use Rattle.of_wire.specs.Reading.{reading_of}
-use Rattle.flow_table.specs.declared.view.TableView.{TableView}
+use Rattle.flow_table.specs.View.{TableView}
 use Rattle.lego_model.specs.Places.{Place}
 use Rattle.outside.specs.declared.step.WorldStep.{WorldStep}
 use Rattle.outside.specs.Seen.{Seen}

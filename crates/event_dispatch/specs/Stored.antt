@@ -1,6 +1,6 @@
 -- The checkpoints of the application over a turn: what it staged, and what is kept then. All of this is our own.
 use Rattle.std.specs.Prelude.{◌≡◌, ℕ, Bool, List, length, Result, Ok, Err, unwrap_or}
-use Rattle.flow_table.specs.declared.view.TableView.{TableView}
+use Rattle.flow_table.specs.View.{TableView}
 use Rattle.app_frames.specs.declared.frame.Event.{Event}
 use Rattle.outside.specs.Seen.{Seen}
 use Rattle.net_txn.specs.Net.{NetState}

@@ -1,7 +1,7 @@
 -- An item that was told and that the engine has not handled yet: what is so of the switches and of the views between the two. All of this is
 -- our own.
 use Rattle.std.specs.Prelude.{◌≡◌, ◌==◌, ◌⊎◌, ℕ, Bool, true, false, List, [], Option, None}
-use Rattle.flow_table.specs.declared.view.TableView.{TableView}
+use Rattle.flow_table.specs.View.{TableView}
 use Rattle.outside.specs.declared.step.WorldStep.{WorldStep}
 use Rattle.outside.specs.declared.step.WorldStep.TheVariants.{From, Joined, Left}
 use Rattle.outside.specs.Seen.{Seen}

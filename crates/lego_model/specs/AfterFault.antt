@@ -1,14 +1,17 @@
 -- What a fault leaves of the tables of switches, behind the last quiescent point: the turn in flight is undone, switch by switch. All of
 -- this is our own but for the messages of OpenFlow 1.0.0.
-use Rattle.std.specs.Prelude.{◌≡◌, ◌⊎◌, ℕ, Bool, true, false, List, [], ◌∷◌, ◌++◌, Option, Some, None, IsErr}
+use Rattle.std.specs.Prelude.{◌≡◌, ◌⊎◌, ℕ, Bool, true, false, List, [], ◌∷◌, ◌++◌, fold, ◌==◌, Option, Some, None, IsErr, if◌then◌else◌}
 use Rattle.std.specs.List.{AllByRecursion}
+use Rattle.std.specs.Option.{option_map}
 use Rattle.lego_io.specs.Count.{Rose}
 use Rattle.of_types.specs.Fields.{number_at}
 use Rattle.of_types.specs.declared.journal.Act.{Act}
 use Rattle.of_types.specs.declared.journal.Act.TheVariants.{Got, Gave}
 use Rattle.of_match.specs.declared.key.Key.{Key}
+use Rattle.of_wire.specs.declared.message.Message.TheVariants.{PacketOut}
 use Rattle.of_wire.specs.Reading.{reading_of}
 use Rattle.flow_table.specs.Switch.{SwitchState}
+use Rattle.flow_table.specs.Step.{after_message}
 use Rattle.app_frames.specs.declared.frame.Answer.{Answer}
 use Rattle.app_frames.specs.declared.frame.Answer.TheVariants.{Unknown}
 use Rattle.outside.specs.declared.step.WorldStep.{WorldStep}
@@ -21,7 +24,8 @@ use Rattle.lego_model.specs.Application.{index, budget}
 use Rattle.lego_model.specs.AtOnce.{Passes, AtOnce}
 use Rattle.lego_model.specs.BarrierWaits.{flood}
 use Rattle.lego_model.specs.History.{own_acts}
-use Rattle.lego_model.specs.Journal.{is_event, reply_of}
+use Rattle.lego_model.specs.Journal.{is_event, reply_of, released}
+use Rattle.lego_model.specs.Packets.{Held}
 use Rattle.lego_model.specs.SwitchFaults.{Happened, SentThenGot, IsFlood}
 use Rattle.lego_model.specs.UndoFaults.{inverse_bytes, WasSent, HasCause, IsStepOf, GoesWithoutStrays}
 use Rattle.lego_model.specs.Turns.{Outcome, Completed, Failed, Table, turn_of}
@@ -126,9 +130,26 @@ pub record TurnKept {Own : Type 0} (old new : Seen Own) : Type 0 where
   pub later : Longer mid.history new.history
   pub stay : SwitchesStay mid new
 
+-- ---- Its packets were being released
+
+-- a switch after these packets, those for other switches passed over
+abbrev pub after_packets : ℕ → List Held → SwitchState → SwitchState
+after_packets d packets s = fold (λ t held. if held.0 == d then after_message (PacketOut held.1) t else t) s packets
+
+-- It had a whole turn since then, whose release was begun. Each switch moved by the packets that were sent to it behind that, and by nothing
+-- else, so that its changes stay.
+pub record TurnReleasing {Own : Type 0} (old new : Seen Own) : Type 0 where
+  pub mid : Seen Own
+  pub given : new.given ≡ mid.given
+  pub done : TurnDone old mid
+  pub first : WorldStep
+  pub steps : List WorldStep
+  pub history : new.history ≡ mid.history ++ first ∷ steps
+  pub moved : (d : ℕ) → switch_of d (state new) ≡ option_map (after_packets d (released (journal (first ∷ steps)))) (switch_of d (state mid))
+
 -- ---- What is left
 
 -- No event was given since then; or its turn was undone on each switch that did not fail in the undo; or, where memory may have been wanting
--- behind it, the turn was whole, and its changes stay.
+-- behind it, the turn was whole, and its changes stay; or its packets were being released.
 abbrev pub TablesLeft : {Own : Type 0} → Type 0 → Seen Own → Seen Own → Type 0
-TablesLeft Short old new = NoEventSince old new ⊎ UndoneButFailed (Unit {0}) old new ⊎ (Short × TurnKept old new)
+TablesLeft Short old new = NoEventSince old new ⊎ UndoneButFailed (Unit {0}) old new ⊎ (Short × TurnKept old new) ⊎ TurnReleasing old new

@@ -12,8 +12,9 @@ use Rattle.of_action.specs.declared.fault.ActionKind.{ActionKind}
 use Rattle.of_action.specs.declared.fault.ActionKind.TheVariants as action_kinds
 use Rattle.of_action.specs.Spelling.{list_size}
 use Rattle.of_wire.specs.declared.bodies.FlowMod.{FlowMod as FlowModBody}
+use Rattle.of_wire.specs.declared.bodies.PacketOut.{PacketOut as PacketOutBody}
 use Rattle.of_wire.specs.declared.message.Message.{Message}
-use Rattle.of_wire.specs.declared.message.Message.TheVariants.{FlowMod, StatsRequest, BarrierRequest}
+use Rattle.of_wire.specs.declared.message.Message.TheVariants.{FlowMod, PacketOut, StatsRequest, BarrierRequest}
 use Rattle.of_wire.specs.declared.message.Envelope.{Envelope}
 use Rattle.of_wire.specs.declared.fault.WireFault.{WireFault}
 use Rattle.of_wire.specs.declared.fault.WireFault.TheVariants.{BadVersion, BadType, BadLength, BadAction, NoMemory}
@@ -86,12 +87,17 @@ flow_mod_refused m =
     else if is_delete m then None
     else addition_refused m
 
+-- what stands against a packet (5.3.6 Send Packet Message): a buffer, or an action
+unfoldable pub packet_refused : PacketOutBody → Option OfError
+packet_refused m = if not (m.buffer_id == no_buffer) then Some buffer_unknown else unknown_action m.actions
+
 -- Entries that are there already stay as they are for now, and statistics are not given yet.
 abbrev pub not_yet : Bool → Option OfError
 not_yet refused = if refused then Some bad_type else None
 
 unfoldable pub host_refusal : Rows → Message → Option OfError
 host_refusal rows (FlowMod m) = or_else (flow_mod_refused m) (not_yet (would_touch m rows))
+host_refusal rows (PacketOut m) = packet_refused m
 host_refusal rows (StatsRequest m) = or_else (stats_refusal m) (Some bad_type)
 host_refusal rows BarrierRequest = None
 host_refusal rows other = Some bad_type
@@ -105,10 +111,11 @@ abbrev pub as_sent : Message → Message
 as_sent (FlowMod m) = FlowMod (record m { buffer_id = no_buffer; flags = with_notice m.flags })
 as_sent other = other
 
--- ---- The answer of the host, where it gives one: with nothing sent
+-- ---- The answer of the host, where it gives one: with nothing sent. A packet is held until the turn completes.
 
 abbrev pub host_answer_to : Rows → Message → Option Answer
 host_answer_to rows BarrierRequest = Some Fine
+host_answer_to rows (PacketOut m) = Some Fine
 host_answer_to rows other = None
 
 abbrev pub refused_or : Option OfError → Option Answer → Option Answer

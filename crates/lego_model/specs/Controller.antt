@@ -1,7 +1,7 @@
 -- The reference controller: it runs stimuli over whole switches, gives each event to the applications that are alive, and never sees a
 -- turn that failed. It has no inverse message, no cache, and sends nothing for the purpose of undoing. Events are made of what switches
 -- send (OpenFlow 1.0.0, 5.4 Asynchronous Messages); all else is our own choice.
-use Rattle.std.specs.Prelude.{◌==◌, ℕ, zero, suc, ◌+◌, ◌/◌, ◌%◌, ◌&&◌, Bool, true, false, not, List, [], ◌∷◌, ◌++◌, map, filter_map, fold, drop, Option, Some, None, Result, Ok, Err, is_some, unwrap_or, if◌then◌else◌}
+use Rattle.std.specs.Prelude.{◌==◌, ℕ, zero, suc, ◌+◌, ◌/◌, ◌%◌, ◌&&◌, Bool, true, false, not, List, [], ◌∷◌, ◌++◌, map, filter_map, fold, drop, length, Option, Some, None, Result, Ok, Err, is_some, unwrap_or, if◌then◌else◌}
 use Rattle.std.specs.List.{flat_map, list_any}
 use Rattle.std.specs.Option.{option_map}
 use Rattle.of_types.specs.declared.port_desc.PortDesc.{PortDesc}
@@ -10,13 +10,13 @@ use Rattle.of_types.specs.declared.journal.Stimulus.TheVariants.{Advance}
 use Rattle.of_types.specs.declared.journal.WorldStim.{WorldStim}
 use Rattle.of_types.specs.declared.journal.WorldStim.TheVariants.{Join, Leave, At, Of}
 use Rattle.of_wire.specs.declared.message.Message.{Message}
-use Rattle.of_wire.specs.declared.message.Message.TheVariants.{Error, PacketIn, FlowRemoved, PortStatus}
+use Rattle.of_wire.specs.declared.message.Message.TheVariants.{Error, PacketIn, PacketOut, FlowRemoved, PortStatus}
 use Rattle.of_wire.specs.declared.message.Envelope.{Envelope}
 use Rattle.of_wire.specs.declared.fault.WireFault.{WireFault}
 use Rattle.of_wire.specs.Reading.{reading_of}
 use Rattle.of_wire.specs.Spelling.{message_bytes, ports_bytes}
 use Rattle.flow_table.specs.Switch.{Declared, SwitchState, joined_at, features_reply, port_desc}
-use Rattle.flow_table.specs.Step.{after_stimulus, sent_by_stimulus}
+use Rattle.flow_table.specs.Step.{after_message, sent_by_message, after_stimulus, sent_by_stimulus}
 use Rattle.app_frames.specs.declared.frame.Event.{Event}
 use Rattle.app_frames.specs.declared.frame.EventKind.TheVariants as events
 use Rattle.app_frames.specs.declared.frame.HostFrame.TheVariants as host
@@ -26,7 +26,8 @@ use Rattle.app_frames.specs.declared.cause.Tried.TheVariants as tried
 use Rattle.app_frames.specs.Spelling.{host_bytes}
 use Rattle.lego_model.specs.Journal.{Reply, Start, Untold}
 use Rattle.lego_model.specs.Turns.{Outcome, Completed, Failed, Table, turn_of, outcome_of}
-use Rattle.lego_model.specs.Places.{Place, answer, undone_places}
+use Rattle.lego_model.specs.Places.{Place, switch_at, with_place, undone_places}
+use Rattle.lego_model.specs.Packets.{Held, Play, fresh_play, play}
 use Rattle.outside.specs.State.{Mark, moment_after, is_event}
 
 -- ---- Events
@@ -172,6 +173,8 @@ pub data Line : Type 0 where
   IsGone : ℕ → Line
   Dispatched : ℕ → Event → Line
   Ended : ℕ → Outcome → Line
+  -- a packet was released to a switch, with so many bytes
+  Out : ℕ → ℕ → Line
 
 pub record Run : Type 0 where
   pub moment : ℕ
@@ -180,6 +183,8 @@ pub record Run : Type 0 where
   pub events : ℕ
   pub apps : List App
   pub lines : List Line
+  -- the packets that were released, in order
+  pub released : List Held
   pub marks : List Mark
 
 abbrev pub reference_mark : Option ℕ → List Place → Mark
@@ -188,8 +193,8 @@ reference_mark event ps = record { event = event; switches = map (λ p. p.switch
 -- ---- A turn
 
 -- the frames of an application are played on the switches; the judge sees what is joined
-abbrev pub table_of : (List Place → Bool) → Table (List Place)
-table_of allows = record { answer = answer; allows = allows }
+abbrev pub table_of : (List Place → Bool) → Table Play
+table_of allows = record { answer = play; allows = λ p. allows p.places }
 
 abbrev pub answer_frame : Answer → List ℕ
 answer_frame a = host_bytes (host.Answer a)
@@ -208,10 +213,35 @@ abbrev pub after_outcome : Outcome → App → App × List Tried
 after_outcome (Completed stop checkpoint rest) a = (record a { rest = rest; kept = unwrap_or checkpoint a.kept; done = a.done + 1 }, [])
 after_outcome (Failed cause) a = started attempts (record a { rest = []; failed = a.failed + 1 })
 
--- A turn that completed leaves what it did, and one that failed what an undo gives back.
-abbrev pub places_by : Outcome → List Place → List Place → List Place
-places_by (Completed stop checkpoint rest) before after = after
-places_by (Failed cause) before after = undone_places before after
+-- ---- The release (5.3.6 Send Packet Message): each packet that is held goes to its switch, while that is joined, and what the switch
+-- sends then becomes events
+
+pub record Release : Type 0 where
+  pub places : List Place
+  pub events : List Event
+  pub packets : List Held
+
+abbrev pub none_released : List Place → Release
+none_released places = record { places = places; events = []; packets = [] }
+
+abbrev pub release_at : Option SwitchState → Release → Held → Release
+release_at None r held = r
+release_at (Some s) r held = record {
+  places = with_place held.0 (λ o. Some (after_message (PacketOut held.1) s)) r.places;
+  events = r.events ++ events_of held.0 (sent_by_message 0 (PacketOut held.1) s);
+  packets = r.packets ++ held ∷ [];
+}
+
+abbrev pub release_one : Release → Held → Release
+release_one r held = release_at (switch_at held.0 r.places) r held
+
+unfoldable pub release : List Place → List Held → Release
+release places held = fold release_one (none_released places) held
+
+-- A turn that completed leaves what it did, and its packets are released; one that failed leaves what an undo gives back.
+abbrev pub release_by : Outcome → List Place → Play → Release
+release_by (Completed stop checkpoint rest) before after = release after.places after.held
+release_by (Failed cause) before after = none_released (undone_places before after.places)
 
 abbrev pub gone_line : ℕ → Bool → List Line
 gone_line i true = []
@@ -221,9 +251,9 @@ abbrev pub restart_lines : ℕ → Outcome → App × List Tried → List Line
 restart_lines i (Completed stop checkpoint rest) a = []
 restart_lines i (Failed cause) a = map (Started i) a.1 ++ gone_line i a.0.alive
 
--- what a turn leaves: the switches, the application with the attempts to start it again, and how it ended
+-- what a turn leaves: the switches, with what was released, the application with the attempts to start it again, and how it ended
 pub record Turned : Type 0 where
-  pub places : List Place
+  pub release : Release
   pub app : App × List Tried
   pub outcome : Outcome
   pub given : Bool
@@ -231,13 +261,17 @@ pub record Turned : Type 0 where
 unfoldable pub turn : (List Place → Bool) → ℕ → ℕ → Event → List Place → App → Turned
 turn allows number moment event ps a =
     let reply = next_reply a.replies in
-    let played = turn_of (table_of allows) a.budget a.rest reply ps in
+    let played = turn_of (table_of allows) a.budget a.rest reply (fresh_play ps) in
     record {
-      places = places_by played.outcome ps played.state;
+      release = release_by played.outcome ps played.state;
       app = after_outcome played.outcome (record a { replies = drop 1 a.replies; inputs = a.inputs ++ given_in reply.given (event_frame number moment event) played.answers });
       outcome = played.outcome;
       given = reply.given;
     }
+
+-- a packet is told with its switch and how many bytes it has
+abbrev pub out_lines : List Held → List Line
+out_lines packets = map (λ held. Out held.0 (length held.1.payload)) packets
 
 abbrev pub says_stop : Outcome → Bool
 says_stop (Completed stop checkpoint rest) = stop
@@ -259,8 +293,10 @@ given_to allows event i (a ∷ more) run =
     if a.alive then
     (let turned = turn allows run.events run.moment event run.places a in
     let next = record run {
-      places = turned.places;
-      lines = run.lines ++ Ended i turned.outcome ∷ restart_lines i turned.outcome turned.app;
+      places = turned.release.places;
+      queue = run.queue ++ turned.release.events;
+      lines = run.lines ++ Ended i turned.outcome ∷ out_lines turned.release.packets ++ restart_lines i turned.outcome turned.app;
+      released = run.released ++ turned.release.packets;
       marks = marked turned.given run.events run.places run.marks;
     } in
     if says_stop turned.outcome then (turned.app.0 ∷ more, next)
@@ -274,17 +310,25 @@ dispatch allows event run =
     let done = given_to allows event 0 numbered.apps numbered in
     record done.1 { apps = done.0 }
 
--- the events of the queue, first in first out, up to so many
-abbrev pub settle_first : (List Place → Bool) → ℕ → List Event → Run → Run
-settle_first allows zero queue run = record run { queue = queue }
-settle_first allows (suc n) [] run = record run { queue = [] }
-settle_first allows (suc n) (event ∷ queue) run = settle_first allows n queue (dispatch allows event run)
+-- the oldest event that waits is dispatched, where there is one
+abbrev pub next_dispatched : (List Place → Bool) → List Event → Run → Run
+next_dispatched allows [] r = r
+next_dispatched allows (event ∷ queue) r = dispatch allows event (record r { queue = queue })
+
+abbrev pub dispatch_next : (List Place → Bool) → Run → Run
+dispatch_next allows r = next_dispatched allows r.queue r
+
+-- so often
+abbrev pub times : ℕ → (Run → Run) → Run → Run
+times zero f r = r
+times (suc n) f r = times n f (f r)
 
 abbrev pub per_batch : ℕ
 per_batch = 1000
 
+-- the events that wait, first in first out, those that join them meanwhile included, up to so many
 unfoldable pub settle : (List Place → Bool) → Run → Run
-settle allows run = settle_first allows per_batch run.queue run
+settle allows run = times per_batch (dispatch_next allows) run
 
 -- ---- The whole
 
@@ -314,6 +358,7 @@ at_first declared apps =
       events = 0;
       apps = begun.0;
       lines = begun.1;
+      released = [];
       marks = [];
     }
 

@@ -6,8 +6,9 @@ use Rattle.of_types.specs.declared.journal.Act.{Act}
 use Rattle.of_types.specs.declared.journal.WorldStim.{WorldStim}
 use Rattle.outside.specs.Seen.{Seen, journal}
 use Rattle.outside.specs.State.{Mark, mark_of, state}
-use Rattle.lego_model.specs.Journal.{is_of, inputs, stimuli, Reply, Start, Attempt, in_attempts, in_turns, start_of, reply_of}
+use Rattle.lego_model.specs.Journal.{is_of, inputs, stimuli, released, Reply, Start, Attempt, in_attempts, in_turns, start_of, reply_of}
 use Rattle.lego_model.specs.Application.{index}
+use Rattle.lego_model.specs.Packets.{Held}
 
 -- ---- The application
 
@@ -31,6 +32,10 @@ abbrev pub given_in : {Own : Type 0} → Seen Own → List (List ℕ)
 given_in seen = inputs index (journal seen.history)
 
 -- ---- The world
+
+-- the packets that were released, each with its switch
+abbrev pub released_of : {Own : Type 0} → Seen Own → List Held
+released_of seen = released (journal seen.history)
 
 -- the stimuli that happened
 abbrev pub stimuli_in : {Own : Type 0} → Seen Own → List WorldStim

@@ -6,6 +6,7 @@ pub mod SessionText
 pub mod Journal
 pub mod Turns
 pub mod Places
+pub mod Packets
 pub mod Controller
 pub mod Agreement
 pub mod RunReport

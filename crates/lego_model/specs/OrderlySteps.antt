@@ -1,9 +1,8 @@
--- Steps that are in order: no call of a link failed, nor one for what comes next, no packet was released, and the calls for applications
--- are of one, whose bytes are taken up to 65,536 at once. All of this is our own.
-use Rattle.std.specs.Prelude.{◌≡◌, ℕ, None}
+-- Steps that are in order: no call of a link failed, nor one for what comes next, and the calls for applications are of one, whose bytes are
+-- taken up to 65,536 at once. All of this is our own.
+use Rattle.std.specs.Prelude.{◌≡◌, ℕ}
 use Rattle.of_types.specs.declared.journal.Act.{Act}
 use Rattle.of_types.specs.declared.journal.Act.TheVariants.{Stim, Started, Gave, Gone, Took, Ended, Sent, Got}
-use Rattle.lego_model.specs.Journal.{released_in}
 use Rattle.outside.specs.declared.step.WorldStep.{WorldStep}
 use Rattle.outside.specs.declared.step.WorldStep.TheVariants.{Acted, TookInto, NotOpened, NextFailed, SendFailed, RecvFailed}
 
@@ -14,7 +13,7 @@ IsOrderlyAct app (Gave of bytes) = of ≡ app
 IsOrderlyAct app (Gone of bytes) = of ≡ app
 IsOrderlyAct app (Took of what) = of ≡ app
 IsOrderlyAct app (Ended of) = of ≡ app
-IsOrderlyAct app (Sent d bytes) = released_in (Sent d bytes) ≡ None
+IsOrderlyAct app (Sent d bytes) = Unit {0}
 IsOrderlyAct app (Got d bytes) = Unit {0}
 
 abbrev pub IsOrderly : ℕ → WorldStep → Type 0

@@ -5,9 +5,10 @@ use Rattle.flow_table.specs.Switch.{Declared}
 use Rattle.lego_model.specs.Journal.{Reply, Start}
 use Rattle.lego_model.specs.Places.{Place}
 use Rattle.lego_model.specs.Scripted.{AreFronts, AreStartFronts}
-use Rattle.lego_model.specs.Controller.{App, Run, reference_mark, start_all, reference, dispatch, settle, happen}
+use Rattle.lego_model.specs.Controller.{App, Run, reference_mark, start_all, reference, settle, happen}
+pub use Rattle.lego_model.specs.Controller.{dispatch_next, times}
 use Rattle.outside.specs.Seen.{Seen}
-use Rattle.lego_model.specs.History.{starts_in, replies_in, own_acts, stimuli_in, given_in, points_in, last_point}
+use Rattle.lego_model.specs.History.{starts_in, replies_in, own_acts, stimuli_in, given_in, released_of, points_in, last_point}
 use Rattle.lego_model.specs.Agreement.{AgreeMarks}
 use Rattle.lego_model.specs.Application.{budget, names}
 use Rattle.of_types.specs.declared.journal.WorldStim.{WorldStim}
@@ -28,6 +29,7 @@ before_start declared a = record {
   events = 0;
   apps = a ∷ [];
   lines = [];
+  released = [];
   marks = [];
 }
 
@@ -51,19 +53,6 @@ AreSaid seen starts replies = AreStartFronts (starts_in (own_acts seen)) starts 
 
 -- ---- The parts of its run
 
--- the oldest event that waits is dispatched, where there is one
-abbrev pub next_dispatched : (List Place → Bool) → List Event → Run → Run
-next_dispatched allows [] r = r
-next_dispatched allows (event ∷ queue) r = dispatch allows event (record r { queue = queue })
-
-abbrev pub dispatch_next : (List Place → Bool) → Run → Run
-dispatch_next allows r = next_dispatched allows r.queue r
-
--- so often
-abbrev pub times : ℕ → (Run → Run) → Run → Run
-times zero f r = r
-times (suc n) f r = times n f (f r)
-
 -- a stimulus, and then the events that wait
 abbrev pub round : (List Place → Bool) → Run → WorldStim → Run
 round allows r x = settle allows (happen x r)
@@ -79,8 +68,9 @@ text_of r = flat_map (line_text names) r.lines
 
 -- ---- A run of a world stands alike to one of it
 
--- The run is that of the reference controller: at every quiescent point, the end included, the switches agree; and the application was given
--- what the reference controller gives it.
+-- The run is that of the reference controller: at every quiescent point, the end included, the switches agree; the application was given
+-- what the reference controller gives it; and the packets that were released are those that it releases.
 pub record RunsAlike {Own : Type 0} (seen : Seen Own) (r : Run) : Type 0 where
   pub tables : AgreeMarks (points_in seen ++ last_point seen ∷ []) (r.marks ++ reference_mark None r.places ∷ [])
   pub inputs : map (λ (a : App). a.inputs) r.apps ≡ given_in seen ∷ []
+  pub released : released_of seen ≡ r.released

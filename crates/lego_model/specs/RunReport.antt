@@ -22,7 +22,7 @@ use Rattle.of_match.specs.declared.key.Key.{Key}
 use Rattle.of_match.specs.Match.{fields_in}
 use Rattle.of_match.specs.Text.{match_text}
 use Rattle.lego_model.specs.Turns.{Outcome, Completed, Failed as FailedBy}
-use Rattle.lego_model.specs.Controller.{App, Line, Started, IsGone, Dispatched, Ended, Run}
+use Rattle.lego_model.specs.Controller.{App, Line, Started, IsGone, Dispatched, Ended, Out, Run}
 use Rattle.lego_model.specs.declared.turn.TurnWord.{TurnWord}
 use Rattle.lego_model.specs.declared.turn.TurnWord.TheVariants.{Done, Stop, Failed}
 
@@ -88,6 +88,10 @@ event_line number kind dpid = line_of (codes "event " ++ decimal number ++ codes
 unfoldable pub turn_line : List ℕ → TurnWord → List ℕ
 turn_line app word = line_of (codes "turn " ++ app ++ codes " " ++ turn_words word)
 
+-- `out DPID LEN`
+unfoldable pub out_line : ℕ → ℕ → List ℕ
+out_line dpid size = line_of (codes "out " ++ decimal dpid ++ codes " " ++ decimal size)
+
 -- `switch DPID flows N`
 unfoldable pub switch_line : ℕ → ℕ → List ℕ
 switch_line dpid flows = line_of (codes "switch " ++ decimal dpid ++ codes " flows " ++ decimal flows)
@@ -147,6 +151,7 @@ line_text names (Started i how) = start_line (name_of i names) how
 line_text names (IsGone i) = gone_line (name_of i names)
 line_text names (Dispatched number event) = event_line number event.kind event.dpid
 line_text names (Ended i outcome) = turn_line (name_of i names) (outcome_word outcome)
+line_text names (Out dpid size) = out_line dpid size
 
 -- an entry with the flags of its owner
 abbrev pub entry_text : ℕ → Entry → List ℕ

@@ -6,7 +6,7 @@ use Rattle.std.specs.Io.KnownBytes.{append_known}
 use Rattle.std.specs.List.{AllByRecursion}
 use Rattle.lego_model.specs.Places.{Place}
 use Rattle.lego_model.specs.RunReport.{run_report}
-use Rattle.lego_model.specs.Journal.{Reply, Start, released}
+use Rattle.lego_model.specs.Journal.{Reply, Start}
 use Rattle.lego_model.specs.Controller.{Run}
 use Rattle.outside.specs.Seen.{Seen, journal}
 use Rattle.lego_model.specs.OrderlySteps.{IsOrderly}
@@ -33,9 +33,8 @@ pub record EndsAlike {Own : Type 0} (allows : List Place → Bool) (seen : Seen 
   -- over all that was said of the application it is the same
   pub as_said : (starts : List Start) (replies : List Reply) → AreSaid seen starts replies → EndsAs seen contents now_contents events (reference_said allows seen starts replies)
   pub at_once : AtOnce index (journal seen.history)
-  -- no call of a link failed; and the reference controller releases no packet, and none was released
+  -- no call of a link failed
   pub in_order : AllByRecursion (IsOrderly index) seen.history
-  pub released_none : released (journal seen.history) ≡ []
 
 -- So many events were left: the report has the lines of the events that were dispatched. The journal is a dialogue all the same.
 pub record LeavesAlike {Own : Type 0} (allows : List Place → Bool) (seen : Seen Own) (contents now_contents : Option (List ℕ)) (left : ℕ) : Type 0 where
@@ -44,4 +43,3 @@ pub record LeavesAlike {Own : Type 0} (allows : List Place → Bool) (seen : See
   pub as_said : (starts : List Start) (replies : List Reply) → AreSaid seen starts replies → LeavesAs seen contents now_contents left (reference_said allows seen starts replies)
   pub at_once : AtOnce index (journal seen.history)
   pub in_order : AllByRecursion (IsOrderly index) seen.history
-  pub released_none : released (journal seen.history) ≡ []

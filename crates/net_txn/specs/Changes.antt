@@ -1,6 +1,6 @@
 -- What `change` does: the host's own answer with nothing sent, or the switch's answer behind a barrier (OpenFlow 1.0.0, 4.2 Message
 -- Handling and 5.3.7 Barrier Message). What is sent, and that it is logged before, is our own choice.
-use Rattle.std.specs.Prelude.{◌≡◌, ◌≢◌, ℕ, ◌^◌, ◌<◌, ◌≤◌, true, List, [], ◌∷◌, ◌++◌, Option, Some, None, Result, Ok, IsOk, IfOk, IfErr, IsSome, MatchResult, ◌⊎◌, if◌then◌else◌}
+use Rattle.std.specs.Prelude.{◌≡◌, ◌≢◌, ℕ, ◌^◌, ◌<◌, ◌≤◌, true, List, [], ◌∷◌, ◌++◌, Option, Some, None, Result, Ok, Err, IsOk, IfOk, IfErr, IsSome, MatchResult, ◌⊎◌, if◌then◌else◌}
 use Rattle.std.specs.Option.{is_some, option_map}
 use Rattle.of_types.specs.declared.errors.OfError.{OfError}
 use Rattle.of_types.specs.declared.journal.Act.TheVariants.{Sent}
@@ -15,6 +15,7 @@ use Rattle.flow_table.specs.Change.{key_in}
 use Rattle.flow_table.specs.Step.{after_message}
 use Rattle.app_frames.specs.declared.frame.Answer.{Answer}
 use Rattle.lego_model.specs.Answers.{as_sent, host_answer, answer_by}
+use Rattle.lego_model.specs.Packets.{Held, holds}
 use Rattle.outside.specs.declared.step.WorldStep.{WorldStep}
 use Rattle.outside.specs.declared.step.WorldStep.TheVariants.{Acted}
 use Rattle.outside.specs.Seen.{Seen, Continues}
@@ -126,14 +127,19 @@ IfGivenUp Tells d m old new net NoMemory = Unit {0}
 
 -- ---- The whole
 
--- the host answered: no call of the world was made, and nothing moved; memory may have been wanting
-pub record ByHost {Own : Type 0} (answer : Answer) (old new : Seen Own) (net now_net : NetState) (result : Result Answer TxnFault) : Type 0 where
+-- a packet that is answered Fine is held behind the others
+abbrev pub held_after : ℕ → List ℕ → Result Answer TxnFault → List Held → List Held
+held_after d bytes (Ok answer) held = held ++ holds d bytes answer
+held_after d bytes (Err fault) held = held
+
+-- the host answered: no call of the world was made, and nothing moved but what is held; memory may have been wanting
+pub record ByHost {Own : Type 0} (d : ℕ) (bytes : List ℕ) (answer : Answer) (old new : Seen Own) (net now_net : NetState) (result : Result Answer TxnFault) : Type 0 where
   pub answers : IfOk result (λ a. a ≡ answer)
   pub fault : IfErr result (λ f. f ≡ NoMemory)
   pub world : new ≡ old
-  pub stays : now_net ≡ net
+  pub stays : now_net ≡ record net { held = held_after d bytes result net.held }
 
--- Ports, moment and room stay, the same switches have views, and each fault has its cause. The host's own answer is exactly that; else the
+-- Ports, moment and room stay, a packet is held, the same switches have views, and each fault has its cause. The host's own answer is exactly that; else the
 -- switch answers. Flooded comes only where 65,536 messages were got behind the barrier, none of them its reply. The calls are those of links
 -- alone, and in place where the world tells in order and the switch is joined; after Ok all bytes that came were messages. After a fault
 -- it is known whether anything was sent, and what was said; what undoes the change is logged before it is sent.
@@ -147,7 +153,8 @@ pub record Changes {Own : Type 0} (Tells : Type 0) (d : ℕ) (bytes : List ℕ) 
   pub ports : now_net.ports ≡ net.ports
   pub moment : now_net.moment ≡ net.moment
   pub room : now_net.room ≡ net.room
-  pub by_host : (answer : Answer) → answer_of_host d bytes net ≡ Some answer → ByHost answer old new net now_net result
+  pub held : now_net.held ≡ held_after d bytes result net.held
+  pub by_host : (answer : Answer) → answer_of_host d bytes net ≡ Some answer → ByHost d bytes answer old new net now_net result
   pub by_switch : (xid : ℕ) (m : Change) → answer_of_host d bytes net ≡ None → reading_of bytes ≡ Ok (enveloped xid (FlowMod m))
       → MatchResult result (Asked Tells d m old new net now_net) (λ f. Stopped d m old new net now_net)
   pub flooded : (xid : ℕ) (m : Change) → answer_of_host d bytes net ≡ None → reading_of bytes ≡ Ok (enveloped xid (FlowMod m))

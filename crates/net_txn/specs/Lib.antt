@@ -9,6 +9,8 @@ pub mod Leaving
 pub mod Arriving
 pub mod Agrees
 pub mod Changes
+pub mod Releases
+pub mod ReleaseSteps
 pub mod Agreement
 pub mod Undos
 pub mod Said

@@ -1,12 +1,13 @@
 -- What the host keeps of its network: the views of the joined switches and their known ports, by switch ascending; what undoes the
--- changes of the open transaction, newest last; the transaction id that is used next; the moment; and the messages that came while
--- something else was awaited; and how many faults of undos there is room for. All of this is our own.
+-- changes of the open transaction, newest last, and the packets that it holds back; the transaction id that is used next; the moment; the
+-- messages that came while something else was awaited; and how many faults of undos there is room for. All of this is our own.
 use Rattle.std.specs.Prelude.{false, ℕ, List, [], ◌∷◌, ◌++◌, Option, Some, None, if◌then◌else◌}
 use Rattle.of_match.specs.declared.key.Key.{Key}
 use Rattle.of_wire.specs.declared.bodies.FlowMod.{FlowMod as Change}
 use Rattle.flow_table.specs.View.{TableView}
 use Rattle.flow_table.specs.Change.{key_in, is_delete}
 use Rattle.lego_model.specs.declared.wait.Awaited.{Awaited}
+use Rattle.lego_model.specs.Packets.{Held}
 use Rattle.net_txn.specs.declared.logged.UndoProgress.{UndoProgress}
 use Rattle.net_txn.specs.declared.logged.Logged.{Logged}
 use Rattle.net_txn.specs.declared.ports.KnownPorts.{KnownPorts}
@@ -16,6 +17,7 @@ pub record NetState : Type 0 where
   pub views : List TableView
   pub ports : List KnownPorts
   pub log : List Logged
+  pub held : List Held
   pub xid : ℕ
   pub moment : ℕ
   pub kept : List (ℕ × List ℕ)

@@ -362,7 +362,7 @@ pub record AgreesAgain (d : ℕ) (views : List TableView) (new : State) : Type 0
   pub agrees : Agrees d views new
   pub waits : waits_of d new ≡ []
 
--- What was logged from a place on is undone and forgotten, and the views lose its keys. The log is undone from its end on, so that the
+-- What was logged from a place on is undone and forgotten, the views lose its keys, and nothing is held any more. The log is undone from its end on, so that the
 -- inverses, the newest part first, stand as in the log, of each joined switch that did not fail all of them. It goes on past a fault with the other
 -- switches, and the first fault is answered; after Ok none failed, and all bytes that came were messages. In a world that tells, no switch
 -- moves that is not joined; and where it keeps its word, each joined switch that did not fail, of which nothing waited, and whose table had
@@ -389,6 +389,7 @@ pub record Undoes {Own : Type 0} (Tells : Type 0) (start : ℕ) (old new : Seen 
   pub views : now_net.views ≡ without_keys (map key_logged (drop start net.log)) net.views
   pub ports : now_net.ports ≡ net.ports
   pub moment : now_net.moment ≡ net.moment
+  pub held : now_net.held ≡ []
   pub kept : Keeps net.kept parts now_net.kept
   pub room : (net.room ≤ now_net.room + 1) × (IsOk result → now_net.room ≡ net.room)
   pub others : (d : ℕ) → Tells → is_viewed d net.views ≡ false → SameSwitch d (state old) (state new)

@@ -1,7 +1,6 @@
 //! The inverses of a log, sent newest first.
 
-ghost use Rattle.std.specs.Prelude.{◌≡◌, ◌==◌, ◌+◌, ◌^◌, ◌<◌, ◌≤◌, ℕ, true, false, List, [], ◌∷◌, length, drop, map, Option, is_err, slice_index_or, slice_set};
-ghost use Rattle.std.specs.List.{list_any};
+ghost use Rattle.std.specs.Prelude.{◌≡◌, ◌+◌, ◌^◌, ◌<◌, ◌≤◌, ℕ, true, false, List, [], ◌∷◌, length, drop, map, Option, is_err, slice_index_or, slice_set};
 ghost use Rattle.outside.specs.Seen.{Seen};
 ghost use Rattle.flow_table.specs.View.{TableView as PlainView, plains};
 ghost use Rattle.lego_model.specs.declared.fault.TxnFault.{TxnFault};
@@ -20,6 +19,7 @@ use crate::trouble::Trouble;
 use crate::undo_progress::{position_of, progress_of};
 use crate::undo_wait::pass_barrier;
 use crate::wait::send;
+use crate::views::is_known;
 use flow_table::TableView;
 use of_types::{Dpid, Xid};
 use outside::World;
@@ -27,19 +27,6 @@ use std::alloc::Global;
 
 /// How many inverses are sent to a switch before a barrier.
 const MOST_BEHIND_BARRIER: u32 = 4_096;
-
-fn has_view(views: &[TableView], dpid: Dpid) -> bool
-    ensures { result ≡ list_any (λ v. v.dpid == dpid) views.now }
-{
-    views.iter().any(|view| view.dpid == dpid)
-}
-
-/// Tells whether a switch has a view, so that it is joined.
-fn is_viewed(views: &[TableView], dpid: Dpid) -> bool
-    ensures { result ≡ is_viewed dpid (plains views.now) }
-{
-    has_view(views, dpid)
-}
 
 /// Returns the log from a position on.
 pub(crate) fn behind(log: &[Logged], from: usize) -> &[Logged]
@@ -178,7 +165,7 @@ fn reverts(progress: UndoProgress, views: &[TableView], dpid: Dpid) -> bool
     ensures yes { result ≡ true → (is_viewed dpid (plains views.now) ≡ true) × (progress.failed ≡ false) }
     ensures no { result ≡ false → is_viewed dpid (plains views.now) ≡ true → progress.failed ≡ true }
 {
-    !progress.failed && is_viewed(views, dpid)
+    !progress.failed && is_known(views, dpid)
 }
 
 /// Sends the inverse at a position, unless its switch has failed or is not joined.

@@ -1,8 +1,9 @@
 //! The views of the joined switches.
 
-ghost use Rattle.std.specs.Prelude.{◌≡◌, None, Some, MatchOption, OnOk, OnErr};
+ghost use Rattle.std.specs.Prelude.{◌≡◌, ◌==◌, None, Some, MatchOption, OnOk, OnErr};
+ghost use Rattle.std.specs.List.{list_any};
 ghost use Rattle.flow_table.specs.View.{plains};
-ghost use Rattle.net_txn.specs.Views.{rows_at, is_row_at, with_rows, with_row, with_added, IsViewAt};
+ghost use Rattle.net_txn.specs.Views.{rows_at, is_viewed, is_row_at, with_rows, with_row, with_added, IsViewAt};
 ghost use Rattle.net_txn.specs.Arriving.{without_key};
 
 use crate::rows::{has_key, is_same, put_row};
@@ -22,6 +23,19 @@ pub(crate) fn find(views: &[TableView], dpid: Dpid) -> Option<&TableView>
         }
     }
     None
+}
+
+fn has_view(views: &[TableView], dpid: Dpid) -> bool
+    ensures { result ≡ list_any (λ v. v.dpid == dpid) views.now }
+{
+    views.iter().any(|view| view.dpid == dpid)
+}
+
+/// Tells whether a switch has a view, so that it is joined.
+pub(crate) fn is_known(views: &[TableView], dpid: Dpid) -> bool
+    ensures { result ≡ is_viewed dpid (plains views.now) }
+{
+    has_view(views, dpid)
 }
 
 /// Tells whether a row of a switch has a key.

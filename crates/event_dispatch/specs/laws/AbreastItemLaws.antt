@@ -11,7 +11,7 @@ use Rattle.of_types.specs.declared.journal.WorldStim.TheVariants.{Join, Leave, A
 use Rattle.of_types.specs.declared.journal.Act.TheVariants.{Stim}
 use Rattle.flow_table.specs.Switch.{Declared, SwitchState, joined_at, features_reply}
 use Rattle.flow_table.specs.Step.{after_stimulus}
-use Rattle.flow_table.specs.declared.view.TableView.{TableView}
+use Rattle.flow_table.specs.View.{TableView}
 use Rattle.outside.specs.declared.item.Item.{Item}
 use Rattle.outside.specs.declared.item.Item.TheVariants as items
 use Rattle.outside.specs.declared.step.WorldStep.{WorldStep}

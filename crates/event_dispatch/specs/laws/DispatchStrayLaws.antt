@@ -1,7 +1,7 @@
 -- Laws of what turns, starts and questions for rows keep of a world that tells in order.
 use Rattle.std.specs.Prelude.{◌≡◌, ℕ, Bool, List, IsSome, Result, Ok, refl, ◌∷◌}
 use Rattle.std.proofs.Common.{sym, ap, ◌∙◌, subst}
-use Rattle.flow_table.specs.declared.view.TableView.{TableView}
+use Rattle.flow_table.specs.View.{TableView}
 use Rattle.of_stats.specs.declared.flow_row.FlowRow.{FlowRow}
 use Rattle.app_frames.specs.declared.frame.Event.{Event}
 use Rattle.outside.specs.Seen.{Seen, Continues}

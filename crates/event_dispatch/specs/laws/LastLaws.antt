@@ -8,7 +8,7 @@ use Rattle.std.specs.Option.{option_map}
 use Rattle.of_match.specs.declared.key.Key.{Key}
 use Rattle.of_stats.specs.declared.flow_row.FlowRow.{FlowRow}
 use Rattle.flow_table.specs.declared.view.ViewRow.{ViewRow}
-use Rattle.flow_table.specs.declared.view.TableView.{TableView}
+use Rattle.flow_table.specs.View.{TableView}
 use Rattle.flow_table.specs.Switch.{SwitchState}
 use Rattle.undo_laws.specs.Owned.{owned_switch}
 use Rattle.lego_model.specs.RunReport.{flow_line, switch_text}

@@ -2,7 +2,7 @@
 use Rattle.std.proofs.Common.{◌≡◌, ℕ, ◌<◌, ◌^◌, Bool, List, [], ◌∷◌, ◌++◌, Option, Some, IsSome, Result, Ok, Err, IfErr, IsOk, IsErr, slice_get, take, refl, sym, ap, ◌∙◌, subst}
 use Rattle.of_stats.specs.Flows.{AreRows}
 use Rattle.of_wire.specs.Reading.{reading_of}
-use Rattle.flow_table.specs.declared.view.TableView.{TableView}
+use Rattle.flow_table.specs.View.{TableView}
 use Rattle.flow_table.specs.Switch.{SwitchState}
 use Rattle.lego_model.specs.Places.{Place}
 use Rattle.outside.specs.declared.item.Item.{Item}

@@ -1,7 +1,7 @@
 -- Laws of what the engine keeps of a world that tells in order, over parts of a run that follow one another.
 use Rattle.std.specs.Prelude.{◌≡◌, List}
 use Rattle.std.proofs.Common.{refl, sym, ap, ◌∙◌}
-use Rattle.flow_table.specs.declared.view.TableView.{TableView}
+use Rattle.flow_table.specs.View.{TableView}
 use Rattle.outside.specs.Seen.{Seen, Continues}
 use Rattle.outside.specs.laws.InOrderLaws.{InOrder-before, messages-none, messages-then}
 use Rattle.outside.specs.laws.QuiescenceLaws.{none_since-none, none_since-then, last_quiescent-of}

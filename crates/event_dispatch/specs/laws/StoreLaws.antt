@@ -1,7 +1,7 @@
 -- Laws of the checkpoints of the application over a turn: what is kept then, and that nothing is staged.
 use Rattle.std.proofs.Common.{◌≡◌, ℕ, ◌<◌, Bool, List, [], length, Option, Some, None, Result, Ok, Err, refl, sym, ap, ◌∙◌, subst, arith}
 use Rattle.std.specs.Prelude.{IfOk, OnErr, unwrap_or}
-use Rattle.flow_table.specs.declared.view.TableView.{TableView}
+use Rattle.flow_table.specs.View.{TableView}
 use Rattle.app_frames.specs.declared.frame.Event.{Event}
 use Rattle.app_frames.specs.declared.cause.Cause.{Cause}
 use Rattle.lego_model.specs.Turns.{Outcome, Completed, Failed}

@@ -6,7 +6,7 @@ use Rattle.lego_model.specs.Journal.{is_of, is_event}
 use Rattle.lego_model.specs.Controller.{attempts}
 use Rattle.app_frames.specs.declared.cause.Tried.{Tried}
 use Rattle.lego_model.specs.AtOnce.{Before, at_first as nobody_yet, Passes, Dialogue, AtOnce}
-use Rattle.flow_table.specs.declared.view.TableView.{TableView}
+use Rattle.flow_table.specs.View.{TableView}
 use Rattle.app_frames.specs.declared.frame.Event.{Event}
 use Rattle.outside.specs.declared.faults.NextFault.{NextFault}
 use Rattle.outside.specs.declared.faults.NextFault.TheVariants as coming

@@ -1,6 +1,6 @@
 -- Laws of a turn that a fault ended, and that was undone.
 use Rattle.std.proofs.Common.{◌≡◌, ℕ, Bool, List, length, Result, ◌∙◌, subst}
-use Rattle.flow_table.specs.declared.view.TableView.{TableView}
+use Rattle.flow_table.specs.View.{TableView}
 use Rattle.outside.specs.Seen.{Seen}
 use Rattle.lego_model.specs.declared.fault.TxnFault.{TxnFault}
 use Rattle.net_txn.specs.Net.{NetState}
