@@ -81,11 +81,6 @@ pub record SwitchKnown (d : ℕ) (s : SwitchState) (rows : List ViewRow) (k : Kn
   pub agrees : rows_of_view rows ≡ rows_of_table s.table.entries
   pub ports : known_ports d k.ports ≡ Some (ports_of s)
 
-pub record FaceKept (before now : SwitchState) : Type 0 where
-  pub declared : now.declared ≡ before.declared
-  pub ports : (n : ℕ) → map (port_desc n) now.ports ≡ map (port_desc n) before.ports
-  pub rows : rows_of_table now.table.entries ≡ rows_of_table before.table.entries
-
 -- one switch changed, and what the engine knows of it; the others are as they were
 pub record OnlyOne (d : ℕ) (s now : State) (k after : Knowledge) : Type 0 where
   pub switches : (e : ℕ) → e ≢ d → switch_of e now ≡ switch_of e s
