@@ -1,16 +1,13 @@
 -- What the engine knows after a frame, counts, or bytes of a switch's own: nothing but more events that wait, as the switch keeps its rows
 -- and what its ports are described as.
-use Rattle.std.proofs.Common.{◌≡◌, ◌==◌, ◌⊎◌, ℕ, zero, suc, Bool, not, ◌&&◌, List, [], ◌∷◌, ◌++◌, length, get_or, set, map, nat_lt, Option, Some, None, Result, Ok, Err, if◌then◌else◌, refl, sym, ap, ap₂, ◌∙◌, subst, inl, inr}
+use Rattle.std.proofs.Common.{◌≡◌, ◌==◌, ◌⊎◌, ℕ, List, [], ◌∷◌, ◌++◌, length, map, nat_lt, Option, Some, None, Result, Ok, Err, refl, sym, ap, ◌∙◌, subst, inl, inr}
 use Rattle.std.proofs.lemmas.Bool.{cases_Bool}
-use Rattle.std.proofs.lemmas.List.{get_or_default}
 use Rattle.std.specs.Prelude.{IsTrue}
 use Rattle.std.specs.List.{flat_map}
 use Rattle.of_types.specs.Fields.{number_at, number_bytes}
 use Rattle.of_types.specs.declared.port_desc.PortDesc.{PortDesc}
 use Rattle.of_types.specs.declared.journal.Stimulus.{Stimulus}
 use Rattle.of_types.specs.declared.journal.Stimulus.TheVariants.{Frame, Counts, Raw}
-use Rattle.of_match.specs.declared.packet_key.PacketKey.{PacketKey}
-use Rattle.eth_key.specs.PacketFields.{key_of}
 use Rattle.of_wire.specs.declared.kind.MessageKind.TheVariants as wire
 use Rattle.of_wire.specs.declared.bodies.PacketIn.{PacketIn as PacketInBody}
 use Rattle.of_wire.specs.declared.message.Message.{Message}
@@ -24,10 +21,9 @@ use Rattle.of_wire.specs.Reading.{has_length, front_of, body_of, reading_of}
 use Rattle.flow_table.specs.declared.entry.Entry.{Entry}
 use Rattle.flow_table.specs.declared.view.ViewRow.{ViewRow}
 use Rattle.flow_table.specs.Table.{IsTable}
-use Rattle.flow_table.specs.Hit.{best, counted, hit, with_counts}
-use Rattle.flow_table.specs.laws.HitLaws.{Contains-best, hit-set}
-use Rattle.flow_table.specs.Switch.{Declared, PortState, SwitchState, controller_number, is_down, has_no_fwd, port_at, port_desc}
-use Rattle.flow_table.specs.Frames.{packet_in, goes_out_by, after_frame_out, ports_after_output, after_output, sent_by_output, after_outputs, sent_by_outputs, hit_outputs, entry_hit, after_counts, after_lookup, is_silent, sent_by_miss, sent_by_hit, sent_by_lookup, takes, after_frame_in, after_arrival, after_frame, sent_by_frame}
+use Rattle.flow_table.specs.Hit.{with_counts}
+use Rattle.flow_table.specs.Switch.{Declared, PortState, SwitchState, controller_number, port_at, port_desc}
+use Rattle.flow_table.specs.Frames.{packet_in, sent_by_output, sent_by_outputs, entry_hit, is_silent, sent_by_miss, sent_by_hit, sent_by_lookup, takes, sent_by_frame}
 use Rattle.flow_table.specs.Step.{after_stimulus, sent_by_stimulus}
 use Rattle.undo_laws.specs.Owned.{IsNoMoment}
 use Rattle.undo_laws.specs.laws.OwnedLaws.{stimulus-owned, sent-owned}
