@@ -57,7 +57,7 @@ use Rattle.switch_laws.specs.laws.SoundLaws.{packet-sound}
 use Rattle.switch_laws.specs.laws.StandLaws.{all-stand}
 
 -- the packets of joined switches
-abbrev pub joined_of : List TableView → List Held → List Held
+abbrev joined_of : List TableView → List Held → List Held
 joined_of views held = filter (λ h. is_viewed h.0 views) held
 
 -- ---- What was seen goes on
@@ -126,11 +126,6 @@ release-moves Tells (h ∷ more) old new net now_net queue now_queue told all =
       | inl (joined, sends) ↦ rw joined (moves-then old mid new (h ∷ []) (joined_of net.views more) (sends.moves told) rest)
       | inr passes ↦ rw (passes.unviewed) (subst (λ (s : Seen _). MovesBy (joined_of net.views more) s new) passes.seen rest)
     ]
-
--- the same up to where it stopped
-pub stop-moves : {Own : Type 0} (Tells : Type 0) (start : ℕ) (old new : Seen Own) (net : NetState) (queue : List Event) (fault : TxnFault) → Tells → (stops : StopsRelease Tells start old new net queue fault) → MovesBy (joined_of net.views stops.front ++ stops.breaks.packets) old new
-stop-moves Tells start old new net queue fault told stops =
-    moves-then old stops.mid new (joined_of net.views stops.front) stops.breaks.packets (release-moves Tells stops.front old stops.mid (committed start net) stops.mid_net queue stops.mid_queue told stops.before) (stops.breaks.moves told)
 
 -- ---- Where the world keeps its word: which switches are joined
 
