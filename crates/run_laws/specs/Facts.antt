@@ -48,8 +48,8 @@ turn_word (ends.Done false) = words.Done
 turn_word (ends.Failed cause) = words.Failed cause
 
 -- the lines of packets that were released, each with its switch and how many bytes it has
-abbrev pub outs_text : List (ℕ × ℕ) → List ℕ
-outs_text sent = flat_map (λ p. out_line p.0 p.1) sent
+abbrev pub out_text : List (ℕ × ℕ) → List ℕ
+out_text sent = flat_map (λ p. out_line p.0 p.1) sent
 
 -- What it did stays, the packets that it held are released, with what switches sent then behind the events that wait, and the checkpoint that
 -- it handed over is the kept one.
@@ -59,7 +59,7 @@ pub record StaysDone {Own : Type 0} (Tells : Type 0) (checkpoint : Option (List 
   pub sent : List (ℕ × ℕ)
   pub commits : Commits Tells start mid new mid_net net e.queue queue (Ok sent)
   pub engine : now_e ≡ record e { net = net; queue = queue; rest = unread; kept = unwrap_or checkpoint e.kept; done = e.done + 1 }
-  pub text_so : text ≡ turn_line name (turn_word (ends.Done stop)) ++ outs_text sent
+  pub text_so : text ≡ turn_line name (turn_word (ends.Done stop)) ++ out_text sent
 
 -- it was undone, and the application started again
 pub record IsUndone {Own : Type 0} (Tells : Type 0) (cause : Cause) (text : List ℕ) (start : ℕ) (mid new : Seen Own) (mid_net : NetState) (e now_e : Engine) : Type 0 where
