@@ -123,8 +123,8 @@ stop-left : {Own : Type 0} (Tells : Type 0) (start : ℕ) (old mid new : Seen Ow
 stop-left Tells start old mid new mid_net queue fault told given done stops =
     let front = release-moves Tells stops.front mid stops.mid (committed start mid_net) stops.mid_net queue stops.mid_queue told stops.before in
     let broken = stops.breaks.moves told in
-    elim (moves-left old mid new (front.0 ++ stops.breaks.packets) given done (moves-then mid stops.mid new front.0 stops.breaks.packets front.1 broken)) [
-      | inl kept ↦ inl (stops.breaks.begun told (still-there mid stops.mid new front.1.steps broken.steps front.1.history broken.history kept.0), kept.1)
+    elim (moves-left old mid new _ given done (moves-then mid stops.mid new _ _ front broken)) [
+      | inl kept ↦ inl (stops.breaks.begun told (still-there mid stops.mid new front.steps broken.steps front.history broken.history kept.0), kept.1)
       | inr releasing ↦ inr releasing
     ]
 
