@@ -17,6 +17,7 @@ ghost use Rattle.app_visor.specs.declared.state.TurnEnd.{TurnEnd};
 ghost use Rattle.app_visor.specs.Beats.{Stops};
 ghost use Rattle.app_visor.specs.Turns.{reply_by, Turns};
 ghost use Rattle.switch_laws.specs.Shown.{shown_places};
+ghost use Rattle.switch_laws.specs.Released.{StopsFor};
 ghost use Rattle.switch_laws.specs.Since.{Ready};
 ghost use Rattle.lego_model.specs.AfterFault.{UndoneButFailed, TurnDone, TurnKept, TurnReleasing};
 ghost use Rattle.turn_laws.specs.Chain.{PlayedAlike};
@@ -35,13 +36,13 @@ pub fn turns_are_shown<W: World>()
 {}
 
 /// A turn that stops in a world that keeps its word, where all was ready, stops by the link of a switch or for want of memory; and so
-/// does the release of the packets of one that ended.
+/// does the release of the packets of one that ended, unless one of these made its switch send too many messages.
 pub fn stops_are_plain<W: World>()
     ensures turn { (app : ℕ) (old new : Seen W.Own) (net now_net : NetState) (fault : TxnFault) → W.Tells → Conforming new → Ready old net
         → Stops W.Tells app old new net now_net fault → IsPlainStop fault }
     ensures release { (accepts : List TableView → Bool) (app budget : ℕ) (rest frame : List ℕ) (old mid new : Seen W.Own) (net mid_net now_net : NetState) (end : TurnEnd) (unread : List ℕ)
         (queue now_queue : List Event) (fault : TxnFault) → W.Tells → Conforming new → Ready old net → Turns W.Tells accepts app budget rest frame old mid net mid_net end unread
-        → Commits W.Tells (length net.log) mid new mid_net now_net queue now_queue (Err fault) → IsPlainStop fault }
+        → Commits W.Tells (length net.log) mid new mid_net now_net queue now_queue (Err fault) → StopsFor old new fault }
 {}
 
 /// In a world that tells in order, where all was ready at a point up to which it kept its word: after a turn that stopped by a fault,
