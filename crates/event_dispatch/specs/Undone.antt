@@ -1,4 +1,4 @@
--- What a fault leaves of a turn: its changes are undone. All of this is our own.
+-- What a fault leaves of a turn: its changes are undone; or it was whole, and its packets were being released. All of this is our own.
 use Rattle.std.specs.Prelude.{ℕ, List}
 use Rattle.lego_model.specs.Application.{index}
 use Rattle.lego_model.specs.AtOnce.{Passes, AtOnce}
@@ -24,7 +24,7 @@ IsShort faults.NoMemory = Unit {0}
 IsShort other = ⊥
 
 -- There the same of the turn with what follows, where these bytes of the application are unread: it was undone so; or memory was wanting
--- behind it, it was whole, and its changes stay.
+-- behind it, it was whole, and its changes stay; or it was whole, and a packet of it was released, or was being so.
 pub record TurnLeft {Own : Type 0} (Tells Short : Type 0) (rest : List ℕ) (old new : Seen Own) (net : NetState) : Type 0 where
   pub left : Tells → Conforming old → InOrder new → Ready old net → (a : AtOnce index (journal old.history)) → Passes a.last.unread rest → TablesLeft Short old new
 
