@@ -1,9 +1,10 @@
 -- Laws of how a run may end in a world that keeps its word.
-use Rattle.std.proofs.Common.{◌≡◌, ℕ, ◌<◌, ◌^◌, Bool, List, [], ◌∷◌, ◌++◌, Option, Some, IsSome, Result, Ok, Err, IfErr, IsOk, IsErr, slice_get, take, refl, sym, ap, ◌∙◌, subst}
+use Rattle.std.proofs.Common.{◌≡◌, ℕ, ◌<◌, ◌^◌, Bool, List, [], ◌∷◌, ◌++◌, length, Option, Some, IsSome, Result, Ok, Err, IfErr, IsOk, IsErr, slice_get, take, refl, sym, ap, ◌∙◌, subst}
 use Rattle.of_stats.specs.Flows.{AreRows}
 use Rattle.of_wire.specs.Reading.{reading_of}
 use Rattle.flow_table.specs.declared.view.TableView.{TableView}
 use Rattle.flow_table.specs.Switch.{SwitchState}
+use Rattle.app_frames.specs.declared.frame.Event.{Event}
 use Rattle.lego_model.specs.Places.{Place}
 use Rattle.outside.specs.declared.item.Item.{Item}
 use Rattle.outside.specs.declared.item.Item.TheVariants as items
@@ -21,13 +22,14 @@ use Rattle.net_txn.specs.JoiningSteps.{JoinSteps}
 use Rattle.net_txn.specs.AskSteps.{own_rows, IsAskFault, AskSteps}
 use Rattle.net_txn.specs.Net.{NetState}
 use Rattle.net_txn.specs.Undos.{Undoes}
+use Rattle.net_txn.specs.Releases.{Commits}
 use Rattle.net_txn.specs.Views.{rows_at}
 use Rattle.app_visor.specs.declared.state.TurnEnd.{TurnEnd}
 use Rattle.app_visor.specs.Beats.{Stops}
 use Rattle.app_visor.specs.Turns.{Turns}
 use Rattle.switch_laws.specs.laws.SoundLaws.{rows-are}
 use Rattle.switch_laws.specs.laws.ClockLaws.{switch-in_time, moment-within}
-use Rattle.turn_laws.specs.laws.StopLaws.{stop-plain, turn-ready}
+use Rattle.turn_laws.specs.laws.StopLaws.{stop-plain, turn-ready, commit-plain}
 use Rattle.turn_laws.specs.Stop.{IsPlainStop}
 use Rattle.batch_laws.specs.laws.InBatchLaws.{next_can}
 use Rattle.run_laws.specs.Engine.{Engine}
@@ -164,6 +166,18 @@ turn_not_undone {Own} {Tells} {accepts} {app} {budget} {start} {rest} {frame} {u
           let again = turn-ready Tells accepts app budget rest frame old mid txn_net mid_net end unread told before ready turns in
           plain_any fault (failed.plain told keeps (λ d viewed. stands_ready d mid mid_net again viewed (switch_of d (state mid)) refl));
     })
+
+-- one that was whole, and whose packets could not all be released
+pub turn_uncommitted : {Own : Type 0} {Tells : Type 0} {accepts : List TableView → Bool} {app budget start now_start : ℕ} {rest frame unread : List ℕ} {end : TurnEnd} {queue now_queue : List Event} (old mid new : Seen Own) (net txn_net mid_net now_net : NetState) (result : Result (List (ℕ × ℕ)) TxnFault) (fault : TxnFault) → txn_net ≡ net
+    → start ≡ length net.log → now_start ≡ start → Turns Tells accepts app budget rest frame old mid txn_net mid_net end unread → result ≡ Err fault → Commits Tells now_start mid new mid_net now_net queue now_queue result → PlainTurn Tells old new net (fault_of fault)
+turn_uncommitted {Own} {Tells} {accepts} {app} {budget} {start} {now_start} {rest} {frame} {unread} {end} {queue} {now_queue} old mid new net txn_net mid_net now_net result fault same at kept turns is commits =
+    let turned : Turns Tells accepts app budget rest frame old mid net mid_net end unread = subst (λ (n : NetState). Turns Tells accepts app budget rest frame old mid n mid_net end unread) same turns in
+    let broken : Commits Tells (length net.log) mid new mid_net now_net queue now_queue (Err fault) =
+    subst (λ (n : ℕ). Commits Tells n mid new mid_net now_net queue now_queue (Err fault)) (kept ∙ at) (subst (Commits Tells now_start mid new mid_net now_net queue now_queue) is commits) in
+    record {
+      plain = λ told keeps ready.
+          plain_stop fault (commit-plain Tells accepts app budget rest frame old mid new net mid_net now_net end unread queue now_queue fault told keeps ready turned broken);
+    }
 
 -- ---- A question for rows
 
