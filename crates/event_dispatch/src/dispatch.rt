@@ -1,6 +1,6 @@
 //! Events, given to the application one after the other.
 
-ghost use Rattle.std.specs.Prelude.{◌≡◌, ℕ, ◌+◌, ◌^◌, ◌<◌, ◌≤◌, [], length, IfOk, IfErr, OnOk, OnErr};
+ghost use Rattle.std.specs.Prelude.{◌≡◌, ℕ, ◌+◌, ◌^◌, ◌<◌, ◌≤◌, [], ◌++◌, length, IfOk, IfErr, OnOk, OnErr};
 ghost use Rattle.lego_io.specs.Count.{NeverFell};
 ghost use Rattle.app_frames.specs.declared.frame.HostFrame.TheVariants as host;
 ghost use Rattle.app_frames.specs.Frames.{HostFits};
@@ -9,13 +9,14 @@ ghost use Rattle.event_dispatch.specs.Steady.{NoStray, Reads, NoPoint, AtMostThi
 ghost use Rattle.app_visor.specs.CallsFor.{CalmLater, OwnSteps};
 ghost use Rattle.event_dispatch.specs.Runs.{AreRead, StoreRests, Going, Waits};
 ghost use Rattle.event_dispatch.specs.Stored.{KeepsSlots, closes_slot, PlaysStaged, HoldsTurn};
+ghost use Rattle.app_visor.specs.declared.state.TurnEnd.TheVariants as ends;
 ghost use Rattle.app_visor.specs.Attempts.{kept_of};
 ghost use Rattle.checkpoint_store.specs.Slots.{with_slot};
 ghost use Rattle.event_dispatch.specs.Why.{IsReason, served_by};
 ghost use Rattle.event_dispatch.specs.Plain.{PlainTurn, PlainRun};
 ghost use Rattle.lego_model.specs.RunReport.{turn_line as turn_line_of};
 ghost use Rattle.lego_model.specs.Application.{index, name};
-ghost use Rattle.run_laws.specs.Facts.{starts_text, out_text};
+ghost use Rattle.run_laws.specs.Facts.{turn_word, out_text, starts_text};
 ghost use Rattle.event_dispatch.specs.Shows.{engine_of, Adds};
 ghost use Rattle.event_dispatch.specs.Serves.{Starts, Closes, HasTurn, IsDispatched, DispatchesOldest, DispatchesWaiting};
 ghost use Rattle.event_dispatch.specs.Talking.{KeepsTalking, TurnTalks};
@@ -211,6 +212,16 @@ impl Run {
         Ok(())
     }
 
+    /// Appends the lines of a turn that was done: how it ended, and the packets that were released.
+    #[tactic(auto, using(crate::specs::laws::WhyLaws::waits_then))]
+    fn note_done(&mut self, stop: bool, out: &[(Dpid, u32)]) -> Result<(), AllocError>
+        ensures waits { OnOk result (Waits self.old self.new) }
+        ensures adds { OnOk result (Adds (turn_line_of name (turn_word (ends.Done stop)) ++ out_text out.now) self.old self.new) }
+    {
+        self.note_turn(if stop { TurnWord::Stop } else { TurnWord::Done })?;
+        self.note_out(out)
+    }
+
     /// Closes a turn: counts and tells it, and starts an application again that failed.
     #[tactic(auto, using(crate::specs::laws::TalkingLaws::keeps_none))]
     fn close<W: World>(&mut self, world: &mut W, closing: Closing) -> Result<(), AllocError>
@@ -233,8 +244,7 @@ impl Run {
         match closing {
             Closing::Done { stop, out } => {
                 self.app.done += 1;
-                self.note_turn(if stop { TurnWord::Stop } else { TurnWord::Done })?;
-                self.note_out(&out)
+                self.note_done(stop, &out)
             }
             Closing::Failed(cause) => {
                 self.app.failed += 1;
