@@ -53,8 +53,8 @@ pub record NoneMoves {Own : Type 0} (Tells : Type 0) (old new : Seen Own) : Type
 
 -- ---- The application is ended at last
 
--- it does not run then: no call of a link was a stray one, no bytes came of a switch, no quiescent point lies behind, no switch moved, and no packet was
--- released
+-- it does not run then: no call of a link was a stray one, no bytes came of a switch, no quiescent point lies behind, no switch moved, and
+-- no packet was released
 pub record IsEnded {Own : Type 0} (Tells : Type 0) (old new : Seen Own) : Type 0 where
   pub no_point : NoPoint Tells old new
   pub places : Tells → MakesNoStrayCall old new

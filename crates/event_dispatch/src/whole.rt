@@ -292,8 +292,9 @@ pub fn serve<W: World, J: Judge, K: Sink>(
     ensures end_has_cause { IsWhy W.Tells (W.seen world.old) (W.seen world.new) (K.faults sink.old) (K.faults sink.new) result }
     // In a world that tells and keeps its word, on which no call was made before, where fewer stimuli come than there are rounds, the run
     // is the reference controller's over what the world told: the tables agree at every quiescent point, the application was given what it
-    // is given there, and what was written is the report, whole where all events were dispatched, and as far as these go where some were
-    // left. It is so, too, over all that was said of the application, of which the world told the front.
+    // is given there, the packets that were released are those that it releases, in their order, and what was written is the report, whole
+    // where all events were dispatched, and as far as these go where some were left. It is so, too, over all that was said of the
+    // application, of which the world told the front.
     ensures reference_run { (allows : List Place → Bool) → Premise W.Tells (J.accepts judge.now) allows rounds (W.seen world.old) (W.seen world.new)
         → IsAlike allows (W.seen world.new) (K.contents sink.old) (K.contents sink.new) result }
     // Where a fault ends the run, it is so up to a point, with the lines of all that was done up to there, and where the sink failed,

@@ -143,8 +143,9 @@ NeverRuns status seen = Contains (2 ∷ 3 ∷ 4 ∷ 12 ∷ []) status × (seen.h
 -- ---- What a run is
 
 -- All stimuli that the world was given were told, and the run is that of the reference controller over them: at every quiescent point the
--- tables agree, the application was given what it is given there, no event is left, and what was written is the whole report. The journal
--- is a dialogue with the application, in which each change had reached its switch at once when it was answered.
+-- tables agree, the application was given what it is given there, the packets that were released are those that it releases, no event is
+-- left, and what was written is the whole report. The journal is a dialogue with the application, in which each change had reached its switch
+-- at once when it was answered.
 pub record RunsWhole (seen : Seen Scripts) (contents now_contents : Option (List ℕ)) : Type 0 where
   pub events : ℕ
   pub alike : EndsAlike all_allowed seen contents now_contents events
@@ -161,7 +162,8 @@ pub record RunsPart (seen : Seen Scripts) (contents now_contents : Option (List 
 -- Of the run as far as a point this is so: no point behind it is quiescent, so that what lies behind it is of one stimulus, of one event, or of
 -- the end of the report; and all bytes that came of switches up to there are messages. The whole journal is a dialogue with the application,
 -- in which each change had reached its switch at once when it was answered. Where an event was given behind that point, its turn was undone:
--- each switch has its entries again, or failed in the undo. Only where memory was wanting may the turn have been whole.
+-- each switch has its entries again, or failed in the undo; or the turn was whole and its packets were being released, and each switch moved by
+-- those that were sent to it alone. Only where memory was wanting may a turn have been whole of which no packet was being released.
 pub record UpToPoint {Own : Type 0} (seen : Seen Own) (Short : Type 0) (Holds : Seen Own → Type 0) : Type 0 where
   pub last : Seen Own
   pub given : last.given ≡ seen.given

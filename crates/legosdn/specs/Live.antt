@@ -45,8 +45,9 @@ NoneStray seen = AreExpected seen.history (at_first seen.given)
 -- ---- The run
 
 -- All stimuli that the world was given were told, and the run is that of the reference controller over them: at every quiescent point the
--- tables agree, the application was given what it is given there, no event is left, and what was written is the whole report. The journal
--- is a dialogue with the application, in which each change had reached its switch at once when it was answered.
+-- tables agree, the application was given what it is given there, the packets that were released are those that it releases, no event is
+-- left, and what was written is the whole report. The journal is a dialogue with the application, in which each change had reached its switch
+-- at once when it was answered.
 pub record ServesWhole {Own : Type 0} (seen : Seen Own) (contents now_contents : Option (List ℕ)) : Type 0 where
   pub events : ℕ
   pub alike : EndsAlike all_allowed seen contents now_contents events

@@ -167,8 +167,8 @@ pub fn legosdn<S: Source, K: Sink, W: World>(
     requires new_world { IsNew sim.old }
     requires empty_world { given_of sim.old ≡ nothing_given }
     // `replay`. At status 0 all stimuli of the session happened, and the run is that of the reference controller over them and over what the
-    // application did: at every quiescent point the tables agree, the application was
-    // given what it is given there, no event is left, and what was written is the whole report. Each answer that the application was
+    // application did: at every quiescent point the tables agree, the application was given what it is given there, the packets that were
+    // released are those that it releases, no event is left, and what was written is the whole report. Each answer that the application was
     // given is to its next message, and a change that passed the host's tests had then reached its switch: since the frame given before,
     // the change was sent there, a barrier behind it, the barrier's reply came, and no other change was sent.
     ensures whole_run { IsReplay (map string_bytes words.now) → result ≡ 0 → RunsWhole (seen_of sim.new) (K.contents sink.old) (K.contents sink.new) }

@@ -185,16 +185,16 @@ committed_so Tells old new fault told (inr (inl kept)) = inr (inr (inl (subst (�
 committed_so Tells old new fault told (inr (inr releasing)) = inr (inr (inr releasing))
 
 -- it was whole, and not all of its packets could be released
-pub left_committed : {Own : Type 0} {Tells : Type 0} {accepts : List TableView → Bool} {app start now_start : ℕ} {event rest unread : List ℕ} {old mid new : Seen Own} {at_net mid_net now_net : NetState} {queue now_queue : List Event} {stop : Bool} {end : TurnEnd} {result : Result (List (ℕ × ℕ)) TxnFault} (net : NetState)
-    (fault : TxnFault) → app ≡ index → at_net ≡ net → start ≡ length net.log → now_start ≡ start → end ≡ ends.Done stop → is_event event ≡ true → Turns Tells accepts app budget rest event old mid at_net mid_net end unread → result ≡ Err fault
-    → Commits Tells now_start mid new mid_net now_net queue now_queue result → TurnLeft Tells (IsShort (fault_of fault)) rest old new net
-left_committed {Tells = Tells} {accepts = accepts} {app = app} {now_start = now_start} {event = event} {rest = rest} {unread = unread} {old = old} {mid = mid} {new = new} {at_net = at_net} {mid_net = mid_net} {now_net = now_net} {queue = queue} {now_queue = now_queue} {stop = stop} {end = end} {result = result}
-    net fault is same at kept done gives turns failed commits = record {
+pub left_committed : {Own : Type 0} {Tells : Type 0} {accepts : List TableView → Bool} {app start now_start : ℕ} {event rest unread : List ℕ} {old mid new : Seen Own} {at_net mid_net now_net : NetState} {queue now_queue : List Event} {stop : Bool} {end : TurnEnd} (net : NetState)
+    (fault : TxnFault) → app ≡ index → at_net ≡ net → start ≡ length net.log → now_start ≡ start → end ≡ ends.Done stop → is_event event ≡ true → Turns Tells accepts app budget rest event old mid at_net mid_net end unread
+    → Commits Tells now_start mid new mid_net now_net queue now_queue (Err fault) → TurnLeft Tells (IsShort (fault_of fault)) rest old new net
+left_committed {Tells = Tells} {accepts = accepts} {app = app} {now_start = now_start} {event = event} {rest = rest} {unread = unread} {old = old} {mid = mid} {new = new} {at_net = at_net} {mid_net = mid_net} {now_net = now_net} {queue = queue} {now_queue = now_queue} {stop = stop} {end = end}
+    net fault is same at kept done gives turns commits = record {
       left = λ told keeps order ready a passes.
           let turned : Turns Tells accepts app budget rest event old mid net mid_net (ends.Done stop) unread =
           subst (λ (e : TurnEnd). Turns Tells accepts app budget rest event old mid net mid_net e unread) done (subst (λ (n : NetState). Turns Tells accepts app budget rest event old mid n mid_net end unread) same turns) in
           let broken : Commits Tells (length net.log) mid new mid_net now_net queue now_queue (Err fault) =
-          subst (λ (n : ℕ). Commits Tells n mid new mid_net now_net queue now_queue (Err fault)) (kept ∙ at) (subst (Commits Tells now_start mid new mid_net now_net queue now_queue) failed commits) in
+          subst (λ (n : ℕ). Commits Tells n mid new mid_net now_net queue now_queue (Err fault)) (kept ∙ at) commits in
           committed_so Tells old new fault told
           (commit-left Tells accepts app budget rest event old mid new net mid_net now_net (ends.Done stop) unread queue now_queue fault told keeps order ready turned (turn_done told is gives turned a passes) broken);
     }

@@ -168,12 +168,12 @@ turn_not_undone {Own} {Tells} {accepts} {app} {budget} {start} {rest} {frame} {u
     })
 
 -- one that was whole, and whose packets could not all be released
-pub turn_uncommitted : {Own : Type 0} {Tells : Type 0} {accepts : List TableView → Bool} {app budget start now_start : ℕ} {rest frame unread : List ℕ} {end : TurnEnd} {queue now_queue : List Event} (old mid new : Seen Own) (net txn_net mid_net now_net : NetState) (result : Result (List (ℕ × ℕ)) TxnFault) (fault : TxnFault) → txn_net ≡ net
-    → start ≡ length net.log → now_start ≡ start → Turns Tells accepts app budget rest frame old mid txn_net mid_net end unread → result ≡ Err fault → Commits Tells now_start mid new mid_net now_net queue now_queue result → PlainTurn Tells old new net (fault_of fault)
-turn_uncommitted {Own} {Tells} {accepts} {app} {budget} {start} {now_start} {rest} {frame} {unread} {end} {queue} {now_queue} old mid new net txn_net mid_net now_net result fault same at kept turns is commits =
+pub turn_uncommitted : {Own : Type 0} {Tells : Type 0} {accepts : List TableView → Bool} {app budget start now_start : ℕ} {rest frame unread : List ℕ} {end : TurnEnd} {queue now_queue : List Event} (old mid new : Seen Own) (net txn_net mid_net now_net : NetState) (fault : TxnFault) → txn_net ≡ net → start ≡ length net.log → now_start ≡ start
+    → Turns Tells accepts app budget rest frame old mid txn_net mid_net end unread → Commits Tells now_start mid new mid_net now_net queue now_queue (Err fault) → PlainTurn Tells old new net (fault_of fault)
+turn_uncommitted {Own} {Tells} {accepts} {app} {budget} {start} {now_start} {rest} {frame} {unread} {end} {queue} {now_queue} old mid new net txn_net mid_net now_net fault same at kept turns commits =
     let turned : Turns Tells accepts app budget rest frame old mid net mid_net end unread = subst (λ (n : NetState). Turns Tells accepts app budget rest frame old mid n mid_net end unread) same turns in
     let broken : Commits Tells (length net.log) mid new mid_net now_net queue now_queue (Err fault) =
-    subst (λ (n : ℕ). Commits Tells n mid new mid_net now_net queue now_queue (Err fault)) (kept ∙ at) (subst (Commits Tells now_start mid new mid_net now_net queue now_queue) is commits) in
+    subst (λ (n : ℕ). Commits Tells n mid new mid_net now_net queue now_queue (Err fault)) (kept ∙ at) commits in
     record {
       plain = λ told keeps ready.
           plain_stop fault (commit-plain Tells accepts app budget rest frame old mid new net mid_net now_net end unread queue now_queue fault told keeps ready turned broken);

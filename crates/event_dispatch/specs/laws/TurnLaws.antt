@@ -95,10 +95,10 @@ turn_so Tells accepts event closing old mid new net queue app slots r now_r at h
 -- ---- A turn that was played in a transaction
 
 pub play_done : {Own : Type 0} {Tells : Type 0} {accepts : List TableView → Bool} {app number start now_start : ℕ} {event : Event} {end : TurnEnd} {stop : Bool} {out : Vec (ℕ × ℕ) Global} {old mid new : Seen Own} {net txn_net mid_net left_net now_net : NetState} {queue now_queue : List Event} {rest unread : List ℕ}
-    {slots now_slots : List Slot} {result : Result (List (ℕ × ℕ)) TxnFault} → txn_net ≡ net → start ≡ length net.log → end ≡ ends.Done stop → StagesTurn Tells accepts app budget rest (event_frame number txn_net.moment event) old mid txn_net mid_net end unread slots now_slots → now_start ≡ start → result ≡ Ok out.items
-    → now_net ≡ left_net → Commits Tells now_start mid new mid_net left_net queue now_queue result → PlaysStaged Tells accepts app number event (closings.Done stop out) old new net now_net queue now_queue rest unread slots now_slots
+    {slots now_slots : List Slot} → txn_net ≡ net → start ≡ length net.log → end ≡ ends.Done stop → StagesTurn Tells accepts app budget rest (event_frame number txn_net.moment event) old mid txn_net mid_net end unread slots now_slots → now_start ≡ start
+    → now_net ≡ left_net → Commits Tells now_start mid new mid_net left_net queue now_queue (Ok out.items) → PlaysStaged Tells accepts app number event (closings.Done stop out) old new net now_net queue now_queue rest unread slots now_slots
 play_done {Tells = Tells} {accepts = accepts} {app = app} {number = number} {start = start} {now_start = now_start} {event = event} {end = end} {stop = stop} {out = out} {old = old} {mid = mid} {new = new} {net = net} {txn_net = txn_net} {mid_net = mid_net} {left_net = left_net} {queue = queue}
-    {now_queue = now_queue} {rest = rest} {unread = unread} {slots = slots} {now_slots = now_slots} same at is turns kept ok here commits =
+    {now_queue = now_queue} {rest = rest} {unread = unread} {slots = slots} {now_slots = now_slots} same at is turns kept here commits =
     let stages : StagesTurn Tells accepts app budget rest (event_frame number net.moment event) old mid net mid_net (ends.Done stop) unread slots now_slots =
     subst (λ (e : TurnEnd). StagesTurn Tells accepts app budget rest (event_frame number net.moment event) old mid net mid_net e unread slots now_slots) is
     (subst (λ (n : NetState). StagesTurn Tells accepts app budget rest (event_frame number n.moment event) old mid n mid_net end unread slots now_slots) same turns) in
@@ -108,7 +108,7 @@ play_done {Tells = Tells} {accepts = accepts} {app = app} {number = number} {sta
         mid_net = mid_net;
         turns = stages.turns;
         played = subst (λ (n : NetState). Commits Tells (length net.log) mid new mid_net n queue now_queue (Ok out.items)) (sym here)
-            (subst (λ (n : ℕ). Commits Tells n mid new mid_net left_net queue now_queue (Ok out.items)) (kept ∙ at) (subst (Commits Tells now_start mid new mid_net left_net queue now_queue) ok commits));
+            (subst (λ (n : ℕ). Commits Tells n mid new mid_net left_net queue now_queue (Ok out.items)) (kept ∙ at) commits);
       };
       staged_so = stages.staged_so;
     }

@@ -1,5 +1,4 @@
-use Rattle.std.proofs.Common.{rules, refl, sym, ap, subst}
-use Rattle.net_txn.specs.Releases.{packets_sent, Commits}
+use Rattle.std.proofs.Common.{rules, refl, sym, subst}
 use Rattle.journal_laws.specs.laws.FrameLaws.{event_is}
 use Rattle.event_dispatch.specs.declared.fault.Fault.{Fault}
 use Rattle.event_dispatch.specs.Plain.{PlainTurn}
@@ -19,7 +18,7 @@ use Rattle.event_dispatch.proofs.dispatch.play_turn.Goals as goal
 
 pub returns-in_ok-commit-in-Ok-Done-clause-plays : goal.returns-in_ok-commit-in-Ok-Done-clause-plays
 returns-in_ok-commit-in-Ok-Done-clause-plays g c =
-    play_done c.begin-txn.ensures.net c.begin-txn.ensures.start c.in-Ok-Done.field-0-is c.in-Ok-Done.ensures.ok c.turn.ensures.start (ap packets_sent c.in_ok-commit-in-Ok-Done.was) (search rules) c.commit.ensures
+    play_done c.begin-txn.ensures.net c.begin-txn.ensures.start c.in-Ok-Done.field-0-is c.in-Ok-Done.ensures.ok c.turn.ensures.start (search rules) c.in_ok-commit-in-Ok-Done.ensures
 
 pub returns-in_ok-abort-in-Ok-Failed-clause-plays : goal.returns-in_ok-abort-in-Ok-Failed-clause-plays
 returns-in_ok-abort-in-Ok-Failed-clause-plays g c =
@@ -28,14 +27,14 @@ returns-in_ok-abort-in-Ok-Failed-clause-plays g c =
 pub returns-in_err-commit-in-Ok-Done-clause-plain : goal.returns-in_err-commit-in-Ok-Done-clause-plain
 returns-in_err-commit-in-Ok-Done-clause-plain g c =
     if_err (PlainTurn g.W.World.Tells (g.W.World.seen c.args.world.now) (g.W.World.seen c.commit.new.world) c.args.net.now) (fault_of c.in_err-commit-in-Ok-Done.field-0.0) c.from_residual.result c.from_residual.ensures.1
-    (turn_uncommitted (g.W.World.seen c.args.world.now) (g.W.World.seen c.turn.new.world) (g.W.World.seen c.commit.new.world) c.args.net.now c.begin-txn.result.net.now c.turn.new.txn.net.now _ _ c.in_err-commit-in-Ok-Done.field-0.0 c.begin-txn.ensures.net c.begin-txn.ensures.start c.turn.ensures.start
-    c.in-Ok-Done.ensures.ok.turns (ap packets_sent c.in_err-commit-in-Ok-Done.was) c.commit.ensures)
+    (turn_uncommitted (g.W.World.seen c.args.world.now) (g.W.World.seen c.turn.new.world) (g.W.World.seen c.commit.new.world) c.args.net.now c.begin-txn.result.net.now c.turn.new.txn.net.now _ c.in_err-commit-in-Ok-Done.field-0.0 c.begin-txn.ensures.net c.begin-txn.ensures.start c.turn.ensures.start
+    c.in-Ok-Done.ensures.ok.turns c.in_err-commit-in-Ok-Done.ensures)
 
 pub returns-in_err-commit-in-Ok-Done-clause-why : goal.returns-in_err-commit-in-Ok-Done-clause-why
 returns-in_err-commit-in-Ok-Done-clause-why g c =
     if_err (IsReason g.W.World.Tells (g.W.World.seen c.args.world.now) (g.W.World.seen c.commit.new.world) 0 0) (fault_of c.in_err-commit-in-Ok-Done.field-0.0) c.from_residual.result c.from_residual.ensures.1
     (why_then (g.W.World.seen c.args.world.now) (g.W.World.seen c.turn.new.world) (g.W.World.seen c.commit.new.world) (ended_by c.in_err-commit-in-Ok-Done.field-0.0) c.turn.ensures.continues
-    (commit_why _ (g.W.World.seen c.turn.new.world) (g.W.World.seen c.commit.new.world) c.turn.new.txn.net.now _ _ _ c.in_err-commit-in-Ok-Done.field-0.0 (subst (Commits g.W.World.Tells _ (g.W.World.seen c.turn.new.world) (g.W.World.seen c.commit.new.world) c.turn.new.txn.net.now _ _ _) (ap packets_sent c.in_err-commit-in-Ok-Done.was) c.commit.ensures)))
+    (commit_why _ (g.W.World.seen c.turn.new.world) (g.W.World.seen c.commit.new.world) c.turn.new.txn.net.now _ _ _ c.in_err-commit-in-Ok-Done.field-0.0 c.in_err-commit-in-Ok-Done.ensures))
 
 pub returns-in_err-abort-in-Ok-Failed-clause-plain : goal.returns-in_err-abort-in-Ok-Failed-clause-plain
 returns-in_err-abort-in-Ok-Failed-clause-plain g c =
@@ -57,7 +56,7 @@ returns-in_ok-abort-in-Ok-Failed-clause-read g c = turn_read _ _ _ (returns-in_o
 pub returns-in_err-commit-in-Ok-Done-clause-talks : goal.returns-in_err-commit-in-Ok-Done-clause-talks
 returns-in_err-commit-in-Ok-Done-clause-talks g c =
     holds_on_err c.from_residual.result
-    (turn_ends c.args.app.now.index c.args.app.now.rest (g.W.World.seen c.args.world.now) (g.W.World.seen c.turn.new.world) (g.W.World.seen c.commit.new.world) (event_is c.args.occasion.number c.begin-txn.result.net.now.moment c.args.occasion.event.now) c.in-Ok-Done.ensures.ok.turns c.commit.ensures.links)
+    (turn_ends c.args.app.now.index c.args.app.now.rest (g.W.World.seen c.args.world.now) (g.W.World.seen c.turn.new.world) (g.W.World.seen c.commit.new.world) (event_is c.args.occasion.number c.begin-txn.result.net.now.moment c.args.occasion.event.now) c.in-Ok-Done.ensures.ok.turns c.in_err-commit-in-Ok-Done.ensures.links)
 
 pub returns-in_err-abort-in-Ok-Failed-clause-talks : goal.returns-in_err-abort-in-Ok-Failed-clause-talks
 returns-in_err-abort-in-Ok-Failed-clause-talks g c =
@@ -69,10 +68,10 @@ returns-in-Err-clause-talks g c =
     turn_stops g.W.World.Tells c.args.app.now.index c.args.app.now.rest (g.W.World.seen c.args.world.now) (g.W.World.seen c.turn.new.world) (g.W.World.seen c.abort-in-Err.new.world) c.in-Err.ensures.talks c.abort-in-Err.ensures.links
 
 pub returns-in_ok-commit-in-Ok-Done-clause-later : goal.returns-in_ok-commit-in-Ok-Done-clause-later
-returns-in_ok-commit-in-Ok-Done-clause-later g c = later_links c.turn.ensures.later c.commit.ensures.links
+returns-in_ok-commit-in-Ok-Done-clause-later g c = later_links c.turn.ensures.later c.in_ok-commit-in-Ok-Done.ensures.links
 
 pub returns-in_err-commit-in-Ok-Done-clause-later : goal.returns-in_err-commit-in-Ok-Done-clause-later
-returns-in_err-commit-in-Ok-Done-clause-later g c = later_links c.turn.ensures.later c.commit.ensures.links
+returns-in_err-commit-in-Ok-Done-clause-later g c = later_links c.turn.ensures.later c.in_err-commit-in-Ok-Done.ensures.links
 
 pub returns-in_ok-abort-in-Ok-Failed-clause-later : goal.returns-in_ok-abort-in-Ok-Failed-clause-later
 returns-in_ok-abort-in-Ok-Failed-clause-later g c = later_links c.turn.ensures.later c.abort.ensures.links
@@ -90,7 +89,7 @@ pub returns-in_ok-abort-in-Ok-Failed-clause-places : goal.returns-in_ok-abort-in
 returns-in_ok-abort-in-Ok-Failed-clause-places g c = played_places _ _ _ (later_own c.args.app.now.index c.requires.index (returns-in_ok-abort-in-Ok-Failed-clause-later g c)) (returns-in_ok-abort-in-Ok-Failed-clause-plays g c).plays
 
 pub returns-in_err-commit-in-Ok-Done-clause-places : goal.returns-in_err-commit-in-Ok-Done-clause-places
-returns-in_err-commit-in-Ok-Done-clause-places g c = turn_committed c.args.net.now c.begin-txn.ensures.net (later_own c.args.app.now.index c.requires.index (returns-in_err-commit-in-Ok-Done-clause-later g c)) c.in-Ok-Done.ensures.ok.turns c.commit.ensures
+returns-in_err-commit-in-Ok-Done-clause-places g c = turn_committed c.args.net.now c.begin-txn.ensures.net (later_own c.args.app.now.index c.requires.index (returns-in_err-commit-in-Ok-Done-clause-later g c)) c.in-Ok-Done.ensures.ok.turns c.in_err-commit-in-Ok-Done.ensures
 
 pub returns-in_err-abort-in-Ok-Failed-clause-places : goal.returns-in_err-abort-in-Ok-Failed-clause-places
 returns-in_err-abort-in-Ok-Failed-clause-places g c = turn_undone c.args.net.now c.begin-txn.ensures.net (later_own c.args.app.now.index c.requires.index (returns-in_err-abort-in-Ok-Failed-clause-later g c)) c.in-Ok-Failed.ensures.ok.turns c.abort.ensures
@@ -108,7 +107,7 @@ pub returns-in_err-commit-in-Ok-Done-clause-left : goal.returns-in_err-commit-in
 returns-in_err-commit-in-Ok-Done-clause-left g c =
     if_err (λ (fault : Fault). TurnLeft g.W.World.Tells (IsShort fault) c.args.app.now.rest (g.W.World.seen c.args.world.now) (g.W.World.seen c.commit.new.world) c.args.net.now) (fault_of c.in_err-commit-in-Ok-Done.field-0.0) c.from_residual.result c.from_residual.ensures.1
     (left_committed c.args.net.now c.in_err-commit-in-Ok-Done.field-0.0 c.requires.index c.begin-txn.ensures.net c.begin-txn.ensures.start c.turn.ensures.start c.in-Ok-Done.field-0-is (event_is c.args.occasion.number c.begin-txn.result.net.now.moment c.args.occasion.event.now)
-    c.in-Ok-Done.ensures.ok.turns (ap packets_sent c.in_err-commit-in-Ok-Done.was) c.commit.ensures)
+    c.in-Ok-Done.ensures.ok.turns c.in_err-commit-in-Ok-Done.ensures)
 
 pub returns-in_err-abort-in-Ok-Failed-clause-left : goal.returns-in_err-abort-in-Ok-Failed-clause-left
 returns-in_err-abort-in-Ok-Failed-clause-left g c =
