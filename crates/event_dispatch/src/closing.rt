@@ -8,10 +8,7 @@ use of_types::Dpid;
 pub(crate) enum Closing {
     /// It was done, and said whether the event goes no further; what it did stays. These packets were released: the switch of
     /// each, and how many bytes it has.
-    Done {
-        stop: bool,
-        out: Vec<(Dpid, u32)>,
-    },
+    Done { stop: bool, out: Vec<(Dpid, u32)> },
     /// It failed, and why; what it did was undone.
     Failed(Cause),
 }

@@ -76,7 +76,11 @@ fn play_turn<W: World, J: Judge>(
     ensures plain { IfErr result (PlainTurn W.Tells (W.seen world.old) (W.seen world.new) net.old) }
     ensures left { IfErr result (λ fault. TurnLeft W.Tells (IsShort fault) app.old.rest (W.seen world.old) (W.seen world.new) net.old) }
 {
-    let Occasion { number, event, judge } = occasion;
+    let Occasion {
+        number,
+        event,
+        judge,
+    } = occasion;
     let mut txn = Txn::begin(net);
     match turn(
         alloc, world, &mut txn, judge, store, app, number, event, BUDGET,

@@ -128,7 +128,7 @@ play_failed {Tells = Tells} {accepts = accepts} {app = app} {number = number} {s
         turns = stages.turns;
         played = (
           subst (λ (n : NetState). Undoes Tells (length net.log) mid new mid_net n (Ok tt)) (sym here)
-          (subst (λ (n : ℕ). Undoes Tells n mid new mid_net left_net (Ok tt)) (kept ∙ at) (subst (Undoes Tells now_start mid new mid_net left_net) ok undoes)),
+              (subst (λ (n : ℕ). Undoes Tells n mid new mid_net left_net (Ok tt)) (kept ∙ at) (subst (Undoes Tells now_start mid new mid_net left_net) ok undoes)),
           waits,
         );
       };
