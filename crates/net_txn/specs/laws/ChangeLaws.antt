@@ -1,5 +1,5 @@
 -- Laws of changes: how the pieces of one make the whole.
-use Rattle.std.specs.Prelude.{◌≡◌, ◌⊎◌, ℕ, ◌^◌, ◌<◌, Bool, List, [], ◌∷◌, ◌++◌, Option, Some, None, Result, Ok, Err, MatchResult, IfErr, IsSome, length, take, refl}
+use Rattle.std.specs.Prelude.{◌≡◌, ◌⊎◌, ℕ, ◌^◌, ◌<◌, Bool, true, List, [], ◌∷◌, ◌++◌, Option, Some, None, Result, Ok, Err, MatchResult, IfErr, IsErr, IsSome, length, take, refl}
 use Rattle.std.specs.Option.{is_some}
 use Rattle.std.proofs.Common.{sym, ap, ◌∙◌, subst, inl, inr, arith}
 use Rattle.std.proofs.lemmas.List.{take_all, take_at, append-nil}
@@ -30,15 +30,16 @@ use Rattle.net_txn.specs.laws.LinkStepLaws.{OnLinks-refl}
 use Rattle.net_txn.specs.laws.LinkStrayLaws.{no_strays_none}
 use Rattle.net_txn.specs.laws.ReadLaws.{asked_read}
 use Rattle.net_txn.specs.Causes.{IsCause}
+use Rattle.flow_table.specs.Change.{key_in}
 use Rattle.flow_table.specs.declared.view.ViewRow.{ViewRow}
 use Rattle.flow_table.specs.declared.view.TableView.{TableView}
 use Rattle.net_txn.specs.declared.logged.Logged.{Logged}
 use Rattle.net_txn.specs.Waits.{Waits, Floods, IfFlooded, KeptMore}
 use Rattle.lego_model.specs.BarrierWaits.{barrier_sent}
-use Rattle.net_txn.specs.Views.{rows_at, with_rows, with_added, rows_after}
+use Rattle.net_txn.specs.Views.{rows_at, is_row_at, with_rows, with_added, rows_after}
 use Rattle.net_txn.specs.laws.ViewLaws.{rows_at-stays}
 use Rattle.net_txn.specs.Host.{held_read}
-use Rattle.net_txn.specs.Net.{NetState, awaited_from, with_logged}
+use Rattle.net_txn.specs.Net.{NetState, awaited_from, logged_by, with_logged}
 use Rattle.net_txn.specs.Changes.{answer_of_host, held_after, views_by, change_sent, Asked, Unsent, Stopped, log_in_flight, InFlight, IfGivenUp, Changes}
 
 pub sent_waits : {Own : Type 0} {Tells : Type 0} (d : ℕ) (m : Change) (net : NetState) (a : Awaited) (frame : List ℕ) (kept now_kept : List (ℕ × List ℕ)) (old new : Seen Own) (refusal : Option Refusal)
@@ -233,6 +234,32 @@ no_packet d xid m bytes Fine read = rw read refl
 no_packet d xid m bytes (Error error) read = refl
 no_packet d xid m bytes Unknown read = refl
 no_packet d xid m bytes (Statistics kind body) read = refl
+
+-- ---- What undoes a change that a row has the key of is not logged
+
+cut_log : (d : ℕ) (m : Change) (log all : List Logged) (n : ℕ) → n ≡ length log → all ≡ with_logged (logged_by d m) log → take n all ≡ log
+cut_log d m log all n longer is = log_cut (logged_by d m) log all n longer is
+
+forgets : {Own : Type 0} {Tells : Type 0} (d : ℕ) (m : Change) (old new : Seen Own) (net mid : NetState) (n : ℕ) (fault : TxnFault) → n ≡ length net.log → is_row_at d (key_in m) net.views ≡ true
+    → Unsent old new net mid ⊎ InFlight Tells d m (with_logged (logged_by d m) net.log) old new net mid fault
+    → Unsent old new net (record mid { log = take n mid.log }) ⊎ InFlight Tells d m (log_in_flight d m net.views net.log) old new net (record mid { log = take n mid.log }) fault
+forgets d m old new net mid n fault longer known (inl unsent) =
+    inl (record { world = unsent.world; views = unsent.views; log = ap (take n) unsent.log ∙ take_all n net.log (omega (arith, longer)); kept = unsent.kept })
+forgets d m old new net mid n fault longer known (inr flight) = inr (record {
+  message = flight.message;
+  is_xid = flight.is_xid;
+  said = flight.said;
+  views = flight.views;
+  log_so = cut_log d m net.log mid.log n longer flight.log_so ∙ sym (rw known refl);
+  kept = flight.kept;
+})
+
+pub forgotten : {Own : Type 0} (Tells : Type 0) (d : ℕ) (m : Change) (old new : Seen Own) (net mid now : NetState) (n : ℕ) (result : Result Answer TxnFault) → IsErr result → n ≡ length net.log → is_row_at d (key_in m) net.views ≡ true
+    → now ≡ record mid { log = take n mid.log } → MatchResult result (Asked Tells d m old new net mid) (λ f. Unsent old new net mid ⊎ InFlight Tells d m (with_logged (logged_by d m) net.log) old new net mid f)
+    → Judged Tells d m old new net now result
+forgotten Tells d m old new net mid now n (Ok answer) failed longer known same made = absurd cc
+forgotten Tells d m old new net mid now n (Err fault) failed longer known same made =
+    subst (λ (x : NetState). Unsent old new net x ⊎ InFlight Tells d m (log_in_flight d m net.views net.log) old new net x fault) (sym same) (forgets d m old new net mid n fault longer known made)
 
 -- a change is no packet
 nothing_held : (d : ℕ) (bytes : List ℕ) (xid : ℕ) (m : Change) (result : Result Answer TxnFault) (held : List Held) → reading_of bytes ≡ Ok (enveloped xid (FlowMod m)) → held ≡ held_after d bytes result held

@@ -1,5 +1,5 @@
 -- The laws of a commit: how its parts make the whole.
-use Rattle.std.specs.Prelude.{◌≡◌, ℕ, Bool, List, map, drop, Result, Err}
+use Rattle.std.specs.Prelude.{ℕ, Bool, List, map, drop, Result, Err}
 use Rattle.std.proofs.Common.{ap, ◌∙◌, inl, refl}
 use Rattle.app_frames.specs.declared.frame.Event.{Event}
 use Rattle.flow_table.specs.declared.view.TableView.{TableView}
@@ -22,10 +22,10 @@ commits_undone start old new net now_net queue result u = record {
   continues = u.continues;
   links = u.links;
   no_strays = u.no_strays;
-  read = λ ok. absurd ok;
+  read = λ ok. absurd cc;
   moment = u.moment;
-  room = λ ok. absurd ok;
-  kept = λ ok. absurd ok;
+  room = λ ok. absurd cc;
+  kept = λ ok. absurd cc;
   switches = λ e. ap (in_views e) u.views ∙ without_keys-viewed e (map key_logged (drop start net.log)) net.views;
   ended = inl (record { fault_so = refl; result = result; undoes = u; queue_so = refl });
 }

@@ -4,7 +4,7 @@ use Rattle.net_txn.specs.laws.ChangeLaws.{Changes-short, Changes-by_host, Change
 use Rattle.net_txn.specs.laws.TalkLaws.{speaks_on, speaks_links, speaks_place}
 use Rattle.net_txn.specs.laws.ConsequenceLaws.{Changes-reaches, Changes-steps}
 use Rattle.std.proofs.lemmas.Result.{err_from_is_err_and}
-use Rattle.app_frames.specs.declared.frame.Answer.TheVariants.{Unknown}
+use Rattle.app_frames.specs.declared.frame.Answer.TheVariants.{Fine, Unknown}
 use Rattle.net_txn.proofs.net.Net.change.Goals as goal
 
 pub returns-in_default : goal.returns-in_default
@@ -35,3 +35,16 @@ pub returns-in_err-answer-clause-changes : goal.returns-in_err-answer-clause-cha
 returns-in_err-answer-clause-changes g c =
     let p = err_from_is_err_and c.from_residual.result c.from_residual.ensures.1 in
     rw (p.1, p.2) (Changes-short c.args.dpid c.args.bytes.now (g.W.World.seen c.args.world.now) c.args.self.now)
+
+pub returns-in_err-hold-in-Holds-clause-changes : goal.returns-in_err-hold-in-Holds-clause-changes
+returns-in_err-hold-in-Holds-clause-changes g c =
+    let p = err_from_is_err_and c.from_residual-in_err-hold-in-Holds.result c.from_residual-in_err-hold-in-Holds.ensures.1 in
+    rw (p.1, p.2, c.in_err-hold-in-Holds.ensures.err) (Changes-short c.args.dpid c.args.bytes.now (g.W.World.seen c.args.world.now) c.args.self.now)
+
+pub returns-in_ok-hold-in-Holds-clause-changes : goal.returns-in_ok-hold-in-Holds-clause-changes
+returns-in_ok-hold-in-Holds-clause-changes g c =
+    let v : c.deref.result.now ≡ c.args.self.now.views = c.deref.ensures.value ∙ ap (λ (n : NetState). n.views) c.self.view_is in
+    let knows = host_knows c.args.dpid c.args.bytes.now c.args.self.now c.deref.result.now c.in-Some.view.now.rows c.as_slice.result.now v c.in-Some.ensures c.as_slice.ensures in
+    let held = rw c.in-Holds.is at c.in_ok-answer.ensures in
+    Changes-by_host {Tells = g.W.World.Tells} c.args.dpid c.args.bytes.now (g.W.World.seen c.args.world.now) c.args.self.now c.hold.new.self Fine (knows ∙ held.0)
+    (c.in_ok-hold-in-Holds.ensures.ok ∙ holds_packet c.args.dpid c.args.bytes.now c.in-Holds.packet c.args.self.now (packet_held c.args.dpid held.1.0 c.args.bytes.now c.in-Holds.packet held.1.1))
