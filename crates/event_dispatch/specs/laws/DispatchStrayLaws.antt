@@ -1,17 +1,16 @@
 -- Laws of what turns, starts and questions for rows keep of a world that tells in order.
 use Rattle.std.specs.Prelude.{◌≡◌, ℕ, Bool, List, IsSome, Result, Ok, refl, ◌∷◌}
-use Rattle.std.proofs.Common.{sym, ap, ◌∙◌, subst}
+use Rattle.std.proofs.Common.{◌∙◌, subst}
 use Rattle.flow_table.specs.declared.view.TableView.{TableView}
 use Rattle.of_stats.specs.declared.flow_row.FlowRow.{FlowRow}
 use Rattle.app_frames.specs.declared.frame.Event.{Event}
 use Rattle.outside.specs.Seen.{Seen, Continues}
 use Rattle.outside.specs.State.{state}
-use Rattle.outside.specs.InOrder.{InOrder, MessagesSince}
 use Rattle.outside.specs.laws.InOrderLaws.{InOrder-before, messages-then}
 use Rattle.lego_model.specs.declared.fault.TxnFault.{TxnFault}
 use Rattle.net_txn.specs.Net.{NetState}
 use Rattle.net_txn.specs.Views.{rows_at}
-use Rattle.net_txn.specs.LinkSteps.{OnLinks, MakesNoStrayCall}
+use Rattle.net_txn.specs.LinkSteps.{OnLinks}
 use Rattle.net_txn.specs.laws.LinkStrayLaws.{no_strays_then}
 use Rattle.net_txn.specs.Asks.{Asks}
 use Rattle.net_txn.specs.Undos.{AreJoined, Undoes}

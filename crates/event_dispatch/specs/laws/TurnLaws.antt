@@ -17,7 +17,7 @@ use Rattle.app_visor.specs.declared.state.AppState.{AppState}
 use Rattle.app_visor.specs.declared.state.TurnEnd.{TurnEnd}
 use Rattle.app_visor.specs.declared.state.TurnEnd.TheVariants as ends
 use Rattle.app_visor.specs.Attempts.{kept_of}
-use Rattle.app_visor.specs.Turns.{handed, StagesTurn}
+use Rattle.app_visor.specs.Turns.{StagesTurn}
 use Rattle.checkpoint_store.specs.Slots.{Slot}
 use Rattle.run_laws.specs.Engine.{Engine}
 use Rattle.lego_model.specs.Application.{index, budget, name}
