@@ -1,6 +1,7 @@
 -- How a run may end in a world that keeps its word: no switch is at fault for what it sent, so that each end but the whole one is by a link
--- that failed, by the sink, by what comes next, by events that are left, or for want of memory. All of this is our own.
-use Rattle.std.specs.Prelude.{◌≡◌, ℕ, ◌<◌, Bool, List, [], length, IsOk}
+-- that failed, by the sink, by what comes next, by events that are left, or for want of memory; or a packet that was released made its switch
+-- send more messages than a wait takes. All of this is our own.
+use Rattle.std.specs.Prelude.{◌≡◌, ◌⊎◌, ℕ, ◌<◌, Bool, List, [], length, IsOk}
 use Rattle.of_wire.specs.Reading.{reading_of}
 use Rattle.flow_table.specs.View.{TableView}
 use Rattle.lego_model.specs.Places.{Place}
@@ -10,6 +11,8 @@ use Rattle.outside.specs.State.{state, waits_of}
 use Rattle.outside.specs.Conforming.{Conforming}
 use Rattle.lego_model.specs.declared.fault.TxnFault.{TxnFault}
 use Rattle.lego_model.specs.declared.fault.TxnFault.TheVariants.{SwitchFault, SwitchBroke, Diverged, Flooded, NoMemory}
+use Rattle.lego_model.specs.BarrierWaits.{flood}
+use Rattle.lego_model.specs.SwitchFaults.{FloodedByPacket}
 use Rattle.net_txn.specs.Net.{NetState}
 use Rattle.switch_laws.specs.Since.{Ready}
 use Rattle.switch_laws.specs.Sound.{Sound}
@@ -44,6 +47,14 @@ IsPlainServed ends.NoMemory = Unit {0}
 abbrev pub IsPlainEnd : Fault → Type 0
 IsPlainEnd fault = IsPlainServed (served_by fault)
 
+-- A packet that was released made its switch send at least as many messages as are too many (5.3.6 Send Packet Message).
+abbrev pub IsFloodEnd : {Own : Type 0} → Seen Own → Seen Own → Served → Type 0
+IsFloodEnd old new end = (d : ℕ) × ((end ≡ ends.Txn (Flooded d flood)) × FloodedByPacket d old new)
+
+-- where packets may be released
+abbrev pub EndsPlain : {Own : Type 0} → Seen Own → Seen Own → Served → Type 0
+EndsPlain old new end = IsPlainServed end ⊎ IsFloodEnd old new end
+
 -- ---- A batch
 
 -- where the bytes are a message
@@ -74,7 +85,7 @@ pub record PlainCalm {Own : Type 0} (Tells : Type 0) (old new : Seen Own) (net :
 
 -- where all is ready
 pub record PlainTurn {Own : Type 0} (Tells : Type 0) (old new : Seen Own) (net : NetState) (fault : Fault) : Type 0 where
-  pub plain : Tells → Conforming new → Ready old net → IsPlainEnd fault
+  pub plain : Tells → Conforming new → Ready old net → EndsPlain old new (served_by fault)
 
 -- and the tables are sound
 pub record PlainTable {Own : Type 0} (Tells : Type 0) (old new : Seen Own) (net : NetState) (fault : Fault) : Type 0 where
@@ -83,8 +94,8 @@ pub record PlainTable {Own : Type 0} (Tells : Type 0) (old new : Seen Own) (net 
 -- ---- Parts of a run, where all is settled and the judges judge alike
 
 pub record PlainRun {Own : Type 0} (Tells : Type 0) (accepts : List TableView → Bool) (old new : Seen Own) (e : Engine) (end : Served) : Type 0 where
-  pub plain : (allows : List Place → Bool) → Tells → Conforming new → JudgesAlike Own allows accepts → AtRest old e → IsPlainServed end
+  pub plain : (allows : List Place → Bool) → Tells → Conforming new → JudgesAlike Own allows accepts → AtRest old e → EndsPlain old new end
 
 -- and the stimuli are fewer than this number of rounds
 pub record PlainWhole {Own : Type 0} (Tells : Type 0) (accepts : List TableView → Bool) (most : ℕ) (old new : Seen Own) (e : Engine) (end : Served) : Type 0 where
-  pub plain : (allows : List Place → Bool) → Tells → Conforming new → JudgesAlike Own allows accepts → AtRest old e → length (stimuli_in new) < most → IsPlainServed end
+  pub plain : (allows : List Place → Bool) → Tells → Conforming new → JudgesAlike Own allows accepts → AtRest old e → length (stimuli_in new) < most → EndsPlain old new end

@@ -1,6 +1,6 @@
 -- What the engine does, in the words of what is seen and kept: the facts of `run_laws`, each with its text behind what waited to be
 -- written, and what was written where it was. All of this is our own.
-use Rattle.std.specs.Prelude.{◌≡◌, ℕ, ◌+◌, ◌<◌, ◌⊎◌, Bool, false, List, [], ◌∷◌, ◌++◌, length, take, Option, Result, Ok, Err}
+use Rattle.std.specs.Prelude.{◌≡◌, ℕ, ◌+◌, ◌<◌, ◌⊎◌, Bool, false, List, [], ◌∷◌, ◌++◌, length, Option, Result, Ok, Err}
 use Rattle.std.specs.Io.KnownBytes.{append_known}
 use Rattle.flow_table.specs.View.{TableView}
 use Rattle.app_frames.specs.declared.frame.Event.{Event}
@@ -15,6 +15,7 @@ use Rattle.outside.specs.State.{state}
 use Rattle.outside.specs.Conforming.{Conforming}
 use Rattle.net_txn.specs.Net.{NetState}
 use Rattle.net_txn.specs.Undos.{Undoes}
+use Rattle.net_txn.specs.Releases.{Commits}
 use Rattle.app_visor.specs.declared.state.TurnEnd.{TurnEnd}
 use Rattle.app_visor.specs.declared.state.TurnEnd.TheVariants as ends
 use Rattle.app_visor.specs.Turns.{Turns}
@@ -22,7 +23,7 @@ use Rattle.run_laws.specs.Engine.{Engine}
 use Rattle.lego_model.specs.Application.{budget, name}
 use Rattle.lego_model.specs.History.{stimuli_in}
 use Rattle.run_laws.specs.Readings.{JudgesAlike}
-use Rattle.run_laws.specs.Facts.{turn_word, StartsAgain, TakesTurn, Dispatches}
+use Rattle.run_laws.specs.Facts.{turn_word, out_text, StartsAgain, TakesTurn, Dispatches}
 use Rattle.run_laws.specs.Moves.{AtRest, Shown, ShownIdle, ShownOver, ShownRounds, ShownToEnd}
 use Rattle.lego_model.specs.ReferenceRun.{dispatch_next, times}
 use Rattle.run_laws.specs.First.{engine_at_first}
@@ -31,6 +32,8 @@ use Rattle.lego_model.specs.WholeRun.{EndsAlike, LeavesAlike}
 use Rattle.run_laws.specs.Cut.{CutAlike, CutWithLines, CutWriting}
 use Rattle.event_dispatch.specs.declared.batch.Rest.{Rest}
 use Rattle.event_dispatch.specs.declared.batch.Rest.TheVariants as rests
+use Rattle.event_dispatch.specs.declared.closing.Closing.{Closing}
+use Rattle.event_dispatch.specs.declared.closing.Closing.TheVariants as closings
 use Rattle.event_dispatch.specs.declared.run.Run.{Run}
 use Rattle.event_dispatch.specs.declared.served.Served.{Served}
 use Rattle.event_dispatch.specs.declared.served.Served.TheVariants as served
@@ -49,22 +52,27 @@ pub record Starts {Own : Type 0} (Tells : Type 0) (old new : Seen Own) (r now_r 
   pub starts : StartsAgain Tells text old new (engine_of r) (engine_of now_r)
   pub notes : Notes text r now_r
 
--- a turn was played, and what it did stays or is undone
-abbrev pub IsPlayed : {Own : Type 0} → Type 0 → TurnEnd → ℕ → Seen Own → Seen Own → NetState → NetState → Type 0
-IsPlayed Tells (ends.Done stop) start mid new mid_net now_net = (new ≡ mid) × (now_net ≡ record mid_net { log = take start mid_net.log })
-IsPlayed Tells (ends.Failed cause) start mid new mid_net now_net = Undoes Tells start mid new mid_net now_net (Ok tt)
+-- how a turn ended that was closed so
+abbrev pub end_of : Closing → TurnEnd
+end_of (closings.Done stop out) = ends.Done stop
+end_of (closings.Failed cause) = ends.Failed cause
 
-pub record PlaysTurn {Own : Type 0} (Tells : Type 0) (accepts : List TableView → Bool) (app number : ℕ) (event : Event) (end : TurnEnd) (old new : Seen Own) (net now_net : NetState) (rest unread : List ℕ) : Type 0 where
+-- a turn was played, and what it did stays, with its packets released, or is undone
+abbrev pub IsPlayed : {Own : Type 0} → Type 0 → Closing → ℕ → Seen Own → Seen Own → NetState → NetState → List Event → List Event → Type 0
+IsPlayed Tells (closings.Done stop out) start mid new mid_net now_net queue now_queue = Commits Tells start mid new mid_net now_net queue now_queue (Ok out.items)
+IsPlayed Tells (closings.Failed cause) start mid new mid_net now_net queue now_queue = Undoes Tells start mid new mid_net now_net (Ok tt) × (now_queue ≡ queue)
+
+pub record PlaysTurn {Own : Type 0} (Tells : Type 0) (accepts : List TableView → Bool) (app number : ℕ) (event : Event) (closing : Closing) (old new : Seen Own) (net now_net : NetState) (queue now_queue : List Event) (rest unread : List ℕ) : Type 0 where
   pub mid : Seen Own
   pub mid_net : NetState
-  pub turns : Turns Tells accepts app budget rest (event_frame number net.moment event) old mid net mid_net end unread
-  pub played : IsPlayed Tells end (length net.log) mid new mid_net now_net
+  pub turns : Turns Tells accepts app budget rest (event_frame number net.moment event) old mid net mid_net (end_of closing) unread
+  pub played : IsPlayed Tells closing (length net.log) mid new mid_net now_net queue now_queue
 
--- the turn was counted, and how it ended was noted
-pub record IsCounted {Own : Type 0} (stop : Bool) (old new : Seen Own) (r now_r : Run) : Type 0 where
+-- the turn was counted, and how it ended was noted, with the packets that were released
+pub record IsCounted {Own : Type 0} (stop : Bool) (out : List (ℕ × ℕ)) (old new : Seen Own) (r now_r : Run) : Type 0 where
   pub seen : new ≡ old
   pub engine : engine_of now_r ≡ record (engine_of r) { done = r.app.done + 1 }
-  pub notes : Notes (turn_line name (turn_word (ends.Done stop))) r now_r
+  pub notes : Notes (turn_line name (turn_word (ends.Done stop)) ++ out_text out) r now_r
 
 -- and so it was where it failed, and the application started again
 pub record IsRestarted {Own : Type 0} (Tells : Type 0) (cause : Cause) (old new : Seen Own) (r now_r : Run) : Type 0 where
@@ -72,9 +80,9 @@ pub record IsRestarted {Own : Type 0} (Tells : Type 0) (cause : Cause) (old new 
   pub starts : StartsAgain Tells text old new (record (engine_of r) { failed = r.app.failed + 1 }) (engine_of now_r)
   pub notes : Notes (turn_line name (words.Failed cause) ++ text) r now_r
 
-abbrev pub Closes : {Own : Type 0} → Type 0 → TurnEnd → Seen Own → Seen Own → Run → Run → Type 0
-Closes Tells (ends.Done stop) old new r now_r = IsCounted stop old new r now_r
-Closes Tells (ends.Failed cause) old new r now_r = IsRestarted Tells cause old new r now_r
+abbrev pub Closes : {Own : Type 0} → Type 0 → Closing → Seen Own → Seen Own → Run → Run → Type 0
+Closes Tells (closings.Done stop out) old new r now_r = IsCounted stop out.items old new r now_r
+Closes Tells (closings.Failed cause) old new r now_r = IsRestarted Tells cause old new r now_r
 
 -- the application had its turn
 pub record HasTurn {Own : Type 0} (Tells : Type 0) (accepts : List TableView → Bool) (event : Event) (old new : Seen Own) (r now_r : Run) : Type 0 where

@@ -1,8 +1,9 @@
 -- What the engine keeps of a world that tells in order: no call of a link is a stray one, all bytes that came of switches were read where a part
 -- of a run was done, and no quiescent point lies behind the one where a part began that was not; and of any world that tells: no other application
 -- is called, and none runs at last. All of this is our own.
-use Rattle.std.specs.Prelude.{◌≡◌, false, []}
-use Rattle.outside.specs.Seen.{Seen}
+use Rattle.std.specs.Prelude.{◌≡◌, false, List, [], ◌++◌}
+use Rattle.outside.specs.declared.step.WorldStep.{WorldStep}
+use Rattle.outside.specs.Seen.{Seen, journal}
 use Rattle.outside.specs.State.{State, state, upcoming, is_running}
 use Rattle.outside.specs.InOrder.{InOrder, MessagesSince}
 use Rattle.outside.specs.Quiescence.{NoneQuiescentSince, IsLastQuiescent}
@@ -11,6 +12,7 @@ use Rattle.net_txn.specs.LinkSteps.{MakesNoStrayCall}
 use Rattle.net_txn.specs.Abreast.{Abreast}
 use Rattle.app_visor.specs.CallsFor.{CallsFor}
 use Rattle.lego_model.specs.Application.{index}
+use Rattle.lego_model.specs.Journal.{released}
 use Rattle.lego_model.specs.AfterFault.{SwitchesStay}
 
 -- however it ended: no call of a link was a stray one, and none was for another application
@@ -38,13 +40,21 @@ pub record AtMostThisPoint {Own : Type 0} (Tells : Type 0) (old new : Seen Own) 
   pub last : Tells → InOrder new → NothingUnderWay (state old) → IsLastQuiescent old new
   pub own : Tells → CallsFor index old new
 
--- no switch moved
+-- no packet was released since then
+pub record NoneReleased {Own : Type 0} (old new : Seen Own) : Type 0 where
+  pub steps : List WorldStep
+  pub history : new.history ≡ old.history ++ steps
+  pub none : released (journal steps) ≡ []
+
+-- no switch moved, and no packet was released
 pub record NoneMoves {Own : Type 0} (Tells : Type 0) (old new : Seen Own) : Type 0 where
   pub stay : Tells → SwitchesStay old new
+  pub releases : Tells → NoneReleased old new
 
 -- ---- The application is ended at last
 
--- it does not run then: no call of a link was a stray one, no bytes came of a switch, no quiescent point lies behind, and no switch moved
+-- it does not run then: no call of a link was a stray one, no bytes came of a switch, no quiescent point lies behind, no switch moved, and
+-- no packet was released
 pub record IsEnded {Own : Type 0} (Tells : Type 0) (old new : Seen Own) : Type 0 where
   pub no_point : NoPoint Tells old new
   pub places : Tells → MakesNoStrayCall old new

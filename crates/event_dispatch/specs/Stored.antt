@@ -5,10 +5,10 @@ use Rattle.app_frames.specs.declared.frame.Event.{Event}
 use Rattle.outside.specs.Seen.{Seen}
 use Rattle.net_txn.specs.Net.{NetState}
 use Rattle.checkpoint_store.specs.Slots.{Slot, done, dropped}
-use Rattle.app_visor.specs.declared.state.TurnEnd.{TurnEnd}
-use Rattle.app_visor.specs.declared.state.TurnEnd.TheVariants as ends
 use Rattle.app_visor.specs.Attempts.{kept_of}
 use Rattle.app_visor.specs.Turns.{handed, with_handed}
+use Rattle.event_dispatch.specs.declared.closing.Closing.{Closing}
+use Rattle.event_dispatch.specs.declared.closing.Closing.TheVariants as closings
 use Rattle.event_dispatch.specs.declared.fault.Fault.{Fault}
 use Rattle.event_dispatch.specs.Serves.{PlaysTurn}
 
@@ -18,17 +18,17 @@ pub record KeepsSlots (app : ℕ) (slots now_slots : List Slot) : Type 0 where
   pub kept : kept_of app now_slots ≡ kept_of app slots
 
 -- what becomes of what a turn staged: it is kept where the turn was done, and dropped where it was not
-abbrev pub closes_slot : Result TurnEnd Fault → Slot → Slot
-closes_slot (Ok (ends.Done stop)) slot = done slot
-closes_slot (Ok (ends.Failed cause)) slot = dropped slot
+abbrev pub closes_slot : Result Closing Fault → Slot → Slot
+closes_slot (Ok (closings.Done stop out)) slot = done slot
+closes_slot (Ok (closings.Failed cause)) slot = dropped slot
 closes_slot (Err fault) slot = dropped slot
 
 -- a turn was played, and the checkpoint that it handed over was staged
-pub record PlaysStaged {Own : Type 0} (Tells : Type 0) (accepts : List TableView → Bool) (app number : ℕ) (event : Event) (end : TurnEnd) (old new : Seen Own) (net now_net : NetState) (rest unread : List ℕ) (slots now_slots : List Slot) : Type 0 where
-  pub plays : PlaysTurn Tells accepts app number event end old new net now_net rest unread
+pub record PlaysStaged {Own : Type 0} (Tells : Type 0) (accepts : List TableView → Bool) (app number : ℕ) (event : Event) (closing : Closing) (old new : Seen Own) (net now_net : NetState) (queue now_queue : List Event) (rest unread : List ℕ) (slots now_slots : List Slot) : Type 0 where
+  pub plays : PlaysTurn Tells accepts app number event closing old new net now_net queue now_queue rest unread
   pub staged_so : now_slots ≡ with_handed app (handed plays.turns.outcome) slots
 
 -- a turn was played, and the checkpoint that it handed over is the kept one then, or the one before where it handed over none
-pub record HoldsTurn {Own : Type 0} (Tells : Type 0) (accepts : List TableView → Bool) (app number : ℕ) (event : Event) (end : TurnEnd) (old new : Seen Own) (net now_net : NetState) (rest unread kept now_kept : List ℕ) : Type 0 where
-  pub plays : PlaysTurn Tells accepts app number event end old new net now_net rest unread
+pub record HoldsTurn {Own : Type 0} (Tells : Type 0) (accepts : List TableView → Bool) (app number : ℕ) (event : Event) (closing : Closing) (old new : Seen Own) (net now_net : NetState) (queue now_queue : List Event) (rest unread kept now_kept : List ℕ) : Type 0 where
+  pub plays : PlaysTurn Tells accepts app number event closing old new net now_net queue now_queue rest unread
   pub kept_so : now_kept ≡ unwrap_or (handed plays.turns.outcome) kept

@@ -22,7 +22,6 @@ pub mod DispatchStrayLaws
 pub mod FrontLaws
 pub mod ReadLaws
 pub mod EndedLaws
-pub mod UndoneLaws
 pub mod NoEventLaws
 pub mod LeftLaws
 pub mod StoreLaws

@@ -1,6 +1,6 @@
 //! Events, given to the application one after the other.
 
-ghost use Rattle.std.specs.Prelude.{◌≡◌, ℕ, ◌+◌, ◌^◌, ◌<◌, ◌≤◌, [], length, IfOk, IfErr, OnOk, OnErr};
+ghost use Rattle.std.specs.Prelude.{◌≡◌, ℕ, ◌+◌, ◌^◌, ◌<◌, ◌≤◌, [], ◌++◌, length, IfOk, IfErr, OnOk, OnErr};
 ghost use Rattle.lego_io.specs.Count.{NeverFell};
 ghost use Rattle.app_frames.specs.declared.frame.HostFrame.TheVariants as host;
 ghost use Rattle.app_frames.specs.Frames.{HostFits};
@@ -9,19 +9,21 @@ ghost use Rattle.event_dispatch.specs.Steady.{NoStray, Reads, NoPoint, AtMostThi
 ghost use Rattle.app_visor.specs.CallsFor.{CalmLater, OwnSteps};
 ghost use Rattle.event_dispatch.specs.Runs.{AreRead, StoreRests, Going, Waits};
 ghost use Rattle.event_dispatch.specs.Stored.{KeepsSlots, closes_slot, PlaysStaged, HoldsTurn};
+ghost use Rattle.app_visor.specs.declared.state.TurnEnd.TheVariants as ends;
 ghost use Rattle.app_visor.specs.Attempts.{kept_of};
 ghost use Rattle.checkpoint_store.specs.Slots.{with_slot};
 ghost use Rattle.event_dispatch.specs.Why.{IsReason, served_by};
 ghost use Rattle.event_dispatch.specs.Plain.{PlainTurn, PlainRun};
 ghost use Rattle.lego_model.specs.RunReport.{turn_line as turn_line_of};
 ghost use Rattle.lego_model.specs.Application.{index, name};
-ghost use Rattle.run_laws.specs.Facts.{starts_text};
+ghost use Rattle.run_laws.specs.Facts.{turn_word, out_text, starts_text};
 ghost use Rattle.event_dispatch.specs.Shows.{engine_of, Adds};
 ghost use Rattle.event_dispatch.specs.Serves.{Starts, Closes, HasTurn, IsDispatched, DispatchesOldest, DispatchesWaiting};
 ghost use Rattle.event_dispatch.specs.Talking.{KeepsTalking, TurnTalks};
-ghost use Rattle.event_dispatch.specs.Undone.{TurnUndone, IsShort, TurnLeft};
+ghost use Rattle.event_dispatch.specs.Undone.{IsShort, TurnLeft};
 ghost use Rattle.event_dispatch.specs.Cut.{FailsIn, CutOne, CutSome};
 
+use crate::closing::Closing;
 use crate::fault::Fault;
 use crate::limits::{BUDGET, MOST_BODY, MOST_EVENTS};
 use crate::run::{NAME, Run};
@@ -30,39 +32,39 @@ use app_visor::{AppState, Back, TurnEnd, restart, turn};
 use checkpoint_store::Store;
 use lego_io::Sink;
 use net_txn::{EventQueue, Net, Txn};
+use of_types::Dpid;
 use outside::{Judge, World};
-use report_text::{TurnWord, event_line, gone_line, start_line, turn_line};
+use report_text::{TurnWord, event_line, gone_line, out_line, start_line, turn_line};
 use std::alloc::{AllocError, Global};
 
-/// An event, and which one of the run it is.
-struct Numbered<'a> {
+/// What a turn is held for: an event, which one of the run it is, and who judges the tables that the turn leaves.
+struct Occasion<'a, J> {
     number: u64,
     event: &'a Event,
+    judge: &'a J,
 }
 
-/// Plays a turn of the application, whose changes are kept where it was done and undone where it failed. The checkpoint that
-/// it hands over is staged, and no more.
+/// Plays a turn of the application. Where it was done its changes are kept and its packets released; where it failed its
+/// changes are undone. The checkpoint that it hands over is staged, and no more.
 #[tactic(auto, using(crate::specs::laws::WhyLaws::continues_then, crate::specs::laws::WhyLaws::why_then, crate::specs::laws::WhyLaws::why_before, crate::specs::laws::FaultLaws::undo_why, crate::specs::laws::FaultLaws::stops_why))]
 fn play_turn<W: World, J: Judge>(
     alloc: Global,
     world: &mut W,
     net: &mut Net,
     queue: &mut EventQueue,
-    judge: &J,
     store: &mut Store,
     app: &mut AppState,
-    numbered: Numbered<'_>,
-) -> Result<TurnEnd, Fault>
+    occasion: Occasion<'_, J>,
+) -> Result<Closing, Fault>
     requires room { 1 ≤ net.old.room }
     requires index { app.old.index ≡ index }
     requires place { app.old.index < length store.old }
-    requires fits { HostFits (host.Event numbered.number net.old.moment numbered.event.now) }
+    requires fits { HostFits (host.Event occasion.number net.old.moment occasion.event.now) }
     ensures room { OnOk result (net.new.room ≡ net.old.room) }
     ensures index { app.new.index ≡ app.old.index }
     ensures alive { app.new.alive ≡ app.old.alive }
-    ensures queue { queue.new ≡ queue.old }
-    ensures plays { IfOk result (λ end. PlaysStaged W.Tells (J.accepts judge.now) app.old.index numbered.entry.number numbered.entry.event.now end (W.seen world.old) (W.seen world.new)
-        net.old net.new app.old.rest app.new.rest store.old store.new) }
+    ensures plays { IfOk result (λ end. PlaysStaged W.Tells (J.accepts occasion.entry.judge.now) app.old.index occasion.entry.number occasion.entry.event.now end (W.seen world.old) (W.seen world.new)
+        net.old net.new queue.old queue.new app.old.rest app.new.rest store.old store.new) }
     ensures slots { KeepsSlots app.old.index store.old store.new }
     ensures read { OnOk result (AreRead net.old.kept → AreRead net.new.kept) }
     ensures continues { Continues W.Tells (W.seen world.old) (W.seen world.new) }
@@ -72,20 +74,24 @@ fn play_turn<W: World, J: Judge>(
     ensures talks { OnErr result (TurnTalks W.Tells app.old.index app.old.rest (W.seen world.old) (W.seen world.new)) }
     ensures why { IfErr result (IsReason W.Tells (W.seen world.old) (W.seen world.new) 0 0) }
     ensures plain { IfErr result (PlainTurn W.Tells (W.seen world.old) (W.seen world.new) net.old) }
-    ensures undone { OnErr result (TurnUndone W.Tells (W.seen world.old) (W.seen world.new) net.old) }
+    ensures left { IfErr result (λ fault. TurnLeft W.Tells (IsShort fault) app.old.rest (W.seen world.old) (W.seen world.new) net.old) }
 {
-    let Numbered { number, event } = numbered;
+    let Occasion {
+        number,
+        event,
+        judge,
+    } = occasion;
     let mut txn = Txn::begin(net);
     match turn(
         alloc, world, &mut txn, judge, store, app, number, event, BUDGET,
     ) {
         Ok(TurnEnd::Done { stop }) => {
-            txn.commit(world, queue)?;
-            Ok(TurnEnd::Done { stop })
+            let out = txn.commit(world, queue)?;
+            Ok(Closing::Done { stop, out })
         }
         Ok(TurnEnd::Failed(cause)) => {
             txn.abort(world)?;
-            Ok(TurnEnd::Failed(cause))
+            Ok(Closing::Failed(cause))
         }
         Err(fault) => {
             let _ = txn.abort(world);
@@ -95,38 +101,36 @@ fn play_turn<W: World, J: Judge>(
 }
 
 /// Keeps what a turn staged where it was done, and drops it where it was not.
-fn close_store(store: &mut Store, app: u32, end: &Result<TurnEnd, Fault>)
+fn close_store(store: &mut Store, app: u32, closing: &Result<Closing, Fault>)
     requires { app < length store.old }
-    ensures { store.new ≡ with_slot app (closes_slot end.now) store.old }
+    ensures { store.new ≡ with_slot app (closes_slot closing.now) store.old }
 {
-    match end {
-        Ok(TurnEnd::Done { .. }) => store.keep(app),
+    match closing {
+        Ok(Closing::Done { .. }) => store.keep(app),
         _ => store.drop_staged(app),
     }
 }
 
-/// Holds a turn of the application: what it did is kept where it was done, with the checkpoint that it handed over, and undone
-/// where it failed.
+/// Holds a turn of the application: where it was done, what it did is kept, with the checkpoint that it handed over, and its
+/// packets are released; where it failed, what it did is undone.
 fn hold_turn<W: World, J: Judge>(
     alloc: Global,
     world: &mut W,
     net: &mut Net,
     queue: &mut EventQueue,
-    judge: &J,
     store: &mut Store,
     app: &mut AppState,
-    numbered: Numbered<'_>,
-) -> Result<TurnEnd, Fault>
+    occasion: Occasion<'_, J>,
+) -> Result<Closing, Fault>
     requires room { 1 ≤ net.old.room }
     requires index { app.old.index ≡ index }
-    requires fits { HostFits (host.Event numbered.number net.old.moment numbered.event.now) }
+    requires fits { HostFits (host.Event occasion.number net.old.moment occasion.event.now) }
     requires rests { StoreRests store.old }
     ensures room { OnOk result (net.new.room ≡ net.old.room) }
     ensures index { app.new.index ≡ app.old.index }
     ensures alive { app.new.alive ≡ app.old.alive }
-    ensures queue { queue.new ≡ queue.old }
-    ensures plays { IfOk result (λ end. HoldsTurn W.Tells (J.accepts judge.now) app.old.index numbered.entry.number numbered.entry.event.now end (W.seen world.old) (W.seen world.new)
-        net.old net.new app.old.rest app.new.rest (kept_of app.old.index store.old) (kept_of app.old.index store.new)) }
+    ensures plays { IfOk result (λ end. HoldsTurn W.Tells (J.accepts occasion.entry.judge.now) app.old.index occasion.entry.number occasion.entry.event.now end (W.seen world.old) (W.seen world.new)
+        net.old net.new queue.old queue.new app.old.rest app.new.rest (kept_of app.old.index store.old) (kept_of app.old.index store.new)) }
     // However it went, nothing that it staged is left; where it did not go well, the kept checkpoint is the one before.
     ensures rests { StoreRests store.new }
     ensures unkept { OnErr result (kept_of app.old.index store.new ≡ kept_of app.old.index store.old) }
@@ -138,12 +142,12 @@ fn hold_turn<W: World, J: Judge>(
     ensures talks { OnErr result (TurnTalks W.Tells app.old.index app.old.rest (W.seen world.old) (W.seen world.new)) }
     ensures why { IfErr result (IsReason W.Tells (W.seen world.old) (W.seen world.new) 0 0) }
     ensures plain { IfErr result (PlainTurn W.Tells (W.seen world.old) (W.seen world.new) net.old) }
-    ensures undone { OnErr result (TurnUndone W.Tells (W.seen world.old) (W.seen world.new) net.old) }
+    ensures left { IfErr result (λ fault. TurnLeft W.Tells (IsShort fault) app.old.rest (W.seen world.old) (W.seen world.new) net.old) }
 {
     let index = app.index;
-    let end = play_turn(alloc, world, net, queue, judge, store, app, numbered);
-    close_store(store, index, &end);
-    end
+    let closing = play_turn(alloc, world, net, queue, store, app, occasion);
+    close_store(store, index, &closing);
+    closing
 }
 
 impl Run {
@@ -199,9 +203,32 @@ impl Run {
         Ok(())
     }
 
+    /// Appends the lines of the packets that were released.
+    #[tactic(auto, using(crate::specs::laws::WhyLaws::waits_then))]
+    fn note_out(&mut self, out: &[(Dpid, u32)]) -> Result<(), AllocError>
+        ensures waits { OnOk result (Waits self.old self.new) }
+        ensures adds { OnOk result (Adds (out_text out.now) self.old self.new) }
+    {
+        for &(dpid, len) in out {
+            let line = out_line(self.alloc, dpid, len)?;
+            self.note(&line)?;
+        }
+        Ok(())
+    }
+
+    /// Appends the lines of a turn that was done: how it ended, and the packets that were released.
+    #[tactic(auto, using(crate::specs::laws::WhyLaws::waits_then))]
+    fn note_done(&mut self, stop: bool, out: &[(Dpid, u32)]) -> Result<(), AllocError>
+        ensures waits { OnOk result (Waits self.old self.new) }
+        ensures adds { OnOk result (Adds (turn_line_of name (turn_word (ends.Done stop)) ++ out_text out.now) self.old self.new) }
+    {
+        self.note_turn(if stop { TurnWord::Stop } else { TurnWord::Done })?;
+        self.note_out(out)
+    }
+
     /// Closes a turn: counts and tells it, and starts an application again that failed.
     #[tactic(auto, using(crate::specs::laws::TalkingLaws::keeps_none))]
-    fn close<W: World>(&mut self, world: &mut W, end: TurnEnd) -> Result<(), AllocError>
+    fn close<W: World>(&mut self, world: &mut W, closing: Closing) -> Result<(), AllocError>
         requires done { self.old.app.done < self.old.events }
         requires failed { self.old.app.failed < self.old.events }
         requires room { 1 ≤ self.old.net.room }
@@ -210,7 +237,7 @@ impl Run {
         requires store { StoreRests self.old.store }
         ensures going { OnOk result (Going self.new) }
         ensures events { OnOk result (self.new.events ≡ self.old.events) }
-        ensures closes { OnOk result (Closes W.Tells end (W.seen world.old) (W.seen world.new) self.old self.new) }
+        ensures closes { OnOk result (Closes W.Tells closing (W.seen world.old) (W.seen world.new) self.old self.new) }
         ensures continues { Continues W.Tells (W.seen world.old) (W.seen world.new) }
         ensures places { NoStray W.Tells (W.seen world.old) (W.seen world.new) self.old.net }
         ensures reads { OnOk result (Reads W.Tells (W.seen world.old) (W.seen world.new) self.old.net self.new.net) }
@@ -218,12 +245,12 @@ impl Run {
         ensures talks { KeepsTalking W.Tells (W.seen world.old) (W.seen world.new) }
         ensures own { W.Tells → OwnSteps index (W.seen world.old) (W.seen world.new) }
     {
-        match end {
-            TurnEnd::Done { stop } => {
+        match closing {
+            Closing::Done { stop, out } => {
                 self.app.done += 1;
-                self.note_turn(if stop { TurnWord::Stop } else { TurnWord::Done })
+                self.note_done(stop, &out)
             }
-            TurnEnd::Failed(cause) => {
+            Closing::Failed(cause) => {
                 self.app.failed += 1;
                 self.note_turn(TurnWord::Failed(cause))?;
                 self.start(world)
@@ -257,20 +284,20 @@ impl Run {
         ensures plain { IfErr result (PlainTurn W.Tells (W.seen world.old) (W.seen world.new) self.old.net) }
         ensures left { IfErr result (λ fault. TurnLeft W.Tells (IsShort fault) self.old.app.state.rest (W.seen world.old) (W.seen world.new) self.old.net) }
     {
-        let end = hold_turn(
+        let closing = hold_turn(
             self.alloc,
             world,
             &mut self.net,
             &mut self.queue,
-            judge,
             &mut self.store,
             &mut self.app.state,
-            Numbered {
+            Occasion {
                 number: self.events,
                 event,
+                judge,
             },
         )?;
-        Ok(self.close(world, end)?)
+        Ok(self.close(world, closing)?)
     }
 
     /// Gives an event to the application, while it is alive.

@@ -9,6 +9,7 @@
 #![tactic(auto)]
 
 mod batch;
+mod closing;
 mod dispatch;
 mod fault;
 mod last;

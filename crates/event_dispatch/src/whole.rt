@@ -10,7 +10,7 @@ ghost use Rattle.net_txn.specs.LinkSteps.{MakesNoStrayCall};
 ghost use Rattle.event_dispatch.specs.Runs.{Going, most_rounds};
 ghost use Rattle.event_dispatch.specs.Why.{IsWhy, IsReason, served_by};
 ghost use Rattle.event_dispatch.specs.Shows.{engine_of};
-ghost use Rattle.event_dispatch.specs.Plain.{IsPlainServed, IsPlainEnd, PlainCalm, PlainRun, PlainWhole};
+ghost use Rattle.event_dispatch.specs.Plain.{IsPlainEnd, EndsPlain, PlainCalm, PlainRun, PlainWhole};
 ghost use Rattle.lego_model.specs.Places.{Place};
 ghost use Rattle.outside.specs.declared.step.WorldStep.TheVariants.{Opened};
 ghost use Rattle.run_laws.specs.Endings.{ShownLeaves};
@@ -292,8 +292,9 @@ pub fn serve<W: World, J: Judge, K: Sink>(
     ensures end_has_cause { IsWhy W.Tells (W.seen world.old) (W.seen world.new) (K.faults sink.old) (K.faults sink.new) result }
     // In a world that tells and keeps its word, on which no call was made before, where fewer stimuli come than there are rounds, the run
     // is the reference controller's over what the world told: the tables agree at every quiescent point, the application was given what it
-    // is given there, and what was written is the report, whole where all events were dispatched, and as far as these go where some were
-    // left. It is so, too, over all that was said of the application, of which the world told the front.
+    // is given there, the packets that were released are those that it releases, in their order, and what was written is the report, whole
+    // where all events were dispatched, and as far as these go where some were left. It is so, too, over all that was said of the
+    // application, of which the world told the front.
     ensures reference_run { (allows : List Place → Bool) → Premise W.Tells (J.accepts judge.now) allows rounds (W.seen world.old) (W.seen world.new)
         → IsAlike allows (W.seen world.new) (K.contents sink.old) (K.contents sink.new) result }
     // Where a fault ends the run, it is so up to a point, with the lines of all that was done up to there, and where the sink failed,
@@ -303,8 +304,10 @@ pub fn serve<W: World, J: Judge, K: Sink>(
     // called.
     ensures reference_run_until_fault { (allows : List Place → Bool) → PremiseSoFar W.Tells (J.accepts judge.now) allows rounds (W.seen world.old) (W.seen world.new)
         → IsCut allows (W.seen world.new) (K.contents sink.old) (K.contents sink.new) result }
-    // In a world that keeps its word to the end no switch is at fault for what it sent: of a switch only its link ends a run.
-    ensures no_switch_at_fault { (allows : List Place → Bool) → Premise W.Tells (J.accepts judge.now) allows rounds (W.seen world.old) (W.seen world.new) → IsPlainServed result }
+    // In a world that keeps its word to the end no switch is at fault for what it sent: of a switch only its link ends a run, unless a packet that
+    // was released made it send as many messages as are too many.
+    ensures no_switch_at_fault { (allows : List Place → Bool) → Premise W.Tells (J.accepts judge.now) allows rounds (W.seen world.old) (W.seen world.new)
+        → EndsPlain (W.seen world.old) (W.seen world.new) result }
     // In a world that tells in order, though bytes that come of switches may be no messages: no call of a link is a stray one, and at the end
     // of a run that no fault ends all that came of switches is messages, so that the world kept its word.
     ensures no_stray_call { W.Tells → (W.seen world.old).history ≡ [] → InOrder (W.seen world.new) → MakesNoStrayCall (W.seen world.old) (W.seen world.new) }

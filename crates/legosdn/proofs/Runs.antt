@@ -23,7 +23,7 @@ use Rattle.legosdn.specs.declared.stop.Stop.{Stop}
 use Rattle.legosdn.specs.declared.stop.Stop.TheVariants.{Usage, Refused, ReadFault, WriteFault, Shut, NextFault, SwitchFault, SwitchBroke, Diverged, EventsLeft, NoMemory}
 use Rattle.legosdn.specs.Input.{session_of}
 use Rattle.legosdn.specs.Stops.{stop_status, stop_line}
-use Rattle.legosdn.specs.Headline.{Faults, IsNoSession, IsReadCause, IsCause, NoneFailed, IsLate, KeepsLines, Wrote, RunsWhole, RunsPart, SomeRefused, StopsAs, RunsAs, LeftAs, CutShort}
+use Rattle.legosdn.specs.Headline.{Faults, IsNoSession, IsReadCause, IsCause, NoneFailed, IsLate, KeepsLines, Wrote, RunsWhole, RunsPart, NoneFloods, SomeRefused, StopsAs, RunsAs, LeftAs, CutShort}
 use Rattle.legosdn.specs.Live.{TellsInOrder, ServesWhole, ServesPart, ServesUntil, ServesAs}
 use Rattle.legosdn.proofs.Causes.{no_both}
 use Rattle.legosdn.proofs.CutRuns.{lines_said, writing_said, memory_said}
@@ -91,7 +91,7 @@ stops_said sim a b WriteFault lines until = writing_said sim a b lines until
 stops_said sim a b Shut lines until = until
 stops_said sim a b NextFault lines until = lines_said sim a b lines until
 stops_said sim a b (SwitchFault d) lines until = lines_said sim a b lines until
-stops_said sim a b (SwitchBroke d) lines until = (some_refused sim until.0, lines_said sim a b lines until.1)
+stops_said sim a b (SwitchBroke d) lines until = ((λ none. some_refused sim (until.0 none)), lines_said sim a b lines until.1)
 stops_said sim a b (Diverged d) lines until = (some_refused sim until.0, lines_said sim a b lines until.1)
 stops_said sim a b (EventsLeft left) lines until = runs_part sim a b left lines until
 stops_said sim a b NoMemory lines until = memory_said sim a b (NothingDone [] (seen_of sim) a b) lines until
@@ -166,8 +166,8 @@ pub lines_by_read : {T : Type 0} (P : Type 0) (told : Option (List ℕ)) (k l : 
 lines_by_read P told k l stop result is cause = by_read P IsNoSession told k l stop result is cause
 
 -- what a stop of a switch says of the run
-pub broke_as : (sim : WorldData) (stop : Stop) (a b : Option (List ℕ)) → StopsAs stop sim a b → stop_status stop ≡ 8 → SomeRefused sim
-broke_as sim stop a b runs eight = let is = is_broken stop eight in (subst (λ (s : Stop). StopsAs s sim a b) is.1 runs).0
+pub broke_as : (sim : WorldData) (stop : Stop) (a b : Option (List ℕ)) → StopsAs stop sim a b → NoneFloods (seen_of sim) → stop_status stop ≡ 8 → SomeRefused sim
+broke_as sim stop a b runs none eight = let is = is_broken stop eight in (subst (λ (s : Stop). StopsAs s sim a b) is.1 runs).0 none
 
 pub diverged_as : (sim : WorldData) (stop : Stop) (a b : Option (List ℕ)) → StopsAs stop sim a b → stop_status stop ≡ 9 → SomeRefused sim
 diverged_as sim stop a b runs nine = let is = is_diverged stop nine in (subst (λ (s : Stop). StopsAs s sim a b) is.1 runs).0

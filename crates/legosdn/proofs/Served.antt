@@ -16,6 +16,7 @@ use Rattle.lego_model.specs.AtOnce.{AtOnce}
 use Rattle.lego_model.specs.OrderlySteps.{IsOrderly}
 use Rattle.lego_model.specs.declared.fault.TxnFault.{TxnFault}
 use Rattle.lego_model.specs.declared.fault.TxnFault.TheVariants as faults
+use Rattle.lego_model.specs.BarrierWaits.{flood}
 use Rattle.lego_model.specs.AllLines.{CutBehindLines, CutInLines, CutForMemory}
 use Rattle.lego_model.specs.CutRun.{NothingDone}
 use Rattle.run_laws.specs.Promise.{Premise, PremiseSoFar}
@@ -26,12 +27,12 @@ use Rattle.event_dispatch.specs.declared.served.Served.{Served}
 use Rattle.event_dispatch.specs.declared.served.Served.TheVariants as served
 use Rattle.event_dispatch.specs.Serves.{IsAlike, IsCut}
 use Rattle.event_dispatch.specs.Cut.{IsReadServed}
-use Rattle.event_dispatch.specs.Plain.{IsPlainServed}
+use Rattle.event_dispatch.specs.Plain.{IsPlainServed, EndsPlain}
 use Rattle.event_dispatch.specs.laws.LeftLaws.{tables_for}
 use Rattle.legosdn.specs.declared.stop.Stop.{Stop}
 use Rattle.legosdn.specs.Stops.{stop_of_switch}
 use Rattle.legosdn.specs.Said.{all_allowed}
-use Rattle.legosdn.specs.Headline.{UpToPoint}
+use Rattle.legosdn.specs.Headline.{UpToPoint, NoneFloods}
 use Rattle.legosdn.specs.Live.{TellsInOrder, NoneStray, ServesWhole, ServesPart, ServesUntil}
 use Rattle.legosdn.proofs.Places.{all_for, behind_for, links_from_first, in_place, shut_in_place, idle_in_place}
 
@@ -50,7 +51,7 @@ abbrev pub PromisesCut : {Own : Type 0} → Type 0 → ℕ → Seen Own → Seen
 PromisesCut Tells rounds old new a b end = (allows : List Place → Bool) → PremiseSoFar Tells accepts_all allows rounds old new → IsCut allows new a b end
 
 abbrev pub PromisesPlain : {Own : Type 0} → Type 0 → ℕ → Seen Own → Seen Own → Served → Type 0
-PromisesPlain Tells rounds old new end = (allows : List Place → Bool) → Premise Tells accepts_all allows rounds old new → IsPlainServed end
+PromisesPlain Tells rounds old new end = (allows : List Place → Bool) → Premise Tells accepts_all allows rounds old new → EndsPlain old new end
 
 abbrev pub NoStrays : {Own : Type 0} → Type 0 → Seen Own → Seen Own → Type 0
 NoStrays Tells old new = Tells → old.history ≡ [] → InOrder new → MakesNoStrayCall old new
@@ -145,20 +146,34 @@ lines_for_memory seen a b up_to = record {
   at_once = up_to.at_once;
 }
 
-switch_until : {Own : Type 0} (seen : Seen Own) (a b : Option (List ℕ)) (fault : TxnFault) → (BringMessages seen.history → IsPlainServed (served.Txn fault)) → UpToPoint seen ⊥ (λ last. CutBehindLines all_allowed last a b)
+-- where no packet floods it ends plainly
+ends_plainly : {Own : Type 0} (old new : Seen Own) (end : Served) → NoneFloods new → EndsPlain old new end → IsPlainServed end
+ends_plainly old new end none (inl plain) = plain
+ends_plainly old new end none (inr flooded) =
+    let f = flooded.1.1 in
+    absurd (none flooded.0 (record { mid = f.mid; given = f.given; before = (f.mid.history, refl); packet = f.packet; switch = f.switch; stands = f.stands; many = f.many; xid = f.xid; sent = f.sent }))
+
+not_diverged : {Own : Type 0} (old new : Seen Own) (d : ℕ) (sent got : List ℕ) → EndsPlain old new (served.Txn (faults.Diverged d sent got)) → ⊥
+not_diverged old new d sent got (inl plain) = plain
+not_diverged old new d sent got (inr flooded) = absurd (other flooded.0 flooded.1.0)
+  where
+    other : (e : ℕ) → served.Txn (faults.Diverged d sent got) ≡ served.Txn (faults.Flooded e flood) → ⊥
+    other e is = cc
+
+switch_until : {Own : Type 0} (old seen : Seen Own) (a b : Option (List ℕ)) (fault : TxnFault) → (BringMessages seen.history → EndsPlain old seen (served.Txn fault)) → UpToPoint seen ⊥ (λ last. CutBehindLines all_allowed last a b)
     → ServesUntil (stop_of_switch fault) seen a b
-switch_until seen a b (faults.SwitchFault d) plain place = place
-switch_until seen a b (faults.SwitchBroke d bytes) plain place = (plain, place)
-switch_until seen a b (faults.Flooded d n) plain place = (plain, place)
-switch_until seen a b (faults.Diverged d sent got) plain place = (plain, place)
-switch_until seen a b faults.NoMemory plain place = inl (lines_for_memory seen a b place)
+switch_until old seen a b (faults.SwitchFault d) plain place = place
+switch_until old seen a b (faults.SwitchBroke d bytes) plain place = ((λ none messages. ends_plainly old seen (served.Txn (faults.SwitchBroke d bytes)) none (plain messages)), place)
+switch_until old seen a b (faults.Flooded d n) plain place = ((λ none messages. ends_plainly old seen (served.Txn (faults.Flooded d n)) none (plain messages)), place)
+switch_until old seen a b (faults.Diverged d sent got) plain place = ((λ messages. not_diverged old seen d sent got (plain messages)), place)
+switch_until old seen a b faults.NoMemory plain place = inl (lines_for_memory seen a b place)
 
 -- where it is by a switch
 pub switch_serves : {Own : Type 0} (Tells : Type 0) (rounds : ℕ) (old new : Seen Own) (a b : Option (List ℕ)) (stop : Stop) (fault : TxnFault) (end : Served) → end ≡ served.Txn fault → stop ≡ stop_of_switch fault
     → PromisesPlain Tells rounds old new end → PromisesCut Tells rounds old new a b end → TellsInOrder Tells rounds old new → ServesUntil stop new a b
 switch_serves Tells rounds old new a b stop fault end is so plain promises tells =
     subst (λ (s : Stop). ServesUntil s new a b) (sym so)
-    (switch_until new a b fault (λ messages. subst IsPlainServed is (plain all_allowed (premise Tells rounds old new tells (in_order-Conforming new tells.order messages))))
+    (switch_until old new a b fault (λ messages. subst (EndsPlain old new) is (plain all_allowed (premise Tells rounds old new tells (in_order-Conforming new tells.order messages))))
     (lines_place new a b tells.order (cut_as Tells rounds old new a b end (served.Txn fault) is promises tells)))
 
 -- ---- No call of it was a stray one

@@ -12,7 +12,7 @@ use Rattle.legosdn.specs.declared.stop.Stop.{Stop}
 use Rattle.legosdn.specs.declared.stop.Stop.TheVariants.{Usage, Refused, ReadFault, WriteFault, Shut, NextFault, SwitchFault, SwitchBroke, Diverged, EventsLeft, NoMemory}
 use Rattle.legosdn.specs.Input.{run_policy}
 use Rattle.legosdn.specs.Stops.{stop_status, refusal_line}
-use Rattle.legosdn.specs.Headline.{faults_of, IsReplay, IsRun, IsNoSession, IsNoPolicy, IsReadCause, IsRunCause, IsEarly, IsLate, KeepsLines, Replays}
+use Rattle.legosdn.specs.Headline.{NoneFloods, faults_of, IsReplay, IsRun, IsNoSession, IsNoPolicy, IsReadCause, IsRunCause, IsEarly, IsLate, KeepsLines, Replays}
 use Rattle.legosdn.specs.Live.{Taken, TellsInOrder, NoneStray, ServesUntil, ServesAs, TakenAs, Serves}
 use Rattle.legosdn.proofs.Causes.{ran_causes, unread_causes}
 use Rattle.legosdn.proofs.Loads.{unread_as}
@@ -124,8 +124,8 @@ serves_taken Tells rounds told left i j k l old new a b Stays result taken runs 
 
 -- ---- What follows
 
-pub broke_live : {Own : Type 0} (seen : Seen Own) (a b : Option (List ℕ)) (stop : Stop) → ServesUntil stop seen a b → BringMessages seen.history → stop_status stop ≡ 8 → ⊥
-broke_live seen a b stop runs messages eight = let is = is_broken stop eight in (subst (λ (s : Stop). ServesUntil s seen a b) is.1 runs).0 messages
+pub broke_live : {Own : Type 0} (seen : Seen Own) (a b : Option (List ℕ)) (stop : Stop) → ServesUntil stop seen a b → NoneFloods seen → BringMessages seen.history → stop_status stop ≡ 8 → ⊥
+broke_live seen a b stop runs none messages eight = let is = is_broken stop eight in (subst (λ (s : Stop). ServesUntil s seen a b) is.1 runs).0 none messages
 
 pub diverged_live : {Own : Type 0} (seen : Seen Own) (a b : Option (List ℕ)) (stop : Stop) → ServesUntil stop seen a b → BringMessages seen.history → stop_status stop ≡ 9 → ⊥
 diverged_live seen a b stop runs messages nine = let is = is_diverged stop nine in (subst (λ (s : Stop). ServesUntil s seen a b) is.1 runs).0 messages

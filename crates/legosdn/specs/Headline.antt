@@ -17,7 +17,7 @@ use Rattle.lego_model.specs.AfterFault.{TablesLeft}
 use Rattle.lego_model.specs.History.{stimuli_in}
 use Rattle.lego_model.specs.WholeRun.{EndsAs, EndsAlike, LeavesAs, LeavesAlike}
 use Rattle.lego_model.specs.declared.fault.TxnFault.{TxnFault}
-use Rattle.lego_model.specs.SwitchFaults.{IsWhyTxn}
+use Rattle.lego_model.specs.SwitchFaults.{FloodedByPacket, IsWhyTxn}
 use Rattle.lego_model.specs.CutRun.{NothingDone}
 use Rattle.lego_model.specs.SessionLines.{SessionValue}
 use Rattle.session_text.specs.Loading.{given_by}
@@ -143,8 +143,9 @@ NeverRuns status seen = Contains (2 ∷ 3 ∷ 4 ∷ 12 ∷ []) status × (seen.h
 -- ---- What a run is
 
 -- All stimuli that the world was given were told, and the run is that of the reference controller over them: at every quiescent point the
--- tables agree, the application was given what it is given there, no event is left, and what was written is the whole report. The journal
--- is a dialogue with the application, in which each change had reached its switch at once when it was answered.
+-- tables agree, the application was given what it is given there, the packets that were released are those that it releases, no event is
+-- left, and what was written is the whole report. The journal is a dialogue with the application, in which each change had reached its switch
+-- at once when it was answered.
 pub record RunsWhole (seen : Seen Scripts) (contents now_contents : Option (List ℕ)) : Type 0 where
   pub events : ℕ
   pub alike : EndsAlike all_allowed seen contents now_contents events
@@ -161,7 +162,8 @@ pub record RunsPart (seen : Seen Scripts) (contents now_contents : Option (List 
 -- Of the run as far as a point this is so: no point behind it is quiescent, so that what lies behind it is of one stimulus, of one event, or of
 -- the end of the report; and all bytes that came of switches up to there are messages. The whole journal is a dialogue with the application,
 -- in which each change had reached its switch at once when it was answered. Where an event was given behind that point, its turn was undone:
--- each switch has its entries again, or failed in the undo. Only where memory was wanting may the turn have been whole.
+-- each switch has its entries again, or failed in the undo; or the turn was whole and its packets were being released, and each switch moved by
+-- those that were sent to it alone. Only where memory was wanting may a turn have been whole of which no packet was being released.
 pub record UpToPoint {Own : Type 0} (seen : Seen Own) (Short : Type 0) (Holds : Seen Own → Type 0) : Type 0 where
   pub last : Seen Own
   pub given : last.given ≡ seen.given
@@ -171,6 +173,10 @@ pub record UpToPoint {Own : Type 0} (seen : Seen Own) (Short : Type 0) (Holds : 
   pub tables : TablesLeft Short last seen
   pub at_once : AtOnce index (journal seen.history)
 
+-- no packet that was released made its switch send as many messages as are too many
+abbrev pub NoneFloods : {Own : Type 0} → Seen Own → Type 0
+NoneFloods seen = (d : ℕ) → FloodedByPacket d (record seen { history = [] }) seen → ⊥
+
 -- some bytes that came of a switch are no message
 abbrev pub SomeRefused : WorldData → Type 0
 SomeRefused sim = BringMessages sim.history → ⊥
@@ -178,14 +184,15 @@ SomeRefused sim = BringMessages sim.history → ⊥
 -- How a run goes that ends so. Where events are left it is as above. Where a fault ends it, it is that of the reference controller up to the
 -- last quiescent point, with the lines of all that was done up to there. None is missing, of the start and of all events before, where what
 -- comes next failed, or a switch; where the sink failed it took a part of the lines of the last; where memory was wanting those of the start
--- are there, if a stimulus happened. Or nothing was done. Only where bytes come that are no message, a switch breaks or diverges.
+-- are there, if a stimulus happened. Or nothing was done. Only where bytes come that are no message, a switch diverges, or breaks, unless a
+-- packet that was released made it send as many messages as are too many.
 abbrev pub StopsAs : Stop → WorldData → Option (List ℕ) → Option (List ℕ) → Type 0
 StopsAs (EventsLeft left) sim contents now_contents = RunsPart (seen_of sim) contents now_contents left
 StopsAs WriteFault sim contents now_contents = UpToPoint (seen_of sim) ⊥ (λ last. WritingRun last contents now_contents)
 StopsAs Shut sim contents now_contents = NothingDone (NotOpened ∷ []) (seen_of sim) contents now_contents
 StopsAs NextFault sim contents now_contents = UpToPoint (seen_of sim) ⊥ (λ last. LinesRun last contents now_contents)
 StopsAs (SwitchFault d) sim contents now_contents = UpToPoint (seen_of sim) ⊥ (λ last. LinesRun last contents now_contents)
-StopsAs (SwitchBroke d) sim contents now_contents = SomeRefused sim × UpToPoint (seen_of sim) ⊥ (λ last. LinesRun last contents now_contents)
+StopsAs (SwitchBroke d) sim contents now_contents = (NoneFloods (seen_of sim) → SomeRefused sim) × UpToPoint (seen_of sim) ⊥ (λ last. LinesRun last contents now_contents)
 StopsAs (Diverged d) sim contents now_contents = SomeRefused sim × UpToPoint (seen_of sim) ⊥ (λ last. LinesRun last contents now_contents)
 StopsAs NoMemory sim contents now_contents = UpToPoint (seen_of sim) (Unit {0}) (λ last. MemoryRun (seen_of sim) last contents now_contents) ⊎ NothingDone [] (seen_of sim) contents now_contents
 StopsAs other sim contents now_contents = Unit {0}

@@ -16,7 +16,7 @@ use Rattle.legosdn.specs.declared.stop.Stop.TheVariants.{WriteFault, Shut, NextF
 use Rattle.legosdn.specs.Input.{run_policy}
 use Rattle.legosdn.specs.Stops.{stop_status, stop_line}
 use Rattle.legosdn.specs.Said.{all_allowed}
-use Rattle.legosdn.specs.Headline.{Faults, IsNoPolicy, IsCause, IsEarly, IsLate, UpToPoint, Wrote}
+use Rattle.legosdn.specs.Headline.{NoneFloods, Faults, IsNoPolicy, IsCause, IsEarly, IsLate, UpToPoint, Wrote}
 
 -- ---- The policy
 
@@ -45,8 +45,9 @@ NoneStray seen = AreExpected seen.history (at_first seen.given)
 -- ---- The run
 
 -- All stimuli that the world was given were told, and the run is that of the reference controller over them: at every quiescent point the
--- tables agree, the application was given what it is given there, no event is left, and what was written is the whole report. The journal
--- is a dialogue with the application, in which each change had reached its switch at once when it was answered.
+-- tables agree, the application was given what it is given there, the packets that were released are those that it releases, no event is
+-- left, and what was written is the whole report. The journal is a dialogue with the application, in which each change had reached its switch
+-- at once when it was answered.
 pub record ServesWhole {Own : Type 0} (seen : Seen Own) (contents now_contents : Option (List ℕ)) : Type 0 where
   pub events : ℕ
   pub alike : EndsAlike all_allowed seen contents now_contents events
@@ -60,14 +61,15 @@ pub record ServesPart {Own : Type 0} (seen : Seen Own) (contents now_contents : 
 -- How a run goes that ends so. Where events are left it is as above. Where a fault ends it, it is that of the reference controller up to the
 -- last quiescent point, with the lines of all that was done up to there. None is missing, of the start and of all events before, where what
 -- comes next failed, or a switch; where the sink failed it took a part of the lines of the last; where memory was wanting those of the start
--- are there, if a stimulus happened. Or nothing was done. Only where bytes come that are no message, a switch breaks or diverges.
+-- are there, if a stimulus happened. Or nothing was done. Only where bytes come that are no message, a switch diverges, or breaks, unless a
+-- packet that was released made it send as many messages as are too many.
 abbrev pub ServesUntil : {Own : Type 0} → Stop → Seen Own → Option (List ℕ) → Option (List ℕ) → Type 0
 ServesUntil (EventsLeft left) seen contents now_contents = ServesPart seen contents now_contents left
 ServesUntil WriteFault seen contents now_contents = UpToPoint seen ⊥ (λ last. CutInLines all_allowed last contents now_contents)
 ServesUntil Shut seen contents now_contents = NothingDone (NotOpened ∷ []) seen contents now_contents
 ServesUntil NextFault seen contents now_contents = UpToPoint seen ⊥ (λ last. CutBehindLines all_allowed last contents now_contents)
 ServesUntil (SwitchFault d) seen contents now_contents = UpToPoint seen ⊥ (λ last. CutBehindLines all_allowed last contents now_contents)
-ServesUntil (SwitchBroke d) seen contents now_contents = (BringMessages seen.history → ⊥) × UpToPoint seen ⊥ (λ last. CutBehindLines all_allowed last contents now_contents)
+ServesUntil (SwitchBroke d) seen contents now_contents = (NoneFloods seen → BringMessages seen.history → ⊥) × UpToPoint seen ⊥ (λ last. CutBehindLines all_allowed last contents now_contents)
 ServesUntil (Diverged d) seen contents now_contents = (BringMessages seen.history → ⊥) × UpToPoint seen ⊥ (λ last. CutBehindLines all_allowed last contents now_contents)
 ServesUntil NoMemory seen contents now_contents = UpToPoint seen (Unit {0}) (λ last. CutForMemory all_allowed seen last contents now_contents) ⊎ NothingDone [] seen contents now_contents
 ServesUntil other seen contents now_contents = Unit {0}

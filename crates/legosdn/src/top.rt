@@ -17,7 +17,7 @@ ghost use Rattle.lego_model.specs.RunReport.{run_report};
 ghost use Rattle.lego_model.specs.Application.{names};
 ghost use Rattle.legosdn.specs.Said.{reference_of_session, WithEnough};
 ghost use Rattle.legosdn.specs.Stops.{stop_status, stop_line, refusal_line};
-ghost use Rattle.legosdn.specs.Headline.{IsReplay, IsRun, IsNoSession, IsNoPolicy, faults_of, IsReadCause, IsRunCause, IsCause, NoneFailed, IsEarly, IsLate, Loaded, RunsNoOther, LoadedAs, NeverRuns, RunsWhole, RunsAs, KeepsLines, LeftAs, CutShort, SomeRefused, Wrote, WroteLast, Stopped, Replays};
+ghost use Rattle.legosdn.specs.Headline.{IsReplay, IsRun, IsNoSession, IsNoPolicy, faults_of, IsReadCause, IsRunCause, IsCause, NoneFailed, NoneFloods, IsEarly, IsLate, Loaded, RunsNoOther, LoadedAs, NeverRuns, RunsWhole, RunsAs, KeepsLines, LeftAs, CutShort, SomeRefused, Wrote, WroteLast, Stopped, Replays};
 ghost use Rattle.legosdn.specs.Live.{Taken, TellsInOrder, NoneStray, ServesWhole, ServesCut, Serves};
 
 use crate::input::{parts_of, read_input};
@@ -167,8 +167,8 @@ pub fn legosdn<S: Source, K: Sink, W: World>(
     requires new_world { IsNew sim.old }
     requires empty_world { given_of sim.old ≡ nothing_given }
     // `replay`. At status 0 all stimuli of the session happened, and the run is that of the reference controller over them and over what the
-    // application did: at every quiescent point the tables agree, the application was
-    // given what it is given there, no event is left, and what was written is the whole report. Each answer that the application was
+    // application did: at every quiescent point the tables agree, the application was given what it is given there, the packets that were
+    // released are those that it releases, no event is left, and what was written is the whole report. Each answer that the application was
     // given is to its next message, and a change that passed the host's tests had then reached its switch: since the frame given before,
     // the change was sent there, a barrier behind it, the barrier's reply came, and no other change was sent.
     ensures whole_run { IsReplay (map string_bytes words.now) → result ≡ 0 → RunsWhole (seen_of sim.new) (K.contents sink.old) (K.contents sink.new) }
@@ -198,13 +198,14 @@ pub fn legosdn<S: Source, K: Sink, W: World>(
     // At every status: no call of the world was a stray one, where none wanted memory.
     ensures no_stray_call { (seen_of sim.new).counts.shorts ≡ 0 → (seen_of sim.new).counts.strays ≡ 0 }
 
-    // A switch breaks or diverges only where bytes came that are no message.
-    ensures breaks_only_on_bad_bytes { IsReplay (map string_bytes words.now) → result ≡ 8 → SomeRefused sim.new }
+    // A switch diverges only where bytes came that are no message, and breaks only there or where a packet that was released made it send as many
+    // messages as are too many.
+    ensures breaks_only_on_bad_bytes { IsReplay (map string_bytes words.now) → NoneFloods (seen_of sim.new) → result ≡ 8 → SomeRefused sim.new }
     ensures diverges_only_on_bad_bytes { IsReplay (map string_bytes words.now) → result ≡ 9 → SomeRefused sim.new }
-    // Where the words are the command, the whole input spells a session, all bytes that came of switches are messages, and nothing failed,
-    // the whole report is written, or events are left, or memory is wanting.
+    // Where the words are the command, the whole input spells a session, all bytes that came of switches are messages, no packet that was released
+    // made its switch send too many, and nothing failed, the whole report is written, or events are left, or memory is wanting.
     ensures complete_without_fault { IsReplay (map string_bytes words.now) → (input : List ℕ) (session : SessionValue) → S.remaining source.old ≡ Some input
-        → session_of input ≡ Ok session → BringMessages sim.new.history
+        → session_of input ≡ Ok session → BringMessages sim.new.history → NoneFloods (seen_of sim.new)
         → NoneFailed (faults_of (S.faults source.old) (K.faults sink.old) (seen_of sim.old)) (faults_of (S.faults source.new) (K.faults sink.new) (seen_of sim.new))
         → Contains (0 ∷ 10 ∷ 12 ∷ []) result }
 
@@ -228,17 +229,17 @@ pub fn legosdn<S: Source, K: Sink, W: World>(
     ensures live_whole_run { (port rounds : ℕ) → IsRun (map string_bytes words.now) port rounds → TellsInOrder W.Tells rounds (W.seen live.old) (W.seen live.new)
         → result ≡ 0 → ServesWhole (W.seen live.new) (K.contents sink.old) (K.contents sink.new) }
     // Where events are left, or a fault ends the run, it is so as far as it goes, and behind what was written stands the line that says why. A
-    // switch breaks or diverges only where bytes came that are no message.
+    // switch diverges only where bytes came that are no message, and breaks only there or where a packet that was released made it send too many.
     ensures live_run_until_stop { (port rounds : ℕ) → IsRun (map string_bytes words.now) port rounds → TellsInOrder W.Tells rounds (W.seen live.old) (W.seen live.new)
         → Contains (5 ∷ 6 ∷ 7 ∷ 8 ∷ 9 ∷ 10 ∷ 12 ∷ []) result
         → ServesCut result (W.seen live.new) (K.contents sink.old) (K.contents sink.new) (K.faults sink.old) (K.faults sink.new) }
     // No call of it was a stray one.
     ensures live_no_stray_call { (port rounds : ℕ) → IsRun (map string_bytes words.now) port rounds → TellsInOrder W.Tells rounds (W.seen live.old) (W.seen live.new)
         → NoneStray (W.seen live.new) }
-    // Where the whole input is a policy that is taken, all bytes that came of switches are messages, and nothing failed, the whole report is
-    // written, or events are left, or memory is wanting.
+    // Where the whole input is a policy that is taken, all bytes that came of switches are messages, no packet that was released made its switch
+    // send too many, and nothing failed, the whole report is written, or events are left, or memory is wanting.
     ensures live_complete_without_fault { (port rounds : ℕ) → IsRun (map string_bytes words.now) port rounds → TellsInOrder W.Tells rounds (W.seen live.old) (W.seen live.new)
-        → (input : List ℕ) (program : List (List ℕ)) → S.remaining source.old ≡ Some input → run_policy input ≡ Ok program → BringMessages (W.seen live.new).history
+        → (input : List ℕ) (program : List (List ℕ)) → S.remaining source.old ≡ Some input → run_policy input ≡ Ok program → BringMessages (W.seen live.new).history → NoneFloods (W.seen live.new)
         → NoneFailed (faults_of (S.faults source.old) (K.faults sink.old) (W.seen live.old)) (faults_of (S.faults source.new) (K.faults sink.new) (W.seen live.new))
         → Contains (0 ∷ 10 ∷ 12 ∷ []) result }
     // Over any world: a status other than 0 is that of a stop, whose cause there is, and whose line is the last that was written.

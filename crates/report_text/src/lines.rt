@@ -59,6 +59,15 @@ pub fn turn_line(alloc: Global, app: &str, word: &TurnWord) -> Result<ByteList, 
     Ok(ByteList::from_vec(line.into_bytes()))
 }
 
+/// `out DPID LEN`: a packet of so many bytes was released to the switch.
+#[tactic(auto, unfolding(lego_model::specs::RunReport::out_line, lego_model::specs::RunReport::line_of))]
+pub fn out_line(alloc: Global, dpid: Dpid, len: u32) -> Result<ByteList, AllocError>
+    ensures { IfOk result (λ line. line ≡ report.out_line dpid len) }
+{
+    let line = format!(in alloc; "out {dpid} {len}\n")?;
+    Ok(ByteList::from_vec(line.into_bytes()))
+}
+
 /// `switch DPID flows N`: how many entries a joined switch has at the end.
 #[tactic(auto, unfolding(lego_model::specs::RunReport::switch_line, lego_model::specs::RunReport::line_of))]
 pub fn switch_line(alloc: Global, dpid: Dpid, flows: u64) -> Result<ByteList, AllocError>

@@ -1,5 +1,5 @@
-//! Runs in a world that writes down its acts, and the tables behind them: a turn that failed, a fault inside a turn, a fault inside an
-//! undo. All that is expected was worked out by hand.
+//! Runs in a world that writes down its acts, and the tables behind them: a turn that failed, packets that are released, a fault inside a turn,
+//! an undo or a release. All that is expected was worked out by hand.
 
 ghost use Rattle.std.specs.Prelude.{◌≡◌, length, IfOk};
 
@@ -309,3 +309,74 @@ switch 1 4 1,2
 reply app m:1:010e005000000000003820fe00010000000000000000000000000000000000000000000000000000000000000000000000000000000000000000000000000064ffffffffffff00000000000800020000 done
 join 1
 ";
+
+/// At event 1 the application sends a packet to a port that switch 1 does not have, and closes its end. At event 2 it sends that packet and one
+/// to the controller, and is done.
+const PACKETS: &str = "session 1
+switch 1 4 1,2
+reply app m:1:010d002600000000ffffffff000100080000000800090000ffffffffffff02000000000188b5 closed
+reply app m:1:010d002600000000ffffffff000100080000000800090000ffffffffffff02000000000188b5 m:1:010d002600000000ffffffff0001000800000008fffd0080ffffffffffff02000000000188b5 done
+join 1
+port 1 1 down
+";
+
+/// The packets of the second turn are sent, in their order, and none of the first.
+const RELEASED: [&str; 2] = [
+    "switch 1 <- PACKET_OUT xid=4 in_port=1 bytes=14 out: OUTPUT 9",
+    "switch 1 <- PACKET_OUT xid=6 in_port=1 bytes=14 out: OUTPUT CONTROLLER max_len=128",
+];
+
+/// What the switch sent for them becomes events, in that order.
+const EVENTS: [&str; 4] = [
+    "app 0 <- EVENT 1 join switch 1",
+    "app 0 <- EVENT 2 port_status switch 1",
+    "app 0 <- EVENT 3 error switch 1",
+    "app 0 <- EVENT 4 packet_in switch 1",
+];
+
+/// The packets of a turn that was done are sent, those of one that failed are not, and what a switch sends for them becomes events.
+#[test]
+fn done_turn_releases_its_packets(rt: HostRuntime) -> Result<(), Fail> {
+    let run = record(rt.alloc(), PACKETS)?;
+    assert!(rt; run.is_some());
+    if let Some(run) = run {
+        assert!(rt; matches!(run.served, Served::Ended { events: 4 }));
+        let acts = std::str::from_utf8(run.acts.bytes());
+        assert!(rt; acts.is_ok());
+        if let Ok(acts) = acts {
+            let sent = lines_with(rt.alloc(), acts, "switch 1 <- PACKET_OUT")?;
+            assert_eq!(rt; sent.len(), RELEASED.len());
+            for (line, expected) in sent.iter().zip(RELEASED) {
+                assert!(rt; line.as_str() == expected);
+            }
+            let events = lines_with(rt.alloc(), acts, "app 0 <- EVENT")?;
+            assert_eq!(rt; events.len(), EVENTS.len());
+            for (line, expected) in events.iter().zip(EVENTS) {
+                assert!(rt; line.as_str().starts_with(expected));
+            }
+        }
+    }
+    Ok(())
+}
+
+/// At event 2 the application adds an entry to switch 2, sends a packet to switch 1, and is done. Of switch 1's link the call behind the packet
+/// fails: its calls are four while it joins, then one for the packet and one for the barrier.
+const RELEASE_FAULT: &str = "session 1
+switch 1 8 1,2,3
+switch 2 8 1,2
+fault link 1 6
+reply app done
+reply app m:2:010e005000000000003820fe00010000000000000000000000000000000000000000000000000000000000000000000000000000000000000000000000000001ffffffffffff00000000000800020000 m:1:010d002600000000ffffffff000100080000000800090000ffffffffffff02000000000188b5 done
+join 1
+join 2
+";
+
+/// A link that fails in a release ends the run, and what the turn did stays: one row of 96 bytes.
+#[test]
+fn changes_stay_after_a_release_that_stopped(rt: HostRuntime) -> Result<(), Fail> {
+    assert_eq!(rt;
+        rows_behind(rt.alloc(), RELEASE_FAULT, 2)?,
+        Some((Ended::SwitchFault(1), 108, false))
+    );
+    Ok(())
+}

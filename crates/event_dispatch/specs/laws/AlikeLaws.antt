@@ -200,7 +200,7 @@ cut_at {Tells = Tells} Alike first stop seen p last is said so =
       last_point = λ order. last_quiescent-then (is.quiet (is.keeps (InOrder-before p.told later order)) (InOrder-before p.told p.later order)) (p.no_point.none_quiescent p.told);
       no_other_called = calls_then is.own (p.no_point.own p.told);
       tables = λ order.
-          tables_then last stop seen p.told is.on p.later (p.talks.no_event p.told) (p.none_moves.stay p.told) (is.left (is.keeps (InOrder-before p.told later order)) (InOrder-before p.told p.later order));
+          tables_then last stop seen p.told is.on p.later (p.talks.no_event p.told) (p.none_moves.releases p.told) (p.none_moves.stay p.told) (is.left (is.keeps (InOrder-before p.told later order)) (InOrder-before p.told p.later order));
     }
 
 -- up to where it stopped

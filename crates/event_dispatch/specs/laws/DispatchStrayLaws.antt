@@ -1,24 +1,23 @@
 -- Laws of what turns, starts and questions for rows keep of a world that tells in order.
 use Rattle.std.specs.Prelude.{◌≡◌, ℕ, Bool, List, IsSome, Result, Ok, refl, ◌∷◌}
-use Rattle.std.proofs.Common.{sym, ap, ◌∙◌, subst}
+use Rattle.std.proofs.Common.{◌∙◌, subst}
 use Rattle.flow_table.specs.View.{TableView}
 use Rattle.of_stats.specs.declared.flow_row.FlowRow.{FlowRow}
 use Rattle.app_frames.specs.declared.frame.Event.{Event}
 use Rattle.outside.specs.Seen.{Seen, Continues}
 use Rattle.outside.specs.State.{state}
-use Rattle.outside.specs.InOrder.{InOrder, MessagesSince}
 use Rattle.outside.specs.laws.InOrderLaws.{InOrder-before, messages-then}
 use Rattle.lego_model.specs.declared.fault.TxnFault.{TxnFault}
 use Rattle.net_txn.specs.Net.{NetState}
 use Rattle.net_txn.specs.Views.{rows_at}
-use Rattle.net_txn.specs.LinkSteps.{OnLinks, MakesNoStrayCall}
+use Rattle.net_txn.specs.LinkSteps.{OnLinks}
 use Rattle.net_txn.specs.laws.LinkStrayLaws.{no_strays_then}
 use Rattle.net_txn.specs.Asks.{Asks}
 use Rattle.net_txn.specs.Undos.{AreJoined, Undoes}
+use Rattle.net_txn.specs.Releases.{Commits}
 use Rattle.net_txn.specs.Abreast.{Abreast}
-use Rattle.net_txn.specs.laws.AbreastLaws.{asks_abreast, undoes_abreast}
+use Rattle.net_txn.specs.laws.AbreastLaws.{abreast-by, asks_abreast, undoes_abreast}
 use Rattle.app_visor.specs.declared.state.TurnEnd.{TurnEnd}
-use Rattle.app_visor.specs.declared.state.TurnEnd.TheVariants as ends
 use Rattle.app_visor.specs.Talks.{give_act}
 use Rattle.app_visor.specs.Beats.{Talk, Stops}
 use Rattle.app_visor.specs.laws.BeatLaws.{Chain-continues, Stops-continues}
@@ -28,6 +27,8 @@ use Rattle.app_visor.specs.laws.OwnLaws.{own_calls, own_none_quiescent}
 use Rattle.app_visor.specs.laws.CalmLaws.{calm_links, later_then}
 use Rattle.app_visor.specs.laws.CallOrderLaws.{own_places, own_messages, own_abreast, abreast_joined, turn_abreast, turn_places, turn_messages, stops_abreast, stops_places}
 use Rattle.lego_model.specs.Application.{index}
+use Rattle.event_dispatch.specs.declared.closing.Closing.{Closing}
+use Rattle.event_dispatch.specs.declared.closing.Closing.TheVariants as closings
 use Rattle.event_dispatch.specs.Serves.{PlaysTurn}
 use Rattle.event_dispatch.specs.Steady.{NoStray, Reads, NoPoint, AtMostThisPoint}
 use Rattle.event_dispatch.specs.laws.SteadyLaws.{abreast_as}
@@ -79,11 +80,8 @@ started_reads {new = new} app net now_net views continues own = record {
 
 -- ---- No quiescent point behind the one where a turn began
 
-pub later_same : {Own : Type 0} {Tells : Type 0} {app : ℕ} {old mid : Seen Own} (new : Seen Own) → new ≡ mid → (Tells → CalmLater app old mid) → Tells → CalmLater app old new
-later_same {app = app} {old = old} new same later told = subst (λ (s : Seen _). CalmLater app old s) (sym same) (later told)
-
-pub later_undone : {Own : Type 0} {Tells : Type 0} {app : ℕ} {old mid new : Seen Own} → (Tells → CalmLater app old mid) → OnLinks Tells mid new → Tells → CalmLater app old new
-later_undone {app = app} later links told = later_then (later told) (calm_links app (links told))
+pub later_links : {Own : Type 0} {Tells : Type 0} {app : ℕ} {old mid new : Seen Own} → (Tells → CalmLater app old mid) → OnLinks Tells mid new → Tells → CalmLater app old new
+later_links {app = app} later links told = later_then (later told) (calm_links app (links told))
 
 pub later_own : {Own : Type 0} {Tells : Type 0} {old new : Seen Own} (app : ℕ) → app ≡ index → (Tells → CalmLater app old new) → Tells → CallsFor index old new
 later_own {old = old} {new = new} app is later told = subst (λ (i : ℕ). CallsFor i old new) is (later told).own
@@ -105,11 +103,13 @@ turn_continues {Tells = Tells} {app = app} {frame = frame} {old = old} {new = ne
 abreast_all : {Own : Type 0} {seen : Seen Own} {net : NetState} → Abreast seen net → AreJoined net.views (state seen)
 abreast_all abreast d there = abreast.joined d ∙ there
 
--- it was played, and its changes stay
-pub turn_kept : {Own : Type 0} {Tells : Type 0} {accepts : List TableView → Bool} {app budget : ℕ} {rest frame unread : List ℕ} {old mid : Seen Own} {at_net now_net : NetState} {end : TurnEnd} (net : NetState) (new : Seen Own) → at_net ≡ net → new ≡ mid → (Tells → CallsFor index old new)
-    → Turns Tells accepts app budget rest frame old mid at_net now_net end unread → NoStray Tells old new net
-turn_kept {Tells = Tells} {old = old} {at_net = at_net} net new begun same own t = subst (λ (n : NetState). NoStray Tells old new n) begun (record {
-  places = subst (λ (s : Seen _). Tells → InOrder s → Abreast old at_net → MakesNoStrayCall old s) (sym same) (λ told order abreast. turn_places t told order abreast);
+-- it was played, and its packets were released, or not all of them
+pub turn_committed : {Own : Type 0} {Tells : Type 0} {accepts : List TableView → Bool} {app budget start : ℕ} {rest frame unread : List ℕ} {old mid new : Seen Own} {at_net mid_net now_net : NetState} {queue now_queue : List Event} {end : TurnEnd} {result : Result (List (ℕ × ℕ)) TxnFault} (net : NetState) → at_net ≡ net
+    → (Tells → CallsFor index old new) → Turns Tells accepts app budget rest frame old mid at_net mid_net end unread → Commits Tells start mid new mid_net now_net queue now_queue result → NoStray Tells old new net
+turn_committed {Tells = Tells} {old = old} {mid = mid} {new = new} net begun own t commits = subst (λ (n : NetState). NoStray Tells old new n) begun (record {
+  places = λ told order abreast.
+      no_strays_then old mid new told (turn_continues t) commits.continues (turn_places t told (InOrder-before told commits.continues order) abreast)
+      (commits.no_strays told order (abreast_all (turn_abreast t told abreast)));
   own = own;
 })
 
@@ -133,21 +133,23 @@ stop_undone {Tells = Tells} {old = old} {mid = mid} {new = new} net begun own s 
   own = own;
 })
 
-pub played_places : {Own : Type 0} {Tells : Type 0} {accepts : List TableView → Bool} {app number : ℕ} {event : Event} {old new : Seen Own} {rest unread : List ℕ} (end : TurnEnd) (net now_net : NetState) → (Tells → CallsFor index old new)
-    → PlaysTurn Tells accepts app number event end old new net now_net rest unread → NoStray Tells old new net
-played_places {new = new} (ends.Done stop) net now_net own plays = turn_kept net new refl plays.played.0 own plays.turns
-played_places (ends.Failed cause) net now_net own plays = turn_undone net refl own plays.turns plays.played
+pub played_places : {Own : Type 0} {Tells : Type 0} {accepts : List TableView → Bool} {app number : ℕ} {event : Event} {old new : Seen Own} {queue now_queue : List Event} {rest unread : List ℕ} (closing : Closing) (net now_net : NetState) → (Tells → CallsFor index old new)
+    → PlaysTurn Tells accepts app number event closing old new net now_net queue now_queue rest unread → NoStray Tells old new net
+played_places (closings.Done stop out) net now_net own plays = turn_committed net refl own plays.turns plays.played
+played_places (closings.Failed cause) net now_net own plays = turn_undone net refl own plays.turns plays.played.0
 
-pub played_reads : {Own : Type 0} {Tells : Type 0} {accepts : List TableView → Bool} {app number : ℕ} {event : Event} {old new : Seen Own} {rest unread : List ℕ} (end : TurnEnd) (net now_net : NetState)
-    → PlaysTurn Tells accepts app number event end old new net now_net rest unread → Reads Tells old new net now_net
-played_reads {Tells = Tells} {old = old} {new = new} (ends.Done stop) net now_net plays = record {
-  abreast = λ told order abreast.
-      subst (λ (s : Seen _). Abreast s now_net) (sym plays.played.0)
-      (abreast_as plays.mid plays.mid_net now_net (ap (λ (n : NetState). n.views) plays.played.1) (turn_abreast plays.turns told abreast));
-  read = λ told order abreast. subst (λ (s : Seen _). MessagesSince old s) (sym plays.played.0) (turn_messages plays.turns told);
-}
-played_reads {old = old} {new = new} (ends.Failed cause) net now_net plays = record {
-  abreast = λ told order abreast. undoes_abreast plays.played told (turn_abreast plays.turns told abreast);
+commits_abreast : {Own : Type 0} {Tells : Type 0} {start : ℕ} {old new : Seen Own} {queue now_queue : List Event} {result : Result (List (ℕ × ℕ)) TxnFault} (net now_net : NetState) → Commits Tells start old new net now_net queue now_queue result → Tells → Abreast old net → Abreast new now_net
+commits_abreast net now_net commits told abreast = abreast-by net now_net commits.continues (commits.links told) commits.switches abreast
+
+pub played_reads : {Own : Type 0} {Tells : Type 0} {accepts : List TableView → Bool} {app number : ℕ} {event : Event} {old new : Seen Own} {queue now_queue : List Event} {rest unread : List ℕ} (closing : Closing) (net now_net : NetState)
+    → PlaysTurn Tells accepts app number event closing old new net now_net queue now_queue rest unread → Reads Tells old new net now_net
+played_reads {old = old} {new = new} (closings.Done stop out) net now_net plays = record {
+  abreast = λ told order abreast. commits_abreast plays.mid_net now_net plays.played told (turn_abreast plays.turns told abreast);
   read = λ told order abreast.
       messages-then old plays.mid new told (turn_continues plays.turns) plays.played.continues (turn_messages plays.turns told) (plays.played.read refl told);
+}
+played_reads {old = old} {new = new} (closings.Failed cause) net now_net plays = record {
+  abreast = λ told order abreast. undoes_abreast plays.played.0 told (turn_abreast plays.turns told abreast);
+  read = λ told order abreast.
+      messages-then old plays.mid new told (turn_continues plays.turns) plays.played.0.continues (turn_messages plays.turns told) (plays.played.0.read refl told);
 }

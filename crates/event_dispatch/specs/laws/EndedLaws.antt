@@ -26,7 +26,7 @@ use Rattle.event_dispatch.specs.Serves.{IsUnopened}
 use Rattle.event_dispatch.specs.Steady.{NoStray, IsEnded, NoneRuns}
 use Rattle.event_dispatch.specs.laws.SteadyLaws.{places_none}
 use Rattle.event_dispatch.specs.laws.ReadLaws.{end_quietly, end_places, end_messages}
-use Rattle.event_dispatch.specs.laws.NoEventLaws.{end_stay}
+use Rattle.event_dispatch.specs.laws.NoEventLaws.{end_stay, end_releases_none}
 
 -- ---- The applications that run
 
@@ -83,7 +83,7 @@ none_left Tells old new told on own ended none =
 -- ---- The end
 
 pub is_ended : {Own : Type 0} (Tells : Type 0) (old new : Seen Own) → Ends Tells index old new → IsEnded Tells old new
-is_ended Tells old new ends = record { no_point = end_quietly Tells old new ends; places = end_places Tells old new ends; messages = end_messages Tells old new ends; ended = ends_so Tells index old new ends; none_moves = record { stay = λ told. end_stay ends told } }
+is_ended Tells old new ends = record { no_point = end_quietly Tells old new ends; places = end_places Tells old new ends; messages = end_messages Tells old new ends; ended = ends_so Tells index old new ends; none_moves = record { stay = λ told. end_stay ends told; releases = λ told. end_releases_none ends told } }
 
 pub none_runs_none : {Own : Type 0} (Tells : Type 0) (seen : Seen Own) (net : NetState) → NoneRuns Tells seen seen net
 none_runs_none Tells seen net = record { no_stray = places_none Tells seen net; none_runs = λ told none. none }

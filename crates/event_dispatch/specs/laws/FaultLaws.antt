@@ -7,13 +7,15 @@ use Rattle.std.proofs.lemmas.Bool.{eqb-true}
 use Rattle.lego_io.specs.Count.{Rose}
 use Rattle.lego_io.specs.laws.CountLaws.{Rose-after}
 use Rattle.of_types.specs.Fields.{number_at}
-use Rattle.of_types.specs.declared.journal.Act.TheVariants.{Got}
+use Rattle.of_types.specs.declared.journal.Act.TheVariants.{Sent, Got}
 use Rattle.of_match.specs.declared.key.Key.{Key}
 use Rattle.of_wire.specs.declared.bodies.FlowMod.{FlowMod as Change}
+use Rattle.of_wire.specs.declared.bodies.PacketOut.{PacketOut as Packet}
 use Rattle.of_wire.specs.Reading.{reading_of}
 use Rattle.of_wire.specs.Spelling.{message_bytes}
-use Rattle.of_wire.specs.declared.message.Message.TheVariants.{FlowMod, StatsRequest, BarrierReply}
+use Rattle.of_wire.specs.declared.message.Message.TheVariants.{FlowMod, PacketOut, StatsRequest, BarrierReply}
 use Rattle.app_frames.specs.declared.frame.Answer.{Answer}
+use Rattle.app_frames.specs.declared.frame.Event.{Event}
 use Rattle.outside.specs.declared.step.WorldStep.{WorldStep}
 use Rattle.outside.specs.declared.step.WorldStep.TheVariants.{Acted, From}
 use Rattle.outside.specs.Seen.{Seen, Continues}
@@ -23,6 +25,9 @@ use Rattle.lego_model.specs.declared.wait.Awaited.{Awaited}
 use Rattle.lego_model.specs.declared.wait.Heard.{Heard}
 use Rattle.lego_model.specs.declared.wait.Heard.TheVariants.{Reply, Refused, Notice, Echo, Other}
 use Rattle.net_txn.specs.Net.{NetState}
+use Rattle.lego_model.specs.Packets.{Held}
+use Rattle.net_txn.specs.Releases.{packet_awaited, packet_steps, BreaksAt, committed, StopsRelease, UndoneForMemory, Commits}
+use Rattle.switch_laws.specs.laws.ReleaseLaws.{releases-continue}
 use Rattle.lego_model.specs.AfterFault.{IsWhyUndo}
 use Rattle.lego_model.specs.UndoFaults.{delete_strict, inverse_bytes}
 use Rattle.net_txn.specs.laws.RestoreLaws.{runs_here, runs_older}
@@ -350,3 +355,25 @@ stops_why {Own} {Tells} old new net now_net fault stops =
     halts_why mid mid_net (inl wants) = subst (λ (f : TxnFault). IsWhy Tells mid new 0 0 (ended_by f)) (sym wants.0) tt
     halts_why mid mid_net (inr failed) =
         cause_why Tells failed.0 mid new fault failed.1.1.0.cause (change_flood failed.0 failed.1.0 mid new mid_net now_net fault failed.1.1.0 (answer_of_host failed.0 failed.1.0 mid_net) refl)
+
+-- ---- A release that stopped
+
+packet_flood : {Own : Type 0} (Tells : Type 0) (d xid : ℕ) (packet : Packet) (old new : Seen Own) (fault : TxnFault) → IfFlooded Tells (packet_awaited d xid) (packet_steps d xid packet) old new fault → FloodSo Tells d old new fault
+packet_flood Tells d xid packet old new (Flooded of n) f = flood_of (packet_awaited d xid) (Acted (Sent d (message_bytes xid (PacketOut packet))) ∷ []) old new f
+packet_flood Tells d xid packet old new (SwitchFault of) f = tt
+packet_flood Tells d xid packet old new (SwitchBroke of bytes) f = tt
+packet_flood Tells d xid packet old new (Diverged of sent got) f = tt
+packet_flood Tells d xid packet old new NoMemory f = tt
+
+breaks_why : {Own : Type 0} {Tells : Type 0} (held : Held) (old new : Seen Own) (net : NetState) (fault : TxnFault) → BreaksAt Tells held old new net fault → IsWhy Tells old new 0 0 (ended_by fault)
+breaks_why {Tells = Tells} held old new net fault breaks = cause_why Tells held.0 old new fault breaks.cause (packet_flood Tells held.0 net.xid held.1 old new fault breaks.flooded)
+
+committed_why : {Own : Type 0} {Tells : Type 0} (start : ℕ) (old new : Seen Own) (net now_net : NetState) (queue now_queue : List Event) (fault : TxnFault) → UndoneForMemory Tells start old new net now_net queue now_queue fault ⊎ StopsRelease Tells start old new net queue fault
+    → IsWhy Tells old new 0 0 (ended_by fault)
+committed_why {Tells = Tells} start old new net now_net queue now_queue fault (inl undone) = subst (λ (f : TxnFault). IsWhy Tells old new 0 0 (ended_by f)) (sym undone.fault_so) tt
+committed_why {Tells = Tells} start old new net now_net queue now_queue fault (inr stops) =
+    IsWhy-behind old stops.mid new 0 0 0 (ended_by fault) (releases-continue Tells stops.front old stops.mid (committed start net) stops.mid_net queue stops.mid_queue stops.before) (omega arith)
+    (breaks_why stops.broken stops.mid new stops.mid_net fault stops.breaks)
+
+pub commit_why : {Own : Type 0} {Tells : Type 0} (start : ℕ) (old new : Seen Own) (net now_net : NetState) (queue now_queue : List Event) (fault : TxnFault) → Commits Tells start old new net now_net queue now_queue (Err fault) → IsWhy Tells old new 0 0 (ended_by fault)
+commit_why start old new net now_net queue now_queue fault commits = committed_why start old new net now_net queue now_queue fault commits.ended

@@ -26,11 +26,12 @@ use Rattle.net_txn.specs.Changes.{known_rows, answer_of_host, Changes}
 use Rattle.net_txn.specs.Arriving.{net_after, Becomes, Arrives}
 use Rattle.net_txn.specs.Joining.{Joins}
 use Rattle.net_txn.specs.Undos.{Part, Inverse, BarrierPassed, Stuck, alone, parts_of, fault_in, first_fault_of, first_fault, IsRun, KeepsOne, Keeps, Undoes, ended_by}
-use Rattle.app_visor.specs.declared.state.TurnEnd.{TurnEnd}
-use Rattle.app_visor.specs.declared.state.TurnEnd.TheVariants as ends
+use Rattle.net_txn.specs.Releases.{Commits}
 use Rattle.app_visor.specs.Beats.{Beat, Talk, Asks as AskedNow, Chain}
 use Rattle.app_visor.specs.Talks.{give_act}
 use Rattle.switch_laws.specs.laws.AskedLaws.{asked}
+use Rattle.event_dispatch.specs.declared.closing.Closing.{Closing}
+use Rattle.event_dispatch.specs.declared.closing.Closing.TheVariants as closings
 use Rattle.event_dispatch.specs.Runs.{AreRead}
 use Rattle.event_dispatch.specs.Serves.{IsPlayed, PlaysTurn}
 use Rattle.net_txn.specs.laws.RestoreLaws.{runs_here, runs_older}
@@ -146,7 +147,7 @@ undoes_read {old = old} {new = new} net now_net u read = keeps_read old.counts n
 -- ---- A turn
 
 change_read : {Own Tells : Type 0} {d : ℕ} {old new : Seen Own} (bytes : List ℕ) (net now_net : NetState) (answer : Answer) → Changes Tells d bytes old new net now_net (Ok answer) → (o : Option Answer) → answer_of_host d bytes net ≡ o → AreRead net.kept → AreRead now_net.kept
-change_read bytes net now_net answer changes (Some a) host read = read_same net now_net (changes.by_host a host).stays read
+change_read bytes net now_net answer changes (Some a) host read = read_alike net.kept now_net.kept (ap (λ (n : NetState). n.kept) (changes.by_host a host).stays) read
 change_read {d = d} bytes net now_net answer changes None host read =
     let change = asked (known_rows d net.views) bytes host in
     let asks = changes.by_switch change.xid change.change host change.read in
@@ -159,13 +160,16 @@ chain_read Tells app (AskedNow x ∷ rest) old new net now_net chain read =
     chain_read Tells app rest x.after new x.now_net now_net chain.1.1
     (change_read x.bytes x.net x.now_net x.answer chain.1.0.changes (answer_of_host x.dpid x.bytes x.net) refl (read_same net x.net chain.0.1 read))
 
-played_read : {Own : Type 0} (Tells : Type 0) (start : ℕ) (mid new : Seen Own) (end : TurnEnd) (mid_net now_net : NetState) → IsPlayed Tells end start mid new mid_net now_net → AreRead mid_net.kept → AreRead now_net.kept
-played_read Tells start mid new (ends.Done stop) mid_net now_net played read = read_alike mid_net.kept now_net.kept (ap (λ (n : NetState). n.kept) played.1) read
-played_read Tells start mid new (ends.Failed cause) mid_net now_net played read = undoes_read mid_net now_net played read
+commits_read : {Own Tells : Type 0} {start : ℕ} {old new : Seen Own} {queue now_queue : List Event} {sent : List (ℕ × ℕ)} (net now_net : NetState) → Commits Tells start old new net now_net queue now_queue (Ok sent) → AreRead net.kept → AreRead now_net.kept
+commits_read net now_net commits read = read_alike net.kept now_net.kept (commits.kept refl) read
 
-pub turn_read : {Own Tells : Type 0} {accepts : List TableView → Bool} {app number : ℕ} {event : Event} {old new : Seen Own} {rest unread : List ℕ} (end : TurnEnd) (net now_net : NetState) → PlaysTurn Tells accepts app number event end old new net now_net rest unread
-    → AreRead net.kept → AreRead now_net.kept
-turn_read {Tells = Tells} {app = app} {old = old} {new = new} end net now_net plays read =
-    played_read Tells _ plays.mid new end plays.mid_net now_net plays.played (chain_read Tells app (Talk (give_act plays.turns.given app _) ∷ plays.turns.trace) old plays.mid net plays.mid_net plays.turns.chain read)
+played_read : {Own : Type 0} (Tells : Type 0) (start : ℕ) (mid new : Seen Own) (closing : Closing) (mid_net now_net : NetState) (queue now_queue : List Event) → IsPlayed Tells closing start mid new mid_net now_net queue now_queue → AreRead mid_net.kept → AreRead now_net.kept
+played_read Tells start mid new (closings.Done stop out) mid_net now_net queue now_queue played read = commits_read mid_net now_net played read
+played_read Tells start mid new (closings.Failed cause) mid_net now_net queue now_queue played read = undoes_read mid_net now_net played.0 read
+
+pub turn_read : {Own Tells : Type 0} {accepts : List TableView → Bool} {app number : ℕ} {event : Event} {old new : Seen Own} {queue now_queue : List Event} {rest unread : List ℕ} (closing : Closing) (net now_net : NetState)
+    → PlaysTurn Tells accepts app number event closing old new net now_net queue now_queue rest unread → AreRead net.kept → AreRead now_net.kept
+turn_read {Tells = Tells} {app = app} {old = old} {new = new} {queue = queue} {now_queue = now_queue} closing net now_net plays read =
+    played_read Tells _ plays.mid new closing plays.mid_net now_net queue now_queue plays.played (chain_read Tells app (Talk (give_act plays.turns.given app _) ∷ plays.turns.trace) old plays.mid net plays.mid_net plays.turns.chain read)
 
 -- ---- The whole engine

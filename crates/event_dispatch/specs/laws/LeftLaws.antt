@@ -1,6 +1,8 @@
 -- Laws of what a fault leaves of the tables of switches.
-use Rattle.std.proofs.Common.{◌≡◌, ℕ, Bool, true, false, List, [], ◌∷◌, ◌++◌, map, Ok, refl, sym, ap, ◌∙◌, subst, append_assoc, inl, inr}
+use Rattle.std.proofs.Common.{◌≡◌, ◌⊎◌, ℕ, Bool, true, false, List, [], ◌∷◌, ◌++◌, length, map, Result, Ok, Err, refl, sym, ap, ◌∙◌, subst, append_assoc, inl, inr}
+use Rattle.std.specs.Option.{option_map}
 use Rattle.std.proofs.lemmas.List.{append-nil}
+use Rattle.std.proofs.lemmas.List.Elements.{filter_map-append}
 use Rattle.flow_table.specs.View.{TableView}
 use Rattle.of_types.specs.declared.journal.Act.{Act}
 use Rattle.app_frames.specs.declared.frame.Answer.{Answer}
@@ -9,29 +11,41 @@ use Rattle.lego_model.specs.Application.{index, budget}
 use Rattle.lego_model.specs.AtOnce.{Passes, AtOnce}
 use Rattle.lego_model.specs.Controller.{event_frame}
 use Rattle.lego_model.specs.History.{own_acts}
-use Rattle.lego_model.specs.Journal.{is_event, reply_of}
+use Rattle.lego_model.specs.Journal.{is_event, reply_of, released_in, released}
+use Rattle.lego_model.specs.Packets.{Held}
 use Rattle.lego_model.specs.Turns.{Outcome, Completed, Failed, Played, turn_of}
 use Rattle.outside.specs.declared.step.WorldStep.{WorldStep}
 use Rattle.outside.specs.Seen.{Seen, Continues, journal}
+use Rattle.outside.specs.State.{state, switch_of}
+use Rattle.outside.specs.laws.SeenLaws.{journal-append}
 use Rattle.outside.specs.laws.InOrderLaws.{InOrder-before}
+use Rattle.lego_model.specs.declared.fault.TxnFault.{TxnFault}
+use Rattle.lego_model.specs.declared.fault.TxnFault.TheVariants.{NoMemory}
 use Rattle.net_txn.specs.Net.{NetState}
-use Rattle.lego_model.specs.AfterFault.{NoEventSince, answering, IsCompleted, UndoneButFailed, TurnDone, SwitchesStay, TurnKept, TablesLeft}
+use Rattle.net_txn.specs.Undos.{Undoes}
+use Rattle.net_txn.specs.Releases.{MovesBy, committed, Commits}
+use Rattle.lego_model.specs.AfterFault.{NoEventSince, answering, IsCompleted, UndoneButFailed, TurnDone, SwitchesStay, TurnKept, after_packets, TurnReleasing, TablesLeft}
 use Rattle.lego_model.specs.laws.SwitchFaultLaws.{failed_before, failed_told}
 use Rattle.switch_laws.specs.Since.{Ready}
+use Rattle.switch_laws.specs.laws.ReleaseLaws.{release-moves}
 use Rattle.journal_laws.specs.laws.FrameLaws.{event_is}
 use Rattle.app_visor.specs.declared.state.TurnEnd.{TurnEnd}
 use Rattle.app_visor.specs.declared.state.TurnEnd.TheVariants as ends
 use Rattle.app_visor.specs.Talks.{give_act}
-use Rattle.app_visor.specs.Beats.{Exchange, acts_in, exchanges_in, acts_of}
+use Rattle.app_visor.specs.Beats.{Exchange, Stops, acts_in, exchanges_in, acts_of}
 use Rattle.app_visor.specs.Turns.{IsEnd, Agrees, Turns}
 use Rattle.app_visor.specs.laws.TableLaws.{turn_alike}
 use Rattle.app_visor.specs.CallsFor.{OwnSteps}
 use Rattle.app_visor.specs.laws.ReadTurnLaws.{turn_acts}
-use Rattle.turn_laws.specs.laws.FaultLaws.{turn-undone}
+use Rattle.turn_laws.specs.laws.FaultLaws.{stop-undone, turn-undone, moves-left, commit-left}
 use Rattle.run_laws.specs.Engine.{Engine}
+use Rattle.event_dispatch.specs.declared.closing.Closing.{Closing}
+use Rattle.event_dispatch.specs.declared.closing.Closing.TheVariants as closings
+use Rattle.event_dispatch.specs.Why.{fault_of}
+use Rattle.event_dispatch.specs.Steady.{NoneReleased}
 use Rattle.event_dispatch.specs.Serves.{PlaysTurn}
-use Rattle.event_dispatch.specs.Undone.{TurnUndone, TurnLeft, DispatchLeft}
-use Rattle.event_dispatch.specs.laws.NoEventLaws.{no_event_none, no_event_then, own_stay}
+use Rattle.event_dispatch.specs.Undone.{IsShort, TurnLeft, DispatchLeft}
+use Rattle.event_dispatch.specs.laws.NoEventLaws.{no_event_none, no_event_then, own_stay, own_releases}
 
 -- ---- What was undone is so whatever comes behind that moves no switch
 
@@ -58,17 +72,36 @@ kept_then old mid new told later stay k =
       stay = λ d. stay d ∙ k.stay d;
     }
 
--- what is left stays so behind parts in which no event is given and no switch moves
-pub tables_then : {Own : Type 0} {Tells Short : Type 0} (old mid new : Seen Own) → Tells → Continues Tells old mid → Continues Tells mid new → NoEventSince mid new → SwitchesStay mid new → TablesLeft Short old mid → TablesLeft Short old new
-tables_then old mid new told first later none stay (inl before) = inl (no_event_then before none)
-tables_then old mid new told first later none stay (inr (inl undone)) = inr (inl (undone_then old mid new told first later stay undone))
-tables_then old mid new told first later none stay (inr (inr kept)) = inr (inr (kept.0, kept_then old mid new told later stay kept.1))
+-- behind a release that was begun none was released, so that the packets are the same
+releasing_then : {Own : Type 0} {Tells : Type 0} (old mid new : Seen Own) → Continues Tells mid new → NoneReleased mid new → SwitchesStay mid new → TurnReleasing old mid → TurnReleasing old new
+unfolding released
+releasing_then old mid new later none stay r =
+    let front = r.first ∷ r.steps in
+    let same : released (journal (front ++ none.steps)) ≡ released (journal front) =
+    ap released (journal-append front none.steps) ∙ filter_map-append released_in (journal front) (journal none.steps) ∙ ap (λ (xs : List Held). released (journal front) ++ xs) none.none ∙ append-nil (released (journal front)) in
+    record {
+      mid = r.mid;
+      given = later.given ∙ r.given;
+      done = r.done;
+      first = r.first;
+      steps = r.steps ++ none.steps;
+      history = none.history ∙ ap (λ (xs : List WorldStep). xs ++ none.steps) r.history ∙ append_assoc r.mid.history front none.steps;
+      moved = λ d. stay d ∙ r.moved d ∙ ap (λ (packets : List Held). option_map (after_packets d packets) (switch_of d (state r.mid))) (sym same);
+    }
+
+-- What is left stays so behind parts in which no event is given, no packet is released, and no switch moves.
+pub tables_then : {Own : Type 0} {Tells Short : Type 0} (old mid new : Seen Own) → Tells → Continues Tells old mid → Continues Tells mid new → NoEventSince mid new → NoneReleased mid new → SwitchesStay mid new → TablesLeft Short old mid → TablesLeft Short old new
+tables_then old mid new told first later none released_none stay (inl before) = inl (no_event_then before none)
+tables_then old mid new told first later none released_none stay (inr (inl undone)) = inr (inl (undone_then old mid new told first later stay undone))
+tables_then old mid new told first later none released_none stay (inr (inr (inl kept))) = inr (inr (inl (kept.0, kept_then old mid new told later stay kept.1)))
+tables_then old mid new told first later none released_none stay (inr (inr (inr releasing))) = inr (inr (inr (releasing_then old mid new later released_none stay releasing)))
 
 -- where memory may have been wanting in more cases
 pub tables_for : {Own : Type 0} {Short Other : Type 0} {old new : Seen Own} → (Short → Other) → TablesLeft Short old new → TablesLeft Other old new
 tables_for short (inl before) = inl before
 tables_for short (inr (inl undone)) = inr (inl undone)
-tables_for short (inr (inr kept)) = inr (inr (short kept.0, kept.1))
+tables_for short (inr (inr (inl kept))) = inr (inr (inl (short kept.0, kept.1)))
+tables_for short (inr (inr (inr releasing))) = inr (inr (inr releasing))
 
 -- ---- A whole turn
 
@@ -125,21 +158,70 @@ turn_done {accepts = accepts} {rest = rest} {event = event} {unread = unread} {o
 pub left_none : {Own : Type 0} (Tells Short : Type 0) (seen : Seen Own) (e : Engine) → DispatchLeft Tells Short seen seen e
 left_none Tells Short seen e = record { left = λ told keeps order ready talking. inl (no_event_none seen) }
 
--- its turn stopped, or failed and could not be undone on each switch
-pub left_undone : {Own : Type 0} (Tells Short : Type 0) (rest : List ℕ) (old new : Seen Own) (net : NetState) → TurnUndone Tells old new net → TurnLeft Tells Short rest old new net
-left_undone Tells Short rest old new net turn = record { left = λ told keeps order ready a passes. inr (inl (undone_so old new told (turn.undone told keeps order ready))) }
+-- its turn stopped, and was undone
+pub left_stopped : {Own : Type 0} {Tells Short : Type 0} {app start now_start : ℕ} {old mid new : Seen Own} {at_net mid_net now_net : NetState} {fault : TxnFault} {result : Result (Unit {0}) TxnFault} (rest : List ℕ) (net : NetState) → at_net ≡ net → start ≡ length net.log → now_start ≡ start
+    → Stops Tells app old mid at_net mid_net fault → Undoes Tells now_start mid new mid_net now_net result → TurnLeft Tells Short rest old new net
+left_stopped {Tells = Tells} {app = app} {old = old} {mid = mid} {new = new} {mid_net = mid_net} {now_net = now_net} {fault = fault} {result = result} rest net same at kept stops undoes = record {
+  left = λ told keeps order ready a passes.
+      inr (inl (undone_so old new told
+      (stop-undone Tells app old mid new net mid_net now_net fault result told keeps order ready (subst (λ (n : NetState). Stops Tells app old mid n mid_net fault) same stops)
+      (subst (λ (n : ℕ). Undoes Tells n mid new mid_net now_net result) (kept ∙ at) undoes))));
+}
+
+-- it failed, and could not be undone on each switch
+pub left_failed : {Own : Type 0} {Tells Short : Type 0} {accepts : List TableView → Bool} {app most start now_start : ℕ} {taken frame unread : List ℕ} {old mid new : Seen Own} {at_net mid_net now_net : NetState} {end : TurnEnd} {result : Result (Unit {0}) TxnFault} (rest : List ℕ) (net : NetState)
+    → at_net ≡ net → start ≡ length net.log → now_start ≡ start → Turns Tells accepts app most taken frame old mid at_net mid_net end unread → Undoes Tells now_start mid new mid_net now_net result → TurnLeft Tells Short rest old new net
+left_failed {Tells = Tells} {accepts = accepts} {app = app} {most = most} {taken = taken} {frame = frame} {unread = unread} {old = old} {mid = mid} {new = new} {mid_net = mid_net} {now_net = now_net} {end = end} {result = result} rest net same at kept turns undoes = record {
+  left = λ told keeps order ready a passes.
+      inr (inl (undone_so old new told
+      (turn-undone Tells accepts app most taken frame old mid new net mid_net now_net end unread result told keeps order ready
+      (subst (λ (n : NetState). Turns Tells accepts app most taken frame old mid n mid_net end unread) same turns)
+      (subst (λ (n : ℕ). Undoes Tells n mid new mid_net now_net result) (kept ∙ at) undoes))));
+}
+
+committed_so : {Own : Type 0} (Tells : Type 0) (old new : Seen Own) (fault : TxnFault) → Tells → UndoneButFailed Tells old new ⊎ ((fault ≡ NoMemory) × TurnKept old new) ⊎ TurnReleasing old new → TablesLeft (IsShort (fault_of fault)) old new
+committed_so Tells old new fault told (inl undone) = inr (inl (undone_so old new told undone))
+committed_so Tells old new fault told (inr (inl kept)) = inr (inr (inl (subst (λ (f : TxnFault). IsShort (fault_of f)) (sym kept.0) tt, kept.1)))
+committed_so Tells old new fault told (inr (inr releasing)) = inr (inr (inr releasing))
+
+-- it was whole, and not all of its packets could be released
+pub left_committed : {Own : Type 0} {Tells : Type 0} {accepts : List TableView → Bool} {app start now_start : ℕ} {event rest unread : List ℕ} {old mid new : Seen Own} {at_net mid_net now_net : NetState} {queue now_queue : List Event} {stop : Bool} {end : TurnEnd} (net : NetState)
+    (fault : TxnFault) → app ≡ index → at_net ≡ net → start ≡ length net.log → now_start ≡ start → end ≡ ends.Done stop → is_event event ≡ true → Turns Tells accepts app budget rest event old mid at_net mid_net end unread
+    → Commits Tells now_start mid new mid_net now_net queue now_queue (Err fault) → TurnLeft Tells (IsShort (fault_of fault)) rest old new net
+left_committed {Tells = Tells} {accepts = accepts} {app = app} {now_start = now_start} {event = event} {rest = rest} {unread = unread} {old = old} {mid = mid} {new = new} {at_net = at_net} {mid_net = mid_net} {now_net = now_net} {queue = queue} {now_queue = now_queue} {stop = stop} {end = end}
+    net fault is same at kept done gives turns commits = record {
+      left = λ told keeps order ready a passes.
+          let turned : Turns Tells accepts app budget rest event old mid net mid_net (ends.Done stop) unread =
+          subst (λ (e : TurnEnd). Turns Tells accepts app budget rest event old mid net mid_net e unread) done (subst (λ (n : NetState). Turns Tells accepts app budget rest event old mid n mid_net end unread) same turns) in
+          let broken : Commits Tells (length net.log) mid new mid_net now_net queue now_queue (Err fault) =
+          subst (λ (n : ℕ). Commits Tells n mid new mid_net now_net queue now_queue (Err fault)) (kept ∙ at) commits in
+          committed_so Tells old new fault told
+          (commit-left Tells accepts app budget rest event old mid new net mid_net now_net (ends.Done stop) unread queue now_queue fault told keeps order ready turned (turn_done told is gives turned a passes) broken);
+    }
+
+-- all of them were released, and each switch moved by those alone
+released_by : {Own : Type 0} {Tells : Type 0} {start : ℕ} {old new : Seen Own} {net now_net : NetState} {queue now_queue : List Event} {sent : List (ℕ × ℕ)} → Tells → Commits Tells start old new net now_net queue now_queue (Ok sent) → (packets : List Held) × MovesBy packets old new
+released_by {Tells = Tells} {start = start} {old = old} {new = new} {net = net} {now_net = now_net} {queue = queue} {now_queue = now_queue} told commits =
+    (_, release-moves Tells net.held old new (committed start net) now_net queue now_queue told commits.ended.all)
+
+left_moved : {Own : Type 0} {Tells : Type 0} (old first mid new : Seen Own) → Tells → Continues Tells mid new → NoneReleased mid new → SwitchesStay mid new → ((mid.history ≡ first.history) × TurnKept old mid) ⊎ TurnReleasing old mid → TablesLeft (Unit {0}) old new
+left_moved old first mid new told later none stay (inl kept) = inr (inr (inl (tt, kept_then old mid new told later stay kept.1)))
+left_moved old first mid new told later none stay (inr releasing) = inr (inr (inr (releasing_then old mid new later none stay releasing)))
 
 -- its turn ended, and memory was wanting behind it
-pub left_closed : {Own : Type 0} {Tells : Type 0} {accepts : List TableView → Bool} {number : ℕ} {event : Event} {rest unread : List ℕ} (app : ℕ) (end : TurnEnd) (old mid new : Seen Own) (net mid_net : NetState) → app ≡ index → Continues Tells old mid → Continues Tells mid new
-    → (Tells → OwnSteps index mid new) → PlaysTurn Tells accepts app number event end old mid net mid_net rest unread → TurnLeft Tells (Unit {0}) rest old new net
-left_closed {number = number} {event = event} app (ends.Done stop) old mid new net mid_net at first later own plays = record {
+pub left_closed : {Own : Type 0} {Tells : Type 0} {accepts : List TableView → Bool} {number : ℕ} {event : Event} {queue now_queue : List Event} {rest unread : List ℕ} (app : ℕ) (closing : Closing) (old mid new : Seen Own) (net mid_net : NetState) → app ≡ index → Continues Tells old mid → Continues Tells mid new
+    → (Tells → OwnSteps index mid new) → PlaysTurn Tells accepts app number event closing old mid net mid_net queue now_queue rest unread → TurnLeft Tells (Unit {0}) rest old new net
+left_closed {number = number} {event = event} app (closings.Done stop out) old mid new net mid_net at first later own plays = record {
   left = λ told keeps order ready a passes.
-      let kept : TurnKept old plays.mid = record { mid = plays.mid; given = refl; done = turn_done told at (event_is number net.moment event) plays.turns a passes; later = ([], sym (append-nil plays.mid.history)); stay = λ d. refl } in
-      inr (inr (tt, kept_then old mid new told later (own_stay later (own told)) (subst (λ (s : Seen _). TurnKept old s) (sym plays.played.0) kept)));
+      let commits = plays.played in
+      let done = turn_done told at (event_is number net.moment event) plays.turns a passes in
+      let moves = released_by told commits in
+      let stay = own_stay later (own told) in
+      left_moved old plays.mid mid new told later (own_releases (own told)) stay (moves-left old plays.mid mid moves.0 commits.continues.given done moves.1);
 }
-left_closed {Tells = Tells} {accepts = accepts} {number = number} {event = event} {rest = rest} {unread = unread} app (ends.Failed cause) old mid new net mid_net at first later own plays = record {
+left_closed {Tells = Tells} {accepts = accepts} {number = number} {event = event} {rest = rest} {unread = unread} app (closings.Failed cause) old mid new net mid_net at first later own plays = record {
   left = λ told keeps order ready a passes.
-      let undone = turn-undone Tells accepts app budget rest (event_frame number net.moment event) old plays.mid mid net plays.mid_net mid_net (ends.Failed cause) unread (Ok tt) told keeps (InOrder-before told later order) ready plays.turns plays.played in
+      let undone = turn-undone Tells accepts app budget rest (event_frame number net.moment event) old plays.mid mid net plays.mid_net mid_net (ends.Failed cause) unread (Ok tt) told keeps (InOrder-before told later order) ready plays.turns plays.played.0 in
       inr (inl (undone_then old mid new told first later (own_stay later (own told)) (undone_so old mid told undone)));
 }
 

@@ -1,11 +1,11 @@
--- Laws of parts of a run in which no application is given an event, and no switch moves.
+-- Laws of parts of a run in which no application is given an event, no packet is released, and no switch moves.
 use Rattle.std.specs.Prelude.{◌≡◌, ◌==◌, ℕ, Bool, true, false, List, [], ◌∷◌, ◌++◌, map, Option, Some, None, Result, Ok, Err, refl}
 use Rattle.std.proofs.Common.{sym, ap, ◌∙◌, append_assoc, true≢false}
 use Rattle.std.proofs.lemmas.List.{append-nil}
 use Rattle.of_types.specs.declared.journal.Act.{Act}
 use Rattle.of_types.specs.declared.journal.Act.TheVariants.{Stim, Started, Gave, Gone, Took, Ended, Sent, Got}
 use Rattle.of_types.specs.declared.journal.WorldStim.{WorldStim}
-use Rattle.lego_model.specs.Journal.{is_event}
+use Rattle.lego_model.specs.Journal.{is_event, released_in, released}
 use Rattle.lego_model.specs.Application.{index}
 use Rattle.outside.specs.declared.step.WorldStep.{WorldStep}
 use Rattle.outside.specs.declared.step.WorldStep.TheVariants.{Acted, TookInto, From, Joined, Left, Moment, Idle, End, Opened, NotOpened, NextFailed, SendFailed, RecvFailed}
@@ -13,7 +13,7 @@ use Rattle.outside.specs.declared.item.Item.{Item}
 use Rattle.outside.specs.declared.item.Item.TheVariants as items
 use Rattle.outside.specs.declared.faults.NextFault.{NextFault}
 use Rattle.outside.specs.declared.faults.NextFault.TheVariants as coming
-use Rattle.outside.specs.Seen.{Seen, Continues}
+use Rattle.outside.specs.Seen.{Seen, Continues, journal}
 use Rattle.outside.specs.State.{State, Link, state, is_running, link_of, switch_in, switch_of, after_act, after_step, after_steps}
 use Rattle.outside.specs.Calls.{Nexts, Ends, stim_steps, item_step, next_steps, end_steps}
 use Rattle.outside.specs.laws.StateLaws.{state-append}
@@ -23,8 +23,9 @@ use Rattle.journal_laws.specs.Readings.{is_call, Calls}
 use Rattle.journal_laws.specs.laws.CallLaws.{both_second}
 use Rattle.app_visor.specs.Talks.{step_of}
 use Rattle.app_visor.specs.CallsFor.{OwnSteps}
-use Rattle.app_visor.specs.laws.TellingLaws.{apart_called}
+use Rattle.app_visor.specs.laws.TellingLaws.{apart_called, journal_steps}
 use Rattle.lego_model.specs.AfterFault.{gives_event, GiveNoEvent, NoEventSince, SwitchesStay}
+use Rattle.event_dispatch.specs.Steady.{NoneReleased}
 
 -- ---- One part behind another
 
@@ -127,6 +128,24 @@ pub own_stay : {Own : Type 0} {Tells : Type 0} {app : ℕ} {old new : Seen Own} 
 own_stay {app = app} {old = old} {new = new} on own d =
     links_stay d (state old) (state new) (ap (λ (s : State). s.links) (state-append old new (map step_of own.acts) on.given own.history) ∙ (apart_called app own.acts (state old) own.all).links)
 
+call_releases : (app : ℕ) (act : Act) → is_call app act ≡ true → released_in act ≡ None
+call_releases app (Started of stands) is = refl
+call_releases app (Gave of bytes) is = refl
+call_releases app (Gone of bytes) is = refl
+call_releases app (Took of what) is = refl
+call_releases app (Ended of) is = refl
+call_releases app (Stim x) is = refl
+call_releases app (Sent d bytes) is = absurd (true≢false (sym is))
+call_releases app (Got d bytes) is = refl
+
+calls_release : (app : ℕ) (acts : List Act) → Calls app acts → released acts ≡ []
+unfolding released
+calls_release app [] all = refl
+calls_release app (act ∷ acts) all = rw (call_releases app act all.0) (calls_release app acts all.1)
+
+pub own_releases : {Own : Type 0} {app : ℕ} {old new : Seen Own} → OwnSteps app old new → NoneReleased old new
+own_releases {app = app} own = record { steps = map step_of own.acts; history = own.history; none = ap released (journal_steps own.acts) ∙ calls_release app own.acts own.all }
+
 -- ---- The application was ended, if it ran
 
 end_gives : (app : ℕ) (running : Bool) → GiveNoEvent (end_steps app running)
@@ -148,3 +167,13 @@ pub end_stay : {Own : Type 0} {Tells : Type 0} {old new : Seen Own} → Ends Tel
 end_stay {old = old} ends told d =
     let running = is_running index (state old) in
     ap (λ (s : State). switch_of d s) (Ends-state told ends) ∙ end_stays running d (state old)
+
+end_releases : (running : Bool) → released (journal (end_steps index running)) ≡ []
+unfolding end_steps journal released
+end_releases true = refl
+end_releases false = refl
+
+pub end_releases_none : {Own : Type 0} {Tells : Type 0} {old new : Seen Own} → Ends Tells index old new → Tells → NoneReleased old new
+end_releases_none {old = old} ends told =
+    let running = is_running index (state old) in
+    record { steps = end_steps index running; history = (ends.told told).history; none = end_releases running }

@@ -1,33 +1,38 @@
 -- Laws of how a run may end in a world that keeps its word.
-use Rattle.std.proofs.Common.{◌≡◌, ℕ, ◌<◌, ◌^◌, Bool, List, [], ◌∷◌, ◌++◌, Option, Some, IsSome, Result, Ok, Err, IfErr, IsOk, IsErr, slice_get, take, refl, sym, ap, ◌∙◌, subst}
+use Rattle.std.proofs.Common.{◌≡◌, ℕ, ◌<◌, ◌^◌, Bool, List, [], ◌∷◌, ◌++◌, length, Option, Some, IsSome, Result, Ok, Err, IfErr, IsOk, IsErr, slice_get, take, refl, sym, ap, ◌∙◌, subst, inl, inr}
 use Rattle.of_stats.specs.Flows.{AreRows}
 use Rattle.of_wire.specs.Reading.{reading_of}
 use Rattle.flow_table.specs.View.{TableView}
 use Rattle.flow_table.specs.Switch.{SwitchState}
+use Rattle.app_frames.specs.declared.frame.Event.{Event}
 use Rattle.lego_model.specs.Places.{Place}
 use Rattle.outside.specs.declared.item.Item.{Item}
 use Rattle.outside.specs.declared.item.Item.TheVariants as items
 use Rattle.outside.specs.declared.step.WorldStep.TheVariants.{Opened}
-use Rattle.outside.specs.Seen.{Seen, Continues}
+use Rattle.outside.specs.Seen.{Seen, Longer, Continues}
+use Rattle.outside.specs.laws.SeenLaws.{Longer-trans}
 use Rattle.outside.specs.Calls.{Nexts, item_step}
 use Rattle.outside.specs.State.{state, switch_of}
 use Rattle.outside.specs.laws.StateLaws.{Conforming-before}
 use Rattle.outside.specs.Conforming.{Conforming}
 use Rattle.lego_model.specs.declared.fault.TxnFault.{TxnFault}
 use Rattle.lego_model.specs.declared.fault.TxnFault.TheVariants.{SwitchFault, SwitchBroke, Diverged, Flooded, NoMemory}
+use Rattle.lego_model.specs.SwitchFaults.{FloodedByPacket}
+use Rattle.switch_laws.specs.Released.{StopsFor}
 use Rattle.net_txn.specs.Causes.{IsPlainFault, IsPlain}
 use Rattle.net_txn.specs.Arriving.{IsArrivalCause}
 use Rattle.net_txn.specs.JoiningSteps.{JoinSteps}
 use Rattle.net_txn.specs.AskSteps.{own_rows, IsAskFault, AskSteps}
 use Rattle.net_txn.specs.Net.{NetState}
 use Rattle.net_txn.specs.Undos.{Undoes}
+use Rattle.net_txn.specs.Releases.{Commits}
 use Rattle.net_txn.specs.Views.{rows_at}
 use Rattle.app_visor.specs.declared.state.TurnEnd.{TurnEnd}
 use Rattle.app_visor.specs.Beats.{Stops}
 use Rattle.app_visor.specs.Turns.{Turns}
 use Rattle.switch_laws.specs.laws.SoundLaws.{rows-are}
 use Rattle.switch_laws.specs.laws.ClockLaws.{switch-in_time, moment-within}
-use Rattle.turn_laws.specs.laws.StopLaws.{stop-plain, turn-ready}
+use Rattle.turn_laws.specs.laws.StopLaws.{stop-plain, turn-ready, flooded-since, commit-plain}
 use Rattle.turn_laws.specs.Stop.{IsPlainStop}
 use Rattle.batch_laws.specs.laws.InBatchLaws.{next_can}
 use Rattle.run_laws.specs.Engine.{Engine}
@@ -55,7 +60,7 @@ use Rattle.event_dispatch.specs.laws.LastLaws.{some_is, says_ready, says_sound}
 use Rattle.event_dispatch.specs.Serves.{DispatchesSome, IsBatch, GoesRounds, GoesToEnd, Begins, IsUnopened}
 use Rattle.event_dispatch.specs.laws.RoundLaws.{batch_is}
 use Rattle.event_dispatch.specs.laws.WholeLaws.{opened_so}
-use Rattle.event_dispatch.specs.Plain.{IsPlainServed, IsPlainEnd, PlainRead, PlainJoin, PlainItem, PlainNext, PlainKept, PlainCalm, PlainTurn, PlainTable, PlainRun, PlainWhole}
+use Rattle.event_dispatch.specs.Plain.{IsPlainServed, IsPlainEnd, PlainRead, PlainJoin, PlainItem, PlainNext, PlainKept, PlainCalm, PlainTurn, PlainTable, PlainRun, PlainWhole, EndsPlain}
 
 -- ---- Want of memory, and faults of the network
 
@@ -68,6 +73,36 @@ plain_fault d (Flooded e n) plain = absurd plain
 
 plain_stop : (fault : TxnFault) → IsPlainStop fault → IsPlainServed (ended_by fault)
 plain_stop fault plain = plain_fault plain.0 fault plain.1
+
+-- ---- A flood
+
+flood_before : {Own : Type 0} {Tells : Type 0} {d : ℕ} (old mid new : Seen Own) → Tells → Continues Tells mid new → FloodedByPacket d old mid → FloodedByPacket d old new
+flood_before old mid new told later f = record {
+  mid = f.mid;
+  given = f.given ∙ sym later.given;
+  before = f.before;
+  packet = f.packet;
+  switch = f.switch;
+  stands = f.stands;
+  many = f.many;
+  xid = f.xid;
+  sent = Longer-trans _ mid.history new.history f.sent (later.told told);
+}
+
+-- it ends so behind a part of a run,
+ends_behind : {Own : Type 0} (old mid new : Seen Own) (end : Served) → Longer old.history mid.history → EndsPlain mid new end → EndsPlain old new end
+ends_behind old mid new end first (inl plain) = inl plain
+ends_behind old mid new end first (inr flood) = inr (flood.0, (flood.1.0, flooded-since old mid new first flood.1.1))
+
+-- and before one
+ends_before : {Own : Type 0} {Tells : Type 0} (old mid new : Seen Own) (end : Served) → Tells → Continues Tells mid new → EndsPlain old mid end → EndsPlain old new end
+ends_before old mid new end told later (inl plain) = inl plain
+ends_before old mid new end told later (inr flood) = inr (flood.0, (flood.1.0, flood_before old mid new told later flood.1.1))
+
+-- a release that stopped
+ends_release : {Own : Type 0} (old new : Seen Own) (fault : TxnFault) → StopsFor old new fault → EndsPlain old new (ended_by fault)
+ends_release old new fault (inl plain) = inl (plain_stop fault plain)
+ends_release old new fault (inr flood) = inr (flood.0, (ap ended_by flood.1.0, flood.1.1))
 
 -- ---- A batch
 
@@ -135,7 +170,7 @@ batch_next n old now new run mid fault goes later next = record {
 -- ---- A turn
 
 pub turn_memory : {Own : Type 0} {Tells : Type 0} (old new : Seen Own) (net : NetState) → PlainTurn Tells old new net faults.NoMemory
-turn_memory old new net = record { plain = λ told keeps ready. tt }
+turn_memory old new net = record { plain = λ told keeps ready. inl tt }
 
 -- what is noted leaves the network
 pub turn_noted : {Own : Type 0} {Tells : Type 0} (old new : Seen Own) (net noted : NetState) (fault : Fault) → noted ≡ net → PlainTurn Tells old new noted fault → PlainTurn Tells old new net fault
@@ -143,7 +178,7 @@ turn_noted {Tells = Tells} old new net noted fault same turn = subst (λ (n : Ne
 
 pub turn_stopped : {Own : Type 0} {Tells : Type 0} {app : ℕ} (old mid new : Seen Own) (net now_net : NetState) (fault : TxnFault) → Continues Tells mid new → Stops Tells app old mid net now_net fault → PlainTurn Tells old new net (fault_of fault)
 turn_stopped {Tells = Tells} {app = app} old mid new net now_net fault later stops = record {
-  plain = λ told keeps ready. plain_stop fault (stop-plain Tells app old mid net now_net fault told (Conforming-before told later keeps) ready stops);
+  plain = λ told keeps ready. inl (plain_stop fault (stop-plain Tells app old mid net now_net fault told (Conforming-before told later keeps) ready stops));
 }
 
 plain_any : (fault : TxnFault) → IsPlain fault → IsPlainServed (ended_by fault)
@@ -162,8 +197,20 @@ turn_not_undone {Own} {Tells} {accepts} {app} {budget} {start} {rest} {frame} {u
       plain = λ told keeps ready.
           let before : Conforming mid = Conforming-before told failed.continues keeps in
           let again = turn-ready Tells accepts app budget rest frame old mid txn_net mid_net end unread told before ready turns in
-          plain_any fault (failed.plain told keeps (λ d viewed. stands_ready d mid mid_net again viewed (switch_of d (state mid)) refl));
+          inl (plain_any fault (failed.plain told keeps (λ d viewed. stands_ready d mid mid_net again viewed (switch_of d (state mid)) refl)));
     })
+
+-- one that was whole, and whose packets could not all be released
+pub turn_uncommitted : {Own : Type 0} {Tells : Type 0} {accepts : List TableView → Bool} {app budget start now_start : ℕ} {rest frame unread : List ℕ} {end : TurnEnd} {queue now_queue : List Event} (old mid new : Seen Own) (net txn_net mid_net now_net : NetState) (fault : TxnFault) → txn_net ≡ net → start ≡ length net.log → now_start ≡ start
+    → Turns Tells accepts app budget rest frame old mid txn_net mid_net end unread → Commits Tells now_start mid new mid_net now_net queue now_queue (Err fault) → PlainTurn Tells old new net (fault_of fault)
+turn_uncommitted {Own} {Tells} {accepts} {app} {budget} {start} {now_start} {rest} {frame} {unread} {end} {queue} {now_queue} old mid new net txn_net mid_net now_net fault same at kept turns commits =
+    let turned : Turns Tells accepts app budget rest frame old mid net mid_net end unread = subst (λ (n : NetState). Turns Tells accepts app budget rest frame old mid n mid_net end unread) same turns in
+    let broken : Commits Tells (length net.log) mid new mid_net now_net queue now_queue (Err fault) =
+    subst (λ (n : ℕ). Commits Tells n mid new mid_net now_net queue now_queue (Err fault)) (kept ∙ at) commits in
+    record {
+      plain = λ told keeps ready.
+          ends_release old new fault (commit-plain Tells accepts app budget rest frame old mid new net mid_net now_net end unread queue now_queue fault told keeps ready turned broken);
+    }
 
 -- ---- A question for rows
 
@@ -200,22 +247,23 @@ tables_then ds old mid new r then_r fault tables later table = record {
 -- ---- Parts of a run
 
 pub run_anyway : {Own : Type 0} {Tells : Type 0} {accepts : List TableView → Bool} (old new : Seen Own) (e : Engine) (end : Served) → IsPlainServed end → PlainRun Tells accepts old new e end
-run_anyway old new e end plain = record { plain = λ allows told keeps judges settled. plain }
+run_anyway old new e end plain = record { plain = λ allows told keeps judges settled. inl plain }
 
 -- one event
 pub run_turn : {Own : Type 0} {Tells : Type 0} {accepts : List TableView → Bool} (old new : Seen Own) (r : Run) (fault : Fault) → PlainTurn Tells old new r.net fault → PlainRun Tells accepts old new (engine_of r) (served_by fault)
 run_turn old new r fault turn = record { plain = λ allows told keeps judges settled. turn.plain told keeps settled.calm.ready }
 
 -- events, one after the other
-pub run_settled : {Own : Type 0} {Tells : Type 0} {accepts : List TableView → Bool} {n : ℕ} {a b : Option (List ℕ)} (old mid new : Seen Own) (r then_r : Run) (end : Served) → DispatchesSome Tells accepts n a b old mid r then_r → Continues Tells mid new
+pub run_settled : {Own : Type 0} {Tells : Type 0} {accepts : List TableView → Bool} {n : ℕ} {a b : Option (List ℕ)} (old mid new : Seen Own) (r then_r : Run) (end : Served) → Continues Tells old mid → DispatchesSome Tells accepts n a b old mid r then_r → Continues Tells mid new
     → PlainRun Tells accepts mid new (engine_of then_r) end → PlainRun Tells accepts old new (engine_of r) end
-run_settled old mid new r then_r end some later rest = record {
-  plain = λ allows told keeps judges settled. rest.plain allows told keeps judges (some.shown.moved allows told (Conforming-before told later keeps) judges settled).settled;
+run_settled old mid new r then_r end first some later rest = record {
+  plain = λ allows told keeps judges settled.
+      ends_behind old mid new end (first.told told) (rest.plain allows told keeps judges (some.shown.moved allows told (Conforming-before told later keeps) judges settled).settled);
 }
 
 -- a batch, and then the events that wait
 pub run_calm : {Own : Type 0} {Tells : Type 0} {accepts : List TableView → Bool} (old new : Seen Own) (r : Run) (end : Served) → PlainCalm Tells old new r.net end → PlainRun Tells accepts old new (engine_of r) end
-run_calm old new r end calm = record { plain = λ allows told keeps judges settled. calm.plain told keeps settled.calm }
+run_calm old new r end calm = record { plain = λ allows told keeps judges settled. inl (calm.plain told keeps settled.calm) }
 
 batch_settled : {Own : Type 0} {Tells : Type 0} (rest : Rest) (old new : Seen Own) (e now_e : Engine) → IsBatch Tells rest old new e now_e → Tells → Conforming new → AtRest old e → AtRest new now_e
 batch_settled rests.Idle old new e now_e batch told keeps settled = (batch.happens told keeps settled).moved.settled
@@ -225,29 +273,32 @@ pub run_batch : {Own : Type 0} {Tells : Type 0} {accepts : List TableView → Bo
     → Continues Tells mid new → PlainRun Tells accepts mid new (engine_of then_r) end → PlainRun Tells accepts old new (engine_of r) end
 run_batch {Tells = Tells} rest old mid new r then_r end first app waits batch later settle = record {
   plain = λ allows told keeps judges settled.
-      settle.plain allows told keeps judges
-      (batch_settled rest old mid (engine_of r) (engine_of then_r) (batch_is Tells rest old mid r then_r first app waits batch) told (Conforming-before told later keeps) settled);
+      ends_behind old mid new end (first.told told)
+      (settle.plain allows told keeps judges
+      (batch_settled rest old mid (engine_of r) (engine_of then_r) (batch_is Tells rest old mid r then_r first app waits batch) told (Conforming-before told later keeps) settled));
 }
 
 -- rounds
-pub run_rounds : {Own : Type 0} {Tells : Type 0} {accepts : List TableView → Bool} {n : ℕ} {a b : Option (List ℕ)} (old mid new : Seen Own) (r then_r : Run) (end : Served) → GoesRounds Tells accepts n a b old mid r then_r → Continues Tells mid new
+pub run_rounds : {Own : Type 0} {Tells : Type 0} {accepts : List TableView → Bool} {n : ℕ} {a b : Option (List ℕ)} (old mid new : Seen Own) (r then_r : Run) (end : Served) → Continues Tells old mid → GoesRounds Tells accepts n a b old mid r then_r → Continues Tells mid new
     → PlainRun Tells accepts mid new (engine_of then_r) end → PlainRun Tells accepts old new (engine_of r) end
-run_rounds old mid new r then_r end rounds later rest = record {
-  plain = λ allows told keeps judges settled. rest.plain allows told keeps judges (rounds.shown.rounds_so allows told (Conforming-before told later keeps) judges settled).moved.settled;
+run_rounds old mid new r then_r end first rounds later rest = record {
+  plain = λ allows told keeps judges settled.
+      ends_behind old mid new end (first.told told) (rest.plain allows told keeps judges (rounds.shown.rounds_so allows told (Conforming-before told later keeps) judges settled).moved.settled);
 }
 
 -- ---- A whole run
 
 pub whole_anyway : {Own : Type 0} {Tells : Type 0} {accepts : List TableView → Bool} {most : ℕ} (old new : Seen Own) (e : Engine) (end : Served) → IsPlainServed end → PlainWhole Tells accepts most old new e end
-whole_anyway old new e end plain = record { plain = λ allows told keeps judges settled few. plain }
+whole_anyway old new e end plain = record { plain = λ allows told keeps judges settled few. inl plain }
 
 begun_settled : {Own : Type 0} {Tells : Type 0} {a b : Option (List ℕ)} {old mid : Seen Own} {r then_r : Run} → Begins Tells a b old mid r then_r → Tells → Conforming mid → AtRest old (engine_of r) → AtRest mid (engine_of then_r)
 begun_settled begins told keeps settled = (begins.shown.moved told keeps settled).settled
 
-pub whole_rounds : {Own : Type 0} {Tells : Type 0} {accepts : List TableView → Bool} {most : ℕ} {a b : Option (List ℕ)} (old mid new : Seen Own) (r then_r : Run) (end : Served) → Begins Tells a b old mid r then_r → Continues Tells mid new
+pub whole_rounds : {Own : Type 0} {Tells : Type 0} {accepts : List TableView → Bool} {most : ℕ} {a b : Option (List ℕ)} (old mid new : Seen Own) (r then_r : Run) (end : Served) → Continues Tells old mid → Begins Tells a b old mid r then_r → Continues Tells mid new
     → PlainRun Tells accepts mid new (engine_of then_r) end → PlainWhole Tells accepts most old new (engine_of r) end
-whole_rounds old mid new r then_r end begins later rest = record {
-  plain = λ allows told keeps judges settled few. rest.plain allows told keeps judges (begun_settled begins told (Conforming-before told later keeps) settled);
+whole_rounds old mid new r then_r end first begins later rest = record {
+  plain = λ allows told keeps judges settled few.
+      ends_behind old mid new end (first.told told) (rest.plain allows told keeps judges (begun_settled begins told (Conforming-before told later keeps) settled));
 }
 
 pub whole_finish : {Own : Type 0} {Tells : Type 0} {accepts : List TableView → Bool} {most : ℕ} {a b c : Option (List ℕ)} (old mid last new : Seen Own) (r then_r last_r : Run) (result : Result (Unit {0}) Served) → Begins Tells a b old mid r then_r → Continues Tells mid last
@@ -258,13 +309,14 @@ whole_finish {Tells = Tells} old mid last new r then_r last_r (Err end) begins o
       let keeps_last = Conforming-before told later keeps in
       let then_settled = begun_settled begins told (Conforming-before told on keeps_last) settled in
       let all = rounds.shown.to_end allows told keeps_last judges then_settled (fewer-before Tells last new told later few) in
-      ends.plain told keeps all.moved.settled.calm;
+      inl (ends.plain told keeps all.moved.settled.calm);
 }
 
 pub whole_then : {Own : Type 0} {Tells : Type 0} (accepts : List TableView → Bool) (most : ℕ) (old mid new : Seen Own) (e : Engine) (result : Result (Unit {0}) Served) → Continues Tells mid new → IfErr result (PlainWhole Tells accepts most old mid e) → IfErr result (PlainWhole Tells accepts most old new e)
 whole_then accepts most old mid new e (Ok x) later whole = tt
 whole_then {Tells = Tells} accepts most old mid new e (Err end) later whole = record {
-  plain = λ allows told keeps judges settled few. whole.plain allows told (Conforming-before told later keeps) judges settled (fewer-before Tells mid new told later few);
+  plain = λ allows told keeps judges settled few.
+      ends_before old mid new end told later (whole.plain allows told (Conforming-before told later keeps) judges settled (fewer-before Tells mid new told later few));
 }
 
 -- a run that was opened
@@ -278,8 +330,9 @@ unopened_plain Tells old new (ends.EventsLeft left) is = tt
 unopened_plain Tells old new ends.NoMemory is = tt
 
 pub served_plain : {Own : Type 0} (Tells : Type 0) (accepts : List TableView → Bool) (most : ℕ) (end : Served) (old mid new : Seen Own) → (Tells → mid.history ≡ old.history ++ Opened ∷ []) → PlainWhole Tells accepts most mid new engine_at_first end
-    → (allows : List Place → Bool) → Premise Tells accepts allows most old new → IsPlainServed end
-served_plain Tells accepts most end old mid new opened whole allows p = whole.plain allows p.told p.keeps p.judges (settled-first mid (opened_so old mid p.untouched (opened p.told))) p.few
+    → (allows : List Place → Bool) → Premise Tells accepts allows most old new → EndsPlain old new end
+served_plain Tells accepts most end old mid new opened whole allows p =
+    ends_behind old mid new end (Opened ∷ [], opened p.told) (whole.plain allows p.told p.keeps p.judges (settled-first mid (opened_so old mid p.untouched (opened p.told))) p.few)
 
 pub on_err : {T E : Type 0} {P Q : E → Type 0} (r : Result T E) → ((e : E) → P e → Q e) → IfErr r P → IfErr r Q
 on_err (Ok x) f p = tt

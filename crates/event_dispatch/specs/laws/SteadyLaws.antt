@@ -1,8 +1,12 @@
 -- Laws of what the engine keeps of a world that tells in order, over parts of a run that follow one another.
-use Rattle.std.specs.Prelude.{◌≡◌, List}
-use Rattle.std.proofs.Common.{refl, sym, ap, ◌∙◌}
+use Rattle.std.specs.Prelude.{◌≡◌, List, [], ◌++◌}
+use Rattle.std.proofs.Common.{refl, sym, ap, ◌∙◌, append_assoc}
+use Rattle.std.proofs.lemmas.List.{append-nil}
+use Rattle.std.proofs.lemmas.List.Elements.{filter_map-append}
 use Rattle.flow_table.specs.View.{TableView}
-use Rattle.outside.specs.Seen.{Seen, Continues}
+use Rattle.outside.specs.declared.step.WorldStep.{WorldStep}
+use Rattle.outside.specs.Seen.{Seen, Continues, journal}
+use Rattle.outside.specs.laws.SeenLaws.{journal-append}
 use Rattle.outside.specs.laws.InOrderLaws.{InOrder-before, messages-none, messages-then}
 use Rattle.outside.specs.laws.QuiescenceLaws.{none_since-none, none_since-then, last_quiescent-of}
 use Rattle.net_txn.specs.Net.{NetState}
@@ -11,7 +15,9 @@ use Rattle.net_txn.specs.Views.{is_viewed}
 use Rattle.net_txn.specs.Abreast.{Abreast}
 pub use Rattle.app_visor.specs.laws.CalmLaws.{calls_none, calls_then}
 use Rattle.lego_model.specs.Application.{index}
-use Rattle.event_dispatch.specs.Steady.{NoStray, Reads, NoPoint, AtMostThisPoint, NoneMoves}
+use Rattle.lego_model.specs.Journal.{released_in, released}
+use Rattle.lego_model.specs.Packets.{Held}
+use Rattle.event_dispatch.specs.Steady.{NoStray, Reads, NoPoint, AtMostThisPoint, NoneReleased, NoneMoves}
 
 -- ---- Nothing was done
 
@@ -32,8 +38,12 @@ reads_as Tells old new net mid_net now_net same reads = record { abreast = λ to
 pub quietly_none : {Own : Type 0} (Tells : Type 0) (seen : Seen Own) → NoPoint Tells seen seen
 quietly_none Tells seen = record { none_quiescent = λ told. none_since-none seen; own = λ told. calls_none index seen }
 
+none_released_none : {Own : Type 0} (seen : Seen Own) → NoneReleased seen seen
+unfolding journal released
+none_released_none seen = record { steps = []; history = sym (append-nil seen.history); none = refl }
+
 pub none_move : {Own : Type 0} (Tells : Type 0) (seen : Seen Own) → NoneMoves Tells seen seen
-none_move Tells seen = record { stay = λ told d. refl }
+none_move Tells seen = record { stay = λ told d. refl; releases = λ told. none_released_none seen }
 
 -- ---- One after the other
 
@@ -59,8 +69,17 @@ quietly_then Tells old mid new first second = record {
   own = λ told. calls_then (first.own told) (second.own told);
 }
 
+none_released_then : {Own : Type 0} {old mid new : Seen Own} → NoneReleased old mid → NoneReleased mid new → NoneReleased old new
+unfolding released
+none_released_then {old = old} first second = record {
+  steps = first.steps ++ second.steps;
+  history = second.history ∙ ap (λ (xs : List WorldStep). xs ++ second.steps) first.history ∙ append_assoc old.history first.steps second.steps;
+  none = ap released (journal-append first.steps second.steps) ∙ filter_map-append released_in (journal first.steps) (journal second.steps)
+      ∙ ap (λ (xs : List Held). xs ++ released (journal second.steps)) first.none ∙ second.none;
+}
+
 pub none_move_then : {Own : Type 0} {Tells : Type 0} {old mid new : Seen Own} → NoneMoves Tells old mid → NoneMoves Tells mid new → NoneMoves Tells old new
-none_move_then first second = record { stay = λ told d. second.stay told d ∙ first.stay told d }
+none_move_then first second = record { stay = λ told d. second.stay told d ∙ first.stay told d; releases = λ told. none_released_then (first.releases told) (second.releases told) }
 
 -- no quiescent point behind one from which on there was none
 pub quietly_here : {Own : Type 0} {Tells : Type 0} {old new : Seen Own} → NoPoint Tells old new → AtMostThisPoint Tells old new

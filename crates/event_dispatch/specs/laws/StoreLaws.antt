@@ -11,10 +11,11 @@ use Rattle.net_txn.specs.Net.{NetState}
 use Rattle.checkpoint_store.specs.Past.{Past, checkpoints}
 use Rattle.checkpoint_store.specs.Slots.{Slot, slot_of, with_slot, staged, done, dropped, HasStaged}
 use Rattle.checkpoint_store.specs.laws.SlotLaws.{HasStaged-done, HasStaged-dropped, slot_of-with_slot, length-with_slot}
-use Rattle.app_visor.specs.declared.state.TurnEnd.{TurnEnd}
 use Rattle.app_visor.specs.declared.state.TurnEnd.TheVariants as ends
 use Rattle.app_visor.specs.Attempts.{kept_of}
 use Rattle.app_visor.specs.Turns.{IsEnd, handed, with_handed}
+use Rattle.event_dispatch.specs.declared.closing.Closing.{Closing}
+use Rattle.event_dispatch.specs.declared.closing.Closing.TheVariants as closings
 use Rattle.event_dispatch.specs.declared.fault.Fault.{Fault}
 use Rattle.event_dispatch.specs.Runs.{StoreRests}
 use Rattle.event_dispatch.specs.Stored.{KeepsSlots, closes_slot, PlaysStaged, HoldsTurn}
@@ -51,9 +52,9 @@ kept_done app slots now_slots lt is = ap (λ (s : List Slot). kept_of app s) is 
 kept_dropped : (app : ℕ) (slots now_slots : List Slot) → app < length slots → now_slots ≡ with_slot app dropped slots → kept_of app now_slots ≡ kept_of app slots
 kept_dropped app slots now_slots lt is = ap (λ (s : List Slot). kept_of app s) is ∙ ap (λ (x : Slot). x.kept.checkpoint) (slot_of-with_slot app dropped slots lt)
 
-none_staged : (end : Result TurnEnd Fault) (slot : Slot) → HasStaged [] (closes_slot end slot)
-none_staged (Ok (ends.Done stop)) slot = HasStaged-done slot
-none_staged (Ok (ends.Failed cause)) slot = HasStaged-dropped slot
+none_staged : (closing : Result Closing Fault) (slot : Slot) → HasStaged [] (closes_slot closing slot)
+none_staged (Ok (closings.Done stop out)) slot = HasStaged-done slot
+none_staged (Ok (closings.Failed cause)) slot = HasStaged-dropped slot
 none_staged (Err fault) slot = HasStaged-dropped slot
 
 within : (app : ℕ) (slots mid_slots : List Slot) → app < length slots → KeepsSlots app slots mid_slots → app < length mid_slots
@@ -66,30 +67,30 @@ place app slots at rests = omega (arith, at, rests.one)
 quiet : (app : ℕ) (slots : List Slot) → app ≡ index → StoreRests slots → HasStaged [] (slot_of app slots)
 quiet app slots at rests = subst (λ (i : ℕ). HasStaged [] (slot_of i slots)) (sym at) rests.none_staged
 
-pub rests_closed : (end : Result TurnEnd Fault) (app : ℕ) (slots mid_slots now_slots : List Slot) → app ≡ index → StoreRests slots → KeepsSlots app slots mid_slots → now_slots ≡ with_slot app (closes_slot end) mid_slots → StoreRests now_slots
-rests_closed end app slots mid_slots now_slots at rests keeps is = record {
-  one = ap (λ (s : List Slot). length s) is ∙ length-with_slot app (closes_slot end) mid_slots ∙ keeps.number ∙ rests.one;
+pub rests_closed : (closing : Result Closing Fault) (app : ℕ) (slots mid_slots now_slots : List Slot) → app ≡ index → StoreRests slots → KeepsSlots app slots mid_slots → now_slots ≡ with_slot app (closes_slot closing) mid_slots → StoreRests now_slots
+rests_closed closing app slots mid_slots now_slots at rests keeps is = record {
+  one = ap (λ (s : List Slot). length s) is ∙ length-with_slot app (closes_slot closing) mid_slots ∙ keeps.number ∙ rests.one;
   none_staged = subst (λ (i : ℕ). HasStaged [] (slot_of i now_slots)) at
       (subst (λ (s : List Slot). HasStaged [] (slot_of app s)) (sym is)
-      (subst (λ (x : Slot). HasStaged [] x) (sym (slot_of-with_slot app (closes_slot end) mid_slots (within app slots mid_slots (place app slots at rests) keeps))) (none_staged end (slot_of app mid_slots))));
+      (subst (λ (x : Slot). HasStaged [] x) (sym (slot_of-with_slot app (closes_slot closing) mid_slots (within app slots mid_slots (place app slots at rests) keeps))) (none_staged closing (slot_of app mid_slots))));
 }
 
-pub held : (Own : Type 0) (Tells : Type 0) (accepts : List TableView → Bool) (number : ℕ) (event : Event) (old new : Seen Own) (net now_net : NetState) (rest unread : List ℕ) (end : Result TurnEnd Fault) (app : ℕ) (slots mid_slots now_slots : List Slot)
-    → app ≡ index → StoreRests slots → KeepsSlots app slots mid_slots → now_slots ≡ with_slot app (closes_slot end) mid_slots
-    → IfOk end (λ e. PlaysStaged Tells accepts app number event e old new net now_net rest unread slots mid_slots) → IfOk end (λ e. HoldsTurn Tells accepts app number event e old new net now_net rest unread (kept_of app slots) (kept_of app now_slots))
-held Own Tells accepts number event old new net now_net rest unread (Ok (ends.Done stop)) app slots mid_slots now_slots at rests keeps is staged = record {
+pub held : (Own : Type 0) (Tells : Type 0) (accepts : List TableView → Bool) (number : ℕ) (event : Event) (old new : Seen Own) (net now_net : NetState) (queue now_queue : List Event) (rest unread : List ℕ) (closing : Result Closing Fault) (app : ℕ) (slots mid_slots now_slots : List Slot)
+    → app ≡ index → StoreRests slots → KeepsSlots app slots mid_slots → now_slots ≡ with_slot app (closes_slot closing) mid_slots
+    → IfOk closing (λ c. PlaysStaged Tells accepts app number event c old new net now_net queue now_queue rest unread slots mid_slots) → IfOk closing (λ c. HoldsTurn Tells accepts app number event c old new net now_net queue now_queue rest unread (kept_of app slots) (kept_of app now_slots))
+held Own Tells accepts number event old new net now_net queue now_queue rest unread (Ok (closings.Done stop out)) app slots mid_slots now_slots at rests keeps is staged = record {
   plays = staged.plays;
   kept_so = kept_done app mid_slots now_slots (within app slots mid_slots (place app slots at rests) keeps) is
       ∙ ap (λ (s : List Slot). (slot_of app s).pending.checkpoint) staged.staged_so
       ∙ pending_handed app (handed staged.plays.turns.outcome) slots (place app slots at rests) (quiet app slots at rests);
 }
-held Own Tells accepts number event old new net now_net rest unread (Ok (ends.Failed cause)) app slots mid_slots now_slots at rests keeps is staged = record {
+held Own Tells accepts number event old new net now_net queue now_queue rest unread (Ok (closings.Failed cause)) app slots mid_slots now_slots at rests keeps is staged = record {
   plays = staged.plays;
   kept_so = kept_dropped app mid_slots now_slots (within app slots mid_slots (place app slots at rests) keeps) is ∙ keeps.kept
       ∙ ap (λ (checkpoint : Option (List ℕ)). unwrap_or checkpoint (kept_of app slots)) (sym (none_handed cause unread staged.plays.turns.outcome staged.plays.turns.ends));
 }
-held Own Tells accepts number event old new net now_net rest unread (Err fault) app slots mid_slots now_slots at rests keeps is staged = tt
+held Own Tells accepts number event old new net now_net queue now_queue rest unread (Err fault) app slots mid_slots now_slots at rests keeps is staged = tt
 
-pub unkept : (end : Result TurnEnd Fault) (app : ℕ) (slots mid_slots now_slots : List Slot) → app ≡ index → StoreRests slots → KeepsSlots app slots mid_slots → now_slots ≡ with_slot app (closes_slot end) mid_slots → OnErr end (kept_of app now_slots ≡ kept_of app slots)
-unkept (Ok e) app slots mid_slots now_slots at rests keeps is = tt
+pub unkept : (closing : Result Closing Fault) (app : ℕ) (slots mid_slots now_slots : List Slot) → app ≡ index → StoreRests slots → KeepsSlots app slots mid_slots → now_slots ≡ with_slot app (closes_slot closing) mid_slots → OnErr closing (kept_of app now_slots ≡ kept_of app slots)
+unkept (Ok c) app slots mid_slots now_slots at rests keeps is = tt
 unkept (Err fault) app slots mid_slots now_slots at rests keeps is = kept_dropped app mid_slots now_slots (within app slots mid_slots (place app slots at rests) keeps) is ∙ keeps.kept

@@ -19,7 +19,6 @@ use Rattle.outside.specs.Calls.{Nexts, Ends, next_steps, stim_steps, item_step}
 use Rattle.net_txn.specs.LinkSteps.{OnLinks}
 use Rattle.net_txn.specs.Net.{NetState}
 use Rattle.app_visor.specs.declared.state.TurnEnd.{TurnEnd}
-use Rattle.app_visor.specs.declared.state.TurnEnd.TheVariants as ends
 use Rattle.app_visor.specs.Attempts.{Restarts}
 use Rattle.app_visor.specs.laws.TryLaws.{tries_speak}
 use Rattle.app_visor.specs.Dialogues.{Converses, LeadsOn, TalksOn, Talks}
@@ -30,6 +29,8 @@ use Rattle.run_laws.specs.laws.DialogueLaws.{at_once_then, runs_now, others_at_o
 use Rattle.journal_laws.specs.laws.FrameLaws.{event_is}
 use Rattle.run_laws.specs.Engine.{Engine}
 use Rattle.lego_model.specs.Application.{index}
+use Rattle.event_dispatch.specs.declared.closing.Closing.{Closing}
+use Rattle.event_dispatch.specs.declared.closing.Closing.TheVariants as closings
 use Rattle.event_dispatch.specs.Serves.{PlaysTurn}
 use Rattle.event_dispatch.specs.Talking.{KeepsTalking, TurnTalks, GoesOnTalking}
 use Rattle.event_dispatch.specs.laws.NoEventLaws.{no_event_none, no_event_then, no_event_links, no_event_next, no_event_own, no_event_ended}
@@ -134,29 +135,20 @@ turn_ends app rest old mid new is turns links = record {
       leads_at_once app old new a (leads_on_then app a.last first.after old mid new first.converses (leads_on_links app first.after links told));
 }
 
--- or nothing more happened
-pub turn_ended : {Own : Type 0} {Tells : Type 0} {accepts : List TableView → Bool} {most : ℕ} {frame : List ℕ} {end : TurnEnd} {net now_net : NetState} {unread : List ℕ} (app : ℕ) (rest : List ℕ) (old mid new : Seen Own) → is_event frame ≡ true
-    → Turns Tells accepts app most rest frame old mid net now_net end unread → new ≡ mid → TurnTalks Tells app rest old new
-turn_ended {Tells = Tells} app rest old mid new is turns same = record {
-  talks = λ told a runs passes.
-      let first = turns.speaks told is a.last runs passes in
-      leads_at_once app old new a (first.after, subst (λ (x : Seen _). Converses app a.last first.after old x) (sym same) first.converses);
-}
-
-turn_played : {Own : Type 0} (Tells : Type 0) (accepts : List TableView → Bool) (app number : ℕ) (event : Event) (end : TurnEnd) (old new : Seen Own) (net now_net : NetState) (rest unread : List ℕ) → PlaysTurn Tells accepts app number event end old new net now_net rest unread
-    → TurnTalks Tells app rest old new
-turn_played Tells accepts app number event (ends.Done stop) old new net now_net rest unread plays = turn_ended app rest old plays.mid new (event_is number net.moment event) plays.turns plays.played.0
-turn_played Tells accepts app number event (ends.Failed cause) old new net now_net rest unread plays = turn_ends app rest old plays.mid new (event_is number net.moment event) plays.turns plays.played.links
+turn_played : {Own : Type 0} (Tells : Type 0) (accepts : List TableView → Bool) (app number : ℕ) (event : Event) (closing : Closing) (old new : Seen Own) (net now_net : NetState) (queue now_queue : List Event) (rest unread : List ℕ)
+    → PlaysTurn Tells accepts app number event closing old new net now_net queue now_queue rest unread → TurnTalks Tells app rest old new
+turn_played Tells accepts app number event (closings.Done stop out) old new net now_net queue now_queue rest unread plays = turn_ends app rest old plays.mid new (event_is number net.moment event) plays.turns plays.played.links
+turn_played Tells accepts app number event (closings.Failed cause) old new net now_net queue now_queue rest unread plays = turn_ends app rest old plays.mid new (event_is number net.moment event) plays.turns plays.played.0.links
 
 -- of the one application
 pub turn_of : {Own : Type 0} (Tells : Type 0) (app : ℕ) (rest : List ℕ) (old new : Seen Own) → app ≡ index → TurnTalks Tells app rest old new → TurnTalks Tells index rest old new
 turn_of Tells app rest old new is talks = subst (λ (i : ℕ). TurnTalks Tells i rest old new) is talks
 
 -- it was played, and what followed goes on
-pub turn_closed : {Own : Type 0} {Tells : Type 0} {accepts : List TableView → Bool} {number : ℕ} {event : Event} {end : TurnEnd} {net now_net : NetState} {unread : List ℕ} (app : ℕ) (rest : List ℕ) (old mid new : Seen Own) → app ≡ index
-    → PlaysTurn Tells accepts app number event end old mid net now_net rest unread → KeepsTalking Tells mid new → TurnTalks Tells index rest old new
-turn_closed {Tells = Tells} {accepts = accepts} {number = number} {event = event} {end = end} {net = net} {now_net = now_net} {unread = unread} app rest old mid new is plays later =
-    let first = turn_of Tells app rest old mid is (turn_played Tells accepts app number event end old mid net now_net rest unread plays) in
+pub turn_closed : {Own : Type 0} {Tells : Type 0} {accepts : List TableView → Bool} {number : ℕ} {event : Event} {closing : Closing} {net now_net : NetState} {queue now_queue : List Event} {unread : List ℕ} (app : ℕ) (rest : List ℕ) (old mid new : Seen Own) → app ≡ index
+    → PlaysTurn Tells accepts app number event closing old mid net now_net queue now_queue rest unread → KeepsTalking Tells mid new → TurnTalks Tells index rest old new
+turn_closed {Tells = Tells} {accepts = accepts} {number = number} {event = event} {closing = closing} {net = net} {now_net = now_net} {queue = queue} {now_queue = now_queue} {unread = unread} app rest old mid new is plays later =
+    let first = turn_of Tells app rest old mid is (turn_played Tells accepts app number event closing old mid net now_net queue now_queue rest unread plays) in
     record { talks = λ told a runs passes. later.talks told (first.talks told a runs passes) }
 
 -- ---- Behind parts of a run that were done

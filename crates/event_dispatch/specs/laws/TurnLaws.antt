@@ -1,6 +1,7 @@
 -- Laws of a turn: its parts, one after the other, are what the fact of the whole turn says.
-use Rattle.std.proofs.Common.{◌≡◌, ℕ, ◌+◌, Bool, List, [], ◌++◌, length, take, Option, Result, Ok, refl, sym, ap, ap₂, ◌∙◌, subst}
-use Rattle.std.specs.Prelude.{unwrap_or}
+use Rattle.std.proofs.Common.{◌≡◌, ℕ, ◌+◌, Bool, List, [], ◌++◌, length, Option, Result, Ok, refl, sym, ap, ap₂, ◌∙◌, subst}
+use Rattle.std.specs.Prelude.{unwrap_or, Vec}
+use Rattle.std.specs.Global.{Global}
 use Rattle.flow_table.specs.View.{TableView}
 use Rattle.app_frames.specs.declared.cause.Cause.{Cause}
 use Rattle.app_frames.specs.declared.frame.Event.{Event}
@@ -11,15 +12,18 @@ use Rattle.outside.specs.Seen.{Seen}
 use Rattle.lego_model.specs.declared.fault.TxnFault.{TxnFault}
 use Rattle.net_txn.specs.Net.{NetState}
 use Rattle.net_txn.specs.Undos.{Undoes}
+use Rattle.net_txn.specs.Releases.{Commits}
 use Rattle.app_visor.specs.declared.state.AppState.{AppState}
 use Rattle.app_visor.specs.declared.state.TurnEnd.{TurnEnd}
 use Rattle.app_visor.specs.declared.state.TurnEnd.TheVariants as ends
 use Rattle.app_visor.specs.Attempts.{kept_of}
-use Rattle.app_visor.specs.Turns.{handed, StagesTurn}
+use Rattle.app_visor.specs.Turns.{StagesTurn}
 use Rattle.checkpoint_store.specs.Slots.{Slot}
 use Rattle.run_laws.specs.Engine.{Engine}
 use Rattle.lego_model.specs.Application.{index, budget, name}
-use Rattle.run_laws.specs.Facts.{turn_word, StartsAgain}
+use Rattle.run_laws.specs.Facts.{turn_word, out_text, StartsAgain}
+use Rattle.event_dispatch.specs.declared.closing.Closing.{Closing}
+use Rattle.event_dispatch.specs.declared.closing.Closing.TheVariants as closings
 use Rattle.event_dispatch.specs.declared.run.Run.{Run}
 use Rattle.event_dispatch.specs.Shows.{engine_of, played_run}
 use Rattle.event_dispatch.specs.Serves.{Closes, HasTurn}
@@ -28,15 +32,13 @@ use Rattle.event_dispatch.specs.laws.StoreLaws.{none_handed}
 
 -- ---- A turn, from its event on
 
-turn_at : {Own : Type 0} (Tells : Type 0) (accepts : List TableView → Bool) (event : Event) (end : TurnEnd) (old mid new : Seen Own) (net : NetState) (queue : List Event) (app : AppState) (slots : List Slot) (r now_r : Run)
-    → HoldsTurn Tells accepts index r.events event end old mid r.net net r.app.state.rest app.rest (kept_of index r.store) (kept_of index slots) → app.alive ≡ r.app.state.alive → queue ≡ r.queue → Closes Tells end mid new (played_run net queue app slots r) now_r
+turn_at : {Own : Type 0} (Tells : Type 0) (accepts : List TableView → Bool) (event : Event) (closing : Closing) (old mid new : Seen Own) (net : NetState) (queue : List Event) (app : AppState) (slots : List Slot) (r now_r : Run)
+    → HoldsTurn Tells accepts index r.events event closing old mid r.net net r.queue queue r.app.state.rest app.rest (kept_of index r.store) (kept_of index slots) → app.alive ≡ r.app.state.alive → Closes Tells closing mid new (played_run net queue app slots r) now_r
     → HasTurn Tells accepts event old new r now_r
-turn_at Tells accepts event (ends.Done stop) old mid new net queue app slots r now_r holds alive waits closes =
+turn_at Tells accepts event (closings.Done stop out) old mid new net queue app slots r now_r holds alive closes =
     let plays = holds.plays in
-    let checkpoint = handed plays.turns.outcome in
-    let left : NetState = record plays.mid_net { log = take (length r.net.log) plays.mid_net.log } in
     record {
-      text = turn_line name (turn_word (ends.Done stop));
+      text = turn_line name (turn_word (ends.Done stop)) ++ out_text out.items;
       takes = record {
         mid = plays.mid;
         mid_net = plays.mid_net;
@@ -44,17 +46,19 @@ turn_at Tells accepts event (ends.Done stop) old mid new net queue app slots r n
         unread = app.rest;
         turns = plays.turns;
         closed = record {
-          seen = closes.seen ∙ plays.played.0;
+          net = net;
+          queue = queue;
+          sent = out.items;
+          commits = subst (λ (s : Seen _). Commits Tells (length r.net.log) plays.mid s plays.mid_net net r.queue queue (Ok out.items)) (sym closes.seen) plays.played;
           engine = closes.engine
-              ∙ ap (λ (n : NetState). record (engine_of r) { net = n; queue = queue; alive = app.alive; rest = app.rest; kept = kept_of index slots; done = r.app.done + 1 }) plays.played.1
-              ∙ ap₂ (λ (q : List Event) (b : Bool). record (engine_of r) { net = left; queue = q; alive = b; rest = app.rest; kept = kept_of index slots; done = r.app.done + 1 }) waits alive
-              ∙ ap (λ (kept : List ℕ). record (engine_of r) { net = left; rest = app.rest; kept = kept; done = r.app.done + 1 }) holds.kept_so;
+              ∙ ap (λ (b : Bool). record (engine_of r) { net = net; queue = queue; alive = b; rest = app.rest; kept = kept_of index slots; done = r.app.done + 1 }) alive
+              ∙ ap (λ (kept : List ℕ). record (engine_of r) { net = net; queue = queue; rest = app.rest; kept = kept; done = r.app.done + 1 }) holds.kept_so;
           text_so = refl;
         };
       };
       notes = closes.notes;
     }
-turn_at Tells accepts event (ends.Failed cause) old mid new net queue app slots r now_r holds alive waits closes =
+turn_at Tells accepts event (closings.Failed cause) old mid new net queue app slots r now_r holds alive closes =
     let plays = holds.plays in
     let same : kept_of index slots ≡ kept_of index r.store =
     holds.kept_so ∙ ap (λ (checkpoint : Option (List ℕ)). unwrap_or checkpoint (kept_of index r.store)) (none_handed cause app.rest plays.turns.outcome plays.turns.ends) in
@@ -69,11 +73,11 @@ turn_at Tells accepts event (ends.Failed cause) old mid new net queue app slots 
         closed = record {
           undone = mid;
           undone_net = net;
-          undoes = plays.played;
+          undoes = plays.played.0;
           later_text = closes.text;
           starts = subst (λ (e : Engine). StartsAgain Tells closes.text mid new e (engine_of now_r))
               (ap (λ (unread : List ℕ). record (engine_of r) { net = net; queue = queue; alive = app.alive; rest = unread; kept = kept_of index slots; failed = r.app.failed + 1 }) plays.turns.leaves
-              ∙ ap₂ (λ (q : List Event) (b : Bool). record (engine_of r) { net = net; queue = q; alive = b; rest = []; kept = kept_of index slots; failed = r.app.failed + 1 }) waits alive
+              ∙ ap₂ (λ (q : List Event) (b : Bool). record (engine_of r) { net = net; queue = q; alive = b; rest = []; kept = kept_of index slots; failed = r.app.failed + 1 }) plays.played.1 alive
               ∙ ap (λ (kept : List ℕ). record (engine_of r) { net = net; rest = []; kept = kept; failed = r.app.failed + 1 }) same) closes.starts;
           text_so = refl;
         };
@@ -81,20 +85,20 @@ turn_at Tells accepts event (ends.Failed cause) old mid new net queue app slots 
       notes = closes.notes;
     }
 
-pub turn_so : {Own : Type 0} (Tells : Type 0) (accepts : List TableView → Bool) (event : Event) (end : TurnEnd) (old mid new : Seen Own) (net : NetState) (queue : List Event) (app : AppState) (slots : List Slot) (r now_r : Run) → r.app.state.index ≡ index
-    → HoldsTurn Tells accepts r.app.state.index r.events event end old mid r.net net r.app.state.rest app.rest (kept_of r.app.state.index r.store) (kept_of r.app.state.index slots) → app.alive ≡ r.app.state.alive → queue ≡ r.queue
-    → Closes Tells end mid new (played_run net queue app slots r) now_r → HasTurn Tells accepts event old new r now_r
-turn_so Tells accepts event end old mid new net queue app slots r now_r at holds alive waits closes =
-    turn_at Tells accepts event end old mid new net queue app slots r now_r
-    (subst (λ (i : ℕ). HoldsTurn Tells accepts i r.events event end old mid r.net net r.app.state.rest app.rest (kept_of i r.store) (kept_of i slots)) at holds) alive waits closes
+pub turn_so : {Own : Type 0} (Tells : Type 0) (accepts : List TableView → Bool) (event : Event) (closing : Closing) (old mid new : Seen Own) (net : NetState) (queue : List Event) (app : AppState) (slots : List Slot) (r now_r : Run) → r.app.state.index ≡ index
+    → HoldsTurn Tells accepts r.app.state.index r.events event closing old mid r.net net r.queue queue r.app.state.rest app.rest (kept_of r.app.state.index r.store) (kept_of r.app.state.index slots) → app.alive ≡ r.app.state.alive
+    → Closes Tells closing mid new (played_run net queue app slots r) now_r → HasTurn Tells accepts event old new r now_r
+turn_so Tells accepts event closing old mid new net queue app slots r now_r at holds alive closes =
+    turn_at Tells accepts event closing old mid new net queue app slots r now_r
+    (subst (λ (i : ℕ). HoldsTurn Tells accepts i r.events event closing old mid r.net net r.queue queue r.app.state.rest app.rest (kept_of i r.store) (kept_of i slots)) at holds) alive closes
 
 -- ---- A turn that was played in a transaction
 
-pub play_done : {Own : Type 0} {Tells : Type 0} {accepts : List TableView → Bool} {app number start now_start : ℕ} {event : Event} {end : TurnEnd} {stop : Bool} {old mid new : Seen Own} {net txn_net mid_net now_net : NetState} {rest unread : List ℕ} {slots now_slots : List Slot} → txn_net ≡ net
-    → start ≡ length net.log → end ≡ ends.Done stop → StagesTurn Tells accepts app budget rest (event_frame number txn_net.moment event) old mid txn_net mid_net end unread slots now_slots → now_start ≡ start → new ≡ mid
-    → now_net ≡ record mid_net { log = take now_start mid_net.log } → PlaysStaged Tells accepts app number event (ends.Done stop) old new net now_net rest unread slots now_slots
-play_done {Tells = Tells} {accepts = accepts} {app = app} {number = number} {start = start} {now_start = now_start} {event = event} {end = end} {stop = stop} {old = old} {mid = mid} {net = net} {txn_net = txn_net} {mid_net = mid_net} {rest = rest} {unread = unread} {slots = slots} {now_slots = now_slots}
-    same at is turns kept still left =
+pub play_done : {Own : Type 0} {Tells : Type 0} {accepts : List TableView → Bool} {app number start now_start : ℕ} {event : Event} {end : TurnEnd} {stop : Bool} {out : Vec (ℕ × ℕ) Global} {old mid new : Seen Own} {net txn_net mid_net left_net now_net : NetState} {queue now_queue : List Event} {rest unread : List ℕ}
+    {slots now_slots : List Slot} → txn_net ≡ net → start ≡ length net.log → end ≡ ends.Done stop → StagesTurn Tells accepts app budget rest (event_frame number txn_net.moment event) old mid txn_net mid_net end unread slots now_slots → now_start ≡ start
+    → now_net ≡ left_net → Commits Tells now_start mid new mid_net left_net queue now_queue (Ok out.items) → PlaysStaged Tells accepts app number event (closings.Done stop out) old new net now_net queue now_queue rest unread slots now_slots
+play_done {Tells = Tells} {accepts = accepts} {app = app} {number = number} {start = start} {now_start = now_start} {event = event} {end = end} {stop = stop} {out = out} {old = old} {mid = mid} {new = new} {net = net} {txn_net = txn_net} {mid_net = mid_net} {left_net = left_net} {queue = queue}
+    {now_queue = now_queue} {rest = rest} {unread = unread} {slots = slots} {now_slots = now_slots} same at is turns kept here commits =
     let stages : StagesTurn Tells accepts app budget rest (event_frame number net.moment event) old mid net mid_net (ends.Done stop) unread slots now_slots =
     subst (λ (e : TurnEnd). StagesTurn Tells accepts app budget rest (event_frame number net.moment event) old mid net mid_net e unread slots now_slots) is
     (subst (λ (n : NetState). StagesTurn Tells accepts app budget rest (event_frame number n.moment event) old mid n mid_net end unread slots now_slots) same turns) in
@@ -103,16 +107,17 @@ play_done {Tells = Tells} {accepts = accepts} {app = app} {number = number} {sta
         mid = mid;
         mid_net = mid_net;
         turns = stages.turns;
-        played = (still, left ∙ ap (λ (n : ℕ). record mid_net { log = take n mid_net.log }) (kept ∙ at));
+        played = subst (λ (n : NetState). Commits Tells (length net.log) mid new mid_net n queue now_queue (Ok out.items)) (sym here)
+            (subst (λ (n : ℕ). Commits Tells n mid new mid_net left_net queue now_queue (Ok out.items)) (kept ∙ at) commits);
       };
       staged_so = stages.staged_so;
     }
 
-pub play_failed : {Own : Type 0} {Tells : Type 0} {accepts : List TableView → Bool} {app number start now_start : ℕ} {event : Event} {end : TurnEnd} {cause : Cause} {result : Result (Unit {0}) TxnFault} {old mid new : Seen Own} {net txn_net mid_net left_net now_net : NetState}
+pub play_failed : {Own : Type 0} {Tells : Type 0} {accepts : List TableView → Bool} {app number start now_start : ℕ} {event : Event} {end : TurnEnd} {cause : Cause} {result : Result (Unit {0}) TxnFault} {old mid new : Seen Own} {net txn_net mid_net left_net now_net : NetState} {queue now_queue : List Event}
     {rest unread : List ℕ} {slots now_slots : List Slot} → txn_net ≡ net → start ≡ length net.log → end ≡ ends.Failed cause → StagesTurn Tells accepts app budget rest (event_frame number txn_net.moment event) old mid txn_net mid_net end unread slots now_slots → now_start ≡ start → result ≡ Ok tt → now_net ≡ left_net
-    → Undoes Tells now_start mid new mid_net left_net result → PlaysStaged Tells accepts app number event (ends.Failed cause) old new net now_net rest unread slots now_slots
+    → now_queue ≡ queue → Undoes Tells now_start mid new mid_net left_net result → PlaysStaged Tells accepts app number event (closings.Failed cause) old new net now_net queue now_queue rest unread slots now_slots
 play_failed {Tells = Tells} {accepts = accepts} {app = app} {number = number} {start = start} {now_start = now_start} {event = event} {end = end} {cause = cause} {result = result} {old = old} {mid = mid} {new = new} {net = net} {txn_net = txn_net} {mid_net = mid_net}
-    {left_net = left_net} {now_net = now_net} {rest = rest} {unread = unread} {slots = slots} {now_slots = now_slots} same at is turns kept ok here undoes =
+    {left_net = left_net} {now_net = now_net} {rest = rest} {unread = unread} {slots = slots} {now_slots = now_slots} same at is turns kept ok here waits undoes =
     let stages : StagesTurn Tells accepts app budget rest (event_frame number net.moment event) old mid net mid_net (ends.Failed cause) unread slots now_slots =
     subst (λ (e : TurnEnd). StagesTurn Tells accepts app budget rest (event_frame number net.moment event) old mid net mid_net e unread slots now_slots) is
     (subst (λ (n : NetState). StagesTurn Tells accepts app budget rest (event_frame number n.moment event) old mid n mid_net end unread slots now_slots) same turns) in
@@ -121,8 +126,11 @@ play_failed {Tells = Tells} {accepts = accepts} {app = app} {number = number} {s
         mid = mid;
         mid_net = mid_net;
         turns = stages.turns;
-        played = subst (λ (n : NetState). Undoes Tells (length net.log) mid new mid_net n (Ok tt)) (sym here)
-            (subst (λ (n : ℕ). Undoes Tells n mid new mid_net left_net (Ok tt)) (kept ∙ at) (subst (Undoes Tells now_start mid new mid_net left_net) ok undoes));
+        played = (
+          subst (λ (n : NetState). Undoes Tells (length net.log) mid new mid_net n (Ok tt)) (sym here)
+              (subst (λ (n : ℕ). Undoes Tells n mid new mid_net left_net (Ok tt)) (kept ∙ at) (subst (Undoes Tells now_start mid new mid_net left_net) ok undoes)),
+          waits,
+        );
       };
       staged_so = stages.staged_so;
     }

@@ -96,7 +96,7 @@ went_full {Own} Tells accepts most left a b c d old begun last new r r1 r2 now_r
 }
   where
     leaves-nothing : (seen : Seen Own) → Leaves seen seen
-    leaves-nothing seen = record { given = refl; starts = refl; replies = refl; inputs = refl; stimuli = refl; marks = refl; switches = λ d. refl; at_once = λ said. said; orderly = orderly-none index seen }
+    leaves-nothing seen = record { given = refl; starts = refl; replies = refl; inputs = refl; stimuli = refl; released = refl; marks = refl; switches = λ d. refl; at_once = λ said. said; orderly = orderly-none index seen }
 
 pub went_as : {Own : Type 0} (Tells : Type 0) (accepts : List TableView → Bool) (most : ℕ) (result : Result (Unit {0}) Served) (a b c d : Option (List ℕ)) (old begun last new : Seen Own) (r r1 r2 now_r : Run) → Continues Tells begun last → Continues Tells last new → Begins Tells a b old begun r r1
     → GoesToEnd Tells accepts most b c begun last r1 r2 → Finishes Tells result c d last new r2 now_r → GoesAs Tells accepts most result a d old new r now_r

@@ -31,11 +31,11 @@ returns-in-Err-run-clause-reference_run_until_fault g c =
 
 pub returns-in-Err-clause-no_switch_at_fault : goal.returns-in-Err-clause-no_switch_at_fault
 returns-in-Err-clause-no_switch_at_fault g c =
-    λ allows p. unopened_plain g.W.World.Tells (g.W.World.seen c.args.world.now) (g.W.World.seen c.open.new.world) c.in-Err.served c.in-Err.ensures.unopened
+    λ allows p. inl (unopened_plain g.W.World.Tells (g.W.World.seen c.args.world.now) (g.W.World.seen c.open.new.world) c.in-Err.served c.in-Err.ensures.unopened)
 
 pub returns-in-Ok-clause-no_switch_at_fault : goal.returns-in-Ok-clause-no_switch_at_fault
 returns-in-Ok-clause-no_switch_at_fault g c =
-    λ allows p. tt
+    λ allows p. inl tt
 
 pub returns-in-Err-run-clause-no_switch_at_fault : goal.returns-in-Err-run-clause-no_switch_at_fault
 returns-in-Err-run-clause-no_switch_at_fault g c =

@@ -62,24 +62,24 @@ pub returns-in-Ok-clause-application_keeps_script : goal.returns-in-Ok-clause-ap
 returns-in-Ok-clause-application_keeps_script g c = λ is within. (c.in-Ok.ensures.replays is).lines
 
 pub returns-in-Err-clause-breaks_only_on_bad_bytes : goal.returns-in-Err-clause-breaks_only_on_bad_bytes
-returns-in-Err-clause-breaks_only_on_bad_bytes g c = λ is eight.
-    broke_as c.run.new.sim c.in-Err.stop (g.K.Sink.contents c.args.sink.now) (g.K.Sink.contents c.run.new.sink) (c.in-Err.ensures.replays is).runs (sym c.halt.ensures.status ∙ eight)
+returns-in-Err-clause-breaks_only_on_bad_bytes g c = λ is quiet eight.
+    broke_as c.run.new.sim c.in-Err.stop (g.K.Sink.contents c.args.sink.now) (g.K.Sink.contents c.run.new.sink) (c.in-Err.ensures.replays is).runs quiet (sym c.halt.ensures.status ∙ eight)
 
 pub returns-in-Err-clause-diverges_only_on_bad_bytes : goal.returns-in-Err-clause-diverges_only_on_bad_bytes
 returns-in-Err-clause-diverges_only_on_bad_bytes g c = λ is nine.
     diverged_as c.run.new.sim c.in-Err.stop (g.K.Sink.contents c.args.sink.now) (g.K.Sink.contents c.run.new.sink) (c.in-Err.ensures.replays is).runs (sym c.halt.ensures.status ∙ nine)
 
 pub returns-in-Ok-clause-complete_without_fault : goal.returns-in-Ok-clause-complete_without_fault
-returns-in-Ok-clause-complete_without_fault g c = λ is input session whole spelled readable none. (0, omega arith, refl)
+returns-in-Ok-clause-complete_without_fault g c = λ is input session whole spelled readable quiet none. (0, omega arith, refl)
 
 pub returns-in-Err-clause-complete_without_fault : goal.returns-in-Err-clause-complete_without_fault
-returns-in-Err-clause-complete_without_fault g c = λ is input session whole spelled readable none.
+returns-in-Err-clause-complete_without_fault g c = λ is input session whole spelled readable quiet none.
     let cause = cause_then (Unit {0}) IsNoSession (g.S.Source.remaining c.args.source.now) (g.S.Source.faults c.args.source.now) (g.S.Source.faults c.run.new.source) (g.K.Sink.faults c.args.sink.now) (g.K.Sink.faults c.run.new.sink) (g.K.Sink.faults c.halt.new.sink)
     (seen_of c.args.sim.now) (seen_of c.run.new.sim) c.in-Err.stop c.run.ensures.never_fell c.halt.ensures.never_fell (c.in-Err.ensures.replays is).why in
     subst (λ (status : ℕ). Contains (0 ∷ 10 ∷ 12 ∷ []) status) (sym c.halt.ensures.status)
     (completes (Unit {0}) IsNoSession (g.S.Source.remaining c.args.source.now) (faults_of (g.S.Source.faults c.args.source.now) (g.K.Sink.faults c.args.sink.now) (seen_of c.args.sim.now)) (faults_of (g.S.Source.faults c.run.new.source) (g.K.Sink.faults c.halt.new.sink) (seen_of c.run.new.sim))
     c.in-Err.stop cause (good_session (g.S.Source.remaining c.args.source.now) input session whole spelled)
-    (λ eight. broke_as c.run.new.sim c.in-Err.stop (g.K.Sink.contents c.args.sink.now) (g.K.Sink.contents c.run.new.sink) (c.in-Err.ensures.replays is).runs eight readable)
+    (λ eight. broke_as c.run.new.sim c.in-Err.stop (g.K.Sink.contents c.args.sink.now) (g.K.Sink.contents c.run.new.sink) (c.in-Err.ensures.replays is).runs quiet eight readable)
     (λ nine. diverged_as c.run.new.sim c.in-Err.stop (g.K.Sink.contents c.args.sink.now) (g.K.Sink.contents c.run.new.sink) (c.in-Err.ensures.replays is).runs nine readable) none)
 
 pub returns-in-Ok-clause-run_until_fault : goal.returns-in-Ok-clause-run_until_fault
@@ -129,16 +129,16 @@ pub returns-in-Err-clause-live_no_stray_call : goal.returns-in-Err-clause-live_n
 returns-in-Err-clause-live_no_stray_call g c = λ port rounds is tells. (c.in-Err.ensures.serves port rounds is).strays tells
 
 pub returns-in-Ok-clause-live_complete_without_fault : goal.returns-in-Ok-clause-live_complete_without_fault
-returns-in-Ok-clause-live_complete_without_fault g c = λ port rounds is tells input program whole spelled readable none. (0, omega arith, refl)
+returns-in-Ok-clause-live_complete_without_fault g c = λ port rounds is tells input program whole spelled readable quiet none. (0, omega arith, refl)
 
 pub returns-in-Err-clause-live_complete_without_fault : goal.returns-in-Err-clause-live_complete_without_fault
-returns-in-Err-clause-live_complete_without_fault g c = λ port rounds is tells input program whole spelled readable none.
+returns-in-Err-clause-live_complete_without_fault g c = λ port rounds is tells input program whole spelled readable quiet none.
     let cause = cause_then g.W.World.Tells IsNoPolicy (g.S.Source.remaining c.args.source.now) (g.S.Source.faults c.args.source.now) (g.S.Source.faults c.run.new.source) (g.K.Sink.faults c.args.sink.now) (g.K.Sink.faults c.run.new.sink) (g.K.Sink.faults c.halt.new.sink)
     (g.W.World.seen c.args.live.now) (g.W.World.seen c.run.new.live) c.in-Err.stop c.run.ensures.never_fell c.halt.ensures.never_fell (c.in-Err.ensures.serves port rounds is).why in
     subst (λ (status : ℕ). Contains (0 ∷ 10 ∷ 12 ∷ []) status) (sym c.halt.ensures.status)
     (completes g.W.World.Tells IsNoPolicy (g.S.Source.remaining c.args.source.now) (faults_of (g.S.Source.faults c.args.source.now) (g.K.Sink.faults c.args.sink.now) (g.W.World.seen c.args.live.now)) (faults_of (g.S.Source.faults c.run.new.source) (g.K.Sink.faults c.halt.new.sink) (g.W.World.seen c.run.new.live))
     c.in-Err.stop cause (good_policy (g.S.Source.remaining c.args.source.now) input program whole spelled)
-    (broke_live (g.W.World.seen c.run.new.live) (g.K.Sink.contents c.args.sink.now) (g.K.Sink.contents c.run.new.sink) c.in-Err.stop ((c.in-Err.ensures.serves port rounds is).runs tells) readable)
+    (broke_live (g.W.World.seen c.run.new.live) (g.K.Sink.contents c.args.sink.now) (g.K.Sink.contents c.run.new.sink) c.in-Err.stop ((c.in-Err.ensures.serves port rounds is).runs tells) quiet readable)
     (diverged_live (g.W.World.seen c.run.new.live) (g.K.Sink.contents c.args.sink.now) (g.K.Sink.contents c.run.new.sink) c.in-Err.stop ((c.in-Err.ensures.serves port rounds is).runs tells) readable) none)
 
 pub returns-in-Ok-clause-live_status_has_cause : goal.returns-in-Ok-clause-live_status_has_cause

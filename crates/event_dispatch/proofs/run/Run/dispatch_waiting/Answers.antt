@@ -50,7 +50,7 @@ returns-clause-dispatches g c =
 pub returns-in_err-dispatch_oldest-clause-plain : goal.returns-in_err-dispatch_oldest-clause-plain
 returns-in_err-dispatch_oldest-clause-plain g c =
     if_err (λ fault. PlainRun g.W.World.Tells (g.J.Judge.accepts c.args.judge.now) (g.W.World.seen c.args.world.now) (g.W.World.seen c.dispatch_oldest.new.world) (engine_of c.args.self.now) (served_by fault)) c.in_err-dispatch_oldest.field-0.0 c.from_residual.result c.from_residual.ensures.1
-    (run_settled (g.W.World.seen c.args.world.now) (g.W.World.seen c.loop-event.world) (g.W.World.seen c.dispatch_oldest.new.world) c.args.self.now c.loop-event.self (served_by c.in_err-dispatch_oldest.field-0.0) c.loop-event.invariant.dispatches c.in_err-dispatch_oldest.ensures.continues c.in_err-dispatch_oldest.ensures.plain)
+    (run_settled (g.W.World.seen c.args.world.now) (g.W.World.seen c.loop-event.world) (g.W.World.seen c.dispatch_oldest.new.world) c.args.self.now c.loop-event.self (served_by c.in_err-dispatch_oldest.field-0.0) c.loop-event.invariant.continues c.loop-event.invariant.dispatches c.in_err-dispatch_oldest.ensures.continues c.in_err-dispatch_oldest.ensures.plain)
 
 pub returns-in_err-dispatch_oldest-clause-cut : goal.returns-in_err-dispatch_oldest-clause-cut
 returns-in_err-dispatch_oldest-clause-cut g c =

@@ -32,7 +32,7 @@ returns-in_err-begin-clause-plain g c =
 pub returns-in_err-run_rounds-clause-plain : goal.returns-in_err-run_rounds-clause-plain
 returns-in_err-run_rounds-clause-plain g c =
     if_err (PlainWhole g.W.World.Tells (g.J.Judge.accepts c.args.judge.now) c.args.rounds (g.W.World.seen c.args.world.now) (g.W.World.seen c.run_rounds.new.world) (engine_of c.args.self.now)) (served_by c.in_err-run_rounds.field-0.0) c.from_residual-in_err-run_rounds.result c.from_residual-in_err-run_rounds.ensures.1
-    (whole_rounds (g.W.World.seen c.args.world.now) (g.W.World.seen c.begin.new.world) (g.W.World.seen c.run_rounds.new.world) c.args.self.now c.begin.new.self (served_by c.in_err-run_rounds.field-0.0) c.in_ok-begin.ensures.begins c.in_err-run_rounds.ensures.continues c.in_err-run_rounds.ensures.plain)
+    (whole_rounds (g.W.World.seen c.args.world.now) (g.W.World.seen c.begin.new.world) (g.W.World.seen c.run_rounds.new.world) c.args.self.now c.begin.new.self (served_by c.in_err-run_rounds.field-0.0) c.in_ok-begin.ensures.continues c.in_ok-begin.ensures.begins c.in_err-run_rounds.ensures.continues c.in_err-run_rounds.ensures.plain)
 
 pub returns-clause-plain : goal.returns-clause-plain
 returns-clause-plain g c =

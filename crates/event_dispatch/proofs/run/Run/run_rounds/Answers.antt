@@ -49,7 +49,7 @@ returns-clause-to_end g c = rounds_out g.W.World.Tells (g.J.Judge.accepts c.args
 pub returns-in_err-run_round-clause-plain : goal.returns-in_err-run_round-clause-plain
 returns-in_err-run_round-clause-plain g c =
     if_err (λ fault. PlainRun g.W.World.Tells (g.J.Judge.accepts c.args.judge.now) (g.W.World.seen c.args.world.now) (g.W.World.seen c.run_round.new.world) (engine_of c.args.self.now) (served_by fault)) c.in_err-run_round.field-0.0 c.from_residual.result c.from_residual.ensures.1
-    (run_rounds (g.W.World.seen c.args.world.now) (g.W.World.seen c.loop-round.world) (g.W.World.seen c.run_round.new.world) c.args.self.now c.loop-round.self (served_by c.in_err-run_round.field-0.0) c.loop-round.invariant.rounds c.in_err-run_round.ensures.continues c.in_err-run_round.ensures.plain)
+    (run_rounds (g.W.World.seen c.args.world.now) (g.W.World.seen c.loop-round.world) (g.W.World.seen c.run_round.new.world) c.args.self.now c.loop-round.self (served_by c.in_err-run_round.field-0.0) c.loop-round.invariant.continues c.loop-round.invariant.rounds c.in_err-run_round.ensures.continues c.in_err-run_round.ensures.plain)
 
 pub returns-in_err-run_round-clause-cut : goal.returns-in_err-run_round-clause-cut
 returns-in_err-run_round-clause-cut g c =
