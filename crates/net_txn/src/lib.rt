@@ -2,8 +2,9 @@
 //!
 //! `Net` is what the host keeps of its switches: `joined` (`joins`, `in_step`), `left`, `arrived`, `waiting`, `rows`
 //! (`asks`, `in_step`). `Txn` is one transaction over it: `begin`, `change` (`changes`, `reached`, `in_step`),
-//! `hold_packet`, `commit`, whose one clause is the record `Commits`, and `abort`, whose one clause is the record `Undoes`. Each fault has its cause; in a world that keeps its word, view
-//! and table move together. Law: `views_stay_in_order`. docs/GUARANTEES.md has a row for each promise.
+//! `hold_packet`, `commit`, whose one clause is the record `Commits`, and `abort`, whose one clause is the record
+//! `Undoes`. Each fault has its cause; in a world that keeps its word, view and table move together. Law:
+//! `views_stay_in_order`. docs/GUARANTEES.md has a row for each promise.
 #![tactic(auto)]
 
 mod abort;

@@ -18,6 +18,7 @@ use crate::queue::MessageQueue;
 use crate::trouble::Trouble;
 use crate::undo_progress::{position_of, progress_of};
 use crate::undo_wait::pass_barrier;
+use crate::views::is_viewed;
 use crate::wait::send;
 use flow_table::TableView;
 use of_types::{Dpid, Xid};
@@ -26,13 +27,6 @@ use std::alloc::Global;
 
 /// How many inverses are sent to a switch before a barrier.
 const MOST_BEHIND_BARRIER: u32 = 4_096;
-
-/// Tells whether a switch has a view, so that it is joined.
-fn is_viewed(views: &[TableView], dpid: Dpid) -> bool
-    ensures { result ≡ is_viewed dpid views.now }
-{
-    views.iter().any(|view| view.dpid == dpid)
-}
 
 /// Returns the log from a position on.
 pub(crate) fn behind(log: &[Logged], from: usize) -> &[Logged]

@@ -23,8 +23,8 @@ pub(crate) fn find(views: &[TableView], dpid: Dpid) -> Option<&TableView>
     None
 }
 
-/// Tells whether a switch has a view.
-pub(crate) fn is_known(views: &[TableView], dpid: Dpid) -> bool
+/// Tells whether a switch has a view, so that it is joined.
+pub(crate) fn is_viewed(views: &[TableView], dpid: Dpid) -> bool
     ensures { result ≡ is_viewed dpid views.now }
 {
     views.iter().any(|view| view.dpid == dpid)
