@@ -13,7 +13,7 @@ ghost use Rattle.net_txn.specs.ReleaseSteps.{size_of, sizes_in, StaysSo, PacketT
 use crate::exchange::ask;
 use crate::net::{Net, following};
 use crate::queue::{EventQueue, MessageQueue};
-use crate::views::is_known;
+use crate::views::is_viewed;
 use flow_table::TableView;
 use lego_model::{Awaited, TxnFault};
 use of_types::{ByteList, Dpid, Xid};
@@ -46,7 +46,7 @@ fn push_size(
     requires { IsMessage (messages.PacketOut packet.now) }
     ensures { OnOk result (sizes.new.items ≡ sizes.old.items ++ size_of (plains views.now) (dpid, packet.now)) }
 {
-    if is_known(views, dpid) {
+    if is_viewed(views, dpid) {
         sizes.push((dpid, packet.payload.len() as u32))?;
     }
     Ok(())
@@ -169,7 +169,7 @@ impl Net {
         requires { IsMessage (messages.PacketOut packet) }
         ensures { ReleasesPacket W.Tells (dpid, packet) (W.seen world.old) (W.seen world.new) self.old self.new queue.old queue.new result }
     {
-        if !is_known(&self.views, dpid) {
+        if !is_viewed(&self.views, dpid) {
             return Ok(());
         }
         let xid = self.xid;

@@ -18,6 +18,7 @@ use crate::queue::MessageQueue;
 use crate::trouble::Trouble;
 use crate::undo_progress::{position_of, progress_of};
 use crate::undo_wait::pass_barrier;
+use crate::views::is_viewed;
 use crate::wait::send;
 use crate::views::is_known;
 use flow_table::TableView;

@@ -25,8 +25,9 @@ pub(crate) fn find(views: &[TableView], dpid: Dpid) -> Option<&TableView>
     None
 }
 
-fn has_view(views: &[TableView], dpid: Dpid) -> bool
-    ensures { result ≡ list_any (λ v. v.dpid == dpid) views.now }
+/// Tells whether a switch has a view, so that it is joined.
+pub(crate) fn is_viewed(views: &[TableView], dpid: Dpid) -> bool
+    ensures { result ≡ is_viewed dpid views.now }
 {
     views.iter().any(|view| view.dpid == dpid)
 }

@@ -8,11 +8,13 @@ mod ended;
 mod failing;
 mod messages;
 mod plays;
+mod releases;
 mod worlds;
 
 use ended::Ended;
-use messages::{ADD, changed};
+use messages::{ADD, BAD_OUT_PORT, CONTROLLER, changed, packet, told};
 use plays::{Close, answer_behind, arrival, departure, late_notice, play, undo_both};
+use releases::{drop_one, hold_one, release_two};
 use worlds::small_world;
 
 const CUT: Ended = Ended::SwitchFault(1);
@@ -248,5 +250,112 @@ fn messages_are_kept_during_a_wait(rt: HostRuntime) -> Result<(), Fail> {
     for (fails, expected) in cases {
         assert_eq!(rt; noticed(rt.alloc(), fails)?, expected);
     }
+    Ok(())
+}
+
+/// How two packets went that are held, the second one for the controller, where a call is to fail, if one is named.
+fn released(
+    alloc: Global,
+    fails: Option<(CallKind, u64)>,
+    first: &[u8],
+    body: &[u8],
+) -> Result<[Ended; 5], AllocError> {
+    let mut world = small_world(alloc, 8, fails)?;
+    let packets = (first, &packet(CONTROLLER, 2)[..]);
+    Ok(release_two(alloc, &mut world, packets, (body, &told(2))))
+}
+
+/// What so many packets of two bytes are told as.
+fn out(packets: u8) -> Ended {
+    Ended::Released {
+        packets: packets as usize,
+        bytes: packets as u32 * 2,
+    }
+}
+
+#[test]
+fn packets_are_held_and_released_in_order(rt: HostRuntime) -> Result<(), Fail> {
+    let fine = Ended::Fine;
+    let (packet_in, error) = (
+        Ended::Event(EventKind::PacketIn),
+        Ended::Event(EventKind::SwitchError),
+    );
+    let mut buffered = packet(CONTROLLER, 1);
+    buffered[11] = 0;
+    let cases = [
+        (
+            packet(CONTROLLER, 1),
+            &told(1)[..],
+            [fine, fine, out(2), packet_in, packet_in],
+        ),
+        // The switch refuses a port that it never had; the host refuses a buffer.
+        (
+            packet([0, 9], 1),
+            &BAD_OUT_PORT,
+            [fine, fine, out(2), error, packet_in],
+        ),
+        (
+            buffered,
+            &told(2),
+            [Ended::Error(1, 8), fine, out(1), packet_in, Ended::NoEvent],
+        ),
+    ];
+    for (first, body, expected) in cases {
+        assert_eq!(rt; released(rt.alloc(), None, &first, body)?, expected);
+    }
+    Ok(())
+}
+
+/// Four calls of the link for each packet: it, the barrier, the PACKET_IN and the reply. What came is taken behind the
+/// reply.
+#[test]
+fn a_release_stops_at_a_fault(rt: HostRuntime) -> Result<(), Fail> {
+    let (fine, none, event) = (
+        Ended::Fine,
+        Ended::NoEvent,
+        Ended::Event(EventKind::PacketIn),
+    );
+    let first = packet(CONTROLLER, 1);
+    for number in 5..=12u64 {
+        let told_first = if number < 9 { none } else { event };
+        assert_eq!(rt;
+            released(rt.alloc(), Some((CallKind::Link, number)), &first, &told(1))?,
+            [fine, fine, CUT, told_first, none],
+            "call {number}"
+        );
+        // The same calls behind `next`.
+        assert_eq!(rt;
+            released(
+                rt.alloc(),
+                Some((CallKind::Short, number + 1)),
+                &first,
+                &told(1)
+            )?,
+            [fine, fine, Ended::NoMemory, told_first, none],
+            "call {number}"
+        );
+    }
+    Ok(())
+}
+
+/// How a packet went whose transaction is undone, and the next one.
+fn dropped(alloc: Global) -> Result<[Ended; 3], AllocError> {
+    let mut world = small_world(alloc, 8, None)?;
+    Ok(drop_one(alloc, &mut world, &packet(CONTROLLER, 1)))
+}
+
+/// How a packet went that is held outside of a change.
+fn held(alloc: Global) -> Result<[Ended; 2], AllocError> {
+    let mut world = small_world(alloc, 8, None)?;
+    Ok(hold_one(alloc, &mut world, &packet(CONTROLLER, 3), &told(3)))
+}
+
+#[test]
+fn an_undo_drops_what_is_held(rt: HostRuntime) -> Result<(), Fail> {
+    assert_eq!(rt; dropped(rt.alloc())?, [Ended::Fine, Ended::Fine, out(0)]);
+    assert_eq!(rt;
+        held(rt.alloc())?,
+        [out(1), Ended::Event(EventKind::PacketIn)]
+    );
     Ok(())
 }

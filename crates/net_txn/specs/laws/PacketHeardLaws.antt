@@ -1,10 +1,10 @@
 -- What a switch sends for a packet: PACKET_INs, or one ERROR (OpenFlow 1.0.0, 5.4.1 Packet-In Message and 5.4.4 Error Message). A wait keeps
 -- each of them, and each becomes an event, whatever the transaction id was.
-use Rattle.std.specs.Prelude.{◌≡◌, ◌==◌, ◌⊎◌, ℕ, ◌/◌, ◌%◌, ◌<◌, ◌^◌, Bool, true, false, ◌&&◌, nat_le, nat_lt, List, [], ◌∷◌, ◌++◌, length, take, map, Option, Some, None, IfSome, Result, Ok, Err, refl}
+use Rattle.std.specs.Prelude.{◌≡◌, ◌==◌, ◌⊎◌, ℕ, ◌/◌, ◌%◌, ◌<◌, ◌^◌, Bool, true, false, ◌&&◌, nat_le, nat_lt, List, [], ◌∷◌, ◌++◌, length, take, map, Option, Some, None, Ok, Err, refl}
 use Rattle.std.specs.List.{AllByRecursion, flat_map, cons_option}
 use Rattle.std.specs.Str.{bytes_eq}
 use Rattle.std.proofs.Common.{sym, ap, ◌∙◌, subst, append_assoc, inl, inr, arith}
-use Rattle.std.proofs.lemmas.Bool.{cases_Bool, lt-ltb, le-leb, eqb-true}
+use Rattle.std.proofs.lemmas.Bool.{cases_Bool, le-leb}
 use Rattle.std.proofs.lemmas.List.{append-nil, length-take}
 use Rattle.std.proofs.lemmas.Slice.Eq.{bytes_eq-Decides}
 use Rattle.of_types.specs.Fields.{number_at, number_bytes}
@@ -12,7 +12,6 @@ use Rattle.of_types.specs.declared.errors.OfError.{OfError}
 use Rattle.of_wire.specs.declared.bodies.PacketIn.{PacketIn as PacketInBody}
 use Rattle.of_wire.specs.declared.bodies.PacketOut.{PacketOut as Packet}
 use Rattle.of_wire.specs.declared.kind.MessageKind.TheVariants as wire
-use Rattle.of_wire.specs.declared.message.Envelope.{Envelope}
 use Rattle.of_wire.specs.declared.message.Message.{Message}
 use Rattle.of_wire.specs.declared.message.Message.TheVariants.{Error, PacketIn, PacketOut, BarrierReply}
 use Rattle.of_wire.specs.declared.fault.WireFault.{WireFault}
@@ -31,12 +30,11 @@ use Rattle.flow_table.specs.Frames.{packet_in, sent_by_output, sent_by_outputs, 
 use Rattle.flow_table.specs.Step.{error_bytes, sent_by_taken, sent_by_message}
 use Rattle.app_frames.specs.declared.frame.Event.{Event}
 use Rattle.lego_model.specs.declared.wait.Awaited.{Awaited}
-use Rattle.lego_model.specs.declared.wait.Heard.{Heard}
-use Rattle.lego_model.specs.declared.wait.Heard.TheVariants.{Reply, Other}
+use Rattle.lego_model.specs.declared.wait.Heard.TheVariants.{Other}
 use Rattle.lego_model.specs.BarrierWaits.{next_xid, is_awaited, heard}
-use Rattle.lego_model.specs.Controller.{two_bytes, event_of_message, event_of_read, events_of}
+use Rattle.lego_model.specs.Controller.{two_bytes, event_of_read, events_of}
 use Rattle.net_txn.specs.Releases.{Knows, packet_awaited, or_none, takes_read, takes_all}
-use Rattle.net_txn.specs.laws.HeardLaws.{IsSmall, none_small, known_small, small_if, small_actions}
+use Rattle.net_txn.specs.laws.HeardLaws.{IsSmall, known_small, small_actions}
 use Rattle.net_txn.specs.laws.NoticeLaws.{reply_kind}
 
 -- ---- To a wait

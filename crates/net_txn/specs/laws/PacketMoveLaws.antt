@@ -1,5 +1,5 @@
 -- Which packets were released by what was said on a link, and that each switch moves by them alone, in any world that tells.
-use Rattle.std.specs.Prelude.{◌≡◌, ◌≢◌, ◌⊎◌, ℕ, ◌^◌, ◌<◌, List, [], ◌∷◌, ◌++◌, Option, Some, None, Ok, refl}
+use Rattle.std.specs.Prelude.{◌≡◌, ◌≢◌, ℕ, ◌^◌, ◌<◌, List, [], ◌∷◌, ◌++◌, Option, Some, None, refl}
 use Rattle.std.specs.List.{AllByRecursion}
 use Rattle.std.specs.Option.{option_map}
 use Rattle.std.proofs.Common.{sym, ap, ◌∙◌, subst, inl, inr}
@@ -8,9 +8,8 @@ use Rattle.std.proofs.lemmas.List.{append-nil, append_cancel_left}
 use Rattle.std.proofs.lemmas.List.Elements.{filter_map-append}
 use Rattle.of_wire.specs.declared.bodies.PacketOut.{PacketOut as Packet}
 use Rattle.of_wire.specs.declared.message.Message.TheVariants.{PacketOut, BarrierRequest}
-use Rattle.of_wire.specs.Reading.{reading_of}
 use Rattle.of_wire.specs.Spelling.{message_bytes}
-use Rattle.of_wire.specs.Grammar.{IsMessage, enveloped}
+use Rattle.of_wire.specs.Grammar.{IsMessage}
 use Rattle.of_wire.specs.laws.ReadingLaws.{reading_of-message_bytes}
 use Rattle.flow_table.specs.Switch.{SwitchState}
 use Rattle.flow_table.specs.Step.{after_message}

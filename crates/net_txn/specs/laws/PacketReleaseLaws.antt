@@ -1,7 +1,6 @@
 -- One packet that is released: it is sent and taken, or it stops.
-use Rattle.std.specs.Prelude.{◌≡◌, ◌⊎◌, ℕ, ◌^◌, ◌<◌, ◌≤◌, true, false, List, [], ◌∷◌, ◌++◌, Option, Result, Ok, Err, MatchResult, refl}
+use Rattle.std.specs.Prelude.{◌≡◌, ◌⊎◌, ℕ, ◌^◌, ◌<◌, ◌≤◌, true, false, List, [], ◌∷◌, ◌++◌, Ok, Err, refl}
 use Rattle.std.proofs.Common.{sym, ap, ◌∙◌, subst, inl, inr}
-use Rattle.std.proofs.lemmas.List.{append-nil, append_cancel_left}
 use Rattle.of_wire.specs.declared.bodies.PacketOut.{PacketOut as Packet}
 use Rattle.of_wire.specs.declared.message.Message.TheVariants.{PacketOut}
 use Rattle.of_wire.specs.Spelling.{message_bytes}
@@ -22,10 +21,10 @@ use Rattle.net_txn.specs.Waits.{IfFlooded}
 use Rattle.net_txn.specs.Views.{is_viewed}
 use Rattle.net_txn.specs.Net.{NetState}
 use Rattle.net_txn.specs.Undos.{fault_by}
-use Rattle.net_txn.specs.Said.{Said, said_steps, Calls, IsOfLink, unsaid, wait_said, last_said, frames_said, barrier_of, reply_heard, Unsent, Breaks, Speaks}
+use Rattle.net_txn.specs.Said.{Calls, IsOfLink, unsaid, wait_said, last_said, frames_said, barrier_of, reply_heard, Breaks, Speaks}
 use Rattle.net_txn.specs.Releases.{packet_awaited, packet_steps, takes_all, MovesBy, SendsPacket, BreaksAt}
 use Rattle.net_txn.specs.ReleaseSteps.{StaysSo, packet_frames, PacketTold, PacketBroke, PacketStops, ReleasesPacket}
-use Rattle.net_txn.specs.laws.TalkLaws.{speaks_none, speaks_on, talks_speak, talks_waits, talks_cause, talks_flooded}
+use Rattle.net_txn.specs.laws.TalkLaws.{speaks_none, talks_speak, talks_waits, talks_cause, talks_flooded}
 use Rattle.net_txn.specs.laws.SaidLaws.{Calls-none}
 use Rattle.net_txn.specs.laws.ChangeFlightLaws.{stays_reply, front_of_two}
 use Rattle.net_txn.specs.laws.PacketMoveLaws.{moved_none, moved_one, packet_said, both_said, unsaid_then, unsaid_none, wait_then, reply_then, none_reply, none_none, nothing_said}

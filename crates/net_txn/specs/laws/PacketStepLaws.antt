@@ -1,5 +1,5 @@
 -- Where a world keeps its word, a packet moves its switch alone, and what the switch sends for it becomes events.
-use Rattle.std.specs.Prelude.{◌≡◌, ◌≢◌, ◌⊎◌, ℕ, ◌^◌, ◌<◌, ◌≤◌, false, List, [], ◌∷◌, ◌++◌, length, drop, map, Option, Some, Ok, refl}
+use Rattle.std.specs.Prelude.{◌≡◌, ◌≢◌, ◌⊎◌, ℕ, ◌^◌, ◌<◌, ◌≤◌, false, List, [], ◌∷◌, ◌++◌, length, drop, map, Option, Some, refl}
 use Rattle.std.specs.List.{AllByRecursion}
 use Rattle.std.proofs.Common.{sym, ap, ◌∙◌, subst, inl, inr, arith}
 use Rattle.std.proofs.lemmas.List.{map-append}
@@ -23,11 +23,9 @@ use Rattle.lego_model.specs.declared.fault.TxnFault.{TxnFault}
 use Rattle.lego_model.specs.declared.fault.TxnFault.TheVariants.{SwitchFault, SwitchBroke, Diverged, Flooded, NoMemory}
 use Rattle.lego_model.specs.declared.wait.Awaited.{Awaited}
 use Rattle.lego_model.specs.declared.wait.Refusal.{Refusal}
-use Rattle.lego_model.specs.declared.wait.Heard.{Heard}
 use Rattle.lego_model.specs.declared.wait.Heard.TheVariants.{Reply, Other}
 use Rattle.lego_model.specs.BarrierWaits.{flood, next_xid, heard, is_reply, heard_steps, wait_steps, kept_of, reply_got}
 use Rattle.lego_model.specs.Controller.{events_of}
-use Rattle.lego_model.specs.Packets.{Held}
 use Rattle.net_txn.specs.Causes.{IsCause, IsPlainFault}
 use Rattle.net_txn.specs.Waits.{Waits, Floods, IfFlooded}
 use Rattle.net_txn.specs.Net.{NetState}

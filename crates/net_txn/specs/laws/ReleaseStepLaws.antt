@@ -1,7 +1,6 @@
 -- Laws of a release, packet by packet: what stays, what is called, what is taken, and the packets one after the other.
-use Rattle.std.specs.Prelude.{◌≡◌, ◌⊎◌, ℕ, ◌<◌, true, Bool, All, List, [], ◌∷◌, ◌++◌, length, map, filter, Option, Result, Ok, Err, MatchResult, if◌then◌else◌, refl}
-use Rattle.std.proofs.Common.{sym, ap, ◌∙◌, subst, append_assoc, length-append, inl, inr, arith}
-use Rattle.std.proofs.Math.Seq.{get_or-append_seam}
+use Rattle.std.specs.Prelude.{◌≡◌, ℕ, true, Bool, List, [], ◌∷◌, ◌++◌, length, map, filter, Ok, Err, if◌then◌else◌, refl}
+use Rattle.std.proofs.Common.{sym, ap, ◌∙◌, subst, append_assoc, inl, inr}
 use Rattle.of_wire.specs.declared.message.Message.{Message}
 use Rattle.of_wire.specs.declared.message.Message.TheVariants as messages
 use Rattle.of_wire.specs.Reading.{reading_of}
@@ -9,19 +8,16 @@ use Rattle.flow_table.specs.View.{TableView}
 use Rattle.app_frames.specs.declared.frame.Event.{Event}
 use Rattle.outside.specs.Seen.{Seen, Continues}
 use Rattle.outside.specs.laws.SeenLaws.{Continues-refl, Continues-trans}
-use Rattle.outside.specs.State.{state, is_joined}
-use Rattle.outside.specs.InOrder.{InOrder, MessagesSince}
+use Rattle.outside.specs.InOrder.{MessagesSince}
 use Rattle.outside.specs.laws.InOrderLaws.{InOrder-before, messages-none, messages-then}
 use Rattle.lego_model.specs.declared.fault.TxnFault.{TxnFault}
 use Rattle.lego_model.specs.Packets.{Held}
-use Rattle.net_txn.specs.LinkSteps.{OnLinks, LinkSteps, MakesNoStrayCall}
-use Rattle.net_txn.specs.Undos.{AreJoined}
 use Rattle.net_txn.specs.Said.{Speaks}
 use Rattle.net_txn.specs.Views.{is_viewed}
 use Rattle.net_txn.specs.Net.{NetState}
 use Rattle.net_txn.specs.Arriving.{net_after}
-use Rattle.net_txn.specs.Releases.{Knows, takes_read, takes_all, SendsPacket, PassesOver, ReleasesOne, ReleasesAll, BreaksAt}
-use Rattle.net_txn.specs.ReleaseSteps.{size_of, sizes_in, StaysSo, CallsLinks, ReleasesPacket, ReleasedFront, StopsBehind, ReleasesList}
+use Rattle.net_txn.specs.Releases.{Knows, takes_read, takes_all, ReleasesOne, ReleasesAll}
+use Rattle.net_txn.specs.ReleaseSteps.{sizes_in, StaysSo, CallsLinks, ReleasesPacket, ReleasedFront, StopsBehind}
 use Rattle.net_txn.specs.laws.LinkStepLaws.{OnLinks-refl, OnLinks-trans}
 use Rattle.net_txn.specs.laws.LinkStrayLaws.{no_strays_none, no_strays_then}
 use Rattle.net_txn.specs.laws.TalkLaws.{speaks_on, speaks_links, speaks_place}
@@ -179,9 +175,3 @@ yielded_more all front rest later x split step = split ∙ ap (λ (xs : List _).
 
 pub yielded_here : {X : Type 0} (all front rest later : List X) (x : X) → all ≡ front ++ rest → rest ≡ x ∷ later → all ≡ front ++ x ∷ later
 yielded_here all front rest later x split step = split ∙ ap (λ (xs : List _). front ++ xs) step
-
-pub all_here : {X : Type 0} (P : X → Type 0) (all front later : List X) (x : X) → All P all → all ≡ front ++ x ∷ later → P x
-all_here P all front later x holds split =
-    let here : All P (front ++ x ∷ later) = subst (λ (xs : List _). All P xs) split holds in
-    let within : length front < length (front ++ x ∷ later) = omega (arith, length-append front (x ∷ later)) in
-    subst P (get_or-append_seam front x later x) (here (length front) x within)

@@ -1,6 +1,6 @@
 //! The calls of the network, each with a small answer. The world is any world, so that no proof looks into it.
 
-ghost use Rattle.std.specs.Prelude.{◌≡◌, ◌≤◌, None, length, true, IsSome, IfOk};
+ghost use Rattle.std.specs.Prelude.{◌≡◌, ◌≤◌, None, length, true, IsSome, IfOk, OnOk};
 ghost use Rattle.net_txn.specs.Views.{rows_at};
 
 use super::ended::{Ended, by_answer, by_event, by_fault, by_kept, by_rows};
@@ -100,7 +100,7 @@ pub fn new_net<W: World>(alloc: Global, world: &mut W) -> Result<Net, Ended>
     Ok(net)
 }
 
-fn by_change(changed: Result<Answer, TxnFault>) -> Ended {
+pub fn by_change(changed: Result<Answer, TxnFault>) -> Ended {
     match changed {
         Ok(answer) => by_answer(&answer),
         Err(fault) => by_fault(&fault),
@@ -114,20 +114,23 @@ fn by_end(ended: Result<(), TxnFault>) -> Ended {
     }
 }
 
-/// How a change went, and that it is kept.
+/// How a change went that is kept.
 pub fn keep<W: World>(
     alloc: Global,
     world: &mut W,
     net: &mut Net,
     dpid: Dpid,
     bytes: &[u8],
-) -> (Ended, Ended) {
+) -> Result<Ended, Ended>
+    requires { 1 ≤ net.old.room }
+    ensures { OnOk result (net.new.room ≡ net.old.room) }
+{
     let mut queue = EventQueue::new(alloc);
     let mut txn = Txn::begin(net);
     let changed = by_change(txn.change(world, dpid, bytes));
     match txn.commit(world, &mut queue) {
-        Ok(_released) => (changed, Ended::Fine),
-        Err(fault) => (changed, by_fault(&fault)),
+        Ok(_released) => Ok(changed),
+        Err(fault) => Err(by_fault(&fault)),
     }
 }
 
@@ -157,7 +160,10 @@ pub fn sees<W: World>(
     net: &mut Net,
     moment: u64,
     rows: usize,
-) -> bool {
+) -> Result<bool, Ended>
+    requires { 1 ≤ net.old.room }
+    ensures { OnOk result (net.new.room ≡ net.old.room) }
+{
     let mut queue = EventQueue::new(alloc);
     let txn = Txn::begin(net);
     let is_then = txn.moment() == moment;
@@ -165,8 +171,10 @@ pub fn sees<W: World>(
         [view] => view.rows.as_slice().len() == rows,
         _ => false,
     };
-    let is_closed = txn.commit(world, &mut queue).is_ok();
-    is_then && has_rows && is_closed
+    match txn.commit(world, &mut queue) {
+        Ok(_released) => Ok(is_then && has_rows),
+        Err(fault) => Err(by_fault(&fault)),
+    }
 }
 
 /// The row of a switch.

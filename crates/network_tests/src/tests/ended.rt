@@ -35,6 +35,8 @@ pub enum Ended {
     SwitchBroke(u64),
     /// Memory was wanting.
     NoMemory,
+    /// So many packets were released, of so many bytes together.
+    Released { packets: usize, bytes: u32 },
     /// Anything else.
     Otherwise,
 }
@@ -69,6 +71,25 @@ pub fn by_rows(rows: &RowList) -> Ended {
         [row] => Ended::Row {
             priority: row.key.priority,
             cookie: row.cookie,
+        },
+        _ => Ended::Otherwise,
+    }
+}
+
+/// At most two packets of switch 1.
+pub fn by_release(released: &[(Dpid, u32)]) -> Ended {
+    match released {
+        [] => Ended::Released {
+            packets: 0,
+            bytes: 0,
+        },
+        [(1, len)] => Ended::Released {
+            packets: 1,
+            bytes: *len,
+        },
+        [(1, first), (1, second)] => Ended::Released {
+            packets: 2,
+            bytes: first.saturating_add(*second),
         },
         _ => Ended::Otherwise,
     }

@@ -35,6 +35,28 @@ pub const PACKET_IN: [u8; 20] = [
     1, 10, 0, 20, 0, 0, 0, 0, 0xff, 0xff, 0xff, 0xff, 0, 2, 0, 1, 0, 0, 0xaa, 0xbb,
 ];
 
+/// PACKET_OUT (5.3.6) of the bytes aa and this one, in no buffer and of no port, with an OUTPUT to this port. The low
+/// byte of the buffer stands at 11.
+pub const fn packet(port: [u8; 2], byte: u8) -> [u8; 26] {
+    [
+        1, 13, 0, 26, 0, 0, 0, 9, 0xff, 0xff, 0xff, 0xff, 0xff, 0xff, 0, 8, 0, 0, 0, 8, port[0],
+        port[1], 0, 0, 0xaa, byte,
+    ]
+}
+
+/// The port CONTROLLER (5.2.1).
+pub const CONTROLLER: [u8; 2] = [0xff, 0xfd];
+
+/// PACKET_IN (5.4.1) of the bytes aa and this one, which came of no port and were sent by an action.
+pub const fn told(byte: u8) -> [u8; 20] {
+    [
+        1, 10, 0, 20, 0, 0, 0, 0, 0xff, 0xff, 0xff, 0xff, 0, 2, 0xff, 0xff, 1, 0, 0xaa, byte,
+    ]
+}
+
+/// The kind and code of an ERROR (5.4.4): BAD_OUT_PORT.
+pub const BAD_OUT_PORT: [u8; 4] = [0, 2, 0, 4];
+
 /// PORT_STATUS (5.4.3): port 1 of switch 1 is modified, and its link is down.
 pub const PORT_DOWN: [u8; 64] = [
     1, 12, 0, 64, 0, 0, 0, 0, 2, 0, 0, 0, 0, 0, 0, 0, 0, 1, 2, 0, 0, 1, 0, 1, b'p', b'1', 0, 0, 0,

@@ -1,6 +1,6 @@
 //! Calls one after the other, in any world.
 
-ghost use Rattle.std.specs.Prelude.{◌≤◌, IfOk};
+ghost use Rattle.std.specs.Prelude.{◌≡◌, ◌≤◌, IfOk, OnOk};
 
 use super::calls::{
     arrive, ask, join, keep, leave, new_net, pass, sees, take_kept, undo, undo_two,
@@ -23,7 +23,10 @@ fn change<W: World>(alloc: Global, world: &mut W, net: &mut Net, close: Close) -
     requires { 1 ≤ net.old.room }
 {
     match close {
-        Close::Keep => keep(alloc, world, net, 1, &ADD),
+        Close::Keep => match keep(alloc, world, net, 1, &ADD) {
+            Ok(changed) => (changed, Ended::Fine),
+            Err(ended) => (Ended::NotMade, ended),
+        },
         Close::Undo => undo(world, net, 1, &ADD),
     }
 }
@@ -39,14 +42,19 @@ pub fn play<W: World>(alloc: Global, world: &mut W, close: Close) -> [Ended; 4] 
     }
 }
 
+fn by_keep(kept: Result<Ended, Ended>) -> Ended {
+    match kept {
+        Ok(ended) | Err(ended) => ended,
+    }
+}
+
 /// The answer to a message behind a first change.
 pub fn answer_behind<W: World>(alloc: Global, world: &mut W, dpid: u64, message: &[u8]) -> Ended {
     match new_net(alloc, world) {
         Ok(mut net) => {
-            if keep(alloc, world, &mut net, 1, &ADD) == (Ended::Fine, Ended::Fine) {
-                keep(alloc, world, &mut net, dpid, message).0
-            } else {
-                Ended::NotMade
+            match keep(alloc, world, &mut net, 1, &ADD) {
+                Ok(Ended::Fine) => by_keep(keep(alloc, world, &mut net, dpid, message)),
+                _ => Ended::NotMade,
             }
         }
         Err(ended) => ended,
@@ -102,11 +110,14 @@ pub fn departure<W: World>(alloc: Global, world: &mut W) -> [Ended; 2] {
 }
 
 /// Goes on to moment 5, at which one row is seen.
-fn go_on<W: World>(alloc: Global, world: &mut W, net: &mut Net) -> Result<(), Ended> {
+fn go_on<W: World>(alloc: Global, world: &mut W, net: &mut Net) -> Result<(), Ended>
+    requires { 1 ≤ net.old.room }
+    ensures { OnOk result (net.new.room ≡ net.old.room) }
+{
     pass(alloc, world, Item::Idle)?;
     pass(alloc, world, Item::Moment(5))?;
     net.set_moment(5);
-    if net.moment() == 5 && sees(alloc, world, net, 5, 1) {
+    if net.moment() == 5 && sees(alloc, world, net, 5, 1)? {
         Ok(())
     } else {
         Err(Ended::Otherwise)
@@ -119,10 +130,13 @@ pub fn late_notice<W: World>(alloc: Global, world: &mut W) -> [Ended; 4] {
         Ok(net) => net,
         Err(ended) => return [ended, Ended::NotMade, Ended::NotMade, Ended::NotMade],
     };
-    let (first, _) = keep(alloc, world, &mut net, 1, &changed(61, 1));
+    let first = match keep(alloc, world, &mut net, 1, &changed(61, 1)) {
+        Ok(first) => first,
+        Err(ended) => return [ended, Ended::NotMade, Ended::NotMade, Ended::NotMade],
+    };
     if let Err(ended) = go_on(alloc, world, &mut net) {
         return [first, ended, Ended::NotMade, Ended::NotMade];
     }
-    let (second, _) = keep(alloc, world, &mut net, 1, &changed(63, 8));
+    let second = by_keep(keep(alloc, world, &mut net, 1, &changed(63, 8)));
     [first, second, take_kept(&mut net), take_kept(&mut net)]
 }
