@@ -57,7 +57,7 @@ use Rattle.switch_laws.specs.laws.SoundLaws.{packet-sound}
 use Rattle.switch_laws.specs.laws.StandLaws.{all-stand}
 
 -- the packets of joined switches
-abbrev pub joined_of : List TableView → List Held → List Held
+abbrev joined_of : List TableView → List Held → List Held
 joined_of views held = filter (λ h. is_viewed h.0 views) held
 
 -- ---- What was seen goes on
@@ -127,19 +127,14 @@ release-moves Tells (h ∷ more) old new net now_net queue now_queue told all =
       | inr passes ↦ rw (passes.unviewed) (subst (λ (s : Seen _). MovesBy (joined_of net.views more) s new) passes.seen rest)
     ]
 
--- the same up to where it stopped
-pub stop-moves : {Own : Type 0} (Tells : Type 0) (start : ℕ) (old new : Seen Own) (net : NetState) (queue : List Event) (fault : TxnFault) → Tells → (stops : StopsRelease Tells start old new net queue fault) → MovesBy (joined_of net.views stops.front ++ stops.breaks.packets) old new
-stop-moves Tells start old new net queue fault told stops =
-    moves-then old stops.mid new (joined_of net.views stops.front) stops.breaks.packets (release-moves Tells stops.front old stops.mid (committed start net) stops.mid_net queue stops.mid_queue told stops.before) (stops.breaks.moves told)
-
 -- ---- Where the world keeps its word: which switches are joined
 
 -- a switch that is joined
-record Joined (d : ℕ) (s : State) : Type 0 where
+record JoinedAt (d : ℕ) (s : State) : Type 0 where
   switch : SwitchState
   stands : switch_of d s ≡ Some switch
 
-viewed-joined : (d : ℕ) (views : List TableView) (s : State) → Agrees d views s → is_viewed d views ≡ true → (o : Option SwitchState) → switch_of d s ≡ o → Joined d s
+viewed-joined : (d : ℕ) (views : List TableView) (s : State) → Agrees d views s → is_viewed d views ≡ true → (o : Option SwitchState) → switch_of d s ≡ o → JoinedAt d s
 viewed-joined d views s agrees there (Some x) is = record { switch = x; stands = is }
 viewed-joined d views s agrees there None is = absurd (true≢false (sym there ∙ unviewed d views s agrees is))
 
@@ -397,9 +392,9 @@ mid-keeps old mid new whole before moves keeps = Conforming-front mid new moves.
 -- a packet that made its switch send too many messages
 flood-stops : {Own : Type 0} (Tells : Type 0) (h : Held) (s : SwitchState) (old mid new : Seen Own) (net : NetState) (fault : TxnFault) → Tells → Continues Tells old new → Continues Tells old mid → switch_of h.0 (state mid) ≡ Some s
     → IfFlooded Tells (packet_awaited h.0 net.xid) (packet_steps h.0 net.xid h.1) mid new fault → IsFloodBy h s fault → (d : ℕ) × ((fault ≡ Flooded d flood) × FloodedByPacket d old new)
-flood-stops Tells h s old mid new net (Flooded of n) told whole before stands flooded by =
-    let sent : WorldStep = Acted (Sent h.0 (message_bytes net.xid (PacketOut h.1))) in
-    let rest = barrier_sent (packet_awaited h.0 net.xid) ∷ wait_steps (packet_awaited h.0 net.xid) flooded.got in
+flood-stops Tells h s old mid new net (Flooded of n) told whole before stands floods by =
+    let first : WorldStep = Acted (Sent h.0 (message_bytes net.xid (PacketOut h.1))) in
+    let rest = barrier_sent (packet_awaited h.0 net.xid) ∷ wait_steps (packet_awaited h.0 net.xid) floods.got in
     let by_packet : FloodedByPacket h.0 old new = record {
       mid = mid;
       given = before.given ∙ sym whole.given;
@@ -409,16 +404,16 @@ flood-stops Tells h s old mid new net (Flooded of n) told whole before stands fl
       stands = stands;
       many = by.2;
       xid = net.xid;
-      sent = (rest, flooded.told told ∙ sym (append_assoc mid.history (sent ∷ []) rest));
+      sent = (rest, floods.told told ∙ sym (append_assoc mid.history (first ∷ []) rest));
     } in
     (h.0, (ap₂ flooded_fault by.0 by.1, by_packet))
   where
     flooded_fault : ℕ → ℕ → TxnFault
     flooded_fault d count = Flooded d count
-flood-stops Tells h s old mid new net (SwitchFault of) told whole before stands flooded by = absurd by
-flood-stops Tells h s old mid new net (SwitchBroke of bytes) told whole before stands flooded by = absurd by
-flood-stops Tells h s old mid new net (Diverged of sent got) told whole before stands flooded by = absurd by
-flood-stops Tells h s old mid new net NoMemory told whole before stands flooded by = absurd by
+flood-stops Tells h s old mid new net (SwitchFault of) told whole before stands floods by = absurd by
+flood-stops Tells h s old mid new net (SwitchBroke of bytes) told whole before stands floods by = absurd by
+flood-stops Tells h s old mid new net (Diverged of key answer) told whole before stands floods by = absurd by
+flood-stops Tells h s old mid new net NoMemory told whole before stands floods by = absurd by
 
 -- The fault is one of a link or of memory, or a packet made its switch send too many messages.
 pub release-plain : {Own : Type 0} (Tells : Type 0) (start : ℕ) (old new : Seen Own) (net : NetState) (queue : List Event) (fault : TxnFault) → Tells → Conforming new → Continues Tells old new → StopsRelease Tells start old new net queue fault → Ready old net → StopsFor old new fault
