@@ -9,14 +9,13 @@ ghost use Rattle.event_dispatch.specs.Steady.{NoStray, Reads, NoPoint, AtMostThi
 ghost use Rattle.app_visor.specs.CallsFor.{CalmLater, OwnSteps};
 ghost use Rattle.event_dispatch.specs.Runs.{AreRead, StoreRests, Going, Waits};
 ghost use Rattle.event_dispatch.specs.Stored.{KeepsSlots, closes_slot, PlaysStaged, HoldsTurn};
-ghost use Rattle.app_visor.specs.declared.state.TurnEnd.TheVariants as ends;
 ghost use Rattle.app_visor.specs.Attempts.{kept_of};
 ghost use Rattle.checkpoint_store.specs.Slots.{with_slot};
 ghost use Rattle.event_dispatch.specs.Why.{IsReason, served_by};
 ghost use Rattle.event_dispatch.specs.Plain.{PlainTurn, PlainRun};
 ghost use Rattle.lego_model.specs.RunReport.{turn_line as turn_line_of};
 ghost use Rattle.lego_model.specs.Application.{index, name};
-ghost use Rattle.run_laws.specs.Facts.{turn_word, out_text, starts_text};
+ghost use Rattle.run_laws.specs.Facts.{out_text, starts_text};
 ghost use Rattle.event_dispatch.specs.Shows.{engine_of, Adds};
 ghost use Rattle.event_dispatch.specs.Serves.{Starts, Closes, HasTurn, IsDispatched, DispatchesOldest, DispatchesWaiting};
 ghost use Rattle.event_dispatch.specs.Talking.{KeepsTalking, TurnTalks};
@@ -218,11 +217,11 @@ impl Run {
 
     /// Appends the lines of a turn that was done: how it ended, and the packets that were released.
     #[tactic(auto, using(crate::specs::laws::WhyLaws::waits_then))]
-    fn note_done(&mut self, stop: bool, out: &[(Dpid, u32)]) -> Result<(), AllocError>
+    fn note_done(&mut self, word: TurnWord, out: &[(Dpid, u32)]) -> Result<(), AllocError>
         ensures waits { OnOk result (Waits self.old self.new) }
-        ensures adds { OnOk result (Adds (turn_line_of name (turn_word (ends.Done stop)) ++ out_text out.now) self.old self.new) }
+        ensures adds { OnOk result (Adds (turn_line_of name word ++ out_text out.now) self.old self.new) }
     {
-        self.note_turn(if stop { TurnWord::Stop } else { TurnWord::Done })?;
+        self.note_turn(word)?;
         self.note_out(out)
     }
 
@@ -248,7 +247,7 @@ impl Run {
         match closing {
             Closing::Done { stop, out } => {
                 self.app.done += 1;
-                self.note_done(stop, &out)
+                self.note_done(if stop { TurnWord::Stop } else { TurnWord::Done }, &out)
             }
             Closing::Failed(cause) => {
                 self.app.failed += 1;
