@@ -20,7 +20,6 @@ use crate::undo_progress::{position_of, progress_of};
 use crate::undo_wait::pass_barrier;
 use crate::views::is_viewed;
 use crate::wait::send;
-use crate::views::is_known;
 use flow_table::TableView;
 use of_types::{Dpid, Xid};
 use outside::World;
@@ -166,7 +165,7 @@ fn reverts(progress: UndoProgress, views: &[TableView], dpid: Dpid) -> bool
     ensures yes { result ≡ true → (is_viewed dpid (plains views.now) ≡ true) × (progress.failed ≡ false) }
     ensures no { result ≡ false → is_viewed dpid (plains views.now) ≡ true → progress.failed ≡ true }
 {
-    !progress.failed && is_known(views, dpid)
+    !progress.failed && is_viewed(views, dpid)
 }
 
 /// Sends the inverse at a position, unless its switch has failed or is not joined.

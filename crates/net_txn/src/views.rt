@@ -25,15 +25,14 @@ pub(crate) fn find(views: &[TableView], dpid: Dpid) -> Option<&TableView>
     None
 }
 
-/// Tells whether a switch has a view, so that it is joined.
-pub(crate) fn is_viewed(views: &[TableView], dpid: Dpid) -> bool
-    ensures { result ≡ is_viewed dpid views.now }
+fn has_view(views: &[TableView], dpid: Dpid) -> bool
+    ensures { result ≡ list_any (λ v. v.dpid == dpid) views.now }
 {
     views.iter().any(|view| view.dpid == dpid)
 }
 
 /// Tells whether a switch has a view, so that it is joined.
-pub(crate) fn is_known(views: &[TableView], dpid: Dpid) -> bool
+pub(crate) fn is_viewed(views: &[TableView], dpid: Dpid) -> bool
     ensures { result ≡ is_viewed dpid (plains views.now) }
 {
     has_view(views, dpid)

@@ -1,6 +1,7 @@
 use Rattle.std.proofs.Common.{rules, ◌≡◌, List, [], ◌∙◌, subst, refl, Ok, Err}
 use Rattle.std.specs.Prelude.{vec_len}
 use Rattle.std.proofs.lemmas.Result.{err_from_is_err_and}
+use Rattle.flow_table.specs.View.{plains}
 use Rattle.lego_model.specs.Packets.{Held}
 use Rattle.net_txn.specs.Net.{NetState}
 use Rattle.net_txn.specs.Releases.{committed, Commits}
@@ -16,7 +17,7 @@ returns-in_err-release_all g c =
     let s = c.self.inside in
     let old = g.W.World.seen c.args.world.now in
     let new = g.W.World.seen c.release_all.new.world in
-    let net : NetState = record { views = s.views.items; ports = s.ports.items; log = s.log.items; held = s.held.items; xid = s.xid; moment = s.moment; kept = s.kept; room = vec_len s.rooms } in
+    let net : NetState = record { views = plains s.views.items; ports = s.ports.items; log = s.log.items; held = s.held.items; xid = s.xid; moment = s.moment; kept = s.kept; room = vec_len s.rooms } in
     let mid : NetState = record net { log = c.truncate.new.self.items; held = c.replace-held.new.dest.items } in
     let held : c.replace-held.result.items ≡ net.held = search rules in
     let none : c.replace-held.new.dest.items ≡ [] = search rules in
@@ -33,7 +34,7 @@ returns g c =
     let s = c.self.inside in
     let old = g.W.World.seen c.args.world.now in
     let new = g.W.World.seen c.release_all.new.world in
-    let net : NetState = record { views = s.views.items; ports = s.ports.items; log = s.log.items; held = s.held.items; xid = s.xid; moment = s.moment; kept = s.kept; room = vec_len s.rooms } in
+    let net : NetState = record { views = plains s.views.items; ports = s.ports.items; log = s.log.items; held = s.held.items; xid = s.xid; moment = s.moment; kept = s.kept; room = vec_len s.rooms } in
     let mid : NetState = record net { log = c.truncate.new.self.items; held = c.replace-held.new.dest.items } in
     let held : c.replace-held.result.items ≡ net.held = search rules in
     let none : c.replace-held.new.dest.items ≡ [] = search rules in
