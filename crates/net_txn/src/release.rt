@@ -1,8 +1,9 @@
 //! The release of the packets that a transaction holds.
 
-ghost use Rattle.std.specs.Prelude.{◌≡◌, ◌≤◌, ◌++◌, All, length, Ok, Err, IfOk, OnOk, MatchResult};
+ghost use Rattle.std.specs.Prelude.{◌≡◌, ◌≤◌, ◌++◌, All, length, Ok, Err, IsOk, IfOk, OnOk, MatchResult};
 ghost use Rattle.of_wire.specs.declared.message.Message.TheVariants as messages;
 ghost use Rattle.of_wire.specs.Reading.{reading_of};
+ghost use Rattle.of_wire.specs.Spelling.{message_bytes};
 ghost use Rattle.of_wire.specs.Grammar.{IsMessage};
 ghost use Rattle.outside.specs.Calls.{most_message};
 ghost use Rattle.net_txn.specs.Releases.{packet_awaited, takes_read, takes_all, Commits};
@@ -11,7 +12,7 @@ ghost use Rattle.net_txn.specs.ReleaseSteps.{size_of, sizes_in, StaysSo, PacketT
 use crate::exchange::ask;
 use crate::net::{Net, following};
 use crate::queue::{EventQueue, MessageQueue};
-use crate::views::find;
+use crate::views::is_known;
 use flow_table::TableView;
 use lego_model::{Awaited, TxnFault};
 use of_types::{ByteList, Dpid, Xid};
@@ -34,6 +35,7 @@ fn await_packet(dpid: Dpid, xid: Xid) -> Awaited
 }
 
 /// Appends how many bytes a packet has, where its switch has a view.
+#[tactic(auto, unfolding(of_wire::specs::Spelling::message_size))]
 fn push_size(
     sizes: &mut Vec<(Dpid, u32)>,
     views: &[TableView],
@@ -43,13 +45,14 @@ fn push_size(
     requires { IsMessage (messages.PacketOut packet.now) }
     ensures { OnOk result (sizes.new.items ≡ sizes.old.items ++ size_of views.now (dpid, packet.now)) }
 {
-    if find(views, dpid).is_some() {
+    if is_known(views, dpid) {
         sizes.push((dpid, packet.payload.len() as u32))?;
     }
     Ok(())
 }
 
 /// Returns how many bytes each packet has whose switch has a view.
+#[tactic(auto, unfolding(crate::specs::ReleaseSteps::sizes_in))]
 fn sizes_of(
     alloc: Global,
     views: &[TableView],
@@ -63,6 +66,15 @@ fn sizes_of(
         push_size(&mut sizes, views, *dpid, packet)?;
     }
     Ok(sizes)
+}
+
+/// Returns the bytes of a packet.
+fn packet_frame(alloc: Global, xid: Xid, packet: PacketOut) -> Result<ByteList, AllocError>
+    requires { IsMessage (messages.PacketOut packet) }
+    ensures bytes { IfOk result (λ b. b ≡ message_bytes xid (messages.PacketOut packet)) }
+    ensures read { IfOk result (λ b. IsOk (reading_of b)) }
+{
+    encode(alloc, xid, &Message::PacketOut(packet))
 }
 
 /// Sends a packet and a barrier behind it, and waits for its reply; gives what came before it.
@@ -79,7 +91,7 @@ fn exchange_packet<W: World>(
     ensures { MatchResult result (λ came. PacketTold W.Tells dpid xid packet (W.seen world.old) (W.seen world.new) came.items)
         (PacketStops W.Tells dpid xid packet (W.seen world.old) (W.seen world.new)) }
 {
-    let frame = encode(alloc, xid, &Message::PacketOut(packet))?;
+    let frame = packet_frame(alloc, xid, packet)?;
     let mut came = MessageQueue::new(alloc)?;
     ask(
         world,
@@ -156,7 +168,7 @@ impl Net {
         requires { IsMessage (messages.PacketOut packet) }
         ensures { ReleasesPacket W.Tells (dpid, packet) (W.seen world.old) (W.seen world.new) self.old self.new queue.old queue.new result }
     {
-        if find(&self.views, dpid).is_none() {
+        if !is_known(&self.views, dpid) {
             return Ok(());
         }
         let xid = self.xid;
