@@ -39,7 +39,7 @@ fn change(alloc: Global, command: u16) -> FlowMod {
 
 /// A view of one entry, without actions, that goes after a minute.
 fn view(alloc: Global) -> Result<TableView, AllocError>
-    ensures { IfOk result (λ v. AreShowable v.rows) }
+    ensures { IfOk result (λ v. AreShowable v.rows.rows) }
 {
     let row = ViewRow {
         key: key(),

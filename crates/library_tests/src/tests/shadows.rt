@@ -50,8 +50,8 @@ fn keeps_rows(rt: HostRuntime) -> Result<(), Fail> {
         flags: 0,
     };
     shadows.put(9, row);
-    assert_eq!(rt; shadows.view(9).map(|view| view.rows().len()), Some(1));
+    assert_eq!(rt; shadows.view(9).map(|view| view.rows.len()), Some(1));
     shadows.remove(9, &key);
-    assert_eq!(rt; shadows.view(9).map(|view| view.rows().len()), Some(0));
+    assert_eq!(rt; shadows.view(9).map(|view| view.rows.len()), Some(0));
     Ok(())
 }
