@@ -4,6 +4,7 @@ ghost use Rattle.std.specs.Prelude.{◌≡◌, ℕ, Bool, true, List, [], is_som
 ghost use Rattle.flow_table.specs.declared.view.TableView.{TableView};
 ghost use Rattle.lego_model.specs.Journal.{is_event};
 ghost use Rattle.lego_model.specs.Places.{Place};
+ghost use Rattle.lego_model.specs.Packets.{Play};
 ghost use Rattle.lego_model.specs.Turns.{turn_of};
 ghost use Rattle.lego_model.specs.Controller.{table_of, given_in};
 ghost use Rattle.outside.specs.Seen.{Seen};
@@ -21,12 +22,13 @@ ghost use Rattle.app_visor.specs.Dialogues.{Speaks, is_done};
 use outside::World;
 
 /// A turn that was played is the turn of the reference controller, where its switches answer the messages as they were
-/// answered, one after the other, and its judge has the same word.
+/// answered, one after the other, and its judge has the same word; what it is played on are these switches and the packets
+/// that are held.
 pub fn turns_of_the_reference<W: World>()
     ensures { (allows : List Place → Bool) (accepts : List TableView → Bool) (app budget : ℕ) (rest frame unread : List ℕ)
-        (old new : Seen W.Own) (net now_net : NetState) (end : TurnEnd) (before after : List Place)
+        (old new : Seen W.Own) (net now_net : NetState) (end : TurnEnd) (before after : Play)
         → (t : Turns W.Tells accepts app budget rest frame old new net now_net end unread)
-        → Agrees (table_of allows) (exchanges_in t.trace) before after → allows after ≡ accepts now_net.views
+        → Agrees (table_of allows) (exchanges_in t.trace) before after → allows after.places ≡ accepts now_net.views
         → turn_of (table_of allows) budget rest (reply_by t.given t.trace) before ≡ played_on after t.answers t.outcome }
 {}
 

@@ -1,4 +1,4 @@
--- How a run stands between batches: nothing waits anywhere, and what the engine knows is what is so. All of this is our own.
+-- How a run stands between batches: nothing waits anywhere, no packet is held, and what the engine knows is what is so. All of this is our own.
 use Rattle.std.specs.Prelude.{◌≡◌, ◌==◌, ℕ, false, List, [], ◌∷◌, Option, Some, None, if◌then◌else◌}
 use Rattle.std.specs.Option.{option_map}
 use Rattle.of_types.specs.declared.port_desc.PortDesc.{PortDesc}
@@ -25,3 +25,4 @@ pub record Calm {Own : Type 0} (seen : Seen Own) (net : NetState) : Type 0 where
   pub moment : net.moment ≡ (state seen).moment
   pub none_begun : (state seen).begun ≡ false
   pub none_due : (state seen).due ≡ []
+  pub held : net.held ≡ []

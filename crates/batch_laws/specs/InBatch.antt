@@ -4,6 +4,7 @@ use Rattle.std.specs.Prelude.{◌≡◌, ℕ, ◌+◌, ◌⊎◌, true, false, L
 use Rattle.std.specs.List.{AllByRecursion}
 use Rattle.of_types.specs.declared.journal.WorldStim.{WorldStim}
 use Rattle.of_wire.specs.Reading.{reading_of}
+use Rattle.lego_model.specs.History.{released_of}
 use Rattle.lego_model.specs.Journal.{is_of, stimuli}
 use Rattle.outside.specs.declared.item.Item.{Item}
 use Rattle.outside.specs.declared.item.Item.TheVariants as items
@@ -54,8 +55,10 @@ pub record InBatch {Own : Type 0} (x : WorldStim) (n : ℕ) (first now : Standin
   pub kept : now.net.kept ≡ []
   pub log : now.net.log ≡ first.net.log
   pub room : now.net.room ≡ first.net.room
+  pub held : now.net.held ≡ first.net.held
   pub stimuli_so : stimuli (journal now.seen.history) ≡ stimuli (journal first.seen.history) ++ x ∷ []
   pub acts : (app : ℕ) → filter (is_of app) (journal now.seen.history) ≡ filter (is_of app) (journal first.seen.history)
+  pub released : released_of now.seen ≡ released_of first.seen
   pub orderly : (app : ℕ) → OrderlySince app first.seen now.seen
 
 -- ---- When it is over
@@ -76,8 +79,10 @@ pub record BatchDone {Own : Type 0} (x : WorldStim) (first now : Standing Own) :
   pub kept : now.net.kept ≡ []
   pub log : now.net.log ≡ first.net.log
   pub room : now.net.room ≡ first.net.room
+  pub held : now.net.held ≡ first.net.held
   pub stimuli_so : stimuli (journal now.seen.history) ≡ stimuli (journal first.seen.history) ++ x ∷ []
   pub acts : (app : ℕ) → filter (is_of app) (journal now.seen.history) ≡ filter (is_of app) (journal first.seen.history)
+  pub released : released_of now.seen ≡ released_of first.seen
   pub orderly : (app : ℕ) → OrderlySince app first.seen now.seen
 
 -- End was told: no stimulus is to come, and nothing was done.

@@ -25,6 +25,7 @@ use Rattle.batch_laws.specs.Knowledge.{knowledge_of, joined_by, handled}
 use Rattle.std.specs.List.{flat_map}
 use Rattle.of_types.specs.declared.journal.Act.TheVariants.{Sent, Got}
 use Rattle.flow_table.specs.Switch.{SwitchState, first_config}
+use Rattle.lego_model.specs.History.{released_of}
 use Rattle.lego_model.specs.Journal.{is_of, stimuli}
 use Rattle.switch_laws.specs.Orderly.{OrderlySince}
 use Rattle.batch_laws.specs.InBatch.{SameBesides}
@@ -103,12 +104,14 @@ pub record Departs (d : ℕ) (net now_net : NetState) (queue now_queue : List Ev
   pub knowledge : knowledge_of now_net now_queue ≡ handled (Left d) (knowledge_of net queue)
   pub log : now_net.log ≡ net.log
   pub room : now_net.room ≡ net.room
+  pub held : now_net.held ≡ net.held
   pub kept : now_net.kept ≡ kept_left (is_some (rows_at d net.views)) d net.kept
 
 pub record Enters {Own : Type 0} (Tells : Type 0) (d : ℕ) (m : Message) (old new : Seen Own) (net now_net : NetState) (queue now_queue : List Event) : Type 0 where
   pub knowledge : knowledge_of now_net now_queue ≡ joined_by d m (knowledge_of net queue)
   pub log : now_net.log ≡ net.log
   pub room : now_net.room ≡ net.room
+  pub held : now_net.held ≡ net.held
   pub takes : TakesInBy Tells d m old new net now_net
 
 -- ---- The whole
@@ -118,6 +121,7 @@ pub record Handles {Own : Type 0} (Tells : Type 0) (item : WorldStep) (old new :
   pub knowledge : knowledge_of now_net now_queue ≡ handled item (knowledge_of net queue)
   pub log : now_net.log ≡ net.log
   pub room : now_net.room ≡ net.room
+  pub held : now_net.held ≡ net.held
   pub does : Does Tells item old new net now_net
 
 -- The outside told an item, whose bytes stand in a buffer of bytes, and the engine did this with it.
@@ -149,6 +153,7 @@ pub record ItemDone {Own : Type 0} (mid new : Seen Own) : Type 0 where
   pub leaves : Leaves (state mid) (state new)
   pub stimuli_so : stimuli (journal new.history) ≡ stimuli (journal mid.history)
   pub acts : (app : ℕ) → filter (is_of app) (journal new.history) ≡ filter (is_of app) (journal mid.history)
+  pub released : released_of new ≡ released_of mid
   pub orderly : (app : ℕ) → OrderlySince app mid new
 
 pub record Fresh (d : ℕ) (s : State) : Type 0 where

@@ -1,5 +1,5 @@
 -- What items tell of a switch. All of this is our own.
-use Rattle.std.specs.Prelude.{◌≡◌, ◌≢◌, ℕ, ◌^◌, ◌<◌, List, ◌++◌, Some, Result, Ok, Err, map}
+use Rattle.std.specs.Prelude.{◌≡◌, ◌≢◌, ℕ, ◌^◌, ◌<◌, List, ◌++◌, Some, Result, Ok, Err}
 use Rattle.std.specs.List.{AllByRecursion}
 use Rattle.of_types.specs.declared.journal.Stimulus.{Stimulus}
 use Rattle.of_wire.specs.declared.message.Message.{Message}
@@ -9,7 +9,7 @@ use Rattle.of_wire.specs.declared.fault.WireFault.{WireFault}
 use Rattle.of_wire.specs.Reading.{reading_of}
 use Rattle.flow_table.specs.declared.view.ViewRow.{ViewRow}
 use Rattle.flow_table.specs.declared.view.TableView.{TableView}
-use Rattle.flow_table.specs.Switch.{SwitchState, port_desc}
+use Rattle.flow_table.specs.Switch.{SwitchState}
 use Rattle.flow_table.specs.Step.{after_stimulus, sent_by_stimulus}
 use Rattle.undo_laws.specs.Owned.{owned_switch}
 use Rattle.lego_model.specs.Answers.{rows_of_table, rows_of_view}
@@ -80,11 +80,6 @@ pub record SwitchKnown (d : ℕ) (s : SwitchState) (rows : List ViewRow) (k : Kn
   pub rows_are : rows_at d k.views ≡ Some rows
   pub agrees : rows_of_view rows ≡ rows_of_table s.table.entries
   pub ports : known_ports d k.ports ≡ Some (ports_of s)
-
-pub record FaceKept (before now : SwitchState) : Type 0 where
-  pub declared : now.declared ≡ before.declared
-  pub ports : (n : ℕ) → map (port_desc n) now.ports ≡ map (port_desc n) before.ports
-  pub rows : rows_of_table now.table.entries ≡ rows_of_table before.table.entries
 
 -- one switch changed, and what the engine knows of it; the others are as they were
 pub record OnlyOne (d : ℕ) (s now : State) (k after : Knowledge) : Type 0 where

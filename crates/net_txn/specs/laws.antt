@@ -53,3 +53,4 @@ pub mod UndoStrayLaws
 pub mod TableBackLaws
 pub mod UndoFailureLaws
 pub mod ChangeFlightLaws
+pub mod ReleaseLaws

@@ -19,8 +19,8 @@ fn place_in(log: &[Logged], start: usize) -> usize
 }
 
 impl Net {
-    /// Undoes what was logged from a position on, newest first, and forgets it. It goes on past the fault of a switch
-    /// with the others, and answers the first one. It takes no memory of its own.
+    /// Undoes what was logged from a position on, newest first, and forgets it; what is held is dropped. It goes on past
+    /// the fault of a switch with the others, and answers the first one. It takes no memory of its own.
     pub(crate) fn undo_from<W: World>(
         &mut self,
         world: &mut W,
@@ -29,6 +29,7 @@ impl Net {
         requires { 1 ≤ self.old.room }
         ensures { Undoes W.Tells start (W.seen world.old) (W.seen world.new) self.old self.new result }
     {
+        self.held.clear();
         let from = place_in(&self.log, start);
         undo_log(
             world,

@@ -53,6 +53,7 @@ impl Net {
         ensures ports { self.new.ports ≡ self.old.ports }
         ensures moment { self.new.moment ≡ self.old.moment }
         ensures room { self.new.room ≡ self.old.room }
+        ensures held { self.new.held ≡ self.old.held }
     {
         let awaited = await_from(dpid, self.xid);
         self.xid = following(awaited.barrier);
@@ -98,6 +99,7 @@ impl Net {
         ensures ports { self.new.ports ≡ self.old.ports }
         ensures moment { self.new.moment ≡ self.old.moment }
         ensures room { self.new.room ≡ self.old.room }
+        ensures held { self.new.held ≡ self.old.held }
     {
         let known = is_row(&self.views, dpid, &key_of(&flow));
         let before = self.log.len();
@@ -130,6 +132,10 @@ impl Net {
         };
         match answer_bytes(self.alloc, bytes, view.rows.as_slice())? {
             HostAnswer::Answered(answer) => Ok(answer),
+            HostAnswer::Holds(packet) => {
+                self.hold(dpid, packet)?;
+                Ok(Answer::Fine)
+            }
             HostAnswer::Asks(flow) => self.make_or_forget(world, dpid, flow),
         }
     }

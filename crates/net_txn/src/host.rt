@@ -5,7 +5,7 @@ ghost use Rattle.of_action.specs.Spelling.{list_size};
 ghost use Rattle.of_wire.specs.declared.message.Message.TheVariants as messages;
 ghost use Rattle.flow_table.specs.Errors.{bad_type, bad_len};
 ghost use Rattle.flow_table.specs.Refusals.{or_else, most_action_bytes, stats_refusal};
-ghost use Rattle.lego_model.specs.Answers.{rows_of_view, unknown_action, flow_mod_refused, not_yet, would_touch, wire_fault};
+ghost use Rattle.lego_model.specs.Answers.{rows_of_view, unknown_action, flow_mod_refused, packet_refused, not_yet, would_touch, wire_fault};
 ghost use Rattle.net_txn.specs.Host.{IsHostAnswer, IsHostAnswerOf};
 
 use crate::rows::would_touch;
@@ -13,7 +13,7 @@ use app_frames::Answer;
 use flow_table::ViewRow;
 use of_action::{Action, ActionKind, size};
 use of_types::{OfError, errors, flows, stats};
-use of_wire::{FlowMod, Message, Stats, WireFault, decode};
+use of_wire::{FlowMod, Message, PacketOut, Stats, WireFault, decode};
 use std::alloc::{AllocError, Global};
 
 /// The most bytes of actions that a row of flow statistics can show.
@@ -24,6 +24,8 @@ const MOST_ACTION_BYTES: usize = 65_432;
 pub(crate) enum HostAnswer {
     /// It answers itself.
     Answered(Answer),
+    /// The packet is held until the turn completes, and answered Fine.
+    Holds(PacketOut),
     /// The switch must answer the change.
     Asks(FlowMod),
 }
@@ -130,6 +132,29 @@ fn answer_change(m: FlowMod, rows: &[ViewRow]) -> HostAnswer
     }
 }
 
+/// Tells what stands against a packet.
+#[tactic(auto, unfolding(lego_model::specs::Answers::packet_refused))]
+fn refuse_packet(m: &PacketOut) -> Option<OfError>
+    ensures { result ≡ packet_refused m.now }
+{
+    if m.buffer_id != flows::NO_BUFFER {
+        Some(errors::REQUEST_BUFFER_UNKNOWN)
+    } else {
+        find_unknown(m.actions.as_slice())
+    }
+}
+
+/// Tells what the host makes of a packet.
+#[tactic(auto, unfolding(lego_model::specs::Answers::host_refusal))]
+fn answer_packet(m: PacketOut, rows: &[ViewRow]) -> HostAnswer
+    ensures { IsHostAnswerOf (rows_of_view rows.now) (messages.PacketOut m) result }
+{
+    match refuse_packet(&m) {
+        Some(error) => HostAnswer::Answered(Answer::Error(error)),
+        None => HostAnswer::Holds(m),
+    }
+}
+
 /// Tells what the host makes of a message that was read, for a switch with these rows.
 #[tactic(auto, unfolding(lego_model::specs::Answers::host_refusal))]
 fn answer_message(message: Message, rows: &[ViewRow]) -> HostAnswer
@@ -137,6 +162,7 @@ fn answer_message(message: Message, rows: &[ViewRow]) -> HostAnswer
 {
     match message {
         Message::FlowMod(m) => answer_change(m, rows),
+        Message::PacketOut(m) => answer_packet(m, rows),
         Message::StatsRequest(m) => HostAnswer::Answered(Answer::Error(refuse_stats(&m))),
         Message::BarrierRequest => HostAnswer::Answered(Answer::Fine),
         _ => HostAnswer::Answered(Answer::Error(errors::REQUEST_BAD_TYPE)),

@@ -112,6 +112,7 @@ impl Net {
         ensures log { self.new.log ≡ self.old.log }
         ensures moment { self.new.moment ≡ self.old.moment }
         ensures room { self.new.room ≡ self.old.room }
+        ensures held { self.new.held ≡ self.old.held }
         ensures xid { self.old.xid < 2 ^ 32 }
     {
         let first = self.xid;
@@ -157,6 +158,7 @@ impl Net {
         ensures log { self.new.log ≡ self.old.log }
         ensures moment { self.new.moment ≡ self.old.moment }
         ensures room { self.new.room ≡ self.old.room }
+        ensures held { self.new.held ≡ self.old.held }
 
         // Where the world keeps its word and nothing of the switch waited, the switch is empty, as its view is; a fault is
         // one of the switch's link, or of memory.

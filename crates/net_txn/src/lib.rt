@@ -23,6 +23,7 @@ mod net;
 mod ports;
 mod prepared;
 mod queue;
+mod release;
 mod replies;
 mod reverting;
 mod room;

@@ -1,8 +1,10 @@
 //! The network of the host.
 
-ghost use Rattle.std.specs.Prelude.{◌≡◌, ◌≤◌, [], length, take, drop, slice_get, IfOk, OnOk, OnErr};
+ghost use Rattle.std.specs.Prelude.{◌≡◌, ◌≤◌, [], ◌∷◌, ◌++◌, length, take, drop, slice_get, IfOk, OnOk, OnErr};
 ghost use Rattle.net_txn.specs.Net.{awaited_from};
 ghost use Rattle.lego_model.specs.BarrierWaits.{next_xid};
+ghost use Rattle.of_wire.specs.declared.message.Message.TheVariants as messages;
+ghost use Rattle.of_wire.specs.Grammar.{IsMessage};
 
 use crate::logged::Logged;
 use crate::ports::KnownPorts;
@@ -11,6 +13,7 @@ use crate::room::Room;
 use flow_table::TableView;
 use lego_model::Awaited;
 use of_types::{ByteList, Dpid, Xid};
+use of_wire::PacketOut;
 use std::alloc::{AllocError, Global};
 use std::marker::Model;
 
@@ -18,7 +21,7 @@ use std::marker::Model;
 const MOST_MESSAGE: usize = 65_535;
 
 /// What the host keeps of its switches: their tables as the owner sees them, their ports, what undoes the changes of
-/// the open transaction, and the messages that came while something else was awaited.
+/// the open transaction, the packets that it holds back, and the messages that came while something else was awaited.
 #[derive(Drop, Debug)]
 pub struct Net {
     pub(crate) alloc: Global,
@@ -26,6 +29,7 @@ pub struct Net {
     pub(crate) views: Vec<TableView>,
     pub(crate) ports: Vec<KnownPorts>,
     pub(crate) log: Vec<Logged>,
+    pub(crate) held: Vec<(Dpid, PacketOut)>,
     pub(crate) xid: Xid,
     pub(crate) moment: u64,
     pub(crate) kept: MessageQueue,
@@ -35,6 +39,9 @@ pub struct Net {
 
 impl Model for Net {
     ghost use Rattle.std.specs.Prelude.{◌≡◌, ◌≤◌, vec_len};
+    ghost use Rattle.std.specs.List.{AllByRecursion};
+    ghost use Rattle.of_wire.specs.declared.message.Message.TheVariants as messages;
+    ghost use Rattle.of_wire.specs.Grammar.{IsMessage};
     ghost use Rattle.net_txn.specs.Net.{NetState};
 
     ghost Value = { NetState };
@@ -43,13 +50,14 @@ impl Model for Net {
       views = s.views.items;
       ports = s.ports.items;
       log = s.log.items;
+      held = s.held.items;
       xid = s.xid;
       moment = s.moment;
       kept = s.kept;
       room = vec_len s.rooms;
     } };
 
-    ghost invariant = { λ s. (vec_len s.buf ≡ 65535) × (1 ≤ s.xid) };
+    ghost invariant = { λ s. (vec_len s.buf ≡ 65535) × (1 ≤ s.xid) × AllByRecursion (λ h. IsMessage (messages.PacketOut h.1)) s.held.items };
 }
 
 /// Returns the transaction id behind one.
@@ -74,7 +82,7 @@ pub(crate) fn await_from(dpid: Dpid, xid: Xid) -> Awaited
 impl Net {
     /// Returns a network of no switch, at moment 0. It takes the room that an undo needs.
     pub fn new(alloc: Global) -> Result<Net, AllocError>
-        ensures { IfOk result (λ n. n ≡ record { views = []; ports = []; log = []; xid = 1; moment = 0; kept = []; room = 2 }) }
+        ensures { IfOk result (λ n. n ≡ record { views = []; ports = []; log = []; held = []; xid = 1; moment = 0; kept = []; room = 2 }) }
     {
         Ok(Net {
             alloc,
@@ -82,6 +90,7 @@ impl Net {
             views: Vec::new(alloc),
             ports: Vec::new(alloc),
             log: Vec::new(alloc),
+            held: Vec::new(alloc),
             xid: 1,
             moment: 0,
             kept: MessageQueue::new(alloc)?,
@@ -134,10 +143,20 @@ impl Net {
         self.log.truncate(from);
     }
 
-    /// Returns no packet that was released.
-    pub(crate) fn none_released(&self) -> Vec<(Dpid, u32)>
-        ensures { result.items ≡ [] }
+    /// Holds a packet back, behind the others.
+    pub(crate) fn hold(&mut self, dpid: Dpid, packet: PacketOut) -> Result<(), AllocError>
+        requires { IsMessage (messages.PacketOut packet) }
+        ensures ok { OnOk result (self.new ≡ record self.old { held = self.old.held ++ (dpid, packet) ∷ [] }) }
+        ensures err { OnErr result (self.new ≡ self.old) }
     {
-        Vec::new(self.alloc)
+        self.held.push((dpid, packet))?;
+        Ok(())
+    }
+
+    /// Drops the packets that are held back; takes no memory.
+    pub(crate) fn drop_held(&mut self)
+        ensures { self.new ≡ record self.old { held = [] } }
+    {
+        self.held.clear();
     }
 }

@@ -1,7 +1,10 @@
 //! A transaction over the network: changes that are kept together or not at all.
 
-ghost use Rattle.std.specs.Prelude.{◌≡◌, ◌≤◌, [], length, take, IsOk, IfOk, IfErr};
-ghost use Rattle.lego_model.specs.declared.fault.TxnFault.TheVariants.{NoMemory};
+ghost use Rattle.std.specs.Prelude.{◌≡◌, ◌≤◌, [], ◌∷◌, ◌++◌, true, length, Ok, Err, OnOk, OnErr, MatchResult};
+ghost use Rattle.of_wire.specs.declared.message.Message.TheVariants as messages;
+ghost use Rattle.of_wire.specs.Grammar.{IsMessage};
+ghost use Rattle.net_txn.specs.Views.{is_viewed};
+ghost use Rattle.net_txn.specs.Releases.{Commits};
 ghost use Rattle.net_txn.specs.Changes.{Changes};
 ghost use Rattle.net_txn.specs.Undos.{Undoes};
 ghost use Rattle.net_txn.specs.Agreement.{Reaches, Steps};
@@ -12,7 +15,9 @@ use app_frames::Answer;
 use flow_table::TableView;
 use lego_model::TxnFault;
 use of_types::Dpid;
+use of_wire::PacketOut;
 use outside::World;
+use std::alloc::AllocError;
 
 /// A transaction that is open: what was logged from `start` on undoes its changes.
 pub struct Txn<'a> {
@@ -67,24 +72,33 @@ impl<'a> Txn<'a> {
         self.net.change(world, dpid, bytes)
     }
 
-    /// Closes the transaction: its changes stay. Nothing is held back yet, so that no packet is released.
+    /// Holds a packet back, behind the others, until the transaction closes.
+    pub fn hold_packet(&mut self, dpid: Dpid, packet: PacketOut) -> Result<(), AllocError>
+        requires joined { is_viewed dpid self.old.net.now.views ≡ true }
+        requires message { IsMessage (messages.PacketOut packet) }
+        ensures same_reference { self.new.net.ghost_name ≡ self.old.net.ghost_name }
+        ensures start { self.new.start ≡ self.old.start }
+        ensures ok { OnOk result (self.new.net.now ≡ record self.old.net.now { held = self.old.net.now.held ++ (dpid, packet) ∷ [] }) }
+        ensures err { OnErr result (self.new.net.now ≡ self.old.net.now) }
+    {
+        self.net.hold(dpid, packet)
+    }
+
+    /// Closes the transaction: its changes stay, and the packets that were held are released in order, each with a
+    /// barrier behind it; what comes meanwhile joins the queue as events. Answers each packet's switch and how many bytes
+    /// it has.
     pub fn commit<W: World>(
         self,
-        _world: &mut W,
-        _queue: &mut EventQueue,
+        world: &mut W,
+        queue: &mut EventQueue,
     ) -> Result<Vec<(Dpid, u32)>, TxnFault>
-        ensures released { IfOk result (λ sent. sent.items ≡ []) }
-        ensures fault { IfErr result (λ fault. fault ≡ NoMemory) }
-
-        // While nothing is held back, nothing can fail.
-        ensures answers { IsOk result }
-        ensures net { self.exit.0.now ≡ record self.entry.net.now { log = take self.entry.start self.entry.net.now.log } }
-        ensures world { W.seen _world.new ≡ W.seen _world.old }
-        ensures queue { _queue.new ≡ _queue.old }
+        requires { 1 ≤ self.net.now.room }
+        ensures { MatchResult result
+            (λ sent. Commits W.Tells self.entry.start (W.seen world.old) (W.seen world.new) self.entry.net.now self.exit.0.now queue.old queue.new (Ok sent.items))
+            (λ fault. Commits W.Tells self.entry.start (W.seen world.old) (W.seen world.new) self.entry.net.now self.exit.0.now queue.old queue.new (Err fault)) }
     {
         let Txn { net, start } = self;
-        net.forget(start);
-        Ok(net.none_released())
+        net.release_from(world, queue, start)
     }
 
     /// Closes the transaction: its changes are undone, newest first, and leave the log and the views. It goes on past the

@@ -9,7 +9,7 @@ use Rattle.outside.specs.Conforming.{Conforming}
 use Rattle.outside.specs.State.{state, switch_of}
 use Rattle.switch_laws.specs.Orderly.{OrderlySince}
 use Rattle.batch_laws.specs.Calm.{Calm}
-use Rattle.lego_model.specs.History.{starts_in, replies_in, own_acts, given_in, stimuli_in}
+use Rattle.lego_model.specs.History.{starts_in, replies_in, own_acts, given_in, stimuli_in, released_of}
 use Rattle.lego_model.specs.AtOnce.{AtOnce}
 use Rattle.run_laws.specs.Engine.{Engine}
 use Rattle.lego_model.specs.Application.{index}
@@ -43,6 +43,7 @@ pub record Leaves {Own : Type 0} (last new : Seen Own) : Type 0 where
   pub replies : replies_in (own_acts new) ≡ replies_in (own_acts last)
   pub inputs : given_in new ≡ given_in last
   pub stimuli : stimuli_in new ≡ stimuli_in last
+  pub released : released_of new ≡ released_of last
   pub marks : (state new).marks ≡ (state last).marks
   pub switches : (d : ℕ) → switch_of d (state new) ≡ switch_of d (state last)
   pub at_once : AtOnce index (journal last.history) → AtOnce index (journal new.history)

@@ -11,7 +11,7 @@ use Rattle.journal_laws.specs.Readings.{LastStands}
 use Rattle.switch_laws.specs.Shown.{shown_places}
 use Rattle.batch_laws.specs.Calm.{Calm}
 use Rattle.lego_model.specs.Application.{budget}
-use Rattle.lego_model.specs.History.{own_acts, given_in, points_in}
+use Rattle.lego_model.specs.History.{own_acts, given_in, released_of, points_in}
 
 -- ---- What the engine keeps of a run
 
@@ -51,6 +51,7 @@ pub record Stands {Own : Type 0} (seen : Seen Own) (e : Engine) (starts : List S
   pub queue : r.queue ≡ e.queue
   pub events : r.events ≡ e.events
   pub apps : r.apps ≡ app_at e (given_in seen) starts replies ∷ []
+  pub released : r.released ≡ released_of seen
   pub marks : AgreeMarks (points_in seen) r.marks
   pub life : e.alive ≡ true → LastStands (own_acts seen)
 

@@ -1,6 +1,7 @@
 -- What the engine does at one event: the application, if it is alive, has its turn, whose changes are kept where it was done, with the
--- checkpoint that it handed over, and undone where it failed, after which it is started again at its kept checkpoint. All of this is our own.
-use Rattle.std.specs.Prelude.{◌≡◌, ℕ, ◌+◌, Bool, true, false, List, [], ◌++◌, length, take, Option, Ok, is_some, unwrap_or}
+-- checkpoint that it handed over and the packets that it held released, and undone where it failed, after which it is started again at its
+-- kept checkpoint. All of this is our own.
+use Rattle.std.specs.Prelude.{◌≡◌, ℕ, ◌+◌, Bool, true, false, List, [], ◌++◌, length, Option, Ok, is_some, unwrap_or}
 use Rattle.std.specs.List.{flat_map}
 use Rattle.flow_table.specs.declared.view.TableView.{TableView}
 use Rattle.app_frames.specs.declared.frame.Event.{Event}
@@ -9,10 +10,11 @@ use Rattle.app_frames.specs.declared.cause.Tried.{Tried}
 use Rattle.lego_model.specs.declared.turn.TurnWord.{TurnWord}
 use Rattle.lego_model.specs.declared.turn.TurnWord.TheVariants as words
 use Rattle.lego_model.specs.Controller.{event_frame}
-use Rattle.lego_model.specs.RunReport.{event_line, turn_line, start_line, gone_line}
+use Rattle.lego_model.specs.RunReport.{event_line, turn_line, out_line, start_line, gone_line}
 use Rattle.outside.specs.Seen.{Seen}
 use Rattle.net_txn.specs.Net.{NetState}
 use Rattle.net_txn.specs.Undos.{Undoes}
+use Rattle.net_txn.specs.Releases.{Commits}
 use Rattle.app_visor.specs.declared.state.TurnEnd.{TurnEnd}
 use Rattle.app_visor.specs.declared.state.TurnEnd.TheVariants as ends
 use Rattle.app_visor.specs.Turns.{handed, Turns}
@@ -45,11 +47,19 @@ turn_word (ends.Done true) = words.Stop
 turn_word (ends.Done false) = words.Done
 turn_word (ends.Failed cause) = words.Failed cause
 
--- what it did stays, and the checkpoint that it handed over is the kept one
-pub record StaysDone {Own : Type 0} (checkpoint : Option (List ℕ)) (unread : List ℕ) (stop : Bool) (text : List ℕ) (start : ℕ) (mid new : Seen Own) (mid_net : NetState) (e now_e : Engine) : Type 0 where
-  pub seen : new ≡ mid
-  pub engine : now_e ≡ record e { net = record mid_net { log = take start mid_net.log }; rest = unread; kept = unwrap_or checkpoint e.kept; done = e.done + 1 }
-  pub text_so : text ≡ turn_line name (turn_word (ends.Done stop))
+-- the lines of packets that were released, each with its switch and how many bytes it has
+abbrev pub out_text : List (ℕ × ℕ) → List ℕ
+out_text sent = flat_map (λ p. out_line p.0 p.1) sent
+
+-- What it did stays, the packets that it held are released, with what switches sent then behind the events that wait, and the checkpoint that
+-- it handed over is the kept one.
+pub record StaysDone {Own : Type 0} (Tells : Type 0) (checkpoint : Option (List ℕ)) (unread : List ℕ) (stop : Bool) (text : List ℕ) (start : ℕ) (mid new : Seen Own) (mid_net : NetState) (e now_e : Engine) : Type 0 where
+  pub net : NetState
+  pub queue : List Event
+  pub sent : List (ℕ × ℕ)
+  pub commits : Commits Tells start mid new mid_net net e.queue queue (Ok sent)
+  pub engine : now_e ≡ record e { net = net; queue = queue; rest = unread; kept = unwrap_or checkpoint e.kept; done = e.done + 1 }
+  pub text_so : text ≡ turn_line name (turn_word (ends.Done stop)) ++ out_text sent
 
 -- it was undone, and the application started again
 pub record IsUndone {Own : Type 0} (Tells : Type 0) (cause : Cause) (text : List ℕ) (start : ℕ) (mid new : Seen Own) (mid_net : NetState) (e now_e : Engine) : Type 0 where
@@ -61,7 +71,7 @@ pub record IsUndone {Own : Type 0} (Tells : Type 0) (cause : Cause) (text : List
   pub text_so : text ≡ turn_line name (words.Failed cause) ++ later_text
 
 abbrev pub IsClosed : {Own : Type 0} → Type 0 → TurnEnd → Option (List ℕ) → List ℕ → List ℕ → ℕ → Seen Own → Seen Own → NetState → Engine → Engine → Type 0
-IsClosed Tells (ends.Done stop) checkpoint unread text start mid new mid_net e now_e = StaysDone checkpoint unread stop text start mid new mid_net e now_e
+IsClosed Tells (ends.Done stop) checkpoint unread text start mid new mid_net e now_e = StaysDone Tells checkpoint unread stop text start mid new mid_net e now_e
 IsClosed Tells (ends.Failed cause) checkpoint unread text start mid new mid_net e now_e = IsUndone Tells cause text start mid new mid_net e now_e
 
 -- ---- A turn, from its event on; it has the number of the event

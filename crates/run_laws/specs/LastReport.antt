@@ -13,7 +13,7 @@ use Rattle.switch_laws.specs.Orderly.{OrderlySince}
 use Rattle.switch_laws.specs.Shown.{shown_switch, shown_places}
 use Rattle.run_laws.specs.Engine.{Engine}
 use Rattle.lego_model.specs.Application.{index, names, name}
-use Rattle.lego_model.specs.History.{own_acts, given_in, stimuli_in}
+use Rattle.lego_model.specs.History.{own_acts, given_in, stimuli_in, released_of}
 use Rattle.flow_table.specs.Switch.{SwitchState}
 use Rattle.lego_model.specs.Answers.{rows_of_table, rows_of_view}
 
@@ -55,13 +55,14 @@ last_text seen e = flat_map (λ p. switch_text p.switch) (shown_places seen.give
 abbrev pub last_lines : Run → List ℕ
 last_lines r = flat_map (λ p. switch_text p.switch) r.places ++ apps_text names r.apps ++ end_line r.moment r.events
 
--- ---- What it leaves: switches were asked, which tells nothing of an application and is no stimulus
+-- ---- What it leaves: switches were asked, which tells nothing of an application, is no stimulus and releases nothing
 
 pub record OnlyAsked {Own : Type 0} (old new : Seen Own) : Type 0 where
   pub given : new.given ≡ old.given
   pub acts : own_acts new ≡ own_acts old
   pub inputs : given_in new ≡ given_in old
   pub stimuli : stimuli_in new ≡ stimuli_in old
+  pub released : released_of new ≡ released_of old
   pub marks : (state new).marks ≡ (state old).marks
   pub at_once : AtOnce index (journal old.history) → AtOnce index (journal new.history)
   pub orderly : OrderlySince index old new

@@ -7,7 +7,7 @@ use Rattle.outside.specs.declared.step.WorldStep.{WorldStep}
 use Rattle.outside.specs.Seen.{journal, Seen}
 use Rattle.outside.specs.State.{State, event_number, after_step}
 use Rattle.app_visor.specs.Talks.{step_of}
-use Rattle.lego_model.specs.History.{own_acts, given_in, stimuli_in}
+use Rattle.lego_model.specs.History.{own_acts, given_in, stimuli_in, released_of}
 
 -- all but the switches stands as it stood
 pub record OnlyLinks (s t : State) : Type 0 where
@@ -58,7 +58,8 @@ pub record TriesKeep (s t : State) : Type 0 where
   pub rests : Rests s t
   pub marks : t.marks ≡ s.marks
 
--- what the application was given more, and no stimulus
+-- what the application was given more, and that no stimulus came and no packet was released
 pub record TellsGiven {Own : Type 0} (old new : Seen Own) (frames : List (List ℕ)) : Type 0 where
   pub given : given_in new ≡ given_in old ++ frames
   pub stims : stimuli_in new ≡ stimuli_in old
+  pub released : released_of new ≡ released_of old

@@ -3,8 +3,9 @@ use Rattle.std.specs.Prelude.{ℕ, ◌+◌, List, [], ◌∷◌, ◌++◌, drop}
 use Rattle.app_frames.specs.declared.frame.Event.{Event}
 use Rattle.lego_model.specs.Journal.{Reply}
 use Rattle.lego_model.specs.Places.{Place}
+use Rattle.lego_model.specs.Packets.{Play}
 use Rattle.lego_model.specs.Turns.{Played}
-use Rattle.lego_model.specs.Controller.{App, Dispatched, Ended, Run, Turned, event_frame, given_in, after_outcome, places_by, restart_lines, marked}
+use Rattle.lego_model.specs.Controller.{App, Dispatched, Ended, Run, Turned, event_frame, given_in, after_outcome, release_by, out_lines, restart_lines, marked}
 
 -- the event has its number and its line
 abbrev pub numbered : Event → Run → Run
@@ -13,9 +14,11 @@ numbered event r = record r { events = r.events + 1; lines = r.lines ++ Dispatch
 -- the run behind a turn of the application
 abbrev pub after_turn : Turned → Run → Run
 after_turn t r = record r {
-  places = t.places;
+  places = t.release.places;
+  queue = r.queue ++ t.release.events;
   apps = t.app.0 ∷ [];
-  lines = r.lines ++ Ended 0 t.outcome ∷ restart_lines 0 t.outcome t.app;
+  lines = r.lines ++ Ended 0 t.outcome ∷ out_lines t.release.packets ++ restart_lines 0 t.outcome t.app;
+  released = r.released ++ t.release.packets;
   marks = marked t.given r.events r.places r.marks;
 }
 
@@ -26,9 +29,9 @@ without_turn a r = record r { apps = a ∷ [] }
 abbrev pub after_given : App → Reply → List (List ℕ) → App
 after_given a reply given = record a { replies = drop 1 a.replies; inputs = a.inputs ++ given }
 
-abbrev pub turned_by : (number moment : ℕ) → Event → List Place → App → Reply → Played (List Place) → Turned
+abbrev pub turned_by : (number moment : ℕ) → Event → List Place → App → Reply → Played Play → Turned
 turned_by number moment event ps a reply played = record {
-  places = places_by played.outcome ps played.state;
+  release = release_by played.outcome ps played.state;
   app = after_outcome played.outcome (after_given a reply (given_in reply.given (event_frame number moment event) played.answers));
   outcome = played.outcome;
   given = reply.given;

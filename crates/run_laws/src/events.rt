@@ -14,7 +14,7 @@ ghost use Rattle.run_laws.specs.Facts.{StartsAgain, TakesTurn, Dispatches};
 ghost use Rattle.run_laws.specs.Moves.{Moves};
 ghost use Rattle.lego_model.specs.ReferenceRun.{dispatch_next};
 ghost use Rattle.run_laws.specs.Readings.{AreRead, JudgesAlike};
-ghost use Rattle.run_laws.specs.EventMoves.{StartsAlike, TurnMoves};
+ghost use Rattle.run_laws.specs.EventMoves.{Joins, StartsAlike, TurnMoves};
 
 use outside::World;
 
@@ -25,7 +25,7 @@ pub fn starts_move<W: World>()
 {}
 
 /// In a world that keeps its word the turn of the engine leaves what that of the reference controller leaves, whether it was
-/// done, or failed and was undone, and the application started again.
+/// done and its packets released, or failed and was undone, and the application started again.
 pub fn turns_move<W: World>()
     ensures { (accepts : List TableView → Bool) (allows : List Place → Bool) (event : Event) (text : List ℕ) (old new : Seen W.Own) (e now_e : Engine)
         → W.Tells → Conforming new → JudgesAlike W.Own allows accepts → AreRead W.Own W.Tells accepts → e.events < 2 ^ 64 → LastStands (own_acts old)
@@ -34,7 +34,7 @@ pub fn turns_move<W: World>()
 
 /// In a world that keeps its word: what the engine does at an event is what the reference controller does at it, and so it is
 /// with the oldest event that waits. Where the application is alive then, its last start stands; one event more was
-/// dispatched, and those that wait stay.
+/// dispatched, and those that wait stay, in front of those that join them.
 pub fn events_move<W: World>()
     ensures dispatched { (accepts : List TableView → Bool) (allows : List Place → Bool) (event : Event) (text : List ℕ) (old new : Seen W.Own) (e now_e : Engine)
         → W.Tells → Conforming new → Continues W.Tells old new → JudgesAlike W.Own allows accepts → AreRead W.Own W.Tells accepts → e.events + 1 < 2 ^ 64
@@ -45,7 +45,7 @@ pub fn events_move<W: World>()
         → (e.alive ≡ true → LastStands (own_acts old)) → Dispatches W.Tells accepts event text old new e now_e
         → now_e.alive ≡ true → LastStands (own_acts new) }
     ensures counted { (accepts : List TableView → Bool) (event : Event) (text : List ℕ) (old new : Seen W.Own) (e now_e : Engine)
-        → Dispatches W.Tells accepts event text old new e now_e → (now_e.events ≡ e.events + 1) × (now_e.queue ≡ e.queue) }
+        → Dispatches W.Tells accepts event text old new e now_e → (now_e.events ≡ e.events + 1) × Joins e.queue now_e.queue }
     ensures next { (allows : List Place → Bool) (event : Event) (queue : List Event) (text : List ℕ) (old new : Seen W.Own) (e now_e : Engine)
         → e.queue ≡ event ∷ queue → Moves [] (dispatch allows event) text old new (record e { queue = queue }) now_e
         → Moves [] (dispatch_next allows) text old new e now_e }

@@ -5,4 +5,5 @@ pub mod Orderly
 pub mod Asked
 pub mod Clock
 pub mod Standing
+pub mod Released
 pub mod laws

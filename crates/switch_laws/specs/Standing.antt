@@ -1,8 +1,9 @@
 -- What calls leave of switches. All of this is our own.
-use Rattle.std.specs.Prelude.{◌≡◌, List, Option, Some, None}
+use Rattle.std.specs.Prelude.{◌≡◌, ℕ, List, map, Option, Some, None}
 use Rattle.std.specs.List.{AllByRecursion}
-use Rattle.flow_table.specs.Switch.{Declared, SwitchState}
+use Rattle.flow_table.specs.Switch.{Declared, SwitchState, port_desc}
 use Rattle.undo_laws.specs.Serials.{IsSerialed}
+use Rattle.lego_model.specs.Answers.{rows_of_table}
 use Rattle.outside.specs.State.{Link, declared_in}
 
 abbrev pub Serialed : SwitchState → Type 0
@@ -24,3 +25,9 @@ Tables ls = AllByRecursion (λ l. SerialedIn l.switch) ls
 pub record AreLinks (declared : List Declared) (ls : List Link) : Type 0 where
   pub declared_so : declared_in ls ≡ declared
   pub tables : Tables ls
+
+-- It is the declared switch that it was, keeps the keys and actions of its table, and describes its ports as before.
+pub record FaceKept (before now : SwitchState) : Type 0 where
+  pub declared : now.declared ≡ before.declared
+  pub ports : (n : ℕ) → map (port_desc n) now.ports ≡ map (port_desc n) before.ports
+  pub rows : rows_of_table now.table.entries ≡ rows_of_table before.table.entries

@@ -8,8 +8,10 @@ pub mod ViewLaws
 pub mod AbsentLaws
 pub mod SinceLaws
 pub mod ShownUndoLaws
+pub mod FaceLaws
 pub mod SoundLaws
 pub mod SoundStepLaws
 pub mod ClockLaws
 pub mod OrderlyLaws
 pub mod FaultLaws
+pub mod ReleaseLaws

@@ -45,15 +45,16 @@ stats_decided : (first : Option OfError) → (error : OfError) × (or_else first
 stats_decided None = (bad_type, refl)
 stats_decided (Some error) = (error, refl)
 
-barrier_decided : (rows : Rows) (refusal : Option OfError) → host_refusal rows messages.BarrierRequest ≡ refusal → Decides rows messages.BarrierRequest
-barrier_decided rows None is = inl (Fine, (rw is refl, tt))
-barrier_decided rows (Some error) is = inl (Error error, (rw is refl, tt))
+-- a barrier, and a packet: it is fine where nothing stands against it
+fine_decided : (rows : Rows) (message : Message) (refusal : Option OfError) → host_answer_to rows message ≡ Some Fine → host_refusal rows message ≡ refusal → Decides rows message
+fine_decided rows message None fine is = inl (Fine, (rw (is, fine) refl, tt))
+fine_decided rows message (Some error) fine is = inl (Error error, (rw is refl, tt))
 
 decides : (rows : Rows) (message : Message) → Decides rows message
 unfolding host_refusal
 decides rows (messages.FlowMod m) = inr (m, refl)
 decides rows (messages.StatsRequest m) = let d = stats_decided (stats_refusal m) in refused rows (messages.StatsRequest m) (or_else (stats_refusal m) (Some bad_type)) d.0 refl d.1
-decides rows messages.BarrierRequest = barrier_decided rows (host_refusal rows messages.BarrierRequest) refl
+decides rows messages.BarrierRequest = fine_decided rows messages.BarrierRequest (host_refusal rows messages.BarrierRequest) refl refl
 decides rows (messages.Hello payload) = refused rows (messages.Hello payload) (Some bad_type) bad_type refl refl
 decides rows (messages.Error kind code payload) = refused rows (messages.Error kind code payload) (Some bad_type) bad_type refl refl
 decides rows (messages.EchoRequest payload) = refused rows (messages.EchoRequest payload) (Some bad_type) bad_type refl refl
@@ -67,7 +68,7 @@ decides rows (messages.SetConfig m) = refused rows (messages.SetConfig m) (Some 
 decides rows (messages.PacketIn m) = refused rows (messages.PacketIn m) (Some bad_type) bad_type refl refl
 decides rows (messages.FlowRemoved m) = refused rows (messages.FlowRemoved m) (Some bad_type) bad_type refl refl
 decides rows (messages.PortStatus m) = refused rows (messages.PortStatus m) (Some bad_type) bad_type refl refl
-decides rows (messages.PacketOut m) = refused rows (messages.PacketOut m) (Some bad_type) bad_type refl refl
+decides rows (messages.PacketOut m) = fine_decided rows (messages.PacketOut m) (host_refusal rows (messages.PacketOut m)) refl refl
 decides rows (messages.PortMod m) = refused rows (messages.PortMod m) (Some bad_type) bad_type refl refl
 decides rows (messages.StatsReply m) = refused rows (messages.StatsReply m) (Some bad_type) bad_type refl refl
 decides rows messages.BarrierReply = refused rows messages.BarrierReply (Some bad_type) bad_type refl refl

@@ -118,7 +118,7 @@ record IsAnswered {Own : Type 0} (app : ℕ) (since : List Act) (x : Exchange Ow
   others : acts_of app steps ≡ []
   at_once : AnsweredAtOnce x.dpid x.bytes x.answer (since ++ journal steps)
 
-host_answered : {Own : Type 0} (app : ℕ) (since : List Act) (x : Exchange Own) (answer : Answer) → answer_of_host x.dpid x.bytes x.net ≡ Some answer → ByHost answer x.before x.after x.net x.now_net (Ok x.answer) → SendsNone since → IsAnswered app since x
+host_answered : {Own : Type 0} (app : ℕ) (since : List Act) (x : Exchange Own) (answer : Answer) → answer_of_host x.dpid x.bytes x.net ≡ Some answer → ByHost x.dpid x.bytes answer x.before x.after x.net x.now_net (Ok x.answer) → SendsNone since → IsAnswered app since x
 unfolding journal
 host_answered app since x answer is by none = record {
   steps = [];

@@ -1,16 +1,13 @@
 -- What the engine knows after a frame, counts, or bytes of a switch's own: nothing but more events that wait, as the switch keeps its rows
 -- and what its ports are described as.
-use Rattle.std.proofs.Common.{◌≡◌, ◌==◌, ◌⊎◌, ℕ, zero, suc, Bool, not, ◌&&◌, List, [], ◌∷◌, ◌++◌, length, get_or, set, map, nat_lt, Option, Some, None, Result, Ok, Err, if◌then◌else◌, refl, sym, ap, ap₂, ◌∙◌, subst, inl, inr}
+use Rattle.std.proofs.Common.{◌≡◌, ◌==◌, ◌⊎◌, ℕ, List, [], ◌∷◌, ◌++◌, length, map, nat_lt, Option, Some, None, Result, Ok, Err, refl, sym, ap, ◌∙◌, subst, inl, inr}
 use Rattle.std.proofs.lemmas.Bool.{cases_Bool}
-use Rattle.std.proofs.lemmas.List.{get_or_default}
 use Rattle.std.specs.Prelude.{IsTrue}
 use Rattle.std.specs.List.{flat_map}
 use Rattle.of_types.specs.Fields.{number_at, number_bytes}
 use Rattle.of_types.specs.declared.port_desc.PortDesc.{PortDesc}
 use Rattle.of_types.specs.declared.journal.Stimulus.{Stimulus}
 use Rattle.of_types.specs.declared.journal.Stimulus.TheVariants.{Frame, Counts, Raw}
-use Rattle.of_match.specs.declared.packet_key.PacketKey.{PacketKey}
-use Rattle.eth_key.specs.PacketFields.{key_of}
 use Rattle.of_wire.specs.declared.kind.MessageKind.TheVariants as wire
 use Rattle.of_wire.specs.declared.bodies.PacketIn.{PacketIn as PacketInBody}
 use Rattle.of_wire.specs.declared.message.Message.{Message}
@@ -24,10 +21,9 @@ use Rattle.of_wire.specs.Reading.{has_length, front_of, body_of, reading_of}
 use Rattle.flow_table.specs.declared.entry.Entry.{Entry}
 use Rattle.flow_table.specs.declared.view.ViewRow.{ViewRow}
 use Rattle.flow_table.specs.Table.{IsTable}
-use Rattle.flow_table.specs.Hit.{best, counted, hit, with_counts}
-use Rattle.flow_table.specs.laws.HitLaws.{Contains-best, hit-set}
-use Rattle.flow_table.specs.Switch.{Declared, PortState, SwitchState, controller_number, is_down, has_no_fwd, port_at, port_desc}
-use Rattle.flow_table.specs.Frames.{packet_in, goes_out_by, after_frame_out, ports_after_output, after_output, sent_by_output, after_outputs, sent_by_outputs, hit_outputs, entry_hit, after_counts, after_lookup, is_silent, sent_by_miss, sent_by_hit, sent_by_lookup, takes, after_frame_in, after_arrival, after_frame, sent_by_frame}
+use Rattle.flow_table.specs.Hit.{with_counts}
+use Rattle.flow_table.specs.Switch.{Declared, PortState, SwitchState, controller_number, port_at, port_desc}
+use Rattle.flow_table.specs.Frames.{packet_in, sent_by_output, sent_by_outputs, entry_hit, is_silent, sent_by_miss, sent_by_hit, sent_by_lookup, takes, sent_by_frame}
 use Rattle.flow_table.specs.Step.{after_stimulus, sent_by_stimulus}
 use Rattle.undo_laws.specs.Owned.{IsNoMoment}
 use Rattle.undo_laws.specs.laws.OwnedLaws.{stimulus-owned, sent-owned}
@@ -36,9 +32,11 @@ use Rattle.lego_model.specs.Controller.{events_of}
 use Rattle.outside.specs.Conforming.{may_be_raw}
 use Rattle.outside.specs.declared.step.WorldStep.TheVariants.{From}
 use Rattle.switch_laws.specs.Shown.{flags_in}
+use Rattle.switch_laws.specs.Standing.{FaceKept}
+use Rattle.switch_laws.specs.laws.FaceLaws.{face-same, face-frame}
 use Rattle.batch_laws.specs.Knowledge.{Knowledge, handled_all}
 use Rattle.batch_laws.specs.laws.TellLaws.{is-known, plain-handled, view-kept}
-use Rattle.batch_laws.specs.Tells.{FitsRead, IsPlainRead, PlainBytes, AllPlain, SwitchHandled, SwitchKnown, FaceKept}
+use Rattle.batch_laws.specs.Tells.{FitsRead, IsPlainRead, PlainBytes, AllPlain, SwitchHandled, SwitchKnown}
 
 -- ---- A PACKET_IN is plain
 
@@ -139,71 +137,7 @@ raw-plain : (r : Result Envelope WireFault) → IsTrue (may_be_raw r) → IsPlai
 raw-plain (Ok e) h = unasked-plain e.message h
 raw-plain (Err fault) h = tt
 
--- ---- The switch keeps its rows and what its ports are described as
-
-face-same : (s : SwitchState) → FaceKept s s
-face-same s = record { declared = refl; ports = λ n. refl; rows = refl }
-
-face-then : (a b c : SwitchState) → FaceKept a b → FaceKept b c → FaceKept a c
-face-then a b c first second = record { declared = second.declared ∙ first.declared; ports = λ n. second.ports n ∙ first.ports n; rows = second.rows ∙ first.rows }
-
-record SameDesc (g : PortState → PortState) : Type 0 where
-  desc : (n : ℕ) (p : PortState) → port_desc n (g p) ≡ port_desc n p
-
-desc-map : (g : PortState → PortState) → SameDesc g → (n : ℕ) (ps : List PortState) → map (port_desc n) (map g ps) ≡ map (port_desc n) ps
-desc-map g same n [] = refl
-desc-map g same n (p ∷ ps) = ap₂ (λ (x : PortDesc) xs. x ∷ xs) (same.desc n p) (desc-map g same n ps)
-
-desc-some : (test : PortState → Bool) (g : PortState → PortState) → SameDesc g → SameDesc (λ p. if test p then g p else p)
-desc-some test g same = record { desc = λ n p. elim (cases_Bool (test p)) [ inl passes ↦ rw passes (same.desc n p) | inr fails ↦ rw fails refl ] }
-
-abbrev pub goes : PortState → Bool
-goes p = p.link && not (is_down p) && not (has_no_fwd p)
-
-desc-frame_out : (len : ℕ) → SameDesc (after_frame_out len)
-unfolding after_frame_out
-desc-frame_out len = record { desc = λ n p. elim (cases_Bool (goes p)) [ inl sent ↦ rw sent refl | inr dropped ↦ rw dropped refl ] }
-
-desc-frame_in : (len : ℕ) → SameDesc (after_frame_in len)
-desc-frame_in len = record { desc = λ n p. refl }
-
-face-ports : (g : PortState → PortState) → SameDesc g → (s : SwitchState) → FaceKept s (record s { ports = map g s.ports })
-face-ports g same s = record { declared = refl; ports = λ n. desc-map g same n s.ports; rows = refl }
-
-face-output : (in_port : ℕ) (out : ℕ × List ℕ) (s : SwitchState) → FaceKept s (after_output in_port out s)
-unfolding ports_after_output
-face-output in_port out s = face-ports (λ p. if goes_out_by in_port out.0 p then after_frame_out (length out.1) p else p) (desc-some (goes_out_by in_port out.0) (after_frame_out (length out.1)) (desc-frame_out (length out.1))) s
-
-face-outputs : (in_port : ℕ) (outs : List (ℕ × List ℕ)) (s : SwitchState) → FaceKept s (after_outputs in_port outs s)
-unfolding after_outputs
-face-outputs in_port [] s = face-same s
-face-outputs in_port (out ∷ outs) s =
-    let next = after_output in_port out s in
-    face-then s next (after_outputs in_port outs next) (face-output in_port out s) (face-outputs in_port outs next)
-
-rows-set : (es : List Entry) (i : ℕ) (e : Entry) → (get_or es i e).key ≡ e.key → (get_or es i e).actions ≡ e.actions → rows_of_table (set es i e) ≡ rows_of_table es
-rows-set [] i e key actions = refl
-rows-set (f ∷ fs) zero e key actions = ap₂ (λ k a. (k, a) ∷ rows_of_table fs) (sym key) (sym actions)
-rows-set (f ∷ fs) (suc i) e key actions = ap (λ rs. (f.key, f.actions) ∷ rs) (rows-set fs i e key actions)
-
-cases_Option : (o : Option Entry) → (o ≡ None) ⊎ ((e : Entry) × (o ≡ Some e))
-cases_Option None = inl refl
-cases_Option (Some e) = inr (e, refl)
-
-hit-none : (k : PacketKey) (len now : ℕ) (es : List Entry) → best k es ≡ None → hit k len now es ≡ es
-unfolding hit
-hit-none k len now es none = rw none refl
-
-rows-hit : (k : PacketKey) (len now : ℕ) (es : List Entry) → IsTable es → rows_of_table (hit k len now es) ≡ rows_of_table es
-rows-hit k len now es is =
-    elim (cases_Option (best k es)) [
-      | inl none ↦ ap rows_of_table (hit-none k len now es none)
-      | inr (e, found) ↦
-          let (i, within, here) = Contains-best k es e found in
-          let c : Entry = counted len now e in
-          let there : get_or es i c ≡ e = get_or_default es i c e within ∙ here in
-          ap rows_of_table (hit-set k len now es i e is found within here) ∙ rows-set es i c (ap (λ x. x.key) there) (ap (λ x. x.actions) there)
-    ]
+-- ---- Counts keep the rows
 
 rows-counts : (priority packets bytes : ℕ) (es : List Entry) → rows_of_table (with_counts priority packets bytes es) ≡ rows_of_table es
 unfolding with_counts
@@ -213,27 +147,6 @@ rows-counts priority packets bytes (e ∷ es) =
     elim (cases_Bool (e.key.priority == priority)) [
       | inl same ↦ rw same (ap (λ rs. (e.key, e.actions) ∷ rs) rest)
       | inr other ↦ rw other (ap (λ rs. (e.key, e.actions) ∷ rs) rest)
-    ]
-
-face-lookup : (in_port : ℕ) (frame : List ℕ) (s : SwitchState) → IsTable s.table.entries → FaceKept s (after_lookup in_port frame s)
-unfolding after_lookup after_counts
-face-lookup in_port frame s is =
-    let counts = after_counts in_port frame s in
-    face-then s counts (after_lookup in_port frame s)
-    (record { declared = refl; ports = λ n. refl; rows = rows-hit (key_of in_port frame) (length frame) s.moment s.table.entries is })
-    (face-outputs in_port (hit_outputs (entry_hit in_port frame s) frame) counts)
-
-face-frame : (port : ℕ) (bytes : List ℕ) (s : SwitchState) → IsTable s.table.entries → FaceKept s (after_frame port bytes s)
-unfolding after_frame
-face-frame port bytes s is =
-    elim (cases_Bool (takes (port_at port s.ports))) [
-      | inl taken ↦
-          let arrived : SwitchState = after_arrival port bytes s in
-          rw taken
-          (face-then s arrived (after_lookup port bytes arrived)
-          (face-ports (λ p. if p.number == port then after_frame_in (length bytes) p else p) (desc-some (λ p. p.number == port) (after_frame_in (length bytes)) (desc-frame_in (length bytes))) s)
-          (face-lookup port bytes arrived is))
-      | inr dropped ↦ rw dropped (face-same s)
     ]
 
 -- ---- The whole

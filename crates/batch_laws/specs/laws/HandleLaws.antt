@@ -32,31 +32,32 @@ record NetAfter (d : ℕ) (m : Message) (net now_net : NetState) : Type 0 where
   moment : now_net.moment ≡ net.moment
   log : now_net.log ≡ net.log
   room : now_net.room ≡ net.room
+  held : now_net.held ≡ net.held
   kept : now_net.kept ≡ net.kept
 
 net_is : (d : ℕ) (m : Message) (net : NetState) → NetAfter d m net (net_after d m net)
-net_is d (Hello payload) net = record { views = refl; ports = refl; moment = refl; log = refl; room = refl; kept = refl }
-net_is d (Error kind code payload) net = record { views = refl; ports = refl; moment = refl; log = refl; room = refl; kept = refl }
-net_is d (EchoRequest payload) net = record { views = refl; ports = refl; moment = refl; log = refl; room = refl; kept = refl }
-net_is d (EchoReply payload) net = record { views = refl; ports = refl; moment = refl; log = refl; room = refl; kept = refl }
-net_is d (Vendor payload) net = record { views = refl; ports = refl; moment = refl; log = refl; room = refl; kept = refl }
-net_is d FeaturesRequest net = record { views = refl; ports = refl; moment = refl; log = refl; room = refl; kept = refl }
-net_is d (FeaturesReply features) net = record { views = refl; ports = refl; moment = refl; log = refl; room = refl; kept = refl }
-net_is d GetConfigRequest net = record { views = refl; ports = refl; moment = refl; log = refl; room = refl; kept = refl }
-net_is d (GetConfigReply config) net = record { views = refl; ports = refl; moment = refl; log = refl; room = refl; kept = refl }
-net_is d (SetConfig config) net = record { views = refl; ports = refl; moment = refl; log = refl; room = refl; kept = refl }
-net_is d (PacketIn packet) net = record { views = refl; ports = refl; moment = refl; log = refl; room = refl; kept = refl }
-net_is d (FlowRemoved flow) net = record { views = refl; ports = refl; moment = refl; log = refl; room = refl; kept = refl }
-net_is d (PortStatus status) net = record { views = refl; ports = refl; moment = refl; log = refl; room = refl; kept = refl }
-net_is d (PacketOut packet) net = record { views = refl; ports = refl; moment = refl; log = refl; room = refl; kept = refl }
-net_is d (FlowMod flow) net = record { views = refl; ports = refl; moment = refl; log = refl; room = refl; kept = refl }
-net_is d (PortMod change) net = record { views = refl; ports = refl; moment = refl; log = refl; room = refl; kept = refl }
-net_is d (StatsRequest stats) net = record { views = refl; ports = refl; moment = refl; log = refl; room = refl; kept = refl }
-net_is d (StatsReply stats) net = record { views = refl; ports = refl; moment = refl; log = refl; room = refl; kept = refl }
-net_is d BarrierRequest net = record { views = refl; ports = refl; moment = refl; log = refl; room = refl; kept = refl }
-net_is d BarrierReply net = record { views = refl; ports = refl; moment = refl; log = refl; room = refl; kept = refl }
-net_is d (QueueGetConfigRequest payload) net = record { views = refl; ports = refl; moment = refl; log = refl; room = refl; kept = refl }
-net_is d (QueueGetConfigReply payload) net = record { views = refl; ports = refl; moment = refl; log = refl; room = refl; kept = refl }
+net_is d (Hello payload) net = record { views = refl; ports = refl; moment = refl; log = refl; room = refl; held = refl; kept = refl }
+net_is d (Error kind code payload) net = record { views = refl; ports = refl; moment = refl; log = refl; room = refl; held = refl; kept = refl }
+net_is d (EchoRequest payload) net = record { views = refl; ports = refl; moment = refl; log = refl; room = refl; held = refl; kept = refl }
+net_is d (EchoReply payload) net = record { views = refl; ports = refl; moment = refl; log = refl; room = refl; held = refl; kept = refl }
+net_is d (Vendor payload) net = record { views = refl; ports = refl; moment = refl; log = refl; room = refl; held = refl; kept = refl }
+net_is d FeaturesRequest net = record { views = refl; ports = refl; moment = refl; log = refl; room = refl; held = refl; kept = refl }
+net_is d (FeaturesReply features) net = record { views = refl; ports = refl; moment = refl; log = refl; room = refl; held = refl; kept = refl }
+net_is d GetConfigRequest net = record { views = refl; ports = refl; moment = refl; log = refl; room = refl; held = refl; kept = refl }
+net_is d (GetConfigReply config) net = record { views = refl; ports = refl; moment = refl; log = refl; room = refl; held = refl; kept = refl }
+net_is d (SetConfig config) net = record { views = refl; ports = refl; moment = refl; log = refl; room = refl; held = refl; kept = refl }
+net_is d (PacketIn packet) net = record { views = refl; ports = refl; moment = refl; log = refl; room = refl; held = refl; kept = refl }
+net_is d (FlowRemoved flow) net = record { views = refl; ports = refl; moment = refl; log = refl; room = refl; held = refl; kept = refl }
+net_is d (PortStatus status) net = record { views = refl; ports = refl; moment = refl; log = refl; room = refl; held = refl; kept = refl }
+net_is d (PacketOut packet) net = record { views = refl; ports = refl; moment = refl; log = refl; room = refl; held = refl; kept = refl }
+net_is d (FlowMod flow) net = record { views = refl; ports = refl; moment = refl; log = refl; room = refl; held = refl; kept = refl }
+net_is d (PortMod change) net = record { views = refl; ports = refl; moment = refl; log = refl; room = refl; held = refl; kept = refl }
+net_is d (StatsRequest stats) net = record { views = refl; ports = refl; moment = refl; log = refl; room = refl; held = refl; kept = refl }
+net_is d (StatsReply stats) net = record { views = refl; ports = refl; moment = refl; log = refl; room = refl; held = refl; kept = refl }
+net_is d BarrierRequest net = record { views = refl; ports = refl; moment = refl; log = refl; room = refl; held = refl; kept = refl }
+net_is d BarrierReply net = record { views = refl; ports = refl; moment = refl; log = refl; room = refl; held = refl; kept = refl }
+net_is d (QueueGetConfigRequest payload) net = record { views = refl; ports = refl; moment = refl; log = refl; room = refl; held = refl; kept = refl }
+net_is d (QueueGetConfigReply payload) net = record { views = refl; ports = refl; moment = refl; log = refl; room = refl; held = refl; kept = refl }
 
 knows : (net : NetState) (queue : List Event) (k : Knowledge) → net.views ≡ k.views → net.ports ≡ k.ports → net.moment ≡ k.moment → queue ≡ k.queue → knowledge_of net queue ≡ k
 knows net queue k views ports moment waits = rw (views, ports, moment, waits) refl
@@ -80,6 +81,7 @@ becomes {Tells = Tells} {d = d} {bytes = bytes} {old = old} {new = new} {net = n
           ∙ sym (from_known d bytes (knowledge_of net queue) e sees read);
       log = after.log;
       room = after.room;
+      held = after.held;
       does = rw sees (record { fit = fit; read = rw read refl; told = λ told. is.told told ∙ ap (λ (r : Result Envelope WireFault). old.history ++ answers d r) (sym read); kept = after.kept });
     }
 becomes event (Err fault) read known fit continues waits is = absurd is
@@ -96,6 +98,7 @@ from_ignored {Tells = Tells} d bytes seen net queue out =
       knowledge = sym (from_out d bytes (knowledge_of net queue) sees);
       log = refl;
       room = refl;
+      held = refl;
       does = rw sees (record { seen = refl; kept = refl });
     }
 
@@ -118,13 +121,14 @@ left_departs d net now_net queue now_queue event known is after waits =
           ∙ sym (left_known d (knowledge_of net queue) sees);
       log = ap (λ (n : NetState). n.log) after;
       room = ap (λ (n : NetState). n.room) after;
+      held = ap (λ (n : NetState). n.held) after;
       kept = rw sees (ap (λ (n : NetState). n.kept) after);
     }
 
 pub left_ignored : (d : ℕ) (net : NetState) (queue : List Event) → rows_at d net.views ≡ None → Departs d net net queue queue
 left_ignored d net queue out =
     let sees : is_some (rows_at d net.views) ≡ false = none_is (rows_at d net.views) out in
-    record { knowledge = sym (left_out d (knowledge_of net queue) sees); log = refl; room = refl; kept = rw sees refl }
+    record { knowledge = sym (left_out d (knowledge_of net queue) sees); log = refl; room = refl; held = refl; kept = rw sees refl }
 
 departs_does : {Own : Type 0} (d : ℕ) (known : Bool) (seen : Seen Own) (net now_net : NetState) → now_net.kept ≡ kept_left known d net.kept → DoesLeft d known seen seen net now_net
 departs_does d true seen net now_net kept = record { seen = refl; kept = kept }
@@ -136,6 +140,7 @@ departs_handles {Tells = Tells} d seen net now_net queue now_queue departs = rec
   knowledge = departs.knowledge;
   log = departs.log;
   room = departs.room;
+  held = departs.held;
   does = departs_does d (is_some (rows_at d net.views)) seen net now_net departs.kept;
 }
 
@@ -158,6 +163,7 @@ enters_handles d bytes e old new net now_net queue now_queue out read continues 
       knowledge = enters.knowledge ∙ sym (joined_out d bytes (knowledge_of net queue) sees ∙ ap (λ (r : Result Envelope WireFault). joined_read d r (knowledge_of net queue)) read);
       log = enters.log;
       room = enters.room;
+      held = enters.held;
       does = rw (sees, read) enters.takes;
     }
 
@@ -169,6 +175,7 @@ unread_handles {Tells = Tells} d bytes fault seen net queue out read =
       knowledge = sym (joined_out d bytes (knowledge_of net queue) sees ∙ ap (λ (r : Result Envelope WireFault). joined_read d r (knowledge_of net queue)) read);
       log = refl;
       room = refl;
+      held = refl;
       does = rw (sees, read) (record { seen = refl; kept = refl });
     }
 
@@ -180,6 +187,7 @@ joined_ignored {Tells = Tells} d bytes seen net queue known =
       knowledge = sym (joined_known d bytes (knowledge_of net queue) sees);
       log = refl;
       room = refl;
+      held = refl;
       does = rw sees (record { seen = refl; kept = refl });
     }
 
@@ -195,6 +203,7 @@ moment_handles {Tells = Tells} t seen net now_net queue is = subst (λ (n : NetS
   knowledge = sym (moment_so t (knowledge_of net queue));
   log = refl;
   room = refl;
+  held = refl;
   does = record { seen = refl; kept = refl };
 })
 
@@ -203,11 +212,11 @@ unfolding handled
 idle_so k = refl
 
 pub idle_handles : {Own : Type 0} {Tells : Type 0} (seen : Seen Own) (net : NetState) (queue : List Event) → Handles Tells Idle seen seen net net queue queue
-idle_handles {Tells = Tells} seen net queue = record { continues = Continues-refl Tells seen; knowledge = sym (idle_so (knowledge_of net queue)); log = refl; room = refl; does = record { seen = refl; same = refl } }
+idle_handles {Tells = Tells} seen net queue = record { continues = Continues-refl Tells seen; knowledge = sym (idle_so (knowledge_of net queue)); log = refl; room = refl; held = refl; does = record { seen = refl; same = refl } }
 
 pub end_so : (k : Knowledge) → handled End k ≡ k
 unfolding handled
 end_so k = refl
 
 pub end_handles : {Own : Type 0} {Tells : Type 0} (seen : Seen Own) (net : NetState) (queue : List Event) → Handles Tells End seen seen net net queue queue
-end_handles {Tells = Tells} seen net queue = record { continues = Continues-refl Tells seen; knowledge = sym (end_so (knowledge_of net queue)); log = refl; room = refl; does = record { seen = refl; same = refl } }
+end_handles {Tells = Tells} seen net queue = record { continues = Continues-refl Tells seen; knowledge = sym (end_so (knowledge_of net queue)); log = refl; room = refl; held = refl; does = record { seen = refl; same = refl } }

@@ -35,7 +35,7 @@ use Rattle.outside.specs.State.{Link, State, link_at_first, at_first, link_of, s
 use Rattle.outside.specs.Conforming.{ArePortsFrom, MayDeclare, IsStimulus, IsWorldStim, MayAct, MayStep, MaySteps, Conforming}
 use Rattle.switch_laws.specs.laws.StandLaws.{state-links}
 use Rattle.batch_laws.specs.Lasting.{AscendPorts, Lasts, PortWithin, LastsIn, LinkLasts, AllLast}
-use Rattle.batch_laws.specs.laws.FrameTellLaws.{goes}
+use Rattle.switch_laws.specs.laws.FaceLaws.{goes}
 
 -- ---- Ports
 

@@ -31,7 +31,9 @@ use Rattle.outside.specs.Conforming.{MayBegin, IsNext, MayStep, MayAct, Conformi
 use Rattle.net_txn.specs.Net.{NetState}
 use Rattle.switch_laws.specs.Orderly.{OrderlySince}
 use Rattle.lego_model.specs.OrderlySteps.{IsOrderly}
-use Rattle.switch_laws.specs.laws.OrderlyLaws.{orderly-then}
+use Rattle.switch_laws.specs.Released.{released_by}
+use Rattle.lego_model.specs.History.{released_of}
+use Rattle.switch_laws.specs.laws.OrderlyLaws.{released-still, orderly-then}
 use Rattle.batch_laws.specs.Knowledge.{Knowledge, knowledge_of, handled_all}
 use Rattle.batch_laws.specs.Calm.{Calm}
 use Rattle.batch_laws.specs.Batches.{Standing}
@@ -307,27 +309,28 @@ fresh_in {x = x} {first = first} {now = now} d bytes none waits batch is = by ba
 record TellsNone (item : WorldStep) : Type 0 where
   stimuli_so : stimuli (journal (item ∷ [])) ≡ []
   acts : (app : ℕ) → filter (is_of app) (journal (item ∷ [])) ≡ []
+  releases : released_by item ≡ None
   orderly : (app : ℕ) → IsOrderly app item
 
 from_none : (d : ℕ) (bytes : List ℕ) → TellsNone (From d bytes)
 unfolding stimuli journal
-from_none d bytes = record { stimuli_so = refl; acts = λ app. refl; orderly = λ app. tt }
+from_none d bytes = record { stimuli_so = refl; acts = λ app. refl; releases = refl; orderly = λ app. tt }
 
 joined_none : (d : ℕ) (bytes : List ℕ) → TellsNone (Joined d bytes)
 unfolding stimuli journal
-joined_none d bytes = record { stimuli_so = refl; acts = λ app. refl; orderly = λ app. tt }
+joined_none d bytes = record { stimuli_so = refl; acts = λ app. refl; releases = refl; orderly = λ app. tt }
 
 left_none : (d : ℕ) → TellsNone (Left d)
 unfolding stimuli journal
-left_none d = record { stimuli_so = refl; acts = λ app. refl; orderly = λ app. tt }
+left_none d = record { stimuli_so = refl; acts = λ app. refl; releases = refl; orderly = λ app. tt }
 
 moment_none : (t : ℕ) → TellsNone (Moment t)
 unfolding stimuli journal
-moment_none t = record { stimuli_so = refl; acts = λ app. refl; orderly = λ app. tt }
+moment_none t = record { stimuli_so = refl; acts = λ app. refl; releases = refl; orderly = λ app. tt }
 
 idle_none : TellsNone Idle
 unfolding stimuli journal
-idle_none = record { stimuli_so = refl; acts = λ app. refl; orderly = λ app. tt }
+idle_none = record { stimuli_so = refl; acts = λ app. refl; releases = refl; orderly = λ app. tt }
 
 stimuli_later : {Own : Type 0} (old mid : Seen Own) (item : WorldStep) → TellsNone item → mid.history ≡ old.history ++ item ∷ [] → stimuli (journal mid.history) ≡ stimuli (journal old.history)
 stimuli_later old mid item none longer =
@@ -338,6 +341,9 @@ acts_later : {Own : Type 0} (old mid : Seen Own) (item : WorldStep) (app : ℕ) 
 acts_later old mid item app none longer =
     ap (λ (h : List WorldStep). filter (is_of app) (journal h)) longer ∙ ap (filter (is_of app)) (journal-append old.history (item ∷ [])) ∙ filter-append (is_of app) (journal old.history) (journal (item ∷ []))
     ∙ ap (λ (xs : List Act). filter (is_of app) (journal old.history) ++ xs) (none.acts app) ∙ append-nil (filter (is_of app) (journal old.history))
+
+released_later : {Own : Type 0} (old mid : Seen Own) (item : WorldStep) → TellsNone item → mid.history ≡ old.history ++ item ∷ [] → released_of mid ≡ released_of old
+released_later old mid item none longer = released-still old mid (item ∷ []) longer (none.releases, tt)
 
 orderly_later : {Own : Type 0} (first old mid new : Seen Own) (item : WorldStep) → TellsNone item → mid.history ≡ old.history ++ item ∷ [] → ((app : ℕ) → OrderlySince app first old) → ((app : ℕ) → OrderlySince app mid new) → (app : ℕ) → OrderlySince app first new
 orderly_later first old mid new item none longer before later app =
@@ -406,8 +412,10 @@ one_more {x = x} {n = n} {first = first} {now = now} {item = item} {mid = mid} {
       kept = done.kept;
       log = later.handles.log ∙ batch.log;
       room = later.handles.room ∙ batch.room;
+      held = later.handles.held ∙ batch.held;
       stimuli_so = done.done.stimuli_so ∙ stimuli_later now.seen mid item none later.longer ∙ batch.stimuli_so;
       acts = λ app. done.done.acts app ∙ acts_later now.seen mid item app none later.longer ∙ batch.acts app;
+      released = done.done.released ∙ released_later now.seen mid item none later.longer ∙ batch.released;
       orderly = orderly_later first.seen now.seen mid new item none later.longer batch.orderly done.done.orderly;
     }
 
@@ -506,8 +514,10 @@ told_idle {x = x} {first = first} {now = now} {mid = mid} {new = new} batch late
       kept = done.kept;
       log = later.handles.log ∙ batch.log;
       room = later.handles.room ∙ batch.room;
+      held = later.handles.held ∙ batch.held;
       stimuli_so = done.done.stimuli_so ∙ stimuli_later now.seen mid Idle idle_none later.longer ∙ batch.stimuli_so;
       acts = λ app. done.done.acts app ∙ acts_later now.seen mid Idle app idle_none later.longer ∙ batch.acts app;
+      released = done.done.released ∙ released_later now.seen mid Idle idle_none later.longer ∙ batch.released;
       orderly = orderly_later first.seen now.seen mid new Idle idle_none later.longer batch.orderly done.done.orderly;
     }
 
@@ -573,9 +583,11 @@ begins x first still may =
       kept = still.kept;
       log = refl;
       room = refl;
+      held = refl;
       stimuli_so = ap stimuli (journal-append h (Acted (Stim x) ∷ [])) ∙ stimuli-append (journal h) (journal (Acted (Stim x) ∷ [])) ∙ ap (λ (xs : List WorldStim). stimuli (journal h) ++ xs) (stim_stimuli x);
       acts = λ app. ap (filter (is_of app)) (journal-append h (Acted (Stim x) ∷ [])) ∙ filter-append (is_of app) (journal h) (journal (Acted (Stim x) ∷ []))
           ∙ ap (λ (xs : List Act). filter (is_of app) (journal h) ++ xs) (stim_acts x app) ∙ append-nil (filter (is_of app) (journal h));
+      released = released-still first.seen now.seen (Acted (Stim x) ∷ []) refl (refl, tt);
       orderly = λ app. record { steps = Acted (Stim x) ∷ []; history = refl; orderly = (tt, tt) };
     }
 

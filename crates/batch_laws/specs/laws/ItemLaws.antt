@@ -44,7 +44,8 @@ use Rattle.net_txn.specs.Joining.{greeting, greeted_from}
 use Rattle.net_txn.specs.JoiningSteps.{JoinsInStep}
 use Rattle.switch_laws.specs.laws.StandLaws.{state-links}
 use Rattle.lego_model.specs.OrderlySteps.{IsOrderly}
-use Rattle.switch_laws.specs.laws.OrderlyLaws.{orderly-none, echo-orderly, join-steps-orderly}
+use Rattle.switch_laws.specs.Released.{ReleasesNone}
+use Rattle.switch_laws.specs.laws.OrderlyLaws.{echo-none, join-steps-none, released-still, orderly-none, join-steps-orderly}
 use Rattle.batch_laws.specs.Items.{answers, Untouched, Rests, TakesMessage, TakesIn, TakesInBy, TakesInAs, DoesFrom, DoesJoined, DoesLeft, Handles, waiting, Ascend, Leaves, IsSentOrGot, ItemDone, Fresh, IsFresh, Done, IsItem}
 use Rattle.batch_laws.specs.InBatch.{SameBesides}
 
@@ -252,19 +253,20 @@ acts_none app (step ∷ steps) all = (tells_by step all.0.0 all.0.1 all.0.2 step
 -- ---- What an item leaves, from where it was told
 
 none_done : {Own : Type 0} (mid : Seen Own) → ItemDone mid mid
-none_done mid = record { given = refl; leaves = leaves_all (state mid); stimuli_so = refl; acts = λ app. refl; orderly = λ app. orderly-none app mid }
+none_done mid = record { given = refl; leaves = leaves_all (state mid); stimuli_so = refl; acts = λ app. refl; released = refl; orderly = λ app. orderly-none app mid }
 
 untouched_done : {Own : Type 0} (mid new : Seen Own) → new ≡ mid → ItemDone mid new
 untouched_done mid new is = subst (λ (x : Seen _). ItemDone mid x) (sym is) (none_done mid)
 
-links_done : {Own : Type 0} (mid new : Seen Own) (steps : List WorldStep) → new.given ≡ mid.given → new.history ≡ mid.history ++ steps → AllByRecursion IsSentOrGot steps → ((app : ℕ) → AllByRecursion (IsOrderly app) steps) → Leaves (state mid) (state new) → ItemDone mid new
-links_done mid new steps given longer all orderly leaves = record {
+links_done : {Own : Type 0} (mid new : Seen Own) (steps : List WorldStep) → new.given ≡ mid.given → new.history ≡ mid.history ++ steps → AllByRecursion IsSentOrGot steps → ReleasesNone steps → ((app : ℕ) → AllByRecursion (IsOrderly app) steps) → Leaves (state mid) (state new) → ItemDone mid new
+links_done mid new steps given longer all none orderly leaves = record {
   given = given;
   leaves = leaves;
   stimuli_so = ap (λ (h : List WorldStep). stimuli (journal h)) longer ∙ ap stimuli (journal-append mid.history steps) ∙ stimuli-append (journal mid.history) (journal steps)
       ∙ ap (λ (xs : List WorldStim). stimuli (journal mid.history) ++ xs) (stimuli_none steps all) ∙ append-nil (stimuli (journal mid.history));
   acts = λ app. ap (λ (h : List WorldStep). filter (is_of app) (journal h)) longer ∙ ap (filter (is_of app)) (journal-append mid.history steps) ∙ filter-append (is_of app) (journal mid.history) (journal steps)
       ∙ ap (λ (xs : List Act). filter (is_of app) (journal mid.history) ++ xs) (acts_none app steps all) ∙ append-nil (filter (is_of app) (journal mid.history));
+  released = released-still mid new steps longer none;
   orderly = λ app. record { steps = steps; history = longer; orderly = orderly app };
 }
 
@@ -309,16 +311,17 @@ echo_leaves d xid payload lt is s =
 
 record IsAnswered (steps : List WorldStep) (s : State) : Type 0 where
   all : AllByRecursion IsSentOrGot steps
+  none : ReleasesNone steps
   orderly : (app : ℕ) → AllByRecursion (IsOrderly app) steps
   leaves : Leaves s (after_steps steps s)
 
 none_answered : (s : State) → IsAnswered [] s
-none_answered s = record { all = tt; orderly = λ app. tt; leaves = leaves_all s }
+none_answered s = record { all = tt; none = tt; orderly = λ app. tt; leaves = leaves_all s }
 
 arrival_answered : (d xid : ℕ) (m : Message) → xid < 2 ^ 32 → IsMessage m → (s : State) → IsAnswered (arrival_steps d xid m) s
 arrival_answered d xid (Hello payload) lt is s = none_answered s
 arrival_answered d xid (Error kind code payload) lt is s = none_answered s
-arrival_answered d xid (EchoRequest payload) lt is s = record { all = (sent_is d (message_bytes xid (EchoReply payload)), tt); orderly = λ app. (echo-orderly app d xid payload, tt); leaves = echo_leaves d xid payload lt is s }
+arrival_answered d xid (EchoRequest payload) lt is s = record { all = (sent_is d (message_bytes xid (EchoReply payload)), tt); none = (echo-none d xid payload, tt); orderly = λ app. (tt, tt); leaves = echo_leaves d xid payload lt is s }
 arrival_answered d xid (EchoReply payload) lt is s = none_answered s
 arrival_answered d xid (Vendor payload) lt is s = none_answered s
 arrival_answered d xid FeaturesRequest lt is s = none_answered s
@@ -347,7 +350,7 @@ message_done : {Own Tells : Type 0} {d : ℕ} {bytes : List ℕ} {mid new : Seen
 message_done {d = d} {bytes = bytes} {mid = mid} {new = new} told given takes =
     let steps = answers d (reading_of bytes) in
     let is = answered d bytes (reading_of bytes) takes.fit refl (state mid) in
-    links_done mid new steps given (takes.told told) is.all is.orderly (subst (λ (t : State). Leaves (state mid) t) (sym (state-append mid new steps given (takes.told told))) is.leaves)
+    links_done mid new steps given (takes.told told) is.all is.none is.orderly (subst (λ (t : State). Leaves (state mid) t) (sym (state-append mid new steps given (takes.told told))) is.leaves)
 
 -- ---- A switch joins that is empty
 
@@ -402,7 +405,7 @@ join_done {d = d} {mid = mid} {new = new} {net = net} told kept keeps given fres
     let in_step = takes.in_step told keeps (fresh.waits d) in
     let after = state-append mid new steps given (hears.told told) in
     let rest : SameRest (state mid) (state new) = subst (λ (t : State). SameRest (state mid) t) (sym after) (rest_steps steps (state mid) all) in (
-      links_done mid new steps given (hears.told told) all (λ app. join-steps-orderly app d net.xid got) (joins_leave kept keeps fresh rest in_step),
+      links_done mid new steps given (hears.told told) all (join-steps-none d net.xid got) (λ app. join-steps-orderly app d net.xid got) (joins_leave kept keeps fresh rest in_step),
       in_step.kept,
     )
 

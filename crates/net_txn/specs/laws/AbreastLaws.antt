@@ -82,7 +82,7 @@ with_view-viewed-other d e vs other = viewed e (with_view d vs) ∙ ap rows_ther
 abbrev in_views : ℕ → List TableView → Bool
 in_views e vs = is_viewed e vs
 
-arrival_viewed : (d e : ℕ) (m : Message) (net : NetState) → is_viewed e (net_after d m net).views ≡ is_viewed e net.views
+pub arrival_viewed : (d e : ℕ) (m : Message) (net : NetState) → is_viewed e (net_after d m net).views ≡ is_viewed e net.views
 arrival_viewed d e (messages.FlowRemoved f) net = with_rows-viewed d e _ net.views
 arrival_viewed d e (messages.PortStatus status) net = refl
 arrival_viewed d e (messages.Hello payload) net = refl

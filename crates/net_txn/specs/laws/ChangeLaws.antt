@@ -1,19 +1,21 @@
 -- Laws of changes: how the pieces of one make the whole.
-use Rattle.std.specs.Prelude.{◌≡◌, ◌⊎◌, ℕ, ◌^◌, ◌<◌, Bool, List, [], ◌∷◌, Option, Some, None, Result, Ok, Err, MatchResult, IfErr, IsSome, length, take, refl}
+use Rattle.std.specs.Prelude.{◌≡◌, ◌⊎◌, ℕ, ◌^◌, ◌<◌, Bool, true, List, [], ◌∷◌, ◌++◌, Option, Some, None, Result, Ok, Err, MatchResult, IfErr, IsErr, IsSome, length, take, refl}
 use Rattle.std.specs.Option.{is_some}
 use Rattle.std.proofs.Common.{sym, ap, ◌∙◌, subst, inl, inr, arith}
-use Rattle.std.proofs.lemmas.List.{take_all, take_at}
+use Rattle.std.proofs.lemmas.List.{take_all, take_at, append-nil}
 use Rattle.of_types.specs.declared.journal.Act.TheVariants.{Sent}
 use Rattle.of_wire.specs.declared.bodies.FlowMod.{FlowMod as Change}
 use Rattle.of_wire.specs.declared.message.Message.{Message}
-use Rattle.of_wire.specs.declared.message.Message.TheVariants.{FlowMod}
+use Rattle.of_wire.specs.declared.bodies.PacketOut.{PacketOut as Packet}
+use Rattle.of_wire.specs.declared.message.Message.TheVariants.{FlowMod, PacketOut}
 use Rattle.of_wire.specs.declared.message.Envelope.{Envelope}
 use Rattle.of_wire.specs.declared.fault.WireFault.{WireFault}
 use Rattle.of_wire.specs.Reading.{reading_of}
 use Rattle.of_wire.specs.Spelling.{message_bytes}
 use Rattle.of_wire.specs.Grammar.{IsMessage, enveloped}
 use Rattle.app_frames.specs.declared.frame.Answer.{Answer}
-use Rattle.app_frames.specs.declared.frame.Answer.TheVariants.{Unknown}
+use Rattle.app_frames.specs.declared.frame.Answer.TheVariants.{Fine, Error, Unknown, Statistics}
+use Rattle.lego_model.specs.Packets.{Held, holds}
 use Rattle.lego_model.specs.Answers.{rows_of_view, as_sent, host_answer_read, host_answer}
 use Rattle.outside.specs.declared.step.WorldStep.TheVariants.{Acted}
 use Rattle.outside.specs.Seen.{Seen, Continues}
@@ -28,15 +30,17 @@ use Rattle.net_txn.specs.laws.LinkStepLaws.{OnLinks-refl}
 use Rattle.net_txn.specs.laws.LinkStrayLaws.{no_strays_none}
 use Rattle.net_txn.specs.laws.ReadLaws.{asked_read}
 use Rattle.net_txn.specs.Causes.{IsCause}
+use Rattle.flow_table.specs.Change.{key_in}
 use Rattle.flow_table.specs.declared.view.ViewRow.{ViewRow}
 use Rattle.flow_table.specs.declared.view.TableView.{TableView}
 use Rattle.net_txn.specs.declared.logged.Logged.{Logged}
 use Rattle.net_txn.specs.Waits.{Waits, Floods, IfFlooded, KeptMore}
 use Rattle.lego_model.specs.BarrierWaits.{barrier_sent}
-use Rattle.net_txn.specs.Views.{rows_at, with_rows, with_added, rows_after}
+use Rattle.net_txn.specs.Views.{rows_at, is_row_at, with_rows, with_added, rows_after}
 use Rattle.net_txn.specs.laws.ViewLaws.{rows_at-stays}
-use Rattle.net_txn.specs.Net.{NetState, awaited_from, with_logged}
-use Rattle.net_txn.specs.Changes.{answer_of_host, views_by, change_sent, Asked, Unsent, Stopped, log_in_flight, InFlight, IfGivenUp, Changes}
+use Rattle.net_txn.specs.Host.{held_read}
+use Rattle.net_txn.specs.Net.{NetState, awaited_from, logged_by, with_logged}
+use Rattle.net_txn.specs.Changes.{answer_of_host, held_after, views_by, change_sent, Asked, Unsent, Stopped, log_in_flight, InFlight, IfGivenUp, Changes}
 
 pub sent_waits : {Own : Type 0} {Tells : Type 0} (d : ℕ) (m : Change) (net : NetState) (a : Awaited) (frame : List ℕ) (kept now_kept : List (ℕ × List ℕ)) (old new : Seen Own) (refusal : Option Refusal)
     → a ≡ awaited_from d net.xid → frame ≡ message_bytes a.first (as_sent (FlowMod m)) → kept ≡ net.kept
@@ -84,9 +88,14 @@ same_change x y m n e = let f : Some (FlowMod m) ≡ Some (FlowMod n) = ap messa
 some_is : (a b : Answer) → Some a ≡ Some b → a ≡ b
 some_is a b e = cc
 
+-- the net with a packet more, or as it is
+abbrev pub holding : ℕ → List ℕ → Answer → NetState → NetState
+holding d bytes answer net = record net { held = net.held ++ holds d bytes answer }
+
 -- the host answers, with nothing sent
-pub Changes-by_host : {Own : Type 0} {Tells : Type 0} (d : ℕ) (bytes : List ℕ) (seen : Seen Own) (net : NetState) (answer : Answer) → answer_of_host d bytes net ≡ Some answer → Changes Tells d bytes seen seen net net (Ok answer)
-Changes-by_host {Tells = Tells} d bytes seen net answer is = record {
+Changes-held : {Own : Type 0} {Tells : Type 0} (d : ℕ) (bytes : List ℕ) (seen : Seen Own) (net : NetState) (answer : Answer) → answer_of_host d bytes net ≡ Some answer
+    → Changes Tells d bytes seen seen net (holding d bytes answer net) (Ok answer)
+Changes-held {Tells = Tells} d bytes seen net answer is = record {
   continues = Continues-refl Tells seen;
   links = OnLinks-refl Tells seen;
   no_strays = λ told keeps joined. no_strays_none seen;
@@ -96,11 +105,16 @@ Changes-by_host {Tells = Tells} d bytes seen net answer is = record {
   ports = refl;
   moment = refl;
   room = refl;
+  held = refl;
   by_host = λ other h. record { answers = some_is answer other (sym is ∙ h); fault = tt; world = refl; stays = refl };
   by_switch = λ xid m none read. absurd (no_answer answer (sym is ∙ none));
   flooded = λ xid m none read. tt;
   in_flight = λ xid m none read. tt;
 }
+
+pub Changes-by_host : {Own : Type 0} {Tells : Type 0} (d : ℕ) (bytes : List ℕ) (seen : Seen Own) (net now_net : NetState) (answer : Answer) → answer_of_host d bytes net ≡ Some answer → now_net ≡ holding d bytes answer net
+    → Changes Tells d bytes seen seen net now_net (Ok answer)
+Changes-by_host {Tells = Tells} d bytes seen net now_net answer is same = subst (λ (n : NetState). Changes Tells d bytes seen seen net n (Ok answer)) (sym same) (Changes-held d bytes seen net answer is)
 
 -- memory was wanting before anything was sent
 pub Changes-short : {Own : Type 0} {Tells : Type 0} (d : ℕ) (bytes : List ℕ) (seen : Seen Own) (net : NetState) → Changes Tells d bytes seen seen net net (Err NoMemory)
@@ -114,6 +128,7 @@ Changes-short {Tells = Tells} d bytes seen net = record {
   ports = refl;
   moment = refl;
   room = refl;
+  held = refl;
   by_host = λ other h. record { answers = tt; fault = refl; world = refl; stays = refl };
   by_switch = λ xid m none read. inl (record { world = refl; views = refl; log = refl; kept = refl });
   flooded = λ xid m none read. tt;
@@ -155,6 +170,30 @@ some_rows_there (Some rows) some = refl
 host_known : (d : ℕ) (bytes : List ℕ) (net : NetState) → answer_of_host d bytes net ≡ None → IsSome (rows_at d net.views)
 host_known d bytes net none = some_rows_there (rows_at d net.views) (λ is. absurd (no_answer Unknown (sym (host_unknown d bytes net net.views refl is) ∙ none)))
 
+-- ---- What it holds
+
+pub unknown_unheld : (d : ℕ) (bytes : List ℕ) → holds d bytes Unknown ≡ []
+unfolding holds
+unknown_unheld d bytes = refl
+
+pub unheld : (d : ℕ) (bytes : List ℕ) (answer : Answer) → held_read d (reading_of bytes) answer ≡ [] → holds d bytes answer ≡ []
+unfolding holds
+unheld d bytes Fine none = none
+unheld d bytes (Error error) none = refl
+unheld d bytes Unknown none = refl
+unheld d bytes (Statistics kind body) none = refl
+
+pub packet_held : (d xid : ℕ) (bytes : List ℕ) (packet : Packet) → reading_of bytes ≡ Ok (record { xid = xid; message = PacketOut packet }) → holds d bytes Fine ≡ (d, packet) ∷ []
+unfolding holds
+packet_held d xid bytes packet read = rw read refl
+
+-- the net stays as it is
+pub holds_nothing : (d : ℕ) (bytes : List ℕ) (answer : Answer) (net : NetState) → holds d bytes answer ≡ [] → net ≡ holding d bytes answer net
+holds_nothing d bytes answer net none = let e : net.held ≡ net.held ++ holds d bytes answer = rw none (sym (append-nil net.held)) in ap (λ (h : List Held). record net { held = h }) e
+
+pub holds_packet : (d : ℕ) (bytes : List ℕ) (packet : Packet) (net : NetState) → holds d bytes Fine ≡ (d, packet) ∷ [] → record net { held = net.held ++ (d, packet) ∷ [] } ≡ holding d bytes Fine net
+holds_packet d bytes packet net one = ap (λ (more : List Held). record net { held = net.held ++ more }) (sym one)
+
 -- the views keep their switches
 
 abbrev has_rows : ℕ → List TableView → Bool
@@ -189,11 +228,49 @@ in_flight_so : {Own : Type 0} (Tells : Type 0) (d : ℕ) (m : Change) (old new :
 in_flight_so Tells d m old new net now_net (Ok answer) does = tt
 in_flight_so Tells d m old new net now_net (Err f) does = does
 
+no_packet : (d xid : ℕ) (m : Change) (bytes : List ℕ) (answer : Answer) → reading_of bytes ≡ Ok (enveloped xid (FlowMod m)) → [] ≡ holds d bytes answer
+unfolding holds
+no_packet d xid m bytes Fine read = rw read refl
+no_packet d xid m bytes (Error error) read = refl
+no_packet d xid m bytes Unknown read = refl
+no_packet d xid m bytes (Statistics kind body) read = refl
+
+-- ---- What undoes a change that a row has the key of is not logged
+
+cut_log : (d : ℕ) (m : Change) (log all : List Logged) (n : ℕ) → n ≡ length log → all ≡ with_logged (logged_by d m) log → take n all ≡ log
+cut_log d m log all n longer is = log_cut (logged_by d m) log all n longer is
+
+forgets : {Own : Type 0} {Tells : Type 0} (d : ℕ) (m : Change) (old new : Seen Own) (net mid : NetState) (n : ℕ) (fault : TxnFault) → n ≡ length net.log → is_row_at d (key_in m) net.views ≡ true
+    → Unsent old new net mid ⊎ InFlight Tells d m (with_logged (logged_by d m) net.log) old new net mid fault
+    → Unsent old new net (record mid { log = take n mid.log }) ⊎ InFlight Tells d m (log_in_flight d m net.views net.log) old new net (record mid { log = take n mid.log }) fault
+forgets d m old new net mid n fault longer known (inl unsent) =
+    inl (record { world = unsent.world; views = unsent.views; log = ap (take n) unsent.log ∙ take_all n net.log (omega (arith, longer)); kept = unsent.kept })
+forgets d m old new net mid n fault longer known (inr flight) = inr (record {
+  message = flight.message;
+  is_xid = flight.is_xid;
+  said = flight.said;
+  views = flight.views;
+  log_so = cut_log d m net.log mid.log n longer flight.log_so ∙ sym (rw known refl);
+  kept = flight.kept;
+})
+
+pub forgotten : {Own : Type 0} (Tells : Type 0) (d : ℕ) (m : Change) (old new : Seen Own) (net mid now : NetState) (n : ℕ) (result : Result Answer TxnFault) → IsErr result → n ≡ length net.log → is_row_at d (key_in m) net.views ≡ true
+    → now ≡ record mid { log = take n mid.log } → MatchResult result (Asked Tells d m old new net mid) (λ f. Unsent old new net mid ⊎ InFlight Tells d m (with_logged (logged_by d m) net.log) old new net mid f)
+    → Judged Tells d m old new net now result
+forgotten Tells d m old new net mid now n (Ok answer) failed longer known same made = absurd cc
+forgotten Tells d m old new net mid now n (Err fault) failed longer known same made =
+    subst (λ (x : NetState). Unsent old new net x ⊎ InFlight Tells d m (log_in_flight d m net.views net.log) old new net x fault) (sym same) (forgets d m old new net mid n fault longer known made)
+
+-- a change is no packet
+nothing_held : (d : ℕ) (bytes : List ℕ) (xid : ℕ) (m : Change) (result : Result Answer TxnFault) (held : List Held) → reading_of bytes ≡ Ok (enveloped xid (FlowMod m)) → held ≡ held_after d bytes result held
+nothing_held d bytes xid m (Ok answer) held read = sym (append-nil held) ∙ ap (λ (more : List Held). held ++ more) (no_packet d xid m bytes answer read)
+nothing_held d bytes xid m (Err fault) held read = refl
+
 pub Changes-by_switch : {Own : Type 0} {Tells : Type 0} (d : ℕ) (bytes : List ℕ) (old new : Seen Own) (net now_net : NetState) (result : Result Answer TxnFault) (xid : ℕ) (m : Change)
     → answer_of_host d bytes net ≡ None → reading_of bytes ≡ Ok (enveloped xid (FlowMod m)) → Judged Tells d m old new net now_net result
-    → Continues Tells old new → OnLinks Tells old new → AsksWithoutStrays Tells d old new → IfErr result (IsCause Tells d old new) → now_net.ports ≡ net.ports → now_net.moment ≡ net.moment → now_net.room ≡ net.room
+    → Continues Tells old new → OnLinks Tells old new → AsksWithoutStrays Tells d old new → IfErr result (IsCause Tells d old new) → now_net.ports ≡ net.ports → now_net.moment ≡ net.moment → now_net.room ≡ net.room → now_net.held ≡ net.held
     → IfErr result (IfGivenUp Tells d m old new net) → Changes Tells d bytes old new net now_net result
-Changes-by_switch {Tells = Tells} d bytes old new net now_net result xid m none read judged continues links no_strays cause ports moment room f = record {
+Changes-by_switch {Tells = Tells} d bytes old new net now_net result xid m none read judged continues links no_strays cause ports moment room held f = record {
   continues = continues;
   links = links;
   no_strays = λ told keeps joined. no_strays told keeps (joined (host_known d bytes net none));
@@ -203,6 +280,7 @@ Changes-by_switch {Tells = Tells} d bytes old new net now_net result xid m none 
   ports = ports;
   moment = moment;
   room = room;
+  held = held ∙ nothing_held d bytes xid m result net.held read;
   by_host = λ answer h. absurd (no_answer answer (sym h ∙ none));
   by_switch = λ other n _ again. subst (λ (x : Change). MatchResult result (Asked Tells d x old new net now_net) (λ f. Stopped d x old new net now_net)) (same_change xid other m n (sym read ∙ again)) (stopped_so Tells d m old new net now_net result judged);
   flooded = λ other n _ again. subst (λ (x : Change). IfErr result (IfGivenUp Tells d x old new net)) (same_change xid other m n (sym read ∙ again)) f;

@@ -40,9 +40,9 @@ reverted_on known d old new parts reverted all same s barred = record {
 pub undoes : {Own : Type 0} {Tells : Type 0} (start from : ℕ) (old new : Seen Own) (net now_net : NetState) (result : Result (Unit {0}) TxnFault) (fault : Option TxnFault) (reverted : List Logged)
     → take from net.log ≡ take start net.log → drop from net.log ≡ drop start net.log → result ≡ ended_by fault → Further Tells net.views old new net.kept now_net.kept net.xid now_net.xid (switches_of net.views) reverted fault
     → ((d : ℕ) → is_viewed d net.views ≡ true → HasPassedBarrier d reverted) → map key_logged reverted ≡ map key_logged (drop from net.log)
-    → now_net.views ≡ without_keys (map key_logged (drop from net.log)) net.views → now_net.log ≡ take from net.log → now_net.ports ≡ net.ports → now_net.moment ≡ net.moment
+    → now_net.views ≡ without_keys (map key_logged (drop from net.log)) net.views → now_net.log ≡ take from net.log → now_net.ports ≡ net.ports → now_net.moment ≡ net.moment → now_net.held ≡ []
     → (net.room ≤ now_net.room + 1) × (IsOk result → now_net.room ≡ net.room) → Undoes Tells start old new net now_net result
-undoes {Tells = Tells} start from old new net now_net result fault reverted front rest is f barred same views log ports moment room =
+undoes {Tells = Tells} start from old new net now_net result fault reverted front rest is f barred same views log ports moment held room =
     let all : map key_logged reverted ≡ map key_logged (drop start net.log) = same ∙ ap (λ (es : List Logged). map key_logged es) rest in
     let each : (d : ℕ) → IsRevertedOn (is_viewed d net.views) d old.counts new.counts (keys_of d (map key_logged (drop start net.log))) (parts_of d f.parts) = λ d.
     reverted_on (is_viewed d net.views) d old.counts new.counts (parts_of d f.parts) reverted (map key_logged (drop start net.log)) all (f.undoing.stands d) (barred d) in
@@ -63,6 +63,7 @@ undoes {Tells = Tells} start from old new net now_net result fault reverted fron
       views = views ∙ ap (λ (es : List Logged). without_keys (map key_logged es) net.views) rest;
       ports = ports;
       moment = moment;
+      held = held;
       kept = f.undoing.keeps;
       room = room;
       others = λ d told unknown. others_stay old new d f.parts f.undoing.continues.given (f.undoing.told told) (λ c. (each c).run) ((each d).unknown unknown);

@@ -9,7 +9,7 @@ use Rattle.of_types.specs.declared.journal.WorldStim.TheVariants.{Join, Leave, A
 use Rattle.flow_table.specs.Switch.{Declared, SwitchState}
 use Rattle.app_frames.specs.declared.frame.Event.{Event}
 use Rattle.lego_model.specs.Answers.{rows_of_table}
-use Rattle.lego_model.specs.Journal.{Reply, Start, is_of, inputs, stimuli}
+use Rattle.lego_model.specs.Journal.{Reply, Start, is_of, inputs, stimuli, released}
 use Rattle.lego_model.specs.Places.{Place}
 use Rattle.lego_model.specs.Controller.{Run, reference_mark, places_after, events_after, ports_of, happen}
 use Rattle.lego_model.specs.Agreement.{AgreeMark, AgreeMarks}
@@ -54,9 +54,9 @@ moment-then (At t) s = refl
 moment-then (Of d y) s = refl
 
 -- what is known then
-pub calm-then : {Own : Type 0} (x : WorldStim) (old new : Seen Own) (net now_net : NetState) (queue now_queue : List Event) → BatchDone x (record { seen = old; net = net; queue = queue }) (record { seen = new; net = now_net; queue = now_queue })
+pub calm-then : {Own : Type 0} (x : WorldStim) (old new : Seen Own) (net now_net : NetState) (queue now_queue : List Event) → net.held ≡ [] → BatchDone x (record { seen = old; net = net; queue = queue }) (record { seen = new; net = now_net; queue = now_queue })
     → StimulusHandled x old net queue (knowledge_of now_net now_queue) → Calm new now_net
-calm-then x old new net now_net queue now_queue done h = record {
+calm-then x old new net now_net queue now_queue none done h = record {
   ready = record {
     waits = done.waits;
     agrees = λ d. h.agrees d ∙ ap (λ (o : Option SwitchState). option_map (λ y. rows_of_table y.table.entries) o) (sym (done.switches d));
@@ -68,6 +68,7 @@ calm-then x old new net now_net queue now_queue done h = record {
   moment = h.moment ∙ sym done.stays.moment;
   none_begun = done.begun;
   none_due = done.due;
+  held = done.held ∙ none;
 }
 
 -- where the state is the same
@@ -84,6 +85,7 @@ calm-still old new net same calm = record {
   moment = calm.moment ∙ ap (λ (t : State). t.moment) (sym same);
   none_begun = ap (λ (t : State). t.begun) same ∙ calm.none_begun;
   none_due = ap (λ (t : State). t.due) same ∙ calm.none_due;
+  held = calm.held;
 }
 
 -- ---- The reference controller
@@ -99,7 +101,7 @@ happens-stands {Own} x old new net now_net queue now_queue e ss rs r keeps same_
     let inputs_same : given_in new ≡ given_in old =
     sym (inputs_own index (journal new.history)) ∙ ap (λ (acts : List Act). inputs index acts) own ∙ inputs_own index (journal old.history) in
     record {
-      calm = calm-then x old new net now_net queue now_queue done h;
+      calm = calm-then x old new net now_net queue now_queue (subst (λ (n : NetState). n.held ≡ []) same_net s.calm.held) done h;
       moment = ap (moment_after x) s.moment ∙ sym (moment-then x (state old)) ∙ sym done.stays.moment;
       places = ap₂ (λ (m : ℕ) (ps : List Place). places_after x m ps) s.moment before ∙ sym h.places
           ∙ sym (shown-still old.given.declared now_net.views (after_stim x (state old)) (state new) done.switches)
@@ -107,6 +109,7 @@ happens-stands {Own} x old new net now_net queue now_queue e ss rs r keeps same_
       queue = ap₂ (λ (q : List Event) (more : List Event). q ++ more) (s.queue ∙ same_queue) (ap₂ (λ (m : ℕ) (ps : List Place). events_after x m ps) s.moment before) ∙ sym h.queue_so;
       events = s.events;
       apps = s.apps ∙ ap (λ (given : List (List ℕ)). app_at (engine_then e now_net now_queue) given ss rs ∷ []) (sym inputs_same);
+      released = s.released ∙ sym done.released;
       marks = subst (λ (ms : List Mark). AgreeMarks ms (r.marks ++ reference_mark None r.places ∷ [])) (sym (done.stays.marks ∙ marks-then x (state old)))
           (marks_more (state old).marks r.marks (mark_of None (state old)) (reference_mark None r.places) s.marks
           (subst (λ (ps : List Place). AgreeMark (mark_of None (state old)) (reference_mark None ps)) (sym before) (mark_alike None old.given.declared net.views (state old) (links-declared old) keeps_old.declared)));
@@ -139,7 +142,7 @@ batch-happens Tells x old new net now_net queue now_queue e told later keeps_old
       stimulus = x;
       moved = record {
         settled = record {
-          calm = calm-then x old new net now_net queue now_queue done h;
+          calm = calm-then x old new net now_net queue now_queue calm.held done h;
           life = λ alive. subst LastStands (sym own) (settled.life alive);
           speaks = record {
             at_once = others_at_once old new steps (later.told told).1 (none-own old new steps (later.told told).1 own) settled.speaks.at_once;
@@ -195,6 +198,7 @@ batch-over {Own} old new net now_net queue now_queue e settled same_net same_que
           queue = s.queue ∙ same_queue ∙ sym over.queue;
           events = s.events;
           apps = s.apps ∙ ap (λ (js : List Act). app_at (engine_then e now_net now_queue) (inputs index js) ss rs ∷ []) (sym journal_same);
+          released = s.released ∙ sym (ap (λ (js : List Act). released js) journal_same);
           marks = subst (λ (t : State). AgreeMarks t.marks r.marks) (sym over.state_so) s.marks;
           life = λ alive. subst LastStands (sym own) (s.life alive);
         };

@@ -1,5 +1,5 @@
--- Laws of a calm run: it stays calm where nothing but calls for an application came, behind the messages of a turn, and where these were
--- undone.
+-- Laws of a calm run: it stays calm where nothing but calls for an application came, behind the messages of a turn whose packets were
+-- released, and where these were undone.
 use Rattle.std.proofs.Common.{◌≡◌, ◌==◌, ℕ, ◌+◌, ◌≤◌, true, List, [], ◌∷◌, map, Option, Some, None, Ok, refl, sym, ap, ◌∙◌, subst, inl, inr}
 use Rattle.std.proofs.lemmas.Bool.{cases_Bool}
 use Rattle.std.specs.Option.{option_map}
@@ -13,11 +13,14 @@ use Rattle.lego_model.specs.Controller.{ports_of}
 use Rattle.outside.specs.Seen.{Seen}
 use Rattle.outside.specs.State.{State, state, switch_of}
 use Rattle.outside.specs.Conforming.{Conforming}
-use Rattle.net_txn.specs.declared.logged.Logged.{Logged}
 use Rattle.net_txn.specs.Net.{NetState}
 use Rattle.net_txn.specs.Views.{rows_at, with_rows, is_viewed, ViewsAscend}
 use Rattle.net_txn.specs.Arriving.{without_key}
 use Rattle.net_txn.specs.Undos.{without_keys, StandsReady, Undoes}
+use Rattle.net_txn.specs.Releases.{committed}
+use Rattle.lego_model.specs.Packets.{Held}
+use Rattle.app_frames.specs.declared.frame.Event.{Event}
+use Rattle.switch_laws.specs.Released.{ReleaseShown}
 use Rattle.switch_laws.specs.Since.{Ready, logged_since, Since, Goes}
 use Rattle.switch_laws.specs.Sound.{Sound}
 use Rattle.switch_laws.specs.laws.SoundStepLaws.{undo-sound}
@@ -48,19 +51,7 @@ calm_talk old new net same rests calm = record {
   moment = calm.moment ∙ sym rests.moment;
   none_begun = rests.begun ∙ calm.none_begun;
   none_due = rests.due ∙ calm.none_due;
-}
-
--- the log is no matter
-pub calm_log : {Own : Type 0} (seen : Seen Own) (net : NetState) (log : List Logged) → Calm seen net → Calm seen (record net { log = log })
-calm_log seen net log calm = record {
-  ready = record { waits = calm.ready.waits; agrees = calm.ready.agrees };
-  sound = calm.sound;
-  order = calm.order;
-  ports = calm.ports;
-  kept = calm.kept;
-  moment = calm.moment;
-  none_begun = calm.none_begun;
-  none_due = calm.none_due;
+  held = calm.held;
 }
 
 -- ---- The order of views
@@ -106,11 +97,11 @@ ports_since start first now net0 net since d (Some s) is =
     let j = since.joined d s is in
     ap ports_in j.stands ∙ ap (λ (x : SwitchState). Some (ports_of x)) j.since.rest
 
--- ---- Behind the messages of a turn
+-- ---- Behind the messages of a turn, where what they held is taken over
 
-pub calm_since : {Own : Type 0} (start : ℕ) (first now : Seen Own) (net0 net : NetState) → Goes start first now net0 net → Sound (state now) → net.ports ≡ net0.ports → Rests (state first) (state now) → Calm first net0 → Calm now net
+pub calm_since : {Own : Type 0} (start : ℕ) (first now : Seen Own) (net0 net : NetState) → Goes start first now net0 net → Sound (state now) → net.ports ≡ net0.ports → Rests (state first) (state now) → Calm first net0 → Calm now (committed start net)
 calm_since start first now net0 net goes sound ports rests calm = record {
-  ready = goes.ready;
+  ready = record { waits = goes.ready.waits; agrees = goes.ready.agrees };
   sound = sound;
   order = ascend_same 0 net.views net0.views (sym (dpids_without (logged_since start net) net.views) ∙ ap dpids goes.since.views) calm.order;
   ports = λ d. ap (known_ports d) ports ∙ calm.ports d ∙ sym (ports_since start first now net0 net goes.since d (switch_of d (state first)) refl);
@@ -118,6 +109,22 @@ calm_since start first now net0 net goes sound ports rests calm = record {
   moment = goes.since.moment ∙ calm.moment ∙ sym rests.moment;
   none_begun = rests.begun ∙ calm.none_begun;
   none_due = rests.due ∙ calm.none_due;
+  held = refl;
+}
+
+-- ---- Behind the release of packets
+
+pub calm_released : {Own : Type 0} (held : List Held) (old new : Seen Own) (net now_net : NetState) (queue now_queue : List Event) → ReleaseShown held old new net now_net queue now_queue → Rests (state old) (state new) → Calm old net → Calm new now_net
+calm_released held old new net now_net queue now_queue shown rests calm = record {
+  ready = shown.ready;
+  sound = shown.sound;
+  order = subst (ViewsAscend 0) (sym (ap (λ (n : NetState). n.views) shown.net_so)) calm.order;
+  ports = λ d. ap (λ (n : NetState). known_ports d n.ports) shown.net_so ∙ calm.ports d ∙ sym (shown.ports d);
+  kept = ap (λ (n : NetState). n.kept) shown.net_so ∙ calm.kept;
+  moment = ap (λ (n : NetState). n.moment) shown.net_so ∙ calm.moment ∙ sym rests.moment;
+  none_begun = rests.begun ∙ calm.none_begun;
+  none_due = rests.due ∙ calm.none_due;
+  held = ap (λ (n : NetState). n.held) shown.net_so ∙ calm.held;
 }
 
 -- ---- Where they were undone
@@ -156,4 +163,5 @@ module _ {Own : Type 0} (Tells : Type 0) (start : ℕ) (first old new : Seen Own
     moment = undoes.moment ∙ since.moment ∙ calm.moment ∙ sym rests.moment;
     none_begun = rests.begun ∙ calm.none_begun;
     none_due = rests.due ∙ calm.none_due;
+    held = undoes.held;
   }

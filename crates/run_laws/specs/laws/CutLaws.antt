@@ -146,7 +146,7 @@ ran-before f g xs ys text more first mid last e1 e2 starts replies is m n said =
 -- ---- The point up to which all is alike
 
 leaves-nothing : {Own : Type 0} (seen : Seen Own) → Leaves seen seen
-leaves-nothing seen = record { given = refl; starts = refl; replies = refl; inputs = refl; stimuli = refl; marks = refl; switches = λ d. refl; at_once = λ said. said; orderly = orderly-none index seen }
+leaves-nothing seen = record { given = refl; starts = refl; replies = refl; inputs = refl; stimuli = refl; released = refl; marks = refl; switches = λ d. refl; at_once = λ said. said; orderly = orderly-none index seen }
 
 stimuli-so : {Own : Type 0} (first last : Seen Own) (xs : List WorldStim) → IsOpened first → stimuli_in last ≡ stimuli_in first ++ xs → stimuli_in last ≡ xs
 stimuli-so first last xs is read = read ∙ ap (λ (ys : List WorldStim). ys ++ xs) (no-stimuli first is)

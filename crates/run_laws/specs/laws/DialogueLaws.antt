@@ -83,7 +83,9 @@ starts_converse Tells text old new e now_e told a s =
 closed_converses : {Own : Type 0} (Tells : Type 0) (end : TurnEnd) (checkpoint : Option (List ℕ)) (unread text : List ℕ) (start : ℕ) (old mid new : Seen Own) (mid_net : NetState) (e now_e : Engine) → Tells → (a : AtOnce index (journal old.history))
     → Speaks index a.last old mid (is_done end) unread → IsClosed Tells end checkpoint unread text start mid new mid_net e now_e → Conversing new now_e
 closed_converses Tells (ends.Done stop) checkpoint unread text start old mid new mid_net e now_e told a says closed =
-    subst (λ (s : Seen _). Conversing s now_e) (sym closed.seen) (speaks_on old mid now_e true unread a says (λ alive. (refl, ap (λ (x : Engine). x.rest) closed.engine)))
+    let there = speaks_on old mid now_e true unread a says (λ alive. (refl, ap (λ (x : Engine). x.rest) closed.engine)) in
+    let only = closed.commits.links told in
+    record { at_once = others_at_once mid new only.steps only.history (link_steps-tell index only.steps only.all).acts there.at_once; rest_so = there.rest_so }
 closed_converses Tells (ends.Failed cause) checkpoint unread text start old mid new mid_net e now_e told a says closed =
     let undone = closed.undone in
     let only = closed.undoes.links told in

@@ -1,19 +1,26 @@
 -- The law of an event: what the engine does at it is what the reference controller does, whether the application is alive or gone.
-use Rattle.std.proofs.Common.{◌≡◌, ℕ, ◌+◌, ◌^◌, ◌<◌, Bool, true, false, List, [], ◌∷◌, ◌++◌, length, drop, if◌then◌else◌, Option, Some, refl, sym, ap, ap₂, ◌∙◌, subst}
-use Rattle.std.proofs.lemmas.List.{append-nil}
+use Rattle.std.proofs.Common.{◌≡◌, ℕ, ◌+◌, ◌^◌, ◌<◌, Bool, true, false, List, [], ◌∷◌, ◌++◌, length, drop, if◌then◌else◌, Option, Some, Result, Ok, Err, refl, sym, ap, ap₂, ◌∙◌, subst, inl, inr}
+use Rattle.std.proofs.lemmas.List.{append-nil, append_assoc}
 use Rattle.flow_table.specs.declared.view.TableView.{TableView}
 use Rattle.app_frames.specs.declared.frame.Event.{Event}
 use Rattle.lego_model.specs.Journal.{Reply, Start}
 use Rattle.lego_model.specs.Places.{Place}
+use Rattle.lego_model.specs.Packets.{Held}
 use Rattle.lego_model.specs.Scripted.{IsFront, AreFronts, AreStartFronts}
-use Rattle.lego_model.specs.Controller.{Dispatched, Ended, Run, Turned, restart_lines, turn, marked, dispatch}
+use Rattle.lego_model.specs.Controller.{Dispatched, Ended, Run, Turned, next_dispatched, dispatch_next, out_lines, restart_lines, turn, marked, dispatch}
 use Rattle.lego_model.specs.Agreement.{AgreeMarks}
 use Rattle.lego_model.specs.RunReport.{event_line}
 use Rattle.outside.specs.Seen.{Given, Seen, Continues}
 use Rattle.outside.specs.State.{Mark, state, marks_at_event}
 use Rattle.outside.specs.laws.StateLaws.{Conforming-before}
 use Rattle.outside.specs.Conforming.{Conforming}
+use Rattle.of_wire.specs.declared.message.Envelope.{Envelope}
+use Rattle.of_wire.specs.declared.fault.WireFault.{WireFault}
+use Rattle.of_wire.specs.Reading.{reading_of}
+use Rattle.lego_model.specs.BarrierWaits.{next_xid}
 use Rattle.net_txn.specs.Net.{NetState}
+use Rattle.net_txn.specs.Arriving.{event_of}
+use Rattle.net_txn.specs.Releases.{Knows, or_none, takes_read, takes_all, ReleasesOne, ReleasesAll, committed}
 use Rattle.app_visor.specs.declared.state.TurnEnd.{TurnEnd}
 use Rattle.app_visor.specs.Turns.{handed}
 use Rattle.app_visor.specs.declared.state.TurnEnd.TheVariants as ends
@@ -22,7 +29,7 @@ use Rattle.switch_laws.specs.laws.StandLaws.{state-links}
 use Rattle.journal_laws.specs.Readings.{LastStands}
 use Rattle.lego_model.specs.History.{starts_in, replies_in, own_acts, given_in, stimuli_in, points_in}
 use Rattle.run_laws.specs.Engine.{Engine, app_at, Stands, with_number}
-use Rattle.lego_model.specs.ReferenceRun.{text_of, next_dispatched, dispatch_next}
+use Rattle.lego_model.specs.ReferenceRun.{text_of}
 use Rattle.run_laws.specs.Facts.{IsClosed, IsTurn, Dispatches}
 use Rattle.run_laws.specs.Moves.{Moves}
 use Rattle.run_laws.specs.Readings.{AreRead, JudgesAlike}
@@ -32,13 +39,13 @@ use Rattle.run_laws.specs.laws.PointLaws.{marks_at_events}
 use Rattle.run_laws.specs.laws.LineLaws.{event_lines}
 use Rattle.run_laws.specs.LastReport.{lines_text}
 use Rattle.run_laws.specs.laws.TurnMoveLaws.{turn_moves}
-use Rattle.run_laws.specs.EventMoves.{TurnAlike, TurnMoves}
+use Rattle.run_laws.specs.EventMoves.{Joins, TurnAlike, TurnMoves}
 
 -- ---- The application is alive
 
 abbrev turned_of : {Own : Type 0} {allows : List Place → Bool} {event : Event} {text : List ℕ} {old new : Seen Own} {e now_e : Engine} {starts : List Start} {reply : Reply} → TurnAlike allows event text old new e now_e starts reply → List Start → List Reply → Turned
 turned_of {old = old} {new = new} {now_e = now_e} alike later_starts later_replies = record {
-  places = shown_places old.given.declared now_e.net.views (state new);
+  release = record { places = shown_places old.given.declared now_e.net.views (state new); events = alike.joining; packets = alike.packets };
   app = (app_at now_e (given_in new) later_starts later_replies, alike.tries);
   outcome = alike.outcome;
   given = alike.given;
@@ -71,9 +78,10 @@ module _ {Own : Type 0} (allows : List Place → Bool) (event : Event) (text : L
         calm = alike.calm;
         moment = s.moment ∙ sym alike.moment;
         places = ap (λ (g : Given _). shown_places g.declared now_e.net.views (state new)) (sym given);
-        queue = s.queue ∙ sym alike.queue;
+        queue = ap (λ (waiting : List Event). waiting ++ alike.joining) s.queue ∙ sym alike.queue;
         events = ap (λ (n : ℕ). n + 1) s.events ∙ sym alike.events;
         apps = refl;
+        released = ap (λ (packets : List Held). packets ++ alike.packets) s.released ∙ sym alike.released;
         marks = marks_so keeps alike r s.events s.places s.marks;
         life = life;
       })
@@ -84,7 +92,7 @@ module _ {Own : Type 0} (allows : List Place → Bool) (event : Event) (text : L
   says_alive alive alike said_starts (said ∷ later_replies) r starts_so fronts s =
       let later_starts = drop (length starts) said_starts in
       ap text_of (dispatched_so alive alike said_starts said later_replies r starts_so fronts.0 s)
-      ∙ event_lines r.lines (Ended 0 alike.outcome ∷ restart_lines 0 alike.outcome (app_at now_e (given_in new) later_starts later_replies, alike.tries)) (r.events + 1) event
+      ∙ event_lines r.lines (Ended 0 alike.outcome ∷ out_lines alike.packets ++ restart_lines 0 alike.outcome (app_at now_e (given_in new) later_starts later_replies, alike.tries)) (r.events + 1) event
       ∙ ap₂ (λ (n : ℕ) (more : List ℕ). text_of r ++ (event_line (n + 1) event.kind event.dpid ++ more)) s.events (sym (alike.text_so later_starts later_replies))
 
 alive_moves : {Own : Type 0} (allows : List Place → Bool) (event : Event) (turn_text text : List ℕ) (old new : Seen Own) (e now_e : Engine) → Conforming old → e.alive ≡ true → text ≡ event_line (e.events + 1) event.kind event.dpid ++ turn_text
@@ -120,6 +128,7 @@ dead_moves allows event text seen e dead text_is = record {
         queue = s.queue;
         events = ap (λ (n : ℕ). n + 1) s.events;
         apps = refl;
+        released = s.released;
         marks = s.marks;
         life = s.life;
       });
@@ -157,35 +166,52 @@ dispatch-moves Tells accepts allows event text old new e now_e told keeps contin
 
 -- ---- What the next event needs
 
--- where it is alive then, its last start stands
-life_by : {Own : Type 0} (Tells : Type 0) (accepts : List TableView → Bool) (allows : List Place → Bool) (event : Event) (turn_text : List ℕ) (old new : Seen Own) (e now_e : Engine) (alive : Bool) → e.alive ≡ alive
-    → Tells → Conforming new → JudgesAlike Own allows accepts → AreRead Own Tells accepts → e.events + 1 < 2 ^ 64 → (e.alive ≡ true → LastStands (own_acts old))
-    → IsTurn Tells accepts event alive turn_text old new (with_number e) now_e → now_e.alive ≡ true → LastStands (own_acts new)
-life_by Tells accepts allows event turn_text old new e now_e true alive told keeps judges reads few life turn =
-    (turn_moves Tells accepts allows event turn_text old new (with_number e) now_e told keeps judges reads few (life alive) turn).tells.life
-life_by Tells accepts allows event turn_text old new e now_e false dead told keeps judges reads few life turn =
-    λ up. subst (λ (s : Seen _). LastStands (own_acts s)) (sym turn.0) (life (sym (ap (λ (x : Engine). x.alive) turn.1) ∙ up))
+-- what comes joins the events that wait
+takes_read-joins : (d : ℕ) (read : Result Envelope WireFault) (k : Knows) → Joins k.1 (takes_read d read k).1
+takes_read-joins d (Ok e) k = (or_none (event_of d k.0.views e.message), refl)
+takes_read-joins d (Err fault) k = ([], sym (append-nil k.1))
 
-pub dispatch-life : {Own : Type 0} (Tells : Type 0) (accepts : List TableView → Bool) (allows : List Place → Bool) (event : Event) (text : List ℕ) (old new : Seen Own) (e now_e : Engine)
-    → Tells → Conforming new → JudgesAlike Own allows accepts → AreRead Own Tells accepts → e.events + 1 < 2 ^ 64 → (e.alive ≡ true → LastStands (own_acts old))
-    → Dispatches Tells accepts event text old new e now_e → now_e.alive ≡ true → LastStands (own_acts new)
-dispatch-life Tells accepts allows event text old new e now_e told keeps judges reads few life d =
-    life_by Tells accepts allows event d.turn_text old new e now_e e.alive refl told keeps judges reads few life d.turn
+joins-then : (xs ys zs : List Event) → Joins xs ys → Joins ys zs → Joins xs zs
+joins-then xs ys zs first second = (first.0 ++ second.0, second.1 ∙ ap (λ (q : List Event). q ++ second.0) first.1 ∙ append_assoc xs first.0 second.0)
+
+takes_all-joins : (came : List (ℕ × List ℕ)) (k : Knows) → Joins k.1 (takes_all came k).1
+takes_all-joins [] k = ([], sym (append-nil k.1))
+takes_all-joins (m ∷ more) k =
+    let next = takes_read m.0 (reading_of m.1) k in
+    joins-then k.1 next.1 (takes_all more next).1 (takes_read-joins m.0 (reading_of m.1) k) (takes_all-joins more next)
+
+one-joins : {Own : Type 0} {Tells : Type 0} {held : Held} {old new : Seen Own} {net now_net : NetState} {queue now_queue : List Event} → ReleasesOne Tells held old new net now_net queue now_queue → Joins queue now_queue
+one-joins {net = net} {queue = queue} (inl sends) =
+    subst (λ (k : Knows). Joins queue k.1) (sym sends.1.taken) (takes_all-joins sends.1.came (record net { xid = next_xid (next_xid net.xid) }, queue))
+one-joins {queue = queue} (inr over) = ([], over.queue_so ∙ sym (append-nil queue))
+
+release-joins : {Own : Type 0} (Tells : Type 0) (held : List Held) (old new : Seen Own) (net now_net : NetState) (queue now_queue : List Event) → ReleasesAll Tells held old new net now_net queue now_queue → Joins queue now_queue
+release-joins Tells [] old new net now_net queue now_queue all = ([], all.2 ∙ sym (append-nil queue))
+release-joins Tells (held ∷ more) old new net now_net queue now_queue all =
+    let mid_queue = all.1.1.0 in
+    joins-then queue mid_queue now_queue (one-joins all.1.1.1.0) (release-joins Tells more all.0 new all.1.0 now_net mid_queue now_queue all.1.1.1.1)
+
+-- where none joined
+joins-none : (xs ys : List Event) → ys ≡ xs → Joins xs ys
+joins-none xs ys same = ([], same ∙ sym (append-nil xs))
 
 closed_count : {Own : Type 0} (Tells : Type 0) (end : TurnEnd) (checkpoint : Option (List ℕ)) (unread text : List ℕ) (start : ℕ) (mid new : Seen Own) (mid_net : NetState) (e now_e : Engine) → IsClosed Tells end checkpoint unread text start mid new mid_net e now_e
-    → (now_e.events ≡ e.events) × (now_e.queue ≡ e.queue)
-closed_count Tells (ends.Done stop) checkpoint unread text start mid new mid_net e now_e closed = (ap (λ (x : Engine). x.events) closed.engine, ap (λ (x : Engine). x.queue) closed.engine)
+    → (now_e.events ≡ e.events) × Joins e.queue now_e.queue
+closed_count Tells (ends.Done stop) checkpoint unread text start mid new mid_net e now_e closed = (
+  ap (λ (x : Engine). x.events) closed.engine,
+  subst (λ (x : Engine). Joins e.queue x.queue) (sym closed.engine) (release-joins Tells mid_net.held mid new (committed start mid_net) closed.net e.queue closed.queue closed.commits.ended.all),
+)
 closed_count Tells (ends.Failed cause) checkpoint unread text start mid new mid_net e now_e closed =
-    (ap (λ (x : Engine). x.events) closed.starts.engine, ap (λ (x : Engine). x.queue) closed.starts.engine)
+    (ap (λ (x : Engine). x.events) closed.starts.engine, joins-none e.queue now_e.queue (ap (λ (x : Engine). x.queue) closed.starts.engine))
 
 count_by : {Own : Type 0} (Tells : Type 0) (accepts : List TableView → Bool) (event : Event) (text : List ℕ) (old new : Seen Own) (e now_e : Engine) (alive : Bool) → IsTurn Tells accepts event alive text old new e now_e
-    → (now_e.events ≡ e.events) × (now_e.queue ≡ e.queue)
+    → (now_e.events ≡ e.events) × Joins e.queue now_e.queue
 count_by Tells accepts event text old new e now_e true turn = closed_count Tells turn.end (handed turn.turns.outcome) turn.unread text (length e.net.log) turn.mid new turn.mid_net e now_e turn.closed
-count_by Tells accepts event text old new e now_e false turn = (ap (λ (x : Engine). x.events) turn.1, ap (λ (x : Engine). x.queue) turn.1)
+count_by Tells accepts event text old new e now_e false turn = (ap (λ (x : Engine). x.events) turn.1, joins-none e.queue now_e.queue (ap (λ (x : Engine). x.queue) turn.1))
 
--- one event more was dispatched, and those that wait stay
+-- one event more was dispatched, and those that wait stay, in front of those that join them
 pub dispatch-count : {Own : Type 0} (Tells : Type 0) (accepts : List TableView → Bool) (event : Event) (text : List ℕ) (old new : Seen Own) (e now_e : Engine) → Dispatches Tells accepts event text old new e now_e
-    → (now_e.events ≡ e.events + 1) × (now_e.queue ≡ e.queue)
+    → (now_e.events ≡ e.events + 1) × Joins e.queue now_e.queue
 dispatch-count Tells accepts event text old new e now_e d = count_by Tells accepts event d.turn_text old new (with_number e) now_e e.alive d.turn
 
 -- ---- The oldest event that waits
@@ -198,6 +224,7 @@ queue_taken seen e queue starts replies r s = record {
   queue = refl;
   events = s.events;
   apps = s.apps;
+  released = s.released;
   marks = s.marks;
   life = s.life;
 }

@@ -49,6 +49,7 @@ leaves-then a b c m n = record {
   replies = n.replies ∙ m.replies;
   inputs = n.inputs ∙ m.inputs;
   stimuli = n.stimuli ∙ m.stimuli;
+  released = n.released ∙ m.released;
   marks = n.marks ∙ m.marks;
   switches = λ d. n.switches d ∙ m.switches d;
   at_once = λ said. n.at_once (m.at_once said);

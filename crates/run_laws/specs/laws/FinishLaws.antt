@@ -30,7 +30,7 @@ use Rattle.lego_model.specs.ReferenceRun.{RunsAlike, fresh, reference_said, AreS
 use Rattle.run_laws.specs.laws.WholeLaws.{told-said}
 use Rattle.run_laws.specs.Whole.{Ran}
 use Rattle.lego_model.specs.OrderlySteps.{IsOrderly}
-use Rattle.switch_laws.specs.laws.OrderlyLaws.{orderly-whole, released-none}
+use Rattle.switch_laws.specs.laws.OrderlyLaws.{orderly-whole}
 use Rattle.run_laws.specs.Moves.{AtRest}
 use Rattle.run_laws.specs.Endings.{Leaves}
 use Rattle.lego_model.specs.WholeRun.{EndsAs, LeavesAs, EndsAlike, LeavesAlike}
@@ -68,6 +68,7 @@ runs-alike {Own} last new e starts replies r keeps l s =
     record {
       tables = marks_more (points_in new) r.marks (last_point new) (reference_mark None r.places) marks end;
       inputs = ap (λ (all : List App). map (λ a. a.inputs) all) s.apps ∙ ap (λ (given : List (List ℕ)). given ∷ []) (sym l.inputs);
+      released = l.released ∙ sym s.released;
     }
 
 -- all steps were in order
@@ -98,7 +99,6 @@ ends-alike allows text last new e contents now_contents keeps l settled ran said
       as_said = λ starts replies is. ends-as allows text last new e contents now_contents starts replies keeps l ran none written is;
       at_once = said;
       in_order = all-in-order last new settled l;
-      released_none = released-none index new.history (all-in-order last new settled l);
     }
 
 -- ---- Some events were left
@@ -122,5 +122,4 @@ leaves-alike allows text last new e contents now_contents keeps l settled ran sa
       as_said = λ starts replies is. leaves-as allows text last new e contents now_contents starts replies keeps l ran written is;
       at_once = said;
       in_order = all-in-order last new settled l;
-      released_none = released-none index new.history (all-in-order last new settled l);
     }

@@ -6,7 +6,7 @@ use Rattle.std.specs.Option.{option_map}
 use Rattle.std.specs.List.{AllByRecursion}
 use Rattle.flow_table.specs.Switch.{Declared, SwitchState}
 use Rattle.of_types.specs.declared.journal.Act.{Act}
-use Rattle.lego_model.specs.Journal.{Reply, Start, inputs}
+use Rattle.lego_model.specs.Journal.{Reply, Start, inputs, released}
 use Rattle.lego_model.specs.Agreement.{AgreeMarks}
 use Rattle.undo_laws.specs.Owned.{owned_switch}
 use Rattle.lego_model.specs.Answers.{rows_of_table}
@@ -22,7 +22,7 @@ use Rattle.lego_model.specs.AtOnce.{at_first as nobody_yet, Dialogue}
 use Rattle.batch_laws.specs.Calm.{Calm}
 use Rattle.run_laws.specs.Engine.{Stands, app_at}
 use Rattle.lego_model.specs.Application.{index}
-use Rattle.lego_model.specs.History.{given_in}
+use Rattle.lego_model.specs.History.{given_in, released_of}
 use Rattle.run_laws.specs.Moves.{AtRest}
 use Rattle.lego_model.specs.ReferenceRun.{fresh, before_start}
 use Rattle.run_laws.specs.First.{IsOpened, net_at_first, engine_at_first}
@@ -76,6 +76,7 @@ calm-first seen is = record {
   moment = sym (ap (λ (s : State). s.moment) (state-opened seen is));
   none_begun = ap (λ (s : State). s.begun) (state-opened seen is);
   none_due = ap (λ (s : State). s.due) (state-opened seen is);
+  held = refl;
 }
 
 pub no-acts : {Own : Type 0} (seen : Seen Own) → IsOpened seen → journal seen.history ≡ []
@@ -103,6 +104,10 @@ given-first : {Own : Type 0} (seen : Seen Own) → IsOpened seen → given_in se
 unfolding inputs
 given-first seen is = ap (λ (js : List Act). inputs index js) (no-acts seen is)
 
+released-first : {Own : Type 0} (seen : Seen Own) → IsOpened seen → released_of seen ≡ []
+unfolding released
+released-first seen is = ap (λ (js : List Act). released js) (no-acts seen is)
+
 -- The two stand alike before anything is started.
 pub stands-first : {Own : Type 0} (seen : Seen Own) (starts : List Start) (replies : List Reply) → IsOpened seen → Stands seen engine_at_first starts replies (before_start seen.given.declared (fresh starts replies))
 unfolding shown_places at_first
@@ -113,6 +118,7 @@ stands-first seen starts replies is = record {
   queue = refl;
   events = refl;
   apps = sym (ap (λ (given : List (List ℕ)). app_at engine_at_first given starts replies ∷ []) (given-first seen is));
+  released = sym (released-first seen is);
   marks = subst (λ (s : State). AgreeMarks s.marks []) (sym (state-opened seen is)) tt;
   life = λ alive. absurd (true≢false (sym alive));
 }

@@ -32,7 +32,7 @@ use Rattle.net_txn.specs.Agreement.{Agrees}
 use Rattle.net_txn.specs.AskSteps.{own_rows}
 use Rattle.switch_laws.specs.Shown.{rows_or_none, flags_in, flags_at, shown_switch, places, shown_places, Stand}
 use Rattle.switch_laws.specs.laws.FlagLaws.{flags_in-here, flags_in-there}
-use Rattle.lego_model.specs.Journal.{Reply, Start, is_of, inputs, stimuli}
+use Rattle.lego_model.specs.Journal.{Reply, Start, is_of, inputs, stimuli, released}
 use Rattle.lego_model.specs.laws.JournalLaws.{inputs-append, stimuli-append}
 use Rattle.outside.specs.declared.step.WorldStep.{WorldStep}
 use Rattle.outside.specs.declared.step.WorldStep.TheVariants.{Acted, TookInto, From, Joined, Left, Moment, Idle, End, Opened, NotOpened, NextFailed, SendFailed, RecvFailed}
@@ -47,12 +47,13 @@ use Rattle.lego_model.specs.BarrierWaits.{heard, steps_by, wait_steps, barrier_s
 use Rattle.net_txn.specs.Asks.{GivesRows}
 use Rattle.lego_model.specs.FlowQueries.{asked_from, request_sent}
 use Rattle.lego_model.specs.OrderlySteps.{IsOrderly}
-use Rattle.switch_laws.specs.laws.OrderlyLaws.{orderly-none, orderly-then, rows-orderly}
+use Rattle.switch_laws.specs.laws.OrderlyLaws.{orderly-none, orderly-then, rows-orderly, rows-release-none}
 use Rattle.run_laws.specs.Engine.{Engine, Stands}
 use Rattle.lego_model.specs.Application.{index, names, name}
 use Rattle.lego_model.specs.History.{own_acts, given_in, stimuli_in}
 use Rattle.lego_model.specs.ReferenceRun.{text_of}
 use Rattle.run_laws.specs.laws.DialogueLaws.{others_at_once}
+use Rattle.run_laws.specs.laws.TellLaws.{released_same}
 use Rattle.run_laws.specs.LastReport.{SameKeys, flow_lines, table_lines, shown_text, last_text, last_lines, OnlyAsked, JoinedWith}
 use Rattle.batch_laws.specs.laws.PortTellLaws.{some_is_none}
 
@@ -299,8 +300,8 @@ talk-marks (NextFailed ∷ steps) s are = absurd are.0
 talk-marks (SendFailed d ∷ steps) s are = absurd are.0
 talk-marks (RecvFailed d ∷ steps) s are = absurd are.0
 
-only-asked : {Own : Type 0} (old new : Seen Own) (steps : List WorldStep) → new.given ≡ old.given → new.history ≡ old.history ++ steps → AllByRecursion IsTalk steps → AllByRecursion (IsOrderly index) steps → OnlyAsked old new
-only-asked old new steps given more are orderly =
+only-asked : {Own : Type 0} (old new : Seen Own) (steps : List WorldStep) → new.given ≡ old.given → new.history ≡ old.history ++ steps → AllByRecursion IsTalk steps → AllByRecursion (IsOrderly index) steps → released (journal steps) ≡ [] → OnlyAsked old new
+only-asked old new steps given more are orderly none =
     let tells = talk-tells steps are in
     let longer : journal new.history ≡ journal old.history ++ journal steps = ap journal more ∙ journal-append old.history steps in
     record {
@@ -308,6 +309,7 @@ only-asked old new steps given more are orderly =
       acts = ap (filter (is_of index)) longer ∙ filter-append (is_of index) (journal old.history) (journal steps) ∙ ap (λ (xs : List Act). own_acts old ++ xs) tells.acts ∙ append-nil (own_acts old);
       inputs = ap (inputs index) longer ∙ inputs-append index (journal old.history) (journal steps) ∙ ap (λ (xs : List (List ℕ)). given_in old ++ xs) tells.given ∙ append-nil (given_in old);
       stimuli = ap stimuli longer ∙ stimuli-append (journal old.history) (journal steps) ∙ ap (λ (xs : List WorldStim). stimuli_in old ++ xs) tells.stims ∙ append-nil (stimuli_in old);
+      released = released_same old new (journal steps) longer none;
       marks = ap (λ (s : State). s.marks) (state-append old new steps given more) ∙ talk-marks steps (state old) are;
       at_once = others_at_once old new steps more tells.acts;
       orderly = record { steps = steps; history = more; orderly = orderly };
@@ -318,14 +320,14 @@ waits-asked : {Own : Type 0} (Tells : Type 0) (d xid : ℕ) (old new : Seen Own)
 waits-asked Tells d xid old new came refusal told waits =
     let a : Awaited = asked_from d xid in
     only-asked old new (request_sent d xid ∷ barrier_sent a ∷ (wait_steps a waits.got ++ reply_got a ∷ [])) waits.hears.continues.given (waits.hears.told told)
-    (tt, (tt, all_talk (wait_steps a waits.got) (reply_got a ∷ []) (wait-talk a waits.got) (tt, tt))) (rows-orderly index d xid waits.got)
+    (tt, (tt, all_talk (wait_steps a waits.got) (reply_got a ∷ []) (wait-talk a waits.got) (tt, tt))) (rows-orderly index d xid waits.got) (rows-release-none d xid waits.got)
 
 -- To ask a switch for its rows leaves all that is told of the application.
 pub rows-asked : {Own : Type 0} (Tells : Type 0) (d xid : ℕ) (old new : Seen Own) (kept now_kept : List (ℕ × List ℕ)) (rows : List FlowRow) → Tells → GivesRows Tells d xid old new kept now_kept rows → OnlyAsked old new
 rows-asked Tells d xid old new kept now_kept rows told gives = waits-asked Tells d xid old new gives.came gives.answered.refusal told gives.answered.waits
 
 pub asked-nothing : {Own : Type 0} (seen : Seen Own) → OnlyAsked seen seen
-asked-nothing seen = record { given = refl; acts = refl; inputs = refl; stimuli = refl; marks = refl; at_once = λ said. said; orderly = orderly-none index seen }
+asked-nothing seen = record { given = refl; acts = refl; inputs = refl; stimuli = refl; released = refl; marks = refl; at_once = λ said. said; orderly = orderly-none index seen }
 
 pub asked-then : {Own : Type 0} (old mid new : Seen Own) → OnlyAsked old mid → OnlyAsked mid new → OnlyAsked old new
 asked-then old mid new first rest = record {
@@ -333,6 +335,7 @@ asked-then old mid new first rest = record {
   acts = rest.acts ∙ first.acts;
   inputs = rest.inputs ∙ first.inputs;
   stimuli = rest.stimuli ∙ first.stimuli;
+  released = rest.released ∙ first.released;
   marks = rest.marks ∙ first.marks;
   at_once = λ said. rest.at_once (first.at_once said);
   orderly = orderly-then index old mid new first.orderly rest.orderly;

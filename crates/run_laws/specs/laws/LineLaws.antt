@@ -1,5 +1,5 @@
 -- Laws of the lines of a run: the text of the reference controller's lines is what the engine prints.
-use Rattle.std.proofs.Common.{◌≡◌, ℕ, Bool, true, false, List, [], ◌∷◌, ◌++◌, map, Option, refl, sym, ap, ◌∙◌, subst, append_assoc}
+use Rattle.std.proofs.Common.{◌≡◌, ℕ, Bool, true, false, List, [], ◌∷◌, ◌++◌, length, map, Option, refl, sym, ap, ◌∙◌, subst, append_assoc}
 use Rattle.std.proofs.lemmas.List.{append-nil}
 use Rattle.std.proofs.lemmas.List.Concat.{flat_map-append}
 use Rattle.std.specs.List.{flat_map}
@@ -7,13 +7,14 @@ use Rattle.app_frames.specs.declared.frame.Event.{Event}
 use Rattle.app_frames.specs.declared.cause.Tried.{Tried}
 use Rattle.lego_model.specs.declared.turn.TurnWord.TheVariants as words
 use Rattle.lego_model.specs.Turns.{Outcome, Completed, Failed}
-use Rattle.lego_model.specs.Controller.{Line, Started, Dispatched, gone_line}
-use Rattle.lego_model.specs.RunReport.{event_line, start_line, gone_line as gone_line_of, outcome_word, line_text}
+use Rattle.lego_model.specs.Packets.{Held}
+use Rattle.lego_model.specs.Controller.{Line, Started, Dispatched, gone_line, out_lines}
+use Rattle.lego_model.specs.RunReport.{event_line, out_line, start_line, gone_line as gone_line_of, outcome_word, line_text}
 use Rattle.app_visor.specs.declared.state.TurnEnd.{TurnEnd}
 use Rattle.app_visor.specs.declared.state.TurnEnd.TheVariants as ends
 use Rattle.app_visor.specs.Turns.{IsEnd}
 use Rattle.lego_model.specs.Application.{names, name}
-use Rattle.run_laws.specs.Facts.{gone_text, starts_text, turn_word}
+use Rattle.run_laws.specs.Facts.{gone_text, starts_text, turn_word, out_text}
 use Rattle.run_laws.specs.LastReport.{lines_text}
 
 gone_lines : (back : Bool) → lines_text (gone_line 0 back) ≡ gone_text back
@@ -37,6 +38,11 @@ word_so (ends.Done stop) unread (Completed stops checkpoint rest) is =
 word_so (ends.Done stop) unread (Failed cause) is = absurd is
 word_so (ends.Failed why) unread (Completed stops checkpoint rest) is = absurd is
 word_so (ends.Failed why) unread (Failed cause) is = ap (λ c. words.Failed c) is
+
+-- the lines of packets
+pub outs_so : (packets : List Held) → out_text (map (λ h. (h.0, length h.1.payload)) packets) ≡ lines_text (out_lines packets)
+outs_so [] = refl
+outs_so (h ∷ packets) = ap (λ (text : List ℕ). out_line h.0 (length h.1.payload) ++ text) (outs_so packets)
 
 -- an event's line, and the lines behind it
 pub event_lines : (lines more : List Line) (number : ℕ) (event : Event) → lines_text ((lines ++ Dispatched number event ∷ []) ++ more) ≡ lines_text lines ++ (event_line number event.kind event.dpid ++ lines_text more)

@@ -1,5 +1,5 @@
--- Laws of steps in order in a run: calls for an application, turns, starts and the end of the report release no packet, and no call of a
--- link failed where they succeed.
+-- Laws of steps in order in a run: no call of a link failed where calls for an application, turns with the release of their packets, starts
+-- and the end of the report succeed.
 use Rattle.std.proofs.Common.{◌≡◌, ℕ, suc, zero, ◌+◌, Bool, true, false, List, [], ◌∷◌, ◌++◌, length, map, Option, refl, sym, subst, true≢false, inl, inr}
 use Rattle.std.specs.List.{AllByRecursion}
 use Rattle.std.proofs.lemmas.Bool.{eq-eqb, eqb-true}
@@ -12,6 +12,7 @@ use Rattle.lego_model.specs.Controller.{attempts, event_frame}
 use Rattle.outside.specs.Seen.{Seen}
 use Rattle.outside.specs.State.{is_running, state}
 use Rattle.net_txn.specs.Net.{NetState}
+use Rattle.net_txn.specs.Releases.{committed}
 use Rattle.app_visor.specs.declared.state.TurnEnd.{TurnEnd}
 use Rattle.app_visor.specs.Turns.{handed}
 use Rattle.app_visor.specs.declared.state.TurnEnd.TheVariants as ends
@@ -21,7 +22,7 @@ use Rattle.app_visor.specs.Attempts.{IsTry, OneTry, AreTries}
 use Rattle.journal_laws.specs.Readings.{end_acts}
 use Rattle.switch_laws.specs.Orderly.{OrderlySince}
 use Rattle.lego_model.specs.OrderlySteps.{IsOrderly}
-use Rattle.switch_laws.specs.laws.OrderlyLaws.{orderly-same, orderly-then, exchange-orderly, undo-orderly}
+use Rattle.switch_laws.specs.laws.OrderlyLaws.{orderly-same, orderly-then, exchange-orderly, undo-orderly, release-orderly}
 use Rattle.run_laws.specs.Engine.{Engine}
 use Rattle.lego_model.specs.Application.{index}
 use Rattle.run_laws.specs.Facts.{StartsAgain, IsClosed, TakesTurn, IsTurn}
@@ -83,7 +84,8 @@ starts-orderly Tells accepts text old new e now_e told reads s =
 
 closed-orderly : {Own : Type 0} (Tells : Type 0) (accepts : List TableView → Bool) (end : TurnEnd) (checkpoint : Option (List ℕ)) (unread text : List ℕ) (start : ℕ) (mid new : Seen Own) (mid_net : NetState) (e now_e : Engine) → Tells → AreRead Own Tells accepts
     → IsClosed Tells end checkpoint unread text start mid new mid_net e now_e → OrderlySince index mid new
-closed-orderly Tells accepts (ends.Done stop) checkpoint unread text start mid new mid_net e now_e told reads closed = orderly-same index mid new closed.seen
+closed-orderly Tells accepts (ends.Done stop) checkpoint unread text start mid new mid_net e now_e told reads closed =
+    release-orderly index Tells mid_net.held mid new (committed start mid_net) closed.net e.queue closed.queue told closed.commits.ended.all
 closed-orderly Tells accepts (ends.Failed cause) checkpoint unread text start mid new mid_net e now_e told reads closed =
     orderly-then index mid closed.undone new (undo-orderly index Tells start mid closed.undone mid_net closed.undone_net told closed.undoes)
     (starts-orderly Tells accepts closed.later_text closed.undone new (record e { net = closed.undone_net; rest = []; failed = e.failed + 1 }) now_e told reads closed.starts)

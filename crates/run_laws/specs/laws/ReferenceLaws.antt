@@ -3,8 +3,9 @@ use Rattle.std.proofs.Common.{◌≡◌, ℕ, ◌+◌, Bool, true, false, List, 
 use Rattle.app_frames.specs.declared.frame.Event.{Event}
 use Rattle.lego_model.specs.Journal.{Reply}
 use Rattle.lego_model.specs.Places.{Place}
+use Rattle.lego_model.specs.Packets.{Play, fresh_play}
 use Rattle.lego_model.specs.Turns.{Played, turn_of}
-use Rattle.lego_model.specs.Controller.{App, Ended, Run, Turned, table_of, next_reply, restart_lines, turn, says_stop, marked, given_to, dispatch}
+use Rattle.lego_model.specs.Controller.{App, Ended, Run, Turned, table_of, next_reply, out_lines, restart_lines, turn, says_stop, marked, given_to, dispatch}
 use Rattle.run_laws.specs.ReferenceTurn.{numbered, after_turn, without_turn, turned_by}
 
 both_same : {X : Type 0} (b : Bool) (x : X) → (if b then x else x) ≡ x
@@ -13,8 +14,10 @@ both_same false x = refl
 
 abbrev next_run : Turned → Run → Run
 next_run t r = record r {
-  places = t.places;
-  lines = r.lines ++ Ended 0 t.outcome ∷ restart_lines 0 t.outcome t.app;
+  places = t.release.places;
+  queue = r.queue ++ t.release.events;
+  lines = r.lines ++ Ended 0 t.outcome ∷ out_lines t.release.packets ++ restart_lines 0 t.outcome t.app;
+  released = r.released ++ t.release.packets;
   marks = marked t.given r.events r.places r.marks;
 }
 
@@ -54,7 +57,7 @@ dispatch_dead allows event a r apps dead =
 
 -- ---- A turn
 
-pub turn_so : (allows : List Place → Bool) (number moment : ℕ) (event : Event) (ps : List Place) (a : App) (reply : Reply) (played : Played (List Place)) → next_reply a.replies ≡ reply
-    → turn_of (table_of allows) a.budget a.rest reply ps ≡ played → turn allows number moment event ps a ≡ turned_by number moment event ps a reply played
+pub turn_so : (allows : List Place → Bool) (number moment : ℕ) (event : Event) (ps : List Place) (a : App) (reply : Reply) (played : Played Play) → next_reply a.replies ≡ reply
+    → turn_of (table_of allows) a.budget a.rest reply (fresh_play ps) ≡ played → turn allows number moment event ps a ≡ turned_by number moment event ps a reply played
 unfolding turn
 turn_so allows number moment event ps a reply played next is = rw (next, is) refl

@@ -110,5 +110,6 @@ starts_alike Tells accepts text old new e now_e told reads s =
       read_starts = read.starts;
       read_replies = read.replies;
       read_stimuli = tells.stims;
+      released = tells.released;
       life = read.life;
     })

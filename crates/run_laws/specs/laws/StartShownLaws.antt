@@ -52,6 +52,7 @@ start-shown {Own} Tells text old new e now_e starts = record {
                 queue = t.queue ∙ sym s.queue;
                 events = t.events ∙ sym s.events;
                 apps = refl;
+                released = t.released ∙ sym s.released;
                 marks = subst (λ (ms : List Mark). AgreeMarks ms r.marks) (sym s.keeps.marks) t.marks;
                 life = s.life;
               });

@@ -1,13 +1,16 @@
--- Laws of what the journal tells of a turn and of attempts to start: what the application was given, and that no stimulus came.
+-- Laws of what the journal tells of a turn and of attempts to start: what the application was given, and that no stimulus came and no packet
+-- was released.
 use Rattle.std.proofs.Common.{◌≡◌, ℕ, zero, suc, true, List, [], ◌∷◌, ◌++◌, map, refl, sym, ap, ◌∙◌, subst, inl, inr, append_assoc, true≢false}
 use Rattle.std.proofs.lemmas.Bool.{eq-eqb}
 use Rattle.std.proofs.lemmas.List.{append-nil}
+use Rattle.std.proofs.lemmas.List.Elements.{filter_map-append}
 use Rattle.std.specs.List.{AllByRecursion}
 use Rattle.of_types.specs.declared.journal.Act.{Act}
 use Rattle.of_types.specs.declared.journal.Act.TheVariants.{Stim, Started, Gave, Gone, Took, Ended, Sent, Got}
 use Rattle.of_types.specs.declared.journal.WorldStim.{WorldStim}
-use Rattle.lego_model.specs.Journal.{is_of, inputs, stimuli, start_of}
+use Rattle.lego_model.specs.Journal.{is_of, inputs, stimuli, released_in, released, start_of}
 use Rattle.lego_model.specs.laws.JournalLaws.{inputs-append, stimuli-append}
+use Rattle.lego_model.specs.Packets.{Held}
 use Rattle.outside.specs.Seen.{Seen, journal}
 use Rattle.outside.specs.laws.SeenLaws.{journal-append}
 use Rattle.outside.specs.State.{state, is_running}
@@ -17,10 +20,11 @@ use Rattle.app_visor.specs.Beats.{Beat, Talk, Asks, Chain, acts_in}
 use Rattle.app_visor.specs.Attempts.{restored, IsTry, OneTry, AreTries, given_by}
 use Rattle.journal_laws.specs.Readings.{end_acts}
 use Rattle.lego_model.specs.Application.{index}
-use Rattle.lego_model.specs.History.{given_in, stimuli_in}
+use Rattle.lego_model.specs.History.{given_in, stimuli_in, released_of}
 use Rattle.run_laws.specs.laws.ChainLaws.{links_tell, try_own, try_given}
 use Rattle.run_laws.specs.LinkSteps.{TellsGiven}
 use Rattle.app_visor.specs.laws.TellingLaws.{journal_steps}
+use Rattle.switch_laws.specs.laws.OrderlyLaws.{exchange-releases-none}
 
 abbrev AreOwn : List Act → Type 0
 AreOwn acts = AllByRecursion (λ act. is_of index act ≡ true) acts
@@ -39,13 +43,35 @@ no_stimuli (Ended app ∷ acts) own = no_stimuli acts own.1
 no_stimuli (Sent d bytes ∷ acts) own = no_stimuli acts own.1
 no_stimuli (Got d bytes ∷ acts) own = no_stimuli acts own.1
 
+released-append : (first next : List Act) → released (first ++ next) ≡ released first ++ released next
+unfolding released
+released-append first next = filter_map-append released_in first next
+
+no_release : (acts : List Act) → AreOwn acts → released acts ≡ []
+unfolding released
+no_release [] own = refl
+no_release (Stim x ∷ acts) own = absurd (true≢false (sym own.0))
+no_release (Started app stands ∷ acts) own = no_release acts own.1
+no_release (Gave app bytes ∷ acts) own = no_release acts own.1
+no_release (Gone app bytes ∷ acts) own = no_release acts own.1
+no_release (Took app what ∷ acts) own = no_release acts own.1
+no_release (Ended app ∷ acts) own = no_release acts own.1
+no_release (Sent d bytes ∷ acts) own = absurd (true≢false (sym own.0))
+no_release (Got d bytes ∷ acts) own = absurd (true≢false (sym own.0))
+
+-- a journal that goes on by acts that release nothing
+pub released_same : {Own : Type 0} (old new : Seen Own) (acts : List Act) → journal new.history ≡ journal old.history ++ acts → released acts ≡ [] → released_of new ≡ released_of old
+released_same old new acts longer none =
+    ap released longer ∙ released-append (journal old.history) acts ∙ ap (λ (ps : List Held). released_of old ++ ps) none ∙ append-nil (released_of old)
+
 tells_none : {Own : Type 0} (seen : Seen Own) → TellsGiven seen seen []
-tells_none seen = record { given = sym (append-nil (given_in seen)); stims = refl }
+tells_none seen = record { given = sym (append-nil (given_in seen)); stims = refl; released = refl }
 
 tells_then : {Own : Type 0} (a b c : Seen Own) (xs ys : List (List ℕ)) → TellsGiven a b xs → TellsGiven b c ys → TellsGiven a c (xs ++ ys)
 tells_then a b c xs ys first second = record {
   given = second.given ∙ ap (λ (frames : List (List ℕ)). frames ++ ys) first.given ∙ append_assoc (given_in a) xs ys;
   stims = second.stims ∙ first.stims;
+  released = second.released ∙ first.released;
 }
 
 tells_talk : {Own : Type 0} (old new : Seen Own) (acts : List Act) → new.history ≡ old.history ++ map step_of acts → AreOwn acts → TellsGiven old new (inputs index acts)
@@ -55,6 +81,7 @@ tells_talk old new acts history own =
     record {
       given = ap (inputs index) longer ∙ inputs-append index (journal old.history) acts;
       stims = ap stimuli longer ∙ stimuli-append (journal old.history) acts ∙ ap (λ (xs : List WorldStim). stimuli_in old ++ xs) (no_stimuli acts own) ∙ append-nil (stimuli_in old);
+      released = released_same old new acts longer (no_release acts own);
     }
 
 -- ---- Beats
@@ -72,7 +99,8 @@ chain_tells Tells (Talk act ∷ trace) old new net now_net told chain =
     (tells_then old next new (inputs index (act ∷ [])) (inputs index (acts_in trace)) (tells_talk old next (act ∷ []) (chain.1.1.0.history told) (chain.0, tt)) (chain_tells Tells trace next new net now_net told chain.1.1.1))
 chain_tells Tells (Asks x ∷ trace) old new net now_net told chain =
     let same = links_tell x.before x.after (chain.1.0.changes.links told) in
-    let one : TellsGiven old x.after [] = subst (λ (s : Seen _). TellsGiven s x.after []) chain.0.0 (record { given = same.given ∙ sym (append-nil (given_in x.before)); stims = same.stims }) in
+    let none = exchange-releases-none Tells x.dpid x.bytes x.before x.after x.net x.now_net x.answer told chain.1.0.changes in
+    let one : TellsGiven old x.after [] = subst (λ (s : Seen _). TellsGiven s x.after []) chain.0.0 (record { given = same.given ∙ sym (append-nil (given_in x.before)); stims = same.stims; released = none }) in
     tells_then old x.after new [] (inputs index (acts_in trace)) one (chain_tells Tells trace x.after new x.now_net now_net told chain.1.1)
 
 -- ---- Attempts to start

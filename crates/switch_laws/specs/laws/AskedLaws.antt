@@ -11,12 +11,17 @@ use Rattle.of_wire.specs.Grammar.{enveloped}
 use Rattle.flow_table.specs.Errors.{bad_type}
 use Rattle.flow_table.specs.Refusals.{or_else, stats_refusal}
 use Rattle.app_frames.specs.declared.frame.Answer.{Answer}
-use Rattle.lego_model.specs.Answers.{Rows, host_refusal, host_answer_to, refused_or, host_answer_read, host_answer}
+use Rattle.app_frames.specs.declared.frame.Answer.TheVariants.{Fine}
+use Rattle.lego_model.specs.Answers.{Rows, packet_refused, host_refusal, host_answer_to, refused_or, host_answer_read, host_answer}
 use Rattle.switch_laws.specs.Asked.{ReadAsChange}
 
 some_answer : (o : Option OfError) (e : OfError) (answer : Option Answer) → refused_or (or_else o (Some e)) answer ≡ None → ⊥
 some_answer None e answer h = cc
 some_answer (Some x) e answer h = cc
+
+fine_answer : (o : Option OfError) (answer : Answer) → refused_or o (Some answer) ≡ None → ⊥
+fine_answer None answer h = cc
+fine_answer (Some x) answer h = cc
 
 pub asked-change : (rows : Rows) (m : Message) → refused_or (host_refusal rows m) (host_answer_to rows m) ≡ None → (c : Change) × (m ≡ FlowMod c)
 unfolding host_refusal
@@ -36,7 +41,7 @@ asked-change rows (SetConfig config) h = absurd cc
 asked-change rows (PacketIn packet) h = absurd cc
 asked-change rows (FlowRemoved flow) h = absurd cc
 asked-change rows (PortStatus status) h = absurd cc
-asked-change rows (PacketOut packet) h = absurd cc
+asked-change rows (PacketOut packet) h = absurd (fine_answer (packet_refused packet) Fine h)
 asked-change rows (PortMod port) h = absurd cc
 asked-change rows (StatsReply s) h = absurd cc
 asked-change rows BarrierReply h = absurd cc

@@ -1,12 +1,13 @@
--- Laws of steps in order: what the network does where it succeeds releases no packet, and no call of it failed.
+-- Laws of steps in order, and of what they release: where the network succeeds no call of it failed, and but for a release it releases no
+-- packet.
 use Rattle.std.proofs.Common.{◌≡◌, ℕ, ◌==◌, Bool, true, false, List, [], ◌∷◌, ◌++◌, length, Option, Some, None, Result, Ok, Err, refl, sym, ap, ◌∙◌, subst, append_assoc, arith, true≢false, inl, inr}
 use Rattle.std.specs.Prelude.{◌⊎◌, nat_lt, drop}
 use Rattle.std.specs.List.{AllByRecursion}
 use Rattle.std.proofs.lemmas.Bool.{cases_Bool}
 use Rattle.std.proofs.lemmas.List.{append-nil}
+use Rattle.std.proofs.lemmas.List.Elements.{filter_map-append}
 use Rattle.of_types.specs.Fields.{number_at}
 use Rattle.of_types.specs.declared.journal.Act.{Act}
-use Rattle.of_types.specs.declared.journal.Act.TheVariants.{Stim, Started, Gave, Gone, Took, Ended, Sent, Got}
 use Rattle.of_match.specs.declared.key.Key.{Key}
 use Rattle.of_action.specs.declared.action.Action.{Action}
 use Rattle.of_action.specs.Reading.{◌>>=◌, actions_of}
@@ -24,10 +25,14 @@ use Rattle.of_wire.specs.Kinds.{kind_of_number}
 use Rattle.of_wire.specs.Reading.{of_actions, flow_mod_of, body_of, has_length, front_of, reading_of}
 use Rattle.of_wire.specs.Spelling.{body_bytes, message_bytes}
 use Rattle.app_frames.specs.declared.frame.Answer.{Answer}
-use Rattle.lego_model.specs.Journal.{packet_read, released}
+use Rattle.app_frames.specs.declared.frame.Event.{Event}
+use Rattle.lego_model.specs.History.{released_of}
+use Rattle.lego_model.specs.Journal.{packet_read, released_in, released}
+use Rattle.lego_model.specs.Packets.{Held}
 use Rattle.outside.specs.declared.step.WorldStep.{WorldStep}
 use Rattle.outside.specs.declared.step.WorldStep.TheVariants.{Acted, TookInto, From, Joined, Left, Moment, Idle, End, Opened, NotOpened, NextFailed, SendFailed, RecvFailed}
 use Rattle.outside.specs.Seen.{Seen, journal}
+use Rattle.outside.specs.laws.SeenLaws.{journal-append}
 use Rattle.lego_model.specs.declared.fault.TxnFault.{TxnFault}
 use Rattle.lego_model.specs.declared.wait.Awaited.{Awaited}
 use Rattle.lego_model.specs.declared.wait.Heard.{Heard}
@@ -39,10 +44,12 @@ use Rattle.lego_model.specs.FlowQueries.{asked_from, request_sent}
 use Rattle.net_txn.specs.Changes.{Changes, answer_of_host, known_rows, change_sent}
 use Rattle.net_txn.specs.Joining.{greeting, greeted_from, delete_all}
 use Rattle.net_txn.specs.Undos.{Part, Inverse, BarrierPassed, Stuck, part_steps, steps_of, alone, fault_in, first_fault, first_fault_of, ended_by, Undoes}
+use Rattle.net_txn.specs.Releases.{packet_awaited, packet_steps, SendsPacket, ReleasesAll}
 use Rattle.net_txn.specs.laws.NoticeLaws.{kind_of_header}
 use Rattle.switch_laws.specs.laws.AskedLaws.{asked}
 use Rattle.switch_laws.specs.Orderly.{OrderlySince}
-use Rattle.lego_model.specs.OrderlySteps.{IsOrderlyAct, IsOrderly}
+use Rattle.lego_model.specs.OrderlySteps.{IsOrderly}
+use Rattle.switch_laws.specs.Released.{released_by, ReleasesNone}
 
 -- ---- Messages of another type than PACKET_OUT (13)
 
@@ -131,6 +138,151 @@ barrier_type : (xid : ℕ) → number_at 1 1 (message_bytes xid BarrierRequest) 
 unfolding message_bytes
 barrier_type xid = kind_of_header 18 _ xid (body_bytes BarrierRequest) (omega arith)
 
+-- ---- Steps that release no packet
+
+change-none : (d xid : ℕ) (m : Change) → packet_read d (reading_of (message_bytes xid (FlowMod m))) ≡ None
+unfolding kind_of_number
+change-none d xid m = not-released d kinds.FlowMod (message_bytes xid (FlowMod m)) (ap kind_of_number (change_type xid m)) refl
+
+config-none : (d xid : ℕ) (c : Config) → packet_read d (reading_of (message_bytes xid (SetConfig c))) ≡ None
+unfolding kind_of_number
+config-none d xid c = not-released d kinds.SetConfig (message_bytes xid (SetConfig c)) (ap kind_of_number (config_type xid c)) refl
+
+request-none : (d xid : ℕ) (c : Statistics) → packet_read d (reading_of (message_bytes xid (StatsRequest c))) ≡ None
+unfolding kind_of_number
+request-none d xid c = not-released d kinds.StatsRequest (message_bytes xid (StatsRequest c)) (ap kind_of_number (request_type xid c)) refl
+
+pub echo-none : (d xid : ℕ) (payload : List ℕ) → packet_read d (reading_of (message_bytes xid (EchoReply payload))) ≡ None
+unfolding kind_of_number
+echo-none d xid payload = not-released d kinds.EchoReply (message_bytes xid (EchoReply payload)) (ap kind_of_number (echo_type xid payload)) refl
+
+barrier-none : (d xid : ℕ) → packet_read d (reading_of (message_bytes xid BarrierRequest)) ≡ None
+unfolding kind_of_number
+barrier-none d xid = not-released d kinds.BarrierRequest (message_bytes xid BarrierRequest) (ap kind_of_number (barrier_type xid)) refl
+
+inverse-none : (d xid : ℕ) (k : Key) → packet_read d (reading_of (inverse_bytes xid k)) ≡ None
+unfolding inverse_bytes
+inverse-none d xid k = change-none d xid (delete_strict k)
+
+pub none-both : (xs ys : List WorldStep) → ReleasesNone xs → ReleasesNone ys → ReleasesNone (xs ++ ys)
+none-both [] ys first later = later
+none-both (x ∷ xs) ys first later = (first.0, none-both xs ys first.1 later)
+
+heard-none : (d : ℕ) (h : Heard) (bytes : List ℕ) → ReleasesNone (steps_by d h bytes)
+heard-none d Reply bytes = tt
+heard-none d (Refused r) bytes = tt
+heard-none d Notice bytes = tt
+heard-none d Echo bytes = (echo-none d _ _, tt)
+heard-none d Other bytes = tt
+
+pub wait-none : (a : Awaited) (got : List (List ℕ)) → ReleasesNone (wait_steps a got)
+wait-none a [] = tt
+wait-none a (b ∷ bs) = (refl, none-both (steps_by a.dpid (heard a b) b) (wait_steps a bs) (heard-none a.dpid (heard a b) b) (wait-none a bs))
+
+pub ended-none : (a : Awaited) (got : List (List ℕ)) → ReleasesNone (wait_steps a got ++ reply_got a ∷ [])
+ended-none a got = none-both (wait_steps a got) (reply_got a ∷ []) (wait-none a got) (refl, tt)
+
+-- a switch joins
+pub join-steps-none : (d xid : ℕ) (got : List (List ℕ)) → ReleasesNone (greeting d xid ++ (wait_steps (greeted_from d xid) got ++ reply_got (greeted_from d xid) ∷ []))
+join-steps-none d xid got = (change-none d xid delete_all, (config-none d (next_xid xid) _, (barrier-none d _, ended-none (greeted_from d xid) got)))
+
+-- rows are asked for
+rows-none : (d xid : ℕ) (got : List (List ℕ)) → ReleasesNone ((request_sent d xid ∷ barrier_sent (asked_from d xid) ∷ []) ++ (wait_steps (asked_from d xid) got ++ reply_got (asked_from d xid) ∷ []))
+rows-none d xid got = (request-none d xid _, (barrier-none d _, ended-none (asked_from d xid) got))
+
+-- ---- What a history releases
+
+released-step : (step : WorldStep) (steps : List WorldStep) → released_by step ≡ None → released (journal (step ∷ steps)) ≡ released (journal steps)
+unfolding released journal
+released-step (Acted act) steps is = rw is refl
+released-step (TookInto app what room) steps is = refl
+released-step (From d bytes) steps is = refl
+released-step (Joined d bytes) steps is = refl
+released-step (Left d) steps is = refl
+released-step (Moment t) steps is = refl
+released-step Idle steps is = refl
+released-step End steps is = refl
+released-step Opened steps is = refl
+released-step NotOpened steps is = refl
+released-step NextFailed steps is = refl
+released-step (SendFailed d) steps is = refl
+released-step (RecvFailed d) steps is = refl
+
+pub released-nil : released (journal []) ≡ []
+unfolding released journal
+released-nil = refl
+
+-- Such steps released none.
+pub released-none : (steps : List WorldStep) → ReleasesNone steps → released (journal steps) ≡ []
+released-none [] all = released-nil
+released-none (step ∷ steps) all = released-step step steps all.0 ∙ released-none steps all.1
+
+released-acts : (xs ys : List Act) → released (xs ++ ys) ≡ released xs ++ released ys
+unfolding released
+released-acts xs ys = filter_map-append released_in xs ys
+
+-- What a longer history released goes on.
+pub released-append : (xs ys : List WorldStep) → released (journal (xs ++ ys)) ≡ released (journal xs) ++ released (journal ys)
+released-append xs ys = ap released (journal-append xs ys) ∙ released-acts (journal xs) (journal ys)
+
+pub released-on : {Own : Type 0} (old new : Seen Own) (steps : List WorldStep) → new.history ≡ old.history ++ steps → released_of new ≡ released_of old ++ released (journal steps)
+released-on old new steps history = ap (λ (h : List WorldStep). released (journal h)) history ∙ released-append old.history steps
+
+pub released-still : {Own : Type 0} (old new : Seen Own) (steps : List WorldStep) → new.history ≡ old.history ++ steps → ReleasesNone steps → released_of new ≡ released_of old
+released-still old new steps history none =
+    released-on old new steps history ∙ ap (λ (ps : List Held). released_of old ++ ps) (released-none steps none) ∙ append-nil (released_of old)
+
+pub rows-release-none : (d xid : ℕ) (got : List (List ℕ)) → released (journal ((request_sent d xid ∷ barrier_sent (asked_from d xid) ∷ []) ++ (wait_steps (asked_from d xid) got ++ reply_got (asked_from d xid) ∷ []))) ≡ []
+rows-release-none d xid got = released-none _ (rows-none d xid got)
+
+-- ---- A message of an application
+
+-- where the switch answered it
+abbrev asked_steps : ℕ → ℕ → Change → List (List ℕ) → List WorldStep
+asked_steps d xid m got = change_sent d xid m ∷ barrier_sent (awaited_from d xid) ∷ (wait_steps (awaited_from d xid) got ++ reply_got (awaited_from d xid) ∷ [])
+
+asked-none : (d xid : ℕ) (m : Change) (got : List (List ℕ)) → ReleasesNone (asked_steps d xid m got)
+asked-none d xid m got = (sent_so d xid m, (barrier-none d (awaited_from d xid).barrier, ended-none (awaited_from d xid) got))
+  where
+    sent_so : (d xid : ℕ) (m : Change) → released_by (change_sent d xid m) ≡ None
+    sent_so d xid m = change-none d xid _
+
+exchange-by-none : {Own : Type 0} {Tells : Type 0} (d : ℕ) (bytes : List ℕ) (old new : Seen Own) (net now_net : NetState) (given : Answer) → Tells → Changes Tells d bytes old new net now_net (Ok given)
+    → (o : Option Answer) → answer_of_host d bytes net ≡ o → released_of new ≡ released_of old
+exchange-by-none d bytes old new net now_net given told changes (Some a) host = ap (λ (s : Seen _). released_of s) (changes.by_host a host).world
+exchange-by-none d bytes old new net now_net given told changes None host =
+    let read = asked (known_rows d net.views) bytes host in
+    let asks = changes.by_switch read.xid read.change host read.read in
+    released-still old new (asked_steps d net.xid read.change asks.waits.got) (asks.waits.hears.told told) (asked-none d net.xid read.change asks.waits.got)
+
+pub exchange-releases-none : {Own : Type 0} (Tells : Type 0) (d : ℕ) (bytes : List ℕ) (old new : Seen Own) (net now_net : NetState) (given : Answer) → Tells → Changes Tells d bytes old new net now_net (Ok given) → released_of new ≡ released_of old
+exchange-releases-none Tells d bytes old new net now_net given told changes = exchange-by-none d bytes old new net now_net given told changes (answer_of_host d bytes net) refl
+
+-- ---- An undo that ended with Ok
+
+no_fault_first : (a b : Option TxnFault) → first_fault_of a b ≡ None → (a ≡ None) × (b ≡ None)
+no_fault_first None b is = (refl, is)
+no_fault_first (Some fault) b is = absurd cc
+
+part-none : (d : ℕ) (p : Part) → fault_in p ≡ None → ReleasesNone (part_steps d p)
+part-none d (Inverse xid k) is = (inverse-none d xid k, tt)
+part-none d (BarrierPassed xid got) is = (barrier-none d xid, ended-none (alone d xid) got)
+part-none d (Stuck xid fault steps) is = absurd cc
+
+parts-none : (parts : List (ℕ × Part)) → first_fault parts ≡ None → ReleasesNone (steps_of parts)
+parts-none [] is = tt
+parts-none (p ∷ older) is =
+    let both = no_fault_first (first_fault older) (fault_in p.1) is in
+    none-both (steps_of older) (part_steps p.0 p.1) (parts-none older both.0) (part-none p.0 p.1 both.1)
+
+none-fault : (o : Option TxnFault) → Ok tt ≡ ended_by o → o ≡ None
+none-fault None is = refl
+none-fault (Some fault) is = absurd cc
+
+pub undo-releases-none : {Own : Type 0} (Tells : Type 0) (start : ℕ) (old new : Seen Own) (net now_net : NetState) → Tells → Undoes Tells start old new net now_net (Ok tt) → released_of new ≡ released_of old
+undo-releases-none Tells start old new net now_net told undoes =
+    released-still old new (steps_of undoes.parts) (undoes.told told) (parts-none undoes.parts (none-fault (first_fault undoes.parts) undoes.result_so))
+
 -- ---- Of one application
 
 module _ (app : ℕ) where
@@ -157,74 +309,13 @@ module _ (app : ℕ) where
   pub orderly-whole : {Own : Type 0} (old new : Seen Own) → AllByRecursion (IsOrderly app) old.history → OrderlySince app old new → AllByRecursion (IsOrderly app) new.history
   orderly-whole old new all since = subst (AllByRecursion (IsOrderly app)) (sym since.history) (orderly-both old.history since.steps all since.orderly)
 
-  -- ---- A history in order released nothing
-
-  released-act : (act : Act) (steps : List WorldStep) → IsOrderlyAct app act → released (journal (Acted act ∷ steps)) ≡ released (journal steps)
-  unfolding released journal
-  released-act (Stim x) steps is = refl
-  released-act (Started of stands) steps is = refl
-  released-act (Gave of bytes) steps is = refl
-  released-act (Gone of bytes) steps is = refl
-  released-act (Took of what) steps is = refl
-  released-act (Ended of) steps is = refl
-  released-act (Sent d bytes) steps is = rw is refl
-  released-act (Got d bytes) steps is = refl
-
-  released-step : (step : WorldStep) (steps : List WorldStep) → IsOrderly app step → released (journal (step ∷ steps)) ≡ released (journal steps)
-  unfolding released journal
-  released-step (Acted act) steps is = released-act act steps is
-  released-step (TookInto app what room) steps is = refl
-  released-step (From d bytes) steps is = refl
-  released-step (Joined d bytes) steps is = refl
-  released-step (Left d) steps is = refl
-  released-step (Moment t) steps is = refl
-  released-step Idle steps is = refl
-  released-step End steps is = refl
-  released-step Opened steps is = refl
-  released-step NotOpened steps is = absurd is
-  released-step NextFailed steps is = absurd is
-  released-step (SendFailed d) steps is = absurd is
-  released-step (RecvFailed d) steps is = absurd is
-
-  released-nil : released (journal []) ≡ []
-  unfolding released journal
-  released-nil = refl
-
-  pub released-none : (steps : List WorldStep) → AllByRecursion (IsOrderly app) steps → released (journal steps) ≡ []
-  released-none [] all = released-nil
-  released-none (step ∷ steps) all = released-step step steps all.0 ∙ released-none steps all.1
-
-  pub change-orderly : (d xid : ℕ) (m : Change) → IsOrderly app (Acted (Sent d (message_bytes xid (FlowMod m))))
-  unfolding kind_of_number
-  change-orderly d xid m = not-released d kinds.FlowMod (message_bytes xid (FlowMod m)) (ap kind_of_number (change_type xid m)) refl
-
-  config-orderly : (d xid : ℕ) (c : Config) → IsOrderly app (Acted (Sent d (message_bytes xid (SetConfig c))))
-  unfolding kind_of_number
-  config-orderly d xid c = not-released d kinds.SetConfig (message_bytes xid (SetConfig c)) (ap kind_of_number (config_type xid c)) refl
-
-  request-orderly : (d xid : ℕ) (s : Statistics) → IsOrderly app (Acted (Sent d (message_bytes xid (StatsRequest s))))
-  unfolding kind_of_number
-  request-orderly d xid s = not-released d kinds.StatsRequest (message_bytes xid (StatsRequest s)) (ap kind_of_number (request_type xid s)) refl
-
-  pub echo-orderly : (d xid : ℕ) (payload : List ℕ) → IsOrderly app (Acted (Sent d (message_bytes xid (EchoReply payload))))
-  unfolding kind_of_number
-  echo-orderly d xid payload = not-released d kinds.EchoReply (message_bytes xid (EchoReply payload)) (ap kind_of_number (echo_type xid payload)) refl
-
-  barrier-orderly : (d xid : ℕ) → IsOrderly app (Acted (Sent d (message_bytes xid BarrierRequest)))
-  unfolding kind_of_number
-  barrier-orderly d xid = not-released d kinds.BarrierRequest (message_bytes xid BarrierRequest) (ap kind_of_number (barrier_type xid)) refl
-
-  inverse-orderly : (d xid : ℕ) (k : Key) → IsOrderly app (Acted (Sent d (inverse_bytes xid k)))
-  unfolding inverse_bytes
-  inverse-orderly d xid k = change-orderly d xid (delete_strict k)
-
   -- ---- Waits
 
   heard-orderly : (d : ℕ) (h : Heard) (bytes : List ℕ) → AllByRecursion (IsOrderly app) (steps_by d h bytes)
   heard-orderly d Reply bytes = tt
   heard-orderly d (Refused r) bytes = tt
   heard-orderly d Notice bytes = tt
-  heard-orderly d Echo bytes = (echo-orderly d _ _, tt)
+  heard-orderly d Echo bytes = (tt, tt)
   heard-orderly d Other bytes = tt
 
   pub wait-orderly : (a : Awaited) (got : List (List ℕ)) → AllByRecursion (IsOrderly app) (wait_steps a got)
@@ -242,15 +333,11 @@ module _ (app : ℕ) where
   exchange-by {Own} {Tells} d bytes old new net now_net given told changes None host =
       let read = asked (known_rows d net.views) bytes host in
       let asks = changes.by_switch read.xid read.change host read.read in
-      let a = awaited_from d net.xid in
       record {
-        steps = change_sent d net.xid read.change ∷ barrier_sent a ∷ (wait_steps a asks.waits.got ++ reply_got a ∷ []);
+        steps = asked_steps d net.xid read.change asks.waits.got;
         history = asks.waits.hears.told told;
-        orderly = (sent_so d net.xid read.change, (barrier-orderly d a.barrier, ended-orderly a asks.waits.got));
+        orderly = (tt, (tt, ended-orderly (awaited_from d net.xid) asks.waits.got));
       }
-    where
-      sent_so : (d xid : ℕ) (m : Change) → IsOrderly app (change_sent d xid m)
-      sent_so d xid m = change-orderly d xid _
 
   pub exchange-orderly : {Own : Type 0} (Tells : Type 0) (d : ℕ) (bytes : List ℕ) (old new : Seen Own) (net now_net : NetState) (given : Answer) → Tells → Changes Tells d bytes old new net now_net (Ok given) → OrderlySince app old new
   exchange-orderly Tells d bytes old new net now_net given told changes = exchange-by d bytes old new net now_net given told changes (answer_of_host d bytes net) refl
@@ -258,22 +345,18 @@ module _ (app : ℕ) where
   -- ---- A switch joins
 
   pub join-steps-orderly : (d xid : ℕ) (got : List (List ℕ)) → AllByRecursion (IsOrderly app) (greeting d xid ++ (wait_steps (greeted_from d xid) got ++ reply_got (greeted_from d xid) ∷ []))
-  join-steps-orderly d xid got = (change-orderly d xid delete_all, (config-orderly d (next_xid xid) _, (barrier-orderly d _, ended-orderly (greeted_from d xid) got)))
+  join-steps-orderly d xid got = (tt, (tt, (tt, ended-orderly (greeted_from d xid) got)))
 
   -- ---- Rows are asked for
 
   pub rows-orderly : (d xid : ℕ) (got : List (List ℕ)) → AllByRecursion (IsOrderly app) ((request_sent d xid ∷ barrier_sent (asked_from d xid) ∷ []) ++ (wait_steps (asked_from d xid) got ++ reply_got (asked_from d xid) ∷ []))
-  rows-orderly d xid got = (request-orderly d xid _, (barrier-orderly d _, ended-orderly (asked_from d xid) got))
+  rows-orderly d xid got = (tt, (tt, ended-orderly (asked_from d xid) got))
 
   -- ---- An undo that ended with Ok
 
-  no_fault_first : (a b : Option TxnFault) → first_fault_of a b ≡ None → (a ≡ None) × (b ≡ None)
-  no_fault_first None b is = (refl, is)
-  no_fault_first (Some fault) b is = absurd cc
-
   part-orderly : (d : ℕ) (p : Part) → fault_in p ≡ None → AllByRecursion (IsOrderly app) (part_steps d p)
-  part-orderly d (Inverse xid k) is = (inverse-orderly d xid k, tt)
-  part-orderly d (BarrierPassed xid got) is = (barrier-orderly d xid, ended-orderly (alone d xid) got)
+  part-orderly d (Inverse xid k) is = (tt, tt)
+  part-orderly d (BarrierPassed xid got) is = (tt, ended-orderly (alone d xid) got)
   part-orderly d (Stuck xid fault steps) is = absurd cc
 
   parts-orderly : (parts : List (ℕ × Part)) → first_fault parts ≡ None → AllByRecursion (IsOrderly app) (steps_of parts)
@@ -282,13 +365,28 @@ module _ (app : ℕ) where
       let both = no_fault_first (first_fault older) (fault_in p.1) is in
       orderly-both (steps_of older) (part_steps p.0 p.1) (parts-orderly older both.0) (part-orderly p.0 p.1 both.1)
 
-  none-fault : (o : Option TxnFault) → Ok tt ≡ ended_by o → o ≡ None
-  none-fault None is = refl
-  none-fault (Some fault) is = absurd cc
-
   pub undo-orderly : {Own : Type 0} (Tells : Type 0) (start : ℕ) (old new : Seen Own) (net now_net : NetState) → Tells → Undoes Tells start old new net now_net (Ok tt) → OrderlySince app old new
   undo-orderly Tells start old new net now_net told undoes = record {
     steps = steps_of undoes.parts;
     history = undoes.told told;
     orderly = parts-orderly undoes.parts (none-fault (first_fault undoes.parts) undoes.result_so);
   }
+
+  -- ---- A release: each packet was sent, and a barrier behind it
+
+  pub release-orderly : {Own : Type 0} (Tells : Type 0) (held : List Held) (old new : Seen Own) (net now_net : NetState) (queue now_queue : List Event) → Tells → ReleasesAll Tells held old new net now_net queue now_queue → OrderlySince app old new
+  release-orderly Tells [] old new net now_net queue now_queue told all = orderly-same old new all.0
+  release-orderly Tells (h ∷ more) old new net now_net queue now_queue told all =
+      let mid = all.0 in
+      let rest = release-orderly Tells more mid new all.1.0 now_net all.1.1.0 now_queue told all.1.1.1.1 in
+      elim all.1.1.1.0 [
+        | inl (viewed, sends) ↦ orderly-then old mid new (sent sends) rest
+        | inr passes ↦ subst (λ (s : Seen _). OrderlySince app s new) passes.seen rest
+      ]
+    where
+      sent : {mid_net : NetState} {mid_queue : List Event} → SendsPacket Tells h old all.0 net mid_net queue mid_queue → OrderlySince app old all.0
+      sent sends = record {
+        steps = packet_steps h.0 net.xid h.1 ++ (wait_steps (packet_awaited h.0 net.xid) sends.waits.got ++ reply_got (packet_awaited h.0 net.xid) ∷ []);
+        history = sends.waits.hears.told told;
+        orderly = (tt, (tt, ended-orderly (packet_awaited h.0 net.xid) sends.waits.got));
+      }

@@ -47,7 +47,7 @@ rows_in-shown flags (Some s) = ap (λ (rows : Rows). some rows) (rows-owned flag
     some : Rows → Option Rows
     some rows = Some rows
 
-switch_at-shown : (declared : List Declared) (views : List TableView) (s : State) (d : ℕ) → Stand declared s → switch_at d (places (shown_switch views s) declared) ≡ shown_switch views s d
+pub switch_at-shown : (declared : List Declared) (views : List TableView) (s : State) (d : ℕ) → Stand declared s → switch_at d (places (shown_switch views s) declared) ≡ shown_switch views s d
 switch_at-shown declared views s d stand =
     elim (cases_Bool (is_declared d declared)) [
       | inl is ↦ switch_at-declared (shown_switch views s) d declared is
@@ -85,7 +85,7 @@ flags-elsewhere : (refusal : Option Refusal) (d e : ℕ) (m : Change) (views : L
 flags-elsewhere None d e m views other = ap (λ (o : Option (List ViewRow)). flags_in (rows_or_none o)) (rows_at-other d e (rows_after m) views other)
 flags-elsewhere (Some r) d e m views other = refl
 
-declared_of : (d : ℕ) (declared : List Declared) (s : State) → Stand declared s → (x : SwitchState) → switch_of d s ≡ Some x → is_declared d declared ≡ true
+pub declared_of : (d : ℕ) (declared : List Declared) (s : State) → Stand declared s → (x : SwitchState) → switch_of d s ≡ Some x → is_declared d declared ≡ true
 declared_of d declared s stand x is =
     elim (cases_Bool (is_declared d declared)) [
       | inl there ↦ there

@@ -21,6 +21,7 @@ use Rattle.undo_laws.specs.laws.RemovalLaws.{OnlyAdded-nothing, OnlyAdded-more}
 use Rattle.undo_laws.specs.laws.CorrectedLaws.{refusal-asked}
 use Rattle.app_frames.specs.declared.frame.Answer.{Answer}
 use Rattle.lego_model.specs.Answers.{rows_of_table, rows_of_view, would_touch, as_sent}
+use Rattle.lego_model.specs.Packets.{Held}
 use Rattle.outside.specs.Seen.{Seen}
 use Rattle.outside.specs.State.{state, switch_of, waits_of}
 use Rattle.outside.specs.Conforming.{Conforming}
@@ -286,11 +287,20 @@ ready-asked d m old new net now_net given ready step = record {
   ];
 }
 
+-- what is held is no matter
+goes-held : {Own : Type 0} (start : ℕ) (first now : Seen Own) (net0 net : NetState) (held : List Held) → Goes start first now net0 net → Goes start first now net0 (record net { held = held })
+goes-held start first now net0 net held goes =
+    let s = goes.since in
+    record {
+      since = record { started = s.started; given = s.given; moment = s.moment; kept = s.kept; views = s.views; joined = s.joined; out = s.out };
+      ready = record { waits = goes.ready.waits; agrees = goes.ready.agrees };
+    }
+
 goes-by : {Own : Type 0} (Tells : Type 0) (d : ℕ) (bytes : List ℕ) (start : ℕ) (first old new : Seen Own) (net0 net now_net : NetState) (given : Answer) → Tells → Conforming new → Changes Tells d bytes old new net now_net (Ok given)
     → Steps Tells d bytes old new net now_net (Ok given) → Goes start first old net0 net → (o : Option Answer) → answer_of_host d bytes net ≡ o → Goes start first new net0 now_net
 goes-by Tells d bytes start first old new net0 net now_net given told keeps changes steps goes (Some a) host =
     let by = changes.by_host a host in
-    subst (λ (n : NetState). Goes start first new net0 n) (sym by.stays) (subst (λ (w : Seen _). Goes start first w net0 net) (sym by.world) goes)
+    subst (λ (n : NetState). Goes start first new net0 n) (sym by.stays) (goes-held start first new net0 net _ (subst (λ (w : Seen _). Goes start first w net0 net) (sym by.world) goes))
 goes-by Tells d bytes start first old new net0 net now_net given told keeps changes steps goes None host =
     let read = asked (known_rows d net.views) bytes host in
     let k = known d bytes read.change read.xid net (state old) (goes.ready.agrees d) host read.read in

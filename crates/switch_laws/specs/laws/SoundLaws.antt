@@ -1,5 +1,5 @@
--- What follows about sound entries: a change that the engine sends, a stimulus and an undo keep them so, their notices are messages, and
--- the rows of their statistics are spelled and read again.
+-- What follows about sound entries: a change and a packet that the engine sends, a stimulus and an undo keep them so, their notices are
+-- messages, and the rows of their statistics are spelled and read again.
 use Rattle.std.proofs.Common.{◌≡◌, ◌≢◌, ◌==◌, ℕ, ◌+◌, ◌*◌, ◌/◌, ◌%◌, ◌^◌, ◌<◌, ◌≤◌, Bool, true, false, not, ◌&&◌, ◌||◌, nat_lt, List, [], ◌∷◌, map, filter, Option, Some, None, if◌then◌else◌, refl, sym, ◌∙◌, subst, inl, inr, arith, true≢false}
 use Rattle.std.proofs.lemmas.Bool.{cases_Bool, eq-eqb, eqb-true, ne_eqb, leb-true, ltb-false}
 use Rattle.of_types.specs.declared.errors.OfError.{OfError}
@@ -11,7 +11,8 @@ use Rattle.of_match.specs.declared.packet_key.PacketKey.{PacketKey}
 use Rattle.of_match.specs.Covers.{is_covering}
 use Rattle.eth_key.specs.PacketFields.{key_of}
 use Rattle.of_wire.specs.declared.bodies.FlowMod.{FlowMod as Change}
-use Rattle.of_wire.specs.declared.message.Message.TheVariants.{FlowMod, FlowRemoved}
+use Rattle.of_wire.specs.declared.bodies.PacketOut.{PacketOut as Packet}
+use Rattle.of_wire.specs.declared.message.Message.TheVariants.{FlowMod, FlowRemoved, PacketOut}
 use Rattle.of_wire.specs.Spelling.{message_size}
 use Rattle.of_wire.specs.Grammar.{IsMessage}
 use Rattle.of_action.specs.Spelling.{list_size}
@@ -28,7 +29,7 @@ use Rattle.flow_table.specs.Undone.{restored, undone}
 use Rattle.flow_table.specs.Switch.{SwitchState, port_at}
 use Rattle.flow_table.specs.Refusals.{or_else, most_action_bytes, is_emergency, no_buffer, flow_actions_refusal, flow_refusal, message_refusal}
 use Rattle.flow_table.specs.Statistics.{flow_row}
-use Rattle.flow_table.specs.Frames.{after_output, after_outputs, after_counts, after_lookup, hit_outputs, entry_hit, takes, after_arrival, after_frame}
+use Rattle.flow_table.specs.Frames.{after_output, after_outputs, after_counts, after_lookup, hit_outputs, entry_hit, after_packet_output, after_packet_outputs, after_packet_out, takes, after_arrival, after_frame}
 use Rattle.flow_table.specs.Step.{flow_removed, can_add, after_taken, after_message, after_port_change, after_stimulus}
 use Rattle.lego_model.specs.Answers.{as_sent, with_notice}
 use Rattle.net_txn.specs.laws.RowLaws.{sent}
@@ -214,13 +215,16 @@ counts-sound : (in_port : ℕ) (frame : List ℕ) (s : SwitchState) → AllSound
 unfolding after_counts
 counts-sound in_port frame s all = hit-sound (key_of in_port frame) _ s.moment s.table.entries all
 
+lookup-sound : (in_port : ℕ) (frame : List ℕ) (s : SwitchState) → AllSound s.table.entries → AllSound (after_lookup in_port frame s).table.entries
+unfolding after_lookup
+lookup-sound in_port frame s all =
+    outputs-sound in_port (hit_outputs (entry_hit in_port frame s) frame) (after_counts in_port frame s) (counts-sound in_port frame s all)
+
 frame-sound : (port : ℕ) (bytes : List ℕ) (s : SwitchState) → AllSound s.table.entries → AllSound (after_frame port bytes s).table.entries
-unfolding after_frame after_lookup
+unfolding after_frame
 frame-sound port bytes s all =
     elim (cases_Bool (takes (port_at port s.ports))) [
-      | inl taken ↦
-          let arrived : SwitchState = after_arrival port bytes s in
-          rw taken (outputs-sound port (hit_outputs (entry_hit port bytes arrived) bytes) (after_counts port bytes arrived) (counts-sound port bytes arrived all))
+      | inl taken ↦ rw taken (lookup-sound port bytes (after_arrival port bytes s) all)
       | inr dropped ↦ rw dropped all
     ]
 
@@ -239,6 +243,26 @@ stimulus-sound (Advance moment) s all = sound-filter (λ e. not (is_due moment e
 stimulus-sound (Port port change) s all = port-sound port change s all
 stimulus-sound (Counts priority packets bytes) s all = sound-map (with_more priority packets bytes) (more-sound priority packets bytes) s.table.entries all
 stimulus-sound (Raw bytes) s all = all
+
+-- ---- A packet
+
+packet_output-sound : (in_port : ℕ) (out : ℕ × List ℕ) (s : SwitchState) → AllSound s.table.entries → AllSound (after_packet_output in_port out s).table.entries
+unfolding after_packet_output
+packet_output-sound in_port out s all =
+    elim (cases_Bool (out.0 == 0xfff9)) [
+      | inl table ↦ rw table (lookup-sound in_port out.1 s all)
+      | inr other ↦ rw other all
+    ]
+
+packet_outputs-sound : (in_port : ℕ) (outs : List (ℕ × List ℕ)) (s : SwitchState) → AllSound s.table.entries → AllSound (after_packet_outputs in_port outs s).table.entries
+unfolding after_packet_outputs
+packet_outputs-sound in_port [] s all = all
+packet_outputs-sound in_port (out ∷ outs) s all = packet_outputs-sound in_port outs (after_packet_output in_port out s) (packet_output-sound in_port out s all)
+
+-- A packet that the engine releases keeps the entries sound.
+pub packet-sound : (p : Packet) (s : SwitchState) → AllSound s.table.entries → AllSound (after_message (PacketOut p) s).table.entries
+unfolding after_message after_taken
+packet-sound p s all = unless-sound (message_refusal s (PacketOut p)) s (after_packet_out p s) all (λ passed. packet_outputs-sound p.in_port _ s all)
 
 -- ---- An undo
 

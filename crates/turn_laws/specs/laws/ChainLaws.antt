@@ -1,6 +1,6 @@
 -- What follows of the beats of a turn in a world that keeps its word: its messages were answered as the reference controller answers them,
 -- and its switches stand then as the world's do.
-use Rattle.std.proofs.Common.{◌≡◌, ℕ, Bool, true, List, [], ◌∷◌, length, Option, refl, sym, ap, ap₂, ◌∙◌, subst, true≢false}
+use Rattle.std.proofs.Common.{◌≡◌, ℕ, Bool, true, List, [], ◌∷◌, ◌++◌, length, Option, refl, sym, ap, ap₂, ◌∙◌, subst, true≢false}
 use Rattle.std.specs.Option.{option_map}
 use Rattle.of_types.specs.declared.journal.Act.{Act}
 use Rattle.of_types.specs.declared.journal.Act.TheVariants.{Stim, Started, Gave, Gone, Took, Ended, Sent, Got}
@@ -11,6 +11,7 @@ use Rattle.app_frames.specs.declared.frame.Answer.{Answer}
 use Rattle.lego_model.specs.Answers.{rows_of_table}
 use Rattle.lego_model.specs.Journal.{is_of}
 use Rattle.lego_model.specs.Places.{Place, answer}
+use Rattle.lego_model.specs.Packets.{Held, Play, holds, play}
 use Rattle.lego_model.specs.Controller.{table_of}
 use Rattle.outside.specs.Seen.{Given, Seen}
 use Rattle.outside.specs.State.{Link, State, link_of, switch_in, waits_in, state, switch_of, waits_of, after_act, after_step}
@@ -30,7 +31,7 @@ use Rattle.switch_laws.specs.laws.StandLaws.{all-stand}
 use Rattle.switch_laws.specs.laws.ShownExchangeLaws.{exchange-shown}
 use Rattle.switch_laws.specs.Since.{Ready, Goes}
 use Rattle.switch_laws.specs.laws.SinceLaws.{begun, goes-on}
-use Rattle.turn_laws.specs.Chain.{Leads, PlayedAlike}
+use Rattle.turn_laws.specs.Chain.{play_at, Leads, PlayedAlike}
 use Rattle.switch_laws.specs.laws.ShownUndoLaws.{places-same}
 
 -- ---- Calls for an application move no switch
@@ -89,12 +90,23 @@ goes-same start first old new net0 net given same goes = record {
   };
 }
 
+-- ---- One message
+
+abbrev played_so : List Held → ℕ → List ℕ → Answer × List Place → Answer × Play
+played_so held dpid bytes p = (p.0, record { places = p.1; held = held ++ holds dpid bytes p.0 })
+
+play-so : (places now_places : List Place) (held now_held : List Held) (dpid : ℕ) (bytes : List ℕ) (given : Answer) → answer places dpid bytes ≡ (given, now_places) → now_held ≡ held ++ holds dpid bytes given
+    → play (record { places = places; held = held }) dpid bytes ≡ (given, record { places = now_places; held = now_held })
+unfolding play
+play-so places now_places held now_held dpid bytes given is held_is =
+    ap (played_so held dpid bytes) is ∙ ap (λ (all : List Held). (given, record { places = now_places; held = all })) (sym held_is)
+
 -- ---- The beats
 
 pub chain-shown : {Own : Type 0} (Tells : Type 0) (app : ℕ) (allows : List Place → Bool) (start : ℕ) (first : Seen Own) (net0 : NetState) (trace : List (Beat Own)) (old new : Seen Own) (net now_net : NetState) → Tells → Conforming new → Chain Tells app trace old new net now_net
     → Goes start first old net0 net → Leads allows start first old new net0 net now_net (exchanges_in trace)
 chain-shown Tells app allows start first net0 [] old new net now_net told keeps chain goes = record {
-  answers = ap₂ (λ (n : NetState) (s : Seen _). shown_places first.given.declared n.views (state s)) chain.1 chain.0;
+  answers = ap₂ (λ (n : NetState) (s : Seen _). play_at first s n) chain.1 chain.0;
   goes = subst (λ (n : NetState). Goes start first new net0 n) (sym chain.1) (subst (λ (s : Seen _). Goes start first s net0 net) (sym chain.0) goes);
 }
 chain-shown Tells app allows start first net0 (Talk act ∷ trace) old new net now_net told keeps chain goes =
@@ -103,7 +115,7 @@ chain-shown Tells app allows start first net0 (Talk act ∷ trace) old new net n
     let same = links-then Tells app act old next told chain.0 t in
     let rest = chain-shown Tells app allows start first net0 trace next new net now_net told keeps chain.1.1.1 (goes-same start first old next net0 net t.continues.given same goes) in
     record {
-      answers = subst (λ (ps : List Place). AnswersSo (table_of allows) (exchanges_in trace) ps (shown_places first.given.declared now_net.views (state new))) (shown-same first.given.declared net.views (state old) (state next) same) rest.answers;
+      answers = subst (λ (ps : List Place). AnswersSo (table_of allows) (exchanges_in trace) (record { places = ps; held = net.held }) (play_at first new now_net)) (shown-same first.given.declared net.views (state old) (state next) same) rest.answers;
       goes = rest.goes;
     }
 chain-shown Tells app allows start first net0 (Asks x ∷ trace) old new net now_net told keeps chain goes =
@@ -118,10 +130,13 @@ chain-shown Tells app allows start first net0 (Asks x ∷ trace) old new net now
     let answered : answer (shown_places first.given.declared net.views (state old)) x.dpid x.bytes ≡ (x.answer, shown_places first.given.declared x.now_net.views (state x.after)) =
     ap₂ (λ (n : NetState) (s : Seen _). answer (shown_places first.given.declared n.views (state s)) x.dpid x.bytes) (sym chain.0.1) (sym chain.0.0)
     ∙ subst (λ (ds : List Declared). answer (shown_places ds x.net.views (state x.before)) x.dpid x.bytes ≡ (x.answer, shown_places ds x.now_net.views (state x.after))) (sym declared) shown in
+    let held : x.now_net.held ≡ net.held ++ holds x.dpid x.bytes x.answer = is.changes.held ∙ ap (λ (n : NetState). n.held ++ holds x.dpid x.bytes x.answer) chain.0.1 in
+    let played : play (play_at first old net) x.dpid x.bytes ≡ (x.answer, play_at first x.after x.now_net) =
+    play-so (shown_places first.given.declared net.views (state old)) (shown_places first.given.declared x.now_net.views (state x.after)) net.held x.now_net.held x.dpid x.bytes x.answer answered held in
     record {
       answers = (
-        ap (λ (p : Answer × List Place). p.0) answered,
-        subst (λ (ps : List Place). AnswersSo (table_of allows) (exchanges_in trace) ps (shown_places first.given.declared now_net.views (state new))) (sym (ap (λ (p : Answer × List Place). p.1) answered)) rest.answers,
+        ap (λ (p : Answer × Play). p.0) played,
+        subst (λ (p : Play). AnswersSo (table_of allows) (exchanges_in trace) p (play_at first new now_net)) (sym (ap (λ (p : Answer × Play). p.1) played)) rest.answers,
       );
       goes = rest.goes;
     }
@@ -136,5 +151,5 @@ turn-shown Tells accepts allows app budget rest frame old new net now_net end un
     let leads = chain-shown Tells app allows (length net.log) old net (Talk (give_act t.given app frame) ∷ t.trace) old new net now_net told keeps t.chain first in
     record {
       goes = leads.goes;
-      played = turn_alike (table_of allows) (shown_places old.given.declared net.views (state old)) (shown_places old.given.declared now_net.views (state new)) t leads.answers judges;
+      played = turn_alike (table_of allows) (play_at old old net) (play_at old new now_net) t leads.answers judges;
     }

@@ -1,7 +1,9 @@
--- What follows of a turn that stops in a world that keeps its word, where all was ready: a link failed, or memory was wanting.
+-- What follows of a turn that stops in a world that keeps its word, where all was ready, or of the release behind one: a link failed, or
+-- memory was wanting.
 use Rattle.std.proofs.Common.{◌≡◌, ℕ, Bool, true, List, ◌∷◌, length, Option, Some, None, Err, refl, sym, subst, inl, inr}
 use Rattle.flow_table.specs.declared.view.TableView.{TableView}
 use Rattle.app_frames.specs.declared.frame.Answer.{Answer}
+use Rattle.app_frames.specs.declared.frame.Event.{Event}
 use Rattle.outside.specs.Seen.{Seen}
 use Rattle.outside.specs.laws.StateLaws.{Conforming-before}
 use Rattle.outside.specs.Conforming.{Conforming}
@@ -10,6 +12,7 @@ use Rattle.lego_model.specs.declared.fault.TxnFault.TheVariants.{NoMemory}
 use Rattle.net_txn.specs.Net.{NetState}
 use Rattle.net_txn.specs.Changes.{known_rows, answer_of_host, Changes}
 use Rattle.net_txn.specs.Agreement.{Steps}
+use Rattle.net_txn.specs.Releases.{Commits}
 use Rattle.app_visor.specs.declared.state.TurnEnd.{TurnEnd}
 use Rattle.app_visor.specs.Talks.{give_act}
 use Rattle.app_visor.specs.Beats.{Talk, Halts, Stops}
@@ -18,6 +21,7 @@ use Rattle.app_visor.specs.Turns.{Turns}
 use Rattle.switch_laws.specs.laws.AskedLaws.{asked}
 use Rattle.switch_laws.specs.Since.{Ready, Goes}
 use Rattle.switch_laws.specs.laws.SinceLaws.{begun}
+use Rattle.switch_laws.specs.laws.ReleaseLaws.{release-plain}
 use Rattle.turn_laws.specs.laws.ChainLaws.{chain-shown}
 use Rattle.turn_laws.specs.Stop.{IsPlainStop}
 
@@ -50,3 +54,14 @@ pub turn-ready : {Own : Type 0} (Tells : Type 0) (accepts : List TableView → B
 turn-ready Tells accepts app budget rest frame old new net now_net end unread told keeps ready t =
     let first : Goes (length net.log) old old net net = record { since = begun old net; ready = ready } in
     (chain-shown Tells app (λ places. true) (length net.log) old net (Talk (give_act t.given app frame) ∷ t.trace) old new net now_net told keeps t.chain first).goes.ready
+
+-- ---- The release behind it
+
+pub commit-plain : {Own : Type 0} (Tells : Type 0) (accepts : List TableView → Bool) (app budget : ℕ) (rest frame : List ℕ) (old mid new : Seen Own) (net mid_net now_net : NetState) (end : TurnEnd) (unread : List ℕ) (queue now_queue : List Event) (fault : TxnFault) → Tells
+    → Conforming new → Ready old net → Turns Tells accepts app budget rest frame old mid net mid_net end unread → Commits Tells (length net.log) mid new mid_net now_net queue now_queue (Err fault) → IsPlainStop fault
+commit-plain Tells accepts app budget rest frame old mid new net mid_net now_net end unread queue now_queue fault told keeps ready t commits = elim commits.ended [
+  | inl u ↦ no_memory fault u.fault_so
+  | inr stops ↦
+      (let there = turn-ready Tells accepts app budget rest frame old mid net mid_net end unread told (Conforming-before told commits.continues keeps) ready t in
+      release-plain Tells (length net.log) mid new mid_net queue fault told keeps commits.continues stops there)
+]

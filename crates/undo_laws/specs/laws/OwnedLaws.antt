@@ -1,10 +1,11 @@
--- What follows about switches as their owners see them: packets, counts, time and ports do to them what they do to the switch itself,
--- and of its notices of expiry they see those that they asked for.
-use Rattle.std.proofs.Common.{◌≡◌, ◌==◌, ℕ, ◌≤◌, Bool, true, false, not, ◌&&◌, nat_lt, nat_le, List, [], ◌∷◌, length, map, filter, Option, Some, None, refl, sym, ap, ap₂, ◌∙◌, arith, inl, inr}
+-- What follows about switches as their owners see them: packets, counts, time and ports do to them what they do to the switch itself, a
+-- PACKET_OUT too, and of its notices of expiry they see those that they asked for.
+use Rattle.std.proofs.Common.{◌≡◌, ◌==◌, ℕ, ◌≤◌, Bool, true, false, not, ◌&&◌, nat_lt, nat_le, List, [], ◌∷◌, ◌++◌, length, map, filter, Option, Some, None, refl, sym, ap, ap₂, ◌∙◌, arith, inl, inr}
 use Rattle.std.proofs.lemmas.Bool.{cases_lt, cases_Bool, le-leb}
 use Rattle.std.proofs.lemmas.Bool.Decides.{leb_tells}
 use Rattle.std.specs.List.{AllByRecursion}
 use Rattle.std.specs.Option.{option_map}
+use Rattle.of_types.specs.declared.errors.OfError.{OfError}
 use Rattle.of_types.specs.declared.journal.PortChange.{PortChange}
 use Rattle.of_types.specs.declared.journal.PortChange.TheVariants as changes
 use Rattle.of_types.specs.declared.journal.Stimulus.{Stimulus}
@@ -12,18 +13,21 @@ use Rattle.of_types.specs.declared.journal.Stimulus.TheVariants.{Frame, Advance,
 use Rattle.of_match.specs.declared.key.Key.{Key}
 use Rattle.of_match.specs.declared.packet_key.PacketKey.{PacketKey}
 use Rattle.of_match.specs.Covers.{is_covering}
+use Rattle.of_wire.specs.declared.bodies.PacketOut.{PacketOut as Packet}
+use Rattle.of_wire.specs.declared.message.Message.TheVariants.{PacketOut}
 use Rattle.eth_key.specs.PacketFields.{key_of}
 use Rattle.flow_timeouts.specs.declared.timeouts.Reason.{Reason}
 use Rattle.flow_table.specs.declared.entry.Entry.{Entry}
 use Rattle.flow_table.specs.declared.notice.Notice.{Notice}
 use Rattle.flow_table.specs.Table.{TableState, place_of, with_entry}
 use Rattle.flow_table.specs.laws.TableLaws.{with_entry-before, with_entry-same, with_entry-after}
-use Rattle.flow_table.specs.Change.{asks_notice}
+use Rattle.flow_table.specs.Change.{asks_notice, unless_refused}
 use Rattle.flow_table.specs.Hit.{rank, best, better, counted, hit, hit_by, with_more, with_counts}
 use Rattle.flow_table.specs.Expiry.{among, by_deadline, deadline, end_of, is_due, notice_at, expire, expiry_notices}
 use Rattle.flow_table.specs.Switch.{SwitchState, port_at}
-use Rattle.flow_table.specs.Frames.{plus, after_output, after_outputs, hit_outputs, hit_count, entry_hit, after_counts, after_lookup, sent_by_hit, sent_by_lookup, takes, after_arrival, after_frame, sent_by_frame}
-use Rattle.flow_table.specs.Step.{flow_removed, after_port_change, sent_by_port_change, after_stimulus, sent_by_stimulus, can_add}
+use Rattle.flow_table.specs.Frames.{plus, after_output, after_outputs, hit_outputs, hit_count, entry_hit, after_counts, after_lookup, sent_by_hit, sent_by_lookup, after_packet_output, after_packet_outputs, after_packet_out, sent_by_packet_output, sent_by_packet_outputs, takes, after_arrival, after_frame, sent_by_frame}
+use Rattle.flow_table.specs.Refusals.{packet_out_refusal, message_refusal}
+use Rattle.flow_table.specs.Step.{flow_removed, after_taken, sent_by_taken, answered, after_message, sent_by_message, after_port_change, sent_by_port_change, after_stimulus, sent_by_stimulus, can_add}
 use Rattle.undo_laws.specs.Corrected.{IsCorrection, corrected}
 use Rattle.undo_laws.specs.laws.CorrectedLaws.{filter-shown, map-shown}
 use Rattle.undo_laws.specs.Owned.{owned, owned_switch, is_asked_for, AskAll, IsNoMoment}
@@ -323,16 +327,71 @@ module _ (flags : Key → ℕ) where
   sent_by_hit-owned port bytes s None = refl
   sent_by_hit-owned port bytes s (Some e) = refl
 
+  lookup_sent-owned : (port : ℕ) (bytes : List ℕ) (s : SwitchState) → sent_by_lookup port bytes (owned_switch flags s) ≡ sent_by_lookup port bytes s
+  unfolding sent_by_lookup
+  lookup_sent-owned port bytes s =
+      ap (λ o. sent_by_hit port bytes s.ports o) (best-owned (key_of port bytes) s.table.entries)
+      ∙ sent_by_hit-owned port bytes s (entry_hit port bytes s)
+
   frame_sent-owned : (port : ℕ) (bytes : List ℕ) (s : SwitchState) → sent_by_frame port bytes (owned_switch flags s) ≡ sent_by_frame port bytes s
-  unfolding sent_by_frame sent_by_lookup
+  unfolding sent_by_frame
   frame_sent-owned port bytes s =
       elim (cases_Bool (takes (port_at port s.ports))) [
-        | inl taken ↦
-            rw taken
-            (ap (λ o. sent_by_hit port bytes s.ports o) (best-owned (key_of port bytes) s.table.entries)
-            ∙ sent_by_hit-owned port bytes s (entry_hit port bytes s))
+        | inl taken ↦ rw taken (lookup_sent-owned port bytes s)
         | inr dropped ↦ rw dropped refl
       ]
+
+  -- ---- A PACKET_OUT: what goes to TABLE is looked up as a frame is
+
+  packet_output-owned : (in_port : ℕ) (out : ℕ × List ℕ) (s : SwitchState) → after_packet_output in_port out (owned_switch flags s) ≡ owned_switch flags (after_packet_output in_port out s)
+  unfolding after_packet_output
+  packet_output-owned in_port out s =
+      elim (cases_Bool (out.0 == 0xfff9)) [
+        | inl table ↦ rw table (lookup-owned in_port out.1 s)
+        | inr other ↦ rw other refl
+      ]
+
+  packet_outputs-owned : (in_port : ℕ) (outs : List (ℕ × List ℕ)) (s : SwitchState) → after_packet_outputs in_port outs (owned_switch flags s) ≡ owned_switch flags (after_packet_outputs in_port outs s)
+  unfolding after_packet_outputs
+  packet_outputs-owned in_port [] s = refl
+  packet_outputs-owned in_port (out ∷ outs) s =
+      ap (after_packet_outputs in_port outs) (packet_output-owned in_port out s) ∙ packet_outputs-owned in_port outs (after_packet_output in_port out s)
+
+  packet_output_sent-owned : (in_port : ℕ) (out : ℕ × List ℕ) (s : SwitchState) → sent_by_packet_output in_port out (owned_switch flags s) ≡ sent_by_packet_output in_port out s
+  unfolding sent_by_packet_output
+  packet_output_sent-owned in_port out s =
+      elim (cases_Bool (out.0 == 0xfff9)) [
+        | inl table ↦ rw table (lookup_sent-owned in_port out.1 s)
+        | inr other ↦ rw other refl
+      ]
+
+  packet_outputs_sent-owned : (in_port : ℕ) (outs : List (ℕ × List ℕ)) (s : SwitchState) → sent_by_packet_outputs in_port outs (owned_switch flags s) ≡ sent_by_packet_outputs in_port outs s
+  unfolding sent_by_packet_outputs
+  packet_outputs_sent-owned in_port [] s = refl
+  packet_outputs_sent-owned in_port (out ∷ outs) s =
+      ap₂ (λ (xs ys : List (List ℕ)). xs ++ ys) (packet_output_sent-owned in_port out s)
+      (ap (sent_by_packet_outputs in_port outs) (packet_output-owned in_port out s) ∙ packet_outputs_sent-owned in_port outs (after_packet_output in_port out s))
+
+  unless-owned : (o : Option OfError) (before after : SwitchState) → unless_refused o (owned_switch flags before) (owned_switch flags after) ≡ owned_switch flags (unless_refused o before after)
+  unless-owned None before after = refl
+  unless-owned (Some e) before after = refl
+
+  -- A packet does to the switch what it does to what its owners see,
+  pub packet-owned : (p : Packet) (s : SwitchState) → after_message (PacketOut p) (owned_switch flags s) ≡ owned_switch flags (after_message (PacketOut p) s)
+  unfolding after_message message_refusal after_taken
+  packet-owned p s =
+      ap (unless_refused (packet_out_refusal s.had p) (owned_switch flags s)) (packet_outputs-owned p.in_port _ s)
+      ∙ unless-owned (packet_out_refusal s.had p) s (after_packet_out p s)
+
+  answered-owned : (xid : ℕ) (p : Packet) (s : SwitchState) (o : Option OfError) → answered xid (PacketOut p) (owned_switch flags s) o ≡ answered xid (PacketOut p) s o
+  unfolding sent_by_taken
+  answered-owned xid p s None = packet_outputs_sent-owned p.in_port _ s
+  answered-owned xid p s (Some e) = refl
+
+  -- and what the switch sends for it is the same.
+  pub packet_sent-owned : (xid : ℕ) (p : Packet) (s : SwitchState) → sent_by_message xid (PacketOut p) (owned_switch flags s) ≡ sent_by_message xid (PacketOut p) s
+  unfolding sent_by_message message_refusal
+  packet_sent-owned xid p s = answered-owned xid p s (packet_out_refusal s.had p)
 
   -- ---- Stimuli
 

@@ -1,22 +1,25 @@
 use Rattle.std.proofs.Common.{◌≡◌, ap, ◌∙◌}
 use Rattle.net_txn.specs.Net.{NetState}
-use Rattle.net_txn.specs.laws.ChangeLaws.{Changes-short, Changes-by_host, Changes-by_switch, host_unknown, host_knows}
+use Rattle.net_txn.specs.laws.ChangeLaws.{Changes-short, Changes-by_host, Changes-by_switch, host_unknown, host_knows, unknown_unheld, unheld, packet_held, holds_nothing, holds_packet}
 use Rattle.net_txn.specs.laws.TalkLaws.{speaks_on, speaks_links, speaks_place}
 use Rattle.net_txn.specs.laws.ConsequenceLaws.{Changes-reaches, Changes-steps}
 use Rattle.std.proofs.lemmas.Result.{err_from_is_err_and}
+use Rattle.app_frames.specs.declared.frame.Answer.TheVariants.{Fine, Unknown}
 use Rattle.net_txn.proofs.net.Net.change.Goals as goal
 
 pub returns-in_default : goal.returns-in_default
 returns-in_default g c =
     let v : c.deref.result.now ≡ c.args.self.now.views = c.deref.ensures.value ∙ ap (λ (n : NetState). n.views) c.self.view_is in
-    let h = Changes-by_host {Tells = g.W.World.Tells} c.args.dpid c.args.bytes.now (g.W.World.seen c.args.world.now) c.args.self.now _ (host_unknown c.args.dpid c.args.bytes.now c.args.self.now c.deref.result.now v c.in_default.ensures) in
+    let h = Changes-by_host {Tells = g.W.World.Tells} c.args.dpid c.args.bytes.now (g.W.World.seen c.args.world.now) c.args.self.now c.args.self.now _ (host_unknown c.args.dpid c.args.bytes.now c.args.self.now c.deref.result.now v c.in_default.ensures)
+    (holds_nothing c.args.dpid c.args.bytes.now Unknown c.args.self.now (unknown_unheld c.args.dpid c.args.bytes.now)) in
     record { changes = h; reached = Changes-reaches h; in_step = Changes-steps h }
 
 pub returns-in-Answered : goal.returns-in-Answered
 returns-in-Answered g c =
     let v : c.deref.result.now ≡ c.args.self.now.views = c.deref.ensures.value ∙ ap (λ (n : NetState). n.views) c.self.view_is in
     let knows = host_knows c.args.dpid c.args.bytes.now c.args.self.now c.deref.result.now c.in-Some.view.now.rows c.as_slice.result.now v c.in-Some.ensures c.as_slice.ensures in
-    let h = Changes-by_host {Tells = g.W.World.Tells} c.args.dpid c.args.bytes.now (g.W.World.seen c.args.world.now) c.args.self.now c.in-Answered.answer (knows ∙ (rw c.in-Answered.is at c.in_ok-answer.ensures)) in
+    let answered = rw c.in-Answered.is at c.in_ok-answer.ensures in
+    let h = Changes-by_host {Tells = g.W.World.Tells} c.args.dpid c.args.bytes.now (g.W.World.seen c.args.world.now) c.args.self.now c.args.self.now c.in-Answered.answer (knows ∙ answered.0) (holds_nothing c.args.dpid c.args.bytes.now c.in-Answered.answer c.args.self.now (unheld c.args.dpid c.args.bytes.now c.in-Answered.answer (answered.1 c.args.dpid))) in
     record { changes = h; reached = Changes-reaches h; in_step = Changes-steps h }
 
 pub returns-in-Asks : goal.returns-in-Asks
@@ -25,10 +28,23 @@ returns-in-Asks g c =
     let knows = host_knows c.args.dpid c.args.bytes.now c.args.self.now c.deref.result.now c.in-Some.view.now.rows c.as_slice.result.now v c.in-Some.ensures c.as_slice.ensures in
     let asked = rw c.in-Asks.is at c.in_ok-answer.ensures in
     let h = Changes-by_switch c.args.dpid c.args.bytes.now (g.W.World.seen c.args.world.now) (g.W.World.seen c.make_or_forget.new.world) c.args.self.now c.make_or_forget.new.self c.make_or_forget.result asked.1.0 c.in-Asks.flow
-    (knows ∙ asked.0) asked.1.1 c.make_or_forget.ensures.result (speaks_on c.make_or_forget.ensures.speaks) (speaks_links c.make_or_forget.ensures.speaks) (speaks_place c.make_or_forget.ensures.speaks) c.make_or_forget.ensures.cause c.make_or_forget.ensures.ports c.make_or_forget.ensures.moment c.make_or_forget.ensures.room c.make_or_forget.ensures.flooded in
+    (knows ∙ asked.0) asked.1.1 c.make_or_forget.ensures.result (speaks_on c.make_or_forget.ensures.speaks) (speaks_links c.make_or_forget.ensures.speaks) (speaks_place c.make_or_forget.ensures.speaks) c.make_or_forget.ensures.cause c.make_or_forget.ensures.ports c.make_or_forget.ensures.moment c.make_or_forget.ensures.room c.make_or_forget.ensures.held c.make_or_forget.ensures.flooded in
     record { changes = h; reached = Changes-reaches h; in_step = Changes-steps h }
 
 pub returns-in_err-answer-clause-changes : goal.returns-in_err-answer-clause-changes
 returns-in_err-answer-clause-changes g c =
     let p = err_from_is_err_and c.from_residual.result c.from_residual.ensures.1 in
     rw (p.1, p.2) (Changes-short c.args.dpid c.args.bytes.now (g.W.World.seen c.args.world.now) c.args.self.now)
+
+pub returns-in_err-hold-in-Holds-clause-changes : goal.returns-in_err-hold-in-Holds-clause-changes
+returns-in_err-hold-in-Holds-clause-changes g c =
+    let p = err_from_is_err_and c.from_residual-in_err-hold-in-Holds.result c.from_residual-in_err-hold-in-Holds.ensures.1 in
+    rw (p.1, p.2, c.in_err-hold-in-Holds.ensures.err) (Changes-short c.args.dpid c.args.bytes.now (g.W.World.seen c.args.world.now) c.args.self.now)
+
+pub returns-in_ok-hold-in-Holds-clause-changes : goal.returns-in_ok-hold-in-Holds-clause-changes
+returns-in_ok-hold-in-Holds-clause-changes g c =
+    let v : c.deref.result.now ≡ c.args.self.now.views = c.deref.ensures.value ∙ ap (λ (n : NetState). n.views) c.self.view_is in
+    let knows = host_knows c.args.dpid c.args.bytes.now c.args.self.now c.deref.result.now c.in-Some.view.now.rows c.as_slice.result.now v c.in-Some.ensures c.as_slice.ensures in
+    let held = rw c.in-Holds.is at c.in_ok-answer.ensures in
+    Changes-by_host {Tells = g.W.World.Tells} c.args.dpid c.args.bytes.now (g.W.World.seen c.args.world.now) c.args.self.now c.hold.new.self Fine (knows ∙ held.0)
+    (c.in_ok-hold-in-Holds.ensures.ok ∙ holds_packet c.args.dpid c.args.bytes.now c.in-Holds.packet c.args.self.now (packet_held c.args.dpid held.1.0 c.args.bytes.now c.in-Holds.packet held.1.1))
