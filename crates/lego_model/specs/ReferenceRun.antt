@@ -1,5 +1,5 @@
 -- The run of the reference controller over what a world told, whole and in parts. All of this is our own.
-use Rattle.std.specs.Prelude.{◌≡◌, Bool, false, List, [], ◌∷◌, ◌++◌, map, None, ℕ, zero, suc, fold}
+use Rattle.std.specs.Prelude.{◌≡◌, Bool, false, List, [], ◌∷◌, ◌++◌, map, None, ℕ, fold}
 use Rattle.std.specs.List.{flat_map}
 use Rattle.flow_table.specs.Switch.{Declared}
 use Rattle.lego_model.specs.Journal.{Reply, Start}
@@ -12,7 +12,6 @@ use Rattle.lego_model.specs.History.{starts_in, replies_in, own_acts, stimuli_in
 use Rattle.lego_model.specs.Agreement.{AgreeMarks}
 use Rattle.lego_model.specs.Application.{budget, names}
 use Rattle.of_types.specs.declared.journal.WorldStim.{WorldStim}
-use Rattle.app_frames.specs.declared.frame.Event.{Event}
 use Rattle.lego_model.specs.RunReport.{line_text}
 
 -- ---- The application of the reference controller at first, with what it will do

@@ -1,6 +1,6 @@
 -- Why a run ends that a switch is at fault for: each cause stands in the history, which tells what came from the switch, and what was sent to
 -- it before. All of this is our own choice but for the messages of OpenFlow 1.0.0.
-use Rattle.std.specs.Prelude.{◌≡◌, ℕ, ◌⊎◌, false, List, [], ◌∷◌, ◌++◌, length, IsErr}
+use Rattle.std.specs.Prelude.{◌≡◌, ℕ, ◌≤◌, ◌⊎◌, false, List, [], ◌∷◌, ◌++◌, length, Some, IsErr}
 use Rattle.std.specs.List.{AllByRecursion}
 use Rattle.lego_io.specs.Count.{Rose}
 use Rattle.of_types.specs.Fields.{number_at}
@@ -8,10 +8,14 @@ use Rattle.of_types.specs.declared.journal.Act.TheVariants.{Sent, Got}
 use Rattle.of_wire.specs.Reading.{reading_of}
 use Rattle.of_wire.specs.Spelling.{message_bytes}
 use Rattle.of_wire.specs.declared.message.Message.{Message}
-use Rattle.of_wire.specs.declared.message.Message.TheVariants.{BarrierReply}
+use Rattle.of_wire.specs.declared.bodies.PacketOut.{PacketOut as Packet}
+use Rattle.of_wire.specs.declared.message.Message.TheVariants.{PacketOut, BarrierReply}
+use Rattle.flow_table.specs.Switch.{SwitchState}
+use Rattle.flow_table.specs.Step.{sent_by_message}
 use Rattle.outside.specs.declared.step.WorldStep.{WorldStep}
 use Rattle.outside.specs.declared.step.WorldStep.TheVariants.{Acted, From}
-use Rattle.outside.specs.Seen.{Seen}
+use Rattle.outside.specs.Seen.{Seen, Longer}
+use Rattle.outside.specs.State.{state, switch_of}
 use Rattle.lego_model.specs.declared.fault.TxnFault.{TxnFault}
 use Rattle.lego_model.specs.declared.fault.TxnFault.TheVariants.{SwitchFault, SwitchBroke, Diverged, Flooded, NoMemory}
 use Rattle.lego_model.specs.declared.wait.Awaited.{Awaited}
@@ -78,6 +82,20 @@ pub record IsFlood {Own : Type 0} (Tells : Type 0) (d n : ℕ) (old new : Seen O
   pub many : length got ≡ n
   pub before_reply : AllByRecursion (λ b. is_reply (heard awaited b) ≡ false) got
   pub told : Tells → Happened (barrier_sent awaited ∷ wait_steps awaited got) old.history new.history
+
+-- ---- A flood that the controller brings about in a world that keeps its word
+
+-- A packet was sent to the switch (5.3.6 Send Packet Message) as it stood then, which made it send at least as many messages as are too many.
+pub record FloodedByPacket {Own : Type 0} (d : ℕ) (old new : Seen Own) : Type 0 where
+  pub mid : Seen Own
+  pub given : mid.given ≡ new.given
+  pub before : Longer old.history mid.history
+  pub packet : Packet
+  pub switch : SwitchState
+  pub stands : switch_of d (state mid) ≡ Some switch
+  pub many : flood ≤ length (sent_by_message 0 (PacketOut packet) switch)
+  pub xid : ℕ
+  pub sent : Longer (mid.history ++ Acted (Sent d (message_bytes xid (PacketOut packet))) ∷ []) new.history
 
 -- ---- The cause of a fault
 
