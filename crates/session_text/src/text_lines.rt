@@ -3,6 +3,8 @@
 
 ghost use Rattle.std.specs.Prelude.{◌≡◌, ◌||◌, ◌==◌, not, Ok, List, [], length, map, string_bytes};
 ghost use Rattle.of_wire.specs.Reading.{reading_of};
+ghost use Rattle.of_wire.specs.Spelling.{kind_of};
+ghost use Rattle.outside.specs.Conforming.{is_unasked, may_be_raw};
 ghost use Rattle.lego_model.specs.SessionSteps.{are_steps as are_steps_in};
 ghost use Rattle.lego_model.specs.SessionLines as lines;
 ghost use Rattle.session_text.specs.TextGives.{Gives};
@@ -250,7 +252,7 @@ fn count_line(
 
 /// Tells whether a switch may send a message unasked.
 fn is_unasked(message: &Message) -> bool
-    ensures { result ≡ lines.is_unasked message.now }
+    ensures { result ≡ is_unasked (kind_of message.now) }
 {
     matches!(
         message,
@@ -264,7 +266,7 @@ fn is_unasked(message: &Message) -> bool
 
 /// Tells whether bytes are no message, or one that a switch may send unasked.
 fn may_be_raw(alloc: Global, bytes: &[u8]) -> Result<bool, LineFault>
-    ensures { Gives (λ b. b) result (Ok (lines.may_be_raw (reading_of bytes.now))) }
+    ensures { Gives (λ b. b) result (Ok (may_be_raw (reading_of bytes.now))) }
 {
     match decode(alloc, bytes) {
         Ok(envelope) => Ok(is_unasked(&envelope.message)),
