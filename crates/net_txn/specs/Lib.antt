@@ -10,6 +10,7 @@ pub mod Arriving
 pub mod Agrees
 pub mod Changes
 pub mod Releases
+pub mod ReleaseSteps
 pub mod Agreement
 pub mod Undos
 pub mod Said

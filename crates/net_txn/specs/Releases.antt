@@ -20,10 +20,10 @@ use Rattle.outside.specs.State.{state, switch_of, waits_of}
 use Rattle.outside.specs.Conforming.{Conforming}
 use Rattle.outside.specs.InOrder.{InOrder, MessagesSince}
 use Rattle.lego_model.specs.declared.fault.TxnFault.{TxnFault}
-use Rattle.lego_model.specs.declared.fault.TxnFault.TheVariants.{NoMemory}
+use Rattle.lego_model.specs.declared.fault.TxnFault.TheVariants.{SwitchFault, SwitchBroke, Diverged, Flooded, NoMemory}
 use Rattle.lego_model.specs.declared.wait.Awaited.{Awaited}
 use Rattle.lego_model.specs.declared.wait.Refusal.{Refusal}
-use Rattle.lego_model.specs.BarrierWaits.{barrier_sent, next_xid}
+use Rattle.lego_model.specs.BarrierWaits.{barrier_sent, flood, next_xid}
 use Rattle.lego_model.specs.Journal.{released}
 use Rattle.lego_model.specs.Packets.{Held}
 use Rattle.lego_model.specs.Controller.{events_of}
@@ -109,17 +109,27 @@ ReleasesAll Tells [] old new net now_net queue now_queue = (new ≡ old) × (now
 ReleasesAll Tells (held ∷ more) old new net now_net queue now_queue =
     (mid : Seen _) × ((mid_net : NetState) × ((mid_queue : List Event) × (ReleasesOne Tells held old mid net mid_net queue mid_queue × ReleasesAll Tells more mid new mid_net now_net mid_queue now_queue)))
 
+-- the packet made more messages than a wait takes
+abbrev pub IsFloodBy : Held → SwitchState → TxnFault → Type 0
+IsFloodBy held s (Flooded of n) = (of ≡ held.0) × (n ≡ flood) × (flood ≤ length (sent_by_message 0 (PacketOut held.1) s))
+IsFloodBy held s (SwitchFault of) = ⊥
+IsFloodBy held s (SwitchBroke of bytes) = ⊥
+IsFloodBy held s (Diverged of sent got) = ⊥
+IsFloodBy held s NoMemory = ⊥
+
 -- ---- A packet that could not be sent, or whose barrier was not answered, or memory was wanting for what came
 
 pub record BreaksAt {Own : Type 0} (Tells : Type 0) (held : Held) (old new : Seen Own) (net : NetState) (fault : TxnFault) : Type 0 where
   pub viewed : is_viewed held.0 net.views ≡ true
   pub cause : IsCause Tells held.0 old new fault
   pub flooded : IfFlooded Tells (packet_awaited held.0 net.xid) (packet_steps held.0 net.xid held.1) old new fault
+  -- the packet was sent, or nothing
   pub packets : List Held
+  pub at_most : (packets ≡ []) ⊎ (packets ≡ held ∷ [])
   pub moves : Tells → MovesBy packets old new
   -- its first call leaves a step, unless the world's own memory is wanting
   pub begun : Tells → new.history ≡ old.history → fault ≡ NoMemory
-  pub plain : (s : SwitchState) → Tells → Conforming new → switch_of held.0 (state old) ≡ Some s → waits_of held.0 (state old) ≡ [] → IsPlainFault held.0 fault
+  pub plain : (s : SwitchState) → Tells → Conforming new → switch_of held.0 (state old) ≡ Some s → waits_of held.0 (state old) ≡ [] → IsPlainFault held.0 fault ⊎ IsFloodBy held s fault
 
 -- ---- The whole
 

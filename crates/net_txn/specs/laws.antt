@@ -53,4 +53,9 @@ pub mod UndoStrayLaws
 pub mod TableBackLaws
 pub mod UndoFailureLaws
 pub mod ChangeFlightLaws
+pub mod PacketMoveLaws
+pub mod PacketHeardLaws
+pub mod PacketStepLaws
+pub mod PacketReleaseLaws
+pub mod ReleaseStepLaws
 pub mod ReleaseLaws

@@ -10,7 +10,7 @@ ghost use Rattle.outside.specs.declared.step.WorldStep.TheVariants.{Acted};
 ghost use Rattle.net_txn.specs.Causes.{IsLinkCause};
 ghost use Rattle.net_txn.specs.Views.{rows_at};
 ghost use Rattle.net_txn.specs.Said.{Speaks};
-ghost use Rattle.net_txn.specs.Arriving.{event_of, Becomes, Arrives};
+ghost use Rattle.net_txn.specs.Arriving.{event_of, net_after, Becomes, Arrives};
 
 use crate::exchange::say;
 use crate::message_event::{change_known, error_event, event_with, removed_key, tells};
@@ -72,25 +72,18 @@ fn removed_event(
 }
 
 impl Net {
-    /// Takes in a message that was read, and gives its event, where it is one.
-    fn take_in<W: World>(
+    /// Takes in the news that a message tells, and gives its event, where it is one.
+    pub(crate) fn take_news(
         &mut self,
-        world: &mut W,
         dpid: Dpid,
-        xid: Xid,
         message: &Message,
-    ) -> Result<Option<Event>, TxnFault>
+    ) -> Result<Option<Event>, AllocError>
         requires { IsMessage message.now }
-        ensures ok { IfOk result (Becomes W.Tells dpid xid message.now (W.seen world.old) (W.seen world.new) self.old self.new) }
+        ensures event { IfOk result (λ e. e ≡ event_of dpid self.old.views message.now) }
+        ensures ok { OnOk result (self.new ≡ net_after dpid message.now self.old) }
         ensures err { OnErr result (self.new ≡ self.old) }
-        ensures speaks { Speaks W.Tells dpid (W.seen world.old) (W.seen world.new) }
-        ensures link { IfErr result (IsLinkCause dpid (W.seen world.old) (W.seen world.new)) }
     {
         match message {
-            Message::EchoRequest { payload } => {
-                answer_echo(world, self.alloc, dpid, xid, payload)?;
-                Ok(None)
-            }
             Message::PacketIn(_) => Ok(Some(event_with(
                 self.alloc,
                 EventKind::PacketIn,
@@ -111,6 +104,29 @@ impl Net {
                 Ok(Some(event))
             }
             _ => Ok(None),
+        }
+    }
+
+    /// Takes in a message that was read, and gives its event, where it is one.
+    fn take_in<W: World>(
+        &mut self,
+        world: &mut W,
+        dpid: Dpid,
+        xid: Xid,
+        message: &Message,
+    ) -> Result<Option<Event>, TxnFault>
+        requires { IsMessage message.now }
+        ensures ok { IfOk result (Becomes W.Tells dpid xid message.now (W.seen world.old) (W.seen world.new) self.old self.new) }
+        ensures err { OnErr result (self.new ≡ self.old) }
+        ensures speaks { Speaks W.Tells dpid (W.seen world.old) (W.seen world.new) }
+        ensures link { IfErr result (IsLinkCause dpid (W.seen world.old) (W.seen world.new)) }
+    {
+        match message {
+            Message::EchoRequest { payload } => {
+                answer_echo(world, self.alloc, dpid, xid, payload)?;
+                Ok(None)
+            }
+            _ => Ok(self.take_news(dpid, message)?),
         }
     }
 

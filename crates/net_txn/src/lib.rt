@@ -1,8 +1,8 @@
 //! Changes to the flow tables of switches, each behind a barrier before it is answered, and undone if the turn fails.
 //!
 //! `Net` is what the host keeps of its switches: `joined` (`joins`, `in_step`), `left`, `arrived`, `waiting`, `rows`
-//! (`asks`, `in_step`). `Txn` is one transaction over it: `begin`, `change` (`changes`, `reached`, `in_step`), `commit`,
-//! and `abort`, whose one clause is the record `Undoes`. Each fault has its cause; in a world that keeps its word, view
+//! (`asks`, `in_step`). `Txn` is one transaction over it: `begin`, `change` (`changes`, `reached`, `in_step`),
+//! `hold_packet`, `commit`, whose one clause is the record `Commits`, and `abort`, whose one clause is the record `Undoes`. Each fault has its cause; in a world that keeps its word, view
 //! and table move together. Law: `views_stay_in_order`. docs/GUARANTEES.md has a row for each promise.
 #![tactic(auto)]
 

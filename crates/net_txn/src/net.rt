@@ -1,6 +1,6 @@
 //! The network of the host.
 
-ghost use Rattle.std.specs.Prelude.{◌≡◌, ◌≤◌, [], ◌∷◌, ◌++◌, length, take, drop, slice_get, IfOk, OnOk, OnErr};
+ghost use Rattle.std.specs.Prelude.{◌≡◌, ◌≤◌, [], ◌∷◌, ◌++◌, length, drop, slice_get, IfOk, OnOk, OnErr};
 ghost use Rattle.net_txn.specs.Net.{awaited_from};
 ghost use Rattle.lego_model.specs.BarrierWaits.{next_xid};
 ghost use Rattle.of_wire.specs.declared.message.Message.TheVariants as messages;
@@ -38,8 +38,7 @@ pub struct Net {
 }
 
 impl Model for Net {
-    ghost use Rattle.std.specs.Prelude.{◌≡◌, ◌≤◌, vec_len};
-    ghost use Rattle.std.specs.List.{AllByRecursion};
+    ghost use Rattle.std.specs.Prelude.{◌≡◌, ◌≤◌, vec_len, All};
     ghost use Rattle.of_wire.specs.declared.message.Message.TheVariants as messages;
     ghost use Rattle.of_wire.specs.Grammar.{IsMessage};
     ghost use Rattle.net_txn.specs.Net.{NetState};
@@ -57,7 +56,7 @@ impl Model for Net {
       room = vec_len s.rooms;
     } };
 
-    ghost invariant = { λ s. (vec_len s.buf ≡ 65535) × (1 ≤ s.xid) × AllByRecursion (λ h. IsMessage (messages.PacketOut h.1)) s.held.items };
+    ghost invariant = { λ s. (vec_len s.buf ≡ 65535) × (1 ≤ s.xid) × All (λ h. IsMessage (messages.PacketOut h.1)) s.held.items };
 }
 
 /// Returns the transaction id behind one.
@@ -136,13 +135,6 @@ impl Net {
         self.log.as_slice().len()
     }
 
-    /// Forgets what was logged from a position on.
-    pub(crate) fn forget(&mut self, from: usize)
-        ensures { self.new ≡ record self.old { log = take from self.old.log } }
-    {
-        self.log.truncate(from);
-    }
-
     /// Holds a packet back, behind the others.
     pub(crate) fn hold(&mut self, dpid: Dpid, packet: PacketOut) -> Result<(), AllocError>
         requires { IsMessage (messages.PacketOut packet) }
@@ -151,12 +143,5 @@ impl Net {
     {
         self.held.push((dpid, packet))?;
         Ok(())
-    }
-
-    /// Drops the packets that are held back; takes no memory.
-    pub(crate) fn drop_held(&mut self)
-        ensures { self.new ≡ record self.old { held = [] } }
-    {
-        self.held.clear();
     }
 }

@@ -1,7 +1,7 @@
 //! The views of the joined switches.
 
 ghost use Rattle.std.specs.Prelude.{◌≡◌, None, Some, MatchOption, OnOk, OnErr};
-ghost use Rattle.net_txn.specs.Views.{rows_at, is_row_at, with_rows, with_row, with_added, IsViewAt};
+ghost use Rattle.net_txn.specs.Views.{rows_at, is_viewed, is_row_at, with_rows, with_row, with_added, IsViewAt};
 ghost use Rattle.net_txn.specs.Arriving.{without_key};
 
 use crate::rows::{has_key, is_same, put_row};
@@ -21,6 +21,13 @@ pub(crate) fn find(views: &[TableView], dpid: Dpid) -> Option<&TableView>
         }
     }
     None
+}
+
+/// Tells whether a switch has a view.
+pub(crate) fn is_known(views: &[TableView], dpid: Dpid) -> bool
+    ensures { result ≡ is_viewed dpid views.now }
+{
+    views.iter().any(|view| view.dpid == dpid)
 }
 
 /// Tells whether a row of a switch has a key.

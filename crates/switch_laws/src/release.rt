@@ -7,11 +7,10 @@ ghost use Rattle.lego_model.specs.Packets.{Held};
 ghost use Rattle.outside.specs.Seen.{Seen, Continues};
 ghost use Rattle.outside.specs.State.{state};
 ghost use Rattle.outside.specs.Conforming.{Conforming};
-ghost use Rattle.net_txn.specs.Causes.{IsPlainFault};
 ghost use Rattle.net_txn.specs.Net.{NetState};
 ghost use Rattle.net_txn.specs.Releases.{MovesBy, ReleasesAll, StopsRelease};
 ghost use Rattle.net_txn.specs.Views.{is_viewed};
-ghost use Rattle.switch_laws.specs.Released.{ReleaseShown};
+ghost use Rattle.switch_laws.specs.Released.{ReleaseShown, StopsFor};
 ghost use Rattle.switch_laws.specs.Since.{Ready};
 ghost use Rattle.switch_laws.specs.Sound.{Sound};
 
@@ -27,8 +26,9 @@ pub fn packets_are_shown<W: World>()
         → ReleasesAll W.Tells held old new net now_net queue now_queue → MovesBy (filter (λ h. is_viewed h.0 net.views) held) old new }
 {}
 
-/// A release that stopped, in a world that keeps its word: the fault is one of the link of a switch, or of memory.
+/// A release that stopped, in a world that keeps its word: the link of a switch failed, or memory ran out, or a packet made
+/// its switch send more messages than a wait takes.
 pub fn stopped_releases_are_plain<W: World>()
     ensures { (start : ℕ) (old new : Seen W.Own) (net : NetState) (queue : List Event) (fault : TxnFault) → W.Tells → Conforming new → Continues W.Tells old new
-        → StopsRelease W.Tells start old new net queue fault → Ready old net → (d : ℕ) × IsPlainFault d fault }
+        → StopsRelease W.Tells start old new net queue fault → Ready old net → StopsFor old new fault }
 {}

@@ -64,19 +64,19 @@ replied_then {Tells = Tells} d m net a frame kept now_kept old new fault is spel
 
 -- ---- What moves no switch
 
-abbrev Stays : ℕ → List Said → Type 0
+abbrev pub Stays : ℕ → List Said → Type 0
 Stays d said = (t : State) → switch_of d (after_steps (said_steps said) t) ≡ switch_of d t
 
-abbrev Moves : ℕ → Message → List Said → Type 0
+abbrev pub Moves : ℕ → Message → List Said → Type 0
 Moves d m said = (t : State) → switch_of d (after_steps (said_steps said) t) ≡ option_map (after_message m) (switch_of d t)
 
 one_then : (xs ys : List Said) (t : State) → after_steps (said_steps (xs ++ ys)) t ≡ after_steps (said_steps ys) (after_steps (said_steps xs) t)
 one_then xs ys t = ap (λ (steps : List WorldStep). after_steps steps t) (steps_append xs ys) ∙ after_steps-append (said_steps xs) (said_steps ys) t
 
-stays_then : (d : ℕ) (xs ys : List Said) → Stays d xs → Stays d ys → Stays d (xs ++ ys)
+pub stays_then : (d : ℕ) (xs ys : List Said) → Stays d xs → Stays d ys → Stays d (xs ++ ys)
 stays_then d xs ys first second t = ap (switch_of d) (one_then xs ys t) ∙ second (after_steps (said_steps xs) t) ∙ first t
 
-moves_then : (d : ℕ) (m : Message) (xs ys : List Said) → Moves d m xs → Stays d ys → Moves d m (xs ++ ys)
+pub moves_then : (d : ℕ) (m : Message) (xs ys : List Said) → Moves d m xs → Stays d ys → Moves d m (xs ++ ys)
 moves_then d m xs ys first second t = ap (switch_of d) (one_then xs ys t) ∙ second (after_steps (said_steps xs) t) ∙ first t
 
 failed_switch : (o : Option Link) → switch_in (option_map link_failed o) ≡ switch_in o
@@ -92,7 +92,7 @@ recv_failed : (d : ℕ) (t : State) → switch_of d (after_step (RecvFailed d) t
 unfolding switch_of after_step
 recv_failed d t = ap switch_in (link_of-same d link_failed keeps_failed t.links) ∙ failed_switch (link_of d t.links)
 
-stays_unsaid : (d : ℕ) (trouble : Trouble) → Stays d (unsaid d trouble)
+pub stays_unsaid : (d : ℕ) (trouble : Trouble) → Stays d (unsaid d trouble)
 stays_unsaid d troubles.Link t = send_failed d t
 stays_unsaid d (troubles.Broke n) t = refl
 stays_unsaid d (troubles.Refused k x n) t = refl
@@ -108,14 +108,14 @@ stays_unheard d troubles.Flooded buf t = refl
 stays_unheard d troubles.Short buf t = refl
 stays_unheard d troubles.Full buf t = refl
 
-stays_last : (d : ℕ) (by : Option (List ℕ)) (trouble : Trouble) (buf : List ℕ) → Stays d (last_said d by trouble buf)
+pub stays_last : (d : ℕ) (by : Option (List ℕ)) (trouble : Trouble) (buf : List ℕ) → Stays d (last_said d by trouble buf)
 stays_last d None trouble buf = stays_unheard d trouble buf
 stays_last d (Some b) trouble buf = stays_then d (Hears d b ∷ []) (unsaid d trouble) (λ t. switch_of-got d b t) (stays_unsaid d trouble)
 
-stays_wait : (a : Awaited) (got : List (List ℕ)) → Stays a.dpid (wait_said a got)
+pub stays_wait : (a : Awaited) (got : List (List ℕ)) → Stays a.dpid (wait_said a got)
 stays_wait a got t = ap (λ (steps : List WorldStep). switch_of a.dpid (after_steps steps t)) (wait_said_steps a got) ∙ wait_switch a got t
 
-stays_reply : (a : Awaited) → Stays a.dpid (reply_heard a ∷ [])
+pub stays_reply : (a : Awaited) → Stays a.dpid (reply_heard a ∷ [])
 stays_reply a t = switch_of-got a.dpid (message_bytes a.barrier BarrierReply) t
 
 abbrev some_switch : SwitchState → Option SwitchState
@@ -131,10 +131,10 @@ told_as : (xid : ℕ) (m : Message) (bytes : List ℕ) (o : Option SwitchState) 
 told_as xid m bytes None read = rw read refl
 told_as xid m bytes (Some s) read = rw read refl
 
-told_map : (xid : ℕ) (m : Message) (bytes : List ℕ) (d : ℕ) → reading_of bytes ≡ Ok (enveloped xid m) → Moves d m (Says d bytes ∷ [])
+pub told_map : (xid : ℕ) (m : Message) (bytes : List ℕ) (d : ℕ) → reading_of bytes ≡ Ok (enveloped xid m) → Moves d m (Says d bytes ∷ [])
 told_map xid m bytes d read t = switch_of-sent d bytes t ∙ told_as xid m bytes (switch_of d t) read
 
-stays_barrier : (d xid : ℕ) → xid < 2 ^ 32 → Stays d (Says d (message_bytes xid BarrierRequest) ∷ [])
+pub stays_barrier : (d xid : ℕ) → xid < 2 ^ 32 → Stays d (Says d (message_bytes xid BarrierRequest) ∷ [])
 stays_barrier d xid small t =
     told_map xid BarrierRequest (message_bytes xid BarrierRequest) d (reading_of-message_bytes xid BarrierRequest small IsMessage-barrier) t ∙ barrier_told (switch_of d t)
 
@@ -144,10 +144,10 @@ abbrev EitherWay : ℕ → Message → List Said → Type 0
 EitherWay d m said = Stays d said ⊎ Moves d m said
 
 -- so many of the two messages were sent
-record IsFront (change barrier : List ℕ) (first : List (List ℕ)) : Type 0 where
-  front : (first ≡ []) ⊎ ((first ≡ change ∷ []) ⊎ (first ≡ change ∷ barrier ∷ []))
+pub record IsFront (change barrier : List ℕ) (first : List (List ℕ)) : Type 0 where
+  pub front : (first ≡ []) ⊎ ((first ≡ change ∷ []) ⊎ (first ≡ change ∷ barrier ∷ []))
 
-front_of_two : (change barrier : List ℕ) (first rest : List (List ℕ)) → change ∷ barrier ∷ [] ≡ first ++ rest → IsFront change barrier first
+pub front_of_two : (change barrier : List ℕ) (first rest : List (List ℕ)) → change ∷ barrier ∷ [] ≡ first ++ rest → IsFront change barrier first
 front_of_two change barrier [] rest same = record { front = inl refl }
 front_of_two change barrier (c ∷ []) rest same = record { front = inr (inl cc) }
 front_of_two change barrier (c ∷ b ∷ []) rest same = record { front = inr (inr cc) }

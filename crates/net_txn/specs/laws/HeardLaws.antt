@@ -48,13 +48,13 @@ heard-reply a =
 pub record IsSmall (o : Option OfError) : Type 0 where
   pub small : IfSome o (λ e. (e.kind < 256 ^ 2) × (e.code < 256 ^ 2))
 
-none_small : IsSmall None
+pub none_small : IsSmall None
 none_small = record { small = tt }
 
-known_small : (e : OfError) → e.kind < 256 ^ 2 → e.code < 256 ^ 2 → IsSmall (Some e)
+pub known_small : (e : OfError) → e.kind < 256 ^ 2 → e.code < 256 ^ 2 → IsSmall (Some e)
 known_small e kind code = record { small = (kind, code) }
 
-small_if : (b : Bool) (x y : Option OfError) → IsSmall x → IsSmall y → IsSmall (if b then x else y)
+pub small_if : (b : Bool) (x y : Option OfError) → IsSmall x → IsSmall y → IsSmall (if b then x else y)
 small_if true x y first second = first
 small_if false x y first second = second
 
@@ -81,7 +81,7 @@ small_action takes_table had (actions.SetNwTos x) = none_small
 small_action takes_table had (actions.SetTpSrc x) = none_small
 small_action takes_table had (actions.SetTpDst x) = none_small
 
-small_actions : (takes_table : Bool) (had : List ℕ) (list : List Action) → IsSmall (actions_refusal takes_table had list)
+pub small_actions : (takes_table : Bool) (had : List ℕ) (list : List Action) → IsSmall (actions_refusal takes_table had list)
 unfolding actions_refusal
 small_actions takes_table had [] = none_small
 small_actions takes_table had (action ∷ list) = small_or (action_refusal takes_table had action) (actions_refusal takes_table had list) (small_action takes_table had action) (small_actions takes_table had list)

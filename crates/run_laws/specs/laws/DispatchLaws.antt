@@ -92,6 +92,7 @@ module _ {Own : Type 0} (allows : List Place → Bool) (event : Event) (text : L
   says_alive alive alike said_starts (said ∷ later_replies) r starts_so fronts s =
       let later_starts = drop (length starts) said_starts in
       ap text_of (dispatched_so alive alike said_starts said later_replies r starts_so fronts.0 s)
+      ∙ ap lines_text (append_assoc (r.lines ++ Dispatched (r.events + 1) event ∷ []) (Ended 0 alike.outcome ∷ out_lines alike.packets) (restart_lines 0 alike.outcome (app_at now_e (given_in new) later_starts later_replies, alike.tries)))
       ∙ event_lines r.lines (Ended 0 alike.outcome ∷ out_lines alike.packets ++ restart_lines 0 alike.outcome (app_at now_e (given_in new) later_starts later_replies, alike.tries)) (r.events + 1) event
       ∙ ap₂ (λ (n : ℕ) (more : List ℕ). text_of r ++ (event_line (n + 1) event.kind event.dpid ++ more)) s.events (sym (alike.text_so later_starts later_replies))
 
@@ -165,6 +166,21 @@ dispatch-moves Tells accepts allows event text old new e now_e told keeps contin
     by_alive Tells accepts allows event d.turn_text text old new e now_e e.alive refl told keeps continues judges reads few life d.turn d.text_so
 
 -- ---- What the next event needs
+
+-- where it is alive then, its last start stands
+life_by : {Own : Type 0} (Tells : Type 0) (accepts : List TableView → Bool) (allows : List Place → Bool) (event : Event) (turn_text : List ℕ) (old new : Seen Own) (e now_e : Engine) (alive : Bool) → e.alive ≡ alive
+    → Tells → Conforming new → JudgesAlike Own allows accepts → AreRead Own Tells accepts → e.events + 1 < 2 ^ 64 → (e.alive ≡ true → LastStands (own_acts old))
+    → IsTurn Tells accepts event alive turn_text old new (with_number e) now_e → now_e.alive ≡ true → LastStands (own_acts new)
+life_by Tells accepts allows event turn_text old new e now_e true alive told keeps judges reads few life turn =
+    (turn_moves Tells accepts allows event turn_text old new (with_number e) now_e told keeps judges reads few (life alive) turn).tells.life
+life_by Tells accepts allows event turn_text old new e now_e false dead told keeps judges reads few life turn =
+    λ up. subst (λ (s : Seen _). LastStands (own_acts s)) (sym turn.0) (life (sym (ap (λ (x : Engine). x.alive) turn.1) ∙ up))
+
+pub dispatch-life : {Own : Type 0} (Tells : Type 0) (accepts : List TableView → Bool) (allows : List Place → Bool) (event : Event) (text : List ℕ) (old new : Seen Own) (e now_e : Engine)
+    → Tells → Conforming new → JudgesAlike Own allows accepts → AreRead Own Tells accepts → e.events + 1 < 2 ^ 64 → (e.alive ≡ true → LastStands (own_acts old))
+    → Dispatches Tells accepts event text old new e now_e → now_e.alive ≡ true → LastStands (own_acts new)
+dispatch-life Tells accepts allows event text old new e now_e told keeps judges reads few life d =
+    life_by Tells accepts allows event d.turn_text old new e now_e e.alive refl told keeps judges reads few life d.turn
 
 -- what comes joins the events that wait
 takes_read-joins : (d : ℕ) (read : Result Envelope WireFault) (k : Knows) → Joins k.1 (takes_read d read k).1

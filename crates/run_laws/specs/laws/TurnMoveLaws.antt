@@ -19,7 +19,7 @@ use Rattle.lego_model.specs.Turns.{Outcome, Completed, Failed, turn_of}
 use Rattle.lego_model.specs.Scripted.{IsFront, is_heard}
 use Rattle.lego_model.specs.laws.ScriptedLaws.{turn-front}
 use Rattle.lego_model.specs.Controller.{table_of, App, Turned, attempts, started, event_frame, answer_frame, given_in as given_by_turn, Release, none_released, release, out_lines, turn}
-use Rattle.lego_model.specs.RunReport.{turn_line, outcome_word}
+use Rattle.lego_model.specs.RunReport.{turn_line}
 use Rattle.outside.specs.Seen.{Given, Seen}
 use Rattle.outside.specs.State.{State, Mark, state, marks_at_event}
 use Rattle.outside.specs.laws.StateLaws.{Conforming-before}

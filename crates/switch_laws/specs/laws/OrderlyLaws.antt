@@ -164,7 +164,7 @@ inverse-none : (d xid : ℕ) (k : Key) → packet_read d (reading_of (inverse_by
 unfolding inverse_bytes
 inverse-none d xid k = change-none d xid (delete_strict k)
 
-pub none-both : (xs ys : List WorldStep) → ReleasesNone xs → ReleasesNone ys → ReleasesNone (xs ++ ys)
+none-both : (xs ys : List WorldStep) → ReleasesNone xs → ReleasesNone ys → ReleasesNone (xs ++ ys)
 none-both [] ys first later = later
 none-both (x ∷ xs) ys first later = (first.0, none-both xs ys first.1 later)
 
@@ -175,11 +175,11 @@ heard-none d Notice bytes = tt
 heard-none d Echo bytes = (echo-none d _ _, tt)
 heard-none d Other bytes = tt
 
-pub wait-none : (a : Awaited) (got : List (List ℕ)) → ReleasesNone (wait_steps a got)
+wait-none : (a : Awaited) (got : List (List ℕ)) → ReleasesNone (wait_steps a got)
 wait-none a [] = tt
 wait-none a (b ∷ bs) = (refl, none-both (steps_by a.dpid (heard a b) b) (wait_steps a bs) (heard-none a.dpid (heard a b) b) (wait-none a bs))
 
-pub ended-none : (a : Awaited) (got : List (List ℕ)) → ReleasesNone (wait_steps a got ++ reply_got a ∷ [])
+ended-none : (a : Awaited) (got : List (List ℕ)) → ReleasesNone (wait_steps a got ++ reply_got a ∷ [])
 ended-none a got = none-both (wait_steps a got) (reply_got a ∷ []) (wait-none a got) (refl, tt)
 
 -- a switch joins

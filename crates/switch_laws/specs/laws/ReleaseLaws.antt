@@ -1,17 +1,19 @@
 -- What follows about a release: each switch moved by the packets that were sent to it, and the history released them. In a world that keeps
 -- its word the switches stand then, with the flags of the owners, as the reference controller's do that releases the same packets; and where
--- a release stopped, the fault is one of the link or of memory.
+-- a release stopped, the fault is one of the link or of memory, or a packet made its switch send too many messages.
 use Rattle.std.proofs.Common.{◌≡◌, ◌≢◌, ◌==◌, ℕ, true, false, List, [], ◌∷◌, ◌++◌, filter, fold, Option, Some, None, Result, Ok, Err, if◌then◌else◌, refl, sym, ap, ap₂, ◌∙◌, subst, append_assoc, inl, inr, true≢false}
 use Rattle.std.proofs.lemmas.Bool.{cases_Bool, cases_eq}
 use Rattle.std.proofs.lemmas.List.{append-nil}
 use Rattle.std.proofs.lemmas.List.Sums.{fold-append}
 use Rattle.std.specs.Option.{option_map}
+use Rattle.of_types.specs.declared.journal.Act.TheVariants.{Sent}
 use Rattle.of_types.specs.declared.port_desc.PortDesc.{PortDesc}
 use Rattle.of_match.specs.declared.key.Key.{Key}
 use Rattle.of_wire.specs.declared.message.Envelope.{Envelope}
 use Rattle.of_wire.specs.declared.message.Message.TheVariants.{PacketOut}
 use Rattle.of_wire.specs.declared.fault.WireFault.{WireFault}
 use Rattle.of_wire.specs.Reading.{reading_of}
+use Rattle.of_wire.specs.Spelling.{message_bytes}
 use Rattle.flow_table.specs.declared.view.TableView.{TableView}
 use Rattle.flow_table.specs.Switch.{Declared, SwitchState}
 use Rattle.flow_table.specs.Step.{after_message, sent_by_message}
@@ -19,25 +21,30 @@ use Rattle.undo_laws.specs.Owned.{owned_switch}
 use Rattle.undo_laws.specs.laws.OwnedLaws.{packet-owned, packet_sent-owned}
 use Rattle.app_frames.specs.declared.frame.Event.{Event}
 use Rattle.lego_model.specs.declared.fault.TxnFault.{TxnFault}
+use Rattle.lego_model.specs.declared.fault.TxnFault.TheVariants.{SwitchFault, SwitchBroke, Diverged, Flooded, NoMemory}
 use Rattle.lego_model.specs.AfterFault.{after_packets}
 use Rattle.lego_model.specs.Answers.{Rows, rows_of_table}
+use Rattle.lego_model.specs.BarrierWaits.{flood, barrier_sent, wait_steps}
 use Rattle.lego_model.specs.Controller.{Release, none_released, release_at, release_one, release, events_of, ports_of}
 use Rattle.lego_model.specs.History.{released_of}
 use Rattle.lego_model.specs.Packets.{Held}
+use Rattle.lego_model.specs.SwitchFaults.{FloodedByPacket}
 use Rattle.lego_model.specs.Places.{switch_at, with_place}
+use Rattle.outside.specs.declared.step.WorldStep.{WorldStep}
+use Rattle.outside.specs.declared.step.WorldStep.TheVariants.{Acted}
 use Rattle.outside.specs.Seen.{Given, Seen, Continues}
 use Rattle.outside.specs.State.{State, state, switch_of, waits_of}
 use Rattle.outside.specs.Conforming.{AreDeclaredFrom, Conforming}
 use Rattle.outside.specs.laws.SeenLaws.{Continues-refl, Continues-trans}
 use Rattle.outside.specs.laws.StateLaws.{Conforming-front, Conforming-before}
 use Rattle.net_txn.specs.Agreement.{Agrees}
-use Rattle.net_txn.specs.Causes.{IsPlainFault}
 use Rattle.net_txn.specs.Changes.{known_rows}
 use Rattle.net_txn.specs.Net.{NetState}
-use Rattle.net_txn.specs.Releases.{Knows, takes_read, takes_all, PacketInStep, MovesBy, PassesOver, ReleasesOne, ReleasesAll, StopsRelease, committed}
+use Rattle.net_txn.specs.Releases.{packet_awaited, packet_steps, IsFloodBy, Knows, takes_read, takes_all, PacketInStep, MovesBy, PassesOver, ReleasesOne, ReleasesAll, StopsRelease, committed}
 use Rattle.net_txn.specs.Views.{is_viewed}
+use Rattle.net_txn.specs.Waits.{IfFlooded}
 use Rattle.net_txn.specs.laws.AbreastLaws.{arrival_viewed}
-use Rattle.switch_laws.specs.Released.{ReleaseShown}
+use Rattle.switch_laws.specs.Released.{ReleaseShown, StopsFor}
 use Rattle.switch_laws.specs.Shown.{flags_at, shown_switch, places, shown_places, Stand}
 use Rattle.switch_laws.specs.Since.{Ready}
 use Rattle.switch_laws.specs.Sound.{AllSound, Sound}
@@ -50,7 +57,7 @@ use Rattle.switch_laws.specs.laws.SoundLaws.{packet-sound}
 use Rattle.switch_laws.specs.laws.StandLaws.{all-stand}
 
 -- the packets of joined switches
-abbrev pub joined_of : List TableView → List Held → List Held
+abbrev joined_of : List TableView → List Held → List Held
 joined_of views held = filter (λ h. is_viewed h.0 views) held
 
 -- ---- What was seen goes on
@@ -120,19 +127,14 @@ release-moves Tells (h ∷ more) old new net now_net queue now_queue told all =
       | inr passes ↦ rw (passes.unviewed) (subst (λ (s : Seen _). MovesBy (joined_of net.views more) s new) passes.seen rest)
     ]
 
--- the same up to where it stopped
-pub stop-moves : {Own : Type 0} (Tells : Type 0) (start : ℕ) (old new : Seen Own) (net : NetState) (queue : List Event) (fault : TxnFault) → Tells → (stops : StopsRelease Tells start old new net queue fault) → MovesBy (joined_of net.views stops.front ++ stops.breaks.packets) old new
-stop-moves Tells start old new net queue fault told stops =
-    moves-then old stops.mid new (joined_of net.views stops.front) stops.breaks.packets (release-moves Tells stops.front old stops.mid (committed start net) stops.mid_net queue stops.mid_queue told stops.before) (stops.breaks.moves told)
-
 -- ---- Where the world keeps its word: which switches are joined
 
 -- a switch that is joined
-record Joined (d : ℕ) (s : State) : Type 0 where
+record JoinedAt (d : ℕ) (s : State) : Type 0 where
   switch : SwitchState
   stands : switch_of d s ≡ Some switch
 
-viewed-joined : (d : ℕ) (views : List TableView) (s : State) → Agrees d views s → is_viewed d views ≡ true → (o : Option SwitchState) → switch_of d s ≡ o → Joined d s
+viewed-joined : (d : ℕ) (views : List TableView) (s : State) → Agrees d views s → is_viewed d views ≡ true → (o : Option SwitchState) → switch_of d s ≡ o → JoinedAt d s
 viewed-joined d views s agrees there (Some x) is = record { switch = x; stands = is }
 viewed-joined d views s agrees there None is = absurd (true≢false (sym there ∙ unviewed d views s agrees is))
 
@@ -387,8 +389,34 @@ releases-ready Tells (h ∷ more) old new net now_net queue now_queue told keeps
 mid-keeps : {Own : Type 0} {Tells : Type 0} {packets : List Held} (old mid new : Seen Own) → Continues Tells old new → Continues Tells old mid → MovesBy packets mid new → Conforming new → Conforming mid
 mid-keeps old mid new whole before moves keeps = Conforming-front mid new moves.steps (whole.given ∙ sym before.given) moves.history keeps
 
--- the fault is one of the link, or of memory
-pub release-plain : {Own : Type 0} (Tells : Type 0) (start : ℕ) (old new : Seen Own) (net : NetState) (queue : List Event) (fault : TxnFault) → Tells → Conforming new → Continues Tells old new → StopsRelease Tells start old new net queue fault → Ready old net → (d : ℕ) × IsPlainFault d fault
+-- a packet that made its switch send too many messages
+flood-stops : {Own : Type 0} (Tells : Type 0) (h : Held) (s : SwitchState) (old mid new : Seen Own) (net : NetState) (fault : TxnFault) → Tells → Continues Tells old new → Continues Tells old mid → switch_of h.0 (state mid) ≡ Some s
+    → IfFlooded Tells (packet_awaited h.0 net.xid) (packet_steps h.0 net.xid h.1) mid new fault → IsFloodBy h s fault → (d : ℕ) × ((fault ≡ Flooded d flood) × FloodedByPacket d old new)
+flood-stops Tells h s old mid new net (Flooded of n) told whole before stands floods by =
+    let first : WorldStep = Acted (Sent h.0 (message_bytes net.xid (PacketOut h.1))) in
+    let rest = barrier_sent (packet_awaited h.0 net.xid) ∷ wait_steps (packet_awaited h.0 net.xid) floods.got in
+    let by_packet : FloodedByPacket h.0 old new = record {
+      mid = mid;
+      given = before.given ∙ sym whole.given;
+      before = before.told told;
+      packet = h.1;
+      switch = s;
+      stands = stands;
+      many = by.2;
+      xid = net.xid;
+      sent = (rest, floods.told told ∙ sym (append_assoc mid.history (first ∷ []) rest));
+    } in
+    (h.0, (ap₂ flooded_fault by.0 by.1, by_packet))
+  where
+    flooded_fault : ℕ → ℕ → TxnFault
+    flooded_fault d count = Flooded d count
+flood-stops Tells h s old mid new net (SwitchFault of) told whole before stands floods by = absurd by
+flood-stops Tells h s old mid new net (SwitchBroke of bytes) told whole before stands floods by = absurd by
+flood-stops Tells h s old mid new net (Diverged of key answer) told whole before stands floods by = absurd by
+flood-stops Tells h s old mid new net NoMemory told whole before stands floods by = absurd by
+
+-- The fault is one of a link or of memory, or a packet made its switch send too many messages.
+pub release-plain : {Own : Type 0} (Tells : Type 0) (start : ℕ) (old new : Seen Own) (net : NetState) (queue : List Event) (fault : TxnFault) → Tells → Conforming new → Continues Tells old new → StopsRelease Tells start old new net queue fault → Ready old net → StopsFor old new fault
 release-plain Tells start old new net queue fault told keeps whole stops ready =
     let before = releases-continue Tells stops.front old stops.mid (committed start net) stops.mid_net queue stops.mid_queue stops.before in
     let mid_keeps = mid-keeps old stops.mid new whole before (stops.breaks.moves told) keeps in
@@ -396,4 +424,7 @@ release-plain Tells start old new net queue fault told keeps whole stops ready =
     let then_ready = releases-ready Tells stops.front old stops.mid (committed start net) stops.mid_net queue stops.mid_queue told mid_keeps stops.before first in
     let d = stops.broken.0 in
     let s = viewed-joined d stops.mid_net.views (state stops.mid) (then_ready.agrees d) stops.breaks.viewed (switch_of d (state stops.mid)) refl in
-    (d, stops.breaks.plain s.switch told keeps s.stands (then_ready.waits d))
+    elim (stops.breaks.plain s.switch told keeps s.stands (then_ready.waits d)) [
+      | inl plain ↦ inl (d, plain)
+      | inr by ↦ inr (flood-stops Tells stops.broken s.switch old stops.mid new stops.mid_net fault told whole before s.stands stops.breaks.flooded by)
+    ]

@@ -1,14 +1,16 @@
 -- What follows of a turn that stops in a world that keeps its word, where all was ready, or of the release behind one: a link failed, or
--- memory was wanting.
+-- memory was wanting, or a packet made its switch send too many messages.
 use Rattle.std.proofs.Common.{◌≡◌, ℕ, Bool, true, List, ◌∷◌, length, Option, Some, None, Err, refl, sym, subst, inl, inr}
 use Rattle.flow_table.specs.declared.view.TableView.{TableView}
 use Rattle.app_frames.specs.declared.frame.Answer.{Answer}
 use Rattle.app_frames.specs.declared.frame.Event.{Event}
-use Rattle.outside.specs.Seen.{Seen}
+use Rattle.outside.specs.Seen.{Seen, Longer}
+use Rattle.outside.specs.laws.SeenLaws.{Longer-trans}
 use Rattle.outside.specs.laws.StateLaws.{Conforming-before}
 use Rattle.outside.specs.Conforming.{Conforming}
 use Rattle.lego_model.specs.declared.fault.TxnFault.{TxnFault}
 use Rattle.lego_model.specs.declared.fault.TxnFault.TheVariants.{NoMemory}
+use Rattle.lego_model.specs.SwitchFaults.{FloodedByPacket}
 use Rattle.net_txn.specs.Net.{NetState}
 use Rattle.net_txn.specs.Changes.{known_rows, answer_of_host, Changes}
 use Rattle.net_txn.specs.Agreement.{Steps}
@@ -16,9 +18,10 @@ use Rattle.net_txn.specs.Releases.{Commits}
 use Rattle.app_visor.specs.declared.state.TurnEnd.{TurnEnd}
 use Rattle.app_visor.specs.Talks.{give_act}
 use Rattle.app_visor.specs.Beats.{Talk, Halts, Stops}
-use Rattle.app_visor.specs.laws.BeatLaws.{halts_continue}
+use Rattle.app_visor.specs.laws.BeatLaws.{Chain-continues, halts_continue}
 use Rattle.app_visor.specs.Turns.{Turns}
 use Rattle.switch_laws.specs.laws.AskedLaws.{asked}
+use Rattle.switch_laws.specs.Released.{StopsFor}
 use Rattle.switch_laws.specs.Since.{Ready, Goes}
 use Rattle.switch_laws.specs.laws.SinceLaws.{begun}
 use Rattle.switch_laws.specs.laws.ReleaseLaws.{release-plain}
@@ -57,11 +60,29 @@ turn-ready Tells accepts app budget rest frame old new net now_net end unread to
 
 -- ---- The release behind it
 
+-- a packet did so since an earlier point, too
+pub flooded-since : {Own : Type 0} {d : ℕ} (old mid new : Seen Own) → Longer old.history mid.history → FloodedByPacket d mid new → FloodedByPacket d old new
+flooded-since old mid new longer f = record {
+  mid = f.mid;
+  given = f.given;
+  before = Longer-trans old.history mid.history f.mid.history longer f.before;
+  packet = f.packet;
+  switch = f.switch;
+  stands = f.stands;
+  many = f.many;
+  xid = f.xid;
+  sent = f.sent;
+}
+
 pub commit-plain : {Own : Type 0} (Tells : Type 0) (accepts : List TableView → Bool) (app budget : ℕ) (rest frame : List ℕ) (old mid new : Seen Own) (net mid_net now_net : NetState) (end : TurnEnd) (unread : List ℕ) (queue now_queue : List Event) (fault : TxnFault) → Tells
-    → Conforming new → Ready old net → Turns Tells accepts app budget rest frame old mid net mid_net end unread → Commits Tells (length net.log) mid new mid_net now_net queue now_queue (Err fault) → IsPlainStop fault
+    → Conforming new → Ready old net → Turns Tells accepts app budget rest frame old mid net mid_net end unread → Commits Tells (length net.log) mid new mid_net now_net queue now_queue (Err fault) → StopsFor old new fault
 commit-plain Tells accepts app budget rest frame old mid new net mid_net now_net end unread queue now_queue fault told keeps ready t commits = elim commits.ended [
-  | inl u ↦ no_memory fault u.fault_so
+  | inl u ↦ inl (no_memory fault u.fault_so)
   | inr stops ↦
       (let there = turn-ready Tells accepts app budget rest frame old mid net mid_net end unread told (Conforming-before told commits.continues keeps) ready t in
-      release-plain Tells (length net.log) mid new mid_net queue fault told keeps commits.continues stops there)
+      let before = Chain-continues Tells app (Talk (give_act t.given app frame) ∷ t.trace) old mid net mid_net t.chain in
+      elim (release-plain Tells (length net.log) mid new mid_net queue fault told keeps commits.continues stops there) [
+        | inl plain ↦ inl plain
+        | inr flooded ↦ inr (flooded.0, (flooded.1.0, flooded-since old mid new (before.told told) flooded.1.1))
+      ])
 ]
