@@ -31,6 +31,7 @@ use outside::World;
 use session_text::read_session;
 use sim_world::SimWorld;
 use std::alloc::{AllocError, Global};
+use trace_world::Traced;
 
 /// Gives the names of the applications: without a policy there is one, `app`.
 fn app_names(alloc: Global) -> Result<Vec<String>, AllocError>
@@ -59,7 +60,11 @@ fn load<S: Source>(alloc: Global, source: &mut S, sim: &mut SimWorld) -> Result<
 }
 
 /// Runs the simulated world to its end, and writes the report.
-fn simulate<K: Sink>(alloc: Global, sink: &mut K, sim: &mut SimWorld) -> Result<(), Stop>
+fn simulate<K: Sink, E: Sink + Drop>(
+    alloc: Global,
+    sink: &mut K,
+    sim: &mut Traced<SimWorld, E>,
+) -> Result<(), Stop>
     ensures runs { (seen_of sim.old).history ≡ [] → length (seen_of sim.old).given.stimuli ≤ 1000000
         → RunsAs result sim.new (K.contents sink.old) (K.contents sink.new) }
     ensures lines { KeepsLines sim.new }
@@ -71,16 +76,16 @@ fn simulate<K: Sink>(alloc: Global, sink: &mut K, sim: &mut SimWorld) -> Result<
     ensures never_fell { NeverFell (K.faults sink.old) (K.faults sink.new) }
 {
     let ended = run_world(alloc, Vec::new(alloc), sink, sim, 0, MOST_ROUNDS);
-    sim.keeps_word();
+    sim.world().keeps_word();
     ended
 }
 
 /// Reads a session to its end, and runs it in the simulated world.
-fn replay<S: Source, K: Sink>(
+fn replay<S: Source, K: Sink, E: Sink + Drop>(
     alloc: Global,
     source: &mut S,
     sink: &mut K,
-    sim: &mut SimWorld,
+    sim: &mut Traced<SimWorld, E>,
 ) -> Result<(), Stop>
     requires new { IsNew sim.old }
     requires nothing { given_of sim.old ≡ nothing_given }
@@ -96,17 +101,17 @@ fn replay<S: Source, K: Sink>(
     ensures early { IfErr result (λ stop. IsEarly stop → (sim.new ≡ sim.old) × (sink.new ≡ sink.old)) }
     ensures never_fell { NeverFell (K.faults sink.old) (K.faults sink.new) }
 {
-    load(alloc, source, sim)?;
+    load(alloc, source, sim.world_mut())?;
     simulate(alloc, sink, sim)
 }
 
 /// Runs the command that the words are.
-fn run<S: Source, K: Sink, W: World>(
+fn run<S: Source, K: Sink, E: Sink + Drop, W: World>(
     alloc: Global,
     words: &[String],
     source: &mut S,
     sink: &mut K,
-    sim: &mut SimWorld,
+    sim: &mut Traced<SimWorld, E>,
     live: &mut W,
 ) -> Result<(), Stop>
     requires new { IsNew sim.old }
@@ -152,16 +157,17 @@ pub fn halt<K: Sink>(sink: &mut K, stop: Stop) -> u8
 /// Runs one command: reads an input to its end, runs a world, and writes the report.
 ///
 /// `replay` runs the session of the input in the simulated world, and `run` the application of a policy over the switches of
-/// the other world. The answer is the status of the program: 0 where the whole report was written, 2 where
+/// the other world. The simulated world may tell its acts in words; contracts see it without them. The answer is the status
+/// of the program: 0 where the whole report was written, 2 where
 /// the words are no command, 3 where the input is refused, 4 where the source failed, 5 where the sink failed, 6 where
 /// the world stays shut or fails, 7 where the link of a switch failed, 8 where a switch broke, 9 where it diverged, 10
 /// where events were left, 12 where memory ran out. At any status but 0 and 5 the last line that is written says why.
-pub fn legosdn<S: Source, K: Sink, W: World>(
+pub fn legosdn<S: Source, K: Sink, E: Sink + Drop, W: World>(
     alloc: Global,
     words: &[String],
     source: &mut S,
     sink: &mut K,
-    sim: &mut SimWorld,
+    sim: &mut Traced<SimWorld, E>,
     live: &mut W,
 ) -> u8
     requires new_world { IsNew sim.old }
