@@ -1,3 +1,4 @@
+use Rattle.std.proofs.Common.{inl}
 use Rattle.event_dispatch.specs.laws.WholeLaws.{cut_unopened, cut_failed, alike_unopened, alike_done, alike_failed}
 use Rattle.event_dispatch.specs.laws.PlainLaws.{unopened_plain, served_plain}
 use Rattle.event_dispatch.specs.laws.ReadLaws.{unopened_places, opened_places, unopened_read, all_read, failed_read}
