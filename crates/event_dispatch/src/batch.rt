@@ -1,6 +1,7 @@
 //! A batch: what comes up to the next rest of the outside, and the events that it makes.
 
-ghost use Rattle.std.specs.Prelude.{◌≡◌, ◌≤◌, length, true, false, Ok, None, IsSome, IfOk, IfErr, OnOk, OnErr, [], ◌∷◌, ◌++◌};
+ghost use Rattle.std.specs.Prelude.{◌≡◌, ◌==◌, ◌≤◌, length, true, false, Ok, None, IsSome, IfOk, IfErr, OnOk, OnErr, [], ◌∷◌, ◌++◌};
+ghost use Rattle.std.specs.List.{list_any};
 ghost use Rattle.of_types.specs.Fields.{IsBytes};
 ghost use Rattle.outside.specs.declared.step.WorldStep.TheVariants.{From, Joined};
 ghost use Rattle.outside.specs.Seen.{Continues};
@@ -25,6 +26,7 @@ use crate::fault::Fault;
 use crate::limits::MOST_ITEMS;
 use crate::run::Run;
 use app_frames::{Event, EventKind};
+use flow_table::TableView;
 use net_txn::{EventQueue, Net};
 use of_types::Dpid;
 use of_wire::{Message, WireFault, decode, encode};
@@ -40,11 +42,18 @@ pub(crate) enum Rest {
     End,
 }
 
+/// Tells whether a switch has one of these views.
+fn is_among(views: &[TableView], dpid: Dpid) -> bool
+    ensures { result ≡ list_any (λ v. v.dpid == dpid) views.now }
+{
+    views.iter().any(|view| view.dpid == dpid)
+}
+
 /// Tells whether a switch has a view.
 fn has_view(net: &Net, dpid: Dpid) -> bool
     ensures { result ≡ is_viewed dpid net.now.views }
 {
-    net.views().iter().any(|view| view.dpid == dpid)
+    is_among(net.views(), dpid)
 }
 
 /// Tells whether a switch is joined.

@@ -2,6 +2,7 @@
 
 ghost use Rattle.std.specs.Prelude.{◌≡◌, ◌<◌, ◌∷◌, List, length, map, drop, None, Some, MatchOption, IsSome, IfSome, IfOk, IfErr, OnOk};
 ghost use Rattle.flow_table.specs.declared.view.ViewRow.{ViewRow};
+ghost use Rattle.flow_table.specs.View.{plains};
 ghost use Rattle.outside.specs.Seen.{Continues};
 ghost use Rattle.lego_model.specs.RunReport.{flow_line};
 ghost use Rattle.net_txn.specs.Views.{rows_at};
@@ -50,7 +51,7 @@ fn flags_from(rows: &[ViewRow], from: usize, key: &Key) -> (u16, usize)
 
 /// Finds the rows of a switch as their owner sees them, while it is joined.
 fn rows_of(views: &[TableView], dpid: Dpid) -> Option<&ViewList>
-    ensures { MatchOption result (rows_at dpid views.now ≡ None) (λ rows. rows_at dpid views.now ≡ Some rows.now) }
+    ensures { MatchOption result (rows_at dpid (plains views.now) ≡ None) (λ rows. rows_at dpid (plains views.now) ≡ Some rows.now.rows) }
 {
     for view in views {
         if view.dpid == dpid {

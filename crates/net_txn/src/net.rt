@@ -34,6 +34,8 @@ pub struct Net {
     pub(crate) xid: Xid,
     pub(crate) moment: u64,
     pub(crate) kept: MessageQueue,
+    /// What comes while the reply behind a packet is awaited.
+    pub(crate) came: MessageQueue,
     /// Room for the bytes of faults of undos.
     pub(crate) rooms: Vec<Room>,
 }
@@ -81,7 +83,7 @@ pub(crate) fn await_from(dpid: Dpid, xid: Xid) -> Awaited
 }
 
 impl Net {
-    /// Returns a network of no switch, at moment 0. It takes the room that an undo needs.
+    /// Returns a network of no switch, at moment 0. It takes the room that undoes and releases need.
     pub fn new(alloc: Global) -> Result<Net, AllocError>
         ensures { IfOk result (λ n. n ≡ record { views = []; ports = []; log = []; held = []; xid = 1; moment = 0; kept = []; room = 2 }) }
     {
@@ -95,6 +97,7 @@ impl Net {
             xid: 1,
             moment: 0,
             kept: MessageQueue::new(alloc)?,
+            came: MessageQueue::new(alloc)?,
             rooms: vec![in alloc; Room::new(alloc)?, Room::new(alloc)?]?,
         })
     }

@@ -13,6 +13,7 @@ use of_types::{ByteList, Dpid};
 use std::alloc::{AllocError, Global};
 use std::collections::VecDeque;
 use std::marker::Model;
+use std::mem::replace;
 
 /// Events that wait to be dispatched, first in first out. Contracts see a list.
 #[derive(Drop, Debug)]
@@ -129,6 +130,22 @@ impl MessageQueue {
         gather(self.alloc, &mut self.messages, &mut self.store)?;
         self.messages.push_back((dpid, message))?;
         Ok(())
+    }
+
+    /// Drops all messages; takes no memory.
+    pub(crate) fn clear(&mut self)
+        ensures { self.new ≡ [] }
+    {
+        self.messages.clear();
+        self.store.clear();
+    }
+
+    /// Takes all messages out, oldest first.
+    pub(crate) fn take_all(&mut self) -> Result<VecDeque<(Dpid, ByteList)>, AllocError>
+        ensures { IfOk result (λ messages. messages.items ≡ self.old) }
+    {
+        gather(self.alloc, &mut self.messages, &mut self.store)?;
+        Ok(replace(&mut self.messages, VecDeque::new(self.alloc)))
     }
 
     /// Returns the messages, oldest first.

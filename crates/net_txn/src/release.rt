@@ -83,6 +83,7 @@ fn exchange_packet<W: World>(
     world: &mut W,
     alloc: Global,
     buf: &mut [u8],
+    came: &mut MessageQueue,
     dpid: Dpid,
     xid: Xid,
     packet: PacketOut,
@@ -93,16 +94,16 @@ fn exchange_packet<W: World>(
         (PacketStops W.Tells dpid xid packet (W.seen world.old) (W.seen world.new)) }
 {
     let frame = packet_frame(alloc, xid, packet)?;
-    let mut came = MessageQueue::new(alloc)?;
+    came.clear();
     ask(
         world,
         alloc,
         buf,
-        &mut came,
+        came,
         &await_packet(dpid, xid),
         frame.as_slice(),
     )?;
-    Ok(came.into_messages()?)
+    Ok(came.take_all()?)
 }
 
 /// Takes in one message that came during a release.
@@ -174,7 +175,15 @@ impl Net {
         }
         let xid = self.xid;
         self.xid = following(following(xid));
-        let came = exchange_packet(world, self.alloc, &mut self.buf, dpid, xid, packet)?;
+        let came = exchange_packet(
+            world,
+            self.alloc,
+            &mut self.buf,
+            &mut self.came,
+            dpid,
+            xid,
+            packet,
+        )?;
         take_all(self, queue, came)?;
         Ok(())
     }

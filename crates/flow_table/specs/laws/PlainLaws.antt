@@ -1,6 +1,7 @@
 -- What tables that are lent show, where one of them is read, changed, put in or taken out.
-use Rattle.std.proofs.Common.{◌≡◌, ℕ, zero, suc, ◌<◌, List, [], ◌∷◌, length, get_or, set, insert, remove, refl, sym, ap, ◌∙◌}
-use Rattle.std.proofs.lemmas.List.{get_or-map, map-set}
+use Rattle.std.proofs.Common.{◌≡◌, ℕ, zero, suc, ◌+◌, ◌<◌, Bool, ◌||◌, List, [], ◌∷◌, ◌++◌, length, map, take, get_or, set, insert, remove, refl, sym, ap, ◌∙◌, subst}
+use Rattle.std.specs.List.{list_any}
+use Rattle.std.proofs.lemmas.List.{get_or-map, map-set, length-map, map-append, take_more}
 use Rattle.flow_table.specs.declared.view.TableView.{TableView as Lent}
 use Rattle.flow_table.specs.View.{TableView, plain, plains}
 
@@ -21,3 +22,16 @@ plains-remove [] zero = refl
 plains-remove [] (suc i) = refl
 plains-remove (w ∷ ws) zero = refl
 plains-remove (w ∷ ws) (suc i) = ap (λ (xs : List TableView). plain w ∷ xs) (plains-remove ws i)
+
+-- a test that reads what is shown
+pub any-plains : (test : TableView → Bool) (vs : List Lent) → list_any (λ v. test (plain v)) vs ≡ list_any test (plains vs)
+any-plains test [] = refl
+any-plains test (v ∷ vs) = ap (λ (later : Bool). test (plain v) || later) (any-plains test vs)
+
+-- the switches of the tables up to one
+pub switches-more : (views : List TableView) (vs : List Lent) (i : ℕ) (v : Lent) → plains vs ≡ views → i < length vs → v ≡ get_or vs i v → map (λ w. w.dpid) (take (i + 1) views) ≡ map (λ w. w.dpid) (take i views) ++ v.dpid ∷ []
+switches-more views vs i v shown within is =
+    let read : plain v ≡ get_or views i (plain v) = subst (λ (xs : List TableView). plain v ≡ get_or xs i (plain v)) shown (plains-read vs i v within is) in
+    let lt : i < length views = subst (λ (xs : List TableView). i < length xs) shown (subst (λ (n : ℕ). i < n) (sym (length-map vs plain)) within) in
+    ap (λ (xs : List TableView). map (λ w. w.dpid) xs) (take_more views i (plain v) lt ∙ ap (λ (w : TableView). take i views ++ w ∷ []) (sym read))
+    ∙ map-append (λ (w : TableView). w.dpid) (take i views) (plain v ∷ [])

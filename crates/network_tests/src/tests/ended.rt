@@ -83,11 +83,11 @@ pub fn by_release(released: &[(Dpid, u32)]) -> Ended {
             packets: 0,
             bytes: 0,
         },
-        [(1, len)] => Ended::Released {
+        [(dpid, len)] if *dpid == 1 => Ended::Released {
             packets: 1,
             bytes: *len,
         },
-        [(1, first), (1, second)] => Ended::Released {
+        [(one, first), (other, second)] if *one == 1 && *other == 1 => Ended::Released {
             packets: 2,
             bytes: first.saturating_add(*second),
         },
