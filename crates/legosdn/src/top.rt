@@ -4,9 +4,10 @@ ghost use Rattle.std.specs.Prelude.{◌≡◌, ◌≤◌, ◌⊎◌, ◌∷◌, 
 ghost use Rattle.std.specs.Result.{IsErrAnd};
 ghost use Rattle.lego_io.specs.Count.{Rose, NeverFell};
 ghost use Rattle.outside.specs.Seen.{Continues};
-ghost use Rattle.outside.specs.State.{state};
-ghost use Rattle.outside.specs.InOrder.{BringMessages};
+ghost use Rattle.outside.specs.State.{state, at_first};
+ghost use Rattle.outside.specs.InOrder.{BringMessages, InOrder};
 ghost use Rattle.sim_world.specs.World.{given_of, seen_of};
+ghost use Rattle.sim_world.specs.Places.{AreExpected};
 ghost use Rattle.sim_world.specs.Building.{nothing_given, IsNew, Begins};
 ghost use Rattle.command_words.specs.Commands.{command_in};
 ghost use Rattle.lego_model.specs.SessionLines.{SessionValue};
@@ -59,6 +60,15 @@ fn load<S: Source>(alloc: Global, source: &mut S, sim: &mut SimWorld) -> Result<
     Ok(read_session(alloc, parts.session, parts.first_line, &names, sim)?)
 }
 
+/// Finds that the simulated world keeps its word.
+fn keeps_word<E: Sink + Drop>(sim: &Traced<SimWorld, E>)
+    ensures word { InOrder (seen_of sim.now) }
+    ensures scripts { KeepsLines sim.now }
+    ensures strays { AreExpected sim.now.history (at_first (given_of sim.now)) → (seen_of sim.now).counts.shorts ≡ 0 → (seen_of sim.now).counts.strays ≡ 0 }
+{
+    sim.world().keeps_word();
+}
+
 /// Runs the simulated world to its end, and writes the report.
 fn simulate<K: Sink, E: Sink + Drop>(
     alloc: Global,
@@ -76,7 +86,7 @@ fn simulate<K: Sink, E: Sink + Drop>(
     ensures never_fell { NeverFell (K.faults sink.old) (K.faults sink.new) }
 {
     let ended = run_world(alloc, Vec::new(alloc), sink, sim, 0, MOST_ROUNDS);
-    sim.world().keeps_word();
+    keeps_word(sim);
     ended
 }
 
