@@ -8,13 +8,15 @@ import time
 
 sys.path.insert(0, os.path.join(os.path.dirname(os.path.abspath(__file__)), "..", "sdk", "python"))
 from legosdn import messages
-from legosdn.codes import FlowCommand
+from legosdn.codes import NO_BUFFER, FlowCommand, Port
 from legosdn.match import Match
 from legosdn.messages import PortDesc
 from legosdn.stats import FlowStats
 
 SECONDS = 30
-MISS = 0
+MISS, ACTION = 0, 1
+PORTS = (1, 2, 3)
+BAD_ACTION, BAD_OUT_PORT = 2, 4
 
 
 def connection(port):
@@ -44,16 +46,18 @@ def read(link, size):
 
 
 class Switch(threading.Thread):
-    """A switch with ports 1, 2 and 3. It answers by itself; `said` has what it was sent: (kind, entry) for each FLOW_MOD, in order.
+    """A switch with ports 1, 2 and 3. It answers by itself; `said` has what it was sent: (kind, entry) for each FLOW_MOD and (kind,
+    frame) for each PACKET_OUT, in order, and "BARRIER" for each barrier.
 
     table     priority and match of each entry, with its actions and cookie
-    barriers  how many barriers it has answered: one when it joined, and one for each change
-    cut_at    the link is cut where this many FLOW_MODs have come behind the join, in the place of the next barrier's reply
+    frames    (port, frame) for each frame that packets have sent out by a port, in order
+    barriers  how many barriers it has answered: one when it joined, and one for each change and each packet
+    cut_at    the link is cut where this many messages of this kind have come, in the place of the next barrier's reply
     """
 
     def __init__(self, port, dpid, cut_at=None):
         super().__init__(daemon=True)
-        self.dpid, self.table, self.said, self.cut_at = dpid, {}, [], cut_at
+        self.dpid, self.table, self.said, self.frames, self.cut_at = dpid, {}, [], [], cut_at
         self.changed = threading.Condition()
         self.barriers = 0
         self.closed = False
@@ -70,7 +74,7 @@ class Switch(threading.Thread):
 
     def miss(self, in_port, frame):
         """A frame came that no entry is for: a PACKET_IN."""
-        self.send(messages.PacketIn(0xFFFF_FFFF, len(frame), in_port, MISS, frame))
+        self.send(messages.PacketIn(NO_BUFFER, len(frame), in_port, MISS, frame))
 
     def entries(self):
         with self.changed:
@@ -111,16 +115,19 @@ class Switch(threading.Thread):
 
     def act(self, xid, message):
         if isinstance(message, messages.FeaturesRequest):
-            ports = tuple(PortDesc(port_no=n, hw_addr=f"02:00:00:00:{self.dpid:02x}:{n:02x}", name=f"port{n}") for n in (1, 2, 3))
+            ports = tuple(PortDesc(port_no=n, hw_addr=f"02:00:00:00:{self.dpid:02x}:{n:02x}", name=f"port{n}") for n in PORTS)
             self.send(messages.FeaturesReply(self.dpid, 0, 1, 0, 0xFFF, ports), xid)
         elif isinstance(message, messages.EchoRequest):
             self.send(messages.EchoReply(message.data), xid)
         elif isinstance(message, messages.FlowMod):
             self.change(message)
+        elif isinstance(message, messages.PacketOut):
+            self.put_out(xid, message)
         elif isinstance(message, messages.BarrierRequest):
-            if self.cut_at is not None and len(self.said) > self.cut_at:
+            if self.cut_at and sum(said[0] == self.cut_at[0] for said in self.said) >= self.cut_at[1]:
                 self.link.close()
                 return False
+            self.said.append("BARRIER")
             self.send(messages.BarrierReply(), xid)
             self.barriers += 1
         elif isinstance(message, messages.StatsRequest):
@@ -142,3 +149,15 @@ class Switch(threading.Thread):
             self.table.clear()
         else:
             raise AssertionError(f"switch {self.dpid}: a FLOW_MOD that no host sends yet: {change}")
+
+    def put_out(self, xid, packet):
+        """A packet whose actions are outputs: to ports, FLOOD or CONTROLLER."""
+        self.said.append(("PACKET_OUT", packet.data))
+        to = [action.port for action in packet.actions]
+        if not all(port in (*PORTS, Port.FLOOD, Port.CONTROLLER) for port in to):
+            self.send(messages.Error(BAD_ACTION, BAD_OUT_PORT, messages.encode(packet, xid)[:64]), xid)
+            return
+        for port in to:
+            if port == Port.CONTROLLER:
+                self.send(messages.PacketIn(NO_BUFFER, len(packet.data), packet.in_port, ACTION, packet.data))
+            self.frames += [(it, packet.data) for it in PORTS if it != packet.in_port and port in (it, Port.FLOOD)]

@@ -4,8 +4,8 @@ ghost use Rattle.std.specs.Prelude.{◌≡◌, ◌≢◌, ℕ, ◌<◌, List, []
 ghost use Rattle.checkpoint_store.specs.Past.{Step, after};
 ghost use Rattle.checkpoint_store.specs.Slots.{Slot, slot_of, with_slot, staged, done, dropped, HasStaged};
 
-/// The laws of staging: steps are staged one behind the other, `keep` does them in order, nothing is staged after it
-/// and after `drop_staged`, and with nothing staged it changes nothing.
+/// States the laws of staging: steps are staged one behind the other, `keep` does them in order, nothing is staged
+/// after it and after `drop_staged`, and with nothing staged it changes nothing.
 pub fn laws_of_staging()
     ensures more { (steps : List Step) (step : Step) (slot : Slot) → HasStaged steps slot
         → HasStaged (steps ++ step ∷ []) (staged step slot) }
@@ -16,7 +16,7 @@ pub fn laws_of_staging()
     ensures nothing { (slot : Slot) → HasStaged [] slot → done slot ≡ slot }
 {}
 
-/// The laws of places: a call for one application changes its place alone.
+/// States the laws of places: a call for one application changes its place alone.
 pub fn laws_of_places()
     ensures this { (app : ℕ) (change : Slot → Slot) (slots : List Slot) → app < length slots
         → slot_of app (with_slot app change slots) ≡ change (slot_of app slots) }

@@ -39,7 +39,7 @@ impl Model for Slot {
 }
 
 impl Slot {
-    /// A place where nothing is kept and nothing staged; takes no memory.
+    /// Makes a place where nothing is kept and nothing staged; takes no memory.
     pub(crate) fn new(alloc: Global) -> Slot
         ensures { result ≡ empty_slot }
     {
@@ -99,7 +99,7 @@ impl Slot {
         self.forgotten = 0;
     }
 
-    /// Whether a turn more may be staged.
+    /// Tells whether a turn more may be staged.
     pub(crate) fn has_room(&self, turn: &Turned) -> bool
         ensures { result ≡ nat_le (turns_size self.now.pending.turns + turn_size turn.now) MOST_REMEMBERED }
     {
@@ -107,7 +107,7 @@ impl Slot {
         bytes.saturating_add(turn_size(turn)) <= MOST_REMEMBERED
     }
 
-    /// The kept checkpoint.
+    /// Lends the kept checkpoint.
     pub(crate) fn kept(&self) -> &[u8]
         ensures bytes { result.now ≡ self.now.kept.checkpoint }
         ensures limits { IsWithinLimits self.now.kept }
@@ -115,7 +115,7 @@ impl Slot {
         self.checkpoint.as_slice()
     }
 
-    /// The remembered turns, oldest first.
+    /// Lends the remembered turns, oldest first.
     pub(crate) fn remembered(&self) -> &[Turned]
         ensures turns { result.now ≡ self.now.kept.turns }
         ensures limits { IsWithinLimits self.now.kept }
@@ -123,7 +123,7 @@ impl Slot {
         &self.turns[..self.remembered]
     }
 
-    /// How many turns `keep` would leave remembered, and how many bytes they have.
+    /// Tells how many turns `keep` would leave remembered, and how many bytes they have.
     pub(crate) fn pending(&self) -> (usize, usize)
         ensures number { result.0 ≡ length self.now.pending.turns }
         ensures bytes { result.1 ≡ turns_size self.now.pending.turns }

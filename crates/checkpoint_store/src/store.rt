@@ -27,7 +27,7 @@ impl Model for Store {
 }
 
 impl Store {
-    /// A store for so many applications, of which nothing is kept and nothing staged.
+    /// Makes a store for so many applications, of which nothing is kept and nothing staged.
     pub fn new(alloc: Global, apps: u32) -> Result<Store, AllocError>
         ensures { IfOk result (λ store. store ≡ replicate apps empty_slot) }
     {
@@ -85,7 +85,8 @@ impl Store {
         self.slots[app as usize].drop_staged();
     }
 
-    /// Whether `remember` may be called with a turn: what `keep` would leave with it has at most 16,777,216 bytes.
+    /// Tells whether `remember` may be called with a turn: what `keep` would leave with it has at most 16,777,216
+    /// bytes.
     pub fn has_room(&self, app: u32, turn: &Turned) -> bool
         requires { app < length self.now }
         ensures { result ≡ nat_le (turns_size (slot_of app self.now).pending.turns + turn_size turn.now) 16777216 }
@@ -93,7 +94,7 @@ impl Store {
         self.slots[app as usize].has_room(turn)
     }
 
-    /// The kept checkpoint of an application.
+    /// Lends the kept checkpoint of an application.
     pub fn kept(&self, app: u32) -> &[u8]
         requires { app < length self.now }
         ensures bytes { result.now ≡ (slot_of app self.now).kept.checkpoint }
@@ -102,7 +103,7 @@ impl Store {
         self.slots[app as usize].kept()
     }
 
-    /// The remembered turns of an application, oldest first.
+    /// Lends the remembered turns of an application, oldest first.
     pub fn remembered(&self, app: u32) -> &[Turned]
         requires { app < length self.now }
         ensures turns { result.now ≡ (slot_of app self.now).kept.turns }
@@ -111,7 +112,7 @@ impl Store {
         self.slots[app as usize].remembered()
     }
 
-    /// How many turns of an application `keep` would leave remembered, and how many bytes they have.
+    /// Tells how many turns of an application `keep` would leave remembered, and how many bytes they have.
     pub fn pending(&self, app: u32) -> (usize, usize)
         requires { app < length self.now }
         ensures number { result.0 ≡ length (slot_of app self.now).pending.turns }

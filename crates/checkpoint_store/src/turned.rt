@@ -17,7 +17,7 @@ pub struct Turned {
     pub frames: FrameList,
 }
 
-/// The bytes of frames, or the greatest number where there are more.
+/// Counts the bytes of frames, or the greatest number where there are more.
 fn frames_size(frames: &[ByteList]) -> usize
     ensures { result ≡ min (sum_by length frames.now) (2 ^ 64 - 1) }
 {
@@ -28,7 +28,7 @@ fn frames_size(frames: &[ByteList]) -> usize
     size
 }
 
-/// The bytes of a turn, or the greatest number where there are more.
+/// Counts the bytes of a turn, or the greatest number where there are more.
 pub(crate) fn turn_size(turn: &Turned) -> usize
     ensures { result ≡ min (turn_size turn.now) (2 ^ 64 - 1) }
 {
@@ -40,7 +40,7 @@ pub(crate) fn turn_size(turn: &Turned) -> usize
         .saturating_add(frames)
 }
 
-/// The bytes of turns, or the greatest number where there are more.
+/// Counts the bytes of turns, or the greatest number where there are more.
 pub(crate) fn turns_size(turns: &[Turned]) -> usize
     ensures { result ≡ min (turns_size turns.now) (2 ^ 64 - 1) }
 {

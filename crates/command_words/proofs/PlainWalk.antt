@@ -8,7 +8,7 @@ use Rattle.std.proofs.lemmas.Str.{is_utf8-from_IsUtf8}
 use Rattle.std.proofs.lemmas.Bool.{eqb-true}
 use Rattle.std.proofs.lemmas.List.{append-nil}
 use Rattle.clap.specs.Lexer.{long_of, long_of_rest, short_of, short_of_rest, strip_byte}
-use Rattle.clap.specs.Walk.{Held, Rule, Row, Text, Waiting, idle, positional, Walk, walked, walk_from, nothing_held, to_positional, arg_by_index, word_met, value, trailing}
+use Rattle.clap.specs.Walk.{Held, Rule, Row, Text, Waiting, idle, positional, Walk, walked, nothing_held, to_positional, arg_by_index, word_met, value, trailing}
 use Rattle.clap.specs.Simple.{Shape, built, is_simple}
 use Rattle.clap.specs.Faults.{bundle_step_fault, flag_word_fault, flags_fault, turn_fault, walk_fault, word_fault, is_simple_and_free}
 use Rattle.clap.specs.Kinds.{Kinds, or_else}
@@ -22,9 +22,6 @@ rule = record all_words { parser = Some vp.String; index = Some 1 }
 
 abbrev pub shape : Shape
 shape = record plain_app.top { rules = rule ∷ []; is_built = true; disable_help_subcommand = true }
-
-pub built_is : built plain_app ≡ record { top = shape; subs = [] }
-built_is = refl
 
 pub is_simple_plain : is_simple plain_app ≡ true
 is_simple_plain = refl
@@ -153,11 +150,6 @@ refused_from first next more rows pending is_minus text g e =
 pub first_clean : (a b : Kinds) → or_else a b ≡ [] → a ≡ []
 first_clean [] b e = refl
 first_clean (k ∷ ks) b e = cc
-
--- what is pending after words
-abbrev pending_with : List Text → Option (Text × List Text)
-pending_with [] = None
-pending_with (word ∷ words) = Some (codes "words", word ∷ words)
 
 word_refused : (so_far : List Text) (word : Text) → IsUtf8 word → is_end word ≡ false → is_option word ≡ true → turn_fault shape [] (stands so_far false) word ≡ [] → ⊥
 word_refused so_far [] text g o e = cc

@@ -22,14 +22,14 @@ pub enum Command {
 /// What is written where the words are no command.
 const USAGE: &str = "usage: legosdn replay, run PORT ROUNDS";
 
-/// The line that says which words are commands, without its end.
+/// Returns the line that says which words are commands, without its end.
 pub fn usage_line() -> &'static str
     ensures { result.now ≡ usage_line }
 {
     USAGE
 }
 
-/// `replay`
+/// Returns the command `replay`.
 fn replay_with(arguments: &[&str]) -> Option<Command>
     ensures value { result ≡ replay_with (map (λ a. a.now) arguments.now) }
     ensures within { IfSome result IsWithin }
@@ -40,7 +40,7 @@ fn replay_with(arguments: &[&str]) -> Option<Command>
     }
 }
 
-/// `run PORT ROUNDS`
+/// Returns the command `run PORT ROUNDS`.
 #[tactic(auto, unfolding(crate::specs::Commands::run_with))]
 fn run_with(arguments: &[&str]) -> Option<Command>
     ensures value { result ≡ run_with (map (λ a. a.now) arguments.now) }
@@ -55,7 +55,7 @@ fn run_with(arguments: &[&str]) -> Option<Command>
     }
 }
 
-/// The command of a name with its arguments.
+/// Returns the command of a name with its arguments.
 #[tactic(auto, unfolding(crate::specs::Commands::command_with))]
 fn command_with(name: &str, arguments: &[&str]) -> Option<Command>
     ensures value { result ≡ command_with name.now (map (λ a. a.now) arguments.now) }
@@ -68,7 +68,7 @@ fn command_with(name: &str, arguments: &[&str]) -> Option<Command>
     }
 }
 
-/// The command that plain words name.
+/// Returns the command that plain words name.
 pub(crate) fn command_named(words: &[&str]) -> Option<Command>
     ensures value { result ≡ command_named (map (λ w. w.now) words.now) }
     ensures within { IfSome result IsWithin }

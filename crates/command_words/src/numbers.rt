@@ -6,7 +6,7 @@ ghost use Rattle.std.specs.List.{list_all};
 ghost use Rattle.std.specs.Str.Parse.{digits_value};
 ghost use Rattle.command_words.specs.Numbers.{leads_with_zero, is_numeral, number};
 
-/// Whether a word of two bytes or more begins with `0`.
+/// Tells whether a word of two bytes or more begins with `0`.
 fn leads_with_zero(word: &[u8]) -> bool
     ensures { result ≡ leads_with_zero word.now }
 {
@@ -16,14 +16,14 @@ fn leads_with_zero(word: &[u8]) -> bool
     }
 }
 
-/// Whether each byte is a digit.
+/// Tells whether each byte is a digit.
 fn all_digits(word: &[u8]) -> bool
     ensures { result ≡ list_all is_ascii_digit word.now }
 {
     word.iter().all(|byte| byte.is_ascii_digit())
 }
 
-/// Whether a word is a decimal number, without a leading zero but for `0` itself.
+/// Tells whether a word is a decimal number, without a leading zero but for `0` itself.
 #[tactic(auto, unfolding(crate::specs::Numbers::is_numeral))]
 fn is_numeral(word: &[u8]) -> bool
     ensures { result ≡ is_numeral word.now }
@@ -31,7 +31,7 @@ fn is_numeral(word: &[u8]) -> bool
     !word.is_empty() && !leads_with_zero(word) && all_digits(word)
 }
 
-/// The number that a numeral spells, or `None` where it does not fit 64 bits.
+/// Reads the number that a numeral spells, or `None` where it does not fit 64 bits.
 fn value_of(word: &str) -> Option<u64>
     requires { is_numeral word.now ≡ true }
     ensures { MatchOption result (2 ^ 64 ≤ digits_value 10 word.now) (λ value. value ≡ digits_value 10 word.now) }
@@ -39,7 +39,7 @@ fn value_of(word: &str) -> Option<u64>
     word.parse::<u64>().ok()
 }
 
-/// The number from `least` to `most` that a word spells.
+/// Reads the number from `least` to `most` that a word spells.
 #[tactic(auto, unfolding(crate::specs::Numbers::number))]
 pub(crate) fn number(word: &str, least: u64, most: u64) -> Option<u64>
     ensures value { result ≡ number least most word.now }

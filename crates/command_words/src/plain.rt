@@ -12,7 +12,7 @@ use std::alloc::{AllocError, Global};
 /// The name under which `clap` keeps the words.
 pub(crate) const WORDS: &str = "words";
 
-/// A command line of any number of plain words, as `clap` holds it.
+/// Makes a command line of any number of plain words, as `clap` holds it.
 pub(crate) fn command<'a>(alloc: Global) -> Result<Command<'a>, AllocError>
     ensures { IfOk result (λ c. app_of c ≡ plain_app) }
 {
@@ -27,7 +27,7 @@ pub(crate) fn command<'a>(alloc: Global) -> Result<Command<'a>, AllocError>
     )
 }
 
-/// The plain words of a command line. An error that is not want of memory says that a word asks for an option.
+/// Reads the plain words of a command line. An error that is not want of memory says that a word asks for an option.
 pub(crate) fn parse<'a>(command: Command<'a>, words: &'a [String]) -> Result<ArgMatches<'a>, Error>
     requires { app_of command ≡ plain_app }
     ensures plain { IfOk result (λ m. plain_words (map string_bytes words.entry.now)

@@ -8,7 +8,7 @@ use crate::plain::{WORDS, command, parse};
 use clap::error::ErrorKind;
 use std::alloc::{AllocError, Global};
 
-/// The command that words name, without the program's own name; `None` where they are no command.
+/// Reads the command that words name, without the program's own name; `None` where they are no command.
 pub fn read_words(alloc: Global, words: &[String]) -> Result<Option<Command>, AllocError>
     ensures command { IfOk result (λ command. command ≡ command_in (map string_bytes words.now)) }
     ensures within { IfOk result (λ command. IfSome command IsWithin) }

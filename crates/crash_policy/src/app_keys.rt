@@ -7,6 +7,7 @@ ghost use Rattle.toml.specs.View.{view, array_view, table_view};
 ghost use Rattle.crash_policy.specs.Faults.{Gives};
 ghost use Rattle.crash_policy.specs.Keys as spec;
 
+use crate::limits::{DEFAULT_BUDGET, MOST_BUDGET, MOST_COMMAND_WORDS};
 use crate::members::{count, known_keys, member, needed, number_in, out_of_range};
 use crate::policy_fault::PolicyFault;
 use crate::policy_file::Policy;
@@ -15,7 +16,7 @@ use std::alloc::{AllocError, Global};
 use toml::value::Array;
 use toml::{Table, Value};
 
-/// The keys inside `rules`.
+/// Checks the keys inside `rules`.
 #[tactic(auto, unfolding(crate::specs::Keys::rules_keys))]
 pub(crate) fn known_in_rules(table: &Table) -> Result<(), PolicyFault>
     ensures { Gives (λ u. u) result (spec.rules_keys (table_view table.now)) }
@@ -26,7 +27,7 @@ pub(crate) fn known_in_rules(table: &Table) -> Result<(), PolicyFault>
     }
 }
 
-/// That the application has a name.
+/// Checks that the application has a name.
 #[tactic(auto, unfolding(crate::specs::Keys::needed_name))]
 pub(crate) fn needed_name(alloc: Global, table: &Table) -> Result<(), PolicyFault>
     ensures { Gives (λ u. u) result (spec.needed_name (table_view table.now)) }
@@ -34,21 +35,21 @@ pub(crate) fn needed_name(alloc: Global, table: &Table) -> Result<(), PolicyFaul
     needed(alloc, table, "name")
 }
 
-/// The most frames of one turn.
+/// Reads the most frames of one turn.
 #[tactic(auto, unfolding(crate::specs::Keys::budget_answer))]
 pub(crate) fn budget(alloc: Global, table: &Table) -> Result<u32, PolicyFault>
     ensures { Gives (λ n. n) result (spec.budget_answer (table_view table.now)) }
 {
     match member(table, "budget") {
-        None => Ok(1000),
-        Some(value) => match number_in(1, 100_000, value) {
+        None => Ok(DEFAULT_BUDGET),
+        Some(value) => match number_in(1, MOST_BUDGET, value) {
             Some(number) => Ok(number),
             None => Err(out_of_range(alloc, "budget")),
         },
     }
 }
 
-/// The texts of the items, where each item is a text.
+/// Returns the texts of the items, if each item is a text.
 fn texts_of(alloc: Global, items: &Array) -> Result<Option<Vec<String>>, AllocError>
     ensures { IfOk result
         (λ o. option_map (λ v. map string_bytes v.items) o ≡ spec.texts_of (array_view items.now)) }
@@ -68,12 +69,14 @@ fn command_in(alloc: Global, value: &Value) -> Result<Option<Vec<String>>, Alloc
         (λ o. option_map (λ v. map string_bytes v.items) o ≡ spec.command_in (view value.now)) }
 {
     match value.as_array() {
-        Some(items) if 1 <= count(items) && count(items) <= 16 => texts_of(alloc, items),
+        Some(items) if 1 <= count(items) && count(items) <= MOST_COMMAND_WORDS => texts_of(
+            alloc, items,
+        ),
         _ => Ok(None),
     }
 }
 
-/// The program and its words.
+/// Reads the program and its words.
 #[tactic(auto, unfolding(crate::specs::Keys::command_answer))]
 pub(crate) fn command(alloc: Global, table: &Table) -> Result<Vec<String>, PolicyFault>
     ensures { Gives (λ v. map string_bytes v.items) result (spec.command_answer (table_view table.now)) }
@@ -96,7 +99,7 @@ fn is_text(text: &str, value: &Value) -> bool
     }
 }
 
-/// How often the text stands among the items.
+/// Counts how often the text stands among the items.
 fn times(text: &str, items: &Array) -> usize
     ensures { result ≡ spec.times text.now (array_view items.now) }
 {
@@ -118,7 +121,7 @@ fn is_event_text(value: &Value) -> bool
     }
 }
 
-/// Whether each item names a kind of event.
+/// Tells whether each item names a kind of event.
 fn are_event_texts(items: &Array) -> bool
     ensures { result ≡ spec.are_event_texts (array_view items.now) }
 {
@@ -130,7 +133,7 @@ fn are_event_texts(items: &Array) -> bool
     true
 }
 
-/// How often each kind of event is named.
+/// Counts how often each kind of event is named.
 #[tactic(auto, unfolding(crate::specs::Keys::counts_of))]
 fn counts(items: &Array) -> [usize; 6]
     ensures { result ≡ spec.counts_of (array_view items.now) }
@@ -145,14 +148,14 @@ fn counts(items: &Array) -> [usize; 6]
     ]
 }
 
-/// Whether each kind of event is named at most once.
+/// Tells whether each kind of event is named at most once.
 fn are_single(counts: &[usize]) -> bool
     ensures { result ≡ list_all (λ n. nat_le n 1) counts.now }
 {
     counts.iter().all(|n| *n <= 1)
 }
 
-/// Which kinds of events are named once.
+/// Tells which kinds of events are named once.
 fn named_once(counts: [usize; 6]) -> [bool; 6]
     ensures { result ≡ map (λ n. n == 1) counts }
 {
@@ -179,7 +182,7 @@ fn events_in(value: &Value) -> Option<[bool; 6]>
     }
 }
 
-/// Which kinds of events the application is given.
+/// Reads which kinds of events the application is given.
 #[tactic(auto, unfolding(crate::specs::Keys::events_answer))]
 pub(crate) fn events(alloc: Global, table: &Table) -> Result<[bool; 6], PolicyFault>
     ensures { Gives (λ e. e) result (spec.events_answer (table_view table.now)) }
@@ -200,7 +203,7 @@ fn name_text(value: &Value) -> Option<&str>
     if is_name(text) { Some(text) } else { None }
 }
 
-/// The application's name.
+/// Reads the application's name.
 #[tactic(auto, unfolding(crate::specs::Keys::name_answer))]
 pub(crate) fn name(alloc: Global, table: &Table) -> Result<String, PolicyFault>
     ensures { Gives (λ s. string_bytes s) result (spec.name_answer (table_view table.now)) }
@@ -220,7 +223,7 @@ fn policy_in(value: &Value) -> Option<Policy>
     policy_named(value.as_str()?)
 }
 
-/// What follows a failed turn, where the kind of the event has no policy of its own.
+/// Reads what follows a failed turn, where the kind of the event has no policy of its own.
 #[tactic(auto, unfolding(crate::specs::Keys::policy_answer))]
 pub(crate) fn policy(alloc: Global, table: &Table) -> Result<Policy, PolicyFault>
     ensures { Gives (λ p. p) result (spec.policy_answer (table_view table.now)) }
@@ -234,7 +237,7 @@ pub(crate) fn policy(alloc: Global, table: &Table) -> Result<Policy, PolicyFault
     }
 }
 
-/// The policy of one kind of event.
+/// Reads the policy of one kind of event.
 fn rule_for(default: Policy, event: &str, table: &Table) -> Option<Policy>
     ensures { result ≡ spec.rule_for default event.now (table_view table.now) }
 {
@@ -264,7 +267,7 @@ fn rules_in(default: Policy, value: &Value) -> Option<[Policy; 6]>
     rules_items(default, value.as_table()?)
 }
 
-/// The policy of each kind of event.
+/// Reads the policy of each kind of event.
 #[tactic(auto, unfolding(crate::specs::Keys::rules_answer))]
 pub(crate) fn rule_list(
     alloc: Global,

@@ -6,7 +6,7 @@ ghost use Rattle.crash_policy.specs.Asking.{place_of};
 use crate::policy_file::{AppRule, Policy};
 use app_frames::EventKind;
 
-/// The place of a kind among the six.
+/// Returns the place of a kind among the six.
 fn place(kind: EventKind) -> usize
     ensures { result ≡ place_of kind }
 {
@@ -20,14 +20,14 @@ fn place(kind: EventKind) -> usize
     }
 }
 
-/// What follows where the application fails at an event of that kind. Takes no memory.
+/// Tells what follows if the application fails at an event of that kind. Takes no memory.
 pub fn rule(app: &AppRule, kind: EventKind) -> Policy
     ensures { slice_get app.now.rules (place_of kind) ≡ Some result }
 {
     app.rules[place(kind)]
 }
 
-/// Whether the application is given events of that kind. Takes no memory.
+/// Tells whether the application is given events of that kind. Takes no memory.
 pub fn listens(app: &AppRule, kind: EventKind) -> bool
     ensures { slice_get app.now.events (place_of kind) ≡ Some result }
 {

@@ -21,7 +21,7 @@ use indexmap::IndexMap;
 use std::alloc::{AllocError, Global};
 use toml::Table;
 
-/// The keys of an application.
+/// Checks the keys of an application.
 #[tactic(auto, unfolding(crate::specs::Steps::app_keys))]
 fn app_keys(alloc: Global, table: &Table) -> Result<(), PolicyFault>
     ensures { Gives (λ u. u) result (spec.app_keys (table_view table.now)) }
@@ -31,7 +31,7 @@ fn app_keys(alloc: Global, table: &Table) -> Result<(), PolicyFault>
     needed_name(alloc, table)
 }
 
-/// The values of an application.
+/// Reads the values of an application.
 #[tactic(auto, unfolding(crate::specs::Steps::app_values))]
 fn app_values(alloc: Global, table: &Table) -> Result<AppRule, PolicyFault>
     ensures { Gives app_value result (spec.app_values (table_view table.now)) }
@@ -52,7 +52,7 @@ fn app_values(alloc: Global, table: &Table) -> Result<AppRule, PolicyFault>
     })
 }
 
-/// An application.
+/// Reads an application.
 #[tactic(auto, unfolding(crate::specs::Steps::app_answer))]
 fn app(alloc: Global, table: &Table) -> Result<AppRule, PolicyFault>
     ensures { Gives app_value result (spec.app_answer (table_view table.now)) }
@@ -61,7 +61,7 @@ fn app(alloc: Global, table: &Table) -> Result<AppRule, PolicyFault>
     app_values(alloc, table)
 }
 
-/// The keys at the top.
+/// Checks the keys at the top.
 #[tactic(auto, unfolding(crate::specs::Steps::top_keys))]
 fn top_keys(alloc: Global, table: &Table) -> Result<(), PolicyFault>
     ensures { Gives (λ u. u) result (spec.top_keys (table_view table.now)) }
@@ -83,14 +83,14 @@ fn add(apps: &mut IndexMap<String, AppRule>, app: AppRule) -> Result<(), PolicyF
     Ok(())
 }
 
-/// The applications alone.
+/// Returns the applications without the tables that they were read from.
 fn in_order(alloc: Global, apps: IndexMap<String, AppRule>) -> Result<Vec<AppRule>, AllocError>
     ensures { IfOk result (λ v. v.items ≡ values apps) }
 {
     apps.into_values().collect(alloc)
 }
 
-/// The applications, one after the other.
+/// Reads the applications, one after the other.
 #[tactic(auto, unfolding(crate::specs::Steps::apps_after))]
 fn apps(alloc: Global, tables: &[&Table]) -> Result<Vec<AppRule>, PolicyFault>
     ensures { Gives (λ v. map app_value v.items) result
@@ -104,7 +104,7 @@ fn apps(alloc: Global, tables: &[&Table]) -> Result<Vec<AppRule>, PolicyFault>
     Ok(in_order(alloc, apps)?)
 }
 
-/// The policy of a document, step by step.
+/// Reads the policy of a document, step by step.
 #[tactic(auto, unfolding(crate::specs::Steps::document_answer))]
 fn by_steps(alloc: Global, table: &Table) -> Result<PolicyFile, PolicyFault>
     ensures { Gives policy_value result (spec.document_answer (table_view table.now)) }
@@ -117,7 +117,7 @@ fn by_steps(alloc: Global, table: &Table) -> Result<PolicyFile, PolicyFault>
     Ok(PolicyFile { quota, apps })
 }
 
-/// The policy of a document: the first fault of the tests, or the value.
+/// Reads the policy of a document: the first fault of the tests, or the value.
 pub(crate) fn file(alloc: Global, table: &Table) -> Result<PolicyFile, PolicyFault>
     ensures { Gives policy_value result (document_policy (table_view table.now)) }
 {

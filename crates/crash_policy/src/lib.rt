@@ -5,6 +5,7 @@
 mod app_keys;
 mod asking;
 mod document;
+mod limits;
 mod members;
 mod policy_fault;
 mod policy_file;
@@ -14,6 +15,7 @@ mod top_keys;
 mod words;
 
 pub use asking::{listens, rule};
+pub use limits::{DEFAULT_BUDGET, MOST_APPS, MOST_BUDGET, MOST_COMMAND_WORDS, MOST_NAME_BYTES};
 pub use policy_fault::PolicyFault;
 pub use policy_file::{AppRule, Policy, PolicyFile};
 pub use reading::read_policy;

@@ -16,14 +16,14 @@ use std::alloc::Global;
 use toml::value::Array;
 use toml::{Table, Value};
 
-/// The value of a key.
+/// Finds the value of a key.
 pub(crate) fn member<'a>(table: &'a Table, key: &str) -> Option<&'a Value>
     ensures { option_map (λ v. view v.now) result ≡ get_member key.now (table_view table.now) }
 {
     table.get(key)
 }
 
-/// The fault of a value that its key may not have.
+/// Makes the fault of a value that its key may not have.
 pub(crate) fn out_of_range(alloc: Global, key: &str) -> PolicyFault
     ensures { Refuses {A = Unit {0}} result (Err (range_of key.now)) }
 {
@@ -33,7 +33,7 @@ pub(crate) fn out_of_range(alloc: Global, key: &str) -> PolicyFault
     }
 }
 
-/// The first key that the place may not have.
+/// Finds the first key that the place may not have.
 fn first_unknown(table: &Table, place: Place) -> Option<&String>
     ensures first { option_map (λ k. string_bytes k.now) result
         ≡ first_unknown (is_known place) (map string_bytes (keys table.now)) }
@@ -47,7 +47,7 @@ fn first_unknown(table: &Table, place: Place) -> Option<&String>
     None
 }
 
-/// That each key is one that the place may have. The least other one is the fault.
+/// Checks that each key is one that the place may have. The least other one is the fault.
 pub(crate) fn known_keys(table: &Table, place: Place) -> Result<(), PolicyFault>
     ensures { Gives (λ u. u) result (spec.known_keys place (table_view table.now)) }
 {
@@ -57,7 +57,7 @@ pub(crate) fn known_keys(table: &Table, place: Place) -> Result<(), PolicyFault>
     }
 }
 
-/// That the key is there.
+/// Checks that the key is there.
 pub(crate) fn needed(alloc: Global, table: &Table, key: &str) -> Result<(), PolicyFault>
     ensures { Gives (λ u. u) result (spec.needed key.now (table_view table.now)) }
 {
@@ -67,14 +67,14 @@ pub(crate) fn needed(alloc: Global, table: &Table, key: &str) -> Result<(), Poli
     }
 }
 
-/// The number of a value, where it lies within the limits.
+/// Returns the number of a value, where it lies within the limits.
 pub(crate) fn number_in(low: u32, high: u32, value: &Value) -> Option<u32>
     ensures { result ≡ spec.number_in low high (view value.now) }
 {
     number_within(low, high, value.as_integer()?)
 }
 
-/// How many items there are.
+/// Tells how many items there are.
 pub(crate) fn count(items: &Array) -> usize
     ensures { result ≡ spec.count_of (array_view items.now) }
 {

@@ -8,12 +8,13 @@ ghost use Rattle.crash_policy.specs.Order.{document_of, policy_of};
 ghost use Rattle.crash_policy.specs.laws.BoundLaws.{IsSized};
 
 use crate::document::file;
+use crate::limits::DEFAULT_BUDGET;
 use crate::policy_fault::PolicyFault;
 use crate::policy_file::{AppRule, Policy, PolicyFile};
 use std::alloc::{AllocError, Global};
 use toml::Table;
 
-/// One application `app` with all defaults.
+/// Returns the policy of one application `app` with all defaults.
 #[tactic(auto, unfolding(crate::specs::Policies::default_app))]
 fn default_file(alloc: Global) -> Result<PolicyFile, AllocError>
     ensures { IfOk result (λ f. policy_value f ≡ default_policy) }
@@ -25,12 +26,12 @@ fn default_file(alloc: Global) -> Result<PolicyFile, AllocError>
         policy: Policy::Absolute,
         rules: [Policy::Absolute; 6],
         events: [true; 6],
-        budget: 1000,
+        budget: DEFAULT_BUDGET,
     })?;
     Ok(PolicyFile { quota: None, apps })
 }
 
-/// The document that the bytes are.
+/// Reads the document that the bytes are.
 fn document(alloc: Global, text: &[u8]) -> Result<Table, PolicyFault>
     ensures { Gives table_view result (document_of text.now) }
 {
@@ -52,7 +53,7 @@ fn policy(alloc: Global, text: &[u8]) -> Result<PolicyFile, PolicyFault>
     file(alloc, &document)
 }
 
-/// The policy that a text says, or the first thing that is wrong with it. A text of no bytes stands for
+/// Reads the policy that a text says, or the first thing that is wrong with it. A text of no bytes stands for
 /// one application `app` with all defaults.
 pub fn read_policy(alloc: Global, text: &[u8]) -> Result<PolicyFile, PolicyFault>
     // The value or the first fault, unless memory runs out.

@@ -5,6 +5,7 @@ ghost use Rattle.toml.specs.View.{view, array_view, table_view};
 ghost use Rattle.crash_policy.specs.Faults.{Gives};
 ghost use Rattle.crash_policy.specs.Keys as spec;
 
+use crate::limits::MOST_APPS;
 use crate::members::{count, member, needed, number_in, out_of_range};
 use crate::policy_fault::PolicyFault;
 use crate::policy_file::Judge;
@@ -13,7 +14,7 @@ use std::alloc::{AllocError, Global};
 use toml::value::Array;
 use toml::{Table, Value};
 
-/// That there are applications.
+/// Checks that there are applications.
 #[tactic(auto, unfolding(crate::specs::Keys::needed_apps))]
 pub(crate) fn needed_apps(alloc: Global, table: &Table) -> Result<(), PolicyFault>
     ensures { Gives (λ u. u) result (spec.needed_apps (table_view table.now)) }
@@ -21,7 +22,7 @@ pub(crate) fn needed_apps(alloc: Global, table: &Table) -> Result<(), PolicyFaul
     needed(alloc, table, "app")
 }
 
-/// The items, where each is a table.
+/// Returns the items, if each is a table.
 fn tables_of(alloc: Global, items: &Array) -> Result<Option<Vec<&Table>>, AllocError>
     ensures { IfOk result
         (λ o. option_map (λ v. map (λ t. table_view t.now) v.items) o ≡ spec.tables_of (array_view items.now)) }
@@ -41,14 +42,14 @@ fn apps_in(alloc: Global, value: Option<&Value>) -> Result<Option<Vec<&Table>>, 
         (λ o. option_map (λ v. map (λ t. table_view t.now) v.items) o ≡ spec.apps_in (option_map (λ v. view v.now) value.entry)) }
 {
     match value {
-        Some(Value::Array(items)) if 1 <= count(items) && count(items) <= 32 => tables_of(
-            alloc, items,
-        ),
+        Some(Value::Array(items)) if 1 <= count(items) && count(items) <= MOST_APPS => {
+            tables_of(alloc, items)
+        }
         _ => Ok(None),
     }
 }
 
-/// The tables of the applications.
+/// Reads the tables of the applications.
 #[tactic(auto, unfolding(crate::specs::Keys::apps_answer))]
 pub(crate) fn app_tables(alloc: Global, table: &Table) -> Result<Vec<&Table>, PolicyFault>
     ensures { Gives (λ v. map (λ t. table_view t.now) v.items) result (spec.apps_answer (table_view table.now)) }
@@ -65,7 +66,7 @@ fn judge_in(value: &Value) -> Option<Judge>
     judge_named(value.as_str()?)
 }
 
-/// What is asked of the tables when a turn is done.
+/// Reads what is asked of the tables when a turn is done.
 #[tactic(auto, unfolding(crate::specs::Keys::judge_answer))]
 pub(crate) fn judge(alloc: Global, table: &Table) -> Result<Judge, PolicyFault>
     ensures { Gives (λ j. j) result (spec.judge_answer (table_view table.now)) }
@@ -79,7 +80,7 @@ pub(crate) fn judge(alloc: Global, table: &Table) -> Result<Judge, PolicyFault>
     }
 }
 
-/// The most entries of a table, where the judge counts them.
+/// Reads the most entries of a table, where the judge counts them.
 #[tactic(auto, unfolding(crate::specs::Keys::quota_answer))]
 pub(crate) fn quota(alloc: Global, judge: Judge, table: &Table) -> Result<Option<u32>, PolicyFault>
     ensures { Gives (λ q. q) result (spec.quota_answer judge (table_view table.now)) }

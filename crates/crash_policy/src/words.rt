@@ -4,6 +4,7 @@ ghost use Rattle.std.specs.Prelude.{◌≡◌, pos};
 ghost use Rattle.std.specs.List.{list_all};
 ghost use Rattle.crash_policy.specs.Keys as spec;
 
+use crate::limits::MOST_NAME_BYTES;
 use crate::policy_file::{Judge, Policy};
 
 /// A place of a policy text that has keys.
@@ -17,7 +18,7 @@ pub(crate) enum Place {
     Rules,
 }
 
-/// The policy of a word.
+/// Returns the policy of a word.
 #[tactic(auto, unfolding(crate::specs::Keys::policy_named))]
 pub(crate) fn policy_named(word: &str) -> Option<Policy>
     ensures { result ≡ spec.policy_named word.now }
@@ -30,7 +31,7 @@ pub(crate) fn policy_named(word: &str) -> Option<Policy>
     }
 }
 
-/// The judge of a word.
+/// Returns the judge of a word.
 #[tactic(auto, unfolding(crate::specs::Keys::judge_named))]
 pub(crate) fn judge_named(word: &str) -> Option<Judge>
     ensures { result ≡ spec.judge_named word.now }
@@ -42,7 +43,7 @@ pub(crate) fn judge_named(word: &str) -> Option<Judge>
     }
 }
 
-/// Whether the word names a kind of event.
+/// Tells whether the word names a kind of event.
 #[tactic(auto, unfolding(crate::specs::Keys::is_event_name))]
 pub(crate) fn is_event_name(word: &str) -> bool
     ensures { result ≡ spec.is_event_name word.now }
@@ -53,7 +54,7 @@ pub(crate) fn is_event_name(word: &str) -> bool
     )
 }
 
-/// Whether the top of a policy may have the key.
+/// Tells whether the top of a policy may have the key.
 #[tactic(auto, unfolding(crate::specs::Keys::is_top_key))]
 fn is_top_key(key: &str) -> bool
     ensures { result ≡ spec.is_top_key key.now }
@@ -61,7 +62,7 @@ fn is_top_key(key: &str) -> bool
     matches!(key, "judge" | "quota" | "app")
 }
 
-/// Whether an application may have the key.
+/// Tells whether an application may have the key.
 #[tactic(auto, unfolding(crate::specs::Keys::is_app_key))]
 fn is_app_key(key: &str) -> bool
     ensures { result ≡ spec.is_app_key key.now }
@@ -72,7 +73,7 @@ fn is_app_key(key: &str) -> bool
     )
 }
 
-/// Whether the place may have the key.
+/// Tells whether the place may have the key.
 pub(crate) fn is_known(place: Place, key: &str) -> bool
     ensures { result ≡ spec.is_known place key.now }
 {
@@ -95,14 +96,14 @@ fn are_name_bytes(bytes: &[u8]) -> bool
     bytes.iter().all(|byte| is_name_byte(*byte))
 }
 
-/// Whether an application may have the name.
+/// Tells whether an application may have the name.
 pub(crate) fn is_name(text: &str) -> bool
     ensures { result ≡ spec.is_name text.now }
 {
-    1 <= text.len() && text.len() <= 32 && are_name_bytes(text.as_bytes())
+    1 <= text.len() && text.len() <= MOST_NAME_BYTES && are_name_bytes(text.as_bytes())
 }
 
-/// The number where it lies within the limits.
+/// Returns the number, if it lies within the limits.
 pub(crate) fn number_within(low: u32, high: u32, number: i64) -> Option<u32>
     ensures { result ≡ spec.number_within low high number }
 {

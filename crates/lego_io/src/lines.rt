@@ -56,7 +56,7 @@ impl<'a> Lines<'a> {
     }
 }
 
-/// The first line of a text, and what follows it.
+/// Cuts a text into its first line and what follows that.
 fn first_line(text: &[u8]) -> (&[u8], &[u8])
     requires { 0 < length text.now }
     ensures { lines_of text.now ≡ result.0.now ∷ lines_of result.1.now }
@@ -67,14 +67,14 @@ fn first_line(text: &[u8]) -> (&[u8], &[u8])
     }
 }
 
-/// Where the first LF of a text stands.
+/// Finds where the first LF of a text stands.
 fn find_lf(text: &[u8]) -> Option<usize>
     ensures { result ≡ position (λ byte. byte == 10) text.now }
 {
     text.iter().position(|byte| *byte == b'\n')
 }
 
-/// The line without one CR at its end.
+/// Lends the line without one CR at its end.
 #[tactic(auto, unfolding(crate::specs::Lines::without_cr))]
 fn drop_cr(line: &[u8]) -> &[u8]
     ensures { result.now ≡ without_cr line.now }

@@ -54,7 +54,7 @@ pub fn read_all<S: Source>(
     read_in_pieces(alloc, source, most, &mut piece)
 }
 
-/// `read_all` by reads into this piece of memory.
+/// Does what `read_all` does, by reads into this piece of memory.
 fn read_in_pieces<S: Source>(
     alloc: Global,
     source: &mut S,

@@ -8,7 +8,8 @@ use Rattle.of_types.specs.declared.journal.WorldStim.{WorldStim}
 use Rattle.of_types.specs.declared.journal.WorldStim.TheVariants.{Join, Leave, At, Of}
 use Rattle.of_wire.specs.Reading.{reading_of}
 use Rattle.lego_model.specs.SessionWords.{last_number}
-use Rattle.lego_model.specs.SessionLines.{SessionValue, may_be_raw}
+use Rattle.outside.specs.Conforming.{may_be_raw}
+use Rattle.lego_model.specs.SessionLines.{SessionValue}
 use Rattle.flow_table.specs.Table.{last_moment}
 
 -- ---- Switches

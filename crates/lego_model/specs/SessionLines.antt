@@ -1,20 +1,17 @@
 -- The lines of a session text, each as what it adds to the session so far, or its first fault: first `word` for the line as a
 -- whole, then each word from left to right, last the order of moments. This text form is our own.
-use Rattle.std.specs.Prelude.{◌==◌, ℕ, Bool, true, false, not, ◌||◌, List, [], ◌∷◌, ◌++◌, length, Option, Some, None, Result, Ok, Err, nat_le, nat_lt, if◌then◌else◌, codes}
+use Rattle.std.specs.Prelude.{◌==◌, ℕ, Bool, false, not, ◌||◌, List, [], ◌∷◌, ◌++◌, length, Option, Some, None, Result, Ok, Err, nat_le, nat_lt, if◌then◌else◌, codes}
 use Rattle.std.specs.List.{list_any}
 use Rattle.of_types.specs.declared.journal.PortChange.{PortChange}
 use Rattle.of_types.specs.declared.journal.PortChange.TheVariants.{Up, Down, Add, Delete}
 use Rattle.of_types.specs.declared.journal.Stimulus.TheVariants.{Frame, Port, Counts, Raw as RawBytes}
 use Rattle.of_types.specs.declared.journal.WorldStim.{WorldStim}
 use Rattle.of_types.specs.declared.journal.WorldStim.TheVariants.{Join, Leave, At, Of}
-use Rattle.of_wire.specs.declared.message.Message.{Message}
-use Rattle.of_wire.specs.declared.message.Message.TheVariants as wire
-use Rattle.of_wire.specs.declared.message.Envelope.{Envelope}
-use Rattle.of_wire.specs.declared.fault.WireFault.{WireFault}
 use Rattle.of_wire.specs.Reading.{reading_of}
 use Rattle.app_frames.specs.declared.script.ScriptStep.{ScriptStep}
 use Rattle.app_frames.specs.declared.script.StartScript.{StartScript}
 use Rattle.app_frames.specs.declared.script.StartScript.TheVariants.{Ready, Refused, Closed, Silent, Garbled}
+use Rattle.outside.specs.Conforming.{may_be_raw}
 use Rattle.lego_model.specs.declared.session.SessionKind.{SessionKind}
 use Rattle.lego_model.specs.declared.session.SessionKind.TheVariants.{Word, Range, Order, Switch, Raw}
 use Rattle.lego_model.specs.Words.{is_word}
@@ -157,20 +154,7 @@ count_line s dpid priority packets bytes = one_more s (do
   more_bytes ← a_number 0 last_number bytes
   Ok (Of d (Counts p more_packets more_bytes)))
 
--- the messages that a switch may send unasked: HELLO, ERROR, ECHO_REQUEST, VENDOR, PACKET_IN
-abbrev pub is_unasked : Message → Bool
-is_unasked (wire.Hello payload) = true
-is_unasked (wire.Error kind code payload) = true
-is_unasked (wire.EchoRequest payload) = true
-is_unasked (wire.Vendor payload) = true
-is_unasked (wire.PacketIn packet) = true
-is_unasked other = false
-
--- bytes that are no message, or one of these
-abbrev pub may_be_raw : Result Envelope WireFault → Bool
-may_be_raw (Ok envelope) = is_unasked envelope.message
-may_be_raw (Err fault) = true
-
+-- bytes that are no message, or a message that a switch may send unasked: HELLO, ERROR, ECHO_REQUEST, VENDOR, PACKET_IN
 unfoldable pub raw_line : SoFar → List ℕ → List ℕ → Result SoFar SessionKind
 raw_line s dpid hex = one_more s (do
   d ← a_switch s dpid

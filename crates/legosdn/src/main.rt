@@ -10,6 +10,8 @@
 //! docs/GUARANTEES.md says each in plain words, docs/SESSION.md describes input, report and statuses.
 #![tactic(auto)]
 
+ghost use Rattle.std.specs.Prelude.{◌≡◌};
+
 mod input;
 mod live;
 mod policy;
@@ -20,11 +22,11 @@ mod world;
 
 use crate::settings::{SettingFault, Settings, SystemClock};
 use crate::top::legosdn;
-use lego_io::{StdSink, StdSource, write_all};
+use lego_io::{Sink, StdSink, StdSource, write_all};
 use live_world::LiveWorld;
 use outside::World;
 use sim_world::SimWorld;
-use std::alloc::AllocError;
+use std::alloc::{AllocError, Global};
 use std::process::ExitCode;
 use std::{env, io};
 use trace_world::Traced;
@@ -44,30 +46,35 @@ fn words_of(rt: &HostRuntime) -> Result<Vec<String>, AllocError> {
     }
 }
 
-/// Runs the command of the words over the standard streams and a world for `run`, and answers the status.
-fn command<W: World>(rt: &HostRuntime, live: &mut W) -> Result<u8, AllocError> {
-    let words = words_of(rt)?;
-    let mut source = StdSource::new(rt, rt.alloc())?;
-    let mut sink = StdSink::new(rt, rt.alloc())?;
-    let mut sim = SimWorld::new(rt.alloc())?;
-    Ok(legosdn(rt.alloc(), &words, &mut source, &mut sink, &mut sim, live))
-}
-
-/// Runs it with a world whose acts are told on standard error.
-fn traced<W: World + Drop>(rt: &HostRuntime, live: W) -> Result<u8, AllocError> {
-    let errors = StdSink::new(rt.stderr(), rt.alloc())?;
-    command(rt, &mut Traced::new(rt.alloc(), live, errors))
-}
-
-/// Runs it with the world of real switches.
-fn run(rt: &HostRuntime, settings: &Settings) -> Result<u8, AllocError> {
-    let mut live = LiveWorld::new(rt, rt.alloc(), SystemClock::new(rt))?;
-    live.listen_at(settings.address);
+/// Returns this world, whose acts are told to the sink where the environment asks for it.
+fn traced<W: World + Drop, K: Sink + Drop>(
+    settings: &Settings,
+    alloc: Global,
+    world: W,
+    errors: K,
+) -> Traced<W, K>
+    ensures { result ≡ world }
+{
     if settings.is_traced {
-        traced(rt, live)
+        Traced::new(alloc, world, errors)
     } else {
-        command(rt, &mut live)
+        Traced::silent(alloc, world, errors)
     }
+}
+
+/// Runs the command of the words over the standard streams, a simulated world and the world of real switches, and answers
+/// the status. The acts of both worlds are told on standard error where the environment asks for it.
+fn run(rt: &HostRuntime, settings: &Settings) -> Result<u8, AllocError> {
+    let alloc = rt.alloc();
+    let words = words_of(rt)?;
+    let mut source = StdSource::new(rt, alloc)?;
+    let mut sink = StdSink::new(rt, alloc)?;
+    let sim = SimWorld::new(alloc)?;
+    let mut sim = traced(settings, alloc, sim, StdSink::new(rt.stderr(), alloc)?);
+    let mut live = LiveWorld::new(rt, alloc, SystemClock::new(rt))?;
+    live.listen_at(settings.address);
+    let mut live = traced(settings, alloc, live, StdSink::new(rt.stderr(), alloc)?);
+    Ok(legosdn(alloc, &words, &mut source, &mut sink, &mut sim, &mut live))
 }
 
 /// Writes that the address of the environment is none, and answers the status.

@@ -4,9 +4,10 @@ ghost use Rattle.std.specs.Prelude.{◌≡◌, ◌≤◌, ◌⊎◌, ◌∷◌, 
 ghost use Rattle.std.specs.Result.{IsErrAnd};
 ghost use Rattle.lego_io.specs.Count.{Rose, NeverFell};
 ghost use Rattle.outside.specs.Seen.{Continues};
-ghost use Rattle.outside.specs.State.{state};
-ghost use Rattle.outside.specs.InOrder.{BringMessages};
+ghost use Rattle.outside.specs.State.{state, at_first};
+ghost use Rattle.outside.specs.InOrder.{BringMessages, InOrder};
 ghost use Rattle.sim_world.specs.World.{given_of, seen_of};
+ghost use Rattle.sim_world.specs.Places.{AreExpected};
 ghost use Rattle.sim_world.specs.Building.{nothing_given, IsNew, Begins};
 ghost use Rattle.command_words.specs.Commands.{command_in};
 ghost use Rattle.lego_model.specs.SessionLines.{SessionValue};
@@ -31,6 +32,7 @@ use outside::World;
 use session_text::read_session;
 use sim_world::SimWorld;
 use std::alloc::{AllocError, Global};
+use trace_world::Traced;
 
 /// Gives the names of the applications: without a policy there is one, `app`.
 fn app_names(alloc: Global) -> Result<Vec<String>, AllocError>
@@ -58,8 +60,21 @@ fn load<S: Source>(alloc: Global, source: &mut S, sim: &mut SimWorld) -> Result<
     Ok(read_session(alloc, parts.session, parts.first_line, &names, sim)?)
 }
 
+/// Finds that the simulated world keeps its word.
+fn keeps_word<E: Sink + Drop>(sim: &Traced<SimWorld, E>)
+    ensures word { InOrder (seen_of sim.now) }
+    ensures scripts { KeepsLines sim.now }
+    ensures strays { AreExpected sim.now.history (at_first (given_of sim.now)) → (seen_of sim.now).counts.shorts ≡ 0 → (seen_of sim.now).counts.strays ≡ 0 }
+{
+    sim.world().keeps_word();
+}
+
 /// Runs the simulated world to its end, and writes the report.
-fn simulate<K: Sink>(alloc: Global, sink: &mut K, sim: &mut SimWorld) -> Result<(), Stop>
+fn simulate<K: Sink, E: Sink + Drop>(
+    alloc: Global,
+    sink: &mut K,
+    sim: &mut Traced<SimWorld, E>,
+) -> Result<(), Stop>
     ensures runs { (seen_of sim.old).history ≡ [] → length (seen_of sim.old).given.stimuli ≤ 1000000
         → RunsAs result sim.new (K.contents sink.old) (K.contents sink.new) }
     ensures lines { KeepsLines sim.new }
@@ -71,16 +86,16 @@ fn simulate<K: Sink>(alloc: Global, sink: &mut K, sim: &mut SimWorld) -> Result<
     ensures never_fell { NeverFell (K.faults sink.old) (K.faults sink.new) }
 {
     let ended = run_world(alloc, Vec::new(alloc), sink, sim, 0, MOST_ROUNDS);
-    sim.keeps_word();
+    keeps_word(sim);
     ended
 }
 
 /// Reads a session to its end, and runs it in the simulated world.
-fn replay<S: Source, K: Sink>(
+fn replay<S: Source, K: Sink, E: Sink + Drop>(
     alloc: Global,
     source: &mut S,
     sink: &mut K,
-    sim: &mut SimWorld,
+    sim: &mut Traced<SimWorld, E>,
 ) -> Result<(), Stop>
     requires new { IsNew sim.old }
     requires nothing { given_of sim.old ≡ nothing_given }
@@ -96,17 +111,17 @@ fn replay<S: Source, K: Sink>(
     ensures early { IfErr result (λ stop. IsEarly stop → (sim.new ≡ sim.old) × (sink.new ≡ sink.old)) }
     ensures never_fell { NeverFell (K.faults sink.old) (K.faults sink.new) }
 {
-    load(alloc, source, sim)?;
+    load(alloc, source, sim.world_mut())?;
     simulate(alloc, sink, sim)
 }
 
 /// Runs the command that the words are.
-fn run<S: Source, K: Sink, W: World>(
+fn run<S: Source, K: Sink, E: Sink + Drop, W: World>(
     alloc: Global,
     words: &[String],
     source: &mut S,
     sink: &mut K,
-    sim: &mut SimWorld,
+    sim: &mut Traced<SimWorld, E>,
     live: &mut W,
 ) -> Result<(), Stop>
     requires new { IsNew sim.old }
@@ -152,16 +167,17 @@ pub fn halt<K: Sink>(sink: &mut K, stop: Stop) -> u8
 /// Runs one command: reads an input to its end, runs a world, and writes the report.
 ///
 /// `replay` runs the session of the input in the simulated world, and `run` the application of a policy over the switches of
-/// the other world. The answer is the status of the program: 0 where the whole report was written, 2 where
+/// the other world. The simulated world may tell its acts in words; contracts see it without them. The answer is the status
+/// of the program: 0 where the whole report was written, 2 where
 /// the words are no command, 3 where the input is refused, 4 where the source failed, 5 where the sink failed, 6 where
 /// the world stays shut or fails, 7 where the link of a switch failed, 8 where a switch broke, 9 where it diverged, 10
 /// where events were left, 12 where memory ran out. At any status but 0 and 5 the last line that is written says why.
-pub fn legosdn<S: Source, K: Sink, W: World>(
+pub fn legosdn<S: Source, K: Sink, E: Sink + Drop, W: World>(
     alloc: Global,
     words: &[String],
     source: &mut S,
     sink: &mut K,
-    sim: &mut SimWorld,
+    sim: &mut Traced<SimWorld, E>,
     live: &mut W,
 ) -> u8
     requires new_world { IsNew sim.old }

@@ -19,6 +19,10 @@ is_later_hello frame = nat_le 8 (length frame) && nat_lt 1 (number_at 1 0 frame)
 abbrev pub is_own_echo : List ℕ → Bool
 is_own_echo frame = (length frame == 8) && (number_at 1 1 frame == 3) && (number_at 4 4 frame == 0)
 
+-- a PACKET_IN (type 10, 5.4.1 Packet-In Message)
+abbrev pub is_packet_in : List ℕ → Bool
+is_packet_in frame = nat_le 8 (length frame) && (number_at 1 1 frame == 10)
+
 abbrev greeting_in : Message → Greeting
 greeting_in (FeaturesReply features) = greetings.Features features.dpid
 greeting_in other = greetings.Passed

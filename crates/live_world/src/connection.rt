@@ -1,10 +1,11 @@
 //! One connection of a switch.
 
-ghost use Rattle.std.specs.Prelude.{◌≡◌, ℕ, ◌≤◌, List, length, take, IfOk};
+ghost use Rattle.std.specs.Prelude.{◌≡◌, ℕ, ◌≤◌, ◌++◌, true, false, List, length, take, IfOk, IfSome};
 ghost use Rattle.of_stream.specs.Frames.{IsFrame};
 ghost use Rattle.outside.specs.Calls.{most_message, IsMessageIn};
 ghost use Rattle.live_world.specs.Connection.{IsHeardIn};
 
+use crate::backlog::Backlog;
 use crate::clock::Clock;
 use crate::hearing::{Greeting, Hearing, hear_greeting, hear_joined};
 use crate::inbound::{Inbound, Next, ReadEnd};
@@ -41,8 +42,10 @@ pub enum Heard {
 pub(crate) struct Connection {
     pub(crate) stream: TcpStream,
     pub(crate) inbound: Inbound,
+    /// What came before `inbound`, and was put off until `next` tells it.
+    pub(crate) backlog: Backlog,
     pub(crate) life: Life,
-    /// Whether bytes may wait.
+    /// Whether something to be told or read may wait.
     pub(crate) is_ready: bool,
 }
 
@@ -60,13 +63,41 @@ fn hand_out(frame: &[u8], buf: &mut [u8]) -> usize
 }
 
 impl Connection {
-    /// Takes one step: the next message, or bytes that wait. Where memory runs out nothing is lost.
+    /// Takes one step: the next message, first of those that were put off, or bytes that wait. Where memory runs out nothing
+    /// is lost.
     pub(crate) fn step(
         &mut self,
         alloc: Global,
         now: u64,
         buf: &mut [u8],
     ) -> Result<Heard, AllocError>
+        requires { most_message ≤ length buf.old }
+        ensures heard { IfOk result (λ heard. IsHeardIn heard buf.new) }
+        ensures len { length buf.new ≡ length buf.old }
+    {
+        match self.tell_oldest(buf)? {
+            Some(heard) => Ok(heard),
+            None => self.listen(alloc, now, buf),
+        }
+    }
+
+    /// Hands out the oldest message that was put off.
+    fn tell_oldest(&mut self, buf: &mut [u8]) -> Result<Option<Heard>, AllocError>
+        requires { most_message ≤ length buf.old }
+        ensures heard { IfOk result (λ oldest. IfSome oldest (λ heard. IsHeardIn heard buf.new)) }
+        ensures len { length buf.new ≡ length buf.old }
+    {
+        let Stage::Joined(dpid) = self.life.stage else {
+            return Ok(None);
+        };
+        match self.backlog.take()? {
+            Some(frame) => Ok(Some(Heard::Told(dpid, hand_out(frame.as_slice(), buf)))),
+            None => Ok(None),
+        }
+    }
+
+    /// Takes the next message that came, or bytes that wait. Where memory runs out nothing is lost.
+    fn listen(&mut self, alloc: Global, now: u64, buf: &mut [u8]) -> Result<Heard, AllocError>
         requires { most_message ≤ length buf.old }
         ensures heard { IfOk result (λ heard. IsHeardIn heard buf.new) }
         ensures len { length buf.new ≡ length buf.old }
@@ -89,7 +120,7 @@ impl Connection {
                 Heard::Read
             }
             ReadEnd::Nothing => {
-                self.is_ready = false;
+                self.is_ready = !self.backlog.is_empty();
                 Heard::Nothing
             }
             ReadEnd::Over => Heard::Over,
@@ -161,7 +192,20 @@ impl Connection {
         false
     }
 
-    /// Takes the next message of the switch, within 5 seconds. Where memory runs out nothing is lost.
+    /// Puts a PACKET_IN off until `next` tells it, if there is room for it. Tells whether it did.
+    fn put_off(&mut self, message: &[u8]) -> bool
+        ensures kept { result ≡ true → self.new.backlog.stream ≡ self.old.backlog.stream ++ message.now }
+        ensures unchanged { result ≡ false → self.new.backlog.stream ≡ self.old.backlog.stream }
+    {
+        let is_kept = self.backlog.keep(message);
+        if is_kept {
+            self.is_ready = true;
+        }
+        is_kept
+    }
+
+    /// Takes the next message of the switch but for PACKET_INs, which `next` tells. Waits for 5 seconds at most, and as long
+    /// again behind each of those. Where memory runs out nothing is lost.
     pub(crate) fn receive<C: Clock>(
         &mut self,
         alloc: Global,
@@ -176,8 +220,13 @@ impl Connection {
         let mut patience = Patience::new(clock.seconds());
         for _ in 0..u64::MAX {
             let mut came = true;
-            match self.step(alloc, now, buf).map_err(|_| LinkFault::Short)? {
-                Heard::Told(_, size) => return Ok(size),
+            match self.listen(alloc, now, buf).map_err(|_| LinkFault::Short)? {
+                Heard::Told(_, size) => {
+                    if !self.put_off(&buf[..size]) {
+                        return Ok(size);
+                    }
+                    patience = Patience::new(clock.seconds());
+                }
                 Heard::Passed | Heard::Read => {}
                 Heard::Nothing => match waiter.wait(&mut self.stream, Interest::READABLE) {
                     Ok(is_ready) => came = is_ready,

@@ -1,7 +1,7 @@
 //! What a message on a connection is to a live world.
 
 ghost use Rattle.std.specs.Prelude.{◌≡◌, IfOk};
-ghost use Rattle.live_world.specs.Hearing.{greeting_of, hearing_of, is_later_hello, is_own_echo};
+ghost use Rattle.live_world.specs.Hearing.{greeting_of, hearing_of, is_later_hello, is_own_echo, is_packet_in};
 ghost use Rattle.live_world.specs.Greetings.{IsGreetingOf};
 
 use of_types::{Dpid, Xid, get_u8, get_u32, kinds};
@@ -46,6 +46,13 @@ fn is_own_echo(frame: &[u8]) -> bool
     ensures { result ≡ is_own_echo frame.now }
 {
     frame.len() == 8 && get_u8(frame, 1) == kinds::ECHO_REPLY && get_u32(frame, 4) == OWN_XID
+}
+
+/// Whether it is a PACKET_IN.
+pub(crate) fn is_packet_in(frame: &[u8]) -> bool
+    ensures { result ≡ is_packet_in frame.now }
+{
+    frame.len() >= 8 && get_u8(frame, 1) == kinds::PACKET_IN
 }
 
 /// Tells what a connection says before it has said who it is. `AllocError` where there is no memory to read it.

@@ -7,6 +7,7 @@
 #![tactic(auto)]
 
 mod apps;
+mod backlog;
 mod clock;
 mod connection;
 mod counts;

@@ -6,6 +6,7 @@ ghost use Rattle.live_world.specs.declared.connection.Heard.TheVariants as heard
 ghost use Rattle.live_world.specs.Connection.{IsHeardIn};
 ghost use Rattle.live_world.specs.Turns.{IsTurnIn};
 
+use crate::backlog::Backlog;
 use crate::clock::Clock;
 use crate::connection::{Connection, Heard};
 use crate::inbound::Inbound;
@@ -243,6 +244,7 @@ impl Links {
             return Ok(());
         };
         let inbound = Inbound::new(self.alloc).map_err(|_| NextFault::Short)?;
+        let backlog = Backlog::new(self.alloc).map_err(|_| NextFault::Short)?;
         match self.listener.accept() {
             Ok((mut stream, _)) => {
                 let life = Life::new(self.moments.latest);
@@ -250,6 +252,7 @@ impl Links {
                     let connection = Connection {
                         stream,
                         inbound,
+                        backlog,
                         life,
                         is_ready: true,
                     };

@@ -10,8 +10,8 @@ use of_stats::FlowRow;
 use of_types::ByteList;
 use std::alloc::{AllocError, Global};
 
-/// `flow PRIORITY MATCH cookie=C idle=I hard=H flags=F packets=P bytes=B age=A actions=HEX`: a flow entry as its owner
-/// sees it, with `-` for no actions. Timeouts and the age are in seconds.
+/// Writes `flow PRIORITY MATCH cookie=C idle=I hard=H flags=F packets=P bytes=B age=A actions=HEX`: a flow entry as its
+/// owner sees it, with `-` for no actions. Timeouts and the age are in seconds.
 #[tactic(auto, unfolding(lego_model::specs::RunReport::flow_line, lego_model::specs::RunReport::line_of))]
 pub fn flow_line(alloc: Global, row: &FlowRow, flags: u16) -> Result<ByteList, AllocError>
     ensures { IfOk result (λ line. line ≡ report.flow_line row.now flags) }
@@ -26,7 +26,7 @@ pub fn flow_line(alloc: Global, row: &FlowRow, flags: u16) -> Result<ByteList, A
     Ok(ByteList::from_vec(line.into_bytes()))
 }
 
-/// `flow PRIORITY MATCH`.
+/// Appends `flow PRIORITY MATCH`.
 fn push_key(alloc: Global, line: &mut String, key: &Key) -> Result<(), AllocError>
     ensures { OnOk result (string_bytes line.new ≡ string_bytes line.old ++ report.flow_head key.now) }
 {
@@ -35,7 +35,7 @@ fn push_key(alloc: Global, line: &mut String, key: &Key) -> Result<(), AllocErro
     write!(line, "flow {priority} {matching}")
 }
 
-/// ` cookie=C`.
+/// Appends ` cookie=C`.
 #[tactic(auto, unfolding(lego_model::specs::RunReport::cookie_text))]
 fn push_cookie(line: &mut String, cookie: u64) -> Result<(), AllocError>
     ensures { OnOk result (string_bytes line.new ≡ string_bytes line.old ++ report.cookie_text cookie) }
@@ -43,7 +43,7 @@ fn push_cookie(line: &mut String, cookie: u64) -> Result<(), AllocError>
     write!(line, " cookie={cookie}")
 }
 
-/// ` idle=I hard=H flags=F`.
+/// Appends ` idle=I hard=H flags=F`.
 #[tactic(auto, unfolding(lego_model::specs::RunReport::terms_text))]
 fn push_terms(line: &mut String, row: &FlowRow, flags: u16) -> Result<(), AllocError>
     ensures { OnOk result (string_bytes line.new ≡ string_bytes line.old ++ report.terms_text row.now flags) }
@@ -52,7 +52,7 @@ fn push_terms(line: &mut String, row: &FlowRow, flags: u16) -> Result<(), AllocE
     write!(line, " idle={idle} hard={hard} flags={flags}")
 }
 
-/// ` packets=P bytes=B age=A`.
+/// Appends ` packets=P bytes=B age=A`.
 #[tactic(auto, unfolding(lego_model::specs::RunReport::counts_text))]
 fn push_counts(line: &mut String, row: &FlowRow) -> Result<(), AllocError>
     ensures { OnOk result (string_bytes line.new ≡ string_bytes line.old ++ report.counts_text row.now) }
@@ -81,7 +81,7 @@ fn digits_or_dash(alloc: Global, bytes: &[u8]) -> Result<String, AllocError>
     }
 }
 
-/// ` actions=HEX`, or a dash for no actions.
+/// Appends ` actions=HEX`, or a dash for no actions.
 #[tactic(auto, unfolding(lego_model::specs::RunReport::actions_text))]
 fn push_actions(alloc: Global, line: &mut String, actions: &ActionList) -> Result<(), AllocError>
     ensures { OnOk result (string_bytes line.new ≡ string_bytes line.old ++ report.actions_text actions.now) }

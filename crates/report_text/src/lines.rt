@@ -9,7 +9,7 @@ use lego_model::TurnWord;
 use of_types::{ByteList, Dpid};
 use std::alloc::{AllocError, Global};
 
-/// `start APP WORD`: how an attempt to start the application ended.
+/// Writes `start APP WORD`: how an attempt to start the application ended.
 #[tactic(auto, unfolding(lego_model::specs::RunReport::start_line, lego_model::specs::RunReport::line_of))]
 pub fn start_line(alloc: Global, app: &str, tried: &Tried) -> Result<ByteList, AllocError>
     ensures { IfOk result (λ line. line ≡ report.start_line app.now tried.now) }
@@ -19,7 +19,7 @@ pub fn start_line(alloc: Global, app: &str, tried: &Tried) -> Result<ByteList, A
     Ok(ByteList::from_vec(line.into_bytes()))
 }
 
-/// `gone APP`: the application is gone.
+/// Writes `gone APP`: the application is gone.
 #[tactic(auto, unfolding(lego_model::specs::RunReport::gone_line, lego_model::specs::RunReport::line_of))]
 pub fn gone_line(alloc: Global, app: &str) -> Result<ByteList, AllocError>
     ensures { IfOk result (λ line. line ≡ report.gone_line app.now) }
@@ -28,7 +28,7 @@ pub fn gone_line(alloc: Global, app: &str) -> Result<ByteList, AllocError>
     Ok(ByteList::from_vec(line.into_bytes()))
 }
 
-/// `event N KIND DPID`: the event with this number is dispatched.
+/// Writes `event N KIND DPID`: the event with this number is dispatched.
 #[tactic(auto, unfolding(lego_model::specs::RunReport::event_line, lego_model::specs::RunReport::line_of))]
 pub fn event_line(
     alloc: Global,
@@ -43,7 +43,7 @@ pub fn event_line(
     Ok(ByteList::from_vec(line.into_bytes()))
 }
 
-/// `turn APP done`, `turn APP stop` or `turn APP failed CAUSE`: how the turn of the application ended.
+/// Writes `turn APP done`, `turn APP stop` or `turn APP failed CAUSE`: how the turn of the application ended.
 #[tactic(auto, unfolding(lego_model::specs::RunReport::turn_line, lego_model::specs::RunReport::line_of))]
 pub fn turn_line(alloc: Global, app: &str, word: &TurnWord) -> Result<ByteList, AllocError>
     ensures { IfOk result (λ line. line ≡ report.turn_line app.now word.now) }
@@ -59,7 +59,7 @@ pub fn turn_line(alloc: Global, app: &str, word: &TurnWord) -> Result<ByteList, 
     Ok(ByteList::from_vec(line.into_bytes()))
 }
 
-/// `out DPID LEN`: a packet of so many bytes was released to the switch.
+/// Writes `out DPID LEN`: a packet of so many bytes was released to the switch.
 #[tactic(auto, unfolding(lego_model::specs::RunReport::out_line, lego_model::specs::RunReport::line_of))]
 pub fn out_line(alloc: Global, dpid: Dpid, len: u32) -> Result<ByteList, AllocError>
     ensures { IfOk result (λ line. line ≡ report.out_line dpid len) }
@@ -68,7 +68,7 @@ pub fn out_line(alloc: Global, dpid: Dpid, len: u32) -> Result<ByteList, AllocEr
     Ok(ByteList::from_vec(line.into_bytes()))
 }
 
-/// `switch DPID flows N`: how many entries a joined switch has at the end.
+/// Writes `switch DPID flows N`: how many entries a joined switch has at the end.
 #[tactic(auto, unfolding(lego_model::specs::RunReport::switch_line, lego_model::specs::RunReport::line_of))]
 pub fn switch_line(alloc: Global, dpid: Dpid, flows: u64) -> Result<ByteList, AllocError>
     ensures { IfOk result (λ line. line ≡ report.switch_line dpid flows) }
@@ -77,7 +77,7 @@ pub fn switch_line(alloc: Global, dpid: Dpid, flows: u64) -> Result<ByteList, Al
     Ok(ByteList::from_vec(line.into_bytes()))
 }
 
-/// `app NAME alive done D failed F`, or `dead` for one that is gone: how many turns completed and failed.
+/// Writes `app NAME alive done D failed F`, or `dead` for one that is gone: how many turns completed and failed.
 #[tactic(auto, unfolding(lego_model::specs::RunReport::app_line, lego_model::specs::RunReport::line_of))]
 pub fn app_line(
     alloc: Global,
@@ -93,7 +93,7 @@ pub fn app_line(
     Ok(ByteList::from_vec(line.into_bytes()))
 }
 
-/// `end MOMENT events E`: the last moment, in seconds from the start, and how many events were dispatched.
+/// Writes `end MOMENT events E`: the last moment, in seconds from the start, and how many events were dispatched.
 #[tactic(auto, unfolding(lego_model::specs::RunReport::end_line, lego_model::specs::RunReport::line_of))]
 pub fn end_line(alloc: Global, moment: u64, events: u64) -> Result<ByteList, AllocError>
     ensures { IfOk result (λ line. line ≡ report.end_line moment events) }

@@ -27,7 +27,7 @@ impl<K> Model for Records<K> {
     ghost invariant = { λ s. IsCut 0 s.kinds.items s.ends.items (length s.bytes.items) };
 }
 
-/// Where the record of a number begins.
+/// Finds where the record of a number begins.
 fn start_in(ends: &[u32], number: usize) -> usize
     requires { number ≤ length ends.now }
     ensures { result ≡ start_of 0 ends.now number }
@@ -39,7 +39,7 @@ fn start_in(ends: &[u32], number: usize) -> usize
     }
 }
 
-/// Where a record of these two pieces ends behind the bytes, if 32 bits count that far.
+/// Finds where a record of these two pieces ends behind the bytes, if 32 bits count that far.
 fn end_with(bytes: &[u8], head: &[u8], tail: &[u8]) -> Result<u32, AllocError>
     ensures { IfOk result (λ end. end ≡ length bytes.now + length (head.now ++ tail.now)) }
 {
@@ -61,7 +61,7 @@ fn extend(bytes: &mut Vec<u8>, head: &[u8], tail: &[u8]) -> Result<(), AllocErro
     Ok(())
 }
 
-/// The bytes from one place to another.
+/// Lends the bytes from one place to another.
 fn piece_of(bytes: &[u8], start: usize, end: usize) -> &[u8]
     requires rises { start ≤ end }
     requires within { end ≤ length bytes.now }
@@ -70,7 +70,7 @@ fn piece_of(bytes: &[u8], start: usize, end: usize) -> &[u8]
     &bytes[start..end]
 }
 
-/// The record of a number.
+/// Lends the record of a number.
 fn record_of<'a, K: Copy>(
     kinds: &[K],
     ends: &[u32],
@@ -87,7 +87,7 @@ fn record_of<'a, K: Copy>(
 }
 
 impl<K: Copy> Records<K> {
-    /// No records; takes no memory.
+    /// Returns a list of no records; takes no memory.
     pub(crate) fn new(alloc: Global) -> Records<K>
         ensures { result ≡ [] }
     {
@@ -98,14 +98,14 @@ impl<K: Copy> Records<K> {
         }
     }
 
-    /// How many records there are.
+    /// Tells how many records there are.
     pub(crate) fn len(&self) -> usize
         ensures { result ≡ length self.now }
     {
         self.kinds.as_slice().len()
     }
 
-    /// One record more, of two pieces. Want of memory changes nothing, and so does a record beyond 4 GiB of bytes.
+    /// Adds one record, of two pieces. Want of memory changes nothing, nor does a record beyond 4 GiB of bytes.
     pub(crate) fn push(&mut self, kind: K, head: &[u8], tail: &[u8]) -> Result<(), AllocError>
         ensures ok { OnOk result (self.new ≡ self.old ++ (kind, head.now ++ tail.now) ∷ []) }
         ensures err { OnErr result (self.new ≡ self.old) }
@@ -119,7 +119,7 @@ impl<K: Copy> Records<K> {
         Ok(())
     }
 
-    /// The record of a number, counted from 0.
+    /// Lends the record of a number, counted from 0.
     pub(crate) fn get(&self, number: usize) -> (K, &[u8])
         requires { number < length self.now }
         ensures { slice_get self.now number ≡ Some (result.0, result.1.now) }

@@ -51,7 +51,7 @@ fn append(to: &mut Records<StepKind>, from: &Records<StepKind>) -> Result<(), Al
     Ok(())
 }
 
-/// A number that 32 bits hold.
+/// Returns a number that 32 bits hold; another one is want of memory.
 fn short(number: usize) -> Result<u32, AllocError>
     ensures { IfOk result (λ n. n ≡ number) }
 {
@@ -59,7 +59,7 @@ fn short(number: usize) -> Result<u32, AllocError>
 }
 
 impl ReplyList {
-    /// No lines; takes no memory.
+    /// Returns a list of no lines; takes no memory.
     pub fn new(alloc: Global) -> ReplyList
         ensures { result ≡ [] }
     {
@@ -69,14 +69,14 @@ impl ReplyList {
         }
     }
 
-    /// How many lines there are.
+    /// Tells how many lines there are.
     pub fn len(&self) -> usize
         ensures { result ≡ length self.now }
     {
         self.lines.len()
     }
 
-    /// One line more. Want of memory changes nothing.
+    /// Adds one line. Want of memory changes nothing.
     pub fn push(&mut self, app: u32, script: &StepList) -> Result<(), AllocError>
         ensures ok { OnOk result (self.new ≡ self.old ++ (app, script.now) ∷ []) }
         ensures err { OnErr result (self.new ≡ self.old) }
@@ -89,7 +89,7 @@ impl ReplyList {
         Ok(())
     }
 
-    /// The application of the line of a number, counted from 0.
+    /// Returns the application of the line of a number, counted from 0.
     pub fn app(&self, number: usize) -> u32
         requires { number < length self.now }
         ensures { option_map (λ line. line.0) (slice_get self.now number) ≡ Some result }
@@ -97,7 +97,7 @@ impl ReplyList {
         self.lines[number].app
     }
 
-    /// The steps of the line of a number, lent.
+    /// Lends the steps of the line of a number.
     pub fn steps(&self, number: usize) -> Steps<'_>
         requires { number < length self.now }
         ensures { option_map (λ line. line.1) (slice_get self.now number) ≡ Some result }

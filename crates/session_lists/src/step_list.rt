@@ -57,7 +57,7 @@ impl<'a> Model for Steps<'a> {
 }
 
 impl StepList {
-    /// No steps; takes no memory.
+    /// Returns a list of no steps; takes no memory.
     pub fn new(alloc: Global) -> StepList
         ensures { result ≡ [] }
     {
@@ -66,7 +66,7 @@ impl StepList {
         }
     }
 
-    /// One step more. Want of memory changes nothing.
+    /// Adds one step. Want of memory changes nothing.
     pub fn push(&mut self, step: &ScriptStep) -> Result<(), AllocError>
         ensures ok { OnOk result (self.new ≡ self.old ++ step.now ∷ []) }
         ensures err { OnErr result (self.new ≡ self.old) }
@@ -78,7 +78,7 @@ impl StepList {
         }
     }
 
-    /// The steps of a script.
+    /// Packs the steps of a script.
     pub fn from_script(alloc: Global, script: &Script) -> Result<StepList, AllocError>
         ensures { IfOk result (λ steps. steps ≡ script.now) }
     {
@@ -89,7 +89,7 @@ impl StepList {
         Ok(steps)
     }
 
-    /// The steps, lent.
+    /// Lends the steps.
     pub fn steps(&self) -> Steps<'_>
         ensures { result ≡ self.now }
     {
@@ -97,7 +97,7 @@ impl StepList {
     }
 }
 
-/// The steps from one number to another, lent.
+/// Lends the steps from one number to another.
 pub(crate) fn steps_of(records: &Records<StepKind>, first: usize, end: usize) -> Steps<'_>
     requires rises { first ≤ end }
     requires within { end ≤ length records.now }
@@ -110,7 +110,7 @@ pub(crate) fn steps_of(records: &Records<StepKind>, first: usize, end: usize) ->
     }
 }
 
-/// What a record lends.
+/// Returns the step that a record lends.
 fn step_ref(kind: StepKind, bytes: &[u8]) -> StepRef<'_>
     ensures { step_of result ≡ step_in kind bytes.now }
 {
@@ -121,7 +121,7 @@ fn step_ref(kind: StepKind, bytes: &[u8]) -> StepRef<'_>
     }
 }
 
-/// The step of a number among the steps from one number to another.
+/// Lends the step of a number among the steps from one number to another.
 #[tactic(auto, using(crate::specs::laws::StepLaws::step_at))]
 fn step_at(records: &Records<StepKind>, first: usize, end: usize, number: usize) -> StepRef<'_>
     requires within { IsLaidWithin (length records.now) first end }
@@ -133,14 +133,14 @@ fn step_at(records: &Records<StepKind>, first: usize, end: usize, number: usize)
 }
 
 impl<'a> Steps<'a> {
-    /// How many steps there are.
+    /// Tells how many steps there are.
     pub fn len(&self) -> usize
         ensures { result ≡ length self.now }
     {
         self.end - self.first
     }
 
-    /// The step of a number, counted from 0, lent.
+    /// Lends the step of a number, counted from 0.
     pub fn get(&self, number: usize) -> StepRef<'a>
         requires { number < length self.now }
         ensures { slice_get self.now number ≡ Some (step_of result) }

@@ -8,7 +8,7 @@ ghost use Rattle.session_lists.specs.Stimuli.{size_of, stimulus_in};
 use crate::heads::{head_of_number, head_of_port, head_of_second, head_of_two};
 use crate::kinds::StimulusKind;
 use crate::records::Records;
-use of_types::{ByteList, Stimulus, WorldStim, get_u16, get_u32, get_u64};
+use of_types::{ByteList, Dpid, Stimulus, WorldStim, get_u16, get_u32, get_u64};
 use std::alloc::{AllocError, Global};
 use std::marker::Model;
 
@@ -30,7 +30,7 @@ impl Model for StimulusList {
     ghost invariant = { λ s. AreWhole s.records };
 }
 
-/// A copy of the bytes from a place on.
+/// Copies the bytes from a place on.
 fn bytes_from(alloc: Global, bytes: &[u8], at: usize) -> Result<ByteList, AllocError>
     requires { at ≤ length bytes.now }
     ensures { IfOk result (λ list. list ≡ drop at bytes.now) }
@@ -38,7 +38,7 @@ fn bytes_from(alloc: Global, bytes: &[u8], at: usize) -> Result<ByteList, AllocE
     ByteList::from_slice(alloc, &bytes[at..])
 }
 
-/// The stimulus that a record spells.
+/// Reads the stimulus that a record spells.
 #[tactic(auto, unfolding(crate::specs::Stimuli::stimulus_in))]
 fn read(alloc: Global, kind: StimulusKind, bytes: &[u8]) -> Result<WorldStim, AllocError>
     requires { size_of kind ≤ length bytes.now }
@@ -69,7 +69,7 @@ fn read(alloc: Global, kind: StimulusKind, bytes: &[u8]) -> Result<WorldStim, Al
 }
 
 impl StimulusList {
-    /// No stimuli; takes no memory.
+    /// Returns a list of no stimuli; takes no memory.
     pub fn new(alloc: Global) -> StimulusList
         ensures { result ≡ [] }
     {
@@ -78,14 +78,14 @@ impl StimulusList {
         }
     }
 
-    /// How many stimuli there are.
+    /// Tells how many stimuli there are.
     pub fn len(&self) -> usize
         ensures { result ≡ length self.now }
     {
         self.records.len()
     }
 
-    /// The stimulus that a record of two pieces spells, behind the others.
+    /// Adds the stimulus that a record of two pieces spells, behind the others.
     #[tactic(auto, using(crate::specs::laws::StimulusLaws::stimuli_more, crate::specs::laws::StimulusLaws::whole_more))]
     fn put(&mut self, kind: StimulusKind, head: &[u8], tail: &[u8]) -> Result<(), AllocError>
         requires { size_of kind ≤ length (head.now ++ tail.now) }
@@ -95,7 +95,7 @@ impl StimulusList {
         self.records.push(kind, head, tail)
     }
 
-    /// A moment, in 32 bits where they hold it.
+    /// Adds a moment, in 32 bits where they hold it.
     fn put_moment(&mut self, moment: u64) -> Result<(), AllocError>
         ensures ok { OnOk result (self.new ≡ self.old ++ world.At moment ∷ []) }
         ensures err { OnErr result (self.new ≡ self.old) }
@@ -107,8 +107,8 @@ impl StimulusList {
         }
     }
 
-    /// Something that happens to a switch.
-    fn put_of(&mut self, dpid: u64, x: &Stimulus) -> Result<(), AllocError>
+    /// Adds something that happens to a switch.
+    fn put_of(&mut self, dpid: Dpid, x: &Stimulus) -> Result<(), AllocError>
         ensures ok { OnOk result (self.new ≡ self.old ++ world.Of dpid x.now ∷ []) }
         ensures err { OnErr result (self.new ≡ self.old) }
     {
@@ -140,7 +140,7 @@ impl StimulusList {
         }
     }
 
-    /// One stimulus more. Want of memory changes nothing.
+    /// Adds one stimulus. Want of memory changes nothing.
     pub fn push(&mut self, x: &WorldStim) -> Result<(), AllocError>
         ensures ok { OnOk result (self.new ≡ self.old ++ x.now ∷ []) }
         ensures err { OnErr result (self.new ≡ self.old) }
@@ -153,7 +153,7 @@ impl StimulusList {
         }
     }
 
-    /// A copy of the stimulus of a number, counted from 0, if there is one.
+    /// Copies the stimulus of a number, counted from 0, if there is one.
     pub fn get(&self, alloc: Global, number: usize) -> Result<Option<WorldStim>, AllocError>
         ensures { IfOk result (λ next. next ≡ slice_get self.now number) }
     {

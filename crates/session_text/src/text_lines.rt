@@ -3,6 +3,8 @@
 
 ghost use Rattle.std.specs.Prelude.{◌≡◌, ◌||◌, ◌==◌, not, Ok, List, [], length, map, string_bytes};
 ghost use Rattle.of_wire.specs.Reading.{reading_of};
+ghost use Rattle.of_wire.specs.Spelling.{kind_of};
+ghost use Rattle.outside.specs.Conforming.{is_unasked, may_be_raw};
 ghost use Rattle.lego_model.specs.SessionSteps.{are_steps as are_steps_in};
 ghost use Rattle.lego_model.specs.SessionLines as lines;
 ghost use Rattle.session_text.specs.TextGives.{Gives};
@@ -30,7 +32,7 @@ const UNKNOWN: LineFault = LineFault::Kind(SessionKind::Word);
 /// The fault of one item too many.
 const TOO_MANY: LineFault = LineFault::Kind(SessionKind::Range);
 
-/// `switch DPID CAP PORTS`.
+/// Reads `switch DPID CAP PORTS`.
 #[tactic(auto, unfolding(lego_model::specs::SessionLines::switch_line))]
 fn switch_line(
     alloc: Global,
@@ -50,7 +52,7 @@ fn switch_line(
     with_switch(so_far, dpid, capacity, ports)
 }
 
-/// How a start ends, by its word.
+/// Reads how a start ends, by its word.
 #[tactic(auto, unfolding(lego_model::specs::SessionLines::start_word))]
 fn start_word(word: &[u8]) -> Option<StartScript>
     ensures { result ≡ lines.start_word word.now }
@@ -70,7 +72,7 @@ fn start_word(word: &[u8]) -> Option<StartScript>
     }
 }
 
-/// `start APP WORD`.
+/// Reads `start APP WORD`.
 #[tactic(auto, unfolding(lego_model::specs::SessionLines::start_line))]
 fn start_line(names: &[String], so_far: SoFar, app: &[u8], word: &[u8]) -> Result<SoFar, LineFault>
     ensures { Gives view_so_far result (lines.start_line (map (λ s. string_bytes s) names.now) (view_so_far so_far) app.now word.now) }
@@ -82,14 +84,14 @@ fn start_line(names: &[String], so_far: SoFar, app: &[u8], word: &[u8]) -> Resul
     with_start(so_far, app, ending)
 }
 
-/// Whether there are no steps, or they are not a turn's.
+/// Tells whether there are no steps, or they are not a turn's.
 fn are_no_turn(steps: &[&[u8]]) -> bool
     ensures { result ≡ (length (map (λ w. w.now) steps.now) == 0 || not (are_steps_in (map (λ w. w.now) steps.now))) }
 {
     steps.is_empty() || !are_steps(steps)
 }
 
-/// `reply APP STEP ..`.
+/// Reads `reply APP STEP ..`.
 #[tactic(auto, unfolding(lego_model::specs::SessionLines::reply_line))]
 fn reply_line(
     alloc: Global,
@@ -108,7 +110,7 @@ fn reply_line(
     with_reply(so_far, app, script)
 }
 
-/// `fault link DPID N`.
+/// Reads `fault link DPID N`.
 #[tactic(auto, unfolding(lego_model::specs::SessionLines::fault_line))]
 fn fault_line(so_far: SoFar, link: &[u8], dpid: &[u8], count: &[u8]) -> Result<SoFar, LineFault>
     ensures { Gives view_so_far result (lines.fault_line (view_so_far so_far) link.now dpid.now count.now) }
@@ -121,7 +123,7 @@ fn fault_line(so_far: SoFar, link: &[u8], dpid: &[u8], count: &[u8]) -> Result<S
     with_fault(so_far, dpid, count)
 }
 
-/// `join DPID`.
+/// Reads `join DPID`.
 #[tactic(auto, unfolding(lego_model::specs::SessionLines::join_line))]
 fn join_line(so_far: SoFar, dpid: &[u8]) -> Result<SoFar, LineFault>
     ensures { Gives view_so_far result (lines.join_line (view_so_far so_far) dpid.now) }
@@ -133,7 +135,7 @@ fn join_line(so_far: SoFar, dpid: &[u8]) -> Result<SoFar, LineFault>
     with_stimulus(so_far, WorldStim::Join(dpid))
 }
 
-/// `leave DPID`.
+/// Reads `leave DPID`.
 #[tactic(auto, unfolding(lego_model::specs::SessionLines::leave_line))]
 fn leave_line(so_far: SoFar, dpid: &[u8]) -> Result<SoFar, LineFault>
     ensures { Gives view_so_far result (lines.leave_line (view_so_far so_far) dpid.now) }
@@ -153,7 +155,7 @@ fn with_moment(so_far: SoFar, moment: u64) -> Result<SoFar, LineFault>
     Ok(SoFar { moment, ..so_far })
 }
 
-/// `at MOMENT`.
+/// Reads `at MOMENT`.
 #[tactic(auto, unfolding(lego_model::specs::SessionLines::at_line))]
 fn at_line(so_far: SoFar, moment: &[u8]) -> Result<SoFar, LineFault>
     ensures { Gives view_so_far result (lines.at_line (view_so_far so_far) moment.now) }
@@ -168,7 +170,7 @@ fn at_line(so_far: SoFar, moment: &[u8]) -> Result<SoFar, LineFault>
     with_moment(so_far, moment)
 }
 
-/// `frame DPID PORT HEX`.
+/// Reads `frame DPID PORT HEX`.
 #[tactic(auto, unfolding(lego_model::specs::SessionLines::frame_line))]
 fn frame_line(
     alloc: Global,
@@ -188,7 +190,7 @@ fn frame_line(
     with_stimulus(so_far, WorldStim::Of(dpid, Stimulus::Frame { port, bytes }))
 }
 
-/// What happens to a port, by its word.
+/// Reads what happens to a port, by its word.
 #[tactic(auto, unfolding(lego_model::specs::SessionLines::change_word))]
 fn change_word(word: &[u8]) -> Option<PortChange>
     ensures { result ≡ lines.change_word word.now }
@@ -206,7 +208,7 @@ fn change_word(word: &[u8]) -> Option<PortChange>
     }
 }
 
-/// `port DPID PORT up`, or `down`, `add`, `delete`.
+/// Reads `port DPID PORT up`, or `down`, `add`, `delete`.
 #[tactic(auto, unfolding(lego_model::specs::SessionLines::port_line))]
 fn port_line(so_far: SoFar, dpid: &[u8], port: &[u8], word: &[u8]) -> Result<SoFar, LineFault>
     ensures { Gives view_so_far result (lines.port_line (view_so_far so_far) dpid.now port.now word.now) }
@@ -222,7 +224,7 @@ fn port_line(so_far: SoFar, dpid: &[u8], port: &[u8], word: &[u8]) -> Result<SoF
     with_stimulus(so_far, WorldStim::Of(dpid, Stimulus::Port { port, change }))
 }
 
-/// `count DPID PRIORITY PACKETS BYTES`.
+/// Reads `count DPID PRIORITY PACKETS BYTES`.
 #[tactic(auto, unfolding(lego_model::specs::SessionLines::count_line))]
 fn count_line(
     so_far: SoFar,
@@ -248,9 +250,9 @@ fn count_line(
     with_stimulus(so_far, WorldStim::Of(dpid, counts))
 }
 
-/// Whether a switch may send a message unasked.
+/// Tells whether a switch may send a message unasked.
 fn is_unasked(message: &Message) -> bool
-    ensures { result ≡ lines.is_unasked message.now }
+    ensures { result ≡ is_unasked (kind_of message.now) }
 {
     matches!(
         message,
@@ -262,9 +264,9 @@ fn is_unasked(message: &Message) -> bool
     )
 }
 
-/// Whether bytes are no message, or one that a switch may send unasked.
+/// Tells whether bytes are no message, or one that a switch may send unasked.
 fn may_be_raw(alloc: Global, bytes: &[u8]) -> Result<bool, LineFault>
-    ensures { Gives (λ b. b) result (Ok (lines.may_be_raw (reading_of bytes.now))) }
+    ensures { Gives (λ b. b) result (Ok (may_be_raw (reading_of bytes.now))) }
 {
     match decode(alloc, bytes) {
         Ok(envelope) => Ok(is_unasked(&envelope.message)),
@@ -273,7 +275,7 @@ fn may_be_raw(alloc: Global, bytes: &[u8]) -> Result<bool, LineFault>
     }
 }
 
-/// `raw DPID HEX`.
+/// Reads `raw DPID HEX`.
 #[tactic(auto, unfolding(lego_model::specs::SessionLines::raw_line))]
 fn raw_line(alloc: Global, so_far: SoFar, dpid: &[u8], hex: &[u8]) -> Result<SoFar, LineFault>
     ensures { Gives view_so_far result (lines.raw_line (view_so_far so_far) dpid.now hex.now) }
@@ -290,7 +292,7 @@ fn raw_line(alloc: Global, so_far: SoFar, dpid: &[u8], hex: &[u8]) -> Result<SoF
     with_stimulus(so_far, WorldStim::Of(dpid, Stimulus::Raw(bytes)))
 }
 
-/// A line of two words.
+/// Reads a line of two words.
 fn line_of_two(so_far: SoFar, first: &[u8], second: &[u8]) -> Result<SoFar, LineFault>
     ensures { Gives view_so_far result (lines.line_of_two (view_so_far so_far) first.now second.now) }
 {
@@ -305,7 +307,7 @@ fn line_of_two(so_far: SoFar, first: &[u8], second: &[u8]) -> Result<SoFar, Line
     }
 }
 
-/// A line of three words.
+/// Reads a line of three words.
 fn line_of_three(
     alloc: Global,
     names: &[String],
@@ -325,7 +327,7 @@ fn line_of_three(
     }
 }
 
-/// A line of four words.
+/// Reads a line of four words.
 fn line_of_four(
     alloc: Global,
     so_far: SoFar,
@@ -349,7 +351,7 @@ fn line_of_four(
     }
 }
 
-/// A line of five words.
+/// Reads a line of five words.
 fn line_of_five(
     so_far: SoFar,
     first: &[u8],
@@ -367,7 +369,7 @@ fn line_of_five(
     }
 }
 
-/// A line with a fixed number of words.
+/// Reads a line with a fixed number of words.
 #[tactic(auto, unfolding(lego_model::specs::SessionLines::fixed_line))]
 fn fixed_line(
     alloc: Global,
@@ -391,7 +393,7 @@ fn fixed_line(
     }
 }
 
-/// Whether a line is a reply's, by its first word.
+/// Tells whether a line is a reply's, by its first word.
 fn is_reply(words: &[&[u8]]) -> bool
     ensures { result ≡ lines.is_reply (map (λ w. w.now) words.now) }
 {
@@ -401,7 +403,7 @@ fn is_reply(words: &[&[u8]]) -> bool
     }
 }
 
-/// A line with a turn's steps.
+/// Reads a line with a turn's steps.
 fn reply_words(
     alloc: Global,
     names: &[String],
@@ -416,7 +418,7 @@ fn reply_words(
     }
 }
 
-/// What has been read with one more line, by its words.
+/// Reads one more line, by its words.
 #[tactic(auto, unfolding(lego_model::specs::SessionLines::line_of))]
 pub fn line_of(
     alloc: Global,

@@ -29,7 +29,7 @@ pub struct SoFar {
     pub moment: u64,
 }
 
-/// Nothing read yet.
+/// Returns what has been read before the first line: nothing.
 pub fn nothing(alloc: Global) -> SoFar
     ensures { view_so_far result ≡ record { session = no_session; moment = 0 } }
 {
@@ -45,7 +45,7 @@ pub fn nothing(alloc: Global) -> SoFar
     }
 }
 
-/// Whether a switch has this number.
+/// Tells whether a switch has this number.
 fn is_among(switches: &[(Dpid, u32, Vec<u16>)], dpid: Dpid) -> bool
     ensures { result ≡ list_any (λ d. d.0 == dpid) (map view_declared switches.now) }
 {
@@ -57,21 +57,21 @@ fn is_among(switches: &[(Dpid, u32, Vec<u16>)], dpid: Dpid) -> bool
     false
 }
 
-/// Whether the switch is declared above.
+/// Tells whether the switch is declared above.
 fn is_declared(so_far: &SoFar, dpid: Dpid) -> bool
     ensures { result ≡ is_declared_in (view_so_far so_far.now) dpid }
 {
     is_among(&so_far.session.switches, dpid)
 }
 
-/// A word that is a switch's number, declared or not.
+/// Reads a word that is a switch's number, declared or not.
 fn a_dpid(word: &[u8]) -> Result<Dpid, LineFault>
     ensures { Gives (λ n. n) result (a_number_in 1 last_number word.now) }
 {
     a_number(word, 1, u64::MAX)
 }
 
-/// The number of a switch that is declared above.
+/// Reads the number of a switch that is declared above.
 #[tactic(auto, unfolding(lego_model::specs::SessionLines::a_switch))]
 pub fn a_switch(so_far: &SoFar, word: &[u8]) -> Result<Dpid, LineFault>
     ensures { Gives (λ n. n) result (a_switch_in (view_so_far so_far.now) word.now) }
@@ -83,7 +83,7 @@ pub fn a_switch(so_far: &SoFar, word: &[u8]) -> Result<Dpid, LineFault>
     Ok(dpid)
 }
 
-/// The number of a switch that is not yet declared.
+/// Reads the number of a switch that is not yet declared.
 #[tactic(auto, unfolding(lego_model::specs::SessionLines::a_new_switch))]
 pub fn a_new_switch(so_far: &SoFar, word: &[u8]) -> Result<Dpid, LineFault>
     ensures { Gives (λ n. n) result (a_new_switch_in (view_so_far so_far.now) word.now) }
@@ -95,14 +95,14 @@ pub fn a_new_switch(so_far: &SoFar, word: &[u8]) -> Result<Dpid, LineFault>
     Ok(dpid)
 }
 
-/// Whether no more switches may be declared.
+/// Tells whether no more switches may be declared.
 pub fn has_most_switches(so_far: &SoFar) -> bool
     ensures { result ≡ nat_le 64 (length (view_so_far so_far.now).session.switches) }
 {
     so_far.session.switches.len() >= MOST_SWITCHES
 }
 
-/// Whether no more stimuli may follow.
+/// Tells whether no more stimuli may follow.
 pub fn has_most_stimuli(so_far: &SoFar) -> bool
     ensures { result ≡ nat_le most_stimuli (length (view_so_far so_far.now).session.stimuli) }
 {

@@ -19,7 +19,7 @@ use std::alloc::Global;
 /// How many bytes a message of OpenFlow 1.0 has at least: its header (OpenFlow 1.0.0, 5.1 OpenFlow Header).
 const LEAST_MESSAGE: usize = 8;
 
-/// Whether a step begins with this name and a colon.
+/// Tells whether a step begins with this name and a colon.
 fn has_head(step: &[u8], name: &[u8]) -> bool
     ensures { result ≡ has_head_in name.now step.now }
 {
@@ -29,14 +29,14 @@ fn has_head(step: &[u8], name: &[u8]) -> bool
     }
 }
 
-/// Whether a step is a word that nothing follows.
+/// Tells whether a step is a word that nothing follows.
 fn is_plain_end(step: &[u8]) -> bool
     ensures { result ≡ is_plain_end_in step.now }
 {
     is(step, b"done") || is(step, b"stop") || is(step, b"closed") || is(step, b"silent")
 }
 
-/// Whether nothing follows a step.
+/// Tells whether nothing follows a step.
 #[tactic(auto, unfolding(lego_model::specs::SessionSteps::is_end))]
 fn is_end(step: &[u8]) -> bool
     ensures { result ≡ is_end_in step.now }
@@ -44,14 +44,14 @@ fn is_end(step: &[u8]) -> bool
     is_plain_end(step) || has_head(step, b"done") || has_head(step, b"stop")
 }
 
-/// Whether a step sets, forgets or goes back to a mark.
+/// Tells whether a step sets, forgets or goes back to a mark.
 fn is_mark(step: &[u8]) -> bool
     ensures { result ≡ is_mark_in step.now }
 {
     is(step, b"save") || is(step, b"keep") || is(step, b"undo")
 }
 
-/// Whether a step has the form of a message: `m:`, and a further colon.
+/// Tells whether a step has the form of a message: `m:`, and a further colon.
 fn is_message(step: &[u8]) -> bool
     ensures { result ≡ is_message_in step.now }
 {
@@ -61,7 +61,7 @@ fn is_message(step: &[u8]) -> bool
     }
 }
 
-/// Whether a step has one of the forms.
+/// Tells whether a step has one of the forms.
 #[tactic(auto, unfolding(lego_model::specs::SessionSteps::is_step))]
 fn is_step(step: &[u8]) -> bool
     ensures { result ≡ is_step_in step.now }
@@ -69,7 +69,7 @@ fn is_step(step: &[u8]) -> bool
     is_end(step) || is_mark(step) || is_message(step) || has_head(step, b"x")
 }
 
-/// Whether each step has one of the forms, and none follows an end.
+/// Tells whether each step has one of the forms, and none follows an end.
 pub fn are_steps(steps: &[&[u8]]) -> bool
     ensures { result ≡ are_steps_in (map (λ w. w.now) steps.now) }
 {
@@ -86,7 +86,7 @@ pub fn are_steps(steps: &[&[u8]]) -> bool
     true
 }
 
-/// A step that gives a frame.
+/// Makes a step that gives a frame.
 fn gives_frame(alloc: Global, frame: &AppFrame) -> Result<ScriptStep, LineFault>
     requires { AppFits frame.now }
     ensures { Gives (λ s. s) result (Ok (gives frame.now)) }
@@ -94,7 +94,7 @@ fn gives_frame(alloc: Global, frame: &AppFrame) -> Result<ScriptStep, LineFault>
     Ok(ScriptStep::Bytes(encode_app(alloc, frame)?))
 }
 
-/// A step that gives a message for the switch of any datapath id.
+/// Reads a step that gives a message for the switch of any datapath id.
 #[tactic(auto, unfolding(lego_model::specs::SessionSteps::message_step))]
 fn message_step(alloc: Global, dpid: &[u8], hex: &[u8]) -> Result<ScriptStep, LineFault>
     ensures { Gives (λ s. s) result (message_step_in dpid.now hex.now) }
@@ -104,7 +104,7 @@ fn message_step(alloc: Global, dpid: &[u8], hex: &[u8]) -> Result<ScriptStep, Li
     gives_frame(alloc, &AppFrame::Message(dpid, ByteList::from_vec(bytes)))
 }
 
-/// A step that gives bare bytes.
+/// Reads a step that gives bare bytes.
 #[tactic(auto, unfolding(lego_model::specs::SessionSteps::bytes_step))]
 fn bytes_step(alloc: Global, hex: &[u8]) -> Result<ScriptStep, LineFault>
     ensures { Gives (λ s. s) result (bytes_step_in hex.now) }
@@ -113,7 +113,7 @@ fn bytes_step(alloc: Global, hex: &[u8]) -> Result<ScriptStep, LineFault>
     Ok(ScriptStep::Bytes(ByteList::from_vec(bytes)))
 }
 
-/// A step that ends the turn with a checkpoint.
+/// Reads a step that ends the turn with a checkpoint.
 #[tactic(auto, unfolding(lego_model::specs::SessionSteps::checkpoint_step))]
 fn checkpoint_step(alloc: Global, stop: bool, hex: &[u8]) -> Result<ScriptStep, LineFault>
     ensures { Gives (λ s. s) result (checkpoint_step_in stop hex.now) }
@@ -123,7 +123,7 @@ fn checkpoint_step(alloc: Global, stop: bool, hex: &[u8]) -> Result<ScriptStep, 
     gives_frame(alloc, &AppFrame::Done { stop, checkpoint })
 }
 
-/// A step that is one word.
+/// Reads a step that is one word.
 #[tactic(auto, unfolding(lego_model::specs::SessionSteps::word_step))]
 fn word_step(alloc: Global, step: &[u8]) -> Result<ScriptStep, LineFault>
     ensures { Gives (λ s. s) result (word_step_in step.now) }
@@ -151,7 +151,7 @@ fn word_step(alloc: Global, step: &[u8]) -> Result<ScriptStep, LineFault>
     }
 }
 
-/// A message's step behind `m:`, the datapath id and the bytes with a colon between them.
+/// Reads a message's step behind `m:`, the datapath id and the bytes with a colon between them.
 #[tactic(auto, using(crate::proofs::Cuts::unmarked))]
 fn message_behind(alloc: Global, rest: &[u8]) -> Result<ScriptStep, LineFault>
     ensures { Gives (λ s. s) result (message_step_in (before 58 rest.now) (behind 58 rest.now)) }
@@ -162,7 +162,7 @@ fn message_behind(alloc: Global, rest: &[u8]) -> Result<ScriptStep, LineFault>
     }
 }
 
-/// A step with a name, a colon and a rest.
+/// Reads a step with a name, a colon and a rest.
 #[tactic(auto, unfolding(lego_model::specs::SessionSteps::headed_step))]
 fn headed_step(alloc: Global, name: &[u8], rest: &[u8]) -> Result<ScriptStep, LineFault>
     ensures { Gives (λ s. s) result (headed_step_in name.now rest.now) }
@@ -180,7 +180,7 @@ fn headed_step(alloc: Global, name: &[u8], rest: &[u8]) -> Result<ScriptStep, Li
     }
 }
 
-/// What a step gives.
+/// Reads what a step gives.
 #[tactic(auto, unfolding(lego_model::specs::SessionSteps::step_of))]
 fn step_of(alloc: Global, step: &[u8]) -> Result<ScriptStep, LineFault>
     ensures { Gives (λ s. s) result (step_in step.now) }
@@ -191,7 +191,7 @@ fn step_of(alloc: Global, step: &[u8]) -> Result<ScriptStep, LineFault>
     }
 }
 
-/// What the steps of a turn give.
+/// Reads what the steps of a turn give.
 pub fn steps_of(alloc: Global, steps: &[&[u8]]) -> Result<StepList, LineFault>
     ensures { Gives (λ s. s) result (steps_in (map (λ w. w.now) steps.now)) }
 {

@@ -13,7 +13,7 @@ use of_types::limits::MOST_PORTS;
 use of_types::ports;
 use std::alloc::Global;
 
-/// The number that a word spells, from `least` to `most`. A number has any length; what is beyond is out of
+/// Reads the number that a word spells, from `least` to `most`. A number has any length; what is beyond is out of
 /// range, and what is no number is told first.
 #[tactic(auto, unfolding(lego_model::specs::SessionWords::a_number))]
 pub fn a_number(word: &[u8], least: u64, most: u64) -> Result<u64, LineFault>
@@ -29,7 +29,7 @@ pub fn a_number(word: &[u8], least: u64, most: u64) -> Result<u64, LineFault>
     }
 }
 
-/// Whether the number of digits is even, and so half of it, the number of bytes, is known and not one from
+/// Tells whether the number of digits is even, and so half of it, the number of bytes, is known and not one from
 /// `least` to `most`.
 fn has_wrong_size(word: &[u8], least: usize, most: usize) -> bool
     ensures { result ≡ (length word.now % 2 == 0 && not (is_sized least most (length word.now))) }
@@ -38,7 +38,7 @@ fn has_wrong_size(word: &[u8], least: usize, most: usize) -> bool
     word.len() % 2 == 0 && (size < least || most < size)
 }
 
-/// The bytes that hexadecimal digits of either case spell, from `least` to `most` of them and at least one.
+/// Reads the bytes that hexadecimal digits of either case spell, from `least` to `most` of them and at least one.
 /// Where the number of digits is even, the number of bytes is tested first.
 #[tactic(auto, using(crate::proofs::Sizes::sized), unfolding(lego_model::specs::SessionWords::some_bytes))]
 pub fn some_bytes(
@@ -63,7 +63,7 @@ pub fn some_bytes(
     }
 }
 
-/// Whether each word is a decimal number.
+/// Tells whether each word is a decimal number.
 fn are_numerals(words: &[&[u8]]) -> bool
     ensures { result ≡ list_all is_numeral_in (map (λ w. w.now) words.now) }
 {
@@ -86,7 +86,7 @@ fn port_numbers(alloc: Global, words: &[&[u8]]) -> Result<Vec<u16>, LineFault>
     Ok(ports)
 }
 
-/// Whether each number is below the next.
+/// Tells whether each number is below the next.
 fn ascends(ports: &[u16]) -> bool
     ensures { result ≡ ascends_in ports.now }
 {
@@ -98,7 +98,7 @@ fn ascends(ports: &[u16]) -> bool
     true
 }
 
-/// The ports, where they ascend and are at most 64.
+/// Returns the ports, if they ascend and are at most 64.
 fn in_order(ports: Vec<u16>) -> Result<Vec<u16>, LineFault>
     ensures { Gives (λ v. v.items) result (ordered ports.items) }
 {
@@ -109,14 +109,14 @@ fn in_order(ports: Vec<u16>) -> Result<Vec<u16>, LineFault>
     }
 }
 
-/// The ports that the pieces of a word list, each a number.
+/// Reads the ports that the pieces of a word list, each a number.
 fn ports_listed(alloc: Global, pieces: &[&[u8]]) -> Result<Vec<u16>, LineFault>
     ensures { Gives (λ v. v.items) result (ports_read (map (λ w. w.now) pieces.now)) }
 {
     in_order(port_numbers(alloc, pieces)?)
 }
 
-/// The ports that the pieces of a word list.
+/// Reads the ports that the pieces of a word list.
 #[tactic(auto, using(crate::proofs::Ports::ports_of_numerals), unfolding(lego_model::specs::SessionWords::listed_ports))]
 fn listed_ports(alloc: Global, pieces: &[&[u8]]) -> Result<Vec<u16>, LineFault>
     ensures { Gives (λ v. v.items) result (listed_ports_in (map (λ w. w.now) pieces.now)) }
@@ -128,7 +128,7 @@ fn listed_ports(alloc: Global, pieces: &[&[u8]]) -> Result<Vec<u16>, LineFault>
     }
 }
 
-/// The ports that a word lists: `-`, or at most 64 ascending numbers from 1 to 65,280 joined by `,`.
+/// Reads the ports that a word lists: `-`, or at most 64 ascending numbers from 1 to 65,280 joined by `,`.
 #[tactic(auto, unfolding(lego_model::specs::SessionWords::some_ports))]
 pub fn some_ports(alloc: Global, word: &[u8]) -> Result<Vec<u16>, LineFault>
     ensures { Gives (λ v. v.items) result (some_ports_in word.now) }
@@ -140,7 +140,7 @@ pub fn some_ports(alloc: Global, word: &[u8]) -> Result<Vec<u16>, LineFault>
     listed_ports(alloc, &pieces)
 }
 
-/// The place of an application among the names. A place that does not fit 32 bits is want of memory.
+/// Finds the place of an application among the names. A place that does not fit 32 bits is want of memory.
 #[tactic(auto, unfolding(lego_model::specs::SessionWords::an_app))]
 pub fn an_app(names: &[String], word: &[u8]) -> Result<u32, LineFault>
     ensures { Gives (λ n. n) result (an_app_in (map (λ s. string_bytes s) names.now) word.now) }
@@ -153,7 +153,7 @@ pub fn an_app(names: &[String], word: &[u8]) -> Result<u32, LineFault>
     Err(LineFault::Kind(SessionKind::App))
 }
 
-/// What stands before and behind the first such byte.
+/// Returns what stands before and behind the first such byte.
 pub fn cut_at(word: &[u8], mark: u8) -> Option<(&[u8], &[u8])>
     ensures { MatchOption result (has_mark mark word.now ≡ false)
         (λ parts. (has_mark mark word.now ≡ true) × (parts.0.now ≡ before mark word.now) × (parts.1.now ≡ behind mark word.now)) }

@@ -27,7 +27,7 @@ pub struct Progress {
     pub so_far: SoFar,
 }
 
-/// Nothing read yet.
+/// Returns what has been read before the first line: nothing.
 fn at_first(alloc: Global) -> Progress
     ensures { view_progress result ≡ at_first_in }
 {
@@ -37,28 +37,28 @@ fn at_first(alloc: Global) -> Progress
     }
 }
 
-/// Whether a line is passed over: it is empty or a comment.
+/// Tells whether a line is passed over: it is empty or a comment.
 fn is_skipped(line: &[u8]) -> bool
     ensures { result ≡ is_skipped_in line.now }
 {
     matches!(line, [] | [b'#', ..])
 }
 
-/// Whether a line has printable ASCII characters alone, the space among them.
+/// Tells whether a line has printable ASCII characters alone, the space among them.
 fn is_text(line: &[u8]) -> bool
     ensures { result ≡ list_all is_printable line.now }
 {
     line.iter().all(|byte| 0x20 <= *byte && *byte <= 0x7e)
 }
 
-/// Whether a line is the first one of a session.
+/// Tells whether a line is the first one of a session.
 fn is_opening(line: &[u8]) -> bool
     ensures { result ≡ is_opening_in line.now }
 {
     is(line, b"session 1")
 }
 
-/// What has been read with one more line behind the first.
+/// Reads one more line, behind the first.
 fn later_line(
     alloc: Global,
     names: &[String],
@@ -75,7 +75,7 @@ fn later_line(
     })
 }
 
-/// What has been read with one more line of printable characters.
+/// Reads one more line of printable characters.
 #[tactic(auto, unfolding(lego_model::specs::SessionText::plain_line))]
 fn plain_line(
     alloc: Global,
@@ -100,7 +100,7 @@ fn plain_line(
     }
 }
 
-/// What has been read with one more line that is not too long.
+/// Reads one more line that is not too long.
 #[tactic(auto, unfolding(lego_model::specs::SessionText::next_line))]
 fn short_line(
     alloc: Global,
@@ -120,7 +120,7 @@ fn short_line(
     plain_line(alloc, names, progress, line)
 }
 
-/// The same, with the line's number in its fault.
+/// Reads the same, with the line's number in its fault.
 fn numbered_line(
     alloc: Global,
     names: &[String],
@@ -138,7 +138,7 @@ fn numbered_line(
     }
 }
 
-/// The next line, which has this number; one that is too long is a fault.
+/// Returns the next line, which has this number; one that is too long is a fault.
 fn next_line<'a>(lines: &mut Lines<'a>, number: u64) -> Result<Option<&'a [u8]>, SessionError>
     ensures none { IfOk result (λ next. IfNone next (lines.old ≡ [])) }
     ensures some { IfOk result (λ next. IfSome next (λ line. (lines.old ≡ line.now ∷ lines.new) × (length line.now ≤ most_line))) }
@@ -153,7 +153,7 @@ fn next_line<'a>(lines: &mut Lines<'a>, number: u64) -> Result<Option<&'a [u8]>,
     }
 }
 
-/// What lines give, the first of which has this number.
+/// Reads all lines, the first of which has this number.
 fn all_lines(
     alloc: Global,
     names: &[String],
@@ -172,7 +172,7 @@ fn all_lines(
     Ok(progress)
 }
 
-/// The session that a text spells, or its first fault.
+/// Reads the session that a text spells, or its first fault.
 #[tactic(auto, using(crate::proofs::LineCount::length_of_lines), unfolding(lego_model::specs::SessionText::session_text))]
 fn read_text(
     alloc: Global,
@@ -187,7 +187,7 @@ fn read_text(
     Ok(progress.so_far.session)
 }
 
-/// The session that a text spells, or its first fault.
+/// Reads the session that a text spells, or its first fault.
 ///
 /// The lines are counted from `first_line`, the number that the text's first line has in the whole input. An
 /// application is named in the text as in `names`, and in the session by its place among them.

@@ -7,14 +7,14 @@ ghost use Rattle.lego_model.specs.Words.{words_of as words_in, is_word, is_numer
 
 use std::alloc::{AllocError, Global};
 
-/// The pieces of a text between the bytes `separator`.
+/// Cuts a text into its pieces between the bytes `separator`.
 pub fn split(alloc: Global, text: &[u8], separator: u8) -> Result<Vec<&[u8]>, AllocError>
     ensures { IfOk result (λ v. map (λ p. p.now) v.items ≡ slice_split (λ b. b == separator) text.now) }
 {
     text.split(|byte| *byte == separator).collect(alloc)
 }
 
-/// The words of a line, which stand between single spaces.
+/// Cuts a line into its words, which stand between single spaces.
 #[tactic(auto, unfolding(lego_model::specs::Words::words_of))]
 pub fn words_of(alloc: Global, line: &[u8]) -> Result<Vec<&[u8]>, AllocError>
     ensures { IfOk result (λ v. map (λ w. w.now) v.items ≡ words_in line.now) }
@@ -22,7 +22,7 @@ pub fn words_of(alloc: Global, line: &[u8]) -> Result<Vec<&[u8]>, AllocError>
     split(alloc, line, b' ')
 }
 
-/// Whether a word is this text.
+/// Tells whether a word is this text.
 #[tactic(auto, unfolding(lego_model::specs::Words::is_word))]
 pub fn is(word: &[u8], text: &[u8]) -> bool
     ensures { result ≡ is_word text.now word.now }
@@ -30,14 +30,14 @@ pub fn is(word: &[u8], text: &[u8]) -> bool
     word == text
 }
 
-/// Whether each byte is a digit.
+/// Tells whether each byte is a digit.
 fn all_digits(word: &[u8]) -> bool
     ensures { result ≡ list_all is_ascii_digit word.now }
 {
     word.iter().all(|byte| byte.is_ascii_digit())
 }
 
-/// Whether a word of two digits or more begins with `0`.
+/// Tells whether a word of two digits or more begins with `0`.
 fn leads_with_zero(word: &[u8]) -> bool
     ensures { result ≡ zero_leads word.now }
 {
@@ -47,7 +47,7 @@ fn leads_with_zero(word: &[u8]) -> bool
     }
 }
 
-/// Whether a word is a decimal number, without a leading zero but for `0` itself.
+/// Tells whether a word is a decimal number, without a leading zero but for `0` itself.
 #[tactic(auto, unfolding(lego_model::specs::Words::is_numeral))]
 pub fn is_numeral(word: &[u8]) -> bool
     ensures value { result ≡ is_numeral_in word.now }
@@ -56,7 +56,7 @@ pub fn is_numeral(word: &[u8]) -> bool
     !word.is_empty() && !leads_with_zero(word) && all_digits(word)
 }
 
-/// The number that digits spell, or `None` where it does not fit 64 bits.
+/// Returns the number that digits spell, or `None` where it does not fit 64 bits.
 pub fn value_of(digits: &[u8]) -> Option<u64>
     requires { list_all is_ascii_digit digits.now ≡ true }
     ensures { MatchOption result (2 ^ 64 ≤ value_after 0 digits.now) (λ value. value ≡ value_after 0 digits.now) }

@@ -7,14 +7,6 @@ use Rattle.sim_world.specs.laws.LinksLaws.{link_of-held, link_of-not_held}
 
 -- ---- What follows in one case of an answer
 
-pub on_ok : {T E A B : Type 0} (r : Result T E) → (A → B) → OnOk r A → OnOk r B
-on_ok (Ok x) f a = f a
-on_ok (Err e) f a = tt
-
-pub on_err : {T E A B : Type 0} (r : Result T E) → (A → B) → OnErr r A → OnErr r B
-on_err (Ok x) f a = tt
-on_err (Err e) f a = f a
-
 pub if_ok : {T E : Type 0} {P Q : T → Type 0} (r : Result T E) → ((x : T) → P x → Q x) → IfOk r P → IfOk r Q
 if_ok (Ok x) f p = f x p
 if_ok (Err e) f p = tt

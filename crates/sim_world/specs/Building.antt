@@ -12,7 +12,7 @@ use Rattle.outside.specs.Conforming.{AreDeclaredFrom, MayDeclare}
 use Rattle.sim_world.specs.Tally.{CountsFor, counts_of}
 use Rattle.sim_world.specs.Told.{without_links}
 use Rattle.sim_world.specs.Scripts.{Scripts}
-use Rattle.sim_world.specs.World.{WorldData, declared_in, given_of, CanCome}
+use Rattle.sim_world.specs.World.{WorldData, all_declared, given_of, CanCome}
 
 -- ---- One thing more
 
@@ -90,7 +90,7 @@ pub record IsNew (w : WorldData) : Type 0 where
   pub told : w.told ≡ without_links w.fails
   pub state : w.state ≡ at_first (given_of w)
   pub counts : AreZero (counts_of w.tally)
-  pub tally : CountsFor (declared_in w.state) w.tally
+  pub tally : CountsFor (all_declared w.state) w.tally
 
 -- It was given one thing more, and still nothing happened.
 pub record Gets (change : Given Scripts → Given Scripts) (old new : WorldData) : Type 0 where

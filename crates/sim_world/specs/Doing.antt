@@ -25,7 +25,7 @@ use Rattle.sim_world.specs.Links.{IsDue, StandsAt, MayCall}
 use Rattle.sim_world.specs.Tally.{TallyState, tally_stray, tally_short, tally_short_of, tally_fault_of}
 use Rattle.sim_world.specs.Scripts.{Life}
 use Rattle.sim_world.specs.Lives.{life_in}
-use Rattle.sim_world.specs.World.{WorldData, Moves, IsAsTold, AreAsTold, next_told, declared_in, CanCome}
+use Rattle.sim_world.specs.World.{WorldData, Moves, IsAsTold, AreAsTold, next_told, all_declared, CanCome}
 
 -- ---- Counts by answers
 
@@ -82,7 +82,7 @@ pub record NextStands (w : WorldData) : Type 0 where
   pub due : All IsDue w.state.due
   pub standing : AllByRecursion (λ l. StandsAt w.state.moment l.switch) w.state.links
   pub within : w.state.moment ≤ 4294967295
-  pub can_come : CanCome (declared_in w.state) w.state.moment w.state.to_come
+  pub can_come : CanCome (all_declared w.state) w.state.moment w.state.to_come
 
 -- ---- What is told in a state in which a stimulus is begun
 
@@ -91,7 +91,7 @@ pub record Tells (old new : WorldData) (item : Item) (buf : List ℕ) : Type 0 w
   pub within : IsItemIn (Unit {0}) item buf
   pub idle : (item ≡ items.Idle) ↔ IsIdle old.state
   pub over : (item ≡ items.End) ↔ IsOver old.state
-  pub may : MayCome (declared_in old.state) (item_step item buf) old.state
+  pub may : MayCome (all_declared old.state) (item_step item buf) old.state
   pub told : next_told old.told old.nexts ≡ false → IsAsTold old.told old.nexts (item_step item buf) old.state
 
 -- ---- What calls of links need: one more call of each link can be counted.
@@ -113,7 +113,7 @@ pub record DoesNext (old new : WorldData) (result : Result Item NextFault) (buf 
   pub item : IfOk result (λ item. IsItemIn (Unit {0}) item buf)
   pub idle : IfOk result (λ item. (item ≡ items.Idle) ↔ IsIdle (after_steps (stim_steps begun) old.state))
   pub over : IfOk result (λ item. (item ≡ items.End) ↔ IsOver (after_steps (stim_steps begun) old.state))
-  pub word : MayComeAll (declared_in old.state) (next_steps begun result buf) old.state
+  pub word : MayComeAll (all_declared old.state) (next_steps begun result buf) old.state
   pub told : AreAsTold old.told old.nexts (next_steps begun result buf) old.state
   pub due : IfSome begun (λ x. All IsDue (after_stim x old.state).due)
 

@@ -7,7 +7,7 @@ use Rattle.of_types.specs.declared.journal.WorldStim.TheVariants.{Of, Join, Leav
 use Rattle.flow_table.specs.Switch.{Declared, SwitchState, joined_at, features_reply}
 use Rattle.outside.specs.declared.step.WorldStep.{WorldStep}
 use Rattle.outside.specs.declared.step.WorldStep.TheVariants.{From, Joined, Left, Moment}
-use Rattle.outside.specs.State.{Link, stimulus_sends, join_due, switch_in, link_of}
+use Rattle.outside.specs.State.{Link, stimulus_sends, join_due, switch_in, link_of, declared_in}
 use Rattle.outside.specs.Conforming.{AreDeclaredFrom}
 use Rattle.outside.specs.Calls.{IsFeaturesOf}
 use Rattle.sim_world.specs.LinkWaits.{AreShort}
@@ -82,9 +82,6 @@ fails_at number l = record l { fails = l.fails ++ number ∷ [] }
 -- the messages that wait, of the switches with lower numbers first
 abbrev pub waiting_in : List Link → List WorldStep
 waiting_in ls = flat_map (λ l. map (From l.declared.dpid) l.waits) ls
-
-abbrev pub declared_in : List Link → List Declared
-declared_in ls = map (λ l. l.declared) ls
 
 -- the items that a stimulus makes beside messages
 abbrev pub due_in : WorldStim → ℕ → List Link → List WorldStep

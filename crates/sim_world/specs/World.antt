@@ -37,11 +37,11 @@ pub record WorldData : Type 0 where
   pub state : State
   pub lives : List (ℕ × Life)
 
-unfoldable pub declared_in : State → List Declared
-declared_in s = map (λ l. l.declared) s.links
+unfoldable pub all_declared : State → List Declared
+all_declared s = map (λ l. l.declared) s.links
 
 unfoldable pub given_of : WorldData → Given Scripts
-given_of w = record { declared = declared_in w.state; stimuli = w.stimuli; fails = w.fails; own = w.scripts }
+given_of w = record { declared = all_declared w.state; stimuli = w.stimuli; fails = w.fails; own = w.scripts }
 
 -- what is seen of it
 unfoldable pub seen_of : WorldData → Seen Scripts
@@ -119,16 +119,16 @@ pub record IsHistory (given : Given Scripts) (history : List WorldStep) : Type 0
 -- ---- What holds of a world
 
 pub record Stands (w : WorldData) : Type 0 where
-  pub declared : AreDeclaredFrom 1 (declared_in w.state)
-  pub switches : AllByRecursion MayDeclare (declared_in w.state)
+  pub declared : AreDeclaredFrom 1 (all_declared w.state)
+  pub switches : AllByRecursion MayDeclare (all_declared w.state)
   pub state : but_marks (state (seen_of w)) ≡ w.state
   pub lives : (app : ℕ) → life_in app w.lives ≡ life_through w.scripts w.told app w.history fresh
   pub told : w.told ≡ without_links w.fails
   pub nexts : w.nexts ≡ nexts_through w.history 0
   pub history : IsHistory (given_of w) w.history
   pub room : length w.state.running ≤ w.room
-  pub tally : CountsFor (declared_in w.state) w.tally
-  pub can_come : CanCome (declared_in w.state) w.state.moment w.state.to_come
+  pub tally : CountsFor (all_declared w.state) w.tally
+  pub can_come : CanCome (all_declared w.state) w.state.moment w.state.to_come
 
 -- What a call does: what was given stays, the history goes on by these steps, and counts become those. Room is left for the ends that
 -- were promised.

@@ -1,6 +1,7 @@
 pub mod LinkLaws
 pub mod LinksLaws
 pub mod LinkStepLaws
+pub mod ToldLaws
 pub mod ScriptLaws
 pub mod LifeLaws
 pub mod CellLaws

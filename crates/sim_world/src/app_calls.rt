@@ -16,7 +16,7 @@ use of_types::{ByteList, TookWhat};
 use outside::{GiveFault, Short, StartFault, Taken, WorldStep};
 
 impl Parts {
-    /// The application was started and not ended.
+    /// Tells whether the application was started and not ended.
     #[tactic(auto, unfolding(crate::specs::Lives::life_of))]
     pub(crate) fn runs(&self, app: u32) -> bool
         ensures { result ≡ (lives_of self.now app).running }
@@ -24,7 +24,7 @@ impl Parts {
         self.lives.is_running(app)
     }
 
-    /// Whether its next start succeeds.
+    /// Tells whether its next start succeeds.
     #[tactic(auto, unfolding(crate::specs::Lives::life_of, crate::specs::Lives::is_known))]
     fn will_start(&self, app: u32) -> bool
         requires known { has_life app self.now.lives ≡ true }
@@ -34,7 +34,7 @@ impl Parts {
         self.lives.will_start(&self.told, app)
     }
 
-    /// Whether it takes what it is given next.
+    /// Tells whether it takes what it is given next.
     #[tactic(auto, unfolding(crate::specs::Lives::life_of, crate::specs::Lives::is_known))]
     fn will_give(&self, app: u32) -> bool
         requires known { has_life app self.now.lives ≡ true }
@@ -98,7 +98,7 @@ impl Parts {
         }
     }
 
-    /// How many bytes the next take from it gives into so much room.
+    /// Tells how many bytes the next take from it gives into so much room.
     #[tactic(auto, unfolding(crate::specs::Lives::life_of, crate::specs::Lives::is_known))]
     fn next_len(&self, app: u32, room: usize) -> usize
         requires known { has_life app self.now.lives ≡ true }
@@ -177,7 +177,7 @@ impl Parts {
     }
 }
 
-/// What a take answered, for the history; `copy` is as long as what was taken.
+/// Returns what a take answered, for the history; `copy` is as long as what was taken.
 fn what_of(taken: Taken, copy: Vec<u8>, buf: &[u8]) -> TookWhat
     requires taken { IsTakenIn taken buf.now }
     requires len { length copy.items ≡ length (taken_bytes (took_of taken buf.now)) }

@@ -41,7 +41,7 @@ fn fail_call(link: &mut SimLink, fail: &FailCall) -> Result<(), AllocError>
     }
 }
 
-/// A switch that is out, of whose link those of the calls are to fail that are its own.
+/// Makes a switch that is out, of whose link those of the calls are to fail that are its own.
 fn new_link(
     alloc: Global,
     fails: &[FailCall],
@@ -60,7 +60,7 @@ fn new_link(
 }
 
 impl Parts {
-    /// A world with no switch and no script, in which nothing happened.
+    /// Makes a world with no switch and no script, in which nothing happened.
     pub(crate) fn new(alloc: Global) -> Result<Parts, AllocError>
         ensures new { IfOk result IsNew }
         ensures given { IfOk result (λ w. given_of w ≡ nothing_given) }
@@ -107,9 +107,9 @@ impl Parts {
     /// its ports, at most 64. Fewer than 64 are declared. After want of memory the world is as before.
     pub(crate) fn add_switch(
         &mut self,
-        dpid: u64,
+        dpid: Dpid,
         cap: u32,
-        ports: &[u16],
+        ports: &[PortNo],
     ) -> Result<(), AllocError>
         requires new { IsNew self.old }
         requires number { 1 ≤ dpid }
@@ -134,7 +134,7 @@ impl Parts {
         Ok(())
     }
 
-    /// One stimulus more. After want of memory the world is as before.
+    /// Adds one stimulus. After want of memory the world is as before.
     pub(crate) fn add_stimulus(&mut self, x: WorldStim) -> Result<(), AllocError>
         requires new { IsNew self.old }
         ensures ok { OnOk result (Gets (with_stimulus x) self.old self.new) }
@@ -143,7 +143,7 @@ impl Parts {
         self.put_stimulus(x)
     }
 
-    /// All stimuli at once, where none was given.
+    /// Adds all stimuli at once, where none was given.
     pub(crate) fn add_stimuli(&mut self, stimuli: StimulusList)
         requires new { IsNew self.old }
         requires none { (given_of self.old).stimuli ≡ [] }
@@ -153,7 +153,7 @@ impl Parts {
         self.begun_stimuli = 0;
     }
 
-    /// All that applications give in their turns, where nothing of it was given.
+    /// Adds all that applications give in their turns, where nothing of it was given.
     pub(crate) fn add_replies(&mut self, replies: ReplyList)
         requires new { IsNew self.old }
         requires none { (given_of self.old).own.replies ≡ [] }
@@ -162,7 +162,7 @@ impl Parts {
         self.lives.add_replies(replies);
     }
 
-    /// What an application gives in its next turn. After want of memory the world is as before.
+    /// Adds what an application gives in its next turn. After want of memory the world is as before.
     pub(crate) fn add_reply(&mut self, app: u32, reply: Script) -> Result<(), AllocError>
         requires new { IsNew self.old }
         ensures ok { OnOk result (Gets (with_reply app reply) self.old self.new) }
@@ -172,7 +172,7 @@ impl Parts {
             .add_reply(app, &StepList::from_script(self.alloc, &reply)?)
     }
 
-    /// How the next start of an application ends. After want of memory the world is as before.
+    /// Adds how the next start of an application ends. After want of memory the world is as before.
     pub(crate) fn add_start(&mut self, app: u32, start: StartScript) -> Result<(), AllocError>
         requires new { IsNew self.old }
         ensures ok { OnOk result (Gets (with_start app start) self.old self.new) }
@@ -203,8 +203,8 @@ impl Parts {
         Ok(())
     }
 
-    /// The call of a kind with this number, counted from 1, is to fail; `of` is the switch's number or the application's
-    /// index. After want of memory the world is as before.
+    /// Tells the call of a kind with this number, counted from 1, to fail; `of` is the switch's number or the
+    /// application's index. After want of memory the world is as before.
     pub(crate) fn fail_call(
         &mut self,
         kind: CallKind,

@@ -29,7 +29,7 @@ impl Model for FailNumbers {
 }
 
 impl FailNumbers {
-    /// No numbers; takes no memory.
+    /// Returns a list of no numbers; takes no memory.
     pub fn new(alloc: Global) -> FailNumbers
         ensures { result ≡ [] }
     {
@@ -50,7 +50,7 @@ impl FailNumbers {
         Ok(())
     }
 
-    /// The number is among them; takes no memory.
+    /// Tells whether the number is among them; takes no memory.
     pub fn contains(&self, number: u64) -> bool
         ensures { result ≡ is_number number self.now }
     {

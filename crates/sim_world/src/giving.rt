@@ -9,13 +9,13 @@ ghost use Rattle.sim_world.specs.Building.{nothing_given, last_moment_of, with_s
 use crate::parts::Parts;
 use crate::world::SimWorld;
 use app_frames::{Script, StartScript};
-use of_types::WorldStim;
+use of_types::{Dpid, PortNo, WorldStim};
 use outside::CallKind;
 use session_lists::{ReplyList, StimulusList};
 use std::alloc::{AllocError, Global};
 
 impl SimWorld {
-    /// A world with no switch and no script, in which nothing happened.
+    /// Makes a world with no switch and no script, in which nothing happened.
     pub fn new(alloc: Global) -> Result<SimWorld, AllocError>
         ensures new { IfOk result IsNew }
         ensures given { IfOk result (λ w. given_of w ≡ nothing_given) }
@@ -29,7 +29,7 @@ impl SimWorld {
     /// Declares a switch: its number, from 1 on and not declared yet, how many entries its table takes, at most 4,096, and
     /// its ports, at most 64, strictly ascending from 1 to 65,280. Fewer than 64 are declared. After want of memory the world
     /// is as before.
-    pub fn add_switch(&mut self, dpid: u64, cap: u32, ports: &[u16]) -> Result<(), AllocError>
+    pub fn add_switch(&mut self, dpid: Dpid, cap: u32, ports: &[PortNo]) -> Result<(), AllocError>
         requires new { IsNew self.old }
         requires number { 1 ≤ dpid }
         requires absent { is_declared dpid (given_of self.old).declared ≡ false }
@@ -44,7 +44,7 @@ impl SimWorld {
         self.parts.add_switch(dpid, cap, ports)
     }
 
-    /// One stimulus more, of a declared switch and within its limits; its moment is not before the last one. After want
+    /// Adds one stimulus, of a declared switch and within its limits; its moment is not before the last one. After want
     /// of memory the world is as before.
     pub fn add_stimulus(&mut self, x: WorldStim) -> Result<(), AllocError>
         requires new { IsNew self.old }
@@ -56,7 +56,7 @@ impl SimWorld {
         self.parts.add_stimulus(x)
     }
 
-    /// What an application gives in its next turn. After want of memory the world is as before.
+    /// Adds what an application gives in its next turn. After want of memory the world is as before.
     pub fn add_reply(&mut self, app: u32, reply: Script) -> Result<(), AllocError>
         requires new { IsNew self.old }
         ensures ok { OnOk result (Gets (with_reply app reply) self.old self.new) }
@@ -66,8 +66,8 @@ impl SimWorld {
         self.parts.add_reply(app, reply)
     }
 
-    /// All stimuli at once, where none was given: each of a declared switch and within its limits, with moments that do
-    /// not go back. Takes no memory.
+    /// Adds all stimuli at once, where none was given: each of a declared switch and within its limits, with moments
+    /// that do not go back. Takes no memory.
     pub fn add_stimuli(&mut self, stimuli: StimulusList)
         requires new { IsNew self.old }
         requires none { (given_of self.old).stimuli ≡ [] }
@@ -77,7 +77,7 @@ impl SimWorld {
         self.parts.add_stimuli(stimuli);
     }
 
-    /// All that applications give in their turns at once, where nothing of it was given. Takes no memory.
+    /// Adds all that applications give in their turns at once, where nothing of it was given. Takes no memory.
     pub fn add_replies(&mut self, replies: ReplyList)
         requires new { IsNew self.old }
         requires none { (given_of self.old).own.replies ≡ [] }
@@ -86,7 +86,7 @@ impl SimWorld {
         self.parts.add_replies(replies);
     }
 
-    /// How the next start of an application ends. After want of memory the world is as before.
+    /// Adds how the next start of an application ends. After want of memory the world is as before.
     pub fn add_start(&mut self, app: u32, start: StartScript) -> Result<(), AllocError>
         requires new { IsNew self.old }
         ensures ok { OnOk result (Gets (with_start app start) self.old self.new) }
@@ -96,8 +96,8 @@ impl SimWorld {
         self.parts.add_start(app, start)
     }
 
-    /// The call of a kind with this number, counted from 1, is to fail; `of` is the switch's number or the application's
-    /// index. After want of memory the world is as before.
+    /// Tells the call of a kind with this number, counted from 1, to fail; `of` is the switch's number or the
+    /// application's index. After want of memory the world is as before.
     pub fn fail_call(&mut self, kind: CallKind, of: u64, number: u64) -> Result<(), AllocError>
         requires new { IsNew self.old }
         ensures ok { OnOk result (Gets (with_fail (record { kind = kind; of = of; number = number })) self.old self.new) }

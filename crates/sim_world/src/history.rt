@@ -31,7 +31,7 @@ impl Model for History {
 }
 
 impl History {
-    /// No steps, and room for none.
+    /// Makes a history of no steps, with room for none.
     pub(crate) fn new() -> History
         ensures { result.steps ≡ [] }
     {
@@ -64,7 +64,7 @@ impl History {
         Ok(())
     }
 
-    /// One step more, for which there is room.
+    /// Adds one step, for which there is room.
     #[tactic(auto, using(crate::specs::laws::RoomLaws::noted_more, crate::specs::laws::RoomLaws::counted_more))]
     pub(crate) fn push(&mut self, step: WorldStep)
         requires { 1 ≤ self.old.room }

@@ -55,7 +55,7 @@ pub(crate) struct LifeCell {
 /// The first place.
 const FIRST: Place = Place { step: 0, offset: 0 };
 
-/// Whether the step at a place has no byte left.
+/// Tells whether the step at a place has no byte left.
 #[tactic(auto, unfolding(crate::specs::Lives::from_place))]
 fn is_used_up(steps: &Steps<'_>, at: Place) -> bool
     ensures same { result ≡ begins_empty (from_place at steps.now) }
@@ -72,7 +72,7 @@ fn is_used_up(steps: &Steps<'_>, at: Place) -> bool
     }
 }
 
-/// The place behind the steps that have no byte left.
+/// Returns the place behind the steps that have no byte left.
 fn pass(steps: &Steps<'_>, at: Place) -> Place
     ensures passed { from_place result steps.now ≡ passed (from_place at steps.now) }
     ensures begun { begins_empty (from_place result steps.now) ≡ false }
@@ -150,7 +150,7 @@ fn take_next(steps: &Steps<'_>, at: Place, buf: &mut [u8]) -> (Taken, Place)
     take_first(steps, pass(steps, at), buf)
 }
 
-/// How many bytes are taken at a place where the step has a byte left.
+/// Tells how many bytes are taken at a place where the step has a byte left.
 #[tactic(auto, unfolding(crate::specs::Lives::from_place))]
 fn len_first(steps: &Steps<'_>, at: Place, room: usize) -> usize
     requires { begins_empty (from_place at steps.now) ≡ false }
@@ -166,7 +166,7 @@ fn len_first(steps: &Steps<'_>, at: Place, room: usize) -> usize
     }
 }
 
-/// How many bytes are taken from a place on.
+/// Tells how many bytes are taken from a place on.
 #[tactic(auto, unfolding(crate::specs::Scripts::given_of))]
 fn len_next(steps: &Steps<'_>, at: Place, room: usize) -> usize
     ensures { result ≡ length (taken_bytes (given_of room (from_place at steps.now))) }
@@ -174,7 +174,7 @@ fn len_next(steps: &Steps<'_>, at: Place, room: usize) -> usize
     len_first(steps, pass(steps, at), room)
 }
 
-/// The bytes are a frame that tells an event.
+/// Tells whether the bytes are a frame that tells an event.
 #[tactic(auto, unfolding(outside::specs::State::event_number))]
 fn is_event(bytes: &[u8]) -> bool
     ensures { result ≡ is_some (event_number bytes.now) }
@@ -189,7 +189,7 @@ fn is_refused(start: StartScript) -> bool
 }
 
 impl LifeCell {
-    /// The life of an application before anything happened to it; takes no memory.
+    /// Returns the life of an application before anything happened to it; takes no memory.
     #[tactic(auto, unfolding(crate::specs::Lives::life_of_cell, crate::specs::Lives::from_place, crate::specs::Lives::steps_given, crate::specs::Scripts::fresh,))]
     pub(crate) fn fresh(app: u32) -> LifeCell
         ensures app { result.app ≡ app }
@@ -211,7 +211,7 @@ impl LifeCell {
         }
     }
 
-    /// Its next start is told to fail.
+    /// Tells whether its next start is told to fail.
     fn is_start_told(&self, told: &Told) -> bool
         requires { self.now.start_calls < 2 ^ 64 - 1 }
         ensures { result ≡ is_told CallKind.Start self.now.app (self.now.start_calls + 1) told.now }
@@ -219,7 +219,7 @@ impl LifeCell {
         told.is_told(CallKind::Start, u64::from(self.app), self.start_calls + 1)
     }
 
-    /// Its next start comes to its line, which says that it is refused.
+    /// Tells whether its next start comes to its line, which says that it is refused.
     #[tactic(auto, unfolding(crate::specs::Lives::life_of_cell))]
     fn is_next_refused(&self, lines: &ScriptLines) -> bool
         requires { IsCellOf lines.now self.now }
@@ -228,7 +228,7 @@ impl LifeCell {
         is_refused(lines.next_start(self.app, self.next_start).0)
     }
 
-    /// Its next start comes to its line: it is in place and not told to fail.
+    /// Tells whether its next start comes to its line: it is in place and not told to fail.
     #[tactic(auto, unfolding(crate::specs::Lives::life_of_cell))]
     fn is_start_reached(&self, lines: &ScriptLines, told: &Told) -> bool
         requires { self.now.start_calls < 2 ^ 64 - 1 }
@@ -237,7 +237,7 @@ impl LifeCell {
         !self.running && !self.is_start_told(told)
     }
 
-    /// Whether its next start succeeds.
+    /// Tells whether its next start succeeds.
     #[tactic(auto, unfolding(crate::specs::Scripts::will_start))]
     pub(crate) fn will_start(&self, lines: &ScriptLines, told: &Told) -> bool
         requires cell { IsCellOf lines.now self.now }
@@ -247,7 +247,7 @@ impl LifeCell {
         self.is_start_reached(lines, told) && !self.is_next_refused(lines)
     }
 
-    /// A start of it that succeeded.
+    /// Notes a start of it that succeeded.
     fn started(&mut self, lines: &ScriptLines)
         requires cell { IsCellOf lines.now self.old }
         requires few { self.old.start_calls < 2 ^ 64 - 1 }
@@ -265,7 +265,7 @@ impl LifeCell {
         self.at = FIRST;
     }
 
-    /// Its next start comes to a line that says that it is refused.
+    /// Tells whether its next start comes to a line that says that it is refused.
     fn comes_to_refusal(&self, lines: &ScriptLines, told: &Told) -> bool
         requires cell { IsCellOf lines.now self.now }
         requires few { self.now.start_calls < 2 ^ 64 - 1 }
@@ -275,7 +275,7 @@ impl LifeCell {
         self.is_start_reached(lines, told) && self.is_next_refused(lines)
     }
 
-    /// A start of it that failed, and came to its line.
+    /// Notes a start of it that failed, and came to its line.
     fn refused(&mut self, lines: &ScriptLines)
         requires cell { IsCellOf lines.now self.old }
         requires few { self.old.start_calls < 2 ^ 64 - 1 }
@@ -290,7 +290,7 @@ impl LifeCell {
         self.next_start = next;
     }
 
-    /// A start of it that failed: its line is taken where the call came to it.
+    /// Notes a start of it that failed: its line is taken where the call came to it.
     fn not_started(&mut self, lines: &ScriptLines, told: &Told)
         requires cell { IsCellOf lines.now self.old }
         requires few { self.old.start_calls < 2 ^ 64 - 1 }
@@ -306,7 +306,7 @@ impl LifeCell {
         }
     }
 
-    /// A start of it.
+    /// Notes a start of it.
     pub(crate) fn start(&mut self, lines: &ScriptLines, told: &Told, ok: bool)
         requires cell { IsCellOf lines.now self.old }
         requires few { self.old.start_calls < 2 ^ 64 - 1 }
@@ -322,7 +322,7 @@ impl LifeCell {
         }
     }
 
-    /// Whether it takes what it is given next.
+    /// Tells whether it takes what it is given next.
     #[tactic(auto, unfolding(crate::specs::Lives::life_of_cell, crate::specs::Scripts::will_give))]
     pub(crate) fn will_give(&self, told: &Told) -> bool
         requires { self.now.give_calls < 2 ^ 64 - 1 }
@@ -331,7 +331,7 @@ impl LifeCell {
         self.running && !told.is_told(CallKind::Give, u64::from(self.app), self.give_calls + 1)
     }
 
-    /// An event was given to it, which begins a turn.
+    /// Begins a turn: an event was given to it.
     fn begin_turn(&mut self, lines: &ScriptLines)
         requires cell { IsCellOf lines.now self.old }
         requires few { self.old.give_calls < 2 ^ 64 - 1 }
@@ -348,7 +348,7 @@ impl LifeCell {
         self.at = FIRST;
     }
 
-    /// It was given bytes.
+    /// Notes that it was given bytes.
     pub(crate) fn gave(&mut self, lines: &ScriptLines, bytes: &[u8])
         requires cell { IsCellOf lines.now self.old }
         requires few { self.old.give_calls < 2 ^ 64 - 1 }
@@ -364,7 +364,7 @@ impl LifeCell {
         }
     }
 
-    /// It was gone before it was given bytes.
+    /// Notes that it was gone before it was given bytes.
     #[tactic(auto, unfolding(crate::specs::Lives::life_of_cell, crate::specs::Scripts::after_gone))]
     pub(crate) fn gone(&mut self)
         requires { self.old.give_calls < 2 ^ 64 - 1 }
@@ -375,7 +375,7 @@ impl LifeCell {
         self.give_calls += 1;
     }
 
-    /// The next take from it answers Closed, since it is out of place or told to fail so.
+    /// Tells whether the next take from it answers Closed, since it is out of place or told to fail so.
     fn is_closed(&self, told: &Told) -> bool
         requires { self.now.take_calls < 2 ^ 64 - 1 }
         ensures { result ≡ (not self.now.running || is_told CallKind.TakeClosed self.now.app (self.now.take_calls + 1) told.now) }
@@ -388,7 +388,7 @@ impl LifeCell {
             )
     }
 
-    /// The next take from it is told to answer Silent.
+    /// Tells whether the next take from it is told to answer Silent.
     fn is_silent(&self, told: &Told) -> bool
         requires { self.now.take_calls < 2 ^ 64 - 1 }
         ensures { result ≡ is_told CallKind.TakeSilent self.now.app (self.now.take_calls + 1) told.now }
@@ -418,7 +418,7 @@ impl LifeCell {
         taken
     }
 
-    /// How many bytes it gives next, and counts no call.
+    /// Tells how many bytes it gives next, and counts no call.
     #[tactic(auto, unfolding(crate::specs::Lives::life_of_cell))]
     fn len_left(&self, lines: &ScriptLines, room: usize) -> usize
         requires { IsCellOf lines.now self.now }
@@ -427,7 +427,7 @@ impl LifeCell {
         len_next(&lines.steps(self.giving), self.at, room)
     }
 
-    /// How many bytes the next take from it gives.
+    /// Tells how many bytes the next take from it gives.
     pub(crate) fn next_len(&self, lines: &ScriptLines, told: &Told, room: usize) -> usize
         requires cell { IsCellOf lines.now self.now }
         requires few { self.now.take_calls < 2 ^ 64 - 1 }
@@ -444,7 +444,7 @@ impl LifeCell {
         }
     }
 
-    /// A take from it, into the front of the buffer.
+    /// Takes from it into the front of the buffer.
     pub(crate) fn take(&mut self, lines: &ScriptLines, told: &Told, buf: &mut [u8]) -> Taken
         requires cell { IsCellOf lines.now self.old }
         requires few { self.old.take_calls < 2 ^ 64 - 1 }
@@ -469,7 +469,7 @@ impl LifeCell {
         }
     }
 
-    /// It is ended.
+    /// Ends it.
     #[tactic(auto, unfolding(crate::specs::Lives::life_of_cell, crate::specs::Lives::from_place, crate::specs::Lives::steps_given, crate::specs::Scripts::after_end,))]
     pub(crate) fn end(&mut self)
         ensures app { self.new.app ≡ self.old.app }

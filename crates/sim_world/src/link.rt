@@ -114,7 +114,7 @@ fn happen(
     }
 }
 
-/// What the switch sends, where it is joined, when the moment moves on.
+/// Returns what the switch sends, where it is joined, when the moment moves on.
 fn due_at(alloc: Global, switch: &Option<SimSwitch>, moment: u64) -> Result<MessageList, AllocError>
     requires after { StandsBy moment switch.now }
     requires within { moment ≤ 4294967295 }
@@ -140,8 +140,8 @@ fn pass_to(switch: &mut Option<SimSwitch>, moment: u64)
 }
 
 impl SimLink {
-    /// A switch that is out: its number, how many entries its table takes, and its ports, at most 64. No call of its link
-    /// is to fail.
+    /// Makes a switch that is out: its number, how many entries its table takes, and its ports, at most 64. No call of
+    /// its link is to fail.
     pub fn new(alloc: Global, dpid: Dpid, cap: u32, ports: &[PortNo]) -> Result<SimLink, AllocError>
         requires { length ports.now ≤ 64 }
         ensures { IfOk result (λ s. s.link ≡ link_at_first [] (record { dpid = dpid; cap = cap; ports = ports.now })) }
@@ -160,7 +160,7 @@ impl SimLink {
         })
     }
 
-    /// The call of its link with this number, counted from 1, is to fail.
+    /// Tells the call of its link with this number, counted from 1, to fail.
     pub fn fail_at(&mut self, number: u64) -> Result<(), AllocError>
         ensures ok { OnOk result (self.new.link ≡ fails_at number self.old.link) }
         ensures err { OnErr result (self.new.link ≡ self.old.link) }
@@ -169,28 +169,29 @@ impl SimLink {
         self.fails.add(number)
     }
 
-    /// Its number.
+    /// Returns its number.
     pub fn dpid(&self) -> Dpid
         ensures { result ≡ self.now.link.declared.dpid }
     {
         self.dpid
     }
 
-    /// The switch is joined.
+    /// Tells whether the switch is joined.
     pub fn is_joined(&self) -> bool
         ensures { result ≡ is_some self.now.link.switch }
     {
         self.switch.is_some()
     }
 
-    /// A message of the switch waits.
+    /// Tells whether a message of the switch waits.
     pub fn has_waiting(&self) -> bool
         ensures { result ≡ not (is_empty self.now.link.waits) }
     {
         !self.waits.is_empty()
     }
 
-    /// The next call of its link fails, as it is to or since it failed before. Fewer than 2^64 - 1 calls were made.
+    /// Tells whether the next call of its link fails, as it is to or since it failed before. Fewer than 2^64 - 1 calls
+    /// were made.
     pub fn is_failing(&self) -> bool
         requires { self.now.link.calls < 2 ^ 64 - 1 }
         ensures { result ≡ is_failing self.now.link }
@@ -198,8 +199,8 @@ impl SimLink {
         self.failed || self.fails.contains(self.calls + 1)
     }
 
-    /// The switch joins at a moment, in seconds and at most 4,294,967,295, where it is out; gives its FEATURES_REPLY then.
-    /// After want of memory it is as before.
+    /// Lets the switch join at a moment, in seconds and at most 4,294,967,295, where it is out; gives its
+    /// FEATURES_REPLY then. After want of memory it is as before.
     #[tactic(auto, unfolding(outside::specs::State::link_joined))]
     pub fn join(&mut self, moment: u64) -> Result<Option<ByteList>, AllocError>
         requires { moment ≤ 4294967295 }
@@ -220,7 +221,7 @@ impl SimLink {
         Ok(Some(features))
     }
 
-    /// The switch leaves, with all that it held; takes no memory.
+    /// Lets the switch leave, with all that it held; takes no memory.
     #[tactic(auto, unfolding(outside::specs::State::link_left))]
     pub fn leave(&mut self)
         ensures left { self.new.link ≡ link_left self.old.link }
@@ -230,7 +231,7 @@ impl SimLink {
         self.waits.clear();
     }
 
-    /// Something happens to the switch, where it is joined. After want of memory it is as before.
+    /// Lets something happen to the switch, where it is joined. After want of memory it is as before.
     #[tactic(auto, unfolding(outside::specs::State::link_stimulated))]
     pub fn stimulate(&mut self, x: &Stimulus) -> Result<(), AllocError>
         requires { IsStimulus x.now }
@@ -258,7 +259,7 @@ impl SimLink {
         Ok(())
     }
 
-    /// The moment moves on to the one for which the link was made ready; takes no memory.
+    /// Moves the moment on to the one for which the link was made ready; takes no memory.
     #[tactic(auto, unfolding(outside::specs::State::link_stimulated))]
     pub fn pass(&mut self, moment: u64)
         requires after { StandsBy moment self.old.link.switch }
@@ -272,7 +273,7 @@ impl SimLink {
         self.waits.push_batch(due);
     }
 
-    /// A frame that spells a message is sent to the switch by a call of its link. After want of memory all is as before.
+    /// Sends a frame that spells a message to the switch by a call of its link. After want of memory all is as before.
     #[tactic(auto, unfolding(outside::specs::State::link_sent))]
     pub fn send(&mut self, frame: &[u8]) -> Result<(), AllocError>
         requires frame { IsOk (reading_of frame.now) }
@@ -317,7 +318,7 @@ impl SimLink {
         Some(message)
     }
 
-    /// A call of its link failed; takes no memory.
+    /// Notes that a call of its link failed; takes no memory.
     #[tactic(auto, unfolding(outside::specs::State::link_failed))]
     pub fn fail(&mut self)
         requires { self.old.link.calls < 2 ^ 64 - 1 }

@@ -9,7 +9,7 @@ ghost use Rattle.outside.specs.Calls.{send_steps, receive_steps};
 ghost use Rattle.outside.specs.InOrder.{MayComeAll};
 ghost use Rattle.sim_world.specs.Tally.{tally_stray, tally_short_of, tally_fault_of};
 ghost use Rattle.sim_world.specs.Links.{MayCall};
-ghost use Rattle.sim_world.specs.World.{Moves, AreAsTold, declared_in, short_told};
+ghost use Rattle.sim_world.specs.World.{Moves, AreAsTold, all_declared, short_told};
 ghost use Rattle.lego_io.specs.Count.{raised};
 ghost use Rattle.sim_world.specs.Doing.{LinksStand, DoesSend, DoesReceive};
 
@@ -20,7 +20,7 @@ use outside::{LinkFault, WorldStep};
 use std::alloc::AllocError;
 
 impl Parts {
-    /// A call of a link wants memory, and is out of place or not.
+    /// Notes that a call of a link wants memory, and whether it is out of place.
     fn want_memory_of(&mut self, dpid: Dpid, stray: bool)
         requires { length self.old.state.running ≤ self.old.room }
         ensures moves { Moves self.old self.new [] (tally_stray stray (tally_short_of dpid self.old.tally)) }
@@ -30,7 +30,7 @@ impl Parts {
         self.tally.raise_strays(stray);
     }
 
-    /// The next call of the link is to fail.
+    /// Tells whether the next call of the link is to fail.
     #[tactic(auto, unfolding(outside::specs::State::link_fails))]
     fn link_fails(&self, dpid: Dpid) -> bool
         requires { IfSome (link_of dpid self.now.state.links) MayCall }
@@ -39,7 +39,7 @@ impl Parts {
         self.links.is_failing(dpid)
     }
 
-    /// The switch is not joined.
+    /// Tells whether the switch is not joined.
     #[tactic(auto, unfolding(outside::specs::State::switch_of))]
     fn is_out(&self, dpid: Dpid) -> bool
         ensures { result ≡ not (is_joined dpid self.now.state) }
@@ -47,7 +47,7 @@ impl Parts {
         !self.links.is_joined(dpid)
     }
 
-    /// No message of the switch waits.
+    /// Tells whether no message of the switch waits.
     #[tactic(auto, unfolding(outside::specs::State::waits_of))]
     fn none_waits(&self, dpid: Dpid) -> bool
         ensures { result ≡ not (has_waiting dpid self.now.state) }
@@ -55,7 +55,7 @@ impl Parts {
         !self.links.has_waiting(dpid)
     }
 
-    /// A call to send failed.
+    /// Notes that a call to send failed.
     #[tactic(auto, unfolding(outside::specs::State::after_step, crate::specs::Scripts::life_after))]
     fn send_failed(&mut self, dpid: Dpid, stray: bool)
         requires may { IfSome (link_of dpid self.old.state.links) MayCall }
@@ -69,7 +69,7 @@ impl Parts {
         self.tally.raise_strays(stray);
     }
 
-    /// A call to take a message failed.
+    /// Notes that a call to take a message failed.
     #[tactic(auto, unfolding(outside::specs::State::after_step, crate::specs::Scripts::life_after))]
     fn recv_failed(&mut self, dpid: Dpid, stray: bool)
         requires may { IfSome (link_of dpid self.old.state.links) MayCall }
@@ -105,7 +105,7 @@ impl Parts {
         requires frame { IsOk (reading_of frame.now) }
         requires stands { LinksStand self.old }
         ensures does { DoesSend dpid frame.now self.old self.new result }
-        ensures word { MayComeAll (declared_in self.old.state) (send_steps dpid frame.now result) self.old.state }
+        ensures word { MayComeAll (all_declared self.old.state) (send_steps dpid frame.now result) self.old.state }
         ensures told { AreAsTold self.old.told self.old.nexts (send_steps dpid frame.now result) self.old.state }
         ensures short { short_told self.old.told self.old.calls ≡ true → IsErrOf result LinkFault.Short }
         ensures calls { self.new.calls ≡ raised self.old.calls }
@@ -156,7 +156,7 @@ impl Parts {
         requires stands { LinksStand self.old }
         requires buf { 65535 ≤ length buf.old }
         ensures does { DoesReceive dpid self.old self.new result buf.new }
-        ensures word { MayComeAll (declared_in self.old.state) (receive_steps dpid result buf.new) self.old.state }
+        ensures word { MayComeAll (all_declared self.old.state) (receive_steps dpid result buf.new) self.old.state }
         ensures told { AreAsTold self.old.told self.old.nexts (receive_steps dpid result buf.new) self.old.state }
         ensures short { short_told self.old.told self.old.calls ≡ true → IsErrOf result LinkFault.Short }
         ensures calls { self.new.calls ≡ raised self.old.calls }

@@ -9,8 +9,8 @@ ghost use Rattle.outside.specs.declared.step.WorldStep.TheVariants.{From, Left};
 ghost use Rattle.outside.specs.Conforming.{AreDeclaredFrom, IsStimulus, IsWorldStim};
 ghost use Rattle.outside.specs.Calls.{IsFeaturesOf};
 ghost use Rattle.outside.specs.Seen.{is_declared};
-ghost use Rattle.outside.specs.State.{is_empty, fails_in, join_due, links_after, link_of, switch_in, waits_in, with_link, link_joined, link_left, link_stimulated, link_sent, link_got, link_told, link_failed};
-ghost use Rattle.sim_world.specs.Links.{links_in, declared_in, waiting_in, insert_link, fails_at, features_of_join, IsDue, StandsAt, due_in, AreLinks, AreReady, insert_held, Held, StandsBy, MayCall, IsPlaceOf, IsFirstWaiting};
+ghost use Rattle.outside.specs.State.{is_empty, fails_in, join_due, links_after, link_of, switch_in, waits_in, with_link, link_joined, link_left, link_stimulated, link_sent, link_got, link_told, link_failed, declared_in};
+ghost use Rattle.sim_world.specs.Links.{links_in, waiting_in, insert_link, fails_at, features_of_join, IsDue, StandsAt, due_in, AreLinks, AreReady, insert_held, Held, StandsBy, MayCall, IsPlaceOf, IsFirstWaiting};
 
 use crate::link::SimLink;
 use of_types::{ByteList, Dpid, Stimulus, WorldStim};
@@ -38,7 +38,7 @@ impl Model for Links {
     ghost invariant = { λ s. AreLinks (links_in s.links.items) };
 }
 
-/// Where the switch of a number is held.
+/// Finds where the switch of a number is held.
 fn place_of(links: &[SimLink], dpid: Dpid) -> Option<usize>
     ensures { IsPlaceOf dpid links.now result }
 {
@@ -50,7 +50,7 @@ fn place_of(links: &[SimLink], dpid: Dpid) -> Option<usize>
     None
 }
 
-/// Where the first switch is held of which a message waits.
+/// Finds where the first switch is held of which a message waits.
 fn first_waiting(links: &[SimLink]) -> Option<usize>
     ensures { IsFirstWaiting links.now result }
 {
@@ -62,7 +62,7 @@ fn first_waiting(links: &[SimLink]) -> Option<usize>
     None
 }
 
-/// The first switch of which a message waits.
+/// Finds the first switch of which a message waits.
 fn waiting_switch(links: &[SimLink]) -> Option<Dpid>
     requires { AreDeclaredFrom 1 (declared_in (links_in links.now)) }
     ensures none { IfNone result (waiting_in (links_in links.now) ≡ []) }
@@ -218,7 +218,7 @@ fn prepare(links: &mut [SimLink], moment: u64) -> Result<(), AllocError>
     Ok(())
 }
 
-/// The moment of all moves on to the one for which they were made ready.
+/// Moves the moment of all on to the one for which they were made ready.
 fn pass(links: &mut [SimLink], moment: u64)
     requires after { AllByRecursion (λ l. StandsBy moment l.switch) (links_in links.old) }
     requires within { moment ≤ 4294967295 }
@@ -230,7 +230,7 @@ fn pass(links: &mut [SimLink], moment: u64)
     }
 }
 
-/// The moment of all moves on, or that of none where memory runs out.
+/// Moves the moment of all on, or of none where memory runs out.
 fn advance(links: &mut [SimLink], moment: u64) -> Result<(), AllocError>
     requires after { AllByRecursion (λ l. StandsBy moment l.switch) (links_in links.old) }
     requires within { moment ≤ 4294967295 }
@@ -245,7 +245,7 @@ fn advance(links: &mut [SimLink], moment: u64) -> Result<(), AllocError>
     Ok(())
 }
 
-/// Where a switch of a number stands among others.
+/// Finds where a switch of a number stands among others.
 fn place_for(links: &[SimLink], dpid: Dpid) -> usize
     ensures within { result ≤ length links.now }
     ensures place { (h : Held) → h.link.declared.dpid ≡ dpid → insert_held h links.now ≡ insert links.now result h }
@@ -269,7 +269,7 @@ fn insert(links: &mut Vec<SimLink>, link: SimLink) -> Result<(), AllocError>
 }
 
 impl Links {
-    /// No switches; takes no memory.
+    /// Returns a list of no switches; takes no memory.
     pub fn new(alloc: Global) -> Links
         ensures { result ≡ [] }
     {
@@ -278,7 +278,7 @@ impl Links {
         }
     }
 
-    /// How many switches are declared.
+    /// Tells how many switches are declared.
     pub fn len(&self) -> usize
         ensures { result ≡ length self.now }
     {
@@ -306,21 +306,21 @@ impl Links {
         let _links = &self.links;
     }
 
-    /// The switch is joined.
+    /// Tells whether the switch is joined.
     pub fn is_joined(&self, dpid: Dpid) -> bool
         ensures { result ≡ is_some (switch_in (link_of dpid self.now)) }
     {
         is_joined(&self.links, dpid)
     }
 
-    /// A message of the switch waits.
+    /// Tells whether a message of the switch waits.
     pub fn has_waiting(&self, dpid: Dpid) -> bool
         ensures { result ≡ not (is_empty (waits_in (link_of dpid self.now))) }
     {
         has_waiting(&self.links, dpid)
     }
 
-    /// The switch with the lowest number of which a message waits.
+    /// Returns the switch with the lowest number of which a message waits.
     pub fn first_waiting(&self) -> Option<Dpid>
         ensures none { IfNone result (waiting_in self.now ≡ []) }
         ensures some { IfSome result (λ dpid. waits_in (link_of dpid self.now) ≢ []) }
@@ -330,14 +330,14 @@ impl Links {
         waiting_switch(&self.links)
     }
 
-    /// A switch of this number is declared.
+    /// Tells whether a switch of this number is declared.
     pub fn is_declared(&self, dpid: Dpid) -> bool
         ensures { result ≡ is_declared dpid (declared_in self.now) }
     {
         is_held(&self.links, dpid)
     }
 
-    /// The next call of the switch's link fails.
+    /// Tells whether the next call of the switch's link fails.
     pub fn is_failing(&self, dpid: Dpid) -> bool
         requires { IfSome (link_of dpid self.now) MayCall }
         ensures { result ≡ fails_in (link_of dpid self.now) }
@@ -345,7 +345,7 @@ impl Links {
         is_failing(&self.links, dpid)
     }
 
-    /// The call of the switch's link with this number, counted from 1, is to fail.
+    /// Tells the call of the switch's link with this number, counted from 1, to fail.
     pub fn fail_at(&mut self, dpid: Dpid, number: u64) -> Result<(), AllocError>
         ensures ok { OnOk result (self.new ≡ with_link dpid (fails_at number) self.old) }
         ensures err { OnErr result (self.new ≡ self.old) }
@@ -353,7 +353,7 @@ impl Links {
         fail_at(&mut self.links, dpid, number)
     }
 
-    /// A call of the switch's link failed; takes no memory.
+    /// Notes that a call of the switch's link failed; takes no memory.
     pub fn fail(&mut self, dpid: Dpid)
         requires { IfSome (link_of dpid self.old) MayCall }
         ensures { self.new ≡ with_link dpid link_failed self.old }
@@ -361,7 +361,7 @@ impl Links {
         fail(&mut self.links, dpid);
     }
 
-    /// A frame that spells a message is sent to the switch. After want of memory all is as before.
+    /// Sends a frame that spells a message to the switch. After want of memory all is as before.
     pub fn send(&mut self, dpid: Dpid, frame: &[u8]) -> Result<(), AllocError>
         requires frame { IsOk (reading_of frame.now) }
         requires may { IfSome (link_of dpid self.old) MayCall }
@@ -393,8 +393,8 @@ impl Links {
         told(&mut self.links)
     }
 
-    /// The switch joins at a moment, in seconds and at most 4,294,967,295, where it is out; gives its FEATURES_REPLY then,
-    /// of at most 65,535 bytes. After want of memory all is as before.
+    /// Lets the switch join at a moment, in seconds and at most 4,294,967,295, where it is out; gives its
+    /// FEATURES_REPLY then, of at most 65,535 bytes. After want of memory all is as before.
     pub fn join(&mut self, dpid: Dpid, moment: u64) -> Result<Option<ByteList>, AllocError>
         requires { moment ≤ 4294967295 }
         ensures told { IfOk result (λ features. features ≡ features_of_join moment (link_of dpid self.old)) }
@@ -406,14 +406,14 @@ impl Links {
         join(&mut self.links, dpid, moment)
     }
 
-    /// The switch leaves, with all that it held; takes no memory.
+    /// Lets the switch leave, with all that it held; takes no memory.
     pub fn leave(&mut self, dpid: Dpid)
         ensures { self.new ≡ with_link dpid link_left self.old }
     {
         leave(&mut self.links, dpid);
     }
 
-    /// Something happens to the switch, where it is joined. After want of memory all is as before.
+    /// Lets something happen to the switch, where it is joined. After want of memory all is as before.
     pub fn stimulate(&mut self, dpid: Dpid, x: &Stimulus) -> Result<(), AllocError>
         requires { IsStimulus x.now }
         ensures ok { OnOk result (self.new ≡ with_link dpid (link_stimulated x.now) self.old) }
@@ -423,8 +423,8 @@ impl Links {
         stimulate(&mut self.links, dpid, x)
     }
 
-    /// The moment of all that are joined moves on, in seconds, not before the last and at most 4,294,967,295. After want of
-    /// memory all are as before.
+    /// Moves the moment of all on that are joined, in seconds, not before the last and at most 4,294,967,295. After
+    /// want of memory all are as before.
     pub fn advance(&mut self, moment: u64) -> Result<(), AllocError>
         requires after { AllByRecursion (λ l. StandsBy moment l.switch) self.old }
         requires within { moment ≤ 4294967295 }
@@ -435,7 +435,7 @@ impl Links {
         advance(&mut self.links, moment)
     }
 
-    /// The switch joins, and what that makes due.
+    /// Lets the switch join, and returns what that makes due.
     #[tactic(auto, unfolding(crate::specs::Links::IsDue))]
     fn begin_join(&mut self, dpid: Dpid, moment: u64) -> Result<Option<WorldStep>, AllocError>
         requires { moment ≤ 4294967295 }
@@ -450,7 +450,7 @@ impl Links {
         }
     }
 
-    /// The switch leaves, and what that makes due.
+    /// Lets the switch leave, and returns what that makes due.
     #[tactic(auto, unfolding(crate::specs::Links::IsDue))]
     fn begin_leave(&mut self, dpid: Dpid) -> Option<WorldStep>
         ensures due { (if is_some (switch_in (link_of dpid self.old)) then Left dpid ∷ [] else []) ≡ option_to_list result }
@@ -466,8 +466,8 @@ impl Links {
         }
     }
 
-    /// A stimulus begins at the moment at which all stand that are joined; gives the item that it makes due beside messages.
-    /// After want of memory all is as before.
+    /// Begins a stimulus at the moment at which all stand that are joined; gives the item that it makes due beside
+    /// messages. After want of memory all is as before.
     ///
     /// The stimulus is of a declared switch, and a moment is not before the last and at most 4,294,967,295 seconds.
     #[tactic(auto, unfolding(outside::specs::Conforming::IsWorldStim, crate::specs::Links::IsDue))]

@@ -39,7 +39,7 @@ impl Model for Lives {
     ghost invariant = { λ s. All (IsCellOf s.lines) s.cells.items };
 }
 
-/// Where the life of an application stands.
+/// Finds where the life of an application stands.
 fn find(cells: &[LifeCell], app: u32) -> Option<usize>
     ensures some { IfSome result (λ i. IsFirst app i cells.now) }
     ensures within { IfSome result (λ i. i < length cells.now) }
@@ -53,7 +53,7 @@ fn find(cells: &[LifeCell], app: u32) -> Option<usize>
     None
 }
 
-/// Where the life of an application stands that was spoken of.
+/// Finds where the life of an application stands that was spoken of.
 fn place(cells: &[LifeCell], app: u32) -> usize
     requires { has_cell app cells.now ≡ true }
     ensures first { IsFirst app result cells.now }
@@ -62,7 +62,7 @@ fn place(cells: &[LifeCell], app: u32) -> usize
     find(cells, app).unwrap()
 }
 
-/// A start of an application that was spoken of.
+/// Notes a start of an application that was spoken of.
 fn start_in(cells: &mut [LifeCell], lines: &ScriptLines, told: &Told, app: u32, ok: bool)
     requires cells { All (IsCellOf lines.now) cells.old }
     requires known { has_cell app cells.old ≡ true }
@@ -75,7 +75,7 @@ fn start_in(cells: &mut [LifeCell], lines: &ScriptLines, told: &Told, app: u32, 
     cells[i].start(lines, told, ok);
 }
 
-/// Bytes were given to an application that was spoken of.
+/// Notes that bytes were given to an application that was spoken of.
 fn gave_in(cells: &mut [LifeCell], lines: &ScriptLines, app: u32, bytes: &[u8])
     requires cells { All (IsCellOf lines.now) cells.old }
     requires known { has_cell app cells.old ≡ true }
@@ -88,7 +88,7 @@ fn gave_in(cells: &mut [LifeCell], lines: &ScriptLines, app: u32, bytes: &[u8])
     cells[i].gave(lines, bytes);
 }
 
-/// An application that was spoken of was gone before it was given bytes.
+/// Notes that an application that was spoken of was gone before it was given bytes.
 fn gone_in(cells: &mut [LifeCell], lines: &ScriptLines, app: u32)
     requires cells { All (IsCellOf lines.now) cells.old }
     requires known { has_cell app cells.old ≡ true }
@@ -101,7 +101,7 @@ fn gone_in(cells: &mut [LifeCell], lines: &ScriptLines, app: u32)
     cells[i].gone();
 }
 
-/// A take from an application that was spoken of.
+/// Takes from an application that was spoken of.
 fn take_in(
     cells: &mut [LifeCell],
     lines: &ScriptLines,
@@ -124,7 +124,7 @@ fn take_in(
     cells[i].take(lines, told, buf)
 }
 
-/// The end of an application, if it was spoken of.
+/// Notes the end of an application, if it was spoken of.
 fn end_in(cells: &mut [LifeCell], lines: &ScriptLines, app: u32)
     requires cells { All (IsCellOf lines.now) cells.old }
     ensures cells { All (IsCellOf lines.now) cells.new }
@@ -136,7 +136,7 @@ fn end_in(cells: &mut [LifeCell], lines: &ScriptLines, app: u32)
     }
 }
 
-/// Whether an application was started and not ended.
+/// Tells whether an application was started and not ended.
 fn is_running_in(cells: &[LifeCell], app: u32) -> bool
     ensures { (replies : List (ℕ × List ScriptStep)) → result ≡ (life_in app (named_lives replies cells.now)).running }
 {
@@ -146,7 +146,7 @@ fn is_running_in(cells: &[LifeCell], app: u32) -> bool
     }
 }
 
-/// Whether the next start of an application that was spoken of succeeds.
+/// Tells whether the next start of an application that was spoken of succeeds.
 fn will_start_in(cells: &[LifeCell], lines: &ScriptLines, told: &Told, app: u32) -> bool
     requires cells { All (IsCellOf lines.now) cells.now }
     requires known { has_cell app cells.now ≡ true }
@@ -156,7 +156,7 @@ fn will_start_in(cells: &[LifeCell], lines: &ScriptLines, told: &Told, app: u32)
     cells[place(cells, app)].will_start(lines, told)
 }
 
-/// Whether an application that was spoken of takes what it is given next.
+/// Tells whether an application that was spoken of takes what it is given next.
 fn will_give_in(cells: &[LifeCell], lines: &ScriptLines, told: &Told, app: u32) -> bool
     requires known { has_cell app cells.now ≡ true }
     requires few { (life_in app (named_lives lines.now.replies cells.now)).give_calls < 2 ^ 64 - 1 }
@@ -165,7 +165,7 @@ fn will_give_in(cells: &[LifeCell], lines: &ScriptLines, told: &Told, app: u32) 
     cells[place(cells, app)].will_give(told)
 }
 
-/// How many bytes the next take from an application that was spoken of gives.
+/// Tells how many bytes the next take from an application that was spoken of gives.
 fn next_len_in(cells: &[LifeCell], lines: &ScriptLines, told: &Told, app: u32, room: usize) -> usize
     requires cells { All (IsCellOf lines.now) cells.now }
     requires known { has_cell app cells.now ≡ true }
@@ -176,7 +176,7 @@ fn next_len_in(cells: &[LifeCell], lines: &ScriptLines, told: &Told, app: u32, r
 }
 
 impl Lives {
-    /// No lines and no lives.
+    /// Makes a list of no lines and no lives.
     pub fn new(alloc: Global) -> Result<Lives, AllocError>
         ensures { IfOk result (λ s. s ≡ record { own = record { starts = []; replies = [] }; lives = [] }) }
     {
@@ -186,7 +186,7 @@ impl Lives {
         })
     }
 
-    /// One line more: how the next start of the application ends. No application was spoken of yet. Want of memory
+    /// Adds one line: how the next start of the application ends. No application was spoken of yet. Want of memory
     /// changes nothing.
     pub fn add_start(&mut self, app: u32, start: StartScript) -> Result<(), AllocError>
         requires { self.old.lives ≡ [] }
@@ -198,7 +198,7 @@ impl Lives {
         self.lines.add_start(app, start)
     }
 
-    /// One line more: what the application gives in its next turn. No application was spoken of yet. Want of memory
+    /// Adds one line: what the application gives in its next turn. No application was spoken of yet. Want of memory
     /// changes nothing.
     pub fn add_reply(&mut self, app: u32, reply: &StepList) -> Result<(), AllocError>
         requires { self.old.lives ≡ [] }
@@ -210,7 +210,7 @@ impl Lives {
         self.lines.add_reply(app, reply)
     }
 
-    /// All lines of turns at once, in the place of those before. No application was spoken of yet.
+    /// Adds all lines of turns at once, in the place of those before. No application was spoken of yet.
     pub fn add_replies(&mut self, replies: ReplyList)
         requires { self.old.lives ≡ [] }
         ensures { self.new ≡ record self.old { own = record self.old.own { replies = replies } } }
@@ -236,14 +236,14 @@ impl Lives {
         }
     }
 
-    /// Whether the application was started and not ended; takes no memory.
+    /// Tells whether the application was started and not ended; takes no memory.
     pub fn is_running(&self, app: u32) -> bool
         ensures { result ≡ (life_of app self.now).running }
     {
         is_running_in(&self.cells, app)
     }
 
-    /// Whether the next start of the application succeeds; takes no memory. There is room for its life.
+    /// Tells whether the next start of the application succeeds; takes no memory. There is room for its life.
     pub fn will_start(&self, told: &Told, app: u32) -> bool
         requires known { is_known app self.now ≡ true }
         requires few { (life_of app self.now).start_calls < 2 ^ 64 - 1 }
@@ -252,7 +252,7 @@ impl Lives {
         will_start_in(&self.cells, &self.lines, told, app)
     }
 
-    /// A start of the application, and whether it succeeded; takes no memory. There is room for its life.
+    /// Notes a start of the application, and whether it succeeded; takes no memory. There is room for its life.
     pub fn start(&mut self, told: &Told, app: u32, ok: bool)
         requires known { is_known app self.old ≡ true }
         requires few { (life_of app self.old).start_calls < 2 ^ 64 - 1 }
@@ -264,7 +264,7 @@ impl Lives {
         start_in(&mut self.cells, &self.lines, told, app, ok);
     }
 
-    /// Whether the application takes what it is given next; takes no memory. There is room for its life.
+    /// Tells whether the application takes what it is given next; takes no memory. There is room for its life.
     pub fn will_give(&self, told: &Told, app: u32) -> bool
         requires known { is_known app self.now ≡ true }
         requires few { (life_of app self.now).give_calls < 2 ^ 64 - 1 }
@@ -273,7 +273,7 @@ impl Lives {
         will_give_in(&self.cells, &self.lines, told, app)
     }
 
-    /// The application was given the bytes; takes no memory. There is room for its life.
+    /// Notes that the application was given the bytes; takes no memory. There is room for its life.
     pub fn gave(&mut self, app: u32, bytes: &[u8])
         requires known { is_known app self.old ≡ true }
         requires few { (life_of app self.old).give_calls < 2 ^ 64 - 1 }
@@ -285,7 +285,7 @@ impl Lives {
         gave_in(&mut self.cells, &self.lines, app, bytes);
     }
 
-    /// The application was gone before it was given bytes; takes no memory. There is room for its life.
+    /// Notes that the application was gone before it was given bytes; takes no memory. There is room for its life.
     pub fn gone(&mut self, app: u32)
         requires known { is_known app self.old ≡ true }
         requires few { (life_of app self.old).give_calls < 2 ^ 64 - 1 }
@@ -297,8 +297,8 @@ impl Lives {
         gone_in(&mut self.cells, &self.lines, app);
     }
 
-    /// How many bytes the next take from the application gives into so much room; takes no memory. There is room for
-    /// its life.
+    /// Tells how many bytes the next take from the application gives into so much room; takes no memory. There is room
+    /// for its life.
     pub fn next_len(&self, told: &Told, app: u32, room: usize) -> usize
         requires known { is_known app self.now ≡ true }
         requires few { (life_of app self.now).take_calls < 2 ^ 64 - 1 }
@@ -323,7 +323,7 @@ impl Lives {
         take_in(&mut self.cells, &self.lines, told, app, buf)
     }
 
-    /// The application was ended; takes no memory. One that was not spoken of stays so.
+    /// Notes that the application was ended; takes no memory. One that was not spoken of stays so.
     pub fn end(&mut self, app: u32)
         ensures own { self.new.own ≡ self.old.own }
         ensures known { (a : ℕ) → is_known a self.new ≡ is_known a self.old }

@@ -14,7 +14,7 @@ ghost use Rattle.lego_io.specs.Count.{raised};
 ghost use Rattle.sim_world.specs.Links.{IsDue, StandsAt, waiting_in};
 ghost use Rattle.sim_world.specs.laws.NextLaws.{IsMessage};
 ghost use Rattle.sim_world.specs.Doing.{Tells, NextStands, DoesNext};
-ghost use Rattle.sim_world.specs.World.{Moves, declared_in, next_told, short_told};
+ghost use Rattle.sim_world.specs.World.{Moves, all_declared, next_told, short_told};
 
 use crate::parts::Parts;
 use crate::waits::copy_to_front;
@@ -23,7 +23,7 @@ use outside::{CallKind, Item, NextFault, WorldStep};
 use std::alloc::AllocError;
 use std::collections::VecDeque;
 
-/// The item that tells a step that is due, with its bytes in the front of the buffer.
+/// Returns the item that tells a step that is due, with its bytes in the front of the buffer.
 #[tactic(auto, unfolding(outside::specs::Calls::item_step, crate::specs::Links::IsDue))]
 fn item_of(step: &WorldStep, buf: &mut [u8]) -> Item
     requires due { IsDue step.now }
@@ -49,7 +49,7 @@ fn item_of(step: &WorldStep, buf: &mut [u8]) -> Item
 }
 
 impl Parts {
-    /// `next` failed.
+    /// Notes that `next` failed.
     #[tactic(auto, unfolding(outside::specs::State::after_step, crate::specs::Scripts::life_after))]
     fn next_failed(&mut self)
         requires room { length self.old.state.running + 1 ≤ self.old.room }
@@ -62,7 +62,7 @@ impl Parts {
         self.tally.raise_next_faults();
     }
 
-    /// `next` tells the end.
+    /// Tells the end, as the answer of `next`.
     #[tactic(auto, unfolding(outside::specs::State::after_step, crate::specs::Scripts::life_after))]
     fn tell_end(&mut self)
         requires room { length self.old.state.running + 1 ≤ self.old.room }
@@ -74,7 +74,7 @@ impl Parts {
         self.nexts += 1;
     }
 
-    /// `next` tells that nothing waits.
+    /// Tells that nothing waits, as the answer of `next`.
     #[tactic(auto, unfolding(outside::specs::State::after_step, crate::specs::Scripts::life_after))]
     fn tell_idle(&mut self)
         requires room { length self.old.state.running + 1 ≤ self.old.room }
@@ -87,13 +87,13 @@ impl Parts {
         self.begun = false;
     }
 
-    /// A stimulus begins, the next of those to come; a copy of it goes into the history. After want of memory all is as
+    /// Begins a stimulus, the next of those to come; a copy of it goes into the history. After want of memory all is as
     /// before.
-    #[tactic(auto, using(crate::specs::laws::NextLaws::due_is, crate::specs::laws::NextLaws::one_fewer, crate::specs::laws::NextLaws::all_due, crate::specs::laws::NextLaws::next_within), unfolding(crate::specs::World::declared_in, outside::specs::State::after_step, outside::specs::State::after_act, outside::specs::State::after_stim, crate::specs::Scripts::life_after))]
+    #[tactic(auto, using(crate::specs::laws::NextLaws::due_is, crate::specs::laws::NextLaws::one_fewer, crate::specs::laws::NextLaws::all_due, crate::specs::laws::NextLaws::next_within), unfolding(crate::specs::World::all_declared, outside::specs::State::after_step, outside::specs::State::after_act, outside::specs::State::after_stim, crate::specs::Scripts::life_after))]
     fn begin_with(&mut self, x: WorldStim) -> Result<(), AllocError>
         requires next { slice_get self.old.state.to_come 0 ≡ Some x }
         requires room { length self.old.state.running + 2 ≤ self.old.room }
-        requires stimulus { IsWorldStim (declared_in self.old.state) self.old.state.moment x }
+        requires stimulus { IsWorldStim (all_declared self.old.state) self.old.state.moment x }
         requires stand { AllByRecursion (λ l. StandsAt self.old.state.moment l.switch) self.old.state.links }
         requires within { self.old.state.moment ≤ 4294967295 }
         requires due { All IsDue self.old.state.due }
@@ -180,7 +180,7 @@ impl Parts {
         Item::Idle
     }
 
-    /// A copy of the next stimulus to come, if one is.
+    /// Copies the next stimulus to come, if one is.
     fn next_stimulus(&self) -> Result<Option<WorldStim>, AllocError>
         ensures none { IfOk result (λ next. IfNone next (self.now.state.to_come ≡ [])) }
         ensures some { IfOk result (λ next. IfSome next (λ x. slice_get self.now.state.to_come 0 ≡ Some x)) }
@@ -188,7 +188,7 @@ impl Parts {
         self.stimuli.get(self.alloc, self.begun_stimuli)
     }
 
-    /// The next answer of `next` is told to fail.
+    /// Tells whether the next answer of `next` is told to fail.
     fn is_next_told(&self) -> bool
         requires { self.now.nexts < 2 ^ 64 - 1 }
         ensures { result ≡ next_told self.now.told self.now.nexts }
@@ -217,7 +217,7 @@ impl Parts {
         }
     }
 
-    /// What comes next, where there is room for two steps.
+    /// Tells what comes next, where there is room for two steps.
     #[tactic(auto, using(crate::specs::laws::NextCallLaws::Next_failed, crate::specs::laws::NextCallLaws::Next_told, crate::specs::laws::NextCallLaws::Next_end, crate::specs::laws::NextCallLaws::Next_short))]
     fn next_in_room(&mut self, buf: &mut [u8]) -> Result<Item, NextFault>
         requires stands { NextStands self.old }
@@ -246,7 +246,7 @@ impl Parts {
         }
     }
 
-    /// What comes next.
+    /// Tells what comes next.
     #[tactic(auto, using(crate::specs::laws::NextCallLaws::NextStands_ready, crate::specs::laws::NextCallLaws::Next_short_ready))]
     pub(crate) fn next(&mut self, buf: &mut [u8]) -> Result<Item, NextFault>
         requires stands { NextStands self.old }
@@ -273,7 +273,7 @@ fn push_due(all: &mut VecDeque<WorldStep>, due: Option<WorldStep>)
     }
 }
 
-/// The moment when a stimulus has begun.
+/// Returns the moment when a stimulus has begun.
 fn moment_after(x: &WorldStim, moment: u64) -> u64
     ensures { result ≡ moment_after x.now moment }
 {

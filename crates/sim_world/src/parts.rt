@@ -104,7 +104,7 @@ impl Parts {
         !is_told && self.history.reserve(self.running.len() + more).is_ok()
     }
 
-    /// A call wants memory, and is out of place or not.
+    /// Notes that a call wants memory, and whether it is out of place.
     pub(crate) fn want_memory(&mut self, stray: bool)
         requires { length self.old.state.running ≤ self.old.room }
         ensures moves { Moves self.old self.new [] (tally_stray stray (tally_short self.old.tally)) }
@@ -114,7 +114,7 @@ impl Parts {
         self.tally.raise_strays(stray);
     }
 
-    /// `open` opens the world.
+    /// Opens the world.
     #[tactic(auto, unfolding(outside::specs::State::after_step, crate::specs::Scripts::life_after))]
     fn open_up(&mut self)
         requires { length self.old.state.running + 1 ≤ self.old.room }
@@ -126,7 +126,7 @@ impl Parts {
         self.opened = true;
     }
 
-    /// `open` stays shut.
+    /// Leaves the world shut.
     #[tactic(auto, unfolding(outside::specs::State::after_step, crate::specs::Scripts::life_after))]
     fn stay_shut(&mut self)
         requires { length self.old.state.running + 1 ≤ self.old.room }
@@ -176,7 +176,7 @@ impl Parts {
         self.is_ready(more) && self.lives.ensure(app).is_ok()
     }
 
-    /// An application was started, where there is memory to note it.
+    /// Notes that an application was started, where there is memory to note it.
     #[tactic(auto, unfolding(outside::specs::State::after_step, outside::specs::State::after_act, crate::specs::Lives::life_of, crate::specs::Lives::is_known))]
     pub(crate) fn started(&mut self, app: u32) -> Result<(), AllocError>
         requires room { length self.old.state.running + 2 ≤ self.old.room }
@@ -192,7 +192,7 @@ impl Parts {
         Ok(())
     }
 
-    /// An application was not started.
+    /// Notes that an application was not started.
     #[tactic(auto, unfolding(outside::specs::State::after_step, outside::specs::State::after_act, crate::specs::Lives::life_of, crate::specs::Lives::is_known))]
     pub(crate) fn not_started(&mut self, app: u32, stray: bool)
         requires room { length self.old.state.running + 1 ≤ self.old.room }
@@ -208,7 +208,7 @@ impl Parts {
         self.tally.raise_strays(stray);
     }
 
-    /// An application was given bytes.
+    /// Notes that an application was given bytes.
     #[tactic(auto, unfolding(outside::specs::State::after_step, outside::specs::State::after_act, crate::specs::Lives::life_of, crate::specs::Lives::is_known))]
     pub(crate) fn gave(&mut self, app: u32, bytes: ByteList)
         requires room { length self.old.state.running + 1 ≤ self.old.room }
@@ -221,7 +221,7 @@ impl Parts {
         self.history.push(WorldStep::Acted(Act::Gave(app, bytes)));
     }
 
-    /// An application was gone before it was given bytes.
+    /// Notes that an application was gone before it was given bytes.
     #[tactic(auto, unfolding(outside::specs::State::after_step, outside::specs::State::after_act, crate::specs::Lives::life_of, crate::specs::Lives::is_known))]
     pub(crate) fn gone(&mut self, app: u32, bytes: ByteList, stray: bool)
         requires room { length self.old.state.running + 1 ≤ self.old.room }
@@ -236,7 +236,7 @@ impl Parts {
         self.tally.raise_strays(stray);
     }
 
-    /// An application was ended.
+    /// Notes that an application was ended.
     #[tactic(auto, unfolding(outside::specs::State::after_step, outside::specs::State::after_act, crate::specs::Lives::life_of, crate::specs::Lives::is_known))]
     pub(crate) fn ended(&mut self, app: u32)
         requires { length (filter (λ a. not (a == app)) self.old.state.running) + 1 ≤ self.old.room }

@@ -44,7 +44,7 @@ impl Model for ScriptLines {
     ghost invariant = { λ s. AreFixed s.nothing s.ready s.closed s.silent s.garbled s.plain };
 }
 
-/// A script of one step.
+/// Makes a script of one step.
 fn script_of(alloc: Global, step: ScriptStep) -> Result<StepList, AllocError>
     ensures { IfOk result (λ s. s ≡ step ∷ []) }
 {
@@ -53,7 +53,7 @@ fn script_of(alloc: Global, step: ScriptStep) -> Result<StepList, AllocError>
     Ok(steps)
 }
 
-/// A script of one step of bytes.
+/// Makes a script of one step of bytes.
 fn script_of_bytes(alloc: Global, bytes: &[u8]) -> Result<StepList, AllocError>
     ensures { IfOk result (λ s. s ≡ ScriptStep.Bytes bytes.now ∷ []) }
 {
@@ -63,7 +63,7 @@ fn script_of_bytes(alloc: Global, bytes: &[u8]) -> Result<StepList, AllocError>
     )
 }
 
-/// Where the next line of an application stands, not before `from`.
+/// Finds where the next line of an application stands, not before `from`.
 fn find_line<A>(lines: &[(u32, A)], app: u32, from: usize) -> Option<usize>
     ensures { IsNextLine app from lines.now result }
 {
@@ -75,7 +75,7 @@ fn find_line<A>(lines: &[(u32, A)], app: u32, from: usize) -> Option<usize>
     None
 }
 
-/// Where the next turn of an application stands, not before `from`.
+/// Finds where the next turn of an application stands, not before `from`.
 fn find_turn(replies: &ReplyList, app: u32, from: usize) -> Option<usize>
     ensures { IsNextLine app from replies.now result }
 {
@@ -87,7 +87,7 @@ fn find_turn(replies: &ReplyList, app: u32, from: usize) -> Option<usize>
     None
 }
 
-/// How the next start of an application ends, not before the line `from`, and the line behind it.
+/// Tells how the next start of an application ends, not before the line `from`, and the line behind it.
 fn start_from(starts: &[(u32, StartScript)], app: u32, from: usize) -> (StartScript, usize)
     ensures start { result.0 ≡ start_or_ready (slice_get (lines_of app (drop from starts.now)) 0) }
     ensures next { Follows app from result.1 starts.now }
@@ -98,7 +98,7 @@ fn start_from(starts: &[(u32, StartScript)], app: u32, from: usize) -> (StartScr
     }
 }
 
-/// What an application gives in its next turn, not before the line `from`, and the line behind it.
+/// Returns what an application gives in its next turn, not before the line `from`, and the line behind it.
 fn turn_from(replies: &ReplyList, app: u32, from: usize) -> (Giving, usize)
     ensures steps { steps_given replies.now result.0 ≡ turn_or_plain (slice_get (lines_of app (drop from replies.now)) 0) }
     ensures within { IsGivingIn replies.now result.0 }
@@ -112,7 +112,7 @@ fn turn_from(replies: &ReplyList, app: u32, from: usize) -> (Giving, usize)
 }
 
 impl ScriptLines {
-    /// No lines.
+    /// Makes scripts of no lines.
     #[tactic(auto, unfolding(crate::specs::Scripts::ready_bytes, crate::specs::Scripts::garbled_bytes, crate::specs::Scripts::done_bytes,))]
     pub(crate) fn new(alloc: Global) -> Result<ScriptLines, AllocError>
         ensures { IfOk result (λ s. s ≡ record { starts = []; replies = [] }) }
@@ -129,7 +129,7 @@ impl ScriptLines {
         })
     }
 
-    /// One start more. Want of memory changes nothing.
+    /// Adds one start. Want of memory changes nothing.
     pub(crate) fn add_start(&mut self, app: u32, start: StartScript) -> Result<(), AllocError>
         ensures ok { OnOk result (self.new ≡ record self.old { starts = self.old.starts ++ (app, start) ∷ [] }) }
         ensures err { OnErr result (self.new ≡ self.old) }
@@ -138,7 +138,7 @@ impl ScriptLines {
         Ok(())
     }
 
-    /// One turn more. Want of memory changes nothing.
+    /// Adds one turn. Want of memory changes nothing.
     pub(crate) fn add_reply(&mut self, app: u32, reply: &StepList) -> Result<(), AllocError>
         ensures ok { OnOk result (self.new ≡ record self.old { replies = self.old.replies ++ (app, reply.now) ∷ [] }) }
         ensures err { OnErr result (self.new ≡ self.old) }
@@ -146,14 +146,14 @@ impl ScriptLines {
         self.replies.push(app, reply)
     }
 
-    /// All turns at once, in the place of those before.
+    /// Adds all turns at once, in the place of those before.
     pub(crate) fn add_replies(&mut self, replies: ReplyList)
         ensures { self.new ≡ record self.old { replies = replies } }
     {
         self.replies = replies;
     }
 
-    /// The steps that are being given.
+    /// Lends the steps that are being given.
     #[tactic(auto, using(crate::specs::laws::LifeLaws::steps_of_reply), unfolding(crate::specs::Lives::steps_given, crate::specs::Scripts::steps_of_start))]
     pub(crate) fn steps(&self, giving: Giving) -> Steps<'_>
         requires { IsGivingIn self.now.replies giving }
@@ -180,7 +180,7 @@ impl ScriptLines {
         }
     }
 
-    /// How the next start of an application ends, not before the line `from`, and the line behind it.
+    /// Tells how the next start of an application ends, not before the line `from`, and the line behind it.
     pub(crate) fn next_start(&self, app: u32, from: usize) -> (StartScript, usize)
         ensures start { result.0 ≡ start_or_ready (slice_get (lines_of app (drop from self.now.starts)) 0) }
         ensures next { Follows app from result.1 self.now.starts }
@@ -188,7 +188,7 @@ impl ScriptLines {
         start_from(&self.starts, app, from)
     }
 
-    /// What an application gives in its next turn, not before the line `from`, and the line behind it.
+    /// Returns what an application gives in its next turn, not before the line `from`, and the line behind it.
     pub(crate) fn next_turn(&self, app: u32, from: usize) -> (Giving, usize)
         ensures steps { steps_given self.now.replies result.0 ≡ turn_or_plain (slice_get (lines_of app (drop from self.now.replies)) 0) }
         ensures within { IsGivingIn self.now.replies result.0 }

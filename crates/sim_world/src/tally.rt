@@ -8,7 +8,7 @@ use of_types::Dpid;
 use std::alloc::{AllocError, Global};
 use std::marker::Model;
 
-/// One more, up to the last value.
+/// Counts one more, up to the last value.
 fn raised(count: u64) -> u64
     ensures { result ≡ raised count }
 {
@@ -62,7 +62,7 @@ impl Model for Tally {
 }
 
 impl LinkTally {
-    /// One fault more, if it is the switch.
+    /// Counts one fault more, if it is the switch.
     fn raise_fault(&mut self, dpid: Dpid)
         ensures { self.new ≡ (if self.old.dpid == dpid then one_fault self.old else self.old) }
     {
@@ -71,7 +71,7 @@ impl LinkTally {
         }
     }
 
-    /// One more want of memory, if it is the switch.
+    /// Counts one more want of memory, if it is the switch.
     fn raise_short(&mut self, dpid: Dpid)
         ensures { self.new ≡ (if self.old.dpid == dpid then one_short self.old else self.old) }
     {
@@ -98,7 +98,7 @@ fn raise_shorts(links: &mut [LinkTally], dpid: Dpid)
 }
 
 impl Tally {
-    /// Nothing counted, for no switch; takes no memory.
+    /// Returns a count of nothing, for no switch; takes no memory.
     pub(crate) fn new(alloc: Global) -> Tally
         ensures { result ≡ no_counts }
     {
@@ -114,7 +114,7 @@ impl Tally {
         }
     }
 
-    /// One switch more.
+    /// Adds one switch.
     pub(crate) fn add(&mut self, dpid: Dpid) -> Result<(), AllocError>
         ensures ok { OnOk result (self.new ≡ record self.old { links = self.old.links ++ none_of dpid ∷ [] }) }
         ensures err { OnErr result (self.new ≡ self.old) }
@@ -134,49 +134,49 @@ impl Tally {
         let _ = self.links.pop();
     }
 
-    /// The world stayed shut.
+    /// Counts that the world stayed shut.
     pub(crate) fn raise_shuts(&mut self)
         ensures { self.new ≡ record self.old { shuts = raised self.old.shuts } }
     {
         self.shuts = raised(self.shuts);
     }
 
-    /// `next` failed.
+    /// Counts that `next` failed.
     pub(crate) fn raise_next_faults(&mut self)
         ensures { self.new ≡ record self.old { next_faults = raised self.old.next_faults } }
     {
         self.next_faults = raised(self.next_faults);
     }
 
-    /// A start failed.
+    /// Counts that a start failed.
     pub(crate) fn raise_starts_failed(&mut self)
         ensures { self.new ≡ record self.old { starts_failed = raised self.old.starts_failed } }
     {
         self.starts_failed = raised(self.starts_failed);
     }
 
-    /// An application had closed, or was gone.
+    /// Counts that an application had closed, or was gone.
     pub(crate) fn raise_closings(&mut self)
         ensures { self.new ≡ record self.old { closings = raised self.old.closings } }
     {
         self.closings = raised(self.closings);
     }
 
-    /// An application was silent.
+    /// Counts that an application was silent.
     pub(crate) fn raise_silences(&mut self)
         ensures { self.new ≡ record self.old { silences = raised self.old.silences } }
     {
         self.silences = raised(self.silences);
     }
 
-    /// A call wanted memory.
+    /// Counts that a call wanted memory.
     pub(crate) fn raise_shorts(&mut self)
         ensures { self.new ≡ tally_short self.old }
     {
         self.shorts = raised(self.shorts);
     }
 
-    /// A call of a link wanted memory.
+    /// Counts that a call of a link wanted memory.
     pub(crate) fn raise_shorts_of(&mut self, dpid: Dpid)
         ensures { self.new ≡ tally_short_of dpid self.old }
     {
@@ -184,14 +184,14 @@ impl Tally {
         self.shorts = raised(self.shorts);
     }
 
-    /// A call of a link failed.
+    /// Counts that a call of a link failed.
     pub(crate) fn raise_faults_of(&mut self, dpid: Dpid)
         ensures { self.new ≡ tally_fault_of dpid self.old }
     {
         raise_faults(&mut self.links, dpid);
     }
 
-    /// A call was out of place, if it was.
+    /// Counts a call that was out of place, if it was.
     pub(crate) fn raise_strays(&mut self, stray: bool)
         ensures { self.new ≡ tally_stray stray self.old }
     {

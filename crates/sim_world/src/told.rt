@@ -24,7 +24,7 @@ impl Model for Told {
 }
 
 impl Told {
-    /// No call; takes no memory.
+    /// Returns a list of no call; takes no memory.
     pub fn new(alloc: Global) -> Told
         ensures { result ≡ [] }
     {
@@ -33,7 +33,7 @@ impl Told {
         }
     }
 
-    /// One call more. Want of memory changes nothing.
+    /// Adds one call. Want of memory changes nothing.
     pub fn add(&mut self, fail: FailCall) -> Result<(), AllocError>
         ensures ok { OnOk result (self.new ≡ self.old ++ fail ∷ []) }
         ensures err { OnErr result (self.new ≡ self.old) }
@@ -42,8 +42,8 @@ impl Told {
         Ok(())
     }
 
-    /// Whether the call of this kind and number, counted from 1, is told to fail; `of` is the application's index or
-    /// the switch's number, and says nothing for `Open`, `Next` and `Short`. Takes no memory.
+    /// Tells whether the call of this kind and number, counted from 1, is told to fail; `of` is the application's index
+    /// or the switch's number, and says nothing for `Open`, `Next` and `Short`. Takes no memory.
     #[tactic(auto, unfolding(crate::specs::Told::is_told))]
     pub fn is_told(&self, kind: CallKind, of: u64, number: u64) -> bool
         ensures { result ≡ is_told kind of number self.now }

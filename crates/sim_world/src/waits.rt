@@ -35,7 +35,7 @@ impl Model for Waits {
     ghost invariant = { λ s. AreWaits s.current.items s.later.items };
 }
 
-/// Where no message of the batch at hand is left, the next batch becomes that.
+/// Goes on to the next batch, where no message of the one at hand is left.
 fn go_on(current: &mut VecDeque<ByteList>, later: &mut VecDeque<MessageList>)
     requires { AreFilled later.old.items }
     ensures same { all_of current.new.items later.new.items ≡ all_of current.old.items later.old.items }
@@ -75,7 +75,7 @@ pub(crate) fn copy_to_front(message: &[u8], buf: &mut [u8]) -> usize
 }
 
 impl Waits {
-    /// No messages; takes no memory.
+    /// Returns a list of no messages; takes no memory.
     pub fn new(alloc: Global) -> Waits
         ensures { result.messages ≡ [] }
     {
@@ -85,7 +85,7 @@ impl Waits {
         }
     }
 
-    /// No message waits; takes no memory.
+    /// Tells whether no message waits; takes no memory.
     pub fn is_empty(&self) -> bool
         ensures { result ≡ (length self.now.messages == 0) }
     {

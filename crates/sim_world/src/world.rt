@@ -13,6 +13,7 @@ ghost use Rattle.sim_world.specs.World.{AreAsTold, seen_of, given_of, short_told
 ghost use Rattle.outside.specs.State.{at_first};
 
 use crate::parts::Parts;
+use of_types::Dpid;
 use outside::{GiveFault, Item, LinkFault, NextFault, OpenFault, Short, StartFault, Taken, World};
 use std::marker::Model;
 
@@ -124,7 +125,7 @@ impl World for SimWorld {
     }
 
     #[tactic(auto, using(crate::specs::laws::StandingLaws::links_stand, crate::specs::laws::StandingLaws::short_kept, crate::specs::laws::DoingLaws::Sends_by, crate::specs::laws::KeepingLaws::keeps_send))]
-    fn send(&mut self, dpid: u64, frame: &[u8]) -> Result<(), LinkFault>
+    fn send(&mut self, dpid: Dpid, frame: &[u8]) -> Result<(), LinkFault>
         requires { IsOk (reading_of frame.now) }
         ensures seen { Sends (Unit {0}) dpid frame.now (seen_of self.old) (seen_of self.new) result }
         ensures short { short_told self.old.fails self.old.calls ≡ true → IsErrOf result LinkFault.Short }
@@ -135,7 +136,7 @@ impl World for SimWorld {
     }
 
     #[tactic(auto, using(crate::specs::laws::StandingLaws::links_stand, crate::specs::laws::StandingLaws::short_kept, crate::specs::laws::DoingLaws::Receives_by, crate::specs::laws::KeepingLaws::keeps_recv))]
-    fn recv(&mut self, dpid: u64, buf: &mut [u8]) -> Result<usize, LinkFault>
+    fn recv(&mut self, dpid: Dpid, buf: &mut [u8]) -> Result<usize, LinkFault>
         requires { most_message ≤ length buf.old }
         ensures seen { Receives (Unit {0}) dpid (seen_of self.old) (seen_of self.new) result buf.new }
         ensures short { short_told self.old.fails self.old.calls ≡ true → IsErrOf result LinkFault.Short }

@@ -30,7 +30,7 @@ pub(crate) struct Looked {
     pub(crate) messages: MessageList,
 }
 
-/// Whether the port by which a frame came in keeps misses from the controller.
+/// Tells whether the port by which a frame came in keeps misses from the controller.
 fn silences(all: &[Port], in_port: PortNo) -> bool
     ensures { result ≡ is_silent (port_at in_port all.now) }
 {
@@ -40,7 +40,7 @@ fn silences(all: &[Port], in_port: PortNo) -> bool
     }
 }
 
-/// Whether a frame that arrives at a port is taken.
+/// Tells whether a frame that arrives at a port is taken.
 #[tactic(auto, unfolding(flow_table::specs::Frames::takes))]
 fn takes(all: &[Port], in_port: PortNo) -> bool
     ensures { result ≡ takes (port_at in_port all.now) }
@@ -68,7 +68,7 @@ fn count_arrival(all: &mut [Port], number: PortNo, len: u64)
     }
 }
 
-/// What a miss sends: a PACKET_IN, unless the port by which the frame came in keeps it back.
+/// Returns what a miss sends: a PACKET_IN, unless the port by which the frame came in keeps it back.
 #[tactic(auto, unfolding(flow_table::specs::Frames::sent_by_miss))]
 fn miss(
     alloc: Global,
@@ -114,7 +114,7 @@ fn hit(table: &mut Table, in_port: PortNo, frame: &[u8], now: u64) -> u64
 }
 
 impl SimSwitch {
-    /// The entry that a frame hits which came in by a port.
+    /// Finds the entry that a frame hits which came in by a port.
     fn find(&self, in_port: PortNo, frame: &[u8]) -> Option<&Entry>
         ensures found { MatchOption result (entry_hit in_port frame.now self.now ≡ None) (λ e. entry_hit in_port frame.now self.now ≡ Some e.now) }
         ensures edits { IfSome result (λ e. AreEdits e.now.actions) }
@@ -126,7 +126,7 @@ impl SimSwitch {
         }
     }
 
-    /// What a look at the table gives for a frame that came in by a port. Nothing is counted.
+    /// Returns what a look at the table gives for a frame that came in by a port. Nothing is counted.
     #[tactic(auto, unfolding(flow_table::specs::Frames::sent_by_lookup))]
     pub(crate) fn look_up(&self, in_port: PortNo, frame: &[u8]) -> Result<Looked, AllocError>
         requires { reach frame.now ≤ 65517 }
@@ -190,7 +190,7 @@ impl SimSwitch {
         count_arrival(&mut self.ports, in_port, len);
     }
 
-    /// A frame that arrives at a port.
+    /// Takes a frame that arrives at a port, or drops it.
     #[tactic(auto, unfolding(flow_table::specs::Frames::after_frame, flow_table::specs::Frames::sent_by_frame))]
     pub(crate) fn frame(&mut self, in_port: PortNo, frame: &[u8]) -> Result<MessageList, AllocError>
         requires { length frame.now ≤ 9216 }

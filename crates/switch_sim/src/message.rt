@@ -44,7 +44,7 @@ fn modify_ports(ports: &mut [Port], m: &PortMod)
 }
 
 impl SimSwitch {
-    /// The refusal of a message as far as it does not look at the table's entries.
+    /// Returns the refusal of a message as far as it does not look at the table's entries.
     #[tactic(auto, unfolding(flow_table::specs::Refusals::message_refusal))]
     fn early_refusal(&self, m: &Message) -> Option<OfError>
         ensures { result ≡ early_refusal self.now m.now }
@@ -75,7 +75,7 @@ impl SimSwitch {
         }
     }
 
-    /// The ERROR that answers a message.
+    /// Returns the ERROR that answers a message.
     fn refuse(&self, xid: Xid, m: &Message, refusal: OfError) -> Result<MessageList, AllocError>
         requires { message_size m.now ≤ 65535 }
         ensures sent { IfOk result (λ list. list ≡ error_bytes xid m.now refusal ∷ []) }
@@ -128,7 +128,7 @@ impl SimSwitch {
         self.config = config;
     }
 
-    /// The reply to a message that changes nothing: to a barrier, an echo, or a request for features or the
+    /// Returns the reply to a message that changes nothing: to a barrier, an echo, or a request for features or the
     /// configuration; none to a HELLO or an ECHO_REPLY.
     #[tactic(auto, unfolding(flow_table::specs::Step::sent_by_taken))]
     fn answer(&self, xid: Xid, m: &Message) -> Result<MessageList, AllocError>
@@ -147,7 +147,7 @@ impl SimSwitch {
         MessageList::one(self.alloc, reply)
     }
 
-    /// A message that is not refused before the table is looked at.
+    /// Takes a message that is not refused before the table is looked at.
     fn take(&mut self, xid: Xid, m: &Message) -> Result<MessageList, AllocError>
         requires size { message_size m.now ≤ 65535 }
         requires serials { self.old.table.next < 2 ^ 64 - 1 }
@@ -173,7 +173,7 @@ impl SimSwitch {
         }
     }
 
-    /// A message that is refused, or taken.
+    /// Refuses a message, or takes it.
     fn respond(&mut self, xid: Xid, m: &Message) -> Result<MessageList, AllocError>
         requires size { message_size m.now ≤ 65535 }
         requires serials { self.old.table.next < 2 ^ 64 - 1 }

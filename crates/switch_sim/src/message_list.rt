@@ -35,7 +35,7 @@ impl MessageList {
         }
     }
 
-    /// One message.
+    /// Returns a list of one message.
     pub(crate) fn one(alloc: Global, message: ByteList) -> Result<MessageList, AllocError>
         ensures one { IfOk result (λ list. list ≡ message ∷ []) }
         ensures readable { IsReadable message → IfOk result AreReadable }

@@ -62,7 +62,7 @@ impl SimSwitch {
         self.moment = moment;
     }
 
-    /// The moment moves on.
+    /// Moves the moment on.
     pub(crate) fn advance(&mut self, moment: u64) -> Result<MessageList, AllocError>
         requires after { self.old.moment ≤ moment }
         requires within { moment ≤ 4294967295 }

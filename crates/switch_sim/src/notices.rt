@@ -82,7 +82,7 @@ fn fill(buffer: Vec<u8>, flow: FlowRemoved) -> ByteList
     ByteList::from_vec(buffer)
 }
 
-/// A FLOW_REMOVED over all of a buffer, which can be read.
+/// Spells a FLOW_REMOVED over all of a buffer, which can be read.
 fn spell_removed(buffer: Vec<u8>, flow: FlowRemoved) -> ByteList
     requires { length buffer.items ≡ 88 }
     ensures bytes { result ≡ message_bytes 0 (Message.FlowRemoved flow) }
@@ -101,7 +101,7 @@ fn write(buffer: Vec<u8>, notice: &Notice) -> ByteList
     spell_removed(buffer, flow_removed(notice))
 }
 
-/// The FLOW_REMOVED messages of notices, for which there is room.
+/// Writes the FLOW_REMOVED messages of notices, for which there is room.
 pub(crate) fn write_all(room: NoticeRoom, notices: &[Notice]) -> MessageList
     requires none { room.messages.items ≡ [] }
     requires len { length notices.now ≤ vec_len room.buffers }
@@ -122,14 +122,14 @@ pub(crate) fn write_all(room: NoticeRoom, notices: &[Notice]) -> MessageList
     MessageList::from_vec(messages)
 }
 
-/// Whether an entry with these flags asks for a notice when it goes.
+/// Tells whether an entry with these flags asks for a notice when it goes.
 fn asks(flags: u16) -> bool
     ensures { result ≡ asks_notice flags }
 {
     flows::sends_flow_removed(flags)
 }
 
-/// Whether a DELETE, strict or not, removes an entry.
+/// Tells whether a DELETE, strict or not, removes an entry.
 #[tactic(auto, unfolding(flow_table::specs::Change::describes))]
 fn is_described(m: &FlowMod, entry: &Entry) -> bool
     ensures { result ≡ describes m.now entry.now.key }
@@ -156,7 +156,7 @@ fn is_delete(m: &FlowMod) -> bool
     m.command == flows::DELETE || m.command == flows::DELETE_STRICT
 }
 
-/// How many notices a FLOW_MOD gives at most: none, unless it is a DELETE.
+/// Counts how many notices a FLOW_MOD gives at most: none, unless it is a DELETE.
 pub(crate) fn count_told(entries: &[Entry], m: &FlowMod) -> usize
     ensures { (now : ℕ) → length (notices_of now m.now entries.now) ≤ result }
 {
@@ -167,7 +167,7 @@ pub(crate) fn count_told(entries: &[Entry], m: &FlowMod) -> usize
     }
 }
 
-/// How many notices a DELETE gives.
+/// Counts how many notices a DELETE gives.
 fn count_deleted(entries: &[Entry], m: &FlowMod) -> usize
     ensures { result ≡ length (filter (λ e. deletes m.now e && asks_notice e.flags) entries.now) }
 {
@@ -178,7 +178,7 @@ fn count_deleted(entries: &[Entry], m: &FlowMod) -> usize
     count
 }
 
-/// Whether an entry goes at a moment, not before those at which it was put in and used.
+/// Tells whether an entry goes at a moment, not before those at which it was put in and used.
 #[tactic(auto, unfolding(flow_table::specs::Expiry::is_due))]
 fn is_due(entry: &Entry, now: u64) -> bool
     requires within { now < 4294967296 }
@@ -201,7 +201,7 @@ fn is_told_expiry(entry: &Entry, now: u64) -> bool
     is_due(entry, now) && asks(entry.flags)
 }
 
-/// How many notices a moment gives.
+/// Counts how many notices a moment gives.
 pub(crate) fn count_due(entries: &[Entry], now: u64) -> usize
     requires within { now < 4294967296 }
     requires each { All (IsEntryAt now) entries.now }

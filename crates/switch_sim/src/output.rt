@@ -60,7 +60,7 @@ pub(crate) fn push_output(
     Ok(())
 }
 
-/// What outputs send to the controller.
+/// Returns what outputs send to the controller.
 #[tactic(auto, unfolding(flow_table::specs::Frames::sent_by_outputs))]
 pub(crate) fn packet_ins(
     alloc: Global,

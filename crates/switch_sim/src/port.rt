@@ -45,7 +45,7 @@ impl Model for Port {
     } };
 }
 
-/// Whether a config has a bit.
+/// Tells whether a config has a bit.
 #[tactic(auto, unfolding(flow_table::specs::Switch::has_bit))]
 fn has(config: u32, bit: u32) -> bool
     ensures { result ≡ has_bit bit config }
@@ -56,7 +56,7 @@ fn has(config: u32, bit: u32) -> bool
 /// The bits of a config that a PORT_MOD can set.
 const KEPT_BITS: u32 = 0x75;
 
-/// A config whose bits in the mask are those of another one.
+/// Returns a config whose bits in the mask are those of another one.
 #[tactic(auto, unfolding(flow_table::specs::Step::with_bits))]
 fn with_bits(mask: u32, wanted: u32, config: u32) -> u32
     ensures { result ≡ with_bits mask wanted config }
@@ -65,7 +65,7 @@ fn with_bits(mask: u32, wanted: u32, config: u32) -> u32
 }
 
 impl Port {
-    /// A port with a link, without config, that counted nothing.
+    /// Makes a port with a link, without config, that counted nothing.
     pub(crate) fn new(number: PortNo) -> Port
         ensures { result ≡ new_port number }
     {
@@ -87,7 +87,7 @@ impl Port {
         self.number
     }
 
-    /// Whether misses of frames that came in by the port are kept from the controller.
+    /// Tells whether misses of frames that came in by the port are kept from the controller.
     pub(crate) fn has_no_packet_in(&self) -> bool
         ensures { result ≡ has_no_packet_in self.now }
     {
@@ -106,7 +106,7 @@ impl Port {
         self.link = up;
     }
 
-    /// A copy with its link up or down.
+    /// Returns a copy with its link up or down.
     pub(crate) fn with_link(&self, up: bool) -> Port
         ensures { result ≡ set_link up self.now }
     {
@@ -122,7 +122,7 @@ impl Port {
         }
     }
 
-    /// Whether a frame that arrives is taken: the port has a link, is not down, and has no NO_RECV.
+    /// Tells whether a frame that arrives is taken: the port has a link, is not down, and has no NO_RECV.
     #[tactic(auto, unfolding(flow_table::specs::Frames::takes))]
     pub(crate) fn takes(&self) -> bool
         ensures { result ≡ takes (Some self.now) }
@@ -146,7 +146,7 @@ impl Port {
         self.rx_bytes = self.rx_bytes.wrapping_add(len);
     }
 
-    /// Whether an output to a number, of a frame that came in by `in_port`, goes out by this port.
+    /// Tells whether an output to a number, of a frame that came in by `in_port`, goes out by this port.
     #[tactic(auto, unfolding(flow_table::specs::Frames::goes_out_by))]
     pub(crate) fn is_output(&self, in_port: PortNo, to: PortNo) -> bool
         ensures { result ≡ goes_out_by in_port to self.now }
@@ -177,7 +177,8 @@ impl Port {
         }
     }
 
-    /// The port's row of statistics (OpenFlow 1.0.0, 5.3.5 Read State Messages); what this switch does not count is 0.
+    /// Returns the port's row of statistics (OpenFlow 1.0.0, 5.3.5 Read State Messages); what this switch does not
+    /// count is 0.
     pub(crate) fn row(&self) -> PortRow
         ensures { result ≡ port_row self.now }
     {
@@ -198,7 +199,7 @@ impl Port {
         }
     }
 
-    /// The port as its switch describes it; the fields fit the wire.
+    /// Returns the port as its switch describes it; the fields fit the wire.
     pub(crate) fn describe(&self, alloc: Global, dpid: Dpid) -> Result<PortDesc, AllocError>
         ensures desc { IfOk result (λ desc. desc ≡ port_desc dpid self.now) }
         ensures fields { IfOk result (λ desc. AreFields (port_fields desc)) }
@@ -233,7 +234,7 @@ fn measure(desc: PortDesc)
     let _name = desc.name.len();
 }
 
-/// The address of a port: 02 and 00, the low 16 bits of the switch's number, and the port's.
+/// Returns the address of a port: 02 and 00, the low 16 bits of the switch's number, and the port's.
 #[tactic(auto, unfolding(flow_table::specs::Switch::hw_addr))]
 pub(crate) fn address(dpid: Dpid, number: PortNo) -> [u8; 6]
     ensures { result ≡ hw_addr dpid number }
@@ -244,7 +245,7 @@ pub(crate) fn address(dpid: Dpid, number: PortNo) -> [u8; 6]
     out
 }
 
-/// A text of at most 16 bytes, padded with zero bytes.
+/// Returns a text of at most 16 bytes, padded with zero bytes.
 fn padded_name(text: &[u8]) -> [u8; 16]
     requires { length text.now ≤ 16 }
     ensures { result ≡ padded 16 text.now }
@@ -254,14 +255,14 @@ fn padded_name(text: &[u8]) -> [u8; 16]
     out
 }
 
-/// The text of a port's name: `p` and its number.
+/// Returns the text of a port's name: `p` and its number.
 fn name_text(alloc: Global, number: PortNo) -> Result<String, AllocError>
     ensures { IfOk result (λ text. string_bytes text ≡ codes "p" ++ decimal number) }
 {
     format!(in alloc; "p{number}")
 }
 
-/// The name of a port: `p` and its number, padded with zero bytes.
+/// Returns the name of a port: `p` and its number, padded with zero bytes.
 #[tactic(auto, unfolding(flow_table::specs::Switch::port_name))]
 fn name(alloc: Global, number: PortNo) -> Result<[u8; 16], AllocError>
     ensures { IfOk result (λ name. name ≡ port_name number) }

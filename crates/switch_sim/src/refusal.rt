@@ -11,8 +11,8 @@ use of_types::limits::MOST_ACTION_BYTES;
 use of_types::{Dpid, OfError, PortNo, errors, flows, ports, stats};
 use of_wire::{FlowMod, PacketOut, PortMod, Stats, SwitchConfig};
 
-/// Whether an OUTPUT may go to a number: one that was a port since the switch joined (`had`), IN_PORT, FLOOD, ALL,
-/// CONTROLLER, and TABLE where that is allowed.
+/// Tells whether an OUTPUT may go to a number: one that was a port since the switch joined (`had`), IN_PORT, FLOOD,
+/// ALL, CONTROLLER, and TABLE where that is allowed.
 #[tactic(auto, unfolding(flow_table::specs::Refusals::is_output))]
 fn is_output(takes_table: bool, had: &[PortNo], port: PortNo) -> bool
     ensures { result ≡ is_output takes_table had.now port }
@@ -42,7 +42,7 @@ fn refuse_action(takes_table: bool, had: &[PortNo], action: &Action) -> Option<O
     }
 }
 
-/// The refusal of the first action that is refused.
+/// Returns the refusal of the first action that is refused.
 #[tactic(auto, unfolding(flow_table::specs::Refusals::actions_refusal))]
 fn refuse_actions(takes_table: bool, had: &[PortNo], actions: &[Action]) -> Option<OfError>
     ensures { result ≡ actions_refusal takes_table had.now actions.now }
@@ -69,8 +69,8 @@ fn refuse_flow_actions(had: &[PortNo], m: &FlowMod) -> Option<OfError>
     }
 }
 
-/// What stands against a FLOW_MOD beside the table: EMERG, the command, and for additions and modifications a buffer,
-/// too many bytes of actions, or an action.
+/// Tells what stands against a FLOW_MOD beside the table: EMERG, the command, and for additions and modifications a
+/// buffer, too many bytes of actions, or an action.
 #[tactic(auto, unfolding(flow_table::specs::Refusals::flow_refusal))]
 pub(crate) fn refuse_flow(had: &[PortNo], m: &FlowMod) -> Option<OfError>
     ensures { result ≡ flow_refusal had.now m.now }
@@ -86,7 +86,7 @@ pub(crate) fn refuse_flow(had: &[PortNo], m: &FlowMod) -> Option<OfError>
     }
 }
 
-/// A buffer, since the switch has none, or an action.
+/// Tells what stands against a PACKET_OUT: a buffer, since the switch has none, or an action.
 #[tactic(auto, unfolding(flow_table::specs::Refusals::packet_out_refusal))]
 pub(crate) fn refuse_packet_out(had: &[PortNo], m: &PacketOut) -> Option<OfError>
     ensures { result ≡ packet_out_refusal had.now m.now }
@@ -98,7 +98,7 @@ pub(crate) fn refuse_packet_out(had: &[PortNo], m: &PacketOut) -> Option<OfError
     }
 }
 
-/// The port of a number.
+/// Finds the port of a number.
 pub(crate) fn port_of(all: &[Port], number: PortNo) -> Option<&Port>
     ensures { MatchOption result (port_at number all.now ≡ None) (λ p. port_at number all.now ≡ Some p.now) }
 {
@@ -110,7 +110,7 @@ pub(crate) fn port_of(all: &[Port], number: PortNo) -> Option<&Port>
     None
 }
 
-/// A port that is not there, or another address than the port's.
+/// Tells what stands against a PORT_MOD: a port that is not there, or another address than the port's.
 pub(crate) fn refuse_port_mod(dpid: Dpid, all: &[Port], m: &PortMod) -> Option<OfError>
     ensures { result ≡ port_refusal dpid m.now.hw_addr (port_at m.now.port_no all.now) }
 {
@@ -137,7 +137,7 @@ pub(crate) fn refuse_config(config: &SwitchConfig) -> Option<OfError>
     }
 }
 
-/// How many bytes the body of a request for statistics has.
+/// Tells how many bytes the body of a request for statistics has.
 fn query_size(kind: u16) -> usize
     ensures { result ≡ query_size kind }
 {

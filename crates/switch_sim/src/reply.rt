@@ -22,7 +22,7 @@ use std::alloc::{AllocError, Global};
 /// The most bytes of a frame that a PACKET_IN can carry.
 pub(crate) const MOST_FRAME: usize = 65_517;
 
-/// The bytes of a message of the grammar, which is read again.
+/// Spells the bytes of a message of the grammar, which is read again.
 pub(crate) fn spell(alloc: Global, xid: Xid, message: &Message) -> Result<ByteList, AllocError>
     requires { IsMessage message.now }
     ensures bytes { IfOk result (λ bytes. bytes ≡ message_bytes xid message.now) }
@@ -32,7 +32,7 @@ pub(crate) fn spell(alloc: Global, xid: Xid, message: &Message) -> Result<ByteLi
     encode(alloc, xid, message)
 }
 
-/// A PACKET_IN of a whole frame, in no buffer (OpenFlow 1.0.0, 5.4.1 Packet-In Message).
+/// Returns a PACKET_IN of a whole frame, in no buffer (OpenFlow 1.0.0, 5.4.1 Packet-In Message).
 #[tactic(auto, unfolding(flow_table::specs::Frames::packet_in))]
 pub(crate) fn packet_in(
     alloc: Global,
@@ -63,7 +63,7 @@ fn spell_packet_in(alloc: Global, packet: PacketIn) -> Result<ByteList, AllocErr
     spell(alloc, 0, &Message::PacketIn(packet))
 }
 
-/// The first 64 bytes.
+/// Lends the first 64 bytes.
 fn front(bytes: &[u8]) -> &[u8]
     ensures front { result.now ≡ take 64 bytes.now }
     ensures len { length result.now ≤ 64 }
@@ -75,7 +75,8 @@ fn front(bytes: &[u8]) -> &[u8]
     }
 }
 
-/// The ERROR that answers a message: it has its `xid` and its first 64 bytes (OpenFlow 1.0.0, 5.4.4 Error Message).
+/// Returns the ERROR that answers a message: it has its `xid` and its first 64 bytes (OpenFlow 1.0.0, 5.4.4 Error
+/// Message).
 #[tactic(auto, unfolding(flow_table::specs::Step::error_bytes, of_wire::specs::Spelling::message_size))]
 pub(crate) fn error(
     alloc: Global,
@@ -114,7 +115,7 @@ fn spell_error(
     )
 }
 
-/// What a FLOW_REMOVED says of an entry that went (OpenFlow 1.0.0, 5.4.2 Flow Removed Message).
+/// Returns what a FLOW_REMOVED says of an entry that went (OpenFlow 1.0.0, 5.4.2 Flow Removed Message).
 pub(crate) fn flow_removed(notice: &Notice) -> FlowRemoved
     requires { notice.now.duration < 2 ^ 32 }
     ensures { result ≡ flow_removed notice.now }
@@ -132,7 +133,7 @@ pub(crate) fn flow_removed(notice: &Notice) -> FlowRemoved
     }
 }
 
-/// A PORT_STATUS with the port's description (OpenFlow 1.0.0, 5.4.3 Port Status Message).
+/// Returns a PORT_STATUS with the port's description (OpenFlow 1.0.0, 5.4.3 Port Status Message).
 #[tactic(auto, unfolding(flow_table::specs::Step::port_status, of_wire::specs::Spelling::message_size))]
 pub(crate) fn port_status(
     alloc: Global,
@@ -147,7 +148,7 @@ pub(crate) fn port_status(
     spell(alloc, 0, &Message::PortStatus(PortStatus { reason, port }))
 }
 
-/// The descriptions of ports.
+/// Returns the descriptions of ports.
 fn describe_all(alloc: Global, dpid: Dpid, ports: &[Port]) -> Result<PortList, AllocError>
     ensures ports { IfOk result (λ list. list ≡ map (port_desc dpid) ports.now) }
     ensures fields { IfOk result (λ list. All (λ port. AreFields (port_fields port)) list) }
@@ -159,7 +160,7 @@ fn describe_all(alloc: Global, dpid: Dpid, ports: &[Port]) -> Result<PortList, A
     Ok(PortList::from_vec(descriptions))
 }
 
-/// The FEATURES_REPLY of a switch with at most 64 ports (OpenFlow 1.0.0, 5.3.1 Handshake).
+/// Returns the FEATURES_REPLY of a switch with at most 64 ports (OpenFlow 1.0.0, 5.3.1 Handshake).
 #[tactic(auto, unfolding(of_wire::specs::Spelling::message_size))]
 pub(crate) fn features(
     alloc: Global,
@@ -184,7 +185,7 @@ pub(crate) fn features(
     spell(alloc, xid, &Message::FeaturesReply(features))
 }
 
-/// The BARRIER_REPLY (OpenFlow 1.0.0, 5.3.7 Barrier Message).
+/// Returns the BARRIER_REPLY (OpenFlow 1.0.0, 5.3.7 Barrier Message).
 #[tactic(auto, unfolding(of_wire::specs::Spelling::message_size))]
 pub(crate) fn barrier(alloc: Global, xid: Xid) -> Result<ByteList, AllocError>
     ensures bytes { IfOk result (λ bytes. bytes ≡ message_bytes xid Message.BarrierReply) }
@@ -193,7 +194,7 @@ pub(crate) fn barrier(alloc: Global, xid: Xid) -> Result<ByteList, AllocError>
     spell(alloc, xid, &Message::BarrierReply)
 }
 
-/// The ECHO_REPLY with the request's data (OpenFlow 1.0.0, 5.5.3 Echo Reply).
+/// Returns the ECHO_REPLY with the request's data (OpenFlow 1.0.0, 5.5.3 Echo Reply).
 #[tactic(auto, unfolding(of_wire::specs::Spelling::message_size))]
 pub(crate) fn echo(alloc: Global, xid: Xid, payload: &ByteList) -> Result<ByteList, AllocError>
     requires { message_size (Message.EchoRequest payload.now) ≤ 65535 }
@@ -213,7 +214,7 @@ fn spell_echo(alloc: Global, xid: Xid, payload: ByteList) -> Result<ByteList, Al
     spell(alloc, xid, &Message::EchoReply { payload })
 }
 
-/// The GET_CONFIG_REPLY (OpenFlow 1.0.0, 5.3.2 Switch Configuration).
+/// Returns the GET_CONFIG_REPLY (OpenFlow 1.0.0, 5.3.2 Switch Configuration).
 #[tactic(auto, unfolding(of_wire::specs::Spelling::message_size))]
 pub(crate) fn config(alloc: Global, xid: Xid, config: SwitchConfig) -> Result<ByteList, AllocError>
     ensures bytes { IfOk result (λ bytes. bytes ≡ message_bytes xid (Message.GetConfigReply config)) }

@@ -19,7 +19,7 @@ use of_types::{ByteList, Xid, get_array, get_u8, get_u16, stats};
 use of_wire::Stats;
 use std::alloc::{AllocError, Global};
 
-/// A list of one row.
+/// Returns a list of one row.
 fn one_row(alloc: Global, row: ByteList) -> Result<Vec<ByteList>, AllocError>
     requires { length row ≤ room }
     ensures rows { IfOk result (λ rows. rows.items ≡ row ∷ []) }
@@ -31,7 +31,7 @@ fn one_row(alloc: Global, row: ByteList) -> Result<Vec<ByteList>, AllocError>
 }
 
 impl SimSwitch {
-    /// The entries of a table: the one table has the number 0, and 0xff means all tables.
+    /// Returns the entries of a table: the one table has the number 0, and 0xff means all tables.
     fn seen(&self, table_id: u8) -> &[Entry]
         ensures entries { result.now ≡ (if sees_table table_id then self.now.table.entries else []) }
         ensures installed { All (λ e. e.installed ≤ self.now.moment) result.now }
@@ -46,7 +46,7 @@ impl SimSwitch {
         }
     }
 
-    /// Rows of flows, for a request's body.
+    /// Returns rows of flows, for a request's body.
     #[tactic(auto, unfolding(flow_table::specs::Statistics::flow_rows, flow_table::specs::Statistics::selected_by))]
     fn flow_stats(&self, query: &[u8]) -> Result<Vec<ByteList>, AllocError>
         requires { length query.now ≡ 44 }
@@ -64,7 +64,7 @@ impl SimSwitch {
         )
     }
 
-    /// The sum over flows, for a request's body.
+    /// Returns the sum over flows, for a request's body.
     #[tactic(auto, unfolding(flow_table::specs::Statistics::sum_bytes, flow_table::specs::Statistics::selected_by))]
     fn aggregate_stats(&self, query: &[u8]) -> Result<ByteList, AllocError>
         requires { length query.now ≡ 44 }
@@ -76,7 +76,7 @@ impl SimSwitch {
         sum_bytes(self.alloc, &sum(entries, &matching, get_u16(query, 42)))
     }
 
-    /// The row of the one table.
+    /// Returns the row of the one table.
     #[tactic(auto, unfolding(flow_table::specs::Statistics::table_bytes))]
     fn table_stats(&self) -> Result<ByteList, AllocError>
         ensures bytes { IfOk result (λ bytes. bytes ≡ table_bytes self.now) }
@@ -94,7 +94,7 @@ impl SimSwitch {
         table_bytes(self.alloc, &row)
     }
 
-    /// Rows of ports, for a request's body.
+    /// Returns rows of ports, for a request's body.
     #[tactic(auto, unfolding(flow_table::specs::Statistics::port_rows))]
     fn port_stats(&self, query: &[u8]) -> Result<Vec<ByteList>, AllocError>
         requires { length query.now ≡ 8 }
@@ -104,7 +104,7 @@ impl SimSwitch {
         port_rows(self.alloc, &self.ports, get_u16(query, 0))
     }
 
-    /// The rows of a reply.
+    /// Returns the rows of a reply.
     #[tactic(auto, using(crate::specs::laws::StepLaws::query_fits), unfolding(flow_table::specs::Statistics::reply_rows))]
     fn rows(&self, request: &Stats) -> Result<Vec<ByteList>, AllocError>
         requires { stats_refusal request.now ≡ None }

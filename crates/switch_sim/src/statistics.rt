@@ -42,7 +42,7 @@ fn put_text(alloc: Global, out: &mut Vec<u8>, size: usize, text: &[u8]) -> Resul
     out.extend_from_slice(zeros.as_slice())
 }
 
-/// The body of a DESC reply: what the switch is.
+/// Returns the body of a DESC reply: what the switch is.
 #[tactic(auto, unfolding(flow_table::specs::Statistics::description_bytes))]
 pub(crate) fn description(alloc: Global) -> Result<ByteList, AllocError>
     ensures texts { IfOk result (λ bytes. bytes ≡ description_bytes) }
@@ -63,14 +63,14 @@ fn is_output(port: PortNo, action: &Action) -> bool
     matches!(action, Action::Output { port: to, .. } if *to == port)
 }
 
-/// Whether some OUTPUT of the actions goes to a port.
+/// Tells whether some OUTPUT of the actions goes to a port.
 fn has_output(port: PortNo, actions: &[Action]) -> bool
     ensures { result ≡ list_any (is_output_to port) actions.now }
 {
     actions.iter().any(|action| is_output(port, action))
 }
 
-/// Whether `out_port` is NONE or some OUTPUT of the actions goes to it.
+/// Tells whether `out_port` is NONE or some OUTPUT of the actions goes to it.
 #[tactic(auto, unfolding(flow_table::specs::Change::sends_to))]
 pub(crate) fn sends(out_port: PortNo, actions: &ActionList) -> bool
     ensures { result ≡ sends_to out_port actions.now }
@@ -78,7 +78,7 @@ pub(crate) fn sends(out_port: PortNo, actions: &ActionList) -> bool
     out_port == ports::NONE || has_output(out_port, actions.as_slice())
 }
 
-/// Whether a request for flows selects an entry, as DELETE would.
+/// Tells whether a request for flows selects an entry, as DELETE would.
 #[tactic(auto, unfolding(flow_table::specs::Rows::is_selected))]
 fn is_selected(m: &Match, out_port: PortNo, entry: &Entry) -> bool
     ensures { result ≡ is_selected m.now out_port entry.now }
@@ -86,7 +86,7 @@ fn is_selected(m: &Match, out_port: PortNo, entry: &Entry) -> bool
     subsumes(m, &entry.key.matching) && sends(out_port, &entry.actions)
 }
 
-/// The row of an entry, at a moment not before that at which it was put in.
+/// Returns the row of an entry, at a moment not before that at which it was put in.
 fn flow_row(alloc: Global, entry: &Entry, moment: u64) -> Result<FlowRow, AllocError>
     requires installed { entry.now.installed ≤ moment }
     requires moment { moment < 2 ^ 32 }
@@ -130,7 +130,7 @@ fn measure(alloc: Global, actions: &ActionList) -> Result<(), AllocError>
     Ok(())
 }
 
-/// The bytes of an entry's row.
+/// Returns the bytes of an entry's row.
 fn flow_row_bytes(alloc: Global, entry: &Entry, moment: u64) -> Result<ByteList, AllocError>
     requires installed { entry.now.installed ≤ moment }
     requires moment { moment < 2 ^ 32 }
@@ -142,7 +142,7 @@ fn flow_row_bytes(alloc: Global, entry: &Entry, moment: u64) -> Result<ByteList,
     write_flow_row(alloc, &flow_row(alloc, entry, moment)?)
 }
 
-/// The rows of the entries that a request for flows selects, in key order.
+/// Returns the rows of the entries that a request for flows selects, in key order.
 pub(crate) fn flow_rows(
     alloc: Global,
     entries: &[Entry],
@@ -165,7 +165,7 @@ pub(crate) fn flow_rows(
     Ok(rows)
 }
 
-/// The sum over the entries that a request for flows selects; counts are modulo 2^64.
+/// Computes the sum over the entries that a request for flows selects; counts are modulo 2^64.
 #[tactic(auto, unfolding(flow_table::specs::Statistics::sum_of))]
 pub(crate) fn sum(entries: &[Entry], m: &Match, out_port: PortNo) -> Sum
     requires { length entries.now < 2 ^ 32 }
@@ -182,7 +182,7 @@ pub(crate) fn sum(entries: &[Entry], m: &Match, out_port: PortNo) -> Sum
     sum
 }
 
-/// A sum and one entry more, where that counts.
+/// Adds one entry to a sum, where that counts.
 fn add(sum: Sum, counts: bool, entry: &Entry) -> Sum
     requires { sum.flows + 1 < 2 ^ 32 }
     ensures { result ≡ counted_in counts sum entry.now }
@@ -197,7 +197,7 @@ fn add(sum: Sum, counts: bool, entry: &Entry) -> Sum
     }
 }
 
-/// The rows of the ports that a request names: the one of the number, or all where it is NONE.
+/// Returns the rows of the ports that a request names: the one of the number, or all where it is NONE.
 pub(crate) fn port_rows(
     alloc: Global,
     all: &[Port],
@@ -229,7 +229,7 @@ fn port_row_bytes(alloc: Global, port: &Port) -> Result<ByteList, AllocError>
     ByteList::from_slice(alloc, &write_port_row(&port.row()))
 }
 
-/// The body of an AGGREGATE reply.
+/// Returns the body of an AGGREGATE reply.
 pub(crate) fn sum_bytes(alloc: Global, sum: &Sum) -> Result<ByteList, AllocError>
     ensures bytes { IfOk result (λ bytes. bytes ≡ spelled (sum_fields sum.now)) }
     ensures len { IfOk result (λ bytes. length bytes ≡ 24) }
@@ -237,7 +237,7 @@ pub(crate) fn sum_bytes(alloc: Global, sum: &Sum) -> Result<ByteList, AllocError
     ByteList::from_slice(alloc, &write_sum(sum))
 }
 
-/// The bytes of the table's row.
+/// Returns the bytes of the table's row.
 pub(crate) fn table_bytes(alloc: Global, row: &TableRow) -> Result<ByteList, AllocError>
     ensures bytes { IfOk result (λ bytes. bytes ≡ spelled (table_fields row.now)) }
     ensures len { IfOk result (λ bytes. length bytes ≡ 64) }
@@ -245,7 +245,7 @@ pub(crate) fn table_bytes(alloc: Global, row: &TableRow) -> Result<ByteList, All
     ByteList::from_slice(alloc, &write_table_row(row))
 }
 
-/// The name of the table, padded with zero bytes.
+/// Returns the name of the table, padded with zero bytes.
 pub(crate) fn table_name() -> [u8; 32]
     ensures { result ≡ padded 32 (codes "table0") }
 {
@@ -254,7 +254,7 @@ pub(crate) fn table_name() -> [u8; 32]
     out
 }
 
-/// A part of a reply as a message.
+/// Encodes a part of a reply as a message.
 fn encode_part(alloc: Global, xid: u32, part: &(u16, u16, ByteList)) -> Result<ByteList, AllocError>
     requires { length part.now.2 ≤ room }
     ensures bytes { IfOk result (λ bytes. bytes ≡ part_bytes xid part.now) }
@@ -278,7 +278,7 @@ fn spell_stats(alloc: Global, xid: u32, stats: Stats) -> Result<ByteList, AllocE
     spell(alloc, xid, &Message::StatsReply(stats))
 }
 
-/// The parts of a reply as messages.
+/// Encodes the parts of a reply as messages.
 fn encode_parts(
     alloc: Global,
     xid: u32,
@@ -295,7 +295,7 @@ fn encode_parts(
     Ok(MessageList::from_vec(messages))
 }
 
-/// The messages of a reply with these rows, in as few parts as they fill.
+/// Returns the messages of a reply with these rows, in as few parts as they fill.
 pub(crate) fn reply(
     alloc: Global,
     xid: u32,

@@ -35,7 +35,7 @@ fn set_links(all: &mut [Port], number: PortNo, up: bool)
     }
 }
 
-/// What a change of a port sends: a PORT_STATUS with its description.
+/// Returns what a change of a port sends: a PORT_STATUS with its description.
 fn tell(alloc: Global, reason: u8, dpid: Dpid, port: &Port) -> Result<MessageList, AllocError>
     ensures sent { IfOk result (λ list. list ≡ port_status reason dpid port.now ∷ []) }
     ensures readable { IfOk result AreReadable }
@@ -43,7 +43,7 @@ fn tell(alloc: Global, reason: u8, dpid: Dpid, port: &Port) -> Result<MessageLis
     MessageList::one(alloc, port_status(alloc, reason, dpid, port)?)
 }
 
-/// What a link sends that comes or goes: nothing, where it is so already.
+/// Returns what a link sends that comes or goes: nothing, where it is so already.
 fn tell_link(
     alloc: Global,
     dpid: Dpid,
@@ -66,7 +66,7 @@ fn tell_link(
     }
 }
 
-/// What a port sends that goes.
+/// Returns what a port sends that goes.
 fn tell_deletion(
     alloc: Global,
     dpid: Dpid,
@@ -82,7 +82,7 @@ fn tell_deletion(
     }
 }
 
-/// Whether a port of the number can come: there is none, and room for one.
+/// Tells whether a port of the number can come: there is none, and room for one.
 fn can_add(all: &[Port], number: PortNo) -> bool
     ensures value { result ≡ can_add number all.now }
     ensures room { result ≡ true → length all.now < 64 }
@@ -90,7 +90,7 @@ fn can_add(all: &[Port], number: PortNo) -> bool
     port_of(all, number).is_none() && all.len() < MOST_PORTS
 }
 
-/// The numbers that were ports, with one more.
+/// Returns the numbers that were ports, with one more.
 fn with_number(alloc: Global, had: &[PortNo], number: PortNo) -> Result<Vec<PortNo>, AllocError>
     ensures { IfOk result (λ numbers. numbers.items ≡ with_number number had.now) }
 {
@@ -101,7 +101,7 @@ fn with_number(alloc: Global, had: &[PortNo], number: PortNo) -> Result<Vec<Port
     Ok(numbers)
 }
 
-/// Where a port of a number stands among others.
+/// Finds where a port of a number stands among others.
 fn place_of(all: &[Port], number: PortNo) -> usize
     ensures within { result ≤ length all.now }
     ensures place { (p : PortState) → p.number ≡ number → insert_port p all.now ≡ insert all.now result p }
@@ -132,7 +132,7 @@ fn remove_port(all: &mut Vec<Port>, number: PortNo)
 }
 
 impl SimSwitch {
-    /// A link comes or goes.
+    /// Lets a link come or go.
     fn change_link(&mut self, number: PortNo, up: bool) -> Result<MessageList, AllocError>
         ensures sent { IfOk result (λ list. list ≡ sent_by_link up self.old.declared.dpid (port_at number self.old.ports)) }
         ensures readable { IfOk result AreReadable }
@@ -144,7 +144,7 @@ impl SimSwitch {
         Ok(messages)
     }
 
-    /// A port comes.
+    /// Lets a port come.
     #[tactic(auto, unfolding(flow_table::specs::Step::after_port_change, flow_table::specs::Step::sent_by_port_change))]
     fn add_port(&mut self, number: PortNo) -> Result<MessageList, AllocError>
         ensures sent { IfOk result (λ list. list ≡ sent_by_port_change number PortChange.Add self.old) }
@@ -163,7 +163,7 @@ impl SimSwitch {
         Ok(messages)
     }
 
-    /// A port goes.
+    /// Lets a port go.
     fn delete_port(&mut self, number: PortNo) -> Result<MessageList, AllocError>
         ensures sent { IfOk result (λ list. list ≡ sent_by_deletion self.old.declared.dpid (port_at number self.old.ports)) }
         ensures readable { IfOk result AreReadable }
@@ -175,7 +175,7 @@ impl SimSwitch {
         Ok(messages)
     }
 
-    /// A port changes.
+    /// Changes a port.
     #[tactic(auto, unfolding(flow_table::specs::Step::after_port_change, flow_table::specs::Step::sent_by_port_change))]
     fn change_port(&mut self, number: PortNo, change: PortChange) -> Result<MessageList, AllocError>
         ensures sent { IfOk result (λ list. list ≡ sent_by_port_change number change self.old) }

@@ -36,7 +36,7 @@ pub(crate) fn change(
     Ok(write_all(room, notices.as_slice()))
 }
 
-/// The FLOW_REMOVED messages of the entries that are due at a moment.
+/// Returns the FLOW_REMOVED messages of the entries that are due at a moment.
 pub(crate) fn due(alloc: Global, table: &Table, now: u64) -> Result<MessageList, AllocError>
     requires now { IsMoment now table.now.entries }
     requires each { All (IsEntryAt now) table.now.entries }

@@ -1,6 +1,7 @@
 //! A world whose acts are told in words.
 
 ghost use Rattle.std.specs.Prelude.{◌≡◌, ℕ, ◌<◌, ◌≤◌, length, IsOk};
+ghost use Rattle.std.specs.Borrow.{Lends, sem};
 ghost use Rattle.of_wire.specs.Reading.{reading_of};
 ghost use Rattle.outside.specs.Seen.{Seen};
 
@@ -9,30 +10,68 @@ use lego_io::Sink;
 use of_types::Dpid;
 use outside::{GiveFault, Item, LinkFault, NextFault, OpenFault, Short, StartFault, Taken, World};
 use std::alloc::Global;
+use std::marker::Model;
 
-/// A world that passes each call on to another one, and then writes what happened to a sink, as lines in plain words.
+/// A world that passes each call on to another one, and then writes what happened to a sink, as lines in plain words, or is
+/// silent. Contracts see it as the world within.
 ///
 /// A line that memory is short for, or that the sink does not take, is left out; the answer of the call stays.
 #[derive(Drop)]
 pub struct Traced<W, K> {
     world: W,
     scribe: Scribe<K>,
+    is_silent: bool,
+}
+
+impl<W, K> Model for Traced<W, K> {
+    ghost Value = { W };
+
+    ghost view = { λ s. s.world };
 }
 
 impl<W: World + Drop, K: Sink + Drop> Traced<W, K> {
+    ghost use Rattle.trace_world.specs.contracts.traced.Traced.{the_row};
+
     /// Returns this world, whose acts are told from now on. Takes no memory.
     pub fn new(alloc: Global, world: W, sink: K) -> Traced<W, K>
-        ensures { ⟦<Traced<W, K> as World>⟧.seen result ≡ W.seen world }
+        ensures { result ≡ world }
     {
         Traced {
             world,
             scribe: Scribe::new(alloc, sink),
+            is_silent: false,
         }
+    }
+
+    /// Returns this world, and never writes to the sink. Takes no memory.
+    pub fn silent(alloc: Global, world: W, sink: K) -> Traced<W, K>
+        ensures { result ≡ world }
+    {
+        Traced {
+            world,
+            scribe: Scribe::new(alloc, sink),
+            is_silent: true,
+        }
+    }
+
+    /// Lends the world within.
+    pub fn world(&self) -> &W
+        ensures { result.now ≡ self.now }
+    {
+        &self.world
+    }
+
+    /// Lends the world within. What is done on it is not told.
+    pub fn world_mut(&mut self) -> &mut W
+        ensures value { result.now ≡ self.old }
+        ensures* writes_back { sem 𝓛 (Lends (the_row W.row K.row) W.row self.entry result (λ w. w)) }
+    {
+        &mut self.world
     }
 
     /// Gives back the world and the sink. Takes no memory.
     pub fn into_parts(self) -> (W, K)
-        ensures { W.seen result.0 ≡ ⟦<Traced<W, K> as World>⟧.seen self }
+        ensures { result.0 ≡ self }
     {
         (self.world, self.scribe.into_sink())
     }
@@ -43,52 +82,68 @@ impl<W: World + Drop, K: Sink + Drop> World for Traced<W, K> {
 
     ghost Own = { W.Own };
 
-    ghost seen = { λ s. W.seen s.world };
+    ghost seen = { W.seen };
 
     fn open(&mut self, port: u16) -> Result<(), OpenFault> {
         let answer = self.world.open(port);
-        self.scribe.opened(port, answer);
+        if !self.is_silent {
+            self.scribe.opened(port, answer);
+        }
         answer
     }
 
     fn next(&mut self, buf: &mut [u8]) -> Result<Item, NextFault> {
         let answer = self.world.next(buf);
-        self.scribe.came(answer, buf);
+        if !self.is_silent {
+            self.scribe.came(answer, buf);
+        }
         answer
     }
 
     fn start(&mut self, app: u32, words: &[String]) -> Result<(), StartFault> {
         let answer = self.world.start(app, words);
-        self.scribe.started(app, answer);
+        if !self.is_silent {
+            self.scribe.started(app, answer);
+        }
         answer
     }
 
     fn give(&mut self, app: u32, bytes: &[u8]) -> Result<(), GiveFault> {
         let answer = self.world.give(app, bytes);
-        self.scribe.gave(app, bytes, answer);
+        if !self.is_silent {
+            self.scribe.gave(app, bytes, answer);
+        }
         answer
     }
 
     fn take(&mut self, app: u32, buf: &mut [u8]) -> Result<Taken, Short> {
         let answer = self.world.take(app, buf);
-        self.scribe.took(app, answer, buf);
+        if !self.is_silent {
+            self.scribe.took(app, answer, buf);
+        }
         answer
     }
 
     fn end(&mut self, app: u32) {
         self.world.end(app);
-        self.scribe.ended(app);
+        if !self.is_silent {
+            self.scribe.ended(app);
+        }
     }
 
     fn send(&mut self, dpid: Dpid, frame: &[u8]) -> Result<(), LinkFault> {
         let answer = self.world.send(dpid, frame);
-        self.scribe.sent(dpid, frame, answer);
+        if !self.is_silent {
+            self.scribe.sent(dpid, frame, answer);
+        }
         answer
     }
 
     fn recv(&mut self, dpid: Dpid, buf: &mut [u8]) -> Result<usize, LinkFault> {
         let answer = self.world.recv(dpid, buf);
-        self.scribe.received(dpid, answer, buf);
+        if !self.is_silent {
+            self.scribe.received(dpid, answer, buf);
+        }
         answer
     }
 }

@@ -181,7 +181,18 @@ class App:
         in_port: int = Port.NONE,
         buffer_id: int = NO_BUFFER,
     ) -> None:
-        """Sends a frame as the actions say, when the turn is done. in_port is where it is said to have come in."""
+        """Sends a frame as the actions say when the turn is done, behind its changes; if the turn fails it is not sent.
+
+        actions    Outputs say where it goes; Port.TABLE has the switch look it up in its table
+        data       the whole frame
+        in_port    the port that it is said to have come in by, 0 to 65,535; Port.NONE for none
+        buffer_id  a buffer of the switch that has the frame, in place of data; LegoSDN takes none
+
+        The host answers this call by itself. What the switch answers is an event of a later turn, also where it refuses
+        an output (`on_error`).
+        """
+        if bool(data) == (buffer_id != NO_BUFFER):
+            raise ValueError("a packet has its frame in data or in a buffer, and not in both")
         self.send(dpid, messages.PacketOut(tuple(actions), data, int(in_port), buffer_id))
 
     def port_mod(self, dpid: int, port_no: int, hw_addr: str, *, config: int, mask: int, advertise: int = 0) -> None:

@@ -19,6 +19,12 @@ def check_range(name: str, value: int, most: int, least: int = 0) -> None:
         raise ValueError(f"{name} is {value}, and must be from {least} to {most}")
 
 
+def check_bytes(name: str, value: bytes) -> None:
+    """Raises TypeError unless value is bytes."""
+    if not isinstance(value, (bytes, bytearray)):
+        raise TypeError(f"{name} is a {type(value).__name__}, and must be bytes")
+
+
 def mac_bytes(text: str) -> bytes:
     """The 6 bytes of an Ethernet address such as 02:00:00:00:00:01."""
     if not _MAC.fullmatch(text.lower()):

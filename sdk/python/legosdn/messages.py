@@ -12,7 +12,7 @@ from typing import ClassVar, Union, get_args
 from .actions import Action, decode_actions, encode_actions
 from .codes import NO_BUFFER, FlowCommand, Port
 from .errors import DecodeError, error_names
-from .fields import check_range, mac_bytes, mac_text, need, padded_text, text_bytes
+from .fields import check_bytes, check_range, mac_bytes, mac_text, need, padded_text, text_bytes
 from .match import Match
 
 VERSION = 1
@@ -328,6 +328,7 @@ class PacketOut:
     buffer_id: int = NO_BUFFER
 
     def __post_init__(self) -> None:
+        check_bytes("data", self.data)
         check_range("in_port", self.in_port, 0xFFFF)
         check_range("buffer_id", self.buffer_id, 0xFFFF_FFFF)
 

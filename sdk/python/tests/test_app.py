@@ -114,6 +114,16 @@ class Requests(unittest.TestCase):
                 ANSWER_DONE,
             ),
             (
+                lambda app, dpid: app.packet_out(dpid, (SetVlanVid(5), Output(Port.TABLE)), hexed(G)),
+                "01 0d 004a 00000000 ffffffff ffff 0010 0001 0008 0005 0000 0000 0008 fff9 0000" + G,
+                ANSWER_DONE,
+            ),
+            (
+                lambda app, dpid: app.packet_out(dpid, [Output(2)], buffer_id=5),
+                "01 0d 0018 00000000 00000005 ffff 0008" + OUT_2,
+                framed(3, "01 0001 0008"),
+            ),
+            (
                 lambda app, dpid: app.port_mod(
                     dpid, 2, "02:00:00:01:00:02", config=PortConfig.NO_FLOOD, mask=PortConfig.NO_FLOOD
                 ),
@@ -124,7 +134,8 @@ class Requests(unittest.TestCase):
             (lambda app, dpid: app.barrier(dpid), "01 12 0008 00000000", ANSWER_DONE),
             (lambda app, dpid: app.send(dpid, messages.FeaturesRequest()), "01 05 0008 00000000", ANSWER_DONE),
         )
-        self.assertEqual(seen, [None] * 5)
+        self.assertEqual(str(seen.pop(2)), "OFPET_BAD_REQUEST/OFPBRC_BUFFER_UNKNOWN (1,8)")
+        self.assertEqual(seen, [None] * 6)
 
     def test_statistics(self):
         counts = "0000000000000007 0000000000000003 000000000000012c"
@@ -181,6 +192,8 @@ class Requests(unittest.TestCase):
             (lambda app, dpid: app.add_flow(dpid, Match(), [], priority=65536), ValueError),
             (lambda app, dpid: app.add_flow(1 << 64, Match(), []), ValueError),
             (lambda app, dpid: app.packet_out(dpid, [], bytes(65520)), ValueError),
+            (lambda app, dpid: app.packet_out(dpid, [Output(2)]), ValueError),
+            (lambda app, dpid: app.packet_out(dpid, [Output(2)], b"frame", buffer_id=5), ValueError),
         ]
         app = asking(*(call for call, _ in calls))
         with running(self, app) as host:

@@ -6,7 +6,7 @@ import unittest
 
 from . import PYTHON
 from .fake_host import child
-from .vectors import ANSWER_DONE, ANY, DONE, G, OUT_2, event, flow_mod, framed, in_port, joined, message, packet_in, port
+from .vectors import ANSWER_DONE, ANY, DONE, G, OUT_2, event, flow_mod, framed, in_port, joined, message, packet_in, packet_out, port
 
 OUT_1 = "0000 0008 0001 0000"
 OUT_3 = "0000 0008 0003 0000"
@@ -41,22 +41,32 @@ class Examples(unittest.TestCase):
         # in_port, dl_src and dl_dst are the bits 0, 2 and 3 of the wildcards.
         pair = flow_mod("003820f2 0002 020000000002 020000000001" + "00" * 22, OUT_1, priority=100, idle=60, hard=300)
         answer = "020000000001 020000000002 88b5"
+        flooded, sent = packet_out(FLOOD, 1, G), packet_out(OUT_1, 2, answer)
         with self.example("learning_switch") as program:
             host = program.host
             host.start()
-            self.all_done(host, joined(1, 1, 2), [flow_mod(ANY, FLOOD + TELL)], done('{"1":{}}'))
-            self.all_done(host, packet_in(2, 1, G), [], done(first))
-            self.all_done(host, packet_in(3, 2, answer), [pair], done(both))
-            self.all_done(host, packet_in(4, 2, "0000"), [], done(both))
-            host.ask(packet_in(5, 2, answer), message(1, pair))
-            host.ask(framed(3, "01 0003 0000"), done(both))
-            self.all_done(host, event(6, 2, 1, port(1) + port(2)), [], done("{}"))
-            self.all_done(host, packet_in(7, 1, G, reason=0), [flow_mod(ANY, FLOOD + TELL)], done(first))
-            said = "event 5: no entry from 02:00:00:00:00:02 to 02:00:00:00:00:01: "
-            self.ends_well(program, said + "OFPET_FLOW_MOD_FAILED/OFPFMFC_ALL_TABLES_FULL (3,0)\n")
+            self.all_done(host, joined(1, 1, 2), [], done('{"1":{}}'))
+            self.all_done(host, packet_in(2, 1, G, reason=0), [flooded], done(first))
+            self.all_done(host, packet_in(3, 2, answer, reason=0), [pair, sent], done(both))
+            # No frame, one from a group of stations, and one whose receiver is behind the same port.
+            self.all_done(host, packet_in(4, 2, "0000", reason=0), [], done(both))
+            self.all_done(host, packet_in(5, 2, "020000000001 030000000002 88b5", reason=0), [], done(both))
+            self.all_done(host, packet_in(6, 1, "020000000001 020000000001 88b5", reason=0), [], done(both))
+            # Where the table is full the frame goes on all the same. Of a frame whose front alone came nothing is sent.
+            host.ask(packet_in(7, 2, answer, reason=0), message(1, pair))
+            host.ask(framed(3, "01 0003 0000"), message(1, sent))
+            host.ask(ANSWER_DONE, done(both))
+            front = event(8, 3, 1, f"01 0a 0020 00000000 00000007 0040 0002 00 00 {answer}")
+            self.all_done(host, front, [pair], done(both))
+            self.all_done(host, event(9, 2, 1, port(1) + port(2)), [], done("{}"))
+            host.ask(packet_in(10, 1, G, reason=0), message(1, flooded))
+            host.ask(framed(3, "03"), done(first))
+            match = "in_port=2,dl_src=02:00:00:00:00:02,dl_dst=02:00:00:00:00:01"
+            said = f"event 7: no entry for {match}: OFPET_FLOW_MOD_FAILED/OFPFMFC_ALL_TABLES_FULL (3,0)\n"
+            self.ends_well(program, said + "event 8: 14 of 64 bytes of a frame are here\nevent 10: switch 1 has left\n")
         with self.example("learning_switch") as program:
             program.host.start(framed(1, first.encode().hex()))
-            self.all_done(program.host, packet_in(7, 2, answer), [pair], done(both))
+            self.all_done(program.host, packet_in(7, 2, answer, reason=0), [pair, sent], done(both))
             self.ends_well(program, "")
 
     def test_learning_by_additions(self):

@@ -2,7 +2,7 @@
 
 import unittest
 
-from legosdn import DecodeError, Match, Output, Port, PortDesc, actions, messages, stats
+from legosdn import DecodeError, Match, Output, Port, PortDesc, actions, messages, packet, stats
 
 from .vectors import ANY, OUT_2, F, flow_mod, hexed, in_port
 
@@ -109,6 +109,10 @@ class Messages(unittest.TestCase):
         ):
             with self.assertRaises(ValueError):
                 make()
+
+    def test_a_packet_has_bytes(self):
+        with self.assertRaisesRegex(TypeError, "^data is a Packet, and must be bytes$"):
+            messages.PacketOut((), packet.Packet(b""))
 
     def test_the_longest_message(self):
         data = messages.encode(messages.Hello(bytes(65527)))

@@ -8,7 +8,7 @@ import legosdn
 from legosdn import App, Match, OpenFlowError, Output, UnknownSwitch, messages, rehearsal
 
 from . import PYTHON
-from .vectors import ANY, OUT_2, F, G, event, flow_mod, hexed, in_port, joined, packet_in, port
+from .vectors import ANY, OUT_2, F, G, event, flow_mod, hexed, in_port, joined, packet_in, packet_out, port
 
 sys.path.insert(0, os.path.join(PYTHON, "examples"))
 from learning_switch import LearningSwitch  # noqa: E402
@@ -38,12 +38,13 @@ class Rehearsals(unittest.TestCase):
         turns = rehearsal.rehearse(
             LearningSwitch(), [rehearsal.join(1, [1, 2]), rehearsal.packet_in(1, 1, ETH), rehearsal.packet_in(1, 2, frame)]
         )
-        self.assertEqual(turns[0].said, ["add 1 any out=flood out=controller:65535"])
-        self.assertEqual(turns[1].said, [])
+        self.assertEqual(turns[0].said, [])
+        self.assertEqual(turns[1].said, [f"packet_out 1 in=1 out=flood {ETH}"])
         pair = "in_port=2 dl_src=02:00:00:00:00:02 dl_dst=02:00:00:00:00:01"
-        self.assertEqual(turns[2].said, [f"add 1 {pair} prio=100 idle=60 hard=300 out=1"])
+        self.assertEqual(turns[2].said, [f"add 1 {pair} prio=100 idle=60 hard=300 out=1", f"packet_out 1 in=2 out=1 {frame}"])
         self.assertEqual(turns[1].state, b'{"1":{"02:00:00:00:00:01":1}}')
-        self.assertEqual(turns[1].line("learn"), "reply learn done:" + turns[1].state.hex())
+        flooded = "m:1:" + packet_out("0000 0008 fffb 0000", 1, F).replace(" ", "")
+        self.assertEqual(turns[1].line("learn"), f"reply learn {flooded} done:" + turns[1].state.hex())
         self.assertEqual([turn.raised for turn in turns], [None] * 3)
 
     def test_answers_and_lines(self):

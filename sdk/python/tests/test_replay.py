@@ -42,7 +42,8 @@ end 0 events 2
 """
 
 
-# A question from port 1 and its answer from port 2, 42 bytes each. Both meet the entry that floods, which tells them too.
+# A question from port 1, its answer from port 2, and the question again, 42 bytes each. The first one is flooded as a packet. The other two
+# get an entry each, and are sent on.
 ASKED = "eth dst=02:00:00:00:00:02 src=02:00:00:00:00:01 ip src=10.0.0.1 dst=10.0.0.2 udp src=53 dst=54"
 ANSWERED = "eth dst=02:00:00:00:00:01 src=02:00:00:00:00:02 ip src=10.0.0.2 dst=10.0.0.1 udp src=54 dst=53"
 LEARNT = """\
@@ -51,15 +52,20 @@ event 1 join 1
 turn app done
 event 2 packet_in 1
 turn app done
+out 1 42
 event 3 packet_in 1
 turn app done
+out 1 42
+event 4 packet_in 1
+turn app done
+out 1 42
 switch 1 flows 2
+flow 100 in_port=1,dl_src=02:00:00:00:00:01,dl_dst=02:00:00:00:00:02 cookie=0 idle=60 hard=300 flags=0 packets=1 bytes=42 age=0 \
+actions=0000000800020000  # out=2
 flow 100 in_port=2,dl_src=02:00:00:00:00:02,dl_dst=02:00:00:00:00:01 cookie=0 idle=60 hard=300 flags=0 packets=0 bytes=0 age=0 \
 actions=0000000800010000  # out=1
-flow 0 any cookie=0 idle=0 hard=0 flags=0 packets=2 bytes=84 age=0 actions=00000008fffb000000000008fffdffff  \
-# out=flood out=controller:65535
-app app alive done 3 failed 0
-end 0 events 3
+app app alive done 4 failed 0
+end 0 events 4
 """
 
 
@@ -74,6 +80,9 @@ class Replay(unittest.TestCase):
         self.check(WORDS, REPORT)
 
     def test_an_application_that_was_rehearsed(self):
-        turns = rehearse(LearningSwitch(), [join(1, [1, 2]), packet_in(1, 1, ASKED), packet_in(1, 2, ANSWERED)])
+        frames = [(1, ASKED), (2, ANSWERED), (1, ASKED)]
+        turns = rehearse(LearningSwitch(), [join(1, [1, 2]), *(packet_in(1, by, frame) for by, frame in frames)])
         front = ["---", "session 1", "switch 1 ports 1,2 room 4", *(turn.line() for turn in turns)]
-        self.check("\n".join([*front, "join 1", f"frame 1 port 1 {ASKED}", f"frame 1 port 2 {ANSWERED}"]), LEARNT)
+        # The last frame meets its entry.
+        frames.append((1, ASKED))
+        self.check("\n".join([*front, "join 1", *(f"frame 1 port {by} {frame}" for by, frame in frames)]), LEARNT)

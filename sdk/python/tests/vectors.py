@@ -32,6 +32,12 @@ def flow_mod(match: str, actions: str = "", **fields: int) -> str:
     return f"{front} {has['idle']:04x} {has['hard']:04x} {has['priority']:04x} ffffffff ffff {has['flags']:04x} {actions}"
 
 
+def packet_out(actions: str, by: int, frame: str) -> str:
+    """A PACKET_OUT (5.3.6) with xid 0 and without a buffer: a whole frame that came in by a port."""
+    size = len(actions.replace(" ", "")) // 2
+    return f"01 0d {16 + size + len(frame.replace(' ', '')) // 2:04x} 00000000 ffffffff {by:04x} {size:04x} {actions} {frame}"
+
+
 def framed(kind: int, body: str = "") -> str:
     """A frame between host and application: the length of kind and body, the kind, the body."""
     return f"{1 + len(body.replace(' ', '')) // 2:08x} {kind:02x} {body}"

@@ -1,5 +1,5 @@
 -- Laws of staging: steps add up, nothing is staged after `keep` and after `drop_staged`, and no other place changes.
-use Rattle.std.proofs.Common.{◌≡◌, ◌≢◌, ℕ, ◌<◌, List, [], ◌∷◌, ◌++◌, length, refl, sym, ap, ◌∙◌, get_or-set_same, get_or-set_other, length-set}
+use Rattle.std.proofs.Common.{◌≡◌, ℕ, ◌<◌, List, [], ◌∷◌, ◌++◌, length, refl, sym, ap, ◌∙◌, get_or-set_same, length-set}
 use Rattle.checkpoint_store.specs.declared.turned.Turned.{Turned}
 use Rattle.checkpoint_store.specs.Past.{Past, Step, checkpoints, remembers, forgets, kept_after, remembered_after, after}
 use Rattle.checkpoint_store.specs.Slots.{Slot, empty_slot, staged, done, dropped, slot_of, with_slot, HasStaged}
@@ -24,10 +24,6 @@ after-append past xs ys = rw (kept_after-append past.checkpoint xs ys, remembere
 pub HasStaged-staged : (steps : List Step) (step : Step) (slot : Slot) → HasStaged steps slot → HasStaged (steps ++ step ∷ []) (staged step slot)
 HasStaged-staged steps step slot h = ap (λ (past : Past). after past (step ∷ [])) h ∙ sym (after-append slot.kept steps (step ∷ []))
 
--- what is staged is kept, in order
-pub kept-done : (steps : List Step) (slot : Slot) → HasStaged steps slot → (done slot).kept ≡ after slot.kept steps
-kept-done steps slot h = h
-
 -- nothing is staged after `keep`
 pub HasStaged-done : (slot : Slot) → HasStaged [] (done slot)
 HasStaged-done slot = refl
@@ -36,17 +32,9 @@ HasStaged-done slot = refl
 pub HasStaged-dropped : (slot : Slot) → HasStaged [] (dropped slot)
 HasStaged-dropped slot = refl
 
--- `keep` changes nothing where nothing is staged
-pub done-nothing : (slot : Slot) → HasStaged [] slot → done slot ≡ slot
-done-nothing slot h = let e : slot.pending ≡ slot.kept = h in ap (λ (past : Past). record slot { kept = past }) e
-
 -- the place that changes
 pub slot_of-with_slot : (app : ℕ) (change : Slot → Slot) (slots : List Slot) → app < length slots → slot_of app (with_slot app change slots) ≡ change (slot_of app slots)
 slot_of-with_slot app change slots lt = get_or-set_same slots app (change (slot_of app slots)) empty_slot lt
-
--- each other place
-pub slot_of-with_other_slot : (app other : ℕ) (change : Slot → Slot) (slots : List Slot) → other ≢ app → slot_of other (with_slot app change slots) ≡ slot_of other slots
-slot_of-with_other_slot app other change slots ne = get_or-set_other slots app other (change (slot_of app slots)) empty_slot ne
 
 -- no place comes and none goes
 pub length-with_slot : (app : ℕ) (change : Slot → Slot) (slots : List Slot) → length (with_slot app change slots) ≡ length slots

@@ -2,6 +2,7 @@
 use Rattle.std.specs.Prelude.{◌≡◌, ◌==◌, ℕ, Bool, true, false, not, ◌&&◌, List, [], ◌∷◌, ◌++◌, filter, refl}
 use Rattle.std.specs.List.{AllByRecursion}
 use Rattle.std.proofs.Common.{sym, ap, ◌∙◌, true≢false}
+use Rattle.std.proofs.lemmas.Bool.{and_parts}
 use Rattle.of_types.specs.declared.journal.Act.{Act}
 use Rattle.of_types.specs.declared.journal.Act.TheVariants.{Stim, Started, Gave, Gone, Took, Ended, Sent, Got}
 use Rattle.lego_model.specs.Journal.{stimuli, inputs, is_of, is_event}
@@ -55,10 +56,6 @@ pub calls_both : (app : ℕ) (xs ys : List Act) → Calls app xs → Calls app y
 calls_both app [] ys all rest = rest
 calls_both app (x ∷ xs) ys all rest = (all.0, calls_both app xs ys all.1 rest)
 
-both_first : (x y : Bool) → (x && y) ≡ true → x ≡ true
-both_first true y is = refl
-both_first false y is = absurd (true≢false (sym is))
-
 pub both_second : (x y : Bool) → (x && not y) ≡ true → y ≡ false
 both_second true true is = absurd (true≢false (sym is))
 both_second true false is = refl
@@ -66,8 +63,8 @@ both_second false y is = absurd (true≢false (sym is))
 
 pub call_of : (app : ℕ) (act : Act) → is_call app act ≡ true → is_of app act ≡ true
 call_of app (Started of stands) is = is
-call_of app (Gave to bytes) is = both_first (to == app) (not (is_event bytes)) is
-call_of app (Gone to bytes) is = both_first (to == app) (not (is_event bytes)) is
+call_of app (Gave to bytes) is = (and_parts (to == app) (not (is_event bytes)) is).0
+call_of app (Gone to bytes) is = (and_parts (to == app) (not (is_event bytes)) is).0
 call_of app (Took from what) is = is
 call_of app (Ended of) is = is
 call_of app (Stim x) is = is

@@ -1,5 +1,5 @@
 -- Laws of longer lists of acts: what a turn, an attempt and an end add to what the acts before tell.
-use Rattle.std.specs.Prelude.{◌≡◌, ◌==◌, ℕ, Bool, true, false, not, ◌&&◌, List, [], ◌∷◌, ◌++◌, map, filter, if◌then◌else◌, refl}
+use Rattle.std.specs.Prelude.{◌≡◌, ◌==◌, ℕ, Bool, true, false, List, [], ◌∷◌, ◌++◌, map, filter, if◌then◌else◌, refl}
 use Rattle.std.specs.List.{flat_map, cons_option}
 use Rattle.std.proofs.Common.{sym, ap, ◌∙◌, subst, append_assoc, true≢false}
 use Rattle.std.proofs.lemmas.List.{append-nil, map-append}
@@ -10,6 +10,7 @@ use Rattle.of_types.specs.declared.journal.Act.TheVariants.{Stim, Started, Gave,
 use Rattle.lego_model.specs.Journal.{End, Untold, Attempt, Start, Reply, Asked, in_attempts, is_event, in_turns, piece_of, pieces, end_by, end_from, gave, was_gone, any_gone, start_of, reply_of}
 use Rattle.lego_model.specs.laws.JournalLaws.{in_attempts-started}
 use Rattle.journal_laws.specs.Readings.{LastStands, is_within, Within, event_act, end_acts, ReadsSame, ReadsTurn, ReadsAttempt}
+use Rattle.journal_laws.specs.laws.CallLaws.{both_second}
 use Rattle.lego_model.specs.History.{starts_in, replies_at, replies_in}
 
 -- ---- Acts within a turn or an attempt begin none
@@ -18,15 +19,9 @@ pub Within-append : (app : ℕ) (xs ys : List Act) → Within app xs → Within 
 Within-append app [] ys all rest = rest
 Within-append app (x ∷ xs) ys all rest = (all.0, Within-append app xs ys all.1 rest)
 
-no_event : (same event : Bool) → (same && not event) ≡ true → event ≡ false
-no_event true false is = refl
-no_event true true is = absurd (true≢false (sym is))
-no_event false false is = refl
-no_event false true is = absurd (true≢false (sym is))
-
 turns_one : (app : ℕ) (act : Act) (acts : List Act) → is_within app act ≡ true → in_turns (act ∷ acts) ≡ (act ∷ (in_turns acts).0, (in_turns acts).1)
-turns_one app (Gave to bytes) acts is = rw (no_event (to == app) (is_event bytes) is) refl
-turns_one app (Gone to bytes) acts is = rw (no_event (to == app) (is_event bytes) is) refl
+turns_one app (Gave to bytes) acts is = rw (both_second (to == app) (is_event bytes) is) refl
+turns_one app (Gone to bytes) acts is = rw (both_second (to == app) (is_event bytes) is) refl
 turns_one app (Took from what) acts is = refl
 turns_one app (Ended of) acts is = refl
 turns_one app (Stim x) acts is = refl

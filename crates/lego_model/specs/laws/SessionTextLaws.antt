@@ -6,6 +6,7 @@ use Rattle.std.proofs.lemmas.List.Elements.{All-weaker}
 use Rattle.std.proofs.lemmas.List.{append-nil}
 use Rattle.std.proofs.lemmas.List.Folds.{list_any-append}
 use Rattle.std.proofs.lemmas.List.Quantifiers.{all_pairs_push}
+use Rattle.outside.specs.Conforming.{may_be_raw}
 use Rattle.of_types.specs.declared.journal.WorldStim.{WorldStim}
 use Rattle.of_types.specs.declared.journal.WorldStim.TheVariants.{Join, Leave, At, Of}
 use Rattle.of_wire.specs.Reading.{reading_of}
@@ -18,7 +19,7 @@ use Rattle.lego_model.specs.declared.session.SessionKind.TheVariants.{Long, Text
 use Rattle.lego_model.specs.Words.{is_word, words_of}
 use Rattle.lego_model.specs.SessionWords.{◌>>=◌, a_number, last_number, some_bytes, are_ports, some_ports, an_app}
 use Rattle.lego_model.specs.SessionSteps.{are_steps, steps_of}
-use Rattle.lego_model.specs.SessionLines.{SessionValue, SoFar, is_declared, a_switch, a_new_switch, with_switch, with_start, with_reply, with_fault, with_stimulus, most_stimuli, one_more, if_known, start_word, change_word, may_be_raw, switch_line, start_line, reply_line, fault_line, join_line, leave_line, at_line, frame_line, port_line, count_line, raw_line, line_of_two, line_of_three, line_of_four, line_of_five, fixed_line, is_reply, reply_words, line_of}
+use Rattle.lego_model.specs.SessionLines.{SessionValue, SoFar, is_declared, a_switch, a_new_switch, with_switch, with_start, with_reply, with_fault, with_stimulus, most_stimuli, one_more, if_known, start_word, change_word, switch_line, start_line, reply_line, fault_line, join_line, leave_line, at_line, frame_line, port_line, count_line, raw_line, line_of_two, line_of_three, line_of_four, line_of_five, fixed_line, is_reply, reply_words, line_of}
 use Rattle.lego_model.specs.SessionText.{Progress, at_first, is_skipped, is_printable, going_on, is_opening, plain_line, next_line, in_line, lines_from, session_text, ◌>>=◌ as ◌|>>=|◌}
 use Rattle.lego_model.specs.SessionFacts.{IsPort, IsSwitch, IsKnown, IsStimulus, IsFault, moments, IsSession, IsOf}
 use Rattle.flow_table.specs.Table.{last_moment}

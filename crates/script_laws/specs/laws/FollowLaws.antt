@@ -29,7 +29,7 @@ use Rattle.sim_world.specs.Scripts.{Scripts, Life, fresh, starts_of, replies_of,
 use Rattle.sim_world.specs.laws.ScriptLaws.{fault-none, taken-left, kept-left}
 use Rattle.sim_world.specs.laws.LifeLaws.{drop-next, slice_get-drop, after_start-refused}
 use Rattle.script_laws.specs.Ahead.{HasRoom, Ahead, start_ahead, turn_ahead, is_end, after, May, Goes}
-use Rattle.script_laws.specs.laws.ReadLaws.{reads, replies_all}
+use Rattle.script_laws.specs.laws.ReadLaws.{reads, replies_all, not_true}
 
 -- ---- Events
 
@@ -119,10 +119,6 @@ module _ (own : Scripts) (app : ℕ) where
   started_may : (of : ℕ) (stands : Bool) (ended : Bool) (l : Life) → l.running ≡ false → stands ≡ will_start own [] app l → May (Started of stands) (ahead l ended)
   started_may of stands ended l stopped is = (stopped, is ∙ starts_by own app l stopped ∙ ap (λ (s : StartScript). not (is_refused s)) (sym (start_so l)))
 
-  is_so : (b : Bool) → false ≡ not b → b ≡ true
-  is_so true is = refl
-  is_so false is = absurd (true≢false (sym is))
-
   stopped_still : (l : Life) → l.running ≡ false → (after_start own [] app false l).running ≡ false
   unfolding after_start
   stopped_still l stopped = stopped
@@ -141,7 +137,7 @@ module _ (own : Scripts) (app : ℕ) where
       let idle = so.running ∙ stopped in
       record {
         may = started_may of false s.ended l idle is;
-        ahead_so = refused_so of s.ended l idle (is_so (is_refused (next_start own app l)) (is ∙ starts_by own app l idle));
+        ahead_so = refused_so of s.ended l idle (not_true (is_refused (next_start own app l)) (is ∙ starts_by own app l idle));
         stands = record { running = stopped_still l idle; waits = λ e. absurd (true≢false (sym e)) };
       }
 

@@ -48,7 +48,7 @@ not_false : (b : Bool) → true ≡ not b → b ≡ false
 not_false false is = refl
 not_false true is = absurd (true≢false is)
 
-not_true : (b : Bool) → false ≡ not b → b ≡ true
+pub not_true : (b : Bool) → false ≡ not b → b ≡ true
 not_true true is = refl
 not_true false is = absurd (true≢false (sym is))
 

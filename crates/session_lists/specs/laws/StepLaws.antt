@@ -1,9 +1,9 @@
 -- Laws of steps as records: one step or line more, and each by its number.
-use Rattle.std.specs.Prelude.{◌≡◌, ℕ, ◌+◌, ◌-◌, ◌<◌, ◌≤◌, List, [], ◌∷◌, ◌++◌, length, take, drop, Some, Result, Ok, Err, OnErr, refl, slice_get}
+use Rattle.std.specs.Prelude.{◌≡◌, ℕ, ◌+◌, ◌-◌, ◌<◌, List, [], ◌∷◌, ◌++◌, length, take, drop, Some, Result, Ok, Err, OnErr, refl, slice_get}
 use Rattle.std.specs.Option.{option_map}
 use Rattle.std.proofs.Common.{zero, suc, sym, ap, ◌∙◌, arith, length-append, append_assoc}
 use Rattle.std.proofs.lemmas.List.{map-append, drop-append-le, take-append-le, drop_at, length-drop, length-map, length-take-le}
-use Rattle.std.proofs.lemmas.List.Elements.{All-append, All-nil, All-cons, All-head, All-tail}
+use Rattle.std.proofs.lemmas.List.Elements.{All-head, All-tail}
 use Rattle.std.proofs.lemmas.Option.{slice_get-map}
 use Rattle.app_frames.specs.declared.script.ScriptStep.{ScriptStep}
 use Rattle.session_lists.specs.declared.kinds.StepKind.{StepKind}
@@ -12,16 +12,10 @@ use Rattle.session_lists.specs.Steps.{step_in, steps_in, steps_between, reply_in
 
 -- ---- Steps
 
-pub steps_more : (records : List (StepKind × List ℕ)) (kind : StepKind) (bytes : List ℕ) → steps_in (records ++ (kind, bytes) ∷ []) ≡ steps_in records ++ step_in kind bytes ∷ []
-steps_more records kind bytes = map-append (λ (entry : StepKind × List ℕ). step_in entry.0 entry.1) records ((kind, bytes) ∷ [])
-
 -- all steps
 all_of : {A : Type 0} (xs : List A) (n : ℕ) → n ≡ length xs → take n xs ≡ xs
 all_of [] n is = rw is refl
 all_of (x ∷ xs) n is = rw is (ap (λ ys. x ∷ ys) (all_of xs (length xs) refl))
-
-pub steps_between_all : (records : List (StepKind × List ℕ)) (n : ℕ) → n ≡ length records → steps_between 0 n records ≡ steps_in records
-steps_between_all records n is = all_of (steps_in records) (n - 0) (omega (arith, is, length-map records (λ (entry : StepKind × List ℕ). step_in entry.0 entry.1)))
 
 pub between_count : (first end : ℕ) (records : List (StepKind × List ℕ)) → IsWithin (length records) first end → length (steps_between first end records) ≡ end - first
 between_count first end records within =
@@ -72,9 +66,6 @@ replies_stay records more (line ∷ lines) within =
     (between_stays line.first line.end records more (All-head (IsLineWithin (length records)) line lines within))
     ∙ ap (λ (replies : List (ℕ × List ScriptStep)). reply_in records line ∷ replies) (replies_stay records more lines (All-tail (IsLineWithin (length records)) line lines within))
 
-pub within_more : (count other : ℕ) (lines : List ReplyLine) → count ≤ other → AreWithin count lines → AreWithin other lines
-within_more count other lines more within = λ i line less. ((within i line less).0, omega (arith, more, (within i line less).1))
-
 -- the steps behind those of the lines
 between_new : (records more : List (StepKind × List ℕ)) (first end : ℕ) → first ≡ length records → end ≡ length (records ++ more) → steps_between first end (records ++ more) ≡ steps_in more
 between_new records more first end begins ends =
@@ -90,15 +81,6 @@ replies_more records more lines app first end within begins ends =
     map-append (reply_in (records ++ more)) lines (record { app = app; first = first; end = end } ∷ [])
     ∙ ap (λ (replies : List (ℕ × List ScriptStep)). replies ++ (app, steps_between first end (records ++ more)) ∷ []) (replies_stay records more lines within)
     ∙ ap (λ (steps : List ScriptStep). replies_in records lines ++ (app, steps) ∷ []) (between_new records more first end begins ends)
-
-pub lines_more : (records more : List (StepKind × List ℕ)) (lines : List ReplyLine) (app first end : ℕ) → AreWithin (length records) lines → first ≡ length records → end ≡ length (records ++ more)
-    → AreWithin (length (records ++ more)) (lines ++ record { app = app; first = first; end = end } ∷ [])
-lines_more records more lines app first end within begins ends =
-    let P = IsLineWithin (length (records ++ more)) in
-    let line : ReplyLine = record { app = app; first = first; end = end } in
-    All-append P lines (line ∷ [])
-    (within_more (length records) (length (records ++ more)) lines (omega (arith, length-append records more)) within)
-    (All-cons P line [] (omega (arith, begins, ends, length-append records more), omega (arith, ends)) (All-nil P))
 
 -- lines stay where records come behind theirs, and where none is put to them
 pub kept_lines : (records all more : List (StepKind × List ℕ)) (lines kept : List ReplyLine) → AreWithin (length records) lines → kept ≡ lines → all ≡ records ++ more → replies_in all kept ≡ replies_in records lines

@@ -1,5 +1,5 @@
 -- Laws of a session that is given to a simulated world: that it may be given.
-use Rattle.std.specs.Prelude.{◌≡◌, ◌≢◌, ◌==◌, ℕ, ◌+◌, ◌<◌, ◌≤◌, Bool, true, false, ◌||◌, List, [], ◌∷◌, length, slice_index_or, All, Result, Ok, Err, IsTrue, refl}
+use Rattle.std.specs.Prelude.{◌≡◌, ◌≢◌, ◌==◌, ℕ, ◌+◌, ◌<◌, ◌≤◌, Bool, true, false, ◌||◌, List, [], ◌∷◌, length, slice_index_or, All, IsTrue, refl}
 use Rattle.std.specs.List.{AllPairs, list_any}
 use Rattle.std.proofs.Common.{zero, suc, sym, ap, ◌∙◌, subst, arith}
 use Rattle.std.proofs.lemmas.Bool.{ne_eqb}
@@ -9,20 +9,14 @@ use Rattle.of_types.specs.declared.journal.Stimulus.{Stimulus}
 use Rattle.of_types.specs.declared.journal.Stimulus.TheVariants.{Frame, Advance, Port, Counts, Raw}
 use Rattle.of_types.specs.declared.journal.WorldStim.{WorldStim}
 use Rattle.of_types.specs.declared.journal.WorldStim.TheVariants.{Join, Leave, At, Of}
-use Rattle.of_wire.specs.declared.message.Message.{Message}
-use Rattle.of_wire.specs.declared.message.Message.TheVariants as wire
-use Rattle.of_wire.specs.declared.message.Envelope.{Envelope}
-use Rattle.of_wire.specs.declared.fault.WireFault.{WireFault}
-use Rattle.of_wire.specs.Reading.{reading_of}
-use Rattle.of_wire.specs.Spelling.{kind_of}
 use Rattle.flow_table.specs.Switch.{Declared}
 use Rattle.outside.specs.Seen.{Given, is_declared}
-use Rattle.outside.specs.Conforming.{ArePortsFrom, IsWorldStim, IsStimulus as IsStimulusOf, may_be_raw as may_send, is_unasked as sends_unasked}
+use Rattle.outside.specs.Conforming.{ArePortsFrom, IsWorldStim, IsStimulus as IsStimulusOf}
 use Rattle.sim_world.specs.Scripts.{Scripts}
 use Rattle.sim_world.specs.World.{CanCome}
 use Rattle.sim_world.specs.Building.{insert_declared, with_replies, with_stimuli, nothing_given}
 use Rattle.sim_world.specs.laws.BuildingLaws.{is_declared-insert, length-insert_declared}
-use Rattle.lego_model.specs.SessionLines.{SessionValue, may_be_raw, is_unasked}
+use Rattle.lego_model.specs.SessionLines.{SessionValue}
 use Rattle.lego_model.specs.SessionFacts.{IsPort, IsSwitch, IsKnown, IsStimulus, MayHappen, moments, IsSession}
 use Rattle.session_text.specs.Loading.{declared_of, declared_with, with_switches, with_faults, with_starts, given_by}
 
@@ -115,41 +109,13 @@ known_declared n ds known = declared_then n [] ds ∙ known
 
 -- ---- Stimuli
 
-unasked_same : (m : Message) → is_unasked m ≡ sends_unasked (kind_of m)
-unasked_same (wire.Hello payload) = refl
-unasked_same (wire.Error kind code payload) = refl
-unasked_same (wire.EchoRequest payload) = refl
-unasked_same (wire.EchoReply payload) = refl
-unasked_same (wire.Vendor payload) = refl
-unasked_same wire.FeaturesRequest = refl
-unasked_same (wire.FeaturesReply features) = refl
-unasked_same wire.GetConfigRequest = refl
-unasked_same (wire.GetConfigReply config) = refl
-unasked_same (wire.SetConfig config) = refl
-unasked_same (wire.PacketIn packet) = refl
-unasked_same (wire.FlowRemoved flow) = refl
-unasked_same (wire.PortStatus status) = refl
-unasked_same (wire.PacketOut packet) = refl
-unasked_same (wire.FlowMod flow) = refl
-unasked_same (wire.PortMod port) = refl
-unasked_same (wire.StatsRequest stats) = refl
-unasked_same (wire.StatsReply stats) = refl
-unasked_same wire.BarrierRequest = refl
-unasked_same wire.BarrierReply = refl
-unasked_same (wire.QueueGetConfigRequest payload) = refl
-unasked_same (wire.QueueGetConfigReply payload) = refl
-
-raw_same : (read : Result Envelope WireFault) → may_be_raw read ≡ may_send read
-raw_same (Ok e) = unasked_same e.message
-raw_same (Err fault) = refl
-
 stimulus_of : (x : Stimulus) → MayHappen x → IsStimulusOf x
 unfolding IsStimulusOf
 stimulus_of (Frame port bytes) may = (omega (arith, may.0), may.1.0, may.1.1)
 stimulus_of (Advance t) may = may
 stimulus_of (Port port change) may = may
 stimulus_of (Counts priority packets bytes) may = (omega (arith, may.0), omega (arith, may.1), omega (arith, may.2))
-stimulus_of (Raw bytes) may = (may.0.0, may.0.1, sym (raw_same (reading_of bytes)) ∙ may.1)
+stimulus_of (Raw bytes) may = (may.0.0, may.0.1, may.1)
 
 -- the moments that are named are not before one
 abbrev NotBefore : ℕ → ℕ → Type 0

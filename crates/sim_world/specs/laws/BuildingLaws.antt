@@ -22,13 +22,13 @@ use Rattle.outside.specs.Conforming.{AreDeclaredFrom, MayDeclare, IsWorldStim}
 use Rattle.outside.specs.declared.step.WorldStep.{WorldStep}
 use Rattle.sim_world.specs.Links.{IsDue, fails_at, insert_link}
 use Rattle.sim_world.specs.laws.LinksLaws.{declared_in-with_link, is_declared-link_of}
-use Rattle.sim_world.specs.laws.LinkStepLaws.{AreStanding, AreStanding-may_call}
+use Rattle.sim_world.specs.laws.LinkStepLaws.{AreStanding}
 use Rattle.sim_world.specs.Tally.{last_count, LinkCounts, TallyState, IsTally, CountsFor, counts_of, count_at, none_of, no_counts}
-use Rattle.sim_world.specs.Told.{without_links, without_links-link, without_links-other}
+use Rattle.sim_world.specs.Told.{without_links}
+use Rattle.sim_world.specs.laws.ToldLaws.{without_links-link, without_links-other}
 use Rattle.sim_world.specs.Scripts.{Scripts, Life, fresh, life_through, KeepsScripts}
 use Rattle.sim_world.specs.Lives.{ScriptedLives, life_in}
-use Rattle.sim_world.specs.World.{WorldData, declared_in, given_of, seen_of, nexts_through, IsHistory, Stands, CanCome}
-use Rattle.sim_world.specs.Doing.{AppsStand, LinksStand}
+use Rattle.sim_world.specs.World.{WorldData, all_declared, given_of, seen_of, nexts_through, IsHistory, Stands, CanCome}
 use Rattle.sim_world.specs.Keeping.{Keeps}
 use Rattle.sim_world.specs.Building.{Begins, Gets, nothing_given, insert_declared, with_switch, with_stimulus, with_fail, with_start, with_reply, with_replies, with_stimuli, last_moment_from, last_moment_of, MayBeGiven, AreZero, IsNew}
 
@@ -348,11 +348,11 @@ state_of_none : (w : WorldData) → HoldsNothing w → w.state ≡ no_state
 state_of_none w is = is.state ∙ rw (is.running, is.to_come, is.links, is.due) refl
 
 pub given-nothing : (w : WorldData) → HoldsNothing w → given_of w ≡ nothing_given
-unfolding given_of declared_in
+unfolding given_of all_declared
 given-nothing w is = rw (is.links, is.scripts, is.stimuli, is.fails) refl
 
 pub IsNew-nothing : (w : WorldData) → HoldsNothing w → IsNew w
-unfolding without_links declared_in
+unfolding without_links all_declared
 IsNew-nothing w is = record {
   history = is.history;
   nexts = is.nexts;
@@ -379,13 +379,13 @@ none_linked None is = refl
 none_linked (Some l) is = absurd (true≢false is)
 
 pub link-absent : (w : WorldData) (ls : List Link) (d : ℕ) → ls ≡ w.state.links → is_declared d (given_of w).declared ≡ false → link_of d ls ≡ None
-unfolding given_of declared_in
+unfolding given_of all_declared
 link-absent w ls d same absent =
     ap (λ (ks : List Link). link_of d ks) same
     ∙ none_linked (link_of d w.state.links) (sym (is_declared-link_of d w.state.links) ∙ absent)
 
 pub links-few : (w : WorldData) (ls : List Link) → ls ≡ w.state.links → length (given_of w).declared < 64 → length ls < 64
-unfolding given_of declared_in
+unfolding given_of all_declared
 links-few w ls same few = omega (arith, few, length-map w.state.links (λ (l : Link). l.declared), ap (λ (ks : List Link). length ks) same)
 
 pub Gets-same : (change : Given Scripts → Given Scripts) (old moved new : WorldData) → new ≡ moved → Gets change old moved → Gets change old new
@@ -398,8 +398,8 @@ switch_more d w = record w { tally = counting_also d.dpid w.tally; state = recor
 abbrev switch_state : (fails : List FailCall) (d : Declared) → State → State
 switch_state fails d s = record s { links = insert_link (link_at_first fails d) s.links }
 
-declared_more : (d : Declared) (w : WorldData) → declared_in (switch_more d w).state ≡ insert_declared d (declared_in w.state)
-unfolding declared_in
+declared_more : (d : Declared) (w : WorldData) → all_declared (switch_more d w).state ≡ insert_declared d (all_declared w.state)
+unfolding all_declared
 declared_more d w = declared-insert_link (link_at_first w.fails d) w.state.links
 
 switch_given : (d : Declared) (w : WorldData) → given_of (switch_more d w) ≡ with_switch d (given_of w)
@@ -428,7 +428,7 @@ Gets-switch d w is = record {
         ∙ first_more (given_of w) d
         ∙ ap at_first (sym (switch_given d w));
     counts = AreZero-switch w.tally d.dpid is.counts;
-    tally = rw (declared_more d w) (CountsFor-switch (declared_in w.state) w.tally d is.tally);
+    tally = rw (declared_more d w) (CountsFor-switch (all_declared w.state) w.tally d is.tally);
   };
   given = switch_given d w;
 }
@@ -438,7 +438,7 @@ abbrev pub stimulus_more : WorldStim → WorldData → WorldData
 stimulus_more x w = record w { stimuli = w.stimuli ++ x ∷ []; state = record w.state { to_come = w.stimuli ++ x ∷ [] } }
 
 pub Gets-stimulus : (x : WorldStim) (w : WorldData) → IsNew w → Gets (with_stimulus x) w (stimulus_more x w)
-unfolding given_of declared_in at_first
+unfolding given_of all_declared at_first
 Gets-stimulus x w is = record {
   still = record {
     history = is.history;
@@ -458,7 +458,7 @@ abbrev pub stimuli_all : List WorldStim → WorldData → WorldData
 stimuli_all xs w = record w { stimuli = xs; state = record w.state { to_come = xs } }
 
 pub Gets-stimuli : (xs : List WorldStim) (w : WorldData) → (given_of w).stimuli ≡ [] → IsNew w → Gets (with_stimuli xs) w (stimuli_all xs w)
-unfolding given_of declared_in at_first
+unfolding given_of all_declared at_first
 Gets-stimuli xs w none is = record {
   still = record {
     history = is.history;
@@ -485,7 +485,7 @@ abbrev pub scripts_more : Scripts → WorldData → WorldData
 scripts_more own w = record w { scripts = own }
 
 pub Gets-scripts : (own : Scripts) (change : Given Scripts → Given Scripts) (w : WorldData) → record (given_of w) { own = own } ≡ change (given_of w) → IsNew w → Gets change w (scripts_more own w)
-unfolding given_of declared_in at_first
+unfolding given_of all_declared at_first
 Gets-scripts own change w changed is = record {
   still = record {
     history = is.history;
@@ -542,8 +542,8 @@ other_first : (g : Given Scripts) (f : FailCall) → is_link_call f.kind ≡ fal
 unfolding at_first
 other_first g f apart = ap (λ (ls : List Link). record (at_first g) { links = ls }) (sym (links-other g.fails f g.declared apart))
 
-fail_declared : (f : FailCall) (w : WorldData) → declared_in (link_fail_more f w).state ≡ declared_in w.state
-unfolding declared_in
+fail_declared : (f : FailCall) (w : WorldData) → all_declared (link_fail_more f w).state ≡ all_declared w.state
+unfolding all_declared
 fail_declared f w = declared_in-with_link f.of (fails_at f.number) (λ l. refl) w.state.links
 
 fail_given : (f : FailCall) (w : WorldData) → given_of (link_fail_more f w) ≡ with_fail f (given_of w)
@@ -595,10 +595,6 @@ first_moment : (g : Given Scripts) → (at_first g).moment ≡ 0
 unfolding at_first
 first_moment g = refl
 
-first_to_come : (g : Given Scripts) → (at_first g).to_come ≡ g.stimuli
-unfolding at_first
-first_to_come g = refl
-
 first_running : (g : Given Scripts) → (at_first g).running ≡ []
 unfolding at_first
 first_running g = refl
@@ -608,13 +604,13 @@ first_come : (g : Given Scripts) → CanCome g.declared (at_first g).moment (at_
 unfolding at_first
 first_come g = refl
 
-declared_given : (w : WorldData) → (given_of w).declared ≡ declared_in w.state
+declared_given : (w : WorldData) → (given_of w).declared ≡ all_declared w.state
 unfolding given_of
 declared_given w = refl
 
-come_now : (w : WorldData) → IsNew w → CanCome (declared_in w.state) w.state.moment w.state.to_come ≡ CanCome (given_of w).declared 0 (given_of w).stimuli
+come_now : (w : WorldData) → IsNew w → CanCome (all_declared w.state) w.state.moment w.state.to_come ≡ CanCome (given_of w).declared 0 (given_of w).stimuli
 come_now w is =
-    ap (λ (s : State). CanCome (declared_in w.state) s.moment s.to_come) is.state
+    ap (λ (s : State). CanCome (all_declared w.state) s.moment s.to_come) is.state
     ∙ ap (λ (ds : List Declared). CanCome ds (at_first (given_of w)).moment (at_first (given_of w)).to_come) (sym (declared_given w))
     ∙ first_come (given_of w)
 
@@ -646,40 +642,7 @@ MayBeGiven-stands w is stands = record {
   stimuli = subst (λ (T : Type 0). T) (come_now w is) stands.can_come;
 }
 
--- Where one thing more may be given, the world stands then.
-pub Stands-gets : (change : Given Scripts → Given Scripts) (old new : WorldData) → Gets change old new → MayBeGiven (change (given_of old)) → Stands new
-Stands-gets change old new gets may = Stands-new new gets.still (subst MayBeGiven (sym gets.given) may)
-
 -- ---- What else holds of it
-
-fresh_rests : fresh.running ≡ false
-unfolding fresh
-fresh_rests = refl
-
-fresh_starts : fresh.start_calls ≡ 0
-unfolding fresh
-fresh_starts = refl
-
-fresh_gives : fresh.give_calls ≡ 0
-unfolding fresh
-fresh_gives = refl
-
-fresh_takes : fresh.take_calls ≡ 0
-unfolding fresh
-fresh_takes = refl
-
-pub AppsStand-new : (w : WorldData) → IsNew w → AppsStand w
-AppsStand-new w is =
-    let life : (app : ℕ) → life_in app w.lives ≡ fresh = λ app. ap (λ (ls : List (ℕ × Life)). life_in app ls) is.lives in
-    let running : w.state.running ≡ [] = ap (λ (s : State). s.running) is.state ∙ first_running (given_of w) in
-    record {
-      plain = ap but_marks is.state ∙ first_kept (given_of w) ∙ sym is.state;
-      promised = omega (arith, ap (λ (apps : List ℕ). length apps) running);
-      alike = λ app. ap (λ (apps : List ℕ). list_any (λ a. a == app) apps) running ∙ sym (ap (λ (l : Life). l.running) (life app) ∙ fresh_rests);
-      starts = λ app. omega (arith, ap (λ (l : Life). l.start_calls) (life app), fresh_starts);
-      gives = λ app. omega (arith, ap (λ (l : Life). l.give_calls) (life app), fresh_gives);
-      takes = λ app. omega (arith, ap (λ (l : Life). l.take_calls) (life app), fresh_takes);
-    }
 
 first_standing : (fails : List FailCall) (moment most : ℕ) (ds : List Declared) → AreStanding moment most (map (link_at_first fails) ds)
 first_standing fails moment most [] = tt
@@ -693,12 +656,6 @@ first_links g = refl
 pub AreStanding-new : (w : WorldData) → IsNew w → (moment most : ℕ) → AreStanding moment most w.state.links
 AreStanding-new w is moment most =
     subst (AreStanding moment most) (sym (ap (λ (s : State). s.links) is.state ∙ first_links (given_of w))) (first_standing (given_of w).fails moment most (given_of w).declared)
-
-pub LinksStand-new : (w : WorldData) → IsNew w → LinksStand w
-LinksStand-new w is = record {
-  promised = omega (arith, ap (λ (s : State). length s.running) is.state, ap (λ (apps : List ℕ). length apps) (first_running (given_of w)));
-  may_call = λ d. AreStanding-may_call 0 0 d w.state.links (omega arith) (AreStanding-new w is 0 0);
-}
 
 first_due : (g : Given Scripts) → (at_first g).due ≡ []
 unfolding at_first

@@ -46,11 +46,6 @@ first_cell app zero (c ∷ cs) d within before here = here
 first_cell app (suc i) (c ∷ cs) d within before here =
     (before 0 c (omega arith), first_cell app i cs d (omega arith) (λ k e lt. before (suc k) e (omega arith)) here)
 
-pub first_within : (app i : ℕ) (cells : List LifeCell) → IsFirst app i cells → i < length cells
-first_within app i [] first = absurd first
-first_within app zero (c ∷ cs) first = omega arith
-first_within app (suc i) (c ∷ cs) first = let rest = first_within app i cs first.1 in omega arith
-
 pub first_app : (app i : ℕ) (cells : List LifeCell) (d : LifeCell) → IsFirst app i cells → (get_or cells i d).app ≡ app
 first_app app i [] d first = absurd first
 first_app app zero (c ∷ cs) d first = first

@@ -5,7 +5,7 @@ use Rattle.std.proofs.Common.{sym, ap, ◌∙◌, subst, arith}
 use Rattle.std.proofs.lemmas.List.{append-nil}
 use Rattle.of_types.specs.declared.journal.TookWhat.{TookWhat}
 use Rattle.of_types.specs.declared.journal.TookWhat.TheVariants as took
-use Rattle.std.proofs.lemmas.Bool.{true≢false, false≢true}
+use Rattle.std.proofs.lemmas.Bool.{true≢false, false≢true, and_parts, or_parts, not-true}
 use Rattle.lego_io.specs.Count.{Rose}
 use Rattle.flow_table.specs.Switch.{Declared}
 use Rattle.outside.specs.declared.faults.Short.{Short}
@@ -31,7 +31,7 @@ use Rattle.sim_world.specs.Scripts.{Scripts, Life, will_start, will_give, next_t
 use Rattle.sim_world.specs.Lives.{took_of}
 use Rattle.sim_world.specs.Tally.{TallyState, CountsFor, counts_of, tally_stray}
 use Rattle.sim_world.specs.laws.TallyLaws.{Counted, counts-none, counts-shut, counts-next_fault, counts-start_failed, counts-closing, counts-silence, counts-short, counts-short_of, counts-fault_of, counted-none, counted-shut, counted-next_fault, counted-start_failed, counted-closing, counted-silence, counted-short, counted-short_of, counted-fault_of, rose-raised, rose-fault_of, rose-short_of}
-use Rattle.sim_world.specs.World.{WorldData, declared_in, given_of, seen_of, Stands, Moves}
+use Rattle.sim_world.specs.World.{WorldData, all_declared, given_of, seen_of, Stands, Moves}
 use Rattle.sim_world.specs.laws.WorldLaws.{declared_but, declared-stays, after_steps-but_marks}
 use Rattle.sim_world.specs.Doing.{open_tally, next_tally, start_tally, give_tally, take_tally, link_tally, DoesOpen, DoesNext, DoesStart, DoesGive, DoesTake, DoesSend, DoesReceive}
 
@@ -40,13 +40,9 @@ use Rattle.sim_world.specs.Doing.{open_tally, next_tally, start_tally, give_tall
 pub given-stays : (old new : WorldData) (steps : List WorldStep) (counted : TallyState) → Moves old new steps counted → given_of new ≡ given_of old
 unfolding given_of
 given-stays old new steps counted moves =
-    let declared : declared_in new.state ≡ declared_in old.state =
-    ap declared_in moves.state ∙ declared_but (after_steps steps old.state) ∙ declared-stays steps old.state in
+    let declared : all_declared new.state ≡ all_declared old.state =
+    ap all_declared moves.state ∙ declared_but (after_steps steps old.state) ∙ declared-stays steps old.state in
     rw (declared, moves.scripts, moves.stimuli, moves.fails) refl
-
-seen_given : (old new : WorldData) → given_of new ≡ given_of old → (seen_of new).given ≡ (seen_of old).given
-unfolding seen_of
-seen_given old new same = same
 
 -- ---- open
 
@@ -77,7 +73,7 @@ open_short declared stray result t for is =
 pub Opens_by : {T : Type 0} (old new : WorldData) (result : Result T OpenFault) → Stands old → DoesOpen old new result → Opens (Unit {0}) (seen_of old) (seen_of new) result
 unfolding seen_of given_of
 Opens_by old new result stands does =
-    let d = declared_in old.state in
+    let d = all_declared old.state in
     let stray : (state (seen_of old)).opened ≡ old.state.opened = ap (λ (s : State). s.opened) stands.state in
     record {
       given = given-stays old new _ _ does.moves;
@@ -130,7 +126,7 @@ over_same steps s t same =
 pub Nexts_by : (old new : WorldData) (result : Result Item NextFault) (buf : List ℕ) → Stands old → DoesNext old new result buf → Nexts (Unit {0}) (seen_of old) (seen_of new) result buf
 unfolding seen_of given_of
 Nexts_by old new result buf stands does =
-    let d = declared_in old.state in
+    let d = all_declared old.state in
     let same : but_marks (state (seen_of old)) ≡ but_marks old.state = ap but_marks stands.state in
     record {
       given = given-stays old new _ _ does.moves;
@@ -177,7 +173,7 @@ start_short declared stray result t for is =
 pub Starts_by : {T : Type 0} (app : ℕ) (old new : WorldData) (result : Result T StartFault) → Stands old → DoesStart app old new result → Starts (Unit {0}) app (seen_of old) (seen_of new) result
 unfolding seen_of given_of
 Starts_by app old new result stands does =
-    let d = declared_in old.state in
+    let d = all_declared old.state in
     let runs : is_running app (state (seen_of old)) ≡ is_running app old.state = ap (λ (s : State). is_running app s) stands.state in
     record {
       given = given-stays old new _ _ does.moves;
@@ -220,7 +216,7 @@ give_short declared stray result t for is =
 pub Gives_by : {T : Type 0} (app : ℕ) (bytes : List ℕ) (old new : WorldData) (result : Result T GiveFault) → Stands old → DoesGive app bytes old new result → Gives (Unit {0}) app bytes (seen_of old) (seen_of new) result
 unfolding seen_of given_of
 Gives_by app bytes old new result stands does =
-    let d = declared_in old.state in
+    let d = all_declared old.state in
     let runs : is_running app (state (seen_of old)) ≡ is_running app old.state = ap (λ (s : State). is_running app s) stands.state in
     record {
       given = given-stays old new _ _ does.moves;
@@ -271,7 +267,7 @@ take_short declared stray (Err short) t for is = rose-raised t.shorts for.within
 pub Takes_by : (app : ℕ) (old new : WorldData) (result : Result Taken Short) (buf : List ℕ) → Stands old → DoesTake app old new result buf → Takes (Unit {0}) app (seen_of old) (seen_of new) result buf
 unfolding seen_of given_of
 Takes_by app old new result buf stands does =
-    let d = declared_in old.state in
+    let d = all_declared old.state in
     let runs : is_running app (state (seen_of old)) ≡ is_running app old.state = ap (λ (s : State). is_running app s) stands.state in
     record {
       given = given-stays old new _ _ does.moves;
@@ -292,7 +288,7 @@ Takes_by app old new result buf stands does =
 pub Ends_by : (app : ℕ) (old new : WorldData) → Stands old → Moves old new (end_steps app (is_running app old.state)) old.tally → Ends (Unit {0}) app (seen_of old) (seen_of new)
 unfolding seen_of given_of
 Ends_by app old new stands moves =
-    let d = declared_in old.state in
+    let d = all_declared old.state in
     let runs : is_running app (state (seen_of old)) ≡ is_running app old.state = ap (λ (s : State). is_running app s) stands.state in
     record {
       given = given-stays old new _ _ moves;
@@ -336,28 +332,24 @@ link_short_of declared stray d result t for is =
     subst (λ r. Rose ((counts_of t).shorts_of d) ((counts_of (tally_stray stray (link_tally d r t))).shorts_of d)) (sym is) (rose-short_of declared stray d t for)
 
 -- a switch that is not declared is not joined, and no message of it waits
-none_later : (here later : Bool) → (here || later) ≡ false → (here ≡ false) × (later ≡ false)
-none_later true later none = absurd (true≢false none)
-none_later false later none = (refl, none)
-
 undeclared : (d : ℕ) (ls : List Link) → list_any (λ x. x.dpid == d) (map (λ l. l.declared) ls) ≡ false → link_of d ls ≡ None
 undeclared d [] none = refl
 undeclared d (l ∷ ls) none =
-    let apart = none_later (l.declared.dpid == d) _ none in
+    let apart = or_parts (l.declared.dpid == d) _ none in
     rw apart.0 (undeclared d ls apart.1)
 
-out_is_stray : (d : ℕ) (s : State) → is_declared d (declared_in s) ≡ false → not (is_joined d s) ≡ true
-unfolding declared_in switch_of
+out_is_stray : (d : ℕ) (s : State) → is_declared d (all_declared s) ≡ false → not (is_joined d s) ≡ true
+unfolding all_declared switch_of
 out_is_stray d s none = rw (undeclared d s.links none) refl
 
-none_is_stray : (d : ℕ) (s : State) → is_declared d (declared_in s) ≡ false → not (can_receive d s) ≡ true
-unfolding declared_in waits_of
+none_is_stray : (d : ℕ) (s : State) → is_declared d (all_declared s) ≡ false → not (can_receive d s) ≡ true
+unfolding all_declared waits_of
 none_is_stray d s none = rw (undeclared d s.links none) refl
 
 pub Sends_by : {T : Type 0} (d : ℕ) (frame : List ℕ) (old new : WorldData) (result : Result T LinkFault) → Stands old → DoesSend d frame old new result → Sends (Unit {0}) d frame (seen_of old) (seen_of new) result
 unfolding seen_of given_of switch_of
 Sends_by d frame old new result stands does =
-    let ds = declared_in old.state in
+    let ds = all_declared old.state in
     let stray = not (is_joined d old.state) in
     let joined : is_joined d (state (seen_of old)) ≡ is_joined d old.state = ap (λ (s : State). is_joined d s) stands.state in
     record {
@@ -376,7 +368,7 @@ Sends_by d frame old new result stands does =
 pub Receives_by : (d : ℕ) (old new : WorldData) (result : Result ℕ LinkFault) (buf : List ℕ) → Stands old → DoesReceive d old new result buf → Receives (Unit {0}) d (seen_of old) (seen_of new) result buf
 unfolding seen_of given_of waits_of
 Receives_by d old new result buf stands does =
-    let ds = declared_in old.state in
+    let ds = all_declared old.state in
     let stray = not (can_receive d old.state) in
     let waits : can_receive d (state (seen_of old)) ≡ can_receive d old.state = ap (λ (s : State). can_receive d s) stands.state in
     record {
@@ -395,21 +387,13 @@ Receives_by d old new result buf stands does =
 
 -- ---- A call that succeeds is in place
 
-in_place : (b rest : Bool) → (b && rest) ≡ true → b ≡ true
-in_place true rest is = refl
-in_place false rest is = is
-
-out_place : (b : Bool) → not b ≡ true → b ≡ false
-out_place true is = sym is
-out_place false is = refl
-
 pub started_in_place : (own : Scripts) (fails : List FailCall) (app : ℕ) (l : Life) → will_start own fails app l ≡ true → l.running ≡ false
 unfolding will_start
-started_in_place own fails app l will = out_place l.running (in_place (not l.running) _ (in_place _ _ will))
+started_in_place own fails app l will = not-true l.running (and_parts (not l.running) _ (and_parts _ _ will).0).0
 
 pub given_in_place : (fails : List FailCall) (app : ℕ) (l : Life) → will_give fails app l ≡ true → l.running ≡ true
 unfolding will_give
-given_in_place fails app l will = in_place l.running _ will
+given_in_place fails app l will = (and_parts l.running _ will).0
 
 -- ---- A take, and an end
 

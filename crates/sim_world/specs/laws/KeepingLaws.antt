@@ -41,7 +41,7 @@ use Rattle.sim_world.specs.Links.{IsDue}
 use Rattle.sim_world.specs.laws.NextCallLaws.{can_come_next}
 use Rattle.sim_world.specs.laws.LinkLaws.{Stands-more}
 use Rattle.sim_world.specs.laws.LinkStepLaws.{AreStanding, AreStanding-begun, AreStanding-sent, AreStanding-got, AreStanding-failed, AreStanding-told}
-use Rattle.sim_world.specs.World.{WorldData, Moves, IsAsTold, AreAsTold, declared_in, CanCome}
+use Rattle.sim_world.specs.World.{WorldData, Moves, IsAsTold, AreAsTold, all_declared, CanCome}
 use Rattle.sim_world.specs.laws.WorldLaws.{Stands_moves}
 use Rattle.sim_world.specs.Doing.{DoesOpen, DoesNext, DoesStart, DoesGive, DoesTake, DoesSend, DoesReceive}
 use Rattle.sim_world.specs.laws.DoingLaws.{open_counted, next_counted, start_counted, give_counted, take_counted, link_counted}
@@ -132,7 +132,7 @@ length_more : (xs ys : List WorldStep) → length (xs ++ ys) ≡ length xs + len
 length_more xs ys = length-append xs ys
 
 pub keeps_quiet : (old new : WorldData) (steps : List WorldStep) (counted : TallyState) → Keeps old → Moves old new steps counted → AllByRecursion IsQuiet steps
-    → AreScripted old.scripts old.told steps (λ app. life_in app old.lives) → AreAsTold old.told old.nexts steps old.state → CountsFor (declared_in old.state) counted → (AreExpected steps old.state → NoneStrays old.tally counted) → Keeps new
+    → AreScripted old.scripts old.told steps (λ app. life_in app old.lives) → AreAsTold old.told old.nexts steps old.state → CountsFor (all_declared old.state) counted → (AreExpected steps old.state → NoneStrays old.tally counted) → Keeps new
 keeps_quiet old new steps counted keeps moves quiet scripts told counts places =
     let around = quiet_steps steps old.state quiet in
     let links : new.state.links ≡ old.state.links = ap (λ (s : State). s.links) moves.state ∙ around.links in
@@ -141,7 +141,7 @@ keeps_quiet old new steps counted keeps moves quiet scripts told counts places =
     let to_come : new.state.to_come ≡ old.state.to_come = ap (λ (s : State). s.to_come) moves.state ∙ around.to_come in
     record {
       stands = Stands_moves old new steps counted keeps.stands moves
-          (record { word = quiet_may_steps (declared_in old.state) steps old.state quiet; scripts = scripts; told = told })
+          (record { word = quiet_may_steps (all_declared old.state) steps old.state quiet; scripts = scripts; told = told })
           counts (rw (moment, to_come) keeps.stands.can_come);
       standing = rw (links, moment, moves.history, length_more old.history steps)
           (standing_more old.state.moment (length old.history) (length old.history + length steps) old.state.links (omega arith) keeps.standing);
@@ -167,7 +167,7 @@ open_scripted own fails (Err opening.Short) lives = tt
 pub keeps_open : {T : Type 0} (old new : WorldData) (result : Result T OpenFault) → Keeps old → DoesOpen old new result → AreAsTold old.told old.nexts (open_steps result) old.state → Keeps new
 keeps_open old new result keeps does told =
     keeps_quiet old new (open_steps result) _ keeps does.moves (open_quiet result) (open_scripted old.scripts old.told result _) told
-    (open_counted (declared_in old.state) old.state.opened result old.tally keeps.stands.tally).for (open_places result old.state old.tally does.out_of_place)
+    (open_counted (all_declared old.state) old.state.opened result old.tally keeps.stands.tally).for (open_places result old.state old.tally does.out_of_place)
 
 start_quiet : {T : Type 0} (app : ℕ) (result : Result T StartFault) → AllByRecursion IsQuiet (start_steps app result)
 unfolding start_steps
@@ -184,7 +184,7 @@ start_told fails n app (Err starting.Short) s = tt
 pub keeps_start : {T : Type 0} (app : ℕ) (old new : WorldData) (result : Result T StartFault) → Keeps old → DoesStart app old new result → AreScripted old.scripts old.told (start_steps app result) (λ a. life_in a old.lives) → Keeps new
 keeps_start app old new result keeps does scripted =
     keeps_quiet old new (start_steps app result) _ keeps does.moves (start_quiet app result) scripted (start_told old.told old.nexts app result old.state)
-    (start_counted (declared_in old.state) (is_running app old.state) result old.tally keeps.stands.tally).for (start_places app result old.state old.tally does.out_of_place)
+    (start_counted (all_declared old.state) (is_running app old.state) result old.tally keeps.stands.tally).for (start_places app result old.state old.tally does.out_of_place)
 
 give_quiet : {T : Type 0} (app : ℕ) (bytes : List ℕ) (result : Result T GiveFault) → AllByRecursion IsQuiet (give_steps app bytes result)
 unfolding give_steps
@@ -202,7 +202,7 @@ pub keeps_give : {T : Type 0} (app : ℕ) (bytes : List ℕ) (old new : WorldDat
     → AreScripted old.scripts old.told (give_steps app bytes result) (λ a. life_in a old.lives) → Keeps new
 keeps_give app bytes old new result keeps does scripted =
     keeps_quiet old new (give_steps app bytes result) _ keeps does.moves (give_quiet app bytes result) scripted (give_told old.told old.nexts app bytes result old.state)
-    (give_counted (declared_in old.state) (not (is_running app old.state)) result old.tally keeps.stands.tally).for (give_places app bytes result old.state old.tally does.out_of_place)
+    (give_counted (all_declared old.state) (not (is_running app old.state)) result old.tally keeps.stands.tally).for (give_places app bytes result old.state old.tally does.out_of_place)
 
 take_quiet : (app : ℕ) (result : Result Taken Short) (buf : List ℕ) → AllByRecursion IsQuiet (take_steps app result buf)
 unfolding take_steps
@@ -222,7 +222,7 @@ pub keeps_take : (app : ℕ) (old new : WorldData) (result : Result Taken Short)
     → AreScripted old.scripts old.told (take_steps app result buf) (λ a. life_in a old.lives) → Keeps new
 keeps_take app old new result buf keeps does scripted =
     keeps_quiet old new (take_steps app result buf) _ keeps does.moves (take_quiet app result buf) scripted (take_told old.told old.nexts app result buf old.state)
-    (take_counted (declared_in old.state) (not (is_running app old.state)) result old.tally keeps.stands.tally).for (take_places app result buf old.state old.tally does.out_of_place)
+    (take_counted (all_declared old.state) (not (is_running app old.state)) result old.tally keeps.stands.tally).for (take_places app result buf old.state old.tally does.out_of_place)
 
 end_quiet : (app : ℕ) (runs : Bool) → AllByRecursion IsQuiet (end_steps app runs)
 unfolding end_steps
@@ -250,7 +250,7 @@ record LinkedBy (most : ℕ) (s t : State) : Type 0 where
   to_come : t.to_come ≡ s.to_come
 
 keeps_linked : (old new : WorldData) (steps : List WorldStep) (counted : TallyState) → Keeps old → Moves old new steps counted → LinkedBy (length (old.history ++ steps)) old.state (after_steps steps old.state)
-    → MayComeAll (declared_in old.state) steps old.state → AreScripted old.scripts old.told steps (λ app. life_in app old.lives) → AreAsTold old.told old.nexts steps old.state → CountsFor (declared_in old.state) counted → (AreExpected steps old.state → NoneStrays old.tally counted) → Keeps new
+    → MayComeAll (all_declared old.state) steps old.state → AreScripted old.scripts old.told steps (λ app. life_in app old.lives) → AreAsTold old.told old.nexts steps old.state → CountsFor (all_declared old.state) counted → (AreExpected steps old.state → NoneStrays old.tally counted) → Keeps new
 keeps_linked old new steps counted keeps moves linked word scripts told counts places =
     let links : new.state.links ≡ (after_steps steps old.state).links = ap (λ (s : State). s.links) moves.state in
     let due : new.state.due ≡ old.state.due = ap (λ (s : State). s.due) moves.state ∙ linked.due in
@@ -297,11 +297,11 @@ send_scripted own fails d frame (Err linking.Failed) lives = (tt, tt)
 send_scripted own fails d frame (Err linking.Short) lives = tt
 
 pub keeps_send : {T : Type 0} (d : ℕ) (frame : List ℕ) (old new : WorldData) (result : Result T LinkFault) → Keeps old → DoesSend d frame old new result
-    → MayComeAll (declared_in old.state) (send_steps d frame result) old.state → AreAsTold old.told old.nexts (send_steps d frame result) old.state → Keeps new
+    → MayComeAll (all_declared old.state) (send_steps d frame result) old.state → AreAsTold old.told old.nexts (send_steps d frame result) old.state → Keeps new
 keeps_send d frame old new result keeps does word told =
     keeps_linked old new (send_steps d frame result) _ keeps does.moves (send_linked d frame result old.history old.state keeps.standing)
     word (send_scripted old.scripts old.told d frame result _) told
-    (link_counted (declared_in old.state) (not (is_joined d old.state)) d result old.tally keeps.stands.tally).for (send_places d frame result old.state old.tally does.out_of_place)
+    (link_counted (all_declared old.state) (not (is_joined d old.state)) d result old.tally keeps.stands.tally).for (send_places d frame result old.state old.tally does.out_of_place)
 
 receive_linked : (d : ℕ) (result : Result ℕ LinkFault) (buf : List ℕ) (history : List WorldStep) (s : State) → AreStanding s.moment (length history) s.links
     → LinkedBy (length (history ++ receive_steps d result buf)) s (after_steps (receive_steps d result buf) s)
@@ -332,11 +332,11 @@ receive_scripted own fails d (Err linking.Failed) buf lives = (tt, tt)
 receive_scripted own fails d (Err linking.Short) buf lives = tt
 
 pub keeps_recv : (d : ℕ) (old new : WorldData) (result : Result ℕ LinkFault) (buf : List ℕ) → Keeps old → DoesReceive d old new result buf
-    → MayComeAll (declared_in old.state) (receive_steps d result buf) old.state → AreAsTold old.told old.nexts (receive_steps d result buf) old.state → Keeps new
+    → MayComeAll (all_declared old.state) (receive_steps d result buf) old.state → AreAsTold old.told old.nexts (receive_steps d result buf) old.state → Keeps new
 keeps_recv d old new result buf keeps does word told =
     keeps_linked old new (receive_steps d result buf) _ keeps does.moves (receive_linked d result buf old.history old.state keeps.standing)
     word (receive_scripted old.scripts old.told d result buf _) told
-    (link_counted (declared_in old.state) (not (can_receive d old.state)) d result old.tally keeps.stands.tally).for (receive_places d result buf old.state old.tally does.out_of_place)
+    (link_counted (all_declared old.state) (not (can_receive d old.state)) d result old.tally keeps.stands.tally).for (receive_places d result buf old.state old.tally does.out_of_place)
 
 -- ---- next: an item that is told
 
@@ -413,7 +413,7 @@ failed_scripted own fails lives = tt
 
 keeps_item : (old new : WorldData) (begun : Option WorldStim) (item : Item) (buf : List ℕ) → Keeps old → IfSome begun (λ x. slice_get old.state.to_come 0 ≡ Some x)
     → Moves old new (stim_steps begun ++ item_step item buf ∷ []) old.tally
-    → MayComeAll (declared_in old.state) (stim_steps begun ++ item_step item buf ∷ []) old.state
+    → MayComeAll (all_declared old.state) (stim_steps begun ++ item_step item buf ∷ []) old.state
     → AreAsTold old.told old.nexts (stim_steps begun ++ item_step item buf ∷ []) old.state → IfSome begun (λ x. All IsDue (after_stim x old.state).due) → Keeps new
 keeps_item old new None item buf keeps to_come moves word told due =
     let most = length (old.history ++ item_step item buf ∷ []) in
@@ -438,7 +438,7 @@ keeps_item old new (Some x) item buf keeps to_come moves word told due =
     let most = length (old.history ++ steps) in
     let longer : length (old.history ++ steps) ≡ length old.history + 2 = length-append old.history steps in
     let standing = standing_more old.state.moment (length old.history) most old.state.links (omega (arith, longer)) keeps.standing in
-    let begun = begun_by (declared_in old.state) x most old.state standing keeps.within keeps.stands.can_come to_come due in
+    let begun = begun_by (all_declared old.state) x most old.state standing keeps.within keeps.stands.can_come to_come due in
     let after = after_step (Acted (Stim x)) old.state in
     let by = told_by item buf most after begun.standing begun.due in
     let moment : new.state.moment ≡ after.moment = ap (λ (s : State). s.moment) moves.state ∙ by.moment in
@@ -462,7 +462,7 @@ keeps_next old new (Ok item) buf keeps does =
     keeps_item old new does.begun item buf keeps does.to_come does.moves does.word does.told does.due
 keeps_next old new (Err coming.Failed) buf keeps does =
     keeps_quiet old new (NextFailed ∷ []) _ keeps does.moves (tt, tt) (failed_scripted old.scripts old.told _, tt) does.told
-    (next_counted (declared_in old.state) (Err coming.Failed) old.tally keeps.stands.tally).for (λ are. next_places (Err coming.Failed) old.tally)
+    (next_counted (all_declared old.state) (Err coming.Failed) old.tally keeps.stands.tally).for (λ are. next_places (Err coming.Failed) old.tally)
 keeps_next old new (Err coming.Short) buf keeps does =
-    keeps_quiet old new [] _ keeps does.moves tt tt tt (next_counted (declared_in old.state) (Err coming.Short) old.tally keeps.stands.tally).for
+    keeps_quiet old new [] _ keeps does.moves tt tt tt (next_counted (all_declared old.state) (Err coming.Short) old.tally keeps.stands.tally).for
     (λ are. next_places (Err coming.Short) old.tally)

@@ -1,9 +1,9 @@
 -- Laws of how lives are kept: places in steps, and places in lines.
-use Rattle.std.proofs.Common.{inl, inr, ◌≡◌, ℕ, zero, suc, ◌+◌, ◌<◌, ◌≤◌, Bool, true, false, cond, List, [], ◌∷◌, map, length, take, drop, min, ◌-◌, get_or, leb, refl, sym, ap, ◌∙◌, arith, Option, Some, None, slice_get, ◌==◌, if◌then◌else◌, is_some, add-one, ◌≢◌, nat_lt, ◌&&◌, Ok}
+use Rattle.std.proofs.Common.{inl, inr, ◌≡◌, ℕ, zero, suc, ◌+◌, ◌<◌, ◌≤◌, Bool, true, false, cond, List, [], ◌∷◌, map, length, take, drop, min, ◌-◌, leb, refl, sym, ap, ◌∙◌, arith, Option, Some, None, slice_get, ◌==◌, if◌then◌else◌, is_some, add-one, ◌≢◌, nat_lt, ◌&&◌, Ok}
 use Rattle.std.proofs.Math.Seq.{drop-nil}
 use Rattle.std.proofs.Math.ListN.{drop_of_length-le}
 use Rattle.std.proofs.Math.Dec.{leb-zero, leb-suc-zero, leb-suc-suc}
-use Rattle.std.proofs.lemmas.Option.{slice_get-get_or, slice_get_within}
+use Rattle.std.proofs.lemmas.Option.{slice_get_within}
 use Rattle.std.specs.List.{filter}
 use Rattle.std.specs.Option.{option_map}
 use Rattle.std.proofs.lemmas.Bool.{eq-eqb, ne_eqb, leb-false, cases_lt}
@@ -44,10 +44,6 @@ drop-suc (x ∷ xs) (suc i) = drop-suc xs i
 pub drop-next : {A : Type 0} → (xs : List A) (i : ℕ) → drop (i + 1) xs ≡ drop 1 (drop i xs)
 drop-next xs i = rw add-one (drop-suc xs i)
 
--- what indexing finds, where it is known
-pub found-at : {A : Type 0} → (xs : List A) (i : ℕ) (x found : A) → i < length xs → found ≡ get_or xs i found → found ≡ x → slice_get xs i ≡ Some x
-found-at xs i x found within read is = slice_get-get_or xs i found within ∙ ap Some (sym read ∙ is)
-
 pub slice_get-drop : {A : Type 0} → (xs : List A) (i : ℕ) → slice_get (drop i xs) 0 ≡ slice_get xs i
 slice_get-drop [] i = rw drop-nil refl
 slice_get-drop (x ∷ xs) zero = refl
@@ -73,10 +69,6 @@ pub from_place-silent : (steps : List ScriptStep) (at : Place) → slice_get ste
 unfolding from_place
 from_place-silent steps at is = ap (cut at.offset) (drop-at steps at.step Silent is)
 
-pub from_place-end : (steps : List ScriptStep) (at : Place) → length steps ≤ at.step → from_place at steps ≡ []
-unfolding from_place
-from_place-end steps at end = ap (cut at.offset) (drop_of_length-le steps end)
-
 -- the place at the front of a step
 pub from_place-front : (steps : List ScriptStep) (step : ℕ) → from_place (record { step = step; offset = 0 }) steps ≡ drop step steps
 unfolding from_place
@@ -88,13 +80,6 @@ begins_empty-bytes [] zero steps = refl
 begins_empty-bytes [] (suc n) steps = sym (leb-zero (suc n))
 begins_empty-bytes (b ∷ bs) zero steps = sym (leb-suc-zero (length bs))
 begins_empty-bytes (b ∷ bs) (suc n) steps = begins_empty-bytes bs n steps ∙ sym (leb-suc-suc (length bs) n)
-
-pub passed-same : (steps : List ScriptStep) → begins_empty steps ≡ false → passed steps ≡ steps
-passed-same [] begun = refl
-passed-same (Bytes [] ∷ steps) begun = absurd cc
-passed-same (Bytes (b ∷ bs) ∷ steps) begun = refl
-passed-same (Closed ∷ steps) begun = refl
-passed-same (Silent ∷ steps) begun = refl
 
 passed-first : (steps : List ScriptStep) → begins_empty steps ≡ true → passed steps ≡ passed (drop 1 steps)
 passed-first [] empty = refl

@@ -16,7 +16,7 @@ use Rattle.switch_sim.specs.laws.MomentLaws.{moment-after_message, moment-after_
 use Rattle.switch_sim.specs.Words.{moment_after}
 use Rattle.outside.specs.State.{Link, switch_joined, switch_told, link_joined, link_left, link_stimulated, link_sent, link_got, link_told, link_failed}
 use Rattle.outside.specs.Conforming.{IsStimulus}
-use Rattle.sim_world.specs.Links.{IsDeclaredAs, StandsAt, StandsBy, SerialsWithin, SerialsBelow, Stands, MayCall}
+use Rattle.sim_world.specs.Links.{IsDeclaredAs, StandsAt, SerialsWithin, SerialsBelow, Stands, MayCall}
 
 -- ---- A switch
 
@@ -76,11 +76,6 @@ pub IsDeclaredAs-told : (read : Result Envelope WireFault) (d : Declared) (o : O
 IsDeclaredAs-told (Ok e) d None is = tt
 IsDeclaredAs-told (Ok e) d (Some s) is = declared-after_message e.message s ∙ is
 IsDeclaredAs-told (Err fault) d o is = is
-
--- A switch that stands at a moment stands at one before a later moment.
-pub StandsBy-later : (moment t : ℕ) (o : Option SwitchState) → moment ≤ t → StandsAt moment o → StandsBy t o
-StandsBy-later moment t None le stands = tt
-StandsBy-later moment t (Some s) le stands = omega arith
 
 -- What may be a stimulus of a switch can happen to it.
 pub IsPossible-stimulus : (x : Stimulus) (s : SwitchState) → IsStimulus x → IsPossible x s
@@ -170,7 +165,3 @@ MayCall-stands moment most l less is = record {
   calls = omega (arith, is.calls);
   serials = serials_below most (2 ^ 64 - 1) l.switch less is.serials;
 }
-
--- A link at first, whose switch is out.
-pub Stands-out : (moment most : ℕ) (l : Link) → l.switch ≡ None → l.calls ≡ 0 → Stands moment most l
-Stands-out moment most l out none = record { stands = rw out tt; serials = rw out tt; calls = omega arith }

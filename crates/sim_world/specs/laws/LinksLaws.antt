@@ -1,7 +1,7 @@
 -- Laws of the switches of a simulated world, all together: what one change, or the same of all, keeps of what holds of each.
 use Rattle.std.specs.Prelude.{◌≡◌, ◌≢◌, ◌==◌, ℕ, ◌+◌, ◌*◌, ◌<◌, ◌≤◌, Bool, true, false, nat_lt, List, [], ◌∷◌, ◌++◌, length, map, Option, Some, None, IfSome, slice_get, slice_index_or, slice_set, if◌then◌else◌, refl, Result, Ok, Err, OnOk, OnErr, ◌||◌}
 use Rattle.std.specs.List.{AllByRecursion}
-use Rattle.std.specs.Option.{is_some, option_map, option_to_list}
+use Rattle.std.specs.Option.{is_some}
 use Rattle.std.proofs.Common.{zero, suc, sym, ap, ◌∙◌, subst, arith, length-append}
 use Rattle.std.proofs.lemmas.Bool.{eq-eqb, eqb-false, ne_eqb, ltb-true, ltb-false, cond_both, cond-false}
 use Rattle.std.proofs.Math.Seq.{map-set_same}
@@ -10,15 +10,14 @@ use Rattle.of_types.specs.declared.journal.Stimulus.{Stimulus}
 use Rattle.of_types.specs.declared.journal.Stimulus.TheVariants.{Advance}
 use Rattle.of_types.specs.declared.journal.WorldStim.{WorldStim}
 use Rattle.of_types.specs.declared.journal.WorldStim.TheVariants.{Join, Leave, At, Of}
-use Rattle.flow_table.specs.Switch.{Declared, joined_at, features_reply}
+use Rattle.flow_table.specs.Switch.{Declared}
 use Rattle.outside.specs.declared.step.WorldStep.{WorldStep}
-use Rattle.outside.specs.declared.step.WorldStep.TheVariants.{From, Joined}
-use Rattle.outside.specs.State.{Link, State, link_of, with_link, links_after, join_due, due_of, stimulus_sends, link_stimulated, is_joined, after_stim, upcoming, link_joined, link_left, switch_of, waits_in}
+use Rattle.outside.specs.declared.step.WorldStep.TheVariants.{From}
+use Rattle.outside.specs.State.{Link, State, link_of, with_link, links_after, join_due, due_of, stimulus_sends, link_stimulated, is_joined, after_stim, upcoming, link_joined, link_left, switch_of, waits_in, declared_in}
 use Rattle.outside.specs.Seen.{is_declared}
 use Rattle.outside.specs.laws.LinkLaws.{KeepsDeclared}
 use Rattle.outside.specs.Conforming.{AreDeclaredFrom}
-use Rattle.sim_world.specs.laws.LinkLaws.{StandsBy-later}
-use Rattle.sim_world.specs.Links.{Held, links_in, waiting_in, declared_in, insert_link, AreLinks, HasPlace, HasNoPlace, WaitsFirst, NoneWaits, IsReady, AreReady, insert_held, features_of_join, due_in, StandsAt, StandsBy, IsPlaceOf}
+use Rattle.sim_world.specs.Links.{Held, links_in, waiting_in, insert_link, AreLinks, HasPlace, HasNoPlace, WaitsFirst, NoneWaits, IsReady, AreReady, insert_held, due_in, IsPlaceOf}
 
 -- ---- What holds of each
 
@@ -64,11 +63,6 @@ AreLinks-same old new same links = record {
   declared = subst (AreDeclaredFrom 1) (sym same) links.declared;
   few = omega (arith, links.few, length-map old (λ (l : Link). l.declared), length-map new (λ (l : Link). l.declared), ap length same);
 }
-
--- no table takes more than 4,096 entries
-pub caps_of : (least : ℕ) (ls : List Link) → AreDeclaredFrom least (declared_in ls) → AllByRecursion (λ l. l.declared.cap ≤ 4096) ls
-caps_of least [] are = tt
-caps_of least (l ∷ ls) are = (are.1, caps_of (l.declared.dpid + 1) ls are.2)
 
 -- one more, of a number that is not there
 put_declared : (least : ℕ) (l : Link) (ls : List Link) → least ≤ l.declared.dpid → l.declared.cap ≤ 4096 → link_of l.declared.dpid ls ≡ None → AreDeclaredFrom least (declared_in ls) → AreDeclaredFrom least (declared_in (insert_link l ls))
@@ -152,12 +146,6 @@ with_link-not_held d change (g ∷ gs) none =
     let apart : (g.link.declared.dpid == d) ≡ false = ne_eqb g.link.declared.dpid d (none 0 g (omega arith)) in
     rw apart (ap (λ (ls : List Link). g.link ∷ ls) (with_link-not_held d change gs (λ k h less. none (suc k) h (omega arith))))
 
--- what holds of each holds with one changed, where it goes on to hold of that
-pub All-set : (P : Link → Type 0) (held : List Held) (place : ℕ) (h x : Held) → place < length held → (P (slice_index_or held place x).link → P h.link) → AllByRecursion P (links_in held) → AllByRecursion P (links_in (slice_set held place h))
-All-set P [] place h x within changes all = tt
-All-set P (g ∷ gs) zero h x within changes all = (changes all.0, all.1)
-All-set P (g ∷ gs) (suc place) h x within changes all = (all.0, All-set P gs place h x (omega arith) changes all.1)
-
 pub cap_at : (least : ℕ) (held : List Held) (place : ℕ) (x : Held) → AreDeclaredFrom least (declared_in (links_in held)) → place < length held → (slice_index_or held place x).link.declared.cap ≤ 4096
 cap_at least [] place x are within = absurd (omega arith)
 cap_at least (g ∷ gs) zero x are within = are.1
@@ -217,14 +205,6 @@ below_set P (g ∷ gs) zero new within below here (suc k) h less = absurd (omega
 below_set P (g ∷ gs) (suc i) new within below here zero h less = below 0 h (omega arith)
 below_set P (g ∷ gs) (suc i) new within below here (suc k) h less =
     below_set (λ j m. P (suc j) m) gs i new (omega arith) (λ j m j_less. below (suc j) m (omega arith)) here k h (omega arith)
-
--- the others behind it stay
-pub above_set : (held : List Held) (i : ℕ) (new : Held) (k : ℕ) (h : Held) → i + 1 ≤ k → slice_index_or (slice_set held i new) k h ≡ slice_index_or held k h
-above_set [] i new k h more = refl
-above_set (g ∷ gs) zero new zero h more = absurd (omega arith)
-above_set (g ∷ gs) zero new (suc k) h more = refl
-above_set (g ∷ gs) (suc i) new zero h more = absurd (omega arith)
-above_set (g ∷ gs) (suc i) new (suc k) h more = above_set gs i new k h (omega arith)
 
 pub links_in-mapped : (change : Link → Link) (old new : List Held) → length new ≡ length old → ((k : ℕ) (h g : Held) → k < length old → (slice_index_or new k h).link ≡ change (slice_index_or old k g).link)
     → links_in new ≡ map change (links_in old)
@@ -319,15 +299,6 @@ pub few_passed : (moment : ℕ) (held : List Held) → AreReady moment held → 
 few_passed moment held ready links =
     omega (arith, few-map (link_stimulated (Advance moment)) (links_in held) (all_few moment 1 held ready links.declared), links.few)
 
--- What is due of a switch that joins, as its answer tells it.
-pub join_due-features : (d moment : ℕ) (o : Option Link) → join_due d moment o ≡ option_to_list (option_map (Joined d) (features_of_join moment o))
-join_due-features d moment None = refl
-join_due-features d moment (Some l) = due_at (is_some l.switch)
-  where
-    due_at : (b : Bool) → (if b then [] else Joined d (features_reply 0 (joined_at moment l.declared)) ∷ []) ≡ option_to_list (option_map (Joined d) (if b then None else Some (features_reply 0 (joined_at moment l.declared))))
-    due_at true = refl
-    due_at false = refl
-
 one_due : (x : WorldStim) (s : State) → length (due_of x s) ≤ 1
 one_due (Join d) s = one_join (link_of d s.links)
   where
@@ -369,7 +340,3 @@ few_left d ls = few-with_link d 262144 link_left ls (none_waits (link_of d ls))
     none_waits : (o : Option Link) → IfSome o (λ l. length (link_left l).waits ≤ length l.waits + 262144)
     none_waits None = tt
     none_waits (Some l) = omega arith
-
-pub StandsBy-all : (moment t : ℕ) (ls : List Link) → moment ≤ t → AllByRecursion (λ l. StandsAt moment l.switch) ls → AllByRecursion (λ l. StandsBy t l.switch) ls
-StandsBy-all moment t [] le all = tt
-StandsBy-all moment t (l ∷ ls) le all = (StandsBy-later moment t l.switch le all.0, StandsBy-all moment t ls le all.1)

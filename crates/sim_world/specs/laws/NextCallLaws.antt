@@ -19,7 +19,7 @@ use Rattle.outside.specs.InOrder.{MayCome}
 use Rattle.sim_world.specs.Tally.{tally_short}
 use Rattle.sim_world.specs.Links.{IsDue, StandsAt, waiting_in}
 use Rattle.sim_world.specs.laws.LinksLaws.{few_upcoming}
-use Rattle.sim_world.specs.World.{WorldData, Moves, IsAsTold, declared_in, next_told, CanCome}
+use Rattle.sim_world.specs.World.{WorldData, Moves, IsAsTold, all_declared, next_told, CanCome}
 use Rattle.sim_world.specs.laws.WorldLaws.{Moves_both, Moves_ready, MayComeAll-same, AreAsTold-same, declared_but, declared-stays}
 use Rattle.sim_world.specs.Doing.{Tells, NextStands, DoesNext}
 use Rattle.sim_world.specs.Lives.{life_in}
@@ -117,7 +117,7 @@ unfolding IsAsTold
 untold_stim fails n x s = tt
 
 pub Next_begun : (old mid new : WorldData) (x : WorldStim) (item : Item) (buf : List ℕ) → next_told old.told old.nexts ≡ false → old.state.begun ≡ false → slice_get old.state.to_come 0 ≡ Some x
-    → CanCome (declared_in old.state) old.state.moment old.state.to_come → Moves old mid (Acted (Stim x) ∷ []) old.tally
+    → CanCome (all_declared old.state) old.state.moment old.state.to_come → Moves old mid (Acted (Stim x) ∷ []) old.tally
     → length (waiting_in mid.state.links) ≤ length (waiting_in old.state.links) + 262144
     → All IsDue mid.state.due → Tells mid new item buf → DoesNext old new (Ok item) buf
 unfolding next_steps after_step after_act MayCome MayStep MayAct
@@ -129,7 +129,7 @@ Next_begun old mid new x item buf untold rests next come begins few due tells =
     subst (λ (n : ℕ). IsAsTold old.told n (item_step item buf) mid.state) begins.nexts
     (subst (λ fails. IsAsTold fails mid.nexts (item_step item buf) mid.state) begins.told
     (tells.told (rw (begins.told, begins.nexts) untold))) in
-    let declared : declared_in mid.state ≡ declared_in old.state = ap declared_in begins.state ∙ declared_but after ∙ declared-stays (Acted (Stim x) ∷ []) old.state in
+    let declared : all_declared mid.state ≡ all_declared old.state = ap all_declared begins.state ∙ declared_but after ∙ declared-stays (Acted (Stim x) ∷ []) old.state in
     record {
       begun = Some x;
       to_come = next;
@@ -140,12 +140,12 @@ Next_begun old mid new x item buf untold rests next come begins few due tells =
       over = subst (λ (s : State). (item ≡ items.End) ↔ IsOver s) begins.state tells.over;
       word = (
         record {
-          stimulus = can_come_next (declared_in old.state) old.state.moment old.state.to_come x come next;
+          stimulus = can_come_next (all_declared old.state) old.state.moment old.state.to_come x come next;
           none_begun = rests;
           to_come = next;
           few = few_upcoming x old.state (subst (λ (ls : List Link). length (waiting_in ls) ≤ length (waiting_in old.state.links) + 262144) (links ∙ stim_links x old.state) few);
         },
-        MayComeAll-same (declared_in old.state) (item_step item buf ∷ []) mid.state after same
+        MayComeAll-same (all_declared old.state) (item_step item buf ∷ []) mid.state after same
             (subst (λ (ds : List Declared). MayCome ds (item_step item buf) mid.state) declared tells.may, tt),
       );
       told = (untold_stim old.told old.nexts x old.state, AreAsTold-same old.told old.nexts (item_step item buf ∷ []) mid.state after same (told_here, tt));
@@ -161,7 +161,7 @@ NextStands_ready old mid same promised stands = record {
   due = subst (λ (w : WorldData). All IsDue w.state.due) (sym same) stands.due;
   standing = subst (λ (w : WorldData). AllByRecursion (λ l. StandsAt w.state.moment l.switch) w.state.links) (sym same) stands.standing;
   within = subst (λ (w : WorldData). w.state.moment ≤ 4294967295) (sym same) stands.within;
-  can_come = subst (λ (w : WorldData). CanCome (declared_in w.state) w.state.moment w.state.to_come) (sym same) stands.can_come;
+  can_come = subst (λ (w : WorldData). CanCome (all_declared w.state) w.state.moment w.state.to_come) (sym same) stands.can_come;
 }
 
 pub Next_short_ready : (old mid new : WorldData) (buf : List ℕ) → mid ≡ record old { room = mid.room; calls = mid.calls } → Moves mid new [] (tally_short mid.tally) → DoesNext old new (Err coming.Short) buf

@@ -8,7 +8,8 @@ use Rattle.sim_world.specs.Scripts.{Life, fresh, FewCalls, KeepsScripts}
 use Rattle.lego_io.specs.Count.{raised}
 use Rattle.outside.specs.declared.call.CallKind.TheVariants as kinds
 use Rattle.outside.specs.declared.call.FailCall.{FailCall}
-use Rattle.sim_world.specs.Told.{without_links, TellSame-without_links}
+use Rattle.sim_world.specs.Told.{without_links}
+use Rattle.sim_world.specs.laws.ToldLaws.{TellSame-without_links}
 use Rattle.sim_world.specs.laws.ScriptLaws.{running-through, FewCalls-history}
 use Rattle.sim_world.specs.Lives.{life_in}
 use Rattle.sim_world.specs.Tally.{counts_of}

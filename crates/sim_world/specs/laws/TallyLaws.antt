@@ -2,7 +2,7 @@
 use Rattle.std.specs.Prelude.{◌≡◌, ◌==◌, ℕ, ◌-◌, ◌^◌, ◌≤◌, Bool, true, false, ◌||◌, List, [], ◌∷◌, All, refl, if◌then◌else◌}
 use Rattle.std.specs.List.{list_any}
 use Rattle.std.proofs.Common.{sym, ap, ◌∙◌, arith}
-use Rattle.std.proofs.lemmas.Bool.{eqb-true, eq-eqb, false≢true, true≢false}
+use Rattle.std.proofs.lemmas.Bool.{eqb-true, eq-eqb, false≢true, true≢false, or_parts}
 use Rattle.std.proofs.lemmas.List.Elements.{All-head, All-tail, All-nil, All-cons}
 use Rattle.lego_io.specs.Count.{raised, Rose}
 use Rattle.lego_io.specs.laws.CountLaws.{Rose-raised}
@@ -361,14 +361,10 @@ counted-fault_of declared stray d t for = record {
 
 -- ---- Each fault comes with its own count
 
-absent_later : (here later : Bool) → (here || later) ≡ false → (here ≡ false) × (later ≡ false)
-absent_later true later none = absurd (true≢false none)
-absent_later false later none = (refl, none)
-
 count-absent : (count : LinkCounts → ℕ) (e other : ℕ) (ls : List LinkCounts) → list_any (λ l. l.dpid == e) ls ≡ false → count_at count other e ls ≡ other
 count-absent count e other [] none = refl
 count-absent count e other (l ∷ ls) none =
-    let apart = absent_later (l.dpid == e) _ none in
+    let apart = or_parts (l.dpid == e) _ none in
     rw apart.0 (count-absent count e other ls apart.1)
 
 one_in : (count : LinkCounts → ℕ) (d other : ℕ) (l : LinkCounts) (ls : List LinkCounts) → count l ≤ last_count → count_at count other d ls ≤ last_count → (here : Bool)

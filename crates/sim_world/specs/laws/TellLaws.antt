@@ -11,7 +11,7 @@ use Rattle.outside.specs.Calls.{item_step, IsItemIn}
 use Rattle.outside.specs.Conforming.{MayStep}
 use Rattle.outside.specs.InOrder.{MayCome}
 use Rattle.sim_world.specs.Links.{IsDue, waiting_in}
-use Rattle.sim_world.specs.World.{WorldData, Moves, IsAsTold, declared_in, next_told}
+use Rattle.sim_world.specs.World.{WorldData, Moves, IsAsTold, all_declared, next_told}
 use Rattle.sim_world.specs.laws.NextLaws.{IsMessage, is_idle, is_end, due_item, due_may, due_is_told, told_something, told_idle, first_waiting, nothing_upcoming}
 use Rattle.sim_world.specs.Doing.{Tells}
 
@@ -33,11 +33,11 @@ Tells_by_due old new item buf begun moves due first within =
       within = within;
       idle = both.0;
       over = both.1;
-      may = due_may (declared_in old.state) (item_step item buf) old.state due next;
+      may = due_may (all_declared old.state) (item_step item buf) old.state due next;
       told = λ told. due_is_told old.told old.nexts (item_step item buf) old.state due told;
     }
 
-message_may : (item : Item) (buf : List ℕ) (s : State) → IsMessage item → slice_get (upcoming s) 0 ≡ Some (item_step item buf) → MayCome (declared_in s) (item_step item buf) s
+message_may : (item : Item) (buf : List ℕ) (s : State) → IsMessage item → slice_get (upcoming s) 0 ≡ Some (item_step item buf) → MayCome (all_declared s) (item_step item buf) s
 unfolding item_step MayCome
 message_may (items.From d n) buf s is next = next
 message_may other buf s is next = absurd is

@@ -21,8 +21,9 @@ use Rattle.outside.specs.laws.InOrderLaws.{come-append}
 use Rattle.sim_world.specs.Tally.{TallyState, CountsFor}
 use Rattle.sim_world.specs.Told.{without_links}
 use Rattle.sim_world.specs.Lives.{life_in}
-use Rattle.sim_world.specs.Scripts.{Scripts, Life, fresh, all_fresh, life_after, life_through, lives_after, IsScriptedAct, IsScripted, AreScripted, KeepsScripts}
-use Rattle.sim_world.specs.World.{WorldData, declared_in, given_of, seen_of, IsActAsTold, IsAsTold, AreAsTold, counted_next, nexts_through, CanCome, IsHistory, Stands, Moves}
+use Rattle.sim_world.specs.laws.ScriptLaws.{AreScripted-append, life_through-append}
+use Rattle.sim_world.specs.Scripts.{Scripts, Life, fresh, all_fresh, life_after, life_through, lives_after, lives_through, IsScriptedAct, IsScripted, AreScripted, KeepsScripts}
+use Rattle.sim_world.specs.World.{WorldData, all_declared, given_of, seen_of, IsActAsTold, IsAsTold, AreAsTold, counted_next, nexts_through, CanCome, IsHistory, Stands, Moves}
 
 -- ---- Marks steer nothing
 
@@ -234,15 +235,15 @@ keeps_all : (change : Link → Link) → KeepsDeclared change → (ls : List Lin
 keeps_all change same [] = refl
 keeps_all change same (l ∷ ls) = rw (same l, keeps_all change same ls) refl
 
-stim_keeps : (x : WorldStim) (s : State) → declared_in (after_stim x s) ≡ declared_in s
-unfolding declared_in after_stim link_joined link_left link_stimulated
+stim_keeps : (x : WorldStim) (s : State) → all_declared (after_stim x s) ≡ all_declared s
+unfolding all_declared after_stim link_joined link_left link_stimulated
 stim_keeps (Join d) s = keeps d (link_joined s.moment) (λ l. refl) s.links
 stim_keeps (Leave d) s = keeps d link_left (λ l. refl) s.links
 stim_keeps (At t) s = keeps_all (link_stimulated (Advance t)) (λ l. refl) s.links
 stim_keeps (Of d x) s = keeps d (link_stimulated x) (λ l. refl) s.links
 
-act_keeps : (act : Act) (s : State) → declared_in (after_act act s) ≡ declared_in s
-unfolding declared_in after_act link_sent link_got
+act_keeps : (act : Act) (s : State) → all_declared (after_act act s) ≡ all_declared s
+unfolding all_declared after_act link_sent link_got
 act_keeps (Stim x) s = stim_keeps x s
 act_keeps (Started app ok) s = refl
 act_keeps (Gave app bytes) s = refl
@@ -252,8 +253,8 @@ act_keeps (Ended app) s = refl
 act_keeps (Sent d bytes) s = keeps d (link_sent bytes) (λ l. refl) s.links
 act_keeps (Got d bytes) s = keeps d link_got (λ l. refl) s.links
 
-step_keeps : (step : WorldStep) (s : State) → declared_in (after_step step s) ≡ declared_in s
-unfolding declared_in after_step link_told link_failed
+step_keeps : (step : WorldStep) (s : State) → all_declared (after_step step s) ≡ all_declared s
+unfolding all_declared after_step link_told link_failed
 step_keeps (Acted act) s = act_keeps act s
 step_keeps (TookInto app what room) s = refl
 step_keeps (From d bytes) s = keeps d link_told (λ l. refl) s.links
@@ -268,7 +269,7 @@ step_keeps NextFailed s = refl
 step_keeps (SendFailed d) s = keeps d link_failed (λ l. refl) s.links
 step_keeps (RecvFailed d) s = keeps d link_failed (λ l. refl) s.links
 
-pub declared-stays : (steps : List WorldStep) (s : State) → declared_in (after_steps steps s) ≡ declared_in s
+pub declared-stays : (steps : List WorldStep) (s : State) → all_declared (after_steps steps s) ≡ all_declared s
 declared-stays [] s = refl
 declared-stays (step ∷ steps) s = declared-stays steps (after_step step s) ∙ step_keeps step s
 
@@ -307,28 +308,16 @@ AreScripted-same own fails (step ∷ steps) lives others same are = (
   AreScripted-same own fails steps (lives_after own fails step lives) (lives_after own fails step others) (λ app. ap (life_after own fails app step) (same app)) are.1,
 )
 
--- the lives that steps leave
-abbrev lives_through : Scripts → List FailCall → List WorldStep → (ℕ → Life) → ℕ → Life
-lives_through own fails steps lives app = life_through own fails app steps (lives app)
-
-AreScripted-append : (own : Scripts) (fails : List FailCall) (xs ys : List WorldStep) (lives : ℕ → Life) → AreScripted own fails xs lives → AreScripted own fails ys (lives_through own fails xs lives) → AreScripted own fails (xs ++ ys) lives
-AreScripted-append own fails [] ys lives front rest = rest
-AreScripted-append own fails (x ∷ xs) ys lives front rest = (front.0, AreScripted-append own fails xs ys (lives_after own fails x lives) front.1 rest)
-
-life_through-append : (own : Scripts) (fails : List FailCall) (app : ℕ) (xs ys : List WorldStep) (l : Life) → life_through own fails app (xs ++ ys) l ≡ life_through own fails app ys (life_through own fails app xs l)
-life_through-append own fails app [] ys l = refl
-life_through-append own fails app (x ∷ xs) ys l = life_through-append own fails app xs ys (life_after own fails app x l)
-
 -- ---- A call that does what steps say
 
 -- What steps may come in a world, so that it stands afterwards.
 pub record MayMove (old : WorldData) (steps : List WorldStep) : Type 0 where
-  pub word : MayComeAll (declared_in old.state) steps old.state
+  pub word : MayComeAll (all_declared old.state) steps old.state
   pub scripts : AreScripted old.scripts old.told steps (λ app. life_in app old.lives)
   pub told : AreAsTold old.told old.nexts steps old.state
 
-pub declared_but : (s : State) → declared_in (but_marks s) ≡ declared_in s
-unfolding declared_in
+pub declared_but : (s : State) → all_declared (but_marks s) ≡ all_declared s
+unfolding all_declared
 declared_but s = refl
 
 IsHistory-more : (given : Given Scripts) (history steps : List WorldStep) (s : State) (lives : ℕ → Life) → but_marks (after_steps history (at_first given)) ≡ s
@@ -346,11 +335,11 @@ IsHistory-more given history steps s lives is same before may scripts told =
 
 -- A call that does what steps say, where they may come, leaves a world that stands.
 pub Stands_moves : (old new : WorldData) (steps : List WorldStep) (counted : TallyState) → Stands old → Moves old new steps counted → MayMove old steps
-    → CountsFor (declared_in old.state) counted → CanCome (declared_in old.state) new.state.moment new.state.to_come → Stands new
+    → CountsFor (all_declared old.state) counted → CanCome (all_declared old.state) new.state.moment new.state.to_come → Stands new
 unfolding given_of seen_of state
 Stands_moves old new steps counted stands moves may counts come =
-    let declared : declared_in new.state ≡ declared_in old.state =
-    ap declared_in moves.state ∙ declared_but (after_steps steps old.state) ∙ declared-stays steps old.state in
+    let declared : all_declared new.state ≡ all_declared old.state =
+    ap all_declared moves.state ∙ declared_but (after_steps steps old.state) ∙ declared-stays steps old.state in
     let given : given_of new ≡ given_of old = rw (declared, moves.scripts, moves.stimuli, moves.fails) refl in
     let history : IsHistory (given_of old) (old.history ++ steps) =
     IsHistory-more (given_of old) old.history steps old.state (λ app. life_in app old.lives) stands.state (λ app. rw (← stands.told) (stands.lives app)) stands.history may.word (rw (← stands.told) may.scripts) (rw (← stands.told, ← stands.nexts) may.told) in

@@ -3,7 +3,8 @@ use Rattle.std.proofs.Common.{None}
 use Rattle.outside.specs.State.{Link, link_joined}
 use Rattle.sim_world.specs.Links.{features_of_join}
 use Rattle.sim_world.specs.laws.LinksLaws.{links_in-changed, links_in-kept, declared_in-set, with_link-not_held}
-use Rattle.sim_world.proofs.Places.{on_ok, on_err, if_ok, at_place, at_none}
+use Rattle.std.proofs.lemmas.Result.{on_ok_weaker, on_err_weaker}
+use Rattle.sim_world.proofs.Places.{if_ok, at_place, at_none}
 use Rattle.std.proofs.Common.{Option}
 use Rattle.sim_world.proofs.links.join.Goals as goal
 
@@ -12,11 +13,11 @@ returns-in-None-clause-ok c = sym (with_link-not_held c.args.dpid (link_joined c
 
 pub returns-in-Some-clause-ok : goal.returns-in-Some-clause-ok
 returns-in-Some-clause-ok c =
-    on_ok c.join.result (λ changed. links_in-changed c.args.dpid (link_joined c.args.moment) c.args.links.now c.in-Some.place c.join.new.self c.index-links-place.result c.in-Some.ensures changed) c.join.ensures.ok
+    on_ok_weaker c.join.result (λ changed. links_in-changed c.args.dpid (link_joined c.args.moment) c.args.links.now c.in-Some.place c.join.new.self c.index-links-place.result c.in-Some.ensures changed) c.join.ensures.ok
 
 pub returns-in-Some-clause-err : goal.returns-in-Some-clause-err
 returns-in-Some-clause-err c =
-    on_err c.join.result (λ kept. links_in-kept c.args.links.now c.in-Some.place c.join.new.self c.index-links-place.result kept) c.join.ensures.err
+    on_err_weaker c.join.result (λ kept. links_in-kept c.args.links.now c.in-Some.place c.join.new.self c.index-links-place.result kept) c.join.ensures.err
 
 pub returns-in-Some-clause-declared : goal.returns-in-Some-clause-declared
 returns-in-Some-clause-declared c = declared_in-set c.args.links.now c.in-Some.place c.join.new.self c.index-links-place.result c.join.ensures.declared

@@ -1,4 +1,4 @@
-use Rattle.sim_world.specs.Told.{TellSame-without_links}
+use Rattle.sim_world.specs.laws.ToldLaws.{TellSame-without_links}
 use Rattle.sim_world.specs.laws.ScriptLaws.{same-will_start, same-will_give, same-next_taken, same-life_after}
 use Rattle.sim_world.proofs.script_laws.links_move_no_life.Goals as goal
 

@@ -1,5 +1,6 @@
 use Rattle.std.proofs.Common.{◌≡◌, List, length, sym, ap, subst, ◌∙◌, arith}
-use Rattle.sim_world.specs.Links.{Held, AreLinks, links_in, declared_in}
+use Rattle.outside.specs.State.{declared_in}
+use Rattle.sim_world.specs.Links.{Held, AreLinks, links_in}
 use Rattle.sim_world.specs.laws.LinksLaws.{AreLinks-same}
 use Rattle.sim_world.proofs.Places.{whole_again}
 use Rattle.sim_world.proofs.links.Links.advance.Goals as goal

@@ -1,12 +1,12 @@
 use Rattle.std.proofs.Common.{[], ◌∷◌, ◌++◌, ◌∙◌, ap}
 use Rattle.sim_world.specs.laws.BuildingLaws.{Gets-same, Gets-reply, put_lines}
-use Rattle.sim_world.proofs.Places.{on_ok}
+use Rattle.std.proofs.lemmas.Result.{on_ok_weaker}
 use Rattle.sim_world.proofs.parts.Parts.add_reply.Goals as goal
 
 pub returns-clause-ok : goal.returns-clause-ok
 returns-clause-ok c =
     let lives = c.self.inside.lives in
-    on_ok c.add_reply-2.result
+    on_ok_weaker c.add_reply-2.result
     (λ same.
     let said = same ∙ ap (λ steps. record lives { own = record lives.own { replies = lives.own.replies ++ (c.args.app, steps) ∷ [] } }) c.in_ok-from_script.ensures in
     let put = put_lines _ _ _ (λ own. record own { replies = own.replies ++ (c.args.app, c.args.reply) ∷ [] }) c.self.view_is said in

@@ -1,7 +1,7 @@
 use Rattle.std.proofs.Common.{ap, ◌∙◌}
 use Rattle.sim_world.specs.World.{WorldData}
 use Rattle.sim_world.specs.laws.BuildingLaws.{put_back, counting-removed, link-absent, links-few}
-use Rattle.sim_world.proofs.Places.{on_err}
+use Rattle.std.proofs.lemmas.Result.{on_err_weaker}
 use Rattle.sim_world.proofs.parts.Parts.put_switch.Goals as goal
 
 pub insert-put-requires-clause-absent : goal.insert-put-requires-clause-absent
@@ -14,4 +14,4 @@ insert-put-requires-clause-room c = links-few c.args.self.now c.self.inside.link
 pub returns-then-is_err-clause-err : goal.returns-then-is_err-clause-err
 returns-then-is_err-clause-err c =
     let tally = c.remove_last.ensures ∙ counting-removed c.self.inside.tally c.add.new.self c.dpid.result c.in_ok-add.ensures.ok in
-    on_err c.insert-put.result (λ kept. put_back _ _ _ _ c.self.view_is tally kept) c.insert-put.ensures.err
+    on_err_weaker c.insert-put.result (λ kept. put_back _ _ _ _ c.self.view_is tally kept) c.insert-put.ensures.err

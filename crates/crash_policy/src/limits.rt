@@ -1,0 +1,16 @@
+//! What a policy may ask for at most, and what holds where it says nothing (docs/POLICY.md).
+
+/// How many applications a policy has at most.
+pub const MOST_APPS: usize = 32;
+
+/// How many bytes the name of an application has at most.
+pub const MOST_NAME_BYTES: usize = 32;
+
+/// How many words a command has at most, the program among them.
+pub const MOST_COMMAND_WORDS: usize = 16;
+
+/// How many frames a policy lets a turn have at most.
+pub const MOST_BUDGET: u32 = 100_000;
+
+/// How many frames a turn has at most where the policy does not say.
+pub const DEFAULT_BUDGET: u32 = 1_000;

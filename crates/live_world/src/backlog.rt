@@ -1,0 +1,60 @@
+//! Frames that came while a switch was waited for, until `next` tells them.
+
+ghost use Rattle.std.specs.Prelude.{◌≡◌, ◌⊎◌, [], ◌++◌, true, false, None, Ok, IfOk, IfSome, OnErr};
+ghost use Rattle.of_stream.specs.Frames.{IsFrame, IsPartial, IsBroken};
+ghost use Rattle.live_world.specs.Hearing.{is_packet_in};
+
+use crate::hearing::is_packet_in;
+use of_stream::{CutFault, Cutter};
+use of_types::ByteList;
+use std::alloc::{AllocError, Global};
+
+/// How many bytes of messages are kept of a connection at most.
+const MOST_BYTES: usize = 16_777_216;
+
+/// The PACKET_INs of a connection that came while the switch's answer to something else was waited for, in their order.
+#[derive(Drop)]
+pub struct Backlog {
+    /// Their bytes.
+    pub(crate) stream: Cutter,
+}
+
+impl Backlog {
+    /// Begins with none. `AllocError` where there is no room for the first ones.
+    pub(crate) fn new(alloc: Global) -> Result<Backlog, AllocError>
+        ensures { IfOk result (λ backlog. backlog.stream ≡ []) }
+    {
+        Ok(Backlog {
+            stream: Cutter::new(alloc)?,
+        })
+    }
+
+    /// Tells whether there is none.
+    pub(crate) fn is_empty(&self) -> bool {
+        self.stream.held().is_empty()
+    }
+
+    /// Keeps a message behind the others, if it is a PACKET_IN and there is room for it. Tells whether it is kept.
+    pub(crate) fn keep(&mut self, message: &[u8]) -> bool
+        ensures only { result ≡ true → is_packet_in message.now ≡ true }
+        ensures kept { result ≡ true → self.new.stream ≡ self.old.stream ++ message.now }
+        ensures unchanged { result ≡ false → self.new.stream ≡ self.old.stream }
+    {
+        is_packet_in(message)
+            && self.stream.held().len().saturating_add(message.len()) <= MOST_BYTES
+            && self.stream.feed(message).is_ok()
+    }
+
+    /// Takes the oldest one. Where memory runs out it stays.
+    pub(crate) fn take(&mut self) -> Result<Option<ByteList>, AllocError>
+        ensures oldest { IfOk result (λ oldest. IfSome oldest (λ frame. IsFrame frame × (self.old.stream ≡ frame ++ self.new.stream))) }
+        ensures none { result ≡ Ok None → IsPartial self.old.stream ⊎ IsBroken self.old.stream }
+        ensures kept { OnErr result (self.new.stream ≡ self.old.stream) }
+    {
+        match self.stream.next() {
+            Ok(oldest) => Ok(oldest),
+            Err(CutFault::BadLength) => Ok(None),
+            Err(CutFault::NoMemory) => Err(AllocError),
+        }
+    }
+}
