@@ -14,7 +14,7 @@ mod worlds;
 use ended::Ended;
 use messages::{ADD, BAD_OUT_PORT, CONTROLLER, changed, packet, told};
 use plays::{Close, answer_behind, arrival, departure, late_notice, play, undo_both};
-use releases::{drop_one, hold_one, release_two};
+use releases::{drop_one, release_two};
 use worlds::small_world;
 
 const CUT: Ended = Ended::SwitchFault(1);
@@ -282,27 +282,19 @@ fn packets_are_held_and_released_in_order(rt: HostRuntime) -> Result<(), Fail> {
     );
     let mut buffered = packet(CONTROLLER, 1);
     buffered[11] = 0;
-    let cases = [
-        (
-            packet(CONTROLLER, 1),
-            &told(1)[..],
-            [fine, fine, out(2), packet_in, packet_in],
-        ),
-        // The switch refuses a port that it never had; the host refuses a buffer.
-        (
-            packet([0, 9], 1),
-            &BAD_OUT_PORT,
-            [fine, fine, out(2), error, packet_in],
-        ),
-        (
-            buffered,
-            &told(2),
-            [Ended::Error(1, 8), fine, out(1), packet_in, Ended::NoEvent],
-        ),
-    ];
-    for (first, body, expected) in cases {
-        assert_eq!(rt; released(rt.alloc(), None, &first, body)?, expected);
-    }
+    assert_eq!(rt;
+        released(rt.alloc(), None, &packet(CONTROLLER, 1), &told(1))?,
+        [fine, fine, out(2), packet_in, packet_in]
+    );
+    // The switch refuses a port that it never had; the host refuses a buffer.
+    assert_eq!(rt;
+        released(rt.alloc(), None, &packet([0, 9], 1), &BAD_OUT_PORT)?,
+        [fine, fine, out(2), error, packet_in]
+    );
+    assert_eq!(rt;
+        released(rt.alloc(), None, &buffered, &told(2))?,
+        [Ended::Error(1, 8), fine, out(1), packet_in, Ended::NoEvent]
+    );
     Ok(())
 }
 
@@ -344,18 +336,8 @@ fn dropped(alloc: Global) -> Result<[Ended; 3], AllocError> {
     Ok(drop_one(alloc, &mut world, &packet(CONTROLLER, 1)))
 }
 
-/// How a packet went that is held outside of a change.
-fn held(alloc: Global) -> Result<[Ended; 2], AllocError> {
-    let mut world = small_world(alloc, 8, None)?;
-    Ok(hold_one(alloc, &mut world, &packet(CONTROLLER, 3), &told(3)))
-}
-
 #[test]
 fn an_undo_drops_what_is_held(rt: HostRuntime) -> Result<(), Fail> {
     assert_eq!(rt; dropped(rt.alloc())?, [Ended::Fine, Ended::Fine, out(0)]);
-    assert_eq!(rt;
-        held(rt.alloc())?,
-        [out(1), Ended::Event(EventKind::PacketIn)]
-    );
     Ok(())
 }

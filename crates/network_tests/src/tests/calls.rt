@@ -153,6 +153,14 @@ pub fn undo_two<W: World>(world: &mut W, net: &mut Net, bytes: &[u8]) -> (Ended,
     (first, second, by_end(txn.abort(world)))
 }
 
+/// Whether a transaction sees this moment, and so many rows of one switch.
+fn is_seen(txn: &Txn<'_>, moment: u64, rows: usize) -> bool {
+    match txn.views() {
+        [view] => txn.moment() == moment && view.rows.as_slice().len() == rows,
+        _ => false,
+    }
+}
+
 /// Whether a transaction that changes nothing sees this moment, and so many rows of one switch.
 pub fn sees<W: World>(
     alloc: Global,
@@ -166,13 +174,9 @@ pub fn sees<W: World>(
 {
     let mut queue = EventQueue::new(alloc);
     let txn = Txn::begin(net);
-    let is_then = txn.moment() == moment;
-    let has_rows = match txn.views() {
-        [view] => view.rows.as_slice().len() == rows,
-        _ => false,
-    };
+    let is_seen = is_seen(&txn, moment, rows);
     match txn.commit(world, &mut queue) {
-        Ok(_released) => Ok(is_then && has_rows),
+        Ok(_released) => Ok(is_seen),
         Err(fault) => Err(by_fault(&fault)),
     }
 }

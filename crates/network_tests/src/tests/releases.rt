@@ -1,13 +1,9 @@
 //! Packets that are held, in any world.
 
-ghost use Rattle.std.specs.Prelude.{◌≡◌, ◌≤◌, true};
-ghost use Rattle.net_txn.specs.Views.{is_viewed};
-
 use super::calls::{by_change, new_net};
 use super::ended::{Ended, by_event, by_fault, by_release};
-use net_txn::{EventQueue, Net, Txn, TxnFault};
+use net_txn::{EventQueue, Txn, TxnFault};
 use of_types::Dpid;
-use of_wire::{Envelope, Message, PacketOut, WireFault, decode};
 use outside::World;
 use std::alloc::Global;
 
@@ -65,49 +61,4 @@ pub fn drop_one<W: World>(alloc: Global, world: &mut W, packet: &[u8]) -> [Ended
     }
     let released = by_commit(Txn::begin(&mut net).commit(world, &mut queue));
     [held, Ended::Fine, released]
-}
-
-/// Whether a switch is joined, and no other one.
-fn is_alone(net: &Net, dpid: Dpid) -> bool
-    ensures { result ≡ true → is_viewed dpid net.now.views ≡ true }
-{
-    match net.views() {
-        [view] => view.dpid == dpid,
-        _ => false,
-    }
-}
-
-/// Holds a packet that was read, and keeps the transaction; its event is expected with this body.
-fn hold_read<W: World>(alloc: Global, world: &mut W, packet: PacketOut, body: &[u8]) -> [Ended; 2] {
-    let mut net = match new_net(alloc, world) {
-        Ok(net) => net,
-        Err(ended) => return [ended, Ended::NotMade],
-    };
-    if !is_alone(&net, 1) {
-        return [Ended::Unknown, Ended::NotMade];
-    }
-    let mut queue = EventQueue::new(alloc);
-    let mut txn = Txn::begin(&mut net);
-    let held = txn.hold_packet(1, packet).is_ok();
-    let kept = by_commit(txn.commit(world, &mut queue));
-    let event = next_event(&mut queue, body);
-    if held {
-        [kept, event]
-    } else {
-        [Ended::NoMemory, event]
-    }
-}
-
-/// What becomes of a packet that is held outside of `change`.
-pub fn hold_one<W: World>(alloc: Global, world: &mut W, packet: &[u8], body: &[u8]) -> [Ended; 2] {
-    match decode(alloc, packet) {
-        Ok(
-            Envelope {
-                message: Message::PacketOut(packet),
-                ..
-            },
-        ) => hold_read(alloc, world, packet, body),
-        Err(WireFault::NoMemory) => [Ended::NoMemory, Ended::NotMade],
-        _ => [Ended::Otherwise, Ended::NotMade],
-    }
 }
