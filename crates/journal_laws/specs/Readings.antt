@@ -3,7 +3,7 @@
 use Rattle.std.specs.Prelude.{◌≡◌, ◌==◌, ℕ, Bool, true, false, not, ◌&&◌, List, [], ◌∷◌, ◌++◌, if◌then◌else◌}
 use Rattle.std.specs.List.{AllByRecursion}
 use Rattle.of_types.specs.declared.journal.Act.{Act}
-use Rattle.of_types.specs.declared.journal.Act.TheVariants.{Stim, Started, Gave, Gone, Took, Ended, Sent, Got}
+use Rattle.of_types.specs.declared.journal.Act.TheVariants.{Stim, Started, Gave, Gone, Took, Ended, Sent, Got, Lost}
 use Rattle.lego_model.specs.Journal.{Reply, Attempt, in_attempts, is_event, start_of}
 use Rattle.lego_model.specs.History.{starts_in, replies_in}
 
@@ -37,6 +37,7 @@ is_call app (Ended of) = of == app
 is_call app (Stim x) = false
 is_call app (Sent d bytes) = false
 is_call app (Got d bytes) = false
+is_call app (Lost d) = false
 
 abbrev pub Calls : ℕ → List Act → Type 0
 Calls app acts = AllByRecursion (λ act. is_call app act ≡ true) acts

@@ -1,7 +1,7 @@
 -- What a fault leaves of the tables of switches, behind the last quiescent point: the turn in flight is undone, switch by switch. All of
 -- this is our own but for the messages of OpenFlow 1.0.0.
 use Rattle.std.specs.Prelude.{◌≡◌, ◌⊎◌, ℕ, Bool, true, false, List, [], ◌∷◌, ◌++◌, fold, ◌==◌, Option, Some, None, IsErr, if◌then◌else◌}
-use Rattle.std.specs.List.{AllByRecursion}
+use Rattle.std.specs.List.{AllByRecursion, list_any}
 use Rattle.std.specs.Option.{option_map}
 use Rattle.lego_io.specs.Count.{Rose}
 use Rattle.of_types.specs.Fields.{number_at}
@@ -19,12 +19,12 @@ use Rattle.outside.specs.declared.step.WorldStep.TheVariants.{Acted}
 use Rattle.outside.specs.Seen.{Seen, Longer, journal}
 use Rattle.outside.specs.State.{state, switch_of}
 use Rattle.lego_model.specs.declared.fault.TxnFault.{TxnFault}
-use Rattle.lego_model.specs.declared.fault.TxnFault.TheVariants.{SwitchFault, SwitchBroke, Diverged, Flooded, NoMemory}
+use Rattle.lego_model.specs.declared.fault.TxnFault.TheVariants.{SwitchBroke, Diverged, Flooded, NoMemory}
 use Rattle.lego_model.specs.Application.{index, budget}
 use Rattle.lego_model.specs.AtOnce.{Passes, AtOnce}
 use Rattle.lego_model.specs.BarrierWaits.{flood}
 use Rattle.lego_model.specs.History.{own_acts}
-use Rattle.lego_model.specs.Journal.{is_event, reply_of, released}
+use Rattle.lego_model.specs.Journal.{is_event, reply_of, released, losses}
 use Rattle.lego_model.specs.Packets.{Held}
 use Rattle.lego_model.specs.SwitchFaults.{Happened, SentThenGot, IsFlood}
 use Rattle.lego_model.specs.UndoFaults.{inverse_bytes, WasSent, HasCause, IsStepOf, GoesWithoutStrays}
@@ -38,10 +38,9 @@ pub record RefusesInverse (inverse got : List ℕ) : Type 0 where
   pub key : Key
   pub inverse_so : inverse ≡ inverse_bytes (number_at 4 4 got) key
 
--- Its link's count rose; bytes were got from it that are no message; an inverse that was sent to it was refused; too many messages came
+-- Bytes were got from it that are no message; an inverse that was sent to it was refused; too many messages came
 -- from it behind a barrier; or the world had no memory for a call of it.
 abbrev pub IsWhyUndo : {Own : Type 0} → Type 0 → ℕ → Seen Own → Seen Own → TxnFault → Type 0
-IsWhyUndo Tells d old new (SwitchFault e) = (e ≡ d) × Rose (old.counts.link_faults d) (new.counts.link_faults d)
 IsWhyUndo Tells d old new (SwitchBroke e bytes) = (e ≡ d) × IsErr (reading_of bytes) × (Tells → Happened (Acted (Got d bytes) ∷ []) old.history new.history)
 IsWhyUndo Tells d old new (Diverged e inverse got) = (e ≡ d) × RefusesInverse inverse got × (Tells → SentThenGot d inverse got old.history new.history)
 IsWhyUndo Tells d old new (Flooded e n) = (e ≡ d) × (n ≡ flood) × IsFlood Tells d n old new
@@ -69,9 +68,17 @@ pub record HasEntriesAgain (s : SwitchState) (now : Option SwitchState) : Type 0
   pub next : ℕ
   pub stands : now ≡ Some (record s { table = record { entries = s.table.entries; next = next } })
 
--- Each switch that was joined then has its entries again, or it failed in the undo, with its cause in these calls; no other is joined.
+-- the switch was lost since then
+pub record WasLost {Own : Type 0} (d : ℕ) (old new : Seen Own) : Type 0 where
+  pub steps : List WorldStep
+  pub history : new.history ≡ old.history ++ steps
+  pub lost : list_any (λ e. e == d) (losses (journal steps)) ≡ true
+  pub out : switch_of d (state new) ≡ None
+
+-- Each switch that was joined then has its entries again, or it failed in the undo, with its cause in these calls, or it was lost; no other
+-- is joined.
 pub record UndoneButFailed {Own : Type 0} (Tells : Type 0) (old new : Seen Own) : Type 0 where
-  pub joined : (d : ℕ) (s : SwitchState) → switch_of d (state old) ≡ Some s → FailsInUndo Tells d old new ⊎ HasEntriesAgain s (switch_of d (state new))
+  pub joined : (d : ℕ) (s : SwitchState) → switch_of d (state old) ≡ Some s → FailsInUndo Tells d old new ⊎ HasEntriesAgain s (switch_of d (state new)) ⊎ WasLost d old new
   pub out : (d : ℕ) → switch_of d (state old) ≡ None → switch_of d (state new) ≡ None
 
 -- ---- There was no turn
@@ -137,7 +144,7 @@ abbrev pub after_packets : ℕ → List Held → SwitchState → SwitchState
 after_packets d packets s = fold (λ t held. if held.0 == d then after_message (PacketOut held.1) t else t) s packets
 
 -- It had a whole turn since then, whose release was begun. Each switch moved by the packets that were sent to it behind that, and by nothing
--- else, so that its changes stay.
+-- else, so that its changes stay, or it was lost.
 pub record TurnReleasing {Own : Type 0} (old new : Seen Own) : Type 0 where
   pub mid : Seen Own
   pub given : new.given ≡ mid.given
@@ -145,11 +152,11 @@ pub record TurnReleasing {Own : Type 0} (old new : Seen Own) : Type 0 where
   pub first : WorldStep
   pub steps : List WorldStep
   pub history : new.history ≡ mid.history ++ first ∷ steps
-  pub moved : (d : ℕ) → switch_of d (state new) ≡ option_map (after_packets d (released (journal (first ∷ steps)))) (switch_of d (state mid))
+  pub moved : (d : ℕ) → (switch_of d (state new) ≡ option_map (after_packets d (released (journal (first ∷ steps)))) (switch_of d (state mid))) ⊎ WasLost d mid new
 
 -- ---- What is left
 
--- No event was given since then; or its turn was undone on each switch that did not fail in the undo; or, where memory may have been wanting
--- behind it, the turn was whole, and its changes stay; or its packets were being released.
+-- No event was given since then; or its turn was undone on each switch that did not fail in the undo and was not lost; or, where memory may
+-- have been wanting behind it, the turn was whole, and its changes stay; or its packets were being released.
 abbrev pub TablesLeft : {Own : Type 0} → Type 0 → Seen Own → Seen Own → Type 0
 TablesLeft Short old new = NoEventSince old new ⊎ UndoneButFailed (Unit {0}) old new ⊎ (Short × TurnKept old new) ⊎ TurnReleasing old new

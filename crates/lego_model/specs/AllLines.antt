@@ -19,7 +19,7 @@ is_some_alive r = list_any (λ a. a.alive) r.apps
 -- The application was started, and with what was done up to the point all was done that the history tells of it.
 pub record AllDone {Own : Type 0} {last : Seen Own} (allows : List Place → Bool) (far : Progress last) : Type 0 where
   pub started : far.started ≡ true
-  pub none_ahead : NoneAhead (reference_to allows far (start_of last))
+  pub none_ahead : NoneAhead (reference_to allows far (start_of far.losses last))
 
 -- the last stimulus was settled, and nothing was done since then
 pub record IsSettled {Own : Type 0} {last : Seen Own} (far : Progress last) : Type 0 where
@@ -30,7 +30,7 @@ pub record IsSettled {Own : Type 0} {last : Seen Own} (far : Progress last) : Ty
 -- application.
 abbrev pub NoneBetween : {Own : Type 0} {last : Seen Own} → (List Place → Bool) → Progress last → Type 0
 NoneBetween {last = last} allows far =
-    IsSettled far ⊎ ((reference_to allows far (start_of last)).queue ≡ []) ⊎ (is_some_alive (reference_to allows far (start_of last)) ≡ true)
+    IsSettled far ⊎ ((reference_to allows far (start_of far.losses last)).queue ≡ []) ⊎ (is_some_alive (reference_to allows far (start_of far.losses last)) ≡ true)
 
 -- ---- Up to a point
 

@@ -1,13 +1,13 @@
 -- The dialogue that a journal has with an application: it is answered message by message, in the order in which it gave them, and a change
--- has reached its switch before its answer is given (OpenFlow 1.0.0, 4.2 Message Handling and 5.3.7 Barrier Message). No call for the
--- application is out of place: it is started only where it does not run, and given to, taken from and ended only while it runs. And it is
--- looked at no further than needed: what it gives is taken only where no whole frame stands at the front of what is unread, nor bytes that
--- are refused, and where no end of its bytes was taken since it was started or given another frame than an Answer last. All else is our
--- own.
+-- has reached its switch before its answer is given, or its switch was lost (OpenFlow 1.0.0, 4.2 Message Handling and 5.3.7 Barrier
+-- Message). No call for the application is out of place: it is started only where it does not run, and given to, taken from and ended only
+-- while it runs. And it is looked at no further than needed: what it gives is taken only where no whole frame stands at the front of what is
+-- unread, nor bytes that are refused, and where no end of its bytes was taken since it was started or given another frame than an Answer
+-- last. All else is our own.
 use Rattle.std.specs.Prelude.{◌≡◌, ◌==◌, ℕ, Bool, true, false, List, [], ◌∷◌, ◌++◌, filter, filter_map, drop, Option, Some, None, Ok, ◌⊎◌, slice_index, slice_get, if◌then◌else◌}
 use Rattle.of_types.specs.declared.errors.OfError.{OfError}
 use Rattle.of_types.specs.declared.journal.Act.{Act}
-use Rattle.of_types.specs.declared.journal.Act.TheVariants.{Started, Gave, Gone, Took, Ended, Got}
+use Rattle.of_types.specs.declared.journal.Act.TheVariants.{Started, Gave, Gone, Took, Ended, Got, Lost}
 use Rattle.of_types.specs.declared.journal.TookWhat.TheVariants.{Bytes}
 use Rattle.of_wire.specs.declared.message.Message.{Message}
 use Rattle.of_wire.specs.Reading.{reading_of}
@@ -15,6 +15,8 @@ use Rattle.of_wire.specs.Grammar.{enveloped}
 use Rattle.app_frames.specs.declared.frame.AppFrame.{AppFrame}
 use Rattle.app_frames.specs.declared.frame.AppFrame.TheVariants as frames
 use Rattle.app_frames.specs.declared.frame.Answer.{Answer}
+use Rattle.app_frames.specs.declared.frame.Answer.TheVariants.{Unknown}
+use Rattle.std.specs.List.{list_any}
 use Rattle.app_frames.specs.Frames.{app_reading}
 use Rattle.lego_model.specs.declared.wait.Awaited.{Awaited}
 use Rattle.lego_model.specs.declared.wait.Heard.{Heard}
@@ -121,9 +123,19 @@ pub record AnsweredBySwitch (dpid : ℕ) (bytes : List ℕ) (answer : Answer) (s
   pub error_so : error ≡ first_error dpid reached.xid reached.barrier (drop reached.sent since)
   pub answer_so : answer ≡ answer_by error
 
--- the host answered, or the switch did
+-- this act is the loss of the switch
+abbrev pub is_loss_of : ℕ → Act → Bool
+is_loss_of dpid (Lost of) = of == dpid
+is_loss_of dpid other = false
+
+-- The switch was lost.
+pub record AnsweredForLoss (dpid : ℕ) (answer : Answer) (since : List Act) : Type 0 where
+  pub answer_so : answer ≡ Unknown
+  pub lost : list_any (is_loss_of dpid) since ≡ true
+
+-- the host answered, or the switch did, or the switch was lost
 abbrev pub AnsweredAtOnce : ℕ → List ℕ → Answer → List Act → Type 0
-AnsweredAtOnce dpid bytes answer since = AnsweredByHost bytes answer since ⊎ AnsweredBySwitch dpid bytes answer since
+AnsweredAtOnce dpid bytes answer since = AnsweredByHost bytes answer since ⊎ AnsweredBySwitch dpid bytes answer since ⊎ AnsweredForLoss dpid answer since
 
 -- an Answer frame: its kind is 3
 abbrev pub is_answer : List ℕ → Bool

@@ -1,24 +1,17 @@
 -- The reference controller: it runs stimuli over whole switches, gives each event to the applications that are alive, and never sees a
--- turn that failed. It has no inverse message, no cache, and sends nothing for the purpose of undoing. Events are made of what switches
--- send (OpenFlow 1.0.0, 5.4 Asynchronous Messages); all else is our own choice.
-use Rattle.std.specs.Prelude.{◌==◌, ℕ, zero, suc, ◌+◌, ◌/◌, ◌%◌, ◌&&◌, Bool, true, false, not, List, [], ◌∷◌, ◌++◌, map, filter_map, fold, drop, length, Option, Some, None, Result, Ok, Err, is_some, unwrap_or, if◌then◌else◌}
+-- turn that failed. It has no inverse message, no cache, and sends nothing for the purpose of undoing. A switch whose link fails goes out.
+-- Events are made of what switches send (OpenFlow 1.0.0, 5.4 Asynchronous Messages); all else is our own choice.
+use Rattle.std.specs.Prelude.{◌==◌, ℕ, zero, suc, ◌+◌, ◌&&◌, Bool, true, false, not, List, [], ◌∷◌, ◌++◌, map, fold, drop, length, Option, Some, None, is_some, unwrap_or, if◌then◌else◌}
 use Rattle.std.specs.List.{flat_map, list_any}
 use Rattle.std.specs.Option.{option_map}
-use Rattle.of_types.specs.declared.port_desc.PortDesc.{PortDesc}
 use Rattle.of_types.specs.declared.journal.Stimulus.{Stimulus}
 use Rattle.of_types.specs.declared.journal.Stimulus.TheVariants.{Advance}
 use Rattle.of_types.specs.declared.journal.WorldStim.{WorldStim}
 use Rattle.of_types.specs.declared.journal.WorldStim.TheVariants.{Join, Leave, At, Of}
-use Rattle.of_wire.specs.declared.message.Message.{Message}
-use Rattle.of_wire.specs.declared.message.Message.TheVariants.{Error, PacketIn, PacketOut, FlowRemoved, PortStatus}
-use Rattle.of_wire.specs.declared.message.Envelope.{Envelope}
-use Rattle.of_wire.specs.declared.fault.WireFault.{WireFault}
-use Rattle.of_wire.specs.Reading.{reading_of}
-use Rattle.of_wire.specs.Spelling.{message_bytes, ports_bytes}
-use Rattle.flow_table.specs.Switch.{Declared, SwitchState, joined_at, features_reply, port_desc}
+use Rattle.of_wire.specs.declared.message.Message.TheVariants.{PacketOut}
+use Rattle.flow_table.specs.Switch.{Declared, SwitchState, joined_at}
 use Rattle.flow_table.specs.Step.{after_message, sent_by_message, after_stimulus, sent_by_stimulus}
 use Rattle.app_frames.specs.declared.frame.Event.{Event}
-use Rattle.app_frames.specs.declared.frame.EventKind.TheVariants as events
 use Rattle.app_frames.specs.declared.frame.HostFrame.TheVariants as host
 use Rattle.app_frames.specs.declared.frame.Answer.{Answer}
 use Rattle.app_frames.specs.declared.cause.Tried.{Tried}
@@ -27,38 +20,10 @@ use Rattle.app_frames.specs.Spelling.{host_bytes}
 use Rattle.lego_model.specs.Journal.{Reply, Start, Untold}
 use Rattle.lego_model.specs.Turns.{Outcome, Completed, Failed, Table, turn_of, outcome_of}
 use Rattle.lego_model.specs.Places.{Place, switch_at, with_place, undone_places}
+use Rattle.lego_model.specs.Losses.{PacketLoss, Stays, BeforeSent, AfterSent, TurnLosses, Losses, next_flag, next_packet, next_turn, batch_fewer, turn_fewer}
+pub use Rattle.lego_model.specs.Events.{ports_of, two_bytes, event_of_message, event_of_read, events_of, join_event, leave_event}
 use Rattle.lego_model.specs.Packets.{Held, Play, fresh_play, play}
 use Rattle.outside.specs.State.{Mark, moment_after, is_event}
-
--- ---- Events
-
--- the known ports of a switch, as they stand, by number
-abbrev pub ports_of : SwitchState → List PortDesc
-ports_of s = map (port_desc s.declared.dpid) s.ports
-
-abbrev pub two_bytes : ℕ → List ℕ
-two_bytes n = n / 256 ∷ n % 256 ∷ []
-
-abbrev pub event_of_message : ℕ → Message → Option Event
-event_of_message dpid (PacketIn m) = Some (record { kind = events.PacketIn; dpid = dpid; body = message_bytes 0 (PacketIn m) })
-event_of_message dpid (FlowRemoved m) = if m.reason == 2 then None else Some (record { kind = events.FlowRemoved; dpid = dpid; body = message_bytes 0 (FlowRemoved m) })
-event_of_message dpid (PortStatus m) = Some (record { kind = events.PortStatus; dpid = dpid; body = message_bytes 0 (PortStatus m) })
-event_of_message dpid (Error kind code payload) = Some (record { kind = events.SwitchError; dpid = dpid; body = two_bytes kind ++ two_bytes code })
-event_of_message dpid other = None
-
-abbrev pub event_of_read : ℕ → Result Envelope WireFault → Option Event
-event_of_read dpid (Ok e) = event_of_message dpid e.message
-event_of_read dpid (Err fault) = None
-
--- the events that messages of a switch become, in order
-unfoldable pub events_of : ℕ → List (List ℕ) → List Event
-events_of dpid messages = filter_map (λ bytes. event_of_read dpid (reading_of bytes)) messages
-
-abbrev pub join_event : SwitchState → Event
-join_event s = record { kind = events.Join; dpid = s.declared.dpid; body = features_reply 0 s }
-
-abbrev pub leave_event : SwitchState → Event
-leave_event s = record { kind = events.Leave; dpid = s.declared.dpid; body = ports_bytes (ports_of s) }
 
 -- ---- What happens, and what events that makes
 
@@ -175,6 +140,8 @@ pub data Line : Type 0 where
   Ended : ℕ → Outcome → Line
   -- a packet was released to a switch, with so many bytes
   Out : ℕ → ℕ → Line
+  -- a switch was lost
+  Lost : ℕ → Line
 
 pub record Run : Type 0 where
   pub moment : ℕ
@@ -185,6 +152,9 @@ pub record Run : Type 0 where
   pub lines : List Line
   -- the packets that were released, in order
   pub released : List Held
+  -- the switches that were lost, in order, and the losses that are to come
+  pub lost : List ℕ
+  pub losses : Losses
   pub marks : List Mark
 
 abbrev pub reference_mark : Option ℕ → List Place → Mark
@@ -214,34 +184,62 @@ after_outcome (Completed stop checkpoint rest) a = (record a { rest = rest; kept
 after_outcome (Failed cause) a = started attempts (record a { rest = []; failed = a.failed + 1 })
 
 -- ---- The release (5.3.6 Send Packet Message): each packet that is held goes to its switch, while that is joined, and what the switch
--- sends then becomes events
+-- sends then becomes events. Where the switch is lost before the packet is sent, it is not released; where it is lost behind it, it is, and
+-- what the switch sent for it makes no events.
 
 pub record Release : Type 0 where
   pub places : List Place
   pub events : List Event
   pub packets : List Held
+  pub losing : List PacketLoss
+  -- the Leave events of the switches that were lost, in order
+  pub left : List Event
 
-abbrev pub none_released : List Place → Release
-none_released places = record { places = places; events = []; packets = [] }
+abbrev pub none_released : List PacketLoss → List Place → Release
+none_released losing places = record { places = places; events = []; packets = []; losing = losing; left = [] }
 
-abbrev pub release_at : Option SwitchState → Release → Held → Release
-release_at None r held = r
-release_at (Some s) r held = record {
+abbrev pub went_out : ℕ → SwitchState → Release → Release
+went_out d s r = record r { places = with_place d (λ o. None) r.places; left = r.left ++ leave_event s ∷ [] }
+
+abbrev pub release_to : PacketLoss → SwitchState → Release → Held → Release
+release_to Stays s r held = record r {
   places = with_place held.0 (λ o. Some (after_message (PacketOut held.1) s)) r.places;
   events = r.events ++ events_of held.0 (sent_by_message 0 (PacketOut held.1) s);
   packets = r.packets ++ held ∷ [];
 }
+release_to BeforeSent s r held = went_out held.0 s r
+release_to AfterSent s r held = went_out held.0 s (record r { packets = r.packets ++ held ∷ [] })
+
+abbrev pub release_at : Option SwitchState → PacketLoss → Release → Held → Release
+release_at None loss r held = r
+release_at (Some s) loss r held = release_to loss s r held
 
 abbrev pub release_one : Release → Held → Release
-release_one r held = release_at (switch_at held.0 r.places) r held
+release_one r held = release_at (switch_at held.0 r.places) (next_packet r.losing) (record r { losing = drop 1 r.losing }) held
 
-unfoldable pub release : List Place → List Held → Release
-release places held = fold release_one (none_released places) held
+unfoldable pub release : List PacketLoss → List Place → List Held → Release
+release losing places held = fold release_one (none_released losing places) held
+
+-- ---- The undoing of a turn: a switch that is lost in it goes out
+
+-- the switches, with the Leave events of those that were lost
+abbrev pub lose_at : ℕ → Option SwitchState → List Place × List Event → List Place × List Event
+lose_at d None r = r
+lose_at d (Some s) r = (with_place d (λ o. None) r.0, r.1 ++ leave_event s ∷ [])
+
+abbrev pub lose : List Place × List Event → ℕ → List Place × List Event
+lose r d = lose_at d (switch_at d r.0) r
+
+unfoldable pub undoing : List ℕ → List Place → List Place → List Place × List Event
+undoing lost before after = fold lose (undone_places before after, []) lost
+
+abbrev pub undone_release : List Place × List Event → Release
+undone_release r = record { places = r.0; events = []; packets = []; losing = []; left = r.1 }
 
 -- A turn that completed leaves what it did, and its packets are released; one that failed leaves what an undo gives back.
-abbrev pub release_by : Outcome → List Place → Play → Release
-release_by (Completed stop checkpoint rest) before after = release after.places after.held
-release_by (Failed cause) before after = none_released (undone_places before after.places)
+abbrev pub release_by : Outcome → TurnLosses → List Place → Play → Release
+release_by (Completed stop checkpoint rest) losses before after = release losses.packets after.places after.held
+release_by (Failed cause) losses before after = undone_release (undoing losses.undone before after.places)
 
 abbrev pub gone_line : ℕ → Bool → List Line
 gone_line i true = []
@@ -254,16 +252,20 @@ restart_lines i (Failed cause) a = map (Started i) a.1 ++ gone_line i a.0.alive
 -- what a turn leaves: the switches, with what was released, the application with the attempts to start it again, and how it ended
 pub record Turned : Type 0 where
   pub release : Release
+  -- the Leave events of the switches that were lost, in order
+  pub left : List Event
   pub app : App × List Tried
   pub outcome : Outcome
   pub given : Bool
 
-unfoldable pub turn : (List Place → Bool) → ℕ → ℕ → Event → List Place → App → Turned
-turn allows number moment event ps a =
+unfoldable pub turn : (List Place → Bool) → ℕ → ℕ → Event → TurnLosses → List Place → App → Turned
+turn allows number moment event losses ps a =
     let reply = next_reply a.replies in
-    let played = turn_of (table_of allows) a.budget a.rest reply (fresh_play ps) in
+    let played = turn_of (table_of allows) a.budget a.rest reply (fresh_play losses.messages ps) in
+    let release = release_by played.outcome losses ps played.state in
     record {
-      release = release_by played.outcome ps played.state;
+      release = release;
+      left = played.state.left ++ release.left;
       app = after_outcome played.outcome (record a { replies = drop 1 a.replies; inputs = a.inputs ++ given_in reply.given (event_frame number moment event) played.answers });
       outcome = played.outcome;
       given = reply.given;
@@ -272,6 +274,14 @@ turn allows number moment event ps a =
 -- a packet is told with its switch and how many bytes it has
 abbrev pub out_lines : List Held → List Line
 out_lines packets = map (λ held. Out held.0 (length held.1.payload)) packets
+
+-- the switches that leave by these events
+abbrev pub leavers : List Event → List ℕ
+leavers left = map (λ e. e.dpid) left
+
+-- each switch that was lost is told
+abbrev pub lost_lines : List ℕ → List Line
+lost_lines lost = map Lost lost
 
 abbrev pub says_stop : Outcome → Bool
 says_stop (Completed stop checkpoint rest) = stop
@@ -291,12 +301,14 @@ unfoldable pub given_to : (List Place → Bool) → Event → ℕ → List App �
 given_to allows event i [] run = ([], run)
 given_to allows event i (a ∷ more) run =
     if a.alive then
-    (let turned = turn allows run.events run.moment event run.places a in
+    (let turned = turn allows run.events run.moment event (next_turn run.losses.turns) run.places a in
     let next = record run {
       places = turned.release.places;
-      queue = run.queue ++ turned.release.events;
-      lines = run.lines ++ Ended i turned.outcome ∷ out_lines turned.release.packets ++ restart_lines i turned.outcome turned.app;
+      queue = run.queue ++ (turned.release.events ++ turned.left);
+      lines = run.lines ++ Ended i turned.outcome ∷ out_lines turned.release.packets ++ lost_lines (leavers turned.left) ++ restart_lines i turned.outcome turned.app;
       released = run.released ++ turned.release.packets;
+      lost = run.lost ++ leavers turned.left;
+      losses = turn_fewer run.losses;
       marks = marked turned.given run.events run.places run.marks;
     } in
     if says_stop turned.outcome then (turned.app.0 ∷ more, next)
@@ -332,13 +344,35 @@ settle allows run = times per_batch (dispatch_next allows) run
 
 -- ---- The whole
 
-unfoldable pub happen : WorldStim → Run → Run
-happen x run = record run {
-  moment = moment_after x run.moment;
-  places = places_after x run.moment run.places;
-  queue = run.queue ++ events_after x run.moment run.places;
-  marks = run.marks ++ reference_mark None run.places ∷ [];
+-- the switch of the stimulus, where it is lost while the items are handled
+abbrev pub lost_at : Bool → WorldStim → Option ℕ
+lost_at true (Join d) = Some d
+lost_at true (Of d x) = Some d
+lost_at lost other = None
+
+-- It leaves, unless it was joining.
+abbrev pub left_at : WorldStim → ℕ → List Place → List Event
+left_at (Join d) of ps = []
+left_at other of ps = left_of (switch_at of ps)
+
+-- Where the switch is lost its messages make no events, and it goes out.
+abbrev pub happen_to : Option ℕ → WorldStim → List Place → Run → Run
+happen_to None x after run = record run { places = after; queue = run.queue ++ events_after x run.moment run.places }
+happen_to (Some d) x after run = record run {
+  places = with_place d (λ o. None) after;
+  queue = run.queue ++ left_at x d after;
+  lines = run.lines ++ Lost d ∷ [];
+  lost = run.lost ++ d ∷ [];
 }
+
+unfoldable pub happen : WorldStim → Run → Run
+happen x run =
+    let done = happen_to (lost_at (next_flag run.losses.batches) x) x (places_after x run.moment run.places) run in
+    record done {
+      moment = moment_after x run.moment;
+      losses = batch_fewer run.losses;
+      marks = run.marks ++ reference_mark None run.places ∷ [];
+    }
 
 -- every application is started, in order
 unfoldable pub start_all : ℕ → List App → List App × List Line
@@ -348,8 +382,8 @@ start_all i (a ∷ more) =
     let rest = start_all (i + 1) more in
     (first.0 ∷ rest.0, map (Started i) first.1 ++ gone_line i first.0.alive ++ rest.1)
 
-abbrev pub at_first : List Declared → List App → Run
-at_first declared apps =
+abbrev pub at_first : List Declared → List App → Losses → Run
+at_first declared apps losses =
     let begun = start_all 0 apps in
     record {
       moment = 0;
@@ -359,9 +393,22 @@ at_first declared apps =
       apps = begun.0;
       lines = begun.1;
       released = [];
+      lost = [];
+      losses = losses;
       marks = [];
     }
 
 -- after each stimulus its events are dispatched, and after the last one what is left, as far as one batch goes
-unfoldable pub reference : (List Place → Bool) → List Declared → List App → List WorldStim → Run
-reference allows declared apps stimuli = settle allows (fold (λ run x. settle allows (happen x run)) (at_first declared apps) stimuli)
+unfoldable pub reference : (List Place → Bool) → List Declared → List App → Losses → List WorldStim → Run
+reference allows declared apps losses stimuli = settle allows (fold (λ run x. settle allows (happen x run)) (at_first declared apps losses) stimuli)
+
+-- ---- The end: a switch that is lost when it is asked for its rows goes out, and makes no event
+
+abbrev pub is_last_lost : Run → Place → Bool
+is_last_lost r p = list_any (λ d. d == p.declared.dpid) r.losses.last
+
+abbrev pub at_end : Run → Run
+at_end r = record r {
+  places = map (λ p. if is_last_lost r p then out p else p) r.places;
+  lost = r.lost ++ r.losses.last;
+}

@@ -7,7 +7,8 @@ use Rattle.of_types.specs.declared.journal.WorldStim.{WorldStim}
 use Rattle.lego_io.specs.Sink.{TookPart}
 use Rattle.lego_model.specs.Journal.{Reply, Start}
 use Rattle.lego_model.specs.Places.{Place}
-use Rattle.lego_model.specs.Controller.{Run, happen}
+use Rattle.lego_model.specs.Losses.{Losses}
+use Rattle.lego_model.specs.Controller.{Run, happen, at_end}
 use Rattle.lego_model.specs.RunReport.{run_report}
 use Rattle.lego_model.specs.AtOnce.{AtOnce}
 use Rattle.outside.specs.Seen.{Seen, journal}
@@ -19,20 +20,20 @@ use Rattle.outside.specs.declared.step.WorldStep.{WorldStep}
 
 -- ---- The reference controller in the middle of a run
 
--- before anything is started, with an application that does this
-abbrev pub start_said : {Own : Type 0} → Seen Own → List Start → List Reply → Run
-start_said seen starts replies = before_start seen.given.declared (fresh starts replies)
+-- before anything is started, with an application that does this, and these losses to come
+abbrev pub start_said : {Own : Type 0} → Losses → Seen Own → List Start → List Reply → Run
+start_said losses seen starts replies = before_start seen.given.declared losses (fresh starts replies)
 
 -- with one that does what the history tells of it
-abbrev pub start_of : {Own : Type 0} → Seen Own → Run
-start_of seen = start_said seen (starts_in (own_acts seen)) (replies_in (own_acts seen))
+abbrev pub start_of : {Own : Type 0} → Losses → Seen Own → Run
+start_of losses seen = start_said losses seen (starts_in (own_acts seen)) (replies_in (own_acts seen))
 
 -- The application is started or not yet, these stimuli happened with all that follows of each, then perhaps one more was begun, and so
 -- many of the events that wait then were dispatched.
 abbrev pub reference_so_far : (List Place → Bool) → Bool → List WorldStim → List WorldStim → ℕ → Run → Run
 reference_so_far allows started stimuli begun number r = times number (dispatch_next allows) (fold (λ q x. happen x q) (rounds allows stimuli (if started then all_started r else r)) begun)
 
--- how far a run came to a point: these stimuli are all that happened before it
+-- how far a run came to a point: these stimuli are all that happened before it, and so were switches lost
 pub record Progress {Own : Type 0} (last : Seen Own) : Type 0 where
   pub started : Bool
   pub stimuli : List WorldStim
@@ -41,6 +42,7 @@ pub record Progress {Own : Type 0} (last : Seen Own) : Type 0 where
   pub begun_one : length begun ≤ 1
   pub at_most : number ≤ 1000
   pub stimuli_so : stimuli_in last ≡ stimuli ++ begun
+  pub losses : Losses
 
 -- the reference controller up to there
 abbrev pub reference_to : {Own : Type 0} {last : Seen Own} → (List Place → Bool) → Progress last → Run → Run
@@ -53,31 +55,42 @@ pub record WroteSoFar {Own : Type 0} (allows : List Place → Bool) (last : Seen
   pub alike : RunsAlike last (reference_to allows far r)
   pub written : now_contents ≡ append_known contents (text_of (reference_to allows far r))
 
--- Where the sink failed, it did so at these lines, and had taken this text before: at the lines of the start,
+-- Where the sink failed, it did so at these lines, and had taken this text before; the run is that of the reference controller up to there. It
+-- failed at the lines of the start,
 pub record StartLines {Own : Type 0} {last : Seen Own} (allows : List Place → Bool) (far : Progress last) (text more : List ℕ) (r : Run) : Type 0 where
+  pub alike : RunsAlike last (reference_to allows far r)
   pub is_started : far.started ≡ true
   pub none_happened : stimuli_in last ≡ []
   pub none_dispatched : far.number ≡ 0
   pub text_so : text ≡ []
   pub more_so : text_of (reference_to allows far r) ≡ more
 
+-- at that of a switch that was lost at the stimulus that was begun last, behind the lines of all before it,
+pub record LossLines {Own : Type 0} {last : Seen Own} (allows : List Place → Bool) (far : Progress last) (text more : List ℕ) (r : Run) : Type 0 where
+  pub alike : RunsAlike last (reference_to allows far r)
+  pub is_begun : length far.begun ≡ 1
+  pub none_dispatched : far.number ≡ 0
+  pub text_so : text_of (reference_so_far allows far.started far.stimuli [] 0 r) ≡ text
+  pub more_so : text_of (reference_to allows far r) ≡ text ++ more
+
 -- at those of the event that was dispatched last, behind the lines of all before it,
 pub record EventLines {Own : Type 0} {last : Seen Own} (allows : List Place → Bool) (far : Progress last) (text more : List ℕ) (r : Run) : Type 0 where
+  pub alike : RunsAlike last (reference_to allows far r)
   pub before : ℕ
   pub one_more : far.number ≡ before + 1
   pub text_so : text_of (reference_so_far allows far.started far.stimuli far.begun before r) ≡ text
   pub more_so : text_of (reference_to allows far r) ≡ text ++ more
 
--- or at the end of the report.
+-- or at the end of the report, where switches may be lost that are asked for their rows.
 pub record EndLines {Own : Type 0} {last : Seen Own} (allows : List Place → Bool) (far : Progress last) (text more : List ℕ) (r : Run) : Type 0 where
+  pub alike : RunsAlike last (at_end (reference_to allows far r))
   pub none_left : (reference_to allows far r).queue ≡ []
   pub text_so : text_of (reference_to allows far r) ≡ text
   pub more_so : run_report names (reference_to allows far r) ≡ text ++ more
 
 -- These lines were to be written, behind this text, which is all that was done before.
 pub record WasWriting {Own : Type 0} (allows : List Place → Bool) (last : Seen Own) (text more : List ℕ) (far : Progress last) (r : Run) : Type 0 where
-  pub alike : RunsAlike last (reference_to allows far r)
-  pub lines : StartLines allows far text more r ⊎ EventLines allows far text more r ⊎ EndLines allows far text more r
+  pub lines : StartLines allows far text more r ⊎ LossLines allows far text more r ⊎ EventLines allows far text more r ⊎ EndLines allows far text more r
 
 -- ---- A point of a run
 
@@ -86,8 +99,8 @@ pub record WasWriting {Own : Type 0} (allows : List Place → Bool) (last : Seen
 -- with it, and all steps were in order.
 pub record AlikeUpTo {Own : Type 0} (last : Seen Own) (Holds : Progress last → Run → Type 0) : Type 0 where
   pub far : Progress last
-  pub as_told : Holds far (start_of last)
-  pub as_said : (starts : List Start) (replies : List Reply) → AreSaid last starts replies → Holds far (start_said last starts replies)
+  pub as_told : Holds far (start_of far.losses last)
+  pub as_said : (starts : List Start) (replies : List Reply) → AreSaid last starts replies → Holds far (start_said far.losses last starts replies)
   pub at_once : AtOnce index (journal last.history)
   pub in_order : AllByRecursion (IsOrderly index) last.history
 

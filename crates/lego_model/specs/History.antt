@@ -1,12 +1,12 @@
--- What the history of a world tells of a run: the calls for the application, what it did, what it was given, the stimuli, and how the
--- switches stood at each quiescent point. All of this is our own.
+-- What the history of a world tells of a run: the calls for the application, what it did, what it was given, the stimuli, what
+-- was released, which switches were lost, and how the switches stood at each quiescent point. All of this is our own.
 use Rattle.std.specs.Prelude.{ℕ, List, map, filter, None}
 use Rattle.std.specs.List.{flat_map}
 use Rattle.of_types.specs.declared.journal.Act.{Act}
 use Rattle.of_types.specs.declared.journal.WorldStim.{WorldStim}
 use Rattle.outside.specs.Seen.{Seen, journal}
 use Rattle.outside.specs.State.{Mark, mark_of, state}
-use Rattle.lego_model.specs.Journal.{is_of, inputs, stimuli, released, Reply, Start, Attempt, in_attempts, in_turns, start_of, reply_of}
+use Rattle.lego_model.specs.Journal.{is_of, inputs, stimuli, released, losses, Reply, Start, Attempt, in_attempts, in_turns, start_of, reply_of}
 use Rattle.lego_model.specs.Application.{index}
 use Rattle.lego_model.specs.Packets.{Held}
 
@@ -36,6 +36,10 @@ given_in seen = inputs index (journal seen.history)
 -- the packets that were released, each with its switch
 abbrev pub released_of : {Own : Type 0} → Seen Own → List Held
 released_of seen = released (journal seen.history)
+
+-- the switches that were lost
+abbrev pub lost_of : {Own : Type 0} → Seen Own → List ℕ
+lost_of seen = losses (journal seen.history)
 
 -- the stimuli that happened
 abbrev pub stimuli_in : {Own : Type 0} → Seen Own → List WorldStim

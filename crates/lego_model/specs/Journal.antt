@@ -1,8 +1,8 @@
--- What a journal tells: what happened, what each application was given and gave, what was released, and that a change and its
--- barrier stand between two frames to an application. All of this is our own.
+-- What a journal tells: what happened, what each application was given and gave, what was released, which switches were lost, and that a
+-- change and its barrier stand between two frames to an application. All of this is our own.
 use Rattle.std.specs.Prelude.{◌≡◌, ◌==◌, ℕ, ◌<◌, Bool, true, false, List, [], ◌∷◌, length, filter, filter_map, Option, Some, None, Result, Ok, Err, if◌then◌else◌, slice_index, slice_get}
 use Rattle.of_types.specs.declared.journal.Act.{Act}
-use Rattle.of_types.specs.declared.journal.Act.TheVariants.{Stim, Started, Gave, Gone, Took, Ended, Sent, Got}
+use Rattle.of_types.specs.declared.journal.Act.TheVariants.{Stim, Started, Gave, Gone, Took, Ended, Sent, Got, Lost}
 use Rattle.of_types.specs.declared.journal.TookWhat.TheVariants.{Bytes, Closed, Silent}
 use Rattle.of_types.specs.declared.journal.WorldStim.{WorldStim}
 use Rattle.of_wire.specs.declared.message.Message.{Message}
@@ -50,6 +50,15 @@ released_in other = None
 
 unfoldable pub released : Journal → List (ℕ × Packet)
 released journal = filter_map released_in journal
+
+-- ---- The switches that were lost
+
+abbrev pub lost_in : Act → Option ℕ
+lost_in (Lost dpid) = Some dpid
+lost_in other = None
+
+unfoldable pub losses : Journal → List ℕ
+losses journal = filter_map lost_in journal
 
 -- ---- Attempts to start an application: each with whether it stands, and the acts of the application up to the next attempt
 

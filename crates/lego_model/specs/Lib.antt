@@ -6,6 +6,8 @@ pub mod SessionText
 pub mod Journal
 pub mod Turns
 pub mod Places
+pub mod Losses
+pub mod Events
 pub mod Packets
 pub mod Controller
 pub mod Agreement

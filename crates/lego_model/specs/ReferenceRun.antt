@@ -5,10 +5,11 @@ use Rattle.flow_table.specs.Switch.{Declared}
 use Rattle.lego_model.specs.Journal.{Reply, Start}
 use Rattle.lego_model.specs.Places.{Place}
 use Rattle.lego_model.specs.Scripted.{AreFronts, AreStartFronts}
+use Rattle.lego_model.specs.Losses.{Losses}
 use Rattle.lego_model.specs.Controller.{App, Run, reference_mark, start_all, reference, settle, happen}
 pub use Rattle.lego_model.specs.Controller.{dispatch_next, times}
 use Rattle.outside.specs.Seen.{Seen}
-use Rattle.lego_model.specs.History.{starts_in, replies_in, own_acts, stimuli_in, given_in, released_of, points_in, last_point}
+use Rattle.lego_model.specs.History.{starts_in, replies_in, own_acts, stimuli_in, given_in, released_of, lost_of, points_in, last_point}
 use Rattle.lego_model.specs.Agreement.{AgreeMarks}
 use Rattle.lego_model.specs.Application.{budget, names}
 use Rattle.of_types.specs.declared.journal.WorldStim.{WorldStim}
@@ -19,9 +20,9 @@ use Rattle.lego_model.specs.RunReport.{line_text}
 abbrev pub fresh : List Start → List Reply → App
 fresh starts replies = record { alive = false; budget = budget; rest = []; kept = []; inputs = []; starts = starts; replies = replies; done = 0; failed = 0 }
 
--- before anything is started
-abbrev pub before_start : List Declared → App → Run
-before_start declared a = record {
+-- before anything is started, with the losses that are to come
+abbrev pub before_start : List Declared → Losses → App → Run
+before_start declared losses a = record {
   moment = 0;
   places = map (λ d. record { declared = d; switch = None }) declared;
   queue = [];
@@ -29,6 +30,8 @@ before_start declared a = record {
   apps = a ∷ [];
   lines = [];
   released = [];
+  lost = [];
+  losses = losses;
   marks = [];
 }
 
@@ -38,13 +41,13 @@ all_started r = let begun = start_all 0 r.apps in record r { apps = begun.0; lin
 
 -- ---- What the reference controller does with what a world tells
 
--- over the stimuli that it told, with an application that does this
-abbrev pub reference_said : {Own : Type 0} → (List Place → Bool) → Seen Own → List Start → List Reply → Run
-reference_said allows seen starts replies = reference allows seen.given.declared (fresh starts replies ∷ []) (stimuli_in seen)
+-- over the stimuli that it told and these losses, with an application that does this
+abbrev pub reference_said : {Own : Type 0} → (List Place → Bool) → Losses → Seen Own → List Start → List Reply → Run
+reference_said allows losses seen starts replies = reference allows seen.given.declared (fresh starts replies ∷ []) losses (stimuli_in seen)
 
 -- with one that does what it told of it
-abbrev pub reference_of : {Own : Type 0} → (List Place → Bool) → Seen Own → Run
-reference_of allows seen = reference_said allows seen (starts_in (own_acts seen)) (replies_in (own_acts seen))
+abbrev pub reference_of : {Own : Type 0} → (List Place → Bool) → Losses → Seen Own → Run
+reference_of allows losses seen = reference_said allows losses seen (starts_in (own_acts seen)) (replies_in (own_acts seen))
 
 -- what is said of the application, of which the fronts are told
 abbrev pub AreSaid : {Own : Type 0} → Seen Own → List Start → List Reply → Type 0
@@ -68,8 +71,10 @@ text_of r = flat_map (line_text names) r.lines
 -- ---- A run of a world stands alike to one of it
 
 -- The run is that of the reference controller: at every quiescent point, the end included, the switches agree; the application was given
--- what the reference controller gives it; and the packets that were released are those that it releases.
+-- what the reference controller gives it; the packets that were released are those that it releases; and the switches that were lost are those
+-- that it loses, each in its order.
 pub record RunsAlike {Own : Type 0} (seen : Seen Own) (r : Run) : Type 0 where
   pub tables : AgreeMarks (points_in seen ++ last_point seen ∷ []) (r.marks ++ reference_mark None r.places ∷ [])
   pub inputs : map (λ (a : App). a.inputs) r.apps ≡ given_in seen ∷ []
   pub released : released_of seen ≡ r.released
+  pub lost : lost_of seen ≡ r.lost

@@ -1,6 +1,6 @@
 -- The report of a whole run: what the controller prints, a line for each fact, in the order in which the reference controller makes them.
 -- This text form is our own.
-use Rattle.std.specs.Prelude.{ℕ, zero, suc, Bool, true, false, List, [], ◌∷◌, ◌++◌, length, codes, Option, Some, None}
+use Rattle.std.specs.Prelude.{ℕ, zero, suc, Bool, true, false, List, [], ◌∷◌, ◌++◌, length, codes, Option, Some, None, if◌then◌else◌}
 use Rattle.std.specs.List.{flat_map}
 use Rattle.std.specs.Fmt.{decimal}
 use Rattle.hex.specs.Hex.{encode_lower}
@@ -22,7 +22,8 @@ use Rattle.of_match.specs.declared.key.Key.{Key}
 use Rattle.of_match.specs.Match.{fields_in}
 use Rattle.of_match.specs.Text.{match_text}
 use Rattle.lego_model.specs.Turns.{Outcome, Completed, Failed as FailedBy}
-use Rattle.lego_model.specs.Controller.{App, Line, Started, IsGone, Dispatched, Ended, Out, Run}
+use Rattle.lego_model.specs.Places.{Place}
+use Rattle.lego_model.specs.Controller.{App, Line, Started, IsGone, Dispatched, Ended, Out, Lost, Run, is_last_lost}
 use Rattle.lego_model.specs.declared.turn.TurnWord.{TurnWord}
 use Rattle.lego_model.specs.declared.turn.TurnWord.TheVariants.{Done, Stop, Failed}
 
@@ -92,6 +93,10 @@ turn_line app word = line_of (codes "turn " ++ app ++ codes " " ++ turn_words wo
 unfoldable pub out_line : ℕ → ℕ → List ℕ
 out_line dpid size = line_of (codes "out " ++ decimal dpid ++ codes " " ++ decimal size)
 
+-- `lost DPID`
+unfoldable pub lost_line : ℕ → List ℕ
+lost_line dpid = line_of (codes "lost " ++ decimal dpid)
+
 -- `switch DPID flows N`
 unfoldable pub switch_line : ℕ → ℕ → List ℕ
 switch_line dpid flows = line_of (codes "switch " ++ decimal dpid ++ codes " flows " ++ decimal flows)
@@ -152,6 +157,7 @@ line_text names (IsGone i) = gone_line (name_of i names)
 line_text names (Dispatched number event) = event_line number event.kind event.dpid
 line_text names (Ended i outcome) = turn_line (name_of i names) (outcome_word outcome)
 line_text names (Out dpid size) = out_line dpid size
+line_text names (Lost dpid) = lost_line dpid
 
 -- an entry with the flags of its owner
 abbrev pub entry_text : ℕ → Entry → List ℕ
@@ -161,6 +167,10 @@ abbrev pub switch_text : Option SwitchState → List ℕ
 switch_text None = []
 switch_text (Some s) = switch_line s.declared.dpid (length s.table.entries) ++ flat_map (entry_text s.moment) s.table.entries
 
+-- of one that is lost when it is asked for its rows, that alone
+abbrev pub place_text : Run → Place → List ℕ
+place_text run p = if is_last_lost run p then lost_line p.declared.dpid else switch_text p.switch
+
 abbrev pub apps_text : List (List ℕ) → List App → List ℕ
 apps_text (name ∷ names) (a ∷ more) = app_line name a.alive a.done a.failed ++ apps_text names more
 apps_text names apps = []
@@ -168,4 +178,4 @@ apps_text names apps = []
 -- what happened, then the joined switches by number with their flow entries in key order, the applications, and the end
 unfoldable pub run_report : List (List ℕ) → Run → List ℕ
 run_report names run =
-    flat_map (line_text names) run.lines ++ flat_map (λ p. switch_text p.switch) run.places ++ apps_text names run.apps ++ end_line run.moment run.events
+    flat_map (line_text names) run.lines ++ flat_map (place_text run) run.places ++ apps_text names run.apps ++ end_line run.moment run.events

@@ -2,7 +2,6 @@
 -- it before. All of this is our own choice but for the messages of OpenFlow 1.0.0.
 use Rattle.std.specs.Prelude.{◌≡◌, ℕ, ◌≤◌, ◌⊎◌, false, List, [], ◌∷◌, ◌++◌, length, Some, IsErr}
 use Rattle.std.specs.List.{AllByRecursion}
-use Rattle.lego_io.specs.Count.{Rose}
 use Rattle.of_types.specs.Fields.{number_at}
 use Rattle.of_types.specs.declared.journal.Act.TheVariants.{Sent, Got}
 use Rattle.of_wire.specs.Reading.{reading_of}
@@ -17,7 +16,7 @@ use Rattle.outside.specs.declared.step.WorldStep.TheVariants.{Acted, From}
 use Rattle.outside.specs.Seen.{Seen, Longer}
 use Rattle.outside.specs.State.{state, switch_of}
 use Rattle.lego_model.specs.declared.fault.TxnFault.{TxnFault}
-use Rattle.lego_model.specs.declared.fault.TxnFault.TheVariants.{SwitchFault, SwitchBroke, Diverged, Flooded, NoMemory}
+use Rattle.lego_model.specs.declared.fault.TxnFault.TheVariants.{SwitchBroke, Diverged, Flooded, NoMemory}
 use Rattle.lego_model.specs.declared.wait.Awaited.{Awaited}
 use Rattle.lego_model.specs.BarrierWaits.{flood, next_xid, heard, is_reply, kept_of, wait_steps, barrier_sent, reply_got}
 use Rattle.lego_model.specs.FlowQueries.{flows_request, request_sent, asked_from, parts_in, refusals_in, IsBroken}
@@ -99,10 +98,9 @@ pub record FloodedByPacket {Own : Type 0} (d : ℕ) (old new : Seen Own) : Type 
 
 -- ---- The cause of a fault
 
--- Of a switch: its link's count rose; bytes came from it that are no message, or a bad part of a reply to a request of rows; what was sent
+-- Of a switch: bytes came from it that are no message, or a bad part of a reply to a request of rows; what was sent
 -- to it was answered by an ERROR, or a request of rows by nothing; or too many messages came from it, behind a barrier.
 abbrev pub IsWhyTxn : {Own : Type 0} → Type 0 → Seen Own → Seen Own → TxnFault → Type 0
-IsWhyTxn Tells old new (SwitchFault d) = Rose (old.counts.link_faults d) (new.counts.link_faults d)
 IsWhyTxn Tells old new (Flooded d n) = (n ≡ flood) × IsFlood Tells d n old new
 IsWhyTxn Tells old new NoMemory = ⊥
 IsWhyTxn Tells old new (SwitchBroke d bytes) = (Tells → CameFrom d bytes old.history new.history) × (IsErr (reading_of bytes) ⊎ IsBadPart Tells d bytes old new)

@@ -1,7 +1,7 @@
 -- What is sent to a switch in the undo of a turn (OpenFlow 1.0.0, 5.3.3 Modify State Messages: DELETE_STRICT; 5.3.7 Barrier Message), and
 -- which calls for it have the cause where it fails there. All else is our own.
-use Rattle.std.specs.Prelude.{◌≡◌, ◌==◌, ℕ, ◌^◌, ◌<◌, true, false, List, [], ◌∷◌, ◌++◌, length, Option, Some, None, IsOk, if◌then◌else◌}
-use Rattle.std.specs.List.{AllByRecursion}
+use Rattle.std.specs.Prelude.{◌≡◌, ◌==◌, ℕ, ◌^◌, ◌<◌, Bool, true, false, List, [], ◌∷◌, ◌++◌, length, Option, Some, None, IsOk, if◌then◌else◌}
+use Rattle.std.specs.List.{AllByRecursion, list_any}
 use Rattle.of_types.specs.Fields.{number_at}
 use Rattle.of_types.specs.declared.journal.Act.TheVariants.{Sent, Got}
 use Rattle.of_match.specs.declared.key.Key.{Key}
@@ -12,7 +12,7 @@ use Rattle.of_wire.specs.Spelling.{message_bytes}
 use Rattle.flow_table.specs.Refusals.{no_buffer}
 use Rattle.flow_table.specs.Switch.{Declared}
 use Rattle.outside.specs.declared.step.WorldStep.{WorldStep}
-use Rattle.outside.specs.declared.step.WorldStep.TheVariants.{Acted, SendFailed, RecvFailed}
+use Rattle.outside.specs.declared.step.WorldStep.TheVariants.{Acted, SendLost, RecvLost, SendFailed, RecvFailed}
 use Rattle.outside.specs.State.{State, after_step, after_steps, is_joined, has_waiting}
 use Rattle.outside.specs.InOrder.{MayComeAll}
 use Rattle.lego_model.specs.declared.fault.TxnFault.{TxnFault}
@@ -102,6 +102,8 @@ HasCause d sent steps fault = Unit {0}
 abbrev pub IsStepOf : ℕ → WorldStep → Type 0
 IsStepOf d (Acted (Sent e bytes)) = e ≡ d
 IsStepOf d (Acted (Got e bytes)) = e ≡ d
+IsStepOf d (SendLost e) = e ≡ d
+IsStepOf d (RecvLost e) = e ≡ d
 IsStepOf d (SendFailed e) = e ≡ d
 IsStepOf d (RecvFailed e) = e ≡ d
 IsStepOf d other = ⊥
@@ -111,8 +113,10 @@ IsStepOf d other = ⊥
 -- A call that failed is in place where its switch is joined, and to take a message, where one of it waits. A call out of place never
 -- succeeds, so that only the steps of calls that failed have to be looked at.
 abbrev pub IsExpectedOnLink : WorldStep → State → Type 0
-IsExpectedOnLink (SendFailed d) s = is_joined d s ≡ true
-IsExpectedOnLink (RecvFailed d) s = has_waiting d s ≡ true
+IsExpectedOnLink (SendLost d) s = is_joined d s ≡ true
+IsExpectedOnLink (RecvLost d) s = has_waiting d s ≡ true
+IsExpectedOnLink (SendFailed d) s = ⊥
+IsExpectedOnLink (RecvFailed d) s = ⊥
 IsExpectedOnLink other s = Unit {0}
 
 -- each of them in the state that those before it leave
@@ -120,10 +124,16 @@ abbrev pub AreExpectedOnLinks : List WorldStep → State → Type 0
 AreExpectedOnLinks [] s = Unit {0}
 AreExpectedOnLinks (step ∷ steps) s = IsExpectedOnLink step s × AreExpectedOnLinks steps (after_step step s)
 
--- The calls of these steps are in place, and the switch stays joined.
+-- by which a switch is lost
+abbrev pub loses : WorldStep → Bool
+loses (SendLost d) = true
+loses (RecvLost d) = true
+loses other = false
+
+-- The calls of these steps are in place, and the switch stays joined where it is not lost.
 pub record Goes (d : ℕ) (steps : List WorldStep) (s : State) : Type 0 where
   pub places : AreExpectedOnLinks steps s
-  pub joined : is_joined d (after_steps steps s) ≡ true
+  pub joined : list_any loses steps ≡ false → is_joined d (after_steps steps s) ≡ true
 
 -- so where they come in order, in any world that tells in order, and the switch is joined
 abbrev pub GoesWithoutStrays : ℕ → List WorldStep → Type 0

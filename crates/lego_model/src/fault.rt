@@ -10,9 +10,6 @@ use thiserror::Error;
 /// Why a call on the network failed. A `Dpid` is the switch that it came from.
 #[derive(Drop, Debug, Error)]
 pub enum TxnFault {
-    /// The switch's link failed.
-    #[error("the link of switch {0} failed")]
-    SwitchFault(Dpid),
     /// The switch sent these bytes, which are no message.
     #[error("switch {0} sent bytes that are no message")]
     SwitchBroke(Dpid, ByteList),

@@ -84,4 +84,6 @@ pub enum Act {
     Sent(Dpid, ByteList),
     /// The bytes came from the switch.
     Got(Dpid, ByteList),
+    /// The link of the switch failed, and the switch is lost.
+    Lost(Dpid),
 }

@@ -27,7 +27,7 @@ use Rattle.outside.specs.declared.item.Item.TheVariants as items
 use Rattle.outside.specs.declared.item.Taken.{Taken}
 use Rattle.outside.specs.declared.item.Taken.TheVariants as gave
 use Rattle.outside.specs.declared.step.WorldStep.{WorldStep}
-use Rattle.outside.specs.declared.step.WorldStep.TheVariants.{Acted, TookInto, From, Joined, Left, Moment, Idle, End, Opened, NotOpened, NextFailed, SendFailed, RecvFailed}
+use Rattle.outside.specs.declared.step.WorldStep.TheVariants.{Acted, TookInto, From, Joined, Left, Moment, Idle, End, Opened, NotOpened, NextFailed, SendLost, RecvLost, SendFailed, RecvFailed}
 use Rattle.outside.specs.Seen.{Counts, Seen, NoneFell, AreCounts, with_stray, with_short, with_short_of, with_link_fault}
 use Rattle.outside.specs.State.{State, after_steps, state, is_running, is_joined, has_waiting, upcoming}
 
@@ -237,19 +237,24 @@ pub record Ends {Own : Type 0} (Tells : Type 0) (app : ℕ) (old new : Seen Own)
 
 -- ---- send
 
-unfoldable pub send_steps : {T : Type 0} → ℕ → List ℕ → Result T LinkFault → List WorldStep
-send_steps d frame (Ok x) = Acted (Sent d frame) ∷ []
-send_steps d frame (Err linking.Failed) = SendFailed d ∷ []
-send_steps d frame (Err linking.Short) = []
+-- a call that fails: where the switch is joined it is lost
+abbrev pub unsent : ℕ → Bool → WorldStep
+unsent d true = SendLost d
+unsent d false = SendFailed d
+
+unfoldable pub send_steps : {T : Type 0} → ℕ → List ℕ → Bool → Result T LinkFault → List WorldStep
+send_steps d frame joined (Ok x) = Acted (Sent d frame) ∷ []
+send_steps d frame joined (Err linking.Failed) = unsent d joined ∷ []
+send_steps d frame joined (Err linking.Short) = []
 
 unfoldable pub link_counts : {T : Type 0} → ℕ → Result T LinkFault → Counts → Counts
 link_counts d (Ok x) c = c
 link_counts d (Err linking.Failed) c = with_link_fault d c
 link_counts d (Err linking.Short) c = with_short_of d c
 
--- A call for a switch that is not joined is out of place.
+-- A call for a switch that is not joined is out of place; one that fails for a switch that is joined loses it.
 pub record ToldSend {Own T : Type 0} (d : ℕ) (frame : List ℕ) (old new : Seen Own) (result : Result T LinkFault) : Type 0 where
-  pub history : new.history ≡ old.history ++ send_steps d frame result
+  pub history : new.history ≡ old.history ++ send_steps d frame (is_joined d (state old)) result
   pub counts : AreCounts old.given.declared (with_stray (not (is_joined d (state old))) (link_counts d result old.counts)) new.counts
   pub out_of_place : is_joined d (state old) ≡ false → IsErr result
 
@@ -263,18 +268,23 @@ pub record Sends {Own T : Type 0} (Tells : Type 0) (d : ℕ) (frame : List ℕ) 
 
 -- ---- recv
 
-unfoldable pub receive_steps : ℕ → Result ℕ LinkFault → List ℕ → List WorldStep
-receive_steps d (Ok n) buf = Acted (Got d (take n buf)) ∷ []
-receive_steps d (Err linking.Failed) buf = RecvFailed d ∷ []
-receive_steps d (Err linking.Short) buf = []
+abbrev pub unreceived : ℕ → Bool → WorldStep
+unreceived d true = RecvLost d
+unreceived d false = RecvFailed d
+
+unfoldable pub receive_steps : ℕ → Bool → Result ℕ LinkFault → List ℕ → List WorldStep
+receive_steps d joined (Ok n) buf = Acted (Got d (take n buf)) ∷ []
+receive_steps d joined (Err linking.Failed) buf = unreceived d joined ∷ []
+receive_steps d joined (Err linking.Short) buf = []
 
 -- the switch is joined and a message of it waits
 abbrev pub can_receive : ℕ → State → Bool
 can_receive d s = has_waiting d s
 
--- A call for a switch that is not joined, or of which no message waits, is out of place.
+-- A call for a switch that is not joined, or of which no message waits, is out of place; one that fails for a switch that is joined loses
+-- it.
 pub record ToldReceive {Own : Type 0} (d : ℕ) (old new : Seen Own) (result : Result ℕ LinkFault) (buf : List ℕ) : Type 0 where
-  pub history : new.history ≡ old.history ++ receive_steps d result buf
+  pub history : new.history ≡ old.history ++ receive_steps d (is_joined d (state old)) result buf
   pub counts : AreCounts old.given.declared (with_stray (not (can_receive d (state old))) (link_counts d result old.counts)) new.counts
   pub out_of_place : can_receive d (state old) ≡ false → IsErr result
 

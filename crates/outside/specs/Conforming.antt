@@ -1,9 +1,9 @@
 -- A world that keeps its word: each step of its history is one that a world of OpenFlow 1.0.0 switches may make in the state
 -- before it. What a stimulus may be, and the order of the items, are our own choice.
-use Rattle.std.specs.Prelude.{◌≡◌, ℕ, ◌+◌, ◌<◌, ◌≤◌, ◌^◌, Bool, true, false, not, ◌||◌, List, [], ◌∷◌, length, Some, Result, Ok, Err, IsTrue, IsOk, slice_get}
+use Rattle.std.specs.Prelude.{◌≡◌, ℕ, ◌+◌, ◌<◌, ◌≤◌, ◌^◌, Bool, true, false, not, ◌&&◌, ◌||◌, List, [], ◌∷◌, length, Some, Result, Ok, Err, IsTrue, IsOk, slice_get}
 use Rattle.std.specs.List.{AllByRecursion}
 use Rattle.of_types.specs.declared.journal.Act.{Act}
-use Rattle.of_types.specs.declared.journal.Act.TheVariants.{Stim, Started, Gave, Gone, Took, Ended, Sent, Got}
+use Rattle.of_types.specs.declared.journal.Act.TheVariants.{Stim, Started, Gave, Gone, Took, Ended, Sent, Got, Lost}
 use Rattle.of_types.specs.declared.journal.Stimulus.{Stimulus}
 use Rattle.of_types.specs.declared.journal.Stimulus.TheVariants.{Frame, Advance, Port, Counts, Raw}
 use Rattle.of_types.specs.declared.journal.WorldStim.{WorldStim}
@@ -16,7 +16,7 @@ use Rattle.of_wire.specs.Reading.{reading_of}
 use Rattle.of_wire.specs.Spelling.{kind_of}
 use Rattle.flow_table.specs.Switch.{Declared}
 use Rattle.outside.specs.declared.step.WorldStep.{WorldStep}
-use Rattle.outside.specs.declared.step.WorldStep.TheVariants.{Acted, TookInto, From, Joined, Left, Moment, Idle, End, Opened, NotOpened, NextFailed, SendFailed, RecvFailed}
+use Rattle.outside.specs.declared.step.WorldStep.TheVariants.{Acted, TookInto, From, Joined, Left, Moment, Idle, End, Opened, NotOpened, NextFailed, SendLost, RecvLost, SendFailed, RecvFailed}
 use Rattle.outside.specs.Seen.{Seen, is_declared}
 use Rattle.outside.specs.State.{State, at_first, after_stim, after_step, waits_of, is_joined, has_waiting, link_fails, upcoming}
 use Rattle.outside.specs.Calls.{IsIdle, IsOver}
@@ -91,8 +91,10 @@ MayAct declared (Took app what) s = Unit {0}
 MayAct declared (Ended app) s = Unit {0}
 MayAct declared (Sent d bytes) s = Unit {0}
 MayAct declared (Got d bytes) s = (slice_get (waits_of d s) 0 ≡ Some bytes) × IsOk (reading_of bytes)
+MayAct declared (Lost d) s = ⊥
 
--- A link call fails where it is to, after such a failure, or where it is out of place.
+-- A switch is lost where a call of its link is to fail, or where a message of it is to be taken and none waits. A call for a switch that is
+-- not joined fails.
 unfoldable pub MayStep : List Declared → WorldStep → State → Type 0
 MayStep declared (Acted act) s = MayAct declared act s
 MayStep declared (TookInto app what room) s = Unit {0}
@@ -105,8 +107,10 @@ MayStep declared End s = IsOver s
 MayStep declared Opened s = Unit {0}
 MayStep declared NotOpened s = Unit {0}
 MayStep declared NextFailed s = Unit {0}
-MayStep declared (SendFailed d) s = IsTrue (link_fails d s || not (is_joined d s))
-MayStep declared (RecvFailed d) s = IsTrue (link_fails d s || not (has_waiting d s))
+MayStep declared (SendLost d) s = IsTrue (is_joined d s && link_fails d s)
+MayStep declared (RecvLost d) s = IsTrue (is_joined d s && (link_fails d s || not (has_waiting d s)))
+MayStep declared (SendFailed d) s = is_joined d s ≡ false
+MayStep declared (RecvFailed d) s = is_joined d s ≡ false
 
 abbrev pub MaySteps : List Declared → List WorldStep → State → Type 0
 MaySteps declared [] s = Unit {0}

@@ -1,5 +1,5 @@
--- A world that tells what its switches send in order, none of it lost, though the bytes may be no messages: with messages it keeps its
--- word. All of this is our own choice.
+-- A world that tells what its switches send in order, none of it missing until a switch is lost, though the bytes may be no messages: with
+-- messages it keeps its word. All of this is our own choice.
 use Rattle.std.specs.Prelude.{◌≡◌, Bool, true, List, [], ◌∷◌, ◌++◌, Some, is_ok, slice_get}
 use Rattle.std.specs.List.{AllByRecursion}
 use Rattle.of_types.specs.declared.journal.Act.TheVariants.{Got}

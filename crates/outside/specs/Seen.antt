@@ -2,13 +2,13 @@
 use Rattle.std.specs.Prelude.{◌≡◌, ℕ, ◌==◌, Bool, List, ◌++◌, Option, Some, None, if◌then◌else◌, IsTrue}
 use Rattle.std.specs.List.{list_any, filter_map}
 use Rattle.of_types.specs.declared.journal.Act.{Act}
-use Rattle.of_types.specs.declared.journal.Act.TheVariants.{Took, Got}
+use Rattle.of_types.specs.declared.journal.Act.TheVariants.{Took, Got, Lost}
 use Rattle.of_types.specs.declared.journal.WorldStim.{WorldStim}
 use Rattle.lego_io.specs.Count.{raised, Rose, NeverFell}
 use Rattle.flow_table.specs.Switch.{Declared}
 use Rattle.outside.specs.declared.call.FailCall.{FailCall}
 use Rattle.outside.specs.declared.step.WorldStep.{WorldStep}
-use Rattle.outside.specs.declared.step.WorldStep.TheVariants.{Acted, TookInto, From, Joined, Left, Moment, Idle, End, Opened, NotOpened, NextFailed, SendFailed, RecvFailed}
+use Rattle.outside.specs.declared.step.WorldStep.TheVariants.{Acted, TookInto, From, Joined, Left, Moment, Idle, End, Opened, NotOpened, NextFailed, SendLost, RecvLost, SendFailed, RecvFailed}
 
 -- ---- What is seen
 
@@ -39,7 +39,7 @@ pub record Seen (Own : Type 0) : Type 0 where
 
 -- ---- The journal
 
--- the act of a step; items other than messages, and failed calls, are none
+-- the act of a step; items other than messages are none, and so are failed calls, but those by which a switch is lost
 abbrev pub act_of : WorldStep → Option Act
 act_of (Acted act) = Some act
 act_of (TookInto app what room) = Some (Took app what)
@@ -52,6 +52,8 @@ act_of End = None
 act_of Opened = None
 act_of NotOpened = None
 act_of NextFailed = None
+act_of (SendLost d) = Some (Lost d)
+act_of (RecvLost d) = Some (Lost d)
 act_of (SendFailed d) = None
 act_of (RecvFailed d) = None
 

@@ -1,11 +1,11 @@
 -- What a history leaves: the switches with what waits of them, the stimulus that was begun, and how the switches stood at each
 -- quiescent point. All of this is our own choice; what a switch does is that of the OpenFlow 1.0.0 switch.
-use Rattle.std.specs.Prelude.{◌==◌, ℕ, ◌+◌, Bool, true, false, not, ◌&&◌, ◌||◌, List, [], ◌∷◌, ◌++◌, map, drop, filter, Option, Some, None, Result, Ok, Err, if◌then◌else◌}
+use Rattle.std.specs.Prelude.{◌==◌, ℕ, ◌+◌, Bool, true, false, not, ◌&&◌, List, [], ◌∷◌, ◌++◌, map, drop, filter, Option, Some, None, Result, Ok, Err, if◌then◌else◌}
 use Rattle.std.specs.List.{list_any, flat_map}
 use Rattle.std.specs.Option.{is_some, option_map}
 use Rattle.of_types.specs.Fields.{number_at}
 use Rattle.of_types.specs.declared.journal.Act.{Act}
-use Rattle.of_types.specs.declared.journal.Act.TheVariants.{Stim, Started, Gave, Gone, Took, Ended, Sent, Got}
+use Rattle.of_types.specs.declared.journal.Act.TheVariants.{Stim, Started, Gave, Gone, Took, Ended, Sent, Got, Lost}
 use Rattle.of_types.specs.declared.journal.Stimulus.{Stimulus}
 use Rattle.of_types.specs.declared.journal.Stimulus.TheVariants.{Advance}
 use Rattle.of_types.specs.declared.journal.WorldStim.{WorldStim}
@@ -19,20 +19,19 @@ use Rattle.outside.specs.declared.call.CallKind.{CallKind}
 use Rattle.outside.specs.declared.call.CallKind.TheVariants as kinds
 use Rattle.outside.specs.declared.call.FailCall.{FailCall}
 use Rattle.outside.specs.declared.step.WorldStep.{WorldStep}
-use Rattle.outside.specs.declared.step.WorldStep.TheVariants.{Acted, TookInto, From, Joined, Left, Moment, Idle, End, Opened, NotOpened, NextFailed, SendFailed, RecvFailed}
+use Rattle.outside.specs.declared.step.WorldStep.TheVariants.{Acted, TookInto, From, Joined, Left, Moment, Idle, End, Opened, NotOpened, NextFailed, SendLost, RecvLost, SendFailed, RecvFailed}
 use Rattle.outside.specs.Seen.{Given, Seen}
 
 -- ---- The state
 
 -- A switch that is declared: its state while it is joined, what it sent and was not taken yet, the numbers of its link calls that
--- are to fail, how many such calls there were, and whether the link failed as it was to and the switch did not join since.
+-- are to fail, and how many such calls there were.
 pub record Link : Type 0 where
   pub declared : Declared
   pub switch : Option SwitchState
   pub waits : List (List ℕ)
   pub fails : List ℕ
   pub calls : ℕ
-  pub failed : Bool
 
 -- how the switches stood before a stimulus (`event` is None), or before the event of a number was first given
 pub record Mark : Type 0 where
@@ -62,7 +61,7 @@ abbrev pub fails_of : ℕ → List FailCall → List ℕ
 fails_of d fails = map (λ f. f.number) (filter (λ f. is_link_call f.kind && f.of == d) fails)
 
 abbrev pub link_at_first : List FailCall → Declared → Link
-link_at_first fails d = record { declared = d; switch = None; waits = []; fails = fails_of d.dpid fails; calls = 0; failed = false }
+link_at_first fails d = record { declared = d; switch = None; waits = []; fails = fails_of d.dpid fails; calls = 0 }
 
 unfoldable pub at_first : {Own : Type 0} → Given Own → State
 at_first given = record {
@@ -113,9 +112,9 @@ is_empty (x ∷ xs) = false
 abbrev pub has_waiting : ℕ → State → Bool
 has_waiting d s = not (is_empty (waits_of d s))
 
--- the next call of the link fails, as it is to or since it failed before
+-- the next call of the link is to fail
 abbrev pub is_failing : Link → Bool
-is_failing l = l.failed || list_any (λ n. n == l.calls + 1) l.fails
+is_failing l = list_any (λ n. n == l.calls + 1) l.fails
 
 abbrev pub fails_in : Option Link → Bool
 fails_in None = false
@@ -168,7 +167,7 @@ switch_joined moment d (Some s) = Some s
 
 -- A switch joins at a moment, where it is out.
 unfoldable pub link_joined : ℕ → Link → Link
-link_joined moment l = record l { switch = switch_joined moment l.declared l.switch; failed = l.failed && is_some l.switch }
+link_joined moment l = record l { switch = switch_joined moment l.declared l.switch }
 
 -- It leaves, with all that it held.
 unfoldable pub link_left : Link → Link
@@ -207,9 +206,13 @@ link_got l = record l { waits = drop 1 l.waits; calls = l.calls + 1 }
 unfoldable pub link_told : Link → Link
 link_told l = record l { waits = drop 1 l.waits }
 
--- A call of its link failed.
+-- A call of its link failed while it was joined: it is lost, with all that it held.
+unfoldable pub link_lost : Link → Link
+link_lost l = record l { switch = None; waits = []; calls = l.calls + 1 }
+
+-- A call of its link failed while it was out.
 unfoldable pub link_failed : Link → Link
-link_failed l = record l { calls = l.calls + 1; failed = is_failing l }
+link_failed l = record l { calls = l.calls + 1 }
 
 -- ---- A stimulus
 
@@ -260,6 +263,7 @@ after_act (Took app what) s = s
 after_act (Ended app) s = record s { running = filter (λ a. not (a == app)) s.running }
 after_act (Sent d bytes) s = record s { links = with_link d (link_sent bytes) s.links }
 after_act (Got d bytes) s = record s { links = with_link d link_got s.links }
+after_act (Lost d) s = record s { links = with_link d link_lost s.links }
 
 unfoldable pub after_step : WorldStep → State → State
 after_step (Acted act) s = after_act act s
@@ -273,6 +277,8 @@ after_step End s = s
 after_step Opened s = record s { opened = true }
 after_step NotOpened s = record s { opened = true }
 after_step NextFailed s = s
+after_step (SendLost d) s = record s { links = with_link d link_lost s.links }
+after_step (RecvLost d) s = record s { links = with_link d link_lost s.links }
 after_step (SendFailed d) s = record s { links = with_link d link_failed s.links }
 after_step (RecvFailed d) s = record s { links = with_link d link_failed s.links }
 

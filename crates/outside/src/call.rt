@@ -15,8 +15,7 @@ pub enum CallKind {
     TakeClosed,
     /// `take` from the application answers `Silent`.
     TakeSilent,
-    /// `send` to the switch or `recv` from it answers `Failed`; the link stays failed until the switch joins
-    /// again.
+    /// `send` to the switch or `recv` from it answers `Failed`, and the switch is lost: it is out until it joins again.
     Link,
     /// Any call that can answer `Short` does.
     Short,

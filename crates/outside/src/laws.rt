@@ -1,17 +1,18 @@
 //! Laws of histories, each the contract of a function that does nothing.
 
-ghost use Rattle.std.specs.Prelude.{◌≡◌, ◌≢◌, ℕ, false, List, [], ◌++◌, take, drop, Ok, Some, IsOk, slice_get};
-ghost use Rattle.of_types.specs.declared.journal.Act.TheVariants.{Sent, Got};
+ghost use Rattle.std.specs.Prelude.{◌≡◌, ◌≢◌, ℕ, true, false, List, [], ◌∷◌, ◌++◌, take, drop, Ok, Err, Some, None, IsOk, slice_get};
+ghost use Rattle.of_types.specs.declared.journal.Act.TheVariants.{Sent, Got, Lost};
 ghost use Rattle.of_wire.specs.Reading.{reading_of};
 ghost use Rattle.flow_table.specs.Switch.{Declared};
 ghost use Rattle.outside.specs.declared.item.Item.{Item};
 ghost use Rattle.outside.specs.declared.step.WorldStep.{WorldStep};
-ghost use Rattle.outside.specs.declared.step.WorldStep.TheVariants.{Acted};
+ghost use Rattle.outside.specs.declared.step.WorldStep.TheVariants.{Acted, SendLost, RecvLost, SendFailed, RecvFailed};
 ghost use Rattle.outside.specs.Seen.{Seen, Counts, NoneFell, Continues, LinkHeld, journal};
-ghost use Rattle.outside.specs.State.{State, after_step, after_steps, state, switch_of, waits_of, upcoming, switch_told, message_sends, but_marks};
-ghost use Rattle.outside.specs.Calls.{Receives, item_step};
+ghost use Rattle.outside.specs.State.{State, after_step, after_steps, state, switch_of, waits_of, is_joined, upcoming, switch_told, message_sends, but_marks};
+ghost use Rattle.outside.specs.Calls.{Sends, Receives, item_step};
 ghost use Rattle.outside.specs.Conforming.{MayStep, MaySteps, Conforming};
 
+use crate::faults::LinkFault;
 use crate::item::Item;
 use crate::world::World;
 
@@ -59,6 +60,57 @@ pub fn taken_moves_none()
         → switch_of e (after_step (Acted (Got d bytes)) s) ≡ switch_of e s }
     ensures others_wait { (d e : ℕ) (bytes : List ℕ) (s : State) → e ≢ d
         → waits_of e (after_step (Acted (Got d bytes)) s) ≡ waits_of e s }
+{}
+
+/// A switch that is lost is out, nothing of it waits, and the others stay.
+pub fn lost_goes_out()
+    ensures sends { (d : ℕ) (s : State) → switch_of d (after_step (SendLost d) s) ≡ None }
+    ensures sends_no_more { (d : ℕ) (s : State) → waits_of d (after_step (SendLost d) s) ≡ [] }
+    ensures receives { (d : ℕ) (s : State) → switch_of d (after_step (RecvLost d) s) ≡ None }
+    ensures receives_no_more { (d : ℕ) (s : State) → waits_of d (after_step (RecvLost d) s) ≡ [] }
+    ensures others { (d e : ℕ) (s : State) → e ≢ d → switch_of e (after_step (SendLost d) s) ≡ switch_of e s }
+    ensures others_wait { (d e : ℕ) (s : State) → e ≢ d → waits_of e (after_step (SendLost d) s) ≡ waits_of e s }
+    ensures other_ones { (d e : ℕ) (s : State) → e ≢ d → switch_of e (after_step (RecvLost d) s) ≡ switch_of e s }
+    ensures other_ones_wait { (d e : ℕ) (s : State) → e ≢ d → waits_of e (after_step (RecvLost d) s) ≡ waits_of e s }
+{}
+
+/// A call that fails for a switch that is out moves none.
+pub fn failed_moves_none()
+    ensures sends { (d e : ℕ) (s : State) → switch_of e (after_step (SendFailed d) s) ≡ switch_of e s }
+    ensures sends_none { (d e : ℕ) (s : State) → waits_of e (after_step (SendFailed d) s) ≡ waits_of e s }
+    ensures receives { (d e : ℕ) (s : State) → switch_of e (after_step (RecvFailed d) s) ≡ switch_of e s }
+    ensures receives_none { (d e : ℕ) (s : State) → waits_of e (after_step (RecvFailed d) s) ≡ waits_of e s }
+{}
+
+/// In a world that tells, a call of a link that fails loses the switch where it was joined, and moves none where it
+/// was out; it is out afterwards either way.
+pub fn failed_call_loses<W: World>()
+    ensures lost_sending { (d : ℕ) (frame : List ℕ) (old new : Seen W.Own) → W.Tells
+        → Sends {T = Unit {0}} W.Tells d frame old new (Err LinkFault.Failed) → is_joined d (state old) ≡ true
+        → state new ≡ after_step (SendLost d) (state old) }
+    ensures lost_receiving { (d : ℕ) (buf : List ℕ) (old new : Seen W.Own) → W.Tells
+        → Receives W.Tells d old new (Err LinkFault.Failed) buf → is_joined d (state old) ≡ true
+        → state new ≡ after_step (RecvLost d) (state old) }
+    ensures out_sending { (d : ℕ) (frame : List ℕ) (old new : Seen W.Own) → W.Tells
+        → Sends {T = Unit {0}} W.Tells d frame old new (Err LinkFault.Failed) → is_joined d (state old) ≡ false
+        → state new ≡ after_step (SendFailed d) (state old) }
+    ensures out_receiving { (d : ℕ) (buf : List ℕ) (old new : Seen W.Own) → W.Tells
+        → Receives W.Tells d old new (Err LinkFault.Failed) buf → is_joined d (state old) ≡ false
+        → state new ≡ after_step (RecvFailed d) (state old) }
+    ensures sending_out { (d : ℕ) (frame : List ℕ) (old new : Seen W.Own) → W.Tells
+        → Sends {T = Unit {0}} W.Tells d frame old new (Err LinkFault.Failed) → is_joined d (state new) ≡ false }
+    ensures receiving_out { (d : ℕ) (buf : List ℕ) (old new : Seen W.Own) → W.Tells
+        → Receives W.Tells d old new (Err LinkFault.Failed) buf → is_joined d (state new) ≡ false }
+{}
+
+/// The journal has it where a switch is lost.
+pub fn loss_is_told<W: World>()
+    ensures sending { (d : ℕ) (frame : List ℕ) (old new : Seen W.Own) → W.Tells
+        → Sends {T = Unit {0}} W.Tells d frame old new (Err LinkFault.Failed) → is_joined d (state old) ≡ true
+        → journal new.history ≡ journal old.history ++ Lost d ∷ [] }
+    ensures receiving { (d : ℕ) (buf : List ℕ) (old new : Seen W.Own) → W.Tells
+        → Receives W.Tells d old new (Err LinkFault.Failed) buf → is_joined d (state old) ≡ true
+        → journal new.history ≡ journal old.history ++ Lost d ∷ [] }
 {}
 
 /// No step looks at the marks, but to append to them.

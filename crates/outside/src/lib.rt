@@ -22,8 +22,9 @@ pub use faults::{GiveFault, LinkFault, NextFault, OpenFault, Short, StartFault};
 pub use flow_table::{AllowAll, Judge};
 pub use item::{Item, Taken};
 pub use laws::{
-    conforming_before, later_calls, longer_history, marks_steer_nothing, receives_the_next,
-    rests_until_a_stimulus, sent_moves_one, taken_moves_none,
+    conforming_before, failed_call_loses, failed_moves_none, later_calls, longer_history,
+    loss_is_told, lost_goes_out, marks_steer_nothing, receives_the_next, rests_until_a_stimulus,
+    sent_moves_one, taken_moves_none,
 };
 pub use mute::Mute;
 pub use step::WorldStep;

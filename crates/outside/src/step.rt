@@ -6,7 +6,8 @@ use of_types::{Act, ByteList, Dpid, TookWhat};
 /// failed. A call that answered `Short` is no step.
 #[derive(Drop, Debug, Clone, PartialEq, Eq)]
 pub enum WorldStep {
-    /// An act of the journal, but a `Took`. A `Got` here came by `recv`, and a `Stim` stands where `next` began it.
+    /// An act of the journal, but a `Took` or a `Lost`. A `Got` here came by `recv`, and a `Stim` stands where `next` began
+    /// it.
     Acted(Act),
     /// `take` from the application answered this, into a buffer of so many bytes; the journal has it as `Took`.
     TookInto(u32, TookWhat, usize),
@@ -28,8 +29,12 @@ pub enum WorldStep {
     NotOpened,
     /// `next` answered `Failed`.
     NextFailed,
-    /// `send` to the switch answered `Failed`.
+    /// `send` to the switch answered `Failed` while it was joined; the journal has it as `Lost`.
+    SendLost(Dpid),
+    /// `recv` from the switch answered `Failed` while it was joined; the journal has it as `Lost`.
+    RecvLost(Dpid),
+    /// `send` to the switch answered `Failed`, and it was not joined.
     SendFailed(Dpid),
-    /// `recv` from the switch answered `Failed`.
+    /// `recv` from the switch answered `Failed`, and it was not joined.
     RecvFailed(Dpid),
 }

@@ -47,12 +47,14 @@ pub trait World {
     fn end(&mut self, app: u32)
         ensures { Ends Tells app (seen self.old) (seen self.new) };
 
-    /// Sends one message to the switch.
+    /// Sends one message to the switch. Where this answers `Failed` while the switch is joined, the switch is lost: it is
+    /// out, with all that it sent and was not taken yet, until it joins again.
     fn send(&mut self, dpid: Dpid, frame: &[u8]) -> Result<(), LinkFault>
         requires { IsOk (reading_of frame.now) }
         ensures { Sends Tells dpid frame.now (seen self.old) (seen self.new) result };
 
-    /// Takes one whole message from the switch into the front of the buffer, and answers how many bytes it has.
+    /// Takes one whole message from the switch into the front of the buffer, and answers how many bytes it has. Where
+    /// this answers `Failed` while the switch is joined, the switch is lost, as by `send`.
     fn recv(&mut self, dpid: Dpid, buf: &mut [u8]) -> Result<usize, LinkFault>
         requires { most_message ≤ length buf.old }
         ensures { Receives Tells dpid (seen self.old) (seen self.new) result buf.new };

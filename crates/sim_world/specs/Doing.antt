@@ -131,10 +131,10 @@ pub record DoesTake (app : ℕ) (old new : WorldData) (result : Result Taken Sho
   pub out_of_place : is_running app old.state ≡ false → IfOk result (λ what. what ≡ gave.Closed)
 
 pub record DoesSend {T : Type 0} (d : ℕ) (frame : List ℕ) (old new : WorldData) (result : Result T LinkFault) : Type 0 where
-  pub moves : Moves old new (send_steps d frame result) (tally_stray (not (is_joined d old.state)) (link_tally d result old.tally))
+  pub moves : Moves old new (send_steps d frame (is_joined d old.state) result) (tally_stray (not (is_joined d old.state)) (link_tally d result old.tally))
   pub out_of_place : is_joined d old.state ≡ false → IsErr result
 
 pub record DoesReceive (d : ℕ) (old new : WorldData) (result : Result ℕ LinkFault) (buf : List ℕ) : Type 0 where
-  pub moves : Moves old new (receive_steps d result buf) (tally_stray (not (can_receive d old.state)) (link_tally d result old.tally))
+  pub moves : Moves old new (receive_steps d (is_joined d old.state) result buf) (tally_stray (not (can_receive d old.state)) (link_tally d result old.tally))
   pub message : IfOk result (λ n. IsMessageIn (Unit {0}) n buf)
   pub out_of_place : can_receive d old.state ≡ false → IsErr result

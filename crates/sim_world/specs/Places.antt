@@ -7,8 +7,8 @@ use Rattle.of_types.specs.declared.journal.Act.TheVariants.{Started, Gone}
 use Rattle.of_types.specs.declared.journal.TookWhat.{TookWhat}
 use Rattle.of_types.specs.declared.journal.TookWhat.TheVariants as took
 use Rattle.outside.specs.declared.step.WorldStep.{WorldStep}
-use Rattle.outside.specs.declared.step.WorldStep.TheVariants.{Acted, TookInto, NotOpened, SendFailed, RecvFailed}
-use Rattle.outside.specs.State.{State, after_step, is_running, is_joined, has_waiting}
+use Rattle.outside.specs.declared.step.WorldStep.TheVariants.{Acted, TookInto, NotOpened, RecvLost, SendFailed, RecvFailed}
+use Rattle.outside.specs.State.{State, after_step, is_running, has_waiting}
 use Rattle.sim_world.specs.Tally.{TallyState}
 
 -- a start that failed is in place where the application did not run
@@ -32,8 +32,9 @@ abbrev pub IsExpected : WorldStep → State → Type 0
 IsExpected (Acted act) s = IsActExpected act s
 IsExpected (TookInto app what room) s = IsTakeExpected app what s
 IsExpected NotOpened s = s.opened ≡ false
-IsExpected (SendFailed d) s = is_joined d s ≡ true
-IsExpected (RecvFailed d) s = has_waiting d s ≡ true
+IsExpected (RecvLost d) s = has_waiting d s ≡ true
+IsExpected (SendFailed d) s = ⊥
+IsExpected (RecvFailed d) s = ⊥
 IsExpected other s = Unit {0}
 
 -- each step is of a call in place, in the state that those before it leave

@@ -9,7 +9,7 @@ use Rattle.of_types.specs.declared.journal.WorldStim.{WorldStim}
 use Rattle.outside.specs.declared.call.CallKind.TheVariants as kinds
 use Rattle.outside.specs.declared.call.FailCall.{FailCall}
 use Rattle.outside.specs.declared.step.WorldStep.{WorldStep}
-use Rattle.outside.specs.declared.step.WorldStep.TheVariants.{Acted, TookInto, From, Joined, Left, Moment, Idle, End, Opened, NotOpened, NextFailed, SendFailed, RecvFailed}
+use Rattle.outside.specs.declared.step.WorldStep.TheVariants.{Acted, TookInto, From, Joined, Left, Moment, Idle, End, Opened, NotOpened, NextFailed, SendLost, RecvLost, SendFailed, RecvFailed}
 use Rattle.flow_table.specs.Switch.{Declared}
 use Rattle.outside.specs.Seen.{Given, Seen}
 use Rattle.outside.specs.State.{State, at_first, after_step, after_steps, state, but_marks, moment_after, link_fails, is_joined, has_waiting}
@@ -71,12 +71,12 @@ nexts_through (step ∷ steps) n = nexts_through steps (counted_next step n)
 abbrev pub short_told : List FailCall → ℕ → Bool
 short_told fails calls = is_told kinds.Short 0 (raised calls) fails
 
--- a call to send fails where the link does, or the switch is not joined; one to take a message also where none waits
+-- a call to send fails where it is told to, or the switch is not joined; one to take a message also where none waits
 abbrev pub send_fails : ℕ → State → Bool
 send_fails d s = link_fails d s || not (is_joined d s)
 
 abbrev pub recv_fails : ℕ → State → Bool
-recv_fails d s = link_fails d s || not (has_waiting d s)
+recv_fails d s = link_fails d s || not (is_joined d s) || not (has_waiting d s)
 
 abbrev pub IsActAsTold : List FailCall → Act → State → Type 0
 IsActAsTold fails (Sent d bytes) s = send_fails d s ≡ false
@@ -93,6 +93,8 @@ IsAsTold fails n (TookInto app what room) s = Unit {0}
 IsAsTold fails n Opened s = (s.opened || is_told kinds.Open 0 1 fails) ≡ false
 IsAsTold fails n NotOpened s = (s.opened || is_told kinds.Open 0 1 fails) ≡ true
 IsAsTold fails n NextFailed s = next_told fails n ≡ true
+IsAsTold fails n (SendLost d) s = send_fails d s ≡ true
+IsAsTold fails n (RecvLost d) s = recv_fails d s ≡ true
 IsAsTold fails n (SendFailed d) s = send_fails d s ≡ true
 IsAsTold fails n (RecvFailed d) s = recv_fails d s ≡ true
 IsAsTold fails n item s = next_told fails n ≡ false

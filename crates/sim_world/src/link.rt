@@ -9,7 +9,7 @@ ghost use Rattle.flow_table.specs.Step.{after_stimulus};
 ghost use Rattle.flow_table.specs.Switch.{Declared};
 ghost use Rattle.outside.specs.Calls.{IsFeaturesOf};
 ghost use Rattle.outside.specs.Conforming.{IsStimulus};
-ghost use Rattle.outside.specs.State.{is_empty, is_failing, link_at_first, link_joined, link_left, link_stimulated, link_sent, link_got, link_told, link_failed, stimulus_sends, switch_told, message_sends};
+ghost use Rattle.outside.specs.State.{is_empty, is_failing, link_at_first, link_joined, link_left, link_stimulated, link_sent, link_got, link_told, link_lost, link_failed, stimulus_sends, switch_told, message_sends};
 ghost use Rattle.sim_world.specs.LinkWaits.{AreShort};
 ghost use Rattle.sim_world.specs.Links.{IsDeclaredAs, StandsBy, SerialsBelow, MayCall, IsReady, fails_at, features_at_join};
 
@@ -37,7 +37,6 @@ pub struct SimLink {
     due: MessageList,
     fails: FailNumbers,
     calls: u64,
-    failed: bool,
 }
 
 impl Model for SimLink {
@@ -53,7 +52,6 @@ impl Model for SimLink {
         waits = s.waits.messages;
         fails = s.fails;
         calls = s.calls;
-        failed = s.failed;
       };
       room = s.waits.room;
       due = s.due;
@@ -156,7 +154,6 @@ impl SimLink {
             due: MessageList::new(alloc),
             fails: FailNumbers::new(alloc),
             calls: 0,
-            failed: false,
         })
     }
 
@@ -190,13 +187,12 @@ impl SimLink {
         !self.waits.is_empty()
     }
 
-    /// Tells whether the next call of its link fails, as it is to or since it failed before. Fewer than 2^64 - 1 calls
-    /// were made.
+    /// Tells whether the next call of its link is to fail. Fewer than 2^64 - 1 calls were made.
     pub fn is_failing(&self) -> bool
         requires { self.now.link.calls < 2 ^ 64 - 1 }
         ensures { result ≡ is_failing self.now.link }
     {
-        self.failed || self.fails.contains(self.calls + 1)
+        self.fails.contains(self.calls + 1)
     }
 
     /// Lets the switch join at a moment, in seconds and at most 4,294,967,295, where it is out; gives its
@@ -217,7 +213,6 @@ impl SimLink {
         let switch = SimSwitch::joined(self.alloc, moment, self.dpid, self.cap, &self.ports)?;
         let features = switch.features()?;
         self.switch = Some(switch);
-        self.failed = false;
         Ok(Some(features))
     }
 
@@ -318,14 +313,25 @@ impl SimLink {
         Some(message)
     }
 
-    /// Notes that a call of its link failed; takes no memory.
+    /// Notes that a call of its link failed while the switch was joined: it is lost, with all that it held. Takes no memory.
+    #[tactic(auto, unfolding(outside::specs::State::link_lost))]
+    pub fn lose(&mut self)
+        requires { self.old.link.calls < 2 ^ 64 - 1 }
+        ensures lost { self.new.link ≡ link_lost self.old.link }
+        ensures declared { self.new.link.declared ≡ self.old.link.declared }
+    {
+        self.switch = None;
+        self.waits.clear();
+        self.calls += 1;
+    }
+
+    /// Notes that a call of its link failed while the switch was out; takes no memory.
     #[tactic(auto, unfolding(outside::specs::State::link_failed))]
     pub fn fail(&mut self)
         requires { self.old.link.calls < 2 ^ 64 - 1 }
         ensures failed { self.new.link ≡ link_failed self.old.link }
         ensures declared { self.new.link.declared ≡ self.old.link.declared }
     {
-        self.failed = self.is_failing();
         self.calls += 1;
     }
 }

@@ -3,7 +3,7 @@
 ghost use Rattle.std.specs.Prelude.{◌≡◌, ℕ, ◌+◌, ◌≤◌, ◌<◌, [], ◌∷◌, true, not, length, take, IsOk, IsTrue, IsErrOf, IfSome, IfNone, Some, slice_get, OnOk, OnErr};
 ghost use Rattle.of_types.specs.declared.journal.Act.TheVariants.{Sent, Got};
 ghost use Rattle.of_wire.specs.Reading.{reading_of};
-ghost use Rattle.outside.specs.declared.step.WorldStep.TheVariants.{Acted, SendFailed, RecvFailed};
+ghost use Rattle.outside.specs.declared.step.WorldStep.TheVariants.{Acted, SendLost, RecvLost, SendFailed, RecvFailed};
 ghost use Rattle.outside.specs.State.{link_fails, is_joined, has_waiting, waits_of, link_of, with_link, link_sent};
 ghost use Rattle.outside.specs.Calls.{send_steps, receive_steps};
 ghost use Rattle.outside.specs.InOrder.{MayComeAll};
@@ -55,7 +55,35 @@ impl Parts {
         !self.links.has_waiting(dpid)
     }
 
-    /// Notes that a call to send failed.
+    /// Notes that a call to send failed for a switch that is joined, which is lost.
+    #[tactic(auto, unfolding(outside::specs::State::after_step, crate::specs::Scripts::life_after))]
+    fn send_lost(&mut self, dpid: Dpid, stray: bool)
+        requires may { IfSome (link_of dpid self.old.state.links) MayCall }
+        requires room { length self.old.state.running + 1 ≤ self.old.room }
+        ensures moves { Moves self.old self.new (SendLost dpid ∷ []) (tally_stray stray (tally_fault_of dpid self.old.tally)) }
+        ensures calls { self.new.calls ≡ self.old.calls }
+    {
+        self.links.lose(dpid);
+        self.history.push(WorldStep::SendLost(dpid));
+        self.tally.raise_faults_of(dpid);
+        self.tally.raise_strays(stray);
+    }
+
+    /// Notes that a call to take a message failed for a switch that is joined, which is lost.
+    #[tactic(auto, unfolding(outside::specs::State::after_step, crate::specs::Scripts::life_after))]
+    fn recv_lost(&mut self, dpid: Dpid, stray: bool)
+        requires may { IfSome (link_of dpid self.old.state.links) MayCall }
+        requires room { length self.old.state.running + 1 ≤ self.old.room }
+        ensures moves { Moves self.old self.new (RecvLost dpid ∷ []) (tally_stray stray (tally_fault_of dpid self.old.tally)) }
+        ensures calls { self.new.calls ≡ self.old.calls }
+    {
+        self.links.lose(dpid);
+        self.history.push(WorldStep::RecvLost(dpid));
+        self.tally.raise_faults_of(dpid);
+        self.tally.raise_strays(stray);
+    }
+
+    /// Notes that a call to send failed for a switch that is out.
     #[tactic(auto, unfolding(outside::specs::State::after_step, crate::specs::Scripts::life_after))]
     fn send_failed(&mut self, dpid: Dpid, stray: bool)
         requires may { IfSome (link_of dpid self.old.state.links) MayCall }
@@ -69,7 +97,7 @@ impl Parts {
         self.tally.raise_strays(stray);
     }
 
-    /// Notes that a call to take a message failed.
+    /// Notes that a call to take a message failed for a switch that is out.
     #[tactic(auto, unfolding(outside::specs::State::after_step, crate::specs::Scripts::life_after))]
     fn recv_failed(&mut self, dpid: Dpid, stray: bool)
         requires may { IfSome (link_of dpid self.old.state.links) MayCall }
@@ -99,14 +127,14 @@ impl Parts {
         Ok(())
     }
 
-    /// Sends a message to a switch.
+    /// Sends a message to a switch, which is lost where this is to fail.
     #[tactic(auto, unfolding(outside::specs::Calls::send_steps, outside::specs::InOrder::MayCome, outside::specs::Conforming::MayStep, outside::specs::Conforming::MayAct, crate::specs::World::IsAsTold))]
     pub(crate) fn send(&mut self, dpid: Dpid, frame: &[u8]) -> Result<(), LinkFault>
         requires frame { IsOk (reading_of frame.now) }
         requires stands { LinksStand self.old }
         ensures does { DoesSend dpid frame.now self.old self.new result }
-        ensures word { MayComeAll (all_declared self.old.state) (send_steps dpid frame.now result) self.old.state }
-        ensures told { AreAsTold self.old.told self.old.nexts (send_steps dpid frame.now result) self.old.state }
+        ensures word { MayComeAll (all_declared self.old.state) (send_steps dpid frame.now (is_joined dpid self.old.state) result) self.old.state }
+        ensures told { AreAsTold self.old.told self.old.nexts (send_steps dpid frame.now (is_joined dpid self.old.state) result) self.old.state }
         ensures short { short_told self.old.told self.old.calls ≡ true → IsErrOf result LinkFault.Short }
         ensures calls { self.new.calls ≡ raised self.old.calls }
     {
@@ -119,8 +147,12 @@ impl Parts {
             self.want_memory_of(dpid, stray);
             return Err(LinkFault::Short);
         };
-        if stray || self.link_fails(dpid) {
+        if stray {
             self.send_failed(dpid, stray);
+            return Err(LinkFault::Failed);
+        }
+        if self.link_fails(dpid) {
+            self.send_lost(dpid, stray);
             return Err(LinkFault::Failed);
         }
         match self.sent(dpid, frame, copy) {
@@ -150,14 +182,14 @@ impl Parts {
         Some(len)
     }
 
-    /// Takes a message of a switch.
+    /// Takes a message of a switch, which is lost where this is to fail, or where none waits.
     #[tactic(auto, unfolding(outside::specs::Calls::receive_steps, outside::specs::InOrder::MayCome, outside::specs::Conforming::MayStep, outside::specs::Conforming::MayAct, crate::specs::World::IsAsTold))]
     pub(crate) fn recv(&mut self, dpid: Dpid, buf: &mut [u8]) -> Result<usize, LinkFault>
         requires stands { LinksStand self.old }
         requires buf { 65535 ≤ length buf.old }
         ensures does { DoesReceive dpid self.old self.new result buf.new }
-        ensures word { MayComeAll (all_declared self.old.state) (receive_steps dpid result buf.new) self.old.state }
-        ensures told { AreAsTold self.old.told self.old.nexts (receive_steps dpid result buf.new) self.old.state }
+        ensures word { MayComeAll (all_declared self.old.state) (receive_steps dpid (is_joined dpid self.old.state) result buf.new) self.old.state }
+        ensures told { AreAsTold self.old.told self.old.nexts (receive_steps dpid (is_joined dpid self.old.state) result buf.new) self.old.state }
         ensures short { short_told self.old.told self.old.calls ≡ true → IsErrOf result LinkFault.Short }
         ensures calls { self.new.calls ≡ raised self.old.calls }
     {
@@ -166,14 +198,18 @@ impl Parts {
             self.want_memory_of(dpid, stray);
             return Err(LinkFault::Short);
         }
-        if self.link_fails(dpid) {
+        if self.is_out(dpid) {
             self.recv_failed(dpid, stray);
+            return Err(LinkFault::Failed);
+        }
+        if self.link_fails(dpid) {
+            self.recv_lost(dpid, stray);
             return Err(LinkFault::Failed);
         }
         match self.got(dpid, buf) {
             Some(len) => Ok(len),
             None => {
-                self.recv_failed(dpid, stray);
+                self.recv_lost(dpid, stray);
                 Err(LinkFault::Failed)
             }
         }

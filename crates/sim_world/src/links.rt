@@ -9,7 +9,7 @@ ghost use Rattle.outside.specs.declared.step.WorldStep.TheVariants.{From, Left};
 ghost use Rattle.outside.specs.Conforming.{AreDeclaredFrom, IsStimulus, IsWorldStim};
 ghost use Rattle.outside.specs.Calls.{IsFeaturesOf};
 ghost use Rattle.outside.specs.Seen.{is_declared};
-ghost use Rattle.outside.specs.State.{is_empty, fails_in, join_due, links_after, link_of, switch_in, waits_in, with_link, link_joined, link_left, link_stimulated, link_sent, link_got, link_told, link_failed, declared_in};
+ghost use Rattle.outside.specs.State.{is_empty, fails_in, join_due, links_after, link_of, switch_in, waits_in, with_link, link_joined, link_left, link_stimulated, link_sent, link_got, link_told, link_lost, link_failed, declared_in};
 ghost use Rattle.sim_world.specs.Links.{links_in, waiting_in, insert_link, fails_at, features_of_join, IsDue, StandsAt, due_in, AreLinks, AreReady, insert_held, Held, StandsBy, MayCall, IsPlaceOf, IsFirstWaiting};
 
 use crate::link::SimLink;
@@ -113,6 +113,16 @@ fn leave(links: &mut [SimLink], dpid: Dpid)
 {
     if let Some(place) = place_of(links, dpid) {
         links[place].leave();
+    }
+}
+
+fn lose(links: &mut [SimLink], dpid: Dpid)
+    requires { IfSome (link_of dpid (links_in links.old)) MayCall }
+    ensures lost { links_in links.new ≡ with_link dpid link_lost (links_in links.old) }
+    ensures declared { declared_in (links_in links.new) ≡ declared_in (links_in links.old) }
+{
+    if let Some(place) = place_of(links, dpid) {
+        links[place].lose();
     }
 }
 
@@ -337,7 +347,7 @@ impl Links {
         is_held(&self.links, dpid)
     }
 
-    /// Tells whether the next call of the switch's link fails.
+    /// Tells whether the next call of the switch's link is to fail.
     pub fn is_failing(&self, dpid: Dpid) -> bool
         requires { IfSome (link_of dpid self.now) MayCall }
         ensures { result ≡ fails_in (link_of dpid self.now) }
@@ -353,7 +363,15 @@ impl Links {
         fail_at(&mut self.links, dpid, number)
     }
 
-    /// Notes that a call of the switch's link failed; takes no memory.
+    /// Notes that a call of the switch's link failed while it was joined: it is lost, with all that it held. Takes no memory.
+    pub fn lose(&mut self, dpid: Dpid)
+        requires { IfSome (link_of dpid self.old) MayCall }
+        ensures { self.new ≡ with_link dpid link_lost self.old }
+    {
+        lose(&mut self.links, dpid);
+    }
+
+    /// Notes that a call of the switch's link failed while it was out; takes no memory.
     pub fn fail(&mut self, dpid: Dpid)
         requires { IfSome (link_of dpid self.old) MayCall }
         ensures { self.new ≡ with_link dpid link_failed self.old }

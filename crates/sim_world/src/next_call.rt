@@ -43,6 +43,8 @@ fn item_of(step: &WorldStep, buf: &mut [u8]) -> Item
         | WorldStep::Opened
         | WorldStep::NotOpened
         | WorldStep::NextFailed
+        | WorldStep::SendLost(_)
+        | WorldStep::RecvLost(_)
         | WorldStep::SendFailed(_)
         | WorldStep::RecvFailed(_) => Item::Idle,
     }

@@ -1,5 +1,6 @@
 -- Laws of dialogues: one behind another, acts of others, and what a change before others leaves.
-use Rattle.std.specs.Prelude.{◌≡◌, ℕ, suc, ◌<◌, Bool, true, false, List, [], ◌∷◌, ◌++◌, filter, drop, length, slice_get, refl, Option, None, Result, Err, Ok, Some}
+use Rattle.std.specs.Prelude.{◌≡◌, ℕ, suc, ◌<◌, Bool, true, false, ◌||◌, List, [], ◌∷◌, ◌++◌, filter, drop, length, slice_get, refl, Option, None, Result, Err, Ok, Some}
+use Rattle.std.specs.List.{list_any}
 use Rattle.std.proofs.Common.{sym, ap, ◌∙◌, subst, append_assoc, arith, inl, inr}
 use Rattle.std.proofs.lemmas.List.{append-nil}
 use Rattle.std.proofs.lemmas.List.Elements.{filter-append}
@@ -13,13 +14,13 @@ use Rattle.of_wire.specs.declared.message.Message.{Message}
 use Rattle.of_wire.specs.declared.message.Message.TheVariants.{FlowMod}
 use Rattle.of_wire.specs.Reading.{reading_of}
 use Rattle.of_wire.specs.Grammar.{enveloped}
-use Rattle.app_frames.specs.declared.frame.Answer.TheVariants.{Fine}
+use Rattle.app_frames.specs.declared.frame.Answer.TheVariants.{Fine, Unknown}
 use Rattle.lego_model.specs.Answers.{Rows, as_sent, host_refusal, refused_or, host_answer_read, host_answer}
 use Rattle.app_frames.specs.declared.frame.Answer.{Answer}
 use Rattle.app_frames.specs.Spelling.{framed, host_bytes}
 use Rattle.lego_model.specs.Journal.{is_of, is_event, sends_change, ReachedAtOnce}
 use Rattle.lego_model.specs.Controller.{restore_frame, answer_frame}
-use Rattle.lego_model.specs.AtOnce.{Before, besides, Passes, SendsNone, AnsweredByHost, first_error, AnsweredBySwitch, is_answer, Says, Dialogue, AnsweredAtOnce}
+use Rattle.lego_model.specs.AtOnce.{Before, besides, Passes, SendsNone, AnsweredByHost, first_error, AnsweredBySwitch, is_loss_of, AnsweredForLoss, is_answer, Says, Dialogue, AnsweredAtOnce}
 
 -- ---- Frames
 
@@ -133,6 +134,19 @@ switch_since dpid bytes answer xs ys none by = record {
   answer_so = by.answer_so;
 }
 
+-- ---- A switch that is lost
+
+loss_behind : (dpid : ℕ) (xs ys : List Act) → list_any (is_loss_of dpid) ys ≡ true → list_any (is_loss_of dpid) (xs ++ ys) ≡ true
+loss_behind dpid [] ys lost = lost
+loss_behind dpid (x ∷ xs) ys lost = rw (loss_behind dpid xs ys lost) (or_true (is_loss_of dpid x))
+  where
+    or_true : (x : Bool) → (x || true) ≡ true
+    or_true true = refl
+    or_true false = refl
+
+pub loss_since : (dpid : ℕ) (answer : Answer) (xs ys : List Act) → AnsweredForLoss dpid answer ys → AnsweredForLoss dpid answer (xs ++ ys)
+loss_since dpid answer xs ys by = record { answer_so = by.answer_so; lost = loss_behind dpid xs ys by.lost }
+
 -- ---- A change that is fine
 
 fine_by_host : (rows : Option Rows) (bytes : List ℕ) (xid : ℕ) (m : Change) → reading_of bytes ≡ Ok (enveloped xid (FlowMod m)) → host_answer rows bytes ≡ Some Fine → ⊥
@@ -151,5 +165,9 @@ message_or other (Err fault) = other
 -- a change that was answered so reached its switch
 pub fine_reached : (dpid : ℕ) (bytes : List ℕ) (since : List Act) (xid : ℕ) (m : Change) → reading_of bytes ≡ Ok (enveloped xid (FlowMod m)) → AnsweredAtOnce dpid bytes Fine since → ReachedAtOnce dpid (as_sent (FlowMod m)) since
 fine_reached dpid bytes since xid m read (inl by) = absurd (fine_by_host by.rows bytes xid m read by.answer_so)
-fine_reached dpid bytes since xid m read (inr by) =
+fine_reached dpid bytes since xid m read (inr (inr by)) = absurd (not_unknown by.answer_so)
+  where
+    not_unknown : Fine ≡ Unknown → ⊥
+    not_unknown is = absurd cc
+fine_reached dpid bytes since xid m read (inr (inl by)) =
     subst (λ (x : Message). ReachedAtOnce dpid (as_sent x) since) (ap (message_or by.message) (sym by.read ∙ read)) by.reached

@@ -4,7 +4,7 @@ use Rattle.std.specs.List.{AllByRecursion}
 use Rattle.std.proofs.Common.{sym, ap, ◌∙◌, true≢false}
 use Rattle.std.proofs.lemmas.Bool.{and_parts}
 use Rattle.of_types.specs.declared.journal.Act.{Act}
-use Rattle.of_types.specs.declared.journal.Act.TheVariants.{Stim, Started, Gave, Gone, Took, Ended, Sent, Got}
+use Rattle.of_types.specs.declared.journal.Act.TheVariants.{Stim, Started, Gave, Gone, Took, Ended, Sent, Got, Lost}
 use Rattle.lego_model.specs.Journal.{stimuli, inputs, is_of, is_event}
 use Rattle.journal_laws.specs.Readings.{is_within, Within, is_call, Calls}
 
@@ -35,6 +35,7 @@ inputs_own app (Started of stands ∷ acts) = elim (of == app) as (λ t. (of == 
 inputs_own app (Stim x ∷ acts) = inputs_own app acts
 inputs_own app (Sent d bytes ∷ acts) = inputs_own app acts
 inputs_own app (Got d bytes ∷ acts) = inputs_own app acts
+inputs_own app (Lost d ∷ acts) = inputs_own app acts
 
 -- ---- Calls for an application
 
@@ -47,6 +48,7 @@ call_within app (Ended of) is = is
 call_within app (Stim x) is = is
 call_within app (Sent d bytes) is = is
 call_within app (Got d bytes) is = is
+call_within app (Lost d) is = is
 
 pub calls_within : (app : ℕ) (acts : List Act) → Within app acts → Calls app acts
 calls_within app [] all = tt
@@ -70,6 +72,7 @@ call_of app (Ended of) is = is
 call_of app (Stim x) is = is
 call_of app (Sent d bytes) is = is
 call_of app (Got d bytes) is = is
+call_of app (Lost d) is = is
 
 -- each is of the application
 pub calls_own : (app : ℕ) (acts : List Act) → Calls app acts → AllByRecursion (λ act. is_of app act ≡ true) acts
@@ -90,6 +93,7 @@ stimulus_called app (Ended of) acts is = refl
 stimulus_called app (Stim x) acts is = absurd (true≢false (sym is))
 stimulus_called app (Sent d bytes) acts is = refl
 stimulus_called app (Got d bytes) acts is = refl
+stimulus_called app (Lost d) acts is = refl
 
 pub no_stimuli : (app : ℕ) (acts : List Act) → Calls app acts → stimuli acts ≡ []
 unfolding stimuli

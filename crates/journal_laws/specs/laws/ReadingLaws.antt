@@ -6,7 +6,7 @@ use Rattle.std.proofs.lemmas.List.{append-nil, map-append}
 use Rattle.std.proofs.lemmas.List.Concat.{flat_map-append}
 use Rattle.std.proofs.lemmas.List.Elements.{filter-append}
 use Rattle.of_types.specs.declared.journal.Act.{Act}
-use Rattle.of_types.specs.declared.journal.Act.TheVariants.{Stim, Started, Gave, Gone, Took, Ended, Sent, Got}
+use Rattle.of_types.specs.declared.journal.Act.TheVariants.{Stim, Started, Gave, Gone, Took, Ended, Sent, Got, Lost}
 use Rattle.lego_model.specs.Journal.{End, Untold, Attempt, Start, Reply, Asked, in_attempts, is_event, in_turns, piece_of, pieces, end_by, end_from, gave, was_gone, any_gone, start_of, reply_of}
 use Rattle.lego_model.specs.laws.JournalLaws.{in_attempts-started}
 use Rattle.journal_laws.specs.Readings.{LastStands, is_within, Within, event_act, end_acts, ReadsSame, ReadsTurn, ReadsAttempt}
@@ -28,6 +28,7 @@ turns_one app (Stim x) acts is = refl
 turns_one app (Started of stands) acts is = refl
 turns_one app (Sent d bytes) acts is = refl
 turns_one app (Got d bytes) acts is = refl
+turns_one app (Lost d) acts is = refl
 
 attempts_one : (app : ℕ) (act : Act) (acts : List Act) → is_within app act ≡ true → in_attempts (act ∷ acts) ≡ (act ∷ (in_attempts acts).0, (in_attempts acts).1)
 attempts_one app (Gave to bytes) acts is = refl
@@ -38,6 +39,7 @@ attempts_one app (Stim x) acts is = refl
 attempts_one app (Started of stands) acts is = absurd (true≢false (sym is))
 attempts_one app (Sent d bytes) acts is = refl
 attempts_one app (Got d bytes) acts is = refl
+attempts_one app (Lost d) acts is = refl
 
 pub turns_within : (app : ℕ) (acts : List Act) → Within app acts → in_turns acts ≡ (acts, [])
 turns_within app [] all = refl
@@ -81,6 +83,7 @@ attempts_longer (Took from what ∷ acts) more none = ap (λ (r : List Act × Li
 attempts_longer (Ended of ∷ acts) more none = ap (λ (r : List Act × List Attempt). (Ended of ∷ r.0, r.1)) (attempts_longer acts more none) ∙ longer_one more (Ended of) (in_attempts acts)
 attempts_longer (Sent d bytes ∷ acts) more none = ap (λ (r : List Act × List Attempt). (Sent d bytes ∷ r.0, r.1)) (attempts_longer acts more none) ∙ longer_one more (Sent d bytes) (in_attempts acts)
 attempts_longer (Got d bytes ∷ acts) more none = ap (λ (r : List Act × List Attempt). (Got d bytes ∷ r.0, r.1)) (attempts_longer acts more none) ∙ longer_one more (Got d bytes) (in_attempts acts)
+attempts_longer (Lost d ∷ acts) more none = ap (λ (r : List Act × List Attempt). (Lost d ∷ r.0, r.1)) (attempts_longer acts more none) ∙ longer_one more (Lost d) (in_attempts acts)
 
 last_so : (acts more : List Act) → in_attempts more ≡ (more, []) → (in_attempts (acts ++ more)).1 ≡ last_longer more (in_attempts acts).1
 last_so acts more none = ap (λ (r : List Act × List Attempt). r.1) (attempts_longer acts more none) ∙ longer_last more (in_attempts acts)
@@ -111,6 +114,7 @@ turns_behind (Took from what ∷ acts) more asked is = rw (turns_behind acts mor
 turns_behind (Ended of ∷ acts) more asked is = rw (turns_behind acts more asked is) refl
 turns_behind (Sent d bytes ∷ acts) more asked is = rw (turns_behind acts more asked is) refl
 turns_behind (Got d bytes ∷ acts) more asked is = rw (turns_behind acts more asked is) refl
+turns_behind (Lost d ∷ acts) more asked is = rw (turns_behind acts more asked is) refl
 
 abbrev asked_so : Bool → List Act → Asked
 asked_so given acts = record { given = given; acts = acts }
@@ -235,6 +239,7 @@ turns_ended app (Took from what ∷ acts) = alike_turns_one (Took from what) (ac
 turns_ended app (Ended of ∷ acts) = alike_turns_one (Ended of) (acts ++ Ended app ∷ []) acts refl refl (turns_ended app acts)
 turns_ended app (Sent d bytes ∷ acts) = alike_turns_one (Sent d bytes) (acts ++ Ended app ∷ []) acts refl refl (turns_ended app acts)
 turns_ended app (Got d bytes ∷ acts) = alike_turns_one (Got d bytes) (acts ++ Ended app ∷ []) acts refl refl (turns_ended app acts)
+turns_ended app (Lost d ∷ acts) = alike_turns_one (Lost d) (acts ++ Ended app ∷ []) acts refl refl (turns_ended app acts)
 
 start_ended : (app : ℕ) (a : Attempt) → start_of (last_with a (Ended app ∷ [])) ≡ start_of a
 unfolding start_of

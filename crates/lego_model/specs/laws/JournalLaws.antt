@@ -2,8 +2,8 @@
 use Rattle.std.proofs.Common.{◌≡◌, ℕ, Bool, List, [], ◌∷◌, ◌++◌, refl}
 use Rattle.std.proofs.lemmas.List.Elements.{filter_map-append}
 use Rattle.of_types.specs.declared.journal.Act.{Act}
-use Rattle.of_types.specs.declared.journal.Act.TheVariants.{Stim, Started, Gave, Gone, Took, Ended, Sent, Got}
-use Rattle.lego_model.specs.Journal.{Journal, stimulus_in, stimuli, given_to, inputs, in_attempts}
+use Rattle.of_types.specs.declared.journal.Act.TheVariants.{Stim, Started, Gave, Gone, Took, Ended, Sent, Got, Lost}
+use Rattle.lego_model.specs.Journal.{Journal, stimulus_in, stimuli, given_to, inputs, lost_in, losses, in_attempts}
 
 pub stimuli-append : (first next : Journal) → stimuli (first ++ next) ≡ stimuli first ++ stimuli next
 unfolding stimuli
@@ -12,6 +12,10 @@ stimuli-append first next = filter_map-append stimulus_in first next
 pub inputs-append : (app : ℕ) (first next : Journal) → inputs app (first ++ next) ≡ inputs app first ++ inputs app next
 unfolding inputs
 inputs-append app first next = filter_map-append (given_to app) first next
+
+pub losses-append : (first next : Journal) → losses (first ++ next) ≡ losses first ++ losses next
+unfolding losses
+losses-append first next = filter_map-append lost_in first next
 
 -- ---- Attempts
 
@@ -28,5 +32,6 @@ in_attempts-started (Took a w ∷ acts) app stands more = rw (in_attempts-starte
 in_attempts-started (Ended a ∷ acts) app stands more = rw (in_attempts-started acts app stands more) refl
 in_attempts-started (Sent d b ∷ acts) app stands more = rw (in_attempts-started acts app stands more) refl
 in_attempts-started (Got d b ∷ acts) app stands more = rw (in_attempts-started acts app stands more) refl
+in_attempts-started (Lost d ∷ acts) app stands more = rw (in_attempts-started acts app stands more) refl
 
 -- ---- Turns

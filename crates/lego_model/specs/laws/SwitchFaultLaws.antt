@@ -4,7 +4,7 @@ use Rattle.lego_io.specs.laws.CountLaws.{Rose-after, Rose-before}
 use Rattle.outside.specs.declared.step.WorldStep.{WorldStep}
 use Rattle.outside.specs.Seen.{NoneFell, Seen, Longer, Continues}
 use Rattle.lego_model.specs.declared.fault.TxnFault.{TxnFault}
-use Rattle.lego_model.specs.declared.fault.TxnFault.TheVariants.{SwitchFault, SwitchBroke, Diverged, Flooded, NoMemory}
+use Rattle.lego_model.specs.declared.fault.TxnFault.TheVariants.{SwitchBroke, Diverged, Flooded, NoMemory}
 use Rattle.lego_model.specs.SwitchFaults.{Happened, IsFlood}
 use Rattle.lego_model.specs.AfterFault.{IsWhyUndo, FailsInUndo}
 
@@ -43,7 +43,6 @@ module _ {Own Tells : Type 0} (a b c : Seen Own) (first : Tells → Longer a.his
   }
 
   why_behind : (d : ℕ) (fault : TxnFault) → NoneFell a.counts b.counts → IsWhyUndo Tells d b c fault → IsWhyUndo Tells d a c fault
-  why_behind d (SwitchFault e) fell why = (why.0, Rose-after (a.counts.link_faults d) (b.counts.link_faults d) (c.counts.link_faults d) (fell.link_faults d) why.1)
   why_behind d (SwitchBroke e bytes) fell why = (why.0, why.1, λ told. happened_behind _ a.history b.history c.history (first told) (why.2 told))
   why_behind d (Diverged e inverse got) fell why = (why.0, why.1, λ told. ((why.2 told).0, happened_behind _ a.history b.history c.history (first told) (why.2 told).1))
   why_behind d (Flooded e n) fell why = (why.0, why.1, IsFlood-behind d n why.2)
@@ -64,7 +63,6 @@ module _ {Own Tells : Type 0} (a b c : Seen Own) (rest : Tells → Longer b.hist
   }
 
   why_before : (d : ℕ) (fault : TxnFault) → NoneFell a.counts b.counts → NoneFell b.counts c.counts → IsWhyUndo Tells d a b fault → IsWhyUndo Tells d a c fault
-  why_before d (SwitchFault e) fell on why = (why.0, Rose-before (a.counts.link_faults d) (b.counts.link_faults d) (c.counts.link_faults d) (fell.link_faults d) why.1 (on.link_faults d))
   why_before d (SwitchBroke e bytes) fell on why = (why.0, why.1, λ told. happened_before _ a.history b.history c.history (rest told) (why.2 told))
   why_before d (Diverged e inverse got) fell on why = (why.0, why.1, λ told. ((why.2 told).0, happened_before _ a.history b.history c.history (rest told) (why.2 told).1))
   why_before d (Flooded e n) fell on why = (why.0, why.1, IsFlood-before d n why.2)
@@ -103,7 +101,6 @@ failed_before d a b c fell on rest f = record {
 
 -- in a world that tells
 why_told : {Own Tells : Type 0} (d : ℕ) (a b : Seen Own) (fault : TxnFault) → Tells → IsWhyUndo Tells d a b fault → IsWhyUndo (Unit {0}) d a b fault
-why_told d a b (SwitchFault e) tells why = why
 why_told d a b (SwitchBroke e bytes) tells why = (why.0, why.1, λ told. why.2 tells)
 why_told d a b (Diverged e inverse got) tells why = (why.0, why.1, λ told. why.2 tells)
 why_told d a b (Flooded e n) tells why =

@@ -1,17 +1,21 @@
--- What a call that succeeds leaves of the state of a world that tells, and what it was in a world that keeps its word.
-use Rattle.std.specs.Prelude.{◌≡◌, ℕ, false, refl, List, [], ◌∷◌, ◌++◌, take, Some, Ok, IsOk, slice_get}
-use Rattle.std.proofs.Common.{◌∙◌}
-use Rattle.of_types.specs.declared.journal.Act.TheVariants.{Got}
+-- What a call leaves of the state of a world that tells, and what it was in a world that keeps its word.
+use Rattle.std.specs.Prelude.{◌≡◌, ℕ, Bool, true, false, refl, List, [], ◌∷◌, ◌++◌, take, Option, Some, Ok, Err, IsOk, slice_get}
+use Rattle.std.specs.Option.{is_some}
+use Rattle.std.proofs.Common.{ap, ◌∙◌}
+use Rattle.of_types.specs.declared.journal.Act.TheVariants.{Got, Lost}
 use Rattle.of_wire.specs.Reading.{reading_of}
+use Rattle.outside.specs.declared.faults.LinkFault.TheVariants as linking
 use Rattle.outside.specs.declared.item.Item.{Item}
-use Rattle.flow_table.specs.Switch.{Declared}
+use Rattle.flow_table.specs.Switch.{Declared, SwitchState}
 use Rattle.outside.specs.declared.item.Item.TheVariants as items
 use Rattle.outside.specs.declared.step.WorldStep.{WorldStep}
-use Rattle.outside.specs.declared.step.WorldStep.TheVariants.{Acted, From, Joined, Left, Moment}
-use Rattle.outside.specs.Seen.{Seen}
-use Rattle.outside.specs.State.{State, after_step, after_steps, state, waits_of, is_running, upcoming}
+use Rattle.outside.specs.declared.step.WorldStep.TheVariants.{Acted, From, Joined, Left, Moment, SendLost, RecvLost, SendFailed, RecvFailed}
+use Rattle.outside.specs.Seen.{Seen, journal}
+use Rattle.outside.specs.State.{State, after_step, after_steps, state, waits_of, is_running, is_joined, upcoming}
 use Rattle.outside.specs.laws.StateLaws.{after_steps-append, state-append, Conforming-rest}
-use Rattle.outside.specs.Calls.{IsIdle, Nexts, Ends, Receives, stim_steps, item_step, next_steps, end_steps, receive_steps}
+use Rattle.outside.specs.laws.LinkLaws.{switch_of-send_lost, switch_of-recv_lost, switch_of-send_failed, switch_of-recv_failed}
+use Rattle.outside.specs.laws.SeenLaws.{journal-append}
+use Rattle.outside.specs.Calls.{IsIdle, Nexts, Ends, Sends, Receives, stim_steps, item_step, next_steps, end_steps, unsent, send_steps, unreceived, receive_steps}
 use Rattle.outside.specs.Conforming.{IsNext, MayStep, MayAct, Conforming}
 
 -- ---- The state after a call that succeeded
@@ -29,6 +33,75 @@ Ends-state {app = app} {old = old} {new = new} told call = state-append old new 
 pub Receives-state : {Own Tells : Type 0} {d : ℕ} {old new : Seen Own} {buf : List ℕ} (n : ℕ) → Tells → Receives Tells d old new (Ok n) buf → state new ≡ after_step (Acted (Got d (take n buf))) (state old)
 unfolding receive_steps
 Receives-state {d = d} {old = old} {new = new} {buf = buf} n told call = state-append old new (Acted (Got d (take n buf)) ∷ []) call.given (call.told told).history
+
+-- ---- The state after a call of a link that failed
+
+-- Where the switch was joined, it is lost.
+pub Sends-lost : {Own T Tells : Type 0} {d : ℕ} {frame : List ℕ} {old new : Seen Own} → Tells → Sends {T = T} Tells d frame old new (Err linking.Failed) → is_joined d (state old) ≡ true
+    → state new ≡ after_step (SendLost d) (state old)
+unfolding send_steps
+Sends-lost {d = d} {old = old} {new = new} told call joined =
+    state-append old new (unsent d (is_joined d (state old)) ∷ []) call.given (call.told told).history ∙ ap (λ (b : Bool). after_step (unsent d b) (state old)) joined
+
+pub Receives-lost : {Own Tells : Type 0} {d : ℕ} {old new : Seen Own} {buf : List ℕ} → Tells → Receives Tells d old new (Err linking.Failed) buf → is_joined d (state old) ≡ true
+    → state new ≡ after_step (RecvLost d) (state old)
+unfolding receive_steps
+Receives-lost {d = d} {old = old} {new = new} told call joined =
+    state-append old new (unreceived d (is_joined d (state old)) ∷ []) call.given (call.told told).history ∙ ap (λ (b : Bool). after_step (unreceived d b) (state old)) joined
+
+-- The journal has it as lost then.
+pub Sends-lost-journal : {Own T Tells : Type 0} {d : ℕ} {frame : List ℕ} {old new : Seen Own} → Tells → Sends {T = T} Tells d frame old new (Err linking.Failed) → is_joined d (state old) ≡ true
+    → journal new.history ≡ journal old.history ++ Lost d ∷ []
+unfolding send_steps journal
+Sends-lost-journal {d = d} {old = old} told call joined =
+    ap journal (call.told told).history
+    ∙ ap (λ (b : Bool). journal (old.history ++ unsent d b ∷ [])) joined
+    ∙ journal-append old.history (SendLost d ∷ [])
+
+pub Receives-lost-journal : {Own Tells : Type 0} {d : ℕ} {old new : Seen Own} {buf : List ℕ} → Tells → Receives Tells d old new (Err linking.Failed) buf → is_joined d (state old) ≡ true
+    → journal new.history ≡ journal old.history ++ Lost d ∷ []
+unfolding receive_steps journal
+Receives-lost-journal {d = d} {old = old} told call joined =
+    ap journal (call.told told).history
+    ∙ ap (λ (b : Bool). journal (old.history ++ unreceived d b ∷ [])) joined
+    ∙ journal-append old.history (RecvLost d ∷ [])
+
+-- Where it was out, nothing moves.
+pub Sends-out : {Own T Tells : Type 0} {d : ℕ} {frame : List ℕ} {old new : Seen Own} → Tells → Sends {T = T} Tells d frame old new (Err linking.Failed) → is_joined d (state old) ≡ false
+    → state new ≡ after_step (SendFailed d) (state old)
+unfolding send_steps
+Sends-out {d = d} {old = old} {new = new} told call out =
+    state-append old new (unsent d (is_joined d (state old)) ∷ []) call.given (call.told told).history ∙ ap (λ (b : Bool). after_step (unsent d b) (state old)) out
+
+pub Receives-out : {Own Tells : Type 0} {d : ℕ} {old new : Seen Own} {buf : List ℕ} → Tells → Receives Tells d old new (Err linking.Failed) buf → is_joined d (state old) ≡ false
+    → state new ≡ after_step (RecvFailed d) (state old)
+unfolding receive_steps
+Receives-out {d = d} {old = old} {new = new} told call out =
+    state-append old new (unreceived d (is_joined d (state old)) ∷ []) call.given (call.told told).history ∙ ap (λ (b : Bool). after_step (unreceived d b) (state old)) out
+
+-- Either way the switch is out afterwards.
+abbrev joins_in : Option SwitchState → Bool
+joins_in o = is_some o
+
+unsent_out : (d : ℕ) (s : State) (joined : Bool) → is_joined d s ≡ joined → is_joined d (after_step (unsent d joined) s) ≡ false
+unsent_out d s true is = ap joins_in (switch_of-send_lost d s)
+unsent_out d s false is = ap joins_in (switch_of-send_failed d d s) ∙ is
+
+unreceived_out : (d : ℕ) (s : State) (joined : Bool) → is_joined d s ≡ joined → is_joined d (after_step (unreceived d joined) s) ≡ false
+unreceived_out d s true is = ap joins_in (switch_of-recv_lost d s)
+unreceived_out d s false is = ap joins_in (switch_of-recv_failed d d s) ∙ is
+
+pub Sends-failed : {Own T Tells : Type 0} {d : ℕ} {frame : List ℕ} {old new : Seen Own} → Tells → Sends {T = T} Tells d frame old new (Err linking.Failed) → is_joined d (state new) ≡ false
+unfolding send_steps
+Sends-failed {d = d} {old = old} {new = new} told call =
+    ap (is_joined d) (state-append old new (unsent d (is_joined d (state old)) ∷ []) call.given (call.told told).history)
+    ∙ unsent_out d (state old) (is_joined d (state old)) refl
+
+pub Receives-failed : {Own Tells : Type 0} {d : ℕ} {old new : Seen Own} {buf : List ℕ} → Tells → Receives Tells d old new (Err linking.Failed) buf → is_joined d (state new) ≡ false
+unfolding receive_steps
+Receives-failed {d = d} {old = old} {new = new} told call =
+    ap (is_joined d) (state-append old new (unreceived d (is_joined d (state old)) ∷ []) call.given (call.told told).history)
+    ∙ unreceived_out d (state old) (is_joined d (state old)) refl
 
 -- ---- In a world that keeps its word
 

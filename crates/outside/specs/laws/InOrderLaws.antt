@@ -3,10 +3,10 @@ use Rattle.std.specs.Prelude.{◌≡◌, true, List, [], ◌∷◌, ◌++◌, re
 use Rattle.std.specs.List.{AllByRecursion}
 use Rattle.std.proofs.Common.{sym, ap, ◌∙◌, subst, append_assoc}
 use Rattle.std.proofs.lemmas.List.{append-nil, append_cancel_left}
-use Rattle.of_types.specs.declared.journal.Act.TheVariants.{Stim, Started, Gave, Gone, Took, Ended, Sent, Got}
+use Rattle.of_types.specs.declared.journal.Act.TheVariants.{Stim, Started, Gave, Gone, Took, Ended, Sent, Got, Lost}
 use Rattle.flow_table.specs.Switch.{Declared}
 use Rattle.outside.specs.declared.step.WorldStep.{WorldStep}
-use Rattle.outside.specs.declared.step.WorldStep.TheVariants.{Acted, TookInto, From, Joined, Left, Moment, Idle, End, Opened, NotOpened, NextFailed, SendFailed, RecvFailed}
+use Rattle.outside.specs.declared.step.WorldStep.TheVariants.{Acted, TookInto, From, Joined, Left, Moment, Idle, End, Opened, NotOpened, NextFailed, SendLost, RecvLost, SendFailed, RecvFailed}
 use Rattle.outside.specs.Seen.{Given, Seen, Continues}
 use Rattle.outside.specs.State.{State, at_first, after_step, after_steps, state}
 use Rattle.outside.specs.Conforming.{MayAct, MayStep, MaySteps, AreDeclaredFrom, MayDeclare, Conforming}
@@ -24,6 +24,7 @@ may_step declared (Acted (Took app what)) s may read = may
 may_step declared (Acted (Ended app)) s may read = may
 may_step declared (Acted (Sent d bytes)) s may read = may
 may_step declared (Acted (Got d bytes)) s may read = (may, read)
+may_step declared (Acted (Lost d)) s may read = may
 may_step declared (TookInto app what room) s may read = may
 may_step declared (From d bytes) s may read = (may, read)
 may_step declared (Joined d bytes) s may read = may
@@ -34,6 +35,8 @@ may_step declared End s may read = may
 may_step declared Opened s may read = may
 may_step declared NotOpened s may read = may
 may_step declared NextFailed s may read = may
+may_step declared (SendLost d) s may read = may
+may_step declared (RecvLost d) s may read = may
 may_step declared (SendFailed d) s may read = may
 may_step declared (RecvFailed d) s may read = may
 
@@ -62,6 +65,7 @@ brings declared (Acted (Took app what)) s may = refl
 brings declared (Acted (Ended app)) s may = refl
 brings declared (Acted (Sent d bytes)) s may = refl
 brings declared (Acted (Got d bytes)) s may = may.1
+brings declared (Acted (Lost d)) s may = refl
 brings declared (TookInto app what room) s may = refl
 brings declared (From d bytes) s may = may.1
 brings declared (Joined d bytes) s may = refl
@@ -72,6 +76,8 @@ brings declared End s may = refl
 brings declared Opened s may = refl
 brings declared NotOpened s may = refl
 brings declared NextFailed s may = refl
+brings declared (SendLost d) s may = refl
+brings declared (RecvLost d) s may = refl
 brings declared (SendFailed d) s may = refl
 brings declared (RecvFailed d) s may = refl
 

@@ -15,7 +15,7 @@ use Rattle.outside.specs.declared.item.Taken.{Taken}
 use Rattle.outside.specs.declared.step.WorldStep.{WorldStep}
 use Rattle.outside.specs.Seen.{Counts, Seen, NoneFell, Longer, Continues, LinkHeld, act_of, journal}
 use Rattle.outside.specs.Calls.{Nexts, Starts, Gives, Takes, Ends, Sends, Receives, next_steps, start_steps, give_steps, take_steps, end_steps, send_steps, receive_steps}
-use Rattle.outside.specs.State.{state, is_running}
+use Rattle.outside.specs.State.{state, is_running, is_joined}
 
 -- ---- The journal
 
@@ -93,10 +93,10 @@ pub Ends-continues : {Own : Type 0} {Tells : Type 0} {app : ℕ} {old new : Seen
 Ends-continues {app = app} {old = old} call = record { given = call.given; none_fell = call.none_fell; told = λ told. (end_steps app (is_running app (state old)), (call.told told).history) }
 
 pub Sends-continues : {Own T : Type 0} {Tells : Type 0} {d : ℕ} {frame : List ℕ} {old new : Seen Own} {result : Result T LinkFault} → Sends Tells d frame old new result → Continues Tells old new
-Sends-continues {d = d} {frame = frame} {result = result} call = record { given = call.given; none_fell = call.none_fell; told = λ told. (send_steps d frame result, (call.told told).history) }
+Sends-continues {d = d} {frame = frame} {old = old} {result = result} call = record { given = call.given; none_fell = call.none_fell; told = λ told. (send_steps d frame (is_joined d (state old)) result, (call.told told).history) }
 
 pub Receives-continues : {Own : Type 0} {Tells : Type 0} {d : ℕ} {old new : Seen Own} {result : Result ℕ LinkFault} {buf : List ℕ} → Receives Tells d old new result buf → Continues Tells old new
-Receives-continues {d = d} {result = result} {buf = buf} call = record { given = call.given; none_fell = call.none_fell; told = λ told. (receive_steps d result buf, (call.told told).history) }
+Receives-continues {d = d} {old = old} {result = result} {buf = buf} call = record { given = call.given; none_fell = call.none_fell; told = λ told. (receive_steps d (is_joined d (state old)) result buf, (call.told told).history) }
 
 -- ---- Nothing failed on a switch
 

@@ -3,11 +3,11 @@ use Rattle.std.specs.Prelude.{◌≡◌, List, [], ◌∷◌, ◌++◌, refl}
 use Rattle.std.specs.List.{AllByRecursion}
 use Rattle.std.proofs.Common.{ap, ◌∙◌, subst}
 use Rattle.of_types.specs.declared.journal.Act.{Act}
-use Rattle.of_types.specs.declared.journal.Act.TheVariants.{Stim, Started, Gave, Gone, Took, Ended, Sent, Got}
+use Rattle.of_types.specs.declared.journal.Act.TheVariants.{Stim, Started, Gave, Gone, Took, Ended, Sent, Got, Lost}
 use Rattle.of_types.specs.declared.journal.WorldStim.TheVariants.{Join, Leave, At, Of}
 use Rattle.flow_table.specs.Switch.{Declared}
 use Rattle.outside.specs.declared.step.WorldStep.{WorldStep}
-use Rattle.outside.specs.declared.step.WorldStep.TheVariants.{Acted, TookInto, From, Joined, Left, Moment, Idle, End, Opened, NotOpened, NextFailed, SendFailed, RecvFailed}
+use Rattle.outside.specs.declared.step.WorldStep.TheVariants.{Acted, TookInto, From, Joined, Left, Moment, Idle, End, Opened, NotOpened, NextFailed, SendLost, RecvLost, SendFailed, RecvFailed}
 use Rattle.outside.specs.Seen.{Given, Seen, Continues}
 use Rattle.outside.specs.State.{State, at_first, switch_of, after_stim, after_act, after_step, after_steps, state, but_marks}
 use Rattle.outside.specs.Conforming.{MaySteps, AreDeclaredFrom, MayDeclare, Conforming}
@@ -76,6 +76,7 @@ act_but_marks (Took app what) s = refl
 act_but_marks (Ended app) s = refl
 act_but_marks (Sent d bytes) s = refl
 act_but_marks (Got d bytes) s = refl
+act_but_marks (Lost d) s = refl
 
 pub but_marks-step : (step : WorldStep) (s : State) → but_marks (after_step step s) ≡ but_marks (after_step step (but_marks s))
 unfolding after_step
@@ -90,5 +91,7 @@ but_marks-step End s = refl
 but_marks-step Opened s = refl
 but_marks-step NotOpened s = refl
 but_marks-step NextFailed s = refl
+but_marks-step (SendLost d) s = refl
+but_marks-step (RecvLost d) s = refl
 but_marks-step (SendFailed d) s = refl
 but_marks-step (RecvFailed d) s = refl

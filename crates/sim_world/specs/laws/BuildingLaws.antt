@@ -175,7 +175,7 @@ fails_of-other d fails f is = fails_of-append d fails (f ∷ []) ∙ ap (λ (ns 
 
 -- a switch as it is at first, of whose link calls these are to fail
 abbrev with_numbers : Declared → List ℕ → Link
-with_numbers d ns = record { declared = d; switch = None; waits = []; fails = ns; calls = 0; failed = false }
+with_numbers d ns = record { declared = d; switch = None; waits = []; fails = ns; calls = 0 }
 
 both_same : (d : Declared) (ns ms : List ℕ) (ls ks : List Link) → ns ≡ ms → ls ≡ ks → with_numbers d ns ∷ ls ≡ with_numbers d ms ∷ ks
 both_same d ns ms ls ks numbers rest = ap (λ (xs : List ℕ). with_numbers d xs ∷ ls) numbers ∙ ap (λ (xs : List Link). with_numbers d ms ∷ xs) rest

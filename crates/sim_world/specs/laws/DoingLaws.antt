@@ -1,11 +1,11 @@
 -- What each call of a simulated world does is what such a call of any world does.
-use Rattle.std.specs.Prelude.{◌≡◌, ◌==◌, ℕ, ◌+◌, ◌≤◌, filter, length, Bool, true, false, not, ◌||◌, ◌&&◌, List, [], ◌∷◌, map, if◌then◌else◌, None, Result, Ok, Err, IsErr, IsErrOf, refl}
+use Rattle.std.specs.Prelude.{◌≡◌, ◌==◌, ℕ, ◌+◌, ◌≤◌, ◌++◌, filter, length, Bool, true, false, not, ◌||◌, List, [], ◌∷◌, map, if◌then◌else◌, None, Result, Ok, Err, IsErr, IsErrOf, refl}
 use Rattle.std.specs.List.{list_any}
 use Rattle.std.proofs.Common.{sym, ap, ◌∙◌, subst, arith}
 use Rattle.std.proofs.lemmas.List.{append-nil}
 use Rattle.of_types.specs.declared.journal.TookWhat.{TookWhat}
 use Rattle.of_types.specs.declared.journal.TookWhat.TheVariants as took
-use Rattle.std.proofs.lemmas.Bool.{true≢false, false≢true, and_parts, or_parts, not-true}
+use Rattle.std.proofs.lemmas.Bool.{false≢true, and_parts, or_parts, not-true}
 use Rattle.lego_io.specs.Count.{Rose}
 use Rattle.flow_table.specs.Switch.{Declared}
 use Rattle.outside.specs.declared.faults.Short.{Short}
@@ -25,7 +25,7 @@ use Rattle.outside.specs.declared.item.Taken.TheVariants as gave
 use Rattle.outside.specs.declared.step.WorldStep.{WorldStep}
 use Rattle.outside.specs.Seen.{AreCounts, is_declared, with_stray}
 use Rattle.outside.specs.State.{Link, State, state, but_marks, after_steps, is_running, is_joined, link_of, switch_of, waits_of, upcoming}
-use Rattle.outside.specs.Calls.{Opens, Nexts, Starts, Gives, Takes, Ends, Sends, Receives, open_counts, next_counts, start_counts, give_counts, take_counts, link_counts, end_steps, stim_steps, can_receive, IsIdle, IsOver}
+use Rattle.outside.specs.Calls.{Opens, Nexts, Starts, Gives, Takes, Ends, Sends, Receives, open_counts, next_counts, start_counts, give_counts, take_counts, link_counts, end_steps, stim_steps, send_steps, receive_steps, can_receive, IsIdle, IsOver}
 use Rattle.outside.specs.declared.call.FailCall.{FailCall}
 use Rattle.sim_world.specs.Scripts.{Scripts, Life, will_start, will_give, next_taken, take_fault}
 use Rattle.sim_world.specs.Lives.{took_of}
@@ -359,17 +359,18 @@ Sends_by d frame old new result stands does =
       short = λ is. rw does.moves.tally (link_short ds stray d result old.tally stands.tally is);
       short_of = λ is. rw does.moves.tally (link_short_of ds stray d result old.tally stands.tally is);
       told = λ told. record {
-        history = does.moves.history;
+        history = does.moves.history ∙ ap (λ (b : Bool). old.history ++ send_steps d frame b result) (sym joined);
         counts = rw (joined, does.moves.tally) (link_are ds stray d result old.tally stands.tally);
         out_of_place = λ is. does.out_of_place (rw (← joined) is);
       };
     }
 
 pub Receives_by : (d : ℕ) (old new : WorldData) (result : Result ℕ LinkFault) (buf : List ℕ) → Stands old → DoesReceive d old new result buf → Receives (Unit {0}) d (seen_of old) (seen_of new) result buf
-unfolding seen_of given_of waits_of
+unfolding seen_of given_of switch_of waits_of
 Receives_by d old new result buf stands does =
     let ds = all_declared old.state in
     let stray = not (can_receive d old.state) in
+    let joined : is_joined d (state (seen_of old)) ≡ is_joined d old.state = ap (λ (s : State). is_joined d s) stands.state in
     let waits : can_receive d (state (seen_of old)) ≡ can_receive d old.state = ap (λ (s : State). can_receive d s) stands.state in
     record {
       given = given-stays old new _ _ does.moves;
@@ -379,7 +380,7 @@ Receives_by d old new result buf stands does =
       short = λ is. rw does.moves.tally (link_short ds stray d result old.tally stands.tally is);
       short_of = λ is. rw does.moves.tally (link_short_of ds stray d result old.tally stands.tally is);
       told = λ told. record {
-        history = does.moves.history;
+        history = does.moves.history ∙ ap (λ (b : Bool). old.history ++ receive_steps d b result buf) (sym joined);
         counts = rw (waits, does.moves.tally) (link_are ds stray d result old.tally stands.tally);
         out_of_place = λ is. does.out_of_place (rw (← waits) is);
       };

@@ -26,10 +26,10 @@ use Rattle.outside.specs.declared.item.Item.TheVariants as items
 use Rattle.outside.specs.declared.item.Taken.{Taken}
 use Rattle.outside.specs.declared.item.Taken.TheVariants as gave
 use Rattle.outside.specs.declared.step.WorldStep.{WorldStep}
-use Rattle.outside.specs.declared.step.WorldStep.TheVariants.{Acted, TookInto, Opened, NotOpened, NextFailed, SendFailed, RecvFailed}
+use Rattle.outside.specs.declared.step.WorldStep.TheVariants.{Acted, TookInto, Opened, NotOpened, NextFailed, SendLost, RecvLost, SendFailed, RecvFailed}
 use Rattle.outside.specs.declared.call.FailCall.{FailCall}
 use Rattle.outside.specs.State.{Link, State, after_step, after_steps, after_act, after_stim, moment_after, is_running, is_joined}
-use Rattle.outside.specs.Calls.{open_steps, next_steps, stim_steps, item_step, start_steps, give_steps, take_steps, end_steps, send_steps, receive_steps, can_receive}
+use Rattle.outside.specs.Calls.{open_steps, next_steps, stim_steps, item_step, start_steps, give_steps, take_steps, end_steps, unsent, send_steps, unreceived, receive_steps, can_receive}
 use Rattle.outside.specs.Conforming.{IsWorldStim, MayStep, MayAct}
 use Rattle.outside.specs.InOrder.{MayCome, MayComeAll}
 use Rattle.sim_world.specs.Tally.{TallyState, CountsFor}
@@ -40,7 +40,7 @@ use Rattle.sim_world.specs.Lives.{life_in}
 use Rattle.sim_world.specs.Links.{IsDue}
 use Rattle.sim_world.specs.laws.NextCallLaws.{can_come_next}
 use Rattle.sim_world.specs.laws.LinkLaws.{Stands-more}
-use Rattle.sim_world.specs.laws.LinkStepLaws.{AreStanding, AreStanding-begun, AreStanding-sent, AreStanding-got, AreStanding-failed, AreStanding-told}
+use Rattle.sim_world.specs.laws.LinkStepLaws.{AreStanding, AreStanding-begun, AreStanding-sent, AreStanding-got, AreStanding-lost, AreStanding-failed, AreStanding-told}
 use Rattle.sim_world.specs.World.{WorldData, Moves, IsAsTold, AreAsTold, all_declared, CanCome}
 use Rattle.sim_world.specs.laws.WorldLaws.{Stands_moves}
 use Rattle.sim_world.specs.Doing.{DoesOpen, DoesNext, DoesStart, DoesGive, DoesTake, DoesSend, DoesReceive}
@@ -268,74 +268,108 @@ keeps_linked old new steps counted keeps moves linked word scripts told counts p
 one_more : (history : List WorldStep) (step : WorldStep) → length (history ++ step ∷ []) ≡ length history + 1
 one_more history step = length-append history (step ∷ [])
 
-send_linked : {T : Type 0} (d : ℕ) (frame : List ℕ) (result : Result T LinkFault) (history : List WorldStep) (s : State) → AreStanding s.moment (length history) s.links
-    → LinkedBy (length (history ++ send_steps d frame result)) s (after_steps (send_steps d frame result) s)
-unfolding send_steps after_step after_act
-send_linked d frame (Ok x) history s standing = record {
-  standing = rw (one_more history (Acted (Sent d frame))) (AreStanding-sent d frame s.moment (length history) s.links standing);
+unsent_linked : (d : ℕ) (joined : Bool) (history : List WorldStep) (s : State) → AreStanding s.moment (length history) s.links
+    → LinkedBy (length (history ++ unsent d joined ∷ [])) s (after_step (unsent d joined) s)
+unfolding after_step
+unsent_linked d true history s standing = record {
+  standing = rw (one_more history (SendLost d)) (AreStanding-lost d s.moment (length history) s.links standing);
   due = refl;
   moment = refl;
   to_come = refl;
 }
-send_linked d frame (Err linking.Failed) history s standing = record {
+unsent_linked d false history s standing = record {
   standing = rw (one_more history (SendFailed d)) (AreStanding-failed d s.moment (length history) s.links standing);
   due = refl;
   moment = refl;
   to_come = refl;
 }
-send_linked d frame (Err linking.Short) history s standing = record {
+
+send_linked : {T : Type 0} (d : ℕ) (frame : List ℕ) (joined : Bool) (result : Result T LinkFault) (history : List WorldStep) (s : State) → AreStanding s.moment (length history) s.links
+    → LinkedBy (length (history ++ send_steps d frame joined result)) s (after_steps (send_steps d frame joined result) s)
+unfolding send_steps after_step after_act
+send_linked d frame joined (Ok x) history s standing = record {
+  standing = rw (one_more history (Acted (Sent d frame))) (AreStanding-sent d frame s.moment (length history) s.links standing);
+  due = refl;
+  moment = refl;
+  to_come = refl;
+}
+send_linked d frame joined (Err linking.Failed) history s standing = unsent_linked d joined history s standing
+send_linked d frame joined (Err linking.Short) history s standing = record {
   standing = rw (append-nil history) standing;
   due = refl;
   moment = refl;
   to_come = refl;
 }
 
-send_scripted : {T : Type 0} (own : Scripts) (fails : List FailCall) (d : ℕ) (frame : List ℕ) (result : Result T LinkFault) (lives : ℕ → Life) → AreScripted own fails (send_steps d frame result) lives
+unsent_scripted : (own : Scripts) (fails : List FailCall) (d : ℕ) (joined : Bool) (lives : ℕ → Life) → AreScripted own fails (unsent d joined ∷ []) lives
+unfolding IsScripted
+unsent_scripted own fails d true lives = (tt, tt)
+unsent_scripted own fails d false lives = (tt, tt)
+
+send_scripted : {T : Type 0} (own : Scripts) (fails : List FailCall) (d : ℕ) (frame : List ℕ) (joined : Bool) (result : Result T LinkFault) (lives : ℕ → Life) → AreScripted own fails (send_steps d frame joined result) lives
 unfolding send_steps IsScripted
-send_scripted own fails d frame (Ok x) lives = (tt, tt)
-send_scripted own fails d frame (Err linking.Failed) lives = (tt, tt)
-send_scripted own fails d frame (Err linking.Short) lives = tt
+send_scripted own fails d frame joined (Ok x) lives = (tt, tt)
+send_scripted own fails d frame joined (Err linking.Failed) lives = unsent_scripted own fails d joined lives
+send_scripted own fails d frame joined (Err linking.Short) lives = tt
 
 pub keeps_send : {T : Type 0} (d : ℕ) (frame : List ℕ) (old new : WorldData) (result : Result T LinkFault) → Keeps old → DoesSend d frame old new result
-    → MayComeAll (all_declared old.state) (send_steps d frame result) old.state → AreAsTold old.told old.nexts (send_steps d frame result) old.state → Keeps new
+    → MayComeAll (all_declared old.state) (send_steps d frame (is_joined d old.state) result) old.state → AreAsTold old.told old.nexts (send_steps d frame (is_joined d old.state) result) old.state → Keeps new
 keeps_send d frame old new result keeps does word told =
-    keeps_linked old new (send_steps d frame result) _ keeps does.moves (send_linked d frame result old.history old.state keeps.standing)
-    word (send_scripted old.scripts old.told d frame result _) told
-    (link_counted (all_declared old.state) (not (is_joined d old.state)) d result old.tally keeps.stands.tally).for (send_places d frame result old.state old.tally does.out_of_place)
+    let joined = is_joined d old.state in
+    keeps_linked old new (send_steps d frame joined result) _ keeps does.moves (send_linked d frame joined result old.history old.state keeps.standing)
+    word (send_scripted old.scripts old.told d frame joined result _) told
+    (link_counted (all_declared old.state) (not joined) d result old.tally keeps.stands.tally).for (send_places d frame result old.state old.tally does.out_of_place)
 
-receive_linked : (d : ℕ) (result : Result ℕ LinkFault) (buf : List ℕ) (history : List WorldStep) (s : State) → AreStanding s.moment (length history) s.links
-    → LinkedBy (length (history ++ receive_steps d result buf)) s (after_steps (receive_steps d result buf) s)
-unfolding receive_steps after_step after_act
-receive_linked d (Ok n) buf history s standing = record {
-  standing = rw (one_more history (Acted (Got d (take n buf)))) (AreStanding-got d s.moment (length history) s.links standing);
+unreceived_linked : (d : ℕ) (joined : Bool) (history : List WorldStep) (s : State) → AreStanding s.moment (length history) s.links
+    → LinkedBy (length (history ++ unreceived d joined ∷ [])) s (after_step (unreceived d joined) s)
+unfolding after_step
+unreceived_linked d true history s standing = record {
+  standing = rw (one_more history (RecvLost d)) (AreStanding-lost d s.moment (length history) s.links standing);
   due = refl;
   moment = refl;
   to_come = refl;
 }
-receive_linked d (Err linking.Failed) buf history s standing = record {
+unreceived_linked d false history s standing = record {
   standing = rw (one_more history (RecvFailed d)) (AreStanding-failed d s.moment (length history) s.links standing);
   due = refl;
   moment = refl;
   to_come = refl;
 }
-receive_linked d (Err linking.Short) buf history s standing = record {
+
+receive_linked : (d : ℕ) (joined : Bool) (result : Result ℕ LinkFault) (buf : List ℕ) (history : List WorldStep) (s : State) → AreStanding s.moment (length history) s.links
+    → LinkedBy (length (history ++ receive_steps d joined result buf)) s (after_steps (receive_steps d joined result buf) s)
+unfolding receive_steps after_step after_act
+receive_linked d joined (Ok n) buf history s standing = record {
+  standing = rw (one_more history (Acted (Got d (take n buf)))) (AreStanding-got d s.moment (length history) s.links standing);
+  due = refl;
+  moment = refl;
+  to_come = refl;
+}
+receive_linked d joined (Err linking.Failed) buf history s standing = unreceived_linked d joined history s standing
+receive_linked d joined (Err linking.Short) buf history s standing = record {
   standing = rw (append-nil history) standing;
   due = refl;
   moment = refl;
   to_come = refl;
 }
 
-receive_scripted : (own : Scripts) (fails : List FailCall) (d : ℕ) (result : Result ℕ LinkFault) (buf : List ℕ) (lives : ℕ → Life) → AreScripted own fails (receive_steps d result buf) lives
+unreceived_scripted : (own : Scripts) (fails : List FailCall) (d : ℕ) (joined : Bool) (lives : ℕ → Life) → AreScripted own fails (unreceived d joined ∷ []) lives
+unfolding IsScripted
+unreceived_scripted own fails d true lives = (tt, tt)
+unreceived_scripted own fails d false lives = (tt, tt)
+
+receive_scripted : (own : Scripts) (fails : List FailCall) (d : ℕ) (joined : Bool) (result : Result ℕ LinkFault) (buf : List ℕ) (lives : ℕ → Life) → AreScripted own fails (receive_steps d joined result buf) lives
 unfolding receive_steps IsScripted
-receive_scripted own fails d (Ok n) buf lives = (tt, tt)
-receive_scripted own fails d (Err linking.Failed) buf lives = (tt, tt)
-receive_scripted own fails d (Err linking.Short) buf lives = tt
+receive_scripted own fails d joined (Ok n) buf lives = (tt, tt)
+receive_scripted own fails d joined (Err linking.Failed) buf lives = unreceived_scripted own fails d joined lives
+receive_scripted own fails d joined (Err linking.Short) buf lives = tt
 
 pub keeps_recv : (d : ℕ) (old new : WorldData) (result : Result ℕ LinkFault) (buf : List ℕ) → Keeps old → DoesReceive d old new result buf
-    → MayComeAll (all_declared old.state) (receive_steps d result buf) old.state → AreAsTold old.told old.nexts (receive_steps d result buf) old.state → Keeps new
+    → MayComeAll (all_declared old.state) (receive_steps d (is_joined d old.state) result buf) old.state → AreAsTold old.told old.nexts (receive_steps d (is_joined d old.state) result buf) old.state → Keeps new
 keeps_recv d old new result buf keeps does word told =
-    keeps_linked old new (receive_steps d result buf) _ keeps does.moves (receive_linked d result buf old.history old.state keeps.standing)
-    word (receive_scripted old.scripts old.told d result buf _) told
+    let joined = is_joined d old.state in
+    keeps_linked old new (receive_steps d joined result buf) _ keeps does.moves (receive_linked d joined result buf old.history old.state keeps.standing)
+    word (receive_scripted old.scripts old.told d joined result buf _) told
     (link_counted (all_declared old.state) (not (can_receive d old.state)) d result old.tally keeps.stands.tally).for (receive_places d result buf old.state old.tally does.out_of_place)
 
 -- ---- next: an item that is told

@@ -14,7 +14,7 @@ use Rattle.switch_sim.specs.Readable.{IsShortIfRaw}
 use Rattle.switch_sim.specs.laws.SerialLaws.{next_after_message, next_after_stimulus}
 use Rattle.switch_sim.specs.laws.MomentLaws.{moment-after_message, moment-after_stimulus, declared-after_message, declared-after_stimulus}
 use Rattle.switch_sim.specs.Words.{moment_after}
-use Rattle.outside.specs.State.{Link, switch_joined, switch_told, link_joined, link_left, link_stimulated, link_sent, link_got, link_told, link_failed}
+use Rattle.outside.specs.State.{Link, switch_joined, switch_told, link_joined, link_left, link_stimulated, link_sent, link_got, link_told, link_lost, link_failed}
 use Rattle.outside.specs.Conforming.{IsStimulus}
 use Rattle.sim_world.specs.Links.{IsDeclaredAs, StandsAt, SerialsWithin, SerialsBelow, Stands, MayCall}
 
@@ -150,6 +150,10 @@ Stands-got moment most l is = record {
 pub Stands-told : (moment most : ℕ) (l : Link) → Stands moment most l → Stands moment most (link_told l)
 unfolding link_told
 Stands-told moment most l is = record { stands = is.stands; serials = is.serials; calls = is.calls }
+
+pub Stands-lost : (moment most : ℕ) (l : Link) → Stands moment most l → Stands moment (most + 1) (link_lost l)
+unfolding link_lost
+Stands-lost moment most l is = record { stands = tt; serials = tt; calls = omega (arith, is.calls) }
 
 pub Stands-failed : (moment most : ℕ) (l : Link) → Stands moment most l → Stands moment (most + 1) (link_failed l)
 unfolding link_failed

@@ -7,9 +7,9 @@ use Rattle.of_types.specs.declared.journal.WorldStim.{WorldStim}
 use Rattle.of_types.specs.declared.journal.WorldStim.TheVariants.{Join, Leave, At, Of}
 use Rattle.flow_table.specs.Switch.{Declared}
 use Rattle.outside.specs.Conforming.{IsWorldStim}
-use Rattle.outside.specs.State.{Link, link_of, with_link, moment_after, links_after, link_joined, link_left, link_stimulated, link_sent, link_got, link_told, link_failed}
+use Rattle.outside.specs.State.{Link, link_of, with_link, moment_after, links_after, link_joined, link_left, link_stimulated, link_sent, link_got, link_told, link_lost, link_failed}
 use Rattle.sim_world.specs.Links.{StandsAt, Stands, MayCall}
-use Rattle.sim_world.specs.laws.LinkLaws.{Stands-joined, Stands-left, Stands-stimulated, Stands-passed, Stands-sent, Stands-more, Stands-got, Stands-told, Stands-failed, MayCall-stands}
+use Rattle.sim_world.specs.laws.LinkLaws.{Stands-joined, Stands-left, Stands-stimulated, Stands-passed, Stands-sent, Stands-more, Stands-got, Stands-told, Stands-lost, Stands-failed, MayCall-stands}
 use Rattle.sim_world.specs.laws.LinksLaws.{All-with_link, All-map, All-link_of}
 
 -- each link stands at the moment, and neither serials nor calls went beyond the number
@@ -46,6 +46,10 @@ AreStanding-sent d bytes moment most ls are =
 pub AreStanding-got : (d moment most : ℕ) (ls : List Link) → AreStanding moment most ls → AreStanding moment (most + 1) (with_link d link_got ls)
 AreStanding-got d moment most ls are =
     All-with_link (Stands moment most) (Stands moment (most + 1)) d link_got (λ l stands. Stands-more moment most (most + 1) l (omega arith) stands) (Stands-got moment most) ls are
+
+pub AreStanding-lost : (d moment most : ℕ) (ls : List Link) → AreStanding moment most ls → AreStanding moment (most + 1) (with_link d link_lost ls)
+AreStanding-lost d moment most ls are =
+    All-with_link (Stands moment most) (Stands moment (most + 1)) d link_lost (λ l stands. Stands-more moment most (most + 1) l (omega arith) stands) (Stands-lost moment most) ls are
 
 pub AreStanding-failed : (d moment most : ℕ) (ls : List Link) → AreStanding moment most ls → AreStanding moment (most + 1) (with_link d link_failed ls)
 AreStanding-failed d moment most ls are =

@@ -5,7 +5,7 @@ use Rattle.std.proofs.Common.{sym, ap, ◌∙◌, subst, arith}
 use Rattle.std.proofs.lemmas.Bool.{false≢true}
 use Rattle.lego_io.specs.Count.{raised}
 use Rattle.of_types.specs.declared.journal.Act.{Act}
-use Rattle.of_types.specs.declared.journal.Act.TheVariants.{Stim, Started, Gave, Gone, Took, Ended, Sent, Got}
+use Rattle.of_types.specs.declared.journal.Act.TheVariants.{Stim, Started, Gave, Gone, Took, Ended, Sent, Got, Lost}
 use Rattle.of_types.specs.declared.journal.TookWhat.{TookWhat}
 use Rattle.of_types.specs.declared.journal.TookWhat.TheVariants as took
 use Rattle.outside.specs.declared.faults.Short.{Short}
@@ -23,8 +23,8 @@ use Rattle.outside.specs.declared.item.Item.{Item}
 use Rattle.outside.specs.declared.item.Taken.{Taken}
 use Rattle.outside.specs.declared.item.Taken.TheVariants as gave
 use Rattle.outside.specs.declared.step.WorldStep.{WorldStep}
-use Rattle.outside.specs.declared.step.WorldStep.TheVariants.{Acted, TookInto, From, Joined, Left, Moment, Idle, End, Opened, NotOpened, NextFailed, SendFailed, RecvFailed}
-use Rattle.outside.specs.Calls.{open_steps, start_steps, give_steps, take_steps, send_steps, receive_steps, can_receive}
+use Rattle.outside.specs.declared.step.WorldStep.TheVariants.{Acted, TookInto, From, Joined, Left, Moment, Idle, End, Opened, NotOpened, NextFailed, SendLost, RecvLost, SendFailed, RecvFailed}
+use Rattle.outside.specs.Calls.{open_steps, start_steps, give_steps, take_steps, unsent, send_steps, unreceived, receive_steps, can_receive}
 use Rattle.outside.specs.Seen.{Given}
 use Rattle.outside.specs.State.{State, at_first, after_step, after_steps, state, but_marks, switch_of, waits_of, is_running, is_joined}
 use Rattle.sim_world.specs.Scripts.{Scripts}
@@ -55,6 +55,7 @@ act_same (Took app what) s = refl
 act_same (Ended app) s = refl
 act_same (Sent d bytes) s = refl
 act_same (Got d bytes) s = refl
+act_same (Lost d) s = refl
 
 place_same : (step : WorldStep) (s : State) → IsExpected step s ≡ IsExpected step (but_marks s)
 unfolding switch_of waits_of
@@ -69,6 +70,8 @@ place_same End s = refl
 place_same Opened s = refl
 place_same NotOpened s = refl
 place_same NextFailed s = refl
+place_same (SendLost d) s = refl
+place_same (RecvLost d) s = refl
 place_same (SendFailed d) s = refl
 place_same (RecvFailed d) s = refl
 
@@ -154,18 +157,28 @@ take_places app (Ok gave.Closed) buf s t out are = unstrayed (not (is_running ap
 take_places app (Ok gave.Silent) buf s t out are = unstrayed (not (is_running app s)) t (record t { silences = raised t.silences }) (not_in (is_running app s) (λ is. false≢true (ap is_shut (out is)))) refl refl
 take_places app (Err short) buf s t out are = wanting (not (is_running app s)) t (tally_short t) refl
 
-pub send_places : {T : Type 0} (d : ℕ) (frame : List ℕ) (result : Result T LinkFault) (s : State) (t : TallyState) → (is_joined d s ≡ false → IsErr result) → AreExpected (send_steps d frame result) s
+-- a call of a link that fails is in place where the switch is joined
+unsent_places : (d : ℕ) (joined : Bool) (s : State) → IsExpected (unsent d joined) s → not joined ≡ false
+unsent_places d true s is = refl
+unsent_places d false s is = absurd is
+
+pub send_places : {T : Type 0} (d : ℕ) (frame : List ℕ) (result : Result T LinkFault) (s : State) (t : TallyState) → (is_joined d s ≡ false → IsErr result) → AreExpected (send_steps d frame (is_joined d s) result) s
     → NoneStrays t (tally_stray (not (is_joined d s)) (link_tally d result t))
 unfolding send_steps
 send_places d frame (Ok x) s t out are = unstrayed (not (is_joined d s)) t t (not_in (is_joined d s) (λ is. false≢true (out is))) refl refl
-send_places d frame (Err linking.Failed) s t out are = unstrayed (not (is_joined d s)) t (tally_fault_of d t) (stays_in (is_joined d s) are.0) refl refl
+send_places d frame (Err linking.Failed) s t out are = unstrayed (not (is_joined d s)) t (tally_fault_of d t) (unsent_places d (is_joined d s) s are.0) refl refl
 send_places d frame (Err linking.Short) s t out are = wanting (not (is_joined d s)) t (tally_short_of d t) refl
 
-pub receive_places : (d : ℕ) (result : Result ℕ LinkFault) (buf : List ℕ) (s : State) (t : TallyState) → (can_receive d s ≡ false → IsErr result) → AreExpected (receive_steps d result buf) s
+-- and where a message of it waits
+unreceived_places : (d : ℕ) (joined : Bool) (s : State) → IsExpected (unreceived d joined) s → not (can_receive d s) ≡ false
+unreceived_places d true s is = stays_in (can_receive d s) is
+unreceived_places d false s is = absurd is
+
+pub receive_places : (d : ℕ) (result : Result ℕ LinkFault) (buf : List ℕ) (s : State) (t : TallyState) → (can_receive d s ≡ false → IsErr result) → AreExpected (receive_steps d (is_joined d s) result buf) s
     → NoneStrays t (tally_stray (not (can_receive d s)) (link_tally d result t))
 unfolding receive_steps
 receive_places d (Ok n) buf s t out are = unstrayed (not (can_receive d s)) t t (not_in (can_receive d s) (λ is. false≢true (out is))) refl refl
-receive_places d (Err linking.Failed) buf s t out are = unstrayed (not (can_receive d s)) t (tally_fault_of d t) (stays_in (can_receive d s) are.0) refl refl
+receive_places d (Err linking.Failed) buf s t out are = unstrayed (not (can_receive d s)) t (tally_fault_of d t) (unreceived_places d (is_joined d s) s are.0) refl refl
 receive_places d (Err linking.Short) buf s t out are = wanting (not (can_receive d s)) t (tally_short_of d t) refl
 
 -- ---- A call that does what steps say

@@ -3,14 +3,14 @@ use Rattle.std.proofs.Common.{◌≡◌, ℕ, ◌+◌, Bool, true, false, not, �
 use Rattle.std.proofs.lemmas.Bool.{eq-eqb, ne_eqb, eqb-true, eqb-false}
 use Rattle.std.proofs.lemmas.Map.Views.{any-filter_same}
 use Rattle.of_types.specs.declared.journal.Act.{Act}
-use Rattle.of_types.specs.declared.journal.Act.TheVariants.{Stim, Started, Gave, Gone, Took, Ended, Sent, Got}
+use Rattle.of_types.specs.declared.journal.Act.TheVariants.{Stim, Started, Gave, Gone, Took, Ended, Sent, Got, Lost}
 use Rattle.of_types.specs.declared.journal.TookWhat.{TookWhat}
 use Rattle.of_types.specs.declared.journal.TookWhat.TheVariants as took
 use Rattle.std.proofs.lemmas.List.Folds.{list_any-append}
 use Rattle.outside.specs.declared.call.CallKind.TheVariants as kinds
 use Rattle.outside.specs.declared.call.FailCall.{FailCall}
 use Rattle.outside.specs.declared.step.WorldStep.{WorldStep}
-use Rattle.outside.specs.declared.step.WorldStep.TheVariants.{Acted, TookInto, From, Joined, Left, Moment, Idle, End, Opened, NotOpened, NextFailed, SendFailed, RecvFailed}
+use Rattle.outside.specs.declared.step.WorldStep.TheVariants.{Acted, TookInto, From, Joined, Left, Moment, Idle, End, Opened, NotOpened, NextFailed, SendLost, RecvLost, SendFailed, RecvFailed}
 use Rattle.outside.specs.Seen.{Seen}
 use Rattle.outside.specs.State.{State, at_first, state, is_running, event_number, after_stim, after_act, after_step, after_steps}
 use Rattle.app_frames.specs.declared.frame.AppFrame.TheVariants.{Done, Ready}
@@ -92,6 +92,7 @@ same-act own fails others app (Took a what) l same = refl
 same-act own fails others app (Ended a) l same = refl
 same-act own fails others app (Sent d bytes) l same = refl
 same-act own fails others app (Got d bytes) l same = refl
+same-act own fails others app (Lost d) l same = refl
 
 -- a step makes the same of a life
 pub same-life_after : (own : Scripts) (fails others : List FailCall) (app : ℕ) (step : WorldStep) (l : Life) → TellSame fails others → life_after own fails app step l ≡ life_after own others app step l
@@ -107,6 +108,8 @@ same-life_after own fails others app End l same = refl
 same-life_after own fails others app Opened l same = refl
 same-life_after own fails others app NotOpened l same = refl
 same-life_after own fails others app NextFailed l same = refl
+same-life_after own fails others app (SendLost d) l same = refl
+same-life_after own fails others app (RecvLost d) l same = refl
 same-life_after own fails others app (SendFailed d) l same = refl
 same-life_after own fails others app (RecvFailed d) l same = refl
 
@@ -198,6 +201,7 @@ running-act own fails app (Stim x) l s same = same
 running-act own fails app (Took a what) l s same = same
 running-act own fails app (Sent d bytes) l s same = same
 running-act own fails app (Got d bytes) l s same = same
+running-act own fails app (Lost d) l s same = same
 
 -- a step starts and ends an application in its life as in the state of the world
 pub running-step : (own : Scripts) (fails : List FailCall) (app : ℕ) (step : WorldStep) (l : Life) (s : State) → l.running ≡ is_running app s → (life_after own fails app step l).running ≡ is_running app (after_step step s)
@@ -213,6 +217,8 @@ running-step own fails app End l s same = same
 running-step own fails app Opened l s same = same
 running-step own fails app NotOpened l s same = same
 running-step own fails app NextFailed l s same = same
+running-step own fails app (SendLost d) l s same = same
+running-step own fails app (RecvLost d) l s same = same
 running-step own fails app (SendFailed d) l s same = same
 running-step own fails app (RecvFailed d) l s same = same
 
@@ -254,6 +260,7 @@ few_act n own fails app (Stim x) l few = few_kept n l few
 few_act n own fails app (Took a what) l few = few_kept n l few
 few_act n own fails app (Sent d bytes) l few = few_kept n l few
 few_act n own fails app (Got d bytes) l few = few_kept n l few
+few_act n own fails app (Lost d) l few = few_kept n l few
 
 few_take : (n : ℕ) (fails : List FailCall) (app : ℕ) (what : TookWhat) (l : Life) → FewCalls n l → FewCalls (n + 1) (after_take fails app what l)
 unfolding after_take
@@ -272,6 +279,8 @@ FewCalls-step n own fails app End l few = few_kept n l few
 FewCalls-step n own fails app Opened l few = few_kept n l few
 FewCalls-step n own fails app NotOpened l few = few_kept n l few
 FewCalls-step n own fails app NextFailed l few = few_kept n l few
+FewCalls-step n own fails app (SendLost d) l few = few_kept n l few
+FewCalls-step n own fails app (RecvLost d) l few = few_kept n l few
 FewCalls-step n own fails app (SendFailed d) l few = few_kept n l few
 FewCalls-step n own fails app (RecvFailed d) l few = few_kept n l few
 

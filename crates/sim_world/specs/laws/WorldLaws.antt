@@ -3,16 +3,16 @@
 use Rattle.std.specs.Prelude.{◌≡◌, ◌==◌, ℕ, Bool, true, false, List, [], ◌∷◌, ◌++◌, map, refl, if◌then◌else◌}
 use Rattle.std.proofs.Common.{sym, ap, ◌∙◌, subst, append_assoc}
 use Rattle.of_types.specs.declared.journal.Act.{Act}
-use Rattle.of_types.specs.declared.journal.Act.TheVariants.{Stim, Started, Gave, Gone, Took, Ended, Sent, Got}
+use Rattle.of_types.specs.declared.journal.Act.TheVariants.{Stim, Started, Gave, Gone, Took, Ended, Sent, Got, Lost}
 use Rattle.of_types.specs.declared.journal.Stimulus.TheVariants.{Advance}
 use Rattle.of_types.specs.declared.journal.WorldStim.{WorldStim}
 use Rattle.of_types.specs.declared.journal.WorldStim.TheVariants.{Join, Leave, At, Of}
 use Rattle.flow_table.specs.Switch.{Declared}
 use Rattle.outside.specs.declared.call.FailCall.{FailCall}
 use Rattle.outside.specs.declared.step.WorldStep.{WorldStep}
-use Rattle.outside.specs.declared.step.WorldStep.TheVariants.{Acted, TookInto, From, Joined, Left, Moment, Idle, End, Opened, NotOpened, NextFailed, SendFailed, RecvFailed}
+use Rattle.outside.specs.declared.step.WorldStep.TheVariants.{Acted, TookInto, From, Joined, Left, Moment, Idle, End, Opened, NotOpened, NextFailed, SendLost, RecvLost, SendFailed, RecvFailed}
 use Rattle.outside.specs.Seen.{Given}
-use Rattle.outside.specs.State.{Link, State, at_first, with_link, link_joined, link_left, link_stimulated, link_sent, link_got, link_told, link_failed, after_stim, after_act, after_step, after_steps, state, but_marks, switch_of, waits_of, upcoming, link_fails}
+use Rattle.outside.specs.State.{Link, State, at_first, with_link, link_joined, link_left, link_stimulated, link_sent, link_got, link_told, link_lost, link_failed, after_stim, after_act, after_step, after_steps, state, but_marks, switch_of, waits_of, upcoming, link_fails}
 use Rattle.outside.specs.laws.StateLaws.{after_steps-append, but_marks-step}
 use Rattle.outside.specs.laws.LinkLaws.{KeepsDeclared}
 use Rattle.outside.specs.Conforming.{MayBegin, MayAct, MayStep}
@@ -22,7 +22,7 @@ use Rattle.sim_world.specs.Tally.{TallyState, CountsFor}
 use Rattle.sim_world.specs.Told.{without_links}
 use Rattle.sim_world.specs.Lives.{life_in}
 use Rattle.sim_world.specs.laws.ScriptLaws.{AreScripted-append, life_through-append}
-use Rattle.sim_world.specs.Scripts.{Scripts, Life, fresh, all_fresh, life_after, life_through, lives_after, lives_through, IsScriptedAct, IsScripted, AreScripted, KeepsScripts}
+use Rattle.sim_world.specs.Scripts.{Scripts, Life, fresh, all_fresh, life_after, life_through, lives_after, IsScriptedAct, IsScripted, AreScripted, KeepsScripts}
 use Rattle.sim_world.specs.World.{WorldData, all_declared, given_of, seen_of, IsActAsTold, IsAsTold, AreAsTold, counted_next, nexts_through, CanCome, IsHistory, Stands, Moves}
 
 -- ---- Marks steer nothing
@@ -71,6 +71,7 @@ act_but declared (Took app what) s may = may
 act_but declared (Ended app) s may = may
 act_but declared (Sent d bytes) s may = may
 act_but declared (Got d bytes) s may = may
+act_but declared (Lost d) s may = may
 
 act_with : (declared : List Declared) (act : Act) (s : State) → MayAct declared act (but_marks s) → MayAct declared act s
 unfolding MayAct waits_of
@@ -82,6 +83,7 @@ act_with declared (Took app what) s may = may
 act_with declared (Ended app) s may = may
 act_with declared (Sent d bytes) s may = may
 act_with declared (Got d bytes) s may = may
+act_with declared (Lost d) s may = may
 
 step_but : (declared : List Declared) (step : WorldStep) (s : State) → MayStep declared step s → MayStep declared step (but_marks s)
 unfolding MayStep upcoming waits_of switch_of link_fails
@@ -96,6 +98,8 @@ step_but declared End s may = may
 step_but declared Opened s may = may
 step_but declared NotOpened s may = may
 step_but declared NextFailed s may = may
+step_but declared (SendLost d) s may = may
+step_but declared (RecvLost d) s may = may
 step_but declared (SendFailed d) s may = may
 step_but declared (RecvFailed d) s may = may
 
@@ -112,6 +116,8 @@ step_with declared End s may = may
 step_with declared Opened s may = may
 step_with declared NotOpened s may = may
 step_with declared NextFailed s may = may
+step_with declared (SendLost d) s may = may
+step_with declared (RecvLost d) s may = may
 step_with declared (SendFailed d) s may = may
 step_with declared (RecvFailed d) s may = may
 
@@ -130,11 +136,14 @@ come_but declared (Acted (Took app what)) s may = step_but declared (Acted (Took
 come_but declared (Acted (Ended app)) s may = step_but declared (Acted (Ended app)) s may
 come_but declared (Acted (Sent d bytes)) s may = step_but declared (Acted (Sent d bytes)) s may
 come_but declared (Acted (Got d bytes)) s may = may
+come_but declared (Acted (Lost d)) s may = step_but declared (Acted (Lost d)) s may
 come_but declared (From d bytes) s may = may
 come_but declared (TookInto app what room) s may = step_but declared (TookInto app what room) s may
 come_but declared (Joined d bytes) s may = step_but declared (Joined d bytes) s may
 come_but declared (Left d) s may = step_but declared (Left d) s may
 come_but declared (Moment t) s may = step_but declared (Moment t) s may
+come_but declared (SendLost d) s may = step_but declared (SendLost d) s may
+come_but declared (RecvLost d) s may = step_but declared (RecvLost d) s may
 come_but declared (SendFailed d) s may = step_but declared (SendFailed d) s may
 come_but declared (RecvFailed d) s may = step_but declared (RecvFailed d) s may
 come_but declared Idle s may = step_but declared Idle s may
@@ -153,11 +162,14 @@ come_with declared (Acted (Took app what)) s may = step_with declared (Acted (To
 come_with declared (Acted (Ended app)) s may = step_with declared (Acted (Ended app)) s may
 come_with declared (Acted (Sent d bytes)) s may = step_with declared (Acted (Sent d bytes)) s may
 come_with declared (Acted (Got d bytes)) s may = may
+come_with declared (Acted (Lost d)) s may = step_with declared (Acted (Lost d)) s may
 come_with declared (From d bytes) s may = may
 come_with declared (TookInto app what room) s may = step_with declared (TookInto app what room) s may
 come_with declared (Joined d bytes) s may = step_with declared (Joined d bytes) s may
 come_with declared (Left d) s may = step_with declared (Left d) s may
 come_with declared (Moment t) s may = step_with declared (Moment t) s may
+come_with declared (SendLost d) s may = step_with declared (SendLost d) s may
+come_with declared (RecvLost d) s may = step_with declared (RecvLost d) s may
 come_with declared (SendFailed d) s may = step_with declared (SendFailed d) s may
 come_with declared (RecvFailed d) s may = step_with declared (RecvFailed d) s may
 come_with declared Idle s may = step_with declared Idle s may
@@ -186,6 +198,7 @@ told_act_same fails (Took app what) s = refl
 told_act_same fails (Ended app) s = refl
 told_act_same fails (Sent d bytes) s = refl
 told_act_same fails (Got d bytes) s = refl
+told_act_same fails (Lost d) s = refl
 
 told_same : (fails : List FailCall) (n : ℕ) (step : WorldStep) (s : State) → IsAsTold fails n step s ≡ IsAsTold fails n step (but_marks s)
 unfolding IsAsTold link_fails switch_of waits_of
@@ -200,6 +213,8 @@ told_same fails n End s = refl
 told_same fails n Opened s = refl
 told_same fails n NotOpened s = refl
 told_same fails n NextFailed s = refl
+told_same fails n (SendLost d) s = refl
+told_same fails n (RecvLost d) s = refl
 told_same fails n (SendFailed d) s = refl
 told_same fails n (RecvFailed d) s = refl
 
@@ -243,7 +258,7 @@ stim_keeps (At t) s = keeps_all (link_stimulated (Advance t)) (λ l. refl) s.lin
 stim_keeps (Of d x) s = keeps d (link_stimulated x) (λ l. refl) s.links
 
 act_keeps : (act : Act) (s : State) → all_declared (after_act act s) ≡ all_declared s
-unfolding all_declared after_act link_sent link_got
+unfolding all_declared after_act link_sent link_got link_lost
 act_keeps (Stim x) s = stim_keeps x s
 act_keeps (Started app ok) s = refl
 act_keeps (Gave app bytes) s = refl
@@ -252,9 +267,10 @@ act_keeps (Took app what) s = refl
 act_keeps (Ended app) s = refl
 act_keeps (Sent d bytes) s = keeps d (link_sent bytes) (λ l. refl) s.links
 act_keeps (Got d bytes) s = keeps d link_got (λ l. refl) s.links
+act_keeps (Lost d) s = keeps d link_lost (λ l. refl) s.links
 
 step_keeps : (step : WorldStep) (s : State) → all_declared (after_step step s) ≡ all_declared s
-unfolding all_declared after_step link_told link_failed
+unfolding all_declared after_step link_told link_lost link_failed
 step_keeps (Acted act) s = act_keeps act s
 step_keeps (TookInto app what room) s = refl
 step_keeps (From d bytes) s = keeps d link_told (λ l. refl) s.links
@@ -266,6 +282,8 @@ step_keeps End s = refl
 step_keeps Opened s = refl
 step_keeps NotOpened s = refl
 step_keeps NextFailed s = refl
+step_keeps (SendLost d) s = keeps d link_lost (λ l. refl) s.links
+step_keeps (RecvLost d) s = keeps d link_lost (λ l. refl) s.links
 step_keeps (SendFailed d) s = keeps d link_failed (λ l. refl) s.links
 step_keeps (RecvFailed d) s = keeps d link_failed (λ l. refl) s.links
 
@@ -284,6 +302,7 @@ scripted_act_same own fails (Took app what) lives others same is = is
 scripted_act_same own fails (Ended app) lives others same is = rw (← same app) is
 scripted_act_same own fails (Sent d bytes) lives others same is = is
 scripted_act_same own fails (Got d bytes) lives others same is = is
+scripted_act_same own fails (Lost d) lives others same is = is
 
 scripted_same : (own : Scripts) (fails : List FailCall) (step : WorldStep) (lives others : ℕ → Life) → ((app : ℕ) → lives app ≡ others app) → IsScripted own fails step lives → IsScripted own fails step others
 unfolding IsScripted
@@ -298,6 +317,8 @@ scripted_same own fails End lives others same is = is
 scripted_same own fails Opened lives others same is = is
 scripted_same own fails NotOpened lives others same is = is
 scripted_same own fails NextFailed lives others same is = is
+scripted_same own fails (SendLost d) lives others same is = is
+scripted_same own fails (RecvLost d) lives others same is = is
 scripted_same own fails (SendFailed d) lives others same is = is
 scripted_same own fails (RecvFailed d) lives others same is = is
 
