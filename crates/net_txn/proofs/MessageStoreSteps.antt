@@ -39,10 +39,10 @@ pub record Copied (es : List (ℕ × ℕ)) (bytes : List ℕ) (copies : List (�
   pub parts : copies ++ messages_in (drop i es) (drop at bytes) ≡ messages_in es bytes
   pub left : sizes (drop i es) + at ≡ length bytes
 
-abbrev entry_at : List (ℕ × ℕ) → ℕ → ℕ × ℕ
+abbrev pub entry_at : List (ℕ × ℕ) → ℕ → ℕ × ℕ
 entry_at es i = get_or es i (0, 0)
 
-next_size : (es : List (ℕ × ℕ)) (i : ℕ) → i < length es → sizes (drop i es) ≡ (entry_at es i).1 + sizes (drop (i + 1) es)
+pub next_size : (es : List (ℕ × ℕ)) (i : ℕ) → i < length es → sizes (drop i es) ≡ (entry_at es i).1 + sizes (drop (i + 1) es)
 next_size es i lt = rw add-one (ap sizes (drop-cons es i (0, 0) lt))
 
 next_message : (es : List (ℕ × ℕ)) (bytes : List ℕ) (i : ℕ) → i < length es

@@ -18,9 +18,9 @@ use Rattle.outside.specs.Seen.{Seen, journal}
 use Rattle.outside.specs.State.{state, switch_of, waits_of}
 use Rattle.outside.specs.Conforming.{Conforming}
 use Rattle.lego_model.specs.declared.fault.TxnFault.{TxnFault}
-use Rattle.net_txn.specs.Causes.{IsPlainFault}
+use Rattle.net_txn.specs.Causes.{IsPlain}
 use Rattle.net_txn.specs.Net.{NetState}
-use Rattle.net_txn.specs.Changes.{answer_of_host}
+use Rattle.net_txn.specs.Answering.{answer_of_host}
 pub use Rattle.net_txn.specs.Agrees.{Agrees}
 
 -- Since then the change reached its switch, behind it a barrier, and the barrier's reply came. The answer is the first ERROR for it that was
@@ -53,8 +53,8 @@ Reaches Tells d bytes old new net result =
     (xid : ℕ) (m : Change) → Tells → answer_of_host d bytes net ≡ None → reading_of bytes ≡ Ok (enveloped xid (FlowMod m)) → IfOk result (λ answer. ReachedSince d (as_sent (FlowMod m)) answer old.history new.history)
 
 -- Where the world keeps its word, nothing of the switch waited, and view and table agreed, they take the step together; a fault is then
--- one of the link, or of memory.
+-- one of memory.
 abbrev pub Steps : {Own : Type 0} → Type 0 → ℕ → List ℕ → Seen Own → Seen Own → NetState → NetState → Result Answer TxnFault → Type 0
 Steps Tells d bytes old new net now_net result =
     (xid : ℕ) (m : Change) → Tells → answer_of_host d bytes net ≡ None → reading_of bytes ≡ Ok (enveloped xid (FlowMod m)) → Conforming new → waits_of d (state old) ≡ [] → Agrees d net.views (state old)
-    → MatchResult result (InStep d (as_sent (FlowMod m)) old new net now_net) (IsPlainFault d)
+    → MatchResult result (InStep d (as_sent (FlowMod m)) old new net now_net) IsPlain

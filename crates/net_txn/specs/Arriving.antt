@@ -1,6 +1,6 @@
 -- What the host makes of a message that came of itself: an event, or none; and what it then knows (OpenFlow 1.0.0, 5.4 Asynchronous
 -- Messages and 5.5.2 Echo Request). Which messages are events is our own choice.
-use Rattle.std.specs.Prelude.{◌≡◌, ◌==◌, ℕ, ◌<◌, ◌≤◌, Bool, false, not, ◌&&◌, List, [], ◌∷◌, ◌++◌, filter, Option, Some, None, Result, IsErr, IsOkAnd, IfOk, IfErr, OnErr, nat_lt, if◌then◌else◌}
+use Rattle.std.specs.Prelude.{◌≡◌, ◌==◌, ◌⊎◌, ℕ, ◌<◌, ◌≤◌, Bool, false, not, ◌&&◌, List, [], ◌∷◌, ◌++◌, filter, Option, Some, None, Result, IsErr, IsOkAnd, IfOk, IfErr, OnErr, nat_lt, if◌then◌else◌}
 use Rattle.std.specs.List.{list_any}
 use Rattle.std.proofs.Common.{zero, suc}
 use Rattle.of_types.specs.Fields.{number_bytes}
@@ -23,13 +23,18 @@ use Rattle.app_frames.specs.declared.frame.EventKind.TheVariants as kinds
 use Rattle.outside.specs.declared.step.WorldStep.{WorldStep}
 use Rattle.outside.specs.declared.step.WorldStep.TheVariants.{Acted}
 use Rattle.outside.specs.Seen.{Seen, Continues}
-use Rattle.lego_io.specs.Count.{Rose}
+use Rattle.outside.specs.InOrder.{MessagesSince}
 use Rattle.lego_model.specs.declared.fault.TxnFault.{TxnFault}
-use Rattle.lego_model.specs.declared.fault.TxnFault.TheVariants.{SwitchFault, SwitchBroke, Diverged, Flooded, NoMemory}
+use Rattle.lego_model.specs.declared.fault.TxnFault.TheVariants.{SwitchBroke, Diverged, Flooded, NoMemory}
 use Rattle.net_txn.specs.declared.ports.KnownPorts.{KnownPorts}
 use Rattle.net_txn.specs.LinkSteps.{OnLinks, AsksWithoutStrays}
 use Rattle.net_txn.specs.Views.{rows_at, with_rows}
 use Rattle.net_txn.specs.Net.{NetState}
+use Rattle.net_txn.specs.Losing.{IsLost, lost_net, SaysHalt}
+use Rattle.net_txn.specs.Said.{Speaks}
+use Rattle.net_txn.specs.declared.halt.Halt.{Halt}
+use Rattle.net_txn.specs.declared.halt.Halt.TheVariants.{Lost}
+use Rattle.lego_model.specs.History.{lost_of}
 
 -- ---- Flows that were removed
 
@@ -107,7 +112,6 @@ arrival_steps d xid other = []
 
 -- SwitchBroke comes exactly where the frame is no message, unless memory is wanting.
 abbrev pub IsArrivalCause : {Own : Type 0} → ℕ → List ℕ → Seen Own → Seen Own → TxnFault → Type 0
-IsArrivalCause d frame old new (SwitchFault of) = (of ≡ d) × Rose (old.counts.link_faults d) (new.counts.link_faults d)
 IsArrivalCause d frame old new (SwitchBroke of bytes) = (of ≡ d) × (bytes ≡ frame) × IsErr (reading_of frame)
 IsArrivalCause d frame old new (Diverged of sent got) = ⊥
 IsArrivalCause d frame old new (Flooded of n) = ⊥
@@ -119,11 +123,37 @@ pub record Becomes {Own : Type 0} (Tells : Type 0) (d xid : ℕ) (m : Message) (
   pub net_so : now_net ≡ net_after d m net
   pub told : Tells → new.history ≡ old.history ++ arrival_steps d xid m
 
--- The calls are those of links alone, and in place where the world tells in order and the switch is joined.
+abbrev pub IsEcho : Message → Type 0
+IsEcho m = (payload : List ℕ) × (m ≡ EchoRequest payload)
+
+-- it is an ECHO_REQUEST that could not be answered: its switch is lost
+pub record ArrivesLost {Own : Type 0} (Tells : Type 0) (d : ℕ) (m : Message) (old new : Seen Own) (net now_net : NetState) (event : Option Event) : Type 0 where
+  pub payload : List ℕ
+  pub request : m ≡ EchoRequest payload
+  pub is_lost : IsLost Tells d [] old new
+  pub read : Tells → MessagesSince old new
+  pub net_so : now_net ≡ lost_net d net
+  pub no_event : event ≡ None
+
+-- why it was not taken in: it is an ECHO_REQUEST that could not be answered, or memory ran out
+pub record ArrivalHalts {Own : Type 0} (Tells : Type 0) (d : ℕ) (m : Message) (old new : Seen Own) (halt : Halt) : Type 0 where
+  pub halts : SaysHalt Tells d old new halt
+  pub request : halt ≡ Lost → IsEcho m
+
+-- what a message that was read is taken in as
+pub record TakesIn {Own : Type 0} (Tells : Type 0) (d xid : ℕ) (m : Message) (old new : Seen Own) (net now_net : NetState) (result : Result (Option Event) TxnFault) : Type 0 where
+  pub speaks : Speaks Tells d old new
+  pub fault : IfErr result (λ f. f ≡ NoMemory)
+  pub err : OnErr result (now_net ≡ net)
+  pub losses : OnErr result (Tells → lost_of new ≡ lost_of old)
+  pub taken : IfOk result (λ event. Becomes Tells d xid m old new net now_net event ⊎ ArrivesLost Tells d m old new net now_net event)
+
+-- The calls are those of links alone, and in place where the world tells in order and the switch is joined; a fault loses no switch.
 pub record Arrives {Own : Type 0} (Tells : Type 0) (d : ℕ) (frame : List ℕ) (old new : Seen Own) (net now_net : NetState) (result : Result (Option Event) TxnFault) : Type 0 where
   pub continues : Continues Tells old new
   pub links : OnLinks Tells old new
   pub no_strays : AsksWithoutStrays Tells d old new
   pub cause : IfErr result (IsArrivalCause d frame old new)
   pub err : OnErr result (now_net ≡ net)
-  pub read : IfOk result (λ event. IsOkAnd (reading_of frame) (λ e. Becomes Tells d e.xid e.message old new net now_net event))
+  pub losses : OnErr result (Tells → lost_of new ≡ lost_of old)
+  pub read : IfOk result (λ event. IsOkAnd (reading_of frame) (λ e. Becomes Tells d e.xid e.message old new net now_net event ⊎ ArrivesLost Tells d e.message old new net now_net event))

@@ -1,6 +1,6 @@
 -- What `rows` does: a switch is asked for the statistics of all its flows, behind a barrier (OpenFlow 1.0.0, 5.3.5 Read State Messages:
 -- Individual Flow Statistics, and 5.3.7 Barrier Message). Which messages answer, and what is a fault of the switch, is our own choice.
-use Rattle.std.specs.Prelude.{◌≡◌, ℕ, ◌||◌, List, [], ◌∷◌, ◌++◌, slice_get, Option, Some, Result, Ok, IsOk, IfErr, MatchResult, ◌⊎◌, if◌then◌else◌}
+use Rattle.std.specs.Prelude.{◌≡◌, ℕ, ◌||◌, List, [], ◌∷◌, ◌++◌, slice_get, Option, Some, None, Result, Ok, Err, IsOk, IfErr, MatchResult, ◌⊎◌, if◌then◌else◌}
 use Rattle.std.specs.List.{flat_map}
 use Rattle.of_wire.specs.declared.message.Message.TheVariants.{BarrierReply}
 use Rattle.of_wire.specs.Spelling.{message_bytes}
@@ -11,10 +11,13 @@ use Rattle.of_stats.specs.Reading.{rows_of}
 use Rattle.outside.specs.Seen.{Seen, Continues}
 use Rattle.outside.specs.InOrder.{MessagesSince}
 use Rattle.lego_model.specs.declared.fault.TxnFault.{TxnFault}
-use Rattle.lego_model.specs.declared.fault.TxnFault.TheVariants.{SwitchFault, SwitchBroke, Diverged, Flooded, NoMemory}
+use Rattle.lego_model.specs.declared.fault.TxnFault.TheVariants.{SwitchBroke, Diverged, Flooded, NoMemory}
 use Rattle.lego_model.specs.declared.wait.Refusal.{Refusal}
 use Rattle.net_txn.specs.LinkSteps.{OnLinks, AsksWithoutStrays}
 use Rattle.net_txn.specs.Causes.{IsCause}
+use Rattle.net_txn.specs.Net.{NetState}
+use Rattle.lego_model.specs.History.{lost_of}
+use Rattle.net_txn.specs.Losing.{IsLost, lost_net}
 use Rattle.net_txn.specs.Waits.{Waits, IfFlooded, KeptMore}
 use Rattle.lego_model.specs.BarrierWaits.{barrier_sent, next_xid}
 use Rattle.lego_model.specs.FlowQueries.{flows_request, request_sent, asked_from, is_about, parts_in, refusals_in, all_parts, IsBroken}
@@ -41,7 +44,6 @@ pub record AreRowsOf (messages : List (List ℕ)) (rows : List FlowRow) : Type 0
 abbrev pub IsPartsFault : ℕ → List (List ℕ) → TxnFault → Type 0
 IsPartsFault d messages (SwitchBroke of bytes) = (of ≡ d) × IsBroken messages bytes
 IsPartsFault d messages NoMemory = Unit {0}
-IsPartsFault d messages (SwitchFault of) = ⊥
 IsPartsFault d messages (Diverged of sent got) = ⊥
 IsPartsFault d messages (Flooded of n) = ⊥
 
@@ -54,7 +56,6 @@ abbrev pub IsRepliesFault : ℕ → List ℕ → List ℕ → List (List ℕ) �
 IsRepliesFault d request reply parts refusals (SwitchBroke of bytes) = (of ≡ d) × (refusals ≡ []) × IsBroken parts bytes
 IsRepliesFault d request reply parts refusals (Diverged of sent got) = (of ≡ d) × (sent ≡ request) × IsRefusal parts refusals reply got
 IsRepliesFault d request reply parts refusals NoMemory = Unit {0}
-IsRepliesFault d request reply parts refusals (SwitchFault of) = ⊥
 IsRepliesFault d request reply parts refusals (Flooded of n) = ⊥
 
 -- ---- The whole, from a transaction id on
@@ -80,13 +81,30 @@ IsAskCause Tells d xid old new kept now_kept fault =
     × IsRepliesFault d (flows_request xid) (message_bytes (next_xid xid) BarrierReply) (parts_in xid came) (refusals_in xid came) fault)
 
 -- The rows, or why there are none; more messages of the switch may be kept. Flooded comes only where 65,536 messages were got behind the
--- barrier, none of them its reply. The calls are those of links alone, and in place where the world tells in order and the switch is joined;
--- after Ok all bytes that came were messages.
-pub record Asks {Own : Type 0} (Tells : Type 0) (d xid : ℕ) (old new : Seen Own) (kept now_kept : List (ℕ × List ℕ)) (result : Result (List FlowRow) TxnFault) : Type 0 where
+-- barrier, none of them its reply.
+pub record AsksJoined {Own : Type 0} (Tells : Type 0) (d : ℕ) (old new : Seen Own) (net now_net : NetState) (result : Result (List FlowRow) TxnFault) : Type 0 where
+  pub kept_more : KeptMore d net.kept now_net.kept
+  pub answer : MatchResult result (GivesRows Tells d net.xid old new net.kept now_net.kept) (IsAskCause Tells d net.xid old new net.kept now_net.kept)
+  pub flooded : IfErr result (IfFlooded Tells (asked_from d net.xid) (request_sent d net.xid ∷ barrier_sent (asked_from d net.xid) ∷ []) old new)
+  -- no switch is lost; views, ports, log and moment stay
+  pub losses : Tells → lost_of new ≡ lost_of old
+  pub stays : now_net ≡ record net { xid = next_xid (next_xid net.xid); kept = now_net.kept }
+
+-- the switch was lost
+pub record AsksLost {Own : Type 0} (Tells : Type 0) (d : ℕ) (old new : Seen Own) (net now_net : NetState) : Type 0 where
+  pub is_lost : IsLost Tells d [] old new
+  pub net_so : now_net ≡ record (lost_net d net) { xid = now_net.xid }
+
+abbrev pub AsksSo : {Own : Type 0} → Type 0 → ℕ → Seen Own → Seen Own → NetState → NetState → Result (Option (List FlowRow)) TxnFault → Type 0
+AsksSo Tells d old new net now_net (Ok (Some rows)) = AsksJoined Tells d old new net now_net (Ok rows)
+AsksSo Tells d old new net now_net (Ok None) = AsksLost Tells d old new net now_net
+AsksSo Tells d old new net now_net (Err fault) = AsksJoined Tells d old new net now_net (Err fault)
+
+-- The rows; or none, where the switch was lost; or why there are none. The calls are those of links alone, and in place where the world tells in
+-- order and the switch is joined; after Ok all bytes that came were messages.
+pub record Asks {Own : Type 0} (Tells : Type 0) (d : ℕ) (old new : Seen Own) (net now_net : NetState) (result : Result (Option (List FlowRow)) TxnFault) : Type 0 where
   pub continues : Continues Tells old new
   pub links : OnLinks Tells old new
   pub no_strays : AsksWithoutStrays Tells d old new
   pub read : IsOk result → Tells → MessagesSince old new
-  pub kept_more : KeptMore d kept now_kept
-  pub answer : MatchResult result (GivesRows Tells d xid old new kept now_kept) (IsAskCause Tells d xid old new kept now_kept)
-  pub flooded : IfErr result (IfFlooded Tells (asked_from d xid) (request_sent d xid ∷ barrier_sent (asked_from d xid) ∷ []) old new)
+  pub asks : AsksSo Tells d old new net now_net result

@@ -1,163 +1,61 @@
--- What `change` does: the host's own answer with nothing sent, or the switch's answer behind a barrier (OpenFlow 1.0.0, 4.2 Message
--- Handling and 5.3.7 Barrier Message). What is sent, and that it is logged before, is our own choice.
-use Rattle.std.specs.Prelude.{◌≡◌, ◌≢◌, ℕ, ◌^◌, ◌<◌, ◌≤◌, true, List, [], ◌∷◌, ◌++◌, Option, Some, None, Result, Ok, Err, IsOk, IfOk, IfErr, IsSome, MatchResult, ◌⊎◌, if◌then◌else◌}
-use Rattle.std.specs.Option.{is_some, option_map}
-use Rattle.of_types.specs.declared.errors.OfError.{OfError}
-use Rattle.of_types.specs.declared.journal.Act.TheVariants.{Sent}
+-- What `change` does with one message of an application for a switch: it is answered, or its switch is lost. All of this is our own.
+use Rattle.std.specs.Prelude.{◌≡◌, ℕ, true, List, [], Some, None, Result, Ok, IsOk, IfErr, IsSome, MatchResult, ◌⊎◌}
+use Rattle.std.specs.Option.{is_some}
 use Rattle.of_wire.specs.declared.bodies.FlowMod.{FlowMod as Change}
-use Rattle.of_wire.specs.declared.message.Message.{Message}
 use Rattle.of_wire.specs.declared.message.Message.TheVariants.{FlowMod}
 use Rattle.of_wire.specs.Reading.{reading_of}
-use Rattle.of_wire.specs.Spelling.{message_bytes}
-use Rattle.of_wire.specs.Grammar.{IsMessage, enveloped}
-use Rattle.flow_table.specs.View.{TableView}
-use Rattle.flow_table.specs.Change.{key_in}
-use Rattle.flow_table.specs.Step.{after_message}
+use Rattle.of_wire.specs.Grammar.{enveloped}
 use Rattle.app_frames.specs.declared.frame.Answer.{Answer}
-use Rattle.lego_model.specs.Answers.{as_sent, host_answer, answer_by}
-use Rattle.lego_model.specs.Packets.{Held, holds}
-use Rattle.outside.specs.declared.step.WorldStep.{WorldStep}
-use Rattle.outside.specs.declared.step.WorldStep.TheVariants.{Acted}
+use Rattle.app_frames.specs.declared.frame.Answer.TheVariants.{Unknown}
 use Rattle.outside.specs.Seen.{Seen, Continues}
-use Rattle.outside.specs.State.{State, state, switch_of, is_joined}
+use Rattle.outside.specs.State.{state, is_joined}
 use Rattle.outside.specs.InOrder.{InOrder, MessagesSince}
 use Rattle.lego_model.specs.declared.fault.TxnFault.{TxnFault}
-use Rattle.lego_model.specs.declared.fault.TxnFault.TheVariants.{SwitchFault, SwitchBroke, Diverged, Flooded, NoMemory}
-use Rattle.lego_model.specs.declared.wait.Awaited.{Awaited}
-use Rattle.lego_model.specs.declared.wait.Refusal.{Refusal}
-use Rattle.net_txn.specs.declared.logged.Logged.{Logged}
-use Rattle.net_txn.specs.declared.queue.Storage.TheVariants.{Growing}
+use Rattle.net_txn.specs.declared.halt.Halt.TheVariants.{Fault}
 use Rattle.net_txn.specs.LinkSteps.{OnLinks, MakesNoStrayCall}
-use Rattle.net_txn.specs.Said.{barrier_of, Replied, BreaksBy}
 use Rattle.net_txn.specs.Causes.{IsCause}
-use Rattle.net_txn.specs.Waits.{Waits, Floods, KeptMore}
-use Rattle.lego_model.specs.BarrierWaits.{barrier_sent, next_xid}
-use Rattle.net_txn.specs.Views.{rows_at, with_rows, rows_after, is_row_at}
-pub use Rattle.net_txn.specs.Agrees.{known_rows}
-use Rattle.net_txn.specs.Net.{NetState, awaited_from, logged_by, with_logged}
+use Rattle.net_txn.specs.Losing.{IsLost, lost_net}
+use Rattle.lego_model.specs.History.{lost_of}
+use Rattle.net_txn.specs.Views.{rows_at, is_viewed}
+use Rattle.net_txn.specs.Net.{NetState}
+use Rattle.net_txn.specs.Agreement.{Reaches, Steps}
+pub use Rattle.net_txn.specs.Answering.{answer_of_host, error_in, views_by, log_by, change_sent, Asked, Unsent, log_in_flight, CutOff, Stopped, BreaksOff, InFlight, MayMove, IfGivenUp, held_after, ByHost}
 
--- ---- What the host knows of a switch
+-- No switch was lost. A packet is held, and the same switches have views. The host's own answer is exactly that; else the switch answers.
+-- Flooded comes only where 65,536 messages were got behind the barrier, none of them its reply. After a fault it is known whether anything was
+-- sent, and what was said; what undoes the change is logged before it is sent. What the switch answered reached it at once; and where the world
+-- keeps its word, nothing of the switch waited, and view and table agreed, they take the step together, and a fault is one of memory.
+pub record ChangesJoined {Own : Type 0} (Tells : Type 0) (d : ℕ) (bytes : List ℕ) (old new : Seen Own) (net now_net : NetState) (result : Result Answer TxnFault) : Type 0 where
+  pub switches : (e : ℕ) → is_some (rows_at e now_net.views) ≡ is_some (rows_at e net.views)
+  pub ports : now_net.ports ≡ net.ports
+  pub left : now_net.left ≡ net.left
+  pub held : now_net.held ≡ held_after d bytes result net.held
+  pub by_host : (answer : Answer) → answer_of_host d bytes net ≡ Some answer → ByHost d bytes answer old new net now_net result
+  pub by_switch : (xid : ℕ) (m : Change) → answer_of_host d bytes net ≡ None → reading_of bytes ≡ Ok (enveloped xid (FlowMod m))
+      → MatchResult result (Asked Tells d m old new net now_net) (λ f. Stopped d m old new net now_net)
+  pub flooded : (xid : ℕ) (m : Change) → answer_of_host d bytes net ≡ None → reading_of bytes ≡ Ok (enveloped xid (FlowMod m))
+      → IfErr result (λ fault. IfGivenUp Tells d m old new net (Fault fault))
+  pub in_flight : (xid : ℕ) (m : Change) → answer_of_host d bytes net ≡ None → reading_of bytes ≡ Ok (enveloped xid (FlowMod m))
+      → IfErr result (λ fault. Unsent old new net now_net ⊎ InFlight Tells d m (log_in_flight d m net.views net.log) old new net now_net (Fault fault))
+  pub reached : Reaches Tells d bytes old new net result
+  pub in_step : Steps Tells d bytes old new net now_net result
+  pub losses : Tells → lost_of new ≡ lost_of old
 
--- the host's own answer to bytes for a switch, where it has one
-abbrev pub answer_of_host : ℕ → List ℕ → NetState → Option Answer
-answer_of_host d bytes net = host_answer (known_rows d net.views) bytes
+-- The host let the message pass, and its switch was lost: nothing else changes of what the host keeps but the transaction id.
+pub record ChangesLost {Own : Type 0} (Tells : Type 0) (d : ℕ) (old new : Seen Own) (net now_net : NetState) : Type 0 where
+  pub viewed : is_viewed d net.views ≡ true
+  pub is_lost : IsLost Tells d [] old new
+  pub net_so : now_net ≡ record (lost_net d net) { xid = now_net.xid }
 
--- ---- What the switch answered
-
-abbrev pub error_in : Option Refusal → Option OfError
-error_in refusal = option_map (λ r. r.error) refusal
-
--- the views after a change that was refused or not
-abbrev pub views_by : Option Refusal → ℕ → Change → List TableView → List TableView
-views_by None d m views = with_rows d (rows_after m) views
-views_by (Some refusal) d m views = views
-
-abbrev pub log_by : Option Refusal → ℕ → Change → List Logged → List Logged
-log_by None d m log = with_logged (logged_by d m) log
-log_by (Some refusal) d m log = log
-
-abbrev pub change_sent : ℕ → ℕ → Change → WorldStep
-change_sent d xid m = Acted (Sent d (message_bytes xid (as_sent (FlowMod m))))
-
--- The change was sent, then a barrier, and its reply was awaited; the answer is the first refusal that came before it, or Fine. The
--- view and the log move where it was not refused.
-pub record Asked {Own : Type 0} (Tells : Type 0) (d : ℕ) (m : Change) (old new : Seen Own) (net now_net : NetState) (answer : Answer) : Type 0 where
-  -- what is sent is a message with a transaction id
-  pub message : IsMessage (FlowMod m)
-  pub is_xid : (1 ≤ net.xid) × (net.xid < 2 ^ 32)
-  pub refusal : Option Refusal
-  pub waits : Waits Tells (awaited_from d net.xid) (change_sent d net.xid m ∷ barrier_sent (awaited_from d net.xid) ∷ []) old new net.kept now_net.kept refusal
-  pub answer_so : answer ≡ answer_by (error_in refusal)
-  pub views : now_net.views ≡ views_by refusal d m net.views
-  pub log : now_net.log ≡ log_by refusal d m net.log
-  pub xid : now_net.xid ≡ next_xid (next_xid net.xid)
-
--- ---- Faults
-
--- before anything was sent: no call of the world was made
-pub record Unsent {Own : Type 0} (old new : Seen Own) (net now_net : NetState) : Type 0 where
-  pub world : new ≡ old
-  pub views : now_net.views ≡ net.views
-  pub log : now_net.log ≡ net.log
-  pub kept : now_net.kept ≡ net.kept
-
--- What undoes the change is logged, unless a row has its key already: then the switch refuses it, and its inverse would remove an entry
--- that was there before.
-abbrev pub log_in_flight : ℕ → Change → List TableView → List Logged → List Logged
-log_in_flight d m views log = if is_row_at d (key_in m) views then log else with_logged (logged_by d m) log
-
--- since the change may have been sent: it is logged, and the view moved so or not at all
-pub record CutOff (d : ℕ) (m : Change) (net now_net : NetState) : Type 0 where
-  pub views : (now_net.views ≡ net.views) ⊎ (now_net.views ≡ with_rows d (rows_after m) net.views)
-  pub log : now_net.log ≡ log_in_flight d m net.views net.log
-  pub kept : KeptMore d net.kept now_net.kept
-
-abbrev pub Stopped : {Own : Type 0} → ℕ → Change → Seen Own → Seen Own → NetState → NetState → Type 0
-Stopped d m old new net now_net = Unsent old new net now_net ⊎ CutOff d m net now_net
-
--- what was said where messages were to be sent, and then a barrier: they or the barrier could not be sent, its reply did not come, or it
--- came and refused nothing
-abbrev pub BreaksOff : {Own : Type 0} → Type 0 → Awaited → List (List ℕ) → Seen Own → Seen Own → List (ℕ × List ℕ) → List (ℕ × List ℕ) → TxnFault → Type 0
-BreaksOff Tells a first old new kept now_kept fault =
-    BreaksBy Tells a (first ++ barrier_of a ∷ []) old new kept now_kept fault ⊎ Replied Tells a (first ++ barrier_of a ∷ []) Growing [] old new kept now_kept None
-
--- The change is in flight: it or the barrier behind it could not be sent, or the barrier's reply is outstanding, or it came and no memory
--- was left to put the row into the view. The log is this one.
-pub record InFlight {Own : Type 0} (Tells : Type 0) (d : ℕ) (m : Change) (log : List Logged) (old new : Seen Own) (net now_net : NetState) (fault : TxnFault) : Type 0 where
-  pub message : IsMessage (FlowMod m)
-  pub is_xid : net.xid < 2 ^ 32
-  pub said : BreaksOff Tells (awaited_from d net.xid) (message_bytes net.xid (as_sent (FlowMod m)) ∷ []) old new net.kept now_net.kept fault
-  pub views : (now_net.views ≡ net.views) ⊎ (now_net.views ≡ with_rows d (rows_after m) net.views)
-  pub log_so : now_net.log ≡ log
-  pub kept : KeptMore d net.kept now_net.kept
-
--- How the switches stand then, in a world that tells: the one moved as by the change, or not at all.
-pub record MayMove (d : ℕ) (m : Message) (old new : State) : Type 0 where
-  pub switch : (switch_of d new ≡ switch_of d old) ⊎ (switch_of d new ≡ option_map (after_message m) (switch_of d old))
-  pub others : (e : ℕ) → e ≢ d → switch_of e new ≡ switch_of e old
-
--- of a fault that may be Flooded: what was sent is a message with a transaction id, and the wait for its answer was given up
-abbrev pub IfGivenUp : {Own : Type 0} → Type 0 → ℕ → Change → Seen Own → Seen Own → NetState → TxnFault → Type 0
-IfGivenUp Tells d m old new net (Flooded of n) =
-    IsMessage (FlowMod m) × (net.xid < 2 ^ 32) × Floods Tells (awaited_from d net.xid) (change_sent d net.xid m ∷ barrier_sent (awaited_from d net.xid) ∷ []) old new
-IfGivenUp Tells d m old new net (SwitchFault of) = Unit {0}
-IfGivenUp Tells d m old new net (SwitchBroke of bytes) = Unit {0}
-IfGivenUp Tells d m old new net (Diverged of sent got) = Unit {0}
-IfGivenUp Tells d m old new net NoMemory = Unit {0}
-
--- ---- The whole
-
--- a packet that is answered Fine is held behind the others
-abbrev pub held_after : ℕ → List ℕ → Result Answer TxnFault → List Held → List Held
-held_after d bytes (Ok answer) held = held ++ holds d bytes answer
-held_after d bytes (Err fault) held = held
-
--- the host answered: no call of the world was made, and nothing moved but what is held; memory may have been wanting
-pub record ByHost {Own : Type 0} (d : ℕ) (bytes : List ℕ) (answer : Answer) (old new : Seen Own) (net now_net : NetState) (result : Result Answer TxnFault) : Type 0 where
-  pub answers : IfOk result (λ a. a ≡ answer)
-  pub fault : IfErr result (λ f. f ≡ NoMemory)
-  pub world : new ≡ old
-  pub stays : now_net ≡ record net { held = held_after d bytes result net.held }
-
--- Ports, moment and room stay, a packet is held, the same switches have views, and each fault has its cause. The host's own answer is exactly that; else the
--- switch answers. Flooded comes only where 65,536 messages were got behind the barrier, none of them its reply. The calls are those of links
--- alone, and in place where the world tells in order and the switch is joined; after Ok all bytes that came were messages. After a fault
--- it is known whether anything was sent, and what was said; what undoes the change is logged before it is sent.
+-- The message is answered, or its switch is lost and it is answered by Unknown. Moment and room stay, and each fault has its cause. The calls are those of links
+-- alone, and in place where the world tells in order and the switch is joined; after Ok all bytes that came were messages.
 pub record Changes {Own : Type 0} (Tells : Type 0) (d : ℕ) (bytes : List ℕ) (old new : Seen Own) (net now_net : NetState) (result : Result Answer TxnFault) : Type 0 where
   pub continues : Continues Tells old new
   pub links : OnLinks Tells old new
   pub no_strays : Tells → InOrder new → (IsSome (rows_at d net.views) → is_joined d (state old) ≡ true) → MakesNoStrayCall old new
   pub read : IsOk result → Tells → MessagesSince old new
   pub cause : IfErr result (IsCause Tells d old new)
-  pub switches : (e : ℕ) → is_some (rows_at e now_net.views) ≡ is_some (rows_at e net.views)
-  pub ports : now_net.ports ≡ net.ports
   pub moment : now_net.moment ≡ net.moment
   pub room : now_net.room ≡ net.room
-  pub held : now_net.held ≡ held_after d bytes result net.held
-  pub by_host : (answer : Answer) → answer_of_host d bytes net ≡ Some answer → ByHost d bytes answer old new net now_net result
-  pub by_switch : (xid : ℕ) (m : Change) → answer_of_host d bytes net ≡ None → reading_of bytes ≡ Ok (enveloped xid (FlowMod m))
-      → MatchResult result (Asked Tells d m old new net now_net) (λ f. Stopped d m old new net now_net)
-  pub flooded : (xid : ℕ) (m : Change) → answer_of_host d bytes net ≡ None → reading_of bytes ≡ Ok (enveloped xid (FlowMod m))
-      → IfErr result (IfGivenUp Tells d m old new net)
-  pub in_flight : (xid : ℕ) (m : Change) → answer_of_host d bytes net ≡ None → reading_of bytes ≡ Ok (enveloped xid (FlowMod m))
-      → IfErr result (λ fault. Unsent old new net now_net ⊎ InFlight Tells d m (log_in_flight d m net.views net.log) old new net now_net fault)
+  pub answered : ChangesJoined Tells d bytes old new net now_net result
+      ⊎ ((answer_of_host d bytes net ≡ None) × (result ≡ Ok Unknown) × ChangesLost Tells d old new net now_net)

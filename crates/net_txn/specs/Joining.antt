@@ -1,7 +1,7 @@
 -- What is done when a switch joins: its table is emptied and its configuration set, behind a barrier (OpenFlow 1.0.0, 5.3.2 Switch
 -- Configuration and 5.3.3 Modify State Messages). An ERROR that answers one of the two is kept, as any other message. All of this is
 -- our own choice.
-use Rattle.std.specs.Prelude.{◌≡◌, ℕ, ◌<◌, ◌≤◌, List, [], ◌∷◌, ◌++◌, Option, nat_lt, if◌then◌else◌}
+use Rattle.std.specs.Prelude.{◌≡◌, ◌==◌, ℕ, ◌<◌, ◌≤◌, Bool, true, false, not, List, [], ◌∷◌, ◌++◌, filter, Option, nat_lt, if◌then◌else◌}
 use Rattle.std.proofs.Common.{zero, suc}
 use Rattle.of_types.specs.declared.port_desc.PortDesc.{PortDesc}
 use Rattle.of_types.specs.declared.journal.Act.TheVariants.{Sent}
@@ -21,6 +21,8 @@ use Rattle.lego_model.specs.declared.wait.Refusal.{Refusal}
 use Rattle.net_txn.specs.Waits.{Waits, KeptMore}
 use Rattle.lego_model.specs.BarrierWaits.{barrier_sent, next_xid}
 use Rattle.net_txn.specs.Net.{NetState}
+use Rattle.lego_model.specs.History.{lost_of}
+use Rattle.net_txn.specs.Losing.{IsLost}
 
 -- DELETE of any match, whatever the outputs
 abbrev pub delete_all : Change
@@ -64,6 +66,16 @@ pub record Joins {Own : Type 0} (Tells : Type 0) (d : ℕ) (ports : List PortDes
   pub views : now_net.views ≡ with_view d net.views
   pub known : now_net.ports ≡ net.ports ++ record { dpid = d; ports = ports } ∷ []
   pub xid : now_net.xid ≡ next_xid (next_xid (next_xid net.xid))
+  pub losses : Tells → lost_of new ≡ lost_of old
+
+-- it was lost: it is not joined, and has no Leave event
+pub record JoinsNot {Own : Type 0} (Tells : Type 0) (d : ℕ) (old new : Seen Own) (net now_net : NetState) : Type 0 where
+  pub is_lost : IsLost Tells d [] old new
+  pub net_so : now_net ≡ record net { xid = now_net.xid; kept = filter (λ m. not (m.0 == d)) net.kept }
+
+abbrev pub JoinsOrNot : {Own : Type 0} → Type 0 → ℕ → List PortDesc → Bool → Seen Own → Seen Own → NetState → NetState → Type 0
+JoinsOrNot Tells d ports true old new net now_net = Joins Tells d ports old new net now_net
+JoinsOrNot Tells d ports false old new net now_net = JoinsNot Tells d old new net now_net
 
 -- it did not, for a fault: it is not joined, and more of its messages may be kept
 pub record DoesNotJoin (d : ℕ) (net now_net : NetState) : Type 0 where

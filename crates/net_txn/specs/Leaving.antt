@@ -4,6 +4,8 @@ use Rattle.std.specs.List.{flat_map}
 use Rattle.of_types.specs.Layout.{spelled}
 use Rattle.of_types.specs.declared.port_desc.PortDesc.{PortDesc}
 use Rattle.of_wire.specs.Spelling.{port_fields}
+use Rattle.app_frames.specs.declared.frame.Event.{Event}
+use Rattle.app_frames.specs.declared.frame.EventKind.TheVariants.{Leave}
 use Rattle.net_txn.specs.declared.ports.KnownPorts.{KnownPorts}
 use Rattle.net_txn.specs.Net.{NetState}
 
@@ -26,3 +28,7 @@ without d net = record net {
   ports = filter (λ k. not (k.dpid == d)) net.ports;
   kept = filter (λ m. not (m.0 == d)) net.kept;
 }
+
+-- the Leave event of a switch that was lost
+abbrev pub left_event : KnownPorts → Event
+left_event k = record { kind = Leave; dpid = k.dpid; body = ports_text k.ports }

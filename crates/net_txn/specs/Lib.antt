@@ -4,10 +4,14 @@ pub mod Waits
 pub mod Host
 pub mod Views
 pub mod Net
+pub mod Ports
 pub mod Joining
 pub mod Leaving
+pub mod Losing
 pub mod Arriving
 pub mod Agrees
+pub mod Answering
+pub mod Making
 pub mod Changes
 pub mod Releases
 pub mod ReleaseSteps

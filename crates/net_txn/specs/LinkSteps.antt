@@ -6,7 +6,7 @@ use Rattle.of_wire.specs.declared.message.Message.TheVariants.{BarrierReply}
 use Rattle.of_wire.specs.Spelling.{message_bytes}
 use Rattle.flow_table.specs.Switch.{Declared}
 use Rattle.outside.specs.declared.step.WorldStep.{WorldStep}
-use Rattle.outside.specs.declared.step.WorldStep.TheVariants.{Acted, SendFailed, RecvFailed}
+use Rattle.outside.specs.declared.step.WorldStep.TheVariants.{Acted, SendLost, RecvLost, SendFailed, RecvFailed}
 use Rattle.outside.specs.Seen.{Seen}
 use Rattle.outside.specs.State.{State, after_steps, state, waits_of, is_joined, has_waiting}
 use Rattle.outside.specs.InOrder.{MayComeAll, InOrder}
@@ -17,6 +17,8 @@ use Rattle.lego_model.specs.UndoFaults.{AreExpectedOnLinks}
 abbrev pub is_link_step : WorldStep → Bool
 is_link_step (Acted (Sent d bytes)) = true
 is_link_step (Acted (Got d bytes)) = true
+is_link_step (SendLost d) = true
+is_link_step (RecvLost d) = true
 is_link_step (SendFailed d) = true
 is_link_step (RecvFailed d) = true
 is_link_step other = false

@@ -1,6 +1,7 @@
 -- What the host keeps of its network: the views of the joined switches and their known ports, by switch ascending; what undoes the
 -- changes of the open transaction, newest last, and the packets that it holds back; the transaction id that is used next; the moment; the
--- messages that came while something else was awaited; and how many faults of undos there is room for. All of this is our own.
+-- messages that came while something else was awaited; how many faults of undos there is room for; and the known ports of the switches that
+-- were lost and whose leaving was not told yet, in the order of the losses. All of this is our own.
 use Rattle.std.specs.Prelude.{false, ℕ, List, [], ◌∷◌, ◌++◌, Option, Some, None, if◌then◌else◌}
 use Rattle.of_match.specs.declared.key.Key.{Key}
 use Rattle.of_wire.specs.declared.bodies.FlowMod.{FlowMod as Change}
@@ -22,6 +23,7 @@ pub record NetState : Type 0 where
   pub moment : ℕ
   pub kept : List (ℕ × List ℕ)
   pub room : ℕ
+  pub left : List KnownPorts
 
 -- ---- Transaction ids: 1, 2, .., and behind the last one 1 again
 
@@ -33,7 +35,7 @@ awaited_from d xid = record { dpid = d; first = xid; barrier = next_xid xid }
 
 -- how an inverse that was not sent fares
 abbrev pub no_progress : UndoProgress
-no_progress = record { xid = 0; since = 0; failed = false }
+no_progress = record { xid = 0; since = 0; failed = false; lost = false }
 
 abbrev pub logged_at : ℕ → Key → Logged
 logged_at d k = record { dpid = d; key = k; progress = no_progress }

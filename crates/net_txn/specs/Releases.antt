@@ -1,6 +1,6 @@
 -- What `commit` does: the changes of the transaction stay, and each packet that was held goes to its switch, in order, with a barrier behind it
 -- (OpenFlow 1.0.0, 5.3.6 Send Packet Message and 5.3.7 Barrier Message). What comes meanwhile becomes events, an ERROR too. All else is our own.
-use Rattle.std.specs.Prelude.{◌≡◌, ◌≢◌, ◌⊎◌, ℕ, ◌^◌, ◌<◌, ◌≤◌, true, false, List, [], ◌∷◌, ◌++◌, length, map, filter, take, Option, Some, None, Result, Ok, Err, IsOk, MatchResult}
+use Rattle.std.specs.Prelude.{◌≡◌, ◌≢◌, ◌⊎◌, ℕ, ◌^◌, ◌<◌, ◌≤◌, true, false, not, ◌&&◌, List, [], ◌∷◌, ◌++◌, length, map, filter, take, Option, Some, None, Result, Ok, Err, IsOk, MatchResult}
 use Rattle.std.specs.Option.{option_map}
 use Rattle.of_types.specs.declared.journal.Act.TheVariants.{Sent}
 use Rattle.of_wire.specs.declared.bodies.PacketOut.{PacketOut as Packet}
@@ -20,16 +20,18 @@ use Rattle.outside.specs.State.{state, switch_of, waits_of}
 use Rattle.outside.specs.Conforming.{Conforming}
 use Rattle.outside.specs.InOrder.{InOrder, MessagesSince}
 use Rattle.lego_model.specs.declared.fault.TxnFault.{TxnFault}
-use Rattle.lego_model.specs.declared.fault.TxnFault.TheVariants.{SwitchFault, SwitchBroke, Diverged, Flooded, NoMemory}
+use Rattle.lego_model.specs.declared.fault.TxnFault.TheVariants.{SwitchBroke, Diverged, Flooded, NoMemory}
 use Rattle.lego_model.specs.declared.wait.Awaited.{Awaited}
 use Rattle.lego_model.specs.declared.wait.Refusal.{Refusal}
 use Rattle.lego_model.specs.BarrierWaits.{barrier_sent, flood, next_xid}
-use Rattle.lego_model.specs.Journal.{released}
+use Rattle.lego_model.specs.Journal.{released, losses}
 use Rattle.lego_model.specs.Packets.{Held}
 use Rattle.lego_model.specs.Controller.{events_of}
 use Rattle.lego_model.specs.AfterFault.{after_packets}
 use Rattle.net_txn.specs.LinkSteps.{OnLinks, MakesNoStrayCall}
-use Rattle.net_txn.specs.Causes.{IsCause, IsPlainFault}
+use Rattle.net_txn.specs.Causes.{IsCause, IsPlain}
+use Rattle.net_txn.specs.Losing.{is_among, IsLost, lost_net}
+use Rattle.lego_model.specs.History.{lost_of}
 use Rattle.net_txn.specs.Waits.{Waits, IfFlooded}
 use Rattle.net_txn.specs.Views.{is_viewed}
 use Rattle.net_txn.specs.Arriving.{event_of, net_after}
@@ -72,11 +74,13 @@ pub record PacketInStep {Own : Type 0} (d : ℕ) (packet : Packet) (s : SwitchSt
   pub net_so : now_net ≡ record net { xid = now_net.xid }
   pub queue_so : now_queue ≡ queue ++ events_of d (sent_by_message 0 (PacketOut packet) s)
 
--- The history goes on by steps that release these packets, and each switch moves by those that are sent to it, and by nothing else.
+-- The history goes on by steps that release these packets and lose no switch, and each switch moves by those that are sent to it, and by
+-- nothing else.
 pub record MovesBy {Own : Type 0} (packets : List Held) (old new : Seen Own) : Type 0 where
   pub steps : List WorldStep
   pub history : new.history ≡ old.history ++ steps
   pub released_so : released (journal steps) ≡ packets
+  pub unlost : losses (journal steps) ≡ []
   pub moved : (e : ℕ) → switch_of e (state new) ≡ option_map (after_packets e packets) (switch_of e (state old))
 
 -- It was sent, and then a barrier, and its reply came; what came before it was taken.
@@ -99,20 +103,34 @@ pub record PassesOver {Own : Type 0} (held : Held) (old new : Seen Own) (net now
   pub net_so : now_net ≡ net
   pub queue_so : now_queue ≡ queue
 
-abbrev pub ReleasesOne : {Own : Type 0} → Type 0 → Held → Seen Own → Seen Own → NetState → NetState → List Event → List Event → Type 0
-ReleasesOne Tells held old new net now_net queue now_queue =
-    ((is_viewed held.0 net.views ≡ true) × SendsPacket Tells held old new net now_net queue now_queue) ⊎ PassesOver held old new net now_net queue now_queue
+-- Its switch was lost, before the packet was sent, or behind it: nothing of it becomes an event, and nothing else changes of what the host keeps
+-- but the transaction id.
+pub record LosesPacket {Own : Type 0} (Tells : Type 0) (sent : List Held) (held : Held) (old new : Seen Own) (net now_net : NetState) (queue now_queue : List Event) : Type 0 where
+  pub continues : Continues Tells old new
+  pub viewed : is_viewed held.0 net.views ≡ true
+  pub is_lost : IsLost Tells held.0 sent old new
+  pub net_so : now_net ≡ record (lost_net held.0 net) { xid = now_net.xid }
+  pub queue_so : now_queue ≡ queue
+
+-- what becomes of one packet, with the packets that were sent: itself, or none
+abbrev pub ReleasesOne : {Own : Type 0} → Type 0 → Held → List Held → Seen Own → Seen Own → NetState → NetState → List Event → List Event → Type 0
+ReleasesOne Tells held sent old new net now_net queue now_queue =
+    ((sent ≡ held ∷ []) × (is_viewed held.0 net.views ≡ true) × SendsPacket Tells held old new net now_net queue now_queue)
+    ⊎ ((sent ≡ []) × PassesOver held old new net now_net queue now_queue)
+    ⊎ ((sent ≡ []) × LosesPacket Tells [] held old new net now_net queue now_queue)
+    ⊎ ((sent ≡ held ∷ []) × LosesPacket Tells (held ∷ []) held old new net now_net queue now_queue)
 
 -- all of them, in order
-abbrev pub ReleasesAll : {Own : Type 0} → Type 0 → List Held → Seen Own → Seen Own → NetState → NetState → List Event → List Event → Type 0
-ReleasesAll Tells [] old new net now_net queue now_queue = (new ≡ old) × (now_net ≡ net) × (now_queue ≡ queue)
-ReleasesAll Tells (held ∷ more) old new net now_net queue now_queue =
-    (mid : Seen _) × ((mid_net : NetState) × ((mid_queue : List Event) × (ReleasesOne Tells held old mid net mid_net queue mid_queue × ReleasesAll Tells more mid new mid_net now_net mid_queue now_queue)))
+abbrev pub ReleasesAll : {Own : Type 0} → Type 0 → List Held → List Held → Seen Own → Seen Own → NetState → NetState → List Event → List Event → Type 0
+ReleasesAll Tells [] sent old new net now_net queue now_queue = (sent ≡ []) × (new ≡ old) × (now_net ≡ net) × (now_queue ≡ queue)
+ReleasesAll Tells (held ∷ more) sent old new net now_net queue now_queue =
+    (first : List Held) × ((later : List Held) × ((sent ≡ first ++ later)
+    × ((mid : Seen _) × ((mid_net : NetState) × ((mid_queue : List Event)
+    × (ReleasesOne Tells held first old mid net mid_net queue mid_queue × ReleasesAll Tells more later mid new mid_net now_net mid_queue now_queue))))))
 
 -- the packet made more messages than a wait takes
 abbrev pub IsFloodBy : Held → SwitchState → TxnFault → Type 0
 IsFloodBy held s (Flooded of n) = (of ≡ held.0) × (n ≡ flood) × (flood ≤ length (sent_by_message 0 (PacketOut held.1) s))
-IsFloodBy held s (SwitchFault of) = ⊥
 IsFloodBy held s (SwitchBroke of bytes) = ⊥
 IsFloodBy held s (Diverged of sent got) = ⊥
 IsFloodBy held s NoMemory = ⊥
@@ -129,7 +147,7 @@ pub record BreaksAt {Own : Type 0} (Tells : Type 0) (held : Held) (old new : See
   pub moves : Tells → MovesBy packets old new
   -- its first call leaves a step, unless the world's own memory is wanting
   pub begun : Tells → new.history ≡ old.history → fault ≡ NoMemory
-  pub plain : (s : SwitchState) → Tells → Conforming new → switch_of held.0 (state old) ≡ Some s → waits_of held.0 (state old) ≡ [] → IsPlainFault held.0 fault ⊎ IsFloodBy held s fault
+  pub plain : (s : SwitchState) → Tells → Conforming new → switch_of held.0 (state old) ≡ Some s → waits_of held.0 (state old) ≡ [] → IsPlain fault ⊎ IsFloodBy held s fault
 
 -- ---- The whole
 
@@ -137,10 +155,11 @@ pub record BreaksAt {Own : Type 0} (Tells : Type 0) (held : Held) (old new : See
 abbrev pub committed : ℕ → NetState → NetState
 committed start net = record net { log = take start net.log; held = [] }
 
--- Each packet whose switch is joined was released, and is answered with how many bytes it has.
-pub record Released {Own : Type 0} (Tells : Type 0) (start : ℕ) (old new : Seen Own) (net now_net : NetState) (queue now_queue : List Event) (sent : List (ℕ × ℕ)) : Type 0 where
-  pub all : ReleasesAll Tells net.held old new (committed start net) now_net queue now_queue
-  pub sent_so : sent ≡ map (λ h. (h.0, length h.1.payload)) (filter (λ h. is_viewed h.0 net.views) net.held)
+-- Each packet was released that was sent, and is answered with how many bytes it has.
+pub record Released {Own : Type 0} (Tells : Type 0) (start : ℕ) (old new : Seen Own) (net now_net : NetState) (queue now_queue : List Event) (answer : List (ℕ × ℕ)) : Type 0 where
+  pub sent : List Held
+  pub all : ReleasesAll Tells net.held sent old new (committed start net) now_net queue now_queue
+  pub answer_so : answer ≡ map (λ h. (h.0, length h.1.payload)) sent
 
 -- the release stopped behind some packets
 pub record StopsRelease {Own : Type 0} (Tells : Type 0) (start : ℕ) (old new : Seen Own) (net : NetState) (queue : List Event) (fault : TxnFault) : Type 0 where
@@ -148,10 +167,11 @@ pub record StopsRelease {Own : Type 0} (Tells : Type 0) (start : ℕ) (old new :
   pub broken : Held
   pub rest : List Held
   pub held_so : net.held ≡ front ++ broken ∷ rest
+  pub sent : List Held
   pub mid : Seen Own
   pub mid_net : NetState
   pub mid_queue : List Event
-  pub before : ReleasesAll Tells front old mid (committed start net) mid_net queue mid_queue
+  pub before : ReleasesAll Tells front sent old mid (committed start net) mid_net queue mid_queue
   pub breaks : BreaksAt Tells broken mid new mid_net fault
 
 -- no memory was left before the release, and the transaction was undone
@@ -162,15 +182,19 @@ pub record UndoneForMemory {Own : Type 0} (Tells : Type 0) (start : ℕ) (old ne
   pub queue_so : now_queue ≡ queue
 
 -- Its changes stay, and what was held is released; or the release stopped, and its changes stay all the same; or no memory was left before it,
--- and it was undone. The calls are those of links alone, and in place where the world tells in order and each switch that has a view is joined.
+-- and it was undone. It goes on past the loss of a switch with the others. The calls are those of links alone, and in place where the world tells
+-- in order and each switch that has a view is joined.
 pub record Commits {Own : Type 0} (Tells : Type 0) (start : ℕ) (old new : Seen Own) (net now_net : NetState) (queue now_queue : List Event) (result : Result (List (ℕ × ℕ)) TxnFault) : Type 0 where
   pub continues : Continues Tells old new
   pub links : OnLinks Tells old new
   pub no_strays : Tells → InOrder new → AreJoined net.views (state old) → MakesNoStrayCall old new
   pub read : IsOk result → Tells → MessagesSince old new
+  -- the switches that were lost, in order
+  pub lost : List ℕ
+  pub losses : Tells → AreJoined net.views (state old) → lost_of new ≡ lost_of old ++ lost
   pub moment : now_net.moment ≡ net.moment
   pub room : IsOk result → now_net.room ≡ net.room
-  pub kept : IsOk result → now_net.kept ≡ net.kept
-  pub switches : (e : ℕ) → is_viewed e now_net.views ≡ is_viewed e net.views
+  pub kept : IsOk result → now_net.kept ≡ filter (λ m. not (is_among m.0 lost)) net.kept
+  pub switches : (e : ℕ) → is_viewed e now_net.views ≡ (is_viewed e net.views && not (is_among e lost))
   pub ended : MatchResult result (Released Tells start old new net now_net queue now_queue)
       (λ fault. UndoneForMemory Tells start old new net now_net queue now_queue fault ⊎ StopsRelease Tells start old new net queue fault)

@@ -1,7 +1,7 @@
 -- What is said on the link of a switch, as data: which calls were made, in order, and how the last one failed. One record, `Calls`, says
 -- on both exits of a function which of these it made; what else is known of them (no call for an application, no call out of place, the
 -- cause of a fault) are laws over that list. All of this is our own but for the messages of OpenFlow 1.0.0.
-use Rattle.std.specs.Prelude.{◌≡◌, ℕ, ◌^◌, ◌<◌, ◌≤◌, Bool, false, List, [], ◌∷◌, ◌++◌, length, take, map, ◌⊎◌, Option, Some, None, Result, IsErr, MatchResult}
+use Rattle.std.specs.Prelude.{◌≡◌, ℕ, ◌^◌, ◌<◌, ◌≤◌, Bool, true, false, List, [], ◌∷◌, ◌++◌, length, take, map, ◌⊎◌, Option, Some, None, Result, IsErr, MatchResult}
 use Rattle.std.specs.List.{AllByRecursion, flat_map}
 use Rattle.lego_io.specs.Count.{Rose}
 use Rattle.of_types.specs.Fields.{number_at}
@@ -11,9 +11,12 @@ use Rattle.of_wire.specs.declared.message.Message.TheVariants.{BarrierRequest, B
 use Rattle.of_wire.specs.Reading.{reading_of}
 use Rattle.of_wire.specs.Spelling.{message_bytes}
 use Rattle.outside.specs.declared.step.WorldStep.{WorldStep}
-use Rattle.outside.specs.declared.step.WorldStep.TheVariants.{Acted, SendFailed, RecvFailed}
+use Rattle.outside.specs.declared.step.WorldStep.TheVariants.{Acted}
 use Rattle.outside.specs.Seen.{Counts, Seen, Continues}
-use Rattle.lego_model.specs.declared.fault.TxnFault.{TxnFault}
+use Rattle.outside.specs.State.{state, is_joined}
+use Rattle.outside.specs.Calls.{unsent, unreceived}
+use Rattle.net_txn.specs.declared.halt.Halt.{Halt}
+use Rattle.net_txn.specs.declared.halt.Halt.TheVariants.{Lost, Fault}
 use Rattle.lego_model.specs.declared.fault.TxnFault.TheVariants.{NoMemory}
 use Rattle.lego_model.specs.declared.wait.Awaited.{Awaited}
 use Rattle.lego_model.specs.declared.wait.Refusal.{Refusal}
@@ -27,7 +30,7 @@ use Rattle.net_txn.specs.declared.trouble.Trouble.TheVariants as troubles
 use Rattle.lego_model.specs.UndoFaults.{GoesWithoutStrays, key_refused}
 use Rattle.net_txn.specs.MessageStore.{KeptWhereFit}
 use Rattle.net_txn.specs.Waits.{IsRead, refusal_in, first_of, answer_of}
-use Rattle.net_txn.specs.Undos.{fault_by}
+use Rattle.net_txn.specs.Causes.{halt_by}
 
 -- ---- What is said
 
@@ -45,16 +48,24 @@ pub data Said : Type 0 where
   -- the world's own memory ran out in a call of it, which leaves no step
   LacksMemory : ℕ → Said
 
-abbrev pub steps_in : Said → List WorldStep
-steps_in (Says d bytes) = Acted (Sent d bytes) ∷ []
-steps_in (Hears d bytes) = Acted (Got d bytes) ∷ []
-steps_in (HearsNoise d bytes) = Acted (Got d bytes) ∷ []
-steps_in (CannotSay d) = SendFailed d ∷ []
-steps_in (CannotHear d) = RecvFailed d ∷ []
-steps_in (LacksMemory d) = []
+-- The step of a call, by whether the switch is joined before it: one that is joined is lost where its link fails.
+abbrev pub steps_in : Bool → Said → List WorldStep
+steps_in joined (Says d bytes) = Acted (Sent d bytes) ∷ []
+steps_in joined (Hears d bytes) = Acted (Got d bytes) ∷ []
+steps_in joined (HearsNoise d bytes) = Acted (Got d bytes) ∷ []
+steps_in joined (CannotSay d) = unsent d joined ∷ []
+steps_in joined (CannotHear d) = unreceived d joined ∷ []
+steps_in joined (LacksMemory d) = []
 
-abbrev pub said_steps : List Said → List WorldStep
-said_steps said = flat_map steps_in said
+-- whether the switch is joined behind it
+abbrev pub joined_behind : Bool → Said → Bool
+joined_behind joined (CannotSay d) = false
+joined_behind joined (CannotHear d) = false
+joined_behind joined other = joined
+
+abbrev pub said_steps : Bool → List Said → List WorldStep
+said_steps joined [] = []
+said_steps joined (x ∷ xs) = steps_in joined x ++ said_steps (joined_behind joined x) xs
 
 -- It is of the switch; what is noise is no message; and where a call failed its count rose. That what was heard is a message is said where
 -- it was read (`AreHeard`).
@@ -66,17 +77,27 @@ IsSaid d old new (CannotSay e) = (e ≡ d) × Rose (old.link_faults d) (new.link
 IsSaid d old new (CannotHear e) = (e ≡ d) × Rose (old.link_faults d) (new.link_faults d)
 IsSaid d old new (LacksMemory e) = (e ≡ d) × Rose old.shorts new.shorts × Rose (old.shorts_of d) (new.shorts_of d)
 
+-- a message is sent only where the switch is joined
+abbrev pub IsSaidTo : Bool → Said → Type 0
+IsSaidTo joined (Says d bytes) = joined ≡ true
+IsSaidTo joined other = Unit {0}
+
+abbrev pub AreSaidTo : Bool → List Said → Type 0
+AreSaidTo joined [] = Unit {0}
+AreSaidTo joined (x ∷ xs) = IsSaidTo joined x × AreSaidTo (joined_behind joined x) xs
+
 -- Exactly this was said on the link of the switch: in a world that tells, the history grew by its steps.
 pub record Calls {Own : Type 0} (Tells : Type 0) (d : ℕ) (said : List Said) (old new : Seen Own) : Type 0 where
   pub continues : Continues Tells old new
   pub each : AllByRecursion (IsSaid d old.counts new.counts) said
-  pub told : Tells → new.history ≡ old.history ++ said_steps said
+  pub told : Tells → new.history ≡ old.history ++ said_steps (is_joined d (state old)) said
+  pub joined : Tells → AreSaidTo (is_joined d (state old)) said
 
 -- Calls of the link of one switch alone were made, each in place where the world tells in order and the switch is joined.
 pub record Speaks {Own : Type 0} (Tells : Type 0) (d : ℕ) (old new : Seen Own) : Type 0 where
   pub said : List Said
   pub calls : Calls Tells d said old new
-  pub goes : GoesWithoutStrays d (said_steps said)
+  pub goes : GoesWithoutStrays d (said_steps true said)
 
 -- ---- One call
 
@@ -166,7 +187,7 @@ IsBreakBehind sent storage bytes trouble buf = IsUntreated storage trouble
 
 -- behind so many messages
 abbrev pub IsBreak : List (ℕ × Key) → Storage → ℕ → Option (List ℕ) → Trouble → List ℕ → Type 0
-IsBreak sent storage n (Some bytes) trouble buf = IsBreakBehind sent storage bytes trouble buf
+IsBreak sent storage n (Some bytes) trouble buf = IsRead bytes × IsBreakBehind sent storage bytes trouble buf
 IsBreak sent storage n None troubles.Flooded buf = n ≡ flood
 IsBreak sent storage n None trouble buf = IsOfHearing trouble
 
@@ -244,25 +265,30 @@ Exchanges Tells a frames storage sent old new kept now_kept buf result =
 
 -- ---- The same, with a fault that takes memory
 
+-- A link that failed loses the switch. Any other trouble is its fault, or want of memory for that.
+abbrev pub IsHaltBy : ℕ → Trouble → List ℕ → Halt → Type 0
+IsHaltBy d troubles.Link buf halt = halt ≡ Lost
+IsHaltBy d trouble buf halt = (halt ≡ halt_by d trouble buf) ⊎ (halt ≡ Fault NoMemory)
+
 -- one message could not be sent
-pub record SaysNot {Own : Type 0} (Tells : Type 0) (d : ℕ) (old new : Seen Own) (fault : TxnFault) : Type 0 where
+pub record SaysNot {Own : Type 0} (Tells : Type 0) (d : ℕ) (old new : Seen Own) (halt : Halt) : Type 0 where
   pub trouble : Trouble
   pub buf : List ℕ
   pub why : IsOfLink trouble
   pub calls : Calls Tells d (unsaid d trouble) old new
-  pub fault_so : (fault ≡ fault_by d trouble buf) ⊎ (fault ≡ NoMemory)
+  pub halt_so : IsHaltBy d trouble buf halt
 
-abbrev pub SaysTo : {Own T : Type 0} → Type 0 → ℕ → List ℕ → Seen Own → Seen Own → Result T TxnFault → Type 0
+abbrev pub SaysTo : {Own T : Type 0} → Type 0 → ℕ → List ℕ → Seen Own → Seen Own → Result T Halt → Type 0
 SaysTo Tells d frame old new result = MatchResult result (λ x. Calls Tells d (Says d frame ∷ []) old new) (SaysNot Tells d old new)
 
--- the trouble's fault, or want of memory for it
-pub record BreaksBy {Own : Type 0} (Tells : Type 0) (a : Awaited) (frames : List (List ℕ)) (old new : Seen Own) (kept now_kept : List (ℕ × List ℕ)) (fault : TxnFault) : Type 0 where
+-- so by the trouble
+pub record BreaksBy {Own : Type 0} (Tells : Type 0) (a : Awaited) (frames : List (List ℕ)) (old new : Seen Own) (kept now_kept : List (ℕ × List ℕ)) (halt : Halt) : Type 0 where
   pub trouble : Trouble
   pub buf : List ℕ
   pub breaks : Breaks Tells a frames Growing [] old new kept now_kept buf trouble
-  pub fault_so : (fault ≡ fault_by a.dpid trouble buf) ⊎ (fault ≡ NoMemory)
+  pub halt_so : IsHaltBy a.dpid trouble buf halt
 
 -- Messages are sent, then a barrier, and its reply is awaited.
-abbrev pub Talks : {Own : Type 0} → Type 0 → Awaited → List (List ℕ) → Seen Own → Seen Own → List (ℕ × List ℕ) → List (ℕ × List ℕ) → Result (Option Refusal) TxnFault → Type 0
+abbrev pub Talks : {Own : Type 0} → Type 0 → Awaited → List (List ℕ) → Seen Own → Seen Own → List (ℕ × List ℕ) → List (ℕ × List ℕ) → Result (Option Refusal) Halt → Type 0
 Talks Tells a first old new kept now_kept result =
     MatchResult result (Replied Tells a (first ++ barrier_of a ∷ []) Growing [] old new kept now_kept) (BreaksBy Tells a (first ++ barrier_of a ∷ []) old new kept now_kept)

@@ -7,7 +7,7 @@ use Rattle.of_wire.specs.Reading.{reading_of}
 use Rattle.outside.specs.declared.step.WorldStep.{WorldStep}
 use Rattle.outside.specs.Seen.{Seen, Continues}
 use Rattle.lego_model.specs.declared.fault.TxnFault.{TxnFault}
-use Rattle.lego_model.specs.declared.fault.TxnFault.TheVariants.{SwitchFault, SwitchBroke, Diverged, Flooded, NoMemory}
+use Rattle.lego_model.specs.declared.fault.TxnFault.TheVariants.{SwitchBroke, Diverged, Flooded, NoMemory}
 use Rattle.lego_model.specs.declared.wait.Awaited.{Awaited}
 use Rattle.lego_model.specs.declared.wait.Refusal.{Refusal}
 use Rattle.lego_model.specs.declared.wait.Heard.{Heard}
@@ -60,7 +60,6 @@ pub record Floods {Own : Type 0} (Tells : Type 0) (a : Awaited) (front : List Wo
 -- of a fault that may be Flooded
 abbrev pub IfFlooded : {Own : Type 0} → Type 0 → Awaited → List WorldStep → Seen Own → Seen Own → TxnFault → Type 0
 IfFlooded Tells a front old new (Flooded of n) = Floods Tells a front old new
-IfFlooded Tells a front old new (SwitchFault of) = Unit {0}
 IfFlooded Tells a front old new (SwitchBroke of bytes) = Unit {0}
 IfFlooded Tells a front old new (Diverged of sent got) = Unit {0}
 IfFlooded Tells a front old new NoMemory = Unit {0}

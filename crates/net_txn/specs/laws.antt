@@ -1,4 +1,5 @@
 pub mod WaitLaws
+pub mod WaitMoveLaws
 pub mod SizeLaws
 pub mod EchoLaws
 pub mod ViewLaws
@@ -18,8 +19,12 @@ pub mod ChangeFaultLaws
 pub mod ReachedLaws
 pub mod ConsequenceLaws
 pub mod SaidLaws
+pub mod HaltLaws
 pub mod ExchangeLaws
 pub mod TalkLaws
+pub mod LostLaws
+pub mod ArrivalLaws
+pub mod LostPartLaws
 pub mod UndoWaitLaws
 pub mod ProgressLaws
 pub mod PartOrderLaws
@@ -59,3 +64,5 @@ pub mod PacketStepLaws
 pub mod PacketReleaseLaws
 pub mod ReleaseStepLaws
 pub mod ReleaseLaws
+pub mod LoseAllLaws
+pub mod OutLaws

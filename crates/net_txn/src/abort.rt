@@ -20,7 +20,7 @@ fn place_in(log: &[Logged], start: usize) -> usize
 
 impl Net {
     /// Undoes what was logged from a position on, newest first, and forgets it; what is held is dropped. It goes on past
-    /// the fault of a switch with the others, and answers the first one. It takes no memory of its own.
+    /// the fault or the loss of a switch with the others, and answers the first fault. It takes no memory of its own.
     pub(crate) fn undo_from<W: World>(
         &mut self,
         world: &mut W,
@@ -37,6 +37,7 @@ impl Net {
             &mut self.buf,
             &mut self.kept,
             &mut self.rooms,
+            &mut self.ports,
             &mut self.views,
             &mut self.log,
             from,

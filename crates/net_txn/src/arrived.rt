@@ -8,13 +8,14 @@ ghost use Rattle.of_wire.specs.Spelling.{message_bytes};
 ghost use Rattle.of_wire.specs.Grammar.{IsMessage};
 ghost use Rattle.flow_table.specs.View.{plains};
 ghost use Rattle.outside.specs.declared.step.WorldStep.TheVariants.{Acted};
-ghost use Rattle.net_txn.specs.Causes.{IsLinkCause};
+ghost use Rattle.net_txn.specs.Losing.{SaysHalt};
 ghost use Rattle.net_txn.specs.Views.{rows_at};
 ghost use Rattle.net_txn.specs.Said.{Speaks};
-ghost use Rattle.net_txn.specs.Arriving.{event_of, net_after, Becomes, Arrives};
+ghost use Rattle.net_txn.specs.Arriving.{event_of, net_after, Becomes, ArrivalHalts, TakesIn, Arrives};
 
 use crate::exchange::say;
-use crate::message_event::{change_known, error_event, event_with, removed_key, tells};
+use crate::halt::Halt;
+use crate::message_event::{error_event, event_with, removed_key, tells};
 use crate::net::Net;
 use crate::views::remove_in;
 use app_frames::{Event, EventKind};
@@ -42,10 +43,10 @@ fn answer_echo<W: World>(
     dpid: Dpid,
     xid: Xid,
     payload: &ByteList,
-) -> Result<(), TxnFault>
+) -> Result<(), Halt>
     requires { IsMessage (messages.EchoRequest payload.now) }
     ensures speaks { Speaks W.Tells dpid (W.seen world.old) (W.seen world.new) }
-    ensures link { IfErr result (IsLinkCause dpid (W.seen world.old) (W.seen world.new)) }
+    ensures halts { IfErr result (SaysHalt W.Tells dpid (W.seen world.old) (W.seen world.new)) }
     ensures told { W.Tells → OnOk result ((W.seen world.new).history
         ≡ (W.seen world.old).history ++ Acted (Sent dpid (message_bytes xid (messages.EchoReply payload.now))) ∷ []) }
 {
@@ -101,7 +102,7 @@ impl Net {
             }
             Message::PortStatus(status) => {
                 let event = event_with(self.alloc, EventKind::PortStatus, dpid, message)?;
-                change_known(self.alloc, &mut self.ports, dpid, status)?;
+                self.ports.change(self.alloc, dpid, status)?;
                 Ok(Some(event))
             }
             _ => Ok(None),
@@ -115,12 +116,12 @@ impl Net {
         dpid: Dpid,
         xid: Xid,
         message: &Message,
-    ) -> Result<Option<Event>, TxnFault>
+    ) -> Result<Option<Event>, Halt>
         requires { IsMessage message.now }
         ensures ok { IfOk result (Becomes W.Tells dpid xid message.now (W.seen world.old) (W.seen world.new) self.old self.new) }
         ensures err { OnErr result (self.new ≡ self.old) }
         ensures speaks { Speaks W.Tells dpid (W.seen world.old) (W.seen world.new) }
-        ensures link { IfErr result (IsLinkCause dpid (W.seen world.old) (W.seen world.new)) }
+        ensures halts { IfErr result (ArrivalHalts W.Tells dpid message.now (W.seen world.old) (W.seen world.new)) }
     {
         match message {
             Message::EchoRequest { payload } => {
@@ -131,8 +132,29 @@ impl Net {
         }
     }
 
-    /// Takes in a message that came from a switch; gives its event, where it is one. `SwitchBroke` exactly where it is
-    /// no message.
+    /// Takes in a message that was read, and gives its event, where it is one; the switch is lost where its link fails.
+    fn take_or_lose<W: World>(
+        &mut self,
+        world: &mut W,
+        dpid: Dpid,
+        xid: Xid,
+        message: &Message,
+    ) -> Result<Option<Event>, TxnFault>
+        requires { IsMessage message.now }
+        ensures { TakesIn W.Tells dpid xid message.now (W.seen world.old) (W.seen world.new) self.old self.new result }
+    {
+        match self.take_in(world, dpid, xid, message) {
+            Ok(event) => Ok(event),
+            Err(Halt::Lost) => {
+                self.lose(dpid);
+                Ok(None)
+            }
+            Err(Halt::Fault(fault)) => Err(fault),
+        }
+    }
+
+    /// Takes in a message that came from a switch; gives its event, where it is one. There is none where the switch is lost
+    /// meanwhile. `SwitchBroke` exactly where it is no message.
     pub fn arrived<W: World>(
         &mut self,
         world: &mut W,
@@ -143,7 +165,7 @@ impl Net {
         ensures { Arrives W.Tells dpid frame.now (W.seen world.old) (W.seen world.new) self.old self.new result }
     {
         match decode(self.alloc, frame) {
-            Ok(envelope) => self.take_in(world, dpid, envelope.xid, &envelope.message),
+            Ok(envelope) => { self.take_or_lose(world, dpid, envelope.xid, &envelope.message) }
             Err(WireFault::NoMemory) => Err(TxnFault::NoMemory),
             Err(_) => {
                 let bytes = ByteList::from_slice(self.alloc, frame)?;

@@ -4,12 +4,14 @@ ghost use Rattle.std.specs.Prelude.{◌≡◌, ◌⊎◌, IfErr, OnOk, OnErr, Ma
 ghost use Rattle.of_wire.specs.declared.message.Message.TheVariants as messages;
 ghost use Rattle.of_wire.specs.Grammar.{IsMessage};
 ghost use Rattle.net_txn.specs.Said.{Speaks};
-ghost use Rattle.net_txn.specs.Causes.{IsCause};
-ghost use Rattle.net_txn.specs.Changes.{Asked, Unsent, InFlight, log_in_flight, IfGivenUp, Changes};
-ghost use Rattle.net_txn.specs.Agreement.{Reaches, Steps};
+ghost use Rattle.net_txn.specs.Causes.{IsHaltCause};
+ghost use Rattle.net_txn.specs.Answering.{Asked, IfGivenUp};
+ghost use Rattle.net_txn.specs.Making.{StaysBut, Halts, forgets, log_halted, Makes};
+ghost use Rattle.net_txn.specs.Changes.{Changes};
 ghost use Rattle.net_txn.specs.Net.{logged_by, with_logged};
 
 use crate::exchange::ask;
+use crate::halt::Halt;
 use crate::host::{HostAnswer, answer_bytes};
 use crate::logged::Logged;
 use crate::net::{Net, await_from, following};
@@ -34,26 +36,29 @@ fn push_logged(log: &mut Vec<Logged>, entry: Option<Logged>) -> Result<(), Alloc
     Ok(())
 }
 
+/// Tells whether what undoes a change is forgotten: where its switch was lost, and where a fault came and a row has its
+/// key already.
+fn is_forgotten(known: bool, made: &Result<Answer, Halt>) -> bool
+    ensures { result ≡ forgets known made.now }
+{
+    match made {
+        Ok(_) => false,
+        Err(Halt::Lost) => true,
+        Err(Halt::Fault(_)) => known,
+    }
+}
+
 impl Net {
-    /// Sends a change that the switch must answer, and takes its answer. Where a fault comes since it may have been sent,
-    /// what undoes it stays logged.
-    fn make<W: World>(
-        &mut self,
-        world: &mut W,
-        dpid: Dpid,
-        flow: FlowMod,
-    ) -> Result<Answer, TxnFault>
+    /// Sends a change that the switch must answer, and takes its answer. Where it halts since it may have been sent, what
+    /// undoes it stays logged.
+    fn make<W: World>(&mut self, world: &mut W, dpid: Dpid, flow: FlowMod) -> Result<Answer, Halt>
         requires { IsMessage (messages.FlowMod flow) }
         ensures result { MatchResult result (Asked W.Tells dpid flow (W.seen world.old) (W.seen world.new) self.old self.new)
-            (λ f. Unsent (W.seen world.old) (W.seen world.new) self.old self.new
-            ⊎ InFlight W.Tells dpid flow (with_logged (logged_by dpid flow) self.old.log) (W.seen world.old) (W.seen world.new) self.old self.new f) }
+            (Halts W.Tells dpid flow (with_logged (logged_by dpid flow) self.old.log) (W.seen world.old) (W.seen world.new) self.old self.new) }
         ensures speaks { Speaks W.Tells dpid (W.seen world.old) (W.seen world.new) }
-        ensures cause { IfErr result (IsCause W.Tells dpid (W.seen world.old) (W.seen world.new)) }
+        ensures cause { IfErr result (IsHaltCause W.Tells dpid (W.seen world.old) (W.seen world.new)) }
         ensures flooded { IfErr result (IfGivenUp W.Tells dpid flow (W.seen world.old) (W.seen world.new) self.old) }
-        ensures ports { self.new.ports ≡ self.old.ports }
-        ensures moment { self.new.moment ≡ self.old.moment }
-        ensures room { self.new.room ≡ self.old.room }
-        ensures held { self.new.held ≡ self.old.held }
+        ensures stays { StaysBut self.old self.new }
     {
         let awaited = await_from(dpid, self.xid);
         self.xid = following(awaited.barrier);
@@ -82,50 +87,60 @@ impl Net {
     }
 
     /// Makes a change that the switch must answer. Where a fault comes, what undoes it stays logged, unless a row has its
-    /// key already: such a change the switch refuses, and its inverse would remove what was there before.
+    /// key already: such a change the switch refuses, and its inverse would remove what was there before. Where the switch
+    /// is lost, nothing of it stays logged.
     fn make_or_forget<W: World>(
+        &mut self,
+        world: &mut W,
+        dpid: Dpid,
+        flow: FlowMod,
+    ) -> Result<Answer, Halt>
+        requires { IsMessage (messages.FlowMod flow) }
+        ensures result { MatchResult result (Asked W.Tells dpid flow (W.seen world.old) (W.seen world.new) self.old self.new)
+            (λ halt. Halts W.Tells dpid flow (log_halted dpid flow self.old halt) (W.seen world.old) (W.seen world.new) self.old self.new halt) }
+        ensures speaks { Speaks W.Tells dpid (W.seen world.old) (W.seen world.new) }
+        ensures cause { IfErr result (IsHaltCause W.Tells dpid (W.seen world.old) (W.seen world.new)) }
+        ensures flooded { IfErr result (IfGivenUp W.Tells dpid flow (W.seen world.old) (W.seen world.new) self.old) }
+        ensures stays { StaysBut self.old self.new }
+    {
+        let known = is_row(&self.views, dpid, &key_of(&flow));
+        let before = self.log.len();
+        let made = self.make(world, dpid, flow);
+        if is_forgotten(known, &made) {
+            self.log.truncate(before);
+        }
+        made
+    }
+
+    /// Makes a change that the switch must answer; where the switch is lost meanwhile, it is answered by `Unknown`.
+    fn make_or_lose<W: World>(
         &mut self,
         world: &mut W,
         dpid: Dpid,
         flow: FlowMod,
     ) -> Result<Answer, TxnFault>
         requires { IsMessage (messages.FlowMod flow) }
-        ensures result { MatchResult result (Asked W.Tells dpid flow (W.seen world.old) (W.seen world.new) self.old self.new)
-            (λ f. Unsent (W.seen world.old) (W.seen world.new) self.old self.new
-            ⊎ InFlight W.Tells dpid flow (log_in_flight dpid flow self.old.views self.old.log) (W.seen world.old) (W.seen world.new) self.old self.new f) }
-        ensures speaks { Speaks W.Tells dpid (W.seen world.old) (W.seen world.new) }
-        ensures cause { IfErr result (IsCause W.Tells dpid (W.seen world.old) (W.seen world.new)) }
-        ensures flooded { IfErr result (IfGivenUp W.Tells dpid flow (W.seen world.old) (W.seen world.new) self.old) }
-        ensures ports { self.new.ports ≡ self.old.ports }
-        ensures moment { self.new.moment ≡ self.old.moment }
-        ensures room { self.new.room ≡ self.old.room }
-        ensures held { self.new.held ≡ self.old.held }
+        ensures { Makes W.Tells dpid flow (W.seen world.old) (W.seen world.new) self.old self.new result }
     {
-        let known = is_row(&self.views, dpid, &key_of(&flow));
-        let before = self.log.len();
-        let made = self.make(world, dpid, flow);
-        if known && made.is_err() {
-            self.log.truncate(before);
+        match self.make_or_forget(world, dpid, flow) {
+            Ok(answer) => Ok(answer),
+            Err(Halt::Fault(fault)) => Err(fault),
+            Err(Halt::Lost) => {
+                self.lose(dpid);
+                Ok(Answer::Unknown)
+            }
         }
-        made
     }
 
     /// Answers one message of an application for a switch: by the host's own tests, else by the switch behind a
-    /// barrier.
+    /// barrier, or by `Unknown` where the switch is lost meanwhile.
     pub(crate) fn change<W: World>(
         &mut self,
         world: &mut W,
         dpid: Dpid,
         bytes: &[u8],
     ) -> Result<Answer, TxnFault>
-        ensures changes { Changes W.Tells dpid bytes.now (W.seen world.old) (W.seen world.new) self.old self.new result }
-
-        // What the switch answered reached it at once.
-        ensures reached { Reaches W.Tells dpid bytes.now (W.seen world.old) (W.seen world.new) self.old result }
-
-        // Where the world keeps its word, nothing of the switch waited, and view and table agreed, they take the step together; a
-        // fault is one of the switch's link, or of memory.
-        ensures in_step { Steps W.Tells dpid bytes.now (W.seen world.old) (W.seen world.new) self.old self.new result }
+        ensures { Changes W.Tells dpid bytes.now (W.seen world.old) (W.seen world.new) self.old self.new result }
     {
         let Some(view) = find(&self.views, dpid) else {
             return Ok(Answer::Unknown);
@@ -136,7 +151,7 @@ impl Net {
                 self.hold(dpid, packet)?;
                 Ok(Answer::Fine)
             }
-            HostAnswer::Asks(flow) => self.make_or_forget(world, dpid, flow),
+            HostAnswer::Asks(flow) => self.make_or_lose(world, dpid, flow),
         }
     }
 }

@@ -1,12 +1,13 @@
 //! A message, a barrier behind it, and what the switch answers.
 
-ghost use Rattle.std.specs.Prelude.{◌≡◌, ◌⊎◌, ◌≤◌, [], ◌∷◌, length, IsOk, IfOk};
+ghost use Rattle.std.specs.Prelude.{◌≡◌, ◌≤◌, [], ◌∷◌, length, IsOk, IfOk};
 ghost use Rattle.of_wire.specs.Reading.{reading_of};
 ghost use Rattle.outside.specs.Calls.{most_message};
-ghost use Rattle.net_txn.specs.Undos.{fault_by};
-ghost use Rattle.net_txn.specs.Said.{barrier_of, SaysTo, Exchanges, Talks};
+ghost use Rattle.net_txn.specs.Causes.{halt_by};
+ghost use Rattle.net_txn.specs.Said.{barrier_of, IsHaltBy, SaysTo, Exchanges, Talks};
 ghost use Rattle.net_txn.specs.declared.queue.Storage.TheVariants.{Growing};
 
+use crate::halt::Halt;
 use crate::logged::inverse_of;
 use crate::queue::{MessageQueue, Storage};
 use crate::room::front;
@@ -17,38 +18,34 @@ use of_types::{ByteList, Dpid};
 use outside::World;
 use std::alloc::{AllocError, Global};
 
-/// Returns the fault that a switch's trouble is, with copies of its bytes.
-fn fault_with(
-    alloc: Global,
-    dpid: Dpid,
-    trouble: Trouble,
-    buf: &[u8],
-) -> Result<TxnFault, AllocError>
-    ensures { IfOk result (λ fault. fault ≡ fault_by dpid trouble buf.now) }
+/// Tells how calls end by a switch's trouble, with copies of its bytes.
+fn halt_with(alloc: Global, dpid: Dpid, trouble: Trouble, buf: &[u8]) -> Result<Halt, AllocError>
+    ensures halt { IfOk result (λ halt. halt ≡ halt_by dpid trouble buf.now) }
+    ensures link { trouble ≡ Trouble.Link → IsOk result }
 {
     match trouble {
-        Trouble::Link => Ok(TxnFault::SwitchFault(dpid)),
+        Trouble::Link => Ok(Halt::Lost),
         Trouble::Broke(len) => {
             let bytes = ByteList::from_slice(alloc, front(buf, len))?;
-            Ok(TxnFault::SwitchBroke(dpid, bytes))
+            Ok(Halt::Fault(TxnFault::SwitchBroke(dpid, bytes)))
         }
         Trouble::Refused(key, xid, len) => {
             let inverse = ByteList::from_slice(alloc, &inverse_of(alloc, &key, xid))?;
             let bytes = ByteList::from_slice(alloc, front(buf, len))?;
-            Ok(TxnFault::Diverged(dpid, inverse, bytes))
+            Ok(Halt::Fault(TxnFault::Diverged(dpid, inverse, bytes)))
         }
-        Trouble::Flooded => Ok(TxnFault::Flooded(dpid, FLOOD)),
-        Trouble::Short | Trouble::Full => Ok(TxnFault::NoMemory),
+        Trouble::Flooded => Ok(Halt::Fault(TxnFault::Flooded(dpid, FLOOD))),
+        Trouble::Short | Trouble::Full => Ok(Halt::Fault(TxnFault::NoMemory)),
     }
 }
 
-/// Returns the fault that a switch's trouble is, or `NoMemory` where none is left for its bytes.
-fn fault_of(alloc: Global, dpid: Dpid, trouble: Trouble, buf: &[u8]) -> TxnFault
-    ensures { (result ≡ fault_by dpid trouble buf.now) ⊎ (result ≡ TxnFault.NoMemory) }
+/// Tells how calls end by a switch's trouble, or by want of memory where none is left for its bytes.
+fn halt_of(alloc: Global, dpid: Dpid, trouble: Trouble, buf: &[u8]) -> Halt
+    ensures { IsHaltBy dpid trouble buf.now result }
 {
-    match fault_with(alloc, dpid, trouble, buf) {
-        Ok(fault) => fault,
-        Err(_) => TxnFault::NoMemory,
+    match halt_with(alloc, dpid, trouble, buf) {
+        Ok(halt) => halt,
+        Err(_) => Halt::Fault(TxnFault::NoMemory),
     }
 }
 
@@ -58,13 +55,13 @@ pub(crate) fn say<W: World>(
     alloc: Global,
     dpid: Dpid,
     frame: &[u8],
-) -> Result<(), TxnFault>
+) -> Result<(), Halt>
     requires { IsOk (reading_of frame.now) }
     ensures { SaysTo W.Tells dpid frame.now (W.seen world.old) (W.seen world.new) result }
 {
     match send(world, dpid, frame) {
         Ok(()) => Ok(()),
-        Err(trouble) => Err(fault_of(alloc, dpid, trouble, &[])),
+        Err(trouble) => Err(halt_of(alloc, dpid, trouble, &[])),
     }
 }
 
@@ -92,13 +89,30 @@ pub(crate) fn ask<W: World>(
     kept: &mut MessageQueue,
     awaited: &Awaited,
     frame: &[u8],
-) -> Result<Option<Refusal>, TxnFault>
+) -> Result<Option<Refusal>, Halt>
     requires room { most_message ≤ length buf.old }
     requires read { IsOk (reading_of frame.now) }
     ensures { Talks W.Tells awaited.now (frame.now ∷ []) (W.seen world.old) (W.seen world.new) kept.old kept.new result }
 {
     match exchange(world, buf, kept, awaited, frame) {
         Ok(answer) => Ok(answer),
-        Err(trouble) => Err(fault_of(alloc, awaited.dpid, trouble, buf)),
+        Err(trouble) => Err(halt_of(alloc, awaited.dpid, trouble, buf)),
+    }
+}
+
+/// Sends a barrier, and waits for its reply; answers the first refusal that came before it.
+pub(crate) fn pass<W: World>(
+    world: &mut W,
+    alloc: Global,
+    buf: &mut [u8],
+    kept: &mut MessageQueue,
+    awaited: &Awaited,
+) -> Result<Option<Refusal>, Halt>
+    requires { most_message ≤ length buf.old }
+    ensures { Talks W.Tells awaited.now [] (W.seen world.old) (W.seen world.new) kept.old kept.new result }
+{
+    match await_barrier(world, buf, kept, awaited, Storage::Growing, &[]) {
+        Ok(answer) => Ok(answer),
+        Err(trouble) => Err(halt_of(alloc, awaited.dpid, trouble, buf)),
     }
 }

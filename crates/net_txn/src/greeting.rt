@@ -10,8 +10,9 @@ ghost use Rattle.net_txn.specs.Joining.{delete_all};
 ghost use Rattle.net_txn.specs.Said.{Talks};
 
 use crate::exchange::{ask, say};
+use crate::halt::Halt;
 use crate::queue::MessageQueue;
-use lego_model::{Awaited, Refusal, TxnFault};
+use lego_model::{Awaited, Refusal};
 use of_action::ActionList;
 use of_match::Match;
 use of_types::{ByteList, Xid, flows, ports};
@@ -70,7 +71,7 @@ pub(crate) fn greet<W: World>(
     awaited: &Awaited,
     first: &[u8],
     second: &[u8],
-) -> Result<Option<Refusal>, TxnFault>
+) -> Result<Option<Refusal>, Halt>
     requires room { most_message ≤ length buf.old }
     requires first { IsOk (reading_of first.now) }
     requires second { IsOk (reading_of second.now) }

@@ -1,6 +1,7 @@
 //! A switch that joins.
 
 ghost use Rattle.std.specs.Prelude.{◌≡◌, ◌<◌, ◌^◌, ◌++◌, [], ◌∷◌, None, IfOk, IfErr, OnOk, OnErr};
+ghost use Rattle.lego_model.specs.History.{lost_of};
 ghost use Rattle.outside.specs.Seen.{Continues};
 ghost use Rattle.outside.specs.InOrder.{MessagesSince};
 ghost use Rattle.flow_table.specs.View.{plains};
@@ -10,11 +11,13 @@ ghost use Rattle.net_txn.specs.Said.{Speaks};
 ghost use Rattle.net_txn.specs.Causes.{IsCause};
 ghost use Rattle.net_txn.specs.Waits.{IfFlooded};
 ghost use Rattle.net_txn.specs.Views.{rows_at};
-ghost use Rattle.net_txn.specs.Joining.{greeted_from, greeting, with_view, IsViewPlace, Joins, DoesNotJoin};
-ghost use Rattle.net_txn.specs.JoiningSteps.{JoinSteps};
+ghost use Rattle.net_txn.specs.Joining.{greeted_from, greeting, with_view, IsViewPlace, Joins, JoinsOrNot, DoesNotJoin};
+ghost use Rattle.net_txn.specs.JoiningSteps.{JoinHalts, JoinSteps};
 
 use crate::greeting::{configuring, emptying, greet};
+use crate::halt::Halt;
 use crate::net::{Net, following};
+use crate::port_table::PortTable;
 use crate::ports::KnownPorts;
 use flow_table::{TableView, ViewList};
 use lego_model::{Awaited, TxnFault};
@@ -77,16 +80,17 @@ fn known_ports(alloc: Global, dpid: Dpid, ports: &PortList) -> Result<KnownPorts
 fn admit(
     alloc: Global,
     views: &mut Vec<TableView>,
-    ports: &mut Vec<KnownPorts>,
+    ports: &mut PortTable,
     known: KnownPorts,
 ) -> Result<(), AllocError>
     ensures views { OnOk result (plains views.new.items ≡ with_view known.dpid (plains views.old.items)) }
-    ensures ports { OnOk result (ports.new.items ≡ ports.old.items ++ known ∷ []) }
+    ensures ports { OnOk result (ports.new.known ≡ ports.old.known ++ known ∷ []) }
     ensures views_err { OnErr result (plains views.new.items ≡ plains views.old.items) }
-    ensures ports_err { OnErr result (ports.new.items ≡ ports.old.items) }
+    ensures ports_err { OnErr result (ports.new.known ≡ ports.old.known) }
+    ensures left { ports.new.left ≡ ports.old.left }
 {
     let dpid = known.dpid;
-    let before = ports.len();
+    let before = ports.known().len();
     ports.push(known)?;
     match put_view(alloc, views, dpid) {
         Ok(()) => Ok(()),
@@ -104,16 +108,11 @@ impl Net {
         world: &mut W,
         dpid: Dpid,
         features: &FeaturesReply,
-    ) -> Result<(), TxnFault>
+    ) -> Result<(), Halt>
         ensures joins { OnOk result (Joins W.Tells dpid features.now.ports (W.seen world.old) (W.seen world.new) self.old self.new) }
-        ensures err { OnErr result (DoesNotJoin dpid self.old self.new) }
+        ensures halts { IfErr result (JoinHalts W.Tells dpid (W.seen world.old) (W.seen world.new) self.old self.new) }
         ensures speaks { Speaks W.Tells dpid (W.seen world.old) (W.seen world.new) }
-        ensures cause { IfErr result (IsCause W.Tells dpid (W.seen world.old) (W.seen world.new)) }
-        ensures flooded { IfErr result (IfFlooded W.Tells (greeted_from dpid self.old.xid) (greeting dpid self.old.xid) (W.seen world.old) (W.seen world.new)) }
-        ensures log { self.new.log ≡ self.old.log }
-        ensures moment { self.new.moment ≡ self.old.moment }
-        ensures room { self.new.room ≡ self.old.room }
-        ensures held { self.new.held ≡ self.old.held }
+        ensures stays { self.new ≡ record self.old { views = self.new.views; ports = self.new.ports; xid = self.new.xid; kept = self.new.kept } }
         ensures xid { self.old.xid < 2 ^ 32 }
     {
         let first = self.xid;
@@ -122,7 +121,7 @@ impl Net {
         let emptying = emptying(self.alloc, first)?;
         let known = known_ports(self.alloc, dpid, &features.ports)?;
         self.views.reserve(1)?;
-        self.ports.reserve(1)?;
+        self.ports.reserve()?;
         greet(
             world,
             self.alloc,
@@ -136,15 +135,16 @@ impl Net {
         Ok(())
     }
 
-    /// Joins a switch with these features: its table is emptied and its configuration set, behind a barrier.
+    /// Joins a switch with these features: its table is emptied and its configuration set, behind a barrier. Answers whether it
+    /// is joined: it is not where it was lost meanwhile, and then it has no Leave event.
     pub fn joined<W: World>(
         &mut self,
         world: &mut W,
         dpid: Dpid,
         features: &FeaturesReply,
-    ) -> Result<(), TxnFault>
+    ) -> Result<bool, TxnFault>
         requires { rows_at dpid self.old.views ≡ None }
-        ensures joins { OnOk result (Joins W.Tells dpid features.now.ports (W.seen world.old) (W.seen world.new) self.old self.new) }
+        ensures joins { IfOk result (λ joined. JoinsOrNot W.Tells dpid features.now.ports joined (W.seen world.old) (W.seen world.new) self.old self.new) }
         ensures err { OnErr result (DoesNotJoin dpid self.old self.new) }
         ensures continues { Continues W.Tells (W.seen world.old) (W.seen world.new) }
         ensures links { OnLinks W.Tells (W.seen world.old) (W.seen world.new) }
@@ -160,11 +160,22 @@ impl Net {
         ensures moment { self.new.moment ≡ self.old.moment }
         ensures room { self.new.room ≡ self.old.room }
         ensures held { self.new.held ≡ self.old.held }
+        ensures left { self.new.left ≡ self.old.left }
+
+        // A fault loses no switch.
+        ensures losses { OnErr result (W.Tells → lost_of (W.seen world.new) ≡ lost_of (W.seen world.old)) }
 
         // Where the world keeps its word and nothing of the switch waited, the switch is empty, as its view is; a fault is
-        // one of the switch's link, or of memory.
+        // one of memory.
         ensures in_step { JoinSteps W.Tells dpid (W.seen world.old) (W.seen world.new) self.old self.new result }
     {
-        self.join(world, dpid, features)
+        match self.join(world, dpid, features) {
+            Ok(()) => Ok(true),
+            Err(Halt::Lost) => {
+                self.kept.forget(dpid);
+                Ok(false)
+            }
+            Err(Halt::Fault(fault)) => Err(fault),
+        }
     }
 }

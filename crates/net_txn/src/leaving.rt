@@ -1,10 +1,12 @@
 //! A switch that leaves.
 
-ghost use Rattle.std.specs.Prelude.{◌≡◌, ◌==◌, ◌++◌, not, filter, length, drop, IsSome, IfOk, OnOk, OnErr};
+ghost use Rattle.std.specs.Prelude.{◌≡◌, ◌==◌, ◌++◌, not, filter, length, drop, slice_get, IsSome, IfOk, OnOk, OnErr};
+ghost use Rattle.std.specs.Option.{option_map};
 ghost use Rattle.app_frames.specs.declared.frame.EventKind.TheVariants.{Leave};
 ghost use Rattle.flow_table.specs.View.{plains};
+ghost use Rattle.net_txn.specs.Losing.{lost_net};
 ghost use Rattle.net_txn.specs.Views.{rows_at};
-ghost use Rattle.net_txn.specs.Leaving.{ports_at, port_text, ports_text, without};
+ghost use Rattle.net_txn.specs.Leaving.{ports_at, port_text, ports_text, without, left_event};
 
 use crate::net::Net;
 use crate::ports::KnownPorts;
@@ -62,16 +64,31 @@ fn known_text(alloc: Global, all: &[KnownPorts], dpid: Dpid) -> Result<ByteList,
     text_of(alloc, &[])
 }
 
-fn forget_view(views: &mut Vec<TableView>, dpid: Dpid)
+pub(crate) fn forget_view(views: &mut Vec<TableView>, dpid: Dpid)
     ensures { plains views.new.items ≡ filter (λ v. not (v.dpid == dpid)) (plains views.old.items) }
 {
     views.retain(|view| view.dpid != dpid);
 }
 
-fn forget_ports(ports: &mut Vec<KnownPorts>, dpid: Dpid)
-    ensures { ports.new.items ≡ filter (λ k. not (k.dpid == dpid)) ports.old.items }
+/// Returns the Leave event of a switch with its known ports.
+fn leave_event(alloc: Global, known: &KnownPorts) -> Result<Event, AllocError>
+    ensures { IfOk result (λ e. e ≡ left_event known.now) }
 {
-    ports.retain(|known| known.dpid != dpid);
+    Ok(Event {
+        kind: EventKind::Leave,
+        dpid: known.dpid,
+        body: text_of(alloc, known.ports.as_slice())?,
+    })
+}
+
+/// Returns the Leave event of the first of switches, where there is one.
+fn first_event(alloc: Global, left: &[KnownPorts]) -> Result<Option<Event>, AllocError>
+    ensures { IfOk result (λ e. e ≡ option_map left_event (slice_get left.now 0)) }
+{
+    match left.first() {
+        None => Ok(None),
+        Some(known) => Ok(Some(leave_event(alloc, known)?)),
+    }
 }
 
 impl Net {
@@ -82,14 +99,36 @@ impl Net {
         ensures ok { OnOk result (self.new ≡ without dpid self.old) }
         ensures err { OnErr result (self.new ≡ self.old) }
     {
-        let body = known_text(self.alloc, &self.ports, dpid)?;
-        self.kept.forget(dpid)?;
+        let body = known_text(self.alloc, self.ports.known(), dpid)?;
+        self.kept.forget(dpid);
         forget_view(&mut self.views, dpid);
-        forget_ports(&mut self.ports, dpid);
+        self.ports.forget(dpid);
         Ok(Event {
             kind: EventKind::Leave,
             dpid,
             body,
         })
+    }
+
+    /// Lets a switch go whose link failed: what was kept of it goes, and its known ports stand ready for its Leave event.
+    /// Takes no memory.
+    pub(crate) fn lose(&mut self, dpid: Dpid)
+        ensures { self.new ≡ lost_net dpid self.old }
+    {
+        self.kept.forget(dpid);
+        forget_view(&mut self.views, dpid);
+        self.ports.lose(dpid);
+    }
+
+    /// Takes out the Leave event of the first switch that was lost and whose leaving was not told yet. There is none exactly
+    /// where there is no such switch.
+    pub fn lost(&mut self) -> Result<Option<Event>, AllocError>
+        ensures first { IfOk result (λ e. e ≡ option_map left_event (slice_get self.old.left 0)) }
+        ensures rest { OnOk result (self.new ≡ record self.old { left = drop 1 self.old.left }) }
+        ensures err { OnErr result (self.new ≡ self.old) }
+    {
+        let event = first_event(self.alloc, self.ports.left())?;
+        self.ports.drop_left();
+        Ok(event)
     }
 }

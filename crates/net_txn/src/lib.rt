@@ -1,10 +1,11 @@
 //! Changes to the flow tables of switches, each behind a barrier before it is answered, and undone if the turn fails.
 //!
-//! `Net` is what the host keeps of its switches: `joined` (`joins`, `in_step`), `left`, `arrived`, `waiting`, `rows`
-//! (`asks`, `in_step`). `Txn` is one transaction over it: `begin`, `change` (`changes`, `reached`, `in_step`),
-//! `hold_packet`, `commit`, whose one clause is the record `Commits`, and `abort`, whose one clause is the record
-//! `Undoes`. Each fault has its cause; in a world that keeps its word, view and table move together. Law:
-//! `views_stay_in_order`. docs/GUARANTEES.md has a row for each promise.
+//! `Net` is what the host keeps of its switches: `joined` (`joins`, `in_step`), `left`, `lost`, `arrived`, `waiting`,
+//! `rows` (`asks`, `in_step`). `Txn` is one transaction over it: `begin`, `change`, whose clause `changes` is the record
+//! `Changes`, `hold_packet`, `commit`, whose one clause is the record `Commits`, and `abort`, whose one clause is the
+//! record `Undoes`. A switch whose link fails is lost: it leaves, and the calls go on with the others. Each fault has its
+//! cause; in a world that keeps its word, view and table move together. Law: `views_stay_in_order`. docs/GUARANTEES.md
+//! has a row for each promise.
 #![tactic(auto)]
 
 mod abort;
@@ -12,6 +13,7 @@ mod arrived;
 mod change;
 mod exchange;
 mod greeting;
+mod halt;
 mod heard;
 mod host;
 mod joining;
@@ -21,6 +23,7 @@ mod logged;
 mod message_event;
 mod message_store;
 mod net;
+mod port_table;
 mod ports;
 mod prepared;
 mod queue;

@@ -21,8 +21,10 @@ pub struct UndoProgress {
     pub xid: Xid,
     /// How many inverses were sent to its switch up to this one since the last barrier.
     pub since: u32,
-    /// Whether its switch has failed.
+    /// Whether its switch has failed or is lost.
     pub failed: bool,
+    /// Whether its switch is lost.
+    pub lost: bool,
 }
 
 /// The addition of an entry, which is undone by the DELETE_STRICT of its key.
@@ -76,6 +78,7 @@ pub(crate) fn undoing(dpid: Dpid, key: &Key) -> Logged
             xid: 0,
             since: 0,
             failed: false,
+            lost: false,
         },
     }
 }

@@ -1,6 +1,6 @@
 //! A message that comes of itself.
 
-ghost use Rattle.std.specs.Prelude.{◌≡◌, ◌==◌, ◌&&◌, ◌++◌, IfOk, OnOk, OnErr, MatchOption};
+ghost use Rattle.std.specs.Prelude.{◌≡◌, ◌==◌, ◌&&◌, ◌++◌, IfOk, OnOk, OnErr, MatchOption, vec_len};
 ghost use Rattle.std.specs.List.{list_any};
 ghost use Rattle.of_types.specs.Fields.{number_bytes};
 ghost use Rattle.of_match.specs.Key.{key_number};
@@ -96,6 +96,7 @@ pub(crate) fn change_known(
 ) -> Result<(), AllocError>
     ensures ok { OnOk result (all.new.items ≡ known_after dpid status.now all.old.items) }
     ensures err { OnErr result (all.new.items ≡ all.old.items) }
+    ensures len { vec_len all.new ≡ vec_len all.old }
 {
     match position_known(all, dpid) {
         None => Ok(()),

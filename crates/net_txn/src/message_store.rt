@@ -1,6 +1,6 @@
 //! A store of fixed size for messages that are kept where no memory may be taken.
 
-ghost use Rattle.std.specs.Prelude.{◌≡◌, ◌≤◌, ◌<◌, ◌+◌, vec_capacity, ◌&&◌, nat_lt, nat_le, [], ◌∷◌, ◌++◌, length, IfOk, if◌then◌else◌};
+ghost use Rattle.std.specs.Prelude.{◌≡◌, ◌==◌, ◌≤◌, ◌<◌, ◌+◌, vec_capacity, ◌&&◌, not, nat_lt, nat_le, [], ◌∷◌, ◌++◌, length, filter, IfOk, if◌then◌else◌};
 ghost use Rattle.net_txn.specs.MessageStore.{fits, messages_in, sizes};
 
 use of_types::{ByteList, Dpid};
@@ -56,6 +56,32 @@ fn put_last(bytes: &mut Vec<u8>, entries: &mut Vec<(Dpid, usize)>, dpid: Dpid, m
     entries.push((dpid, message.len())).unwrap();
 }
 
+/// Moves the bytes of the messages of other switches together.
+fn close_gaps(bytes: &mut Vec<u8>, entries: &[(Dpid, usize)], dpid: Dpid)
+    requires { sizes entries.now ≡ length bytes.old.items }
+    ensures messages { messages_in (filter (λ e. not (e.0 == dpid)) entries.now) bytes.new.items ≡ filter (λ m. not (m.0 == dpid)) (messages_in entries.now bytes.old.items) }
+    ensures sizes { sizes (filter (λ e. not (e.0 == dpid)) entries.now) ≡ length bytes.new.items }
+    ensures capacity { vec_capacity bytes.old ≤ vec_capacity bytes.new }
+{
+    let mut at = 0;
+    let mut to = 0;
+    for (of, len) in entries {
+        if *of != dpid {
+            bytes.copy_within(at..at + *len, to);
+            to += *len;
+        }
+        at += *len;
+    }
+    bytes.truncate(to);
+}
+
+fn forget_entries(entries: &mut Vec<(Dpid, usize)>, dpid: Dpid)
+    ensures entries { entries.new.items ≡ filter (λ e. not (e.0 == dpid)) entries.old.items }
+    ensures capacity { vec_capacity entries.old ≤ vec_capacity entries.new }
+{
+    entries.retain(|entry| entry.0 != dpid);
+}
+
 impl MessageStore {
     /// Returns a store with no messages, with room for 1,048,576 bytes of 16,384 messages.
     pub(crate) fn new(alloc: Global) -> Result<MessageStore, AllocError>
@@ -83,6 +109,14 @@ impl MessageStore {
         ensures { IfOk result (λ q. q.items ≡ self.now) }
     {
         copies_of(alloc, &self.bytes, &self.entries)
+    }
+
+    /// Drops the messages of a switch; takes no memory.
+    pub(crate) fn forget(&mut self, dpid: Dpid)
+        ensures { self.new ≡ filter (λ m. not (m.0 == dpid)) self.old }
+    {
+        close_gaps(&mut self.bytes, &self.entries, dpid);
+        forget_entries(&mut self.entries, dpid);
     }
 
     /// Drops all messages; takes no memory.

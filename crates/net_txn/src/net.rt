@@ -8,7 +8,7 @@ ghost use Rattle.of_wire.specs.declared.message.Message.TheVariants as messages;
 ghost use Rattle.of_wire.specs.Grammar.{IsMessage};
 
 use crate::logged::Logged;
-use crate::ports::KnownPorts;
+use crate::port_table::PortTable;
 use crate::queue::MessageQueue;
 use crate::room::Room;
 use flow_table::TableView;
@@ -28,7 +28,8 @@ pub struct Net {
     pub(crate) alloc: Global,
     pub(crate) buf: Vec<u8>,
     pub(crate) views: Vec<TableView>,
-    pub(crate) ports: Vec<KnownPorts>,
+    /// The known ports of the joined switches, and those of the switches that were lost.
+    pub(crate) ports: PortTable,
     pub(crate) log: Vec<Logged>,
     pub(crate) held: Vec<(Dpid, PacketOut)>,
     pub(crate) xid: Xid,
@@ -51,13 +52,14 @@ impl Model for Net {
 
     ghost view = { λ s. record {
       views = plains s.views.items;
-      ports = s.ports.items;
+      ports = s.ports.known;
       log = s.log.items;
       held = s.held.items;
       xid = s.xid;
       moment = s.moment;
       kept = s.kept;
       room = vec_len s.rooms;
+      left = s.ports.left;
     } };
 
     ghost invariant = { λ s. (vec_len s.buf ≡ 65535) × (1 ≤ s.xid) × All (λ h. IsMessage (messages.PacketOut h.1)) s.held.items };
@@ -85,13 +87,13 @@ pub(crate) fn await_from(dpid: Dpid, xid: Xid) -> Awaited
 impl Net {
     /// Returns a network of no switch, at moment 0. It takes the room that undoes and releases need.
     pub fn new(alloc: Global) -> Result<Net, AllocError>
-        ensures { IfOk result (λ n. n ≡ record { views = []; ports = []; log = []; held = []; xid = 1; moment = 0; kept = []; room = 2 }) }
+        ensures { IfOk result (λ n. n ≡ record { views = []; ports = []; log = []; held = []; xid = 1; moment = 0; kept = []; room = 2; left = [] }) }
     {
         Ok(Net {
             alloc,
             buf: vec![in alloc; 0; MOST_MESSAGE]?,
             views: Vec::new(alloc),
-            ports: Vec::new(alloc),
+            ports: PortTable::new(alloc),
             log: Vec::new(alloc),
             held: Vec::new(alloc),
             xid: 1,

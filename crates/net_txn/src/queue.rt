@@ -201,14 +201,12 @@ impl MessageQueue {
         Ok(self.messages.pop_front())
     }
 
-    /// Drops the messages of a switch.
-    pub fn forget(&mut self, dpid: Dpid) -> Result<(), AllocError>
-        ensures ok { OnOk result (self.new ≡ filter (λ m. not (m.0 == dpid)) self.old) }
-        ensures err { OnErr result (self.new ≡ self.old) }
+    /// Drops the messages of a switch; takes no memory.
+    pub fn forget(&mut self, dpid: Dpid)
+        ensures { self.new ≡ filter (λ m. not (m.0 == dpid)) self.old }
     {
-        gather(self.alloc, &mut self.messages, &mut self.store)?;
         forget_of(&mut self.messages, dpid);
-        Ok(())
+        self.store.forget(dpid);
     }
 }
 

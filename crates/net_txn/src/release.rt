@@ -1,20 +1,19 @@
 //! The release of the packets that a transaction holds.
 
-ghost use Rattle.std.specs.Prelude.{◌≡◌, ◌≤◌, ◌++◌, All, length, Ok, Err, IsOk, IfOk, OnOk, MatchResult};
+ghost use Rattle.std.specs.Prelude.{◌≡◌, ◌+◌, ◌<◌, ◌≤◌, [], All, length, vec_capacity, Ok, Err, IsOk, IfOk, OnOk, MatchResult};
 ghost use Rattle.of_wire.specs.declared.message.Message.TheVariants as messages;
 ghost use Rattle.of_wire.specs.Reading.{reading_of};
 ghost use Rattle.of_wire.specs.Spelling.{message_bytes};
 ghost use Rattle.of_wire.specs.Grammar.{IsMessage};
 ghost use Rattle.outside.specs.Calls.{most_message};
-ghost use Rattle.flow_table.specs.View.{plains};
 ghost use Rattle.net_txn.specs.Releases.{packet_awaited, takes_read, takes_all, Commits};
-ghost use Rattle.net_txn.specs.ReleaseSteps.{size_of, sizes_in, StaysSo, PacketTold, PacketStops, ReleasesPacket, ReleasesList};
+ghost use Rattle.net_txn.specs.ReleaseSteps.{StaysSo, PacketSent, PacketUnsent, BarrierPassed, BarrierStops, Settles, ReleasesPacket, ReleasesNoted, ReleasedFront, StopsBehind};
 
-use crate::exchange::ask;
+use crate::exchange::{pass, say};
+use crate::halt::Halt;
 use crate::net::{Net, following};
 use crate::queue::{EventQueue, MessageQueue};
 use crate::views::is_viewed;
-use flow_table::TableView;
 use lego_model::{Awaited, TxnFault};
 use of_types::{ByteList, Dpid, Xid};
 use of_wire::{Message, PacketOut, WireFault, decode, encode};
@@ -35,40 +34,6 @@ fn await_packet(dpid: Dpid, xid: Xid) -> Awaited
     }
 }
 
-/// Appends how many bytes a packet has, where its switch has a view.
-#[tactic(auto, unfolding(of_wire::specs::Spelling::message_size))]
-fn push_size(
-    sizes: &mut Vec<(Dpid, u32)>,
-    views: &[TableView],
-    dpid: Dpid,
-    packet: &PacketOut,
-) -> Result<(), AllocError>
-    requires { IsMessage (messages.PacketOut packet.now) }
-    ensures { OnOk result (sizes.new.items ≡ sizes.old.items ++ size_of (plains views.now) (dpid, packet.now)) }
-{
-    if is_viewed(views, dpid) {
-        sizes.push((dpid, packet.payload.len() as u32))?;
-    }
-    Ok(())
-}
-
-/// Returns how many bytes each packet has whose switch has a view.
-#[tactic(auto, unfolding(crate::specs::ReleaseSteps::sizes_in))]
-fn sizes_of(
-    alloc: Global,
-    views: &[TableView],
-    held: &[(Dpid, PacketOut)],
-) -> Result<Vec<(Dpid, u32)>, AllocError>
-    requires { All (λ h. IsMessage (messages.PacketOut h.1)) held.now }
-    ensures { IfOk result (λ sizes. sizes.items ≡ sizes_in (plains views.now) held.now) }
-{
-    let mut sizes = Vec::new(alloc);
-    for (dpid, packet) in held {
-        push_size(&mut sizes, views, *dpid, packet)?;
-    }
-    Ok(sizes)
-}
-
 /// Returns the bytes of a packet.
 fn packet_frame(alloc: Global, xid: Xid, packet: PacketOut) -> Result<ByteList, AllocError>
     requires { IsMessage (messages.PacketOut packet) }
@@ -78,31 +43,35 @@ fn packet_frame(alloc: Global, xid: Xid, packet: PacketOut) -> Result<ByteList, 
     encode(alloc, xid, &Message::PacketOut(packet))
 }
 
-/// Sends a packet and a barrier behind it, and waits for its reply; gives what came before it.
-fn exchange_packet<W: World>(
+/// Sends a packet.
+fn send_packet<W: World>(
+    world: &mut W,
+    alloc: Global,
+    dpid: Dpid,
+    xid: Xid,
+    packet: PacketOut,
+) -> Result<(), Halt>
+    requires { IsMessage (messages.PacketOut packet) }
+    ensures { MatchResult result (λ _. PacketSent W.Tells dpid xid packet (W.seen world.old) (W.seen world.new)) (PacketUnsent W.Tells dpid (W.seen world.old) (W.seen world.new)) }
+{
+    let frame = packet_frame(alloc, xid, packet)?;
+    say(world, alloc, dpid, frame.as_slice())
+}
+
+/// Sends the barrier behind a packet, and waits for its reply; gives what came before it.
+fn await_behind<W: World>(
     world: &mut W,
     alloc: Global,
     buf: &mut [u8],
     came: &mut MessageQueue,
-    dpid: Dpid,
-    xid: Xid,
-    packet: PacketOut,
-) -> Result<VecDeque<(Dpid, ByteList)>, TxnFault>
-    requires room { most_message ≤ length buf.old }
-    requires message { IsMessage (messages.PacketOut packet) }
-    ensures { MatchResult result (λ came. PacketTold W.Tells dpid xid packet (W.seen world.old) (W.seen world.new) came.items)
-        (PacketStops W.Tells dpid xid packet (W.seen world.old) (W.seen world.new)) }
+    awaited: &Awaited,
+) -> Result<VecDeque<(Dpid, ByteList)>, Halt>
+    requires { most_message ≤ length buf.old }
+    ensures { MatchResult result (λ came. BarrierPassed W.Tells awaited.now (W.seen world.old) (W.seen world.new) came.items)
+        (BarrierStops W.Tells awaited.now (W.seen world.old) (W.seen world.new)) }
 {
-    let frame = packet_frame(alloc, xid, packet)?;
     came.clear();
-    ask(
-        world,
-        alloc,
-        buf,
-        came,
-        &await_packet(dpid, xid),
-        frame.as_slice(),
-    )?;
+    pass(world, alloc, buf, came, awaited)?;
     Ok(came.take_all()?)
 }
 
@@ -114,7 +83,7 @@ fn take_one(
     bytes: &[u8],
 ) -> Result<(), AllocError>
     ensures ok { OnOk result ((net.new, queue.new) ≡ takes_read dpid (reading_of bytes.now) (net.old, queue.old)) }
-    ensures stays { StaysSo net.old net.new }
+    ensures stays { StaysSo [] net.old net.new }
 {
     let envelope = match decode(net.alloc, bytes) {
         Ok(envelope) => envelope,
@@ -134,7 +103,7 @@ fn take_all(
     came: VecDeque<(Dpid, ByteList)>,
 ) -> Result<(), AllocError>
     ensures ok { OnOk result ((net.new, queue.new) ≡ takes_all came.items (net.old, queue.old)) }
-    ensures stays { StaysSo net.old net.new }
+    ensures stays { StaysSo [] net.old net.new }
 {
     for (dpid, bytes) in came {
         take_one(net, queue, dpid, bytes.as_slice())?;
@@ -142,50 +111,100 @@ fn take_all(
     Ok(())
 }
 
-/// Releases packets, in order.
+/// Releases one packet, and notes it where it was sent, in room that is there.
+#[tactic(auto, unfolding(of_wire::specs::Spelling::message_size))]
+fn release_one<W: World>(
+    net: &mut Net,
+    world: &mut W,
+    queue: &mut EventQueue,
+    sent: &mut Vec<(Dpid, u32)>,
+    dpid: Dpid,
+    packet: PacketOut,
+) -> Result<(), TxnFault>
+    requires message { IsMessage (messages.PacketOut packet) }
+    requires room { length sent.old.items < vec_capacity sent.old }
+    ensures released { ReleasesNoted W.Tells (dpid, packet) (W.seen world.old) (W.seen world.new) net.old net.new queue.old queue.new sent.old.items sent.new.items result }
+    ensures capacity { vec_capacity sent.old ≤ vec_capacity sent.new }
+    ensures len { length sent.new.items ≤ length sent.old.items + 1 }
+{
+    let size = packet.payload.len() as u32;
+    if net.release_packet(world, queue, dpid, packet)? {
+        sent.push((dpid, size)).unwrap();
+    }
+    Ok(())
+}
+
+/// Releases packets, in order; gives each that was sent, in room that is there.
 fn release_all<W: World>(
     net: &mut Net,
     world: &mut W,
     queue: &mut EventQueue,
     held: Vec<(Dpid, PacketOut)>,
-) -> Result<(), TxnFault>
-    requires { All (λ h. IsMessage (messages.PacketOut h.1)) held.items }
-    ensures { ReleasesList W.Tells held.items (W.seen world.old) (W.seen world.new) net.old net.new queue.old queue.new result }
+    room: Vec<(Dpid, u32)>,
+) -> Result<Vec<(Dpid, u32)>, TxnFault>
+    requires messages { All (λ h. IsMessage (messages.PacketOut h.1)) held.items }
+    requires none { room.items ≡ [] }
+    requires room { length held.items ≤ vec_capacity room }
+    ensures { MatchResult result
+        (λ sent. ReleasedFront W.Tells held.items (W.seen world.old) (W.seen world.new) net.old net.new queue.old queue.new sent.items)
+        (StopsBehind W.Tells held.items (W.seen world.old) (W.seen world.new) net.old net.new queue.old) }
 {
+    let mut sent = room;
     for (dpid, packet) in held {
-        net.release_packet(world, queue, dpid, packet)?;
+        release_one(net, world, queue, &mut sent, dpid, packet)?;
     }
-    Ok(())
+    Ok(sent)
 }
 
 impl Net {
-    /// Releases one packet, where its switch has a view.
+    /// Waits for the reply to the barrier behind a packet, and takes in what comes before it; the switch is lost where its
+    /// link fails.
+    fn settle<W: World>(
+        &mut self,
+        world: &mut W,
+        queue: &mut EventQueue,
+        awaited: &Awaited,
+    ) -> Result<(), TxnFault>
+        ensures { Settles W.Tells awaited.now (W.seen world.old) (W.seen world.new) self.old self.new queue.old queue.new result }
+    {
+        match await_behind(world, self.alloc, &mut self.buf, &mut self.came, awaited) {
+            Ok(came) => Ok(take_all(self, queue, came)?),
+            Err(Halt::Lost) => {
+                self.lose(awaited.dpid);
+                Ok(())
+            }
+            Err(Halt::Fault(fault)) => Err(fault),
+        }
+    }
+
+    /// Releases one packet, where its switch has a view; tells whether it was sent. The switch is lost where its link
+    /// fails.
     fn release_packet<W: World>(
         &mut self,
         world: &mut W,
         queue: &mut EventQueue,
         dpid: Dpid,
         packet: PacketOut,
-    ) -> Result<(), TxnFault>
+    ) -> Result<bool, TxnFault>
         requires { IsMessage (messages.PacketOut packet) }
         ensures { ReleasesPacket W.Tells (dpid, packet) (W.seen world.old) (W.seen world.new) self.old self.new queue.old queue.new result }
     {
         if !is_viewed(&self.views, dpid) {
-            return Ok(());
+            return Ok(false);
         }
         let xid = self.xid;
         self.xid = following(following(xid));
-        let came = exchange_packet(
-            world,
-            self.alloc,
-            &mut self.buf,
-            &mut self.came,
-            dpid,
-            xid,
-            packet,
-        )?;
-        take_all(self, queue, came)?;
-        Ok(())
+        match send_packet(world, self.alloc, dpid, xid, packet) {
+            Ok(()) => {
+                self.settle(world, queue, &await_packet(dpid, xid))?;
+                Ok(true)
+            }
+            Err(Halt::Lost) => {
+                self.lose(dpid);
+                Ok(false)
+            }
+            Err(Halt::Fault(fault)) => Err(fault),
+        }
     }
 
     /// Forgets what was logged from a position on, and releases the packets that are held, in order, each with a barrier
@@ -202,13 +221,13 @@ impl Net {
             (λ sent. Commits W.Tells start (W.seen world.old) (W.seen world.new) self.old self.new queue.old queue.new (Ok sent.items))
             (λ fault. Commits W.Tells start (W.seen world.old) (W.seen world.new) self.old self.new queue.old queue.new (Err fault)) }
     {
-        let Ok(sent) = sizes_of(self.alloc, &self.views, &self.held) else {
+        let Ok(room) = Vec::with_capacity(self.alloc, self.held.len()) else {
             let _undone = self.undo_from(world, start);
             return Err(TxnFault::NoMemory);
         };
         self.log.truncate(start);
         let held = replace(&mut self.held, Vec::new(self.alloc));
-        release_all(self, world, queue, held)?;
+        let sent = release_all(self, world, queue, held, room)?;
         Ok(sent)
     }
 }

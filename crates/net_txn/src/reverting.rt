@@ -8,7 +8,8 @@ ghost use Rattle.outside.specs.Calls.{most_message};
 ghost use Rattle.net_txn.specs.declared.logged.Logged.{Logged};
 ghost use Rattle.lego_model.specs.UndoFaults.{inverse_bytes};
 ghost use Rattle.lego_model.specs.BarrierWaits.{next_xid};
-ghost use Rattle.net_txn.specs.Undos.{HasPassedBarrier, Further, first_fault_of, fault_of, progress_of, inverses_in, with_progress, key_logged, PassesBarrier};
+ghost use Rattle.net_txn.specs.Ports.{PortLists};
+ghost use Rattle.net_txn.specs.Undos.{HasPassedBarrier, Further, first_fault_of, fault_of, ports_of, loses_by, progress_of, inverses_in, with_progress, key_logged, PassesBarrier};
 ghost use Rattle.net_txn.specs.Said.{SaysOne};
 ghost use Rattle.net_txn.specs.Views.{is_viewed};
 
@@ -45,6 +46,13 @@ fn mark(log: &mut [Logged], at: usize, progress: UndoProgress)
     log[at].progress = progress;
 }
 
+/// Tells whether a switch is lost by a call.
+fn is_lost(called: &Result<(), Trouble>) -> bool
+    ensures { result ≡ loses_by called.now }
+{
+    matches!(called, Err(Trouble::Link))
+}
+
 /// Sends the inverse at a position.
 fn send_at<W: World>(
     world: &mut W,
@@ -57,7 +65,7 @@ fn send_at<W: World>(
     requires { at < length log.old }
     ensures says { (e : Logged) → let entry = slice_index_or log.old at e in
         SaysOne W.Tells entry.dpid (inverse_bytes xid entry.key) (W.seen world.old) (W.seen world.new) result }
-    ensures marked { (e : Logged) → log.new ≡ slice_set log.old at (with_progress (record { xid = xid; since = since; failed = is_err result }) (slice_index_or log.old at e)) }
+    ensures marked { (e : Logged) → log.new ≡ slice_set log.old at (with_progress (record { xid = xid; since = since; failed = is_err result; lost = loses_by result }) (slice_index_or log.old at e)) }
     ensures same { map key_logged log.new ≡ map key_logged log.old }
     ensures priority { (e : Logged) → (slice_index_or log.old at e).key.priority < 2 ^ 16 }
 {
@@ -69,6 +77,7 @@ fn send_at<W: World>(
         xid,
         since,
         failed: sent.is_err(),
+        lost: is_lost(&sent),
     };
     mark(log, at, progress);
     sent
@@ -90,7 +99,7 @@ fn await_at<W: World>(
     ensures passes { (e : Logged) → let d = (slice_index_or log.old at e).dpid in
         PassesBarrier W.Tells d xid (inverses_in d (drop from log.old)) (W.seen world.old) (W.seen world.new) kept.old kept.new buf.new result }
     ensures marked { (e : Logged) → let entry = slice_index_or log.old at e in
-        log.new ≡ slice_set log.old at (with_progress (record { xid = entry.progress.xid; since = 0; failed = is_err result }) entry) }
+        log.new ≡ slice_set log.old at (with_progress (record { xid = entry.progress.xid; since = 0; failed = is_err result; lost = loses_by result }) entry) }
     ensures same { map key_logged log.new ≡ map key_logged log.old }
     ensures len { length buf.new ≡ length buf.old }
 {
@@ -101,6 +110,7 @@ fn await_at<W: World>(
         xid: sent,
         since: 0,
         failed: barred.is_err(),
+        lost: is_lost(&barred),
     };
     mark(log, at, progress);
     barred
@@ -141,12 +151,12 @@ fn revert_to<W: World>(
 ) -> Result<(), Trouble>
     requires room { most_message ≤ length buf.old }
     requires place { at < length log.old }
-    ensures undoing { (base : Seen W.Own) (views : List PlainView) (x : ℕ) (first : List (ℕ × List ℕ)) (fault : Option TxnFault) (e : Logged) →
+    ensures undoing { (base : Seen W.Own) (views : List PlainView) (x : ℕ) (first : List (ℕ × List ℕ)) (p q : PortLists) (fault : Option TxnFault) (e : Logged) →
         let d = (slice_index_or log.old at e).dpid in
         let reverted = drop (at + 1) log.old in
-        Further W.Tells views base (W.seen world.old) first kept.old x xid.old [] reverted fault → is_viewed d views ≡ true → (progress_of d reverted).failed ≡ false
+        Further W.Tells views base (W.seen world.old) first kept.old p q x xid.old [] reverted fault → is_viewed d views ≡ true → (progress_of d reverted).failed ≡ false
         → ((progress_of d reverted).since < 4096 → since ≡ (progress_of d reverted).since + 1)
-        → Further W.Tells views base (W.seen world.new) first kept.new x xid.new [] (drop at log.new) (first_fault_of fault (fault_of d result buf.new)) }
+        → Further W.Tells views base (W.seen world.new) first kept.new p (ports_of d result buf.new q) x xid.new [] (drop at log.new) (first_fault_of fault (fault_of d result buf.new)) }
     ensures same { map key_logged log.new ≡ map key_logged log.old }
     ensures least { 1 ≤ xid.new }
     ensures len { length buf.new ≡ length buf.old }
@@ -160,7 +170,7 @@ fn revert_to<W: World>(
     await_at(world, buf, kept, log, at, at, id)
 }
 
-/// Tells whether an inverse is sent to a switch: it is joined and has not failed.
+/// Tells whether an inverse is sent to a switch: it was joined and has not failed.
 fn reverts(progress: UndoProgress, views: &[TableView], dpid: Dpid) -> bool
     ensures yes { result ≡ true → (is_viewed dpid (plains views.now) ≡ true) × (progress.failed ≡ false) }
     ensures no { result ≡ false → is_viewed dpid (plains views.now) ≡ true → progress.failed ≡ true }
@@ -168,7 +178,7 @@ fn reverts(progress: UndoProgress, views: &[TableView], dpid: Dpid) -> bool
     !progress.failed && is_viewed(views, dpid)
 }
 
-/// Sends the inverse at a position, unless its switch has failed or is not joined.
+/// Sends the inverse at a position, unless its switch has failed, was lost, or is not joined.
 pub(crate) fn revert<W: World>(
     world: &mut W,
     alloc: Global,
@@ -182,10 +192,10 @@ pub(crate) fn revert<W: World>(
     requires room { most_message ≤ length buf.old }
     requires place { at < length log.old }
     requires least { 1 ≤ xid.old }
-    ensures undoing { (base : Seen W.Own) (x : ℕ) (first : List (ℕ × List ℕ)) (fault : Option TxnFault) (e : Logged) →
-        Further W.Tells (plains views.now) base (W.seen world.old) first kept.old x xid.old [] (drop (at + 1) log.old) fault
-        → Further W.Tells (plains views.now) base (W.seen world.new) first kept.new x xid.new [] (drop at log.new)
-        (first_fault_of fault (fault_of (slice_index_or log.old at e).dpid result buf.new)) }
+    ensures undoing { (base : Seen W.Own) (x : ℕ) (first : List (ℕ × List ℕ)) (p q : PortLists) (fault : Option TxnFault) (e : Logged) →
+        let d = (slice_index_or log.old at e).dpid in
+        Further W.Tells (plains views.now) base (W.seen world.old) first kept.old p q x xid.old [] (drop (at + 1) log.old) fault
+        → Further W.Tells (plains views.now) base (W.seen world.new) first kept.new p (ports_of d result buf.new q) x xid.new [] (drop at log.new) (first_fault_of fault (fault_of d result buf.new)) }
     ensures same { map key_logged log.new ≡ map key_logged log.old }
     ensures least { 1 ≤ xid.new }
     ensures len { length buf.new ≡ length buf.old }
@@ -208,6 +218,7 @@ pub(crate) fn revert<W: World>(
             xid: 0,
             since: 0,
             failed: true,
+            lost: progress.lost,
         };
         mark(log, at, left_alone);
         Ok(())
@@ -225,9 +236,9 @@ pub(crate) fn await_switch<W: World>(
 ) -> Result<(), Trouble>
     requires room { most_message ≤ length buf.old }
     requires least { 1 ≤ xid.old }
-    ensures undoing { (base : Seen W.Own) (views : List PlainView) (x : ℕ) (first : List (ℕ × List ℕ)) (switches : List ℕ) (fault : Option TxnFault) →
-        Further W.Tells views base (W.seen world.old) first kept.old x xid.old switches log.old fault → is_viewed dpid views ≡ true
-        → Further W.Tells views base (W.seen world.new) first kept.new x xid.new (dpid ∷ switches) log.new (first_fault_of fault (fault_of dpid result buf.new)) }
+    ensures undoing { (base : Seen W.Own) (views : List PlainView) (x : ℕ) (first : List (ℕ × List ℕ)) (p q : PortLists) (switches : List ℕ) (fault : Option TxnFault) →
+        Further W.Tells views base (W.seen world.old) first kept.old p q x xid.old switches log.old fault → is_viewed dpid views ≡ true
+        → Further W.Tells views base (W.seen world.new) first kept.new p (ports_of dpid result buf.new q) x xid.new (dpid ∷ switches) log.new (first_fault_of fault (fault_of dpid result buf.new)) }
     ensures barred { HasPassedBarrier dpid log.new }
     ensures others { (c : ℕ) → HasPassedBarrier c log.old → HasPassedBarrier c log.new }
     ensures same { map key_logged log.new ≡ map key_logged log.old }

@@ -1,9 +1,10 @@
 //! Room for the bytes of the faults of undos, and the faults that take it along.
 
-ghost use Rattle.std.specs.Prelude.{◌≡◌, ◌≢◌, ◌+◌, ◌≤◌, length, take, vec_len, None, Some};
-ghost use Rattle.net_txn.specs.Undos.{fault_by, first_fault_of};
+ghost use Rattle.std.specs.Prelude.{◌≡◌, ◌+◌, ◌≤◌, ℕ, List, length, take, vec_len, None};
+ghost use Rattle.net_txn.specs.Undos.{halt_by, fault_by, ports_by, first_fault_of, IsRoomLeft};
 
 use crate::logged::{INVERSE, inverse_of};
+use crate::port_table::PortTable;
 use crate::trouble::Trouble;
 use crate::wait::FLOOD;
 use lego_model::TxnFault;
@@ -75,33 +76,6 @@ pub(crate) fn front(buf: &[u8], len: usize) -> &[u8]
     if len < buf.len() { &buf[..len] } else { buf }
 }
 
-/// Returns the fault that a switch's trouble is.
-fn fault_by(
-    alloc: Global,
-    rooms: &mut Vec<Room>,
-    dpid: Dpid,
-    trouble: Trouble,
-    buf: &[u8],
-) -> TxnFault
-    requires room { 1 ≤ vec_len rooms.old }
-    requires len { length buf.now ≤ 65535 }
-    ensures fault { result ≡ fault_by dpid trouble buf.now }
-    ensures left { vec_len rooms.old ≤ vec_len rooms.new + 1 }
-{
-    let room = take_room(rooms);
-    match trouble {
-        Trouble::Link => TxnFault::SwitchFault(dpid),
-        Trouble::Broke(len) => TxnFault::SwitchBroke(dpid, room.keep_got(front(buf, len))),
-        Trouble::Refused(key, xid, len) => room.diverged(
-            dpid,
-            &inverse_of(alloc, &key, xid),
-            front(buf, len),
-        ),
-        Trouble::Flooded => TxnFault::Flooded(dpid, FLOOD),
-        Trouble::Short | Trouble::Full => TxnFault::NoMemory,
-    }
-}
-
 /// Takes one room.
 fn take_room(rooms: &mut Vec<Room>) -> Room
     requires { 1 ≤ vec_len rooms.old }
@@ -111,10 +85,54 @@ fn take_room(rooms: &mut Vec<Room>) -> Room
     rooms.swap_remove(last)
 }
 
-/// Notes the trouble of a switch, where it is the first one.
+/// Returns the fault that a switch's trouble is; there is none where its link failed.
+fn fault_by(
+    alloc: Global,
+    rooms: &mut Vec<Room>,
+    dpid: Dpid,
+    trouble: Trouble,
+    buf: &[u8],
+) -> Option<TxnFault>
+    requires room { 1 ≤ vec_len rooms.old }
+    requires len { length buf.now ≤ 65535 }
+    ensures fault { result ≡ fault_by (halt_by dpid trouble buf.now) }
+    ensures left { vec_len rooms.old ≤ vec_len rooms.new + 1 }
+    ensures none { result ≡ None → vec_len rooms.new ≡ vec_len rooms.old }
+{
+    match trouble {
+        Trouble::Link => None,
+        Trouble::Broke(len) => {
+            let bytes = take_room(rooms).keep_got(front(buf, len));
+            Some(TxnFault::SwitchBroke(dpid, bytes))
+        }
+        Trouble::Refused(key, xid, len) => {
+            let inverse = inverse_of(alloc, &key, xid);
+            Some(take_room(rooms).diverged(dpid, &inverse, front(buf, len)))
+        }
+        Trouble::Flooded => Some(TxnFault::Flooded(dpid, FLOOD)),
+        Trouble::Short | Trouble::Full => Some(TxnFault::NoMemory),
+    }
+}
+
+/// Lets a switch go whose link failed.
+fn lose_by(ports: &mut PortTable, dpid: Dpid, trouble: Trouble)
+    ensures { (buf : List ℕ) → ports.new ≡ ports_by dpid (halt_by dpid trouble buf) ports.old }
+{
+    match trouble {
+        Trouble::Link => ports.lose(dpid),
+        Trouble::Broke(_)
+        | Trouble::Refused(_, _, _)
+        | Trouble::Flooded
+        | Trouble::Short
+        | Trouble::Full => {}
+    }
+}
+
+/// Notes the trouble of a switch: one whose link failed is lost, else its fault stays where it is the first one.
 pub(crate) fn note(
     alloc: Global,
     rooms: &mut Vec<Room>,
+    ports: &mut PortTable,
     fault: &mut Option<TxnFault>,
     dpid: Dpid,
     trouble: Trouble,
@@ -122,11 +140,12 @@ pub(crate) fn note(
 )
     requires room { fault.old ≡ None → 1 ≤ vec_len rooms.old }
     requires len { length buf.now ≤ 65535 }
-    ensures fault { fault.new ≡ first_fault_of fault.old (Some (fault_by dpid trouble buf.now)) }
-    ensures left { vec_len rooms.old ≤ vec_len rooms.new + 1 }
-    ensures more { fault.old ≢ None → vec_len rooms.new ≡ vec_len rooms.old }
+    ensures ports { ports.new ≡ ports_by dpid (halt_by dpid trouble buf.now) ports.old }
+    ensures fault { fault.new ≡ first_fault_of fault.old (fault_by (halt_by dpid trouble buf.now)) }
+    ensures room { IsRoomLeft fault.old fault.new (vec_len rooms.old) (vec_len rooms.new) }
 {
+    lose_by(ports, dpid, trouble);
     if fault.is_none() {
-        *fault = Some(fault_by(alloc, rooms, dpid, trouble, buf));
+        *fault = fault_by(alloc, rooms, dpid, trouble, buf);
     }
 }

@@ -4,12 +4,12 @@ ghost use Rattle.std.specs.Prelude.{◌≡◌, ◌≤◌, length, IfOk, IsOk, Is
 ghost use Rattle.of_wire.specs.Reading.{reading_of};
 ghost use Rattle.outside.specs.Calls.{most_message};
 ghost use Rattle.net_txn.specs.Views.{rows_at};
-ghost use Rattle.lego_model.specs.BarrierWaits.{next_xid};
 ghost use Rattle.net_txn.specs.Asks.{Asks};
 ghost use Rattle.lego_model.specs.FlowQueries.{all_flows, flows_request, asked_from};
-ghost use Rattle.net_txn.specs.AskSteps.{AskSteps};
+ghost use Rattle.net_txn.specs.AskSteps.{AsksFrom, AskSteps};
 
 use crate::exchange::ask;
+use crate::halt::Halt;
 use crate::net::{Net, following};
 use crate::queue::MessageQueue;
 use crate::replies::{read_replies, sort_out};
@@ -72,37 +72,43 @@ fn request_rows<W: World>(
     kept: &mut MessageQueue,
     dpid: Dpid,
     xid: Xid,
-) -> Result<RowList, TxnFault>
+) -> Result<RowList, Halt>
     requires { most_message ≤ length buf.old }
-    ensures { Asks W.Tells dpid xid (W.seen world.old) (W.seen world.new) kept.old kept.new result }
+    ensures { AsksFrom W.Tells dpid xid (W.seen world.old) (W.seen world.new) kept.old kept.new result }
 {
     let awaited = asked(dpid, xid);
     let request = flows_request(alloc, xid)?;
     let mut came = MessageQueue::new(alloc)?;
-    let waited = ask(world, alloc, buf, &mut came, &awaited, request.as_slice());
+    ask(world, alloc, buf, &mut came, &awaited, request.as_slice())?;
     let replies = sort_out(alloc, came, kept, xid)?;
-    waited?;
-    read_replies(alloc, dpid, request, awaited.barrier, replies)
+    match read_replies(alloc, dpid, request, awaited.barrier, replies) {
+        Ok(rows) => Ok(rows),
+        Err(fault) => Err(Halt::Fault(fault)),
+    }
 }
 
 impl Net {
-    /// Asks a switch for the rows of all its flows, behind a barrier.
+    /// Asks a switch for the rows of all its flows, behind a barrier. There are none where it was lost meanwhile.
     ///
     /// `SwitchBroke` has the part that is at fault, or the last one where the whole spells no rows. `Diverged` has the
     /// request and the ERROR that answered it, or the reply to the barrier where nothing did.
-    pub fn rows<W: World>(&mut self, world: &mut W, dpid: Dpid) -> Result<RowList, TxnFault>
+    pub fn rows<W: World>(&mut self, world: &mut W, dpid: Dpid) -> Result<Option<RowList>, TxnFault>
         requires { IsSome (rows_at dpid self.old.views) }
-        ensures asks { Asks W.Tells dpid self.old.xid (W.seen world.old) (W.seen world.new) self.old.kept self.new.kept result }
+        ensures asks { Asks W.Tells dpid (W.seen world.old) (W.seen world.new) self.old self.new result }
 
         // Where the world keeps its word and nothing of the switch waited, the rows are the switch's own, and all else stays; a
-        // fault is one of the switch's link, or of memory, or its own rows have no spelling.
+        // fault is one of memory, or its own rows have no spelling.
         ensures in_step { AskSteps W.Tells dpid (W.seen world.old) (W.seen world.new) self.old.kept self.new.kept result }
-
-        // Views, ports, log and moment stay.
-        ensures stays { self.new ≡ record self.old { xid = next_xid (next_xid self.old.xid); kept = self.new.kept } }
     {
         let xid = self.xid;
         self.xid = following(following(xid));
-        request_rows(world, self.alloc, &mut self.buf, &mut self.kept, dpid, xid)
+        match request_rows(world, self.alloc, &mut self.buf, &mut self.kept, dpid, xid) {
+            Ok(rows) => Ok(Some(rows)),
+            Err(Halt::Lost) => {
+                self.lose(dpid);
+                Ok(None)
+            }
+            Err(Halt::Fault(fault)) => Err(fault),
+        }
     }
 }

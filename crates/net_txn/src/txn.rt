@@ -52,7 +52,7 @@ impl<'a> Txn<'a> {
     }
 
     /// Answers one message of an application for a switch: by the host's own tests, else by the switch behind a
-    /// barrier.
+    /// barrier, or by `Unknown` where the switch is lost meanwhile.
     pub fn change<W: World>(
         &mut self,
         world: &mut W,
@@ -62,13 +62,6 @@ impl<'a> Txn<'a> {
         ensures same_reference { self.new.net.ghost_name ≡ self.old.net.ghost_name }
         ensures start { self.new.start ≡ self.old.start }
         ensures changes { Changes W.Tells dpid bytes.now (W.seen world.old) (W.seen world.new) self.old.net.now self.new.net.now result }
-
-        // What the switch answered reached it at once.
-        ensures reached { Reaches W.Tells dpid bytes.now (W.seen world.old) (W.seen world.new) self.old.net.now result }
-
-        // Where the world keeps its word, nothing of the switch waited, and view and table agreed, they take the step together; a
-        // fault is one of the switch's link, or of memory.
-        ensures in_step { Steps W.Tells dpid bytes.now (W.seen world.old) (W.seen world.new) self.old.net.now self.new.net.now result }
     {
         self.net.change(world, dpid, bytes)
     }
@@ -103,7 +96,7 @@ impl<'a> Txn<'a> {
     }
 
     /// Closes the transaction: its changes are undone, newest first, and leave the log and the views. It goes on past the
-    /// fault of a switch with the others, and answers the first one. It takes no memory of its own.
+    /// fault or the loss of a switch with the others, and answers the first fault. It takes no memory of its own.
     pub fn abort<W: World>(self, world: &mut W) -> Result<(), TxnFault>
         requires { 1 ≤ self.net.now.room }
         ensures { Undoes W.Tells self.entry.start (W.seen world.old) (W.seen world.new) self.entry.net.now self.exit.0.now result }

@@ -22,6 +22,7 @@ pub(crate) fn progress_of(reverted: &[Logged], dpid: Dpid) -> UndoProgress
         xid: 0,
         since: 0,
         failed: false,
+        lost: false,
     }
 }
 

@@ -6,7 +6,8 @@ ghost use Rattle.of_wire.specs.Reading.{reading_of};
 ghost use Rattle.outside.specs.Calls.{most_message};
 ghost use Rattle.lego_model.specs.BarrierWaits.{echo_reply};
 ghost use Rattle.net_txn.specs.Waits.{first_of};
-ghost use Rattle.net_txn.specs.Undos.{link_trouble, inverses_in};
+ghost use Rattle.net_txn.specs.Causes.{link_trouble};
+ghost use Rattle.net_txn.specs.Undos.{inverses_in};
 ghost use Rattle.net_txn.specs.Said.{SaysOne, HearsOne, Treats, TreatsNot, HearsNext, HearsLast, barrier_of, Exchanges};
 
 use crate::heard::{barrier_request, classify};

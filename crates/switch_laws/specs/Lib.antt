@@ -1,5 +1,6 @@
 pub mod Shown
 pub mod Since
+pub mod Lost
 pub mod Sound
 pub mod Orderly
 pub mod Asked

@@ -1,5 +1,5 @@
--- Steps that are in order: no call of a link failed, nor one for what comes next, and the calls for applications are of one, whose bytes are
--- taken up to 65,536 at once. All of this is our own.
+-- Steps that are in order: no call of a link failed but by the loss of its switch, nor one for what comes next, and the calls for applications
+-- are of one, whose bytes are taken up to 65,536 at once. All of this is our own.
 use Rattle.std.specs.Prelude.{◌≡◌, ℕ, List, ◌++◌}
 use Rattle.std.specs.List.{AllByRecursion}
 use Rattle.outside.specs.declared.step.WorldStep.{WorldStep}

@@ -1,24 +1,27 @@
 -- What a release of packets leaves of a world that keeps its word, and steps that release none (OpenFlow 1.0.0, 5.3.6 Send Packet
 -- Message). All of this is our own.
-use Rattle.std.specs.Prelude.{◌≡◌, ◌⊎◌, ℕ, List, ◌++◌, filter, Option, None}
+use Rattle.std.specs.Prelude.{◌≡◌, ◌⊎◌, ℕ, List, [], ◌++◌, Option, Some, None}
 use Rattle.std.specs.List.{AllByRecursion}
 use Rattle.std.specs.Option.{option_map}
 use Rattle.app_frames.specs.declared.frame.Event.{Event}
 use Rattle.lego_model.specs.declared.fault.TxnFault.{TxnFault}
 use Rattle.lego_model.specs.declared.fault.TxnFault.TheVariants.{Flooded}
+use Rattle.lego_model.specs.AfterFault.{WasLost, after_packets}
 use Rattle.lego_model.specs.BarrierWaits.{flood}
-use Rattle.lego_model.specs.Controller.{ports_of, release}
+use Rattle.lego_model.specs.Controller.{Release, release, leavers}
 use Rattle.lego_model.specs.History.{released_of}
-use Rattle.lego_model.specs.Journal.{released_in}
+use Rattle.lego_model.specs.Journal.{released_in, released, lost_in}
+use Rattle.lego_model.specs.Losses.{PacketLoss}
 use Rattle.lego_model.specs.Packets.{Held}
 use Rattle.lego_model.specs.SwitchFaults.{FloodedByPacket}
 use Rattle.outside.specs.declared.step.WorldStep.{WorldStep}
-use Rattle.outside.specs.declared.step.WorldStep.TheVariants.{Acted}
-use Rattle.outside.specs.Seen.{Seen}
+use Rattle.outside.specs.declared.step.WorldStep.TheVariants.{Acted, SendLost, RecvLost}
+use Rattle.outside.specs.Seen.{Seen, journal}
 use Rattle.outside.specs.State.{state, switch_of}
-use Rattle.net_txn.specs.Causes.{IsPlainFault}
+use Rattle.net_txn.specs.Causes.{IsPlain}
+use Rattle.net_txn.specs.Losing.{lose_all}
 use Rattle.net_txn.specs.Net.{NetState}
-use Rattle.net_txn.specs.Views.{is_viewed}
+use Rattle.switch_laws.specs.Lost.{LeavesBy}
 use Rattle.switch_laws.specs.Shown.{shown_places}
 use Rattle.switch_laws.specs.Since.{Ready}
 use Rattle.switch_laws.specs.Sound.{Sound}
@@ -31,19 +34,40 @@ released_by other = None
 abbrev pub ReleasesNone : List WorldStep → Type 0
 ReleasesNone steps = AllByRecursion (λ step. released_by step ≡ None) steps
 
--- The switches stand then, with the flags of the owners, as the reference controller's do that releases the same packets; its events joined
--- the queue, and the history released its packets: those whose switches are joined. All is ready again, and nothing else is known of them.
-pub record ReleaseShown {Own : Type 0} (held : List Held) (old new : Seen Own) (net now_net : NetState) (queue now_queue : List Event) : Type 0 where
-  pub places : shown_places old.given.declared now_net.views (state new) ≡ (release (shown_places old.given.declared net.views (state old)) held).places
-  pub events : now_queue ≡ queue ++ (release (shown_places old.given.declared net.views (state old)) held).events
-  pub packets : (release (shown_places old.given.declared net.views (state old)) held).packets ≡ filter (λ h. is_viewed h.0 net.views) held
-  pub released : released_of new ≡ released_of old ++ (release (shown_places old.given.declared net.views (state old)) held).packets
+-- the switch that a step loses, where it loses one
+abbrev pub lost_by : WorldStep → Option ℕ
+lost_by (Acted act) = lost_in act
+lost_by (SendLost d) = Some d
+lost_by (RecvLost d) = Some d
+lost_by other = None
+
+abbrev pub LosesNone : List WorldStep → Type 0
+LosesNone steps = AllByRecursion (λ step. lost_by step ≡ None) steps
+
+-- How the switches move: the history goes on by steps that release these packets, and each switch moves by those that are sent to it, and by
+-- nothing else, or it is lost.
+pub record MovesOrLoses {Own : Type 0} (packets : List Held) (old new : Seen Own) : Type 0 where
+  pub steps : List WorldStep
+  pub history : new.history ≡ old.history ++ steps
+  pub released_so : released (journal steps) ≡ packets
+  pub moved : (e : ℕ) → (switch_of e (state new) ≡ option_map (after_packets e packets) (switch_of e (state old))) ⊎ WasLost e old new
+
+-- The switches stand then, with the flags of the owners, as the reference controller's do that releases the same packets and loses these of
+-- their switches; its events joined the queue, and the history released its packets. All is ready again, and nothing else is known of them.
+pub record ReleaseShown {Own : Type 0} (held sent : List Held) (old new : Seen Own) (net now_net : NetState) (queue now_queue : List Event) : Type 0 where
+  pub losing : List PacketLoss
+  pub release_so : Release
+  pub is : release_so ≡ release losing (shown_places old.given.declared net.views (state old)) held
+  pub places : shown_places old.given.declared now_net.views (state new) ≡ release_so.places
+  pub events : now_queue ≡ queue ++ release_so.events
+  pub packets : release_so.packets ≡ sent
+  pub none_more : release_so.losing ≡ []
+  pub leaves : LeavesBy old new net now_net release_so.left
+  pub released_so : released_of new ≡ released_of old ++ release_so.packets
   pub ready : Ready new now_net
   pub sound : Sound (state new)
-  pub net_so : now_net ≡ record net { xid = now_net.xid }
-  pub ports : (d : ℕ) → option_map ports_of (switch_of d (state new)) ≡ option_map ports_of (switch_of d (state old))
+  pub net_so : now_net ≡ record (lose_all (leavers release_so.left) net) { xid = now_net.xid }
 
--- How a release may stop in a world that keeps its word: a link failed, or memory ran out, or a packet made its switch send more messages than
--- a wait takes.
+-- How a release may stop in a world that keeps its word: memory ran out, or a packet made its switch send more messages than a wait takes.
 abbrev pub StopsFor : {Own : Type 0} → Seen Own → Seen Own → TxnFault → Type 0
-StopsFor old new fault = ((d : ℕ) × IsPlainFault d fault) ⊎ ((d : ℕ) × ((fault ≡ Flooded d flood) × FloodedByPacket d old new))
+StopsFor old new fault = IsPlain fault ⊎ ((d : ℕ) × ((fault ≡ Flooded d flood) × FloodedByPacket d old new))

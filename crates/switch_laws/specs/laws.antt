@@ -4,6 +4,7 @@ pub mod ShownChangeLaws
 pub mod AskedLaws
 pub mod ShownExchangeLaws
 pub mod StandLaws
+pub mod LossLaws
 pub mod ViewLaws
 pub mod AbsentLaws
 pub mod SinceLaws

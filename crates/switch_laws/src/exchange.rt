@@ -13,14 +13,13 @@ ghost use Rattle.flow_table.specs.Step.{after_message};
 ghost use Rattle.undo_laws.specs.Owned.{owned_switch};
 ghost use Rattle.app_frames.specs.declared.frame.Answer.{Answer};
 ghost use Rattle.lego_model.specs.Answers.{Rows, rows_of_table, as_sent, switch_answer};
-ghost use Rattle.lego_model.specs.Places.{answer};
 ghost use Rattle.outside.specs.Seen.{Seen};
-ghost use Rattle.outside.specs.State.{state, waits_of};
 ghost use Rattle.outside.specs.Conforming.{Conforming};
 ghost use Rattle.net_txn.specs.Net.{NetState};
 ghost use Rattle.net_txn.specs.Changes.{Changes};
-ghost use Rattle.net_txn.specs.Agreement.{Agrees, Steps};
-ghost use Rattle.switch_laws.specs.Shown.{flags_in, flags_after, Passes, Stand, shown_places};
+ghost use Rattle.switch_laws.specs.Lost.{ExchangeShown};
+ghost use Rattle.switch_laws.specs.Shown.{flags_in, flags_after, Passes};
+ghost use Rattle.switch_laws.specs.Since.{Ready};
 
 use outside::World;
 
@@ -37,12 +36,10 @@ pub fn changes_are_shown()
         → after_message (FlowMod m) (owned_switch (flags_in rows) s) ≡ owned_switch (flags_in rows) (after_message (as_sent (FlowMod m)) s) }
 {}
 
-/// In a world that keeps its word, where nothing of the switch waited and view and table agreed: what an application's
-/// message was answered is what the reference controller answers, and its switches stand then as the world's do, with the
-/// flags of the owners.
+/// In a world that keeps its word, where all was ready: what an application's message was answered is what the reference
+/// controller answers, which loses the switch there or not; and its switches stand then as the world's do, with the flags of the
+/// owners.
 pub fn exchanges_are_shown<W: World>()
     ensures { (d : ℕ) (bytes : List ℕ) (old new : Seen W.Own) (net now_net : NetState) (given : Answer) → W.Tells → Conforming new
-        → Changes W.Tells d bytes old new net now_net (Ok given) → Steps W.Tells d bytes old new net now_net (Ok given)
-        → waits_of d (state old) ≡ [] → Agrees d net.views (state old) → Stand old.given.declared (state old)
-        → answer (shown_places old.given.declared net.views (state old)) d bytes ≡ (given, shown_places old.given.declared now_net.views (state new)) }
+        → Changes W.Tells d bytes old new net now_net (Ok given) → Ready old net → ExchangeShown old.given.declared d bytes old new net now_net given }
 {}

@@ -3,7 +3,7 @@
 //!
 //! There is no call here but laws, each the contract of a function that does nothing. In a world that keeps its word:
 //! `changes_are_shown` and `exchanges_are_shown` (answers and tables), `undos_are_shown`, `transactions_stand`,
-//! `packets_are_shown`, `stopped_releases_are_plain`, `histories_stand`, `flags_are_kept`. In any world:
+//! `packets_are_shown`, `stopped_releases_are_plain`, `histories_stand`, `flags_are_kept`. In any world that tells:
 //! `steps_are_in_order`, `none_is_released`, `faults_are_undone`.
 #![tactic(auto)]
 

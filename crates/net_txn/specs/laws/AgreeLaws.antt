@@ -1,8 +1,8 @@
 -- After an undo view and table agree again: both lost the same keys, whatever their order.
-use Rattle.std.specs.Prelude.{◌≡◌, ◌==◌, ℕ, Bool, true, false, not, ◌||◌, List, [], ◌∷◌, ◌++◌, map, filter, Option, Some, None, Result, IsOk, if◌then◌else◌, refl}
+use Rattle.std.specs.Prelude.{◌≡◌, ◌==◌, ℕ, Bool, true, false, not, List, [], ◌∷◌, ◌++◌, map, filter, Option, Some, None, IsOk, if◌then◌else◌, refl}
 use Rattle.std.specs.Option.{option_map, is_some}
-use Rattle.std.proofs.Common.{sym, ap, ◌∙◌, subst, inl, inr}
-use Rattle.std.proofs.lemmas.Bool.{cases_Bool, cases_eq, eq-eqb, ne_eqb}
+use Rattle.std.proofs.Common.{sym, ap, ◌∙◌, inl, inr}
+use Rattle.std.proofs.lemmas.Bool.{cases_eq, eq-eqb, ne_eqb}
 use Rattle.of_match.specs.declared.key.Key.{Key}
 use Rattle.of_match.specs.Key.{key_number}
 use Rattle.of_action.specs.declared.action.Action.{Action}
@@ -19,10 +19,11 @@ use Rattle.undo_laws.specs.Removal.{without}
 use Rattle.lego_model.specs.declared.fault.TxnFault.{TxnFault}
 use Rattle.net_txn.specs.Views.{rows_at, with_rows, is_viewed}
 use Rattle.net_txn.specs.laws.ViewLaws.{rows_at-same, rows_at-other, with_rows-none}
+pub use Rattle.net_txn.specs.laws.ViewLaws.{viewed}
 use Rattle.net_txn.specs.Arriving.{without_key}
 use Rattle.net_txn.specs.Agreement.{Agrees}
 use Rattle.net_txn.specs.laws.NoticeLaws.{with_entries}
-use Rattle.net_txn.specs.Undos.{Part, Inverse, BarrierPassed, Stuck, steps_of, parts_of, is_stuck, without_keys, keys_of, fault_in, first_fault_of, first_fault, ended_by, IsRevertedOn, AgreesAgain}
+use Rattle.net_txn.specs.Undos.{Part, Inverse, BarrierPassed, Stuck, steps_of, parts_of, is_stuck, without_keys, keys_of, first_fault_of, ended_by, IsRevertedOn, AgreesAgain}
 use Rattle.net_txn.specs.laws.RestoreLaws.{entries_left, keys_reverted, left_all, state_after, others_stay}
 use Rattle.net_txn.specs.laws.TableBackLaws.{table_left}
 use Rattle.net_txn.specs.laws.InStepLaws.{shown_by, some_rows}
@@ -106,14 +107,6 @@ some_without d (p ∷ ps) views rows is =
           rw (ne_eqb p.0 d other) (some_without d ps next rows there))
     ]
 
-viewed_if : (here : Bool) (v : TableView) (rest : Bool) (o : Option (List ViewRow)) → rest ≡ is_some o → (here || rest) ≡ is_some (if here then Some v.rows else o)
-viewed_if true v rest o is = refl
-viewed_if false v rest o is = is
-
-pub viewed : (d : ℕ) (views : List TableView) → is_viewed d views ≡ is_some (rows_at d views)
-viewed d [] = refl
-viewed d (v ∷ vs) = viewed_if (v.dpid == d) v (is_viewed d vs) (rows_at d vs) (viewed d vs)
-
 -- ---- The table
 
 table_left_rows : (parts : List Part) (es : List Entry) → rows_of_table (entries_left parts es) ≡ last_to_first (keys_reverted parts) (rows_of_table es)
@@ -137,13 +130,13 @@ some_from f (Some x) y is = (x, refl, same_value (f x) y is)
 
 -- of view and table alone
 table_agrees_by : {Own : Type 0} (old new : Seen Own) (d : ℕ) (views now_views : List TableView) (all : List (ℕ × Key)) (parts : List (ℕ × Part)) (o : Option SwitchState) → new.given ≡ old.given → new.history ≡ old.history ++ steps_of parts
-    → ((c : ℕ) → IsRevertedOn (is_viewed c views) c old.counts new.counts (keys_of c all) (parts_of c parts)) → now_views ≡ without_keys all views → is_stuck (parts_of d parts) ≡ false
+    → ((c : ℕ) → IsRevertedOn (is_viewed c views) c old.counts new.counts (keys_of c all) (parts_of c parts)) → rows_at d now_views ≡ rows_at d (without_keys all views) → is_stuck (parts_of d parts) ≡ false
     → Agrees d views (state old) → switch_of d (state old) ≡ o → Agrees d now_views (state new)
 table_agrees_by old new d views now_views all parts None given told each lost free before is =
     let no_rows : rows_at d views ≡ None = none_from rows_of_view (rows_at d views) (before ∙ ap (option_map shown_by) is) in
     let unknown : is_viewed d views ≡ false = viewed d views ∙ ap is_some no_rows in
     let same = others_stay old new d parts given told (λ c. (each c).run) ((each d).unknown unknown) in
-    let gone : rows_at d now_views ≡ None = ap (rows_at d) lost ∙ none_without d all views no_rows in
+    let gone : rows_at d now_views ≡ None = lost ∙ none_without d all views no_rows in
     rw (gone, same.0, is) refl
 table_agrees_by old new d views now_views all parts (Some s) given told each lost free before is =
     let there = some_from rows_of_view (rows_at d views) (shown_by s) (before ∙ ap (option_map shown_by) is) in
@@ -152,13 +145,13 @@ table_agrees_by old new d views now_views all parts (Some s) given told each los
     let keys = keys_of d all in
     let after = state_after old new (steps_of parts) given told in
     let now : switch_of d (state new) ≡ Some (with_entries (entries_left (parts_of d parts) s.table.entries) s) = ap (switch_of d) after ∙ table_left old.counts new.counts d s parts (state old) (λ c. (each c).run) free is in
-    let shown : rows_at d now_views ≡ Some (rows_without keys rows) = ap (rows_at d) lost ∙ some_without d all views rows there.1 in
+    let shown : rows_at d now_views ≡ Some (rows_without keys rows) = lost ∙ some_without d all views rows there.1 in
     let same : rows_of_view (rows_without keys rows) ≡ rows_of_table (entries_left (parts_of d parts) s.table.entries) =
     shown_without keys rows ∙ ap (first_to_last keys) there.2 ∙ either_way keys (shown_by s) ∙ ap (λ (ks : List Key). last_to_first ks (shown_by s)) (sym ((each d).keys_so known free)) ∙ sym (table_left_rows (parts_of d parts) s.table.entries) in
     rw (shown, now) (ap some_rows same)
 
 pub table_agrees : {Own : Type 0} (old new : Seen Own) (d : ℕ) (views now_views : List TableView) (all : List (ℕ × Key)) (parts : List (ℕ × Part)) → new.given ≡ old.given → new.history ≡ old.history ++ steps_of parts
-    → ((c : ℕ) → IsRevertedOn (is_viewed c views) c old.counts new.counts (keys_of c all) (parts_of c parts)) → now_views ≡ without_keys all views → is_stuck (parts_of d parts) ≡ false
+    → ((c : ℕ) → IsRevertedOn (is_viewed c views) c old.counts new.counts (keys_of c all) (parts_of c parts)) → rows_at d now_views ≡ rows_at d (without_keys all views) → is_stuck (parts_of d parts) ≡ false
     → Agrees d views (state old) → Agrees d now_views (state new)
 table_agrees old new d views now_views all parts given told each lost free before = table_agrees_by old new d views now_views all parts (switch_of d (state old)) given told each lost free before refl
 
@@ -178,36 +171,19 @@ none_waits_by old new d views all parts (Some s) given told each keeps free none
     ap (waits_of d) (state_after old new (steps_of parts) given told) ∙ l.barred ((each d).barred known free)
 
 pub agrees : {Own : Type 0} (old new : Seen Own) (d : ℕ) (views now_views : List TableView) (all : List (ℕ × Key)) (parts : List (ℕ × Part)) → new.given ≡ old.given → new.history ≡ old.history ++ steps_of parts
-    → ((c : ℕ) → IsRevertedOn (is_viewed c views) c old.counts new.counts (keys_of c all) (parts_of c parts)) → now_views ≡ without_keys all views → Conforming new → is_stuck (parts_of d parts) ≡ false → waits_of d (state old) ≡ []
+    → ((c : ℕ) → IsRevertedOn (is_viewed c views) c old.counts new.counts (keys_of c all) (parts_of c parts)) → rows_at d now_views ≡ rows_at d (without_keys all views) → Conforming new → is_stuck (parts_of d parts) ≡ false → waits_of d (state old) ≡ []
     → Agrees d views (state old) → AgreesAgain d now_views (state new)
 agrees old new d views now_views all parts given told each lost keeps free none before = record {
   agrees = table_agrees old new d views now_views all parts given told each lost free before;
   waits = none_waits_by old new d views all parts (switch_of d (state old)) given told each keeps free none before refl;
 }
 
--- ---- After Ok no switch failed.
+-- ---- After Ok no switch failed but by its link.
 
 pub both_none : (o later : Option TxnFault) → first_fault_of o later ≡ None → (o ≡ None) × (later ≡ None)
 both_none None later is = (refl, is)
 both_none (Some f) later is = absurd cc
 
-free_head : (p : Part) (older : List Part) → fault_in p ≡ None → is_stuck (p ∷ older) ≡ false
-free_head (Inverse xid k) older none = refl
-free_head (BarrierPassed xid got) older none = refl
-free_head (Stuck xid fault steps) older none = absurd cc
-
-pub free_all : (parts : List (ℕ × Part)) (d : ℕ) → first_fault parts ≡ None → is_stuck (parts_of d parts) ≡ false
-free_all [] d none = refl
-free_all (p ∷ older) d none =
-    let n = both_none (first_fault older) (fault_in p.1) none in
-    elim (cases_Bool (p.0 == d)) [
-      | inl here ↦ rw here (free_head p.1 (parts_of d older) n.1)
-      | inr other ↦ rw other (free_all older d n.0)
-    ]
-
 pub no_fault : (o : Option TxnFault) → IsOk (ended_by o) → o ≡ None
 no_fault None ok = refl
 no_fault (Some f) ok = absurd cc
-
-pub none_failed : (result : Result (Unit {0}) TxnFault) (parts : List (ℕ × Part)) (d : ℕ) → result ≡ ended_by (first_fault parts) → IsOk result → is_stuck (parts_of d parts) ≡ false
-none_failed result parts d is ok = free_all parts d (no_fault (first_fault parts) (subst (λ (r : Result (Unit {0}) TxnFault). IsOk r) is ok))

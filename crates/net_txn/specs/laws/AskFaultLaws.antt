@@ -1,11 +1,11 @@
--- Where a world keeps its word, a switch that is asked for its rows gives no cause for a fault but by its link.
-use Rattle.std.specs.Prelude.{◌≡◌, ℕ, ◌+◌, ◌%◌, ◌^◌, ◌<◌, ◌≤◌, ◌↔◌, nat_le, List, [], ◌∷◌, ◌++◌, length, map, Some, None, Result, Ok, Err, IsErr, slice_get, refl}
+-- How a switch fails to give its rows; and that where a world keeps its word, it gives no cause for a fault.
+use Rattle.std.specs.Prelude.{◌≡◌, ℕ, ◌+◌, ◌%◌, ◌^◌, ◌<◌, ◌≤◌, ◌↔◌, nat_le, List, [], ◌∷◌, ◌++◌, length, map, Option, Some, None, Result, Ok, Err, IsErr, slice_get, refl}
 use Rattle.std.specs.List.{AllByRecursion}
 use Rattle.std.proofs.Common.{zero, suc, sym, ap, ◌∙◌, subst, inl, inr, arith}
 use Rattle.std.proofs.lemmas.Bool.{cases_Bool}
 use Rattle.std.proofs.lemmas.List.{length-map}
 use Rattle.of_wire.specs.Spelling.{message_bytes}
-use Rattle.of_wire.specs.declared.message.Message.TheVariants.{BarrierReply}
+use Rattle.of_wire.specs.declared.message.Message.TheVariants.{StatsRequest, BarrierReply}
 use Rattle.of_stats.specs.declared.flow_row.FlowRow.{FlowRow}
 use Rattle.of_stats.specs.Flows.{row_bytes, AreRows}
 use Rattle.of_stats.specs.Parts.{Part, room, part_at, IsInPlace, joined}
@@ -17,19 +17,33 @@ use Rattle.outside.specs.State.{state, switch_of, waits_of}
 use Rattle.outside.specs.laws.StateLaws.{Conforming-rest, Conforming-before}
 use Rattle.outside.specs.Conforming.{Conforming}
 use Rattle.lego_model.specs.declared.fault.TxnFault.{TxnFault}
-use Rattle.lego_model.specs.declared.fault.TxnFault.TheVariants.{SwitchFault, SwitchBroke, Diverged, Flooded, NoMemory}
+use Rattle.lego_model.specs.declared.fault.TxnFault.TheVariants.{SwitchBroke, Diverged, Flooded, NoMemory}
 use Rattle.lego_model.specs.declared.wait.Awaited.{Awaited}
 use Rattle.net_txn.specs.Causes.{IsCause}
 use Rattle.net_txn.specs.Waits.{Floods, IfFlooded}
 use Rattle.lego_model.specs.BarrierWaits.{wait_steps, barrier_sent, next_xid}
 use Rattle.net_txn.specs.laws.HeardLaws.{next_xid-lt}
-use Rattle.net_txn.specs.Asks.{IsRefusal, IsRepliesFault, Asks}
+use Rattle.net_txn.specs.Asks.{IsRefusal, IsRepliesFault, IsAskCause, Asks}
+use Rattle.of_wire.specs.laws.ReadingLaws.{reading_of-message_bytes}
+use Rattle.lego_model.specs.declared.wait.Refusal.{Refusal}
+use Rattle.lego_model.specs.History.{lost_of}
+use Rattle.net_txn.specs.declared.halt.Halt.{Halt}
+use Rattle.net_txn.specs.declared.halt.Halt.TheVariants.{Lost, Fault}
+use Rattle.net_txn.specs.declared.queue.Storage.TheVariants.{Growing}
+use Rattle.net_txn.specs.Net.{NetState}
+use Rattle.net_txn.specs.Losing.{lost_net, WaitHalts}
+use Rattle.net_txn.specs.Said.{frames_said, barrier_of, Replied, BreaksBy}
+use Rattle.net_txn.specs.laws.AskLaws.{no_flood_of}
+use Rattle.net_txn.specs.laws.JoiningFaultLaws.{forgets_more}
+use Rattle.net_txn.specs.laws.LostLaws.{packets_said, breaks_halts, replied_none_lost, waits_none_lost}
+use Rattle.net_txn.specs.laws.ReadLaws.{waits_read}
+use Rattle.net_txn.specs.laws.TalkLaws.{speaks_on, speaks_links, speaks_place}
 use Rattle.lego_model.specs.FlowQueries.{all_flows, flows_request, request_sent, asked_from, parts_in, refusals_in, all_parts, IsBroken}
 use Rattle.net_txn.specs.laws.ReplyLaws.{IsSmallPart, IsPartOf-part_bytes, heard_part}
 use Rattle.net_txn.specs.laws.TableBoundLaws.{table_few}
 use Rattle.net_txn.specs.laws.FloodLaws.{IsGotAlone, few_got, ends_read}
-use Rattle.net_txn.specs.AskSteps.{own_rows, IsAskFault, AskSteps}
-use Rattle.net_txn.specs.laws.AskStepLaws.{own_parts, own_replies, small_own, selected_all, joined_own, after_both, both_sent, AskedInStep, asked_in_step, own_read, rows_in_step}
+use Rattle.net_txn.specs.AskSteps.{own_rows, IsAskFault, AskHalts, AsksFrom, AskSteps}
+use Rattle.net_txn.specs.laws.AskStepLaws.{asking, IsMessage-asking, own_parts, own_replies, small_own, selected_all, joined_own, after_both, both_sent, AskedInStep, asked_in_step, own_read, rows_in_step}
 
 -- ---- A reply of flows is whole, and has no more parts than rows, but one at least.
 
@@ -136,7 +150,6 @@ no_refusal d xid s old new kept now_kept came reply got asked is =
 
 by_replies : {Own : Type 0} (d xid : ℕ) (s : SwitchState) (old new : Seen Own) (kept now_kept came : List (ℕ × List ℕ)) (reply : List ℕ) (fault : TxnFault) → AskedInStep d xid s old new kept now_kept came
     → IsRepliesFault d (flows_request xid) reply (parts_in xid came) (refusals_in xid came) fault → IsAskFault d s fault
-by_replies d xid s old new kept now_kept came reply (SwitchFault of) asked is = absurd is
 by_replies d xid s old new kept now_kept came reply (SwitchBroke of bytes) asked is =
     (is.0, broken_rows s (parts_in xid came) bytes asked.said (ap length asked.parts ∙ length-map (own_parts s) (part_bytes xid)) is.2)
 by_replies d xid s old new kept now_kept came reply (Diverged of sent got) asked is = absurd (no_refusal d xid s old new kept now_kept came reply got asked is.2)
@@ -166,19 +179,98 @@ not_flooded d xid s old new lt told keeps is none f =
 
 by_wait : {Own : Type 0} {Tells : Type 0} (d xid : ℕ) (s : SwitchState) (old new : Seen Own) (fault : TxnFault) → xid < 2 ^ 32 → Tells → Continues Tells old new → Conforming new → switch_of d (state old) ≡ Some s → waits_of d (state old) ≡ []
     → IfFlooded Tells (asked_from d xid) (request_sent d xid ∷ barrier_sent (asked_from d xid) ∷ []) old new fault → IsCause Tells d old new fault → IsAskFault d s fault
-by_wait d xid s old new (SwitchFault of) lt told later keeps is none f cause = cause.0
 by_wait d xid s old new (SwitchBroke of bytes) lt told later keeps is none f cause = absurd (ends_read d bytes old new later.given (cause.2 told) keeps cause.1)
 by_wait d xid s old new (Diverged of sent got) lt told later keeps is none f cause = absurd cause
 by_wait d xid s old new (Flooded of n) lt told later keeps is none f cause = absurd (not_flooded d xid s old new lt told keeps is none f)
 by_wait d xid s old new NoMemory lt told later keeps is none f cause = tt
 
+-- ---- From a transaction id on
+
+none_released : (d xid : ℕ) → xid < 2 ^ 32 → packets_said (frames_said d (flows_request xid ∷ [])) ≡ []
+unfolding packets_said
+none_released d xid lt = let read = reading_of-message_bytes xid (StatsRequest asking) lt IsMessage-asking in rw read refl
+
+ask_halts : {Own : Type 0} (Tells : Type 0) (d xid : ℕ) (old new : Seen Own) (kept now_kept : List (ℕ × List ℕ)) (halt : Halt) → WaitHalts Tells (asked_from d xid) (request_sent d xid ∷ barrier_sent (asked_from d xid) ∷ []) old new halt
+    → AskHalts Tells d xid old new kept now_kept halt
+ask_halts Tells d xid old new kept now_kept Lost w = w
+ask_halts Tells d xid old new kept now_kept (Fault fault) w = (inl w.0, w.1, w.2)
+
+-- how the wait behind the request ends before its end
+pub asked_halts : {Own : Type 0} {Tells : Type 0} (d xid : ℕ) (a : Awaited) (frame : List ℕ) (old new : Seen Own) (before came kept now_kept : List (ℕ × List ℕ)) (halt : Halt) → xid < 2 ^ 32 → a ≡ asked_from d xid → frame ≡ flows_request xid
+    → BreaksBy Tells a (frame ∷ barrier_of a ∷ []) old new before came halt → AskHalts Tells d xid old new kept now_kept halt
+asked_halts {Tells = Tells} d xid a frame old new before came kept now_kept halt lt is frame_is b =
+    let here = asked_from d xid in
+    let b1 = subst (λ (x : Awaited). BreaksBy Tells x (frame ∷ barrier_of x ∷ []) old new before came halt) is b in
+    let b2 = subst (λ (f : List ℕ). BreaksBy Tells here (f ∷ barrier_of here ∷ []) old new before came halt) frame_is b1 in
+    ask_halts Tells d xid old new kept now_kept halt (breaks_halts (flows_request xid ∷ []) halt (next_xid-lt xid lt) (none_released d xid lt) b2)
+
+-- no memory was left behind the reply
+pub asked_short : {Own : Type 0} {Tells : Type 0} (d xid : ℕ) (a : Awaited) (frames : List (List ℕ)) (old new : Seen Own) (before came kept now_kept : List (ℕ × List ℕ)) (answer : Option Refusal) → Replied Tells a frames Growing [] old new before came answer
+    → AskHalts Tells d xid old new kept now_kept (Fault NoMemory)
+asked_short d xid a frames old new before came kept now_kept answer r = (inl tt, tt, replied_none_lost a frames r)
+
+-- what came is at fault
+pub asked_broke : {Own : Type 0} {Tells : Type 0} (d xid : ℕ) (a : Awaited) (frames : List (List ℕ)) (old new : Seen Own) (before came kept now_kept : List (ℕ × List ℕ)) (answer : Option Refusal) (request reply : List ℕ) (parts refusals : List (List ℕ)) (fault : TxnFault)
+    → Replied Tells a frames Growing [] old new before came answer → IsAskCause Tells d xid old new kept now_kept fault → IsRepliesFault d request reply parts refusals fault → AskHalts Tells d xid old new kept now_kept (Fault fault)
+asked_broke {Tells = Tells} d xid a frames old new before came kept now_kept answer request reply parts refusals fault r cause is =
+    (cause, no_flood_of Tells d xid (asked_from d xid) (request_sent d xid ∷ barrier_sent (asked_from d xid) ∷ []) old new request reply parts refusals fault is, replied_none_lost a frames r)
+
 -- ---- The whole
 
-pub ask_steps : {Own : Type 0} {Tells : Type 0} (d xid : ℕ) (old new : Seen Own) (kept now_kept : List (ℕ × List ℕ)) (result : Result (List FlowRow) TxnFault) → xid < 2 ^ 32
-    → Asks Tells d xid old new kept now_kept result → AskSteps Tells d old new kept now_kept result
-ask_steps d xid old new kept now_kept (Ok rows) lt asks s told keeps is none = rows_in_step d xid s old new kept now_kept rows lt told asks.answer keeps is none
-ask_steps d xid old new kept now_kept (Err fault) lt asks s told keeps is none =
-    elim asks.answer [
-      | inl cause ↦ by_wait d xid s old new fault lt told asks.continues keeps is none asks.flooded cause
+others_go : {Own : Type 0} {Tells : Type 0} (d xid : ℕ) (old new : Seen Own) (kept now_kept : List (ℕ × List ℕ)) (rows : List FlowRow) → xid < 2 ^ 32 → AsksFrom Tells d xid old new kept now_kept (Ok rows) → Tells → lost_of new ≡ lost_of old
+others_go d xid old new kept now_kept rows lt asks told = waits_none_lost (request_sent d xid ∷ barrier_sent (asked_from d xid) ∷ []) (refl, (refl, tt)) refl asks.answer.answered.waits told
+
+pub asks_rows : {Own : Type 0} {Tells : Type 0} (d xid : ℕ) (old new : Seen Own) (net : NetState) (now_kept : List (ℕ × List ℕ)) (rows : List FlowRow) → net.xid < 2 ^ 32 → xid ≡ next_xid (next_xid net.xid) → AsksFrom Tells d net.xid old new net.kept now_kept (Ok rows)
+    → Asks Tells d old new net (record net { xid = xid; kept = now_kept }) (Ok (Some rows))
+asks_rows d xid old new net now_kept rows lt next asks = record {
+  continues = speaks_on asks.speaks;
+  links = speaks_links asks.speaks;
+  no_strays = speaks_place asks.speaks;
+  read = λ ok told. waits_read _ (refl, (refl, tt)) (next_xid-lt net.xid lt) asks.answer.answered.waits told;
+  asks = record {
+    kept_more = asks.kept_more;
+    answer = asks.answer;
+    flooded = tt;
+    losses = others_go d net.xid old new net.kept now_kept rows lt asks;
+    stays = ap (λ (x : ℕ). record net { xid = x; kept = now_kept }) next;
+  };
+}
+
+pub asks_fault : {Own : Type 0} {Tells : Type 0} (d xid : ℕ) (old new : Seen Own) (net : NetState) (now_kept : List (ℕ × List ℕ)) (fault : TxnFault) → xid ≡ next_xid (next_xid net.xid) → AsksFrom Tells d net.xid old new net.kept now_kept (Err (Fault fault))
+    → Asks Tells d old new net (record net { xid = xid; kept = now_kept }) (Err fault)
+asks_fault d xid old new net now_kept fault next asks = record {
+  continues = speaks_on asks.speaks;
+  links = speaks_links asks.speaks;
+  no_strays = speaks_place asks.speaks;
+  read = λ ok. absurd cc;
+  asks = record {
+    kept_more = asks.kept_more;
+    answer = asks.answer.0;
+    flooded = asks.answer.1;
+    losses = asks.answer.2;
+    stays = ap (λ (x : ℕ). record net { xid = x; kept = now_kept }) next;
+  };
+}
+
+pub asks_lost : {Own : Type 0} {Tells : Type 0} (d xid : ℕ) (old new : Seen Own) (net : NetState) (now_kept : List (ℕ × List ℕ)) → AsksFrom Tells d net.xid old new net.kept now_kept (Err Lost)
+    → Asks Tells d old new net (lost_net d (record net { xid = xid; kept = now_kept })) (Ok None)
+asks_lost d xid old new net now_kept asks = record {
+  continues = speaks_on asks.speaks;
+  links = speaks_links asks.speaks;
+  no_strays = speaks_place asks.speaks;
+  read = λ ok told. asks.answer.1 told;
+  asks = record {
+    is_lost = asks.answer.0;
+    net_so = ap (λ (k : List (ℕ × List ℕ)). record (lost_net d net) { xid = xid; kept = k }) (forgets_more d net.kept now_kept asks.kept_more);
+  };
+}
+
+pub ask_steps : {Own : Type 0} {Tells : Type 0} (d xid : ℕ) (old new : Seen Own) (kept now_kept : List (ℕ × List ℕ)) (rows : List FlowRow) → xid < 2 ^ 32 → AsksFrom Tells d xid old new kept now_kept (Ok rows) → AskSteps Tells d old new kept now_kept (Ok (Some rows))
+ask_steps d xid old new kept now_kept rows lt asks s told keeps is none = rows_in_step d xid s old new kept now_kept rows lt told asks.answer keeps is none
+
+pub ask_fault_steps : {Own : Type 0} {Tells : Type 0} (d xid : ℕ) (old new : Seen Own) (kept now_kept : List (ℕ × List ℕ)) (fault : TxnFault) → xid < 2 ^ 32 → AsksFrom Tells d xid old new kept now_kept (Err (Fault fault)) → AskSteps Tells d old new kept now_kept (Err fault)
+ask_fault_steps d xid old new kept now_kept fault lt asks s told keeps is none =
+    elim asks.answer.0 [
+      | inl cause ↦ by_wait d xid s old new fault lt told (speaks_on asks.speaks) keeps is none asks.answer.1 cause
       | inr replies ↦ by_replies d xid s old new kept now_kept replies.0 (message_bytes (next_xid xid) BarrierReply) fault (asked_in_step d xid s old new kept now_kept replies.0 lt told replies.1 keeps is none) replies.2
     ]

@@ -15,11 +15,10 @@ use Rattle.outside.specs.declared.step.WorldStep.{WorldStep}
 use Rattle.outside.specs.declared.step.WorldStep.TheVariants.{Acted}
 use Rattle.outside.specs.Seen.{Seen}
 use Rattle.lego_model.specs.declared.fault.TxnFault.{TxnFault}
-use Rattle.lego_model.specs.declared.fault.TxnFault.TheVariants.{SwitchFault, SwitchBroke, Diverged, Flooded, NoMemory}
+use Rattle.lego_model.specs.declared.fault.TxnFault.TheVariants.{SwitchBroke, Diverged, Flooded, NoMemory}
 use Rattle.lego_model.specs.declared.wait.Awaited.{Awaited}
 use Rattle.lego_model.specs.declared.wait.Refusal.{Refusal}
-use Rattle.net_txn.specs.LinkSteps.{AsksWithoutStrays}
-use Rattle.net_txn.specs.Causes.{IsCause}
+use Rattle.net_txn.specs.declared.halt.Halt.{Halt}
 use Rattle.net_txn.specs.Waits.{Waits, IfFlooded, KeptMore}
 use Rattle.lego_model.specs.BarrierWaits.{barrier_sent, next_xid}
 use Rattle.net_txn.specs.laws.WaitLaws.{waits_kept, of_switch}
@@ -88,16 +87,10 @@ sorted_some d xid n came kept now_kept more is =
 
 -- ---- The whole
 
-pub came_more : {Own : Type 0} (Tells : Type 0) (d xid : ℕ) (a : Awaited) (front : List WorldStep) (old new : Seen Own) (before came : List (ℕ × List ℕ)) (result : Result (Option Refusal) TxnFault)
+pub came_more : {Own : Type 0} (Tells : Type 0) (d xid : ℕ) (a : Awaited) (front : List WorldStep) (old new : Seen Own) (before came : List (ℕ × List ℕ)) (result : Result (Option Refusal) Halt)
     → a ≡ asked_from d xid → before ≡ [] → IfOk result (Waits Tells a front old new before came) → OnErr result (KeptMore a.dpid before came) → KeptMore d [] came
 came_more Tells d xid a front old new before came (Ok answer) is none ok err = kept_for d a.dpid before [] came (ap (λ (x : Awaited). x.dpid) is) none (waits_kept ok)
 came_more Tells d xid a front old new before came (Err fault) is none ok err = kept_for d a.dpid before [] came (ap (λ (x : Awaited). x.dpid) is) none err
-
-pub asked_cause : {Own : Type 0} (Tells : Type 0) (d xid : ℕ) (a : Awaited) (old new : Seen Own) (fault : TxnFault) → a ≡ asked_from d xid → IsCause Tells a.dpid old new fault → IsCause Tells d old new fault
-asked_cause Tells d xid a old new fault is cause = subst (λ (x : Awaited). IsCause Tells x.dpid old new fault) is cause
-
-pub asked_place : {Own : Type 0} (Tells : Type 0) (d xid : ℕ) (a : Awaited) (old new : Seen Own) → a ≡ asked_from d xid → AsksWithoutStrays Tells a.dpid old new → AsksWithoutStrays Tells d old new
-asked_place Tells d xid a old new is asks = subst (λ (x : Awaited). AsksWithoutStrays Tells x.dpid old new) is asks
 
 pub asked_waits : {Own : Type 0} {Tells : Type 0} (d xid : ℕ) (a : Awaited) (frame : List ℕ) (old new : Seen Own) (before came : List (ℕ × List ℕ)) (refusal : Option Refusal)
     → a ≡ asked_from d xid → frame ≡ flows_request xid → before ≡ [] → Waits Tells a (Acted (Sent a.dpid frame) ∷ barrier_sent a ∷ []) old new before came refusal
@@ -126,23 +119,8 @@ answer_by_replies d xid old new kept now_kept came parts refusals request barrie
 
 -- ---- A flood
 
-pub asked_flooded : {Own : Type 0} (Tells : Type 0) (d xid : ℕ) (a : Awaited) (frame : List ℕ) (old new : Seen Own) (fault : TxnFault) → a ≡ asked_from d xid → frame ≡ flows_request xid
-    → IfFlooded Tells a (Acted (Sent a.dpid frame) ∷ barrier_sent a ∷ []) old new fault → IfFlooded Tells (asked_from d xid) (request_sent d xid ∷ barrier_sent (asked_from d xid) ∷ []) old new fault
-asked_flooded Tells d xid a frame old new fault is spelled f =
-    let here = asked_from d xid in
-    let f1 = subst (λ (x : Awaited). IfFlooded Tells x (Acted (Sent x.dpid frame) ∷ barrier_sent x ∷ []) old new fault) is f in
-    subst (λ (b : List ℕ). IfFlooded Tells here (Acted (Sent d b) ∷ barrier_sent here ∷ []) old new fault) spelled f1
-
-no_flood_of : {Own : Type 0} (Tells : Type 0) (d xid : ℕ) (a : Awaited) (front : List WorldStep) (old new : Seen Own) (request reply : List ℕ) (parts refusals : List (List ℕ)) (fault : TxnFault) → IsRepliesFault d request reply parts refusals fault → IfFlooded Tells a front old new fault
-no_flood_of Tells d xid a front old new request reply parts refusals (SwitchFault of) is = tt
+pub no_flood_of : {Own : Type 0} (Tells : Type 0) (d xid : ℕ) (a : Awaited) (front : List WorldStep) (old new : Seen Own) (request reply : List ℕ) (parts refusals : List (List ℕ)) (fault : TxnFault) → IsRepliesFault d request reply parts refusals fault → IfFlooded Tells a front old new fault
 no_flood_of Tells d xid a front old new request reply parts refusals (SwitchBroke of bytes) is = tt
 no_flood_of Tells d xid a front old new request reply parts refusals (Diverged of sent got) is = tt
 no_flood_of Tells d xid a front old new request reply parts refusals (Flooded of n) is = absurd is
 no_flood_of Tells d xid a front old new request reply parts refusals NoMemory is = tt
-
--- what came is no flood
-pub replies_no_flood : {Own : Type 0} (Tells : Type 0) (d xid : ℕ) (old new : Seen Own) (request reply : List ℕ) (parts refusals : List (List ℕ)) (result : Result (List FlowRow) TxnFault) → IfErr result (IsRepliesFault d request reply parts refusals)
-    → IfErr result (IfFlooded Tells (asked_from d xid) (request_sent d xid ∷ barrier_sent (asked_from d xid) ∷ []) old new)
-replies_no_flood Tells d xid old new request reply parts refusals (Ok rows) is = tt
-replies_no_flood Tells d xid old new request reply parts refusals (Err fault) is =
-    no_flood_of Tells d xid (asked_from d xid) (request_sent d xid ∷ barrier_sent (asked_from d xid) ∷ []) old new request reply parts refusals fault is

@@ -96,10 +96,10 @@ selected_all s =
     let matching : match_of (piece 40 0 all_flows) ≡ any_match = ap match_of query_laid.0 ∙ match_of-bytes_of any_match in
     rw (query_laid.1.0, query_laid.1.1.0, matching) (all_selected s.table.entries)
 
-abbrev asking : StatsBody
+abbrev pub asking : StatsBody
 asking = record { kind = 1; flags = 0; body = all_flows }
 
-IsMessage-asking : IsMessage (StatsRequest asking)
+pub IsMessage-asking : IsMessage (StatsRequest asking)
 unfolding message_size
 IsMessage-asking = record { fields = (omega arith, (omega arith, tt)); tail = tt; size = omega (arith, length-all_flows) }
 

@@ -1,4 +1,4 @@
--- Where a world keeps its word, nothing of a switch waited, and its view agreed with its table, a change gives no cause for a fault but by the link.
+-- Where a world keeps its word, nothing of a switch waited, and its view agreed with its table, a change gives no cause for a fault.
 use Rattle.std.specs.Prelude.{◌≡◌, ℕ, ◌^◌, ◌<◌, ◌≤◌, false, List, [], ◌∷◌, length, Option, Some, None, Ok, refl}
 use Rattle.std.specs.List.{AllByRecursion}
 use Rattle.std.proofs.Common.{sym, ap, ◌∙◌, subst, arith}
@@ -16,16 +16,17 @@ use Rattle.outside.specs.State.{state, switch_of, waits_of}
 use Rattle.outside.specs.laws.StateLaws.{Conforming-rest}
 use Rattle.outside.specs.Conforming.{Conforming}
 use Rattle.lego_model.specs.declared.fault.TxnFault.{TxnFault}
-use Rattle.lego_model.specs.declared.fault.TxnFault.TheVariants.{SwitchFault, SwitchBroke, Diverged, Flooded, NoMemory}
+use Rattle.lego_model.specs.declared.fault.TxnFault.TheVariants.{SwitchBroke, Diverged, Flooded, NoMemory}
+use Rattle.net_txn.specs.declared.halt.Halt.TheVariants.{Fault}
 use Rattle.lego_model.specs.declared.wait.Heard.TheVariants.{Refused}
-use Rattle.net_txn.specs.Causes.{IsCause, IsPlainFault}
+use Rattle.net_txn.specs.Causes.{IsCause, IsPlain}
 use Rattle.lego_model.specs.BarrierWaits.{heard, wait_steps, barrier_sent}
 use Rattle.net_txn.specs.Net.{NetState, awaited_from}
 use Rattle.net_txn.specs.laws.SentLaws.{reading_of-as_sent}
 use Rattle.net_txn.specs.laws.RowLaws.{sent}
 use Rattle.net_txn.specs.laws.HeardLaws.{IsSmall, small_refusal, next_xid-lt, heard-error}
 use Rattle.net_txn.specs.laws.FloodLaws.{IsGotAlone, few_got, ends_read}
-use Rattle.net_txn.specs.Changes.{answer_of_host, change_sent, IfGivenUp}
+use Rattle.net_txn.specs.Answering.{answer_of_host, change_sent, IfGivenUp}
 use Rattle.net_txn.specs.Agreement.{Agrees}
 use Rattle.net_txn.specs.laws.InStepLaws.{after_both, both_sent, refused_sends, taken_sends, small_of, passed, some_from, shown_by}
 
@@ -45,7 +46,7 @@ one_sent d xid m s lt none (Some e) is =
     let refused : heard (awaited_from d xid) (error_bytes xid (as_sent (FlowMod m)) e) ≡ Refused (record { xid = xid; error = e }) = heard-error d xid (as_sent (FlowMod m)) e lt small in
     subst (IsOne d xid) (sym (refused_sends xid (as_sent (FlowMod m)) s e is)) (record { few = omega arith; alone = (rw refused refl, tt) })
 
-not_flooded : {Own : Type 0} {Tells : Type 0} (d : ℕ) (bytes : List ℕ) (old new : Seen Own) (net : NetState) (n : ℕ) (m : Change) (xid : ℕ) → Tells → IfGivenUp Tells d m old new net (Flooded d n)
+not_flooded : {Own : Type 0} {Tells : Type 0} (d : ℕ) (bytes : List ℕ) (old new : Seen Own) (net : NetState) (n : ℕ) (m : Change) (xid : ℕ) → Tells → IfGivenUp Tells d m old new net (Fault (Flooded d n))
     → answer_of_host d bytes net ≡ None → reading_of bytes ≡ Ok (enveloped xid (FlowMod m)) → Conforming new → waits_of d (state old) ≡ [] → Agrees d net.views (state old) → ⊥
 not_flooded d bytes old new net n m xid told given host read keeps waits agrees =
     let p = passed d bytes m net xid host read in
@@ -60,9 +61,8 @@ not_flooded d bytes old new net n m xid told given host read keeps waits agrees 
     let few = few_got old.given.declared a (sent_by_message net.xid (as_sent (FlowMod m)) s) f.got (after_both d net.xid m (state old)) one.alone sending.waits may.1.1 f.before_reply in
     omega (arith, f.many, few, one.few)
 
-pub change_fault : {Own : Type 0} {Tells : Type 0} (d : ℕ) (bytes : List ℕ) (old new : Seen Own) (net : NetState) (fault : TxnFault) (m : Change) (xid : ℕ) → Tells → Continues Tells old new → IsCause Tells d old new fault → IfGivenUp Tells d m old new net fault
-    → answer_of_host d bytes net ≡ None → reading_of bytes ≡ Ok (enveloped xid (FlowMod m)) → Conforming new → waits_of d (state old) ≡ [] → Agrees d net.views (state old) → IsPlainFault d fault
-change_fault d bytes old new net (SwitchFault of) m xid told later cause given host read keeps waits agrees = cause.0
+pub change_fault : {Own : Type 0} {Tells : Type 0} (d : ℕ) (bytes : List ℕ) (old new : Seen Own) (net : NetState) (fault : TxnFault) (m : Change) (xid : ℕ) → Tells → Continues Tells old new → IsCause Tells d old new fault → IfGivenUp Tells d m old new net (Fault fault)
+    → answer_of_host d bytes net ≡ None → reading_of bytes ≡ Ok (enveloped xid (FlowMod m)) → Conforming new → waits_of d (state old) ≡ [] → Agrees d net.views (state old) → IsPlain fault
 change_fault d bytes old new net (SwitchBroke of got) m xid told later cause given host read keeps waits agrees = ends_read d got old new later.given (cause.2 told) keeps cause.1
 change_fault d bytes old new net (Diverged of first second) m xid told later cause given host read keeps waits agrees = cause
 change_fault d bytes old new net (Flooded of n) m xid told later cause given host read keeps waits agrees = not_flooded d bytes old new net n m xid told given host read keeps waits agrees

@@ -1,6 +1,6 @@
 -- A change in flight: what was said of it, and how the switches stand then, whatever the world tells besides: the one moved as by the
 -- change, or not at all.
-use Rattle.std.specs.Prelude.{◌≡◌, ◌⊎◌, ℕ, ◌^◌, ◌<◌, List, [], ◌∷◌, ◌++◌, take, Option, Some, None, Ok, refl}
+use Rattle.std.specs.Prelude.{◌≡◌, ◌⊎◌, ℕ, ◌^◌, ◌<◌, Bool, false, List, [], ◌∷◌, ◌++◌, take, Option, Some, None, Ok, refl}
 use Rattle.std.specs.Option.{option_map}
 use Rattle.std.proofs.Common.{sym, ap, ◌∙◌, subst, inl, inr}
 use Rattle.of_wire.specs.declared.bodies.FlowMod.{FlowMod as Change}
@@ -14,109 +14,134 @@ use Rattle.flow_table.specs.Switch.{SwitchState}
 use Rattle.flow_table.specs.Step.{after_message}
 use Rattle.lego_model.specs.Answers.{as_sent}
 use Rattle.outside.specs.declared.step.WorldStep.{WorldStep}
-use Rattle.outside.specs.declared.step.WorldStep.TheVariants.{SendFailed, RecvFailed}
 use Rattle.outside.specs.Seen.{Seen}
-use Rattle.outside.specs.State.{Link, State, after_step, after_steps, state, link_of, switch_in, switch_of, switch_told, link_failed}
-use Rattle.outside.specs.laws.LinkLaws.{link_of-same, switch_of-sent, switch_of-got}
-use Rattle.outside.specs.laws.StateLaws.{after_steps-append}
+use Rattle.outside.specs.State.{State, after_steps, state, switch_of, switch_told, is_joined}
+use Rattle.outside.specs.laws.LinkLaws.{switch_of-sent, switch_of-got}
+use Rattle.outside.specs.laws.StateLaws.{after_steps-append, state-append}
 use Rattle.lego_model.specs.declared.fault.TxnFault.{TxnFault}
+use Rattle.net_txn.specs.declared.halt.Halt.{Halt}
+use Rattle.net_txn.specs.declared.halt.Halt.TheVariants.{Lost, Fault}
 use Rattle.lego_model.specs.declared.wait.Awaited.{Awaited}
 use Rattle.lego_model.specs.BarrierWaits.{next_xid}
 use Rattle.net_txn.specs.declared.queue.Storage.TheVariants.{Growing}
 use Rattle.net_txn.specs.declared.logged.Logged.{Logged}
 use Rattle.net_txn.specs.declared.trouble.Trouble.{Trouble}
 use Rattle.net_txn.specs.declared.trouble.Trouble.TheVariants as troubles
+use Rattle.lego_model.specs.History.{lost_of}
 use Rattle.net_txn.specs.Net.{NetState, awaited_from}
 use Rattle.net_txn.specs.Said.{Said, Says, Hears, said_steps, Calls, unsaid, unheard, last_said, wait_said, frames_said, barrier_of, reply_heard, Replied, Breaks, BreaksBy}
-use Rattle.net_txn.specs.Changes.{BreaksOff, InFlight, MayMove}
-use Rattle.net_txn.specs.laws.SaidLaws.{steps_append, Calls-moves, wait_said_steps}
+use Rattle.net_txn.specs.Answering.{BreaksOff, InFlight, MayMove}
+use Rattle.net_txn.specs.Making.{Halts}
+use Rattle.net_txn.specs.Waits.{KeptMore}
+use Rattle.net_txn.specs.laws.SaidLaws.{joined_after, steps_append, Calls-moves, wait_said_steps}
+use Rattle.net_txn.specs.laws.LostLaws.{is_link, fault_is_none, packets_said, breaks_halts, breaks_none_lost, replied_none_lost}
 use Rattle.net_txn.specs.laws.HeardLaws.{IsMessage-barrier, next_xid-lt}
 use Rattle.net_txn.specs.laws.SentLaws.{reading_of-as_sent}
 use Rattle.net_txn.specs.laws.StepLaws.{barrier_stays}
-use Rattle.net_txn.specs.laws.PartLaws.{keeps_failed, steps_other}
-use Rattle.net_txn.specs.laws.RestoreLaws.{state_after}
-use Rattle.net_txn.specs.laws.TableBackLaws.{wait_switch}
+use Rattle.net_txn.specs.laws.PartLaws.{steps_other}
+use Rattle.net_txn.specs.laws.WaitMoveLaws.{wait_switch}
 
 -- ---- What was said, with the ids and the bytes of this change
 
 abbrev pub change_bytes : ℕ → Change → List ℕ
 change_bytes xid m = message_bytes xid (as_sent (FlowMod m))
 
-pub broke_then : {Own : Type 0} {Tells : Type 0} (d : ℕ) (m : Change) (net : NetState) (a : Awaited) (frame : List ℕ) (kept now_kept : List (ℕ × List ℕ)) (old new : Seen Own) (fault : TxnFault)
-    → a ≡ awaited_from d net.xid → frame ≡ change_bytes a.first m → kept ≡ net.kept → BreaksBy Tells a ((frame ∷ []) ++ barrier_of a ∷ []) old new kept now_kept fault
-    → BreaksOff Tells (awaited_from d net.xid) (change_bytes net.xid m ∷ []) old new net.kept now_kept fault
-broke_then {Tells = Tells} d m net a frame kept now_kept old new fault is spelled same b =
+broke_by : {Own : Type 0} {Tells : Type 0} (d : ℕ) (m : Change) (net : NetState) (a : Awaited) (frame : List ℕ) (kept now_kept : List (ℕ × List ℕ)) (old new : Seen Own) (halt : Halt)
+    → a ≡ awaited_from d net.xid → frame ≡ change_bytes a.first m → kept ≡ net.kept → BreaksBy Tells a ((frame ∷ []) ++ barrier_of a ∷ []) old new kept now_kept halt
+    → BreaksBy Tells (awaited_from d net.xid) ((change_bytes net.xid m ∷ []) ++ barrier_of (awaited_from d net.xid) ∷ []) old new net.kept now_kept halt
+broke_by {Tells = Tells} d m net a frame kept now_kept old new halt is spelled same b =
     let here = awaited_from d net.xid in
     let first : frame ≡ change_bytes net.xid m = spelled ∙ ap (λ (x : Awaited). change_bytes x.first m) is in
-    let b1 = subst (λ (x : Awaited). BreaksBy Tells x ((frame ∷ []) ++ barrier_of x ∷ []) old new kept now_kept fault) is b in
-    let b2 = subst (λ (f : List ℕ). BreaksBy Tells here ((f ∷ []) ++ barrier_of here ∷ []) old new kept now_kept fault) first b1 in
-    inl (subst (λ (k : List (ℕ × List ℕ)). BreaksBy Tells here ((change_bytes net.xid m ∷ []) ++ barrier_of here ∷ []) old new k now_kept fault) same b2)
+    let b1 = subst (λ (x : Awaited). BreaksBy Tells x ((frame ∷ []) ++ barrier_of x ∷ []) old new kept now_kept halt) is b in
+    let b2 = subst (λ (f : List ℕ). BreaksBy Tells here ((f ∷ []) ++ barrier_of here ∷ []) old new kept now_kept halt) first b1 in
+    subst (λ (k : List (ℕ × List ℕ)). BreaksBy Tells here ((change_bytes net.xid m ∷ []) ++ barrier_of here ∷ []) old new k now_kept halt) same b2
 
-pub replied_then : {Own : Type 0} {Tells : Type 0} (d : ℕ) (m : Change) (net : NetState) (a : Awaited) (frame : List ℕ) (kept now_kept : List (ℕ × List ℕ)) (old new : Seen Own) (fault : TxnFault)
+pub replied_then : {Own : Type 0} {Tells : Type 0} (d : ℕ) (m : Change) (net : NetState) (a : Awaited) (frame : List ℕ) (kept now_kept : List (ℕ × List ℕ)) (old new : Seen Own) (halt : Halt)
     → a ≡ awaited_from d net.xid → frame ≡ change_bytes a.first m → kept ≡ net.kept → Replied Tells a ((frame ∷ []) ++ barrier_of a ∷ []) Growing [] old new kept now_kept None
-    → BreaksOff Tells (awaited_from d net.xid) (change_bytes net.xid m ∷ []) old new net.kept now_kept fault
-replied_then {Tells = Tells} d m net a frame kept now_kept old new fault is spelled same r =
+    → BreaksOff Tells (awaited_from d net.xid) (change_bytes net.xid m ∷ []) old new net.kept now_kept halt
+replied_then {Tells = Tells} d m net a frame kept now_kept old new halt is spelled same r =
     let here = awaited_from d net.xid in
     let first : frame ≡ change_bytes net.xid m = spelled ∙ ap (λ (x : Awaited). change_bytes x.first m) is in
     let r1 = subst (λ (x : Awaited). Replied Tells x ((frame ∷ []) ++ barrier_of x ∷ []) Growing [] old new kept now_kept None) is r in
     let r2 = subst (λ (f : List ℕ). Replied Tells here ((f ∷ []) ++ barrier_of here ∷ []) Growing [] old new kept now_kept None) first r1 in
     inr (subst (λ (k : List (ℕ × List ℕ)). Replied Tells here ((change_bytes net.xid m ∷ []) ++ barrier_of here ∷ []) Growing [] old new k now_kept None) same r2)
 
+-- what is sent releases no packet
+change_none : (d xid : ℕ) (m : Change) → xid < 2 ^ 32 → IsMessage (FlowMod m) → packets_said (frames_said d (change_bytes xid m ∷ [])) ≡ []
+unfolding packets_said
+change_none d xid m small is = rw (reading_of-as_sent xid m small is) refl
+
+pub halts_then : {Own : Type 0} {Tells : Type 0} (d : ℕ) (m : Change) (log : List Logged) (net now_net : NetState) (a : Awaited) (frame : List ℕ) (kept : List (ℕ × List ℕ)) (old new : Seen Own) (halt : Halt) → a ≡ awaited_from d net.xid → frame ≡ change_bytes a.first m
+    → kept ≡ net.kept → IsMessage (FlowMod m) → net.xid < 2 ^ 32 → now_net.views ≡ net.views → now_net.log ≡ log → KeptMore d net.kept now_net.kept → BreaksBy Tells a ((frame ∷ []) ++ barrier_of a ∷ []) old new kept now_net.kept halt
+    → Halts Tells d m log old new net now_net halt
+halts_then {Tells = Tells} d m log net now_net a frame kept old new Lost is spelled same message small views log_so more b =
+    let c = broke_by d m net a frame kept now_net.kept old new Lost is spelled same b in
+    let h = breaks_halts (change_bytes net.xid m ∷ []) Lost (next_xid-lt net.xid small) (change_none d net.xid m small message) c in
+    record { is_lost = h.0; read = h.1; views = views; log_so = log_so; kept = more }
+halts_then d m log net now_net a frame kept old new (Fault fault) is spelled same message small views log_so more b = inr (record {
+  message = message;
+  is_xid = small;
+  said = inl (broke_by d m net a frame kept now_net.kept old new (Fault fault) is spelled same b);
+  views = inl views;
+  log_so = log_so;
+  kept = more;
+})
+
+-- a fault of a change loses no switch
+pub flight_none_lost : {Own : Type 0} {Tells : Type 0} (d : ℕ) (m : Change) (log : List Logged) (old new : Seen Own) (net now_net : NetState) (fault : TxnFault) → InFlight Tells d m log old new net now_net (Fault fault) → Tells → lost_of new ≡ lost_of old
+flight_none_lost d m log old new net now_net fault flight told =
+    let a = awaited_from d net.xid in
+    let frames = change_bytes net.xid m ∷ barrier_of a ∷ [] in
+    elim flight.said [
+      | inl broke ↦ breaks_none_lost a frames broke.buf broke.trouble (fault_is_none d broke.trouble broke.buf fault broke.halt_so) broke.breaks told
+      | inr replied ↦ replied_none_lost a frames replied told
+    ]
+
 -- ---- What moves no switch
 
+-- whether it is joined or out
 abbrev pub Stays : ℕ → List Said → Type 0
-Stays d said = (t : State) → switch_of d (after_steps (said_steps said) t) ≡ switch_of d t
+Stays d said = (joined : Bool) (t : State) → switch_of d (after_steps (said_steps joined said) t) ≡ switch_of d t
 
 abbrev pub Moves : ℕ → Message → List Said → Type 0
-Moves d m said = (t : State) → switch_of d (after_steps (said_steps said) t) ≡ option_map (after_message m) (switch_of d t)
+Moves d m said = (joined : Bool) (t : State) → switch_of d (after_steps (said_steps joined said) t) ≡ option_map (after_message m) (switch_of d t)
 
-one_then : (xs ys : List Said) (t : State) → after_steps (said_steps (xs ++ ys)) t ≡ after_steps (said_steps ys) (after_steps (said_steps xs) t)
-one_then xs ys t = ap (λ (steps : List WorldStep). after_steps steps t) (steps_append xs ys) ∙ after_steps-append (said_steps xs) (said_steps ys) t
+one_then : (joined : Bool) (xs ys : List Said) (t : State) → after_steps (said_steps joined (xs ++ ys)) t ≡ after_steps (said_steps (joined_after joined xs) ys) (after_steps (said_steps joined xs) t)
+one_then joined xs ys t =
+    ap (λ (steps : List WorldStep). after_steps steps t) (steps_append joined xs ys) ∙ after_steps-append (said_steps joined xs) (said_steps (joined_after joined xs) ys) t
 
 pub stays_then : (d : ℕ) (xs ys : List Said) → Stays d xs → Stays d ys → Stays d (xs ++ ys)
-stays_then d xs ys first second t = ap (switch_of d) (one_then xs ys t) ∙ second (after_steps (said_steps xs) t) ∙ first t
+stays_then d xs ys first second joined t = ap (switch_of d) (one_then joined xs ys t) ∙ second (joined_after joined xs) (after_steps (said_steps joined xs) t) ∙ first joined t
 
 pub moves_then : (d : ℕ) (m : Message) (xs ys : List Said) → Moves d m xs → Stays d ys → Moves d m (xs ++ ys)
-moves_then d m xs ys first second t = ap (switch_of d) (one_then xs ys t) ∙ second (after_steps (said_steps xs) t) ∙ first t
+moves_then d m xs ys first second joined t = ap (switch_of d) (one_then joined xs ys t) ∙ second (joined_after joined xs) (after_steps (said_steps joined xs) t) ∙ first joined t
 
-failed_switch : (o : Option Link) → switch_in (option_map link_failed o) ≡ switch_in o
-unfolding link_failed
-failed_switch None = refl
-failed_switch (Some l) = refl
+-- a trouble that is not of the link loses no switch
+pub stays_unsaid : (d : ℕ) (trouble : Trouble) → is_link trouble ≡ false → Stays d (unsaid d trouble)
+stays_unsaid d troubles.Link none joined t = absurd cc
+stays_unsaid d (troubles.Broke n) none joined t = refl
+stays_unsaid d (troubles.Refused k x n) none joined t = refl
+stays_unsaid d troubles.Flooded none joined t = refl
+stays_unsaid d troubles.Short none joined t = refl
+stays_unsaid d troubles.Full none joined t = refl
 
-send_failed : (d : ℕ) (t : State) → switch_of d (after_step (SendFailed d) t) ≡ switch_of d t
-unfolding switch_of after_step
-send_failed d t = ap switch_in (link_of-same d link_failed keeps_failed t.links) ∙ failed_switch (link_of d t.links)
+stays_unheard : (d : ℕ) (trouble : Trouble) (buf : List ℕ) → is_link trouble ≡ false → Stays d (unheard d trouble buf)
+stays_unheard d troubles.Link buf none joined t = absurd cc
+stays_unheard d (troubles.Broke n) buf none joined t = switch_of-got d (take n buf) t
+stays_unheard d (troubles.Refused k x n) buf none joined t = refl
+stays_unheard d troubles.Flooded buf none joined t = refl
+stays_unheard d troubles.Short buf none joined t = refl
+stays_unheard d troubles.Full buf none joined t = refl
 
-recv_failed : (d : ℕ) (t : State) → switch_of d (after_step (RecvFailed d) t) ≡ switch_of d t
-unfolding switch_of after_step
-recv_failed d t = ap switch_in (link_of-same d link_failed keeps_failed t.links) ∙ failed_switch (link_of d t.links)
-
-pub stays_unsaid : (d : ℕ) (trouble : Trouble) → Stays d (unsaid d trouble)
-stays_unsaid d troubles.Link t = send_failed d t
-stays_unsaid d (troubles.Broke n) t = refl
-stays_unsaid d (troubles.Refused k x n) t = refl
-stays_unsaid d troubles.Flooded t = refl
-stays_unsaid d troubles.Short t = refl
-stays_unsaid d troubles.Full t = refl
-
-stays_unheard : (d : ℕ) (trouble : Trouble) (buf : List ℕ) → Stays d (unheard d trouble buf)
-stays_unheard d troubles.Link buf t = recv_failed d t
-stays_unheard d (troubles.Broke n) buf t = switch_of-got d (take n buf) t
-stays_unheard d (troubles.Refused k x n) buf t = refl
-stays_unheard d troubles.Flooded buf t = refl
-stays_unheard d troubles.Short buf t = refl
-stays_unheard d troubles.Full buf t = refl
-
-pub stays_last : (d : ℕ) (by : Option (List ℕ)) (trouble : Trouble) (buf : List ℕ) → Stays d (last_said d by trouble buf)
-stays_last d None trouble buf = stays_unheard d trouble buf
-stays_last d (Some b) trouble buf = stays_then d (Hears d b ∷ []) (unsaid d trouble) (λ t. switch_of-got d b t) (stays_unsaid d trouble)
+pub stays_last : (d : ℕ) (by : Option (List ℕ)) (trouble : Trouble) (buf : List ℕ) → is_link trouble ≡ false → Stays d (last_said d by trouble buf)
+stays_last d None trouble buf none = stays_unheard d trouble buf none
+stays_last d (Some b) trouble buf none = stays_then d (Hears d b ∷ []) (unsaid d trouble) (λ joined t. switch_of-got d b t) (stays_unsaid d trouble none)
 
 pub stays_wait : (a : Awaited) (got : List (List ℕ)) → Stays a.dpid (wait_said a got)
-stays_wait a got t = ap (λ (steps : List WorldStep). switch_of a.dpid (after_steps steps t)) (wait_said_steps a got) ∙ wait_switch a got t
+stays_wait a got joined t = ap (λ (steps : List WorldStep). switch_of a.dpid (after_steps steps t)) (wait_said_steps joined a got) ∙ wait_switch a got t
 
 pub stays_reply : (a : Awaited) → Stays a.dpid (reply_heard a ∷ [])
-stays_reply a t = switch_of-got a.dpid (message_bytes a.barrier BarrierReply) t
+stays_reply a joined t = switch_of-got a.dpid (message_bytes a.barrier BarrierReply) t
 
 abbrev some_switch : SwitchState → Option SwitchState
 some_switch x = Some x
@@ -132,11 +157,11 @@ told_as xid m bytes None read = rw read refl
 told_as xid m bytes (Some s) read = rw read refl
 
 pub told_map : (xid : ℕ) (m : Message) (bytes : List ℕ) (d : ℕ) → reading_of bytes ≡ Ok (enveloped xid m) → Moves d m (Says d bytes ∷ [])
-told_map xid m bytes d read t = switch_of-sent d bytes t ∙ told_as xid m bytes (switch_of d t) read
+told_map xid m bytes d read joined t = switch_of-sent d bytes t ∙ told_as xid m bytes (switch_of d t) read
 
 pub stays_barrier : (d xid : ℕ) → xid < 2 ^ 32 → Stays d (Says d (message_bytes xid BarrierRequest) ∷ [])
-stays_barrier d xid small t =
-    told_map xid BarrierRequest (message_bytes xid BarrierRequest) d (reading_of-message_bytes xid BarrierRequest small IsMessage-barrier) t ∙ barrier_told (switch_of d t)
+stays_barrier d xid small joined t =
+    told_map xid BarrierRequest (message_bytes xid BarrierRequest) d (reading_of-message_bytes xid BarrierRequest small IsMessage-barrier) joined t ∙ barrier_told (switch_of d t)
 
 -- ---- The whole
 
@@ -176,33 +201,35 @@ module _ (d xid : ℕ) (m : Change) (small : xid < 2 ^ 32) (is : IsMessage (Flow
 
 moves_by : {Own : Type 0} {Tells : Type 0} (d : ℕ) (m : Message) (said : List Said) (old new : Seen Own) → Tells → Calls Tells d said old new → EitherWay d m said → MayMove d m (state old) (state new)
 moves_by d m said old new told calls either =
-    let after = state_after old new (said_steps said) calls.continues.given (calls.told told) in
+    let joined = is_joined d (state old) in
+    let steps = said_steps joined said in
+    let after = state-append old new steps calls.continues.given (calls.told told) in
     record {
       switch = elim either [
-        | inl stays ↦ inl (ap (switch_of d) after ∙ stays (state old))
-        | inr moves ↦ inr (ap (switch_of d) after ∙ moves (state old))
+        | inl stays ↦ inl (ap (switch_of d) after ∙ stays joined (state old))
+        | inr moves ↦ inr (ap (switch_of d) after ∙ moves joined (state old))
       ];
-      others = λ e other. ap (switch_of e) after ∙ (steps_other d e (said_steps said) (state old) other (Calls-moves (said_steps said) refl calls).each).0;
+      others = λ e other. ap (switch_of e) after ∙ (steps_other d e steps (state old) other (Calls-moves steps refl calls).each).0;
     }
 
-breaks_move : {Own : Type 0} {Tells : Type 0} (d xid : ℕ) (m : Change) (old new : Seen Own) (kept now_kept : List (ℕ × List ℕ)) (buf : List ℕ) (trouble : Trouble) → Tells → xid < 2 ^ 32 → IsMessage (FlowMod m)
+breaks_move : {Own : Type 0} {Tells : Type 0} (d xid : ℕ) (m : Change) (old new : Seen Own) (kept now_kept : List (ℕ × List ℕ)) (buf : List ℕ) (trouble : Trouble) → Tells → xid < 2 ^ 32 → IsMessage (FlowMod m) → is_link trouble ≡ false
     → Breaks Tells (awaited_from d xid) (change_bytes xid m ∷ barrier_of (awaited_from d xid) ∷ []) Growing [] old new kept now_kept buf trouble → MayMove d (as_sent (FlowMod m)) (state old) (state new)
-breaks_move d xid m old new kept now_kept buf trouble told small is (inl u) =
+breaks_move d xid m old new kept now_kept buf trouble told small is none (inl u) =
     moves_by d (as_sent (FlowMod m)) (frames_said d u.first ++ unsaid d trouble) old new told u.calls
-    (front_moves d xid m small is u.first (unsaid d trouble) (front_of_two (change_bytes xid m) (barrier_of (awaited_from d xid)) u.first u.rest u.frames_so) (stays_unsaid d trouble))
-breaks_move d xid m old new kept now_kept buf trouble told small is (inr u) =
+    (front_moves d xid m small is u.first (unsaid d trouble) (front_of_two (change_bytes xid m) (barrier_of (awaited_from d xid)) u.first u.rest u.frames_so) (stays_unsaid d trouble none))
+breaks_move d xid m old new kept now_kept buf trouble told small is none (inr u) =
     let a = awaited_from d xid in
     let frames = change_bytes xid m ∷ barrier_of a ∷ [] in
     let last = wait_said a u.got ++ last_said d u.by trouble buf in
     moves_by d (as_sent (FlowMod m)) (frames_said d frames ++ last) old new told u.calls
-    (front_moves d xid m small is frames last (both_front d xid m small is) (stays_then d (wait_said a u.got) (last_said d u.by trouble buf) (stays_wait a u.got) (stays_last d u.by trouble buf)))
+    (front_moves d xid m small is frames last (both_front d xid m small is) (stays_then d (wait_said a u.got) (last_said d u.by trouble buf) (stays_wait a u.got) (stays_last d u.by trouble buf none)))
 
 -- The switches stand so after a fault of a change.
-pub flight_moves : {Own : Type 0} {Tells : Type 0} (d : ℕ) (m : Change) (log : List Logged) (old new : Seen Own) (net now_net : NetState) (fault : TxnFault) → Tells → InFlight Tells d m log old new net now_net fault → MayMove d (as_sent (FlowMod m)) (state old) (state new)
+pub flight_moves : {Own : Type 0} {Tells : Type 0} (d : ℕ) (m : Change) (log : List Logged) (old new : Seen Own) (net now_net : NetState) (fault : TxnFault) → Tells → InFlight Tells d m log old new net now_net (Fault fault) → MayMove d (as_sent (FlowMod m)) (state old) (state new)
 flight_moves d m log old new net now_net fault told flight =
     let a = awaited_from d net.xid in
     elim flight.said [
-      | inl broke ↦ breaks_move d net.xid m old new net.kept now_net.kept broke.buf broke.trouble told flight.is_xid flight.message broke.breaks
+      | inl broke ↦ breaks_move d net.xid m old new net.kept now_net.kept broke.buf broke.trouble told flight.is_xid flight.message (fault_is_none d broke.trouble broke.buf fault broke.halt_so) broke.breaks
       | inr replied ↦
           (let frames = change_bytes net.xid m ∷ barrier_of a ∷ [] in
           let last = wait_said a replied.got ++ reply_heard a ∷ [] in

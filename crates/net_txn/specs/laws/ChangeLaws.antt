@@ -1,8 +1,10 @@
 -- Laws of changes: how the pieces of one make the whole.
-use Rattle.std.specs.Prelude.{◌≡◌, ◌⊎◌, ℕ, ◌^◌, ◌<◌, Bool, true, List, [], ◌∷◌, ◌++◌, Option, Some, None, Result, Ok, Err, MatchResult, IfErr, IsErr, IsSome, length, take, refl}
+use Rattle.std.specs.Prelude.{◌≡◌, ◌⊎◌, ℕ, ◌^◌, ◌<◌, Bool, true, List, [], ◌∷◌, ◌++◌, Option, Some, None, Result, Ok, Err, MatchResult, IfErr, IsSome, length, map, filter, not, ◌==◌, take, false, refl}
 use Rattle.std.specs.Option.{is_some}
 use Rattle.std.proofs.Common.{sym, ap, ◌∙◌, subst, inl, inr, arith}
 use Rattle.std.proofs.lemmas.List.{take_all, take_at, append-nil}
+use Rattle.std.proofs.lemmas.List.Elements.{filter-append}
+use Rattle.std.proofs.lemmas.Bool.{eq-eqb}
 use Rattle.of_types.specs.declared.journal.Act.TheVariants.{Sent}
 use Rattle.of_wire.specs.declared.bodies.FlowMod.{FlowMod as Change}
 use Rattle.of_wire.specs.declared.message.Message.{Message}
@@ -16,16 +18,18 @@ use Rattle.of_wire.specs.Grammar.{IsMessage, enveloped}
 use Rattle.app_frames.specs.declared.frame.Answer.{Answer}
 use Rattle.app_frames.specs.declared.frame.Answer.TheVariants.{Fine, Error, Unknown, Statistics}
 use Rattle.lego_model.specs.Packets.{Held, holds}
+use Rattle.lego_model.specs.History.{lost_of}
 use Rattle.lego_model.specs.Answers.{rows_of_view, as_sent, host_answer_read, host_answer}
 use Rattle.outside.specs.declared.step.WorldStep.TheVariants.{Acted}
 use Rattle.outside.specs.Seen.{Seen, Continues}
 use Rattle.outside.specs.laws.SeenLaws.{Continues-refl}
 use Rattle.outside.specs.laws.InOrderLaws.{messages-none}
 use Rattle.lego_model.specs.declared.fault.TxnFault.{TxnFault}
-use Rattle.lego_model.specs.declared.fault.TxnFault.TheVariants.{SwitchFault, SwitchBroke, Diverged, Flooded, NoMemory}
+use Rattle.lego_model.specs.declared.fault.TxnFault.TheVariants.{SwitchBroke, Diverged, Flooded, NoMemory}
+use Rattle.net_txn.specs.declared.halt.Halt.{Halt}
+use Rattle.net_txn.specs.declared.halt.Halt.TheVariants.{Lost, Fault}
 use Rattle.lego_model.specs.declared.wait.Awaited.{Awaited}
 use Rattle.lego_model.specs.declared.wait.Refusal.{Refusal}
-use Rattle.net_txn.specs.LinkSteps.{OnLinks, AsksWithoutStrays}
 use Rattle.net_txn.specs.laws.LinkStepLaws.{OnLinks-refl}
 use Rattle.net_txn.specs.laws.LinkStrayLaws.{no_strays_none}
 use Rattle.net_txn.specs.laws.ReadLaws.{asked_read}
@@ -34,13 +38,21 @@ use Rattle.flow_table.specs.Change.{key_in}
 use Rattle.flow_table.specs.declared.view.ViewRow.{ViewRow}
 use Rattle.flow_table.specs.View.{TableView}
 use Rattle.net_txn.specs.declared.logged.Logged.{Logged}
-use Rattle.net_txn.specs.Waits.{Waits, Floods, IfFlooded, KeptMore}
+use Rattle.net_txn.specs.Waits.{Waits, Floods, KeptMore}
 use Rattle.lego_model.specs.BarrierWaits.{barrier_sent}
 use Rattle.net_txn.specs.Views.{rows_at, is_row_at, with_rows, with_added, rows_after}
 use Rattle.net_txn.specs.laws.ViewLaws.{rows_at-stays}
 use Rattle.net_txn.specs.Host.{held_read}
 use Rattle.net_txn.specs.Net.{NetState, awaited_from, logged_by, with_logged}
-use Rattle.net_txn.specs.Changes.{answer_of_host, held_after, views_by, change_sent, Asked, Unsent, Stopped, log_in_flight, InFlight, IfGivenUp, Changes}
+use Rattle.net_txn.specs.Answering.{answer_of_host, held_after, views_by, change_sent, Asked, Unsent, Stopped, log_in_flight, InFlight, IfGivenUp}
+use Rattle.net_txn.specs.Making.{StaysBut, LosesSo, Halts, forgets, log_halted, Judged, MakesJoined, MakesLost, Makes}
+use Rattle.net_txn.specs.Changes.{ChangesJoined, ChangesLost, Changes}
+use Rattle.net_txn.specs.Losing.{lost_net}
+use Rattle.net_txn.specs.laws.ViewLaws.{viewed}
+use Rattle.net_txn.specs.laws.TalkLaws.{IfHaltFlooded, speaks_on, speaks_links, speaks_place}
+use Rattle.net_txn.specs.laws.LostLaws.{waits_none_lost}
+use Rattle.net_txn.specs.laws.ChangeFlightLaws.{flight_none_lost}
+use Rattle.net_txn.specs.laws.ConsequenceLaws.{IfAsked, AnswersSo, reaches, steps}
 
 pub sent_waits : {Own : Type 0} {Tells : Type 0} (d : ℕ) (m : Change) (net : NetState) (a : Awaited) (frame : List ℕ) (kept now_kept : List (ℕ × List ℕ)) (old new : Seen Own) (refusal : Option Refusal)
     → a ≡ awaited_from d net.xid → frame ≡ message_bytes a.first (as_sent (FlowMod m)) → kept ≡ net.kept
@@ -61,13 +73,13 @@ sent_floods {Tells = Tells} d m net a frame old new is spelled f =
     let f1 = subst (λ (x : Awaited). Floods Tells x (Acted (Sent x.dpid frame) ∷ barrier_sent x ∷ []) old new) is f in
     subst (λ (b : List ℕ). Floods Tells here (Acted (Sent d b) ∷ barrier_sent here ∷ []) old new) first f1
 
-pub given_up : {Own : Type 0} (Tells : Type 0) (d : ℕ) (m : Change) (net : NetState) (a : Awaited) (frame : List ℕ) (old new : Seen Own) (fault : TxnFault) → a ≡ awaited_from d net.xid → frame ≡ message_bytes a.first (as_sent (FlowMod m))
-    → IsMessage (FlowMod m) → net.xid < 2 ^ 32 → IfFlooded Tells a (Acted (Sent a.dpid frame) ∷ barrier_sent a ∷ []) old new fault → IfGivenUp Tells d m old new net fault
-given_up Tells d m net a frame old new (SwitchFault of) is spelled message lt f = tt
-given_up Tells d m net a frame old new (SwitchBroke of bytes) is spelled message lt f = tt
-given_up Tells d m net a frame old new (Diverged of sent got) is spelled message lt f = tt
-given_up Tells d m net a frame old new (Flooded of n) is spelled message lt f = (message, lt, sent_floods d m net a frame old new is spelled f)
-given_up Tells d m net a frame old new NoMemory is spelled message lt f = tt
+pub given_up : {Own : Type 0} (Tells : Type 0) (d : ℕ) (m : Change) (net : NetState) (a : Awaited) (frame : List ℕ) (old new : Seen Own) (halt : Halt) → a ≡ awaited_from d net.xid → frame ≡ message_bytes a.first (as_sent (FlowMod m))
+    → IsMessage (FlowMod m) → net.xid < 2 ^ 32 → IfHaltFlooded Tells a (Acted (Sent a.dpid frame) ∷ barrier_sent a ∷ []) old new halt → IfGivenUp Tells d m old new net halt
+given_up Tells d m net a frame old new Lost is spelled message lt f = tt
+given_up Tells d m net a frame old new (Fault (SwitchBroke of bytes)) is spelled message lt f = tt
+given_up Tells d m net a frame old new (Fault (Diverged of sent got)) is spelled message lt f = tt
+given_up Tells d m net a frame old new (Fault (Flooded of n)) is spelled message lt f = (message, lt, sent_floods d m net a frame old new is spelled f)
+given_up Tells d m net a frame old new (Fault NoMemory) is spelled message lt f = tt
 
 no_answer : (answer : Answer) → Some answer ≡ None → ⊥
 no_answer answer e = cc
@@ -93,6 +105,22 @@ abbrev pub holding : ℕ → List ℕ → Answer → NetState → NetState
 holding d bytes answer net = record net { held = net.held ++ holds d bytes answer }
 
 -- the host answers, with nothing sent
+held_joined : {Own : Type 0} {Tells : Type 0} (d : ℕ) (bytes : List ℕ) (seen : Seen Own) (net : NetState) (answer : Answer) → answer_of_host d bytes net ≡ Some answer
+    → ChangesJoined Tells d bytes seen seen net (holding d bytes answer net) (Ok answer)
+held_joined {Tells = Tells} d bytes seen net answer is = record {
+  switches = λ e. refl;
+  ports = refl;
+  left = refl;
+  held = refl;
+  by_host = λ other h. record { answers = some_is answer other (sym is ∙ h); fault = tt; world = refl; stays = refl };
+  by_switch = λ xid m none read. absurd (no_answer answer (sym is ∙ none));
+  flooded = λ xid m none read. tt;
+  in_flight = λ xid m none read. tt;
+  reached = λ xid m told none read. absurd (no_answer answer (sym is ∙ none));
+  in_step = λ xid m told none read keeps waits agrees. absurd (no_answer answer (sym is ∙ none));
+  losses = λ told. refl;
+}
+
 Changes-held : {Own : Type 0} {Tells : Type 0} (d : ℕ) (bytes : List ℕ) (seen : Seen Own) (net : NetState) (answer : Answer) → answer_of_host d bytes net ≡ Some answer
     → Changes Tells d bytes seen seen net (holding d bytes answer net) (Ok answer)
 Changes-held {Tells = Tells} d bytes seen net answer is = record {
@@ -101,15 +129,9 @@ Changes-held {Tells = Tells} d bytes seen net answer is = record {
   no_strays = λ told keeps joined. no_strays_none seen;
   read = λ ok told. messages-none seen;
   cause = tt;
-  switches = λ e. refl;
-  ports = refl;
   moment = refl;
   room = refl;
-  held = refl;
-  by_host = λ other h. record { answers = some_is answer other (sym is ∙ h); fault = tt; world = refl; stays = refl };
-  by_switch = λ xid m none read. absurd (no_answer answer (sym is ∙ none));
-  flooded = λ xid m none read. tt;
-  in_flight = λ xid m none read. tt;
+  answered = inl (held_joined d bytes seen net answer is);
 }
 
 pub Changes-by_host : {Own : Type 0} {Tells : Type 0} (d : ℕ) (bytes : List ℕ) (seen : Seen Own) (net now_net : NetState) (answer : Answer) → answer_of_host d bytes net ≡ Some answer → now_net ≡ holding d bytes answer net
@@ -117,6 +139,21 @@ pub Changes-by_host : {Own : Type 0} {Tells : Type 0} (d : ℕ) (bytes : List �
 Changes-by_host {Tells = Tells} d bytes seen net now_net answer is same = subst (λ (n : NetState). Changes Tells d bytes seen seen net n (Ok answer)) (sym same) (Changes-held d bytes seen net answer is)
 
 -- memory was wanting before anything was sent
+short_joined : {Own : Type 0} {Tells : Type 0} (d : ℕ) (bytes : List ℕ) (seen : Seen Own) (net : NetState) → ChangesJoined Tells d bytes seen seen net net (Err NoMemory)
+short_joined {Tells = Tells} d bytes seen net = record {
+  switches = λ e. refl;
+  ports = refl;
+  left = refl;
+  held = refl;
+  by_host = λ other h. record { answers = tt; fault = refl; world = refl; stays = refl };
+  by_switch = λ xid m none read. inl (record { world = refl; views = refl; log = refl; kept = refl });
+  flooded = λ xid m none read. tt;
+  in_flight = λ xid m none read. inl (record { world = refl; views = refl; log = refl; kept = refl });
+  reached = λ xid m told none read. tt;
+  in_step = λ xid m told none read keeps waits agrees. tt;
+  losses = λ told. refl;
+}
+
 pub Changes-short : {Own : Type 0} {Tells : Type 0} (d : ℕ) (bytes : List ℕ) (seen : Seen Own) (net : NetState) → Changes Tells d bytes seen seen net net (Err NoMemory)
 Changes-short {Tells = Tells} d bytes seen net = record {
   continues = Continues-refl Tells seen;
@@ -124,15 +161,9 @@ Changes-short {Tells = Tells} d bytes seen net = record {
   no_strays = λ told keeps joined. no_strays_none seen;
   read = λ ok told. messages-none seen;
   cause = tt;
-  switches = λ e. refl;
-  ports = refl;
   moment = refl;
   room = refl;
-  held = refl;
-  by_host = λ other h. record { answers = tt; fault = refl; world = refl; stays = refl };
-  by_switch = λ xid m none read. inl (record { world = refl; views = refl; log = refl; kept = refl });
-  flooded = λ xid m none read. tt;
-  in_flight = λ xid m none read. inl (record { world = refl; views = refl; log = refl; kept = refl });
+  answered = inl (short_joined d bytes seen net);
 }
 
 pub kept_for : (d e : ℕ) (before kept now_kept : List (ℕ × List ℕ)) → e ≡ d → before ≡ kept → KeptMore e before now_kept → KeptMore d kept now_kept
@@ -161,6 +192,10 @@ unfolding host_answer
 host_knows d bytes net views rows seen same known is =
     let here : rows_at d net.views ≡ Some seen = ap (λ (vs : List TableView). rows_at d vs) (sym same) ∙ known ∙ ap (λ (rs : List ViewRow). some_rows rs) (sym is) in
     rw here refl
+
+some_is_some : (o : Option (List ViewRow)) → IsSome o → is_some o ≡ true
+some_is_some None some = absurd cc
+some_is_some (Some rows) some = refl
 
 some_rows_there : (o : Option (List ViewRow)) → (o ≡ None → ⊥) → IsSome o
 some_rows_there None some = absurd (some refl)
@@ -212,11 +247,6 @@ made_switches : {Own : Type 0} (Tells : Type 0) (d e : ℕ) (m : Change) (old ne
 made_switches Tells d e m old new net now_net (Ok answer) asked = ap (has_rows e) asked.views ∙ judged_switches asked.refusal d e m net.views
 made_switches Tells d e m old new net now_net (Err fault) stopped = stopped_switches d e m old new net now_net stopped
 
--- what is known of a fault, in short
-abbrev pub Judged : {Own : Type 0} → Type 0 → ℕ → Change → Seen Own → Seen Own → NetState → NetState → Result Answer TxnFault → Type 0
-Judged Tells d m old new net now_net result =
-    MatchResult result (Asked Tells d m old new net now_net) (λ f. Unsent old new net now_net ⊎ InFlight Tells d m (log_in_flight d m net.views net.log) old new net now_net f)
-
 stopped_so : {Own : Type 0} (Tells : Type 0) (d : ℕ) (m : Change) (old new : Seen Own) (net now_net : NetState) (result : Result Answer TxnFault) → Judged Tells d m old new net now_net result
     → MatchResult result (Asked Tells d m old new net now_net) (λ f. Stopped d m old new net now_net)
 stopped_so Tells d m old new net now_net (Ok answer) does = does
@@ -224,7 +254,7 @@ stopped_so Tells d m old new net now_net (Err f) (inl unsent) = inl unsent
 stopped_so Tells d m old new net now_net (Err f) (inr flight) = inr (record { views = flight.views; log = flight.log_so; kept = flight.kept })
 
 in_flight_so : {Own : Type 0} (Tells : Type 0) (d : ℕ) (m : Change) (old new : Seen Own) (net now_net : NetState) (result : Result Answer TxnFault) → Judged Tells d m old new net now_net result
-    → IfErr result (λ f. Unsent old new net now_net ⊎ InFlight Tells d m (log_in_flight d m net.views net.log) old new net now_net f)
+    → IfErr result (λ f. Unsent old new net now_net ⊎ InFlight Tells d m (log_in_flight d m net.views net.log) old new net now_net (Fault f))
 in_flight_so Tells d m old new net now_net (Ok answer) does = tt
 in_flight_so Tells d m old new net now_net (Err f) does = does
 
@@ -240,12 +270,12 @@ no_packet d xid m bytes (Statistics kind body) read = refl
 cut_log : (d : ℕ) (m : Change) (log all : List Logged) (n : ℕ) → n ≡ length log → all ≡ with_logged (logged_by d m) log → take n all ≡ log
 cut_log d m log all n longer is = log_cut (logged_by d m) log all n longer is
 
-forgets : {Own : Type 0} {Tells : Type 0} (d : ℕ) (m : Change) (old new : Seen Own) (net mid : NetState) (n : ℕ) (fault : TxnFault) → n ≡ length net.log → is_row_at d (key_in m) net.views ≡ true
-    → Unsent old new net mid ⊎ InFlight Tells d m (with_logged (logged_by d m) net.log) old new net mid fault
-    → Unsent old new net (record mid { log = take n mid.log }) ⊎ InFlight Tells d m (log_in_flight d m net.views net.log) old new net (record mid { log = take n mid.log }) fault
-forgets d m old new net mid n fault longer known (inl unsent) =
+cut_flight : {Own : Type 0} {Tells : Type 0} (d : ℕ) (m : Change) (old new : Seen Own) (net mid : NetState) (n : ℕ) (fault : TxnFault) → n ≡ length net.log → is_row_at d (key_in m) net.views ≡ true
+    → Unsent old new net mid ⊎ InFlight Tells d m (with_logged (logged_by d m) net.log) old new net mid (Fault fault)
+    → Unsent old new net (record mid { log = take n mid.log }) ⊎ InFlight Tells d m (log_in_flight d m net.views net.log) old new net (record mid { log = take n mid.log }) (Fault fault)
+cut_flight d m old new net mid n fault longer known (inl unsent) =
     inl (record { world = unsent.world; views = unsent.views; log = ap (take n) unsent.log ∙ take_all n net.log (omega (arith, longer)); kept = unsent.kept })
-forgets d m old new net mid n fault longer known (inr flight) = inr (record {
+cut_flight d m old new net mid n fault longer known (inr flight) = inr (record {
   message = flight.message;
   is_xid = flight.is_xid;
   said = flight.said;
@@ -254,35 +284,118 @@ forgets d m old new net mid n fault longer known (inr flight) = inr (record {
   kept = flight.kept;
 })
 
-pub forgotten : {Own : Type 0} (Tells : Type 0) (d : ℕ) (m : Change) (old new : Seen Own) (net mid now : NetState) (n : ℕ) (result : Result Answer TxnFault) → IsErr result → n ≡ length net.log → is_row_at d (key_in m) net.views ≡ true
-    → now ≡ record mid { log = take n mid.log } → MatchResult result (Asked Tells d m old new net mid) (λ f. Unsent old new net mid ⊎ InFlight Tells d m (with_logged (logged_by d m) net.log) old new net mid f)
-    → Judged Tells d m old new net now result
-forgotten Tells d m old new net mid now n (Ok answer) failed longer known same made = absurd cc
-forgotten Tells d m old new net mid now n (Err fault) failed longer known same made =
-    subst (λ (x : NetState). Unsent old new net x ⊎ InFlight Tells d m (log_in_flight d m net.views net.log) old new net x fault) (sym same) (forgets d m old new net mid n fault longer known made)
+-- how it halts, with a log that may have been cut back
+abbrev pub Forgetting : {Own : Type 0} → Type 0 → ℕ → Change → Seen Own → Seen Own → NetState → NetState → Result Answer Halt → Type 0
+Forgetting Tells d m old new net now_net result = MatchResult result (Asked Tells d m old new net now_net) (λ halt. Halts Tells d m (log_halted d m net halt) old new net now_net halt)
+
+pub forgotten : {Own : Type 0} (Tells : Type 0) (d : ℕ) (m : Change) (old new : Seen Own) (net mid now : NetState) (n : ℕ) (known : Bool) (result : Result Answer Halt) → forgets known result ≡ true → n ≡ length net.log → known ≡ is_row_at d (key_in m) net.views
+    → now ≡ record mid { log = take n mid.log } → MatchResult result (Asked Tells d m old new net mid) (Halts Tells d m (with_logged (logged_by d m) net.log) old new net mid) → Forgetting Tells d m old new net now result
+forgotten Tells d m old new net mid now n known (Ok answer) forgot longer row same made = absurd cc
+forgotten Tells d m old new net mid now n known (Err Lost) forgot longer row same made =
+    subst (λ (x : NetState). LosesSo Tells d net.log old new net x) (sym same) (record {
+      is_lost = made.is_lost;
+      read = made.read;
+      views = made.views;
+      log_so = cut_log d m net.log mid.log n longer made.log_so;
+      kept = made.kept;
+    })
+forgotten Tells d m old new net mid now n known (Err (Fault fault)) forgot longer row same made =
+    subst (λ (x : NetState). Unsent old new net x ⊎ InFlight Tells d m (log_in_flight d m net.views net.log) old new net x (Fault fault)) (sym same) (cut_flight d m old new net mid n fault longer (sym row ∙ forgot) made)
+
+with_log : {Own : Type 0} {Tells : Type 0} (d : ℕ) (m : Change) (log more : List Logged) (old new : Seen Own) (net mid : NetState) (fault : TxnFault) → log ≡ more
+    → Unsent old new net mid ⊎ InFlight Tells d m log old new net mid (Fault fault) → Unsent old new net mid ⊎ InFlight Tells d m more old new net mid (Fault fault)
+with_log {Tells = Tells} d m log more old new net mid fault same made = subst (λ (l : List Logged). Unsent old new net mid ⊎ InFlight Tells d m l old new net mid (Fault fault)) same made
+
+pub not_forgotten : {Own : Type 0} (Tells : Type 0) (d : ℕ) (m : Change) (old new : Seen Own) (net mid : NetState) (known : Bool) (result : Result Answer Halt) → forgets known result ≡ false → known ≡ is_row_at d (key_in m) net.views
+    → MatchResult result (Asked Tells d m old new net mid) (Halts Tells d m (with_logged (logged_by d m) net.log) old new net mid) → Forgetting Tells d m old new net mid result
+not_forgotten Tells d m old new net mid known (Ok answer) kept row made = made
+not_forgotten Tells d m old new net mid known (Err Lost) kept row made = absurd cc
+not_forgotten Tells d m old new net mid known (Err (Fault fault)) kept row made =
+    let none : is_row_at d (key_in m) net.views ≡ false = sym row ∙ kept in
+    with_log d m (with_logged (logged_by d m) net.log) (log_in_flight d m net.views net.log) old new net mid fault (sym (rw none refl)) made
+
+-- ---- A switch that is lost leaves
+
+pub forget_more : (d : ℕ) (more : List (List ℕ)) → filter (λ (m : ℕ × List ℕ). not (m.0 == d)) (map (λ b. (d, b)) more) ≡ []
+forget_more d [] = refl
+forget_more d (b ∷ bs) = rw (eq-eqb d d refl) (forget_more d bs)
+
+pub forget_kept : (d : ℕ) (kept now_kept : List (ℕ × List ℕ)) → KeptMore d kept now_kept → filter (λ m. not (m.0 == d)) now_kept ≡ filter (λ m. not (m.0 == d)) kept
+forget_kept d kept now_kept more =
+    let keeps : ℕ × List ℕ → Bool = λ m. not (m.0 == d) in
+    ap (λ (ms : List (ℕ × List ℕ)). filter keeps ms) more.1 ∙ filter-append keeps kept (map (λ b. (d, b)) more.0) ∙ ap (λ (ms : List (ℕ × List ℕ)). filter keeps kept ++ ms) (forget_more d more.0)
+    ∙ append-nil (filter keeps kept)
+
+-- what is left of a net without the switch, with these
+left_of : ℕ → NetState → List TableView → List Logged → ℕ → List (ℕ × List ℕ) → NetState
+left_of d net views log xid kept = record (lost_net d net) { views = filter (λ v. not (v.dpid == d)) views; log = log; xid = xid; kept = kept }
+
+lost_after : {Own : Type 0} {Tells : Type 0} {d : ℕ} {old new : Seen Own} (net mid : NetState) → StaysBut net mid → LosesSo Tells d net.log old new net mid → lost_net d mid ≡ record (lost_net d net) { xid = mid.xid }
+unfolding left_of
+lost_after {d = d} net mid stays l =
+    ap (λ (n : NetState). lost_net d n) stays
+    ∙ ap (λ (vs : List TableView). left_of d net vs mid.log mid.xid (filter (λ m. not (m.0 == d)) mid.kept)) l.views
+    ∙ ap (λ (log : List Logged). left_of d net net.views log mid.xid (filter (λ m. not (m.0 == d)) mid.kept)) l.log_so
+    ∙ ap (λ (kept : List (ℕ × List ℕ)). left_of d net net.views net.log mid.xid kept) (forget_kept d net.kept mid.kept l.kept)
+
+pub makes_lost : {Own : Type 0} {Tells : Type 0} {d : ℕ} {old new : Seen Own} (net mid now : NetState) → StaysBut net mid → LosesSo Tells d net.log old new net mid → now ≡ lost_net d mid → MakesLost Tells d old new net now
+makes_lost {Tells = Tells} {d = d} {old = old} {new = new} net mid now stays l gone =
+    let same : now ≡ record (lost_net d net) { xid = mid.xid } = gone ∙ lost_after net mid stays l in
+    record {
+      is_lost = l.is_lost;
+      read = l.read;
+      net_so = same ∙ ap (λ (x : ℕ). record (lost_net d net) { xid = x }) (sym (ap (λ (n : NetState). n.xid) same));
+    }
+
+-- ---- The whole
 
 -- a change is no packet
 nothing_held : (d : ℕ) (bytes : List ℕ) (xid : ℕ) (m : Change) (result : Result Answer TxnFault) (held : List Held) → reading_of bytes ≡ Ok (enveloped xid (FlowMod m)) → held ≡ held_after d bytes result held
 nothing_held d bytes xid m (Ok answer) held read = sym (append-nil held) ∙ ap (λ (more : List Held). held ++ more) (no_packet d xid m bytes answer read)
 nothing_held d bytes xid m (Err fault) held read = refl
 
-pub Changes-by_switch : {Own : Type 0} {Tells : Type 0} (d : ℕ) (bytes : List ℕ) (old new : Seen Own) (net now_net : NetState) (result : Result Answer TxnFault) (xid : ℕ) (m : Change)
-    → answer_of_host d bytes net ≡ None → reading_of bytes ≡ Ok (enveloped xid (FlowMod m)) → Judged Tells d m old new net now_net result
-    → Continues Tells old new → OnLinks Tells old new → AsksWithoutStrays Tells d old new → IfErr result (IsCause Tells d old new) → now_net.ports ≡ net.ports → now_net.moment ≡ net.moment → now_net.room ≡ net.room → now_net.held ≡ net.held
-    → IfErr result (IfGivenUp Tells d m old new net) → Changes Tells d bytes old new net now_net result
-Changes-by_switch {Tells = Tells} d bytes old new net now_net result xid m none read judged continues links no_strays cause ports moment room held f = record {
-  continues = continues;
-  links = links;
-  no_strays = λ told keeps joined. no_strays told keeps (joined (host_known d bytes net none));
-  read = asked_read Tells d m old new net now_net result (stopped_so Tells d m old new net now_net result judged);
-  cause = cause;
-  switches = λ e. made_switches Tells d e m old new net now_net result (stopped_so Tells d m old new net now_net result judged);
-  ports = ports;
-  moment = moment;
-  room = room;
-  held = held ∙ nothing_held d bytes xid m result net.held read;
-  by_host = λ answer h. absurd (no_answer answer (sym h ∙ none));
-  by_switch = λ other n _ again. subst (λ (x : Change). MatchResult result (Asked Tells d x old new net now_net) (λ f. Stopped d x old new net now_net)) (same_change xid other m n (sym read ∙ again)) (stopped_so Tells d m old new net now_net result judged);
-  flooded = λ other n _ again. subst (λ (x : Change). IfErr result (IfGivenUp Tells d x old new net)) (same_change xid other m n (sym read ∙ again)) f;
-  in_flight = λ other n _ again. in_flight_so Tells d n old new net now_net result (subst (λ (x : Change). Judged Tells d x old new net now_net result) (same_change xid other m n (sym read ∙ again)) judged);
-}
+judged_losses : {Own : Type 0} {Tells : Type 0} (d : ℕ) (m : Change) (old new : Seen Own) (net now_net : NetState) (result : Result Answer TxnFault) → Judged Tells d m old new net now_net result → Tells → lost_of new ≡ lost_of old
+judged_losses d m old new net now_net (Ok answer) asked told = waits_none_lost (change_sent d net.xid m ∷ barrier_sent (awaited_from d net.xid) ∷ []) (refl, (refl, tt)) refl asked.waits told
+judged_losses d m old new net now_net (Err fault) (inl unsent) told = ap (λ (s : Seen _). lost_of s) unsent.world
+judged_losses d m old new net now_net (Err fault) (inr flight) told = flight_none_lost d m (log_in_flight d m net.views net.log) old new net now_net fault flight told
+
+module _ {Own : Type 0} (Tells : Type 0) (d : ℕ) (bytes : List ℕ) (old new : Seen Own) (net now_net : NetState) (result : Result Answer TxnFault) (xid : ℕ) (m : Change) (none : answer_of_host d bytes net ≡ None) (read : reading_of bytes ≡ Ok (enveloped xid (FlowMod m))) where
+  answers_so : Judged Tells d m old new net now_net result → AnswersSo Tells d bytes old new net now_net result
+  answers_so judged other n _ again =
+      subst (λ (x : Change). MatchResult result (Asked Tells d x old new net now_net) (λ f. Stopped d x old new net now_net)) (same_change xid other m n (sym read ∙ again)) (stopped_so Tells d m old new net now_net result judged)
+
+  flooded_so : IfErr result (λ fault. IfGivenUp Tells d m old new net (Fault fault)) → IfAsked d bytes net (λ x. IfErr result (λ fault. IfGivenUp Tells d x old new net (Fault fault)))
+  flooded_so f other n _ again = subst (λ (x : Change). IfErr result (λ fault. IfGivenUp Tells d x old new net (Fault fault))) (same_change xid other m n (sym read ∙ again)) f
+
+  changes_joined : Continues Tells old new → IfErr result (IsCause Tells d old new) → MakesJoined Tells d m old new net now_net result → ChangesJoined Tells d bytes old new net now_net result
+  changes_joined continues cause j = record {
+    switches = λ e. made_switches Tells d e m old new net now_net result (stopped_so Tells d m old new net now_net result j.judged);
+    ports = ap (λ (n : NetState). n.ports) j.stays;
+    left = ap (λ (n : NetState). n.left) j.stays;
+    held = ap (λ (n : NetState). n.held) j.stays ∙ nothing_held d bytes xid m result net.held read;
+    by_host = λ answer h. absurd (no_answer answer (sym h ∙ none));
+    by_switch = answers_so j.judged;
+    flooded = flooded_so j.flooded;
+    in_flight = λ other n _ again. in_flight_so Tells d n old new net now_net result (subst (λ (x : Change). Judged Tells d x old new net now_net result) (same_change xid other m n (sym read ∙ again)) j.judged);
+    reached = reaches d bytes old new net now_net result (answers_so j.judged);
+    in_step = steps d bytes old new net now_net result continues cause (answers_so j.judged) (flooded_so j.flooded);
+    losses = judged_losses d m old new net now_net result j.judged;
+  }
+
+  changes_lost : MakesLost Tells d old new net now_net → ChangesLost Tells d old new net now_net
+  changes_lost l = record { viewed = viewed d net.views ∙ some_is_some (rows_at d net.views) (host_known d bytes net none); is_lost = l.is_lost; net_so = l.net_so }
+
+  pub Changes-by_switch : Makes Tells d m old new net now_net result → Changes Tells d bytes old new net now_net result
+  Changes-by_switch makes = record {
+    continues = speaks_on makes.speaks;
+    links = speaks_links makes.speaks;
+    no_strays = λ told keeps joined. speaks_place makes.speaks told keeps (joined (host_known d bytes net none));
+    read = λ ok told. elim makes.made [
+      | inl j ↦ asked_read Tells d m old new net now_net result (stopped_so Tells d m old new net now_net result j.judged) ok told
+      | inr l ↦ l.1.read told
+    ];
+    cause = makes.cause;
+    moment = elim makes.made [ inl j ↦ ap (λ (n : NetState). n.moment) j.stays | inr l ↦ ap (λ (n : NetState). n.moment) l.1.net_so ];
+    room = elim makes.made [ inl j ↦ ap (λ (n : NetState). n.room) j.stays | inr l ↦ ap (λ (n : NetState). n.room) l.1.net_so ];
+    answered = elim makes.made [ inl j ↦ inl (changes_joined (speaks_on makes.speaks) makes.cause j) | inr l ↦ inr (none, l.0, changes_lost l.1) ];
+  }

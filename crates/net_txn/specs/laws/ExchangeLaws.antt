@@ -80,7 +80,7 @@ hears_none storage sent buf kept t h = record { by = None; why = unheard_by sent
 -- one refused an inverse
 pub hears_refusal : {Own : Type 0} {Tells : Type 0} {a : Awaited} {old new : Seen Own} {buf : List ℕ} {n : ℕ} (storage : Storage) (sent : List (ℕ × Key)) (kept : List (ℕ × List ℕ)) (key : Key) (xid : ℕ)
     → HearsMessage Tells a.dpid old new buf n → Some key ≡ key_refused sent (take n buf) → xid ≡ number_at 4 4 (take n buf) → HearsLast Tells a storage sent old new kept kept buf (troubles.Refused key xid n)
-hears_refusal {buf = buf} {n = n} storage sent kept key xid h refused is = record { by = Some (take n buf); why = (refl, sym refused, is); calls = h.calls; kept_so = refl }
+hears_refusal {buf = buf} {n = n} storage sent kept key xid h refused is = record { by = Some (take n buf); why = (h.read, (refl, sym refused, is)); calls = h.calls; kept_so = refl }
 
 -- one was treated, or not
 pub hears_then : {Own : Type 0} {Tells : Type 0} {old mid : Seen Own} {buf : List ℕ} {n : ℕ} (a : Awaited) (new : Seen Own) (storage : Storage) (sent : List (ℕ × Key)) (kept now_kept : List (ℕ × List ℕ)) (answer now_answer : Option Refusal) (result : Result Bool Trouble)
@@ -98,7 +98,7 @@ hears_then {buf = buf} {n = n} a new storage sent kept now_kept answer now_answe
 }
 hears_then {buf = buf} {n = n} a new storage sent kept now_kept answer now_answer (Err t) h unrefused now_buf treated = record {
   by = Some (take n buf);
-  why = untreated_breaks sent storage (take n buf) t now_buf treated.why;
+  why = (h.read, untreated_breaks sent storage (take n buf) t now_buf treated.why);
   calls = Calls-then h.calls treated.calls;
   kept_so = treated.kept_so;
 }

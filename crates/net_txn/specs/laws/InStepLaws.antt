@@ -38,7 +38,7 @@ use Rattle.net_txn.specs.laws.SentLaws.{reading_of-as_sent}
 use Rattle.net_txn.specs.laws.RowLaws.{sent, known_command, rows_agree, no_notices}
 use Rattle.net_txn.specs.laws.HeardLaws.{IsMessage-barrier, IsSmall, small_refusal, next_xid-lt, heard-error}
 use Rattle.net_txn.specs.laws.StepLaws.{told_switch, told_waits, barrier_sends, barrier_stays, gots, gots_switch, gots_other, gots_other_waits, gots_empty, got_rest, reply_alone, error_alone}
-use Rattle.net_txn.specs.Changes.{known_rows, answer_of_host, error_in, views_by, change_sent, Asked}
+use Rattle.net_txn.specs.Answering.{known_rows, answer_of_host, error_in, views_by, change_sent, Asked}
 use Rattle.net_txn.specs.Agreement.{Agrees, InStep}
 
 -- ---- Before the messages that were got: the change and the barrier were sent.

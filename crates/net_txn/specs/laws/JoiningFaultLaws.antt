@@ -1,7 +1,10 @@
--- Where a world keeps its word, a switch that joins gives no cause for a fault but by its link.
-use Rattle.std.specs.Prelude.{◌≡◌, ℕ, ◌^◌, ◌<◌, List, [], ◌∷◌, ◌++◌, length, Option, Some, None, Result, Ok, Err, OnOk, IfErr, refl}
+-- How a switch fails to join; and that where a world keeps its word, it gives no cause for a fault.
+use Rattle.std.specs.Prelude.{◌≡◌, ◌==◌, ℕ, ◌^◌, ◌<◌, Bool, true, false, not, List, [], ◌∷◌, ◌++◌, length, map, filter, Option, Some, None, Result, Ok, Err, IfOk, IfErr, refl}
 use Rattle.std.specs.List.{AllByRecursion}
-use Rattle.std.proofs.Common.{subst, arith}
+use Rattle.std.proofs.Common.{sym, ap, ◌∙◌, subst, arith}
+use Rattle.std.proofs.lemmas.Bool.{eq-eqb}
+use Rattle.std.proofs.lemmas.List.{append-nil}
+use Rattle.std.proofs.lemmas.List.Elements.{filter-append}
 use Rattle.of_types.specs.declared.port_desc.PortDesc.{PortDesc}
 use Rattle.of_types.specs.declared.journal.Act.TheVariants.{Sent}
 use Rattle.of_wire.specs.declared.message.Message.TheVariants.{FlowMod, SetConfig}
@@ -13,30 +16,46 @@ use Rattle.outside.specs.State.{State, state, switch_of, waits_of}
 use Rattle.outside.specs.laws.StateLaws.{Conforming-rest, Conforming-before}
 use Rattle.outside.specs.Conforming.{MaySteps, Conforming}
 use Rattle.lego_model.specs.declared.fault.TxnFault.{TxnFault}
-use Rattle.lego_model.specs.declared.fault.TxnFault.TheVariants.{SwitchFault, SwitchBroke, Diverged, Flooded, NoMemory}
+use Rattle.lego_model.specs.declared.fault.TxnFault.TheVariants.{SwitchBroke, Diverged, Flooded, NoMemory}
 use Rattle.lego_model.specs.declared.wait.Awaited.{Awaited}
-use Rattle.net_txn.specs.Causes.{IsCause, IsPlainFault}
-use Rattle.net_txn.specs.Waits.{Waits, Floods, IfFlooded}
+use Rattle.net_txn.specs.Causes.{IsCause, IsPlain}
+use Rattle.net_txn.specs.Waits.{Waits, Floods, IfFlooded, KeptMore}
 use Rattle.lego_model.specs.declared.wait.Refusal.{Refusal}
 use Rattle.lego_model.specs.BarrierWaits.{wait_steps, barrier_sent, next_xid}
+use Rattle.flow_table.specs.View.{TableView}
+use Rattle.net_txn.specs.declared.ports.KnownPorts.{KnownPorts}
 use Rattle.net_txn.specs.Net.{NetState}
 use Rattle.net_txn.specs.laws.NoticeLaws.{AllNotices, notice_steps}
 use Rattle.net_txn.specs.laws.TableBoundLaws.{table_few}
 use Rattle.net_txn.specs.laws.FloodLaws.{IsGotAlone, few_got, ends_read}
-use Rattle.net_txn.specs.Joining.{delete_all, greeted_from, greeting, Joins}
-use Rattle.net_txn.specs.JoiningSteps.{JoinSteps}
+use Rattle.net_txn.specs.declared.halt.Halt.{Halt}
+use Rattle.net_txn.specs.declared.halt.Halt.TheVariants.{Fault}
+use Rattle.net_txn.specs.Losing.{WaitHalts}
+use Rattle.net_txn.specs.declared.queue.Storage.TheVariants.{Growing}
+use Rattle.net_txn.specs.Said.{frames_said, barrier_of, Replied, BreaksBy}
+use Rattle.net_txn.specs.laws.HeardLaws.{next_xid-lt}
+use Rattle.net_txn.specs.laws.LostLaws.{packets_said, breaks_halts, replied_none_lost}
+use Rattle.net_txn.specs.Joining.{delete_all, greeted_from, greeting, JoinsOrNot, DoesNotJoin}
+use Rattle.net_txn.specs.JoiningSteps.{JoinHalts, JoinSteps}
 use Rattle.net_txn.specs.laws.JoiningStepLaws.{are_read, after_all, greeted, greeted_none, none_first, in_step_of}
 
--- ---- A flood, from the call on
+-- ---- From the call on
 
-pub greeted_flooded : {Own : Type 0} (Tells : Type 0) (d xid : ℕ) (a : Awaited) (first second : List ℕ) (old new : Seen Own) (fault : TxnFault) → a ≡ greeted_from d xid → first ≡ message_bytes xid (FlowMod delete_all)
-    → second ≡ message_bytes (next_xid xid) (SetConfig first_config) → IfFlooded Tells a (Acted (Sent a.dpid first) ∷ Acted (Sent a.dpid second) ∷ barrier_sent a ∷ []) old new fault
-    → IfFlooded Tells (greeted_from d xid) (greeting d xid) old new fault
-greeted_flooded Tells d xid a first second old new fault is first_is second_is f =
+none_released : (d xid : ℕ) → xid < 2 ^ 32 → packets_said (frames_said d (message_bytes xid (FlowMod delete_all) ∷ message_bytes (next_xid xid) (SetConfig first_config) ∷ [])) ≡ []
+unfolding packets_said
+none_released d xid lt = let read = are_read xid lt in rw (read.deletion, read.config) refl
+
+-- how the wait behind the two messages ends before its end
+pub greeted_halts : {Own : Type 0} {Tells : Type 0} (d xid : ℕ) (a : Awaited) (first second : List ℕ) (old new : Seen Own) (kept now_kept : List (ℕ × List ℕ)) (halt : Halt) → xid < 2 ^ 32 → a ≡ greeted_from d xid → first ≡ message_bytes xid (FlowMod delete_all)
+    → second ≡ message_bytes (next_xid xid) (SetConfig first_config) → BreaksBy Tells a (first ∷ second ∷ barrier_of a ∷ []) old new kept now_kept halt → WaitHalts Tells (greeted_from d xid) (greeting d xid) old new halt
+greeted_halts {Tells = Tells} d xid a first second old new kept now_kept halt lt is first_is second_is b =
     let here = greeted_from d xid in
-    let f1 = subst (λ (x : Awaited). IfFlooded Tells x (Acted (Sent x.dpid first) ∷ Acted (Sent x.dpid second) ∷ barrier_sent x ∷ []) old new fault) is f in
-    let f2 = subst (λ (b : List ℕ). IfFlooded Tells here (Acted (Sent d b) ∷ Acted (Sent d second) ∷ barrier_sent here ∷ []) old new fault) first_is f1 in
-    subst (λ (b : List ℕ). IfFlooded Tells here (Acted (Sent d (message_bytes xid (FlowMod delete_all))) ∷ Acted (Sent d b) ∷ barrier_sent here ∷ []) old new fault) second_is f2
+    let one = message_bytes xid (FlowMod delete_all) in
+    let two = message_bytes (next_xid xid) (SetConfig first_config) in
+    let b1 = subst (λ (x : Awaited). BreaksBy Tells x (first ∷ second ∷ barrier_of x ∷ []) old new kept now_kept halt) is b in
+    let b2 = subst (λ (f : List ℕ). BreaksBy Tells here (f ∷ second ∷ barrier_of here ∷ []) old new kept now_kept halt) first_is b1 in
+    let b3 = subst (λ (f : List ℕ). BreaksBy Tells here (one ∷ f ∷ barrier_of here ∷ []) old new kept now_kept halt) second_is b2 in
+    breaks_halts (one ∷ two ∷ []) halt (next_xid-lt (next_xid xid) (next_xid-lt xid lt)) (none_released d xid lt) b3
 
 pub greeted_waits : {Own : Type 0} (Tells : Type 0) (d xid : ℕ) (a : Awaited) (first second : List ℕ) (old new : Seen Own) (kept net_kept now_kept : List (ℕ × List ℕ)) (answer : Option Refusal) → a ≡ greeted_from d xid → first ≡ message_bytes xid (FlowMod delete_all)
     → second ≡ message_bytes (next_xid xid) (SetConfig first_config) → kept ≡ net_kept → Waits Tells a (Acted (Sent a.dpid first) ∷ Acted (Sent a.dpid second) ∷ barrier_sent a ∷ []) old new kept now_kept answer
@@ -72,17 +91,55 @@ not_flooded d xid old new (Some s) lt told keeps none is f =
     let entries = table_few old d s (Conforming-before told f.continues keeps) is in
     omega (arith, f.many, few, g.few, entries)
 
-plain : {Own : Type 0} {Tells : Type 0} (d xid : ℕ) (old new : Seen Own) (fault : TxnFault) → xid < 2 ^ 32 → Tells → Continues Tells old new → Conforming new → waits_of d (state old) ≡ []
-    → IfFlooded Tells (greeted_from d xid) (greeting d xid) old new fault → IsCause Tells d old new fault → IsPlainFault d fault
-plain d xid old new (SwitchFault of) lt told later keeps none f cause = cause.0
-plain d xid old new (SwitchBroke of bytes) lt told later keeps none f cause = ends_read d bytes old new later.given (cause.2 told) keeps cause.1
-plain d xid old new (Diverged of sent got) lt told later keeps none f cause = cause
-plain d xid old new (Flooded of n) lt told later keeps none f cause = not_flooded d xid old new (switch_of d (state old)) lt told keeps none refl f
-plain d xid old new NoMemory lt told later keeps none f cause = tt
+pub join_plain : {Own : Type 0} {Tells : Type 0} (d xid : ℕ) (old new : Seen Own) (fault : TxnFault) → xid < 2 ^ 32 → Tells → Continues Tells old new → Conforming new → waits_of d (state old) ≡ []
+    → IfFlooded Tells (greeted_from d xid) (greeting d xid) old new fault → IsCause Tells d old new fault → IsPlain fault
+join_plain d xid old new (SwitchBroke of bytes) lt told later keeps none f cause = ends_read d bytes old new later.given (cause.2 told) keeps cause.1
+join_plain d xid old new (Diverged of sent got) lt told later keeps none f cause = cause
+join_plain d xid old new (Flooded of n) lt told later keeps none f cause = not_flooded d xid old new (switch_of d (state old)) lt told keeps none refl f
+join_plain d xid old new NoMemory lt told later keeps none f cause = tt
 
 -- ---- The whole
 
-pub join_steps : {Own : Type 0} {Tells : Type 0} (d : ℕ) (ports : List PortDesc) (old new : Seen Own) (net now_net : NetState) (result : Result (Unit {0}) TxnFault) → net.xid < 2 ^ 32 → Continues Tells old new → OnOk result (Joins Tells d ports old new net now_net)
-    → IfErr result (IsCause Tells d old new) → IfErr result (IfFlooded Tells (greeted_from d net.xid) (greeting d net.xid) old new) → JoinSteps Tells d old new net now_net result
-join_steps d ports old new net now_net (Ok x) lt later joins cause f told keeps none = in_step_of d ports old new net now_net (switch_of d (state old)) lt told joins keeps none refl
-join_steps d ports old new net now_net (Err fault) lt later joins cause f told keeps none = plain d net.xid old new fault lt told later keeps none f cause
+pub join_steps : {Own : Type 0} {Tells : Type 0} (d : ℕ) (ports : List PortDesc) (old new : Seen Own) (net now_net : NetState) (result : Result Bool TxnFault) → net.xid < 2 ^ 32 → Continues Tells old new
+    → IfOk result (λ joined. JoinsOrNot Tells d ports joined old new net now_net) → IfErr result (IsCause Tells d old new) → IfErr result (IfFlooded Tells (greeted_from d net.xid) (greeting d net.xid) old new)
+    → JoinSteps Tells d old new net now_net result
+join_steps d ports old new net now_net (Ok true) lt later joins cause f told keeps none = in_step_of d ports old new net now_net (switch_of d (state old)) lt told joins keeps none refl
+join_steps d ports old new net now_net (Ok false) lt later joins cause f told keeps none = tt
+join_steps d ports old new net now_net (Err fault) lt later joins cause f told keeps none = join_plain d net.xid old new fault lt told later keeps none f cause
+
+-- ---- Where memory ran out
+
+-- before anything was sent
+pub short_before : {Own : Type 0} (Tells : Type 0) (d : ℕ) (seen : Seen Own) (net now_net : NetState) → now_net.views ≡ net.views → now_net.ports ≡ net.ports → now_net.kept ≡ net.kept → JoinHalts Tells d seen seen net now_net (Fault NoMemory)
+short_before Tells d seen net now_net views known kept = record {
+  not_joined = record { views = views; known = known; kept = ([], kept ∙ sym (append-nil net.kept)) };
+  halts = (tt, tt, λ told. refl);
+}
+
+-- behind the reply
+pub short_behind : {Own : Type 0} {Tells : Type 0} (d : ℕ) (a : Awaited) (frames : List (List ℕ)) (old new : Seen Own) (net now_net : NetState) (kept now_kept : List (ℕ × List ℕ)) (answer : Option Refusal) → Replied Tells a frames Growing [] old new kept now_kept answer → DoesNotJoin d net now_net
+    → JoinHalts Tells d old new net now_net (Fault NoMemory)
+short_behind d a frames old new net now_net kept now_kept answer r not = record { not_joined = not; halts = (tt, tt, replied_none_lost a frames r) }
+
+-- ---- What the host keeps where it was lost
+
+-- the messages of the switch go that were kept meanwhile
+abbrev goes : ℕ → ℕ × List ℕ → Bool
+goes d m = not (m.0 == d)
+
+none_stays : (d : ℕ) (bs : List (List ℕ)) → filter (goes d) (map (λ b. (d, b)) bs) ≡ []
+none_stays d [] = refl
+none_stays d (b ∷ bs) = rw (eq-eqb d d refl) (none_stays d bs)
+
+pub forgets_more : (d : ℕ) (kept now_kept : List (ℕ × List ℕ)) → KeptMore d kept now_kept → filter (λ m. not (m.0 == d)) now_kept ≡ filter (λ m. not (m.0 == d)) kept
+forgets_more d kept now_kept more =
+    let behind = map (λ b. (d, b)) more.0 in
+    ap (filter (goes d)) more.1 ∙ filter-append (goes d) kept behind ∙ ap (λ (ms : List (ℕ × List ℕ)). filter (goes d) kept ++ ms) (none_stays d more.0) ∙ append-nil (filter (goes d) kept)
+
+pub not_joined : (d : ℕ) (net mid : NetState) (kept : List (ℕ × List ℕ)) → mid ≡ record net { views = mid.views; ports = mid.ports; xid = mid.xid; kept = mid.kept } → DoesNotJoin d net mid → kept ≡ filter (λ m. not (m.0 == d)) mid.kept
+    → record mid { kept = kept } ≡ record net { xid = mid.xid; kept = filter (λ m. not (m.0 == d)) net.kept }
+not_joined d net mid kept stays not is =
+    ap (λ (n : NetState). record n { kept = kept }) stays
+    ∙ ap (λ (vs : List TableView). record net { views = vs; ports = mid.ports; xid = mid.xid; kept = kept }) not.views
+    ∙ ap (λ (ps : List KnownPorts). record net { ports = ps; xid = mid.xid; kept = kept }) not.known
+    ∙ ap (λ (k : List (ℕ × List ℕ)). record net { xid = mid.xid; kept = k }) (is ∙ forgets_more d net.kept mid.kept not.kept)

@@ -132,8 +132,8 @@ barrier_bytes xid = message_bytes (next_xid (next_xid xid)) BarrierRequest
 
 -- the three messages are read
 pub record AreRead (xid : ℕ) : Type 0 where
-  deletion : reading_of (deletion_bytes xid) ≡ Ok (enveloped xid (FlowMod delete_all))
-  config : reading_of (config_bytes xid) ≡ Ok (enveloped (next_xid xid) (SetConfig first_config))
+  pub deletion : reading_of (deletion_bytes xid) ≡ Ok (enveloped xid (FlowMod delete_all))
+  pub config : reading_of (config_bytes xid) ≡ Ok (enveloped (next_xid xid) (SetConfig first_config))
   barrier : reading_of (barrier_bytes xid) ≡ Ok (enveloped (next_xid (next_xid xid)) BarrierRequest)
 
 pub are_read : (xid : ℕ) → xid < 2 ^ 32 → AreRead xid

@@ -1,7 +1,9 @@
--- In a world that keeps its word an undo in which no switch fails keeps no message.
-use Rattle.std.specs.Prelude.{◌≡◌, ◌==◌, ℕ, Bool, true, false, List, [], ◌∷◌, ◌++◌, ◌⊎◌, None, Result, IsOk, if◌then◌else◌, refl}
+-- In a world that keeps its word an undo in which no switch fails but by its link keeps no message of one that is not lost.
+use Rattle.std.specs.Prelude.{◌≡◌, ◌==◌, ℕ, Bool, true, false, not, ◌||◌, List, [], ◌∷◌, ◌++◌, ◌⊎◌, map, filter, None, Result, IsOk, if◌then◌else◌, refl}
 use Rattle.std.proofs.Common.{ap, ◌∙◌, subst, eq-eqb, inl, inr}
 use Rattle.std.proofs.lemmas.Bool.{cases_Bool}
+use Rattle.std.proofs.lemmas.List.{append-nil}
+use Rattle.std.proofs.lemmas.List.Elements.{filter-append}
 use Rattle.of_wire.specs.declared.message.Message.TheVariants.{BarrierRequest, BarrierReply}
 use Rattle.of_wire.specs.Spelling.{message_bytes}
 use Rattle.of_wire.specs.laws.ReadingLaws.{reading_of-message_bytes}
@@ -17,10 +19,14 @@ use Rattle.lego_model.specs.BarrierWaits.{kept_of, barrier_sent}
 use Rattle.net_txn.specs.laws.HeardLaws.{IsMessage-barrier}
 use Rattle.net_txn.specs.laws.StepLaws.{told_waits, barrier_sends}
 use Rattle.net_txn.specs.laws.NoticeLaws.{with_entries, notices_alone, notices_kept}
-use Rattle.net_txn.specs.Undos.{alone, Part, Inverse, BarrierPassed, Stuck, part_steps, steps_of, parts_of, fault_in, first_fault, ended_by, IsRun, IsBarrierPassed, inverses_of, Keeps, KeepsOne, StandsReady}
+use Rattle.net_txn.specs.declared.halt.Halt.TheVariants.{Lost, Fault}
+use Rattle.net_txn.specs.Losing.{is_among}
+use Rattle.net_txn.specs.Waits.{KeptMore}
+use Rattle.net_txn.specs.Undos.{lost_in, lost_parts, alone, Part, Inverse, BarrierPassed, Stuck, part_steps, steps_of, parts_of, fault_in, first_fault, ended_by, IsRun, IsBarrierPassed, inverses_of, Keeps, KeepsOne, StandsReady}
 use Rattle.net_txn.specs.Views.{is_viewed}
-use Rattle.net_txn.specs.laws.AgreeLaws.{both_none, free_all, no_fault}
-use Rattle.net_txn.specs.laws.RestoreLaws.{AllRun, runs_here, runs_older, entries_left, Left, left_all}
+use Rattle.net_txn.specs.laws.AgreeLaws.{both_none, no_fault}
+use Rattle.net_txn.specs.laws.LostPartLaws.{among-append}
+use Rattle.net_txn.specs.laws.RestoreLaws.{AllRun, runs_here, runs_older, older_free, entries_left, Left, left_all}
 
 -- what a wait gets then are notices, of which none is kept
 barred_keeps : (declared : List Declared) (d xid : ℕ) (got : List (List ℕ)) (s : SwitchState) (older : List Part) (t : State) (kept now_kept : List (ℕ × List ℕ)) → IsBarrierPassed d xid (inverses_of older) got → MaySteps declared (part_steps d (BarrierPassed xid got)) t → Left d s older t
@@ -35,11 +41,24 @@ barred_keeps declared d xid got s older t kept now_kept is may l some =
     let none : kept_of a got ≡ [] = ap (kept_of a) same ∙ notices_kept a (waits_of d t) l.notices in
     subst (λ (ms : List (ℕ × List ℕ)). KeptWhereFit kept ms now_kept) none some
 
-part_keeps : (declared : List Declared) (old new : Counts) (d : ℕ) (p : Part) (s : SwitchState) (older : List Part) (t : State) (kept now_kept : List (ℕ × List ℕ)) → IsRun old new d (p ∷ older) → fault_in p ≡ None → MaySteps declared (part_steps d p) t → Left d s older t
-    → KeepsOne d p kept now_kept → now_kept ≡ kept
-part_keeps declared old new d (Inverse xid k) s older t kept now_kept run none may l some = some
-part_keeps declared old new d (BarrierPassed xid got) s older t kept now_kept run none may l some = barred_keeps declared d xid got s older t kept now_kept run.0 may l some
-part_keeps declared old new d (Stuck xid fault steps) s older t kept now_kept run none may l some = absurd cc
+-- what is kept, of the switches that are not lost
+abbrev kept_in : (ℕ → Bool) → List (ℕ × List ℕ) → List (ℕ × List ℕ)
+kept_in keep ms = filter (λ m. keep m.0) ms
+
+none_of : (keep : ℕ → Bool) (d : ℕ) (more : List (List ℕ)) → keep d ≡ false → kept_in keep (map (λ b. (d, b)) more) ≡ []
+none_of keep d [] lost = refl
+none_of keep d (b ∷ bs) lost = rw lost (none_of keep d bs lost)
+
+more_none : (keep : ℕ → Bool) (d : ℕ) (kept now_kept : List (ℕ × List ℕ)) → KeptMore d kept now_kept → keep d ≡ false → kept_in keep now_kept ≡ kept_in keep kept
+more_none keep d kept now_kept more lost =
+    ap (kept_in keep) more.1 ∙ filter-append (λ m. keep m.0) kept (map (λ b. (d, b)) more.0) ∙ ap (λ (ms : List (ℕ × List ℕ)). kept_in keep kept ++ ms) (none_of keep d more.0 lost) ∙ append-nil (kept_in keep kept)
+
+part_keeps : (declared : List Declared) (old new : Counts) (keep : ℕ → Bool) (d : ℕ) (p : Part) (s : SwitchState) (older : List Part) (t : State) (kept now_kept : List (ℕ × List ℕ)) → IsRun old new d (p ∷ older) → fault_in p ≡ None → MaySteps declared (part_steps d p) t → Left d s older t
+    → KeepsOne d p kept now_kept → (is_among d (lost_in d p) ≡ true → keep d ≡ false) → kept_in keep now_kept ≡ kept_in keep kept
+part_keeps declared old new keep d (Inverse xid k) s older t kept now_kept run none may l some lost = ap (kept_in keep) some
+part_keeps declared old new keep d (BarrierPassed xid got) s older t kept now_kept run none may l some lost = ap (kept_in keep) (barred_keeps declared d xid got s older t kept now_kept run.0 may l some)
+part_keeps declared old new keep d (Stuck xid Lost steps) s older t kept now_kept run none may l some lost = more_none keep d kept now_kept some (lost (rw (eq-eqb d d refl) refl))
+part_keeps declared old new keep d (Stuck xid (Fault fault) steps) s older t kept now_kept run none may l some lost = absurd cc
 
 -- ---- Switches that stand ready
 
@@ -76,21 +95,39 @@ ready_all views parts t unknown ready d = elim (cases_Bool (is_viewed d views)) 
 
 -- ---- The whole
 
-all_keep : (declared : List Declared) (old new : Counts) (parts : List (ℕ × Part)) (t : State) (kept now_kept : List (ℕ × List ℕ)) → AllRun old new parts → first_fault parts ≡ None → MaySteps declared (steps_of parts) t
-    → AreReady parts t → Keeps kept parts now_kept → now_kept ≡ kept
-all_keep declared old new [] t kept now_kept all none may ready keeps = keeps
-all_keep declared old new (p ∷ older) t kept now_kept all none may ready keeps =
+or_first : (a b : Bool) → a ≡ true → (a || b) ≡ true
+or_first true b is = refl
+or_first false b is = absurd cc
+
+or_second : (a b : Bool) → b ≡ true → (a || b) ≡ true
+or_second true b is = refl
+or_second false b is = is
+
+all_keep : (declared : List Declared) (old new : Counts) (keep : ℕ → Bool) (parts : List (ℕ × Part)) (t : State) (kept now_kept : List (ℕ × List ℕ)) → AllRun old new parts → first_fault parts ≡ None → MaySteps declared (steps_of parts) t
+    → AreReady parts t → Keeps kept parts now_kept → ((d : ℕ) → is_among d (lost_parts parts) ≡ true → keep d ≡ false) → kept_in keep now_kept ≡ kept_in keep kept
+all_keep declared old new keep [] t kept now_kept all none may ready keeps lost = ap (kept_in keep) keeps
+all_keep declared old new keep (p ∷ older) t kept now_kept all none may ready keeps lost =
     let n = both_none (first_fault older) (fault_in p.1) none in
     let may_older = MaySteps-front declared (steps_of older) (part_steps p.0 p.1) t may in
     let may_part = MaySteps-rest declared (steps_of older) (part_steps p.0 p.1) t may in
-    let rest = all_keep declared old new older t kept keeps.0 (runs_older old new p older all) n.0 may_older (ready_older p older t ready) keeps.1 in
+    let runs = runs_older old new p older all in
+    let here = runs_here old new p older all in
+    let earlier = λ (d : ℕ) (is : is_among d (lost_parts older) ≡ true). lost d (among-append d (lost_parts older) (lost_in p.0 p.1) ∙ or_first (is_among d (lost_parts older)) (is_among d (lost_in p.0 p.1)) is) in
+    let now = λ (is : is_among p.0 (lost_in p.0 p.1) ≡ true). lost p.0 (among-append p.0 (lost_parts older) (lost_in p.0 p.1) ∙ or_second (is_among p.0 (lost_parts older)) (is_among p.0 (lost_in p.0 p.1)) is) in
+    let rest = all_keep declared old new keep older t kept keeps.0 runs n.0 may_older (ready_older p older t ready) keeps.1 earlier in
     let s = ready_here p older t ready in
-    let l = left_all declared old new p.0 s.switch older t (runs_older old new p older all) (free_all older p.0 n.0) may_older s.stands s.waits in
-    part_keeps declared old new p.0 p.1 s.switch (parts_of p.0 older) (after_steps (steps_of older) t) keeps.0 now_kept (runs_here old new p older all) n.1 may_part l keeps.2 ∙ rest
+    let l = left_all declared old new p.0 s.switch older t runs (older_free old new p.0 p.1 (parts_of p.0 older) here) may_older s.stands s.waits in
+    part_keeps declared old new keep p.0 p.1 s.switch (parts_of p.0 older) (after_steps (steps_of older) t) keeps.0 now_kept here n.1 may_part l keeps.2 now ∙ rest
+
+not_true : (b : Bool) → b ≡ true → not b ≡ false
+not_true true is = refl
+not_true false is = absurd cc
 
 pub none_kept : {Own : Type 0} (old new : Seen Own) (views : List TableView) (parts : List (ℕ × Part)) (result : Result (Unit {0}) TxnFault) (kept now_kept : List (ℕ × List ℕ)) → new.given ≡ old.given → new.history ≡ old.history ++ steps_of parts → AllRun old.counts new.counts parts
-    → ((d : ℕ) → is_viewed d views ≡ false → parts_of d parts ≡ []) → result ≡ ended_by (first_fault parts) → IsOk result → Conforming new → ((d : ℕ) → is_viewed d views ≡ true → StandsReady d (state old)) → Keeps kept parts now_kept → now_kept ≡ kept
+    → ((d : ℕ) → is_viewed d views ≡ false → parts_of d parts ≡ []) → result ≡ ended_by (first_fault parts) → IsOk result → Conforming new → ((d : ℕ) → is_viewed d views ≡ true → StandsReady d (state old)) → Keeps kept parts now_kept
+    → filter (λ m. not (is_among m.0 (lost_parts parts))) now_kept ≡ filter (λ m. not (is_among m.0 (lost_parts parts))) kept
 none_kept old new views parts result kept now_kept given told all unknown ended ok keeps_word ready keeps =
     let may = Conforming-rest old new (steps_of parts) given told keeps_word in
     let none = no_fault (first_fault parts) (subst (λ (r : Result (Unit {0}) TxnFault). IsOk r) ended ok) in
-    all_keep old.given.declared old.counts new.counts parts (state old) kept now_kept all none may (ready_all views parts (state old) unknown ready) keeps
+    all_keep old.given.declared old.counts new.counts (λ d. not (is_among d (lost_parts parts))) parts (state old) kept now_kept all none may (ready_all views parts (state old) unknown ready) keeps
+    (λ d is. not_true (is_among d (lost_parts parts)) is)

@@ -32,7 +32,7 @@ use Rattle.app_frames.specs.declared.frame.Event.{Event}
 use Rattle.lego_model.specs.declared.wait.Awaited.{Awaited}
 use Rattle.lego_model.specs.declared.wait.Heard.TheVariants.{Other}
 use Rattle.lego_model.specs.BarrierWaits.{next_xid, is_awaited, heard}
-use Rattle.lego_model.specs.Controller.{two_bytes, event_of_read, events_of}
+use Rattle.lego_model.specs.Events.{two_bytes, event_of_read, events_of}
 use Rattle.net_txn.specs.Releases.{Knows, packet_awaited, or_none, takes_read, takes_all}
 use Rattle.net_txn.specs.laws.HeardLaws.{IsSmall, known_small, small_actions}
 use Rattle.net_txn.specs.laws.NoticeLaws.{reply_kind}

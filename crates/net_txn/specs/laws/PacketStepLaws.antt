@@ -20,13 +20,13 @@ use Rattle.outside.specs.laws.StateLaws.{state-append, Conforming-rest}
 use Rattle.outside.specs.laws.LinkLaws.{waits_of-got}
 use Rattle.outside.specs.Conforming.{MaySteps, Conforming}
 use Rattle.lego_model.specs.declared.fault.TxnFault.{TxnFault}
-use Rattle.lego_model.specs.declared.fault.TxnFault.TheVariants.{SwitchFault, SwitchBroke, Diverged, Flooded, NoMemory}
+use Rattle.lego_model.specs.declared.fault.TxnFault.TheVariants.{SwitchBroke, Diverged, Flooded, NoMemory}
 use Rattle.lego_model.specs.declared.wait.Awaited.{Awaited}
 use Rattle.lego_model.specs.declared.wait.Refusal.{Refusal}
 use Rattle.lego_model.specs.declared.wait.Heard.TheVariants.{Reply, Other}
 use Rattle.lego_model.specs.BarrierWaits.{flood, next_xid, heard, is_reply, heard_steps, wait_steps, kept_of, reply_got}
 use Rattle.lego_model.specs.Controller.{events_of}
-use Rattle.net_txn.specs.Causes.{IsCause, IsPlainFault}
+use Rattle.net_txn.specs.Causes.{IsCause, IsPlain}
 use Rattle.net_txn.specs.Waits.{Waits, Floods, IfFlooded}
 use Rattle.net_txn.specs.Net.{NetState}
 use Rattle.net_txn.specs.Undos.{SameSwitch}
@@ -180,8 +180,7 @@ many_sent d xid packet s old new lt is told keeps here none f =
     omega (arith, f.many, few, packet_many xid packet s)
 
 pub packet_plain : {Own : Type 0} {Tells : Type 0} (d xid : ℕ) (packet : Packet) (s : SwitchState) (old new : Seen Own) (fault : TxnFault) → xid < 2 ^ 32 → IsMessage (PacketOut packet) → Continues Tells old new → IsCause Tells d old new fault
-    → IfFlooded Tells (packet_awaited d xid) (packet_steps d xid packet) old new fault → Tells → Conforming new → switch_of d (state old) ≡ Some s → waits_of d (state old) ≡ [] → IsPlainFault d fault ⊎ IsFloodBy (d, packet) s fault
-packet_plain d xid packet s old new (SwitchFault of) lt is later cause f told keeps here none = inl cause.0
+    → IfFlooded Tells (packet_awaited d xid) (packet_steps d xid packet) old new fault → Tells → Conforming new → switch_of d (state old) ≡ Some s → waits_of d (state old) ≡ [] → IsPlain fault ⊎ IsFloodBy (d, packet) s fault
 packet_plain d xid packet s old new (SwitchBroke of bytes) lt is later cause f told keeps here none = absurd (ends_read d bytes old new later.given (cause.2 told) keeps cause.1)
 packet_plain d xid packet s old new (Diverged of sent got) lt is later cause f told keeps here none = absurd cause
 packet_plain d xid packet s old new (Flooded of n) lt is later cause f told keeps here none = inr (cause.0, cause.1, many_sent d xid packet s old new lt is told keeps here none f)

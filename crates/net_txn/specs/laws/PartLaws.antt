@@ -2,9 +2,9 @@
 -- and a barrier whose reply was got leaves nothing waiting.
 use Rattle.std.specs.Prelude.{◌≡◌, ◌≢◌, ℕ, ◌^◌, ◌<◌, List, [], ◌∷◌, Ok, refl}
 use Rattle.std.specs.List.{AllByRecursion}
-use Rattle.std.proofs.Common.{ap, ◌∙◌, arith}
+use Rattle.std.proofs.Common.{◌∙◌, arith}
 use Rattle.of_types.specs.declared.journal.Act.{Act}
-use Rattle.of_types.specs.declared.journal.Act.TheVariants.{Stim, Started, Gave, Gone, Took, Ended, Sent, Got}
+use Rattle.of_types.specs.declared.journal.Act.TheVariants.{Stim, Started, Gave, Gone, Took, Ended, Sent, Got, Lost}
 use Rattle.of_match.specs.declared.key.Key.{Key}
 use Rattle.of_wire.specs.declared.message.Message.TheVariants.{FlowMod}
 use Rattle.of_wire.specs.Reading.{reading_of}
@@ -12,17 +12,13 @@ use Rattle.of_wire.specs.Spelling.{message_size}
 use Rattle.of_wire.specs.Grammar.{IsMessage, enveloped}
 use Rattle.of_wire.specs.laws.ReadingLaws.{reading_of-message_bytes}
 use Rattle.outside.specs.declared.step.WorldStep.{WorldStep}
-use Rattle.outside.specs.declared.step.WorldStep.TheVariants.{Acted, TookInto, From, Joined, Left, Moment, Idle, End, Opened, NotOpened, NextFailed, SendFailed, RecvFailed}
-use Rattle.outside.specs.State.{State, after_step, after_steps, switch_of, switch_in, waits_of, waits_in, link_failed}
-use Rattle.outside.specs.laws.LinkLaws.{KeepsDeclared, link_of-other, switch_of-sent_other, waits_of-sent_other, switch_of-got_other, waits_of-got_other}
+use Rattle.outside.specs.declared.step.WorldStep.TheVariants.{Acted, TookInto, From, Joined, Left, Moment, Idle, End, Opened, NotOpened, NextFailed, SendLost, RecvLost, SendFailed, RecvFailed}
+use Rattle.outside.specs.State.{State, after_step, after_steps}
+use Rattle.outside.specs.laws.LinkLaws.{switch_of-sent_other, waits_of-sent_other, switch_of-got_other, waits_of-got_other, switch_of-send_lost_other, waits_of-send_lost_other, switch_of-recv_lost_other, waits_of-recv_lost_other, switch_of-send_failed, waits_of-send_failed, switch_of-recv_failed, waits_of-recv_failed}
 use Rattle.lego_model.specs.UndoFaults.{delete_strict, inverse_bytes, IsStepOf}
 use Rattle.net_txn.specs.Undos.{SameSwitch, CanBeSent}
 
 -- ---- Steps of another switch
-
-pub keeps_failed : KeepsDeclared link_failed
-unfolding link_failed
-keeps_failed l = refl
 
 act_other : (d c : ℕ) (act : Act) (t : State) → c ≢ d → IsStepOf d (Acted act) → SameSwitch c t (after_step (Acted act) t)
 act_other d c (Stim x) t other of = absurd of
@@ -33,14 +29,7 @@ act_other d c (Took app what) t other of = absurd of
 act_other d c (Ended app) t other of = absurd of
 act_other d c (Sent e bytes) t other of = (switch_of-sent_other e c bytes t (λ same. other (same ∙ of)), waits_of-sent_other e c bytes t (λ same. other (same ∙ of)))
 act_other d c (Got e bytes) t other of = (switch_of-got_other e c bytes t (λ same. other (same ∙ of)), waits_of-got_other e c bytes t (λ same. other (same ∙ of)))
-
-failed_other : (e c : ℕ) (t : State) → c ≢ e → SameSwitch c t (after_step (SendFailed e) t)
-unfolding after_step switch_of waits_of
-failed_other e c t other = (ap switch_in (link_of-other e c link_failed keeps_failed other t.links), ap waits_in (link_of-other e c link_failed keeps_failed other t.links))
-
-failed_received : (e c : ℕ) (t : State) → c ≢ e → SameSwitch c t (after_step (RecvFailed e) t)
-unfolding after_step switch_of waits_of
-failed_received e c t other = (ap switch_in (link_of-other e c link_failed keeps_failed other t.links), ap waits_in (link_of-other e c link_failed keeps_failed other t.links))
+act_other d c (Lost e) t other of = absurd of
 
 pub step_other : (d c : ℕ) (step : WorldStep) (t : State) → c ≢ d → IsStepOf d step → SameSwitch c t (after_step step t)
 step_other d c (Acted act) t other of = act_other d c act t other of
@@ -54,8 +43,10 @@ step_other d c End t other of = absurd of
 step_other d c Opened t other of = absurd of
 step_other d c NotOpened t other of = absurd of
 step_other d c NextFailed t other of = absurd of
-step_other d c (SendFailed e) t other of = failed_other e c t (λ same. other (same ∙ of))
-step_other d c (RecvFailed e) t other of = failed_received e c t (λ same. other (same ∙ of))
+step_other d c (SendLost e) t other of = (switch_of-send_lost_other e c t (λ same. other (same ∙ of)), waits_of-send_lost_other e c t (λ same. other (same ∙ of)))
+step_other d c (RecvLost e) t other of = (switch_of-recv_lost_other e c t (λ same. other (same ∙ of)), waits_of-recv_lost_other e c t (λ same. other (same ∙ of)))
+step_other d c (SendFailed e) t other of = (switch_of-send_failed e c t, waits_of-send_failed e c t)
+step_other d c (RecvFailed e) t other of = (switch_of-recv_failed e c t, waits_of-recv_failed e c t)
 
 pub steps_other : (d c : ℕ) (steps : List WorldStep) (t : State) → c ≢ d → AllByRecursion (IsStepOf d) steps → SameSwitch c t (after_steps steps t)
 steps_other d c [] t other of = (refl, refl)

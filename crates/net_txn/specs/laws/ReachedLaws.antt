@@ -30,7 +30,7 @@ use Rattle.net_txn.specs.laws.EchoLaws.{echo_reply-reading}
 use Rattle.net_txn.specs.Net.{NetState, awaited_from}
 use Rattle.net_txn.specs.laws.SentLaws.{reading_of-as_sent}
 use Rattle.net_txn.specs.laws.HeardLaws.{IsMessage-barrier, next_xid-lt, heard-reply}
-use Rattle.net_txn.specs.Changes.{change_sent, error_in, Asked}
+use Rattle.net_txn.specs.Answering.{change_sent, error_in, Asked}
 use Rattle.net_txn.specs.Agreement.{ReachedSince}
 
 -- ---- Which acts send a change

@@ -1,7 +1,7 @@
 -- Laws of what came of switches by calls that succeeded: all of it was messages.
-use Rattle.std.specs.Prelude.{◌≡◌, ℕ, ◌^◌, ◌<◌, Bool, true, List, [], ◌∷◌, ◌++◌, Option, Result, Ok, Err, IsOk, is_ok, OnOk, IsOkAnd, MatchResult, refl}
+use Rattle.std.specs.Prelude.{◌≡◌, ◌⊎◌, ℕ, ◌^◌, ◌<◌, Bool, true, List, [], ◌∷◌, ◌++◌, Option, Result, Ok, Err, IsOk, is_ok, OnOk, IsOkAnd, MatchResult, refl}
 use Rattle.std.specs.List.{AllByRecursion}
-use Rattle.std.proofs.Common.{ap, arith}
+use Rattle.std.proofs.Common.{ap, inl, inr, arith}
 use Rattle.of_types.specs.declared.port_desc.PortDesc.{PortDesc}
 use Rattle.of_wire.specs.declared.bodies.FlowMod.{FlowMod as Change}
 use Rattle.of_wire.specs.declared.message.Envelope.{Envelope}
@@ -28,7 +28,7 @@ use Rattle.lego_model.specs.BarrierWaits.{next_xid, heard, steps_by, wait_steps,
 use Rattle.net_txn.specs.laws.HeardLaws.{next_xid-lt}
 use Rattle.net_txn.specs.Waits.{IsRead, Waits}
 use Rattle.net_txn.specs.Changes.{Asked, Stopped}
-use Rattle.net_txn.specs.Arriving.{arrival_steps, Becomes, Arrives}
+use Rattle.net_txn.specs.Arriving.{arrival_steps, Becomes, ArrivesLost, Arrives}
 use Rattle.net_txn.specs.Joining.{Joins}
 
 -- ---- Messages that were got
@@ -106,8 +106,10 @@ arrival_brings d xid messages.BarrierReply = tt
 arrival_brings d xid (messages.QueueGetConfigRequest payload) = tt
 arrival_brings d xid (messages.QueueGetConfigReply payload) = tt
 
-became_read : {Own : Type 0} (Tells : Type 0) (d : ℕ) (r : Result Envelope WireFault) (old new : Seen Own) (net now_net : NetState) (event : Option Event) → IsOkAnd r (λ e. Becomes Tells d e.xid e.message old new net now_net event) → Tells → MessagesSince old new
-became_read Tells d (Ok e) old new net now_net event b told = messages-by old new (arrival_steps d e.xid e.message) (b.told told) (arrival_brings d e.xid e.message)
+became_read : {Own : Type 0} (Tells : Type 0) (d : ℕ) (r : Result Envelope WireFault) (old new : Seen Own) (net now_net : NetState) (event : Option Event)
+    → IsOkAnd r (λ e. Becomes Tells d e.xid e.message old new net now_net event ⊎ ArrivesLost Tells d e.message old new net now_net event) → Tells → MessagesSince old new
+became_read Tells d (Ok e) old new net now_net event (inl b) told = messages-by old new (arrival_steps d e.xid e.message) (b.told told) (arrival_brings d e.xid e.message)
+became_read Tells d (Ok e) old new net now_net event (inr lost) told = lost.read told
 became_read Tells d (Err fault) old new net now_net event b told = absurd b
 
 pub arrives_read : {Own : Type 0} {Tells : Type 0} {d : ℕ} {frame : List ℕ} {old new : Seen Own} {net now_net : NetState} {result : Result (Option Event) TxnFault} → Arrives Tells d frame old new net now_net result → IsOk result → Tells → MessagesSince old new

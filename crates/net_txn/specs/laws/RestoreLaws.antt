@@ -35,6 +35,7 @@ use Rattle.lego_model.specs.UndoFaults.{delete_strict, inverse_bytes, key_sent, 
 use Rattle.lego_model.specs.BarrierWaits.{heard, is_reply, steps_by, heard_steps, wait_steps, barrier_sent, reply_got}
 use Rattle.net_txn.specs.laws.HeardLaws.{IsMessage-barrier}
 use Rattle.net_txn.specs.laws.StepLaws.{first_got, reply_is_none, told_switch, told_waits, barrier_sends, barrier_stays, gots, gots_switch, gots_empty}
+use Rattle.net_txn.specs.declared.halt.Halt.TheVariants.{Lost, Fault}
 use Rattle.net_txn.specs.Undos.{IsFaultOf, fault_in, first_fault_of, first_fault, ended_by, SameSwitch, Restored, CanBeSent, IsBarrierPassed, alone, Part, Inverse, BarrierPassed, Stuck, part_steps, steps_of, parts_of, is_stuck, since_of, inverses_of, IsRun}
 use Rattle.net_txn.specs.laws.PartLaws.{steps_other, reading_of-inverse}
 use Rattle.net_txn.specs.laws.NoticeLaws.{reply_kind, notice_steps, with_entries, inverse_moves, inverse_sends, inverse_sends-few, AllNotices, notices_steps, notices_alone}
@@ -302,7 +303,8 @@ stuck_refused : (declared : List Declared) (old new : Counts) (d e : ℕ) (p : P
     → (e ≡ d → is_stuck older ≡ false → Left e s older t) → ⊥
 stuck_refused declared old new d e (Inverse xid k) inverse bytes s older t run is may l = absurd cc
 stuck_refused declared old new d e (BarrierPassed xid got) inverse bytes s older t run is may l = absurd cc
-stuck_refused declared old new d e (Stuck xid fault steps) inverse bytes s older t run is may l =
+stuck_refused declared old new d e (Stuck xid Lost steps) inverse bytes s older t run is may l = absurd cc
+stuck_refused declared old new d e (Stuck xid (Fault fault) steps) inverse bytes s older t run is may l =
     let same : fault ≡ Diverged d inverse bytes = one_fault fault (Diverged d inverse bytes) is in
     let cause = subst (λ (f : TxnFault). IsFaultOf e (inverses_of older) old new steps f) same run.0.cause in
     left_refused declared e (inverses_of older) steps inverse bytes s older t cause.1 may (l (sym cause.0) run.1)

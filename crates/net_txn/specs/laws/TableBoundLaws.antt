@@ -7,7 +7,7 @@ use Rattle.std.specs.List.{AllByRecursion, list_any}
 use Rattle.std.specs.Option.{option_map}
 use Rattle.of_types.specs.declared.errors.OfError.{OfError}
 use Rattle.of_types.specs.declared.journal.Act.{Act}
-use Rattle.of_types.specs.declared.journal.Act.TheVariants.{Stim, Started, Gave, Gone, Took, Ended, Sent, Got}
+use Rattle.of_types.specs.declared.journal.Act.TheVariants.{Stim, Started, Gave, Gone, Took, Ended, Sent, Got, Lost}
 use Rattle.of_types.specs.declared.journal.PortChange.{PortChange}
 use Rattle.of_types.specs.declared.journal.PortChange.TheVariants as changes
 use Rattle.of_types.specs.declared.journal.Stimulus.{Stimulus}
@@ -35,10 +35,10 @@ use Rattle.flow_table.specs.Refusals.{or_else, flow_refusal, message_refusal}
 use Rattle.flow_table.specs.Frames.{after_output, after_outputs, after_counts, after_lookup, hit_outputs, entry_hit, after_packet_output, after_packet_outputs, takes, after_arrival, after_frame}
 use Rattle.flow_table.specs.Step.{can_add, after_taken, after_message, after_port_change, after_stimulus}
 use Rattle.outside.specs.declared.step.WorldStep.{WorldStep}
-use Rattle.outside.specs.declared.step.WorldStep.TheVariants.{Acted, TookInto, From, Joined, Left, Moment, Idle, End, Opened, NotOpened, NextFailed, SendFailed, RecvFailed}
+use Rattle.outside.specs.declared.step.WorldStep.TheVariants.{Acted, TookInto, From, Joined, Left, Moment, Idle, End, Opened, NotOpened, NextFailed, SendLost, RecvLost, SendFailed, RecvFailed}
 use Rattle.outside.specs.Seen.{Given, Seen}
 use Rattle.outside.specs.Conforming.{AreDeclaredFrom, Conforming}
-use Rattle.outside.specs.State.{Link, State, link_at_first, at_first, link_of, switch_in, switch_of, with_link, switch_joined, link_joined, link_left, link_stimulated, switch_told, link_sent, link_got, link_told, link_failed, links_after, after_stim, after_act, after_step, after_steps, state}
+use Rattle.outside.specs.State.{Link, State, link_at_first, at_first, link_of, switch_in, switch_of, with_link, switch_joined, link_joined, link_left, link_stimulated, switch_told, link_sent, link_got, link_told, link_lost, link_failed, links_after, after_stim, after_act, after_step, after_steps, state}
 
 -- ---- A change
 
@@ -255,6 +255,10 @@ keeps-told : Keeps link_told
 unfolding link_told
 keeps-told l h = h
 
+keeps-lost : Keeps link_lost
+unfolding link_lost
+keeps-lost l h = (h.0, tt)
+
 keeps-failed : Keeps link_failed
 unfolding link_failed
 keeps-failed l h = h
@@ -289,6 +293,7 @@ act-few (Took app what) s h = h
 act-few (Ended app) s h = h
 act-few (Sent d bytes) s h = one d (link_sent bytes) (keeps-sent bytes) s.links h
 act-few (Got d bytes) s h = one d link_got keeps-got s.links h
+act-few (Lost d) s h = one d link_lost keeps-lost s.links h
 
 step-few : (step : WorldStep) (s : State) → Few s.links → Few (after_step step s).links
 unfolding after_step
@@ -303,6 +308,8 @@ step-few End s h = h
 step-few Opened s h = h
 step-few NotOpened s h = h
 step-few NextFailed s h = h
+step-few (SendLost d) s h = one d link_lost keeps-lost s.links h
+step-few (RecvLost d) s h = one d link_lost keeps-lost s.links h
 step-few (SendFailed d) s h = one d link_failed keeps-failed s.links h
 step-few (RecvFailed d) s h = one d link_failed keeps-failed s.links h
 

@@ -4,15 +4,16 @@ use Rattle.std.specs.List.{AllByRecursion}
 use Rattle.std.proofs.Common.{sym, ap, ◌∙◌, subst, append_assoc, inl, inr}
 use Rattle.std.proofs.lemmas.List.{append-nil}
 use Rattle.of_types.specs.Fields.{number_at}
-use Rattle.of_types.specs.declared.journal.Act.TheVariants.{Got}
+use Rattle.of_types.specs.declared.journal.Act.TheVariants.{Sent, Got}
 use Rattle.of_match.specs.declared.key.Key.{Key}
 use Rattle.outside.specs.declared.step.WorldStep.{WorldStep}
 use Rattle.outside.specs.declared.step.WorldStep.TheVariants.{Acted}
 use Rattle.outside.specs.Seen.{Seen, Continues}
-use Rattle.outside.specs.State.{state}
+use Rattle.outside.specs.State.{state, is_joined}
 use Rattle.outside.specs.laws.InOrderLaws.{InOrder-rest}
-use Rattle.lego_model.specs.declared.fault.TxnFault.{TxnFault}
 use Rattle.lego_model.specs.declared.fault.TxnFault.TheVariants.{NoMemory}
+use Rattle.net_txn.specs.declared.halt.Halt.{Halt}
+use Rattle.net_txn.specs.declared.halt.Halt.TheVariants.{Lost, Fault}
 use Rattle.lego_model.specs.declared.wait.Awaited.{Awaited}
 use Rattle.lego_model.specs.declared.wait.Refusal.{Refusal}
 use Rattle.lego_model.specs.BarrierWaits.{flood, wait_steps, barrier_sent, reply_got}
@@ -21,30 +22,30 @@ use Rattle.net_txn.specs.declared.trouble.Trouble.{Trouble}
 use Rattle.net_txn.specs.declared.trouble.Trouble.TheVariants as troubles
 use Rattle.net_txn.specs.LinkSteps.{OnLinks, AsksWithoutStrays}
 use Rattle.lego_model.specs.UndoFaults.{GoesWithoutStrays, key_sent, key_refused}
-use Rattle.net_txn.specs.Causes.{EndsByGot, IsCause, IsLinkCause}
+use Rattle.net_txn.specs.Causes.{EndsByGot, IsHaltCause, IsLinkCause}
 use Rattle.net_txn.specs.Waits.{Waits, IfFlooded, KeptMore}
-use Rattle.net_txn.specs.Undos.{fault_by}
-use Rattle.net_txn.specs.Said.{Said, Says, HearsNoise, Speaks, said_steps, IsSaid, Calls, unsaid, wait_said, last_said, IsOfLink, IsBreak, frames_said, barrier_of, reply_heard, Replied, Breaks, BreaksBy, Talks, SaysNot, SaysTo}
+use Rattle.net_txn.specs.Undos.{halt_by}
+use Rattle.net_txn.specs.Said.{Said, Says, HearsNoise, Speaks, said_steps, IsSaid, Calls, unsaid, wait_said, last_said, IsOfLink, IsBreak, frames_said, barrier_of, reply_heard, Replied, Breaks, IsHaltBy, BreaksBy, Talks, SaysNot, SaysTo}
 use Rattle.net_txn.specs.laws.WaitLaws.{kept_of_more}
 use Rattle.net_txn.specs.laws.LinkStepLaws.{links_append, wait_links}
 use Rattle.net_txn.specs.laws.LinkStrayLaws.{sure_settled, no_strays_by}
 use Rattle.net_txn.specs.laws.UndoWithoutStraysLaws.{goes_none, goes_append, goes_sure}
-use Rattle.net_txn.specs.laws.SaidLaws.{all_behind, steps_append, Calls-none, Calls-links, whole_steps, frames_go, unsaid_goes, whole_goes}
+use Rattle.net_txn.specs.laws.SaidLaws.{all_behind, steps_append, joined_after, fine_append, fine_none_lost, fine_frames, Calls-none, Calls-links, whole_steps, frames_go, unsaid_goes, whole_goes}
 use Rattle.net_txn.specs.laws.ExchangeLaws.{replied_behind, breaks_behind}
 
 -- ---- A message before
 
-pub talks_behind : {Own : Type 0} {Tells : Type 0} {old mid : Seen Own} (a : Awaited) (first : List (List ℕ)) (new : Seen Own) (kept now_kept : List (ℕ × List ℕ)) (frame : List ℕ) (result : Result (Option Refusal) TxnFault)
+pub talks_behind : {Own : Type 0} {Tells : Type 0} {old mid : Seen Own} (a : Awaited) (first : List (List ℕ)) (new : Seen Own) (kept now_kept : List (ℕ × List ℕ)) (frame : List ℕ) (result : Result (Option Refusal) Halt)
     → Calls Tells a.dpid (Says a.dpid frame ∷ []) old mid → Talks Tells a first mid new kept now_kept result → Talks Tells a (frame ∷ first) old new kept now_kept result
 talks_behind a first new kept now_kept frame (Ok answer) before t = replied_behind frame before t
-talks_behind a first new kept now_kept frame (Err fault) before t = record { trouble = t.trouble; buf = t.buf; breaks = breaks_behind frame before t.breaks; fault_so = t.fault_so }
+talks_behind a first new kept now_kept frame (Err halt) before t = record { trouble = t.trouble; buf = t.buf; breaks = breaks_behind frame before t.breaks; halt_so = t.halt_so }
 
-pub talks_not : {Own : Type 0} {Tells : Type 0} {a : Awaited} {old new : Seen Own} (first : List (List ℕ)) (kept : List (ℕ × List ℕ)) (fault : TxnFault) → SaysNot Tells a.dpid old new fault → BreaksBy Tells a (first ++ barrier_of a ∷ []) old new kept kept fault
-talks_not {a = a} first kept fault s = record {
+pub talks_not : {Own : Type 0} {Tells : Type 0} {a : Awaited} {old new : Seen Own} (first : List (List ℕ)) (kept : List (ℕ × List ℕ)) (halt : Halt) → SaysNot Tells a.dpid old new halt → BreaksBy Tells a (first ++ barrier_of a ∷ []) old new kept kept halt
+talks_not {a = a} first kept halt s = record {
   trouble = s.trouble;
   buf = s.buf;
   breaks = inl (record { first = []; rest = first ++ barrier_of a ∷ []; frames_so = refl; why = s.why; calls = s.calls; kept_so = refl });
-  fault_so = s.fault_so;
+  halt_so = s.halt_so;
 }
 
 -- ---- What was said
@@ -60,13 +61,15 @@ replied_speaks a first old new kept now_kept answer r =
     record {
       said = frames_said d (first ++ barrier_of a ∷ []) ++ (wait_said a r.got ++ reply_heard a ∷ []);
       calls = r.calls;
-      goes = subst (GoesWithoutStrays d) (sym (whole_steps a first r.got (reply_heard a ∷ [])))
-          (goes_append d (said_steps (frames_said d first)) settled (frames_go d first)
+      goes = subst (GoesWithoutStrays d) (sym (whole_steps true a first r.got (reply_heard a ∷ [])))
+          (goes_append d (said_steps true (frames_said d first)) settled (fine_none_lost true (frames_said d first) (fine_frames d first)) (frames_go d first)
           (goes_sure d settled (refl, links_append (wait_steps a r.got) (reply_got a ∷ []) (wait_links a r.got) (refl, tt)) (sure_settled a r.got)));
     }
 
-pub unsent_goes : (d : ℕ) (frames : List (List ℕ)) (t : Trouble) → GoesWithoutStrays d (said_steps (frames_said d frames ++ unsaid d t))
-unsent_goes d frames t = subst (GoesWithoutStrays d) (sym (steps_append (frames_said d frames) (unsaid d t))) (unsaid_goes d (said_steps (frames_said d frames)) t (frames_go d frames))
+pub unsent_goes : (d : ℕ) (frames : List (List ℕ)) (t : Trouble) → GoesWithoutStrays d (said_steps true (frames_said d frames ++ unsaid d t))
+unsent_goes d frames t =
+    let fine = fine_frames d frames in
+    subst (GoesWithoutStrays d) (sym (fine_append true (frames_said d frames) (unsaid d t) fine)) (unsaid_goes d (said_steps true (frames_said d frames)) t (fine_none_lost true (frames_said d frames) fine) (frames_go d frames))
 
 breaks_speaks : {Own : Type 0} {Tells : Type 0} (a : Awaited) (first : List (List ℕ)) (old new : Seen Own) (kept now_kept : List (ℕ × List ℕ)) (buf : List ℕ) (t : Trouble)
     → Breaks Tells a (first ++ barrier_of a ∷ []) Growing [] old new kept now_kept buf t → Speaks Tells a.dpid old new
@@ -77,17 +80,17 @@ breaks_speaks a first old new kept now_kept buf t (inr u) = record {
   goes = whole_goes a first u.got u.by t buf u.is_xid u.before.before_reply;
 }
 
-pub talks_speak : {Own : Type 0} {Tells : Type 0} {old new : Seen Own} (a : Awaited) (kept now_kept : List (ℕ × List ℕ)) (d : ℕ) (first : List (List ℕ)) (result : Result (Option Refusal) TxnFault) → a.dpid ≡ d
+pub talks_speak : {Own : Type 0} {Tells : Type 0} {old new : Seen Own} (a : Awaited) (kept now_kept : List (ℕ × List ℕ)) (d : ℕ) (first : List (List ℕ)) (result : Result (Option Refusal) Halt) → a.dpid ≡ d
     → Talks Tells a first old new kept now_kept result → Speaks Tells d old new
 talks_speak {Tells = Tells} {old = old} {new = new} a kept now_kept d first (Ok answer) is r =
     subst (λ (x : ℕ). Speaks Tells x old new) is (replied_speaks a first old new kept now_kept answer r)
-talks_speak {Tells = Tells} {old = old} {new = new} a kept now_kept d first (Err fault) is b =
+talks_speak {Tells = Tells} {old = old} {new = new} a kept now_kept d first (Err halt) is b =
     subst (λ (x : ℕ). Speaks Tells x old new) is (breaks_speaks a first old new kept now_kept b.buf b.trouble b.breaks)
 
 -- one message alone
-pub says_speak : {Own T : Type 0} {Tells : Type 0} {d : ℕ} {old new : Seen Own} (frame : List ℕ) (result : Result T TxnFault) → SaysTo Tells d frame old new result → Speaks Tells d old new
+pub says_speak : {Own T : Type 0} {Tells : Type 0} {d : ℕ} {old new : Seen Own} (frame : List ℕ) (result : Result T Halt) → SaysTo Tells d frame old new result → Speaks Tells d old new
 says_speak {d = d} frame (Ok x) c = record { said = frames_said d (frame ∷ []); calls = c; goes = frames_go d (frame ∷ []) }
-says_speak {d = d} frame (Err fault) s = record { said = unsaid d s.trouble; calls = s.calls; goes = unsent_goes d [] s.trouble }
+says_speak {d = d} frame (Err halt) s = record { said = unsaid d s.trouble; calls = s.calls; goes = unsent_goes d [] s.trouble }
 
 -- ---- So of links alone, and in place
 
@@ -99,15 +102,20 @@ speaks_links p = Calls-links p.calls
 
 pub speaks_place : {Own : Type 0} {Tells : Type 0} {d : ℕ} {old new : Seen Own} → Speaks Tells d old new → AsksWithoutStrays Tells d old new
 speaks_place {d = d} {old = old} {new = new} p told order joined =
-    let steps = said_steps p.said in
-    let history = p.calls.told told in
+    let steps = said_steps true p.said in
+    let history = p.calls.told told ∙ ap (λ (b : Bool). old.history ++ said_steps b p.said) joined in
     no_strays_by old new steps history (p.goes old.given.declared (state old) (InOrder-rest old new steps p.calls.continues.given history order) joined).places
 
 -- ---- The reply
 
 -- what was sent before the wait
 abbrev pub front_steps : Awaited → List (List ℕ) → List WorldStep
-front_steps a first = said_steps (frames_said a.dpid first) ++ barrier_sent a ∷ []
+front_steps a first = said_steps true (frames_said a.dpid first) ++ barrier_sent a ∷ []
+
+-- which no failed call is among, so that they are the same where the switch is out
+frames_steps : (joined : Bool) (d : ℕ) (frames : List (List ℕ)) → said_steps joined (frames_said d frames) ≡ said_steps true (frames_said d frames)
+frames_steps joined d [] = refl
+frames_steps joined d (f ∷ fs) = ap (λ (s : List WorldStep). Acted (Sent d f) ∷ s) (frames_steps joined d fs)
 
 pub talks_waits : {Own : Type 0} {Tells : Type 0} {a : Awaited} {old new : Seen Own} {kept now_kept : List (ℕ × List ℕ)} {answer : Option Refusal} (first : List (List ℕ))
     → Replied Tells a (first ++ barrier_of a ∷ []) Growing [] old new kept now_kept answer → Waits Tells a (front_steps a first) old new kept now_kept answer
@@ -120,27 +128,28 @@ talks_waits {a = a} {old = old} first r = record {
     before_reply = r.before.before_reply;
     kept_so = r.kept_so;
     answer_so = r.answer_so;
-    told = λ t. r.calls.told t ∙ ap (λ (s : List WorldStep). old.history ++ s) (whole_steps a first r.got (reply_heard a ∷ [])
-        ∙ sym (append_assoc (said_steps (frames_said a.dpid first)) (barrier_sent a ∷ []) (wait_steps a r.got ++ reply_got a ∷ [])));
+    told = λ t. r.calls.told t ∙ ap (λ (s : List WorldStep). old.history ++ s) (whole_steps (is_joined a.dpid (state old)) a first r.got (reply_heard a ∷ [])
+        ∙ ap (λ (s : List WorldStep). s ++ (barrier_sent a ∷ (wait_steps a r.got ++ reply_got a ∷ []))) (frames_steps (is_joined a.dpid (state old)) a.dpid first)
+        ∙ sym (append_assoc (said_steps true (frames_said a.dpid first)) (barrier_sent a ∷ []) (wait_steps a r.got ++ reply_got a ∷ [])));
   };
 }
 
-pub talks_ok : {Own : Type 0} (Tells : Type 0) (a : Awaited) (old new : Seen Own) (kept now_kept : List (ℕ × List ℕ)) (first : List (List ℕ)) (result : Result (Option Refusal) TxnFault) → Talks Tells a first old new kept now_kept result
+pub talks_ok : {Own : Type 0} (Tells : Type 0) (a : Awaited) (old new : Seen Own) (kept now_kept : List (ℕ × List ℕ)) (first : List (List ℕ)) (result : Result (Option Refusal) Halt) → Talks Tells a first old new kept now_kept result
     → IfOk result (Waits Tells a (front_steps a first) old new kept now_kept)
 talks_ok Tells a old new kept now_kept first (Ok answer) t = talks_waits first t
-talks_ok Tells a old new kept now_kept first (Err fault) t = tt
+talks_ok Tells a old new kept now_kept first (Err halt) t = tt
 
 -- ---- Why it failed
 
-unsent_cause : {Own : Type 0} {Tells : Type 0} (d : ℕ) (frames : List (List ℕ)) (old new : Seen Own) (t : Trouble) (buf : List ℕ) → IsOfLink t → Calls Tells d (frames_said d frames ++ unsaid d t) old new → IsLinkCause d old new (fault_by d t buf)
-unsent_cause d frames old new troubles.Link buf why c = (refl, (all_behind (IsSaid d old.counts new.counts) (frames_said d frames) (unsaid d troubles.Link) c.each).0.1)
+unsent_cause : {Own : Type 0} {Tells : Type 0} (d : ℕ) (frames : List (List ℕ)) (old new : Seen Own) (t : Trouble) (buf : List ℕ) → IsOfLink t → Calls Tells d (frames_said d frames ++ unsaid d t) old new → IsLinkCause d old new (halt_by d t buf)
+unsent_cause d frames old new troubles.Link buf why c = (all_behind (IsSaid d old.counts new.counts) (frames_said d frames) (unsaid d troubles.Link) c.each).0.1
 unsent_cause d frames old new (troubles.Broke n) buf why c = absurd why
 unsent_cause d frames old new (troubles.Refused k x n) buf why c = absurd why
 unsent_cause d frames old new troubles.Flooded buf why c = absurd why
 unsent_cause d frames old new troubles.Short buf why c = tt
 unsent_cause d frames old new troubles.Full buf why c = absurd why
 
-unsent_is : {Own : Type 0} (Tells : Type 0) (d : ℕ) (old new : Seen Own) (t : Trouble) (buf : List ℕ) → IsOfLink t → IsLinkCause d old new (fault_by d t buf) → IsCause Tells d old new (fault_by d t buf)
+unsent_is : {Own : Type 0} (Tells : Type 0) (d : ℕ) (old new : Seen Own) (t : Trouble) (buf : List ℕ) → IsOfLink t → IsLinkCause d old new (halt_by d t buf) → IsHaltCause Tells d old new (halt_by d t buf)
 unsent_is Tells d old new troubles.Link buf why cause = cause
 unsent_is Tells d old new (troubles.Broke n) buf why cause = absurd why
 unsent_is Tells d old new (troubles.Refused k x n) buf why cause = absurd why
@@ -155,10 +164,12 @@ last_of {d = d} {old = old} {new = new} xs ys last c =
 
 ends_by : {Own : Type 0} {Tells : Type 0} {d : ℕ} {old new : Seen Own} (xs ys : List Said) (bytes : List ℕ) → Calls Tells d (xs ++ (ys ++ HearsNoise d bytes ∷ [])) old new → Tells → EndsByGot d bytes old.history new.history
 ends_by {d = d} {old = old} xs ys bytes c told =
-    let last = Acted (Got d bytes) ∷ [] in (
-      said_steps xs ++ said_steps ys,
-      c.told told ∙ ap (λ (s : List WorldStep). old.history ++ s) (steps_append xs (ys ++ HearsNoise d bytes ∷ []) ∙ ap (λ (s : List WorldStep). said_steps xs ++ s) (steps_append ys (HearsNoise d bytes ∷ []))
-          ∙ sym (append_assoc (said_steps xs) (said_steps ys) last)),
+    let last = Acted (Got d bytes) ∷ [] in
+    let b = is_joined d (state old) in
+    let here = joined_after b xs in (
+      said_steps b xs ++ said_steps here ys,
+      c.told told ∙ ap (λ (s : List WorldStep). old.history ++ s) (steps_append b xs (ys ++ HearsNoise d bytes ∷ []) ∙ ap (λ (s : List WorldStep). said_steps b xs ++ s) (steps_append here ys (HearsNoise d bytes ∷ []))
+          ∙ sym (append_assoc (said_steps b xs) (said_steps here ys) last)),
     )
 
 -- nothing was to be undone
@@ -171,48 +182,60 @@ none_refused bytes key is = neither (number_at 1 1 bytes == 1) is
     neither false is = absurd cc
 
 unreplied_cause : {Own : Type 0} {Tells : Type 0} (d : ℕ) (xs ys : List Said) (old new : Seen Own) (n : ℕ) (by : Option (List ℕ)) (t : Trouble) (buf : List ℕ) → IsBreak [] Growing n by t buf → Calls Tells d (xs ++ (ys ++ last_said d by t buf)) old new
-    → IsCause Tells d old new (fault_by d t buf)
-unreplied_cause d xs ys old new n None troubles.Link buf why c = (refl, (last_of xs ys _ c).0.1)
+    → IsHaltCause Tells d old new (halt_by d t buf)
+unreplied_cause d xs ys old new n None troubles.Link buf why c = (last_of xs ys _ c).0.1
 unreplied_cause d xs ys old new n None (troubles.Broke m) buf why c = (refl, (last_of xs ys _ c).0.1, ends_by xs ys (take m buf) c)
 unreplied_cause d xs ys old new n None (troubles.Refused k x m) buf why c = absurd why
 unreplied_cause d xs ys old new n None troubles.Flooded buf why c = (refl, refl)
 unreplied_cause d xs ys old new n None troubles.Short buf why c = tt
 unreplied_cause d xs ys old new n None troubles.Full buf why c = tt
-unreplied_cause d xs ys old new n (Some b) troubles.Link buf why c = (refl, (last_of xs ys _ c).1.0.1)
-unreplied_cause d xs ys old new n (Some b) (troubles.Broke m) buf why c = absurd why
-unreplied_cause d xs ys old new n (Some b) (troubles.Refused k x m) buf why c = absurd (none_refused b k why.1)
-unreplied_cause d xs ys old new n (Some b) troubles.Flooded buf why c = absurd why
+unreplied_cause d xs ys old new n (Some b) troubles.Link buf why c = (last_of xs ys _ c).1.0.1
+unreplied_cause d xs ys old new n (Some b) (troubles.Broke m) buf why c = absurd why.1
+unreplied_cause d xs ys old new n (Some b) (troubles.Refused k x m) buf why c = absurd (none_refused b k why.1.1)
+unreplied_cause d xs ys old new n (Some b) troubles.Flooded buf why c = absurd why.1
 unreplied_cause d xs ys old new n (Some b) troubles.Short buf why c = tt
 unreplied_cause d xs ys old new n (Some b) troubles.Full buf why c = tt
 
 breaks_cause : {Own : Type 0} {Tells : Type 0} (a : Awaited) (frames : List (List ℕ)) (old new : Seen Own) (kept now_kept : List (ℕ × List ℕ)) (buf : List ℕ) (t : Trouble) → Breaks Tells a frames Growing [] old new kept now_kept buf t
-    → IsCause Tells a.dpid old new (fault_by a.dpid t buf)
+    → IsHaltCause Tells a.dpid old new (halt_by a.dpid t buf)
 breaks_cause {Tells = Tells} a frames old new kept now_kept buf t (inl u) = unsent_is Tells a.dpid old new t buf u.why (unsent_cause a.dpid u.first old new t buf u.why u.calls)
 breaks_cause a frames old new kept now_kept buf t (inr u) = unreplied_cause a.dpid (frames_said a.dpid frames) (wait_said a u.got) old new (length u.got) u.by t buf u.why u.calls
 
--- a fault, or want of memory for it
-fault_or : (P : TxnFault → Type 0) (fault is : TxnFault) → (fault ≡ is) ⊎ (fault ≡ NoMemory) → P is → P NoMemory → P fault
-fault_or P fault is (inl same) holds none = subst P (sym same) holds
-fault_or P fault is (inr same) holds none = subst P (sym same) none
+-- as the trouble says, or want of memory for its fault
+halt_of : (P : Halt → Type 0) (halt is : Halt) → (halt ≡ is) ⊎ (halt ≡ Fault NoMemory) → P is → P (Fault NoMemory) → P halt
+halt_of P halt is (inl same) holds none = subst P (sym same) holds
+halt_of P halt is (inr same) holds none = subst P (sym same) none
 
-pub talks_cause : {Own : Type 0} {Tells : Type 0} {a : Awaited} {old new : Seen Own} {kept now_kept : List (ℕ × List ℕ)} (d : ℕ) (first : List (List ℕ)) (fault : TxnFault) → a.dpid ≡ d → BreaksBy Tells a (first ++ barrier_of a ∷ []) old new kept now_kept fault
-    → IsCause Tells d old new fault
-talks_cause {Tells = Tells} {a = a} {old = old} {new = new} {kept = kept} {now_kept = now_kept} d first fault is b =
-    subst (λ (x : ℕ). IsCause Tells x old new fault) is
-    (fault_or (IsCause Tells a.dpid old new) fault (fault_by a.dpid b.trouble b.buf) b.fault_so (breaks_cause a (first ++ barrier_of a ∷ []) old new kept now_kept b.buf b.trouble b.breaks) tt)
+pub halt_or : (P : Halt → Type 0) (d : ℕ) (t : Trouble) (buf : List ℕ) (halt : Halt) → IsHaltBy d t buf halt → P (halt_by d t buf) → P (Fault NoMemory) → P halt
+halt_or P d troubles.Link buf halt is holds none = subst P (sym is) holds
+halt_or P d (troubles.Broke n) buf halt is holds none = halt_of P halt _ is holds none
+halt_or P d (troubles.Refused k x n) buf halt is holds none = halt_of P halt _ is holds none
+halt_or P d troubles.Flooded buf halt is holds none = halt_of P halt _ is holds none
+halt_or P d troubles.Short buf halt is holds none = halt_of P halt _ is holds none
+halt_or P d troubles.Full buf halt is holds none = halt_of P halt _ is holds none
 
-pub says_cause : {Own T : Type 0} (Tells : Type 0) (d : ℕ) (frame : List ℕ) (old new : Seen Own) (result : Result T TxnFault) → SaysTo Tells d frame old new result → IfErr result (IsLinkCause d old new)
+pub talks_cause : {Own : Type 0} {Tells : Type 0} {a : Awaited} {old new : Seen Own} {kept now_kept : List (ℕ × List ℕ)} (d : ℕ) (first : List (List ℕ)) (halt : Halt) → a.dpid ≡ d → BreaksBy Tells a (first ++ barrier_of a ∷ []) old new kept now_kept halt
+    → IsHaltCause Tells d old new halt
+talks_cause {Tells = Tells} {a = a} {old = old} {new = new} {kept = kept} {now_kept = now_kept} d first halt is b =
+    subst (λ (x : ℕ). IsHaltCause Tells x old new halt) is
+    (halt_or (IsHaltCause Tells a.dpid old new) a.dpid b.trouble b.buf halt b.halt_so (breaks_cause a (first ++ barrier_of a ∷ []) old new kept now_kept b.buf b.trouble b.breaks) tt)
+
+pub says_cause : {Own T : Type 0} (Tells : Type 0) (d : ℕ) (frame : List ℕ) (old new : Seen Own) (result : Result T Halt) → SaysTo Tells d frame old new result → IfErr result (IsLinkCause d old new)
 says_cause Tells d frame old new (Ok x) c = tt
-says_cause Tells d frame old new (Err fault) s = fault_or (IsLinkCause d old new) fault (fault_by d s.trouble s.buf) s.fault_so (unsent_cause d [] old new s.trouble s.buf s.why s.calls) tt
+says_cause Tells d frame old new (Err halt) s = halt_or (IsLinkCause d old new) d s.trouble s.buf halt s.halt_so (unsent_cause d [] old new s.trouble s.buf s.why s.calls) tt
 
-pub says_told : {Own T : Type 0} (Tells : Type 0) (d : ℕ) (frame bytes : List ℕ) (old new : Seen Own) (result : Result T TxnFault) → frame ≡ bytes → SaysTo Tells d frame old new result → Tells → OnOk result (new.history ≡ old.history ++ said_steps (frames_said d (bytes ∷ [])))
-says_told Tells d frame bytes old new (Ok x) same c told = c.told told ∙ ap (λ (b : List ℕ). old.history ++ said_steps (frames_said d (b ∷ []))) same
-says_told Tells d frame bytes old new (Err fault) same s told = tt
+pub says_told : {Own T : Type 0} (Tells : Type 0) (d : ℕ) (frame bytes : List ℕ) (old new : Seen Own) (result : Result T Halt) → frame ≡ bytes → SaysTo Tells d frame old new result → Tells → OnOk result (new.history ≡ old.history ++ Acted (Sent d bytes) ∷ [])
+says_told Tells d frame bytes old new (Ok x) same c told = c.told told ∙ ap (λ (b : List ℕ). old.history ++ Acted (Sent d b) ∷ []) same
+says_told Tells d frame bytes old new (Err halt) same s told = tt
 
 -- ---- A flood
 
+abbrev pub IfHaltFlooded : {Own : Type 0} → Type 0 → Awaited → List WorldStep → Seen Own → Seen Own → Halt → Type 0
+IfHaltFlooded Tells a front old new Lost = Unit {0}
+IfHaltFlooded Tells a front old new (Fault fault) = IfFlooded Tells a front old new fault
+
 flooded_by : {Own : Type 0} {Tells : Type 0} (a : Awaited) (first : List (List ℕ)) (old new : Seen Own) (kept now_kept : List (ℕ × List ℕ)) (buf : List ℕ) (t : Trouble) → Breaks Tells a (first ++ barrier_of a ∷ []) Growing [] old new kept now_kept buf t
-    → IfFlooded Tells a (front_steps a first) old new (fault_by a.dpid t buf)
+    → IfHaltFlooded Tells a (front_steps a first) old new (halt_by a.dpid t buf)
 flooded_by a first old new kept now_kept buf troubles.Link b = tt
 flooded_by a first old new kept now_kept buf (troubles.Broke n) b = tt
 flooded_by a first old new kept now_kept buf (troubles.Refused k x n) b = tt
@@ -222,25 +245,29 @@ flooded_by a first old new kept now_kept buf troubles.Flooded (inr u) = record {
   many = many u.by u.why;
   before_reply = u.before.before_reply;
   continues = u.calls.continues;
-  told = λ t. u.calls.told t ∙ ap (λ (s : List WorldStep). old.history ++ s) (whole_steps a first u.got (last_said a.dpid u.by troubles.Flooded buf)
-      ∙ ap (λ (s : List WorldStep). said_steps (frames_said a.dpid first) ++ (barrier_sent a ∷ s)) (ap (λ (s : List WorldStep). wait_steps a u.got ++ s) (none_last u.by u.why) ∙ append-nil (wait_steps a u.got))
-      ∙ sym (append_assoc (said_steps (frames_said a.dpid first)) (barrier_sent a ∷ []) (wait_steps a u.got)));
+  told = λ t. u.calls.told t ∙ ap (λ (s : List WorldStep). old.history ++ s) (whole_steps joined a first u.got (last_said a.dpid u.by troubles.Flooded buf)
+      ∙ ap (λ (s : List WorldStep). said_steps joined (frames_said a.dpid first) ++ (barrier_sent a ∷ s)) (ap (λ (s : List WorldStep). wait_steps a u.got ++ s) (none_last u.by u.why) ∙ append-nil (wait_steps a u.got))
+      ∙ ap (λ (s : List WorldStep). s ++ (barrier_sent a ∷ wait_steps a u.got)) (frames_steps joined a.dpid first)
+      ∙ sym (append_assoc (said_steps true (frames_said a.dpid first)) (barrier_sent a ∷ []) (wait_steps a u.got)));
 }
   where
+    joined : Bool
+    joined = is_joined a.dpid (state old)
+
     many : (by : Option (List ℕ)) → IsBreak [] Growing (length u.got) by troubles.Flooded buf → length u.got ≡ flood
     many None why = why
-    many (Some b) why = absurd why
+    many (Some b) why = absurd why.1
 
-    none_last : (by : Option (List ℕ)) → IsBreak [] Growing (length u.got) by troubles.Flooded buf → said_steps (last_said a.dpid by troubles.Flooded buf) ≡ []
+    none_last : (by : Option (List ℕ)) → IsBreak [] Growing (length u.got) by troubles.Flooded buf → said_steps (is_joined a.dpid (state old)) (last_said a.dpid by troubles.Flooded buf) ≡ []
     none_last None why = refl
-    none_last (Some b) why = absurd why
+    none_last (Some b) why = absurd why.1
 flooded_by a first old new kept now_kept buf troubles.Short b = tt
 flooded_by a first old new kept now_kept buf troubles.Full b = tt
 
-pub talks_flooded : {Own : Type 0} {Tells : Type 0} {a : Awaited} {old new : Seen Own} {kept now_kept : List (ℕ × List ℕ)} (first : List (List ℕ)) (fault : TxnFault) → BreaksBy Tells a (first ++ barrier_of a ∷ []) old new kept now_kept fault
-    → IfFlooded Tells a (front_steps a first) old new fault
-talks_flooded {Tells = Tells} {a = a} {old = old} {new = new} {kept = kept} {now_kept = now_kept} first fault b =
-    fault_or (IfFlooded Tells a (front_steps a first) old new) fault (fault_by a.dpid b.trouble b.buf) b.fault_so (flooded_by a first old new kept now_kept b.buf b.trouble b.breaks) tt
+pub talks_flooded : {Own : Type 0} {Tells : Type 0} {a : Awaited} {old new : Seen Own} {kept now_kept : List (ℕ × List ℕ)} (first : List (List ℕ)) (halt : Halt) → BreaksBy Tells a (first ++ barrier_of a ∷ []) old new kept now_kept halt
+    → IfHaltFlooded Tells a (front_steps a first) old new halt
+talks_flooded {Tells = Tells} {a = a} {old = old} {new = new} {kept = kept} {now_kept = now_kept} first halt b =
+    halt_or (IfHaltFlooded Tells a (front_steps a first) old new) a.dpid b.trouble b.buf halt b.halt_so (flooded_by a first old new kept now_kept b.buf b.trouble b.breaks) tt
 
 -- ---- What was kept
 
@@ -253,9 +280,9 @@ breaks_kept a frames old new kept now_kept buf t (inr u) =
     let more = kept_of_more a u.got in
     (more.0, u.kept_so ∙ ap (λ (s : List (ℕ × List ℕ)). kept ++ s) more.1)
 
-pub talks_kept : {Own : Type 0} {Tells : Type 0} {a : Awaited} {frames : List (List ℕ)} {old new : Seen Own} {kept now_kept : List (ℕ × List ℕ)} {fault : TxnFault} → BreaksBy Tells a frames old new kept now_kept fault → KeptMore a.dpid kept now_kept
+pub talks_kept : {Own : Type 0} {Tells : Type 0} {a : Awaited} {frames : List (List ℕ)} {old new : Seen Own} {kept now_kept : List (ℕ × List ℕ)} {halt : Halt} → BreaksBy Tells a frames old new kept now_kept halt → KeptMore a.dpid kept now_kept
 talks_kept {a = a} {frames = frames} {old = old} {new = new} {kept = kept} {now_kept = now_kept} b = breaks_kept a frames old new kept now_kept b.buf b.trouble b.breaks
 
-pub talks_err : {Own : Type 0} (Tells : Type 0) (a : Awaited) (old new : Seen Own) (kept now_kept : List (ℕ × List ℕ)) (first : List (List ℕ)) (result : Result (Option Refusal) TxnFault) → Talks Tells a first old new kept now_kept result → OnErr result (KeptMore a.dpid kept now_kept)
+pub talks_err : {Own : Type 0} (Tells : Type 0) (a : Awaited) (old new : Seen Own) (kept now_kept : List (ℕ × List ℕ)) (first : List (List ℕ)) (result : Result (Option Refusal) Halt) → Talks Tells a first old new kept now_kept result → OnErr result (KeptMore a.dpid kept now_kept)
 talks_err Tells a old new kept now_kept first (Ok answer) t = tt
-talks_err Tells a old new kept now_kept first (Err fault) t = talks_kept t
+talks_err Tells a old new kept now_kept first (Err halt) t = talks_kept t

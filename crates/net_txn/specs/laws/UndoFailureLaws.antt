@@ -10,13 +10,16 @@ use Rattle.outside.specs.declared.step.WorldStep.{WorldStep}
 use Rattle.outside.specs.declared.step.WorldStep.TheVariants.{Acted}
 use Rattle.outside.specs.Seen.{Counts, Seen}
 use Rattle.lego_model.specs.declared.fault.TxnFault.{TxnFault}
-use Rattle.lego_model.specs.declared.fault.TxnFault.TheVariants.{SwitchFault, SwitchBroke, Diverged, Flooded, NoMemory}
+use Rattle.lego_model.specs.declared.fault.TxnFault.TheVariants.{SwitchBroke, Diverged, Flooded, NoMemory}
 use Rattle.lego_model.specs.AfterFault.{IsWhyUndo, FailsInUndo}
 use Rattle.lego_model.specs.UndoFaults.{inverse_bytes, WasSent, key_sent, key_refused, HasCause}
 use Rattle.lego_model.specs.BarrierWaits.{wait_steps, barrier_sent}
 use Rattle.lego_model.specs.SwitchFaults.{Happened, SentThenGot, IsFlood}
-use Rattle.net_txn.specs.Undos.{IsFaultOf, IsStuckBy, Part, Inverse, BarrierPassed, Stuck, part_steps, steps_of, parts_of, is_stuck, inverses_of, IsRun}
+use Rattle.net_txn.specs.declared.halt.Halt.{Halt}
+use Rattle.net_txn.specs.declared.halt.Halt.TheVariants.{Lost, Fault}
+use Rattle.net_txn.specs.Undos.{is_lost, is_out, IsFaultOf, IsHaltOf, IsStuckBy, Part, Inverse, BarrierPassed, Stuck, part_steps, steps_of, parts_of, is_stuck, inverses_of, IsRun}
 use Rattle.net_txn.specs.laws.RestoreLaws.{AllRun, runs_here, runs_older}
+use Rattle.net_txn.specs.laws.UndoLaws.{out_of_stuck}
 
 -- ---- Steps of an undo
 
@@ -116,7 +119,6 @@ module _ {Own Tells : Type 0} (old new : Seen Own) where
   -- the calls that failed, behind those of older parts
   pub stuck_in_undo : (d : ℕ) (older : List (ℕ × Part)) (steps rest : List WorldStep) (fault : TxnFault) → (Tells → new.history ≡ old.history ++ ((steps_of older ++ steps) ++ rest)) → IsFaultOf d (inverses_of (parts_of d older)) old.counts new.counts steps fault
       → IsWhyUndo Tells d old new fault
-  stuck_in_undo d older steps rest (SwitchFault e) told cause = cause
   stuck_in_undo d older steps rest (SwitchBroke e bytes) told cause =
       (cause.0, cause.1, λ tells. in_part (steps_of older) steps rest cause.2.0 (Acted (Got d bytes) ∷ []) [] cause.2.1 (told tells))
   stuck_in_undo d older steps rest (Diverged e inverse bytes) told cause =
@@ -146,68 +148,78 @@ module _ {Own Tells : Type 0} (old new : Seen Own) where
 -- ---- The part that failed
 
 has_cause : (d : ℕ) (sent : List (ℕ × Key)) (old new : Counts) (steps : List WorldStep) (fault : TxnFault) → IsFaultOf d sent old new steps fault → HasCause d sent steps fault
-has_cause d sent old new steps (SwitchFault e) cause = tt
 has_cause d sent old new steps (SwitchBroke e bytes) cause = cause.2
 has_cause d sent old new steps (Diverged e inverse bytes) cause = cause.1
 has_cause d sent old new steps (Flooded e n) cause = cause.2
 has_cause d sent old new steps NoMemory cause = tt
 
 record Failing (d : ℕ) (old new : Counts) (all : List WorldStep) : Type 0 where
-  fault : TxnFault
+  halt : Halt
   older : List (ℕ × Part)
   steps : List WorldStep
   behind : List WorldStep
-  by : IsStuckBy d (inverses_of (parts_of d older)) old new fault steps
+  by : IsStuckBy d (inverses_of (parts_of d older)) old new halt steps
   steps_so : all ≡ (steps_of older ++ steps) ++ behind
 
-failing_here : (d : ℕ) (old new : Counts) (p : Part) (older : List (ℕ × Part)) → IsRun old new d (p ∷ parts_of d older) → is_stuck (p ∷ parts_of d older) ≡ true → Failing d old new (steps_of older ++ part_steps d p)
-failing_here d old new (Inverse xid k) older run is = absurd cc
-failing_here d old new (BarrierPassed xid got) older run is = absurd cc
-failing_here d old new (Stuck xid fault steps) older run is = record {
-  fault = fault;
-  older = older;
-  steps = steps;
-  behind = [];
-  by = run.0;
-  steps_so = sym (append-nil (steps_of older ++ steps));
-}
+failing_here : (d : ℕ) (old new : Counts) (p : Part) (older : List (ℕ × Part)) → IsRun old new d (p ∷ parts_of d older) → is_stuck (p ∷ parts_of d older) ≡ true → is_out (p ∷ parts_of d older) ≡ false → (f : Failing d old new (steps_of older ++ part_steps d p)) × (is_lost f.halt ≡ false)
+failing_here d old new (Inverse xid k) older run is in_still = absurd cc
+failing_here d old new (BarrierPassed xid got) older run is in_still = absurd cc
+failing_here d old new (Stuck xid halt steps) older run is in_still = (
+  record { halt = halt; older = older; steps = steps; behind = []; by = run.0; steps_so = sym (append-nil (steps_of older ++ steps)) },
+  sym (out_of_stuck xid halt steps (parts_of d older)) ∙ in_still,
+)
 
-failing_longer : (d : ℕ) (old new : Counts) (all more : List WorldStep) → Failing d old new all → Failing d old new (all ++ more)
-failing_longer d old new all more f = record {
-  fault = f.fault;
-  older = f.older;
-  steps = f.steps;
-  behind = f.behind ++ more;
-  by = f.by;
-  steps_so = ap (λ (xs : List WorldStep). xs ++ more) f.steps_so ∙ append_assoc (steps_of f.older ++ f.steps) f.behind more;
-}
+failing_longer : (d : ℕ) (old new : Counts) (all more : List WorldStep) → (f : Failing d old new all) × (is_lost f.halt ≡ false) → (f : Failing d old new (all ++ more)) × (is_lost f.halt ≡ false)
+failing_longer d old new all more g =
+    let f = g.0 in (
+      record {
+        halt = f.halt;
+        older = f.older;
+        steps = f.steps;
+        behind = f.behind ++ more;
+        by = f.by;
+        steps_so = ap (λ (xs : List WorldStep). xs ++ more) f.steps_so ∙ append_assoc (steps_of f.older ++ f.steps) f.behind more;
+      },
+      g.1,
+    )
 
-failing : (d : ℕ) (old new : Counts) (parts : List (ℕ × Part)) → AllRun old new parts → is_stuck (parts_of d parts) ≡ true → Failing d old new (steps_of parts)
-failing d old new [] all is = absurd cc
-failing d old new (p ∷ older) all is =
+failing : (d : ℕ) (old new : Counts) (parts : List (ℕ × Part)) → AllRun old new parts → is_stuck (parts_of d parts) ≡ true → is_out (parts_of d parts) ≡ false → (f : Failing d old new (steps_of parts)) × (is_lost f.halt ≡ false)
+failing d old new [] all is in_still = absurd cc
+failing d old new (p ∷ older) all is in_still =
     elim (cases_eq p.0 d) [
       | inl same ↦
           (let run = subst (λ (n : ℕ). IsRun old new n (p.1 ∷ parts_of n older)) same (runs_here old new p older all) in
           let here = subst (λ (b : Bool). is_stuck (if b then p.1 ∷ parts_of d older else parts_of d older) ≡ true) (eq-eqb p.0 d same) is in
-          subst (λ (n : ℕ). Failing d old new (steps_of older ++ part_steps n p.1)) (sym same) (failing_here d old new p.1 older run here))
+          let in_here = subst (λ (b : Bool). is_out (if b then p.1 ∷ parts_of d older else parts_of d older) ≡ false) (eq-eqb p.0 d same) in_still in
+          subst (λ (n : ℕ). (f : Failing d old new (steps_of older ++ part_steps n p.1)) × (is_lost f.halt ≡ false)) (sym same) (failing_here d old new p.1 older run here in_here))
       | inr other ↦
           (let there = subst (λ (b : Bool). is_stuck (if b then p.1 ∷ parts_of d older else parts_of d older) ≡ true) (ne_eqb p.0 d other) is in
-          failing_longer d old new (steps_of older) (part_steps p.0 p.1) (failing d old new older (runs_older old new p older all) there))
+          let in_there = subst (λ (b : Bool). is_out (if b then p.1 ∷ parts_of d older else parts_of d older) ≡ false) (ne_eqb p.0 d other) in_still in
+          failing_longer d old new (steps_of older) (part_steps p.0 p.1) (failing d old new older (runs_older old new p older all) there in_there))
     ]
 
-pub fails_in_undo : {Own : Type 0} (Tells : Type 0) (d : ℕ) (old new : Seen Own) (parts : List (ℕ × Part)) → (Tells → new.history ≡ old.history ++ steps_of parts) → AllRun old.counts new.counts parts → is_stuck (parts_of d parts) ≡ true → FailsInUndo Tells d old new
-fails_in_undo Tells d old new parts told all is =
-    let f = failing d old.counts new.counts parts all is in
+fault_so : (halt : Halt) → is_lost halt ≡ false → (fault : TxnFault) × (halt ≡ Fault fault)
+fault_so Lost none = absurd cc
+fault_so (Fault fault) none = (fault, refl)
+
+pub fails_in_undo : {Own : Type 0} (Tells : Type 0) (d : ℕ) (old new : Seen Own) (parts : List (ℕ × Part)) → (Tells → new.history ≡ old.history ++ steps_of parts) → AllRun old.counts new.counts parts → is_stuck (parts_of d parts) ≡ true → is_out (parts_of d parts) ≡ false
+    → FailsInUndo Tells d old new
+fails_in_undo Tells d old new parts told all is in_still =
+    let g = failing d old.counts new.counts parts all is in_still in
+    let f = g.0 in
+    let is_fault = fault_so f.halt g.1 in
+    let fault = is_fault.0 in
+    let cause : IsFaultOf d (inverses_of (parts_of d f.older)) old.counts new.counts f.steps fault = subst (λ (h : Halt). IsHaltOf d (inverses_of (parts_of d f.older)) old.counts new.counts f.steps h) is_fault.1 f.by.cause in
     let within = λ (t : Tells). told t ∙ ap (λ (xs : List WorldStep). old.history ++ xs) f.steps_so in
     record {
-      fault = f.fault;
-      why = stuck_in_undo old new d f.older f.steps f.behind f.fault within f.by.cause;
+      fault = fault;
+      why = stuck_in_undo old new d f.older f.steps f.behind fault within cause;
       sent = inverses_of (parts_of d f.older);
       front = steps_of f.older;
       were_sent = were_sent d f.older;
       steps = f.steps;
       each = f.by.each;
-      cause = has_cause d (inverses_of (parts_of d f.older)) old.counts new.counts f.steps f.fault f.by.cause;
+      cause = has_cause d (inverses_of (parts_of d f.older)) old.counts new.counts f.steps fault cause;
       places = f.by.places;
       told = λ t. record { before = []; behind = f.behind; told = within t };
     }

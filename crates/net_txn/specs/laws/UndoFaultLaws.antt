@@ -1,4 +1,4 @@
--- Where a world keeps its word and nothing waited of any joined switch, an undo gives no cause for a fault but by a link, or by memory.
+-- Where a world keeps its word and nothing waited of any joined switch, an undo gives no cause for a fault but by memory.
 use Rattle.std.specs.Prelude.{◌≡◌, ℕ, ◌≤◌, true, false, List, [], ◌∷◌, ◌++◌, length, Option, Some, None, Result, IsErr, IfErr, refl}
 use Rattle.std.proofs.Common.{sym, ap, ◌∙◌, subst, inl, inr, arith}
 use Rattle.of_types.specs.declared.journal.Act.TheVariants.{Got}
@@ -16,7 +16,7 @@ use Rattle.outside.specs.State.{State, after_step, after_steps, state, switch_of
 use Rattle.outside.specs.laws.StateLaws.{Conforming-rest, MaySteps-front, MaySteps-rest}
 use Rattle.outside.specs.Conforming.{MaySteps, Conforming}
 use Rattle.lego_model.specs.declared.fault.TxnFault.{TxnFault}
-use Rattle.lego_model.specs.declared.fault.TxnFault.TheVariants.{SwitchFault, SwitchBroke, Diverged, Flooded, NoMemory}
+use Rattle.lego_model.specs.declared.fault.TxnFault.TheVariants.{SwitchBroke, Diverged, Flooded, NoMemory}
 use Rattle.net_txn.specs.Causes.{IsPlain}
 use Rattle.lego_model.specs.BarrierWaits.{barrier_sent}
 use Rattle.net_txn.specs.laws.HeardLaws.{IsMessage-barrier}
@@ -25,6 +25,7 @@ use Rattle.net_txn.specs.laws.FloodLaws.{both_ways, got_reads, few_got}
 use Rattle.net_txn.specs.laws.NoticeLaws.{with_entries}
 use Rattle.net_txn.specs.laws.TableBoundLaws.{table_few}
 use Rattle.net_txn.specs.laws.JoiningFaultLaws.{notices_got}
+use Rattle.net_txn.specs.declared.halt.Halt.TheVariants.{Lost, Fault}
 use Rattle.net_txn.specs.Undos.{IsFaultOf, IsRun, Part, Inverse, BarrierPassed, Stuck, part_steps, steps_of, parts_of, is_stuck, inverses_of, fault_in, first_fault, ended_by, StandsReady}
 use Rattle.lego_model.specs.UndoFaults.{EndsBy, Overruns}
 use Rattle.net_txn.specs.Views.{is_viewed}
@@ -55,7 +56,6 @@ not_overrun declared d steps s older t r may l small =
     omega (arith, few, r.many, here.few, small)
 
 plain_cause : (declared : List Declared) (old new : Counts) (d : ℕ) (sent : List (ℕ × Key)) (steps : List WorldStep) (fault : TxnFault) (s : SwitchState) (older : List Part) (t : State) → IsFaultOf d sent old new steps fault → MaySteps declared steps t → Left d s older t → length s.table.entries ≤ 4096 → IsPlain fault
-plain_cause declared old new d sent steps (SwitchFault e) s older t cause may l small = tt
 plain_cause declared old new d sent steps (SwitchBroke e bytes) s older t cause may l small = not_broke declared d bytes steps t cause.2 may cause.1
 plain_cause declared old new d sent steps (Diverged e inverse bytes) s older t cause may l small = left_refused declared d sent steps inverse bytes s older t cause.1 may l
 plain_cause declared old new d sent steps (Flooded e n) s older t cause may l small = not_overrun declared d steps s older t cause.2 may l small
@@ -65,7 +65,8 @@ plain_part : (declared : List Declared) (old new : Counts) (d : ℕ) (p : Part) 
     → (is_stuck older ≡ false → Left d s older t) → length s.table.entries ≤ 4096 → IsPlain fault
 plain_part declared old new d (Inverse xid k) fault s older t run is may l small = absurd cc
 plain_part declared old new d (BarrierPassed xid got) fault s older t run is may l small = absurd cc
-plain_part declared old new d (Stuck xid first steps) fault s older t run is may l small =
+plain_part declared old new d (Stuck xid Lost steps) fault s older t run is may l small = absurd cc
+plain_part declared old new d (Stuck xid (Fault first) steps) fault s older t run is may l small =
     subst IsPlain (one_fault first fault is) (plain_cause declared old new d (inverses_of older) steps first s older t run.0.cause may (l run.1) small)
 
 -- ---- All parts

@@ -1,6 +1,6 @@
 -- The calls of an undo are in place where each switch that has a view is joined.
 use Rattle.std.specs.Prelude.{◌≡◌, ℕ, Bool, true, false, List, [], ◌∷◌, ◌++◌, ◌⊎◌, if◌then◌else◌, refl}
-use Rattle.std.proofs.Common.{◌∙◌, subst, eq-eqb, inl, inr}
+use Rattle.std.proofs.Common.{subst, eq-eqb, inl, inr}
 use Rattle.std.proofs.lemmas.Bool.{cases_Bool}
 use Rattle.flow_table.specs.Switch.{Declared}
 use Rattle.flow_table.specs.View.{TableView}
@@ -13,13 +13,12 @@ use Rattle.net_txn.specs.LinkSteps.{MakesNoStrayCall}
 use Rattle.lego_model.specs.UndoFaults.{AreExpectedOnLinks, GoesWithoutStrays}
 use Rattle.net_txn.specs.laws.LinkStepLaws.{links_append, wait_links}
 use Rattle.net_txn.specs.laws.LinkStrayLaws.{places_append, no_strays_by, sure_settled}
-use Rattle.net_txn.specs.laws.JoinedLaws.{steps_leave}
 use Rattle.net_txn.specs.laws.UndoWithoutStraysLaws.{goes_sure}
 use Rattle.net_txn.specs.Undos.{AreJoined, alone, Part, Inverse, BarrierPassed, Stuck, part_steps, steps_of, parts_of, IsRun}
 use Rattle.net_txn.specs.Views.{is_viewed}
-use Rattle.net_txn.specs.laws.RestoreLaws.{AllRun, runs_here, runs_older}
+use Rattle.net_txn.specs.laws.RestoreLaws.{AllRun, runs_here, runs_older, older_free}
 use Rattle.net_txn.specs.laws.KeepLaws.{cons_not_none, older_none}
-use Rattle.net_txn.specs.laws.UndoLinkLaws.{steps_links}
+use Rattle.net_txn.specs.laws.TableBackLaws.{joined_left}
 
 -- ---- One part
 
@@ -28,7 +27,7 @@ part_goes old new d (Inverse xid k) older run = goes_sure d (part_steps d (Inver
 part_goes old new d (BarrierPassed xid got) older run =
     let a = alone d xid in
     goes_sure d (part_steps d (BarrierPassed xid got)) (refl, links_append (wait_steps a got) (reply_got a ∷ []) (wait_links a got) (refl, tt)) (sure_settled a got)
-part_goes old new d (Stuck xid fault steps) older run = run.0.places
+part_goes old new d (Stuck xid halt steps) older run = run.0.places
 
 -- ---- Switches that are joined
 
@@ -55,7 +54,8 @@ parts_place declared old new (p ∷ older) s run served may =
     let front = steps_of older in
     let steps = part_steps p.0 p.1 in
     let before = parts_place declared old new older s (runs_older old new p older run) (λ d. none_or_served p older s d (served d)) (come_front declared front steps s may) in
-    let joined : is_joined p.0 (after_steps front s) ≡ true = (steps_leave front s (steps_links old new older (runs_older old new p older run))).joined p.0 ∙ some_served p older s (served p.0) in
+    let joined : is_joined p.0 (after_steps front s) ≡ true =
+    joined_left old new p.0 older s (runs_older old new p older run) (older_free old new p.0 p.1 (parts_of p.0 older) (runs_here old new p older run)) (some_served p older s (served p.0)) in
     let here = part_goes old new p.0 p.1 (parts_of p.0 older) (runs_here old new p older run) declared (after_steps front s) (come_rest declared front steps s may) joined in
     places_append front steps s before here.places
 

@@ -1,5 +1,5 @@
 -- Laws of views: lookup, and where a change stands.
-use Rattle.std.specs.Prelude.{◌≡◌, ◌≢◌, ◌==◌, ℕ, ◌<◌, ◌≤◌, Bool, true, false, List, [], ◌∷◌, length, Option, Some, None, if◌then◌else◌, refl}
+use Rattle.std.specs.Prelude.{◌≡◌, ◌≢◌, ◌==◌, ℕ, ◌<◌, ◌≤◌, Bool, true, false, ◌||◌, List, [], ◌∷◌, length, Option, Some, None, if◌then◌else◌, refl}
 use Rattle.std.specs.List.{insert}
 use Rattle.std.specs.Option.{is_some}
 use Rattle.std.proofs.Common.{zero, suc, get_or, set, sym, ap, ◌∙◌, eqb, ltb, arith, eq-eqb, subst}
@@ -7,7 +7,7 @@ use Rattle.std.proofs.lemmas.Bool.{eqb-true, ne_eqb, lt-ltb, le-ltb}
 use Rattle.of_match.specs.Key.{key_number}
 use Rattle.flow_table.specs.declared.view.ViewRow.{ViewRow}
 use Rattle.flow_table.specs.View.{TableView}
-use Rattle.net_txn.specs.Views.{rows_at, with_rows, IsViewAt, with_row, IsRowPlace}
+use Rattle.net_txn.specs.Views.{rows_at, is_viewed, with_rows, IsViewAt, with_row, IsRowPlace}
 
 -- ---- Views
 
@@ -118,3 +118,13 @@ pub IsRowPlace-le : (p : ℕ) (rows : List ViewRow) (i : ℕ) → IsRowPlace p r
 IsRowPlace-le p [] i is = omega arith
 IsRowPlace-le p (r ∷ rs) zero is = omega arith
 IsRowPlace-le p (r ∷ rs) (suc i) is = omega (arith, IsRowPlace-le p rs i is.1)
+
+-- ---- Which switches have views
+
+viewed_if : (here : Bool) (v : TableView) (rest : Bool) (o : Option (List ViewRow)) → rest ≡ is_some o → (here || rest) ≡ is_some (if here then Some v.rows else o)
+viewed_if true v rest o is = refl
+viewed_if false v rest o is = is
+
+pub viewed : (d : ℕ) (views : List TableView) → is_viewed d views ≡ is_some (rows_at d views)
+viewed d [] = refl
+viewed d (v ∷ vs) = viewed_if (v.dpid == d) v (is_viewed d vs) (rows_at d vs) (viewed d vs)

@@ -1,6 +1,11 @@
 -- The law of a whole undo: what it says of each switch.
-use Rattle.std.specs.Prelude.{◌≡◌, ◌==◌, ℕ, Bool, true, false, List, [], ◌∷◌, map, take, drop, if◌then◌else◌, Option, Result, IsOk, ◌≤◌, ◌+◌, refl}
+use Rattle.std.specs.Prelude.{◌≡◌, ◌==◌, ℕ, Bool, true, false, not, List, [], ◌∷◌, map, filter, take, drop, if◌then◌else◌, Option, Result, IsOk, ◌≤◌, ◌+◌, refl}
 use Rattle.std.proofs.Common.{sym, ap, ◌∙◌, subst}
+use Rattle.std.proofs.lemmas.List.Elements.{filter_agree}
+use Rattle.flow_table.specs.View.{TableView}
+use Rattle.lego_model.specs.Packets.{Held}
+use Rattle.net_txn.specs.Ports.{PortLists, ports_lost}
+use Rattle.net_txn.specs.Losing.{is_among}
 use Rattle.of_match.specs.declared.key.Key.{Key}
 use Rattle.outside.specs.Seen.{Counts, Seen}
 use Rattle.outside.specs.laws.StateLaws.{Conforming-before}
@@ -8,18 +13,21 @@ use Rattle.outside.specs.laws.InOrderLaws.{messages-by}
 use Rattle.lego_model.specs.declared.fault.TxnFault.{TxnFault}
 use Rattle.net_txn.specs.Net.{NetState}
 use Rattle.net_txn.specs.declared.logged.Logged.{Logged}
-use Rattle.net_txn.specs.laws.RestoreLaws.{others_stay, restored, accepted}
-use Rattle.net_txn.specs.laws.AgreeLaws.{agrees, table_agrees, no_fault, none_failed}
+use Rattle.net_txn.specs.laws.RestoreLaws.{AllRun, others_stay, restored, accepted}
+use Rattle.net_txn.specs.laws.LoseAllLaws.{lose_all-so, lost-rows}
+use Rattle.net_txn.specs.laws.LostPartLaws.{free-among}
+use Rattle.net_txn.specs.laws.OutLaws.{among_out, none_failed, undo_losses, undo_out}
+use Rattle.net_txn.specs.laws.AgreeLaws.{agrees, table_agrees, no_fault}
 use Rattle.net_txn.specs.laws.TableBackLaws.{table_back}
 use Rattle.net_txn.specs.laws.UndoFailureLaws.{fails_in_undo}
 use Rattle.net_txn.specs.laws.KeepLaws.{none_kept}
 use Rattle.net_txn.specs.laws.UndoFaultLaws.{plain}
 use Rattle.net_txn.specs.laws.SentOrderLaws.{served_all}
 use Rattle.net_txn.specs.laws.LinkStepLaws.{OnLinks-by}
-use Rattle.net_txn.specs.laws.UndoLinkLaws.{steps_links, parts_bring}
+use Rattle.net_txn.specs.laws.UndoLinkLaws.{steps_links, parts_bring, undo_releases_none}
 use Rattle.net_txn.specs.laws.UndoStrayLaws.{undo_place}
-use Rattle.net_txn.specs.Undos.{Undoes, Further, steps_of, switches_of, first_fault, ended_by, without_keys, parts_of, Part, inverses_in, keys_of, key_logged, HasPassedBarrier, Stands, IsRevertedOn}
-use Rattle.net_txn.specs.Views.{is_viewed}
+use Rattle.net_txn.specs.Undos.{Undoes, UndoesLog, undone_net, next_free, was_lost, lost_parts, is_stuck, Further, steps_of, first_fault, ended_by, without_keys, parts_of, Part, inverses_in, keys_of, key_logged, HasPassedBarrier, Stands, IsRevertedOn}
+use Rattle.net_txn.specs.Views.{rows_at, is_viewed}
 
 key_step : (here : Bool) (x : ℕ) (k : Key) (pairs : List (ℕ × Key)) (keys : List Key) → map (λ p. p.1) pairs ≡ keys → map (λ p. p.1) (if here then (x, k) ∷ pairs else pairs) ≡ (if here then k ∷ keys else keys)
 key_step true x k pairs keys is = ap (λ (ks : List Key). k ∷ ks) is
@@ -37,56 +45,82 @@ reverted_on known d old new parts reverted all same s barred = record {
   barred = λ k free. sym (s.since k free) ∙ barred k (s.stuck k ∙ free);
 }
 
-pub undoes : {Own : Type 0} {Tells : Type 0} (start from : ℕ) (old new : Seen Own) (net now_net : NetState) (result : Result (Unit {0}) TxnFault) (fault : Option TxnFault) (reverted : List Logged)
-    → take from net.log ≡ take start net.log → drop from net.log ≡ drop start net.log → result ≡ ended_by fault → Further Tells net.views old new net.kept now_net.kept net.xid now_net.xid (switches_of net.views) reverted fault
-    → ((d : ℕ) → is_viewed d net.views ≡ true → HasPassedBarrier d reverted) → map key_logged reverted ≡ map key_logged (drop from net.log)
-    → now_net.views ≡ without_keys (map key_logged (drop from net.log)) net.views → now_net.log ≡ take from net.log → now_net.ports ≡ net.ports → now_net.moment ≡ net.moment → now_net.held ≡ []
-    → (net.room ≤ now_net.room + 1) × (IsOk result → now_net.room ≡ net.room) → Undoes Tells start old new net now_net result
-undoes {Tells = Tells} start from old new net now_net result fault reverted front rest is f barred same views log ports moment held room =
-    let all : map key_logged reverted ≡ map key_logged (drop start net.log) = same ∙ ap (λ (es : List Logged). map key_logged es) rest in
-    let each : (d : ℕ) → IsRevertedOn (is_viewed d net.views) d old.counts new.counts (keys_of d (map key_logged (drop start net.log))) (parts_of d f.parts) = λ d.
-    reverted_on (is_viewed d net.views) d old.counts new.counts (parts_of d f.parts) reverted (map key_logged (drop start net.log)) all (f.undoing.stands d) (barred d) in
+-- what is kept where the log was undone, and then what is logged and held
+abbrev pub kept_now : NetState → List TableView → List Logged → List Held → List (ℕ × List ℕ) → PortLists → ℕ → ℕ → NetState
+kept_now net views log held kept ports xid room =
+    record { views = views; ports = ports.known; log = log; held = held; xid = xid; moment = net.moment; kept = kept; room = room; left = ports.left }
+
+lost_alike : {Own : Type 0} {Tells : Type 0} {views : List TableView} {old new : Seen Own} {kept all_kept : List (ℕ × List ℕ)} {ps qs : PortLists} {x y : ℕ} {switches : List ℕ} {reverted : List Logged} {fault : Option TxnFault}
+    (f : Further Tells views old new kept all_kept ps qs x y switches reverted fault) (d : ℕ) → not (was_lost reverted d) ≡ not (is_among d (lost_parts f.parts))
+lost_alike {old = old} {new = new} f d = ap not ((f.undoing.stands d).out ∙ sym (among_out old.counts new.counts d f.parts (λ c. (f.undoing.stands c).run)))
+
+net_alike : (net : NetState) (views now_views : List TableView) (log : List Logged) (held : List Held) (kept now_kept : List (ℕ × List ℕ)) (ports now_ports : PortLists) (xid now_xid room : ℕ) → now_views ≡ views → now_kept ≡ kept → now_ports ≡ ports → now_xid ≡ xid
+    → kept_now net now_views log held now_kept now_ports now_xid room ≡ kept_now net views log held kept ports xid room
+net_alike net views now_views log held kept now_kept ports now_ports xid now_xid room same_views same_kept same_ports same_xid = rw (same_views, same_kept, same_ports, same_xid) refl
+
+pub later_alike : (net : NetState) (views : List TableView) (log now_log : List Logged) (held now_held : List Held) (kept : List (ℕ × List ℕ)) (ports : PortLists) (xid room : ℕ) → now_log ≡ log → now_held ≡ held
+    → kept_now net views log held kept ports xid room ≡ kept_now net views now_log now_held kept ports xid room
+later_alike net views log now_log held now_held kept ports xid room same_log same_held = rw (same_log, same_held) refl
+
+pub undoes : {Own : Type 0} {Tells : Type 0} (start from : ℕ) (old new : Seen Own) (net : NetState) (views : List TableView) (kept : List (ℕ × List ℕ)) (ports : PortLists) (xid room : ℕ) (result : Result (Unit {0}) TxnFault)
+    → take from net.log ≡ take start net.log → drop from net.log ≡ drop start net.log
+    → UndoesLog Tells net.views views old new net.kept kept (record { known = net.ports; left = net.left }) ports net.xid xid (map key_logged (drop from net.log)) result
+    → (net.room ≤ room + 1) × (IsOk result → room ≡ net.room) → Undoes Tells start old new net (kept_now net views (take from net.log) [] kept ports xid room) result
+undoes {Tells = Tells} start from old new net views kept ports xid room result front rest u fits =
+    let f = u.further in
+    let parts = f.parts in
+    let lost = lost_parts parts in
+    let keys = map key_logged (drop start net.log) in
+    let same_keys : map key_logged (drop from net.log) ≡ keys = ap (λ (es : List Logged). map key_logged es) rest in
+    let all : map key_logged u.reverted ≡ keys = u.same ∙ same_keys in
+    let is : result ≡ ended_by (first_fault parts) = u.result_so ∙ ap ended_by f.fault_so in
+    let given = f.undoing.continues.given in
+    let each : (d : ℕ) → IsRevertedOn (is_viewed d net.views) d old.counts new.counts (keys_of d keys) (parts_of d parts) = λ d.
+    reverted_on (is_viewed d net.views) d old.counts new.counts (parts_of d parts) u.reverted keys all (f.undoing.stands d) (u.barred d) in
+    let run : AllRun old.counts new.counts parts = λ c. (each c).run in
+    let left = without_keys keys net.views in
+    let now_views : views ≡ filter (λ v. not (is_among v.dpid lost)) left =
+    u.views_so ∙ filter_agree (λ v. not (was_lost u.reverted v.dpid)) (λ v. not (is_among v.dpid lost)) (λ v. lost_alike f v.dpid) (without_keys (map key_logged (drop from net.log)) net.views)
+    ∙ ap (λ (ks : List (ℕ × Key)). filter (λ v. not (is_among v.dpid lost)) (without_keys ks net.views)) same_keys in
+    let now_kept : kept ≡ filter (λ m. not (is_among m.0 lost)) u.all_kept =
+    u.kept_so ∙ filter_agree (λ m. not (was_lost u.reverted m.0)) (λ m. not (is_among m.0 lost)) (λ m. lost_alike f m.0) u.all_kept in
+    let base : NetState = record (undone_net start net) { xid = next_free net.xid parts; kept = u.all_kept; room = room } in
+    let rows : (d : ℕ) → is_stuck (parts_of d parts) ≡ false → rows_at d views ≡ rows_at d left = λ d free.
+    ap (rows_at d) now_views ∙ lost-rows d lost left (free-among old.counts new.counts d parts (run d) free) in
     record {
-      parts = f.parts;
+      parts = parts;
       continues = f.undoing.continues;
-      links = OnLinks-by Tells old new (steps_of f.parts) (steps_links old.counts new.counts f.parts (λ c. (each c).run)) f.undoing.told;
-      no_strays = λ told order joined. undo_place old new net.views f.parts f.undoing.continues.given (f.undoing.told told) (λ c. (each c).run) (λ c. (each c).unknown) order joined;
+      links = OnLinks-by Tells old new (steps_of parts) (steps_links old.counts new.counts parts run) f.undoing.told;
+      no_strays = λ told order joined. undo_place old new net.views parts given (f.undoing.told told) run (λ c. (each c).unknown) order joined;
       told = f.undoing.told;
-      xid = f.undoing.next;
       numbered = f.undoing.numbered;
       each = each;
       order = rw all at f.undoing.order;
-      whole_order = served_all net.views f.parts (map key_logged (drop start net.log)) (rw all at f.undoing.order) (λ d. (each d).keys_so);
+      whole_order = served_all net.views parts keys (rw all at f.undoing.order) (λ d. (each d).keys_so);
       last = f.undoing.ends;
-      result_so = is ∙ ap ended_by f.fault_so;
-      log = log ∙ front;
-      views = views ∙ ap (λ (es : List Logged). without_keys (map key_logged es) net.views) rest;
-      ports = ports;
-      moment = moment;
-      held = held;
-      kept = f.undoing.keeps;
-      room = room;
-      others = λ d told unknown. others_stay old new d f.parts f.undoing.continues.given (f.undoing.told told) (λ c. (each c).run) ((each d).unknown unknown);
-      accepted = λ d s inverse bytes told conforming here waits err.
-          accepted old new d s inverse bytes f.parts result f.undoing.continues.given (f.undoing.told told) (λ c. (each c).run) conforming (is ∙ ap ended_by f.fault_so) here waits err;
-      restored = λ d s before told conforming known free here waits was serialed only.
-          restored old new d s before (keys_of d (map key_logged (drop start net.log))) f.parts f.undoing.continues.given (f.undoing.told told) (λ c. (each c).run) conforming free
-          ((each d).keys_so known free) ((each d).barred known free) here waits was serialed only;
-      tables_restored = λ d s before told known free here was serialed only.
-          table_back old new d s before (keys_of d (map key_logged (drop start net.log))) f.parts f.undoing.continues.given (f.undoing.told told) (λ c. (each c).run) free ((each d).keys_so known free) here was serialed only;
+      result_so = is;
       read = λ ok told.
-          messages-by old new (steps_of f.parts) (f.undoing.told told)
-          (parts_bring old.counts new.counts f.parts (λ c. (each c).run) (no_fault (first_fault f.parts) (subst (λ (r : Result (Unit {0}) TxnFault). IsOk r) (is ∙ ap ended_by f.fault_so) ok)));
-      none_failed = λ ok d. none_failed result f.parts d (is ∙ ap ended_by f.fault_so) ok;
-      none_kept = λ told conforming ok ready.
-          none_kept old new net.views f.parts result net.kept now_net.kept f.undoing.continues.given (f.undoing.told told) (λ c. (each c).run) (λ c. (each c).unknown) (is ∙ ap ended_by f.fault_so) ok conforming ready f.undoing.keeps;
+          messages-by old new (steps_of parts) (f.undoing.told told) (parts_bring old.counts new.counts parts run (no_fault (first_fault parts) (subst (λ (r : Result (Unit {0}) TxnFault). IsOk r) is ok)));
+      none_failed = λ ok d. none_failed old.counts new.counts result parts d run is ok;
+      kept = u.all_kept;
+      keeps = f.undoing.keeps;
+      net_so = ap (λ (log : List Logged). kept_now net views log [] kept ports xid room) front
+          ∙ net_alike net (filter (λ v. not (is_among v.dpid lost)) left) views (take start net.log) [] (filter (λ m. not (is_among m.0 lost)) u.all_kept) kept (ports_lost lost (record { known = net.ports; left = net.left })) ports (next_free net.xid parts) xid room now_views now_kept f.ports_so f.undoing.next
+          ∙ sym (lose_all-so lost base);
+      room = fits;
+      others = λ d told unknown. others_stay old new d parts given (f.undoing.told told) run ((each d).unknown unknown);
+      lost_out = λ d told joined out. undo_out old new d parts given (f.undoing.told told) run (f.undoing.loses told joined) out;
+      losses = λ told joined. undo_losses old new parts (f.undoing.told told) run (f.undoing.loses told joined);
+      none_released = λ told. undo_releases_none old new parts (f.undoing.told told) run;
+      accepted = λ d s inverse bytes told conforming here waits err. accepted old new d s inverse bytes parts result given (f.undoing.told told) run conforming is here waits err;
+      restored = λ d s before told conforming known free here waits was serialed only.
+          restored old new d s before (keys_of d keys) parts given (f.undoing.told told) run conforming free ((each d).keys_so known free) ((each d).barred known free) here waits was serialed only;
+      tables_restored = λ d s before told known free here was serialed only.
+          table_back old new d s before (keys_of d keys) parts given (f.undoing.told told) run free ((each d).keys_so known free) here was serialed only;
+      none_kept = λ told conforming ok ready. now_kept ∙ none_kept old new net.views parts result net.kept u.all_kept given (f.undoing.told told) run (λ c. (each c).unknown) is ok conforming ready f.undoing.keeps;
       plain = λ told conforming ready.
-          plain old new net.views f.parts result f.undoing.continues.given (f.undoing.told told) (λ c. (each c).run) (λ c. (each c).unknown) (is ∙ ap ended_by f.fault_so) (Conforming-before told f.undoing.continues conforming) conforming ready;
-      agrees = λ d told conforming free waits before.
-          agrees old new d net.views now_net.views (map key_logged (drop start net.log)) f.parts f.undoing.continues.given (f.undoing.told told) each
-          (views ∙ ap (λ (es : List Logged). without_keys (map key_logged es) net.views) rest) conforming free waits before;
-      tables_agree = λ d told free before.
-          table_agrees old new d net.views now_net.views (map key_logged (drop start net.log)) f.parts f.undoing.continues.given (f.undoing.told told) each
-          (views ∙ ap (λ (es : List Logged). without_keys (map key_logged es) net.views) rest) free before;
-      failed_by = λ d failed. fails_in_undo Tells d old new f.parts f.undoing.told (λ c. (each c).run) failed;
+          plain old new net.views parts result given (f.undoing.told told) run (λ c. (each c).unknown) is (Conforming-before told f.undoing.continues conforming) conforming ready;
+      agrees = λ d told conforming free waits before. agrees old new d net.views views keys parts given (f.undoing.told told) each (rows d free) conforming free waits before;
+      tables_agree = λ d told free before. table_agrees old new d net.views views keys parts given (f.undoing.told told) each (rows d free) free before;
+      failed_by = λ d failed in_still. fails_in_undo Tells d old new parts f.undoing.told run failed (sym (among_out old.counts new.counts d parts run) ∙ in_still);
     }

@@ -6,7 +6,7 @@ use Rattle.std.specs.List.{AllByRecursion}
 use Rattle.std.specs.Option.{option_map}
 use Rattle.of_types.specs.declared.errors.OfError.{OfError}
 use Rattle.of_types.specs.declared.journal.Act.{Act}
-use Rattle.of_types.specs.declared.journal.Act.TheVariants.{Stim, Started, Gave, Gone, Took, Ended, Sent, Got}
+use Rattle.of_types.specs.declared.journal.Act.TheVariants.{Stim, Started, Gave, Gone, Took, Ended, Sent, Got, Lost}
 use Rattle.of_types.specs.declared.journal.PortChange.{PortChange}
 use Rattle.of_types.specs.declared.journal.PortChange.TheVariants as changes
 use Rattle.of_types.specs.declared.journal.Stimulus.{Stimulus}
@@ -24,10 +24,10 @@ use Rattle.flow_table.specs.Refusals.{message_refusal}
 use Rattle.flow_table.specs.Frames.{after_output, after_outputs, after_counts, after_lookup, hit_outputs, entry_hit, after_packet_output, after_packet_outputs, takes, after_arrival, after_frame}
 use Rattle.flow_table.specs.Step.{can_add, after_taken, after_message, after_port_change, after_stimulus}
 use Rattle.outside.specs.declared.step.WorldStep.{WorldStep}
-use Rattle.outside.specs.declared.step.WorldStep.TheVariants.{Acted, TookInto, From, Joined, Left, Moment, Idle, End, Opened, NotOpened, NextFailed, SendFailed, RecvFailed}
+use Rattle.outside.specs.declared.step.WorldStep.TheVariants.{Acted, TookInto, From, Joined, Left, Moment, Idle, End, Opened, NotOpened, NextFailed, SendLost, RecvLost, SendFailed, RecvFailed}
 use Rattle.outside.specs.declared.call.FailCall.{FailCall}
 use Rattle.outside.specs.Seen.{Seen}
-use Rattle.outside.specs.State.{Link, State, link_at_first, at_first, link_of, switch_in, switch_of, with_link, switch_joined, link_joined, link_left, link_stimulated, switch_told, link_sent, link_got, link_told, link_failed, after_stim, after_act, after_step, after_steps, state}
+use Rattle.outside.specs.State.{Link, State, link_at_first, at_first, link_of, switch_in, switch_of, with_link, switch_joined, link_joined, link_left, link_stimulated, switch_told, link_sent, link_got, link_told, link_lost, link_failed, after_stim, after_act, after_step, after_steps, state}
 use Rattle.outside.specs.Conforming.{IsStimulus, IsWorldStim, MayAct, MayStep, MaySteps, Conforming}
 use Rattle.switch_laws.specs.Clock.{StandsAt, InTime}
 
@@ -180,6 +180,10 @@ keeps-told : (moment : ℕ) → KeepsTime moment link_told
 unfolding link_told
 keeps-told moment l is = is
 
+keeps-lost : (moment : ℕ) → KeepsTime moment link_lost
+unfolding link_lost
+keeps-lost moment l is = tt
+
 keeps-failed : (moment : ℕ) → KeepsTime moment link_failed
 unfolding link_failed
 keeps-failed moment l is = is
@@ -227,6 +231,7 @@ act-clock declared (Took app what) s may is = is
 act-clock declared (Ended app) s may is = record { links = is.links; within = is.within }
 act-clock declared (Sent d bytes) s may is = record { links = one s.moment d (link_sent bytes) (keeps-sent bytes s.moment) s.links is.links; within = is.within }
 act-clock declared (Got d bytes) s may is = record { links = one s.moment d link_got (keeps-got s.moment) s.links is.links; within = is.within }
+act-clock declared (Lost d) s may is = absurd may
 
 step-clock : (declared : List Declared) (step : WorldStep) (s : State) → MayStep declared step s → Clock s → Clock (after_step step s)
 unfolding after_step MayStep
@@ -241,6 +246,8 @@ step-clock declared End s may is = is
 step-clock declared Opened s may is = record { links = is.links; within = is.within }
 step-clock declared NotOpened s may is = record { links = is.links; within = is.within }
 step-clock declared NextFailed s may is = is
+step-clock declared (SendLost d) s may is = record { links = one s.moment d link_lost (keeps-lost s.moment) s.links is.links; within = is.within }
+step-clock declared (RecvLost d) s may is = record { links = one s.moment d link_lost (keeps-lost s.moment) s.links is.links; within = is.within }
 step-clock declared (SendFailed d) s may is = record { links = one s.moment d link_failed (keeps-failed s.moment) s.links is.links; within = is.within }
 step-clock declared (RecvFailed d) s may is = record { links = one s.moment d link_failed (keeps-failed s.moment) s.links is.links; within = is.within }
 

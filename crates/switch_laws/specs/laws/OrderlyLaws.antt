@@ -1,17 +1,19 @@
--- Laws of steps in order, and of what they release: where the network succeeds no call of it failed, and but for a release it releases no
--- packet.
+-- Laws of steps in order, and of what they release and which switches they lose: no call of the network failed but by the loss of its switch,
+-- and but for a release it releases no packet.
 use Rattle.std.proofs.Common.{◌≡◌, ℕ, ◌==◌, Bool, true, false, List, [], ◌∷◌, ◌++◌, length, Option, Some, None, Result, Ok, Err, refl, sym, ap, ◌∙◌, subst, append_assoc, arith, true≢false, inl, inr}
-use Rattle.std.specs.Prelude.{◌⊎◌, nat_lt, drop}
+use Rattle.std.specs.Prelude.{◌⊎◌, nat_lt, drop, IsSome}
+use Rattle.std.specs.Option.{is_some}
 use Rattle.std.specs.List.{AllByRecursion}
 use Rattle.std.proofs.lemmas.Bool.{cases_Bool}
 use Rattle.std.proofs.lemmas.List.{append-nil}
 use Rattle.std.proofs.lemmas.List.Elements.{filter_map-append}
 use Rattle.of_types.specs.Fields.{number_at}
 use Rattle.of_types.specs.declared.journal.Act.{Act}
-use Rattle.of_match.specs.declared.key.Key.{Key}
+use Rattle.of_types.specs.declared.journal.Act.TheVariants.{Stim, Started, Gave, Gone, Took, Ended, Sent, Got, Lost}
 use Rattle.of_action.specs.declared.action.Action.{Action}
 use Rattle.of_action.specs.Reading.{◌>>=◌, actions_of}
 use Rattle.of_wire.specs.declared.bodies.FlowMod.{FlowMod as Change}
+use Rattle.of_wire.specs.declared.bodies.PacketOut.{PacketOut as Packet}
 use Rattle.of_wire.specs.declared.kind.MessageKind.{MessageKind}
 use Rattle.of_wire.specs.declared.kind.MessageKind.TheVariants as kinds
 use Rattle.of_wire.specs.declared.message.Envelope.{Envelope}
@@ -30,26 +32,33 @@ use Rattle.lego_model.specs.History.{released_of}
 use Rattle.lego_model.specs.Journal.{packet_read, released_in, released}
 use Rattle.lego_model.specs.Packets.{Held}
 use Rattle.outside.specs.declared.step.WorldStep.{WorldStep}
-use Rattle.outside.specs.declared.step.WorldStep.TheVariants.{Acted, TookInto, From, Joined, Left, Moment, Idle, End, Opened, NotOpened, NextFailed, SendFailed, RecvFailed}
+use Rattle.outside.specs.declared.step.WorldStep.TheVariants.{Acted, TookInto, From, Joined, Left, Moment, Idle, End, Opened, NotOpened, NextFailed, SendLost, RecvLost, SendFailed, RecvFailed}
+use Rattle.flow_table.specs.declared.view.ViewRow.{ViewRow}
+use Rattle.outside.specs.InOrder.{InOrder}
 use Rattle.outside.specs.Seen.{Seen, journal}
+use Rattle.outside.specs.State.{State, state, after_step}
 use Rattle.outside.specs.laws.SeenLaws.{journal-append}
 use Rattle.lego_model.specs.declared.fault.TxnFault.{TxnFault}
 use Rattle.lego_model.specs.declared.wait.Awaited.{Awaited}
 use Rattle.lego_model.specs.declared.wait.Heard.{Heard}
 use Rattle.lego_model.specs.declared.wait.Heard.TheVariants.{Reply, Refused, Notice, Echo, Other}
 use Rattle.net_txn.specs.Net.{NetState, awaited_from}
-use Rattle.lego_model.specs.UndoFaults.{inverse_bytes, delete_strict}
+use Rattle.lego_model.specs.UndoFaults.{IsExpectedOnLink, AreExpectedOnLinks}
 use Rattle.lego_model.specs.BarrierWaits.{next_xid, heard, steps_by, wait_steps, barrier_sent, reply_got}
 use Rattle.lego_model.specs.FlowQueries.{asked_from, request_sent}
-use Rattle.net_txn.specs.Changes.{Changes, answer_of_host, known_rows, change_sent}
+use Rattle.net_txn.specs.Answering.{known_rows}
+use Rattle.net_txn.specs.Changes.{ChangesJoined, Changes, answer_of_host, change_sent}
+use Rattle.net_txn.specs.LinkSteps.{is_link_step, AreLinkSteps, LinkSteps, MakesNoStrayCall}
 use Rattle.net_txn.specs.Joining.{greeting, greeted_from, delete_all}
-use Rattle.net_txn.specs.Undos.{Part, Inverse, BarrierPassed, Stuck, part_steps, steps_of, alone, fault_in, first_fault, first_fault_of, ended_by, Undoes}
-use Rattle.net_txn.specs.Releases.{packet_awaited, packet_steps, SendsPacket, ReleasesAll}
+use Rattle.net_txn.specs.Undos.{AreJoined, Undoes}
+use Rattle.net_txn.specs.Releases.{packet_awaited, packet_steps, Commits}
+use Rattle.net_txn.specs.Views.{rows_at, is_viewed}
+use Rattle.net_txn.specs.laws.AgreeLaws.{viewed as viewed_rows}
 use Rattle.net_txn.specs.laws.NoticeLaws.{kind_of_header}
 use Rattle.switch_laws.specs.laws.AskedLaws.{asked}
 use Rattle.switch_laws.specs.Orderly.{OrderlySince}
 use Rattle.lego_model.specs.OrderlySteps.{IsOrderly}
-use Rattle.switch_laws.specs.Released.{released_by, ReleasesNone}
+use Rattle.switch_laws.specs.Released.{released_by, ReleasesNone, LosesNone}
 
 -- ---- Messages of another type than PACKET_OUT (13)
 
@@ -160,10 +169,6 @@ barrier-none : (d xid : ℕ) → packet_read d (reading_of (message_bytes xid Ba
 unfolding kind_of_number
 barrier-none d xid = not-released d kinds.BarrierRequest (message_bytes xid BarrierRequest) (ap kind_of_number (barrier_type xid)) refl
 
-inverse-none : (d xid : ℕ) (k : Key) → packet_read d (reading_of (inverse_bytes xid k)) ≡ None
-unfolding inverse_bytes
-inverse-none d xid k = change-none d xid (delete_strict k)
-
 none-both : (xs ys : List WorldStep) → ReleasesNone xs → ReleasesNone ys → ReleasesNone (xs ++ ys)
 none-both [] ys first later = later
 none-both (x ∷ xs) ys first later = (first.0, none-both xs ys first.1 later)
@@ -190,6 +195,38 @@ join-steps-none d xid got = (change-none d xid delete_all, (config-none d (next_
 rows-none : (d xid : ℕ) (got : List (List ℕ)) → ReleasesNone ((request_sent d xid ∷ barrier_sent (asked_from d xid) ∷ []) ++ (wait_steps (asked_from d xid) got ++ reply_got (asked_from d xid) ∷ []))
 rows-none d xid got = (request-none d xid _, (barrier-none d _, ended-none (asked_from d xid) got))
 
+-- ---- Steps that lose no switch
+
+loses-none-both : (xs ys : List WorldStep) → LosesNone xs → LosesNone ys → LosesNone (xs ++ ys)
+loses-none-both [] ys first later = later
+loses-none-both (x ∷ xs) ys first later = (first.0, loses-none-both xs ys first.1 later)
+
+heard-loses-none : (d : ℕ) (h : Heard) (bytes : List ℕ) → LosesNone (steps_by d h bytes)
+heard-loses-none d Reply bytes = tt
+heard-loses-none d (Refused r) bytes = tt
+heard-loses-none d Notice bytes = tt
+heard-loses-none d Echo bytes = (refl, tt)
+heard-loses-none d Other bytes = tt
+
+wait-loses-none : (a : Awaited) (got : List (List ℕ)) → LosesNone (wait_steps a got)
+wait-loses-none a [] = tt
+wait-loses-none a (b ∷ bs) = (refl, loses-none-both (steps_by a.dpid (heard a b) b) (wait_steps a bs) (heard-loses-none a.dpid (heard a b) b) (wait-loses-none a bs))
+
+ended-loses-none : (a : Awaited) (got : List (List ℕ)) → LosesNone (wait_steps a got ++ reply_got a ∷ [])
+ended-loses-none a got = loses-none-both (wait_steps a got) (reply_got a ∷ []) (wait-loses-none a got) (refl, tt)
+
+-- a switch joins
+pub join-steps-lose-none : (d xid : ℕ) (got : List (List ℕ)) → LosesNone (greeting d xid ++ (wait_steps (greeted_from d xid) got ++ reply_got (greeted_from d xid) ∷ []))
+join-steps-lose-none d xid got = (refl, (refl, (refl, ended-loses-none (greeted_from d xid) got)))
+
+-- rows are asked for
+pub rows-lose-none : (d xid : ℕ) (got : List (List ℕ)) → LosesNone ((request_sent d xid ∷ barrier_sent (asked_from d xid) ∷ []) ++ (wait_steps (asked_from d xid) got ++ reply_got (asked_from d xid) ∷ []))
+rows-lose-none d xid got = (refl, (refl, ended-loses-none (asked_from d xid) got))
+
+-- a packet is sent
+pub packet-loses-none : (d xid : ℕ) (packet : Packet) (got : List (List ℕ)) → LosesNone (packet_steps d xid packet ++ (wait_steps (packet_awaited d xid) got ++ reply_got (packet_awaited d xid) ∷ []))
+packet-loses-none d xid packet got = (refl, (refl, ended-loses-none (packet_awaited d xid) got))
+
 -- ---- What a history releases
 
 released-step : (step : WorldStep) (steps : List WorldStep) → released_by step ≡ None → released (journal (step ∷ steps)) ≡ released (journal steps)
@@ -205,6 +242,8 @@ released-step End steps is = refl
 released-step Opened steps is = refl
 released-step NotOpened steps is = refl
 released-step NextFailed steps is = refl
+released-step (SendLost d) steps is = refl
+released-step (RecvLost d) steps is = refl
 released-step (SendFailed d) steps is = refl
 released-step (RecvFailed d) steps is = refl
 
@@ -247,41 +286,27 @@ asked-none d xid m got = (sent_so d xid m, (barrier-none d (awaited_from d xid).
     sent_so : (d xid : ℕ) (m : Change) → released_by (change_sent d xid m) ≡ None
     sent_so d xid m = change-none d xid _
 
-exchange-by-none : {Own : Type 0} {Tells : Type 0} (d : ℕ) (bytes : List ℕ) (old new : Seen Own) (net now_net : NetState) (given : Answer) → Tells → Changes Tells d bytes old new net now_net (Ok given)
-    → (o : Option Answer) → answer_of_host d bytes net ≡ o → released_of new ≡ released_of old
-exchange-by-none d bytes old new net now_net given told changes (Some a) host = ap (λ (s : Seen _). released_of s) (changes.by_host a host).world
-exchange-by-none d bytes old new net now_net given told changes None host =
-    let read = asked (known_rows d net.views) bytes host in
-    let asks = changes.by_switch read.xid read.change host read.read in
-    released-still old new (asked_steps d net.xid read.change asks.waits.got) (asks.waits.hears.told told) (asked-none d net.xid read.change asks.waits.got)
+module _ {Own : Type 0} (Tells : Type 0) (d : ℕ) (bytes : List ℕ) (old new : Seen Own) (net now_net : NetState) (given : Answer) where
+  -- where its switch was not lost
+  joined-by-none : Tells → ChangesJoined Tells d bytes old new net now_net (Ok given) → (o : Option Answer) → answer_of_host d bytes net ≡ o → released_of new ≡ released_of old
+  joined-by-none told changes (Some a) host = ap (λ (s : Seen _). released_of s) (changes.by_host a host).world
+  joined-by-none told changes None host =
+      let read = asked (known_rows d net.views) bytes host in
+      let asks = changes.by_switch read.xid read.change host read.read in
+      released-still old new (asked_steps d net.xid read.change asks.waits.got) (asks.waits.hears.told told) (asked-none d net.xid read.change asks.waits.got)
 
-pub exchange-releases-none : {Own : Type 0} (Tells : Type 0) (d : ℕ) (bytes : List ℕ) (old new : Seen Own) (net now_net : NetState) (given : Answer) → Tells → Changes Tells d bytes old new net now_net (Ok given) → released_of new ≡ released_of old
-exchange-releases-none Tells d bytes old new net now_net given told changes = exchange-by-none d bytes old new net now_net given told changes (answer_of_host d bytes net) refl
+  pub exchange-releases-none : Tells → AreJoined net.views (state old) → Changes Tells d bytes old new net now_net (Ok given) → released_of new ≡ released_of old
+  exchange-releases-none told joined changes = elim changes.answered [
+    | inl stays ↦ joined-by-none told stays (answer_of_host d bytes net) refl
+    | inr lost ↦
+        let out = lost.2.is_lost.out told (joined d lost.2.viewed) in
+        released-on old new out.steps out.history ∙ ap (λ (ps : List Held). released_of old ++ ps) out.released_so ∙ append-nil (released_of old)
+  ]
 
--- ---- An undo that ended with Ok
+-- ---- An undo
 
-no_fault_first : (a b : Option TxnFault) → first_fault_of a b ≡ None → (a ≡ None) × (b ≡ None)
-no_fault_first None b is = (refl, is)
-no_fault_first (Some fault) b is = absurd cc
-
-part-none : (d : ℕ) (p : Part) → fault_in p ≡ None → ReleasesNone (part_steps d p)
-part-none d (Inverse xid k) is = (inverse-none d xid k, tt)
-part-none d (BarrierPassed xid got) is = (barrier-none d xid, ended-none (alone d xid) got)
-part-none d (Stuck xid fault steps) is = absurd cc
-
-parts-none : (parts : List (ℕ × Part)) → first_fault parts ≡ None → ReleasesNone (steps_of parts)
-parts-none [] is = tt
-parts-none (p ∷ older) is =
-    let both = no_fault_first (first_fault older) (fault_in p.1) is in
-    none-both (steps_of older) (part_steps p.0 p.1) (parts-none older both.0) (part-none p.0 p.1 both.1)
-
-none-fault : (o : Option TxnFault) → Ok tt ≡ ended_by o → o ≡ None
-none-fault None is = refl
-none-fault (Some fault) is = absurd cc
-
-pub undo-releases-none : {Own : Type 0} (Tells : Type 0) (start : ℕ) (old new : Seen Own) (net now_net : NetState) → Tells → Undoes Tells start old new net now_net (Ok tt) → released_of new ≡ released_of old
-undo-releases-none Tells start old new net now_net told undoes =
-    released-still old new (steps_of undoes.parts) (undoes.told told) (parts-none undoes.parts (none-fault (first_fault undoes.parts) undoes.result_so))
+pub undo-releases-none : {Own : Type 0} (Tells : Type 0) (start : ℕ) (old new : Seen Own) (net now_net : NetState) (result : Result (Unit {0}) TxnFault) → Tells → Undoes Tells start old new net now_net result → released_of new ≡ released_of old
+undo-releases-none Tells start old new net now_net result told undoes = undoes.none_released told
 
 -- ---- Of one application
 
@@ -325,23 +350,6 @@ module _ (app : ℕ) where
   ended-orderly : (a : Awaited) (got : List (List ℕ)) → AllByRecursion (IsOrderly app) (wait_steps a got ++ reply_got a ∷ [])
   ended-orderly a got = orderly-both (wait_steps a got) (reply_got a ∷ []) (wait-orderly a got) (tt, tt)
 
-  -- ---- A message of an application
-
-  exchange-by : {Own : Type 0} {Tells : Type 0} (d : ℕ) (bytes : List ℕ) (old new : Seen Own) (net now_net : NetState) (given : Answer) → Tells → Changes Tells d bytes old new net now_net (Ok given)
-      → (o : Option Answer) → answer_of_host d bytes net ≡ o → OrderlySince app old new
-  exchange-by d bytes old new net now_net given told changes (Some a) host = orderly-same old new (changes.by_host a host).world
-  exchange-by {Own} {Tells} d bytes old new net now_net given told changes None host =
-      let read = asked (known_rows d net.views) bytes host in
-      let asks = changes.by_switch read.xid read.change host read.read in
-      record {
-        steps = asked_steps d net.xid read.change asks.waits.got;
-        history = asks.waits.hears.told told;
-        orderly = (tt, (tt, ended-orderly (awaited_from d net.xid) asks.waits.got));
-      }
-
-  pub exchange-orderly : {Own : Type 0} (Tells : Type 0) (d : ℕ) (bytes : List ℕ) (old new : Seen Own) (net now_net : NetState) (given : Answer) → Tells → Changes Tells d bytes old new net now_net (Ok given) → OrderlySince app old new
-  exchange-orderly Tells d bytes old new net now_net given told changes = exchange-by d bytes old new net now_net given told changes (answer_of_host d bytes net) refl
-
   -- ---- A switch joins
 
   pub join-steps-orderly : (d xid : ℕ) (got : List (List ℕ)) → AllByRecursion (IsOrderly app) (greeting d xid ++ (wait_steps (greeted_from d xid) got ++ reply_got (greeted_from d xid) ∷ []))
@@ -352,41 +360,61 @@ module _ (app : ℕ) where
   pub rows-orderly : (d xid : ℕ) (got : List (List ℕ)) → AllByRecursion (IsOrderly app) ((request_sent d xid ∷ barrier_sent (asked_from d xid) ∷ []) ++ (wait_steps (asked_from d xid) got ++ reply_got (asked_from d xid) ∷ []))
   rows-orderly d xid got = (tt, (tt, ended-orderly (asked_from d xid) got))
 
-  -- ---- An undo that ended with Ok
+  -- ---- Calls of links that are in place
 
-  part-orderly : (d : ℕ) (p : Part) → fault_in p ≡ None → AllByRecursion (IsOrderly app) (part_steps d p)
-  part-orderly d (Inverse xid k) is = (tt, tt)
-  part-orderly d (BarrierPassed xid got) is = (tt, ended-orderly (alone d xid) got)
-  part-orderly d (Stuck xid fault steps) is = absurd cc
+  link-orderly : (step : WorldStep) (s : State) → is_link_step step ≡ true → IsExpectedOnLink step s → IsOrderly app step
+  link-orderly (Acted (Sent d bytes)) s is expected = tt
+  link-orderly (Acted (Got d bytes)) s is expected = tt
+  link-orderly (Acted (Stim x)) s is expected = absurd (true≢false (sym is))
+  link-orderly (Acted (Started of stands)) s is expected = absurd (true≢false (sym is))
+  link-orderly (Acted (Gave of bytes)) s is expected = absurd (true≢false (sym is))
+  link-orderly (Acted (Gone of bytes)) s is expected = absurd (true≢false (sym is))
+  link-orderly (Acted (Took of what)) s is expected = absurd (true≢false (sym is))
+  link-orderly (Acted (Ended of)) s is expected = absurd (true≢false (sym is))
+  link-orderly (Acted (Lost d)) s is expected = absurd (true≢false (sym is))
+  link-orderly (SendLost d) s is expected = tt
+  link-orderly (RecvLost d) s is expected = tt
+  link-orderly (SendFailed d) s is expected = absurd expected
+  link-orderly (RecvFailed d) s is expected = absurd expected
+  link-orderly (TookInto of what room) s is expected = absurd (true≢false (sym is))
+  link-orderly (From d bytes) s is expected = absurd (true≢false (sym is))
+  link-orderly (Joined d bytes) s is expected = absurd (true≢false (sym is))
+  link-orderly (Left d) s is expected = absurd (true≢false (sym is))
+  link-orderly (Moment t) s is expected = absurd (true≢false (sym is))
+  link-orderly Idle s is expected = absurd (true≢false (sym is))
+  link-orderly End s is expected = absurd (true≢false (sym is))
+  link-orderly Opened s is expected = absurd (true≢false (sym is))
+  link-orderly NotOpened s is expected = absurd (true≢false (sym is))
+  link-orderly NextFailed s is expected = absurd (true≢false (sym is))
 
-  parts-orderly : (parts : List (ℕ × Part)) → first_fault parts ≡ None → AllByRecursion (IsOrderly app) (steps_of parts)
-  parts-orderly [] is = tt
-  parts-orderly (p ∷ older) is =
-      let both = no_fault_first (first_fault older) (fault_in p.1) is in
-      orderly-both (steps_of older) (part_steps p.0 p.1) (parts-orderly older both.0) (part-orderly p.0 p.1 both.1)
+  links-orderly : (steps : List WorldStep) (s : State) → AreLinkSteps steps → AreExpectedOnLinks steps s → AllByRecursion (IsOrderly app) steps
+  links-orderly [] s all places = tt
+  links-orderly (step ∷ steps) s all places = (link-orderly step s all.0 places.0, links-orderly steps (after_step step s) all.1 places.1)
 
-  pub undo-orderly : {Own : Type 0} (Tells : Type 0) (start : ℕ) (old new : Seen Own) (net now_net : NetState) → Tells → Undoes Tells start old new net now_net (Ok tt) → OrderlySince app old new
-  undo-orderly Tells start old new net now_net told undoes = record {
-    steps = steps_of undoes.parts;
-    history = undoes.told told;
-    orderly = parts-orderly undoes.parts (none-fault (first_fault undoes.parts) undoes.result_so);
+  -- No call of a link failed but by the loss of its switch.
+  pub placed-orderly : {Own : Type 0} (old new : Seen Own) → LinkSteps old new → MakesNoStrayCall old new → OrderlySince app old new
+  placed-orderly old new links placed = record {
+    steps = links.steps;
+    history = links.history;
+    orderly = links-orderly links.steps (state old) links.all (placed links.steps links.history);
   }
 
-  -- ---- A release: each packet was sent, and a barrier behind it
-
-  pub release-orderly : {Own : Type 0} (Tells : Type 0) (held : List Held) (old new : Seen Own) (net now_net : NetState) (queue now_queue : List Event) → Tells → ReleasesAll Tells held old new net now_net queue now_queue → OrderlySince app old new
-  release-orderly Tells [] old new net now_net queue now_queue told all = orderly-same old new all.0
-  release-orderly Tells (h ∷ more) old new net now_net queue now_queue told all =
-      let mid = all.0 in
-      let rest = release-orderly Tells more mid new all.1.0 now_net all.1.1.0 now_queue told all.1.1.1.1 in
-      elim all.1.1.1.0 [
-        | inl (viewed, sends) ↦ orderly-then old mid new (sent sends) rest
-        | inr passes ↦ subst (λ (s : Seen _). OrderlySince app s new) passes.seen rest
-      ]
+  pub exchange-orderly : {Own : Type 0} (Tells : Type 0) (d : ℕ) (bytes : List ℕ) (old new : Seen Own) (net now_net : NetState) (result : Result Answer TxnFault) → Tells → InOrder new → AreJoined net.views (state old)
+      → Changes Tells d bytes old new net now_net result → OrderlySince app old new
+  exchange-orderly Tells d bytes old new net now_net result told order joined changes =
+      placed-orderly old new (changes.links told) (changes.no_strays told order (λ has. joined d (has_view has)))
     where
-      sent : {mid_net : NetState} {mid_queue : List Event} → SendsPacket Tells h old all.0 net mid_net queue mid_queue → OrderlySince app old all.0
-      sent sends = record {
-        steps = packet_steps h.0 net.xid h.1 ++ (wait_steps (packet_awaited h.0 net.xid) sends.waits.got ++ reply_got (packet_awaited h.0 net.xid) ∷ []);
-        history = sends.waits.hears.told told;
-        orderly = (tt, (tt, ended-orderly (packet_awaited h.0 net.xid) sends.waits.got));
-      }
+      some_there : (o : Option (List ViewRow)) → IsSome o → is_some o ≡ true
+      some_there None has = absurd (true≢false (sym has))
+      some_there (Some rows) has = refl
+
+      has_view : IsSome (rows_at d net.views) → is_viewed d net.views ≡ true
+      has_view has = viewed_rows d net.views ∙ some_there (rows_at d net.views) has
+
+  pub undo-orderly : {Own : Type 0} (Tells : Type 0) (start : ℕ) (old new : Seen Own) (net now_net : NetState) (result : Result (Unit {0}) TxnFault) → Tells → InOrder new → AreJoined net.views (state old)
+      → Undoes Tells start old new net now_net result → OrderlySince app old new
+  undo-orderly Tells start old new net now_net result told order joined undoes = placed-orderly old new (undoes.links told) (undoes.no_strays told order joined)
+
+  pub release-orderly : {Own : Type 0} (Tells : Type 0) (start : ℕ) (old new : Seen Own) (net now_net : NetState) (queue now_queue : List Event) (result : Result (List (ℕ × ℕ)) TxnFault) → Tells → InOrder new → AreJoined net.views (state old)
+      → Commits Tells start old new net now_net queue now_queue result → OrderlySince app old new
+  release-orderly Tells start old new net now_net queue now_queue result told order joined commits = placed-orderly old new (commits.links told) (commits.no_strays told order joined)

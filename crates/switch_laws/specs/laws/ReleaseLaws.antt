@@ -1,19 +1,20 @@
--- What follows about a release: each switch moved by the packets that were sent to it, and the history released them. In a world that keeps
--- its word the switches stand then, with the flags of the owners, as the reference controller's do that releases the same packets; and where
--- a release stopped, the fault is one of the link or of memory, or a packet made its switch send too many messages.
-use Rattle.std.proofs.Common.{◌≡◌, ◌≢◌, ◌==◌, ℕ, true, false, List, [], ◌∷◌, ◌++◌, filter, fold, Option, Some, None, Result, Ok, Err, if◌then◌else◌, refl, sym, ap, ap₂, ◌∙◌, subst, append_assoc, inl, inr, true≢false}
-use Rattle.std.proofs.lemmas.Bool.{cases_Bool, cases_eq}
+-- What follows about a release: each switch moved by the packets that were sent to it, or was lost, and the history released them. In a world
+-- that keeps its word the switches stand then, with the flags of the owners, as the reference controller's do that releases the same packets
+-- and loses the same of their switches; and where a release stopped, memory was wanting, or a packet made its switch send too many messages.
+use Rattle.std.proofs.Common.{◌≡◌, ◌≢◌, ◌==◌, ◌⊎◌, ℕ, Bool, true, false, List, [], ◌∷◌, ◌++◌, filter, fold, Option, Some, None, Result, Ok, Err, if◌then◌else◌, refl, sym, ap, ap₂, ◌∙◌, subst, append_assoc, inl, inr, true≢false}
+use Rattle.std.proofs.lemmas.Bool.{cases_eq, eq-eqb, ne_eqb}
+use Rattle.std.specs.List.{list_any}
 use Rattle.std.proofs.lemmas.List.{append-nil}
 use Rattle.std.proofs.lemmas.List.Sums.{fold-append}
-use Rattle.std.specs.Option.{option_map}
+use Rattle.std.specs.Option.{is_some, option_map}
 use Rattle.of_types.specs.declared.journal.Act.TheVariants.{Sent}
-use Rattle.of_types.specs.declared.port_desc.PortDesc.{PortDesc}
 use Rattle.of_match.specs.declared.key.Key.{Key}
 use Rattle.of_wire.specs.declared.message.Envelope.{Envelope}
 use Rattle.of_wire.specs.declared.message.Message.TheVariants.{PacketOut}
 use Rattle.of_wire.specs.declared.fault.WireFault.{WireFault}
 use Rattle.of_wire.specs.Reading.{reading_of}
 use Rattle.of_wire.specs.Spelling.{message_bytes}
+use Rattle.flow_table.specs.declared.view.ViewRow.{ViewRow}
 use Rattle.flow_table.specs.View.{TableView}
 use Rattle.flow_table.specs.Switch.{Declared, SwitchState}
 use Rattle.flow_table.specs.Step.{after_message, sent_by_message}
@@ -21,12 +22,14 @@ use Rattle.undo_laws.specs.Owned.{owned_switch}
 use Rattle.undo_laws.specs.laws.OwnedLaws.{packet-owned, packet_sent-owned}
 use Rattle.app_frames.specs.declared.frame.Event.{Event}
 use Rattle.lego_model.specs.declared.fault.TxnFault.{TxnFault}
-use Rattle.lego_model.specs.declared.fault.TxnFault.TheVariants.{SwitchFault, SwitchBroke, Diverged, Flooded, NoMemory}
-use Rattle.lego_model.specs.AfterFault.{after_packets}
+use Rattle.lego_model.specs.declared.fault.TxnFault.TheVariants.{SwitchBroke, Diverged, Flooded, NoMemory}
+use Rattle.lego_model.specs.AfterFault.{WasLost, after_packets}
 use Rattle.lego_model.specs.Answers.{Rows, rows_of_table}
 use Rattle.lego_model.specs.BarrierWaits.{flood, barrier_sent, wait_steps}
-use Rattle.lego_model.specs.Controller.{Release, none_released, release_at, release_one, release, events_of, ports_of}
-use Rattle.lego_model.specs.History.{released_of}
+use Rattle.lego_model.specs.Controller.{Release, none_released, went_out, release_at, release_one, release, leavers}
+use Rattle.lego_model.specs.Events.{events_of, leave_event}
+use Rattle.lego_model.specs.History.{released_of, lost_of}
+use Rattle.lego_model.specs.Losses.{PacketLoss, Stays, BeforeSent, AfterSent}
 use Rattle.lego_model.specs.Packets.{Held}
 use Rattle.lego_model.specs.SwitchFaults.{FloodedByPacket}
 use Rattle.lego_model.specs.Places.{switch_at, with_place}
@@ -38,39 +41,71 @@ use Rattle.outside.specs.Conforming.{AreDeclaredFrom, Conforming}
 use Rattle.outside.specs.laws.SeenLaws.{Continues-refl, Continues-trans}
 use Rattle.outside.specs.laws.StateLaws.{Conforming-front, Conforming-before}
 use Rattle.net_txn.specs.Agreement.{Agrees}
-use Rattle.net_txn.specs.Changes.{known_rows}
+use Rattle.net_txn.specs.Answering.{known_rows}
+use Rattle.net_txn.specs.Losing.{lost_net, lose_all, GoesOut}
 use Rattle.net_txn.specs.Net.{NetState}
-use Rattle.net_txn.specs.Releases.{packet_awaited, packet_steps, IsFloodBy, Knows, takes_read, takes_all, PacketInStep, MovesBy, PassesOver, ReleasesOne, ReleasesAll, StopsRelease, committed}
-use Rattle.net_txn.specs.Views.{is_viewed}
+use Rattle.net_txn.specs.Releases.{packet_awaited, packet_steps, IsFloodBy, Knows, takes_read, takes_all, PacketInStep, MovesBy, SendsPacket, PassesOver, LosesPacket, ReleasesOne, ReleasesAll, StopsRelease, committed}
+use Rattle.net_txn.specs.Undos.{AreJoined}
+use Rattle.net_txn.specs.Views.{rows_at, is_viewed}
 use Rattle.net_txn.specs.Waits.{IfFlooded}
 use Rattle.net_txn.specs.laws.AbreastLaws.{arrival_viewed}
-use Rattle.switch_laws.specs.Released.{ReleaseShown, StopsFor}
+use Rattle.net_txn.specs.laws.AgreeLaws.{viewed as viewed_rows}
+use Rattle.switch_laws.specs.Lost.{LeavesBy}
+use Rattle.switch_laws.specs.Released.{MovesOrLoses, ReleaseShown, StopsFor}
 use Rattle.switch_laws.specs.Shown.{flags_at, shown_switch, places, shown_places, Stand}
-use Rattle.switch_laws.specs.Since.{Ready}
+use Rattle.switch_laws.specs.Since.{ports_known, Ready}
 use Rattle.switch_laws.specs.Sound.{AllSound, Sound}
+use Rattle.switch_laws.specs.laws.ClockLaws.{switch-in_time}
 use Rattle.switch_laws.specs.laws.FaceLaws.{face-packet, face-ports_of}
-use Rattle.switch_laws.specs.laws.OrderlyLaws.{released-nil, released-append, released-on}
+use Rattle.switch_laws.specs.laws.FaultLaws.{lost-still, lost-later}
+use Rattle.switch_laws.specs.laws.LossLaws.{rows-gone, rows-stay, losses-still, leaves-none, leaves-then, leavers-append, lose_all-append, lose_all-xid, ready-joined, lost-ready, lost-leaves, lost-places}
+use Rattle.switch_laws.specs.laws.OrderlyLaws.{released-nil, released-append, released-on, packet-loses-none}
 use Rattle.switch_laws.specs.laws.PlaceLaws.{with_place-places}
 use Rattle.switch_laws.specs.laws.ShownExchangeLaws.{some_switch, switch_at-shown, declared_of}
 use Rattle.switch_laws.specs.laws.ShownUndoLaws.{viewed, unviewed}
 use Rattle.switch_laws.specs.laws.SoundLaws.{packet-sound}
+use Rattle.switch_laws.specs.laws.SoundStepLaws.{lost-sound}
 use Rattle.switch_laws.specs.laws.StandLaws.{all-stand}
 
--- the packets of joined switches
-abbrev joined_of : List TableView → List Held → List Held
-joined_of views held = filter (λ h. is_viewed h.0 views) held
+-- ---- A release, packet by packet
+
+-- one packet, and those behind it
+record First {Own : Type 0} (Tells : Type 0) (h : Held) (more sent : List Held) (old new : Seen Own) (net now_net : NetState) (queue now_queue : List Event) : Type 0 where
+  first : List Held
+  later : List Held
+  sent_so : sent ≡ first ++ later
+  mid : Seen Own
+  mid_net : NetState
+  mid_queue : List Event
+  one : ReleasesOne Tells h first old mid net mid_net queue mid_queue
+  rest : ReleasesAll Tells more later mid new mid_net now_net mid_queue now_queue
+
+first-of : {Own : Type 0} (Tells : Type 0) (h : Held) (more sent : List Held) (old new : Seen Own) (net now_net : NetState) (queue now_queue : List Event) → ReleasesAll Tells (h ∷ more) sent old new net now_net queue now_queue
+    → First Tells h more sent old new net now_net queue now_queue
+first-of Tells h more sent old new net now_net queue now_queue all = record {
+  first = all.0;
+  later = all.1.0;
+  sent_so = all.1.1.0;
+  mid = all.1.1.1.0;
+  mid_net = all.1.1.1.1.0;
+  mid_queue = all.1.1.1.1.1.0;
+  one = all.1.1.1.1.1.1.0;
+  rest = all.1.1.1.1.1.1.1;
+}
 
 -- ---- What was seen goes on
 
-pub releases-continue : {Own : Type 0} (Tells : Type 0) (held : List Held) (old new : Seen Own) (net now_net : NetState) (queue now_queue : List Event) → ReleasesAll Tells held old new net now_net queue now_queue → Continues Tells old new
-releases-continue Tells [] old new net now_net queue now_queue all = subst (λ (s : Seen _). Continues Tells old s) (sym all.0) (Continues-refl Tells old)
-releases-continue Tells (h ∷ more) old new net now_net queue now_queue all =
-    let mid = all.0 in
-    let rest = releases-continue Tells more mid new all.1.0 now_net all.1.1.0 now_queue all.1.1.1.1 in
-    elim all.1.1.1.0 [
-      | inl (joined, sends) ↦ Continues-trans Tells old mid new sends.continues rest
-      | inr passes ↦ subst (λ (s : Seen _). Continues Tells s new) passes.seen rest
-    ]
+one-continues : {Own : Type 0} (Tells : Type 0) (h : Held) (sent : List Held) (old new : Seen Own) (net now_net : NetState) (queue now_queue : List Event) → ReleasesOne Tells h sent old new net now_net queue now_queue → Continues Tells old new
+one-continues Tells h sent old new net now_net queue now_queue (inl sends) = sends.2.continues
+one-continues Tells h sent old new net now_net queue now_queue (inr (inl passes)) = subst (λ (s : Seen _). Continues Tells old s) (sym passes.1.seen) (Continues-refl Tells old)
+one-continues Tells h sent old new net now_net queue now_queue (inr (inr (inl loses))) = loses.1.continues
+one-continues Tells h sent old new net now_net queue now_queue (inr (inr (inr loses))) = loses.1.continues
+
+pub releases-continue : {Own : Type 0} (Tells : Type 0) (held sent : List Held) (old new : Seen Own) (net now_net : NetState) (queue now_queue : List Event) → ReleasesAll Tells held sent old new net now_net queue now_queue → Continues Tells old new
+releases-continue Tells [] sent old new net now_net queue now_queue all = subst (λ (s : Seen _). Continues Tells old s) (sym all.1) (Continues-refl Tells old)
+releases-continue Tells (h ∷ more) sent old new net now_net queue now_queue all =
+    let f = first-of Tells h more sent old new net now_net queue now_queue all in
+    Continues-trans Tells old f.mid new (one-continues Tells h f.first old f.mid net f.mid_net queue f.mid_queue f.one) (releases-continue Tells more f.later f.mid new f.mid_net now_net f.mid_queue now_queue f.rest)
 
 -- ---- How the switches move, in any world that tells
 
@@ -82,16 +117,47 @@ no_packets : (d : ℕ) (o : Option SwitchState) → o ≡ option_map (after_pack
 no_packets d None = refl
 no_packets d (Some s) = refl
 
-pub moves-none : {Own : Type 0} (seen : Seen Own) → MovesBy [] seen seen
-moves-none seen = record { steps = []; history = sym (append-nil seen.history); released_so = released-nil; moved = λ e. no_packets e (switch_of e (state seen)) }
+other_packet : (h : Held) (e : ℕ) (o : Option SwitchState) → e ≢ h.0 → o ≡ option_map (after_packets e (h ∷ [])) o
+other_packet h e None other = refl
+other_packet h e (Some s) other = rw (ne_eqb h.0 e (λ same. other (sym same))) refl
 
-pub moves-then : {Own : Type 0} (old mid new : Seen Own) (ps qs : List Held) → MovesBy ps old mid → MovesBy qs mid new → MovesBy (ps ++ qs) old new
-moves-then old mid new ps qs first later = record {
-  steps = first.steps ++ later.steps;
-  history = later.history ∙ ap (λ h. h ++ later.steps) first.history ∙ append_assoc old.history first.steps later.steps;
-  released_so = released-append first.steps later.steps ∙ ap₂ (λ (xs zs : List Held). xs ++ zs) first.released_so later.released_so;
-  moved = λ e. later.moved e ∙ ap (option_map (after_packets e qs)) (first.moved e) ∙ packets-append e ps qs (switch_of e (state old));
+moves-none : {Own : Type 0} (seen : Seen Own) → MovesOrLoses [] seen seen
+moves-none seen = record { steps = []; history = sym (append-nil seen.history); released_so = released-nil; moved = λ e. inl (no_packets e (switch_of e (state seen))) }
+
+pub moves-or : {Own : Type 0} (packets : List Held) (old new : Seen Own) → MovesBy packets old new → MovesOrLoses packets old new
+moves-or packets old new moves = record { steps = moves.steps; history = moves.history; released_so = moves.released_so; moved = λ e. inl (moves.moved e) }
+
+-- one that goes out moves no other one, nor do packets for it
+loses-or : {Own : Type 0} (d : ℕ) (packets : List Held) (old new : Seen Own) → ((e : ℕ) (o : Option SwitchState) → e ≢ d → o ≡ option_map (after_packets e packets) o) → GoesOut d packets old new → MovesOrLoses packets old new
+loses-or d packets old new others out = record {
+  steps = out.steps;
+  history = out.history;
+  released_so = out.released_so;
+  moved = λ e. elim (cases_eq e d) [
+    | inl same ↦ inr (record {
+      steps = out.steps;
+      history = out.history;
+      lost = ap (λ (ds : List ℕ). list_any (λ n. n == e) ds) out.lost ∙ (rw (eq-eqb d e (sym same)) refl);
+      out = ap (λ (n : ℕ). switch_of n (state new)) same ∙ out.out;
+    })
+    | inr other ↦ inl (out.others e other ∙ others e (switch_of e (state old)) other)
+  ];
 }
+
+module _ {Own : Type 0} (old mid new : Seen Own) (ps qs : List Held) (first : MovesOrLoses ps old mid) (later : MovesOrLoses qs mid new) where
+  moved-then : (e : ℕ) → (switch_of e (state mid) ≡ option_map (after_packets e ps) (switch_of e (state old))) ⊎ WasLost e old mid → (switch_of e (state new) ≡ option_map (after_packets e qs) (switch_of e (state mid))) ⊎ WasLost e mid new
+      → (switch_of e (state new) ≡ option_map (after_packets e (ps ++ qs)) (switch_of e (state old))) ⊎ WasLost e old new
+  moved-then e (inl moved) (inl again) = inl (again ∙ ap (option_map (after_packets e qs)) moved ∙ packets-append e ps qs (switch_of e (state old)))
+  moved-then e (inr was) (inl again) = inr (lost-still old mid new e was (later.steps, later.history) (again ∙ ap (option_map (after_packets e qs)) was.out))
+  moved-then e moved (inr was) = inr (lost-later old mid new e (first.steps, first.history) was)
+
+  pub moves-then : MovesOrLoses (ps ++ qs) old new
+  moves-then = record {
+    steps = first.steps ++ later.steps;
+    history = later.history ∙ ap (λ h. h ++ later.steps) first.history ∙ append_assoc old.history first.steps later.steps;
+    released_so = released-append first.steps later.steps ∙ ap₂ (λ (xs zs : List Held). xs ++ zs) first.released_so later.released_so;
+    moved = λ e. moved-then e (first.moved e) (later.moved e);
+  }
 
 -- which switches have views stays
 took-viewed : (d e : ℕ) (r : Result Envelope WireFault) (k : Knows) → is_viewed e (takes_read d r k).0.views ≡ is_viewed e k.0.views
@@ -102,30 +168,70 @@ takes-viewed : (e : ℕ) (came : List (ℕ × List ℕ)) (k : Knows) → is_view
 takes-viewed e [] k = refl
 takes-viewed e (m ∷ more) k = takes-viewed e more (takes_read m.0 (reading_of m.1) k) ∙ took-viewed m.0 e (reading_of m.1) k
 
-one-viewed : {Own : Type 0} {Tells : Type 0} {h : Held} {old new : Seen Own} {net now_net : NetState} {queue now_queue : List Event} → ReleasesOne Tells h old new net now_net queue now_queue → (e : ℕ) → is_viewed e now_net.views ≡ is_viewed e net.views
-one-viewed (inl (joined, sends)) e = ap (λ (k : Knows). is_viewed e k.0.views) sends.taken ∙ takes-viewed e sends.came _
-one-viewed (inr passes) e = ap (λ (n : NetState). is_viewed e n.views) passes.net_so
+-- each switch that has a view is joined, before and behind
 
-joined-same : (views now_views : List TableView) → ((e : ℕ) → is_viewed e now_views ≡ is_viewed e views) → (held : List Held) → joined_of now_views held ≡ joined_of views held
-joined-same views now_views same [] = refl
-joined-same views now_views same (h ∷ more) =
-    elim (cases_Bool (is_viewed h.0 views)) [
-      | inl there ↦ rw (same h.0 ∙ there, there) (ap (λ (xs : List Held). h ∷ xs) (joined-same views now_views same more))
-      | inr out ↦ rw (same h.0 ∙ out, out) (joined-same views now_views same more)
-    ]
+still-some : (f : SwitchState → SwitchState) (o : Option SwitchState) → is_some o ≡ true → is_some (option_map f o) ≡ true
+still-some f None is = is
+still-some f (Some s) is = refl
 
--- Each switch moved by the packets of joined switches alone, which the history released.
-pub release-moves : {Own : Type 0} (Tells : Type 0) (held : List Held) (old new : Seen Own) (net now_net : NetState) (queue now_queue : List Event) → Tells → ReleasesAll Tells held old new net now_net queue now_queue → MovesBy (joined_of net.views held) old new
-release-moves Tells [] old new net now_net queue now_queue told all = subst (λ (s : Seen _). MovesBy [] old s) (sym all.0) (moves-none old)
-release-moves Tells (h ∷ more) old new net now_net queue now_queue told all =
-    let mid = all.0 in
-    let later = release-moves Tells more mid new all.1.0 now_net all.1.1.0 now_queue told all.1.1.1.1 in
-    let same = joined-same net.views all.1.0.views (one-viewed all.1.1.1.0) more in
-    let rest : MovesBy (joined_of net.views more) mid new = subst (λ (ps : List Held). MovesBy ps mid new) same later in
-    elim all.1.1.1.0 [
-      | inl (joined, sends) ↦ rw joined (moves-then old mid new (h ∷ []) (joined_of net.views more) (sends.moves told) rest)
-      | inr passes ↦ rw (passes.unviewed) (subst (λ (s : Seen _). MovesBy (joined_of net.views more) s new) passes.seen rest)
+sends-joined : {Own : Type 0} {Tells : Type 0} {h : Held} {queue now_queue : List Event} (old new : Seen Own) (net now_net : NetState) → Tells → SendsPacket Tells h old new net now_net queue now_queue → AreJoined net.views (state old) → AreJoined now_net.views (state new)
+sends-joined {h = h} old new net now_net told sends joined e is =
+    let before : is_viewed e net.views ≡ true = sym (ap (λ (k : Knows). is_viewed e k.0.views) sends.taken ∙ takes-viewed e sends.came _) ∙ is in
+    ap (λ (o : Option SwitchState). is_some o) ((sends.moves told).moved e) ∙ still-some (after_packets e (h ∷ [])) (switch_of e (state old)) (joined e before)
+
+loses-joined : {Own : Type 0} (d : ℕ) (packets : List Held) (old new : Seen Own) (net now_net : NetState) → GoesOut d packets old new → now_net ≡ record (lost_net d net) { xid = now_net.xid } → AreJoined net.views (state old) → AreJoined now_net.views (state new)
+loses-joined d packets old new net now_net out net_so joined e is =
+    let rows : rows_at e now_net.views ≡ rows_at e (lost_net d net).views = ap (λ (n : NetState). rows_at e n.views) net_so in
+    elim (cases_eq e d) [
+      | inl same ↦
+          let gone : rows_at e now_net.views ≡ None = rows ∙ subst (λ (n : ℕ). rows_at n (lost_net d net).views ≡ None) (sym same) (rows-gone d net.views) in
+          absurd (true≢false (sym is ∙ viewed_rows e now_net.views ∙ ap has_rows gone))
+      | inr other ↦
+          let before : is_viewed e net.views ≡ true = viewed_rows e net.views ∙ ap has_rows (sym (rows ∙ rows-stay d e other net.views)) ∙ sym (viewed_rows e now_net.views) ∙ is in
+          ap (λ (o : Option SwitchState). is_some o) (out.others e other) ∙ joined e before
     ]
+  where
+    has_rows : Option (List ViewRow) → Bool
+    has_rows o = is_some o
+
+-- what one packet leaves
+record OneMoves {Own : Type 0} (packets : List Held) (old new : Seen Own) (now_net : NetState) : Type 0 where
+  moves : MovesOrLoses packets old new
+  joined : AreJoined now_net.views (state new)
+
+one-moves : {Own : Type 0} (Tells : Type 0) (h : Held) (sent : List Held) (old new : Seen Own) (net now_net : NetState) (queue now_queue : List Event) → Tells → AreJoined net.views (state old) → ReleasesOne Tells h sent old new net now_net queue now_queue
+    → OneMoves sent old new now_net
+one-moves Tells h sent old new net now_net queue now_queue told joined (inl sends) = record {
+  moves = subst (λ (ps : List Held). MovesOrLoses ps old new) (sym sends.0) (moves-or (h ∷ []) old new (sends.2.moves told));
+  joined = sends-joined old new net now_net told sends.2 joined;
+}
+one-moves Tells h sent old new net now_net queue now_queue told joined (inr (inl passes)) =
+    subst (λ (s : Seen _). OneMoves sent old s now_net) (sym passes.1.seen)
+    (subst (λ (n : NetState). OneMoves sent old old n) (sym passes.1.net_so)
+    (subst (λ (ps : List Held). OneMoves ps old old net) (sym passes.0) (record { moves = moves-none old; joined = joined })))
+one-moves Tells h sent old new net now_net queue now_queue told joined (inr (inr (inl loses))) =
+    let out = loses.1.is_lost.out told (joined h.0 loses.1.viewed) in
+    record {
+      moves = subst (λ (ps : List Held). MovesOrLoses ps old new) (sym loses.0) (loses-or h.0 [] old new (λ e o other. no_packets e o) out);
+      joined = loses-joined h.0 [] old new net now_net out loses.1.net_so joined;
+    }
+one-moves Tells h sent old new net now_net queue now_queue told joined (inr (inr (inr loses))) =
+    let out = loses.1.is_lost.out told (joined h.0 loses.1.viewed) in
+    record {
+      moves = subst (λ (ps : List Held). MovesOrLoses ps old new) (sym loses.0) (loses-or h.0 (h ∷ []) old new (λ e o other. other_packet h e o other) out);
+      joined = loses-joined h.0 (h ∷ []) old new net now_net out loses.1.net_so joined;
+    }
+
+-- Each switch moved by the packets that were sent to it alone, or was lost, and the history released them.
+pub release-moves : {Own : Type 0} (Tells : Type 0) (held sent : List Held) (old new : Seen Own) (net now_net : NetState) (queue now_queue : List Event) → Tells → AreJoined net.views (state old) → ReleasesAll Tells held sent old new net now_net queue now_queue
+    → MovesOrLoses sent old new
+release-moves Tells [] sent old new net now_net queue now_queue told joined all =
+    subst (λ (s : Seen _). MovesOrLoses sent old s) (sym all.1) (subst (λ (ps : List Held). MovesOrLoses ps old old) (sym all.0) (moves-none old))
+release-moves Tells (h ∷ more) sent old new net now_net queue now_queue told joined all =
+    let f = first-of Tells h more sent old new net now_net queue now_queue all in
+    let one = one-moves Tells h f.first old f.mid net f.mid_net queue f.mid_queue told joined f.one in
+    let rest = release-moves Tells more f.later f.mid new f.mid_net now_net f.mid_queue now_queue told one.joined f.rest in
+    subst (λ (ps : List Held). MovesOrLoses ps old new) (sym f.sent_so) (moves-then old f.mid new f.first f.later one.moves rest)
 
 -- ---- Where the world keeps its word: which switches are joined
 
@@ -160,17 +266,14 @@ module _ {Own : Type 0} (h : Held) (s : SwitchState) (old new : Seen Own) (net n
       some_rows : Rows → Option Rows
       some_rows rows = Some rows
 
-  step-ports : (e : ℕ) → option_map ports_of (switch_of e (state new)) ≡ option_map ports_of (switch_of e (state old))
-  step-ports e = elim (cases_eq e h.0) [
+  step-known : (e : ℕ) → ports_known e (switch_of e (state old)) ≡ ports_known e (switch_of e (state new))
+  step-known e = elim (cases_eq e h.0) [
     | inl same ↦
         let kept = face-packet h.1 s ((all-stand old).table h.0 s is) in
-        subst (λ (n : ℕ). option_map ports_of (switch_of n (state new)) ≡ option_map ports_of (switch_of n (state old))) (sym same)
-        (ap (option_map ports_of) step.moved ∙ ap some_ports (face-ports_of s (after_message (PacketOut h.1) s) kept) ∙ sym (ap (option_map ports_of) is))
-    | inr other ↦ ap (option_map ports_of) (step.others e other)
+        subst (λ (n : ℕ). ports_known n (switch_of n (state old)) ≡ ports_known n (switch_of n (state new))) (sym same)
+        (ap (ports_known h.0) is ∙ sym (ap (λ ports. record { dpid = h.0; ports = ports } ∷ []) (face-ports_of s (after_message (PacketOut h.1) s) kept)) ∙ sym (ap (ports_known h.0) step.moved))
+    | inr other ↦ sym (ap (ports_known e) (step.others e other))
   ]
-    where
-      some_ports : List PortDesc → Option (List PortDesc)
-      some_ports ports = Some ports
 
   step-ready : Ready old net → Ready new now_net
   step-ready ready = record {
@@ -179,6 +282,7 @@ module _ {Own : Type 0} (h : Held) (s : SwitchState) (old new : Seen Own) (net n
       | inr other ↦ step.others_wait e other ∙ ready.waits e
     ];
     agrees = λ e. ap (known_rows e) views-so ∙ ready.agrees e ∙ sym (rows-so e);
+    known = λ e. ap (λ (n : NetState). filter (λ k. k.dpid == e) n.ports) step.net_so ∙ ready.known e ∙ step-known e;
   }
 
   step-sound : Sound (state old) → Sound (state new)
@@ -210,10 +314,12 @@ record GoesOn {Own : Type 0} (declared : List Declared) (packets : List Held) (b
   places_so : next.places ≡ shown_places declared now_net.views (state new)
   events_so : now_queue ≡ base ++ next.events
   packets_so : next.packets ≡ r.packets ++ packets
+  left : List Event
+  left_so : next.left ≡ r.left ++ left
+  leaves : LeavesBy old new net now_net left
   ready : Ready new now_net
   sound : Sound (state new)
-  net_so : now_net ≡ record net { xid = now_net.xid }
-  ports : (d : ℕ) → option_map ports_of (switch_of d (state new)) ≡ option_map ports_of (switch_of d (state old))
+  net_so : now_net ≡ record (lose_all (leavers left) net) { xid = now_net.xid }
 
 -- where it stands before
 record Stands {Own : Type 0} (declared : List Declared) (base : List Event) (old : Seen Own) (net : NetState) (queue : List Event) (r : Release) : Type 0 where
@@ -226,72 +332,137 @@ record Stands {Own : Type 0} (declared : List Declared) (base : List Event) (old
 stand-of : {Own : Type 0} (declared : List Declared) (seen : Seen Own) → declared ≡ seen.given.declared → Stand declared (state seen)
 stand-of declared seen same = subst (λ (ds : List Declared). Stand ds (state seen)) (sym same) (all-stand seen)
 
--- the switch there
-at-shown : {Own : Type 0} (d : ℕ) (declared : List Declared) (base : List Event) (old : Seen Own) (net : NetState) (queue : List Event) (r : Release) → Stands declared base old net queue r → switch_at d r.places ≡ shown_switch net.views (state old) d
-unfolding shown_places
-at-shown d declared base old net queue r at =
-    ap (switch_at d) at.places_so ∙ switch_at-shown declared net.views (state old) d (stand-of declared old at.given)
+-- nothing was done
+stays-on : {Own : Type 0} (declared : List Declared) (base : List Event) (old : Seen Own) (net : NetState) (queue : List Event) (r : Release) → queue ≡ base ++ r.events → r.places ≡ shown_places declared net.views (state old) → Ready old net → Sound (state old)
+    → GoesOn declared [] base old old net net queue r r
+stays-on declared base old net queue r events_so places_so ready sound = record {
+  places_so = places_so;
+  events_so = events_so;
+  packets_so = sym (append-nil r.packets);
+  left = [];
+  left_so = sym (append-nil r.left);
+  leaves = leaves-none old old net net refl refl;
+  ready = ready;
+  sound = sound;
+  net_so = refl;
+}
 
-sent-places : {Own : Type 0} (h : Held) (s : SwitchState) (declared : List Declared) (base : List Event) (old new : Seen Own) (net now_net : NetState) (queue now_queue : List Event) (r : Release) → AreDeclaredFrom 1 declared → switch_of h.0 (state old) ≡ Some s
-    → PacketInStep h.0 h.1 s old new net now_net queue now_queue → Stands declared base old net queue r
-    → with_place h.0 (λ o. Some (after_message (PacketOut h.1) (owned_switch (flags_at h.0 net.views) s))) r.places ≡ shown_places declared now_net.views (state new)
-unfolding shown_places
-sent-places h s declared base old new net now_net queue now_queue r are is step at =
-    ap (with_place h.0 (λ o. Some (after_message (PacketOut h.1) (owned_switch (flags_at h.0 net.views) s)))) at.places_so
-    ∙ step-places h s old new net now_net queue now_queue is step declared are (stand-of declared old at.given)
+-- what becomes of a packet, by what becomes of its switch
+abbrev next_release : PacketLoss → Release → Held → Release
+next_release loss r h = release_at (switch_at h.0 r.places) loss r h
 
-sent-on : {Own : Type 0} (h : Held) (s : SwitchState) (declared : List Declared) (base : List Event) (old new : Seen Own) (net now_net : NetState) (queue now_queue : List Event) (r : Release) → AreDeclaredFrom 1 declared → switch_of h.0 (state old) ≡ Some s
-    → PacketInStep h.0 h.1 s old new net now_net queue now_queue → Stands declared base old net queue r → GoesOn declared (h ∷ []) base old new net now_net now_queue r (release_one r h)
-sent-on h s declared base old new net now_net queue now_queue r are is step at =
-    let owned = owned_switch (flags_at h.0 net.views) s in
-    let there : switch_at h.0 r.places ≡ Some owned = at-shown h.0 declared base old net queue r at ∙ ap (option_map (owned_switch (flags_at h.0 net.views))) is in
-    let one : release_one r h ≡ release_at (Some owned) r h = ap (λ (o : Option SwitchState). release_at o r h) there in
-    subst (λ (next : Release). GoesOn declared (h ∷ []) base old new net now_net now_queue r next) (sym one) (record {
-      places_so = sent-places h s declared base old new net now_net queue now_queue r are is step at;
-      events_so = step.queue_so ∙ ap (λ (q : List Event). q ++ events_of h.0 (sent_by_message 0 (PacketOut h.1) s)) at.events_so
-          ∙ append_assoc base r.events (events_of h.0 (sent_by_message 0 (PacketOut h.1) s))
-          ∙ ap (λ (sent : List (List ℕ)). base ++ (r.events ++ events_of h.0 sent)) (sym (packet_sent-owned (flags_at h.0 net.views) 0 h.1 s));
-      packets_so = refl;
-      ready = step-ready h s old new net now_net queue now_queue is step at.ready;
-      sound = step-sound h s old new net now_net queue now_queue is step at.sound;
-      net_so = step.net_so;
-      ports = step-ports h s old new net now_net queue now_queue is step;
-    })
+-- which losses are to come is no matter
+losing-kept : (o : Option SwitchState) (loss : PacketLoss) (r : Release) (h : Held) (losing : List PacketLoss) → release_at o loss (record r { losing = losing }) h ≡ record (release_at o loss r h) { losing = losing }
+losing-kept None loss r h losing = refl
+losing-kept (Some s) Stays r h losing = refl
+losing-kept (Some s) BeforeSent r h losing = refl
+losing-kept (Some s) AfterSent r h losing = refl
+
+module _ {Own : Type 0} (h : Held) (declared : List Declared) (base : List Event) (old : Seen Own) (net : NetState) (queue : List Event) (r : Release) (at : Stands declared base old net queue r) where
+  -- the switch there
+  at-shown : switch_at h.0 r.places ≡ shown_switch net.views (state old) h.0
+  unfolding shown_places
+  at-shown = ap (switch_at h.0) at.places_so ∙ switch_at-shown declared net.views (state old) h.0 (stand-of declared old at.given)
+
+  at-joined : (loss : PacketLoss) (s : SwitchState) → switch_of h.0 (state old) ≡ Some s → next_release loss r h ≡ release_at (Some (owned_switch (flags_at h.0 net.views) s)) loss r h
+  at-joined loss s is = ap (λ (o : Option SwitchState). release_at o loss r h) (at-shown ∙ ap (option_map (owned_switch (flags_at h.0 net.views))) is)
+
+  module _ (new : Seen Own) (now_net : NetState) (now_queue : List Event) (are : AreDeclaredFrom 1 declared) where
+    sent-places : (s : SwitchState) → switch_of h.0 (state old) ≡ Some s → PacketInStep h.0 h.1 s old new net now_net queue now_queue
+        → with_place h.0 (λ o. Some (after_message (PacketOut h.1) (owned_switch (flags_at h.0 net.views) s))) r.places ≡ shown_places declared now_net.views (state new)
+    unfolding shown_places
+    sent-places s is step =
+        ap (with_place h.0 (λ o. Some (after_message (PacketOut h.1) (owned_switch (flags_at h.0 net.views) s)))) at.places_so
+        ∙ step-places h s old new net now_net queue now_queue is step declared are (stand-of declared old at.given)
+
+    sent-on : (s : SwitchState) → switch_of h.0 (state old) ≡ Some s → lost_of new ≡ lost_of old → PacketInStep h.0 h.1 s old new net now_net queue now_queue
+        → GoesOn declared (h ∷ []) base old new net now_net now_queue r (next_release Stays r h)
+    sent-on s is none_lost step =
+        subst (λ (next : Release). GoesOn declared (h ∷ []) base old new net now_net now_queue r next) (sym (at-joined Stays s is)) (record {
+          places_so = sent-places s is step;
+          events_so = step.queue_so ∙ ap (λ (q : List Event). q ++ events_of h.0 (sent_by_message 0 (PacketOut h.1) s)) at.events_so
+              ∙ append_assoc base r.events (events_of h.0 (sent_by_message 0 (PacketOut h.1) s))
+              ∙ ap (λ (sent : List (List ℕ)). base ++ (r.events ++ events_of h.0 sent)) (sym (packet_sent-owned (flags_at h.0 net.views) 0 h.1 s));
+          packets_so = refl;
+          left = [];
+          left_so = sym (append-nil r.left);
+          leaves = leaves-none old new net now_net (ap (λ (n : NetState). n.left) step.net_so) none_lost;
+          ready = step-ready h s old new net now_net queue now_queue is step at.ready;
+          sound = step-sound h s old new net now_net queue now_queue is step at.sound;
+          net_so = step.net_so;
+        })
+
+    -- its switch goes out, whether or not it was sent
+    lost-away : (packets : List Held) (s : SwitchState) → switch_of h.0 (state old) ≡ Some s → GoesOut h.0 packets old new → now_net ≡ record (lost_net h.0 net) { xid = now_net.xid }
+        → with_place h.0 (λ o. None) r.places ≡ shown_places declared now_net.views (state new)
+    unfolding shown_places
+    lost-away packets s is out net_so =
+        ap (with_place h.0 (λ o. None)) at.places_so
+        ∙ lost-places h.0 packets s old new net now_net is out net_so declared are (declared_of h.0 declared (state old) (stand-of declared old at.given) s is)
+
+    out-on : (packets : List Held) (s : SwitchState) → switch_of h.0 (state old) ≡ Some s → s.declared.dpid ≡ h.0 → GoesOut h.0 packets old new → now_net ≡ record (lost_net h.0 net) { xid = now_net.xid } → now_queue ≡ queue
+        → (q : Release) → q.places ≡ r.places → q.events ≡ r.events → q.left ≡ r.left → q.packets ≡ r.packets ++ packets
+        → GoesOn declared packets base old new net now_net now_queue r (went_out h.0 (owned_switch (flags_at h.0 net.views) s) q)
+    out-on packets s is number out net_so queue_so q places_so events_so left_so packets_so =
+        let gone : List Event = leave_event (owned_switch (flags_at h.0 net.views) s) ∷ [] in
+        record {
+          places_so = ap (with_place h.0 (λ o. None)) places_so ∙ lost-away packets s is out net_so;
+          events_so = queue_so ∙ at.events_so ∙ ap (λ (es : List Event). base ++ es) (sym events_so);
+          packets_so = packets_so;
+          left = gone;
+          left_so = ap (λ (es : List Event). es ++ gone) left_so;
+          leaves = lost-leaves h.0 packets s old new net now_net is out net_so (flags_at h.0 net.views) number at.ready;
+          ready = lost-ready h.0 packets s old new net now_net is out net_so at.ready;
+          sound = lost-sound h.0 packets old new out at.sound;
+          net_so = net_so ∙ ap (λ (n : ℕ). record (lost_net n net) { xid = now_net.xid }) (sym number);
+        }
 
 passed-on : {Own : Type 0} (h : Held) (declared : List Declared) (base : List Event) (old new : Seen Own) (net now_net : NetState) (queue now_queue : List Event) (r : Release) → PassesOver h old new net now_net queue now_queue → Stands declared base old net queue r
-    → GoesOn declared [] base old new net now_net now_queue r (release_one r h)
+    → GoesOn declared [] base old new net now_net now_queue r (next_release Stays r h)
 passed-on h declared base old new net now_net queue now_queue r passes at =
     let out : switch_of h.0 (state old) ≡ None = unviewed-out h.0 net.views (state old) (at.ready.agrees h.0) passes.unviewed (switch_of h.0 (state old)) refl in
-    let there : switch_at h.0 r.places ≡ None = at-shown h.0 declared base old net queue r at ∙ ap (option_map (owned_switch (flags_at h.0 net.views))) out in
-    let one : release_one r h ≡ r = ap (λ (o : Option SwitchState). release_at o r h) there in
+    let there : switch_at h.0 r.places ≡ None = at-shown h declared base old net queue r at ∙ ap (option_map (owned_switch (flags_at h.0 net.views))) out in
+    let one : next_release Stays r h ≡ r = ap (λ (o : Option SwitchState). release_at o Stays r h) there in
     subst (λ (next : Release). GoesOn declared [] base old new net now_net now_queue r next) (sym one)
     (subst (λ (w : Seen _). GoesOn declared [] base old w net now_net now_queue r r) (sym passes.seen)
-    (subst (λ (n : NetState). GoesOn declared [] base old old net n now_queue r r) (sym passes.net_so) (record {
-      places_so = at.places_so;
-      events_so = passes.queue_so ∙ at.events_so;
-      packets_so = sym (append-nil r.packets);
-      ready = at.ready;
-      sound = at.sound;
-      net_so = refl;
-      ports = λ d. refl;
-    })))
+    (subst (λ (n : NetState). GoesOn declared [] base old old net n now_queue r r) (sym passes.net_so) (stays-on declared base old net now_queue r (passes.queue_so ∙ at.events_so) at.places_so at.ready at.sound)))
 
 -- one packet of it
-one-on : {Own : Type 0} (Tells : Type 0) (h : Held) (declared : List Declared) (base : List Event) (old new : Seen Own) (net now_net : NetState) (queue now_queue : List Event) (r : Release) → Tells → Conforming new → AreDeclaredFrom 1 declared
-    → ReleasesOne Tells h old new net now_net queue now_queue → Stands declared base old net queue r → GoesOn declared (joined_of net.views (h ∷ [])) base old new net now_net now_queue r (release_one r h)
-one-on Tells h declared base old new net now_net queue now_queue r told keeps are (inl (joined, sends)) at =
-    let s = viewed-joined h.0 net.views (state old) (at.ready.agrees h.0) joined (switch_of h.0 (state old)) refl in
-    let step = sends.in_step s.switch told keeps s.stands (at.ready.waits h.0) in
-    rw joined (sent-on h s.switch declared base old new net now_net queue now_queue r are s.stands step at)
-one-on Tells h declared base old new net now_net queue now_queue r told keeps are (inr passes) at =
-    rw (passes.unviewed) (passed-on h declared base old new net now_net queue now_queue r passes at)
+record OneOn {Own : Type 0} (h : Held) (declared : List Declared) (packets : List Held) (base : List Event) (old new : Seen Own) (net now_net : NetState) (now_queue : List Event) (r : Release) : Type 0 where
+  loss : PacketLoss
+  on : GoesOn declared packets base old new net now_net now_queue r (next_release loss r h)
 
-joined-more : (views : List TableView) (h : Held) (more : List Held) → joined_of views (h ∷ []) ++ joined_of views more ≡ joined_of views (h ∷ more)
-joined-more views h more =
-    elim (cases_Bool (is_viewed h.0 views)) [
-      | inl there ↦ rw there refl
-      | inr out ↦ rw out refl
-    ]
+module _ {Own : Type 0} (Tells : Type 0) (h : Held) (sent : List Held) (declared : List Declared) (base : List Event) (old new : Seen Own) (net now_net : NetState) (queue now_queue : List Event) (r : Release) (told : Tells) (keeps : Conforming new) (are : AreDeclaredFrom 1 declared)
+    (at : Stands declared base old net queue r) where
+  there : is_viewed h.0 net.views ≡ true → JoinedAt h.0 (state old)
+  there is = viewed-joined h.0 net.views (state old) (at.ready.agrees h.0) is (switch_of h.0 (state old)) refl
+
+  loses-on : (packets : List Held) (loss : PacketLoss) (q : Release) → ((s : SwitchState) → release_at (Some s) loss r h ≡ went_out h.0 s q) → q.places ≡ r.places → q.events ≡ r.events → q.left ≡ r.left → q.packets ≡ r.packets ++ packets
+      → LosesPacket Tells packets h old new net now_net queue now_queue → GoesOn declared packets base old new net now_net now_queue r (next_release loss r h)
+  loses-on packets loss q by places_so events_so left_so packets_so loses =
+      let s = there loses.viewed in
+      let out = loses.is_lost.out told (ready-joined old net at.ready h.0 loses.viewed) in
+      let number = (switch-in_time old (Conforming-before told loses.continues keeps) h.0 s.switch s.stands).number in
+      subst (λ (next : Release). GoesOn declared packets base old new net now_net now_queue r next)
+      (sym (at-joined h declared base old net queue r at loss s.switch s.stands ∙ by (owned_switch (flags_at h.0 net.views) s.switch)))
+      (out-on h declared base old net queue r at new now_net now_queue are packets s.switch s.stands number out loses.net_so loses.queue_so q places_so events_so left_so packets_so)
+
+  one-on : ReleasesOne Tells h sent old new net now_net queue now_queue → OneOn h declared sent base old new net now_net now_queue r
+  one-on (inl sends) =
+      let s = there sends.1 in
+      let step = sends.2.in_step s.switch told keeps s.stands (at.ready.waits h.0) in
+      let none_lost = losses-still old new _ (sends.2.waits.hears.told told) (packet-loses-none h.0 net.xid h.1 sends.2.waits.got) in
+      subst (λ (ps : List Held). OneOn h declared ps base old new net now_net now_queue r) (sym sends.0)
+      (record { loss = Stays; on = sent-on h declared base old net queue r at new now_net now_queue are s.switch s.stands none_lost step })
+  one-on (inr (inl passes)) =
+      subst (λ (ps : List Held). OneOn h declared ps base old new net now_net now_queue r) (sym passes.0)
+      (record { loss = Stays; on = passed-on h declared base old new net now_net queue now_queue r passes.1 at })
+  one-on (inr (inr (inl loses))) =
+      subst (λ (ps : List Held). OneOn h declared ps base old new net now_net now_queue r) (sym loses.0)
+      (record { loss = BeforeSent; on = loses-on [] BeforeSent r (λ s. refl) refl refl refl (sym (append-nil r.packets)) loses.1 })
+  one-on (inr (inr (inr loses))) =
+      subst (λ (ps : List Held). OneOn h declared ps base old new net now_net now_queue r) (sym loses.0)
+      (record { loss = AfterSent; on = loses-on (h ∷ []) AfterSent (record r { packets = r.packets ++ h ∷ [] }) (λ s. refl) refl refl refl refl loses.1 })
 
 on-then : {Own : Type 0} (declared : List Declared) (ps qs : List Held) (base : List Event) (old mid new : Seen Own) (net mid_net now_net : NetState) (mid_queue now_queue : List Event) (r middle next : Release) → GoesOn declared ps base old mid net mid_net mid_queue r middle
     → GoesOn declared qs base mid new mid_net now_net now_queue middle next → GoesOn declared (ps ++ qs) base old new net now_net now_queue r next
@@ -299,90 +470,119 @@ on-then declared ps qs base old mid new net mid_net now_net mid_queue now_queue 
   places_so = later.places_so;
   events_so = later.events_so;
   packets_so = later.packets_so ∙ ap (λ (xs : List Held). xs ++ qs) first.packets_so ∙ append_assoc r.packets ps qs;
+  left = first.left ++ later.left;
+  left_so = later.left_so ∙ ap (λ (es : List Event). es ++ later.left) first.left_so ∙ append_assoc r.left first.left later.left;
+  leaves = leaves-then old mid new net mid_net now_net first.left later.left first.leaves later.leaves;
   ready = later.ready;
   sound = later.sound;
-  net_so = later.net_so ∙ ap (λ (n : NetState). record n { xid = now_net.xid }) first.net_so;
-  ports = λ d. later.ports d ∙ first.ports d;
+  net_so = later.net_so
+      ∙ ap (λ (n : NetState). record (lose_all (leavers later.left) n) { xid = now_net.xid }) first.net_so
+      ∙ ap (λ (n : NetState). record n { xid = now_net.xid }) (lose_all-xid (leavers later.left) (lose_all (leavers first.left) net) mid_net.xid)
+      ∙ ap (λ (n : NetState). record n { xid = now_net.xid }) (sym (lose_all-append (leavers first.left) (leavers later.left) net))
+      ∙ ap (λ (ds : List ℕ). record (lose_all ds net) { xid = now_net.xid }) (sym (leavers-append first.left later.left));
 }
 
-all-on : {Own : Type 0} (Tells : Type 0) (held : List Held) (declared : List Declared) (base : List Event) (old new : Seen Own) (net now_net : NetState) (queue now_queue : List Event) (r : Release) → Tells → Conforming new → AreDeclaredFrom 1 declared
-    → ReleasesAll Tells held old new net now_net queue now_queue → Stands declared base old net queue r → GoesOn declared (joined_of net.views held) base old new net now_net now_queue r (fold release_one r held)
-all-on Tells [] declared base old new net now_net queue now_queue r told keeps are all at =
-    subst (λ (w : Seen _). GoesOn declared [] base old w net now_net now_queue r r) (sym all.0)
-    (subst (λ (n : NetState). GoesOn declared [] base old old net n now_queue r r) (sym all.1) (record {
-      places_so = at.places_so;
-      events_so = all.2 ∙ at.events_so;
-      packets_so = sym (append-nil r.packets);
-      ready = at.ready;
-      sound = at.sound;
-      net_so = refl;
-      ports = λ d. refl;
-    }))
-all-on Tells (h ∷ more) declared base old new net now_net queue now_queue r told keeps are all at =
-    let mid = all.0 in
-    let mid_net = all.1.0 in
-    let mid_queue = all.1.1.0 in
-    let one = all.1.1.1.0 in
-    let behind = all.1.1.1.1 in
-    let later = releases-continue Tells more mid new mid_net now_net mid_queue now_queue behind in
-    let before : Continues Tells old mid = releases-continue Tells (h ∷ []) old mid net mid_net queue mid_queue (mid, (mid_net, (mid_queue, (one, (refl, refl, refl))))) in
-    let first = one-on Tells h declared base old mid net mid_net queue mid_queue r told (Conforming-before told later keeps) are one at in
-    let middle = release_one r h in
-    let stands : Stands declared base mid mid_net mid_queue middle =
-    record { given = at.given ∙ ap (λ (g : Given _). g.declared) (sym before.given); places_so = first.places_so; events_so = first.events_so; ready = first.ready; sound = first.sound } in
-    let rest = all-on Tells more declared base mid new mid_net now_net mid_queue now_queue middle told keeps are behind stands in
-    let both = on-then declared (joined_of net.views (h ∷ [])) (joined_of mid_net.views more) base old mid new net mid_net now_net mid_queue now_queue r middle (fold release_one middle more) first rest in
-    let same : joined_of net.views (h ∷ []) ++ joined_of mid_net.views more ≡ joined_of net.views (h ∷ more) =
-    ap (λ (vs : List TableView). joined_of net.views (h ∷ []) ++ joined_of vs more) (ap (λ (n : NetState). n.views) first.net_so) ∙ joined-more net.views h more in
-    subst (λ (ps : List Held). GoesOn declared ps base old new net now_net now_queue r (fold release_one middle more)) same both
+-- a whole release, with what becomes of the switches of its packets
+record AllOn {Own : Type 0} (held : List Held) (declared : List Declared) (packets : List Held) (base : List Event) (old new : Seen Own) (net now_net : NetState) (now_queue : List Event) (r : Release) : Type 0 where
+  losing : List PacketLoss
+  final : Release
+  is : fold release_one (record r { losing = losing }) held ≡ final
+  none_more : final.losing ≡ []
+  on : GoesOn declared packets base old new net now_net now_queue r final
+
+all-on : {Own : Type 0} (Tells : Type 0) (held sent : List Held) (declared : List Declared) (base : List Event) (old new : Seen Own) (net now_net : NetState) (queue now_queue : List Event) (r : Release) → Tells → Conforming new → AreDeclaredFrom 1 declared
+    → ReleasesAll Tells held sent old new net now_net queue now_queue → Stands declared base old net queue r → AllOn held declared sent base old new net now_net now_queue r
+all-on Tells [] sent declared base old new net now_net queue now_queue r told keeps are all at =
+    subst (λ (ps : List Held). AllOn [] declared ps base old new net now_net now_queue r) (sym all.0)
+    (subst (λ (w : Seen _). AllOn [] declared [] base old w net now_net now_queue r) (sym all.1)
+    (subst (λ (n : NetState). AllOn [] declared [] base old old net n now_queue r) (sym all.2) (record {
+      losing = [];
+      final = record r { losing = [] };
+      is = refl;
+      none_more = refl;
+      on = let stays = stays-on declared base old net now_queue r (all.3 ∙ at.events_so) at.places_so at.ready at.sound in record {
+        places_so = stays.places_so;
+        events_so = stays.events_so;
+        packets_so = stays.packets_so;
+        left = stays.left;
+        left_so = stays.left_so;
+        leaves = stays.leaves;
+        ready = stays.ready;
+        sound = stays.sound;
+        net_so = stays.net_so;
+      };
+    })))
+all-on Tells (h ∷ more) sent declared base old new net now_net queue now_queue r told keeps are all at =
+    let f = first-of Tells h more sent old new net now_net queue now_queue all in
+    let later = releases-continue Tells more f.later f.mid new f.mid_net now_net f.mid_queue now_queue f.rest in
+    let before = one-continues Tells h f.first old f.mid net f.mid_net queue f.mid_queue f.one in
+    let first = one-on Tells h f.first declared base old f.mid net f.mid_net queue f.mid_queue r told (Conforming-before told later keeps) are at f.one in
+    let middle = next_release first.loss r h in
+    let stands : Stands declared base f.mid f.mid_net f.mid_queue middle =
+    record { given = at.given ∙ ap (λ (g : Given _). g.declared) (sym before.given); places_so = first.on.places_so; events_so = first.on.events_so; ready = first.on.ready; sound = first.on.sound } in
+    let rest = all-on Tells more f.later declared base f.mid new f.mid_net now_net f.mid_queue now_queue middle told keeps are f.rest stands in
+    subst (λ (ps : List Held). AllOn (h ∷ more) declared ps base old new net now_net now_queue r) (sym f.sent_so) (record {
+      losing = first.loss ∷ rest.losing;
+      final = rest.final;
+      is = ap (λ (q : Release). fold release_one q more) (losing-kept (switch_at h.0 r.places) first.loss r h rest.losing) ∙ rest.is;
+      none_more = rest.none_more;
+      on = on-then declared f.first f.later base old f.mid new net f.mid_net now_net f.mid_queue now_queue r middle rest.final first.on rest.on;
+    })
 
 -- ---- The whole
 
-begins : {Own : Type 0} (old : Seen Own) (net : NetState) (queue : List Event) → Ready old net → Sound (state old) → Stands old.given.declared queue old net queue (none_released (shown_places old.given.declared net.views (state old)))
-begins old net queue ready sound = record { given = refl; places_so = refl; events_so = sym (append-nil queue); ready = ready; sound = sound }
+begins : {Own : Type 0} (old : Seen Own) (net : NetState) (queue : List Event) (losing : List PacketLoss) → Ready old net → Sound (state old) → Stands old.given.declared queue old net queue (none_released losing (shown_places old.given.declared net.views (state old)))
+begins old net queue losing ready sound = record { given = refl; places_so = refl; events_so = sym (append-nil queue); ready = ready; sound = sound }
 
--- A release: the reference controller releases the same, and its switches stand then as the world's do.
-pub release-shown : {Own : Type 0} (Tells : Type 0) (held : List Held) (old new : Seen Own) (net now_net : NetState) (queue now_queue : List Event) → Tells → Conforming new
-    → ReleasesAll Tells held old new net now_net queue now_queue → Ready old net → Sound (state old) → ReleaseShown held old new net now_net queue now_queue
+-- A release: the reference controller releases the same and loses the same, and its switches stand then as the world's do.
+pub release-shown : {Own : Type 0} (Tells : Type 0) (held sent : List Held) (old new : Seen Own) (net now_net : NetState) (queue now_queue : List Event) → Tells → Conforming new
+    → ReleasesAll Tells held sent old new net now_net queue now_queue → Ready old net → Sound (state old) → ReleaseShown held sent old new net now_net queue now_queue
 unfolding release
-release-shown Tells held old new net now_net queue now_queue told keeps all ready sound =
+release-shown Tells held sent old new net now_net queue now_queue told keeps all ready sound =
     let declared = old.given.declared in
-    let later = releases-continue Tells held old new net now_net queue now_queue all in
+    let later = releases-continue Tells held sent old new net now_net queue now_queue all in
     let are : AreDeclaredFrom 1 declared = subst (λ (g : Given _). AreDeclaredFrom 1 g.declared) later.given keeps.declared in
-    let r = none_released (shown_places declared net.views (state old)) in
-    let on = all-on Tells held declared queue old new net now_net queue now_queue r told keeps are all (begins old net queue ready sound) in
-    let moves = release-moves Tells held old new net now_net queue now_queue told all in
+    let r = none_released [] (shown_places declared net.views (state old)) in
+    let whole = all-on Tells held sent declared queue old new net now_net queue now_queue r told keeps are all (begins old net queue [] ready sound) in
+    let moves = release-moves Tells held sent old new net now_net queue now_queue told (ready-joined old net ready) all in
     record {
-      places = sym on.places_so;
-      events = on.events_so;
-      packets = on.packets_so;
-      released = released-on old new moves.steps moves.history ∙ ap (λ (ps : List Held). released_of old ++ ps) (moves.released_so ∙ sym on.packets_so);
-      ready = on.ready;
-      sound = on.sound;
-      net_so = on.net_so;
-      ports = on.ports;
+      losing = whole.losing;
+      release_so = whole.final;
+      is = sym whole.is;
+      places = sym whole.on.places_so;
+      events = whole.on.events_so;
+      packets = whole.on.packets_so;
+      none_more = whole.none_more;
+      leaves = subst (λ (es : List Event). LeavesBy old new net now_net es) (sym whole.on.left_so) whole.on.leaves;
+      released_so = released-on old new moves.steps moves.history ∙ ap (λ (ps : List Held). released_of old ++ ps) (moves.released_so ∙ sym whole.on.packets_so);
+      ready = whole.on.ready;
+      sound = whole.on.sound;
+      net_so = whole.on.net_so ∙ ap (λ (es : List Event). record (lose_all (leavers es) net) { xid = now_net.xid }) (sym whole.on.left_so);
     }
 
 -- ---- Whether all is ready, whatever the entries are
 
-abbrev ReadyThen : {Own : Type 0} → Type 0 → Held → Seen Own → Seen Own → NetState → NetState → List Event → List Event → Type 0
-ReadyThen Tells h old new net now_net queue now_queue = Tells → Conforming new → ReleasesOne Tells h old new net now_net queue now_queue → Ready old net → Ready new now_net
+one-ready : {Own : Type 0} (Tells : Type 0) (h : Held) (sent : List Held) (old new : Seen Own) (net now_net : NetState) (queue now_queue : List Event) → Tells → Conforming new → ReleasesOne Tells h sent old new net now_net queue now_queue → Ready old net → Ready new now_net
+one-ready Tells h sent old new net now_net queue now_queue told keeps (inl sends) ready =
+    let s = viewed-joined h.0 net.views (state old) (ready.agrees h.0) sends.1 (switch_of h.0 (state old)) refl in
+    step-ready h s.switch old new net now_net queue now_queue s.stands (sends.2.in_step s.switch told keeps s.stands (ready.waits h.0)) ready
+one-ready Tells h sent old new net now_net queue now_queue told keeps (inr (inl passes)) ready =
+    subst (λ (n : NetState). Ready new n) (sym passes.1.net_so) (subst (λ (w : Seen _). Ready w net) (sym passes.1.seen) ready)
+one-ready Tells h sent old new net now_net queue now_queue told keeps (inr (inr (inl loses))) ready =
+    let s = viewed-joined h.0 net.views (state old) (ready.agrees h.0) loses.1.viewed (switch_of h.0 (state old)) refl in
+    lost-ready h.0 [] s.switch old new net now_net s.stands (loses.1.is_lost.out told (ready-joined old net ready h.0 loses.1.viewed)) loses.1.net_so ready
+one-ready Tells h sent old new net now_net queue now_queue told keeps (inr (inr (inr loses))) ready =
+    let s = viewed-joined h.0 net.views (state old) (ready.agrees h.0) loses.1.viewed (switch_of h.0 (state old)) refl in
+    lost-ready h.0 (h ∷ []) s.switch old new net now_net s.stands (loses.1.is_lost.out told (ready-joined old net ready h.0 loses.1.viewed)) loses.1.net_so ready
 
-one-ready : {Own : Type 0} (Tells : Type 0) (h : Held) (old new : Seen Own) (net now_net : NetState) (queue now_queue : List Event) → ReadyThen Tells h old new net now_net queue now_queue
-one-ready Tells h old new net now_net queue now_queue told keeps (inl (joined, sends)) ready =
-    let s = viewed-joined h.0 net.views (state old) (ready.agrees h.0) joined (switch_of h.0 (state old)) refl in
-    step-ready h s.switch old new net now_net queue now_queue s.stands (sends.in_step s.switch told keeps s.stands (ready.waits h.0)) ready
-one-ready Tells h old new net now_net queue now_queue told keeps (inr passes) ready =
-    subst (λ (n : NetState). Ready new n) (sym passes.net_so) (subst (λ (w : Seen _). Ready w net) (sym passes.seen) ready)
-
-pub releases-ready : {Own : Type 0} (Tells : Type 0) (held : List Held) (old new : Seen Own) (net now_net : NetState) (queue now_queue : List Event) → Tells → Conforming new → ReleasesAll Tells held old new net now_net queue now_queue → Ready old net → Ready new now_net
-releases-ready Tells [] old new net now_net queue now_queue told keeps all ready =
-    subst (λ (n : NetState). Ready new n) (sym all.1) (subst (λ (w : Seen _). Ready w net) (sym all.0) ready)
-releases-ready Tells (h ∷ more) old new net now_net queue now_queue told keeps all ready =
-    let mid = all.0 in
-    let later = releases-continue Tells more mid new all.1.0 now_net all.1.1.0 now_queue all.1.1.1.1 in
-    releases-ready Tells more mid new all.1.0 now_net all.1.1.0 now_queue told keeps all.1.1.1.1
-    (one-ready Tells h old mid net all.1.0 queue all.1.1.0 told (Conforming-before told later keeps) all.1.1.1.0 ready)
+pub releases-ready : {Own : Type 0} (Tells : Type 0) (held sent : List Held) (old new : Seen Own) (net now_net : NetState) (queue now_queue : List Event) → Tells → Conforming new → ReleasesAll Tells held sent old new net now_net queue now_queue → Ready old net → Ready new now_net
+releases-ready Tells [] sent old new net now_net queue now_queue told keeps all ready =
+    subst (λ (n : NetState). Ready new n) (sym all.2) (subst (λ (w : Seen _). Ready w net) (sym all.1) ready)
+releases-ready Tells (h ∷ more) sent old new net now_net queue now_queue told keeps all ready =
+    let f = first-of Tells h more sent old new net now_net queue now_queue all in
+    let later = releases-continue Tells more f.later f.mid new f.mid_net now_net f.mid_queue now_queue f.rest in
+    releases-ready Tells more f.later f.mid new f.mid_net now_net f.mid_queue now_queue told keeps f.rest
+    (one-ready Tells h f.first old f.mid net f.mid_net queue f.mid_queue told (Conforming-before told later keeps) f.one ready)
 
 -- ---- Where it stopped
 
@@ -410,21 +610,20 @@ flood-stops Tells h s old mid new net (Flooded of n) told whole before stands fl
   where
     flooded_fault : ℕ → ℕ → TxnFault
     flooded_fault d count = Flooded d count
-flood-stops Tells h s old mid new net (SwitchFault of) told whole before stands floods by = absurd by
 flood-stops Tells h s old mid new net (SwitchBroke of bytes) told whole before stands floods by = absurd by
 flood-stops Tells h s old mid new net (Diverged of key answer) told whole before stands floods by = absurd by
 flood-stops Tells h s old mid new net NoMemory told whole before stands floods by = absurd by
 
--- The fault is one of a link or of memory, or a packet made its switch send too many messages.
+-- The fault is one of memory, or a packet made its switch send too many messages.
 pub release-plain : {Own : Type 0} (Tells : Type 0) (start : ℕ) (old new : Seen Own) (net : NetState) (queue : List Event) (fault : TxnFault) → Tells → Conforming new → Continues Tells old new → StopsRelease Tells start old new net queue fault → Ready old net → StopsFor old new fault
 release-plain Tells start old new net queue fault told keeps whole stops ready =
-    let before = releases-continue Tells stops.front old stops.mid (committed start net) stops.mid_net queue stops.mid_queue stops.before in
+    let before = releases-continue Tells stops.front stops.sent old stops.mid (committed start net) stops.mid_net queue stops.mid_queue stops.before in
     let mid_keeps = mid-keeps old stops.mid new whole before (stops.breaks.moves told) keeps in
-    let first : Ready old (committed start net) = record { waits = ready.waits; agrees = ready.agrees } in
-    let then_ready = releases-ready Tells stops.front old stops.mid (committed start net) stops.mid_net queue stops.mid_queue told mid_keeps stops.before first in
+    let first : Ready old (committed start net) = record { waits = ready.waits; agrees = ready.agrees; known = ready.known } in
+    let then_ready = releases-ready Tells stops.front stops.sent old stops.mid (committed start net) stops.mid_net queue stops.mid_queue told mid_keeps stops.before first in
     let d = stops.broken.0 in
     let s = viewed-joined d stops.mid_net.views (state stops.mid) (then_ready.agrees d) stops.breaks.viewed (switch_of d (state stops.mid)) refl in
     elim (stops.breaks.plain s.switch told keeps s.stands (then_ready.waits d)) [
-      | inl plain ↦ inl (d, plain)
+      | inl plain ↦ inl plain
       | inr by ↦ inr (flood-stops Tells stops.broken s.switch old stops.mid new stops.mid_net fault told whole before s.stands stops.breaks.flooded by)
     ]

@@ -1,7 +1,8 @@
--- What follows where an application's message was answered in a world that keeps its word: the reference controller answers the same, and
--- its switches move as the world's do, with the flags of the owners.
-use Rattle.std.proofs.Common.{◌≡◌, ◌≢◌, ℕ, true, List, [], ◌∷◌, map, Option, Some, None, Ok, refl, sym, ap, ap₂, ◌∙◌, subst, inl, inr}
+-- What follows where an application's message was answered in a world that keeps its word: the reference controller answers the same and
+-- loses its switch there or not, and its switches move as the world's do, with the flags of the owners.
+use Rattle.std.proofs.Common.{◌≡◌, ◌≢◌, ℕ, Bool, true, false, List, [], ◌∷◌, ◌++◌, map, Option, Some, None, Result, Ok, refl, sym, ap, ap₂, ◌∙◌, subst, inl, inr}
 use Rattle.std.proofs.lemmas.Bool.{cases_Bool}
+use Rattle.std.proofs.lemmas.List.{append-nil}
 use Rattle.std.specs.Option.{option_map}
 use Rattle.of_types.specs.declared.errors.OfError.{OfError}
 use Rattle.of_match.specs.declared.key.Key.{Key}
@@ -18,18 +19,31 @@ use Rattle.flow_table.specs.Refusals.{message_refusal}
 use Rattle.flow_table.specs.Step.{after_message}
 use Rattle.undo_laws.specs.Owned.{owned, owned_switch}
 use Rattle.app_frames.specs.declared.frame.Answer.{Answer}
+use Rattle.app_frames.specs.declared.frame.Answer.TheVariants.{Unknown}
+use Rattle.app_frames.specs.declared.frame.Event.{Event}
 use Rattle.lego_model.specs.Answers.{Rows, rows_of_table, rows_of_view, host_answer, as_sent, answer_by, switch_answer}
+use Rattle.lego_model.specs.declared.fault.TxnFault.{TxnFault}
+use Rattle.lego_model.specs.Events.{leave_event}
+use Rattle.lego_model.specs.Packets.{Held, holds, play_at as playing, play}
 use Rattle.lego_model.specs.Places.{Place, switch_at, with_place, rows_at as rows_in, by_switch, by_host, answer}
-use Rattle.outside.specs.Seen.{Given, Seen, is_declared}
+use Rattle.outside.specs.Seen.{Given, Seen, Continues, is_declared}
 use Rattle.outside.specs.State.{State, state, switch_of, waits_of}
 use Rattle.outside.specs.Conforming.{AreDeclaredFrom, Conforming}
+use Rattle.outside.specs.laws.StateLaws.{Conforming-before}
 use Rattle.lego_model.specs.declared.wait.Refusal.{Refusal}
 use Rattle.net_txn.specs.Views.{rows_at, rows_after}
 use Rattle.net_txn.specs.Net.{NetState}
-use Rattle.net_txn.specs.Changes.{known_rows, answer_of_host, error_in, views_by, Asked, Changes}
-use Rattle.net_txn.specs.Agreement.{Agrees, InStep, Steps}
+use Rattle.net_txn.specs.Answering.{known_rows}
+use Rattle.net_txn.specs.Changes.{answer_of_host, error_in, views_by, Asked, ChangesJoined, ChangesLost, Changes}
+use Rattle.net_txn.specs.Agreement.{Agrees, InStep}
+use Rattle.net_txn.specs.Losing.{lost_net, GoesOut}
 use Rattle.net_txn.specs.laws.ViewLaws.{rows_at-same, rows_at-other}
 use Rattle.switch_laws.specs.Shown.{rows_or_none, flags_in, flags_at, shown_switch, places, shown_places, Stand, Passes, Known}
+use Rattle.switch_laws.specs.Lost.{shown_play, ExchangeShown}
+use Rattle.switch_laws.specs.Since.{Ready}
+use Rattle.switch_laws.specs.laws.ClockLaws.{switch-in_time}
+use Rattle.switch_laws.specs.laws.LossLaws.{leaves-none, ready-joined, joined-stays, lost-leaves, lost-places}
+use Rattle.switch_laws.specs.laws.StandLaws.{all-stand}
 use Rattle.switch_laws.specs.laws.PlaceLaws.{switch_at-declared, switch_at-undeclared, with_place-places}
 use Rattle.switch_laws.specs.laws.ShownChangeLaws.{passes, refusal-shown, taken-shown, refused-shown}
 use Rattle.switch_laws.specs.laws.AskedLaws.{asked}
@@ -157,33 +171,89 @@ module _ {Own : Type 0} (Tells : Type 0) (d : ℕ) (old new : Seen Own) (net now
       (ap₂ (λ (a : Answer) (ps : List Place). (a, ps)) (answer-shown (flags_in k.rows) m k.switch (rows_of_table k.switch.table.entries) k.passes ∙ sym answered)
       (places-then declared are stand k step asks.refusal asks.views refused))
 
-exchange-by : {Own : Type 0} {Tells : Type 0} (d : ℕ) (bytes : List ℕ) (old new : Seen Own) (net now_net : NetState) (given : Answer) → Tells → Conforming new → Changes Tells d bytes old new net now_net (Ok given)
-    → Steps Tells d bytes old new net now_net (Ok given) → waits_of d (state old) ≡ [] → Agrees d net.views (state old) → Stand old.given.declared (state old)
-    → (o : Option Answer) → answer_of_host d bytes net ≡ o
-    → by_host o d bytes (places (shown_switch net.views (state old)) old.given.declared) ≡ (given, places (shown_switch now_net.views (state new)) old.given.declared)
-exchange-by d bytes old new net now_net given told keeps changes steps waits agrees stand (Some a) host =
-    let by = changes.by_host a host in
-    let same : given ≡ a = by.answers in
-    ap₂ (λ (x : Answer) (ps : List Place). (x, ps)) (sym same)
-    (ap₂ (λ (n : NetState) (w : Seen _). places (shown_switch n.views (state w)) old.given.declared) (sym by.stays) (sym by.world))
-exchange-by {Own} {Tells} d bytes old new net now_net given told keeps changes steps waits agrees stand None host =
-    let read = asked (known_rows d net.views) bytes host in
-    let k = known d bytes read.change read.xid net (state old) agrees host read.read in
-    let asks = changes.by_switch read.xid read.change host read.read in
-    let step = steps read.xid read.change told host read.read keeps waits agrees in
-    by_switch-shown Tells d old new net now_net read.change given old.given.declared (declared_before old new changes.continues.given keeps) stand bytes read.xid read.read k asks step
+module _ {Own : Type 0} (Tells : Type 0) (d : ℕ) (bytes : List ℕ) (old new : Seen Own) (net now_net : NetState) (given : Answer) where
+  answered-by : Tells → Conforming new → new.given ≡ old.given → ChangesJoined Tells d bytes old new net now_net (Ok given) → waits_of d (state old) ≡ [] → Agrees d net.views (state old) → Stand old.given.declared (state old)
+      → (o : Option Answer) → answer_of_host d bytes net ≡ o
+      → by_host o d bytes (places (shown_switch net.views (state old)) old.given.declared) ≡ (given, places (shown_switch now_net.views (state new)) old.given.declared)
+  answered-by told keeps same_given changes waits agrees stand (Some a) host =
+      let by = changes.by_host a host in
+      let same : given ≡ a = by.answers in
+      ap₂ (λ (x : Answer) (ps : List Place). (x, ps)) (sym same)
+      (ap₂ (λ (n : NetState) (w : Seen _). places (shown_switch n.views (state w)) old.given.declared) (sym by.stays) (sym by.world))
+  answered-by told keeps same_given changes waits agrees stand None host =
+      let read = asked (known_rows d net.views) bytes host in
+      let k = known d bytes read.change read.xid net (state old) agrees host read.read in
+      let asks = changes.by_switch read.xid read.change host read.read in
+      let step = changes.in_step read.xid read.change told host read.read keeps waits agrees in
+      by_switch-shown Tells d old new net now_net read.change given old.given.declared (declared_before old new same_given keeps) stand bytes read.xid read.read k asks step
 
--- ---- The whole
+  -- the host knows what the reference controller's switches show
+  rows-shown : Agrees d net.views (state old) → rows_in (switch_at d (places (shown_switch net.views (state old)) old.given.declared)) ≡ known_rows d net.views
+  rows-shown agrees =
+      ap rows_in (switch_at-shown old.given.declared net.views (state old) d (all-stand old)) ∙ rows_in-shown (flags_at d net.views) (switch_of d (state old)) ∙ sym agrees
 
--- A message that was answered: the reference controller answers the same, and its switches stand then as the world's do.
-pub exchange-shown : {Own : Type 0} {Tells : Type 0} (d : ℕ) (bytes : List ℕ) (old new : Seen Own) (net now_net : NetState) (given : Answer) → Tells → Conforming new → Changes Tells d bytes old new net now_net (Ok given)
-    → Steps Tells d bytes old new net now_net (Ok given) → waits_of d (state old) ≡ [] → Agrees d net.views (state old) → Stand old.given.declared (state old)
-    → answer (shown_places old.given.declared net.views (state old)) d bytes ≡ (given, shown_places old.given.declared now_net.views (state new))
-unfolding answer shown_places
-exchange-shown d bytes old new net now_net given told keeps changes steps waits agrees stand =
-    let declared : List Declared = old.given.declared in
-    let ps : List Place = places (shown_switch net.views (state old)) declared in
-    let rows : rows_in (switch_at d ps) ≡ known_rows d net.views =
-    ap rows_in (switch_at-shown declared net.views (state old) d stand) ∙ rows_in-shown (flags_at d net.views) (switch_of d (state old)) ∙ sym agrees in
-    let host : host_answer (rows_in (switch_at d ps)) bytes ≡ answer_of_host d bytes net = ap (λ (k : Option Rows). host_answer k bytes) rows in
-    ap (λ (o : Option Answer). by_host o d bytes ps) host ∙ exchange-by d bytes old new net now_net given told keeps changes steps waits agrees stand (answer_of_host d bytes net) refl
+  -- A message that was answered, whose switch was not lost: the reference controller answers the same, and its switches stand then as the
+  -- world's do.
+  answered-shown : Tells → Conforming new → new.given ≡ old.given → ChangesJoined Tells d bytes old new net now_net (Ok given) → Ready old net
+      → answer (shown_places old.given.declared net.views (state old)) d bytes ≡ (given, shown_places old.given.declared now_net.views (state new))
+  unfolding answer shown_places
+  answered-shown told keeps same_given changes ready =
+      let ps : List Place = places (shown_switch net.views (state old)) old.given.declared in
+      let host : host_answer (rows_in (switch_at d ps)) bytes ≡ answer_of_host d bytes net = ap (λ (k : Option Rows). host_answer k bytes) (rows-shown (ready.agrees d)) in
+      ap (λ (o : Option Answer). by_host o d bytes ps) host ∙ answered-by told keeps same_given changes (ready.waits d) (ready.agrees d) (all-stand old) (answer_of_host d bytes net) refl
+
+  -- ---- The whole
+
+  stays-shown : Tells → Conforming new → new.given ≡ old.given → ChangesJoined Tells d bytes old new net now_net (Ok given) → Ready old net → ExchangeShown old.given.declared d bytes old new net now_net given
+  unfolding play
+  stays-shown told keeps same_given changes ready = record {
+    lost = false;
+    left = [];
+    leaves = leaves-none old new net now_net changes.left (changes.losses told);
+    played = λ losing before.
+        ap (λ (p : Answer × List Place). (p.0, record { places = p.1; held = net.held ++ holds d bytes p.0; losing = losing; left = before })) (answered-shown told keeps same_given changes ready)
+        ∙ ap₂ (λ (held : List Held) (left : List Event). (given, record { places = shown_places old.given.declared now_net.views (state new); held = held; losing = losing; left = left }))
+        (sym changes.held) (sym (append-nil before));
+  }
+
+  lost-played : (s : SwitchState) → switch_of d (state old) ≡ Some s → is_declared d old.given.declared ≡ true → AreDeclaredFrom 1 old.given.declared → GoesOut d [] old new → now_net ≡ record (lost_net d net) { xid = now_net.xid } → (losing : List Bool) (before : List Event)
+      → play (shown_play old.given.declared old net (true ∷ losing) before) d bytes ≡ (Unknown, shown_play old.given.declared new now_net losing (before ++ leave_event (owned_switch (flags_at d net.views) s) ∷ []))
+  unfolding play shown_places
+  lost-played s is there are out net_so losing before =
+      let declared = old.given.declared in
+      let owned = owned_switch (flags_at d net.views) s in
+      let ps = places (shown_switch net.views (state old)) declared in
+      let at : switch_at d ps ≡ Some owned = switch_at-shown declared net.views (state old) d (all-stand old) ∙ ap (option_map (owned_switch (flags_at d net.views))) is in
+      ap (λ (o : Option SwitchState). playing true o (record { places = ps; held = net.held; losing = losing; left = before }) d bytes) at
+      ∙ ap₂ (λ (qs : List Place) (held : List Held). (Unknown, record { places = qs; held = held; losing = losing; left = before ++ leave_event owned ∷ [] }))
+      (lost-places d [] s old new net now_net is out net_so declared are there) (sym (ap (λ (n : NetState). n.held) net_so))
+
+  lost-shown : Tells → Conforming new → Continues Tells old new → ChangesLost Tells d old new net now_net → given ≡ Unknown → Ready old net → ExchangeShown old.given.declared d bytes old new net now_net given
+  lost-shown told keeps later changes unknown ready =
+      let there = joined-stays (switch_of d (state old)) (ready-joined old net ready d changes.viewed) in
+      let out = changes.is_lost.out told (ready-joined old net ready d changes.viewed) in
+      let s = there.switch in
+      let number = (switch-in_time old (Conforming-before told later keeps) d s there.stands).number in
+      let declared = declared_of d old.given.declared (state old) (all-stand old) s there.stands in
+      record {
+        lost = true;
+        left = leave_event (owned_switch (flags_at d net.views) s) ∷ [];
+        leaves = lost-leaves d [] s old new net now_net there.stands out changes.net_so (flags_at d net.views) number ready;
+        played = λ losing before.
+            lost-played s there.stands declared (declared_before old new later.given keeps) out changes.net_so losing before
+            ∙ ap (λ (a : Answer). (a, shown_play old.given.declared new now_net losing (before ++ leave_event (owned_switch (flags_at d net.views) s) ∷ []))) (sym unknown);
+      }
+
+  -- A message that was answered: the reference controller answers the same and loses its switch there or not, and its switches stand then as
+  -- the world's do.
+  pub exchange-shown : Tells → Conforming new → Changes Tells d bytes old new net now_net (Ok given) → Ready old net → ExchangeShown old.given.declared d bytes old new net now_net given
+  exchange-shown told keeps changes ready = elim changes.answered [
+    | inl stays ↦ stays-shown told keeps changes.continues.given stays ready
+    | inr lost ↦ lost-shown told keeps changes.continues lost.2 (one_answer given Unknown lost.1) ready
+  ]
+    where
+      as_result : Answer → Result Answer TxnFault
+      as_result a = Ok a
+
+      one_answer : (a b : Answer) → as_result a ≡ as_result b → a ≡ b
+      one_answer a b h = cc

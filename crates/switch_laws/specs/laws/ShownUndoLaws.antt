@@ -1,6 +1,6 @@
 -- What follows where an open transaction was undone in a world that keeps its word: the switches stand, with the flags of the owners, as
--- the reference controller's do that gets the earlier tables back.
-use Rattle.std.proofs.Common.{◌≡◌, ◌==◌, ℕ, true, false, List, [], ◌∷◌, map, Option, Some, None, Ok, if◌then◌else◌, refl, sym, ap, ap₂, ◌∙◌, inl, inr, true≢false}
+-- the reference controller's do that gets the earlier tables back and loses the same switches in it.
+use Rattle.std.proofs.Common.{◌≡◌, ◌==◌, ℕ, Bool, true, false, List, [], ◌∷◌, ◌++◌, map, filter, fold, Option, Some, None, Ok, if◌then◌else◌, refl, sym, ap, ap₂, ◌∙◌, subst, inl, inr, true≢false}
 use Rattle.std.proofs.lemmas.Bool.{cases_Bool}
 use Rattle.std.specs.Option.{option_map}
 use Rattle.of_match.specs.declared.key.Key.{Key}
@@ -13,17 +13,26 @@ use Rattle.flow_table.specs.Undone.{used_or, restored, undone}
 use Rattle.undo_laws.specs.Corrected.{corrected}
 use Rattle.undo_laws.specs.Owned.{owned, owned_switch}
 use Rattle.lego_model.specs.Answers.{Rows, rows_of_table, rows_of_view}
+use Rattle.lego_model.specs.Controller.{lose, undoing}
+use Rattle.lego_model.specs.History.{lost_of}
 use Rattle.lego_model.specs.Places.{Place, switch_undone, undone_places}
 use Rattle.outside.specs.Seen.{Seen}
 use Rattle.outside.specs.State.{State, state, switch_of}
 use Rattle.outside.specs.Conforming.{Conforming}
+use Rattle.outside.specs.laws.StateLaws.{Conforming-before}
+use Rattle.net_txn.specs.declared.ports.KnownPorts.{KnownPorts}
 use Rattle.net_txn.specs.Views.{rows_at, is_viewed}
 use Rattle.net_txn.specs.Net.{NetState}
 use Rattle.net_txn.specs.Agreement.{Agrees}
-use Rattle.net_txn.specs.Undos.{keys_of, Undoes}
-use Rattle.switch_laws.specs.Shown.{flags_at, shown_switch, places, shown_places}
-use Rattle.switch_laws.specs.laws.StandLaws.{table-serialed}
-use Rattle.switch_laws.specs.Since.{Ready, logged_since, JoinedSince, Since}
+use Rattle.net_txn.specs.Losing.{lose_all, is_among}
+use Rattle.net_txn.specs.Undos.{parts_of, is_stuck, lost_parts, keys_of, Undoes}
+use Rattle.net_txn.specs.laws.LostPartLaws.{free-among, lost-distinct}
+use Rattle.switch_laws.specs.Lost.{UndoShown}
+use Rattle.switch_laws.specs.Shown.{rows_or_none, flags_in, flags_at, shown_switch, places, shown_places}
+use Rattle.switch_laws.specs.Since.{ports_known, Ready, logged_since, JoinedSince, Since}
+use Rattle.switch_laws.specs.laws.ClockLaws.{switch-in_time}
+use Rattle.switch_laws.specs.laws.LossLaws.{lose_all-views, lose_all-rows, lose_all-rows_gone, lose_all-known, lose_all-known_gone, ports_lost, lose_all-left, ports_lost-same, known-owned, out_all, lost_events, out_all-stays, out_all-gone, Losable, events-lost, lose-shown, Stays, leavers-lost, ready-joined, joined-stays}
+use Rattle.switch_laws.specs.laws.StandLaws.{table-serialed, all-stand}
 
 -- ---- A restored table, with the flags of the owners
 
@@ -91,55 +100,172 @@ unviewed d views s agrees out = unviewed-rows d views (no_map (rows_at d views) 
     no_map None h = refl
     no_map (Some rows) h = absurd cc
 
+-- ---- Switches of which some are out
+
+undone-out : (o : Option SwitchState) → switch_undone o None ≡ None
+undone-out None = refl
+undone-out (Some s) = refl
+
+undone-there : (o : Option SwitchState) (x : SwitchState) → Stays (switch_undone o (Some x))
+undone-there None x = record { switch = x; stands = refl }
+undone-there (Some s) x = record { switch = record s { table = undone s.table x.table x.moment }; stands = refl }
+
+no_switch : (x : SwitchState) → None ≡ Some x → ⊥
+no_switch x h = cc
+
+one_switch : (a b : SwitchState) → Some a ≡ Some b → a ≡ b
+one_switch a b h = cc
+
 -- ---- The whole
 
-module _ {Own : Type 0} (Tells : Type 0) (start : ℕ) (first old new : Seen Own) (net0 net now_net : NetState) where
-  -- how a switch stands again
-  pub again : Tells → Conforming new → Since start first old net0 net → Ready old net → Undoes Tells start old new net now_net (Ok tt) → (d : ℕ) (s0 : SwitchState) → switch_of d (state first) ≡ Some s0 → (j : JoinedSince (keys_of d (logged_since start net)) s0 (switch_of d (state old)))
-      → switch_of d (state new) ≡ Some (record s0 { table = undone s0.table j.switch.table j.switch.moment })
-  again told keeps since ready undoes d s0 is j =
-      let stands = undoes.restored d j.switch s0.table told keeps (viewed d net.views (state old) j.switch (ready.agrees d) j.stands) (undoes.none_failed refl d) j.stands (ready.waits d)
+module _ {Own : Type 0} (Tells : Type 0) (start : ℕ) (lost : List ℕ) (first old new : Seen Own) (net0 net now_net : NetState) where
+  -- how a switch stands again that is lost neither in the transaction nor in the undo
+  pub again : Tells → Conforming new → Ready old net → (u : Undoes Tells start old new net now_net (Ok tt)) → (d : ℕ) (s0 : SwitchState) → switch_of d (state first) ≡ Some s0 → is_stuck (parts_of d u.parts) ≡ false
+      → (j : JoinedSince (keys_of d (logged_since start net)) s0 (switch_of d (state old))) → switch_of d (state new) ≡ Some (record s0 { table = undone s0.table j.switch.table j.switch.moment })
+  again told keeps ready u d s0 is free j =
+      let stands = u.restored d j.switch s0.table told keeps (viewed d net.views (state old) j.switch (ready.agrees d) j.stands) free j.stands (ready.waits d)
       (table-serialed first d s0 is).table (table-serialed old d j.switch j.stands) j.since.added in
       stands.switch ∙ ap (λ (x : SwitchState). Some (record x { table = undone s0.table j.switch.table j.switch.moment })) j.since.rest
 
-  -- a switch that was out stays out
-  pub out-again : Tells → Since start first old net0 net → Ready old net → Undoes Tells start old new net now_net (Ok tt) → (d : ℕ) → switch_of d (state first) ≡ None → switch_of d (state new) ≡ None
-  out-again told since ready undoes d is =
-      let out : switch_of d (state old) ≡ None = since.out d is in
-      (undoes.others d told (unviewed d net.views (state old) (ready.agrees d) out)).0 ∙ out
+  -- a switch that is out stays out
+  pub out-again : Tells → Ready old net → Undoes Tells start old new net now_net (Ok tt) → (d : ℕ) → switch_of d (state old) ≡ None → switch_of d (state new) ≡ None
+  out-again told ready u d out = (u.others d told (unviewed d net.views (state old) (ready.agrees d) out)).0 ∙ out
 
-  -- which views stand again
-  views-again : Since start first old net0 net → Undoes Tells start old new net now_net (Ok tt) → now_net.views ≡ net0.views
-  views-again since undoes = undoes.views ∙ since.views
+  -- what stands where the tables are given back and none is lost
+  abbrev pub given_back : ℕ → Option SwitchState
+  given_back d = switch_undone (shown_switch net0.views (state first) d) (shown_switch net.views (state old) d)
 
-  shown-again : Tells → Conforming new → Since start first old net0 net → Ready old net → Undoes Tells start old new net now_net (Ok tt) → (d : ℕ) (o : Option SwitchState) → switch_of d (state first) ≡ o
-      → switch_undone (shown_switch net0.views (state first) d) (shown_switch net.views (state old) d) ≡ shown_switch now_net.views (state new) d
-  shown-again told keeps since ready undoes d None is =
-      let out : switch_of d (state old) ≡ None = since.out d is in
-      let still : switch_of d (state new) ≡ None = out-again told since ready undoes d is in
-      ap₂ (λ (a b : Option SwitchState). switch_undone (option_map (owned_switch (flags_at d net0.views)) a) (option_map (owned_switch (flags_at d net.views)) b)) is out
-      ∙ sym (ap (option_map (owned_switch (flags_at d now_net.views))) still)
-  shown-again told keeps since ready undoes d (Some s0) is =
-      let j = since.joined d s0 is in
-      let stands = again told keeps since ready undoes d s0 is j in
+  -- where it is out
+  back-out : (d : ℕ) → switch_of d (state old) ≡ None → given_back d ≡ None
+  back-out d out =
+      ap (λ (o : Option SwitchState). switch_undone (shown_switch net0.views (state first) d) (option_map (owned_switch (flags_at d net.views)) o)) out ∙ undone-out (shown_switch net0.views (state first) d)
+
+  -- where it is joined
+  back-there : (d : ℕ) (s0 : SwitchState) → switch_of d (state first) ≡ Some s0 → (j : JoinedSince (keys_of d (logged_since start net)) s0 (switch_of d (state old)))
+      → given_back d ≡ Some (owned_switch (flags_at d net0.views) (record s0 { table = undone s0.table j.switch.table j.switch.moment }))
+  back-there d s0 is j =
       let f : Key → ℕ = flags_at d net0.views in
       let g : Key → ℕ = flags_at d net.views in
       ap₂ (λ (a b : Option SwitchState). switch_undone (option_map (owned_switch f) a) (option_map (owned_switch g) b)) is j.stands
       ∙ ap (λ (t : TableState). Some (record s0 { table = t })) (undone-owned f g s0.table j.switch.table j.switch.moment)
-      ∙ sym (ap₂ (λ (h : Key → ℕ) (o : Option SwitchState). option_map (owned_switch h) o) (ap (flags_at d) (views-again since undoes)) stands)
 
-  -- The switches then are the earlier ones with their tables given back.
-  pub undo-shown : Tells → Conforming new → Since start first old net0 net → Ready old net → Undoes Tells start old new net now_net (Ok tt) → (declared : List Declared)
-      → shown_places declared now_net.views (state new) ≡ undone_places (shown_places declared net0.views (state first)) (shown_places declared net.views (state old))
-  unfolding shown_places
-  undo-shown told keeps since ready undoes declared =
-      sym (undone-all (shown_switch net0.views (state first)) (shown_switch net.views (state old)) declared
-      ∙ places-same (λ d. switch_undone (shown_switch net0.views (state first) d) (shown_switch net.views (state old) d)) (shown_switch now_net.views (state new))
-      (λ d. shown-again told keeps since ready undoes d (switch_of d (state first)) refl) declared)
+  -- the views, too
+  views-again : Since start lost first old net0 net → (u : Undoes Tells start old new net now_net (Ok tt)) → now_net.views ≡ (lose_all (lost_parts u.parts) (lose_all lost net0)).views
+  views-again since u = ap (λ (n : NetState). n.views) u.net_so ∙ lose_all-views (lost_parts u.parts) _ (lose_all lost net0) since.views
+
+  flags-again : Since start lost first old net0 net → (u : Undoes Tells start old new net now_net (Ok tt)) → (d : ℕ) → is_among d lost ≡ false → is_among d (lost_parts u.parts) ≡ false → flags_at d now_net.views ≡ flags_at d net0.views
+  flags-again since u d stays_there stays_here =
+      ap (λ (o : Option (List ViewRow)). flags_in (rows_or_none o))
+      (ap (rows_at d) (views-again since u) ∙ lose_all-rows (lost_parts u.parts) d (lose_all lost net0) stays_here ∙ lose_all-rows lost d net0 stays_there)
+
+  -- a switch that is not lost in the undo
+  shown-again : Tells → Conforming new → Since start lost first old net0 net → Ready old net → (u : Undoes Tells start old new net now_net (Ok tt)) → (d : ℕ) → is_among d (lost_parts u.parts) ≡ false
+      → (o : Option SwitchState) → switch_of d (state first) ≡ o → (gone : Bool) → is_among d lost ≡ gone → given_back d ≡ shown_switch now_net.views (state new) d
+  shown-again told keeps since ready u d here None is gone lost_so =
+      let out : switch_of d (state old) ≡ None = since.out d is in
+      back-out d out ∙ sym (ap (option_map (owned_switch (flags_at d now_net.views))) (out-again told ready u d out))
+  shown-again told keeps since ready u d here (Some s0) is true lost_so =
+      let out : switch_of d (state old) ≡ None = since.lost_out d lost_so in
+      back-out d out ∙ sym (ap (option_map (owned_switch (flags_at d now_net.views))) (out-again told ready u d out))
+  shown-again told keeps since ready u d here (Some s0) is false lost_so =
+      let j = since.joined d s0 lost_so is in
+      let stands = again told keeps ready u d s0 is (u.none_failed refl d ∙ here) j in
+      back-there d s0 is j
+      ∙ sym (ap₂ (λ (h : Key → ℕ) (o : Option SwitchState). option_map (owned_switch h) o) (flags-again since u d lost_so here) stands)
+
+  -- a switch given back is the one that was joined before the undo
+  back-numbered : Conforming old → Since start lost first old net0 net → (d : ℕ) (s : SwitchState) → given_back d ≡ Some s → (o : Option SwitchState) → switch_of d (state first) ≡ o → (gone : Bool) → is_among d lost ≡ gone → s.declared.dpid ≡ d
+  back-numbered keeps since d s here None is gone lost_so = absurd (no_switch s (sym (back-out d (since.out d is)) ∙ here))
+  back-numbered keeps since d s here (Some s0) is true lost_so = absurd (no_switch s (sym (back-out d (since.lost_out d lost_so)) ∙ here))
+  back-numbered keeps since d s here (Some s0) is false lost_so =
+      let j = since.joined d s0 lost_so is in
+      ap (λ (x : SwitchState). x.declared.dpid) (sym (one_switch _ s (sym (back-there d s0 is j) ∙ here)))
+      ∙ sym (ap (λ (x : SwitchState). x.declared.dpid) j.since.rest)
+      ∙ (switch-in_time old keeps d j.switch j.stands).number
+
+  back-known : Since start lost first old net0 net → (d : ℕ) → (o : Option SwitchState) → switch_of d (state first) ≡ o → (gone : Bool) → is_among d lost ≡ gone → ports_known d (switch_of d (state old)) ≡ ports_known d (given_back d)
+  back-known since d None is gone lost_so = let out = since.out d is in ap (ports_known d) out ∙ sym (ap (ports_known d) (back-out d out))
+  back-known since d (Some s0) is true lost_so = let out = since.lost_out d lost_so in ap (ports_known d) out ∙ sym (ap (ports_known d) (back-out d out))
+  back-known since d (Some s0) is false lost_so =
+      let j = since.joined d s0 lost_so is in
+      ap (ports_known d) j.stands ∙ ap (λ (x : SwitchState). ports_known d (Some x)) j.since.rest ∙ sym (ap (ports_known d) (back-there d s0 is j))
+
+  back-losable : Conforming old → Since start lost first old net0 net → Ready old net → Losable old.given.declared given_back net.ports
+  back-losable keeps since ready = record {
+    undeclared = λ d none. back-out d ((all-stand old).undeclared d none);
+    numbered = λ d s here. back-numbered keeps since d s here (switch_of d (state first)) refl (is_among d lost) refl;
+    known = λ d. ready.known d ∙ back-known since d (switch_of d (state first)) refl (is_among d lost) refl;
+  }
+
+  -- a switch that is lost in the undo was joined
+  lost-there : Ready old net → (u : Undoes Tells start old new net now_net (Ok tt)) → (d : ℕ) → is_among d (lost_parts u.parts) ≡ true → Stays (given_back d)
+  lost-there ready u d among =
+      elim (cases_Bool (is_viewed d net.views)) [
+        | inl there ↦
+            let x = joined-stays (switch_of d (state old)) (ready-joined old net ready d there) in
+            subst (λ (o : Option SwitchState). Stays (switch_undone (shown_switch net0.views (state first) d) (option_map (owned_switch (flags_at d net.views)) o))) (sym x.stands)
+            (undone-there (shown_switch net0.views (state first) d) (owned_switch (flags_at d net.views) x.switch))
+        | inr never ↦
+            let none = (u.each d).unknown never in
+            absurd (true≢false (sym among ∙ free-among old.counts new.counts d u.parts (u.each d).run (ap is_stuck none)))
+      ]
+
+  -- how each switch stands then
+  shown-then : Tells → Conforming new → Since start lost first old net0 net → Ready old net → (u : Undoes Tells start old new net now_net (Ok tt)) → (d : ℕ) → out_all (lost_parts u.parts) given_back d ≡ shown_switch now_net.views (state new) d
+  shown-then told keeps since ready u d =
+      elim (cases_Bool (is_among d (lost_parts u.parts))) [
+        | inl gone ↦
+            out_all-gone (lost_parts u.parts) given_back d gone
+            ∙ sym (ap (option_map (owned_switch (flags_at d now_net.views))) (u.lost_out d told (ready-joined old net ready) gone).0)
+        | inr here ↦
+            out_all-stays (lost_parts u.parts) given_back d here
+            ∙ shown-again told keeps since ready u d here (switch_of d (state first)) refl (is_among d lost) refl
+      ]
+
+  -- The switches then are the earlier ones with their tables given back, without those that were lost.
+  pub undo-shown : Tells → Conforming new → Since start lost first old net0 net → Ready old net → (u : Undoes Tells start old new net now_net (Ok tt)) → UndoShown old.given.declared (lost_parts u.parts) first old new net0 net now_net
+  unfolding undoing shown_places
+  undo-shown told keeps since ready u =
+      let declared : List Declared = old.given.declared in
+      let ds : List ℕ = lost_parts u.parts in
+      let before = Conforming-before told u.continues keeps in
+      let can = back-losable before since ready in
+      let leavers_so = leavers-lost declared ds given_back net.ports can (lost-distinct old.counts new.counts u.parts (λ d. (u.each d).run)) (lost-there ready u) in
+      record {
+        left = lost_events ds given_back;
+        leaves = record {
+          gone = ports_lost ds net;
+          left_so = ap (λ (n : NetState). n.left) u.net_so ∙ lose_all-left ds _ ∙ ap (λ (ks : List KnownPorts). net.left ++ ks) (ports_lost-same ds _ net refl);
+          events_so = events-lost declared ds given_back net can;
+          lost_so = u.losses told (ready-joined old net ready) ∙ ap (λ (es : List ℕ). lost_of old ++ es) (sym leavers_so);
+        };
+        leavers_so = leavers_so;
+        undoing_so = ap (λ (ps : List Place). fold lose (ps, []) ds) (undone-all (shown_switch net0.views (state first)) (shown_switch net.views (state old)) declared)
+            ∙ lose-shown declared before.declared ds given_back net.ports [] can
+            ∙ ap (λ (ps : List Place). (ps, lost_events ds given_back)) (places-same (out_all ds given_back) (shown_switch now_net.views (state new)) (shown-then told keeps since ready u) declared);
+      }
 
   -- and all is ready again
-  pub undo-ready : Tells → Conforming new → Ready old net → Undoes Tells start old new net now_net (Ok tt) → Ready new now_net
-  undo-ready told keeps ready undoes = record {
-    waits = λ d. (undoes.agrees d told keeps (undoes.none_failed refl d) (ready.waits d) (ready.agrees d)).waits;
-    agrees = λ d. (undoes.agrees d told keeps (undoes.none_failed refl d) (ready.waits d) (ready.agrees d)).agrees;
+  pub undo-ready : Tells → Conforming new → Since start lost first old net0 net → Ready old net → Undoes Tells start old new net now_net (Ok tt) → Ready new now_net
+  undo-ready told keeps since ready u = record {
+    waits = λ d. elim (cases_Bool (is_among d (lost_parts u.parts))) [
+      | inl gone ↦ (u.lost_out d told (ready-joined old net ready) gone).1
+      | inr here ↦ (u.agrees d told keeps (u.none_failed refl d ∙ here) (ready.waits d) (ready.agrees d)).waits
+    ];
+    agrees = λ d. elim (cases_Bool (is_among d (lost_parts u.parts))) [
+      | inl gone ↦
+          ap (option_map rows_of_view) (ap (rows_at d) (views-again since u) ∙ lose_all-rows_gone (lost_parts u.parts) d (lose_all lost net0) gone)
+          ∙ sym (ap (option_map (λ x. rows_of_table x.table.entries)) (u.lost_out d told (ready-joined old net ready) gone).0)
+      | inr here ↦ (u.agrees d told keeps (u.none_failed refl d ∙ here) (ready.waits d) (ready.agrees d)).agrees
+    ];
+    known = λ d. ap (λ (n : NetState). filter (λ k. k.dpid == d) n.ports) u.net_so ∙ elim (cases_Bool (is_among d (lost_parts u.parts))) [
+      | inl gone ↦
+          lose_all-known_gone (lost_parts u.parts) d _ gone ∙ sym (ap (ports_known d) (u.lost_out d told (ready-joined old net ready) gone).0)
+      | inr here ↦
+          lose_all-known (lost_parts u.parts) d _ here
+          ∙ ready.known d
+          ∙ back-known since d (switch_of d (state first)) refl (is_among d lost) refl
+          ∙ ap (ports_known d) (shown-again told keeps since ready u d here (switch_of d (state first)) refl (is_among d lost) refl)
+          ∙ known-owned d (flags_at d now_net.views) (switch_of d (state new))
+    ];
   }

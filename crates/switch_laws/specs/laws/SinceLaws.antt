@@ -1,5 +1,6 @@
--- What follows about a transaction that is open: it stands so where it began, and each message that was answered keeps it so.
-use Rattle.std.proofs.Common.{◌≡◌, ◌≢◌, ◌==◌, ℕ, ◌≤◌, Bool, true, false, not, ◌&&◌, List, [], ◌∷◌, ◌++◌, length, drop, map, filter, Option, Some, None, Ok, refl, sym, ap, ◌∙◌, subst, inl, inr, arith, true≢false}
+-- What follows about a transaction that is open: it stands so where it began, and each message that was answered keeps it so, whether or not
+-- its switch was lost.
+use Rattle.std.proofs.Common.{◌≡◌, ◌≢◌, ◌==◌, ℕ, ◌≤◌, Bool, true, false, not, ◌&&◌, ◌||◌, List, [], ◌∷◌, ◌++◌, length, drop, map, filter, Option, Some, None, Ok, refl, sym, ap, ap₂, ◌∙◌, subst, append_assoc, inl, inr, arith, true≢false}
 use Rattle.std.proofs.lemmas.Bool.{cases_Bool, cases_eq, eqb-true, eq-eqb, ne_eqb}
 use Rattle.std.proofs.lemmas.List.{drop-append-le, map-append, length-append, append-nil}
 use Rattle.std.specs.List.{list_any}
@@ -21,6 +22,7 @@ use Rattle.undo_laws.specs.laws.RemovalLaws.{OnlyAdded-nothing, OnlyAdded-more}
 use Rattle.undo_laws.specs.laws.CorrectedLaws.{refusal-asked}
 use Rattle.app_frames.specs.declared.frame.Answer.{Answer}
 use Rattle.lego_model.specs.Answers.{rows_of_table, rows_of_view, would_touch, as_sent}
+use Rattle.lego_model.specs.History.{lost_of}
 use Rattle.lego_model.specs.Packets.{Held}
 use Rattle.outside.specs.Seen.{Seen}
 use Rattle.outside.specs.State.{state, switch_of, waits_of}
@@ -28,19 +30,24 @@ use Rattle.outside.specs.Conforming.{Conforming}
 use Rattle.lego_model.specs.declared.wait.Refusal.{Refusal}
 use Rattle.net_txn.specs.declared.logged.Logged.{Logged}
 use Rattle.net_txn.specs.Views.{rows_at, with_rows, with_row, row_in, rows_after}
+use Rattle.net_txn.specs.laws.LostPartLaws.{among-last}
 use Rattle.net_txn.specs.laws.ViewLaws.{with_rows-kept}
 use Rattle.net_txn.specs.laws.RowLaws.{sent, sent_adds, known_command}
 use Rattle.net_txn.specs.Net.{NetState, logged_at}
-use Rattle.net_txn.specs.Changes.{known_rows, answer_of_host, error_in, views_by, log_by, Asked, Changes}
-use Rattle.net_txn.specs.Agreement.{Agrees, InStep, Steps}
+use Rattle.net_txn.specs.declared.ports.KnownPorts.{KnownPorts}
+use Rattle.net_txn.specs.Answering.{known_rows}
+use Rattle.net_txn.specs.Changes.{answer_of_host, error_in, views_by, log_by, Asked, ChangesJoined, Changes}
+use Rattle.net_txn.specs.Agreement.{Agrees, InStep}
+use Rattle.net_txn.specs.Losing.{lost_net, lose_all, GoesOut, is_among}
 use Rattle.net_txn.specs.Undos.{key_logged, without_keys, keys_of}
 use Rattle.switch_laws.specs.Shown.{Passes, has_row, Known}
 use Rattle.switch_laws.specs.laws.ShownChangeLaws.{asks_the_same}
 use Rattle.switch_laws.specs.laws.AskedLaws.{asked}
 use Rattle.switch_laws.specs.laws.ViewLaws.{without-added}
+use Rattle.switch_laws.specs.laws.LossLaws.{without_keys-lost, lose_all-append, losses-on, ready-joined, joined-stays, lost-ready}
 use Rattle.switch_laws.specs.laws.AbsentLaws.{absent-entry, absent-row, any-map, neither}
 use Rattle.switch_laws.specs.laws.ShownExchangeLaws.{known, judged}
-use Rattle.switch_laws.specs.Since.{Ready, logged_since, SwitchSince, JoinedSince, Since, Goes, keys_by}
+use Rattle.switch_laws.specs.Since.{ports_known, Ready, logged_since, SwitchSince, JoinedSince, Since, Goes, GoesOn, keys_by}
 
 -- ---- Where it begins
 
@@ -51,7 +58,7 @@ nothing_behind (x ∷ xs) = nothing_behind xs
 begun-switch : (s : SwitchState) → SwitchSince [] s s
 begun-switch s = record { rest = refl; added = OnlyAdded-nothing s.table.entries }
 
-pub begun : {Own : Type 0} (seen : Seen Own) (net : NetState) → Since (length net.log) seen seen net net
+pub begun : {Own : Type 0} (seen : Seen Own) (net : NetState) → Since (length net.log) [] seen seen net net
 begun seen net =
     let none : logged_since (length net.log) net ≡ [] = ap (map key_logged) (nothing_behind net.log) in
     record {
@@ -60,7 +67,9 @@ begun seen net =
       moment = refl;
       kept = refl;
       views = ap (λ (ps : List (ℕ × Key)). without_keys ps net.views) none;
-      joined = λ d s is. record { switch = s; stands = is; since = subst (λ (ps : List (ℕ × Key)). SwitchSince (keys_of d ps) s s) (sym none) (begun-switch s) };
+      losses = sym (append-nil (lost_of seen));
+      joined = λ d s stays is. record { switch = s; stands = is; since = subst (λ (ps : List (ℕ × Key)). SwitchSince (keys_of d ps) s s) (sym none) (begun-switch s) };
+      lost_out = λ d is. absurd (true≢false (sym is));
       out = λ d is. is;
     }
 
@@ -206,7 +215,7 @@ switch_then m keys before s (Some r) p refused since =
 one_value : {X : Type 0} (x y : X) → Some x ≡ Some y → x ≡ y
 one_value x y h = cc
 
-module _ {Own : Type 0} (Tells : Type 0) (d start : ℕ) (first old new : Seen Own) (net0 net now_net : NetState) (m : Change) (given : Answer) where
+module _ {Own : Type 0} (Tells : Type 0) (d start : ℕ) (lost : List ℕ) (first old new : Seen Own) (net0 net now_net : NetState) (m : Change) (given : Answer) where
   rows-same : (k : Known d m net.views (state old)) → Agrees d net.views (state old) → rows_of_view k.rows ≡ rows_of_table k.switch.table.entries
   rows-same k agrees =
       one_value (rows_of_view k.rows) (rows_of_table k.switch.table.entries)
@@ -221,13 +230,13 @@ module _ {Own : Type 0} (Tells : Type 0) (d start : ℕ) (first old new : Seen O
       absent-row k.switch.declared.cap m k.switch.table.entries k.rows (rows-same k agrees) k.passes other
       (sym (refusal-asked k.switch.declared.cap (sent m) m k.switch.table.entries (asks_the_same m)) ∙ table_refusal _ _ none)
 
-  joined-then : (k : Known d m net.views (state old)) → Since start first old net0 net → Asked Tells d m old new net now_net given → InStep d (as_sent (FlowMod m)) old new net now_net given → (refusal_of : Option Refusal)
-      → now_net.log ≡ log_by refusal_of d m net.log → error_in refusal_of ≡ message_refusal k.switch (as_sent (FlowMod m)) → (e : ℕ) (s : SwitchState) → switch_of e (state first) ≡ Some s
+  joined-then : (k : Known d m net.views (state old)) → Since start lost first old net0 net → Asked Tells d m old new net now_net given → InStep d (as_sent (FlowMod m)) old new net now_net given → (refusal_of : Option Refusal)
+      → now_net.log ≡ log_by refusal_of d m net.log → error_in refusal_of ≡ message_refusal k.switch (as_sent (FlowMod m)) → (e : ℕ) (s : SwitchState) → is_among e lost ≡ false → switch_of e (state first) ≡ Some s
       → JoinedSince (keys_of e (logged_since start now_net)) s (switch_of e (state new))
-  joined-then k since asks step refusal_of log_so refused e s is =
+  joined-then k since asks step refusal_of log_so refused e s stays_in is =
       elim (cases_eq e d) [
         | inl same ↦
-            let j = since.joined d s (ap (λ (n : ℕ). switch_of n (state first)) (sym same) ∙ is) in
+            let j = since.joined d s (ap (λ (n : ℕ). is_among n lost) (sym same) ∙ stays_in) (ap (λ (n : ℕ). switch_of n (state first)) (sym same) ∙ is) in
             let this : j.switch ≡ k.switch = one_value j.switch k.switch (sym j.stands ∙ k.switch_is) in
             let keys : keys_of d (logged_since start now_net) ≡ keys_of d (logged_since start net) ++ keys_then refusal_of m =
             ap (λ (log : List Logged). keys_of d (map key_logged (drop start log))) log_so ∙ logged_here start d m net.log refusal_of since.started in
@@ -239,7 +248,7 @@ module _ {Own : Type 0} (Tells : Type 0) (d start : ℕ) (first old new : Seen O
               since = subst (λ (ks : List Key). SwitchSince ks s (after_message (as_sent (FlowMod m)) k.switch)) (sym keys) after;
             })
         | inr other ↦
-            let j = since.joined e s is in
+            let j = since.joined e s stays_in is in
             let keys : keys_of e (logged_since start now_net) ≡ keys_of e (logged_since start net) =
             ap (λ (log : List Logged). keys_of e (map key_logged (drop start log))) log_so ∙ logged_elsewhere start d e m net.log refusal_of other since.started in
             record {
@@ -249,19 +258,20 @@ module _ {Own : Type 0} (Tells : Type 0) (d start : ℕ) (first old new : Seen O
             }
       ]
 
-  out-then : Since start first old net0 net → InStep d (as_sent (FlowMod m)) old new net now_net given → (e : ℕ) → switch_of e (state first) ≡ None → switch_of e (state new) ≡ None
-  out-then since step e none =
+  -- a switch that was out stays out
+  still-out : InStep d (as_sent (FlowMod m)) old new net now_net given → (e : ℕ) → switch_of e (state old) ≡ None → switch_of e (state new) ≡ None
+  still-out step e none =
       elim (cases_eq e d) [
         | inl same ↦
-            let before : switch_of d (state old) ≡ None = since.out d (ap (λ (n : ℕ). switch_of n (state first)) (sym same) ∙ none) in
+            let before : switch_of d (state old) ≡ None = ap (λ (n : ℕ). switch_of n (state old)) (sym same) ∙ none in
             ap (λ (n : ℕ). switch_of n (state new)) same ∙ step.moved ∙ ap (option_map (after_message (as_sent (FlowMod m)))) before
-        | inr other ↦ step.others e other ∙ since.out e none
+        | inr other ↦ step.others e other ∙ none
       ]
 
   -- A message that the switch judged keeps the transaction so.
-  since-asked : (k : Known d m net.views (state old)) → Since start first old net0 net → Agrees d net.views (state old) → new.given ≡ old.given → now_net.moment ≡ net.moment → Asked Tells d m old new net now_net given
-      → InStep d (as_sent (FlowMod m)) old new net now_net given → Since start first new net0 now_net
-  since-asked k since agrees given_so moment_so asks step =
+  since-asked : (k : Known d m net.views (state old)) → Since start lost first old net0 net → Agrees d net.views (state old) → new.given ≡ old.given → now_net.moment ≡ net.moment → lost_of new ≡ lost_of old
+      → Asked Tells d m old new net now_net given → InStep d (as_sent (FlowMod m)) old new net now_net given → Since start lost first new net0 now_net
+  since-asked k since agrees given_so moment_so lost_so asks step =
       let refused = judged Tells d old new net now_net m given k asks step asks.refusal asks.views asks.answer_so in
       record {
         started = subst (λ (log : List Logged). start ≤ length log) (sym asks.log) (longer start d m net.log asks.refusal since.started);
@@ -269,14 +279,24 @@ module _ {Own : Type 0} (Tells : Type 0) (d start : ℕ) (first old new : Seen O
         moment = moment_so ∙ since.moment;
         kept = step.kept ∙ since.kept;
         views = rw (asks.log, asks.views) (views_then start d m net.log asks.refusal k.rows net.views since.started k.rows_are (new-row k agrees asks.refusal refused)) ∙ since.views;
+        losses = lost_so ∙ since.losses;
         joined = joined-then k since asks step asks.refusal asks.log refused;
-        out = out-then since step;
+        lost_out = λ e is. still-out step e (since.lost_out e is);
+        out = λ e is. still-out step e (since.out e is);
       }
 
--- ---- The whole
+-- ---- Ready again
 
-ready-asked : {Own : Type 0} (d : ℕ) (m : Change) (old new : Seen Own) (net now_net : NetState) (given : Answer) → Ready old net → InStep d (as_sent (FlowMod m)) old new net now_net given → Ready new now_net
-ready-asked d m old new net now_net given ready step = record {
+option-same : (d : ℕ) (m : Change) (o : Option SwitchState) → ports_known d (option_map (after_message (as_sent (FlowMod m))) o) ≡ ports_known d o
+option-same d m None = refl
+option-same d m (Some s) = by (message_refusal s (as_sent (FlowMod m))) refl
+  where
+    by : (r : Option OfError) → message_refusal s (as_sent (FlowMod m)) ≡ r → ports_known d (Some (after_message (as_sent (FlowMod m)) s)) ≡ ports_known d (Some s)
+    by None none = ap (λ (x : SwitchState). ports_known d (Some x)) (takes m s none)
+    by (Some e) refused = ap (λ (x : SwitchState). ports_known d (Some x)) (stays m s e refused)
+
+ready-asked : {Own : Type 0} (d : ℕ) (m : Change) (old new : Seen Own) (net now_net : NetState) (given : Answer) → Ready old net → now_net.ports ≡ net.ports → InStep d (as_sent (FlowMod m)) old new net now_net given → Ready new now_net
+ready-asked d m old new net now_net given ready ports step = record {
   waits = λ e. elim (cases_eq e d) [
     | inl same ↦ ap (λ (n : ℕ). waits_of n (state new)) same ∙ step.waits
     | inr other ↦ step.others_wait e other ∙ ready.waits e
@@ -285,33 +305,109 @@ ready-asked d m old new net now_net given ready step = record {
     | inl same ↦ subst (λ (n : ℕ). Agrees n now_net.views (state new)) (sym same) step.agrees
     | inr other ↦ step.others_agree e other (ready.agrees e)
   ];
+  known = λ e. ap (λ (ks : List KnownPorts). filter (λ k. k.dpid == e) ks) ports ∙ ready.known e ∙ elim (cases_eq e d) [
+    | inl same ↦ subst (λ (n : ℕ). ports_known n (switch_of n (state old)) ≡ ports_known n (switch_of n (state new))) (sym same)
+        (sym (ap (ports_known d) step.moved ∙ option-same d m (switch_of d (state old))))
+    | inr other ↦ sym (ap (ports_known e) (step.others e other))
+  ];
 }
 
 -- what is held is no matter
-goes-held : {Own : Type 0} (start : ℕ) (first now : Seen Own) (net0 net : NetState) (held : List Held) → Goes start first now net0 net → Goes start first now net0 (record net { held = held })
-goes-held start first now net0 net held goes =
+goes-held : {Own : Type 0} (start : ℕ) (lost : List ℕ) (first now : Seen Own) (net0 net : NetState) (held : List Held) → Goes start lost first now net0 net → Goes start lost first now net0 (record net { held = held })
+goes-held start lost first now net0 net held goes =
     let s = goes.since in
     record {
-      since = record { started = s.started; given = s.given; moment = s.moment; kept = s.kept; views = s.views; joined = s.joined; out = s.out };
-      ready = record { waits = goes.ready.waits; agrees = goes.ready.agrees };
+      since = record { started = s.started; given = s.given; moment = s.moment; kept = s.kept; views = s.views; losses = s.losses; joined = s.joined; lost_out = s.lost_out; out = s.out };
+      ready = record { waits = goes.ready.waits; agrees = goes.ready.agrees; known = goes.ready.known };
     }
 
-goes-by : {Own : Type 0} (Tells : Type 0) (d : ℕ) (bytes : List ℕ) (start : ℕ) (first old new : Seen Own) (net0 net now_net : NetState) (given : Answer) → Tells → Conforming new → Changes Tells d bytes old new net now_net (Ok given)
-    → Steps Tells d bytes old new net now_net (Ok given) → Goes start first old net0 net → (o : Option Answer) → answer_of_host d bytes net ≡ o → Goes start first new net0 now_net
-goes-by Tells d bytes start first old new net0 net now_net given told keeps changes steps goes (Some a) host =
-    let by = changes.by_host a host in
-    subst (λ (n : NetState). Goes start first new net0 n) (sym by.stays) (goes-held start first new net0 net _ (subst (λ (w : Seen _). Goes start first w net0 net) (sym by.world) goes))
-goes-by Tells d bytes start first old new net0 net now_net given told keeps changes steps goes None host =
-    let read = asked (known_rows d net.views) bytes host in
-    let k = known d bytes read.change read.xid net (state old) (goes.ready.agrees d) host read.read in
-    let asks = changes.by_switch read.xid read.change host read.read in
-    let step = steps read.xid read.change told host read.read keeps (goes.ready.waits d) (goes.ready.agrees d) in
-    record {
-      since = since-asked Tells d start first old new net0 net now_net read.change given k goes.since (goes.ready.agrees d) changes.continues.given changes.moment asks step;
-      ready = ready-asked d read.change old new net now_net given goes.ready step;
-    }
+-- ---- One message whose switch was not lost
 
-pub goes-on : {Own : Type 0} (Tells : Type 0) (d : ℕ) (bytes : List ℕ) (start : ℕ) (first old new : Seen Own) (net0 net now_net : NetState) (given : Answer) → Tells → Conforming new → Changes Tells d bytes old new net now_net (Ok given)
-    → Steps Tells d bytes old new net now_net (Ok given) → Goes start first old net0 net → Goes start first new net0 now_net
-goes-on Tells d bytes start first old new net0 net now_net given told keeps changes steps goes =
-    goes-by Tells d bytes start first old new net0 net now_net given told keeps changes steps goes (answer_of_host d bytes net) refl
+module _ {Own : Type 0} (Tells : Type 0) (d : ℕ) (bytes : List ℕ) (start : ℕ) (lost : List ℕ) (first old new : Seen Own) (net0 net now_net : NetState) (given : Answer) where
+  goes-by : Tells → Conforming new → new.given ≡ old.given → now_net.moment ≡ net.moment → ChangesJoined Tells d bytes old new net now_net (Ok given) → Goes start lost first old net0 net
+      → (o : Option Answer) → answer_of_host d bytes net ≡ o → Goes start lost first new net0 now_net
+  goes-by told keeps given_so moment_so changes goes (Some a) host =
+      let by = changes.by_host a host in
+      subst (λ (n : NetState). Goes start lost first new net0 n) (sym by.stays) (goes-held start lost first new net0 net _ (subst (λ (w : Seen _). Goes start lost first w net0 net) (sym by.world) goes))
+  goes-by told keeps given_so moment_so changes goes None host =
+      let read = asked (known_rows d net.views) bytes host in
+      let k = known d bytes read.change read.xid net (state old) (goes.ready.agrees d) host read.read in
+      let asks = changes.by_switch read.xid read.change host read.read in
+      let step = changes.in_step read.xid read.change told host read.read keeps (goes.ready.waits d) (goes.ready.agrees d) in
+      record {
+        since = since-asked Tells d start lost first old new net0 net now_net read.change given k goes.since (goes.ready.agrees d) given_so moment_so (changes.losses told) asks step;
+        ready = ready-asked d read.change old new net now_net given goes.ready changes.ports step;
+      }
+
+-- ---- One message whose switch was lost
+
+or_left : (a b : Bool) → (a || b) ≡ true → a ≡ false → b ≡ true
+or_left true b is none = absurd (true≢false none)
+or_left false b is none = is
+
+module _ {Own : Type 0} (d start : ℕ) (lost : List ℕ) (first old new : Seen Own) (net0 net now_net : NetState) (packets : List Held) (out : GoesOut d packets old new) (net_so : now_net ≡ record (lost_net d net) { xid = now_net.xid }) where
+  log-same : logged_since start now_net ≡ logged_since start net
+  log-same = ap (λ (n : NetState). logged_since start n) net_so
+
+  one-more : lose_all (lost ++ d ∷ []) net0 ≡ lost_net d (lose_all lost net0)
+  one-more = lose_all-append lost (d ∷ []) net0
+
+  joined-still : Since start lost first old net0 net → (e : ℕ) (s : SwitchState) → is_among e (lost ++ d ∷ []) ≡ false → switch_of e (state first) ≡ Some s → JoinedSince (keys_of e (logged_since start now_net)) s (switch_of e (state new))
+  joined-still since e s among is =
+      let n = neither (is_among e lost) (d == e) (sym (among-last e d lost) ∙ among) in
+      let j = since.joined e s n.0 is in
+      record {
+        switch = j.switch;
+        stands = out.others e (λ same. true≢false (sym (eq-eqb d e (sym same)) ∙ n.1)) ∙ j.stands;
+        since = subst (λ (ps : List (ℕ × Key)). SwitchSince (keys_of e ps) s j.switch) (sym log-same) j.since;
+      }
+
+  gone-out : (e : ℕ) → (e ≢ d → switch_of e (state old) ≡ None) → switch_of e (state new) ≡ None
+  gone-out e none = elim (cases_eq e d) [
+    | inl same ↦ ap (λ (n : ℕ). switch_of n (state new)) same ∙ out.out
+    | inr other ↦ out.others e other ∙ none other
+  ]
+
+  pub since-lost : Since start lost first old net0 net → new.given ≡ old.given → Since start (lost ++ d ∷ []) first new net0 now_net
+  since-lost since given_so = record {
+    started = subst (λ (log : List Logged). start ≤ length log) (sym (ap (λ (n : NetState). n.log) net_so)) since.started;
+    given = given_so ∙ since.given;
+    moment = ap (λ (n : NetState). n.moment) net_so ∙ since.moment;
+    kept = ap (λ (n : NetState). n.kept) net_so ∙ ap (λ (ms : List (ℕ × List ℕ)). filter (λ m. not (m.0 == d)) ms) since.kept ∙ sym (ap (λ (n : NetState). n.kept) one-more);
+    views = ap₂ (λ (ps : List (ℕ × Key)) (vs : List TableView). without_keys ps vs) log-same (ap (λ (n : NetState). n.views) net_so)
+        ∙ without_keys-lost d (logged_since start net) net.views
+        ∙ ap (λ (vs : List TableView). filter (λ v. not (v.dpid == d)) vs) since.views
+        ∙ sym (ap (λ (n : NetState). n.views) one-more);
+    losses = losses-on old new out.steps out.history ∙ ap₂ (λ (xs ys : List ℕ). xs ++ ys) since.losses out.lost ∙ append_assoc (lost_of first) lost (d ∷ []);
+    joined = joined-still since;
+    lost_out = λ e among. gone-out e (λ other. since.lost_out e (elim (cases_Bool (is_among e lost)) [
+      | inl before ↦ before
+      | inr never ↦ absurd (other (sym (eqb-true d e (or_left (is_among e lost) (d == e) (sym (among-last e d lost) ∙ among) never))))
+    ]));
+    out = λ e none. gone-out e (λ other. since.out e none);
+  }
+
+-- ---- The whole
+
+module _ {Own : Type 0} (Tells : Type 0) (d : ℕ) (bytes : List ℕ) (start : ℕ) (lost : List ℕ) (first old new : Seen Own) (net0 net now_net : NetState) (given : Answer) where
+  pub goes-on : Tells → Conforming new → Changes Tells d bytes old new net now_net (Ok given) → Goes start lost first old net0 net → GoesOn start lost first old new net0 now_net
+  goes-on told keeps changes goes = elim changes.answered [
+    | inl joined ↦ record {
+      more = [];
+      losses = joined.losses told ∙ sym (append-nil (lost_of old));
+      goes = subst (λ (ds : List ℕ). Goes start ds first new net0 now_net) (sym (append-nil lost))
+          (goes-by Tells d bytes start lost first old new net0 net now_net given told keeps changes.continues.given changes.moment joined goes (answer_of_host d bytes net) refl);
+    }
+    | inr gone ↦
+        let joined = ready-joined old net goes.ready d gone.2.viewed in
+        let there = joined-stays (switch_of d (state old)) joined in
+        let out = gone.2.is_lost.out told joined in
+        record {
+          more = d ∷ [];
+          losses = losses-on old new out.steps out.history ∙ ap (λ (ds : List ℕ). lost_of old ++ ds) out.lost;
+          goes = record {
+            since = since-lost d start lost first old new net0 net now_net [] out gone.2.net_so goes.since changes.continues.given;
+            ready = lost-ready d [] there.switch old new net now_net there.stands out gone.2.net_so goes.ready;
+          };
+        }
+  ]

@@ -1,5 +1,6 @@
--- What follows where all entries are sound: they stay so where a message was answered and where a transaction was undone.
-use Rattle.std.proofs.Common.{◌≡◌, ℕ, List, Option, Some, None, Ok, refl, sym, ap, ◌∙◌, subst, inl, inr}
+-- What follows where all entries are sound: they stay so where a message was answered, where a switch was lost, and where a transaction was
+-- undone.
+use Rattle.std.proofs.Common.{◌≡◌, ℕ, Bool, true, false, List, [], Option, Some, None, Ok, refl, sym, ap, ◌∙◌, subst, inl, inr}
 use Rattle.std.proofs.lemmas.Bool.{cases_eq}
 use Rattle.std.specs.Option.{option_map}
 use Rattle.of_wire.specs.declared.bodies.FlowMod.{FlowMod as Change}
@@ -9,21 +10,28 @@ use Rattle.flow_table.specs.Switch.{SwitchState}
 use Rattle.flow_table.specs.Step.{after_message}
 use Rattle.app_frames.specs.declared.frame.Answer.{Answer}
 use Rattle.lego_model.specs.Answers.{as_sent}
+use Rattle.lego_model.specs.Packets.{Held}
 use Rattle.outside.specs.Seen.{Seen}
 use Rattle.outside.specs.State.{state, switch_of}
 use Rattle.outside.specs.Conforming.{Conforming}
 use Rattle.net_txn.specs.Net.{NetState}
-use Rattle.net_txn.specs.Changes.{known_rows, answer_of_host, Changes}
-use Rattle.net_txn.specs.Agreement.{InStep, Steps}
-use Rattle.net_txn.specs.Undos.{Undoes}
+use Rattle.net_txn.specs.Answering.{known_rows}
+use Rattle.net_txn.specs.Changes.{answer_of_host, ChangesJoined, Changes}
+use Rattle.net_txn.specs.Agreement.{InStep}
+use Rattle.net_txn.specs.Losing.{GoesOut, is_among}
+use Rattle.net_txn.specs.Undos.{parts_of, is_stuck, Undoes}
 use Rattle.switch_laws.specs.laws.AskedLaws.{asked}
 use Rattle.switch_laws.specs.Since.{Ready, Since}
+use Rattle.switch_laws.specs.laws.LossLaws.{ready-joined}
 use Rattle.switch_laws.specs.laws.ShownUndoLaws.{again, out-again}
 use Rattle.switch_laws.specs.Sound.{AllSound, Sound}
 use Rattle.switch_laws.specs.laws.SoundLaws.{change-sound, undone-sound}
 
 one_switch : (a b : SwitchState) → Some a ≡ Some b → a ≡ b
 one_switch a b h = cc
+
+no_switch : (x : SwitchState) → None ≡ Some x → ⊥
+no_switch x h = cc
 
 moved-sound : (m : Change) (o : Option SwitchState) (x : SwitchState) → IsMessage (FlowMod m) → ((s : SwitchState) → o ≡ Some s → AllSound s.table.entries) → option_map (after_message (as_sent (FlowMod m))) o ≡ Some x → AllSound x.table.entries
 moved-sound m None x is all h = absurd cc
@@ -37,35 +45,46 @@ step-sound d m old new net now_net given is step all = record {
   ];
 }
 
-exchange-by-sound : {Own : Type 0} (Tells : Type 0) (d : ℕ) (bytes : List ℕ) (old new : Seen Own) (net now_net : NetState) (given : Answer) → Tells → Conforming new → Changes Tells d bytes old new net now_net (Ok given) → Steps Tells d bytes old new net now_net (Ok given)
-    → Ready old net → Sound (state old) → (o : Option Answer) → answer_of_host d bytes net ≡ o → Sound (state new)
-exchange-by-sound Tells d bytes old new net now_net given told keeps changes steps ready all (Some a) host =
-    subst (λ (w : Seen _). Sound (state w)) (sym (changes.by_host a host).world) all
-exchange-by-sound Tells d bytes old new net now_net given told keeps changes steps ready all None host =
-    let read = asked (known_rows d net.views) bytes host in
-    let asks = changes.by_switch read.xid read.change host read.read in
-    step-sound d read.change old new net now_net given asks.message (steps read.xid read.change told host read.read keeps (ready.waits d) (ready.agrees d)) all
-
-pub exchange-sound : {Own : Type 0} (Tells : Type 0) (d : ℕ) (bytes : List ℕ) (old new : Seen Own) (net now_net : NetState) (given : Answer) → Tells → Conforming new → Changes Tells d bytes old new net now_net (Ok given) → Steps Tells d bytes old new net now_net (Ok given)
-    → Ready old net → Sound (state old) → Sound (state new)
-exchange-sound Tells d bytes old new net now_net given told keeps changes steps ready all =
-    exchange-by-sound Tells d bytes old new net now_net given told keeps changes steps ready all (answer_of_host d bytes net) refl
-
-undo-by-sound : {Own : Type 0} (Tells : Type 0) (start : ℕ) (first old new : Seen Own) (net0 net now_net : NetState) → Tells → Conforming new → Since start first old net0 net → Ready old net → Undoes Tells start old new net now_net (Ok tt) → Sound (state first)
-    → (d : ℕ) (o : Option SwitchState) → switch_of d (state first) ≡ o → (x : SwitchState) → switch_of d (state new) ≡ Some x → AllSound x.table.entries
-undo-by-sound Tells start first old new net0 net now_net told keeps since ready undoes all d None is x here =
-    let still = out-again Tells start first old new net0 net now_net told since ready undoes d is in
-    absurd (no_switch x (sym still ∙ here))
-  where
-    no_switch : (y : SwitchState) → None ≡ Some y → ⊥
-    no_switch y h = cc
-undo-by-sound Tells start first old new net0 net now_net told keeps since ready undoes all d (Some s) is x here =
-    let j = since.joined d s is in
-    let stands = again Tells start first old new net0 net now_net told keeps since ready undoes d s is j in
-    subst (λ (y : SwitchState). AllSound y.table.entries) (one_switch _ x (sym stands ∙ here)) (undone-sound s.table j.switch.table j.switch.moment (all.entries d s is))
-
-pub undo-sound : {Own : Type 0} (Tells : Type 0) (start : ℕ) (first old new : Seen Own) (net0 net now_net : NetState) → Tells → Conforming new → Since start first old net0 net → Ready old net → Undoes Tells start old new net now_net (Ok tt) → Sound (state first)
-    → Sound (state new)
-undo-sound Tells start first old new net0 net now_net told keeps since ready undoes all = record {
-  entries = λ d x here. undo-by-sound Tells start first old new net0 net now_net told keeps since ready undoes all d (switch_of d (state first)) refl x here;
+-- switches of which one is lost
+pub lost-sound : {Own : Type 0} (d : ℕ) (packets : List Held) (old new : Seen Own) → GoesOut d packets old new → Sound (state old) → Sound (state new)
+lost-sound d packets old new out all = record {
+  entries = λ e x here. elim (cases_eq e d) [
+    | inl same ↦ absurd (no_switch x (sym out.out ∙ ap (λ (n : ℕ). switch_of n (state new)) (sym same) ∙ here))
+    | inr other ↦ all.entries e x (sym (out.others e other) ∙ here)
+  ];
 }
+
+module _ {Own : Type 0} (Tells : Type 0) (d : ℕ) (bytes : List ℕ) (old new : Seen Own) (net now_net : NetState) (given : Answer) where
+  joined-sound : Tells → Conforming new → ChangesJoined Tells d bytes old new net now_net (Ok given) → Ready old net → Sound (state old) → (o : Option Answer) → answer_of_host d bytes net ≡ o → Sound (state new)
+  joined-sound told keeps changes ready all (Some a) host = subst (λ (w : Seen _). Sound (state w)) (sym (changes.by_host a host).world) all
+  joined-sound told keeps changes ready all None host =
+      let read = asked (known_rows d net.views) bytes host in
+      let asks = changes.by_switch read.xid read.change host read.read in
+      step-sound d read.change old new net now_net given asks.message (changes.in_step read.xid read.change told host read.read keeps (ready.waits d) (ready.agrees d)) all
+
+  pub exchange-sound : Tells → Conforming new → Changes Tells d bytes old new net now_net (Ok given) → Ready old net → Sound (state old) → Sound (state new)
+  exchange-sound told keeps changes ready all = elim changes.answered [
+    | inl joined ↦ joined-sound told keeps joined ready all (answer_of_host d bytes net) refl
+    | inr lost ↦ lost-sound d [] old new (lost.2.is_lost.out told (ready-joined old net ready d lost.2.viewed)) all
+  ]
+
+module _ {Own : Type 0} (Tells : Type 0) (start : ℕ) (lost : List ℕ) (first old new : Seen Own) (net0 net now_net : NetState) where
+  -- a switch that was out before the undo
+  still-sound : Tells → Ready old net → Undoes Tells start old new net now_net (Ok tt) → (d : ℕ) → switch_of d (state old) ≡ None → (x : SwitchState) → switch_of d (state new) ≡ Some x → AllSound x.table.entries
+  still-sound told ready undoes d out x here = absurd (no_switch x (sym (out-again Tells start lost first old new net0 net now_net told ready undoes d out) ∙ here))
+
+  undo-by-sound : Tells → Conforming new → Since start lost first old net0 net → Ready old net → (u : Undoes Tells start old new net now_net (Ok tt)) → Sound (state first)
+      → (d : ℕ) (o : Option SwitchState) → switch_of d (state first) ≡ o → (gone left : Bool) → is_among d lost ≡ gone → is_stuck (parts_of d u.parts) ≡ left → (x : SwitchState) → switch_of d (state new) ≡ Some x → AllSound x.table.entries
+  undo-by-sound told keeps since ready u all d None is gone left lost_so left_so x here = still-sound told ready u d (since.out d is) x here
+  undo-by-sound told keeps since ready u all d (Some s) is true left lost_so left_so x here = still-sound told ready u d (since.lost_out d lost_so) x here
+  undo-by-sound told keeps since ready u all d (Some s) is false true lost_so left_so x here =
+      absurd (no_switch x (sym (u.lost_out d told (ready-joined old net ready) (sym (u.none_failed refl d) ∙ left_so)).0 ∙ here))
+  undo-by-sound told keeps since ready u all d (Some s) is false false lost_so left_so x here =
+      let j = since.joined d s lost_so is in
+      let stands = again Tells start lost first old new net0 net now_net told keeps ready u d s is left_so j in
+      subst (λ (y : SwitchState). AllSound y.table.entries) (one_switch _ x (sym stands ∙ here)) (undone-sound s.table j.switch.table j.switch.moment (all.entries d s is))
+
+  pub undo-sound : Tells → Conforming new → Since start lost first old net0 net → Ready old net → Undoes Tells start old new net now_net (Ok tt) → Sound (state first) → Sound (state new)
+  undo-sound told keeps since ready u all = record {
+    entries = λ d x here. undo-by-sound told keeps since ready u all d (switch_of d (state first)) refl (is_among d lost) (is_stuck (parts_of d u.parts)) refl refl x here;
+  }

@@ -4,7 +4,7 @@ use Rattle.std.proofs.lemmas.Bool.{cases_Bool}
 use Rattle.std.specs.Option.{option_map}
 use Rattle.of_types.specs.declared.errors.OfError.{OfError}
 use Rattle.of_types.specs.declared.journal.Act.{Act}
-use Rattle.of_types.specs.declared.journal.Act.TheVariants.{Stim, Started, Gave, Gone, Took, Ended, Sent, Got}
+use Rattle.of_types.specs.declared.journal.Act.TheVariants.{Stim, Started, Gave, Gone, Took, Ended, Sent, Got, Lost}
 use Rattle.of_types.specs.declared.journal.PortChange.{PortChange}
 use Rattle.of_types.specs.declared.journal.PortChange.TheVariants as changes
 use Rattle.of_types.specs.declared.journal.Stimulus.{Stimulus}
@@ -25,9 +25,9 @@ use Rattle.flow_table.specs.Step.{can_add, after_taken, after_message, after_por
 use Rattle.undo_laws.specs.Serials.{IsSerialed}
 use Rattle.undo_laws.specs.laws.SerialsLaws.{IsSerialed-empty, IsSerialed-changed, IsSerialed-expire, IsSerialed-hit, IsSerialed-with_counts}
 use Rattle.outside.specs.declared.step.WorldStep.{WorldStep}
-use Rattle.outside.specs.declared.step.WorldStep.TheVariants.{Acted, TookInto, From, Joined, Left, Moment, Idle, End, Opened, NotOpened, NextFailed, SendFailed, RecvFailed}
+use Rattle.outside.specs.declared.step.WorldStep.TheVariants.{Acted, TookInto, From, Joined, Left, Moment, Idle, End, Opened, NotOpened, NextFailed, SendLost, RecvLost, SendFailed, RecvFailed}
 use Rattle.outside.specs.Seen.{Given, Seen, is_declared}
-use Rattle.outside.specs.State.{Link, State, link_at_first, at_first, link_of, switch_in, switch_of, with_link, switch_joined, link_joined, link_left, link_stimulated, switch_told, link_sent, link_got, link_told, link_failed, links_after, after_stim, after_act, after_step, after_steps, state, declared_in}
+use Rattle.outside.specs.State.{Link, State, link_at_first, at_first, link_of, switch_in, switch_of, with_link, switch_joined, link_joined, link_left, link_stimulated, switch_told, link_sent, link_got, link_told, link_lost, link_failed, links_after, after_stim, after_act, after_step, after_steps, state, declared_in}
 use Rattle.switch_laws.specs.Shown.{Stand}
 use Rattle.switch_laws.specs.Standing.{Serialed, SerialedIn, Tables, Keeps, AreLinks}
 
@@ -156,6 +156,10 @@ keeps-told : Keeps link_told
 unfolding link_told
 keeps-told = record { declared = λ l. refl; table = λ l h. h }
 
+keeps-lost : Keeps link_lost
+unfolding link_lost
+keeps-lost = record { declared = λ l. refl; table = λ l h. tt }
+
 keeps-failed : Keeps link_failed
 unfolding link_failed
 keeps-failed = record { declared = λ l. refl; table = λ l h. h }
@@ -210,6 +214,7 @@ act-links declared (Took app what) s are = are
 act-links declared (Ended app) s are = are
 act-links declared (Sent d bytes) s are = one declared d (link_sent bytes) (keeps-sent bytes) s.links are
 act-links declared (Got d bytes) s are = one declared d link_got keeps-got s.links are
+act-links declared (Lost d) s are = one declared d link_lost keeps-lost s.links are
 
 step-links : (declared : List Declared) (step : WorldStep) (s : State) → AreLinks declared s.links → AreLinks declared (after_step step s).links
 unfolding after_step
@@ -224,6 +229,8 @@ step-links declared End s are = are
 step-links declared Opened s are = are
 step-links declared NotOpened s are = are
 step-links declared NextFailed s are = are
+step-links declared (SendLost d) s are = one declared d link_lost keeps-lost s.links are
+step-links declared (RecvLost d) s are = one declared d link_lost keeps-lost s.links are
 step-links declared (SendFailed d) s are = one declared d link_failed keeps-failed s.links are
 step-links declared (RecvFailed d) s are = one declared d link_failed keeps-failed s.links are
 

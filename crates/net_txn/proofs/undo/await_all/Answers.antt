@@ -15,7 +15,7 @@ loop-view-preserved g c =
     let more = switches_more vs at v c.loop-view-test.true c.view-item.is in
     let known = viewed_there vs at v c.loop-view-test.true c.view-item.is in
     record {
-      undoing = λ base first x u. subst (λ (switches : List ℕ). Further g.W.World.Tells (plains vs) base (g.W.World.seen c.await_noted.new.world) first c.await_noted.new.kept x c.await_noted.new.xid switches c.await_noted.new.log c.await_noted.new.fault) (sym more) (s.undoing base (plains vs) first _ x (i.undoing base first x u) known);
+      undoing = λ base first p x u. subst (λ (switches : List ℕ). Further g.W.World.Tells (plains vs) base (g.W.World.seen c.await_noted.new.world) first c.await_noted.new.kept p c.await_noted.new.ports x c.await_noted.new.xid switches c.await_noted.new.log c.await_noted.new.fault) (sym more) (s.undoing base (plains vs) first p _ x (i.undoing base first p x u) known);
       barred = λ d viewed. elim (viewed_more d vs at v c.loop-view-test.true c.view-item.is viewed) [
         | inl before ↦ s.others d (i.barred d before)
         | inr here ↦ subst (λ (e : ℕ). HasPassedBarrier e c.await_noted.new.log) here s.barred

@@ -1,9 +1,9 @@
-use Rattle.std.proofs.Common.{rules}
+use Rattle.std.proofs.Common.{rules, refl}
 use Rattle.std.proofs.lemmas.Result.{err_from_is_err_and}
 use Rattle.outside.specs.laws.SeenLaws.{Continues-refl}
 use Rattle.net_txn.specs.laws.LinkStepLaws.{OnLinks-refl}
 use Rattle.net_txn.specs.laws.LinkStrayLaws.{no_strays_none}
-use Rattle.net_txn.specs.laws.TalkLaws.{speaks_on, speaks_links, speaks_place}
+use Rattle.net_txn.specs.laws.ArrivalLaws.{arrives_read_as}
 use Rattle.net_txn.proofs.net.Net.arrived.Goals as goal
 
 pub returns-in_err-bytes-in-Err : goal.returns-in_err-bytes-in-Err
@@ -15,6 +15,7 @@ returns-in_err-bytes-in-Err g c =
       no_strays = λ told keeps joined. no_strays_none (g.W.World.seen c.args.world.now);
       cause = tt;
       err = search rules;
+      losses = λ told. refl;
       read = tt;
     })
 
@@ -26,6 +27,7 @@ returns-in-Err-NoMemory g c =
       no_strays = λ told keeps joined. no_strays_none (g.W.World.seen c.args.world.now);
       cause = tt;
       err = search rules;
+      losses = λ told. refl;
       read = tt;
     }
 
@@ -37,17 +39,10 @@ returns-in_ok-bytes-in-Err g c =
       no_strays = λ told keeps joined. no_strays_none (g.W.World.seen c.args.world.now);
       cause = search rules;
       err = search rules;
+      losses = λ told. refl;
       read = tt;
     }
 
 pub returns-in-Ok : goal.returns-in-Ok
 returns-in-Ok g c =
-    let e = c.take_in.ensures in
-    record {
-      continues = speaks_on e.speaks;
-      links = speaks_links e.speaks;
-      no_strays = speaks_place e.speaks;
-      cause = search rules;
-      err = search rules;
-      read = search rules;
-    }
+    arrives_read_as {Tells = g.W.World.Tells} c.args.dpid c.args.frame.now c.in-Ok.envelope (g.W.World.seen c.args.world.now) (g.W.World.seen c.take_or_lose.new.world) c.args.self.now c.take_or_lose.new.self c.take_or_lose.result (search rules) c.take_or_lose.ensures

@@ -3,8 +3,6 @@ use Rattle.flow_table.specs.declared.view.TableView.{TableView as Lent}
 use Rattle.flow_table.specs.View.{plains}
 use Rattle.net_txn.specs.Net.{NetState}
 use Rattle.net_txn.specs.laws.ChangeLaws.{Changes-short, Changes-by_host, Changes-by_switch, host_unknown, host_knows, unknown_unheld, unheld, packet_held, holds_nothing, holds_packet}
-use Rattle.net_txn.specs.laws.TalkLaws.{speaks_on, speaks_links, speaks_place}
-use Rattle.net_txn.specs.laws.ConsequenceLaws.{Changes-reaches, Changes-steps}
 use Rattle.std.proofs.lemmas.Result.{err_from_is_err_and}
 use Rattle.app_frames.specs.declared.frame.Answer.TheVariants.{Fine, Unknown}
 use Rattle.net_txn.proofs.net.Net.change.Goals as goal
@@ -12,39 +10,36 @@ use Rattle.net_txn.proofs.net.Net.change.Goals as goal
 pub returns-in_default : goal.returns-in_default
 returns-in_default g c =
     let v : plains c.deref.result.now ≡ c.args.self.now.views = ap (λ (vs : List Lent). plains vs) c.deref.ensures.value ∙ ap (λ (n : NetState). n.views) c.self.view_is in
-    let h = Changes-by_host {Tells = g.W.World.Tells} c.args.dpid c.args.bytes.now (g.W.World.seen c.args.world.now) c.args.self.now c.args.self.now _ (host_unknown c.args.dpid c.args.bytes.now c.args.self.now (plains c.deref.result.now) v c.in_default.ensures)
-    (holds_nothing c.args.dpid c.args.bytes.now Unknown c.args.self.now (unknown_unheld c.args.dpid c.args.bytes.now)) in
-    record { changes = h; reached = Changes-reaches h; in_step = Changes-steps h }
+    Changes-by_host {Tells = g.W.World.Tells} c.args.dpid c.args.bytes.now (g.W.World.seen c.args.world.now) c.args.self.now c.args.self.now _ (host_unknown c.args.dpid c.args.bytes.now c.args.self.now (plains c.deref.result.now) v c.in_default.ensures)
+    (holds_nothing c.args.dpid c.args.bytes.now Unknown c.args.self.now (unknown_unheld c.args.dpid c.args.bytes.now))
 
 pub returns-in-Answered : goal.returns-in-Answered
 returns-in-Answered g c =
     let v : plains c.deref.result.now ≡ c.args.self.now.views = ap (λ (vs : List Lent). plains vs) c.deref.ensures.value ∙ ap (λ (n : NetState). n.views) c.self.view_is in
     let knows = host_knows c.args.dpid c.args.bytes.now c.args.self.now (plains c.deref.result.now) c.in-Some.view.now.rows.rows c.as_slice.result.now v c.in-Some.ensures c.as_slice.ensures in
     let answered = rw c.in-Answered.is at c.in_ok-answer.ensures in
-    let h = Changes-by_host {Tells = g.W.World.Tells} c.args.dpid c.args.bytes.now (g.W.World.seen c.args.world.now) c.args.self.now c.args.self.now c.in-Answered.answer (knows ∙ answered.0) (holds_nothing c.args.dpid c.args.bytes.now c.in-Answered.answer c.args.self.now (unheld c.args.dpid c.args.bytes.now c.in-Answered.answer (answered.1 c.args.dpid))) in
-    record { changes = h; reached = Changes-reaches h; in_step = Changes-steps h }
+    Changes-by_host {Tells = g.W.World.Tells} c.args.dpid c.args.bytes.now (g.W.World.seen c.args.world.now) c.args.self.now c.args.self.now c.in-Answered.answer (knows ∙ answered.0)
+    (holds_nothing c.args.dpid c.args.bytes.now c.in-Answered.answer c.args.self.now (unheld c.args.dpid c.args.bytes.now c.in-Answered.answer (answered.1 c.args.dpid)))
 
 pub returns-in-Asks : goal.returns-in-Asks
 returns-in-Asks g c =
     let v : plains c.deref.result.now ≡ c.args.self.now.views = ap (λ (vs : List Lent). plains vs) c.deref.ensures.value ∙ ap (λ (n : NetState). n.views) c.self.view_is in
     let knows = host_knows c.args.dpid c.args.bytes.now c.args.self.now (plains c.deref.result.now) c.in-Some.view.now.rows.rows c.as_slice.result.now v c.in-Some.ensures c.as_slice.ensures in
     let asked = rw c.in-Asks.is at c.in_ok-answer.ensures in
-    let h = Changes-by_switch c.args.dpid c.args.bytes.now (g.W.World.seen c.args.world.now) (g.W.World.seen c.make_or_forget.new.world) c.args.self.now c.make_or_forget.new.self c.make_or_forget.result asked.1.0 c.in-Asks.flow
-    (knows ∙ asked.0) asked.1.1 c.make_or_forget.ensures.result (speaks_on c.make_or_forget.ensures.speaks) (speaks_links c.make_or_forget.ensures.speaks) (speaks_place c.make_or_forget.ensures.speaks) c.make_or_forget.ensures.cause c.make_or_forget.ensures.ports c.make_or_forget.ensures.moment c.make_or_forget.ensures.room c.make_or_forget.ensures.held c.make_or_forget.ensures.flooded in
-    record { changes = h; reached = Changes-reaches h; in_step = Changes-steps h }
+    Changes-by_switch g.W.World.Tells c.args.dpid c.args.bytes.now (g.W.World.seen c.args.world.now) (g.W.World.seen c.make_or_lose.new.world) c.args.self.now c.make_or_lose.new.self c.make_or_lose.result asked.1.0 c.in-Asks.flow (knows ∙ asked.0) asked.1.1 c.make_or_lose.ensures
 
-pub returns-in_err-answer-clause-changes : goal.returns-in_err-answer-clause-changes
-returns-in_err-answer-clause-changes g c =
+pub returns-in_err-answer : goal.returns-in_err-answer
+returns-in_err-answer g c =
     let p = err_from_is_err_and c.from_residual.result c.from_residual.ensures.1 in
     rw (p.1, p.2) (Changes-short c.args.dpid c.args.bytes.now (g.W.World.seen c.args.world.now) c.args.self.now)
 
-pub returns-in_err-hold-in-Holds-clause-changes : goal.returns-in_err-hold-in-Holds-clause-changes
-returns-in_err-hold-in-Holds-clause-changes g c =
+pub returns-in_err-hold-in-Holds : goal.returns-in_err-hold-in-Holds
+returns-in_err-hold-in-Holds g c =
     let p = err_from_is_err_and c.from_residual-in_err-hold-in-Holds.result c.from_residual-in_err-hold-in-Holds.ensures.1 in
     rw (p.1, p.2, c.in_err-hold-in-Holds.ensures.err) (Changes-short c.args.dpid c.args.bytes.now (g.W.World.seen c.args.world.now) c.args.self.now)
 
-pub returns-in_ok-hold-in-Holds-clause-changes : goal.returns-in_ok-hold-in-Holds-clause-changes
-returns-in_ok-hold-in-Holds-clause-changes g c =
+pub returns-in_ok-hold-in-Holds : goal.returns-in_ok-hold-in-Holds
+returns-in_ok-hold-in-Holds g c =
     let v : plains c.deref.result.now ≡ c.args.self.now.views = ap (λ (vs : List Lent). plains vs) c.deref.ensures.value ∙ ap (λ (n : NetState). n.views) c.self.view_is in
     let knows = host_knows c.args.dpid c.args.bytes.now c.args.self.now (plains c.deref.result.now) c.in-Some.view.now.rows.rows c.as_slice.result.now v c.in-Some.ensures c.as_slice.ensures in
     let held = rw c.in-Holds.is at c.in_ok-answer.ensures in

@@ -1,4 +1,4 @@
-use Rattle.std.proofs.Common.{rules, ◌≡◌, ℕ, List, [], ◌∷◌, ap, ◌∙◌}
+use Rattle.std.proofs.Common.{rules, ◌≡◌, ℕ, List, [], ◌∷◌, ap, ◌∙◌, subst, arith}
 use Rattle.std.proofs.lemmas.Result.{err_from_is_err_and}
 use Rattle.of_wire.specs.declared.message.Message.TheVariants.{FlowMod, SetConfig}
 use Rattle.of_wire.specs.Spelling.{message_bytes}
@@ -7,45 +7,45 @@ use Rattle.flow_table.specs.View.{plains}
 use Rattle.flow_table.specs.Switch.{first_config}
 use Rattle.lego_model.specs.declared.wait.Awaited.{Awaited}
 use Rattle.lego_model.specs.BarrierWaits.{next_xid}
-use Rattle.net_txn.specs.Joining.{delete_all, greeted_from}
+use Rattle.net_txn.specs.Joining.{delete_all, greeted_from, greeting}
+use Rattle.net_txn.specs.Losing.{WaitHalts}
 use Rattle.net_txn.specs.Net.{NetState}
+use Rattle.net_txn.specs.Ports.{PortLists}
 use Rattle.net_txn.specs.laws.WaitLaws.{waits_kept}
 use Rattle.net_txn.specs.laws.ChangeLaws.{kept_for}
-use Rattle.net_txn.specs.laws.JoiningFaultLaws.{greeted_flooded, greeted_waits}
-use Rattle.net_txn.specs.laws.TalkLaws.{speaks_none, talks_speak, talks_waits, talks_cause, talks_flooded, talks_kept}
+use Rattle.net_txn.specs.laws.JoiningFaultLaws.{greeted_halts, greeted_waits, short_behind}
+use Rattle.net_txn.specs.laws.LostLaws.{replied_none_lost}
+use Rattle.net_txn.specs.laws.TalkLaws.{talks_speak, talks_waits, talks_kept}
 use Rattle.net_txn.proofs.net.Net.join.Goals as goal
 
-pub returns-in_err-admit-clause-err : goal.returns-in_err-admit-clause-err
-returns-in_err-admit-clause-err g c =
+pub returns-in_err-greet-clause-halts : goal.returns-in_err-greet-clause-halts
+returns-in_err-greet-clause-halts g c =
+    let p = err_from_is_err_and c.from_residual-in_err-greet.result c.from_residual-in_err-greet.ensures.1 in
+    let v = c.self.view_is in
+    let x : c.self.inside.xid ≡ c.args.self.now.xid = ap (λ (n : NetState). n.xid) v in
+    let old = g.W.World.seen c.args.world.now in
+    let new = g.W.World.seen c.greet.new.world in
+    let halt = c.in_err-greet.field-0.0 in
+    let halts = greeted_halts {Tells = g.W.World.Tells} c.args.dpid c.self.inside.xid c.greeted-awaited.result c.as_slice.result.now c.as_slice-2.result.now old new _ c.greet.new.kept halt (omega arith)
+    c.greeted-awaited.ensures (c.as_slice.ensures ∙ c.in_ok-emptying.ensures.bytes) (c.as_slice-2.ensures ∙ c.configuring.ensures.bytes ∙ ap (λ (n : ℕ). message_bytes n (SetConfig first_config)) c.following.ensures.next) c.in_err-greet.ensures in
+    rw (p.1, p.2) (record {
+      not_joined = record {
+        views = ap (λ (vs : List Lent). plains vs) c.reserve.ensures.items ∙ ap (λ (n : NetState). n.views) v;
+        known = ap (λ (ps : PortLists). ps.known) c.reserve-2.ensures ∙ ap (λ (n : NetState). n.ports) v;
+        kept = kept_for c.args.dpid c.greeted-awaited.result.dpid _ c.args.self.now.kept c.greet.new.kept (ap (λ (a : Awaited). a.dpid) c.greeted-awaited.ensures) (ap (λ (n : NetState). n.kept) v) (talks_kept c.in_err-greet.ensures);
+      };
+      halts = subst (λ (n : ℕ). WaitHalts g.W.World.Tells (greeted_from c.args.dpid n) (greeting c.args.dpid n) old new halt) x halts;
+    })
+
+pub returns-in_err-admit-clause-halts : goal.returns-in_err-admit-clause-halts
+returns-in_err-admit-clause-halts g c =
     let p = err_from_is_err_and c.from_residual-in_err-admit.result c.from_residual-in_err-admit.ensures.1 in
     let v = c.self.view_is in
-    rw p.1 (record {
+    rw (p.1, p.2) (short_behind c.args.dpid _ _ (g.W.World.seen c.args.world.now) (g.W.World.seen c.greet.new.world) c.args.self.now _ _ c.greet.new.kept _ c.in_ok-greet.ensures (record {
       views = c.in_err-admit.ensures.views_err ∙ ap (λ (vs : List Lent). plains vs) c.reserve.ensures.items ∙ ap (λ (n : NetState). n.views) v;
-      known = c.in_err-admit.ensures.ports_err ∙ c.reserve-2.ensures.items ∙ ap (λ (n : NetState). n.ports) v;
+      known = c.in_err-admit.ensures.ports_err ∙ ap (λ (ps : PortLists). ps.known) c.reserve-2.ensures ∙ ap (λ (n : NetState). n.ports) v;
       kept = kept_for c.args.dpid c.greeted-awaited.result.dpid _ c.args.self.now.kept c.greet.new.kept (ap (λ (a : Awaited). a.dpid) c.greeted-awaited.ensures) (ap (λ (n : NetState). n.kept) v) (waits_kept (talks_waits (c.as_slice.result.now ∷ c.as_slice-2.result.now ∷ []) c.in_ok-greet.ensures));
-    })
-
-pub returns-in_err-greet-clause-flooded : goal.returns-in_err-greet-clause-flooded
-returns-in_err-greet-clause-flooded g c =
-    let p = err_from_is_err_and c.from_residual-in_err-greet.result c.from_residual-in_err-greet.ensures.1 in
-    let x : c.self.inside.xid ≡ c.args.self.now.xid = ap (λ (n : NetState). n.xid) c.self.view_is in
-    rw (p.1, p.2, ← x) (greeted_flooded g.W.World.Tells c.args.dpid c.self.inside.xid c.greeted-awaited.result c.as_slice.result.now c.as_slice-2.result.now (g.W.World.seen c.args.world.now) (g.W.World.seen c.greet.new.world) c.in_err-greet.field-0.0
-    c.greeted-awaited.ensures (c.as_slice.ensures ∙ c.in_ok-emptying.ensures.bytes) (c.as_slice-2.ensures ∙ c.configuring.ensures.bytes ∙ ap (λ (x : ℕ). message_bytes x (SetConfig first_config)) c.following.ensures.next) (talks_flooded (c.as_slice.result.now ∷ c.as_slice-2.result.now ∷ []) c.in_err-greet.field-0.0 c.in_err-greet.ensures))
-
-pub returns-in_err-greet-clause-cause : goal.returns-in_err-greet-clause-cause
-returns-in_err-greet-clause-cause g c =
-    let p = err_from_is_err_and c.from_residual-in_err-greet.result c.from_residual-in_err-greet.ensures.1 in
-    rw (p.1, p.2) (talks_cause c.args.dpid (c.as_slice.result.now ∷ c.as_slice-2.result.now ∷ []) c.in_err-greet.field-0.0 (ap (λ (a : Awaited). a.dpid) c.greeted-awaited.ensures) c.in_err-greet.ensures)
-
-pub returns-in_err-greet-clause-err : goal.returns-in_err-greet-clause-err
-returns-in_err-greet-clause-err g c =
-    let p = err_from_is_err_and c.from_residual-in_err-greet.result c.from_residual-in_err-greet.ensures.1 in
-    let v = c.self.view_is in
-    rw p.1 (record {
-      views = ap (λ (vs : List Lent). plains vs) c.reserve.ensures.items ∙ ap (λ (n : NetState). n.views) v;
-      known = c.reserve-2.ensures.items ∙ ap (λ (n : NetState). n.ports) v;
-      kept = kept_for c.args.dpid c.greeted-awaited.result.dpid _ c.args.self.now.kept c.greet.new.kept (ap (λ (a : Awaited). a.dpid) c.greeted-awaited.ensures) (ap (λ (n : NetState). n.kept) v) (talks_kept c.in_err-greet.ensures);
-    })
+    }))
 
 pub returns-in_err-greet-clause-speaks : goal.returns-in_err-greet-clause-speaks
 returns-in_err-greet-clause-speaks g c = talks_speak _ _ _ c.args.dpid (c.as_slice.result.now ∷ c.as_slice-2.result.now ∷ []) c.greet.result (ap (λ (a : Awaited). a.dpid) c.greeted-awaited.ensures) c.greet.ensures
@@ -55,18 +55,6 @@ returns-in_err-admit-clause-speaks g c = talks_speak _ _ _ c.args.dpid (c.as_sli
 
 pub returns-clause-speaks : goal.returns-clause-speaks
 returns-clause-speaks g c = talks_speak _ _ _ c.args.dpid (c.as_slice.result.now ∷ c.as_slice-2.result.now ∷ []) c.greet.result (ap (λ (a : Awaited). a.dpid) c.greeted-awaited.ensures) c.greet.ensures
-
-pub returns-in_err-emptying-clause-speaks : goal.returns-in_err-emptying-clause-speaks
-returns-in_err-emptying-clause-speaks g c = speaks_none g.W.World.Tells c.args.dpid (g.W.World.seen c.args.world.now)
-
-pub returns-in_err-known-clause-speaks : goal.returns-in_err-known-clause-speaks
-returns-in_err-known-clause-speaks g c = speaks_none g.W.World.Tells c.args.dpid (g.W.World.seen c.args.world.now)
-
-pub returns-in_err-reserve-clause-speaks : goal.returns-in_err-reserve-clause-speaks
-returns-in_err-reserve-clause-speaks g c = speaks_none g.W.World.Tells c.args.dpid (g.W.World.seen c.args.world.now)
-
-pub returns-in_err-reserve-2-clause-speaks : goal.returns-in_err-reserve-2-clause-speaks
-returns-in_err-reserve-2-clause-speaks g c = speaks_none g.W.World.Tells c.args.dpid (g.W.World.seen c.args.world.now)
 
 pub returns-clause-joins : goal.returns-clause-joins
 returns-clause-joins g c =
@@ -84,4 +72,5 @@ returns-clause-joins g c =
       views = search rules;
       known = search rules;
       xid = search rules;
+      losses = replied_none_lost _ _ c.in_ok-greet.ensures;
     }

@@ -6,7 +6,7 @@ use Rattle.net_txn.specs.Net.{NetState, awaited_from}
 use Rattle.lego_model.specs.BarrierWaits.{next_xid}
 use Rattle.net_txn.specs.laws.WaitLaws.{waits_kept}
 use Rattle.net_txn.specs.laws.ChangeLaws.{sent_waits, given_up, kept_for, same_log, same_views, log_cut}
-use Rattle.net_txn.specs.laws.ChangeFlightLaws.{broke_then, replied_then}
+use Rattle.net_txn.specs.laws.ChangeFlightLaws.{replied_then, halts_then}
 use Rattle.net_txn.specs.laws.TalkLaws.{speaks_none, talks_speak, talks_waits, talks_cause, talks_flooded, talks_kept}
 use Rattle.net_txn.proofs.net.Net.make.Goals as goal
 
@@ -16,7 +16,7 @@ returns-in_err-put_added-in-None-clause-result g c =
     let v = c.self.view_is in
     let a : c.await_from-awaited.result ≡ awaited_from c.args.dpid c.args.self.now.xid = c.await_from-awaited.ensures ∙ ap (λ (n : NetState). awaited_from c.args.dpid n.xid) v in
     let small : c.args.self.now.xid < 2 ^ 32 = rw (← ap (λ (n : NetState). n.xid) v) (omega arith) in
-    rw p.1 (inr (record {
+    rw (p.1, p.2) (inr (record {
       message = c.requires;
       is_xid = small;
       said = replied_then c.args.dpid c.args.flow c.args.self.now c.await_from-awaited.result c.as_slice.result.now _ c.ask.new.kept (g.W.World.seen c.args.world.now) (g.W.World.seen c.ask.new.world) _
@@ -76,15 +76,11 @@ returns-in_err-refusal-clause-result g c =
     let v = c.self.view_is in
     let a : c.await_from-awaited.result ≡ awaited_from c.args.dpid c.args.self.now.xid = c.await_from-awaited.ensures ∙ ap (λ (n : NetState). awaited_from c.args.dpid n.xid) v in
     let small : c.args.self.now.xid < 2 ^ 32 = rw (← ap (λ (n : NetState). n.xid) v) (omega arith) in
-    rw (p.1, p.2) (inr (record {
-      message = c.requires;
-      is_xid = small;
-      said = broke_then c.args.dpid c.args.flow c.args.self.now c.await_from-awaited.result c.as_slice.result.now _ c.ask.new.kept (g.W.World.seen c.args.world.now) (g.W.World.seen c.ask.new.world) c.in_err-refusal.field-0.0
-          a (c.as_slice.ensures ∙ c.in_ok-frame.ensures.frame) (ap (λ (n : NetState). n.kept) v) c.in_err-refusal.ensures;
-      views = inl (c.make_room.ensures ∙ ap (λ (n : NetState). n.views) v);
-      log_so = c.in_ok-push_logged.ensures.ok ∙ same_log _ _ _ _ c.in_ok-frame.ensures.logged (ap (λ (n : NetState). n.log) v);
-      kept = kept_for c.args.dpid c.await_from-awaited.result.dpid _ c.args.self.now.kept c.ask.new.kept (ap (λ (a : Awaited). a.dpid) c.await_from-awaited.ensures) (ap (λ (n : NetState). n.kept) v) (talks_kept c.in_err-refusal.ensures);
-    }))
+    rw (p.1, p.2) (halts_then c.args.dpid c.args.flow _ c.args.self.now _ c.await_from-awaited.result c.as_slice.result.now _ (g.W.World.seen c.args.world.now) (g.W.World.seen c.ask.new.world) c.in_err-refusal.field-0.0
+    a (c.as_slice.ensures ∙ c.in_ok-frame.ensures.frame) (ap (λ (n : NetState). n.kept) v) c.requires small (c.make_room.ensures ∙ ap (λ (n : NetState). n.views) v)
+    (c.in_ok-push_logged.ensures.ok ∙ same_log _ _ _ _ c.in_ok-frame.ensures.logged (ap (λ (n : NetState). n.log) v))
+    (kept_for c.args.dpid c.await_from-awaited.result.dpid _ c.args.self.now.kept c.ask.new.kept (ap (λ (a : Awaited). a.dpid) c.await_from-awaited.ensures) (ap (λ (n : NetState). n.kept) v) (talks_kept c.in_err-refusal.ensures))
+    c.in_err-refusal.ensures)
 
 pub returns-in_err-refusal-clause-cause : goal.returns-in_err-refusal-clause-cause
 returns-in_err-refusal-clause-cause g c =

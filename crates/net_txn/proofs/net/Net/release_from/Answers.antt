@@ -1,29 +1,29 @@
-use Rattle.std.proofs.Common.{rules, ◌≡◌, List, [], ◌∙◌, subst, refl, Ok, Err}
+use Rattle.std.proofs.Common.{rules, ◌≡◌, List, [], subst, refl, Ok, Err}
 use Rattle.std.specs.Prelude.{vec_len}
 use Rattle.std.proofs.lemmas.Result.{err_from_is_err_and}
 use Rattle.flow_table.specs.View.{plains}
 use Rattle.lego_model.specs.Packets.{Held}
 use Rattle.net_txn.specs.Net.{NetState}
 use Rattle.net_txn.specs.Releases.{committed, Commits}
-use Rattle.net_txn.specs.ReleaseSteps.{sizes_in, ReleasedFront, StopsBehind}
+use Rattle.net_txn.specs.ReleaseSteps.{ReleasedFront, StopsBehind}
 use Rattle.net_txn.specs.laws.ReleaseLaws.{commits_undone, commits_all, commits_stopped}
 use Rattle.net_txn.proofs.net.Net.release_from.Goals as goal
 
 pub returns-in_default : goal.returns-in_default
 returns-in_default g c = commits_undone c.args.start (g.W.World.seen c.args.world.now) (g.W.World.seen c.undo_from-undone.new.world) c.args.self.now c.undo_from-undone.new.self c.args.queue.now c.undo_from-undone.result c.undo_from-undone.ensures
 
-pub returns-in_err-release_all : goal.returns-in_err-release_all
-returns-in_err-release_all g c =
+pub returns-in_err-sent : goal.returns-in_err-sent
+returns-in_err-sent g c =
     let s = c.self.inside in
     let old = g.W.World.seen c.args.world.now in
     let new = g.W.World.seen c.release_all.new.world in
-    let net : NetState = record { views = plains s.views.items; ports = s.ports.items; log = s.log.items; held = s.held.items; xid = s.xid; moment = s.moment; kept = s.kept; room = vec_len s.rooms } in
+    let net : NetState = record { views = plains s.views.items; ports = s.ports.known; left = s.ports.left; log = s.log.items; held = s.held.items; xid = s.xid; moment = s.moment; kept = s.kept; room = vec_len s.rooms } in
     let mid : NetState = record net { log = c.truncate.new.self.items; held = c.replace-held.new.dest.items } in
     let held : c.replace-held.result.items ≡ net.held = search rules in
     let none : c.replace-held.new.dest.items ≡ [] = search rules in
     let same : mid ≡ committed c.args.start net = rw (c.truncate.ensures.items, none) refl in
-    let fault = c.in_err-release_all.field-0.0 in
-    let first = subst (λ (hs : List Held). StopsBehind g.W.World.Tells hs old new mid c.release_all.new.net c.args.queue.now fault) held c.in_err-release_all.ensures in
+    let fault = c.in_err-sent.field-0.0 in
+    let first = subst (λ (hs : List Held). StopsBehind g.W.World.Tells hs old new mid c.release_all.new.net c.args.queue.now fault) held c.in_err-sent.ensures in
     let stops = subst (λ (n : NetState). StopsBehind g.W.World.Tells net.held old new n c.release_all.new.net c.args.queue.now fault) same first in
     let p = err_from_is_err_and c.from_residual.result c.from_residual.ensures.1 in
     rw (p.1, p.2) (subst (λ (n : NetState). Commits g.W.World.Tells c.args.start old new n c.release_all.new.net c.args.queue.now c.release_all.new.queue (Err fault)) c.self.view_is
@@ -34,13 +34,13 @@ returns g c =
     let s = c.self.inside in
     let old = g.W.World.seen c.args.world.now in
     let new = g.W.World.seen c.release_all.new.world in
-    let net : NetState = record { views = plains s.views.items; ports = s.ports.items; log = s.log.items; held = s.held.items; xid = s.xid; moment = s.moment; kept = s.kept; room = vec_len s.rooms } in
+    let net : NetState = record { views = plains s.views.items; ports = s.ports.known; left = s.ports.left; log = s.log.items; held = s.held.items; xid = s.xid; moment = s.moment; kept = s.kept; room = vec_len s.rooms } in
     let mid : NetState = record net { log = c.truncate.new.self.items; held = c.replace-held.new.dest.items } in
     let held : c.replace-held.result.items ≡ net.held = search rules in
     let none : c.replace-held.new.dest.items ≡ [] = search rules in
     let same : mid ≡ committed c.args.start net = rw (c.truncate.ensures.items, none) refl in
-    let first = subst (λ (hs : List Held). ReleasedFront g.W.World.Tells hs old new mid c.release_all.new.net c.args.queue.now c.release_all.new.queue) held c.in_ok-release_all.ensures in
-    let all = subst (λ (n : NetState). ReleasedFront g.W.World.Tells net.held old new n c.release_all.new.net c.args.queue.now c.release_all.new.queue) same first in
-    let sizes : c.in-Ok.sent.items ≡ sizes_in net.views net.held = c.in-Ok.ensures ∙ (rw (c.deref.ensures.value, c.deref-2.ensures.value) refl) in
-    subst (λ (n : NetState). Commits g.W.World.Tells c.args.start old new n c.release_all.new.net c.args.queue.now c.release_all.new.queue (Ok c.in-Ok.sent.items)) c.self.view_is
-    (commits_all c.args.start old new net c.release_all.new.net c.args.queue.now c.release_all.new.queue c.in-Ok.sent.items all sizes)
+    let sizes = c.in_ok-sent.sent.items in
+    let first = subst (λ (hs : List Held). ReleasedFront g.W.World.Tells hs old new mid c.release_all.new.net c.args.queue.now c.release_all.new.queue sizes) held c.in_ok-sent.ensures in
+    let all = subst (λ (n : NetState). ReleasedFront g.W.World.Tells net.held old new n c.release_all.new.net c.args.queue.now c.release_all.new.queue sizes) same first in
+    subst (λ (n : NetState). Commits g.W.World.Tells c.args.start old new n c.release_all.new.net c.args.queue.now c.release_all.new.queue (Ok sizes)) c.self.view_is
+    (commits_all c.args.start old new net c.release_all.new.net c.args.queue.now c.release_all.new.queue sizes all)

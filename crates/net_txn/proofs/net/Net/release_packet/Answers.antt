@@ -1,15 +1,15 @@
 use Rattle.std.proofs.Common.{rules, ◌≡◌, List, true, false, sym, ap, ◌∙◌, subst, arith, Ok, Err}
 use Rattle.std.specs.Prelude.{vec_len}
 use Rattle.std.proofs.lemmas.Result.{err_from_is_err_and}
-use Rattle.lego_model.specs.declared.fault.TxnFault.TheVariants.{NoMemory}
+use Rattle.lego_model.specs.declared.wait.Awaited.{Awaited}
 use Rattle.lego_model.specs.BarrierWaits.{next_xid}
 use Rattle.flow_table.specs.declared.view.TableView.{TableView as Lent}
 use Rattle.flow_table.specs.View.{plains}
+use Rattle.net_txn.specs.declared.halt.Halt.{Halt}
 use Rattle.net_txn.specs.Views.{is_viewed}
 use Rattle.net_txn.specs.Net.{NetState}
-use Rattle.net_txn.specs.ReleaseSteps.{ReleasesPacket}
-use Rattle.net_txn.specs.laws.PacketReleaseLaws.{passes_packet, stops_packet, lost_packet, sent_packet}
-use Rattle.net_txn.specs.laws.ReleaseStepLaws.{stays_xid}
+use Rattle.net_txn.specs.ReleaseSteps.{PacketUnsent, Settles, ReleasesPacket}
+use Rattle.net_txn.specs.laws.PacketReleaseLaws.{passes_packet, unsent_packet, lost_before, stops_packet, settled_packet}
 use Rattle.net_txn.proofs.net.Net.release_packet.Goals as goal
 
 pub returns-then-not-is_viewed : goal.returns-then-not-is_viewed
@@ -18,34 +18,60 @@ returns-then-not-is_viewed g c =
     let unknown : c.is_viewed.result ≡ false = search rules in
     passes_packet g.W.World.Tells c.args.dpid c.args.packet (g.W.World.seen c.args.world.now) c.args.self.now c.args.queue.now (sym (c.is_viewed.ensures ∙ ap (is_viewed c.args.dpid) v) ∙ unknown)
 
-pub returns-in_err-came : goal.returns-in_err-came
-returns-in_err-came g c =
+pub returns-in_ok-settle-in-Ok : goal.returns-in_ok-settle-in-Ok
+returns-in_ok-settle-in-Ok g c =
     let s = c.self.inside in
-    let net : NetState = record { views = plains s.views.items; ports = s.ports.items; log = s.log.items; held = s.held.items; xid = s.xid; moment = s.moment; kept = s.kept; room = vec_len s.rooms } in
+    let old = g.W.World.seen c.args.world.now in
+    let net : NetState = record { views = plains s.views.items; ports = s.ports.known; left = s.ports.left; log = s.log.items; held = s.held.items; xid = s.xid; moment = s.moment; kept = s.kept; room = vec_len s.rooms } in
+    let xid = c.following-self-inside.result in
+    let known : c.is_viewed.result ≡ true = search rules in
+    let viewed : is_viewed c.args.dpid net.views ≡ true = sym (c.is_viewed.ensures ∙ ap (λ (vs : List Lent). is_viewed c.args.dpid (plains vs)) c.deref.ensures.value) ∙ known in
+    let mid = g.W.World.seen c.send_packet.new.world in
+    let new = g.W.World.seen c.settle.new.world in
+    let settled = subst (λ (a : Awaited). Settles g.W.World.Tells a mid new (record net { xid = xid }) c.settle.new.self c.args.queue.now c.settle.new.queue (Ok tt)) c.await_packet.ensures c.in_ok-settle-in-Ok.ensures in
+    let does = settled_packet {Tells = g.W.World.Tells} c.args.dpid c.args.packet old mid new net c.settle.new.self c.args.queue.now c.settle.new.queue xid viewed c.requires (c.self.invariant.1, omega arith)
+    (c.following-self-inside.ensures.next ∙ ap next_xid c.following.ensures.next) c.in-Ok.ensures settled in
+    subst (λ (x : NetState). ReleasesPacket g.W.World.Tells (c.args.dpid, c.args.packet) old new x c.settle.new.self c.args.queue.now c.settle.new.queue (Ok true)) c.self.view_is does
+
+pub returns-in_err-settle-in-Ok : goal.returns-in_err-settle-in-Ok
+returns-in_err-settle-in-Ok g c =
     let p = err_from_is_err_and c.from_residual.result c.from_residual.ensures.1 in
-    let known : c.is_viewed.result ≡ true = search rules in
-    let viewed : is_viewed c.args.dpid net.views ≡ true = sym (c.is_viewed.ensures ∙ ap (λ (vs : List Lent). is_viewed c.args.dpid (plains vs)) c.deref.ensures.value) ∙ known in
-    let does = stops_packet {Tells = g.W.World.Tells} c.args.dpid c.args.packet (g.W.World.seen c.args.world.now) (g.W.World.seen c.exchange_packet.new.world) net (record net { xid = c.following-self-inside.result }) c.args.queue.now c.args.queue.now c.in_err-came.field-0.0
-    viewed c.requires (omega arith) c.in_err-came.ensures (stays_xid net c.following-self-inside.result) in
-    rw (p.1, p.2) (subst (λ (x : NetState). ReleasesPacket g.W.World.Tells (c.args.dpid, c.args.packet) (g.W.World.seen c.args.world.now) (g.W.World.seen c.exchange_packet.new.world) x (record net { xid = c.following-self-inside.result }) c.args.queue.now c.args.queue.now (Err c.in_err-came.field-0.0)) c.self.view_is does)
-
-pub returns-in_err-take_all : goal.returns-in_err-take_all
-returns-in_err-take_all g c =
     let s = c.self.inside in
-    let net : NetState = record { views = plains s.views.items; ports = s.ports.items; log = s.log.items; held = s.held.items; xid = s.xid; moment = s.moment; kept = s.kept; room = vec_len s.rooms } in
-    let p = err_from_is_err_and c.from_residual-in_err-take_all.result c.from_residual-in_err-take_all.ensures.1 in
+    let old = g.W.World.seen c.args.world.now in
+    let net : NetState = record { views = plains s.views.items; ports = s.ports.known; left = s.ports.left; log = s.log.items; held = s.held.items; xid = s.xid; moment = s.moment; kept = s.kept; room = vec_len s.rooms } in
+    let xid = c.following-self-inside.result in
     let known : c.is_viewed.result ≡ true = search rules in
     let viewed : is_viewed c.args.dpid net.views ≡ true = sym (c.is_viewed.ensures ∙ ap (λ (vs : List Lent). is_viewed c.args.dpid (plains vs)) c.deref.ensures.value) ∙ known in
-    let does = lost_packet {Tells = g.W.World.Tells} c.args.dpid c.args.packet (g.W.World.seen c.args.world.now) (g.W.World.seen c.exchange_packet.new.world) net (record net { xid = c.following-self-inside.result }) c.take_all.new.net c.args.queue.now c.take_all.new.queue c.in_ok-came.came.items
-    viewed c.requires (omega arith) c.in_ok-came.ensures (stays_xid net c.following-self-inside.result) c.in_err-take_all.ensures.stays in
-    rw (p.1, p.2) (subst (λ (x : NetState). ReleasesPacket g.W.World.Tells (c.args.dpid, c.args.packet) (g.W.World.seen c.args.world.now) (g.W.World.seen c.exchange_packet.new.world) x c.take_all.new.net c.args.queue.now c.take_all.new.queue (Err NoMemory)) c.self.view_is does)
+    let mid = g.W.World.seen c.send_packet.new.world in
+    let new = g.W.World.seen c.settle.new.world in
+    let fault = c.in_err-settle-in-Ok.field-0.0 in
+    let settled = subst (λ (a : Awaited). Settles g.W.World.Tells a mid new (record net { xid = xid }) c.settle.new.self c.args.queue.now c.settle.new.queue (Err fault)) c.await_packet.ensures c.in_err-settle-in-Ok.ensures in
+    let does = stops_packet {Tells = g.W.World.Tells} c.args.dpid c.args.packet old mid new net c.settle.new.self c.args.queue.now c.settle.new.queue xid fault viewed c.requires (omega arith) c.in-Ok.ensures settled in
+    rw (p.1, p.2) (subst (λ (x : NetState). ReleasesPacket g.W.World.Tells (c.args.dpid, c.args.packet) old new x c.settle.new.self c.args.queue.now c.settle.new.queue (Err fault)) c.self.view_is does)
 
-pub returns : goal.returns
-returns g c =
+pub returns-in-Err-Lost : goal.returns-in-Err-Lost
+returns-in-Err-Lost g c =
     let s = c.self.inside in
-    let net : NetState = record { views = plains s.views.items; ports = s.ports.items; log = s.log.items; held = s.held.items; xid = s.xid; moment = s.moment; kept = s.kept; room = vec_len s.rooms } in
+    let old = g.W.World.seen c.args.world.now in
+    let net : NetState = record { views = plains s.views.items; ports = s.ports.known; left = s.ports.left; log = s.log.items; held = s.held.items; xid = s.xid; moment = s.moment; kept = s.kept; room = vec_len s.rooms } in
+    let xid = c.following-self-inside.result in
     let known : c.is_viewed.result ≡ true = search rules in
     let viewed : is_viewed c.args.dpid net.views ≡ true = sym (c.is_viewed.ensures ∙ ap (λ (vs : List Lent). is_viewed c.args.dpid (plains vs)) c.deref.ensures.value) ∙ known in
-    let does = sent_packet {Tells = g.W.World.Tells} c.args.dpid c.args.packet (g.W.World.seen c.args.world.now) (g.W.World.seen c.exchange_packet.new.world) net c.take_all.new.net c.args.queue.now c.take_all.new.queue c.in_ok-came.came.items c.following-self-inside.result
-    viewed c.requires (c.self.invariant.1, omega arith) c.in_ok-came.ensures (c.following-self-inside.ensures.next ∙ ap next_xid c.following.ensures.next) c.in_ok-take_all.ensures.ok c.in_ok-take_all.ensures.stays in
-    subst (λ (x : NetState). ReleasesPacket g.W.World.Tells (c.args.dpid, c.args.packet) (g.W.World.seen c.args.world.now) (g.W.World.seen c.exchange_packet.new.world) x c.take_all.new.net c.args.queue.now c.take_all.new.queue (Ok tt)) c.self.view_is does
+    let new = g.W.World.seen c.send_packet.new.world in
+    let unsent = subst (λ (h : Halt). PacketUnsent g.W.World.Tells c.args.dpid old new h) c.in-Err-Lost.field-0-is c.in-Err-Lost.ensures in
+    let does = lost_before {Tells = g.W.World.Tells} c.args.dpid c.args.packet old new net c.lose.new.self c.args.queue.now xid viewed c.lose.ensures unsent in
+    subst (λ (x : NetState). ReleasesPacket g.W.World.Tells (c.args.dpid, c.args.packet) old new x c.lose.new.self c.args.queue.now c.args.queue.now (Ok false)) c.self.view_is does
+
+pub returns-in-Err-Fault : goal.returns-in-Err-Fault
+returns-in-Err-Fault g c =
+    let s = c.self.inside in
+    let old = g.W.World.seen c.args.world.now in
+    let net : NetState = record { views = plains s.views.items; ports = s.ports.known; left = s.ports.left; log = s.log.items; held = s.held.items; xid = s.xid; moment = s.moment; kept = s.kept; room = vec_len s.rooms } in
+    let xid = c.following-self-inside.result in
+    let known : c.is_viewed.result ≡ true = search rules in
+    let viewed : is_viewed c.args.dpid net.views ≡ true = sym (c.is_viewed.ensures ∙ ap (λ (vs : List Lent). is_viewed c.args.dpid (plains vs)) c.deref.ensures.value) ∙ known in
+    let new = g.W.World.seen c.send_packet.new.world in
+    let fault = c.in-Err-Fault.fault in
+    let unsent = subst (λ (h : Halt). PacketUnsent g.W.World.Tells c.args.dpid old new h) c.in-Err-Fault.field-0-is c.in-Err-Fault.ensures in
+    let does = unsent_packet {Tells = g.W.World.Tells} c.args.dpid c.args.packet old new net c.args.queue.now xid fault viewed c.requires (omega arith) unsent in
+    subst (λ (x : NetState). ReleasesPacket g.W.World.Tells (c.args.dpid, c.args.packet) old new x (record net { xid = xid }) c.args.queue.now c.args.queue.now (Err fault)) c.self.view_is does
